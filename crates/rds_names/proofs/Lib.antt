@@ -1,0 +1,4 @@
+mod Differ
+mod Made
+mod Padding
+mod Ascii

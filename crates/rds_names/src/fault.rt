@@ -1,0 +1,165 @@
+//! Why a call refused.
+ghost use Rattle.std.specs.Prelude.{◌≡◌};
+ghost use Rattle.rds_names.specs.Fault.{number_of, name_of};
+ghost use Rattle.rds_names.specs.declared.fault.Fault.TheVariants.{Memory};
+
+use std::alloc::{AllocError, AllocFailed};
+
+/// What a delta holds of a replica's own that the replica itself lacks: a sign that its file is
+/// older than what it has already sent.
+#[derive(Clone, Copy, Debug, PartialEq, Eq)]
+pub enum Own {
+    /// The least number of an own dot that the replica hasn't seen.
+    Seq(u64),
+    /// Increments of an own counter that are above the replica's.
+    Plus(u64),
+    /// Decrements of an own counter that are above the replica's.
+    Minus(u64),
+}
+
+/// Why a call refused. After a refusal the value that was called is unchanged.
+#[derive(Clone, Copy, Debug, PartialEq, Eq)]
+pub enum Fault {
+    /// There was no memory for what the call had to grow.
+    Memory,
+    /// A text is no name of a replica.
+    BadName,
+    /// A text is no key.
+    BadKey,
+    /// A path has more than 8 keys, or is the root where an entry or a value is meant.
+    BadPath,
+    /// A value is none of those that a leaf may hold.
+    BadScalar,
+    /// A roster has no name, more than 256 of them or one twice, or a number is beyond it.
+    BadRoster,
+    /// A replica has used its last dot.
+    SeqFull,
+    /// A counter's number would pass its limit.
+    CounterFull,
+    /// A dot is live on both sides with different entries; this is the least such dot.
+    Conflict { replica: u8, seq: u64 },
+    /// A delta holds something of the replica's own that the replica lacks.
+    OwnAhead(Own),
+    /// An answer was made for another replica.
+    WrongAsker,
+    /// Bytes end before the text that they begin is whole.
+    Cut,
+    /// Bytes are no text.
+    Bad,
+    /// More bytes follow a whole text.
+    Extra,
+    /// A text or a line is longer than its limit.
+    TooLong,
+    /// A set of dots that was read is larger than its limit.
+    TooManyDots,
+    /// A delta's certificate doesn't hold.
+    BadCertificate,
+    /// The peer speaks another version.
+    WrongVersion,
+    /// The two replicas are of different groups.
+    WrongGroup,
+    /// The two replicas have different rosters.
+    WrongRoster,
+    /// Both ends are the same replica.
+    SameReplica,
+    /// The peer sent another message than the one awaited.
+    OutOfTurn,
+    /// The peer ended before the exchange was done.
+    PeerEnded,
+    /// Reading, writing or another call of the system failed.
+    Device,
+    /// A line is no command.
+    BadLine,
+    /// There is no such replica, ask or answer.
+    NoSuch,
+    /// The words of the command line are none that the program takes.
+    Usage,
+}
+
+impl Fault {
+    /// The number by which users and other programs know the fault.
+    pub fn number(self) -> u8
+        ensures { result ≡ number_of self }
+    {
+        match self {
+            Fault::Memory => 1,
+            Fault::BadName => 2,
+            Fault::BadKey => 3,
+            Fault::BadPath => 4,
+            Fault::BadScalar => 5,
+            Fault::BadRoster => 6,
+            Fault::SeqFull => 7,
+            Fault::CounterFull => 8,
+            Fault::Conflict { .. } => 9,
+            Fault::OwnAhead(_) => 10,
+            Fault::WrongAsker => 11,
+            Fault::Cut => 12,
+            Fault::Bad => 13,
+            Fault::Extra => 14,
+            Fault::TooLong => 15,
+            Fault::TooManyDots => 16,
+            Fault::BadCertificate => 17,
+            Fault::WrongVersion => 18,
+            Fault::WrongGroup => 19,
+            Fault::WrongRoster => 20,
+            Fault::SameReplica => 21,
+            Fault::OutOfTurn => 22,
+            Fault::PeerEnded => 23,
+            Fault::Device => 24,
+            Fault::BadLine => 25,
+            Fault::NoSuch => 26,
+            Fault::Usage => 27,
+        }
+    }
+
+    /// The fault's name, as it is printed.
+    pub fn name(self) -> &'static str
+        ensures { result.now ≡ name_of self }
+    {
+        match self {
+            Fault::Memory => "Memory",
+            Fault::BadName => "BadName",
+            Fault::BadKey => "BadKey",
+            Fault::BadPath => "BadPath",
+            Fault::BadScalar => "BadScalar",
+            Fault::BadRoster => "BadRoster",
+            Fault::SeqFull => "SeqFull",
+            Fault::CounterFull => "CounterFull",
+            Fault::Conflict { .. } => "Conflict",
+            Fault::OwnAhead(_) => "OwnAhead",
+            Fault::WrongAsker => "WrongAsker",
+            Fault::Cut => "Cut",
+            Fault::Bad => "Bad",
+            Fault::Extra => "Extra",
+            Fault::TooLong => "TooLong",
+            Fault::TooManyDots => "TooManyDots",
+            Fault::BadCertificate => "BadCertificate",
+            Fault::WrongVersion => "WrongVersion",
+            Fault::WrongGroup => "WrongGroup",
+            Fault::WrongRoster => "WrongRoster",
+            Fault::SameReplica => "SameReplica",
+            Fault::OutOfTurn => "OutOfTurn",
+            Fault::PeerEnded => "PeerEnded",
+            Fault::Device => "Device",
+            Fault::BadLine => "BadLine",
+            Fault::NoSuch => "NoSuch",
+            Fault::Usage => "Usage",
+        }
+    }
+}
+
+impl From<AllocError> for Fault {
+    ghost from_gives = { λ _ fault. fault ≡ Memory };
+
+    fn from(_error: AllocError) -> Fault {
+        Fault::Memory
+    }
+}
+
+impl<T: Drop> From<AllocFailed<T>> for Fault {
+    ghost from_gives = { λ _ fault. fault ≡ Memory };
+
+    fn from(_error: AllocFailed<T>) -> Fault {
+        Fault::Memory
+    }
+}

@@ -1,0 +1,133 @@
+//! The replicas of a group.
+ghost use Rattle.std.specs.Prelude.{◌≡◌, ◌↔◌, true, IsTrue, IfOk, IfErr, length, position, slice_get};
+ghost use Rattle.std.specs.Str.{bytes_eq};
+ghost use Rattle.rds_names.specs.declared.fault.Fault.TheVariants.{Memory};
+ghost use Rattle.rds_names.specs.Gives.{Gives};
+ghost use Rattle.rds_names.specs.Roster.{roster_of, are_names, all_differ as names_differ};
+
+use crate::fault::Fault;
+use crate::key::Key;
+use crate::name::Name;
+use indexmap::IndexSet;
+use std::alloc::Global;
+use std::marker::Model;
+
+/// The most replicas that a group has.
+const MOST_NAMES: usize = 256;
+
+/// The name of a group and those of its replicas: 1 to 256, all different. A replica's number is
+/// the place of its name, from 0.
+#[derive(Drop)]
+pub struct Roster {
+    group: Key,
+    names: IndexSet<Name>,
+}
+
+impl Model for Roster {
+    ghost use Rattle.std.specs.Prelude.{IsTrue};
+    ghost use Rattle.rds_names.specs.Roster.{RosterValue, are_names};
+
+    ghost Value = { RosterValue };
+
+    ghost view = { λ r. record { group = r.group; names = r.names.keys } };
+
+    ghost invariant = { λ r. IsTrue (are_names r.names.keys) };
+}
+
+impl Roster {
+    /// The roster of these names, numbered in their order. No name, more than 256 and a name that
+    /// stands twice are refused (`BadRoster`).
+    pub fn new(alloc: Global, group: Key, names: &[Name]) -> Result<Roster, Fault>
+        ensures { Gives result (roster_of group names.now) }
+    {
+        if names.is_empty() || names.len() > MOST_NAMES || !all_differ(names) {
+            return Err(Fault::BadRoster);
+        }
+        Ok(Roster {
+            group,
+            names: set_of(alloc, names)?,
+        })
+    }
+
+    /// The name of the group.
+    pub fn group(&self) -> &Key
+        ensures { result.now ≡ self.now.group }
+    {
+        &self.group
+    }
+
+    /// How many replicas there are.
+    pub fn len(&self) -> u16
+        ensures names { result ≡ length self.now.names }
+        ensures within { IsTrue (are_names self.now.names) }
+    {
+        self.names.as_slice().len() as u16
+    }
+
+    /// The number of the replica with this name.
+    pub fn number_of(&self, name: Name) -> Option<u8>
+        ensures { result ≡ position (bytes_eq name) self.now.names }
+    {
+        let place = self.names.get_index_of(&name)?;
+        Some(place as u8)
+    }
+
+    /// The name of the replica with this number.
+    pub fn name_of(&self, number: u8) -> Option<Name>
+        ensures { result ≡ slice_get self.now.names number }
+    {
+        self.names.get_index(usize::from(number)).copied()
+    }
+
+    /// Whether the two have the same group and the same names in the same order.
+    pub fn same(&self, other: &Roster) -> bool
+        ensures { IsTrue result ↔ (self.now ≡ other.now) }
+    {
+        self.group == other.group && same_names(self.names.as_slice(), other.names.as_slice())
+    }
+
+    /// An equal roster with memory of its own.
+    pub fn copy(&self, alloc: Global) -> Result<Roster, Fault>
+        ensures ok { IfOk result (λ roster. roster ≡ self.now) }
+        ensures memory { IfErr result (λ fault. fault ≡ Memory) }
+    {
+        Ok(Roster {
+            group: self.group.copy(alloc)?,
+            names: set_of(alloc, self.names.as_slice())?,
+        })
+    }
+}
+
+fn same_names(left: &[Name], right: &[Name]) -> bool
+    ensures { IsTrue result ↔ (left.now ≡ right.now) }
+{
+    left == right
+}
+
+fn all_differ(names: &[Name]) -> bool
+    ensures { result ≡ names_differ names.now }
+{
+    let mut rest = names;
+    'testing: loop {
+        let (name, others) = match rest.split_first() {
+            Some(parts) => parts,
+            None => return true,
+        };
+        if others.contains(name) {
+            return false;
+        }
+        rest = others;
+    }
+}
+
+fn set_of(alloc: Global, names: &[Name]) -> Result<IndexSet<Name>, Fault>
+    requires { names_differ names.now ≡ true }
+    ensures ok { IfOk result (λ set. set.keys ≡ names.now) }
+    ensures memory { IfErr result (λ fault. fault ≡ Memory) }
+{
+    let mut set = IndexSet::new(alloc);
+    for name in names {
+        set.insert(*name)?;
+    }
+    Ok(set)
+}
