@@ -1,0 +1,16 @@
+-- Runs that dots lead up to and go on from.
+use Rattle.std.specs.Prelude.{List, [], ◌∷◌, if◌then◌else◌}
+use Rattle.rds_dots.specs.declared.dot.Dot.{Dot}
+use Rattle.rds_dots.specs.declared.dot.Run.{Run}
+use Rattle.rds_dots.specs.Dots.{first_of, last_of, leads_to}
+use Rattle.rds_dots.specs.Runs.{put_dot}
+
+-- a run, and runs after it, the first of which may go on where it ends
+abbrev pub drawn : Run → List Run → List Run
+drawn r [] = r ∷ []
+drawn r (s ∷ rs) = if leads_to (last_of r) (first_of s) then record { replica = r.replica; lo = r.lo; hi = s.hi } ∷ rs else (r ∷ s ∷ rs)
+
+-- each of the dots, the last first, put in front of the runs
+abbrev pub put_dots : List Dot → List Run → List Run
+put_dots [] rs = rs
+put_dots (d ∷ ds) rs = put_dot d (put_dots ds rs)

@@ -1,0 +1,12 @@
+pub mod Ascending
+pub mod Dots
+pub mod Drawn
+pub mod Listed
+pub mod Merged
+pub mod Merges
+pub mod Order
+pub mod RunFacts
+pub mod Runs
+pub mod RunsAfter
+pub mod RunsOf
+pub mod Sets

@@ -1,0 +1,43 @@
+//! One event of a replica, and a run of them.
+
+/// The greatest number of a dot.
+pub const MAX_SEQ: u64 = 281_474_976_710_655;
+
+/// A dot: the event `seq` of a replica (Almeida, Shoker, Baquero 2018). Its number is 1 to `MAX_SEQ`.
+/// Dots are ordered by replica, then number.
+#[derive(Clone, Copy, Debug, PartialEq, Eq, PartialOrd, Ord)]
+pub struct Dot {
+    pub replica: u8,
+    pub seq: u64,
+}
+
+/// The dots `lo` to `hi` of a replica, both among them.
+#[derive(Clone, Copy, Debug, PartialEq, Eq)]
+pub struct Run {
+    pub replica: u8,
+    pub lo: u64,
+    pub hi: u64,
+}
+
+impl Run {
+    ghost use Rattle.std.specs.Prelude.{◌≡◌};
+    ghost use Rattle.rds_dots.specs.Dots.{first_of, last_of};
+
+    pub(crate) fn first(&self) -> Dot
+        ensures { result ≡ first_of self.now }
+    {
+        Dot {
+            replica: self.replica,
+            seq: self.lo,
+        }
+    }
+
+    pub(crate) fn last(&self) -> Dot
+        ensures { result ≡ last_of self.now }
+    {
+        Dot {
+            replica: self.replica,
+            seq: self.hi,
+        }
+    }
+}

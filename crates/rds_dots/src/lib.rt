@@ -1,0 +1,19 @@
+//! Dots, sets of dots, and the maximal runs of a set (Almeida, Shoker, Baquero 2018).
+#![tactic(auto)]
+
+mod dot;
+mod law;
+mod list_set;
+mod lists;
+mod over;
+mod set;
+#[cfg(test)]
+mod tests;
+mod walk;
+
+pub use dot::{Dot, MAX_SEQ, Run};
+pub use law::equal_sets_have_equal_runs;
+pub use list_set::ListSet;
+pub use over::runs;
+pub use set::DotSet;
+pub use walk::Runs;

@@ -1,0 +1,181 @@
+//! Ascending lists of dots.
+ghost use Rattle.std.specs.Prelude.{◌≡◌, ◌+◌, ◌-◌, ◌≤◌, not, List, [], ◌∷◌, ◌++◌, Option, Some, true, IsTrue, IfOk, OnOk, OnErr, slice_get};
+ghost use Rattle.std.specs.List.{list_all};
+ghost use Rattle.rds_dots.specs.declared.dot.Run.{Run};
+ghost use Rattle.rds_dots.specs.declared.dot.Dot.{Dot};
+ghost use Rattle.rds_dots.specs.Ascending.{ascends};
+ghost use Rattle.rds_dots.specs.Dots.{IsRun, comes_after, first_of, last_of, leads_to};
+ghost use Rattle.rds_dots.specs.Drawn.{drawn, put_dots};
+ghost use Rattle.rds_dots.specs.Listed.{lists, dots_of, without};
+ghost use Rattle.rds_dots.specs.Merged.{merged};
+ghost use Rattle.rds_dots.specs.Runs.{first_after, grouped};
+
+use crate::dot::{Dot, Run};
+use std::alloc::{AllocError, Global};
+use std::cmp::Ordering;
+
+/// Whether the list has the dot.
+pub(crate) fn has(dots: &[Dot], dot: Dot) -> bool
+    requires { IsTrue (ascends dots.now) }
+    ensures { result ≡ lists dots.now dot }
+{
+    dots.binary_search(&dot).is_ok()
+}
+
+/// The dots that don't come after the given one, and those that do.
+pub(crate) fn split_after(dots: &[Dot], after: Option<Dot>) -> (&[Dot], &[Dot])
+    requires { IsTrue (ascends dots.now) }
+    ensures whole { result.0.now ++ result.1.now ≡ dots.now }
+    ensures upto { IsTrue (list_all (λ d. not (comes_after after d)) result.0.now) }
+    ensures later { IsTrue (list_all (comes_after after) result.1.now) }
+{
+    match after {
+        None => dots.split_at(0),
+        Some(last) => dots.split_at(dots.partition_point(|dot| *dot <= last)),
+    }
+}
+
+/// Puts the dots of a run behind a list, which stays as it is where there is no room.
+pub(crate) fn push_run(dots: &mut Vec<Dot>, run: Run) -> Result<(), AllocError>
+    requires { IsRun run }
+    ensures ok { OnOk result (dots.new.items ≡ dots.old.items ++ dots_of run) }
+    ensures err { OnErr result (dots.new.items ≡ dots.old.items) }
+{
+    dots.reserve((run.hi + 1 - run.lo) as usize)?;
+    for seq in run.lo..run.hi + 1 {
+        dots.push(Dot {
+            replica: run.replica,
+            seq,
+        })?;
+    }
+    Ok(())
+}
+
+/// The dots of both lists.
+pub(crate) fn union_of(
+    alloc: Global,
+    mut left: &[Dot],
+    mut right: &[Dot],
+) -> Result<Vec<Dot>, AllocError>
+    ensures { IfOk result (λ dots. dots.items ≡ merged left.entry.now right.entry.now) }
+{
+    let mut dots = Vec::new(alloc);
+    'merging: loop {
+        let Some((x, xs)) = left.split_first() else {
+            dots.extend_from_slice(right)?;
+            return Ok(dots);
+        };
+        let Some((y, ys)) = right.split_first() else {
+            dots.extend_from_slice(left)?;
+            return Ok(dots);
+        };
+        match x.cmp(y) {
+            Ordering::Less => {
+                dots.push(*x)?;
+                left = xs;
+            }
+            Ordering::Equal => {
+                dots.push(*x)?;
+                left = xs;
+                right = ys;
+            }
+            Ordering::Greater => {
+                dots.push(*y)?;
+                right = ys;
+            }
+        }
+    }
+}
+
+/// The dots of the first list that the second lacks.
+pub(crate) fn difference_of(
+    alloc: Global,
+    mut left: &[Dot],
+    mut right: &[Dot],
+) -> Result<Vec<Dot>, AllocError>
+    requires left { IsTrue (ascends left.now) }
+    requires right { IsTrue (ascends right.now) }
+    ensures { IfOk result (λ dots. dots.items ≡ without left.entry.now right.entry.now) }
+{
+    let mut dots = Vec::new(alloc);
+    'taking: loop {
+        let Some((x, xs)) = left.split_first() else {
+            return Ok(dots);
+        };
+        let Some((y, ys)) = right.split_first() else {
+            dots.extend_from_slice(left)?;
+            return Ok(dots);
+        };
+        match x.cmp(y) {
+            Ordering::Less => {
+                dots.push(*x)?;
+                left = xs;
+            }
+            Ordering::Equal => {
+                left = xs;
+                right = ys;
+            }
+            Ordering::Greater => right = ys,
+        }
+    }
+}
+
+/// Whether one dot is the next of another's replica.
+fn is_next(dot: Dot, next: Dot) -> bool
+    ensures { result ≡ leads_to dot next }
+{
+    dot.replica == next.replica && dot.seq < next.seq && next.seq - dot.seq == 1
+}
+
+/// The run, drawn on through the dots that follow it.
+fn drawn_on(mut run: Run, mut rest: &[Dot]) -> Run
+    ensures first { first_of result ≡ first_of run }
+    ensures longer { run.hi ≤ result.hi }
+    ensures whole { slice_get (drawn run (grouped rest.entry.now)) 0 ≡ Some result }
+{
+    'drawing: loop {
+        let Some((next, later)) = rest.split_first() else {
+            return run;
+        };
+        if !is_next(run.last(), *next) {
+            return run;
+        }
+        run.hi = next.seq;
+        rest = later;
+    }
+}
+
+/// The run, drawn back through the dots that lead up to it. Where none of the dots before it
+/// comes after the given one, and its own last dot does, it is the first to end there.
+fn drawn_back(mut before: &[Dot], mut run: Run) -> Run
+    ensures { (after : Option Dot) (rs : List Run)
+        → IsTrue (list_all (λ d. not (comes_after after d)) before.entry.now)
+        → IsTrue (comes_after after (last_of run))
+        → first_after after (put_dots before.entry.now (run ∷ rs)) ≡ Some result }
+{
+    'drawing: loop {
+        let Some((last, earlier)) = before.split_last() else {
+            return run;
+        };
+        if !is_next(*last, run.first()) {
+            return run;
+        }
+        run.lo = last.seq;
+        before = earlier;
+    }
+}
+
+/// The first maximal run whose last dot comes after the given one.
+pub(crate) fn run_after(dots: &[Dot], after: Option<Dot>) -> Option<Run>
+    requires { IsTrue (ascends dots.now) }
+    ensures { result ≡ first_after after (grouped dots.now) }
+{
+    let (before, from) = split_after(dots, after);
+    let (first, rest) = from.split_first()?;
+    let run = Run {
+        replica: first.replica,
+        lo: first.seq,
+        hi: first.seq,
+    };
+    Some(drawn_back(before, drawn_on(run, rest)))
+}
