@@ -1,0 +1,12 @@
+mod Bounds
+mod Changes
+mod Clashes
+mod Deaths
+mod Finds
+mod Joins
+pub mod LivedLemmas
+mod Puts
+mod RowLemmas
+mod Singles
+pub mod Steps
+pub mod Views

@@ -1,0 +1,7 @@
+pub mod Clash
+pub mod Code
+pub mod Fits
+pub mod Joined
+pub mod Life
+pub mod Rank
+pub mod Removed

@@ -1,0 +1,14 @@
+//! The life of each dot: unseen, live with an entry, or dead.
+#![tactic(auto)]
+
+mod dots;
+mod joining;
+mod lives;
+mod rank;
+mod rows;
+
+pub use lives::Lives;
+pub use rank::Rank;
+
+#[cfg(test)]
+mod tests;

@@ -1,0 +1,194 @@
+//! The life of each dot.
+ghost use Rattle.std.specs.Prelude.{◌≡◌, true, None, IfOk, IfErr, IfSome, IsOk, OnOk, OnErr, MatchOption};
+ghost use Rattle.std.specs.FinMap as map;
+ghost use Rattle.std.specs.FinSet as set;
+ghost use Rattle.std.specs.Option.{option_copied};
+ghost use Rattle.std.specs.Slice.Iter.{iter_rest};
+ghost use Rattle.rds_names.specs.declared.fault.Fault.TheVariants.{Memory};
+ghost use Rattle.rds_dots.specs.declared.dot.Dot.{Dot};
+ghost use Rattle.rds_dots.specs.Ascending.{ascends};
+ghost use Rattle.rds_dots.specs.Dots.{is_dot};
+ghost use Rattle.rds_life.specs.Life.{Live, Dead, AreRows, keys, lived, seen_of, live_rows, entry_of, is_dead, Conflicts, IsJoin, IsLeastAbove, MergeGives};
+ghost use Rattle.rds_life.specs.Rank.{rank_of};
+
+use crate::dots::{dots_of, insert_dot};
+use crate::joining::{clash, join_rows};
+use crate::rank::Rank;
+use crate::rows::{are_rows, copy_rows, find_row, insert_row, remove_row};
+use rds_dots::{Dot, DotSet};
+use rds_names::{Entry, Fault};
+use std::alloc::Global;
+use std::marker::Model;
+use std::slice::Iter;
+
+/// The life of each dot, seen as a finite map from dots to lives; a dot that isn't in it is unseen.
+///
+/// It keeps the set of seen dots and, in the order of the dots, the entries of those that are live:
+/// the dot store and causal context of Almeida, Shoker, Baquero 2018.
+#[derive(Drop)]
+pub struct Lives<S: DotSet> {
+    seen: S,
+    rows: Vec<(Dot, Entry)>,
+}
+
+impl<S: DotSet> Model for Lives<S> {
+    ghost use Rattle.rds_life.specs.Life.{Lived, lived, AreRows};
+    ghost use Rattle.rds_life.specs.Code.{coded_lives};
+
+    ghost Value = { Lived };
+
+    ghost coded = { coded_lives };
+
+    ghost view = { λ l. lived (S.contents l.seen) l.rows.items };
+
+    ghost invariant = { λ l. AreRows (S.contents l.seen) l.rows.items };
+}
+
+impl<S: DotSet> Lives<S> {
+    /// Every dot is unseen. Takes no memory.
+    pub fn empty(alloc: Global) -> Lives<S>
+        ensures { result ≡ map.empty }
+    {
+        Lives {
+            seen: S::empty(alloc),
+            rows: Vec::new(alloc),
+        }
+    }
+
+    /// The dots of the rows are live with their entries, and the other dots of the set are dead.
+    /// `None` where the rows don't ascend by dot, or have a dot that isn't in the set. Takes no
+    /// memory.
+    pub fn from_parts(seen: S, rows: Vec<(Dot, Entry)>) -> Option<Lives<S>>
+        ensures exact { MatchOption result (¬ (AreRows (S.contents seen) rows.items)) (λ _. AreRows (S.contents seen) rows.items) }
+        ensures lives { IfSome result (λ lives. lives ≡ lived (S.contents seen) rows.items) }
+        ensures seen { IfSome result (λ lives. seen_of lives ≡ S.contents seen) }
+        ensures live { IfSome result (λ lives. live_rows lives ≡ rows.items) }
+    {
+        if !are_rows(&seen, &rows) {
+            return None;
+        }
+        Some(Lives { seen, rows })
+    }
+
+    /// How far a dot has come.
+    pub fn rank(&self, dot: Dot) -> Rank
+        ensures { result ≡ rank_of (map.get self.now dot) }
+    {
+        if !self.seen.contains(dot) {
+            return Rank::Unseen;
+        }
+        match find_row(&self.rows, dot) {
+            Some(_) => Rank::Live,
+            None => Rank::Dead,
+        }
+    }
+
+    /// The entry of a dot that is live.
+    pub fn entry(&self, dot: Dot) -> Option<&Entry>
+        ensures { option_copied result ≡ entry_of (map.get self.now dot) }
+    {
+        find_row(&self.rows, dot)
+    }
+
+    /// The dots that aren't unseen.
+    pub fn seen(&self) -> &S
+        ensures { S.contents result.now ≡ seen_of self.now }
+    {
+        &self.seen
+    }
+
+    /// The live dots with their entries, in the order of the dots.
+    pub fn live(&self) -> Iter<'_, (Dot, Entry)>
+        ensures rows { iter_rest result ≡ live_rows self.now }
+        ensures ascending { ascends (keys (iter_rest result)) ≡ true }
+    {
+        self.rows.iter()
+    }
+
+    /// The dots that are dead.
+    pub fn dead(&self, alloc: Global) -> Result<S, Fault>
+        ensures dots { IfOk result (λ dead. (d : Dot) → set.contains (S.contents dead) d ≡ is_dead (map.get self.now d)) }
+        ensures memory { IfErr result (λ fault. fault ≡ Memory) }
+    {
+        let live = dots_of(alloc, &self.rows)?;
+        let dead = self.seen.minus(alloc, &live)?;
+        Ok(dead)
+    }
+
+    /// Equal lives with memory of their own.
+    pub fn copy(&self, alloc: Global) -> Result<Lives<S>, Fault>
+        ensures ok { IfOk result (λ lives. lives ≡ self.now) }
+        ensures memory { IfErr result (λ fault. fault ≡ Memory) }
+    {
+        Ok(Lives {
+            seen: self.seen.copy(alloc)?,
+            rows: copy_rows(alloc, &self.rows)?,
+        })
+    }
+}
+
+impl<S: DotSet> Lives<S> {
+    /// Makes an unseen dot live.
+    pub fn put_live(&mut self, dot: Dot, entry: Entry) -> Result<(), Fault>
+        requires dot { is_dot dot ≡ true }
+        requires unseen { map.get self.old dot ≡ None }
+        ensures ok { OnOk result (self.new ≡ map.insert self.old dot (Live entry)) }
+        ensures err { OnErr result (self.new ≡ self.old) }
+        ensures memory { IfErr result (λ fault. fault ≡ Memory) }
+    {
+        insert_row(&mut self.rows, dot, entry)?;
+        if let Err(fault) = insert_dot(&mut self.seen, dot) {
+            remove_row(&mut self.rows, dot);
+            return Err(fault);
+        }
+        Ok(())
+    }
+
+    /// Makes a dot dead, for good. Takes no memory where the dot isn't unseen, and so can't fail
+    /// there.
+    pub fn kill(&mut self, dot: Dot) -> Result<(), Fault>
+        requires { is_dot dot ≡ true }
+        ensures ok { OnOk result (self.new ≡ map.insert self.old dot Dead) }
+        ensures err { OnErr result (self.new ≡ self.old) }
+        ensures memory { IfErr result (λ fault. fault ≡ Memory) }
+        ensures seen { map.contains_key self.old dot ≡ true → IsOk result }
+    {
+        if self.seen.contains(dot) {
+            remove_row(&mut self.rows, dot);
+            return Ok(());
+        }
+        insert_dot(&mut self.seen, dot)?;
+        Ok(())
+    }
+
+    /// The least dot that is live in both with different entries: where there is one, the two don't
+    /// come from one history, and have no join.
+    pub fn conflict(&self, other: &Lives<S>) -> Option<Dot>
+        ensures { Conflicts self.now other.now result }
+    {
+        clash(&self.rows, &other.rows)
+    }
+
+    /// Joins the other's lives into these: each dot has the later of its two lives, so that what is
+    /// dead in one is dead. The join is the least above both (Shapiro, Preguiça, Baquero, Zawirski
+    /// 2011). Refuses a `Conflict`, which names the least dot that is live in both with different
+    /// entries.
+    pub fn merge(&mut self, other: &Lives<S>) -> Result<(), Fault>
+        ensures ok { OnOk result (IsJoin self.old other.now self.new) }
+        ensures least { OnOk result (IsLeastAbove self.old other.now self.new) }
+        ensures gives { MergeGives self.old other.now result }
+        ensures err { OnErr result (self.new ≡ self.old) }
+    {
+        if let Some(dot) = self.conflict(other) {
+            return Err(Fault::Conflict {
+                replica: dot.replica,
+                seq: dot.seq,
+            });
+        }
+        let alloc = *self.rows.allocator();
+        let seen = self.seen.union(alloc, &other.seen)?;
+        let rows = join_rows(alloc, &self.seen, &self.rows, &other.seen, &other.rows)?;
+        *self = Lives { seen, rows };
+        Ok(())
+    }
+}
