@@ -1,0 +1,7 @@
+use Rattle.rds_node.proofs.Running.{memory_written}
+use Rattle.rds_node.proofs.run.run.Goals as goal
+
+pub returns-in-Err-clause-join : goal.returns-in-Err-clause-join
+returns-in-Err-clause-join g c = λ name words.
+    memory_written (g.R.Read.remaining c.args.reader.now.inner) (g.W.Write.contents c.args.writer.now.inner) (g.W.Write.contents c.write_unparsed.new.writer.inner) _ _ _
+    (c.write_unparsed.ensures.memory (c.in-Err.ensures.join name words))

@@ -1,0 +1,20 @@
+-- What a snapshot stands for, whatever its set of dots is kept in.
+use Rattle.std.specs.Prelude.{ℕ, List, refl}
+use Rattle.std.specs.Coded.{Coded, code_by, coded×, coded_ℕ, coded_list}
+use Rattle.rds_names.specs.Roster.{RosterValue}
+use Rattle.rds_life.specs.Life.{Lived}
+use Rattle.rds_life.specs.Code.{coded_lives}
+
+-- a replica: its roster, its own number, the life of each dot
+pub record SnapshotValue : Type 0 where
+  pub roster : RosterValue
+  pub own : ℕ
+  pub lives : Lived
+
+abbrev pub coded_roster : Coded RosterValue
+coded_roster =
+    code_by (List ℕ × List (List ℕ)) (coded× (coded_list coded_ℕ) (coded_list (coded_list coded_ℕ))) (λ r. (r.group, r.names)) (λ p. record { group = p.0; names = p.1 }) (λ _. refl)
+
+abbrev pub coded_snapshot : Coded SnapshotValue
+coded_snapshot =
+    code_by (RosterValue × (ℕ × Lived)) (coded× coded_roster (coded× coded_ℕ coded_lives)) (λ s. (s.roster, (s.own, s.lives))) (λ p. record { roster = p.0; own = p.1.0; lives = p.1.1 }) (λ _. refl)

@@ -1,0 +1,85 @@
+//! The program's commands.
+ghost use Rattle.std.specs.Prelude.{◌≡◌, ◌≢◌, ◌∷◌, ◌≤◌, ◌⊎◌, List, ℕ, Err, map, IfSome, IsErrAnd};
+ghost use Rattle.rds_names.specs.declared.fault.Fault.TheVariants.{Device};
+ghost use Rattle.rds_node.specs.Commands.{join_words};
+ghost use Rattle.rds_node.specs.Output.{Writes};
+ghost use Rattle.rds_node.specs.Refusal.{fault_of};
+ghost use Rattle.rds_node.specs.Run.{WritesJoin, IsJoinLine};
+
+use crate::commands::{Task, task_of};
+use crate::counted::Counted;
+use crate::join::join;
+use crate::lines::read_front;
+use crate::output::{status_of, write_fault, write_unparsed};
+use crate::refusal::Refusal;
+use rds_names::Fault;
+use std::alloc::Global;
+use std::convert::AsStr;
+use std::io::{Read, Write};
+
+/// The most bytes of an input that `join` reads: two lines of the greatest length with their
+/// newlines, and one byte more.
+const MOST: usize = 1_073_741_827;
+
+/// Runs the command that the words name, and answers the exit status. The first word is the
+/// program's name, whatever it is.
+///
+/// A fault is written as the line `fault N: Name` and answered by 1. Words that the command line
+/// doesn't have are `Usage`: that line, then the library's text, and 2. Help is written and answered
+/// by 0. A reader that fails, or that gives more reads than its bound of turns, is `Device`. Where
+/// the output itself fails the answer is 1.
+pub fn run<H: AllocGlobal, R: Read, W: Write, S: AsStr>(
+    rt: &H,
+    words: &[S],
+    reader: &mut Counted<R>,
+    writer: &mut Counted<W>,
+) -> u8
+    ensures join { (name : List ℕ) → map S.text words.entry.now ≡ name ∷ join_words
+        → IfSome (R.remaining reader.old.inner)
+        (λ input. reader.new.failed ≡ 0 → writer.new.failed ≡ 0
+        → WritesJoin input (W.contents writer.old.inner) (W.contents writer.new.inner) result) }
+    ensures unread { (name : List ℕ) → map S.text words.entry.now ≡ name ∷ join_words
+        → reader.new.failed ≢ reader.old.failed → writer.new.failed ≡ 0
+        → Writes (Err Device) (W.contents writer.old.inner) (W.contents writer.new.inner) result }
+    ensures status { result ≤ 2 }
+    ensures broken { (writer.new.failed ≡ writer.old.failed) ⊎ (result ≡ 1) }
+{
+    let alloc = rt.alloc();
+    match task_of(alloc, words) {
+        Ok(Some(Task::Join)) => run_join(alloc, reader, writer),
+        Ok(None) => write_fault(writer, Fault::Usage),
+        Err(error) => write_unparsed(writer, &error),
+    }
+}
+
+// Writes what the two lines that the reader holds are joined to.
+fn run_join<R: Read, W: Write>(
+    alloc: Global,
+    reader: &mut Counted<R>,
+    writer: &mut Counted<W>,
+) -> u8
+    ensures join { IfSome (R.remaining reader.old.inner)
+        (λ input. reader.new.failed ≡ 0 → writer.new.failed ≡ 0
+        → WritesJoin input (W.contents writer.old.inner) (W.contents writer.new.inner) result) }
+    ensures unread { reader.new.failed ≢ reader.old.failed → writer.new.failed ≡ 0
+        → Writes (Err Device) (W.contents writer.old.inner) (W.contents writer.new.inner) result }
+    ensures status { result ≤ 2 }
+    ensures broken { (writer.new.failed ≡ writer.old.failed) ⊎ (result ≡ 1) }
+{
+    match join_line(alloc, reader) {
+        Ok(line) => status_of(writer.write_line(line), 0),
+        Err(refusal) => write_fault(writer, refusal.fault()),
+    }
+}
+
+// The line that `join` answers for all that the reader holds.
+fn join_line<R: Read>(alloc: Global, reader: &mut Counted<R>) -> Result<String, Refusal>
+    ensures line { IfSome (R.remaining reader.old.inner)
+        (λ input. reader.new.failed ≡ 0 → IsJoinLine input result) }
+    ensures unread { reader.new.failed ≢ reader.old.failed
+        → IsErrAnd result (λ e. fault_of e ≡ Device) }
+{
+    let input = read_front(alloc, reader, MOST)?;
+    let text = join(alloc, &input)?;
+    Ok(hex::encode(alloc, text.as_slice())?)
+}
