@@ -1,6 +1,7 @@
 //! Where a leaf stands.
-ghost use Rattle.std.specs.Prelude.{◌≡◌, ◌≤◌, ◌↔◌, length, [], true, IsTrue, IfOk, IfErr, slice_get};
-ghost use Rattle.std.specs.List.{list_all};
+ghost use Rattle.std.specs.Prelude.{◌≡◌, ◌≤◌, ◌↔◌, ◌++◌, ℕ, List, length, [], true, IsTrue, IfOk, IfErr, slice_get};
+ghost use Rattle.std.specs.List.{list_all, starts_with};
+ghost use Rattle.std.specs.Str.{bytes_eq};
 ghost use Rattle.rds_names.specs.Key.{is_key};
 ghost use Rattle.rds_names.specs.declared.fault.Fault.TheVariants.{Memory};
 ghost use Rattle.std.specs.Option.{option_copied};
@@ -91,6 +92,14 @@ impl Path {
         ensures { option_copied result ≡ slice_get self.now place }
     {
         self.keys.get(place)
+    }
+
+    /// Whether the other path's keys are the first of this one's, as the root's always are.
+    pub fn begins_with(&self, other: &Path) -> bool
+        ensures value { result ≡ starts_with bytes_eq self.now other.now }
+        ensures rest { IsTrue result ↔ ((rest : List (List ℕ)) × (self.now ≡ other.now ++ rest)) }
+    {
+        self.keys.starts_with(&other.keys)
     }
 
     /// An equal path with memory of its own.

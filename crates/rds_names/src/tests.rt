@@ -77,6 +77,10 @@ fn paths_keep_their_limits(rt: HostRuntime) -> Result<(), Fail> {
     assert!(rt; path.key(3).is_none());
     assert!(rt; path.copy(alloc)? == path);
     assert!(rt; path != root);
+    assert!(rt; path.begins_with(&root));
+    assert!(rt; path.begins_with(&Path::new(alloc, "m/k")?));
+    assert!(rt; !path.begins_with(&Path::new(alloc, "k")?));
+    assert!(rt; !root.begins_with(&path));
     assert_eq!(rt; Path::new(alloc, "a/b/c/d/e/f/g/h")?.len(), 8);
     for (text, fault) in [
         ("a/b/c/d/e/f/g/h/i", Fault::BadPath),
