@@ -1,8 +1,11 @@
 pub mod Draws
 pub mod Inserts
+pub mod NextRuns
 pub mod Parts
 pub mod RunWalks
+pub mod SameRuns
 pub mod Search
 pub mod Splits
 pub mod Takes
 pub mod Tops
+pub mod Uptos

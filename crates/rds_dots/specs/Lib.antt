@@ -1,6 +1,7 @@
 pub mod Ascending
 pub mod Dots
 pub mod Drawn
+pub mod Lacking
 pub mod Listed
 pub mod Merged
 pub mod Merges

@@ -6,6 +6,7 @@ mod law;
 mod list_set;
 mod lists;
 mod over;
+mod questions;
 mod set;
 #[cfg(test)]
 mod tests;
@@ -15,5 +16,6 @@ pub use dot::{Dot, MAX_SEQ, Run};
 pub use law::equal_sets_have_equal_runs;
 pub use list_set::ListSet;
 pub use over::runs;
+pub use questions::{are_below, first_lacking, same};
 pub use set::DotSet;
 pub use walk::Runs;
