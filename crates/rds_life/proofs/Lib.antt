@@ -4,6 +4,7 @@ mod Clashes
 mod Deaths
 mod Finds
 mod Joins
+pub mod Kills
 pub mod LivedLemmas
 mod Puts
 mod RowLemmas

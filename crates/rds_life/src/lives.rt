@@ -1,5 +1,5 @@
 //! The life of each dot.
-ghost use Rattle.std.specs.Prelude.{◌≡◌, true, None, IfOk, IfErr, IfSome, IsOk, OnOk, OnErr, MatchOption};
+ghost use Rattle.std.specs.Prelude.{◌≡◌, true, None, IfOk, IfErr, IfSome, IsOk, count_by, OnOk, OnErr, MatchOption};
 ghost use Rattle.std.specs.FinMap as map;
 ghost use Rattle.std.specs.FinSet as set;
 ghost use Rattle.std.specs.Option.{option_copied};
@@ -8,9 +8,11 @@ ghost use Rattle.rds_names.specs.declared.fault.Fault.TheVariants.{Memory};
 ghost use Rattle.rds_dots.specs.declared.dot.Dot.{Dot};
 ghost use Rattle.rds_dots.specs.Ascending.{ascends};
 ghost use Rattle.rds_dots.specs.Dots.{is_dot};
+ghost use Rattle.rds_life.specs.Killed.{killed_by};
 ghost use Rattle.rds_life.specs.Life.{Live, Dead, AreRows, keys, lived, seen_of, live_rows, entry_of, is_dead, Conflicts, IsJoin, IsLeastAbove, MergeGives};
 ghost use Rattle.rds_life.specs.Rank.{rank_of};
 
+use crate::chosen::{Choice, remove_chosen};
 use crate::dots::{dots_of, insert_dot};
 use crate::joining::{clash, join_rows};
 use crate::rank::Rank;
@@ -161,6 +163,15 @@ impl<S: DotSet> Lives<S> {
         Ok(())
     }
 
+    /// Makes the live dots that are chosen dead, in place and without memory, and says how many
+    /// there were.
+    pub fn kill_chosen<C: Choice>(&mut self, choice: &C) -> u64
+        ensures lives { (d : Dot) → map.get self.new d ≡ killed_by (C.chosen choice.now) d (map.get self.old d) }
+        ensures killed { result ≡ count_by (λ r. C.chosen choice.now r.0 r.1) (live_rows self.old) }
+    {
+        remove_chosen(&mut self.rows, choice)
+    }
+
     /// The least dot that is live in both with different entries: where there is one, the two don't
     /// come from one history, and have no join.
     pub fn conflict(&self, other: &Lives<S>) -> Option<Dot>
@@ -169,15 +180,24 @@ impl<S: DotSet> Lives<S> {
         clash(&self.rows, &other.rows)
     }
 
-    /// Joins the other's lives into these: each dot has the later of its two lives, so that what is
-    /// dead in one is dead. The join is the least above both (Shapiro, Preguiça, Baquero, Zawirski
-    /// 2011). Refuses a `Conflict`, which names the least dot that is live in both with different
-    /// entries.
+    /// Joins the other's lives into these, as `joined` says, and refuses as it does.
     pub fn merge(&mut self, other: &Lives<S>) -> Result<(), Fault>
         ensures ok { OnOk result (IsJoin self.old other.now self.new) }
         ensures least { OnOk result (IsLeastAbove self.old other.now self.new) }
         ensures gives { MergeGives self.old other.now result }
         ensures err { OnErr result (self.new ≡ self.old) }
+    {
+        *self = self.joined(*self.rows.allocator(), other)?;
+        Ok(())
+    }
+
+    /// The join of both: each dot has the later of its two lives, so that what is dead in one is
+    /// dead. The join is the least above both (Shapiro, Preguiça, Baquero, Zawirski 2011). Refuses a
+    /// `Conflict`, which names the least dot that is live in both with different entries.
+    pub fn joined(&self, alloc: Global, other: &Lives<S>) -> Result<Lives<S>, Fault>
+        ensures ok { IfOk result (IsJoin self.now other.now) }
+        ensures least { IfOk result (IsLeastAbove self.now other.now) }
+        ensures gives { MergeGives self.now other.now result }
     {
         if let Some(dot) = self.conflict(other) {
             return Err(Fault::Conflict {
@@ -185,10 +205,8 @@ impl<S: DotSet> Lives<S> {
                 seq: dot.seq,
             });
         }
-        let alloc = *self.rows.allocator();
         let seen = self.seen.union(alloc, &other.seen)?;
         let rows = join_rows(alloc, &self.seen, &self.rows, &other.seen, &other.rows)?;
-        *self = Lives { seen, rows };
-        Ok(())
+        Ok(Lives { seen, rows })
     }
 }

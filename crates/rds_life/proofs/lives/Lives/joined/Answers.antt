@@ -5,10 +5,10 @@ use Rattle.rds_life.specs.Joined.{joined}
 use Rattle.rds_life.specs.Life.{lived, join_life}
 use Rattle.rds_life.proofs.Bounds.{least_above}
 use Rattle.rds_life.proofs.LivedLemmas.{get-joined, rows-joined}
-use Rattle.rds_life.proofs.lives.Lives.merge.Goals as goal
+use Rattle.rds_life.proofs.lives.Lives.joined.Goals as goal
 
-pub invariant_of-self : goal.invariant_of-self
-invariant_of-self g c =
+pub invariant_of-result : goal.invariant_of-result
+invariant_of-result g c =
     let contents = g.S.DotSet.contents in
     let s = contents c.self.inside.seen in
     let t = contents c.other.inside.seen in
