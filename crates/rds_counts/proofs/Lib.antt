@@ -1,0 +1,5 @@
+pub mod DrawnLemmas
+pub mod Found
+pub mod Puts
+pub mod Raises
+pub mod Totals

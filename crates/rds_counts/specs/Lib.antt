@@ -1,0 +1,11 @@
+pub mod Counted
+pub mod CountedLemmas
+pub mod Drawn
+pub mod Entries
+pub mod Place
+pub mod PlaceOrder
+pub mod Raised
+pub mod RowsOf
+pub mod RowsOfLemmas
+pub mod Search
+pub mod Value

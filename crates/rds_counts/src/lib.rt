@@ -1,0 +1,12 @@
+//! Counters that count up and down, as positive-negative counters (Shapiro, Preguiça, Baquero,
+//! Zawirski 2011): under each key each replica has two numbers, which only grow.
+#![tactic(auto)]
+
+mod counts;
+mod row;
+mod rows;
+#[cfg(test)]
+mod tests;
+
+pub use counts::Counts;
+pub use row::{CountRow, MAX_COUNT, Which};
