@@ -1,0 +1,14 @@
+use Rattle.std.proofs.Common.{length, sym, subst}
+use Rattle.rds_state.specs.Fits.{ReplicaValue, Fits}
+use Rattle.rds_state.specs.Value.{coordinates}
+use Rattle.rds_state.proofs.FitsLemmas.{merge_fits}
+use Rattle.rds_state.proofs.replica.Replica.take.Goals as goal
+
+pub invariant_of-self : goal.invariant_of-self
+invariant_of-self g c =
+    let delta = c.args.delta.now in
+    let fits = subst (λ (v : ReplicaValue). Fits (length v.roster.names) (coordinates delta)) (sym c.self.view_is) c.requires in
+    record {
+      own = c.self.invariant.own;
+      fits = merge_fits (length c.self.inside.roster.names) c.self.inside.state delta c.merge.new.self c.merge.result c.merge.ensures.ok c.merge.ensures.err c.self.invariant.fits fits;
+    }

@@ -1,0 +1,7 @@
+pub mod Ahead
+pub mod Chosen
+pub mod Coordinates
+pub mod Edit
+pub mod Fits
+pub mod RowsAhead
+pub mod Value

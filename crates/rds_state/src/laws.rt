@@ -1,0 +1,20 @@
+//! The laws of the join.
+ghost use Rattle.std.specs.Prelude.{◌≡◌};
+ghost use Rattle.rds_state.specs.Coordinates.{Coordinates, AtMost, AreCompatible, join};
+ghost use Rattle.rds_state.specs.Value.{StateValue, coordinates};
+
+/// States are ordered coordinate by coordinate, and the join of compatible states is the least state above both
+/// (Shapiro, Preguiça, Baquero, Zawirski 2011). So replicas that took the same states, in any order and any number
+/// of times, are equal. The function does nothing: its contract is these laws.
+pub fn join_laws()
+    ensures reflexive { (a : Coordinates) → AtMost a a }
+    ensures transitive { (a b c : Coordinates) → AtMost a b → AtMost b c → AtMost a c }
+    ensures antisymmetric { (a b : Coordinates) → AtMost a b → AtMost b a → a ≡ b }
+    ensures above_left { (a b : Coordinates) → AtMost a (join a b) }
+    ensures above_right { (a b : Coordinates) → AreCompatible a b → AtMost b (join a b) }
+    ensures least { (a b c : Coordinates) → AtMost a c → AtMost b c → AtMost (join a b) c }
+    ensures commutative { (a b : Coordinates) → AreCompatible a b → join a b ≡ join b a }
+    ensures associative { (a b c : Coordinates) → join (join a b) c ≡ join a (join b c) }
+    ensures idempotent { (a : Coordinates) → join a a ≡ a }
+    ensures same_value { (v w : StateValue) → coordinates v ≡ coordinates w → v ≡ w }
+{}

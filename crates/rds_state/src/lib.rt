@@ -1,0 +1,20 @@
+//! The state of a document: the life of each dot and the numbers of each counter, their join, and the replicas that
+//! edit it and take each other's states.
+#![tactic(auto)]
+
+mod ahead;
+mod command;
+mod covering;
+mod editing;
+mod laws;
+mod replica;
+mod sameness;
+mod state;
+
+pub use command::{Command, Edited};
+pub use laws::join_laws;
+pub use replica::Replica;
+pub use state::State;
+
+#[cfg(test)]
+mod tests;

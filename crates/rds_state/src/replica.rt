@@ -1,0 +1,184 @@
+//! One replica of a document.
+ghost use Rattle.std.specs.Prelude.{◌≡◌, ◌≤◌, ◌<◌, ◌↔◌, IsTrue, None, count_by, IfOk, IfErr, OnOk, OnErr, MatchResult, length};
+ghost use Rattle.std.specs.FinMap as map;
+ghost use Rattle.rds_names.specs.declared.fault.Fault.TheVariants.{Memory, BadRoster};
+ghost use Rattle.rds_life.specs.Life.{live_rows};
+ghost use Rattle.rds_state.specs.Ahead.{TakeGives};
+ghost use Rattle.rds_state.specs.Coordinates.{join};
+ghost use Rattle.rds_state.specs.Edit.{covers, JoinsEffect, new_dot, refusal, IsDue};
+ghost use Rattle.rds_state.specs.Fits.{Fits, ReplicaValue, IsReplica};
+ghost use Rattle.rds_state.specs.RowsAhead.{rows_below};
+ghost use Rattle.rds_state.specs.Value.{coordinates};
+
+use crate::ahead::own_ahead;
+use crate::command::{Command, Edited};
+use crate::editing::edit;
+use crate::state::State;
+use rds_counts::CountRow;
+use rds_dots::{DotSet, are_below};
+use rds_names::{Fault, Roster};
+use std::alloc::Global;
+use std::marker::Model;
+
+/// A replica: the roster of its group, its own number there, and its state. The numbers of all replicas that the
+/// state speaks of are below the roster's length.
+#[derive(Drop)]
+pub struct Replica<S: DotSet> {
+    roster: Roster,
+    own: u8,
+    state: State<S>,
+}
+
+impl<S: DotSet> Model for Replica<S> {
+    ghost use Rattle.rds_state.specs.Fits.{ReplicaValue, IsReplica, coded_replica};
+
+    ghost Value = { ReplicaValue };
+
+    ghost coded = { coded_replica };
+
+    ghost view = { λ r. record { roster = r.roster; own = r.own; state = r.state } };
+
+    ghost invariant = { λ r. IsReplica (record { roster = r.roster; own = r.own; state = r.state }) };
+}
+
+impl<S: DotSet> Replica<S> {
+    /// The replica with this number, without any entry or counter. A number that isn't below the roster's length is
+    /// refused (`BadRoster`).
+    pub fn new(alloc: Global, roster: Roster, own: u8) -> Result<Replica<S>, Fault>
+        ensures ok { IfOk result (λ replica. (replica.roster ≡ roster) × (replica.own ≡ own) × (replica.state.lives ≡ map.empty) × (replica.state.counts ≡ map.empty)) }
+        ensures exact { MatchResult result (λ _. own < length roster.names) (λ fault. (fault ≡ BadRoster) × (length roster.names ≤ own)) }
+    {
+        if !has_number(&roster, own) {
+            return Err(Fault::BadRoster);
+        }
+        Ok(Replica {
+            roster,
+            own,
+            state: State::empty(alloc),
+        })
+    }
+
+    /// The replica of these parts. Where the own number or a replica's number in the state isn't below the roster's
+    /// length, they are refused (`BadRoster`). Takes no memory.
+    pub fn from_parts(roster: Roster, own: u8, state: State<S>) -> Result<Replica<S>, Fault>
+        ensures ok { IfOk result (λ replica. (replica.roster ≡ roster) × (replica.own ≡ own) × (replica.state ≡ state)) }
+        ensures exact { let parts : ReplicaValue = record { roster = roster; own = own; state = state } in MatchResult result (λ _. IsReplica parts) (λ fault. (fault ≡ BadRoster) × (¬ (IsReplica parts))) }
+    {
+        if !has_number(&roster, own) || !fits_into(&roster, &state) {
+            return Err(Fault::BadRoster);
+        }
+        Ok(Replica { roster, own, state })
+    }
+
+    /// The roster of its group.
+    pub fn roster(&self) -> &Roster
+        ensures { result.now ≡ self.now.roster }
+    {
+        &self.roster
+    }
+
+    /// Its number in the roster.
+    pub fn own(&self) -> u8
+        ensures own { result ≡ self.now.own }
+        ensures within { self.now.own < length self.now.roster.names }
+    {
+        self.own
+    }
+
+    /// What it knows of the document.
+    pub fn state(&self) -> &State<S>
+        ensures state { result.now ≡ self.now.state }
+        ensures fits { Fits (length self.now.roster.names) (coordinates self.now.state) }
+    {
+        &self.state
+    }
+
+    /// Whether all replica numbers of a state are below the roster's length.
+    pub fn fits(&self, state: &State<S>) -> bool
+        ensures { IsTrue result ↔ Fits (length self.now.roster.names) (coordinates state.now) }
+    {
+        fits_into(&self.roster, state)
+    }
+
+    /// Edits the document: the state is joined with what the command does to it. `Set` and `Add` make the next own
+    /// dot live, and the live dots that the command covers die: for `Set` those of the register, for `Add` and `Del`
+    /// those of the value in the set, for `Clear` all under the path. `Inc` and `Dec` raise an own number. An entry
+    /// that this replica hasn't seen is not touched (Almeida, Shoker, Baquero 2018).
+    ///
+    /// Refuses `BadPath` where a value is meant for the root, then `SeqFull` where the last own dot is used, and
+    /// `CounterFull` where a number would pass its limit.
+    pub fn edit(&mut self, command: Command) -> Result<Edited, Fault>
+        ensures joined { IfOk result (λ _. JoinsEffect (coordinates self.old.state) self.old.own command (coordinates self.new.state)) }
+        ensures dot { IfOk result (λ edited. edited.dot ≡ new_dot (coordinates self.old.state) self.old.own command) }
+        ensures killed { IfOk result (λ edited. edited.killed ≡ count_by (λ r. covers command r.1) (live_rows self.old.state.lives)) }
+        ensures refusal { let due = refusal (coordinates self.old.state) self.old.own command in MatchResult result (λ _. due ≡ None) (IsDue due) }
+        ensures roster { self.new.roster ≡ self.old.roster }
+        ensures own { self.new.own ≡ self.old.own }
+        ensures err { OnErr result (self.new ≡ self.old) }
+    {
+        edit(&mut self.state, self.own, &command)
+    }
+
+    /// Joins a delta into the state. Refuses `OwnAhead` first, where the delta has an own dot that is unseen here,
+    /// which the fault names, or an own number that is above the one here: both show that this replica has lost
+    /// edits that it had sent. Then it refuses a `Conflict`, as a merge does.
+    pub fn take(&mut self, delta: &State<S>) -> Result<(), Fault>
+        requires { Fits (length self.old.roster.names) (coordinates delta.now) }
+        ensures ok { OnOk result (coordinates self.new.state ≡ join (coordinates self.old.state) (coordinates delta.now)) }
+        ensures roster { self.new.roster ≡ self.old.roster }
+        ensures own { self.new.own ≡ self.old.own }
+        ensures gives { TakeGives self.old.state self.old.own delta.now result }
+        ensures err { OnErr result (self.new ≡ self.old) }
+    {
+        if let Some(ahead) = own_ahead(&self.state, self.own, delta) {
+            return Err(Fault::OwnAhead(ahead));
+        }
+        self.state.merge(delta)
+    }
+
+    /// An equal replica with memory of its own.
+    pub fn copy(&self, alloc: Global) -> Result<Replica<S>, Fault>
+        ensures ok { IfOk result (λ replica. replica ≡ self.now) }
+        ensures memory { IfErr result (λ fault. fault ≡ Memory) }
+    {
+        Ok(Replica {
+            roster: self.roster.copy(alloc)?,
+            own: self.own,
+            state: self.state.copy(alloc)?,
+        })
+    }
+}
+
+/// Whether the roster has a replica with this number.
+fn has_number(roster: &Roster, number: u8) -> bool
+    ensures { IsTrue result ↔ (number < length roster.now.names) }
+{
+    u16::from(number) < roster.len()
+}
+
+/// Whether all replica numbers of the state are below the roster's length.
+fn fits_into<S: DotSet>(roster: &Roster, state: &State<S>) -> bool
+    ensures { IsTrue result ↔ Fits (length roster.now.names) (coordinates state.now) }
+{
+    let replicas = roster.len();
+    if !are_below(state.lives().seen(), replicas) {
+        return false;
+    }
+    are_rows_below(state.counts().rows(), replicas)
+}
+
+fn are_rows_below(rows: &[CountRow], replicas: u16) -> bool
+    ensures { result ≡ rows_below replicas rows.now }
+{
+    let mut rest = rows;
+    'testing: loop {
+        let (row, later) = match rest.split_first() {
+            Some(parts) => parts,
+            None => return true,
+        };
+        if u16::from(row.replica) >= replicas {
+            return false;
+        }
+        rest = later;
+    }
+}

@@ -1,0 +1,169 @@
+//! The state of a document.
+ghost use Rattle.std.specs.Prelude.{◌≡◌, ◌↔◌, ◌+◌, IsTrue, true, None, count_by, IfOk, IfErr, OnOk, OnErr, MatchResult};
+ghost use Rattle.std.specs.FinMap as map;
+ghost use Rattle.rds_names.specs.declared.fault.Fault.TheVariants.{Memory};
+ghost use Rattle.rds_counts.specs.Counted.{number, place};
+ghost use Rattle.rds_dots.specs.declared.dot.Dot.{Dot};
+ghost use Rattle.rds_dots.specs.Dots.{is_dot};
+ghost use Rattle.rds_life.specs.Killed.{killed_by};
+ghost use Rattle.rds_life.specs.Life.{Live, MergeGives, live_rows};
+ghost use Rattle.rds_state.specs.Chosen.{AreRaised};
+ghost use Rattle.rds_state.specs.Coordinates.{join};
+ghost use Rattle.rds_state.specs.Edit.{count_fault, IsDue};
+ghost use Rattle.rds_state.specs.Value.{coordinates, size};
+
+use crate::sameness::are_same_lives;
+use rds_counts::{Counts, Which};
+use rds_dots::{Dot, DotSet};
+use rds_life::{Choice, Lives};
+use rds_names::{Entry, Fault, Key};
+use std::alloc::Global;
+use std::marker::Model;
+
+/// What a replica knows of a document: the life of each dot, and the numbers of each counter.
+#[derive(Drop)]
+pub struct State<S: DotSet> {
+    lives: Lives<S>,
+    counts: Counts,
+}
+
+impl<S: DotSet> Model for State<S> {
+    ghost use Rattle.rds_state.specs.Value.{StateValue, coded_state};
+
+    ghost Value = { StateValue };
+
+    ghost coded = { coded_state };
+
+    ghost view = { λ s. record { lives = s.lives; counts = s.counts } };
+}
+
+impl<S: DotSet> State<S> {
+    /// Every dot is unseen and every number 0. Takes no memory.
+    pub fn empty(alloc: Global) -> State<S>
+        ensures lives { result.lives ≡ map.empty }
+        ensures counts { result.counts ≡ map.empty }
+    {
+        State {
+            lives: Lives::empty(alloc),
+            counts: Counts::empty(alloc),
+        }
+    }
+
+    /// A state without counters. Takes no memory.
+    pub fn from_lives(alloc: Global, lives: Lives<S>) -> State<S>
+        ensures lives { result.lives ≡ lives }
+        ensures counts { result.counts ≡ map.empty }
+    {
+        State {
+            lives,
+            counts: Counts::empty(alloc),
+        }
+    }
+
+    /// The state of these parts. Takes no memory.
+    pub fn from_parts(lives: Lives<S>, counts: Counts) -> State<S>
+        ensures lives { result.lives ≡ lives }
+        ensures counts { result.counts ≡ counts }
+    {
+        State { lives, counts }
+    }
+
+    /// The life of each dot.
+    pub fn lives(&self) -> &Lives<S>
+        ensures { result.now ≡ self.now.lives }
+    {
+        &self.lives
+    }
+
+    /// The numbers of each counter.
+    pub fn counts(&self) -> &Counts
+        ensures { result.now ≡ self.now.counts }
+    {
+        &self.counts
+    }
+
+    /// How many components the state has: dots that aren't unseen, and numbers above 0.
+    pub fn components(&self) -> u128
+        ensures { result ≡ size self.now }
+    {
+        let dots = self.lives.seen().count();
+        let numbers = self.counts.components();
+        u128::from(dots) + numbers
+    }
+
+    /// Whether the two are equal at each coordinate.
+    pub fn same(&self, other: &State<S>) -> bool
+        ensures { IsTrue result ↔ (self.now ≡ other.now) }
+    {
+        are_same_lives(&self.lives, &other.lives) && self.counts.same(&other.counts)
+    }
+
+    /// Joins the other state into this one: each coordinate becomes the later life or the greater number. Refuses a
+    /// `Conflict`, which names the least dot that is live in both with different entries.
+    pub fn merge(&mut self, other: &State<S>) -> Result<(), Fault>
+        ensures ok { OnOk result (coordinates self.new ≡ join (coordinates self.old) (coordinates other.now)) }
+        ensures gives { MergeGives self.old.lives other.now.lives result }
+        ensures err { OnErr result (self.new ≡ self.old) }
+    {
+        let lives = self.lives.joined(self.counts.alloc(), &other.lives)?;
+        self.counts.merge(&other.counts)?;
+        self.lives = lives;
+        Ok(())
+    }
+
+    /// An equal state with memory of its own.
+    pub fn copy(&self, alloc: Global) -> Result<State<S>, Fault>
+        ensures ok { IfOk result (λ state. state ≡ self.now) }
+        ensures memory { IfErr result (λ fault. fault ≡ Memory) }
+    {
+        Ok(State {
+            lives: self.lives.copy(alloc)?,
+            counts: self.counts.copy(alloc)?,
+        })
+    }
+}
+
+/// The steps of an edit.
+impl<S: DotSet> State<S> {
+    /// The allocator that the state grows by.
+    pub(crate) fn alloc(&self) -> Global {
+        self.counts.alloc()
+    }
+
+    /// Makes an unseen dot live.
+    pub(crate) fn put_live(&mut self, dot: Dot, entry: Entry) -> Result<(), Fault>
+        requires dot { is_dot dot ≡ true }
+        requires unseen { map.get self.old.lives dot ≡ None }
+        ensures lives { OnOk result (self.new.lives ≡ map.insert self.old.lives dot (Live entry)) }
+        ensures counts { self.new.counts ≡ self.old.counts }
+        ensures err { OnErr result (self.new ≡ self.old) }
+        ensures memory { IfErr result (λ fault. fault ≡ Memory) }
+    {
+        self.lives.put_live(dot, entry)
+    }
+
+    /// Makes the live dots that are chosen dead, and says how many there were.
+    pub(crate) fn kill_chosen<C: Choice>(&mut self, choice: &C) -> u64
+        ensures lives { (d : Dot) → map.get self.new.lives d ≡ killed_by (C.chosen choice.now) d (map.get self.old.lives d) }
+        ensures counts { self.new.counts ≡ self.old.counts }
+        ensures killed { result ≡ count_by (λ r. C.chosen choice.now r.0 r.1) (live_rows self.old.lives) }
+    {
+        self.lives.kill_chosen(choice)
+    }
+
+    /// Adds an amount to one of a replica's numbers.
+    pub(crate) fn raise(
+        &mut self,
+        key: &Key,
+        replica: u8,
+        which: Which,
+        by: u64,
+    ) -> Result<(), Fault>
+        ensures numbers { OnOk result (AreRaised self.old.counts (place key.now replica which) by self.new.counts) }
+        ensures lives { self.new.lives ≡ self.old.lives }
+        ensures refusal { let due = count_fault (number self.old.counts (place key.now replica which) + by) in MatchResult result (λ _. due ≡ None) (IsDue due) }
+        ensures err { OnErr result (self.new ≡ self.old) }
+    {
+        self.counts.raise(key, replica, which, by)
+    }
+}
