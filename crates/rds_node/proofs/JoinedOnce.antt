@@ -1,6 +1,5 @@
 -- Two snapshots are joined to one thing alone, so the answer to their lines is known.
 use Rattle.std.proofs.Common.{◌≡◌, ◌≢◌, ℕ, inl, inr, false, List, length, Result, Ok, Err, refl, sym, ap, ◌∙◌, subst, ltb, arith}
-use Rattle.std.specs.FinMap as map
 use Rattle.std.specs.Ordering.{is_lt}
 use Rattle.std.specs.declared.cmp.Ordering.{Ordering}
 use Rattle.std.specs.declared.cmp.Ordering.TheVariants.{Less, Equal, Greater}
@@ -11,8 +10,10 @@ use Rattle.rds_names.specs.declared.fault.Fault.{Fault}
 use Rattle.rds_names.specs.declared.fault.Fault.TheVariants.{Conflict, WrongGroup, WrongRoster}
 use Rattle.rds_dots.specs.declared.dot.Dot.{Dot}
 use Rattle.rds_dots.specs.Dots.{dot_cmp}
-use Rattle.rds_dots.specs.Order.{dots_total, dots_exact, after_before}
-use Rattle.rds_life.specs.Life.{Lived, IsFirstConflict, IsJoin}
+use Rattle.rds_dots.specs.Order.{dots_exact, after_before}
+use Rattle.rds_life.specs.Life.{Lived, IsFirstConflict}
+use Rattle.rds_state.specs.Value.{StateValue}
+use Rattle.rds_state.proofs.JoinLaws.{same_value}
 use Rattle.rds_node.specs.Join.{line_limit, ReadsLine, IsJoined, JoinedTo, TextOfJoined, AfterBoth, AfterSecond, AfterFirst, JoinsTo}
 use Rattle.rds_node.specs.JoinLaws.{SpellsLine, SpellsBoth, IsJoinedOnce, AnswersSpelled}
 use Rattle.rds_node.specs.Lines.{line_of, after_line}
@@ -24,7 +25,7 @@ data Cases (v w : SnapshotValue) (a : Result SnapshotValue Fault) : Type 0 where
   is_joined : (both : SnapshotValue) → a ≡ Ok both → IsJoined v w both → Cases v w a
   other_groups : a ≡ Err WrongGroup → v.roster.group ≢ w.roster.group → Cases v w a
   other_rosters : a ≡ Err WrongRoster → v.roster.group ≡ w.roster.group → v.roster.names ≢ w.roster.names → Cases v w a
-  first_conflict : (d : Dot) → a ≡ Err (Conflict d.replica d.seq) → v.roster ≡ w.roster → IsFirstConflict v.lives w.lives d → Cases v w a
+  first_conflict : (d : Dot) → a ≡ Err (Conflict d.replica d.seq) → v.roster ≡ w.roster → IsFirstConflict v.state.lives w.state.lives d → Cases v w a
 
 cases : (v w : SnapshotValue) (a : Result SnapshotValue Fault) → JoinedTo v w a → Cases v w a
 cases v w (Ok both) h = is_joined both refl h
@@ -39,19 +40,15 @@ same_group e = ap (λ (r : RosterValue). r.group) e
 same_names : {v w : RosterValue} → v ≡ w → v.names ≡ w.names
 same_names e = ap (λ (r : RosterValue). r.names) e
 
--- the join of two lives is one
-one_join : (a b c d : Lived) → IsJoin a b c → IsJoin a b d → c ≡ d
-one_join a b c d h k = map.same_map dots_total dots_exact c d (λ q. h.each_dot q ∙ sym (k.each_dot q))
-
-snapshot_of : RosterValue → ℕ → Lived → SnapshotValue
-snapshot_of roster own lives = record { roster = roster; own = own; lives = lives }
+snapshot_of : RosterValue → ℕ → StateValue → SnapshotValue
+snapshot_of roster own state = record { roster = roster; own = own; state = state }
 
 one_joined : (v w x y : SnapshotValue) → IsJoined v w x → IsJoined v w y → x ≡ y
 unfolding snapshot_of
 one_joined v w x y h k =
-    ap (λ (r : RosterValue). snapshot_of r x.own x.lives) (h.roster ∙ sym k.roster)
-    ∙ ap (λ (n : ℕ). snapshot_of y.roster n x.lives) (h.own ∙ sym k.own)
-    ∙ ap (snapshot_of y.roster y.own) (one_join v.lives w.lives x.lives y.lives h.lives k.lives)
+    ap (λ (r : RosterValue). snapshot_of r x.own x.state) (h.roster ∙ sym k.roster)
+    ∙ ap (λ (n : ℕ). snapshot_of y.roster n x.state) (h.own ∙ sym k.own)
+    ∙ ap (snapshot_of y.roster y.own) (same_value x.state y.state (h.state ∙ sym k.state))
 
 -- the first conflict is one
 one_conflict : (a b : Lived) (d e : Dot) (o : Ordering) → dot_cmp d e ≡ o → IsFirstConflict a b d → IsFirstConflict a b e → d ≡ e
@@ -90,13 +87,13 @@ rosters_else v w a b e group h k = elim k [
   | first_conflict d f same first ↦ absurd (h (same_names same))
 ]
 
-conflict_else : (v w : SnapshotValue) (a b : Result SnapshotValue Fault) (d : Dot) → a ≡ Err (Conflict d.replica d.seq) → v.roster ≡ w.roster → IsFirstConflict v.lives w.lives d → Cases v w b → a ≡ b
+conflict_else : (v w : SnapshotValue) (a b : Result SnapshotValue Fault) (d : Dot) → a ≡ Err (Conflict d.replica d.seq) → v.roster ≡ w.roster → IsFirstConflict v.state.lives w.state.lives d → Cases v w b → a ≡ b
 unfolding conflict_of
 conflict_else v w a b d e roster h k = elim k [
   | is_joined other f j ↦ absurd (h.here (j.compatible.each_dot d))
   | other_groups f differ ↦ absurd (differ (same_group roster))
   | other_rosters f same differ ↦ absurd (differ (same_names roster))
-  | first_conflict q f same first ↦ e ∙ ap conflict_of (one_conflict v.lives w.lives d q (dot_cmp d q) refl h first) ∙ sym f
+  | first_conflict q f same first ↦ e ∙ ap conflict_of (one_conflict v.state.lives w.state.lives d q (dot_cmp d q) refl h first) ∙ sym f
 ]
 
 pub joined_once : IsJoinedOnce
@@ -111,9 +108,9 @@ joined_once v w a b h k = elim (cases v w a h) [
 read_spelled : (line : List ℕ) (v : SnapshotValue) (r : Result SnapshotValue Fault) → SpellsLine line v → ReadsLine line r → r ≡ Ok v
 read_spelled line v r spells reads =
     let long = (decode_of-ok line (snapshot_text v) spells.digits).2 in
-    let short : ltb line_limit (length line) ≡ false = le-ltb line_limit (length line) (omega (arith, long, spells.has_text.within)) in
+    let short : ltb line_limit (length line) ≡ false = le-ltb line_limit (length line) (omega (arith, long, spells.within)) in
     let read = rw (short, spells.digits) at reads.1 in
-    elim (read.found v spells.has_text.within (record { is_snapshot = spells.has_text.is_snapshot; spelled = refl })) [
+    elim (read.found v spells.within (record { is_snapshot = spells.is_snapshot; spelled = refl })) [
       | inl is ↦ is
       | inr memory ↦ absurd (reads.0 memory)
     ]

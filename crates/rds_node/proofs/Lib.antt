@@ -1,4 +1,5 @@
 mod Adding
+mod CounterFormats
 mod DotFormats
 mod EntryFormats
 mod EntryParts

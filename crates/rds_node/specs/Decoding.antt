@@ -14,7 +14,10 @@ use Rattle.rds_names.specs.declared.scalar.Scalar.{Scalar}
 use Rattle.rds_names.specs.declared.scalar.Scalar.TheVariants.{Null, Bool as Truth, Int, Text}
 use Rattle.rds_dots.specs.declared.dot.Dot.{Dot}
 use Rattle.rds_dots.specs.Dots.{Dots, is_dot}
+use Rattle.rds_counts.specs.declared.row.CountRow.{CountRow}
+use Rattle.rds_counts.specs.Counted.{Counted, counted, AreCountRows}
 use Rattle.rds_life.specs.Life.{seen_of, live_rows}
+use Rattle.rds_state.specs.Value.{StateValue}
 use Rattle.rds_node.specs.SnapshotValue.{SnapshotValue}
 use Rattle.rds_node.specs.Spelling.{front_text, dots_text, snapshot_text}
 use Rattle.rds_node.specs.declared.text.TheConstants.{LIMIT, MOST_DOTS}
@@ -48,12 +51,27 @@ IsEntry e = (list_all is_key_text e.path ≡ true) × IsScalar e.value
 abbrev pub IsLiveRow : Dot × Entry → Type 0
 IsLiveRow row = IsEntry row.1
 
+-- of a key and a replica of the roster
+abbrev pub IsCountRowOf : RosterValue → CountRow → Type 0
+IsCountRowOf roster r = (is_key_text r.key ≡ true) × (r.replica < length roster.names)
+
+-- the numbers of rows, each of a key and a replica of the roster
+pub record AreCountsOf (roster : RosterValue) (m : Counted) : Type 0 where
+  pub rows : List CountRow
+  pub are_rows : AreCountRows rows
+  pub each_row : AllByRecursion (IsCountRowOf roster) rows
+  pub value : counted rows ≡ m
+
 -- the parts are within their limits, and the dots not above the cap
-pub record IsSnapshot (v : SnapshotValue) : Type 0 where
-  pub front : IsFront v.roster v.own
-  pub dots : AreDotsOf v.roster (seen_of v.lives)
+pub record IsStateOf (roster : RosterValue) (v : StateValue) : Type 0 where
+  pub dots : AreDotsOf roster (seen_of v.lives)
   pub few : set.len (seen_of v.lives) ≤ MOST_DOTS
   pub entries : AllByRecursion IsLiveRow (live_rows v.lives)
+  pub counts : AreCountsOf roster v.counts
+
+pub record IsSnapshot (v : SnapshotValue) : Type 0 where
+  pub front : IsFront v.roster v.own
+  pub state : IsStateOf v.roster v.state
 
 -- ---- what decoding answers
 

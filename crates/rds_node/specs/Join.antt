@@ -3,7 +3,9 @@ use Rattle.std.specs.Prelude.{◌≡◌, ◌≢◌, ℕ, ◌⊎◌, nat_lt, List
 use Rattle.hex.specs.Hex.{decode_of}
 use Rattle.rds_names.specs.declared.fault.Fault.{Fault}
 use Rattle.rds_names.specs.declared.fault.Fault.TheVariants.{Memory, Conflict, Bad, Extra, TooLong, WrongGroup, WrongRoster}
-use Rattle.rds_life.specs.Life.{AreCompatible, IsFirstConflict, IsJoin}
+use Rattle.rds_life.specs.Life.{IsFirstConflict}
+use Rattle.rds_state.specs.Coordinates.{AreCompatible, join}
+use Rattle.rds_state.specs.Value.{coordinates}
 use Rattle.rds_node.specs.Decoding.{Decodes}
 use Rattle.rds_node.specs.Lines.{line_of, after_line}
 use Rattle.rds_node.specs.SnapshotValue.{SnapshotValue}
@@ -26,20 +28,20 @@ LineRead line r = MatchBool (nat_lt line_limit (length line)) (r ≡ Err TooLong
 abbrev pub ReadsLine : List ℕ → Result SnapshotValue Fault → Type 0
 ReadsLine line r = (r ≢ Err Memory) × LineRead line r
 
--- the join of the lives, with the first one's roster and number
+-- the join of the states, with the first one's roster and number
 pub record IsJoined (first second both : SnapshotValue) : Type 0 where
   pub same_roster : first.roster ≡ second.roster
-  pub compatible : AreCompatible first.lives second.lives
+  pub compatible : AreCompatible (coordinates first.state) (coordinates second.state)
   pub roster : both.roster ≡ first.roster
   pub own : both.own ≡ first.own
-  pub lives : IsJoin first.lives second.lives both.lives
+  pub state : coordinates both.state ≡ join (coordinates first.state) (coordinates second.state)
 
 -- what two snapshots are joined to, or why they can't be
 abbrev pub JoinedTo : SnapshotValue → SnapshotValue → Result SnapshotValue Fault → Type 0
 JoinedTo v w (Ok both) = IsJoined v w both
 JoinedTo v w (Err WrongGroup) = v.roster.group ≢ w.roster.group
 JoinedTo v w (Err WrongRoster) = (v.roster.group ≡ w.roster.group) × (v.roster.names ≢ w.roster.names)
-JoinedTo v w (Err (Conflict replica seq)) = (v.roster ≡ w.roster) × IsFirstConflict v.lives w.lives (record { replica = replica; seq = seq })
+JoinedTo v w (Err (Conflict replica seq)) = (v.roster ≡ w.roster) × IsFirstConflict v.state.lives w.state.lives (record { replica = replica; seq = seq })
 JoinedTo v w (Err _) = ⊥
 
 -- the text of what was joined, where it is within the limit

@@ -1,18 +1,20 @@
 -- What the answer to two snapshots is, in terms of the snapshots alone.
-use Rattle.std.specs.Prelude.{◌≡◌, ◌⊎◌, ℕ, List, [], Result, Ok, Err}
+use Rattle.std.specs.Prelude.{◌≡◌, ◌≤◌, ◌⊎◌, ℕ, List, [], length, Result, Ok, Err}
 use Rattle.hex.specs.Hex.{decode_of}
 use Rattle.rds_names.specs.declared.fault.Fault.{Fault}
 use Rattle.rds_names.specs.declared.fault.Fault.TheVariants.{Memory}
+use Rattle.rds_node.specs.Decoding.{IsSnapshot}
 use Rattle.rds_node.specs.Join.{JoinedTo, MayJoinTo, TextOfJoined}
-use Rattle.rds_node.specs.Laws.{HasText}
 use Rattle.rds_node.specs.Lines.{line_of, after_line}
 use Rattle.rds_node.specs.SnapshotValue.{SnapshotValue}
 use Rattle.rds_node.specs.Spelling.{snapshot_text}
+use Rattle.rds_node.specs.declared.text.TheConstants.{LIMIT}
 
 -- a line is the snapshot's text in hex digits of either case
 pub record SpellsLine (line : List ℕ) (v : SnapshotValue) : Type 0 where
-  pub has_text : HasText v
+  pub is_snapshot : IsSnapshot v
   pub digits : decode_of line ≡ Ok (snapshot_text v)
+  pub within : length (snapshot_text v) ≤ LIMIT
 
 -- the input is the lines of two snapshots, and nothing more
 pub record SpellsBoth (input : List ℕ) (v w : SnapshotValue) : Type 0 where

@@ -17,7 +17,13 @@ use Rattle.rds_names.specs.declared.scalar.Scalar.TheVariants.{Null, Bool as Tru
 use Rattle.rds_dots.specs.declared.dot.Dot.{Dot}
 use Rattle.rds_dots.specs.declared.dot.TheConstants.{MAX_SEQ}
 use Rattle.rds_dots.specs.Dots.{Dots, comes_after}
+use Rattle.std.specs.Cmp.Lexicographic.{slice_cmp}
+use Rattle.std.specs.Ordering.{nat_cmp, ordering_then, is_lt}
+use Rattle.rds_counts.specs.declared.row.CountRow.{CountRow}
+use Rattle.rds_counts.specs.declared.row.TheConstants.{MAX_COUNT}
+use Rattle.rds_counts.specs.Counted.{Counted, counted}
 use Rattle.rds_life.specs.Life.{lived}
+use Rattle.rds_state.specs.Value.{StateValue}
 use Rattle.rds_node.specs.declared.text.rows.Gap.{Gap}
 use Rattle.rds_node.specs.declared.text.rows.DotRow.{DotRow}
 use Rattle.rds_node.specs.declared.text.TheConstants.{MOST_DOTS}
@@ -260,26 +266,59 @@ live_row_at seen before = pair_at (dot_at seen before) entry_at
 unfoldable pub live_rows_at : Dots → Reader (List (Dot × Entry))
 live_rows_at seen = list_at (number_at w32) (live_row_at seen)
 
--- ---- snapshots
+-- ---- counters
 
-abbrev pub is_zero : ℕ → Bool
-is_zero n = n == 0
+-- a key and a replica that come after those of the row before
+abbrev pub comes_after_row : Option CountRow → List ℕ → ℕ → Bool
+comes_after_row None key replica = true
+comes_after_row (Some r) key replica = is_lt (ordering_then (slice_cmp nat_cmp r.key key) (nat_cmp r.replica replica))
 
-unfoldable pub no_counters_at : Reader ℕ
-no_counters_at = when_at is_zero (number_at w32)
+-- the next key, and a replica of so many
+abbrev pub is_next_place : ℕ → List CountRow → List ℕ × ℕ → Bool
+is_next_place replicas before p = comes_after_row (last before) p.0 p.1 && nat_lt p.1 replicas
 
-abbrev pub Body : Type 0
-Body = Dots × (List (Dot × Entry) × ℕ)
+unfoldable pub place_at : ℕ → List CountRow → Reader (List ℕ × ℕ)
+place_at replicas before = when_at (is_next_place replicas before) (pair_at key_at byte_at)
 
-abbrev pub snapshot_by : (RosterValue × ℕ) × Body → SnapshotValue
-snapshot_by p = record { roster = p.0.0; own = p.0.1; lives = lived p.1.0 p.1.1.0 }
+abbrev pub is_count : ℕ → Bool
+is_count n = nat_le n MAX_COUNT
+
+-- the second of two numbers that aren't both 0
+abbrev pub is_second : ℕ → ℕ → Bool
+is_second p n = is_count n && (nat_lt 0 p || nat_lt 0 n)
+
+unfoldable pub counts_at : Reader (ℕ × ℕ)
+counts_at = then_at (when_at is_count (number_at w64)) (λ p. when_at (is_second p) (number_at w64))
+
+abbrev pub count_row_by : (List ℕ × ℕ) × (ℕ × ℕ) → CountRow
+count_row_by x = record { key = x.0.0; replica = x.0.1; p = x.1.0; n = x.1.1 }
+
+unfoldable pub count_row_at : ℕ → List CountRow → Reader CountRow
+count_row_at replicas before = made_at count_row_by (pair_at (place_at replicas before) counts_at)
+
+unfoldable pub count_rows_at : ℕ → Reader (List CountRow)
+count_rows_at replicas = list_at (number_at w32) (count_row_at replicas)
+
+unfoldable pub counters_at : RosterValue → Reader Counted
+counters_at roster = made_at counted (count_rows_at (length roster.names))
+
+-- ---- states and snapshots
+
+abbrev pub StateParts : Type 0
+StateParts = Dots × (List (Dot × Entry) × Counted)
+
+abbrev pub state_by : StateParts → StateValue
+state_by p = record { lives = lived p.0 p.1.0; counts = p.1.1 }
 
 -- the dots, the live rows and the counters
-unfoldable pub body_at : RosterValue → Reader Body
-body_at roster = then_at (dots_at roster) (λ seen. pair_at (live_rows_at seen) no_counters_at)
+unfoldable pub state_at : RosterValue → Reader StateValue
+state_at roster = made_at state_by (then_at (dots_at roster) (λ seen. pair_at (live_rows_at seen) (counters_at roster)))
+
+abbrev pub snapshot_by : (RosterValue × ℕ) × StateValue → SnapshotValue
+snapshot_by p = record { roster = p.0.0; own = p.0.1; state = p.1 }
 
 unfoldable pub snapshot_at : Reader SnapshotValue
-snapshot_at = made_at snapshot_by (then_at front_at (λ front. body_at front.0))
+snapshot_at = made_at snapshot_by (then_at front_at (λ front. state_at front.0))
 
 -- all of the bytes
 abbrev pub all_of : {A : Type 0} → Reader A → List ℕ → Result A Fault

@@ -2,14 +2,13 @@
 use Rattle.std.specs.Prelude.{ℕ, List, refl}
 use Rattle.std.specs.Coded.{Coded, code_by, coded×, coded_ℕ, coded_list}
 use Rattle.rds_names.specs.Roster.{RosterValue}
-use Rattle.rds_life.specs.Life.{Lived}
-use Rattle.rds_life.specs.Code.{coded_lives}
+use Rattle.rds_state.specs.Value.{StateValue, coded_state}
 
--- a replica: its roster, its own number, the life of each dot
+-- a replica: its roster, its own number, its state
 pub record SnapshotValue : Type 0 where
   pub roster : RosterValue
   pub own : ℕ
-  pub lives : Lived
+  pub state : StateValue
 
 abbrev pub coded_roster : Coded RosterValue
 coded_roster =
@@ -17,4 +16,4 @@ coded_roster =
 
 abbrev pub coded_snapshot : Coded SnapshotValue
 coded_snapshot =
-    code_by (RosterValue × (ℕ × Lived)) (coded× coded_roster (coded× coded_ℕ coded_lives)) (λ s. (s.roster, (s.own, s.lives))) (λ p. record { roster = p.0; own = p.1.0; lives = p.1.1 }) (λ _. refl)
+    code_by (RosterValue × (ℕ × StateValue)) (coded× coded_roster (coded× coded_ℕ coded_state)) (λ s. (s.roster, (s.own, s.state))) (λ p. record { roster = p.0; own = p.1.0; state = p.1.1 }) (λ _. refl)

@@ -14,7 +14,11 @@ use Rattle.rds_dots.specs.Runs.{runs_of}
 use Rattle.rds_node.specs.declared.text.rows.Gap.{Gap}
 use Rattle.rds_node.specs.declared.text.rows.DotRow.{DotRow}
 use Rattle.rds_node.specs.DotRows.{rows_from}
+use Rattle.rds_counts.specs.declared.row.CountRow.{CountRow}
+use Rattle.rds_counts.specs.Counted.{Counted}
+use Rattle.rds_counts.specs.RowsOf.{count_rows}
 use Rattle.rds_life.specs.Life.{seen_of, live_rows}
+use Rattle.rds_state.specs.Value.{StateValue}
 use Rattle.rds_node.specs.SnapshotValue.{SnapshotValue}
 
 abbrev pub byte_text : ℕ → List ℕ
@@ -84,9 +88,24 @@ live_row_text row = dot_text row.0 ++ entry_text row.1
 abbrev pub live_rows_text : List (Dot × Entry) → List ℕ
 live_rows_text rows = to_be_bytes w32 (length rows) ++ flat_map live_row_text rows
 
--- four bytes of zeros: there are no counters
-abbrev pub no_counters_text : List ℕ
-no_counters_text = to_be_bytes w32 0
+abbrev pub place_text : List ℕ → ℕ → List ℕ
+place_text key replica = short_text key ++ byte_text replica
+
+abbrev pub counts_text : ℕ → ℕ → List ℕ
+counts_text p n = to_be_bytes w64 p ++ to_be_bytes w64 n
+
+abbrev pub count_row_text : CountRow → List ℕ
+count_row_text r = place_text r.key r.replica ++ counts_text r.p r.n
+
+abbrev pub count_rows_text : List CountRow → List ℕ
+count_rows_text rows = to_be_bytes w32 (length rows) ++ flat_map count_row_text rows
+
+-- a row for each key and replica of which a number isn't 0
+unfoldable pub counters_text : Counted → List ℕ
+counters_text m = count_rows_text (count_rows m)
+
+unfoldable pub state_text : StateValue → List ℕ
+state_text v = dots_text (seen_of v.lives) ++ (live_rows_text (live_rows v.lives) ++ counters_text v.counts)
 
 unfoldable pub snapshot_text : SnapshotValue → List ℕ
-snapshot_text v = front_text v.roster v.own ++ (dots_text (seen_of v.lives) ++ (live_rows_text (live_rows v.lives) ++ no_counters_text))
+snapshot_text v = front_text v.roster v.own ++ state_text v.state

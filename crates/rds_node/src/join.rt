@@ -65,7 +65,7 @@ fn read_line<S: DotSet>(alloc: Global, line: &[u8]) -> Result<Snapshot<S>, Fault
     }
 }
 
-// Takes the second one's lives into the first.
+// Joins the second one's state into the first.
 fn take_in<S: DotSet>(first: &mut Snapshot<S>, second: &Snapshot<S>) -> Result<(), Fault>
     ensures ok { OnOk result (JoinedTo first.old second.now (Ok first.new)) }
     ensures err { IfErr result (λ fault. (fault ≡ Memory)
@@ -77,7 +77,7 @@ fn take_in<S: DotSet>(first: &mut Snapshot<S>, second: &Snapshot<S>) -> Result<(
     if !first.roster.same(&second.roster) {
         return Err(Fault::WrongRoster);
     }
-    first.lives.merge(&second.lives)
+    first.state.merge(&second.state)
 }
 
 /// Two snapshots are joined to one thing alone. So whatever `join` answers for the lines of two

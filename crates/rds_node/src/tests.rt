@@ -24,9 +24,17 @@ const EMPTY_AT_B: &str = "52445331016700030161016201630100000000000000000000";
 // Replica a of the same group of a and b alone.
 const EMPTY_OF_TWO: &str = "5244533101670002016101620000000000000000000000";
 
-// Replica a with a counter.
+// Replica a has counted up 5 under the key "n".
 const COUNTING: &str = "52445331016700030161016201630000000000000000000001016e00000000\
 00000000050000000000000000";
+
+// Replica b knows that a has counted up 3 and down 2, and has counted up 1 itself.
+const COUNTING_AT_B: &str = "52445331016700030161016201630100000000000000000002016e00000000\
+00000000030000000000000002016e0100000000000000010000000000000000";
+
+// At a, the greater number of each.
+const COUNTED: &str = "52445331016700030161016201630000000000000000000002016e00000000\
+00000000050000000000000002016e0100000000000000010000000000000000";
 
 // What the words write for the input, and the status.
 fn answers<H: AllocGlobal + Abort>(rt: &H, words: &[&str], input: &str, output: &str, status: u8) {
@@ -69,6 +77,18 @@ fn joins_nothing(rt: HostRuntime) -> Result<(), Fail> {
 }
 
 #[test]
+fn joins_counters(rt: HostRuntime) -> Result<(), Fail> {
+    let alloc = rt.alloc();
+    let input = format!(in alloc; "{COUNTING}\n{COUNTING_AT_B}\n")?;
+    let output = format!(in alloc; "{COUNTED}\n")?;
+    joins(&rt, input.as_str(), output.as_str(), 0);
+    let alone = format!(in alloc; "{COUNTING}\n{EMPTY_AT_B}\n")?;
+    let kept = format!(in alloc; "{COUNTING}\n")?;
+    joins(&rt, alone.as_str(), kept.as_str(), 0);
+    Ok(())
+}
+
+#[test]
 fn refuses_two_snapshots(rt: HostRuntime) -> Result<(), Fail> {
     let alloc = rt.alloc();
     let eight = LIVE.replace(alloc, "030000000000000007", "030000000000000008")?;
@@ -99,7 +119,8 @@ fn refuses_lines(rt: HostRuntime) -> Result<(), Fail> {
     let second = format!(in alloc; "{LIVE}\n{DEAD}0\n")?;
     let more = format!(in alloc; "{LIVE}00\n{DEAD}0\n")?;
     let names = format!(in alloc; "{EMPTY_OF_TWO}\n{EMPTY_AT_B}\n")?;
-    let counting = format!(in alloc; "{COUNTING}\n{EMPTY_AT_B}\n")?;
+    let nothing = COUNTING.replace(alloc, "0005", "0000")?;
+    let nothing = format!(in alloc; "{EMPTY}\n{nothing}\n")?;
     for (input, output) in [
         (third, "fault 14: Extra\n"),
         (odd, "fault 13: Bad\n"),
@@ -108,7 +129,7 @@ fn refuses_lines(rt: HostRuntime) -> Result<(), Fail> {
         (second, "fault 13: Bad\n"),
         (more, "fault 14: Extra\n"),
         (names, "fault 20: WrongRoster\n"),
-        (counting, "fault 13: Bad\n"),
+        (nothing, "fault 13: Bad\n"),
     ] {
         joins(&rt, input.as_str(), output, 1);
     }
@@ -145,13 +166,14 @@ fn reads_the_command_line(rt: HostRuntime) -> Result<(), Fail> {
     Ok(())
 }
 
-// Gives one byte a call, and fails where they end.
+// Gives one byte a call, and fails or ends behind them.
 #[derive(Drop)]
-struct Failing<'a> {
+struct Slow<'a> {
     bytes: &'a [u8],
+    fails: bool,
 }
 
-impl Read for Failing<'_> {
+impl Read for Slow<'_> {
     fn read(&mut self, buf: &mut [u8]) -> io::Result<usize> {
         match (self.bytes.split_first(), buf.first_mut()) {
             (Some((byte, rest)), Some(place)) => {
@@ -159,7 +181,8 @@ impl Read for Failing<'_> {
                 self.bytes = rest;
                 Ok(1)
             }
-            _ => Err(io::Error::from(ErrorKind::Other)),
+            _ if self.fails => Err(io::Error::from(ErrorKind::Other)),
+            _ => Ok(0),
         }
     }
 }
@@ -168,34 +191,44 @@ impl Read for Failing<'_> {
 fn says_that_a_reader_fails(rt: HostRuntime) -> Result<(), Fail> {
     let alloc = rt.alloc();
     let input = format!(in alloc; "{LIVE}\n{DEAD}\n")?;
-    for bytes in ["", LIVE, input.as_str()] {
+    for text in ["", LIVE, input.as_str()] {
         let mut written = Vec::new(alloc);
-        let mut reader = Counted::new(Failing {
-            bytes: bytes.as_bytes(),
-        });
+        let bytes = text.as_bytes();
+        let mut reader = Counted::new(Slow { bytes, fails: true });
         let mut writer = Counted::new(&mut written);
         let status = run(&rt, &["rds_node", "join"], &mut reader, &mut writer);
         assert_eq!(rt; written.as_slice(), b"fault 24: Device\n".as_slice());
-        assert_eq!(rt; status, 1);
-        assert_eq!(rt; reader.failed(), 1);
+        assert_eq!(rt; (status, reader.failed()), (1, 1));
     }
     Ok(())
 }
 
 #[test]
 fn keeps_the_bound_of_turns(rt: HostRuntime) -> Result<(), Fail> {
-    let mut written = Vec::new(rt.alloc());
-    let mut reader = Counted::with_turns(
-        Failing {
-            bytes: LIVE.as_bytes(),
-        },
-        10,
-    );
-    let mut writer = Counted::new(&mut written);
-    let status = run(&rt, &["rds_node", "join"], &mut reader, &mut writer);
-    assert_eq!(rt; written.as_slice(), b"fault 24: Device\n".as_slice());
-    assert_eq!(rt; status, 1);
-    assert_eq!(rt; (reader.turns(), reader.failed()), (10, 1));
+    let alloc = rt.alloc();
+    let input = format!(in alloc; "{EMPTY}\n{EMPTY_AT_B}\n")?;
+    let joined = format!(in alloc; "{EMPTY}\n")?;
+    let device = "fault 24: Device\n";
+    // A read for each of the 102 bytes, and one that finds the end.
+    for (turns, output, status, failed) in [
+        (10, device, 1, 1),
+        (102, device, 1, 1),
+        (103, joined.as_str(), 0, 0),
+    ] {
+        let mut written = Vec::new(alloc);
+        let bytes = input.as_bytes();
+        let fails = false;
+        let mut reader = Counted::with_turns(Slow { bytes, fails }, turns);
+        let mut writer = Counted::new(&mut written);
+        let answer = run(&rt, &["rds_node", "join"], &mut reader, &mut writer);
+        assert_eq!(rt; written.as_slice(), output.as_bytes(), "{turns} turns");
+        assert_eq!(rt;
+            (answer, reader.failed()),
+            (status, failed),
+            "{turns} turns"
+        );
+        assert_eq!(rt; reader.turns(), turns);
+    }
     assert_eq!(rt; Counted::new(0u8).turns(), 2_147_483_648);
     Ok(())
 }

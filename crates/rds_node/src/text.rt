@@ -1,7 +1,7 @@
-//! The text of a snapshot, format 1: the roster, the replica's own number, the dots that it has
-//! seen, and the entries of those that live. All numbers are big-endian, and a value has one text.
+//! The text of a snapshot, format 1: the roster, the replica's own number, and its state. All numbers
+//! are big-endian, and a value has one text.
 ghost use Rattle.rds_node.specs.Decoding.{Decodes};
-ghost use Rattle.rds_node.specs.Reading.{Gives, no_counters_at, snapshot_at, all_of};
+ghost use Rattle.rds_node.specs.Reading.{Gives, snapshot_at, all_of};
 ghost use Rattle.rds_node.specs.Spelling.{snapshot_text};
 ghost use Rattle.rds_node.specs.Laws.{TextsStandApart};
 ghost use Rattle.rds_node.specs.Writing.{Adds, Encodes};
@@ -10,6 +10,7 @@ ghost use Rattle.rds_dots.specs.Runs.{runs_of};
 ghost use Rattle.rds_life.specs.Life.{seen_of};
 ghost use Rattle.std.specs.Prelude.{◌≡◌, ◌≤◌, length};
 
+mod counters;
 mod entries;
 mod front;
 mod list;
@@ -17,20 +18,18 @@ mod measuring;
 mod numbers;
 mod putting;
 mod rows;
+mod states;
 #[cfg(test)]
 mod tests;
 mod walking;
 
-use crate::text::entries::read_live_rows;
 use crate::text::front::read_front;
-use crate::text::measuring::{front_length, live_rows_length};
-use crate::text::numbers::read_u32;
-use crate::text::putting::{put_front, put_live_rows, put_u32};
-use crate::text::rows::read_dots;
-use crate::text::walking::{measure_rows, put_dots};
+use crate::text::measuring::front_length;
+use crate::text::putting::put_front;
+use crate::text::states::{measure_state, put_state, read_state};
 use rds_dots::DotSet;
-use rds_life::Lives;
 use rds_names::{Fault, Roster};
+use rds_state::State;
 use std::alloc::{AllocError, Global};
 use std::marker::Model;
 
@@ -40,12 +39,12 @@ pub const LIMIT: usize = 268_435_456;
 /// The most dots that a set may have to be read.
 pub const MOST_DOTS: u64 = 65_536;
 
-/// A replica as it is stored: its roster, its own number, its lives.
+/// A replica as it is stored: its roster, its own number, its state.
 #[derive(Drop)]
 pub struct Snapshot<S: DotSet> {
     pub roster: Roster,
     pub own: u8,
-    pub lives: Lives<S>,
+    pub state: State<S>,
 }
 
 impl<S: DotSet> Model for Snapshot<S> {
@@ -55,32 +54,16 @@ impl<S: DotSet> Model for Snapshot<S> {
 
     ghost coded = { coded_snapshot };
 
-    ghost view = { λ s. record { roster = s.roster; own = s.own; lives = s.lives } };
+    ghost view = { λ s. record { roster = s.roster; own = s.own; state = s.state } };
 }
 
-#[tactic(auto, unfolding(crate::specs::Reading::no_counters_at))]
-fn read_no_counters(bytes: &[u8]) -> Result<((), &[u8]), Fault>
-    ensures { Gives (λ x. (0, x.1.now)) result (no_counters_at bytes.now) }
-{
-    let (count, rest) = read_u32(bytes)?;
-    if count != 0 {
-        return Err(Fault::Bad);
-    }
-    Ok(((), rest))
-}
-
-#[tactic(auto, unfolding(crate::specs::Reading::snapshot_at, crate::specs::Reading::body_at))]
+#[tactic(auto, unfolding(crate::specs::Reading::snapshot_at))]
 fn read_snapshot<S: DotSet>(alloc: Global, bytes: &[u8]) -> Result<(Snapshot<S>, &[u8]), Fault>
     ensures { Gives (λ x. (x.0, x.1.now)) result (snapshot_at bytes.now) }
 {
     let ((roster, own), rest) = read_front(alloc, bytes)?;
-    let (seen, rest) = read_dots::<S>(alloc, &roster, rest)?;
-    let (rows, rest) = read_live_rows(alloc, &seen, rest)?;
-    let (_counters, rest) = read_no_counters(rest)?;
-    match Lives::from_parts(seen, rows) {
-        Some(lives) => Ok((Snapshot { roster, own, lives }, rest)),
-        None => Err(Fault::Bad),
-    }
+    let (state, rest) = read_state(alloc, &roster, rest)?;
+    Ok((Snapshot { roster, own, state }, rest))
 }
 
 fn read_all<S: DotSet>(alloc: Global, bytes: &[u8]) -> Result<Snapshot<S>, Fault>
@@ -110,13 +93,11 @@ pub fn decode_snapshot<S: DotSet>(alloc: Global, bytes: &[u8]) -> Result<Snapsho
 
 /// The number of rows of the seen dots, and the length of the text.
 fn measure<S: DotSet>(snapshot: &Snapshot<S>) -> (u16, u128)
-    ensures rows { result.0 ≡ length (rows_from 0 (runs_of (seen_of snapshot.now.lives))) }
+    ensures rows { result.0 ≡ length (rows_from 0 (runs_of (seen_of snapshot.now.state.lives))) }
     ensures length { result.1 ≡ length (snapshot_text snapshot.now) }
 {
-    let (rows, dots_length) = measure_rows(snapshot.lives.seen());
-    let live_length = live_rows_length(snapshot.lives.live().as_slice());
-    let front_length = front_length(&snapshot.roster) as u128;
-    (rows, front_length + 2 + dots_length + 4 + live_length + 4)
+    let (rows, state_length) = measure_state(&snapshot.state);
+    (rows, front_length(&snapshot.roster) as u128 + state_length)
 }
 
 fn put_snapshot<S: DotSet>(
@@ -124,14 +105,12 @@ fn put_snapshot<S: DotSet>(
     snapshot: &Snapshot<S>,
     rows: u16,
 ) -> Result<(), AllocError>
-    requires rows { rows ≡ length (rows_from 0 (runs_of (seen_of snapshot.now.lives))) }
+    requires rows { rows ≡ length (rows_from 0 (runs_of (seen_of snapshot.now.state.lives))) }
     requires within { length (snapshot_text snapshot.now) ≤ LIMIT }
     ensures { Adds out.old.items out.new.items (snapshot_text snapshot.now) result }
 {
     put_front(out, &snapshot.roster, snapshot.own)?;
-    put_dots(out, snapshot.lives.seen(), rows)?;
-    put_live_rows(out, snapshot.lives.live().as_slice())?;
-    put_u32(out, 0)
+    put_state(out, &snapshot.state, rows)
 }
 
 /// The text of the snapshot. Above the limit it is refused (`TooLong`) before any memory is taken; then all

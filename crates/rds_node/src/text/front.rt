@@ -25,8 +25,9 @@ fn read_magic(bytes: &[u8]) -> Result<((), &[u8]), Fault>
     Ok(((), rest))
 }
 
+/// A key.
 #[tactic(auto, unfolding(crate::specs::Reading::key_at))]
-fn read_key(alloc: Global, bytes: &[u8]) -> Result<(Key, &[u8]), Fault>
+pub fn read_key(alloc: Global, bytes: &[u8]) -> Result<(Key, &[u8]), Fault>
     ensures { Gives (λ x. (x.0, x.1.now)) result (key_at bytes.now) }
 {
     let (text, rest) = read_short(1, 64, bytes)?;

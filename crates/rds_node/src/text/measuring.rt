@@ -1,8 +1,9 @@
 //! The lengths of texts.
 ghost use Rattle.std.specs.Prelude.{◌≡◌, ℕ, ◌+◌, ◌*◌, ◌≤◌, length};
 ghost use Rattle.std.specs.List.{flat_map};
-ghost use Rattle.rds_node.specs.Spelling.{short_text, scalar_text, entry_text, live_row_text, names_text, front_text};
+ghost use Rattle.rds_node.specs.Spelling.{short_text, scalar_text, entry_text, live_row_text, count_row_text, names_text, front_text};
 
+use rds_counts::CountRow;
 use rds_dots::Dot;
 use rds_names::{Entry, Key, Roster, Scalar};
 
@@ -61,6 +62,23 @@ pub fn live_rows_length(mut rows: &[(Dot, Entry)]) -> u128
             None => return total,
         };
         total += 9 + entry_length(&row.1) as u128;
+        rows = later;
+    }
+}
+
+/// The length of the rows of counters, without their number.
+#[tactic(auto, using(crate::proofs::Lengths::length_more))]
+pub fn count_rows_length(mut rows: &[CountRow]) -> u128
+    ensures length { result ≡ length (flat_map count_row_text rows.entry.now) }
+    ensures most { result ≤ 128 * length rows.entry.now }
+{
+    let mut total = 0;
+    'measuring: loop {
+        let (row, later) = match rows.split_first() {
+            Some(parts) => parts,
+            None => return total,
+        };
+        total += 17 + key_length(&row.key) as u128;
         rows = later;
     }
 }

@@ -2,11 +2,12 @@
 ghost use Rattle.std.specs.Prelude.{◌≡◌, ◌++◌, ◌<◌, ◌^◌, length, OnOk, [], ◌∷◌};
 ghost use Rattle.std.specs.List.{flat_map};
 ghost use Rattle.std.specs.Int.{w16, w32, w64, to_be_bytes, cast_unsigned};
-ghost use Rattle.rds_node.specs.Spelling.{byte_text, short_text, kind_byte, text_text, scalar_text, path_text, entry_text, live_row_text, live_rows_text, names_text, roster_text, front_text};
+ghost use Rattle.rds_node.specs.Spelling.{byte_text, short_text, kind_byte, text_text, scalar_text, path_text, entry_text, live_row_text, live_rows_text, place_text, counts_text, count_row_text, count_rows_text, names_text, roster_text, front_text};
 ghost use Rattle.rds_node.specs.Writing.{Adds};
 
 use crate::text::front::MAGIC;
 use byteorder::{BigEndian, ByteOrder};
+use rds_counts::CountRow;
 use rds_dots::Dot;
 use rds_names::{Entry, Key, Kind, Roster, Scalar};
 use std::alloc::AllocError;
@@ -144,6 +145,39 @@ pub fn put_live_rows(out: &mut Vec<u8>, rows: &[(Dot, Entry)]) -> Result<(), All
     put_u32(out, rows.len() as u32)?;
     for row in rows {
         put_live_row(out, row)?;
+    }
+    Ok(())
+}
+
+fn put_place(out: &mut Vec<u8>, key: &Key, replica: u8) -> Result<(), AllocError>
+    ensures { Adds out.old.items out.new.items (place_text key.now replica) result }
+{
+    put_key(out, key)?;
+    put_byte(out, replica)
+}
+
+fn put_counts(out: &mut Vec<u8>, p: u64, n: u64) -> Result<(), AllocError>
+    ensures { Adds out.old.items out.new.items (counts_text p n) result }
+{
+    put_u64(out, p)?;
+    put_u64(out, n)
+}
+
+fn put_count_row(out: &mut Vec<u8>, row: &CountRow) -> Result<(), AllocError>
+    ensures { Adds out.old.items out.new.items (count_row_text row.now) result }
+{
+    put_place(out, &row.key, row.replica)?;
+    put_counts(out, row.p, row.n)
+}
+
+/// The rows of counters, after their number.
+pub fn put_count_rows(out: &mut Vec<u8>, rows: &[CountRow]) -> Result<(), AllocError>
+    requires { length rows.now < 2 ^ 32 }
+    ensures { Adds out.old.items out.new.items (count_rows_text rows.now) result }
+{
+    put_u32(out, rows.len() as u32)?;
+    for row in rows {
+        put_count_row(out, row)?;
     }
     Ok(())
 }
