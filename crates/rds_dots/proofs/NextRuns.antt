@@ -69,7 +69,7 @@ first_here r rs max after ends =
       inside = λ d h. or_true (in_run r d) (covers rs d) h;
       first = λ d h _. from_start r rs max d h;
       stops = or_true _ (has rs (stop r)) (spans_stop (start r) (stop r) (start_stop r p.bounds));
-      gap = or_false _ _ (past_stop (start r) (stop r) (stop r + 1) (omega arith)) (has_none rs p.rest (stop r + 1) (stop r + 1) p.apart (omega arith))
+      gap = or_false _ _ (past_stop (start r) (stop r) (stop r + 1) (omega arith)) (has_none rs p.rest (stop r + 1) (stop r + 1) p.apart (omega arith));
     }
 
 first_later : (r : Run) (rs : List Run) → are_maximal (r ∷ rs) ≡ true → (after : Option Dot) → comes_after after (last_of r) ≡ false → (f : Run) → IsFirst rs after f → IsFirst (r ∷ rs) after f
@@ -85,7 +85,7 @@ first_later r rs max after ends f is =
         | false ↦ λ _ later. is.first d later comes
       ] refl h);
       stops = or_later _ (has rs (stop f)) is.stops;
-      gap = or_false _ _ (past_stop (start r) (stop r) (stop f + 1) (omega arith)) is.gap
+      gap = or_false _ _ (past_stop (start r) (stop r) (stop f + 1) (omega arith)) is.gap;
     }
 
 is_first : (rs : List Run) → are_maximal rs ≡ true → (after : Option Dot) (f : Run) → first_after after rs ≡ Some f → IsFirst rs after f
@@ -172,7 +172,7 @@ module _ (s : Dots) (dots : (d : Dot) → set.contains s d ≡ true → is_dot d
           ends = after_is replica r.replica after r.hi same one.ends;
           inside = λ n p q. sym (runs.same (dot_of replica n)) ∙ one.inside (dot_of replica n) (in_is replica r.replica r.lo n r.hi same p q);
           gap = λ n p q. from_true _ (λ h. (let from = one.first (dot_of replica n) (covered (dot_of replica n) h) (later_is replica after n p) in absurd (omega arith)));
-          next = sym (runs.same (dot_of replica (r.hi + 1))) ∙ covers_is (runs_of s) runs.maximal (dot_of replica (r.hi + 1)) ∙ and_false (is_dot (dot_of replica (r.hi + 1))) _ (ap (has (runs_of s)) (place_is r.replica replica r.hi same) ∙ one.gap)
+          next = sym (runs.same (dot_of replica (r.hi + 1))) ∙ covers_is (runs_of s) runs.maximal (dot_of replica (r.hi + 1)) ∙ and_false (is_dot (dot_of replica (r.hi + 1))) _ (ap (has (runs_of s)) (place_is r.replica replica r.hi same) ∙ one.gap);
         }
       where
         place_is : (ρ a hi : ℕ) → ρ ≡ a → place a (hi + 1) ≡ place ρ hi + 1

@@ -19,7 +19,7 @@ from_one a n h = grind (arith, nat_tests)
 pub up_to_none : (s t : Dots) → ((d : Dot) → set.contains t d ≡ true → is_dot d ≡ true) → (replica : ℕ) → HasUpTo s t replica 0
 up_to_none s t dots replica = record {
   small = omega arith;
-  has = λ n le h. (let one = from_one replica n (dots (dot_of replica n) h) in absurd (omega arith))
+  has = λ n le h. (let one = from_one replica n (dots (dot_of replica n) h) in absurd (omega arith));
 }
 
 module _ (s t : Dots) (replica from : ℕ) (so_far : HasUpTo s t replica from) where
@@ -59,7 +59,7 @@ module _ (s t : Dots) (replica from : ℕ) (so_far : HasUpTo s t replica from) w
       lacks_next begins lt = record {
         there = let e = ends in let f = in_run.0 in theirs.inside (q.hi + 1) (omega (arith, e, f)) (omega (arith, lt));
         lacking = ours.next;
-        first = λ n p h. up_to begins n (omega (arith, p)) h
+        first = λ n p h. up_to begins n (omega (arith, p)) h;
       }
 
       pub has_more : q.lo ≤ first → r.hi ≤ q.hi → HasUpTo s t replica r.hi

@@ -57,8 +57,8 @@ module _ (test : Dot → Entry → Bool) where
       find-kept d stays x (left rows)
       ∙ ap (λ o. cond stays (cond (eq_by_cmp dot_cmp d x.0) (Some x.1) o) o) again
       ∙ find_one (eq_by_cmp dot_cmp d x.0) stays x.1 (map.find dot_cmp d rows) d
-        (λ is. ap (λ q. not (test q x.1)) (same_dot d x.0 is))
-        (λ is. ap (λ q. map.find dot_cmp q rows) (same_dot d x.0 is) ∙ none)
+      (λ is. ap (λ q. not (test q x.1)) (same_dot d x.0 is))
+      (λ is. ap (λ q. map.find dot_cmp q rows) (same_dot d x.0 is) ∙ none)
 
   spared_none : (d : Dot) (o : Option Entry) → o ≡ None → spared d o ≡ None
   spared_none d None e = refl
@@ -96,10 +96,10 @@ entry_put false e o = refl
 pub live_rows-put : (v : Lived) (d : Dot) (e : Entry) → live_rows (map.insert v d (Live e)) ≡ map.put dot_cmp d e (live_rows v)
 live_rows-put v d e =
     same_rows _ _ (rise-live_rows (map.insert v d (Live e))) (rise-put d e (live_rows v) (rise-live_rows v)) (λ q.
-      find-live_rows (map.insert v d (Live e)) q
-      ∙ ap entry_of (map.get-insert dots_total v d (Live e) q)
-      ∙ entry_put (eq_by_cmp dot_cmp q d) e (map.get v q)
-      ∙ sym (find-put dot_cmp dots_total q d e (live_rows v) ∙ ap (cond (eq_by_cmp dot_cmp q d) (Some e)) (find-live_rows v q)))
+    find-live_rows (map.insert v d (Live e)) q
+    ∙ ap entry_of (map.get-insert dots_total v d (Live e) q)
+    ∙ entry_put (eq_by_cmp dot_cmp q d) e (map.get v q)
+    ∙ sym (find-put dot_cmp dots_total q d e (live_rows v) ∙ ap (cond (eq_by_cmp dot_cmp q d) (Some e)) (find-live_rows v q)))
 
 -- an unseen dot has no row
 pub no_live_row : (v : Lived) (d : Dot) → map.get v d ≡ None → map.find dot_cmp d (live_rows v) ≡ None

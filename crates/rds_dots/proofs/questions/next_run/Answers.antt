@@ -8,6 +8,5 @@ returns-in-None g c = no_run (g.S.DotSet.contents c.args.set.now) (g.met.S.DotSe
 pub returns-then-run-replica : goal.returns-then-run-replica
 returns-then-run-replica g c = next_run (g.S.DotSet.contents c.args.set.now) (g.met.S.DotSet.within c.args.set.now) c.args.replica c.args.after c.in-Some.run' c.in-Some.ensures c.if-run-replica.true
 
-
 pub returns-else-run-replica : goal.returns-else-run-replica
 returns-else-run-replica g c = other_run (g.S.DotSet.contents c.args.set.now) (g.met.S.DotSet.within c.args.set.now) c.args.replica c.args.after c.in-Some.run' c.in-Some.ensures c.if-run-replica.false
