@@ -3,6 +3,7 @@ pub mod CountLemmas
 pub mod EditFits
 pub mod EditLemmas
 pub mod FitsLemmas
+pub mod FriendLemmas
 pub mod JoinLaws
 pub mod RaiseLemmas
 pub mod Sizes

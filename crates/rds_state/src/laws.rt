@@ -1,6 +1,7 @@
 //! The laws of the join.
 ghost use Rattle.std.specs.Prelude.{◌≡◌};
 ghost use Rattle.rds_state.specs.Coordinates.{Coordinates, AtMost, AreCompatible, join};
+ghost use Rattle.rds_state.specs.Friends.{FriendsAreTaken};
 ghost use Rattle.rds_state.specs.Value.{StateValue, coordinates};
 
 /// States are ordered coordinate by coordinate, and the join of compatible states is the least state above both
@@ -17,4 +18,10 @@ pub fn join_laws()
     ensures associative { (a b c : Coordinates) → join (join a b) c ≡ join a (join b c) }
     ensures idempotent { (a : Coordinates) → join a a ≡ a }
     ensures same_value { (v w : StateValue) → coordinates v ≡ coordinates w → v ≡ w }
+{}
+
+/// Replicas are friends where they are compatible, and each has all that the other has of its own. A take of a
+/// friend's state is refused for want of memory alone. The function does nothing: its contract is this law.
+pub fn friends_take_each_other()
+    ensures { FriendsAreTaken }
 {}
