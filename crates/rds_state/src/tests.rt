@@ -119,17 +119,6 @@ fn perform(alloc: Global, pair: &mut Replicas, step: Step) -> Outcome {
     }
 }
 
-/// The replicas after these steps; a step that comes out otherwise shows as `NoSuch`.
-fn after(alloc: Global, steps: &[(Step, Outcome)]) -> Result<Replicas, Fault> {
-    let mut pair = two_replicas(alloc)?;
-    for (step, outcome) in steps {
-        if perform(alloc, &mut pair, *step) != *outcome {
-            return Err(Fault::NoSuch);
-        }
-    }
-    Ok(pair)
-}
-
 /// The live dots with the integers that stand there.
 fn live(alloc: Global, replica: &Replica<ListSet>) -> Result<Vec<(Dot, i64)>, Fault> {
     let mut found = Vec::new(alloc);
@@ -149,6 +138,7 @@ fn value(alloc: Global, replica: &Replica<ListSet>) -> Result<i64, Fault> {
 
 #[test]
 fn an_addition_survives_a_removal_that_has_not_seen_it(rt: HostRuntime) -> Result<(), Fail> {
+    let mut pair = two_replicas(rt.alloc())?;
     let steps = [
         (A(Add("s", 1)), made(0, 1, 0)),
         (BFromA, NONE),
@@ -157,7 +147,9 @@ fn an_addition_survives_a_removal_that_has_not_seen_it(rt: HostRuntime) -> Resul
         (BFromA, NONE),
         (AFromB, NONE),
     ];
-    let pair = after(rt.alloc(), &steps)?;
+    for (next, outcome) in steps {
+        assert_eq!(rt; perform(rt.alloc(), &mut pair, next), outcome);
+    }
     let found = live(rt.alloc(), &pair.a)?;
     assert_eq!(rt; found.as_slice(), [(dot(0, 2), 1)].as_slice());
     assert_eq!(rt; pair.a.state().lives().rank(dot(0, 1)), Rank::Dead);
@@ -168,32 +160,25 @@ fn an_addition_survives_a_removal_that_has_not_seen_it(rt: HostRuntime) -> Resul
 
 #[test]
 fn a_register_holds_what_was_set_apart(rt: HostRuntime) -> Result<(), Fail> {
-    let steps = [
+    let mut pair = two_replicas(rt.alloc())?;
+    for (next, outcome) in [
         (A(Set("r", 2)), made(0, 1, 0)),
         (B(Set("r", 1)), made(1, 1, 0)),
         (BFromA, NONE),
         (AFromB, NONE),
-    ];
-    let pair = after(rt.alloc(), &steps)?;
+    ] {
+        assert_eq!(rt; perform(rt.alloc(), &mut pair, next), outcome);
+    }
     let both = live(rt.alloc(), &pair.a)?;
     assert_eq!(rt;
         both.as_slice(),
         [(dot(0, 1), 2), (dot(1, 1), 1)].as_slice()
     );
-    assert!(rt; pair.a.state().same(pair.b.state()));
-    Ok(())
-}
-
-#[test]
-fn a_value_that_is_set_later_replaces_both(rt: HostRuntime) -> Result<(), Fail> {
-    let steps = [
-        (A(Set("r", 2)), made(0, 1, 0)),
-        (B(Set("r", 1)), made(1, 1, 0)),
-        (AFromB, NONE),
-        (A(Set("r", 3)), made(0, 2, 2)),
-        (BFromA, NONE),
-    ];
-    let pair = after(rt.alloc(), &steps)?;
+    assert_eq!(rt;
+        perform(rt.alloc(), &mut pair, A(Set("r", 3))),
+        made(0, 2, 2)
+    );
+    assert_eq!(rt; perform(rt.alloc(), &mut pair, BFromA), NONE);
     let last = live(rt.alloc(), &pair.b)?;
     assert_eq!(rt; last.as_slice(), [(dot(0, 2), 3)].as_slice());
     Ok(())
@@ -201,15 +186,17 @@ fn a_value_that_is_set_later_replaces_both(rt: HostRuntime) -> Result<(), Fail> 
 
 #[test]
 fn what_is_added_beside_a_clear_stays(rt: HostRuntime) -> Result<(), Fail> {
-    let steps = [
+    let mut pair = two_replicas(rt.alloc())?;
+    for (next, outcome) in [
         (A(Set("m/k/r", 1)), made(0, 1, 0)),
         (BFromA, NONE),
         (B(Clear("m")), killed(1)),
         (A(Add("m/k/s", 1)), made(0, 2, 0)),
         (BFromA, NONE),
         (AFromB, NONE),
-    ];
-    let pair = after(rt.alloc(), &steps)?;
+    ] {
+        assert_eq!(rt; perform(rt.alloc(), &mut pair, next), outcome);
+    }
     let found = live(rt.alloc(), &pair.a)?;
     assert_eq!(rt; found.as_slice(), [(dot(0, 2), 1)].as_slice());
     assert!(rt; pair.a.state().same(pair.b.state()));
@@ -218,7 +205,8 @@ fn what_is_added_beside_a_clear_stays(rt: HostRuntime) -> Result<(), Fail> {
 
 #[test]
 fn the_root_clears_all_entries_and_no_counter(rt: HostRuntime) -> Result<(), Fail> {
-    let steps = [
+    let mut pair = two_replicas(rt.alloc())?;
+    for (next, outcome) in [
         (A(Set("r", 1)), made(0, 1, 0)),
         (A(Add("s", 1)), made(0, 2, 0)),
         (A(Add("m/s", 2)), made(0, 3, 0)),
@@ -228,8 +216,9 @@ fn the_root_clears_all_entries_and_no_counter(rt: HostRuntime) -> Result<(), Fai
         (A(Del("", 1)), Err(Fault::BadPath)),
         (A(Del("r", 1)), killed(0)),
         (A(Clear("")), killed(3)),
-    ];
-    let pair = after(rt.alloc(), &steps)?;
+    ] {
+        assert_eq!(rt; perform(rt.alloc(), &mut pair, next), outcome);
+    }
     assert!(rt; live(rt.alloc(), &pair.a)?.is_empty());
     assert_eq!(rt; value(rt.alloc(), &pair.a)?, 4);
     assert_eq!(rt; pair.a.state().components(), 4);
@@ -238,14 +227,16 @@ fn the_root_clears_all_entries_and_no_counter(rt: HostRuntime) -> Result<(), Fai
 
 #[test]
 fn counters_grow_apart_and_meet(rt: HostRuntime) -> Result<(), Fail> {
-    let steps = [
+    let mut pair = two_replicas(rt.alloc())?;
+    for (next, outcome) in [
         (A(Inc(5)), NONE),
         (BFromA, NONE),
         (A(Dec(2)), NONE),
         (B(Inc(1)), NONE),
         (BFromA, NONE),
-    ];
-    let pair = after(rt.alloc(), &steps)?;
+    ] {
+        assert_eq!(rt; perform(rt.alloc(), &mut pair, next), outcome);
+    }
     assert_eq!(rt; value(rt.alloc(), &pair.b)?, 4);
     assert_eq!(rt; value(rt.alloc(), &pair.a)?, 3);
     assert_eq!(rt; pair.b.state().components(), 3);
@@ -254,13 +245,15 @@ fn counters_grow_apart_and_meet(rt: HostRuntime) -> Result<(), Fail> {
 
 #[test]
 fn a_killed_own_dot_is_taken(rt: HostRuntime) -> Result<(), Fail> {
-    let steps = [
+    let mut pair = two_replicas(rt.alloc())?;
+    for (next, outcome) in [
         (A(Add("s", 1)), made(0, 1, 0)),
         (BFromA, NONE),
         (B(Clear("s")), killed(1)),
         (AFromB, NONE),
-    ];
-    let pair = after(rt.alloc(), &steps)?;
+    ] {
+        assert_eq!(rt; perform(rt.alloc(), &mut pair, next), outcome);
+    }
     assert_eq!(rt; pair.a.state().lives().rank(dot(0, 1)), Rank::Dead);
     Ok(())
 }
@@ -282,12 +275,14 @@ fn put(alloc: Global, lives: &mut Lives<ListSet>, new: Dot, value: i64) -> Resul
 
 #[test]
 fn a_counter_reaches_its_limit(rt: HostRuntime) -> Result<(), Fail> {
-    let steps = [
+    let mut pair = two_replicas(rt.alloc())?;
+    for (next, outcome) in [
         (A(Inc(MOST)), NONE),
         (A(Inc(1)), Err(Fault::CounterFull)),
         (A(Inc(0)), NONE),
-    ];
-    let pair = after(rt.alloc(), &steps)?;
+    ] {
+        assert_eq!(rt; perform(rt.alloc(), &mut pair, next), outcome);
+    }
     assert_eq!(rt; value(rt.alloc(), &pair.a)?, 281_474_976_710_655);
     Ok(())
 }
