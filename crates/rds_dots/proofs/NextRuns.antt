@@ -1,5 +1,5 @@
 -- The first run that ends after a dot, and what it says of the set.
-use Rattle.std.proofs.Common.{◌≡◌, ℕ, ◌+◌, ◌*◌, ◌-◌, ◌<◌, ◌≤◌, Bool, true, false, cond, ◌&&◌, ◌||◌, List, [], ◌∷◌, Option, Some, None, refl, sym, ◌∙◌, ap, subst, arith, eqb, leb, inl, inr}
+use Rattle.std.proofs.Common.{◌≡◌, ℕ, ◌+◌, ◌<◌, ◌≤◌, Bool, true, false, cond, ◌&&◌, ◌||◌, List, [], ◌∷◌, Option, Some, None, refl, sym, ◌∙◌, ap, subst, arith, eqb, leb, inl, inr}
 use mathlib.Core.Bool.{false≢true}
 use Rattle.std.specs.FinSet as set
 use Rattle.std.specs.Ordering.{is_lt, nat_cmp, ordering_then}
@@ -7,11 +7,11 @@ use Rattle.std.proofs.lemmas.Bool.Decides.{nat_tests, leb_tells}
 use Rattle.rds_dots.specs.declared.dot.Dot.{Dot}
 use Rattle.rds_dots.specs.declared.dot.Run.{Run}
 use Rattle.rds_dots.specs.declared.dot.TheConstants.{MAX_SEQ}
-use Rattle.rds_dots.specs.Dots.{Dots, dot_cmp, is_dot, in_run, last_of, comes_after}
+use Rattle.rds_dots.specs.Dots.{Dots, is_dot, in_run, last_of, comes_after}
 use Rattle.rds_dots.specs.Lacking.{dot_of, IsNextRun}
-use Rattle.rds_dots.specs.Merges.{and_left, and_right}
-use Rattle.rds_dots.specs.Runs.{covers, place, start, stop, begins_past, are_maximal, first_after, runs_of, AreRuns}
-use Rattle.rds_dots.specs.RunFacts.{Bounds, parts_of, has, has_past, has_none, start_stop, spans, lt_of, covers_is}
+use Rattle.rds_dots.specs.Merges.{and_right}
+use Rattle.rds_dots.specs.Runs.{covers, place, start, stop, are_maximal, first_after, runs_of, AreRuns}
+use Rattle.rds_dots.specs.RunFacts.{Bounds, parts_of, has, has_past, has_none, start_stop, spans, covers_is}
 use Rattle.rds_dots.specs.RunsOf.{are_runs}
 
 -- the first of the runs that ends after a dot: what it has, what lies before it, and the gap behind it

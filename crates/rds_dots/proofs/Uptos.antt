@@ -1,5 +1,5 @@
 -- What one set has of a replica up to a number, the other has.
-use Rattle.std.proofs.Common.{◌≡◌, ℕ, ◌+◌, ◌-◌, ◌<◌, ◌≤◌, Bool, true, false, ◌&&◌, sym, ◌∙◌, refl, None, arith, leb, max, inl, inr}
+use Rattle.std.proofs.Common.{◌≡◌, ℕ, ◌+◌, ◌-◌, ◌<◌, ◌≤◌, true, false, ◌&&◌, sym, ◌∙◌, None, arith, leb, max, inl, inr}
 use mathlib.Core.Bool.{false≢true}
 use Rattle.std.specs.FinSet as set
 use Rattle.std.proofs.lemmas.Bool.Decides.{nat_tests, leb_tells}

@@ -1,5 +1,5 @@
 -- What an edit leaves fits.
-use Rattle.std.proofs.Common.{◌≡◌, ℕ, zero, suc, ◌+◌, ◌<◌, Bool, true, false, ◌&&◌, ◌==◌, cond, List, Option, Some, None, Result, Ok, Err, OnErr, refl, sym, ◌∙◌, ap, subst, arith, eqb}
+use Rattle.std.proofs.Common.{◌≡◌, ℕ, ◌+◌, ◌<◌, Bool, true, false, ◌&&◌, cond, List, Option, Some, None, Result, Ok, Err, OnErr, refl, sym, subst, arith, eqb}
 use mathlib.Core.Bool.{false≢true}
 use Rattle.std.specs.Prelude.{is_some, IfOk}
 use Rattle.std.specs.Ordering.{eq_by_cmp}
@@ -13,9 +13,9 @@ use Rattle.rds_counts.specs.Place.{Place, place_cmp}
 use Rattle.rds_counts.specs.PlaceOrder.{place_exact}
 use Rattle.rds_counts.specs.Counted.{place}
 use Rattle.rds_counts.specs.CountedLemmas.{equal_of}
-use Rattle.rds_life.specs.Life.{Life, Live, Dead}
-use Rattle.rds_state.specs.Coordinates.{Coordinates, join}
-use Rattle.rds_state.specs.Edit.{covers, own_top, is_next, life_made, life_killed, effect, effect_number, number_raised, JoinsEffect}
+use Rattle.rds_life.specs.Life.{Life}
+use Rattle.rds_state.specs.Coordinates.{Coordinates}
+use Rattle.rds_state.specs.Edit.{own_top, is_next, life_made, life_killed, effect, effect_number, JoinsEffect}
 use Rattle.rds_state.specs.Fits.{Fits}
 use Rattle.rds_state.specs.Value.{StateValue, coordinates}
 use Rattle.rds_state.specs.declared.command.Command.{Command}

@@ -1,5 +1,5 @@
 -- What the steps of an edit come to: the join with the command's effect.
-use Rattle.std.proofs.Common.{◌≡◌, ℕ, zero, suc, ◌+◌, ◌<◌, ◌≤◌, Bool, true, false, not, ◌&&◌, ◌==◌, cond, max, List, [], ◌∷◌, Option, Some, None, Result, Ok, Err, refl, sym, ◌∙◌, ap, subst, arith, ◌⊎◌, inl, inr, eqb, leb, nat_lt}
+use Rattle.std.proofs.Common.{◌≡◌, ℕ, zero, suc, ◌+◌, ◌<◌, ◌≤◌, Bool, true, false, not, ◌&&◌, cond, max, List, [], ◌∷◌, Option, Some, None, Result, Ok, Err, refl, sym, ◌∙◌, ap, subst, arith, ◌⊎◌, inl, inr, eqb, leb, nat_lt}
 use mathlib.Core.Bool.{false≢true}
 use Rattle.std.specs.Prelude.{is_some, ◌≢◌, IfOk, MatchResult}
 use Rattle.std.specs.Result.{IsErrAnd}
@@ -20,17 +20,17 @@ use Rattle.rds_dots.specs.Order.{dots_total}
 use Rattle.rds_dots.specs.Sets.{same_dot as dot_is}
 use Rattle.rds_counts.specs.declared.row.Which.TheVariants.{P, N}
 use Rattle.rds_counts.specs.Place.{Place, place_cmp}
-use Rattle.rds_counts.specs.Counted.{Counted, number, place}
+use Rattle.rds_counts.specs.Counted.{number, place}
 use Rattle.rds_life.specs.Killed.{killed_by}
-use Rattle.rds_life.specs.Life.{Life, Live, Dead, Lived, join_life, seen_of}
+use Rattle.rds_life.specs.Life.{Life, Live, Dead, join_life, seen_of}
 use Rattle.rds_life.proofs.Views.{contains-seen_of}
 use Rattle.rds_state.specs.Chosen.{Parts, parts_of, is_chosen, same_dot, AreRaised}
-use Rattle.rds_state.specs.Coordinates.{Coordinates, join}
-use Rattle.rds_state.specs.Edit.{covers, IsMade, greatest, own_top, is_next, life_made, life_killed, effect, effect_number, JoinsEffect, new_dot, refusal, path_fault, seq_fault, IsDue}
+use Rattle.rds_state.specs.Coordinates.{Coordinates}
+use Rattle.rds_state.specs.Edit.{covers, IsMade, greatest, own_top, is_next, life_made, life_killed, effect_number, JoinsEffect, new_dot, refusal, path_fault, seq_fault, IsDue}
 use Rattle.rds_state.specs.Value.{StateValue, coordinates}
 use Rattle.rds_state.specs.declared.command.Command.{Command}
 use Rattle.rds_state.specs.declared.command.Command.TheVariants.{Set, Add, Del, Clear, Inc, Dec}
-use Rattle.rds_state.proofs.CountLemmas.{same_dot-itself, same_dot-tied}
+use Rattle.rds_state.proofs.CountLemmas.{same_dot-tied}
 use Rattle.rds_state.proofs.JoinLaws.{same_coordinates}
 
 -- ---- the greatest own number

@@ -1,5 +1,5 @@
 -- Which states fit: rows say it, no coordinate breaks it, and joins keep it.
-use Rattle.std.proofs.Common.{◌≡◌, ℕ, zero, suc, ◌+◌, ◌<◌, ◌≤◌, Bool, true, false, ◌&&◌, cond, max, List, [], ◌∷◌, length, Option, Some, None, Result, Ok, Err, refl, sym, ◌∙◌, ap, subst, arith, nat_lt, OnOk, OnErr, ◌||◌, ◌⊎◌, inl, inr}
+use Rattle.std.proofs.Common.{◌≡◌, ℕ, zero, suc, ◌<◌, Bool, true, false, ◌&&◌, cond, max, List, [], ◌∷◌, Option, Some, None, Result, Ok, Err, refl, sym, ◌∙◌, ap, subst, arith, nat_lt, OnOk, OnErr, ◌||◌, ◌⊎◌, inl, inr}
 use mathlib.Core.Bool.{false≢true}
 use Rattle.std.specs.Prelude.{is_some, nat_le}
 use Rattle.std.specs.List.{list_all}
@@ -16,7 +16,7 @@ use Rattle.rds_counts.specs.declared.row.CountRow.{CountRow}
 use Rattle.rds_counts.specs.declared.row.TheConstants.{MAX_COUNT}
 use Rattle.rds_counts.specs.Place.{Place, place_cmp}
 use Rattle.rds_counts.specs.PlaceOrder.{place_exact}
-use Rattle.rds_counts.specs.Counted.{Above, Counted, number, number_from, place, counted, is_row, row_cmp, rows_rise, AreCountRows}
+use Rattle.rds_counts.specs.Counted.{Above, Counted, number, number_from, place, counted, is_row, row_cmp, AreCountRows}
 use Rattle.rds_counts.specs.CountedLemmas.{and_true, and_left, and_right, equal_of, some, number_in, number-row, number-own, get-counted}
 use Rattle.rds_life.specs.Life.{Life, Live, Dead, Lived, join_life, seen_of}
 use Rattle.rds_life.proofs.Views.{contains-seen_of}

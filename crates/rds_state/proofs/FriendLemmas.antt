@@ -1,6 +1,5 @@
 -- A friend's state is ahead in nothing, and in conflict with nothing.
-use Rattle.std.proofs.Common.{◌≡◌, ℕ, ◌+◌, ◌≤◌, ◌⊎◌, Bool, true, false, ◌&&◌, cond, List, [], ◌∷◌, Option, Some, None, Result, Ok, Err, refl, sym, ◌∙◌, ap, subst, arith, inl, inr, eqb, ltb}
-use Rattle.std.specs.Prelude.{is_some}
+use Rattle.std.proofs.Common.{◌≡◌, ℕ, ◌+◌, ◌≤◌, ◌⊎◌, Bool, true, false, ◌&&◌, cond, List, [], ◌∷◌, Some, None, Result, Ok, Err, refl, sym, ◌∙◌, ap, arith, inl, inr, eqb, ltb}
 use mathlib.Core.Bool.{false≢true}
 use lib.Dec.{T}
 use Rattle.std.specs.Ordering.{eq_by_cmp, is_eq, is_lt}
@@ -17,7 +16,7 @@ use Rattle.rds_names.specs.declared.fault.Fault.TheVariants.{Memory, Conflict, O
 use Rattle.rds_dots.specs.Merges.{and_left, and_right, less_of}
 use Rattle.rds_counts.specs.Place.{Place, place_cmp}
 use Rattle.rds_counts.specs.PlaceOrder.{place_total, place_exact}
-use Rattle.rds_counts.specs.Counted.{Above, Counted, number, number_from}
+use Rattle.rds_counts.specs.Counted.{Above, number, number_from}
 use Rattle.rds_state.specs.Value.{StateValue, coordinates}
 use Rattle.rds_state.specs.Ahead.{Ahead, TakeGives, first_ahead, number_ahead, own_number}
 use Rattle.rds_state.specs.Friends.{AreFriends, KnowsItsOwn}

@@ -10,7 +10,7 @@ use Rattle.rds_counts.specs.Place.{Place, place_cmp}
 use Rattle.rds_counts.specs.Counted.{Counted, number}
 use Rattle.rds_state.specs.Edit.{covers}
 use Rattle.rds_state.specs.declared.command.Command.{Command}
-use Rattle.rds_state.specs.declared.command.Command.TheVariants.{Set, Add, Del, Clear, Inc, Dec}
+use Rattle.rds_state.specs.declared.command.Command.TheVariants.{Set, Add}
 
 abbrev pub same_dot : Dot → Dot → Bool
 same_dot a b = (a.replica == b.replica) && (a.seq == b.seq)

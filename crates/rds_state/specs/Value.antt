@@ -1,5 +1,5 @@
 -- A state as a value: the lives of the seen dots, and the numbers above 0.
-use Rattle.std.specs.Prelude.{◌≡◌, ℕ, ◌+◌, refl}
+use Rattle.std.specs.Prelude.{ℕ, ◌+◌, refl}
 use Rattle.std.specs.Coded.{Coded, code_by, coded×}
 use Rattle.std.specs.FinMap as map
 use Rattle.rds_life.specs.Life.{Lived}

@@ -1,4 +1,4 @@
-use Rattle.std.proofs.Common.{◌≡◌, ◌-◌, ◌+◌, ◌<◌, refl, subst, sym, arith}
+use Rattle.std.proofs.Common.{◌≡◌, ◌-◌, ◌+◌, ◌<◌, refl, subst, arith}
 use mathlib.Core.Bool.{false≢true}
 use Rattle.rds_dots.proofs.NextRuns.{none_later, one_later}
 use Rattle.rds_dots.proofs.questions.are_below.Goals as goal

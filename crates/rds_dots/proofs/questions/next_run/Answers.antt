@@ -1,4 +1,3 @@
-use Rattle.std.proofs.Common.{sym}
 use Rattle.rds_dots.proofs.NextRuns.{no_run, other_run, next_run}
 use Rattle.rds_dots.proofs.questions.next_run.Goals as goal
 

@@ -1,6 +1,5 @@
-use Rattle.std.proofs.Common.{◌≡◌, ◌+◌, ◌<◌, length, None, Some, refl, ap, sym, ◌∙◌, arith}
+use Rattle.std.proofs.Common.{length, Some, refl, ap, sym, ◌∙◌, arith}
 use Rattle.rds_dots.specs.Runs.{runs_of}
-use Rattle.rds_dots.specs.RunsAfter.{runs_left}
 use Rattle.rds_dots.specs.RunsOf.{are_runs}
 use Rattle.rds_dots.proofs.RunWalks.{all_left, none_left, one_left}
 use Rattle.rds_dots.proofs.SameRuns.{same_runs, same_left, one_run_of}

@@ -1,4 +1,4 @@
-use Rattle.std.proofs.Common.{◌≡◌, ◌∙◌, ap, subst}
+use Rattle.std.proofs.Common.{◌∙◌, ap, subst}
 use Rattle.rds_life.specs.Life.{Lived}
 use Rattle.rds_counts.specs.Counted.{Counted}
 use Rattle.rds_state.specs.Ahead.{KnowsDots, number_ahead}

@@ -1,5 +1,4 @@
-use Rattle.std.proofs.Common.{◌≡◌, ◌∙◌, sym, refl}
-use Rattle.std.specs.Prelude.{count_by}
+use Rattle.std.proofs.Common.{◌∙◌, sym, refl}
 use Rattle.rds_names.specs.declared.entry.Entry.{Entry}
 use Rattle.rds_dots.specs.declared.dot.Dot.{Dot}
 use Rattle.rds_life.specs.Life.{live_rows}

@@ -1,8 +1,5 @@
-use Rattle.std.proofs.Common.{◌≡◌, ◌∙◌, ◌<◌, ◌≤◌, ap, arith, rules}
-use Rattle.std.specs.Prelude.{◌≢◌, []}
-use Rattle.rds_dots.specs.declared.dot.TheConstants.{MAX_SEQ}
+use Rattle.std.proofs.Common.{◌∙◌, ap, rules}
 use Rattle.rds_life.specs.Life.{seen_of}
-use Rattle.rds_state.specs.Chosen.{Parts}
 use Rattle.rds_state.specs.Value.{coordinates}
 use Rattle.rds_state.proofs.EditLemmas.{top_is, next_unseen, full_is_due, none_is_due, dot_of_parts, put_joins, memory_is_due}
 use Rattle.rds_state.proofs.editing.put.Goals as goal

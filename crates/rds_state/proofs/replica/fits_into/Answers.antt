@@ -1,8 +1,6 @@
-use Rattle.std.proofs.Common.{◌≡◌, ◌∙◌, ◌<◌, ap, sym, subst, refl, length}
+use Rattle.std.proofs.Common.{◌∙◌, ◌<◌, ap, sym, subst, refl, length}
 use mathlib.Core.Bool.{false≢true}
-use Rattle.rds_dots.specs.declared.dot.Dot.{Dot}
-use Rattle.rds_life.specs.Life.{Lived, seen_of}
-use Rattle.rds_counts.specs.Counted.{counted}
+use Rattle.rds_life.specs.Life.{seen_of}
 use Rattle.rds_state.specs.RowsAhead.{rows_below}
 use Rattle.rds_state.proofs.FitsLemmas.{fits_by, rows_fit, fits_dots}
 use Rattle.rds_state.proofs.replica.fits_into.Goals as goal

@@ -1,4 +1,4 @@
-use Rattle.std.proofs.Common.{◌≡◌, ◌∙◌, ap, sym, refl}
+use Rattle.std.proofs.Common.{◌∙◌, ap, sym, refl}
 use Rattle.rds_life.specs.Life.{lived, seen_of, live_rows}
 use Rattle.rds_life.proofs.Views.{lived_of_parts}
 use Rattle.rds_state.proofs.sameness.are_same_lives.Goals as goal
