@@ -1,0 +1,7 @@
+//! What a replica sends to another that has told what it has: the digest, the least delta against it, the certificate
+//! that each component of a delta is needed, and its check.
+#![tactic(auto)]
+
+mod row;
+
+pub use row::Row;
