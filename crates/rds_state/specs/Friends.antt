@@ -24,11 +24,6 @@ pub record MayTake (own : ℕ) (a d : Coordinates) : Type 0 where
   pub compatible : AreCompatible a d
   pub knows : KnowsItsOwn own a d
 
--- what a take answers then: nothing is refused, but for want of memory
-abbrev pub MayTakeIsTaken : Type 0
-MayTakeIsTaken = (own : ℕ) (a d : StateValue) (answer : Result (Unit {0}) Fault)
-    → MayTake own (coordinates a) (coordinates d) → TakeGives a own d answer → (answer ≡ Ok tt) ⊎ (answer ≡ Err Memory)
-
 -- what a take answers for a friend's state: nothing is refused, but for want of memory
 abbrev pub FriendsAreTaken : Type 0
 FriendsAreTaken = (own peer : ℕ) (a d : StateValue) (answer : Result (Unit {0}) Fault)

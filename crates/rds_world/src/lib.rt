@@ -3,5 +3,10 @@
 #![tactic(auto)]
 
 mod event;
+mod laws;
 
 pub use event::Event;
+pub use laws::{
+    answers_bring_what_was_kept, coherent_replicas_are_friends, edits_are_steps,
+    states_are_joins_of_updates, worlds_stay_coherent,
+};
