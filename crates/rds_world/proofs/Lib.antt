@@ -2,6 +2,10 @@ pub mod Answering
 pub mod Coherent
 pub mod Edits
 pub mod Effects
+pub mod Facts
 pub mod Friends
+pub mod Invariant
+pub mod Joins
 pub mod States
+pub mod Steps
 pub mod Tables
