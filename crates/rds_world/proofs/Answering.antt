@@ -1,10 +1,10 @@
 -- What an answer brings, whenever it is taken.
 use Rattle.std.proofs.Common.{◌≡◌, length, ℕ, List, [], ◌∷◌, refl, sym, subst, Option, Some, None, slice_get}
-use Rattle.rds_state.specs.Coordinates.{Coordinates, AtMost}
+use Rattle.rds_state.specs.Coordinates.{AtMost}
 use Rattle.rds_state.proofs.JoinLaws.{reflexive, transitive}
 use Rattle.rds_world.specs.declared.event.Event.{Event}
 use Rattle.rds_world.specs.declared.event.Event.TheVariants.{Edit, Save, Crash, Ask, Answer, Take}
-use Rattle.rds_world.specs.World.{World, Question, Reply, put, start, reply, answered, taken, after, refused, run, Accepted}
+use Rattle.rds_world.specs.World.{World, Question, Reply, reply, answered, taken, after, run, Accepted}
 use Rattle.rds_world.specs.Coherent.{IsCoherent}
 use Rattle.rds_world.specs.Law.{BringsWhatWasKept}
 use Rattle.rds_world.proofs.States.{grown_delta, least_delta}

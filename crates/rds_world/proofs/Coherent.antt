@@ -1,5 +1,5 @@
 -- Coherence is kept by each event.
-use Rattle.std.proofs.Common.{◌≡◌, ◌≢◌, ◌≤◌, ◌<◌, length, ℕ, zero, suc, ◌+◌, Bool, true, false, cond, List, [], ◌∷◌, ◌++◌, refl, sym, ap, ◌∙◌, subst, inl, inr, ◌⊎◌, arith, ◌==◌, ◌&&◌, nat_lt, Option, Some, None, Result, slice_get}
+use Rattle.std.proofs.Common.{◌≡◌, ◌≢◌, ◌<◌, ℕ, Bool, true, false, cond, List, [], ◌∷◌, ◌++◌, refl, sym, ap, ◌∙◌, subst, inl, inr, ◌⊎◌, arith, nat_lt, Option, Some, None, slice_get}
 use Rattle.std.specs.Prelude.{is_some}
 use Rattle.std.proofs.lemmas.Bool.Decides.{nat_tests}
 use Rattle.rds_names.specs.declared.entry.Entry.{Entry}
@@ -7,8 +7,7 @@ use Rattle.rds_names.specs.declared.fault.Fault.{Fault}
 use Rattle.rds_names.specs.declared.fault.Fault.TheVariants.{NoSuch}
 use Rattle.rds_dots.specs.declared.dot.Dot.{Dot}
 use Rattle.rds_dots.specs.Lacking.{dot_of}
-use Rattle.rds_counts.specs.Place.{Place}
-use Rattle.rds_life.specs.Life.{Live, Dead}
+use Rattle.rds_life.specs.Life.{Live}
 use Rattle.rds_state.specs.Coordinates.{Coordinates, AtMost, AreCompatible, join}
 use Rattle.rds_state.specs.Edit.{refusal, effect}
 use Rattle.rds_state.specs.Fits.{Fits}
@@ -17,12 +16,11 @@ use Rattle.rds_state.specs.Made.{entry_made}
 use Rattle.rds_state.specs.declared.command.Command.{Command}
 use Rattle.rds_state.proofs.JoinLaws.{reflexive, transitive, above_left}
 use Rattle.rds_delta.specs.Ranks.{ranks}
-use Rattle.rds_delta.specs.Least.{least}
 use Rattle.rds_world.specs.declared.event.Event.{Event}
 use Rattle.rds_world.specs.declared.event.Event.TheVariants.{Edit, Save, Crash, Ask, Answer, Take}
 use Rattle.rds_world.specs.World.{World, Question, Reply, empty, put, start, edited, reply, answered, taken, after, refused, run, Accepted}
 use Rattle.rds_world.specs.Coherent.{Position, AtMemory, AtKept, AtAsk, AtAnswer, state_asked, state_answered, state_at, AnswersIts, IsCoherent}
-use Rattle.rds_world.proofs.States.{by_life, agree_if, seen_later, compatible_same, compatible_turned, compatible_join, compatible_least, least_below, least_above, knows_same, knows_grown, knows_join, knows_least, fits_join, fits_below}
+use Rattle.rds_world.proofs.States.{by_life, agree_if, compatible_same, compatible_turned, compatible_join, compatible_least, least_below, least_above, knows_same, knows_grown, knows_join, knows_least, fits_join, fits_below}
 use Rattle.rds_world.proofs.Effects.{next_dot, next_unseen, effect_live, effect_dead, effect_number_own}
 use Rattle.rds_world.proofs.Tables.{put_one, same_some, last_get, get_front, same_or_not}
 

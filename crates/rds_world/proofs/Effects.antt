@@ -1,19 +1,23 @@
 -- What a command's effect has at each dot and number.
 use Rattle.std.proofs.Common.{◌≡◌, ℕ, ◌+◌, ◌≤◌, ◌<◌, suc, zero, Bool, true, false, cond, ◌&&◌, List, [], ◌∷◌, refl, sym, ap, ◌∙◌, subst, inl, inr, ◌⊎◌, arith, ◌==◌, nat_lt, Option, Some, None}
 use Rattle.std.specs.Prelude.{is_some}
+use Rattle.std.specs.Str.{bytes_eq}
 use Rattle.std.specs.Ordering.{eq_by_cmp, is_eq}
+use Rattle.std.proofs.lemmas.Cmp.{tied_itself}
+use Rattle.std.proofs.lemmas.Slice.Eq.{bytes_eq-Decides}
 use Rattle.std.specs.declared.cmp.Ordering.{Ordering}
 use Rattle.std.specs.declared.cmp.Ordering.TheVariants.{Less, Equal, Greater}
 use Rattle.std.proofs.lemmas.Bool.Decides.{nat_tests}
 use Rattle.rds_names.specs.declared.entry.Entry.{Entry}
 use Rattle.rds_names.specs.declared.fault.Fault.{Fault}
-use Rattle.rds_names.specs.declared.fault.Fault.TheVariants.{BadPath, SeqFull}
+use Rattle.rds_names.specs.declared.fault.Fault.TheVariants.{SeqFull}
 use Rattle.rds_dots.specs.declared.dot.Dot.{Dot}
 use Rattle.rds_dots.specs.declared.dot.TheConstants.{MAX_SEQ}
 use Rattle.rds_dots.specs.Lacking.{dot_of}
+use Rattle.rds_counts.specs.declared.row.Which.{Which}
 use Rattle.rds_counts.specs.declared.row.Which.TheVariants.{P, N}
 use Rattle.rds_counts.specs.Place.{Place, place_cmp}
-use Rattle.rds_counts.specs.PlaceOrder.{place_exact}
+use Rattle.rds_counts.specs.PlaceOrder.{place_total, place_exact}
 use Rattle.rds_counts.specs.Counted.{place}
 use Rattle.rds_life.specs.Life.{Life, Live, Dead}
 use Rattle.rds_state.specs.Coordinates.{Coordinates, AreCompatible}
@@ -21,6 +25,7 @@ use Rattle.rds_state.specs.Edit.{covers, greatest, own_top, is_next, life_made, 
 use Rattle.rds_state.specs.Made.{entry_made}
 use Rattle.rds_state.specs.declared.command.Command.{Command}
 use Rattle.rds_state.specs.declared.command.Command.TheVariants.{Set, Add, Del, Clear, Inc, Dec}
+use Rattle.rds_world.specs.Held.{amount}
 use Rattle.rds_world.proofs.States.{agree_if}
 
 -- ---- the next dot
@@ -183,3 +188,66 @@ effect_number_own a own (Del p v) q = inl refl
 effect_number_own a own (Clear p) q = inl refl
 effect_number_own a own (Inc k by) q = raised_own (eq_by_cmp place_cmp q (place k own P)) (a.number q + by) (λ h. ap (λ x. x.replica) (at_place q (place k own P) h))
 effect_number_own a own (Dec k by) q = raised_own (eq_by_cmp place_cmp q (place k own N)) (a.number q + by) (λ h. ap (λ x. x.replica) (at_place q (place k own N) h))
+
+tied : (q : Place) → eq_by_cmp place_cmp q q ≡ true
+tied q = ap is_eq (tied_itself place_total q)
+
+same_key : (k key : List ℕ) → k ≡ key → bytes_eq k key ≡ true
+same_key k key e = (bytes_eq-Decides k key).1 e
+
+key_of : (b : Bool) (by : ℕ) → 0 < cond b by 0 → b ≡ true
+key_of true by h = refl
+key_of false by h = absurd (omega arith)
+
+when : (b : Bool) (n m : ℕ) → b ≡ true → cond b n m ≡ n
+when true n m h = refl
+when false n m h = cc
+
+-- a test that never passes, or one whose passing gives the rest
+raised_by : (test : Bool) (n by : ℕ) {A : Type 0} → (test ≡ true → A × (by ≡ n)) → (b : ℕ) → (cond test (b + n) 0 ≡ 0) ⊎ (A × (cond test (b + n) 0 ≡ b + by))
+raised_by true n by h b = let x = h refl in inr (x.0, omega (arith, x.1))
+raised_by false n by h b = inl refl
+
+never_raised : (test : Bool) (n : ℕ) {A : Type 0} → (test ≡ true → ⊥) → (cond test n 0 ≡ 0) ⊎ A
+never_raised true n h = absurd (h refl)
+never_raised false n h = inl refl
+
+adds_here : (a : Coordinates) (own : ℕ) (k key : List ℕ) (by : ℕ) (which : Which) → 0 < cond (bytes_eq k key) by 0
+    → cond (eq_by_cmp place_cmp (place key own which) (place k own which)) (a.number (place key own which) + by) 0 ≡ a.number (place key own which) + cond (bytes_eq k key) by 0
+adds_here a own k key by which lt =
+    let b = key_of (bytes_eq k key) by lt in
+    let same : k ≡ key = (bytes_eq-Decides k key).0 b in
+    when _ _ 0 (subst (λ x. eq_by_cmp place_cmp (place key own which) (place x own which) ≡ true) (sym same) (tied (place key own which)))
+    ∙ ap (λ n. a.number (place key own which) + n) (sym (when (bytes_eq k key) by 0 b))
+
+-- a number of the effect is 0, or that of the state and what the command adds to it
+pub effect_number : (a : Coordinates) (own : ℕ) (c : Command) (key : List ℕ) (s : ℕ) (which : Which)
+    → ((effect a own c (entry_made c)).number (place key s which) ≡ 0) ⊎ ((own ≡ s) × ((effect a own c (entry_made c)).number (place key s which) ≡ a.number (place key s which) + amount c key which))
+effect_number a own (Set p v) key s which = inl refl
+effect_number a own (Add p v) key s which = inl refl
+effect_number a own (Del p v) key s which = inl refl
+effect_number a own (Clear p) key s which = inl refl
+effect_number a own (Inc k by) key s P = raised_by (eq_by_cmp place_cmp (place key s P) (place k own P)) by (cond (bytes_eq k key) by 0)
+    (λ h. let e = at_place (place key s P) (place k own P) h in (sym (ap (λ x. x.replica) e), when (bytes_eq k key) by 0 (same_key k key (sym (ap (λ x. x.key) e))))) (a.number (place key s P))
+effect_number a own (Inc k by) key s N = never_raised (eq_by_cmp place_cmp (place key s N) (place k own P)) (a.number (place key s N) + by) (λ h. other (ap (λ x. x.which) (at_place (place key s N) (place k own P) h)))
+  where
+    other : N ≡ P → ⊥
+    other e = cc
+effect_number a own (Dec k by) key s N = raised_by (eq_by_cmp place_cmp (place key s N) (place k own N)) by (cond (bytes_eq k key) by 0)
+    (λ h. let e = at_place (place key s N) (place k own N) h in (sym (ap (λ x. x.replica) e), when (bytes_eq k key) by 0 (same_key k key (sym (ap (λ x. x.key) e))))) (a.number (place key s N))
+effect_number a own (Dec k by) key s P = never_raised (eq_by_cmp place_cmp (place key s P) (place k own N)) (a.number (place key s P) + by) (λ h. other (ap (λ x. x.which) (at_place (place key s P) (place k own N) h)))
+  where
+    other : P ≡ N → ⊥
+    other e = cc
+
+-- where the command adds to a key, the own number is raised by so much
+pub effect_adds : (a : Coordinates) (own : ℕ) (c : Command) (key : List ℕ) (which : Which) → 0 < amount c key which
+    → (effect a own c (entry_made c)).number (place key own which) ≡ a.number (place key own which) + amount c key which
+effect_adds a own (Set p v) key which lt = absurd (omega arith)
+effect_adds a own (Add p v) key which lt = absurd (omega arith)
+effect_adds a own (Del p v) key which lt = absurd (omega arith)
+effect_adds a own (Clear p) key which lt = absurd (omega arith)
+effect_adds a own (Inc k by) key P lt = adds_here a own k key by P lt
+effect_adds a own (Inc k by) key N lt = absurd (omega arith)
+effect_adds a own (Dec k by) key P lt = absurd (omega arith)
+effect_adds a own (Dec k by) key N lt = adds_here a own k key by N lt

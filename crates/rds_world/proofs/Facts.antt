@@ -8,7 +8,6 @@ use Rattle.rds_life.specs.Life.{Life, Live, Dead, IsNoLater}
 use Rattle.rds_state.specs.Coordinates.{Coordinates}
 use Rattle.rds_state.specs.Document.{IsShown}
 use Rattle.rds_state.specs.Edit.{covers}
-use Rattle.rds_state.specs.Made.{entry_made}
 use Rattle.rds_world.specs.World.{World}
 use Rattle.rds_world.specs.Held.{Update, Holdings, IsPresent}
 use Rattle.rds_world.specs.Coherent.{Store, Memory, Kept, state_in}

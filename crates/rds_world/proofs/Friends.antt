@@ -1,9 +1,8 @@
 -- In a coherent world replicas are friends, and answers are taken.
-use Rattle.std.proofs.Common.{◌≡◌, ◌≢◌, ℕ, refl, sym, ap, subst, inl, inr, ◌⊎◌, Option, Some, Result, Ok, Err, slice_get}
+use Rattle.std.proofs.Common.{◌≡◌, ◌≢◌, ℕ, sym, subst, ◌⊎◌, Some, Result, Ok, Err, slice_get}
 use Rattle.rds_names.specs.declared.fault.Fault.{Fault}
 use Rattle.rds_names.specs.declared.fault.Fault.TheVariants.{Memory as NoMemory}
 use Rattle.rds_state.specs.Ahead.{TakeGives}
-use Rattle.rds_state.specs.Coordinates.{Coordinates}
 use Rattle.rds_state.specs.Friends.{KnowsItsOwn, AreFriends, MayTake}
 use Rattle.rds_state.specs.Value.{StateValue, coordinates}
 use Rattle.rds_state.proofs.FriendLemmas.{may_take_is_taken}

@@ -1,5 +1,6 @@
 pub mod Answering
 pub mod Coherent
+pub mod Counters
 pub mod Edits
 pub mod Effects
 pub mod Facts
@@ -8,4 +9,5 @@ pub mod Invariant
 pub mod Joins
 pub mod States
 pub mod Steps
+pub mod Sums
 pub mod Tables

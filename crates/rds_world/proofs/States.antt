@@ -3,7 +3,6 @@ use Rattle.std.proofs.Common.{◌≡◌, ℕ, ◌≤◌, ◌<◌, Bool, true, fa
 use Rattle.std.specs.Prelude.{is_some}
 use Rattle.std.proofs.lemmas.Bool.Decides.{nat_tests}
 use Rattle.rds_names.specs.declared.entry.Entry.{Entry}
-use Rattle.rds_dots.specs.declared.dot.Dot.{Dot}
 use Rattle.rds_life.specs.Life.{Life, Live, Dead, IsNoLater, Agree, join_life}
 use Rattle.rds_state.specs.Coordinates.{Coordinates, AtMost, AreCompatible, join}
 use Rattle.rds_state.specs.Fits.{Fits}

@@ -1,13 +1,11 @@
 -- Each event keeps the invariant.
-use Rattle.std.proofs.Common.{◌≡◌, ℕ, ◌<◌, suc, Bool, true, cond, List, [], ◌∷◌, refl, sym, ap, ◌∙◌, subst, inl, inr, ◌⊎◌, arith, ◌==◌, ◌||◌, nat_lt, Option, Some, None, slice_get}
+use Rattle.std.proofs.Common.{◌≡◌, ℕ, ◌<◌, suc, Bool, true, List, [], ◌∷◌, refl, sym, ap, ◌∙◌, subst, inl, inr, ◌⊎◌, arith, ◌==◌, ◌||◌, nat_lt, Option, Some, None, slice_get}
 use Rattle.std.proofs.lemmas.Bool.Decides.{nat_tests}
 use Rattle.rds_state.specs.Coordinates.{Coordinates, AtMost, AreCompatible, join}
 use Rattle.rds_state.specs.Edit.{effect, refusal}
 use Rattle.rds_state.specs.Made.{entry_made}
 use Rattle.rds_state.specs.declared.command.Command.{Command}
 use Rattle.rds_state.proofs.JoinLaws.{reflexive, transitive}
-use Rattle.rds_delta.specs.Ranks.{ranks}
-use Rattle.rds_delta.specs.Least.{least}
 use Rattle.rds_world.specs.declared.event.Event.{Event}
 use Rattle.rds_world.specs.declared.event.Event.TheVariants.{Edit, Save, Crash, Ask, Answer, Take}
 use Rattle.rds_world.specs.World.{World, Question, Reply, empty, put, start, reply, after, answered, taken, refused, run, Accepted}

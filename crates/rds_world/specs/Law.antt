@@ -2,13 +2,11 @@
 use Rattle.std.specs.Prelude.{◌≡◌, ℕ, ◌≤◌, Bool, true, is_some, length, List, ◌∷◌, Some, slice_get}
 use Rattle.rds_dots.specs.declared.dot.Dot.{Dot}
 use Rattle.rds_state.specs.Coordinates.{Coordinates, AtMost, AreCompatible, join}
-use Rattle.rds_delta.specs.Ranks.{ranks}
-use Rattle.rds_delta.specs.Least.{least}
 use Rattle.rds_world.specs.declared.event.Event.{Event}
 use Rattle.rds_world.specs.declared.event.Event.TheVariants.{Answer}
 use Rattle.rds_world.specs.World.{World, Question, empty, start, reply, run, Accepted}
 use Rattle.rds_world.specs.Held.{Holdings, nothing_held, held}
-use Rattle.rds_world.specs.Coherent.{Store, Memory, Kept, state_in, IsCoherent, AnswersMayBeTaken, ReplicasAreFriends}
+use Rattle.rds_world.specs.Coherent.{Store, Memory, Kept, state_in, IsCoherent}
 use Rattle.rds_world.specs.Updates.{bases, effect_of, IsJoinOf, IsExplained, ShowsUpdates}
 
 -- what is said of n replicas and of events none of which was refused
