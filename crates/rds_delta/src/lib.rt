@@ -2,6 +2,9 @@
 //! that each component of a delta is needed, and its check.
 #![tactic(auto)]
 
+mod digest;
+mod inside;
 mod row;
 
-pub use row::Row;
+pub use digest::Digest;
+pub use row::{Certificate, Row};
