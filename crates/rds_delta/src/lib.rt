@@ -4,7 +4,9 @@
 
 mod digest;
 mod inside;
+mod laws;
 mod row;
 
 pub use digest::Digest;
+pub use laws::{checked_delta_laws, least_delta_laws};
 pub use row::{Certificate, Row};
