@@ -1,7 +1,10 @@
 //! The rows of a certificate.
+ghost use Rattle.std.specs.Prelude.{◌≡◌};
+
 use rds_counts::Which;
 use rds_dots::{Dot, Run};
 use rds_names::Key;
+use std::marker::Model;
 
 /// What the digested side has in place of one or more components of a delta.
 #[derive(Debug, Drop)]
@@ -24,4 +27,36 @@ pub enum Row {
         /// The number there, which is less.
         peer: u64,
     },
+}
+
+/// The rows that say for each component of a delta what the digested side has in its place, and so that each is
+/// needed: the dots in their order, then the numbers by key, replica, increments before decrements.
+#[derive(Drop)]
+pub struct Certificate {
+    rows: Vec<Row>,
+}
+
+impl Model for Certificate {
+    ghost use Rattle.std.specs.Prelude.{List};
+    ghost use Rattle.rds_delta.specs.declared.row.Row.{Row};
+
+    ghost Value = { List Row };
+
+    ghost view = { λ c. c.rows.items };
+}
+
+impl Certificate {
+    /// A certificate of these rows, which `check` is to judge. Takes no memory.
+    pub fn new(rows: Vec<Row>) -> Certificate
+        ensures { result ≡ rows.items }
+    {
+        Certificate { rows }
+    }
+
+    /// The rows in order.
+    pub fn rows(&self) -> &[Row]
+        ensures { result.now ≡ self.now }
+    {
+        &self.rows
+    }
 }
