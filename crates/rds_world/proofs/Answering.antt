@@ -7,7 +7,7 @@ use Rattle.rds_world.specs.declared.event.Event.TheVariants.{Edit, Save, Crash, 
 use Rattle.rds_world.specs.World.{World, Question, Reply, reply, answered, taken, after, run, Accepted}
 use Rattle.rds_world.specs.Coherent.{IsCoherent}
 use Rattle.rds_world.specs.Law.{BringsWhatWasKept}
-use Rattle.rds_world.proofs.States.{grown_delta, least_delta}
+use Rattle.rds_delta.proofs.LeastLaws.{grown_delta, least_delta}
 use Rattle.rds_world.proofs.Coherent.{kept_grows, event_coherent, run_coherent}
 use Rattle.rds_world.proofs.Tables.{get_front, get_last}
 

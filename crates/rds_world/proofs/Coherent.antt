@@ -20,7 +20,8 @@ use Rattle.rds_world.specs.declared.event.Event.{Event}
 use Rattle.rds_world.specs.declared.event.Event.TheVariants.{Edit, Save, Crash, Ask, Answer, Take}
 use Rattle.rds_world.specs.World.{World, Question, Reply, empty, put, start, edited, reply, answered, taken, after, refused, run, Accepted}
 use Rattle.rds_world.specs.Coherent.{Position, AtMemory, AtKept, AtAsk, AtAnswer, state_asked, state_answered, state_at, AnswersIts, IsCoherent}
-use Rattle.rds_world.proofs.States.{by_life, agree_if, compatible_same, compatible_turned, compatible_join, compatible_least, least_below, least_above, knows_same, knows_grown, knows_join, knows_least, fits_join, fits_below}
+use Rattle.rds_delta.proofs.LeastLaws.{compatible_sym, compatible_least, least_part, least_above}
+use Rattle.rds_world.proofs.States.{by_life, agree_if, compatible_same, compatible_join, knows_same, knows_grown, knows_join, knows_less, fits_join, fits_below}
 use Rattle.rds_world.proofs.Effects.{next_dot, next_unseen, effect_live, effect_dead, effect_number_own}
 use Rattle.rds_world.proofs.Tables.{put_one, same_some, last_get, get_front, same_or_not}
 
@@ -77,7 +78,7 @@ module _ (v w : World) (i : IsCoherent v) where
     where
       go : IsIn v a ⊎ (a ≡ x) → IsIn v b ⊎ (b ≡ x) → AreCompatible a b
       go (inl s) (inl t) = agree_in v i a b s t
-      go (inl s) (inr t) = subst (AreCompatible a) (sym t) (compatible_turned x a (h a s))
+      go (inl s) (inr t) = subst (AreCompatible a) (sym t) (compatible_sym x a (h a s))
       go (inr s) (inl t) = subst (λ y. AreCompatible y b) (sym s) (h b t)
       go (inr s) (inr t) = subst (λ y. AreCompatible y b) (sym s) (subst (AreCompatible x) (sym t) (compatible_same x))
 
@@ -269,13 +270,13 @@ module _ (w : World) (i : IsCoherent w) where
     answering_in a (of_answer j m e) = elim (last_get w.answers new m j e) [ inl p ↦ inl (of_answer j m p) | inr p ↦ inr (ap (λ x. x.state) p) ]
 
     new_agrees : (a : Coordinates) → IsIn w a → AreCompatible new.state a
-    new_agrees a x = compatible_least (w.kept s) (ranks q.state) a (agree_in w i (w.kept s) a (of_kept s) x)
+    new_agrees a x = compatible_sym a new.state (compatible_least (w.kept s) (ranks q.state) a (agree_in w i a (w.kept s) x (of_kept s)))
 
     new_fits : Fits w.replicas new.state
-    new_fits = fits_below w.replicas new.state (w.kept s) (least_below (w.kept s) (ranks q.state)) (fits_in w i (w.kept s) (of_kept s))
+    new_fits = fits_below w.replicas new.state (w.kept s) (least_part (w.kept s) (ranks q.state)) (fits_in w i (w.kept s) (of_kept s))
 
     new_its : AnswersIts w.asks new
-    new_its = record { question = q; asked = asked; asker = refl; above = least_above (w.kept s) q.state }
+    new_its = record { question = q; asked = asked; asker = refl; above = least_above (w.kept s) (ranks q.state) }
 
     answer_coherent : IsCoherent (answered w s k (Some q))
     answer_coherent = record {
@@ -284,10 +285,10 @@ module _ (w : World) (i : IsCoherent w) where
       in_memory = i.in_memory;
       in_kept = i.in_kept;
       in_asks = i.in_asks;
-      in_answers = λ j m e t. elim (last_get w.answers new m j e) [ inl p ↦ i.in_answers j m p t | inr p ↦ subst (λ x. KnowsItsOwn t (w.kept t) x.state) (sym p) (knows_least t (w.kept t) (w.kept s) (ranks q.state) (i.in_kept s t)) ];
+      in_answers = λ j m e t. elim (last_get w.answers new m j e) [ inl p ↦ i.in_answers j m p t | inr p ↦ subst (λ x. KnowsItsOwn t (w.kept t) x.state) (sym p) (knows_less t (w.kept t) (w.kept s) new.state (i.in_kept s t) (least_part (w.kept s) (ranks q.state))) ];
       kept_below = i.kept_below;
       asks_below = i.asks_below;
-      answers_below = λ j m e. elim (last_get w.answers new m j e) [ inl p ↦ i.answers_below j m p | inr p ↦ subst (λ x. AtMost x.state (w.kept x.maker)) (sym p) (least_below (w.kept s) (ranks q.state)) ];
+      answers_below = λ j m e. elim (last_get w.answers new m j e) [ inl p ↦ i.answers_below j m p | inr p ↦ subst (λ x. AtMost x.state (w.kept x.maker)) (sym p) (least_part (w.kept s) (ranks q.state)) ];
       answers_its = λ j m e. elim (last_get w.answers new m j e) [ inl p ↦ i.answers_its j m p | inr p ↦ subst (AnswersIts w.asks) (sym p) new_its ];
     }
 

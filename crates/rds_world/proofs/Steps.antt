@@ -11,7 +11,7 @@ use Rattle.rds_world.specs.declared.event.Event.TheVariants.{Edit, Save, Crash, 
 use Rattle.rds_world.specs.World.{World, Question, Reply, empty, put, start, reply, after, answered, taken, refused, run, Accepted}
 use Rattle.rds_world.specs.Held.{Update, Remembered, Holdings, both, with_update, nothing_held, hold, remembers, takes, held}
 use Rattle.rds_world.specs.Updates.{effect_of, noted, bases}
-use Rattle.rds_world.proofs.States.{grown_delta}
+use Rattle.rds_delta.proofs.LeastLaws.{grown_delta}
 use Rattle.rds_world.proofs.Effects.{effect_agrees}
 use Rattle.rds_world.proofs.Coherent.{there, is_there}
 use Rattle.rds_world.proofs.Joins.{IsGathered, gathered_smaller, gathered_none, gathered_single, gathered_both, in_either, in_left, in_right}

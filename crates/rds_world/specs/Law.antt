@@ -58,7 +58,7 @@ SameUpdatesSameState n es = (x y : Store) (r s : ℕ) → ((u : ℕ) → held_in
 pub record BringsWhatWasKept (w later : World) (s k : ℕ) (q : Question) : Type 0 where
   pub stands : slice_get later.answers (length w.answers) ≡ Some (reply w s k q)
   pub effect : join (later.memory q.asker) (reply w s k q).state ≡ join (later.memory q.asker) (w.kept s)
-  pub least : (c : Coordinates) → AreCompatible c q.state → join q.state c ≡ join q.state (w.kept s) → AtMost (reply w s k q).state c
+  pub least : (c : Coordinates) → AreCompatible q.state c → join q.state c ≡ join q.state (w.kept s) → AtMost (reply w s k q).state c
 
 abbrev pub EachAnswerBringsWhatWasKept : Type 0
 EachAnswerBringsWhatWasKept = (n : ℕ) (es later : List Event) (s k : ℕ) (q : Question) → Accepted es (start n) → slice_get (world_after n es).asks k ≡ Some q
