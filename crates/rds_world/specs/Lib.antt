@@ -1,4 +1,5 @@
 pub mod Coherent
+pub mod Example
 pub mod Held
 pub mod Law
 pub mod Updates

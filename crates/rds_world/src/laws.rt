@@ -1,5 +1,8 @@
 //! The law over all replicas and every list of events.
-ghost use Rattle.std.specs.Prelude.{◌≡◌};
+ghost use Rattle.std.specs.Prelude.{◌≡◌, ◌↔◌, ◌++◌, List};
+ghost use Rattle.rds_dots.specs.Lacking.{dot_of};
+ghost use Rattle.rds_life.specs.Life.{entry_of};
+ghost use Rattle.rds_state.specs.Made.{entry_made};
 ghost use Rattle.rds_world.specs.Coherent.{
   IsCoherent,
   StartsCoherent,
@@ -18,7 +21,9 @@ ghost use Rattle.rds_world.specs.Law.{
   SameUpdatesSameState,
   EachAnswerBringsWhatWasKept,
 };
-ghost use Rattle.rds_world.specs.World.{World};
+ghost use Rattle.rds_world.specs.Example.{add_to_s, lost_and_again};
+ghost use Rattle.rds_world.specs.World.{World, start, run, Accepted};
+ghost use Rattle.rds_world.specs.declared.event.Event.{Event};
 
 /// In a coherent world every two states are compatible, whether in memory, kept, asked from or answered; what is kept
 /// lies below memory, and what was sent below what its sender has kept; and what others have of a replica, it has kept.
@@ -56,4 +61,17 @@ pub fn states_are_joins_of_updates()
 /// An answer brings what its maker had kept, whenever it is taken, and is the least that does.
 pub fn answers_bring_what_was_kept()
     ensures { EachAnswerBringsWhatWasKept }
+{}
+
+/// A run of two lists is the run of the first, and then of the second; so each beginning of an accepted list is accepted.
+pub fn runs_go_on()
+    ensures run { (es fs : List Event) (w : World) → run (es ++ fs) w ≡ run fs (run es w) }
+    ensures accepted { (es fs : List Event) (w : World) → Accepted (es ++ fs) w ↔ (Accepted es w × Accepted fs (run es w)) }
+{}
+
+/// A worked run: a crash loses an edit that another replica had asked for, its dot is used again with another entry,
+/// and each answer is taken.
+pub fn lost_dots_are_used_again()
+    ensures accepted { Accepted lost_and_again (start 3) }
+    ensures again { entry_of (((run lost_and_again (start 3)).memory 1).life (dot_of 0 1)) ≡ entry_made (add_to_s 2) }
 {}

@@ -8,5 +8,5 @@ mod laws;
 pub use event::Event;
 pub use laws::{
     answers_bring_what_was_kept, coherent_replicas_are_friends, edits_are_steps,
-    states_are_joins_of_updates, worlds_stay_coherent,
+    lost_dots_are_used_again, runs_go_on, states_are_joins_of_updates, worlds_stay_coherent,
 };
