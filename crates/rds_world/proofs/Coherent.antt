@@ -124,6 +124,8 @@ module _ (w : World) (i : IsCoherent w) where
     kept_below = λ t. put_one (λ t a. AtMost a (w.memory t)) w.kept r (w.memory r) (reflexive (w.memory r)) (λ t n. i.kept_below t) t;
     asks_below = λ k q e. transitive _ _ _ (i.asks_below k q e) (kept_grows r q.asker);
     answers_below = λ k m e. transitive _ _ _ (i.answers_below k m e) (kept_grows r m.maker);
+    askers = i.askers;
+    makers = i.makers;
     answers_its = i.answers_its;
   }
 
@@ -146,6 +148,8 @@ module _ (w : World) (i : IsCoherent w) where
     kept_below = λ t. put_one (λ t a. AtMost (w.kept t) a) w.memory r (w.kept r) (reflexive (w.kept r)) (λ t n. i.kept_below t) t;
     asks_below = i.asks_below;
     answers_below = i.answers_below;
+    askers = i.askers;
+    makers = i.makers;
     answers_its = i.answers_its;
   }
 
@@ -172,6 +176,8 @@ module _ (w : World) (i : IsCoherent w) where
       kept_below = λ t. put_one (λ t a. AtMost (w.kept t) a) w.memory r x (transitive _ _ _ (i.kept_below r) b) (λ t n. i.kept_below t) t;
       asks_below = i.asks_below;
       answers_below = i.answers_below;
+      askers = i.askers;
+      makers = i.makers;
       answers_its = i.answers_its;
     }
 
@@ -243,8 +249,8 @@ module _ (w : World) (i : IsCoherent w) where
   still_its : (r : ℕ) (m : Reply) → AnswersIts w.asks m → AnswersIts (w.asks ++ question r ∷ []) m
   still_its r m a = record { question = a.question; asked = get_front w.asks (question r ∷ []) m.question a.question a.asked; asker = a.asker; above = a.above }
 
-  ask_coherent : (r : ℕ) → IsCoherent (after w (Ask r))
-  ask_coherent r = record {
+  ask_coherent : (r : ℕ) → r < w.replicas → IsCoherent (after w (Ask r))
+  ask_coherent r lt = record {
     compatible = none_more w (after w (Ask r)) i (asking_in r);
     fits = none_fit w (after w (Ask r)) i (asking_in r);
     in_memory = i.in_memory;
@@ -254,12 +260,14 @@ module _ (w : World) (i : IsCoherent w) where
     kept_below = i.kept_below;
     asks_below = λ k q e. elim (last_get w.asks (question r) q k e) [ inl p ↦ i.asks_below k q p | inr p ↦ subst (λ x. AtMost x.state (w.kept x.asker)) (sym p) (reflexive (w.kept r)) ];
     answers_below = i.answers_below;
+    askers = λ k q e. elim (last_get w.asks (question r) q k e) [ inl p ↦ i.askers k q p | inr p ↦ subst (λ x. x.asker < w.replicas) (sym p) lt ];
+    makers = i.makers;
     answers_its = λ k m e. still_its r m (i.answers_its k m e);
   }
 
   -- ---- Answer
 
-  module _ (s k : ℕ) (q : Question) (asked : slice_get w.asks k ≡ Some q) where
+  module _ (s k : ℕ) (q : Question) (asked : slice_get w.asks k ≡ Some q) (lt : s < w.replicas) where
     abbrev new : Reply
     new = reply w s k q
 
@@ -289,12 +297,14 @@ module _ (w : World) (i : IsCoherent w) where
       kept_below = i.kept_below;
       asks_below = i.asks_below;
       answers_below = λ j m e. elim (last_get w.answers new m j e) [ inl p ↦ i.answers_below j m p | inr p ↦ subst (λ x. AtMost x.state (w.kept x.maker)) (sym p) (least_part (w.kept s) (ranks q.state)) ];
+      askers = i.askers;
+      makers = λ j m e. elim (last_get w.answers new m j e) [ inl p ↦ i.makers j m p | inr p ↦ subst (λ x. x.maker < w.replicas) (sym p) lt ];
       answers_its = λ j m e. elim (last_get w.answers new m j e) [ inl p ↦ i.answers_its j m p | inr p ↦ subst (AnswersIts w.asks) (sym p) new_its ];
     }
 
-  answer_any : (s k : ℕ) (o : Option Question) → slice_get w.asks k ≡ o → IsCoherent (answered w s k o)
-  answer_any s k None e = i
-  answer_any s k (Some q) e = answer_coherent s k q e
+  answer_any : (s k : ℕ) (o : Option Question) → slice_get w.asks k ≡ o → s < w.replicas → IsCoherent (answered w s k o)
+  answer_any s k None e lt = i
+  answer_any s k (Some q) e lt = answer_coherent s k q e lt
 
 -- what an event that isn't refused says of its numbers
 pub there : (b : Bool) (due : Option Fault) → cond b due (Some NoSuch) ≡ None → due ≡ None
@@ -308,8 +318,8 @@ pub event_coherent : (w : World) (i : IsCoherent w) (e : Event) → refused w e 
 event_coherent w i (Edit r c) ok = edit_coherent w i r c (is_there r w.replicas (refusal (w.memory r) r c) ok) (there (nat_lt r w.replicas) (refusal (w.memory r) r c) ok)
 event_coherent w i (Save r) ok = save_coherent w i r
 event_coherent w i (Crash r) ok = crash_coherent w i r
-event_coherent w i (Ask r) ok = ask_coherent w i r
-event_coherent w i (Answer s k) ok = answer_any w i s k (slice_get w.asks k) refl
+event_coherent w i (Ask r) ok = ask_coherent w i r (is_there r w.replicas None ok)
+event_coherent w i (Answer s k) ok = answer_any w i s k (slice_get w.asks k) refl (is_there s w.replicas (cond (is_some (slice_get w.asks k)) None (Some NoSuch)) ok)
 event_coherent w i (Take k) ok = take_coherent w i k (slice_get w.answers k) refl
 
 is_empty : (n : ℕ) (p : Position) (a : Coordinates) → state_at (start n) p ≡ Some a → empty ≡ a
@@ -332,6 +342,8 @@ coherent_start n = record {
   kept_below = λ r. reflexive empty;
   asks_below = λ k q e. cc;
   answers_below = λ k m e. cc;
+  askers = λ k q e. cc;
+  makers = λ k m e. cc;
   answers_its = λ k m e. cc;
 }
 

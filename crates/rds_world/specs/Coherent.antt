@@ -1,5 +1,5 @@
 -- What holds of the states that a world has now, and is kept by every event.
-use Rattle.std.specs.Prelude.{◌≡◌, ◌≢◌, ◌⊎◌, ℕ, List, Option, Some, None, Result, Ok, Err, slice_get}
+use Rattle.std.specs.Prelude.{◌≡◌, ◌≢◌, ◌⊎◌, ◌<◌, ℕ, List, Option, Some, None, Result, Ok, Err, slice_get}
 use Rattle.rds_names.specs.declared.fault.Fault.{Fault}
 use Rattle.rds_names.specs.declared.fault.Fault.TheVariants.{Memory as NoMemory}
 use Rattle.rds_state.specs.Ahead.{TakeGives}
@@ -65,6 +65,9 @@ pub record IsCoherent (w : World) : Type 0 where
   pub kept_below : (r : ℕ) → AtMost (w.kept r) (w.memory r)
   pub asks_below : (k : ℕ) (q : Question) → slice_get w.asks k ≡ Some q → AtMost q.state (w.kept q.asker)
   pub answers_below : (k : ℕ) (m : Reply) → slice_get w.answers k ≡ Some m → AtMost m.state (w.kept m.maker)
+  -- who asked and who answered is of the roster
+  pub askers : (k : ℕ) (q : Question) → slice_get w.asks k ≡ Some q → q.asker < w.replicas
+  pub makers : (k : ℕ) (m : Reply) → slice_get w.answers k ≡ Some m → m.maker < w.replicas
   pub answers_its : (k : ℕ) (m : Reply) → slice_get w.answers k ≡ Some m → AnswersIts w.asks m
 
 abbrev pub StartsCoherent : Type 0

@@ -10,3 +10,6 @@ pub use laws::{
     answers_bring_what_was_kept, coherent_replicas_are_friends, edits_are_steps,
     lost_dots_are_used_again, runs_go_on, states_are_joins_of_updates, worlds_stay_coherent,
 };
+
+#[cfg(test)]
+mod tests;
