@@ -1,5 +1,5 @@
 -- The law over all lists of events, as the statements that contracts name.
-use Rattle.std.specs.Prelude.{◌≡◌, ℕ, ◌≤◌, Bool, true, is_some, length, List, ◌∷◌, Some, slice_get}
+use Rattle.std.specs.Prelude.{◌≡◌, ℕ, ◌≤◌, Bool, true, is_some, length, List, ◌∷◌, ◌++◌, Some, slice_get}
 use Rattle.rds_dots.specs.declared.dot.Dot.{Dot}
 use Rattle.rds_state.specs.Coordinates.{Coordinates, AtMost, AreCompatible, join}
 use Rattle.rds_world.specs.declared.event.Event.{Event}
@@ -60,6 +60,6 @@ pub record BringsWhatWasKept (w later : World) (s k : ℕ) (q : Question) : Type
   pub effect : join (later.memory q.asker) (reply w s k q).state ≡ join (later.memory q.asker) (w.kept s)
   pub least : (c : Coordinates) → AreCompatible q.state c → join q.state c ≡ join q.state (w.kept s) → AtMost (reply w s k q).state c
 
-abbrev pub EachAnswerBringsWhatWasKept : Type 0
-EachAnswerBringsWhatWasKept = (n : ℕ) (es later : List Event) (s k : ℕ) (q : Question) → Accepted es (start n) → slice_get (world_after n es).asks k ≡ Some q
-    → Accepted (Answer s k ∷ later) (world_after n es) → BringsWhatWasKept (world_after n es) (run (Answer s k ∷ later) (world_after n es)) s k q
+abbrev pub EachAnswerBringsWhatWasKept : ℕ → List Event → Type 0
+EachAnswerBringsWhatWasKept n es = (before later : List Event) (s k : ℕ) (q : Question) → es ≡ before ++ Answer s k ∷ later
+    → slice_get (world_after n before).asks k ≡ Some q → BringsWhatWasKept (world_after n before) (world_after n es) s k q

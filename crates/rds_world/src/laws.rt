@@ -60,7 +60,7 @@ pub fn states_are_joins_of_updates()
 
 /// An answer brings what its maker had kept, whenever it is taken, and is the least that does.
 pub fn answers_bring_what_was_kept()
-    ensures { EachAnswerBringsWhatWasKept }
+    ensures { Afterwards EachAnswerBringsWhatWasKept }
 {}
 
 /// A run of two lists is the run of the first, and then of the second; so each beginning of an accepted list is accepted.
