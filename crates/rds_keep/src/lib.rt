@@ -6,6 +6,8 @@ mod counted;
 mod kept;
 mod place;
 mod snapshots;
+#[cfg(test)]
+mod tests;
 
 pub use counted::Counted;
 pub use kept::Kept;
