@@ -18,7 +18,7 @@ use Rattle.rds_counts.specs.Counted.{Counted}
 use Rattle.rds_counts.specs.RowsOf.{count_rows}
 use Rattle.rds_state.specs.Value.{StateValue}
 use Rattle.rds_state.specs.Fits.{ReplicaValue}
-use Rattle.rds_codec.specs.Values.{IsFront, AreDotsOf, IsLiveRow, IsStateOf, IsSnapshot}
+use Rattle.rds_codec.specs.Values.{IsMember, AreDotsOf, IsLiveRow, IsStateOf, IsSnapshot}
 use Rattle.rds_codec.specs.Kinds.{BeginsWithTooManyDots, HasTooManyDots, state_kind, snapshot_kind}
 use Rattle.rds_codec.specs.DotRows.{rows_from, CanCountAll}
 use Rattle.rds_codec.specs.Spelling.{front_text, gap_text, gaps_text, dot_row_text, dots_text, live_row_text, live_rows_text, count_row_text, counters_text, state_text, snapshot_text}
@@ -26,7 +26,7 @@ use Rattle.rds_codec.specs.Reading as read
 use Rattle.rds_codec.specs.Reading.{then_at, pair_at, StateParts}
 use Rattle.rds_codec.proofs.Format.{IsFormat, IsPlain, Never, plain_pair, then_format, LargeThen, made_format, relarge}
 use Rattle.rds_codec.proofs.Whole.{IsReaderOf, reader_of}
-use Rattle.rds_codec.proofs.PartFormats.{Front, IsFrontPair, front_format}
+use Rattle.rds_codec.proofs.PartFormats.{Member, IsMemberPair, front_format}
 use Rattle.rds_codec.proofs.DotFormats.{CanCountDots, AreDots, TooMany, dots_format}
 use Rattle.rds_codec.proofs.CounterFormats.{AreCounts, counters_format}
 use Rattle.rds_codec.proofs.LiveFormats.{AreLive, CanCountRows, live_format}
@@ -109,26 +109,26 @@ state_format replicas = made_format read.state_by parts_of _ parts_text (ArePart
 -- ---- snapshots
 
 abbrev All : Type 0
-All = Front × StateValue
+All = Member × StateValue
 
 abbrev all_text : All → List ℕ
 all_text p = front_text p.0.0 p.0.1 ++ state_text p.1
 
 abbrev IsAll : All → Type 0
-IsAll p = IsFrontPair p.0 × FitsState (length p.0.0.names) p.1
+IsAll p = IsMemberPair p.0 × FitsState (length p.0.0.names) p.1
 
 -- after the front stands a set of too many dots
 abbrev pub Large : List ℕ → Type 0
-Large bytes = (f : Front) × (rest : List ℕ) × IsFrontPair f × (bytes ≡ front_text f.0 f.1 ++ rest) × TooMany (length f.0.names) rest
+Large bytes = (f : Member) × (rest : List ℕ) × IsMemberPair f × (bytes ≡ front_text f.0 f.1 ++ rest) × TooMany (length f.0.names) rest
 
 all_format : IsFormat (then_at read.front_at (λ f. read.state_at (length f.0.names))) all_text IsAll Large
 all_format =
-    let g = λ (f : Front). read.state_at (length f.0.names) in
-    let s = λ (f : Front). front_text f.0 f.1 in
-    let q = λ (f : Front) (is : IsFrontPair f). state_format (length f.0.names) in
-    relarge (then_at read.front_at g) all_text IsAll (LargeThen read.front_at g s (λ f. state_text) IsFrontPair (λ f. FitsState (length f.0.names)) Never (λ f. TooMany (length f.0.names)) front_format q) Large
+    let g = λ (f : Member). read.state_at (length f.0.names) in
+    let s = λ (f : Member). front_text f.0 f.1 in
+    let q = λ (f : Member) (is : IsMemberPair f). state_format (length f.0.names) in
+    relarge (then_at read.front_at g) all_text IsAll (LargeThen read.front_at g s (λ f. state_text) IsMemberPair (λ f. FitsState (length f.0.names)) Never (λ f. TooMany (length f.0.names)) front_format q) Large
     (λ bytes h. elim h [ inl x ↦ absurd x | inr y ↦ y ]) (λ bytes h. inr h)
-    (then_format read.front_at g s (λ f. state_text) IsFrontPair (λ f. FitsState (length f.0.names)) Never (λ f. TooMany (length f.0.names)) front_format q)
+    (then_format read.front_at g s (λ f. state_text) IsMemberPair (λ f. FitsState (length f.0.names)) Never (λ f. TooMany (length f.0.names)) front_format q)
 
 abbrev all_of_value : ReplicaValue → All
 all_of_value v = ((v.roster, v.own), v.state)
@@ -136,17 +136,17 @@ all_of_value v = ((v.roster, v.own), v.state)
 abbrev pub Fits : ReplicaValue → Type 0
 Fits v = IsSnapshot v × CanCountState v.state
 
-front_pair : (roster : RosterValue) (own : ℕ) → IsFront roster own → IsFrontPair (roster, own)
-front_pair roster own is = (record { group = is.group; each_name = is.each_name; names = is.names }, is.own_number)
+member_pair : (roster : RosterValue) (own : ℕ) → IsMember roster own → IsMemberPair (roster, own)
+member_pair roster own is = (record { group = is.group; each_name = is.each_name; names = is.names }, is.own_number)
 
-of_front_pair : (f : Front) → IsFrontPair f → IsFront f.0 f.1
-of_front_pair f is = record { group = is.0.group; each_name = is.0.each_name; names = is.0.names; own_number = is.1 }
+of_member_pair : (f : Member) → IsMemberPair f → IsMember f.0 f.1
+of_member_pair f is = record { group = is.0.group; each_name = is.0.each_name; names = is.0.names; own_number = is.1 }
 
 there : (v : ReplicaValue) → Fits v → IsAll (all_of_value v) × (read.snapshot_by (all_of_value v) ≡ v)
-there v h = ((front_pair v.roster v.own h.0.front, (h.0.state, h.1)), refl)
+there v h = ((member_pair v.roster v.own h.0.member, (h.0.state, h.1)), refl)
 
 back : (p : All) → IsAll p → Fits (read.snapshot_by p) × (all_of_value (read.snapshot_by p) ≡ p)
-back p h = ((record { front = of_front_pair p.0 h.0; state = h.1.0 }, h.1.1), refl)
+back p h = ((record { member = of_member_pair p.0 h.0; state = h.1.0 }, h.1.1), refl)
 
 pub snapshot_format : IsFormat read.snapshot_at snapshot_text Fits Large
 unfolding read.snapshot_at snapshot_text
@@ -207,12 +207,12 @@ of_many replicas bytes le h =
     (h.dots, h.rest, (h.are_dots, dots_within h.dots (omega arith)), h.spelled, lt-ltb 65536 (set.len h.dots) h.many)
 
 has_many : (bytes : List ℕ) → Large bytes → HasTooManyDots bytes
-has_many bytes h = record { roster = h.0.0; own = h.0.1; after = h.1; front = of_front_pair h.0 h.2; many = many_of (length h.0.0.names) h.1 h.4; spelled = h.3 }
+has_many bytes h = record { roster = h.0.0; own = h.0.1; after = h.1; member = of_member_pair h.0 h.2; many = many_of (length h.0.0.names) h.1 h.4; spelled = h.3 }
 
 of_has_many : (bytes : List ℕ) → length bytes ≤ LIMIT → HasTooManyDots bytes → Large bytes
 of_has_many bytes le h =
     let len = ap length h.spelled ∙ length-append (front_text h.roster h.own) h.after in
-    ((h.roster, h.own), h.after, front_pair h.roster h.own h.front, h.spelled, of_many (length h.roster.names) h.after (omega arith) h.many)
+    ((h.roster, h.own), h.after, member_pair h.roster h.own h.member, h.spelled, of_many (length h.roster.names) h.after (omega arith) h.many)
 
 -- ---- the kinds
 
