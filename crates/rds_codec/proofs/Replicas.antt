@@ -13,7 +13,7 @@ use Rattle.rds_codec.specs.Values.{IsCountRowOf, IsStateOf}
 use Rattle.rds_codec.specs.Reading.{front_at, state_at}
 use Rattle.rds_codec.proofs.Format.{IsBytes}
 use Rattle.rds_codec.proofs.PartFormats.{Member, front_format}
-use Rattle.rds_codec.proofs.SnapshotFormats.{state_format}
+use Rattle.rds_codec.proofs.StateFormats.{state_format}
 
 are_below : (replicas : ℕ) (rows : List CountRow) → AllByRecursion (IsCountRowOf replicas) rows → rows_below replicas rows ≡ true
 are_below replicas [] h = refl

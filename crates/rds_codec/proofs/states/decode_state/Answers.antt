@@ -1,7 +1,7 @@
 use Rattle.std.proofs.Common.{arith}
 use Rattle.rds_codec.specs.Kinds.{state_kind}
 use Rattle.rds_codec.specs.Reading.{state_at}
-use Rattle.rds_codec.proofs.SnapshotFormats.{state_reader}
+use Rattle.rds_codec.proofs.StateFormats.{state_reader}
 use Rattle.rds_codec.proofs.Whole.{decodes}
 use Rattle.rds_codec.proofs.states.decode_state.Goals as goal
 

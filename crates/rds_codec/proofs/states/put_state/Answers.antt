@@ -8,7 +8,7 @@ use Rattle.rds_dots.specs.Runs.{runs_of}
 use Rattle.rds_life.specs.Life.{seen_of, live_rows}
 use Rattle.rds_codec.specs.DotRows.{rows_from, CanCountAll}
 use Rattle.rds_codec.specs.Spelling.{dots_text, live_rows_text, counters_text}
-use Rattle.rds_codec.proofs.SnapshotFormats.{state_within}
+use Rattle.rds_codec.proofs.StateFormats.{state_within}
 use Rattle.rds_codec.proofs.Texts.{state_parts, OnOk-map}
 use Rattle.rds_codec.proofs.states.put_state.Goals as goal
 
