@@ -1,4 +1,4 @@
 mod FrontSoFar
 mod ReadWhole
-mod TextParts
+pub mod TextParts
 mod WrittenSoFar

@@ -3,6 +3,7 @@
 #![tactic(auto)]
 
 mod counted;
+mod keeping;
 mod kept;
 mod place;
 mod snapshots;
@@ -10,6 +11,7 @@ mod snapshots;
 mod tests;
 
 pub use counted::Counted;
+pub use keeping::keep_in;
 pub use kept::Kept;
 pub use place::Place;
-pub use snapshots::{keep_in, read_snapshot, write_snapshot};
+pub use snapshots::{read_snapshot, write_snapshot};
