@@ -1,4 +1,4 @@
 mod FrontSoFar
 mod ReadWhole
 pub mod TextParts
-mod WrittenSoFar
+pub mod WrittenSoFar
