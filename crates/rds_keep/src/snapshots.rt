@@ -4,6 +4,7 @@ ghost use Rattle.std.specs.Io.KnownBytes.{Appends, IsAtEnd};
 ghost use Rattle.rds_names.specs.declared.fault.Fault.TheVariants.{Device};
 ghost use Rattle.rds_codec.specs.Decoding.{IsOtherFault};
 ghost use Rattle.rds_codec.specs.Spelling.{snapshot_text};
+ghost use Rattle.rds_codec.specs.Values.{IsSnapshot};
 ghost use Rattle.rds_keep.specs.Counted.{HasFailed};
 ghost use Rattle.rds_keep.specs.Parts.{AppendsPart};
 ghost use Rattle.rds_keep.specs.Snapshots.{ReadsWhole, RefusesText};
@@ -53,6 +54,9 @@ pub fn read_snapshot<S: DotSet, R: Read>(
     alloc: Global,
     reader: &mut Counted<R>,
 ) -> Result<Kept<S>, Fault>
+    ensures text { IfOk result (λ kept. IfSome (R.remaining reader.old.inner)
+        (λ input. input ≡ snapshot_text kept)) }
+    ensures value { IfOk result (λ kept. IsSnapshot kept) }
     ensures whole { IfSome (R.remaining reader.old.inner) (λ input. ReadsWhole input result) }
     ensures end { OnOk result (IsAtEnd (R.remaining reader.new.inner)) }
     ensures fault { IfErr result (λ e. (e ≡ Device) ⊎ IsOtherFault e) }
