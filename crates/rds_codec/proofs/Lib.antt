@@ -4,6 +4,7 @@ mod DotFormats
 mod EntryFormats
 mod EntryParts
 mod Format
+mod HaveTexts
 mod Lengths
 mod Lists
 mod LiveFormats
