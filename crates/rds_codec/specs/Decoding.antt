@@ -1,0 +1,45 @@
+-- What decoding answers for all of its input, in terms of the texts alone.
+use Rattle.std.specs.Prelude.{◌≡◌, ◌≢◌, ℕ, ◌<◌, ◌≤◌, ◌⊎◌, List, [], ◌++◌, length, Result, Ok, Err, IfOk, IfErr}
+use Rattle.rds_names.specs.declared.fault.Fault.{Fault}
+use Rattle.rds_names.specs.declared.fault.Fault.TheVariants.{Memory, Cut, Bad, Extra, TooLong, TooManyDots}
+use Rattle.rds_codec.specs.declared.limits.TheConstants.{LIMIT}
+use Rattle.rds_codec.specs.Kinds.{Kind}
+use Rattle.rds_codec.specs.Reading.{Reader, Gives, all_of}
+
+-- the bytes are the value's text
+pub record IsTextOf {V : Type 0} (kind : Kind V) (bytes : List ℕ) (v : V) : Type 0 where
+  pub is_value : kind.is_value v
+  pub spelled : bytes ≡ kind.text v
+
+-- a proper beginning of the bytes is a text
+pub record BeginsWithText {V : Type 0} (kind : Kind V) (bytes : List ℕ) : Type 0 where
+  pub value : V
+  pub rest : List ℕ
+  pub is_value : kind.is_value value
+  pub more : rest ≢ []
+  pub spelled : bytes ≡ kind.text value ++ rest
+
+-- the answer, unless memory ran out
+abbrev pub Answers : {V : Type 0} → Result V Fault → Result V Fault → Type 0
+Answers result wanted = (result ≡ wanted) ⊎ (result ≡ Err Memory)
+
+-- within the limit, what reading all of the bytes from the left gives, unless memory ran out
+abbrev pub ReadsAll : {V : Type 0} → Reader V → List ℕ → Result V Fault → Type 0
+ReadsAll reader bytes result = length bytes ≤ LIMIT → Gives (λ v. v) result (all_of reader bytes)
+
+-- a refusal that has no clause of its own
+abbrev pub IsOtherFault : Fault → Type 0
+IsOtherFault e = (e ≡ Memory) ⊎ ((e ≡ TooLong) ⊎ ((e ≡ TooManyDots) ⊎ ((e ≡ Extra) ⊎ ((e ≡ Cut) ⊎ (e ≡ Bad)))))
+
+-- Ok exactly at a text within the limit, TooLong exactly above it, TooManyDots exactly where a set is read
+-- that is over the cap, Extra exactly where a proper beginning is a text; else Cut or Bad, or memory ran out.
+pub record Decodes {V : Type 0} (kind : Kind V) (bytes : List ℕ) (result : Result V Fault) : Type 0 where
+  pub value : IfOk result (λ v. (length bytes ≤ LIMIT) × IsTextOf kind bytes v)
+  pub found : (v : V) → length bytes ≤ LIMIT → IsTextOf kind bytes v → Answers result (Ok v)
+  pub long : LIMIT < length bytes → result ≡ Err TooLong
+  pub long_only : result ≡ Err TooLong → LIMIT < length bytes
+  pub many : length bytes ≤ LIMIT → kind.has_too_many bytes → Answers result (Err TooManyDots)
+  pub many_only : result ≡ Err TooManyDots → (length bytes ≤ LIMIT) × kind.has_too_many bytes
+  pub extra : length bytes ≤ LIMIT → BeginsWithText kind bytes → Answers result (Err Extra)
+  pub extra_only : result ≡ Err Extra → (length bytes ≤ LIMIT) × BeginsWithText kind bytes
+  pub other : IfErr result IsOtherFault

@@ -1,0 +1,4 @@
+mod FrontSoFar
+mod ReadWhole
+pub mod TextParts
+pub mod WrittenSoFar

@@ -1,0 +1,17 @@
+//! Replicas that are kept outside memory. What readers, writers and places did is counted, and a
+//! `Kept` is a replica whose text was written whole or read whole.
+#![tactic(auto)]
+
+mod counted;
+mod keeping;
+mod kept;
+mod place;
+mod snapshots;
+#[cfg(test)]
+mod tests;
+
+pub use counted::Counted;
+pub use keeping::keep_in;
+pub use kept::Kept;
+pub use place::Place;
+pub use snapshots::{read_snapshot, write_snapshot};

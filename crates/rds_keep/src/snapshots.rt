@@ -1,0 +1,71 @@
+//! Snapshots, written and read whole.
+ghost use Rattle.std.specs.Prelude.{◌≡◌, ◌≢◌, ◌⊎◌, Err, IfOk, IfErr, IfSome, OnOk, OnErr};
+ghost use Rattle.std.specs.Io.KnownBytes.{Appends, IsAtEnd};
+ghost use Rattle.rds_names.specs.declared.fault.Fault.TheVariants.{Device};
+ghost use Rattle.rds_codec.specs.Decoding.{IsOtherFault};
+ghost use Rattle.rds_codec.specs.Spelling.{snapshot_text};
+ghost use Rattle.rds_codec.specs.Values.{IsSnapshot};
+ghost use Rattle.rds_keep.specs.Counted.{HasFailed};
+ghost use Rattle.rds_keep.specs.Parts.{AppendsPart};
+ghost use Rattle.rds_keep.specs.Snapshots.{ReadsWhole, RefusesText};
+
+use crate::counted::Counted;
+use crate::kept::Kept;
+use rds_codec::{LIMIT, decode_snapshot, encode_snapshot};
+use rds_dots::DotSet;
+use rds_names::Fault;
+use rds_state::Replica;
+use std::alloc::Global;
+use std::io::{Read, Write};
+
+/// Writes the replica's snapshot. The kept replica equals the one that was lent, with memory of its
+/// own.
+///
+/// Refuses `TooLong` where the text is above the limit, and takes all its memory before it writes the
+/// first byte. A call of the writer that fails, or that takes no byte, is `Device`: then a beginning
+/// of the text is written. The writer isn't flushed.
+#[tactic(auto, using(crate::proofs::TextParts::refused_before))]
+pub fn write_snapshot<S: DotSet, W: Write>(
+    alloc: Global,
+    replica: &Replica<S>,
+    writer: &mut Counted<W>,
+) -> Result<Kept<S>, Fault>
+    ensures kept { IfOk result (λ kept. kept ≡ replica.now) }
+    ensures bytes { OnOk result (Appends (W.contents writer.old.inner)
+        (W.contents writer.new.inner) (snapshot_text replica.now)) }
+    ensures part { OnErr result (AppendsPart (W.contents writer.old.inner)
+        (W.contents writer.new.inner) (snapshot_text replica.now)) }
+    ensures refused { IfErr result (RefusesText (snapshot_text replica.now) writer.old writer.new) }
+    ensures steady { OnOk result (writer.new.failed ≡ writer.old.failed) }
+    ensures turns { writer.new.turns ≡ writer.old.turns }
+    ensures renamed { writer.new.renamed ≡ writer.old.renamed }
+{
+    let text = encode_snapshot(alloc, replica)?;
+    let kept = Kept::new(replica.copy(alloc)?);
+    writer.write_all(text.as_slice())?;
+    Ok(kept)
+}
+
+/// Reads all that the reader holds: the replica whose snapshot it is.
+///
+/// Refuses as decoding does for the whole input, of which it holds no more than a text may have. A
+/// read that fails, and more reads than the reader's bound of turns, are `Device`.
+pub fn read_snapshot<S: DotSet, R: Read>(
+    alloc: Global,
+    reader: &mut Counted<R>,
+) -> Result<Kept<S>, Fault>
+    ensures text { IfOk result (λ kept. IfSome (R.remaining reader.old.inner)
+        (λ input. input ≡ snapshot_text kept)) }
+    ensures value { IfOk result (λ kept. IsSnapshot kept) }
+    ensures whole { IfSome (R.remaining reader.old.inner) (λ input. ReadsWhole input result) }
+    ensures end { OnOk result (IsAtEnd (R.remaining reader.new.inner)) }
+    ensures fault { IfErr result (λ e. (e ≡ Device) ⊎ IsOtherFault e) }
+    ensures counted { result ≡ Err Device → HasFailed reader.old reader.new }
+    ensures steady { result ≢ Err Device → reader.new.failed ≡ reader.old.failed }
+    ensures turns { reader.new.turns ≡ reader.old.turns }
+    ensures renamed { reader.new.renamed ≡ reader.old.renamed }
+{
+    let input = reader.read_front(alloc, LIMIT + 1)?;
+    let replica = decode_snapshot(alloc, input.as_slice())?;
+    Ok(Kept::new(replica))
+}
