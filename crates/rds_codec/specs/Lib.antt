@@ -1,4 +1,6 @@
+pub mod CertificateTexts
 pub mod Decoding
+pub mod DigestTexts
 pub mod DotRows
 pub mod Entries
 pub mod Laws

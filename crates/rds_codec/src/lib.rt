@@ -2,9 +2,13 @@
 //! begins another.
 #![tactic(auto)]
 
+mod answers;
+mod certificates;
 mod counters;
+mod digests;
 mod entries;
 mod front;
+mod hellos;
 mod limits;
 mod list;
 mod measuring;
@@ -15,6 +19,10 @@ mod snapshots;
 mod states;
 mod walking;
 
+pub use answers::Answer;
+pub use certificates::{decode_certificate, encode_certificate};
+pub use digests::{decode_digest, encode_digest};
+pub use hellos::Hello;
 pub use limits::{LIMIT, MOST_DOTS};
 pub use snapshots::{decode_snapshot, encode_snapshot, texts_stand_apart};
 

@@ -7,7 +7,8 @@ use rds_counts::CountRow;
 use rds_dots::Dot;
 use rds_names::{Entry, Key, Roster, Scalar};
 
-fn key_length(key: &Key) -> usize
+/// The length of a key's text.
+pub fn key_length(key: &Key) -> usize
     ensures length { result ≡ length (short_text key.now) }
     ensures most { result ≤ 65 }
 {

@@ -8,5 +8,6 @@ mod laws;
 mod row;
 
 pub use digest::Digest;
+pub use inside::is_inside;
 pub use laws::{checked_delta_laws, least_delta_laws};
 pub use row::{Certificate, Row};
