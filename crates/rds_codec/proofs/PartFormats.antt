@@ -18,7 +18,7 @@ use Rattle.rds_codec.specs.Spelling as spell
 use Rattle.rds_codec.specs.Spelling.{byte_text, short_text, names_text, roster_text, magic}
 use Rattle.rds_codec.specs.Reading as read
 use Rattle.rds_codec.specs.Reading.{byte_at, number_at, bytes_at, string_at, pair_at, then_at, made_at, drawn_at, when_at, list_at, is_between, last}
-use Rattle.rds_codec.specs.Decoding.{is_key_text}
+use Rattle.rds_codec.specs.Values.{is_key_text}
 use Rattle.rds_codec.proofs.Format.{IsPlain, byte_format, number16, known_format, plain_then, plain_pair, made_format, drawn_format, when_format, refit}
 use Rattle.rds_codec.proofs.Lists.{AllAfter, list_format, string_format}
 

@@ -9,7 +9,7 @@ use Rattle.rds_state.specs.Fits.{Fits, ReplicaValue, IsReplica}
 use Rattle.rds_state.specs.RowsAhead.{rows_below}
 use Rattle.rds_state.specs.Value.{StateValue, coordinates}
 use Rattle.rds_state.proofs.FitsLemmas.{fits_by}
-use Rattle.rds_codec.specs.Decoding.{IsCountRowOf, IsStateOf}
+use Rattle.rds_codec.specs.Values.{IsCountRowOf, IsStateOf}
 use Rattle.rds_codec.specs.Reading.{front_at, state_at}
 use Rattle.rds_codec.proofs.Format.{IsBytes}
 use Rattle.rds_codec.proofs.PartFormats.{Front, front_format}

@@ -18,12 +18,14 @@ use Rattle.rds_counts.specs.Counted.{Counted}
 use Rattle.rds_counts.specs.RowsOf.{count_rows}
 use Rattle.rds_state.specs.Value.{StateValue}
 use Rattle.rds_state.specs.Fits.{ReplicaValue}
-use Rattle.rds_codec.specs.Decoding.{IsFront, AreDotsOf, IsLiveRow, IsStateOf, IsSnapshot, HasTooManyDots}
+use Rattle.rds_codec.specs.Values.{IsFront, AreDotsOf, IsLiveRow, IsStateOf, IsSnapshot}
+use Rattle.rds_codec.specs.Kinds.{BeginsWithTooManyDots, HasTooManyDots, state_kind, snapshot_kind}
 use Rattle.rds_codec.specs.DotRows.{rows_from, CanCountAll}
 use Rattle.rds_codec.specs.Spelling.{front_text, gap_text, gaps_text, dot_row_text, dots_text, live_row_text, live_rows_text, count_row_text, counters_text, state_text, snapshot_text}
 use Rattle.rds_codec.specs.Reading as read
 use Rattle.rds_codec.specs.Reading.{then_at, pair_at, StateParts}
 use Rattle.rds_codec.proofs.Format.{IsFormat, IsPlain, Never, plain_pair, then_format, LargeThen, made_format, relarge}
+use Rattle.rds_codec.proofs.Whole.{IsReaderOf, reader_of}
 use Rattle.rds_codec.proofs.PartFormats.{Front, IsFrontPair, front_format}
 use Rattle.rds_codec.proofs.DotFormats.{CanCountDots, AreDots, TooMany, dots_format}
 use Rattle.rds_codec.proofs.CounterFormats.{AreCounts, counters_format}
@@ -196,29 +198,29 @@ value_within v le = let a = length-append (front_text v.roster v.own) (state_tex
 
 -- ---- bytes with too many dots
 
-pub large_of : (bytes : List ℕ) → length bytes ≤ LIMIT → HasTooManyDots bytes → Large bytes
-large_of bytes le h =
-    let front = front_text h.roster h.own in
-    let dots = dots_text h.seen in
-    let a = ap length h.spelled ∙ length-append front (dots ++ h.rest) in
-    let b = length-append dots h.rest in (
-      (h.roster, h.own),
-      dots ++ h.rest,
-      front_pair h.roster h.own h.front,
-      h.spelled,
-      (h.seen, h.rest, (h.dots, dots_within h.seen (omega arith)), refl, lt-ltb 65536 (set.len h.seen) h.many),
-    )
+many_of : (replicas : ℕ) (bytes : List ℕ) → TooMany replicas bytes → BeginsWithTooManyDots replicas bytes
+many_of replicas bytes h = record { dots = h.0; rest = h.1; are_dots = h.2.0; many = ltb-true 65536 (set.len h.0) h.4; spelled = h.3 }
 
-pub of_large : (bytes : List ℕ) → Large bytes → HasTooManyDots bytes
-of_large bytes h =
-    let many = h.4 in
-    record {
-      roster = h.0.0;
-      own = h.0.1;
-      seen = many.0;
-      rest = many.1;
-      front = of_front_pair h.0 h.2;
-      dots = many.2.0;
-      many = ltb-true 65536 (set.len many.0) many.4;
-      spelled = h.3 ∙ ap (λ (x : List ℕ). front_text h.0.0 h.0.1 ++ x) many.3;
-    }
+of_many : (replicas : ℕ) (bytes : List ℕ) → length bytes ≤ LIMIT → BeginsWithTooManyDots replicas bytes → TooMany replicas bytes
+of_many replicas bytes le h =
+    let len = ap length h.spelled ∙ length-append (dots_text h.dots) h.rest in
+    (h.dots, h.rest, (h.are_dots, dots_within h.dots (omega arith)), h.spelled, lt-ltb 65536 (set.len h.dots) h.many)
+
+has_many : (bytes : List ℕ) → Large bytes → HasTooManyDots bytes
+has_many bytes h = record { roster = h.0.0; own = h.0.1; after = h.1; front = of_front_pair h.0 h.2; many = many_of (length h.0.0.names) h.1 h.4; spelled = h.3 }
+
+of_has_many : (bytes : List ℕ) → length bytes ≤ LIMIT → HasTooManyDots bytes → Large bytes
+of_has_many bytes le h =
+    let len = ap length h.spelled ∙ length-append (front_text h.roster h.own) h.after in
+    ((h.roster, h.own), h.after, front_pair h.roster h.own h.front, h.spelled, of_many (length h.roster.names) h.after (omega arith) h.many)
+
+-- ---- the kinds
+
+pub state_reader : (replicas : ℕ) → IsReaderOf (state_kind replicas) (read.state_at replicas)
+state_reader replicas =
+    reader_of (state_kind replicas) (read.state_at replicas) (FitsState replicas) (TooMany replicas) (state_format replicas) (λ v h. h.0) (λ v is le. (is, state_within v le))
+    (many_of replicas) (of_many replicas)
+
+pub snapshot_reader : IsReaderOf snapshot_kind read.snapshot_at
+snapshot_reader =
+    reader_of snapshot_kind read.snapshot_at Fits Large snapshot_format (λ v h. h.0) (λ v is le. (is, value_within v le)) has_many of_has_many

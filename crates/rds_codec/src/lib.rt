@@ -9,6 +9,7 @@ mod digests;
 mod entries;
 mod front;
 mod hellos;
+mod laws;
 mod limits;
 mod list;
 mod measuring;
@@ -23,8 +24,10 @@ pub use answers::Answer;
 pub use certificates::{decode_certificate, encode_certificate};
 pub use digests::{decode_digest, encode_digest};
 pub use hellos::Hello;
+pub use laws::texts_stand_apart;
 pub use limits::{LIMIT, MOST_DOTS};
-pub use snapshots::{decode_snapshot, encode_snapshot, texts_stand_apart};
+pub use snapshots::{decode_snapshot, encode_snapshot};
+pub use states::{decode_state, encode_state};
 
 #[cfg(test)]
 mod tests;

@@ -2,7 +2,7 @@
 ghost use Rattle.std.specs.Prelude.{◌≡◌, ◌≤◌, length};
 ghost use Rattle.rds_codec.specs.Decoding.{Decodes};
 ghost use Rattle.rds_codec.specs.DotRows.{rows_from};
-ghost use Rattle.rds_codec.specs.Laws.{TextsStandApart};
+ghost use Rattle.rds_codec.specs.Kinds.{snapshot_kind};
 ghost use Rattle.rds_codec.specs.Reading.{Gives, snapshot_at, all_of};
 ghost use Rattle.rds_codec.specs.Spelling.{snapshot_text};
 ghost use Rattle.rds_codec.specs.Writing.{Adds, Encodes};
@@ -48,7 +48,7 @@ fn read_all<S: DotSet>(alloc: Global, bytes: &[u8]) -> Result<Replica<S>, Fault>
 /// follows it is read); bytes that go on after a text (`Extra`); and other bytes that are no text: `Cut` where
 /// they end inside a part, `Bad` where a part that is there is none.
 pub fn decode_snapshot<S: DotSet>(alloc: Global, bytes: &[u8]) -> Result<Replica<S>, Fault>
-    ensures { Decodes bytes.now result }
+    ensures { Decodes snapshot_kind bytes.now result }
 {
     if LIMIT < bytes.len() {
         return Err(Fault::TooLong);
@@ -91,9 +91,3 @@ pub fn encode_snapshot<S: DotSet>(alloc: Global, replica: &Replica<S>) -> Result
     put_snapshot(&mut out, replica, rows)?;
     Ok(out)
 }
-
-/// No text begins another, and one text has one value. That a value has one text needs no law: its text is a
-/// function of it.
-pub fn texts_stand_apart()
-    ensures { TextsStandApart }
-{}

@@ -2,10 +2,12 @@
 ghost use Rattle.std.specs.Prelude.{◌≡◌, ◌≤◌, ◌^◌, length};
 ghost use Rattle.rds_dots.specs.Runs.{runs_of};
 ghost use Rattle.rds_life.specs.Life.{seen_of};
+ghost use Rattle.rds_codec.specs.Decoding.{Decodes};
+ghost use Rattle.rds_codec.specs.Kinds.{state_kind};
 ghost use Rattle.rds_codec.specs.DotRows.{rows_from};
-ghost use Rattle.rds_codec.specs.Reading.{Gives, state_at};
+ghost use Rattle.rds_codec.specs.Reading.{Gives, state_at, all_of};
 ghost use Rattle.rds_codec.specs.Spelling.{state_text};
-ghost use Rattle.rds_codec.specs.Writing.{Adds};
+ghost use Rattle.rds_codec.specs.Writing.{Adds, Encodes};
 
 use crate::counters::read_counters;
 use crate::entries::read_live_rows;
@@ -68,4 +70,44 @@ pub fn put_state<S: DotSet>(
     put_dots(out, lives.seen(), rows)?;
     put_live_rows(out, lives.live().as_slice())?;
     put_count_rows(out, state.counts().rows())
+}
+
+fn read_all<S: DotSet>(alloc: Global, replicas: u16, bytes: &[u8]) -> Result<State<S>, Fault>
+    ensures { Gives (λ x. x) result (all_of (state_at replicas) bytes.now) }
+{
+    let (state, rest) = read_state(alloc, replicas, bytes)?;
+    if !rest.is_empty() {
+        return Err(Fault::Extra);
+    }
+    Ok(state)
+}
+
+/// The state whose text the bytes are, where the roster has so many replicas. Refused are bytes as
+/// [`decode_snapshot`](crate::decode_snapshot) refuses them; a replica's number that isn't below the roster's
+/// length is `Bad`.
+pub fn decode_state<S: DotSet>(
+    alloc: Global,
+    replicas: u16,
+    bytes: &[u8],
+) -> Result<State<S>, Fault>
+    ensures { Decodes (state_kind replicas) bytes.now result }
+{
+    if LIMIT < bytes.len() {
+        return Err(Fault::TooLong);
+    }
+    read_all(alloc, replicas, bytes)
+}
+
+/// The text of the state. Above the limit it is refused (`TooLong`) before any memory is taken; then all memory
+/// that the text needs is taken at once.
+pub fn encode_state<S: DotSet>(alloc: Global, state: &State<S>) -> Result<Vec<u8>, Fault>
+    ensures { Encodes (state_text state.now) result }
+{
+    let (rows, length) = measure_state(state);
+    if u128::from(LIMIT as u64) < length {
+        return Err(Fault::TooLong);
+    }
+    let mut out = Vec::with_capacity(alloc, length as usize)?;
+    put_state(&mut out, state, rows)?;
+    Ok(out)
 }
