@@ -1,2 +1,4 @@
+pub mod DeltaLemmas
 pub mod Digests
 pub mod LeastLaws
+pub mod Sent

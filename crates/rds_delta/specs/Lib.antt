@@ -1,3 +1,4 @@
 pub mod Digested
+pub mod Higher
 pub mod Least
 pub mod Ranks

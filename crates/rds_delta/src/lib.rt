@@ -2,11 +2,13 @@
 //! that each component of a delta is needed, and its check.
 #![tactic(auto)]
 
+mod deltas;
 mod digest;
 mod inside;
 mod laws;
 mod row;
 
+pub use deltas::delta;
 pub use digest::Digest;
 pub use inside::is_inside;
 pub use laws::{checked_delta_laws, least_delta_laws};
