@@ -5,9 +5,10 @@ use Rattle.rds_dots.specs.Dots.{Dots}
 use Rattle.rds_counts.specs.Counted.{Counted}
 use Rattle.rds_delta.specs.Digested.{DigestValue, IsInside}
 use Rattle.rds_codec.specs.declared.limits.TheConstants.{MOST_DOTS}
-use Rattle.rds_codec.specs.Decoding.{AreDotsOf, AreCountsOf}
+use Rattle.rds_codec.specs.Kinds.{Kind, BeginsWithTooManyDots}
 use Rattle.rds_codec.specs.Reading.{Reader, then_at, pair_at, made_at, when_at, dots_at, counters_at}
 use Rattle.rds_codec.specs.Spelling.{dots_text, counters_text}
+use Rattle.rds_codec.specs.Values.{AreDotsOf, AreCountsOf}
 
 -- the seen dots, the live ones of them, and the counters
 unfoldable pub digest_text : DigestValue → List ℕ
@@ -36,3 +37,20 @@ pub record IsDigestOf (replicas : ℕ) (g : DigestValue) : Type 0 where
   pub few : set.len g.seen ≤ MOST_DOTS
   pub inside : IsInside g.live g.seen
   pub counts : AreCountsOf replicas g.counts
+
+-- the seen dots aren't above the cap, and after them the live dots stand to their end and are above it
+pub record HasTooManyLive (replicas : ℕ) (bytes : List ℕ) : Type 0 where
+  pub seen : Dots
+  pub after : List ℕ
+  pub are_dots : AreDotsOf replicas seen
+  pub few : set.len seen ≤ MOST_DOTS
+  pub many : BeginsWithTooManyDots replicas after
+  pub spelled : bytes ≡ dots_text seen ++ after
+
+-- one of the two sets stands to its end and is above the cap
+abbrev pub HasTooManyInDigest : ℕ → List ℕ → Type 0
+HasTooManyInDigest replicas bytes = BeginsWithTooManyDots replicas bytes ⊎ HasTooManyLive replicas bytes
+
+-- a digest of so many replicas
+abbrev pub digest_kind : ℕ → Kind DigestValue
+digest_kind replicas = record { is_value = IsDigestOf replicas; text = digest_text; has_too_many = HasTooManyInDigest replicas }

@@ -2,7 +2,8 @@
 ghost use Rattle.std.specs.Prelude.{◌≡◌, ◌≤◌, ◌<◌, ◌*◌, ◌^◌, length};
 ghost use Rattle.std.specs.Int.{w32, w64};
 ghost use Rattle.std.specs.List.{flat_map};
-ghost use Rattle.rds_codec.specs.CertificateTexts.{run_text, which_byte, claim_text, row_text, certificate_text, claimed_dot_at, ends_at, run_at, dead_at, which_at, amount_at, claim_at, counter_at, number_claim_at, tagged_row_at, row_at, certificate_at};
+ghost use Rattle.rds_codec.specs.CertificateTexts.{run_text, which_byte, claim_text, row_text, certificate_text, claimed_dot_at, ends_at, run_at, dead_at, which_at, amount_at, claim_at, counter_at, number_claim_at, tagged_row_at, row_at, certificate_at, certificate_kind};
+ghost use Rattle.rds_codec.specs.Decoding.{Decodes};
 ghost use Rattle.rds_codec.specs.Reading.{Gives, byte_at, number_at, when_at, is_between, all_of};
 ghost use Rattle.rds_codec.specs.Spelling.{byte_text, dot_text};
 ghost use Rattle.rds_codec.specs.Writing.{Adds, Encodes};
@@ -193,11 +194,9 @@ fn read_all(alloc: Global, replicas: u16, bytes: &[u8]) -> Result<Certificate, F
 /// The bytes are read from the left, and each part is judged as soon as it is there. Refused are bytes above the
 /// limit (`TooLong`, before anything is read); bytes that go on after a text (`Extra`); and other bytes that are no
 /// text: `Cut` where they end inside a part, `Bad` where a part that is there is none.
-pub fn decode_certificate(
-    alloc: Global,
-    replicas: u16,
-    bytes: &[u8],
-) -> Result<Certificate, Fault> {
+pub fn decode_certificate(alloc: Global, replicas: u16, bytes: &[u8]) -> Result<Certificate, Fault>
+    ensures { Decodes (certificate_kind replicas) bytes.now result }
+{
     if LIMIT < bytes.len() {
         return Err(Fault::TooLong);
     }

@@ -1,7 +1,8 @@
 //! The text of a digest: the dots that were seen, those of them that are live, and the counters.
 ghost use Rattle.std.specs.Prelude.{◌≡◌, ◌≤◌, length};
 ghost use Rattle.rds_dots.specs.Runs.{runs_of};
-ghost use Rattle.rds_codec.specs.DigestTexts.{digest_text, live_dots_at, digest_at};
+ghost use Rattle.rds_codec.specs.Decoding.{Decodes};
+ghost use Rattle.rds_codec.specs.DigestTexts.{digest_text, live_dots_at, digest_at, digest_kind};
 ghost use Rattle.rds_codec.specs.DotRows.{rows_from};
 ghost use Rattle.rds_codec.specs.Reading.{Gives, all_of};
 ghost use Rattle.rds_codec.specs.Writing.{Adds, Encodes};
@@ -72,7 +73,9 @@ pub fn decode_digest<S: DotSet>(
     alloc: Global,
     replicas: u16,
     bytes: &[u8],
-) -> Result<Digest<S>, Fault> {
+) -> Result<Digest<S>, Fault>
+    ensures { Decodes (digest_kind replicas) bytes.now result }
+{
     if LIMIT < bytes.len() {
         return Err(Fault::TooLong);
     }

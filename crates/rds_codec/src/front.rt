@@ -114,8 +114,9 @@ fn read_names(alloc: Global, bytes: &[u8]) -> Result<(Vec<Name>, &[u8]), Fault>
     Ok((names, rest))
 }
 
+/// A roster.
 #[tactic(auto, unfolding(crate::specs::Reading::roster_at))]
-fn read_roster(alloc: Global, bytes: &[u8]) -> Result<(Roster, &[u8]), Fault>
+pub fn read_roster(alloc: Global, bytes: &[u8]) -> Result<(Roster, &[u8]), Fault>
     ensures { Gives (λ x. (x.0, x.1.now)) result (roster_at bytes.now) }
 {
     let (group, rest) = read_key(alloc, bytes)?;

@@ -1,7 +1,7 @@
 //! The lengths of texts.
 ghost use Rattle.std.specs.Prelude.{◌≡◌, ℕ, ◌+◌, ◌*◌, ◌≤◌, length};
 ghost use Rattle.std.specs.List.{flat_map};
-ghost use Rattle.rds_codec.specs.Spelling.{short_text, scalar_text, entry_text, live_row_text, count_row_text, names_text, front_text};
+ghost use Rattle.rds_codec.specs.Spelling.{short_text, scalar_text, entry_text, live_row_text, count_row_text, names_text, roster_text, front_text};
 
 use rds_counts::CountRow;
 use rds_dots::Dot;
@@ -98,10 +98,18 @@ fn names_length(roster: &Roster) -> usize
     total
 }
 
+/// The length of the text of a roster.
+pub fn roster_length(roster: &Roster) -> usize
+    ensures length { result ≡ length (roster_text roster.now) }
+    ensures most { result ≤ 4419 }
+{
+    key_length(roster.group()) + names_length(roster)
+}
+
 /// The length of all that stands before the dots.
 pub fn front_length(roster: &Roster) -> usize
     ensures length { (own : ℕ) → result ≡ length (front_text roster.now own) }
     ensures most { result ≤ 4424 }
 {
-    5 + key_length(roster.group()) + names_length(roster)
+    5 + roster_length(roster)
 }

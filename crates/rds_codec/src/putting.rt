@@ -197,12 +197,19 @@ fn put_names(out: &mut Vec<u8>, roster: &Roster) -> Result<(), AllocError>
     Ok(())
 }
 
+/// A roster.
+pub fn put_roster(out: &mut Vec<u8>, roster: &Roster) -> Result<(), AllocError>
+    ensures { Adds out.old.items out.new.items (roster_text roster.now) result }
+{
+    put_key(out, roster.group())?;
+    put_names(out, roster)
+}
+
 /// All that stands before the dots.
 pub fn put_front(out: &mut Vec<u8>, roster: &Roster, own: u8) -> Result<(), AllocError>
     ensures { Adds out.old.items out.new.items (front_text roster.now own) result }
 {
     put(out, MAGIC)?;
-    put_key(out, roster.group())?;
-    put_names(out, roster)?;
+    put_roster(out, roster)?;
     put_byte(out, own)
 }
