@@ -1,5 +1,5 @@
 -- The text of a certificate, how it is read, and which certificates have one.
-use Rattle.std.specs.Prelude.{◌≡◌, ◌≤◌, ◌<◌, ℕ, ⊥, true, ◌==◌, if◌then◌else◌, List, ◌∷◌, ◌++◌, length, Result, Err}
+use Rattle.std.specs.Prelude.{◌≡◌, ◌≤◌, ◌<◌, ℕ, true, ◌==◌, if◌then◌else◌, List, ◌∷◌, ◌++◌, length, Result, Err}
 use Rattle.std.specs.List.{AllByRecursion, flat_map}
 use Rattle.std.specs.Int.{w32, w64, to_be_bytes}
 use Rattle.rds_names.specs.declared.fault.Fault.{Fault}

@@ -4,6 +4,7 @@ use Rattle.rds_names.specs.declared.fault.Fault.{Fault}
 use Rattle.rds_names.specs.declared.fault.Fault.TheVariants.{Memory, Cut, Bad, Extra, TooLong, TooManyDots}
 use Rattle.rds_codec.specs.declared.limits.TheConstants.{LIMIT}
 use Rattle.rds_codec.specs.Kinds.{Kind}
+use Rattle.rds_codec.specs.Reading.{Reader, Gives, all_of}
 
 -- the bytes are the value's text
 pub record IsTextOf {V : Type 0} (kind : Kind V) (bytes : List ℕ) (v : V) : Type 0 where
@@ -21,6 +22,10 @@ pub record BeginsWithText {V : Type 0} (kind : Kind V) (bytes : List ℕ) : Type
 -- the answer, unless memory ran out
 abbrev pub Answers : {V : Type 0} → Result V Fault → Result V Fault → Type 0
 Answers result wanted = (result ≡ wanted) ⊎ (result ≡ Err Memory)
+
+-- within the limit, what reading all of the bytes from the left gives, unless memory ran out
+abbrev pub ReadsAll : {V : Type 0} → Reader V → List ℕ → Result V Fault → Type 0
+ReadsAll reader bytes result = length bytes ≤ LIMIT → Gives (λ v. v) result (all_of reader bytes)
 
 -- a refusal that has no clause of its own
 abbrev pub IsOtherFault : Fault → Type 0

@@ -7,7 +7,7 @@ use Rattle.rds_state.specs.Fits.{ReplicaValue}
 use Rattle.rds_state.specs.Value.{StateValue}
 use Rattle.rds_codec.specs.declared.limits.TheConstants.{MOST_DOTS}
 use Rattle.rds_codec.specs.Spelling.{front_text, dots_text, state_text, snapshot_text}
-use Rattle.rds_codec.specs.Values.{IsFront, AreDotsOf, IsStateOf, IsSnapshot}
+use Rattle.rds_codec.specs.Values.{IsMember, AreDotsOf, IsStateOf, IsSnapshot}
 
 -- which values have a text, what it is, and which bytes hold more dots than are read
 pub record Kind (V : Type 0) : Type 1 where
@@ -28,7 +28,7 @@ pub record HasTooManyDots (bytes : List ℕ) : Type 0 where
   pub roster : RosterValue
   pub own : ℕ
   pub after : List ℕ
-  pub front : IsFront roster own
+  pub member : IsMember roster own
   pub many : BeginsWithTooManyDots (length roster.names) after
   pub spelled : bytes ≡ front_text roster own ++ after
 

@@ -1,4 +1,5 @@
 pub mod AnswerTexts
+pub mod AnswerValues
 pub mod CertificateTexts
 pub mod Decoding
 pub mod DigestTexts

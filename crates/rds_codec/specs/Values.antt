@@ -24,7 +24,7 @@ abbrev pub is_key_text : List ℕ → Bool
 is_key_text t = is_utf8 t && is_key t
 
 -- the roster holds a key and different names, and the replica is one of it
-pub record IsFront (roster : RosterValue) (own : ℕ) : Type 0 where
+pub record IsMember (roster : RosterValue) (own : ℕ) : Type 0 where
   pub group : is_key_text roster.group ≡ true
   pub each_name : list_all is_name roster.names ≡ true
   pub names : are_names roster.names ≡ true
@@ -65,5 +65,5 @@ pub record IsStateOf (replicas : ℕ) (v : StateValue) : Type 0 where
   pub counts : AreCountsOf replicas v.counts
 
 pub record IsSnapshot (v : ReplicaValue) : Type 0 where
-  pub front : IsFront v.roster v.own
+  pub member : IsMember v.roster v.own
   pub state : IsStateOf (length v.roster.names) v.state

@@ -1,17 +1,16 @@
 //! The text of an answer: who asked, the delta, and its certificate.
-ghost use Rattle.std.specs.Prelude.{◌≡◌, ◌≤◌, length};
-ghost use Rattle.rds_delta.specs.declared.row.Row.{Row};
+ghost use Rattle.std.specs.Prelude.{◌≡◌, ◌≤◌, ℕ, length};
 ghost use Rattle.rds_dots.specs.Runs.{runs_of};
 ghost use Rattle.rds_life.specs.Life.{seen_of};
-ghost use Rattle.rds_codec.specs.AnswerTexts.{answer_by, answer_text, answer_at, answer_kind};
-ghost use Rattle.rds_codec.specs.Decoding.{Decodes};
+ghost use Rattle.rds_codec.specs.AnswerTexts.{answer, answer_text, answer_at, answer_kind};
+ghost use Rattle.rds_codec.specs.Decoding.{Decodes, ReadsAll};
 ghost use Rattle.rds_codec.specs.DotRows.{rows_from};
 ghost use Rattle.rds_codec.specs.Reading.{Gives, all_of};
 ghost use Rattle.rds_codec.specs.Writing.{Adds, Encodes};
 
 use crate::certificates::{certificate_length, put_certificate, read_certificate};
 use crate::front::read_replica;
-use crate::limits::LIMIT;
+use crate::limits::{LIMIT, room_for};
 use crate::putting::put_byte;
 use crate::states::{measure_state, put_state, read_state};
 use rds_delta::Certificate;
@@ -19,6 +18,7 @@ use rds_dots::DotSet;
 use rds_names::Fault;
 use rds_state::State;
 use std::alloc::{AllocError, Global};
+use std::marker::Model;
 
 /// What answers a digest: the delta for the replica that asked, and the certificate of it.
 #[derive(Drop)]
@@ -29,6 +29,16 @@ pub struct Answer<S: DotSet> {
     pub state: State<S>,
     /// What the digest has in place of each component of the delta.
     pub certificate: Certificate,
+}
+
+impl<S: DotSet> Model for Answer<S> {
+    ghost use Rattle.rds_codec.specs.AnswerValues.{AnswerValue, coded_answer};
+
+    ghost Value = { AnswerValue };
+
+    ghost coded = { coded_answer };
+
+    ghost view = { λ a. record { asker = a.asker; state = a.state; certificate = a.certificate } };
 }
 
 /// An answer of so many replicas.
@@ -73,7 +83,8 @@ pub fn decode_answer<S: DotSet>(
     replicas: u16,
     bytes: &[u8],
 ) -> Result<Answer<S>, Fault>
-    ensures { Decodes (answer_kind replicas) bytes.now result }
+    ensures text { Decodes (answer_kind replicas) bytes.now result }
+    ensures read { ReadsAll (answer_at replicas) bytes.now result }
 {
     if LIMIT < bytes.len() {
         return Err(Fault::TooLong);
@@ -84,7 +95,7 @@ pub fn decode_answer<S: DotSet>(
 /// The number of rows of the delta's seen dots, and the length of the text.
 fn measure<S: DotSet>(state: &State<S>, certificate: &Certificate) -> (u16, u128)
     ensures rows { result.0 ≡ length (rows_from 0 (runs_of (seen_of state.now.lives))) }
-    ensures length { (asker : ℕ) → result.1 ≡ length (answer_text (answer_by (asker, (state.now, certificate.now)))) }
+    ensures length { (asker : ℕ) → result.1 ≡ length (answer_text (answer asker state.now certificate.now)) }
 {
     let (rows, state_length) = measure_state(state);
     (rows, 1 + state_length + certificate_length(certificate))
@@ -98,8 +109,8 @@ fn put_answer<S: DotSet>(
     certificate: &Certificate,
 ) -> Result<(), AllocError>
     requires rows { rows ≡ length (rows_from 0 (runs_of (seen_of state.now.lives))) }
-    requires within { length (answer_text (answer_by (asker, (state.now, certificate.now)))) ≤ LIMIT }
-    ensures { Adds out.old.items out.new.items (answer_text (answer_by (asker, (state.now, certificate.now)))) result }
+    requires within { length (answer_text (answer asker state.now certificate.now)) ≤ LIMIT }
+    ensures { Adds out.old.items out.new.items (answer_text (answer asker state.now certificate.now)) result }
 {
     put_byte(out, asker)?;
     put_state(out, state, rows)?;
@@ -115,13 +126,10 @@ pub fn encode_answer<S: DotSet>(
     state: &State<S>,
     certificate: &Certificate,
 ) -> Result<Vec<u8>, Fault>
-    ensures { Encodes (answer_text (answer_by (asker, (state.now, certificate.now)))) result }
+    ensures { Encodes (answer_text (answer asker state.now certificate.now)) result }
 {
     let (rows, length) = measure(state, certificate);
-    if u128::from(LIMIT as u64) < length {
-        return Err(Fault::TooLong);
-    }
-    let mut out = Vec::with_capacity(alloc, length as usize)?;
+    let mut out = room_for(alloc, length)?;
     put_answer(&mut out, asker, state, rows, certificate)?;
     Ok(out)
 }

@@ -3,13 +3,13 @@ ghost use Rattle.std.specs.Prelude.{◌≡◌, ◌≤◌, ◌<◌, ◌*◌, ◌^
 ghost use Rattle.std.specs.Int.{w32, w64};
 ghost use Rattle.std.specs.List.{flat_map};
 ghost use Rattle.rds_codec.specs.CertificateTexts.{run_text, which_byte, claim_text, row_text, certificate_text, claimed_dot_at, ends_at, run_at, dead_at, which_at, amount_at, claim_at, counter_at, number_claim_at, tagged_row_at, row_at, certificate_at, certificate_kind};
-ghost use Rattle.rds_codec.specs.Decoding.{Decodes};
+ghost use Rattle.rds_codec.specs.Decoding.{Decodes, ReadsAll};
 ghost use Rattle.rds_codec.specs.Reading.{Gives, byte_at, number_at, when_at, is_between, all_of};
 ghost use Rattle.rds_codec.specs.Spelling.{byte_text, dot_text};
 ghost use Rattle.rds_codec.specs.Writing.{Adds, Encodes};
 
 use crate::front::{read_key, read_replica};
-use crate::limits::LIMIT;
+use crate::limits::{LIMIT, room_for};
 use crate::list::{PartReader, read_parts};
 use crate::measuring::key_length;
 use crate::numbers::{read_byte, read_length, read_u32, read_u64};
@@ -195,7 +195,8 @@ fn read_all(alloc: Global, replicas: u16, bytes: &[u8]) -> Result<Certificate, F
 /// limit (`TooLong`, before anything is read); bytes that go on after a text (`Extra`); and other bytes that are no
 /// text: `Cut` where they end inside a part, `Bad` where a part that is there is none.
 pub fn decode_certificate(alloc: Global, replicas: u16, bytes: &[u8]) -> Result<Certificate, Fault>
-    ensures { Decodes (certificate_kind replicas) bytes.now result }
+    ensures text { Decodes (certificate_kind replicas) bytes.now result }
+    ensures read { ReadsAll (certificate_at replicas) bytes.now result }
 {
     if LIMIT < bytes.len() {
         return Err(Fault::TooLong);
@@ -319,11 +320,7 @@ pub fn put_certificate(out: &mut Vec<u8>, certificate: &Certificate) -> Result<(
 pub fn encode_certificate(alloc: Global, certificate: &Certificate) -> Result<Vec<u8>, Fault>
     ensures { Encodes (certificate_text certificate.now) result }
 {
-    let length = certificate_length(certificate);
-    if u128::from(LIMIT as u64) < length {
-        return Err(Fault::TooLong);
-    }
-    let mut out = Vec::with_capacity(alloc, length as usize)?;
+    let mut out = room_for(alloc, certificate_length(certificate))?;
     put_certificate(&mut out, certificate)?;
     Ok(out)
 }

@@ -1,18 +1,18 @@
 //! The text of a digest: the dots that were seen, those of them that are live, and the counters.
 ghost use Rattle.std.specs.Prelude.{◌≡◌, ◌≤◌, length};
 ghost use Rattle.rds_dots.specs.Runs.{runs_of};
-ghost use Rattle.rds_codec.specs.Decoding.{Decodes};
+ghost use Rattle.rds_codec.specs.Decoding.{Decodes, ReadsAll};
 ghost use Rattle.rds_codec.specs.DigestTexts.{digest_text, live_dots_at, digest_at, digest_kind};
 ghost use Rattle.rds_codec.specs.DotRows.{rows_from};
 ghost use Rattle.rds_codec.specs.Reading.{Gives, all_of};
 ghost use Rattle.rds_codec.specs.Writing.{Adds, Encodes};
 
 use crate::counters::read_counters;
-use crate::limits::LIMIT;
-use crate::measuring::count_rows_length;
-use crate::putting::put_count_rows;
+use crate::limits::{LIMIT, room_for};
+use crate::measuring::counters_length;
+use crate::putting::put_counters;
 use crate::rows::read_dots;
-use crate::walking::{measure_rows, put_dots};
+use crate::walking::{measure_dots, put_dots};
 use rds_delta::{Digest, is_inside};
 use rds_dots::DotSet;
 use rds_names::Fault;
@@ -74,7 +74,8 @@ pub fn decode_digest<S: DotSet>(
     replicas: u16,
     bytes: &[u8],
 ) -> Result<Digest<S>, Fault>
-    ensures { Decodes (digest_kind replicas) bytes.now result }
+    ensures text { Decodes (digest_kind replicas) bytes.now result }
+    ensures read { ReadsAll (digest_at replicas) bytes.now result }
 {
     if LIMIT < bytes.len() {
         return Err(Fault::TooLong);
@@ -88,12 +89,11 @@ fn measure<S: DotSet>(digest: &Digest<S>) -> ((u16, u16), u128)
     ensures live { result.0.1 ≡ length (rows_from 0 (runs_of digest.now.live)) }
     ensures length { result.1 ≡ length (digest_text digest.now) }
 {
-    let (seen_rows, seen_length) = measure_rows(digest.seen());
-    let (live_rows, live_length) = measure_rows(digest.live());
-    let counters_length = count_rows_length(digest.counts().rows());
+    let (seen_rows, seen_length) = measure_dots(digest.seen());
+    let (live_rows, live_length) = measure_dots(digest.live());
     (
         (seen_rows, live_rows),
-        2 + seen_length + 2 + live_length + 4 + counters_length,
+        seen_length + live_length + counters_length(digest.counts()),
     )
 }
 
@@ -110,7 +110,7 @@ fn put_digest<S: DotSet>(
 {
     put_dots(out, digest.seen(), seen_rows)?;
     put_dots(out, digest.live(), live_rows)?;
-    put_count_rows(out, digest.counts().rows())
+    put_counters(out, digest.counts())
 }
 
 /// The digest's text. Above the limit it is refused (`TooLong`) before any memory is taken; then all memory that
@@ -119,10 +119,7 @@ pub fn encode_digest<S: DotSet>(alloc: Global, digest: &Digest<S>) -> Result<Vec
     ensures { Encodes (digest_text digest.now) result }
 {
     let ((seen_rows, live_rows), length) = measure(digest);
-    if u128::from(LIMIT as u64) < length {
-        return Err(Fault::TooLong);
-    }
-    let mut out = Vec::with_capacity(alloc, length as usize)?;
+    let mut out = room_for(alloc, length)?;
     put_digest(&mut out, digest, seen_rows, live_rows)?;
     Ok(out)
 }

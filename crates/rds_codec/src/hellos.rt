@@ -1,15 +1,15 @@
 //! The text of a hello, by which a session begins.
-ghost use Rattle.std.specs.Prelude.{◌≡◌, ◌≤◌, length};
-ghost use Rattle.rds_codec.specs.Decoding.{Decodes};
-ghost use Rattle.rds_codec.specs.HelloTexts.{hello_text, version_at, member_at, hello_at, hello_kind};
+ghost use Rattle.std.specs.Prelude.{◌≡◌, length};
+ghost use Rattle.rds_codec.specs.Decoding.{Decodes, ReadsAll};
+ghost use Rattle.rds_codec.specs.HelloTexts.{hello_text, version_at, hello_at, hello_kind};
 ghost use Rattle.rds_codec.specs.Reading.{Gives, all_of};
 ghost use Rattle.rds_codec.specs.Writing.{Adds, Encodes};
 
-use crate::front::{read_replica, read_roster};
-use crate::limits::LIMIT;
-use crate::measuring::roster_length;
+use crate::front::read_member;
+use crate::limits::{LIMIT, room_for};
+use crate::measuring::member_length;
 use crate::numbers::read_byte;
-use crate::putting::{put_byte, put_roster};
+use crate::putting::{put_byte, put_member};
 use rds_names::{Fault, Roster};
 use std::alloc::{AllocError, Global};
 
@@ -36,16 +36,6 @@ fn read_version(bytes: &[u8]) -> Result<(u8, &[u8]), Fault>
         return Err(Fault::Bad);
     }
     Ok((version, rest))
-}
-
-/// A roster, and the number of one of its replicas.
-#[tactic(auto, unfolding(crate::specs::HelloTexts::member_at))]
-fn read_member(alloc: Global, bytes: &[u8]) -> Result<((Roster, u8), &[u8]), Fault>
-    ensures { Gives (λ x. (x.0, x.1.now)) result (member_at bytes.now) }
-{
-    let (roster, rest) = read_roster(alloc, bytes)?;
-    let (own, rest) = read_replica(roster.len(), rest)?;
-    Ok(((roster, own), rest))
 }
 
 #[tactic(auto, unfolding(crate::specs::HelloTexts::hello_at))]
@@ -78,7 +68,8 @@ fn read_all(alloc: Global, bytes: &[u8]) -> Result<Hello, Fault>
 /// limit (`TooLong`, before anything is read); bytes that go on after a text (`Extra`); and other bytes that are no
 /// text: `Cut` where they end inside a part, `Bad` where a part that is there is none.
 pub fn decode_hello(alloc: Global, bytes: &[u8]) -> Result<Hello, Fault>
-    ensures { Decodes hello_kind bytes.now result }
+    ensures text { Decodes hello_kind bytes.now result }
+    ensures read { ReadsAll hello_at bytes.now result }
 {
     if LIMIT < bytes.len() {
         return Err(Fault::TooLong);
@@ -90,16 +81,14 @@ fn put_hello(out: &mut Vec<u8>, hello: &Hello) -> Result<(), AllocError>
     ensures { Adds out.old.items out.new.items (hello_text hello.now) result }
 {
     put_byte(out, hello.version)?;
-    put_roster(out, &hello.roster)?;
-    put_byte(out, hello.own)
+    put_member(out, &hello.roster, hello.own)
 }
 
 /// The length of the text.
-fn measure(hello: &Hello) -> usize
-    ensures length { result ≡ length (hello_text hello.now) }
-    ensures most { result ≤ 4424 }
+fn measure(hello: &Hello) -> u128
+    ensures { result ≡ length (hello_text hello.now) }
 {
-    2 + roster_length(&hello.roster)
+    1 + member_length(&hello.roster) as u128
 }
 
 /// The hello's text, which is read again where its version is [`VERSION`] and its own number is below the roster's
@@ -107,7 +96,7 @@ fn measure(hello: &Hello) -> usize
 pub fn encode_hello(alloc: Global, hello: &Hello) -> Result<Vec<u8>, Fault>
     ensures { Encodes (hello_text hello.now) result }
 {
-    let mut out = Vec::with_capacity(alloc, measure(hello))?;
+    let mut out = room_for(alloc, measure(hello))?;
     put_hello(&mut out, hello)?;
     Ok(out)
 }

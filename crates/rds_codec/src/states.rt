@@ -2,7 +2,7 @@
 ghost use Rattle.std.specs.Prelude.{◌≡◌, ◌≤◌, ◌^◌, length};
 ghost use Rattle.rds_dots.specs.Runs.{runs_of};
 ghost use Rattle.rds_life.specs.Life.{seen_of};
-ghost use Rattle.rds_codec.specs.Decoding.{Decodes};
+ghost use Rattle.rds_codec.specs.Decoding.{Decodes, ReadsAll};
 ghost use Rattle.rds_codec.specs.Kinds.{state_kind};
 ghost use Rattle.rds_codec.specs.DotRows.{rows_from};
 ghost use Rattle.rds_codec.specs.Reading.{Gives, state_at, all_of};
@@ -11,11 +11,11 @@ ghost use Rattle.rds_codec.specs.Writing.{Adds, Encodes};
 
 use crate::counters::read_counters;
 use crate::entries::read_live_rows;
-use crate::limits::LIMIT;
-use crate::measuring::{count_rows_length, live_rows_length};
-use crate::putting::{put_count_rows, put_live_rows};
+use crate::limits::{LIMIT, room_for};
+use crate::measuring::{counters_length, live_rows_length};
+use crate::putting::{put_counters, put_live_rows};
 use crate::rows::read_dots;
-use crate::walking::{measure_rows, put_dots};
+use crate::walking::{measure_dots, put_dots};
 use rds_dots::DotSet;
 use rds_life::Lives;
 use rds_names::Fault;
@@ -47,12 +47,11 @@ pub fn measure_state<S: DotSet>(state: &State<S>) -> (u16, u128)
     ensures few { result.1 ≤ 2 ^ 101 }
 {
     let lives = state.lives();
-    let (rows, dots_length) = measure_rows(lives.seen());
-    let live_length = live_rows_length(lives.live().as_slice());
-    let counters_length = count_rows_length(state.counts().rows());
+    let (rows, dots_length) = measure_dots(lives.seen());
+    let live_length = 4 + live_rows_length(lives.live().as_slice());
     (
         rows,
-        2 + dots_length + 4 + live_length + 4 + counters_length,
+        dots_length + live_length + counters_length(state.counts()),
     )
 }
 
@@ -69,7 +68,7 @@ pub fn put_state<S: DotSet>(
     let lives = state.lives();
     put_dots(out, lives.seen(), rows)?;
     put_live_rows(out, lives.live().as_slice())?;
-    put_count_rows(out, state.counts().rows())
+    put_counters(out, state.counts())
 }
 
 fn read_all<S: DotSet>(alloc: Global, replicas: u16, bytes: &[u8]) -> Result<State<S>, Fault>
@@ -90,7 +89,8 @@ pub fn decode_state<S: DotSet>(
     replicas: u16,
     bytes: &[u8],
 ) -> Result<State<S>, Fault>
-    ensures { Decodes (state_kind replicas) bytes.now result }
+    ensures text { Decodes (state_kind replicas) bytes.now result }
+    ensures read { ReadsAll (state_at replicas) bytes.now result }
 {
     if LIMIT < bytes.len() {
         return Err(Fault::TooLong);
@@ -104,10 +104,7 @@ pub fn encode_state<S: DotSet>(alloc: Global, state: &State<S>) -> Result<Vec<u8
     ensures { Encodes (state_text state.now) result }
 {
     let (rows, length) = measure_state(state);
-    if u128::from(LIMIT as u64) < length {
-        return Err(Fault::TooLong);
-    }
-    let mut out = Vec::with_capacity(alloc, length as usize)?;
+    let mut out = room_for(alloc, length)?;
     put_state(&mut out, state, rows)?;
     Ok(out)
 }

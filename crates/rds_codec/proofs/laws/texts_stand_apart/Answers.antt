@@ -1,6 +1,7 @@
 use Rattle.rds_codec.specs.Kinds.{state_kind, snapshot_kind}
 use Rattle.rds_codec.specs.Reading.{state_at, snapshot_at}
-use Rattle.rds_codec.proofs.SnapshotFormats.{state_reader, snapshot_reader}
+use Rattle.rds_codec.proofs.SnapshotFormats.{snapshot_reader}
+use Rattle.rds_codec.proofs.StateFormats.{state_reader}
 use Rattle.rds_codec.proofs.Whole.{stand_apart}
 use Rattle.rds_codec.proofs.laws.texts_stand_apart.Goals as goal
 
