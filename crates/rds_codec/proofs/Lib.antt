@@ -22,6 +22,7 @@ mod RowSets
 mod RowsLive
 mod RowsRead
 mod RunSteps
+mod Sequences
 mod SnapshotFormats
 mod StateFormats
 mod Subsets
