@@ -7,6 +7,7 @@ mod DotFormats
 mod EntryFormats
 mod EntryParts
 mod Format
+mod HaveTexts
 mod HelloFormats
 mod LargeParts
 mod Lengths
