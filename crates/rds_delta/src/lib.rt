@@ -18,3 +18,6 @@ pub use deltas::delta;
 pub use digest::Digest;
 pub use laws::{checked_delta_laws, friends_exchange_deltas, least_delta_laws};
 pub use row::{Certificate, Row};
+
+#[cfg(test)]
+mod tests;
