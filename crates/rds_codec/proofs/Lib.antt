@@ -1,10 +1,15 @@
 mod Adding
+mod AnswerFormats
+mod CertificateFormats
 mod CounterFormats
+mod DigestFormats
 mod DotFormats
 mod EntryFormats
 mod EntryParts
 mod Format
 mod HaveTexts
+mod HelloFormats
+mod LargeParts
 mod Lengths
 mod Lists
 mod LiveFormats
@@ -18,8 +23,10 @@ mod RowSets
 mod RowsLive
 mod RowsRead
 mod RunSteps
+mod Sequences
 mod SnapshotFormats
 mod StateFormats
+mod Subsets
 mod Texts
 mod Whole
 mod Within
