@@ -12,7 +12,7 @@ use Rattle.rds_state.specs.Coordinates.{Coordinates, AreCompatible}
 use Rattle.rds_state.specs.Fits.{Fits}
 use Rattle.rds_state.specs.Friends.{AreFriends, KnowsItsOwn}
 use Rattle.rds_state.specs.Value.{StateValue, coordinates}
-use Rattle.rds_state.proofs.FriendLemmas.{known_is_taken}
+use Rattle.rds_state.proofs.FriendLemmas.{may_take_is_taken}
 use Rattle.rds_delta.specs.Least.{least}
 use Rattle.rds_delta.specs.Ranks.{Ranks, life_rank}
 use Rattle.rds_delta.proofs.LeastLaws.{compatible_sym, compatible_least}
@@ -42,7 +42,9 @@ least_known own its a b knows = record {
 
 pub least_is_taken : (left right : ℕ) (a b d : StateValue) (asked : Ranks) (answer : Result (Unit {0}) Fault) → AreFriends left (coordinates a) right (coordinates b) → coordinates d ≡ least (coordinates a) asked → TakeGives b right d answer → (answer ≡ Ok tt) ⊎ (answer ≡ Err Memory)
 least_is_taken left right a b d asked answer friends is gives =
-    known_is_taken right b d answer
-    (subst (AreCompatible (coordinates b)) (sym is) (compatible_least (coordinates a) asked (coordinates b) (compatible_sym (coordinates a) (coordinates b) friends.compatible)))
-    (subst (KnowsItsOwn right (coordinates b)) (sym is) (least_known right (coordinates b) (coordinates a) asked friends.right_knows))
+    may_take_is_taken right b d answer
+    (record {
+      compatible = subst (AreCompatible (coordinates b)) (sym is) (compatible_least (coordinates a) asked (coordinates b) (compatible_sym (coordinates a) (coordinates b) friends.compatible));
+      knows = subst (KnowsItsOwn right (coordinates b)) (sym is) (least_known right (coordinates b) (coordinates a) asked friends.right_knows);
+    })
     gives

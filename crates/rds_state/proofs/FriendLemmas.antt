@@ -81,7 +81,6 @@ never_ahead own a d knows (Seq n) ahead = false≢true (sym ahead.lacking ∙ kn
 never_ahead own a d knows (Plus n) ahead = differ _ (sym (no_number own a d knows) ∙ ahead.1)
 never_ahead own a d knows (Minus n) ahead = differ _ (sym (no_number own a d knows) ∙ ahead.1)
 
-<<<<<<< HEAD
 -- what a replica may take is taken
 pub may_take_is_taken : (own : ℕ) (a d : StateValue) (answer : Result (Unit {0}) Fault) → MayTake own (coordinates a) (coordinates d) → TakeGives a own d answer → (answer ≡ Ok tt) ⊎ (answer ≡ Err Memory)
 may_take_is_taken own a d (Ok x) may gives = inl refl
@@ -92,15 +91,3 @@ may_take_is_taken own a d (Err f) may gives = absurd gives.1
 
 pub friends_are_taken : (own peer : ℕ) (a d : StateValue) (answer : Result (Unit {0}) Fault) → AreFriends own (coordinates a) peer (coordinates d) → TakeGives a own d answer → (answer ≡ Ok tt) ⊎ (answer ≡ Err Memory)
 friends_are_taken own peer a d answer friends gives = may_take_is_taken own a d answer (record { compatible = friends.compatible; knows = friends.left_knows }) gives
-=======
--- all of the replica's own that the delta has is here
-pub known_is_taken : (own : ℕ) (a d : StateValue) (answer : Result (Unit {0}) Fault) → AreCompatible (coordinates a) (coordinates d) → KnowsItsOwn own (coordinates a) (coordinates d) → TakeGives a own d answer → (answer ≡ Ok tt) ⊎ (answer ≡ Err Memory)
-known_is_taken own a d (Ok x) compatible knows gives = inl refl
-known_is_taken own a d (Err Memory) compatible knows gives = inr refl
-known_is_taken own a d (Err (OwnAhead o)) compatible knows gives = absurd (never_ahead own a d knows o gives)
-known_is_taken own a d (Err (Conflict r n)) compatible knows gives = absurd (gives.1.here (compatible.each_dot (record { replica = r; seq = n })))
-known_is_taken own a d (Err f) compatible knows gives = absurd gives.1
-
-pub friends_are_taken : (own peer : ℕ) (a d : StateValue) (answer : Result (Unit {0}) Fault) → AreFriends own (coordinates a) peer (coordinates d) → TakeGives a own d answer → (answer ≡ Ok tt) ⊎ (answer ≡ Err Memory)
-friends_are_taken own peer a d answer friends gives = known_is_taken own a d answer friends.compatible friends.left_knows gives
->>>>>>> codec2
