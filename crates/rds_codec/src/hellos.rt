@@ -88,7 +88,7 @@ fn put_hello(out: &mut Vec<u8>, hello: &Hello) -> Result<(), AllocError>
 fn measure(hello: &Hello) -> u128
     ensures { result ≡ length (hello_text hello.now) }
 {
-    1 + member_length(&hello.roster) as u128
+    1 + member_length(&hello.roster, hello.own) as u128
 }
 
 /// The hello's text, which is read again where its version is [`VERSION`] and its own number is below the roster's
