@@ -1,6 +1,7 @@
 mod Adding
 mod AnswerFormats
 mod CertificateFormats
+mod ClaimTexts
 mod CounterFormats
 mod DigestFormats
 mod DotFormats
