@@ -16,6 +16,7 @@ pub use certifying::certificate;
 pub use checking::check;
 pub use deltas::delta;
 pub use digest::Digest;
+pub use inside::is_inside;
 pub use laws::{checked_delta_laws, friends_exchange_deltas, least_delta_laws};
 pub use row::{Certificate, Row};
 
