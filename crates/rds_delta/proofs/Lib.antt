@@ -1,5 +1,6 @@
 pub mod AfterLemmas
 pub mod Appends
+pub mod Bounds
 pub mod ClaimedLemmas
 pub mod DeltaLemmas
 pub mod Digests
