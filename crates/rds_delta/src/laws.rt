@@ -13,8 +13,8 @@ ghost use Rattle.rds_delta.specs.Sized.{HasComponents};
 
 /// Of all that does to a state B what a state A does, the least delta of A against B is the least: it does so to B
 /// and to whatever B has become since, it is a part of A, and it lies below each state that does the same to B, so
-/// that none has fewer components, of which the size is the number (after the decompositions of Enes, Almeida, Baquero, Leitão 2019). The function
-/// does nothing: its contract is these laws.
+/// that none has fewer components, of which the size is the number (after the decompositions of Enes, Almeida,
+/// Baquero, Leitão 2019). The function does nothing: its contract is these laws.
 pub fn least_delta_laws()
     ensures effect { (a b grown : Coordinates) → AtMost b grown → join grown (least a (ranks b)) ≡ join grown a }
     ensures below { (a b c : Coordinates) → AreCompatible b c → join b c ≡ join b a → AtMost (least a (ranks b)) c }
