@@ -42,7 +42,7 @@ ClaimWithin n (OfDead d p) = (d.replica < n) × (is_dot d ≡ true) × (p ≤ 1)
 ClaimWithin n (OfCount q sent peer) = (q.replica < n) × (peer < sent) × (sent ≤ MAX_COUNT)
 
 module _ {X : Type 0} (Q : X → Type 0) where
-  all_append : (xs ys : List X) → AllByRecursion Q xs → AllByRecursion Q ys → AllByRecursion Q (xs ++ ys)
+  pub all_append : (xs ys : List X) → AllByRecursion Q xs → AllByRecursion Q ys → AllByRecursion Q (xs ++ ys)
   all_append [] ys p q = q
   all_append (x ∷ xs) ys p q = (p.0, all_append xs ys p.1 q)
 
@@ -54,7 +54,7 @@ module _ {X : Type 0} (Q : X → Type 0) where
   all_right [] ys p = p
   all_right (x ∷ xs) ys p = all_right xs ys p.1
 
-  all_each : {Y : Type 0} (f : Y → X) (ys : List Y) → AllByRecursion (λ y. Q (f y)) ys → AllByRecursion Q (each f ys)
+  pub all_each : {Y : Type 0} (f : Y → X) (ys : List Y) → AllByRecursion (λ y. Q (f y)) ys → AllByRecursion Q (each f ys)
   all_each f [] p = tt
   all_each f (y ∷ ys) p = (p.0, all_each f ys p.1)
 
@@ -77,7 +77,7 @@ module _ {K X : Type 0} (R : K → K → Ordering) (total : IsTotalOrder R) (exa
     all_found es (and_right (below_all R e.0 es) _ rise) (λ k x found. each k x (still_found e es (and_left _ (is_sorted R es) rise) k x found)),
   )
 
-  all_entries : (m : map.FinMap R X) → ((k : K) (x : X) → map.get m k ≡ Some x → Q (k, x)) → AllByRecursion Q (map.entries m)
+  pub all_entries : (m : map.FinMap R X) → ((k : K) (x : X) → map.get m k ≡ Some x → Q (k, x)) → AllByRecursion Q (map.entries m)
   all_entries m each = all_found (map.entries m) (true_of _ (map.entries_sorted m)) (λ k x found. each k x (map.get-entries m k ∙ found))
 
 -- numbers of rows are within their limit

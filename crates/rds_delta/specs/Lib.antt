@@ -10,3 +10,4 @@ pub mod Parts
 pub mod Ranges
 pub mod Ranks
 pub mod Rest
+pub mod Sized
