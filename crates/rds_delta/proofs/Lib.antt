@@ -1,5 +1,7 @@
 pub mod AfterLemmas
 pub mod Appends
+pub mod Bounds
+pub mod Counting
 pub mod ClaimedLemmas
 pub mod DeltaLemmas
 pub mod Digests

@@ -18,11 +18,11 @@ use Rattle.rds_counts.specs.Counted.{Above, number_from}
 use Rattle.rds_state.specs.Coordinates.{AtMost}
 use Rattle.rds_state.specs.Value.{StateValue, coordinates, size}
 
-true_of : (b : Bool) → T b → b ≡ true
+pub true_of : (b : Bool) → T b → b ≡ true
 true_of true h = refl
 true_of false h = absurd h
 
-equal_of : (o : Ordering) → is_eq o ≡ true → o ≡ Equal
+pub equal_of : (o : Ordering) → is_eq o ≡ true → o ≡ Equal
 equal_of Less h = absurd (false≢true h)
 equal_of Equal h = refl
 equal_of Greater h = absurd (false≢true h)
@@ -34,7 +34,7 @@ module _ {K X : Type 0} (R : K → K → Ordering) (total : IsTotalOrder R) (exa
       and_true _ _ (ap is_lt (total.trans x y e.0 less (less_of (R y e.0) (and_left _ (below_all R y es) below))))
       (less_below x y less es (and_right (is_lt (R y e.0)) _ below))
 
-  no_entry : (x : K) (es : List (K × X)) → below_all R x es ≡ true → find R x es ≡ None
+  pub no_entry : (x : K) (es : List (K × X)) → below_all R x es ≡ true → find R x es ≡ None
   no_entry x [] below = refl
   no_entry x (e ∷ es) below =
       ap (λ o. cond (is_eq o) (Some e.1) (find R x es)) (less_of (R x e.0) (and_left _ (below_all R x es) below))

@@ -9,15 +9,17 @@ ghost use Rattle.rds_state.specs.Friends.{AreFriends};
 ghost use Rattle.rds_state.specs.Value.{StateValue, coordinates, size};
 ghost use Rattle.rds_delta.specs.Least.{IsAbove, least};
 ghost use Rattle.rds_delta.specs.Ranks.{Ranks, ranks};
+ghost use Rattle.rds_delta.specs.Sized.{HasComponents};
 
 /// Of all that does to a state B what a state A does, the least delta of A against B is the least: it does so to B
 /// and to whatever B has become since, it is a part of A, and it lies below each state that does the same to B, so
-/// that none has fewer components (after the decompositions of Enes, Almeida, Baquero, Leitão 2019). The function
-/// does nothing: its contract is these laws.
+/// that none has fewer components, of which the size is the number (after the decompositions of Enes, Almeida,
+/// Baquero, Leitão 2019). The function does nothing: its contract is these laws.
 pub fn least_delta_laws()
     ensures effect { (a b grown : Coordinates) → AtMost b grown → join grown (least a (ranks b)) ≡ join grown a }
     ensures below { (a b c : Coordinates) → AreCompatible b c → join b c ≡ join b a → AtMost (least a (ranks b)) c }
     ensures fewest { (a b c d : StateValue) → coordinates d ≡ least (coordinates a) (ranks (coordinates b)) → AreCompatible (coordinates b) (coordinates c) → join (coordinates b) (coordinates c) ≡ join (coordinates b) (coordinates a) → size d ≤ size c }
+    ensures counted { (v : StateValue) → HasComponents (coordinates v) (size v) }
     ensures part { (a : Coordinates) (b : Ranks) → AtMost (least a b) a }
     ensures above { (a : Coordinates) (b : Ranks) → IsAbove (least a b) b }
     ensures compatible { (a c : Coordinates) (b : Ranks) → AreCompatible c a → AreCompatible c (least a b) }
