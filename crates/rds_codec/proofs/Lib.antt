@@ -7,6 +7,7 @@ mod DigestFormats
 mod DotFormats
 mod EntryFormats
 mod EntryParts
+pub mod ExchangeLemmas
 mod Format
 mod HaveTexts
 mod HelloFormats
