@@ -1,0 +1,11 @@
+pub mod Adding
+pub mod CountedKeys
+pub mod Distinct
+pub mod Growing
+pub mod HereValues
+pub mod Kids
+pub mod Rows
+pub mod SameDocument
+pub mod SameView
+pub mod Walked
+pub mod Witness
