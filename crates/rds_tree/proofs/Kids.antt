@@ -51,7 +51,7 @@ below-under k x [] rest false h = refl
 below-under k x (r ∷ rows) rest true h = rw h (ap (λ es. placed r ∷ es) (below-under k x rows rest true h))
 below-under k x (r ∷ rows) rest false h = rw h (below-under k x rows rest false h)
 
-itself : (k : List ℕ) → same_key k k ≡ true
+pub itself : (k : List ℕ) → same_key k k ≡ true
 itself k = ap is_eq (tied_itself nat_list_cmp_total k)
 
 abbrev IsAt : List (List ℕ × List Row) → List ℕ × List Row → Type 0
@@ -132,10 +132,10 @@ below_path-nil (k ∷ path) = below_path-nil path
 
 -- ---- paths below are no longer
 
-le_less : (a n : ℕ) → leb (suc a) n ≡ true → leb a n ≡ true
+pub le_less : (a n : ℕ) → leb (suc a) n ≡ true → leb a n ≡ true
 le_less a n h = grind (arith, nat_tests)
 
-abbrev fit : ℕ → List Placed → Bool
+abbrev pub fit : ℕ → List Placed → Bool
 fit n es = list_all (λ e. leb (length e.path) n) es
 
 fit-placed : (n : ℕ) (rows : List Row) → fit n (placed_all rows) ≡ fits n rows
@@ -165,7 +165,7 @@ fit-below : (n : ℕ) (k : List ℕ) (es : List Placed) → fit n es ≡ true �
 fit-below n k [] h = refl
 fit-below n k (e ∷ es) h = stepped n k e.path e.kind e.value (below k es) (and_left _ _ h) (fit-below n k es (and_right _ _ h))
 
-fit-below_path : (n : ℕ) (path : List (List ℕ)) (es : List Placed) → fit n es ≡ true → fit n (below_path path es) ≡ true
+pub fit-below_path : (n : ℕ) (path : List (List ℕ)) (es : List Placed) → fit n es ≡ true → fit n (below_path path es) ≡ true
 fit-below_path n [] es h = h
 fit-below_path n (k ∷ path) es h = fit-below_path n path (below k es) (fit-below n k es h)
 

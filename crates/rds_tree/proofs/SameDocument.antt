@@ -22,13 +22,13 @@ use Rattle.rds_tree.specs.View.{counters_at, entries_view, view_of}
 use Rattle.rds_tree.proofs.SameView.{SameMembers, same_below_path, same_entries_view, any-filter_map, passes}
 use Rattle.rds_tree.proofs.Witness.{both_ways, entry_passes, passes_entry}
 
-any-map : {A B : Type 0} (t : B → Bool) (f : A → B) (xs : List A) → list_any t (each f xs) ≡ list_any (λ x. t (f x)) xs
+pub any-map : {A B : Type 0} (t : B → Bool) (f : A → B) (xs : List A) → list_any t (each f xs) ≡ list_any (λ x. t (f x)) xs
 any-map t f [] = refl
 any-map t f (x ∷ xs) = ap (λ b. t (f x) || b) (any-map t f xs)
 
 -- ---- entries
 
-abbrev test_of : Entry → Placed
+abbrev pub test_of : Entry → Placed
 test_of e = record { path = e.path; kind = e.kind; value = e.value }
 
 abbrev at_row : (Placed → Bool) → Dot × Life → Bool
@@ -37,17 +37,17 @@ at_row t x = passes (λ r. t (entry_placed r)) (live_row x.0 x.1)
 any-live : (t : Placed → Bool) (v : Lived) → list_any t (entries_in (live_rows v)) ≡ list_any (at_row t) (map.entries v)
 any-live t v = any-map t entry_placed (live_rows v) ∙ any-filter_map (λ r. t (entry_placed r)) (λ x. live_row x.0 x.1) (map.entries v)
 
-abbrev Shows : (Placed → Bool) → StateValue → Type 0
+abbrev pub Shows : (Placed → Bool) → StateValue → Type 0
 Shows t v = (e : Entry) × (IsLive v e × (t (test_of e) ≡ true))
 
 shows_live : (t : Placed → Bool) (v : StateValue) (d : Dot) (l : Life) → map.get v.lives d ≡ Some l → at_row t (d, l) ≡ true → Shows t v
 shows_live t v d (Live e) got h = (e, ((d, got), h))
 shows_live t v d Dead got h = absurd (cc)
 
-some_shows : (t : Placed → Bool) (v : StateValue) → list_any t (entries_in (live_rows v.lives)) ≡ true → Shows t v
+pub some_shows : (t : Placed → Bool) (v : StateValue) → list_any t (entries_in (live_rows v.lives)) ≡ true → Shows t v
 some_shows t v h = let p = entry_passes dots_total dots_exact (at_row t) v.lives (sym (any-live t v.lives) ∙ h) in shows_live t v p.0 p.1.0 p.1.1.0 p.1.1.1
 
-shown_passes : (t : Placed → Bool) (v : StateValue) → Shows t v → list_any t (entries_in (live_rows v.lives)) ≡ true
+pub shown_passes : (t : Placed → Bool) (v : StateValue) → Shows t v → list_any t (entries_in (live_rows v.lives)) ≡ true
 shown_passes t v s = any-live t v.lives ∙ passes_entry dots_total dots_exact (at_row t) v.lives s.1.0.0 (Live s.0) s.1.0.1 s.1.1
 
 same_shows : (t : Placed → Bool) (v w : StateValue) → ((e : Entry) → IsLive v e → IsLive w e) → Shows t v → Shows t w
@@ -62,10 +62,10 @@ same_live v w same = record {
 
 -- ---- counters
 
-abbrev at_key : (List ℕ → Bool) → Place × Above → Bool
+abbrev pub at_key : (List ℕ → Bool) → Place × Above → Bool
 at_key t e = t e.0.key
 
-abbrev Counts : (List ℕ → Bool) → StateValue → Type 0
+abbrev pub Counts : (List ℕ → Bool) → StateValue → Type 0
 Counts t v = (k : List ℕ) × (IsCounted v k × (t k ≡ true))
 
 above_none : (o : Option Above) (a : Above) → o ≡ Some a → 0 < number_from o
@@ -75,12 +75,12 @@ some_of : (o : Option Above) → 0 < number_from o → (a : Above) × (o ≡ Som
 some_of None lt = absurd (omega arith)
 some_of (Some a) lt = (a, refl)
 
-some_counts : (t : List ℕ → Bool) (v : StateValue) → list_any (at_key t) (map.entries v.counts) ≡ true → Counts t v
+pub some_counts : (t : List ℕ → Bool) (v : StateValue) → list_any (at_key t) (map.entries v.counts) ≡ true → Counts t v
 some_counts t v h =
     let p = entry_passes place_total place_exact (at_key t) v.counts h in
     (p.0.key, ((p.0.replica, (p.0.which, above_none _ p.1.0 p.1.1.0)), p.1.1.1))
 
-counted_passes : (t : List ℕ → Bool) (v : StateValue) → Counts t v → list_any (at_key t) (map.entries v.counts) ≡ true
+pub counted_passes : (t : List ℕ → Bool) (v : StateValue) → Counts t v → list_any (at_key t) (map.entries v.counts) ≡ true
 counted_passes t v s =
     let q = place s.0 s.1.0.0 s.1.0.1.0 in
     let a = some_of (map.get v.counts q) s.1.0.1.1 in

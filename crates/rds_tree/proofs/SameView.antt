@@ -47,7 +47,7 @@ same_keys es fs same = once_same nat_list_cmp_total (slice_cmp-IsAntisymmetric n
 same_values : (kind : Kind) (es fs : List Placed) → SameMembers es fs → values_here kind es ≡ values_here kind fs
 same_values kind es fs same = once_same scalars_total scalars_exact _ _ (λ q. same_picked (λ e. value_here kind e.kind e.value e.path) es fs same (eq_by_cmp scalar_cmp q))
 
-filter_map-map : {X Y Z : Type 0} (h : Y → Option Z) (g : X → Y) (xs : List X) → filter_map h (map g xs) ≡ filter_map (λ x. h (g x)) xs
+pub filter_map-map : {X Y Z : Type 0} (h : Y → Option Z) (g : X → Y) (xs : List X) → filter_map h (map g xs) ≡ filter_map (λ x. h (g x)) xs
 filter_map-map h g [] = refl
 filter_map-map h g (x ∷ xs) = ap (cons_option (h (g x))) (filter_map-map h g xs)
 

@@ -54,10 +54,10 @@ walked_on all left rest c regs sets regs' sets' maps maps' w is r s m =
       of_maps = λ n h. ap (λ xs. xs ++ child_maps n (seen rest)) (m n (both_left _ _ (fit n h))) ∙ pushed maps (child_map n c) _ ∙ ap (λ cs. maps ++ child_maps n (seen cs)) (sym is) ∙ w.of_maps n h;
     }
 
-no_fit : (a : ℕ) (b : Bool) → (leb (suc a) zero && b) ≡ true → ⊥
+pub no_fit : (a : ℕ) (b : Bool) → (leb (suc a) zero && b) ≡ true → ⊥
 no_fit a b h = grind (arith, nat_tests)
 
-suc_le : (a n : ℕ) → leb (suc a) (suc n) ≡ leb a n
+pub suc_le : (a n : ℕ) → leb (suc a) (suc n) ≡ leb a n
 suc_le a n = grind (arith, nat_tests)
 
 and_and : (a b c : Bool) → (a && (b && c)) ≡ ((a && b) && c)

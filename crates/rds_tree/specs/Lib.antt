@@ -9,4 +9,5 @@ pub mod RowWeight
 pub mod SameDocument
 pub mod ScalarOrder
 pub mod Shown
+pub mod Shows
 pub mod View

@@ -13,7 +13,7 @@ use Rattle.std.specs.FinMap as map_of
 abbrev pub marked : {K : Type 0} → List K → List (K × Unit {0})
 marked ks = map (λ k. (k, tt)) ks
 
-firsts-marked : {K : Type 0} (ks : List K) → map (λ e. e.0) (marked ks) ≡ ks
+pub firsts-marked : {K : Type 0} (ks : List K) → map (λ e. e.0) (marked ks) ≡ ks
 firsts-marked [] = refl
 firsts-marked (k ∷ ks) = ap (λ xs. k ∷ xs) (firsts-marked ks)
 

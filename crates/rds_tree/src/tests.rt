@@ -1,5 +1,5 @@
 //! Views of small documents.
-use crate::{Scalars, Values, View, same_documents_show_the_same, view};
+use crate::{Scalars, Values, View, same_documents_show_the_same, view, views_show_what_is_live};
 use rds_dots::ListSet;
 use rds_names::{Fault, Key, Name, Path, Roster, Scalar};
 use rds_state::{Command, Replica};
@@ -105,5 +105,6 @@ fn a_counter_shows_its_sum_at_the_root(rt: HostRuntime) -> Result<(), Fail> {
     let root = view_at(alloc, &replica, "")?;
     assert!(rt; has_sum(&root, "n", -2));
     same_documents_show_the_same();
+    views_show_what_is_live();
     Ok(())
 }
