@@ -1,5 +1,10 @@
 //! Texts, byte for byte: what every kind of text has to do.
-use crate::{decode_snapshot, decode_state, encode_snapshot, encode_state};
+use crate::{
+    Answer, decode_answer, decode_certificate, decode_digest, decode_hello, decode_snapshot,
+    decode_state, encode_answer, encode_certificate, encode_digest, encode_hello, encode_snapshot,
+    encode_state,
+};
+use rds_delta::Digest;
 use rds_dots::ListSet;
 use rds_names::{Fault, Key, Name, Roster};
 use rds_state::{Replica, State};
@@ -7,6 +12,11 @@ use std::alloc::{AllocError, Global};
 use std::process::Abort;
 use std::test::Fail;
 
+mod answers;
+mod certificates;
+mod digests;
+mod exchanges;
+mod hellos;
 mod snapshots;
 mod states;
 
@@ -15,6 +25,10 @@ mod states;
 enum Form {
     Snapshot,
     State,
+    Digest,
+    Certificate,
+    Answer,
+    Hello,
 }
 
 /// The replica with this number of the group of a, b and c.
@@ -34,11 +48,35 @@ fn state_again(alloc: Global, bytes: &[u8]) -> Result<Vec<u8>, Fault> {
     encode_state(alloc, &state)
 }
 
+fn digest_again(alloc: Global, bytes: &[u8]) -> Result<Vec<u8>, Fault> {
+    let digest: Digest<ListSet> = decode_digest(alloc, 3, bytes)?;
+    encode_digest(alloc, &digest)
+}
+
+fn certificate_again(alloc: Global, bytes: &[u8]) -> Result<Vec<u8>, Fault> {
+    let certificate = decode_certificate(alloc, 3, bytes)?;
+    encode_certificate(alloc, &certificate)
+}
+
+fn answer_again(alloc: Global, bytes: &[u8]) -> Result<Vec<u8>, Fault> {
+    let answer: Answer<ListSet> = decode_answer(alloc, 3, bytes)?;
+    encode_answer(alloc, answer.asker, &answer.state, &answer.certificate)
+}
+
+fn hello_again(alloc: Global, bytes: &[u8]) -> Result<Vec<u8>, Fault> {
+    let hello = decode_hello(alloc, bytes)?;
+    encode_hello(alloc, &hello)
+}
+
 /// What the bytes are read as, written again; a roster has three names.
 fn again(alloc: Global, form: Form, bytes: &[u8]) -> Result<Vec<u8>, Fault> {
     match form {
         Form::Snapshot => snapshot_again(alloc, bytes),
         Form::State => state_again(alloc, bytes),
+        Form::Digest => digest_again(alloc, bytes),
+        Form::Certificate => certificate_again(alloc, bytes),
+        Form::Answer => answer_again(alloc, bytes),
+        Form::Hello => hello_again(alloc, bytes),
     }
 }
 
