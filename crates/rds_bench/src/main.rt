@@ -1,0 +1,40 @@
+//! Times what the program doesn't show by itself. `rds_bench texts N` encodes and decodes a state of N dots, two
+//! thirds of them live. It prints a line of figures, and nothing where it was called by no words.
+#![tactic(auto)]
+
+mod samples;
+mod texts;
+
+use rds_names::Fault;
+use std::{env, io};
+
+/// The most dots of a sample.
+const MOST: u64 = 1_000_000;
+
+fn main(rt: HostRuntime) -> io::Result<()> {
+    let mut words = env::args(&rt)?;
+    let _name = words.next();
+    match (words.next(), words.next()) {
+        (Some(what), Some(size)) => time(&rt, what.as_str(), size.as_str()),
+        _ => Ok(()),
+    }
+}
+
+/// Runs what the words name, and says which fault it ended by, if any.
+fn time(rt: &HostRuntime, what: &str, size: &str) -> io::Result<()> {
+    let size = match size.parse::<u64>() {
+        Ok(size) if 1 <= size && size <= MOST => size,
+        _ => return println!(rt; "a size is a number from 1 to {MOST}"),
+    };
+    match what {
+        "texts" => texts::time(rt, size),
+        _ => println!(rt; "nothing is called {what}"),
+    }
+}
+
+/// Prints a fault.
+fn report(rt: &HostRuntime, fault: Fault) -> io::Result<()> {
+    let number = fault.number();
+    let name = fault.name();
+    println!(rt; "fault {number}: {name}")
+}
