@@ -1,7 +1,9 @@
 //! Times what the program doesn't show by itself. `rds_bench texts N` encodes and decodes a state of N dots, two
-//! thirds of them live. It prints a line of figures, and nothing where it was called by no words.
+//! thirds of them live; `rds_bench delta N` takes what a replica of N dots has that one without the last ten lacks. It
+//! prints a line of figures, and nothing where it was called by no words.
 #![tactic(auto)]
 
+mod deltas;
 mod samples;
 mod texts;
 
@@ -28,6 +30,7 @@ fn time(rt: &HostRuntime, what: &str, size: &str) -> io::Result<()> {
     };
     match what {
         "texts" => texts::time(rt, size),
+        "delta" => deltas::time(rt, size),
         _ => println!(rt; "nothing is called {what}"),
     }
 }
