@@ -1,7 +1,8 @@
 //! What one replica lacks of another: the digest, the delta, the certificate, the check, the take.
 ghost use Rattle.std.specs.Prelude.{◌≤◌};
 
-use crate::{report, samples};
+use crate::report;
+use crate::samples::{Living, state};
 use rds_codec::{encode_certificate, encode_digest, encode_state};
 use rds_delta::{Certificate, Digest, certificate, check, delta};
 use rds_dots::ListSet;
@@ -32,7 +33,10 @@ pub fn time(rt: &HostRuntime, dots: u64) -> io::Result<()>
         return println!(rt; "a size is above {LACKING}");
     }
     let alloc = rt.alloc();
-    match (samples::state(alloc, dots), replica(alloc, dots - LACKING)) {
+    match (
+        state(alloc, dots, Living::All),
+        replica(alloc, dots - LACKING),
+    ) {
         (Ok(whole), Ok(mut asker)) => match time_sending(rt, dots, &whole, asker.state()) {
             Ok(Ok(sent)) => time_taking(rt, &mut asker, &sent),
             Ok(Err(fault)) => report(rt, fault),
@@ -43,14 +47,14 @@ pub fn time(rt: &HostRuntime, dots: u64) -> io::Result<()>
     }
 }
 
-/// A replica with so many dots of another.
+/// A replica with so many live dots of another.
 fn replica(alloc: Global, dots: u64) -> Result<Replica<ListSet>, Fault>
     requires least { 1 ≤ dots }
     requires most { dots ≤ 1000000 }
 {
     let names = [Name::new("a")?, Name::new("b")?];
     let roster = Roster::new(alloc, Key::new(alloc, "g")?, names.as_slice())?;
-    Replica::from_parts(roster, 1, samples::state(alloc, dots)?)
+    Replica::from_parts(roster, 1, state(alloc, dots, Living::All)?)
 }
 
 /// Prints the first figures, and hands out what is sent.

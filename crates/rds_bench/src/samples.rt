@@ -19,13 +19,20 @@ fn element(alloc: Global, number: u64) -> Result<Entry, Fault>
     )
 }
 
-/// Two of three dots, each with an element of its own.
-fn rows(alloc: Global, dots: u64) -> Result<Vec<(Dot, Entry)>, Fault>
+/// Which dots of a sample live.
+#[derive(Clone, Copy, PartialEq, Eq)]
+pub enum Living {
+    All,
+    TwoOfThree,
+}
+
+/// The dots that live, each with an element of its own.
+fn rows(alloc: Global, dots: u64, living: Living) -> Result<Vec<(Dot, Entry)>, Fault>
     requires { dots ≤ 1000000 }
 {
     let mut rows = Vec::new(alloc);
     for seq in 1..dots + 1 {
-        if seq % 3 != 0 {
+        if living == Living::All || seq % 3 != 0 {
             let dot = Dot { replica: 0, seq };
             rows.push((dot, element(alloc, seq)?))?;
         }
@@ -33,8 +40,8 @@ fn rows(alloc: Global, dots: u64) -> Result<Vec<(Dot, Entry)>, Fault>
     Ok(rows)
 }
 
-/// A state that has seen so many dots of replica 0, of which two thirds live.
-pub fn state(alloc: Global, dots: u64) -> Result<State<ListSet>, Fault>
+/// A state that has seen so many dots of replica 0.
+pub fn state(alloc: Global, dots: u64, living: Living) -> Result<State<ListSet>, Fault>
     requires least { 1 ≤ dots }
     requires most { dots ≤ 1000000 }
 {
@@ -44,7 +51,7 @@ pub fn state(alloc: Global, dots: u64) -> Result<State<ListSet>, Fault>
         lo: 1,
         hi: dots,
     })?;
-    match Lives::from_parts(seen, rows(alloc, dots)?) {
+    match Lives::from_parts(seen, rows(alloc, dots, living)?) {
         Some(lives) => Ok(State::from_parts(lives, Counts::empty(alloc))),
         None => Err(Fault::Bad),
     }

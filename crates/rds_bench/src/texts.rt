@@ -1,7 +1,8 @@
 //! Encoding and decoding a state.
 ghost use Rattle.std.specs.Prelude.{◌≤◌};
 
-use crate::{report, samples};
+use crate::report;
+use crate::samples::{Living, state};
 use rds_codec::{decode_state, encode_state};
 use rds_dots::ListSet;
 use rds_names::Fault;
@@ -15,8 +16,8 @@ pub fn time(rt: &HostRuntime, dots: u64) -> io::Result<()>
     requires most { dots ≤ 1000000 }
 {
     let alloc = rt.alloc();
-    match samples::state(alloc, dots) {
-        Ok(state) => time_state(rt, dots, &state),
+    match state(alloc, dots, Living::TwoOfThree) {
+        Ok(sample) => time_state(rt, dots, &sample),
         Err(fault) => report(rt, fault),
     }
 }
