@@ -32,6 +32,10 @@ pub record HasTooManyDots (bytes : List ℕ) : Type 0 where
   pub many : BeginsWithTooManyDots (length roster.names) after
   pub spelled : bytes ≡ front_text roster own ++ after
 
+-- a kind of text without sets of dots
+abbrev pub HasNoDots : List ℕ → Type 0
+HasNoDots bytes = ⊥
+
 -- a state of so many replicas
 abbrev pub state_kind : ℕ → Kind StateValue
 state_kind replicas = record { is_value = IsStateOf replicas; text = state_text; has_too_many = BeginsWithTooManyDots replicas }
