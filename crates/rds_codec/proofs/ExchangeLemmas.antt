@@ -4,6 +4,7 @@ use Rattle.std.specs.Prelude.{is_some, IfOk, IfErr, IsErrAnd, OnOk}
 use Rattle.std.specs.FinMap as map
 use Rattle.std.specs.FinSet as set
 use mathlib.Core.Bool.{false≢true}
+use Rattle.rds_names.specs.Roster.{RosterValue}
 use Rattle.rds_names.specs.declared.fault.Fault.{Fault}
 use Rattle.rds_names.specs.declared.fault.Fault.TheVariants.{Memory}
 use Rattle.rds_dots.specs.declared.dot.Dot.{Dot}
@@ -20,6 +21,7 @@ use Rattle.rds_delta.specs.Ranks.{Ranks, life_rank, ranks}
 use Rattle.rds_delta.proofs.Digests.{ranks_of_digest}
 use Rattle.rds_delta.proofs.Exchanges.{least_fits, least_is_taken}
 use Rattle.rds_delta.proofs.LeastLaws.{grown_delta, least_above}
+use Rattle.rds_codec.specs.AnswerTexts.{answer_kind}
 use Rattle.rds_codec.specs.AnswerValues.{AnswerValue}
 use Rattle.rds_codec.specs.declared.limits.TheConstants.{LIMIT}
 use Rattle.rds_codec.specs.Decoding.{Answers, Decodes}
@@ -28,6 +30,7 @@ use Rattle.rds_codec.specs.Exchanged.{IsAnswerTo, IsLost}
 use Rattle.rds_codec.specs.Kinds.{Kind}
 use Rattle.rds_codec.specs.Values.{AreFew}
 use Rattle.rds_codec.specs.Writing.{IsUnwritten}
+use Rattle.rds_codec.proofs.Replicas.{state_fits}
 use Rattle.rds_codec.proofs.Subsets.{len_inside}
 
 -- ---- a text of a value is read as it, unless memory runs out
@@ -46,6 +49,11 @@ read_err {V} v result IsLong h = elim h [
   | inl e ↦ subst (λ (r : Result V Fault). IfErr r (IsLost IsLong)) (sym e) tt
   | inr e ↦ subst (λ (r : Result V Fault). IfErr r (IsLost IsLong)) (sym e) (inl refl)
 ]
+
+-- an answer that was read fits
+pub read_fits : (replicas : ℕ) (bytes : List ℕ) (result : Result AnswerValue Fault) → Decodes (answer_kind replicas) bytes result → IfOk result (λ a. Fits replicas (coordinates a.state))
+read_fits replicas bytes (Ok a) decodes = state_fits replicas a.state decodes.value.1.is_value.state
+read_fits replicas bytes (Err e) decodes = tt
 
 -- ---- a text that isn't written
 
@@ -99,3 +107,10 @@ module _ (digest : DigestValue) (asker : ℕ) (held : StateValue) (a : AnswerVal
     | inl e ↦ subst (λ (r : Result (Unit {0}) Fault). IfErr r (IsLost IsLong)) (sym e) tt
     | inr e ↦ subst (λ (r : Result (Unit {0}) Fault). IfErr r (IsLost IsLong)) (sym e) (inl refl)
   ]
+
+-- the same fact of what equals them
+pub fits_here : (n : ℕ) (r s : RosterValue) (v w : StateValue) → n ≡ length s.names → r ≡ s → w ≡ v → Fits (length r.names) (coordinates v) → Fits n (coordinates w)
+fits_here n r s v w e f k fits = subst (λ (m : ℕ). Fits m (coordinates w)) (sym e) (subst (λ (x : RosterValue). Fits (length x.names) (coordinates w)) f (subst (λ (x : StateValue). Fits (length r.names) (coordinates x)) (sym k) fits))
+
+pub few_here : (v w : StateValue) → w ≡ v → AreFew (seen_of v.lives) → AreFew (seen_of w.lives)
+few_here v w k few = subst (λ (x : StateValue). AreFew (seen_of x.lives)) (sym k) few

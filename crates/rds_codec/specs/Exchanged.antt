@@ -2,6 +2,10 @@
 use Rattle.std.specs.Prelude.{◌≡◌, ◌<◌, ◌⊎◌, ℕ, length}
 use Rattle.rds_names.specs.declared.fault.Fault.{Fault}
 use Rattle.rds_names.specs.declared.fault.Fault.TheVariants.{Memory, TooLong}
+use Rattle.rds_life.specs.Life.{seen_of}
+use Rattle.rds_state.specs.Coordinates.{AtMost}
+use Rattle.rds_state.specs.Fits.{ReplicaValue}
+use Rattle.rds_state.specs.Friends.{AreFriends}
 use Rattle.rds_state.specs.Value.{StateValue, coordinates}
 use Rattle.rds_delta.specs.Claims.{IsCertificate}
 use Rattle.rds_delta.specs.Digested.{DigestValue, digest_of, ranks_in}
@@ -9,6 +13,7 @@ use Rattle.rds_delta.specs.Least.{least}
 use Rattle.rds_codec.specs.AnswerTexts.{answer_text}
 use Rattle.rds_codec.specs.AnswerValues.{AnswerValue}
 use Rattle.rds_codec.specs.DigestTexts.{digest_text}
+use Rattle.rds_codec.specs.Values.{AreFew}
 use Rattle.rds_codec.specs.declared.limits.TheConstants.{LIMIT}
 
 -- it answers a digest for the one that asked: the least delta of a state, and its certificate
@@ -25,6 +30,15 @@ pub record IsLongAnswer (digest : DigestValue) (asker : ℕ) (held : StateValue)
   pub value : AnswerValue
   pub answers : IsAnswerTo digest asker held value
   pub long : LIMIT < length (answer_text value)
+
+-- Two friends of one roster, what one of them was when it asked, and no more dots than are read.
+pub record CanExchange (answerer asked asker : ReplicaValue) : Type 0 where
+  pub answerer_roster : answerer.roster ≡ asker.roster
+  pub asked_roster : asked.roster ≡ asker.roster
+  pub friends : AreFriends answerer.own (coordinates answerer.state) asker.own (coordinates asker.state)
+  pub grown : AtMost (coordinates asked.state) (coordinates asker.state)
+  pub few_asked : AreFew (seen_of asked.state.lives)
+  pub few_held : AreFew (seen_of answerer.state.lives)
 
 -- why a text didn't come: memory ran out, or it is too long
 abbrev pub IsLost : Type 0 → Fault → Type 0

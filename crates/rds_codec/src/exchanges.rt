@@ -1,15 +1,14 @@
 //! An exchange over bytes: what a replica asks, what another answers, and what the first one takes.
 ghost use Rattle.std.specs.Prelude.{◌≡◌, ◌<◌, ◌⊎◌, ℕ, length, IfOk, IfErr, OnOk, OnErr};
 ghost use Rattle.rds_state.specs.Ahead.{TakeGives};
-ghost use Rattle.rds_state.specs.Coordinates.{AtMost, join};
+ghost use Rattle.rds_state.specs.Coordinates.{join};
 ghost use Rattle.rds_state.specs.Fits.{Fits};
-ghost use Rattle.rds_state.specs.Friends.{AreFriends};
 ghost use Rattle.rds_state.specs.Value.{coordinates};
 ghost use Rattle.rds_life.specs.Life.{seen_of};
 ghost use Rattle.rds_delta.specs.Digested.{digest_of, ranks_in};
 ghost use Rattle.rds_delta.specs.Claims.{IsCertificate};
 ghost use Rattle.rds_delta.specs.Least.{IsAbove};
-ghost use Rattle.rds_codec.specs.Exchanged.{IsAnswerTo, IsLongDigest, IsLongAnswer, IsLost};
+ghost use Rattle.rds_codec.specs.Exchanged.{CanExchange, IsAnswerTo, IsLongDigest, IsLongAnswer, IsLost};
 ghost use Rattle.rds_codec.specs.Values.{AreFew};
 
 use crate::answers::{Answer, decode_answer, encode_answer};
@@ -26,10 +25,8 @@ fn send_digest<S: DotSet>(
     replicas: u16,
     asked: &State<S>,
 ) -> Result<Digest<S>, Fault>
-    requires fits { Fits replicas (coordinates asked.now) }
-    requires few { AreFew (seen_of asked.now.lives) }
-    ensures ok { IfOk result (λ digest. digest ≡ digest_of asked.now) }
-    ensures fault { IfErr result (IsLost (IsLongDigest asked.now)) }
+    ensures ok { Fits replicas (coordinates asked.now) → AreFew (seen_of asked.now.lives) → IfOk result (λ digest. digest ≡ digest_of asked.now) }
+    ensures fault { Fits replicas (coordinates asked.now) → AreFew (seen_of asked.now.lives) → IfErr result (IsLost (IsLongDigest asked.now)) }
 {
     let digest = Digest::of(alloc, asked)?;
     let bytes = encode_digest(alloc, &digest)?;
@@ -44,11 +41,9 @@ fn send_answer<S: DotSet>(
     held: &State<S>,
     digest: &Digest<S>,
 ) -> Result<Answer<S>, Fault>
-    requires asker { asker < replicas }
-    requires fits { Fits replicas (coordinates held.now) }
-    requires few { AreFew (seen_of held.now.lives) }
-    ensures ok { IfOk result (IsAnswerTo digest.now asker held.now) }
-    ensures fault { IfErr result (IsLost (IsLongAnswer digest.now asker held.now)) }
+    ensures fits { IfOk result (λ answer. Fits replicas (coordinates answer.state)) }
+    ensures ok { asker < replicas → Fits replicas (coordinates held.now) → AreFew (seen_of held.now.lives) → IfOk result (IsAnswerTo digest.now asker held.now) }
+    ensures fault { asker < replicas → Fits replicas (coordinates held.now) → AreFew (seen_of held.now.lives) → IfErr result (IsLost (IsLongAnswer digest.now asker held.now)) }
 {
     let state = delta(alloc, held, digest)?;
     let rows = certificate(alloc, digest, &state)?;
@@ -92,13 +87,8 @@ pub fn exchange<S: DotSet>(
     asked: &Replica<S>,
     asker: &mut Replica<S>,
 ) -> Result<(), Fault>
-    requires roster { (answerer.now.roster ≡ asker.old.roster) × (asked.now.roster ≡ asker.old.roster) }
-    requires friends { AreFriends answerer.now.own (coordinates answerer.now.state) asker.old.own (coordinates asker.old.state) }
-    requires grown { AtMost (coordinates asked.now.state) (coordinates asker.old.state) }
-    requires few_asked { AreFew (seen_of asked.now.state.lives) }
-    requires few_held { AreFew (seen_of answerer.now.state.lives) }
-    ensures joined { OnOk result (coordinates asker.new.state ≡ join (coordinates asker.old.state) (coordinates answerer.now.state)) }
-    ensures fault { IfErr result (IsLost (IsLongDigest asked.now.state ⊎ IsLongAnswer (digest_of asked.now.state) asker.old.own answerer.now.state)) }
+    ensures joined { CanExchange answerer.now asked.now asker.old → OnOk result (coordinates asker.new.state ≡ join (coordinates asker.old.state) (coordinates answerer.now.state)) }
+    ensures fault { CanExchange answerer.now asked.now asker.old → IfErr result (IsLost (IsLongDigest asked.now.state ⊎ IsLongAnswer (digest_of asked.now.state) asker.old.own answerer.now.state)) }
     ensures roster { asker.new.roster ≡ asker.old.roster }
     ensures own { asker.new.own ≡ asker.old.own }
     ensures err { OnErr result (asker.new ≡ asker.old) }

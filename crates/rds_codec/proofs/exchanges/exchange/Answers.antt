@@ -1,38 +1,39 @@
-use Rattle.std.proofs.Common.{◌≡◌, ◌⊎◌, ℕ, length, sym, subst, ap, ◌∙◌}
+use Rattle.std.proofs.Common.{◌≡◌, ◌<◌, ◌⊎◌, ℕ, length, subst, ap, ◌∙◌, arith}
 use Rattle.rds_names.specs.Roster.{RosterValue}
-use Rattle.rds_state.specs.Coordinates.{join}
-use Rattle.rds_state.specs.Fits.{Fits}
-use Rattle.rds_state.specs.Value.{StateValue, coordinates}
+use Rattle.rds_state.specs.Value.{StateValue}
 use Rattle.rds_delta.specs.Digested.{digest_of}
-use Rattle.rds_codec.specs.Exchanged.{IsAnswerTo, IsLongDigest, IsLongAnswer}
-use Rattle.rds_codec.proofs.ExchangeLemmas.{answer_fits, answer_is_above, answer_joins, answer_is_taken}
+use Rattle.rds_codec.specs.Exchanged.{CanExchange, IsAnswerTo, IsLongDigest, IsLongAnswer}
+use Rattle.rds_codec.proofs.ExchangeLemmas.{answer_is_above, answer_joins, answer_is_taken, few_here, fits_here}
 use Rattle.rds_codec.proofs.Texts.{OnOk-map}
 use Rattle.rds_codec.proofs.exchanges.exchange.Goals as goal
 
-pub take_answer-requires : goal.take_answer-requires
-take_answer-requires g c =
-    let digest = c.in_ok-digest.digest in
-    let a = c.in_ok-answer.answer in
-    let held = c.args.answerer.now.state in
-    let is : IsAnswerTo digest c.own.result held a = subst (λ (s : StateValue). IsAnswerTo digest c.own.result s a) c.state-2.ensures.state c.in_ok-answer.ensures.ok in
-    answer_fits digest c.own.result held a is (length c.args.asker.now.roster.names) (subst (λ (r : RosterValue). Fits (length r.names) (coordinates held)) c.requires.roster.0 c.state-2.ensures.fits)
-
-pub returns-clause-joined : goal.returns-clause-joined
-returns-clause-joined g c =
-    let digest = c.in_ok-digest.digest in
-    let a = c.in_ok-answer.answer in
-    let held = c.args.answerer.now.state in
-    let is : IsAnswerTo digest c.own.result held a = subst (λ (s : StateValue). IsAnswerTo digest c.own.result s a) c.state-2.ensures.state c.in_ok-answer.ensures.ok in
-    let same : digest ≡ digest_of c.args.asked.now.state = c.in_ok-digest.ensures.ok ∙ ap digest_of c.state.ensures.state in
-    OnOk-map c.take_answer.result (λ joined. joined ∙ answer_joins digest c.own.result held a is c.args.asked.now.state c.args.asker.now.state same c.requires.grown) c.take_answer.ensures.ok
-
-pub returns-clause-fault : goal.returns-clause-fault
-returns-clause-fault g c =
-    let digest = c.in_ok-digest.digest in
-    let a = c.in_ok-answer.answer in
-    let held = c.args.answerer.now.state in
+pub returns : goal.returns
+returns g c =
+    let answerer = c.args.answerer.now in
+    let asked = c.args.asked.now in
     let mine = c.args.asker.now in
-    let own : IsAnswerTo digest c.own.result held a = subst (λ (s : StateValue). IsAnswerTo digest c.own.result s a) c.state-2.ensures.state c.in_ok-answer.ensures.ok in
-    let is : IsAnswerTo digest mine.own held a = subst (λ (n : ℕ). IsAnswerTo digest n held a) c.own.ensures.own own in
-    answer_is_taken digest mine.own held a is c.args.answerer.now.own mine.state c.take_answer.result (IsLongDigest c.args.asked.now.state ⊎ IsLongAnswer (digest_of c.args.asked.now.state) mine.own held) c.requires.friends
-    (c.take_answer.ensures.taken is.asked (answer_is_above digest mine.own held a is) is.certificate)
+    let n = c.len-replicas.result in
+    let digest = c.in_ok-digest.digest in
+    let a = c.in_ok-answer.answer in
+    let many : n ≡ length mine.roster.names = c.len-replicas.ensures.names ∙ ap (λ (r : RosterValue). length r.names) c.roster.ensures in
+    let told = c.state.result.now in
+    let held = c.state-2.result.now in
+    let same : CanExchange answerer asked mine → digest ≡ digest_of asked.state = λ can.
+    c.in_ok-digest.ensures.ok (fits_here n asked.roster mine.roster asked.state told many can.asked_roster c.state.ensures.state c.state.ensures.fits) (few_here asked.state told c.state.ensures.state can.few_asked)
+    ∙ ap digest_of c.state.ensures.state in
+    let below : c.own.result < n = omega (arith, many, c.own.ensures.own, c.own.ensures.within) in
+    let own : CanExchange answerer asked mine → IsAnswerTo digest c.own.result held a = λ can.
+    c.in_ok-answer.ensures.ok below (fits_here n answerer.roster mine.roster answerer.state held many can.answerer_roster c.state-2.ensures.state c.state-2.ensures.fits)
+    (few_here answerer.state held c.state-2.ensures.state can.few_held) in
+    let is : CanExchange answerer asked mine → IsAnswerTo digest mine.own answerer.state a = λ can.
+    subst (λ (k : ℕ). IsAnswerTo digest k answerer.state a) c.own.ensures.own (subst (λ (s : StateValue). IsAnswerTo digest c.own.result s a) c.state-2.ensures.state (own can)) in
+    let IsLong = IsLongDigest asked.state ⊎ IsLongAnswer (digest_of asked.state) mine.own answerer.state in
+    record {
+      joined = λ can. OnOk-map c.take_answer.result (λ joined. joined ∙ answer_joins digest mine.own answerer.state a (is can) asked.state mine.state (same can) can.grown) c.take_answer.ensures.ok;
+      fault = λ can.
+          answer_is_taken digest mine.own answerer.state a (is can) answerer.own mine.state c.take_answer.result IsLong can.friends
+          (c.take_answer.ensures.taken (is can).asked (answer_is_above digest mine.own answerer.state a (is can)) (is can).certificate);
+      roster = c.take_answer.ensures.roster;
+      own = c.take_answer.ensures.own;
+      err = c.take_answer.ensures.err;
+    }

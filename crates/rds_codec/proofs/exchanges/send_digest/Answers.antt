@@ -1,4 +1,7 @@
 use Rattle.std.proofs.Common.{◌≡◌, Ok, sym, subst, ◌∙◌}
+use Rattle.rds_life.specs.Life.{seen_of}
+use Rattle.rds_state.specs.Fits.{Fits}
+use Rattle.rds_state.specs.Value.{coordinates}
 use Rattle.rds_delta.specs.Digested.{DigestValue, digest_of}
 use Rattle.rds_codec.specs.Decoding.{Answers}
 use Rattle.rds_codec.specs.DigestTexts.{DigestFits, digest_kind}
@@ -10,14 +13,14 @@ use Rattle.rds_codec.proofs.exchanges.send_digest.Goals as goal
 pub returns : goal.returns
 returns g c =
     let n = c.args.replicas in
+    let asked = c.args.asked.now in
     let v = c.in_ok-digest.digest in
-    let same : v ≡ digest_of c.args.asked.now = c.in_ok-digest.ensures.value in
-    let fits = subst (DigestFits n) (sym same) (digest_fits n c.args.asked.now c.requires.fits) in
-    let few = subst (λ (d : DigestValue). AreFew d.seen) (sym same) c.requires.few in
+    let same : v ≡ digest_of asked = c.in_ok-digest.ensures.value in
     let wrote = c.in_ok-bytes.ensures in
-    let read : Answers c.decode_digest.result (Ok v) =
-    is_read (digest_kind n) v c.deref.result.now c.decode_digest.result c.decode_digest.ensures.text (wrote.value n fits few) (c.deref.ensures.value ∙ wrote.text.0) wrote.text.1 in
+    let read : Fits n (coordinates asked) → AreFew (seen_of asked.lives) → Answers c.decode_digest.result (Ok v) = λ fits few.
+    is_read (digest_kind n) v c.deref.result.now c.decode_digest.result c.decode_digest.ensures.text
+    (wrote.value n (subst (DigestFits n) (sym same) (digest_fits n asked fits)) (subst (λ (d : DigestValue). AreFew d.seen) (sym same) few)) (c.deref.ensures.value ∙ wrote.text.0) wrote.text.1 in
     record {
-      ok = read_ok v c.decode_digest.result (λ (d : DigestValue). d ≡ digest_of c.args.asked.now) read same;
-      fault = read_err v c.decode_digest.result (IsLongDigest c.args.asked.now) read;
+      ok = λ fits few. read_ok v c.decode_digest.result (λ (d : DigestValue). d ≡ digest_of asked) (read fits few) same;
+      fault = λ fits few. read_err v c.decode_digest.result (IsLongDigest asked) (read fits few);
     }
