@@ -1,0 +1,4 @@
+pub mod Cutting
+pub mod Messages
+pub mod Splitting
+pub mod Scans

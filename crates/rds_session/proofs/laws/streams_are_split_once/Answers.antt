@@ -1,0 +1,5 @@
+use Rattle.rds_session.proofs.Splitting.{splits_once}
+use Rattle.rds_session.proofs.laws.streams_are_split_once.Goals as goal
+
+pub returns : goal.returns
+returns c = splits_once

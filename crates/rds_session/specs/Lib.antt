@@ -1,0 +1,4 @@
+pub mod Chunks
+pub mod Scanning
+pub mod Sending
+pub mod Stream
