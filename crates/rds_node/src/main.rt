@@ -13,7 +13,6 @@ mod refusal;
 mod run;
 #[cfg(test)]
 mod tests;
-mod text;
 
 use counted::Counted;
 use output::write_fault;

@@ -1,0 +1,2 @@
+mod FrontSoFar
+mod WrittenSoFar
