@@ -1,4 +1,9 @@
+pub mod Accepting
+pub mod Course
 pub mod Cutting
 pub mod Messages
-pub mod Splitting
+pub mod Moves
+pub mod Runs
 pub mod Scans
+pub mod Sendings
+pub mod Splitting

@@ -1,4 +1,11 @@
+pub mod Bodies
+pub mod BodyViews
 pub mod Chunks
+pub mod Judging
+pub mod LeastState
+pub mod Messages
 pub mod Scanning
 pub mod Sending
+pub mod Session
+pub mod Steps
 pub mod Stream

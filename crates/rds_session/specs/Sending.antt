@@ -3,6 +3,8 @@ use Rattle.std.specs.Prelude.{◌≡◌, ◌<◌, ◌≤◌, ℕ, nat_lt, Bool, 
 use Rattle.rds_names.specs.declared.fault.Fault.{Fault}
 use Rattle.rds_names.specs.declared.fault.Fault.TheVariants.{Memory}
 use Rattle.rds_session.specs.declared.chunks.TheConstants.{MESSAGE_LIMIT}
+use Rattle.std.specs.Global.{Vec}
+use Rattle.rds_codec.specs.Writing.{Encodes}
 use Rattle.rds_session.specs.Chunks.{spelled}
 
 abbrev pub then_sent : List ℕ → List ℕ × Bool → List ℕ × Bool
@@ -18,6 +20,10 @@ abbrev pub SendsOne : List ℕ → List ℕ → List ℕ → Result Bool Fault �
 SendsOne old new m result = MatchResult result
     (λ fits. MatchBool fits ((length m ≤ MESSAGE_LIMIT) × (new ≡ old ++ spelled m)) ((MESSAGE_LIMIT < length m) × (new ≡ old)))
     (λ e. e ≡ Memory)
+
+-- the same of a message whose body was encoded, or is over the limit itself
+abbrev pub SendsBody : List ℕ → List ℕ → ℕ → Result (Vec ℕ) Fault → Result Bool Fault → Type 0
+SendsBody old new kind body result = (text : List ℕ) → Encodes text body → SendsOne old new (kind ∷ text) result
 
 -- messages were added, or those before the first that is over the limit
 abbrev pub SendsAll : List ℕ → List ℕ → List (List ℕ) → Result Bool Fault → Type 0

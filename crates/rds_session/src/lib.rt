@@ -1,8 +1,15 @@
 //! The session of two replicas, as a machine over a stream of bytes: each tells what it has, and gets what it lacks.
 #![tactic(auto)]
 
+mod bodies;
 mod chunks;
+mod judging;
 mod laws;
+mod sending;
+mod step;
+mod talk;
 mod writing;
 
 pub use laws::streams_are_split_once;
+pub use step::{Ended, Input, Output};
+pub use talk::Side;
