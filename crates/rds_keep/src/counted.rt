@@ -1,5 +1,5 @@
 //! A reader or a writer, with a count of the calls on it that failed.
-ghost use Rattle.std.specs.Prelude.{◌≡◌, ◌+◌, ◌-◌, ◌^◌, ◌<◌, ◌≤◌, ◌⊎◌, false, min, length, IfOk, IfErr, IfSome, OnOk, OnErr};
+ghost use Rattle.std.specs.Prelude.{◌≡◌, ◌+◌, ◌-◌, ◌^◌, ◌<◌, ◌≤◌, ◌⊎◌, false, min, length, take, IfOk, IfErr, IfSome, OnOk, OnErr};
 ghost use Rattle.std.specs.Fmt.{with_newline};
 ghost use Rattle.std.specs.Io.KnownBytes.{Appends, Consumes, IsAtEnd, ReadConsumes, WriteAppends};
 ghost use Rattle.rds_names.specs.declared.fault.Fault.TheVariants.{Memory, Device};
@@ -112,6 +112,8 @@ impl<R: Read> Counted<R> {
     /// it has them, each byte into its place once, within the reader's bound of turns (`Device`
     /// where that is reached, and where a read fails).
     pub fn read_front(&mut self, alloc: Global, most: usize) -> Result<Vec<u8>, Fault>
+        ensures front { IfOk result (λ v. IfSome (R.remaining self.old.inner)
+            (λ input. v.items ≡ take most input)) }
         ensures bytes { IfOk result (λ v. Consumes (R.remaining self.old.inner)
             (R.remaining self.new.inner) v.items) }
         ensures within { IfOk result (λ v. length v.items ≤ most) }

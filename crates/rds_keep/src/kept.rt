@@ -15,7 +15,10 @@ pub struct Kept<S: DotSet> {
 }
 
 impl<S: DotSet> Model for Kept<S> {
+    ghost use Rattle.std.specs.Prelude.{◌≤◌, length};
     ghost use Rattle.rds_state.specs.Fits.{ReplicaValue, coded_replica};
+    ghost use Rattle.rds_codec.specs.Spelling.{snapshot_text};
+    ghost use Rattle.rds_codec.specs.declared.limits.TheConstants.{LIMIT};
 
     ghost Value = { ReplicaValue };
 

@@ -1,5 +1,4 @@
 pub mod CommandWords
-pub mod FrontSoFar
 pub mod Fronts
 pub mod JoinedOnce
 pub mod Joining

@@ -1,5 +1,4 @@
 pub mod Commands
-pub mod Counted
 pub mod Join
 pub mod JoinLaws
 pub mod Lines

@@ -5,7 +5,6 @@ ghost use Rattle.std.specs.Prelude.{◌≡◌, ◌⊎◌, IfErr};
 ghost use Rattle.rds_names.specs.declared.fault.Fault.TheVariants.{Memory, Usage};
 
 mod commands;
-mod counted;
 mod join;
 mod lines;
 mod output;
@@ -14,8 +13,8 @@ mod run;
 #[cfg(test)]
 mod tests;
 
-use counted::Counted;
 use output::write_fault;
+use rds_keep::Counted;
 use rds_names::Fault;
 use run::run;
 use std::io::ErrorKind;
