@@ -19,3 +19,8 @@ abbrev pub IsScan : Scan → Under → Scanned → Type 0
 IsScan wanted new code.More = wanted ≡ More new
 IsScan wanted new (code.Whole message rest) = (wanted ≡ Whole message.items rest.now) × (new ≡ start)
 IsScan wanted new code.Long = (wanted ≡ Long) × (new ≡ start)
+
+-- a whole message is within the limit
+abbrev pub IsWithin : Scanned → Type 0
+IsWithin (code.Whole message rest) = length message.items ≤ MESSAGE_LIMIT
+IsWithin _ = Unit {0}

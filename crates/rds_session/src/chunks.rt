@@ -64,7 +64,7 @@ fn place_of(left: u16) -> Place
 
 impl Chunks {
     ghost use Rattle.rds_session.specs.Chunks.{start, scan};
-    ghost use Rattle.rds_session.specs.Scanning.{IsScan};
+    ghost use Rattle.rds_session.specs.Scanning.{IsScan, IsWithin};
 
     /// Nothing of a message. Takes no memory.
     pub fn new(alloc: Global) -> Chunks
@@ -80,6 +80,7 @@ impl Chunks {
     #[tactic(auto, unfolding(crate::specs::Chunks::scan))]
     pub fn take<'a>(&mut self, alloc: Global, piece: &'a [u8]) -> Result<Scanned<'a>, Fault>
         ensures ok { IfOk result (IsScan (scan piece.now self.old) self.new) }
+        ensures within { IfOk result IsWithin }
         ensures err { IfErr result (λ e. e ≡ Memory) }
     {
         let mut rest = piece;

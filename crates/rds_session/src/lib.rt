@@ -6,10 +6,12 @@ mod chunks;
 mod judging;
 mod laws;
 mod sending;
+mod session;
 mod step;
 mod talk;
 mod writing;
 
 pub use laws::streams_are_split_once;
+pub use session::Session;
 pub use step::{Ended, Input, Output};
 pub use talk::Side;

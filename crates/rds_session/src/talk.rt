@@ -1,5 +1,6 @@
 //! The words of a session: who speaks, what is waited for, what was said.
 ghost use Rattle.std.specs.Prelude.{◌≡◌};
+ghost use Rattle.rds_session.specs.Messages.{code_of};
 
 use rds_delta::Digest;
 use rds_dots::DotSet;
@@ -44,6 +45,20 @@ pub enum Stop {
     Refused(Fault),
     /// It says that the peer ended the session.
     Left(Fault),
+}
+
+/// The code of the BYE that a refusal sends.
+pub fn code_of(fault: Fault) -> u8
+    ensures { result ≡ code_of fault }
+{
+    match fault {
+        Fault::WrongVersion => 1,
+        Fault::WrongGroup => 2,
+        Fault::WrongRoster => 3,
+        Fault::SameReplica => 4,
+        Fault::Memory => 6,
+        _ => 5,
+    }
 }
 
 impl From<Fault> for Stop {
