@@ -8,6 +8,7 @@ mod Lengths
 mod Lists
 mod LiveFormats
 mod Loops
+mod ManyDots
 mod PartFormats
 mod Replicas
 mod RowAlgebra
@@ -17,5 +18,7 @@ mod RowsLive
 mod RowsRead
 mod RunSteps
 mod SnapshotFormats
+mod StateFormats
 mod Texts
 mod Whole
+mod Within

@@ -1,8 +1,15 @@
+pub mod AnswerTexts
+pub mod AnswerValues
+pub mod CertificateTexts
 pub mod Decoding
+pub mod DigestTexts
 pub mod DotRows
 pub mod Entries
+pub mod HelloTexts
+pub mod Kinds
 pub mod Laws
 pub mod Reading
 pub mod RowDots
 pub mod Spelling
+pub mod Values
 pub mod Writing

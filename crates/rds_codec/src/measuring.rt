@@ -1,13 +1,14 @@
 //! The lengths of texts.
-ghost use Rattle.std.specs.Prelude.{◌≡◌, ℕ, ◌+◌, ◌*◌, ◌≤◌, length};
+ghost use Rattle.std.specs.Prelude.{◌≡◌, ℕ, ◌+◌, ◌*◌, ◌^◌, ◌≤◌, length};
 ghost use Rattle.std.specs.List.{flat_map};
-ghost use Rattle.rds_codec.specs.Spelling.{short_text, scalar_text, entry_text, live_row_text, count_row_text, names_text, front_text};
+ghost use Rattle.rds_codec.specs.Spelling.{short_text, scalar_text, entry_text, live_row_text, count_row_text, counters_text, names_text, member_text};
 
-use rds_counts::CountRow;
+use rds_counts::{CountRow, Counts};
 use rds_dots::Dot;
 use rds_names::{Entry, Key, Roster, Scalar};
 
-fn key_length(key: &Key) -> usize
+/// The length of a key's text.
+pub fn key_length(key: &Key) -> usize
     ensures length { result ≡ length (short_text key.now) }
     ensures most { result ≤ 65 }
 {
@@ -66,9 +67,8 @@ pub fn live_rows_length(mut rows: &[(Dot, Entry)]) -> u128
     }
 }
 
-/// The length of the rows of counters, without their number.
 #[tactic(auto, using(crate::proofs::Lengths::length_more))]
-pub fn count_rows_length(mut rows: &[CountRow]) -> u128
+fn count_rows_length(mut rows: &[CountRow]) -> u128
     ensures length { result ≡ length (flat_map count_row_text rows.entry.now) }
     ensures most { result ≤ 128 * length rows.entry.now }
 {
@@ -81,6 +81,15 @@ pub fn count_rows_length(mut rows: &[CountRow]) -> u128
         total += 17 + key_length(&row.key) as u128;
         rows = later;
     }
+}
+
+/// The length of the counters.
+#[tactic(auto, unfolding(crate::specs::Spelling::counters_text))]
+pub fn counters_length(counts: &Counts) -> u128
+    ensures length { result ≡ length (counters_text counts.now) }
+    ensures most { result ≤ 2 ^ 80 }
+{
+    4 + count_rows_length(counts.rows())
 }
 
 fn names_length(roster: &Roster) -> usize
@@ -97,10 +106,10 @@ fn names_length(roster: &Roster) -> usize
     total
 }
 
-/// The length of all that stands before the dots.
-pub fn front_length(roster: &Roster) -> usize
-    ensures length { (own : ℕ) → result ≡ length (front_text roster.now own) }
-    ensures most { result ≤ 4424 }
+/// The length of a roster and the number of one of its replicas.
+pub fn member_length(roster: &Roster) -> usize
+    ensures length { (own : ℕ) → result ≡ length (member_text roster.now own) }
+    ensures most { result ≤ 4420 }
 {
-    5 + key_length(roster.group()) + names_length(roster)
+    key_length(roster.group()) + names_length(roster) + 1
 }

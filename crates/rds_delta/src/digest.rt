@@ -64,17 +64,17 @@ impl<S: DotSet> Digest<S> {
         Some(Digest { seen, live, counts })
     }
 
-    /// The dots that aren't unseen.
+    /// The dots that aren't unseen, the live ones among them.
     pub fn seen(&self) -> &S
-        ensures { S.contents result.now ≡ self.now.seen }
+        ensures dots { S.contents result.now ≡ self.now.seen }
+        ensures inside { IsInside self.now.live self.now.seen }
     {
         &self.seen
     }
 
-    /// The dots that are live, all of them seen.
+    /// The dots that are live.
     pub fn live(&self) -> &S
-        ensures dots { S.contents result.now ≡ self.now.live }
-        ensures inside { IsInside self.now.live self.now.seen }
+        ensures { S.contents result.now ≡ self.now.live }
     {
         &self.live
     }

@@ -2,9 +2,20 @@
 //! that each component of a delta is needed, and its check.
 #![tactic(auto)]
 
+mod certifying;
+mod checking;
+mod deltas;
 mod digest;
 mod inside;
+mod laws;
 mod row;
+mod step;
+mod stretches;
 
+pub use certifying::certificate;
+pub use checking::check;
+pub use deltas::delta;
 pub use digest::Digest;
+pub use inside::is_inside;
+pub use laws::{checked_delta_laws, least_delta_laws};
 pub use row::{Certificate, Row};
