@@ -7,7 +7,10 @@ use Rattle.rds_state.specs.Fits.{ReplicaValue}
 use Rattle.rds_delta.specs.Digested.{DigestValue, digest_of}
 use Rattle.rds_session.specs.declared.talk.Stop.{Stop}
 use Rattle.rds_session.specs.declared.talk.Stop.TheVariants.{Refused, Left}
-use Rattle.rds_session.specs.Bodies.{HelloBody, AnswerBody, hello_in, digest_in, answer_in, passes}
+use Rattle.rds_codec.specs.AnswerValues.{AnswerValue}
+use Rattle.rds_codec.specs.declared.hellos.Hello.{Hello}
+use Rattle.rds_session.specs.Bodies.{hello_in, digest_in, answer_in}
+use Rattle.rds_session.specs.Checked.{passes}
 use Rattle.rds_session.specs.Messages.{fault_of_code}
 use Rattle.rds_session.specs.Judging.{Awaited, ForHello, ForDigest, ForDelta, ForBye, Said, Greets, Learns, Receives, Finishes, accepted, bye_came, bye_judged, left_by, body_came, hello_judged, delta_judged, read_then, other_version, type_of, is_type, same_names, replicas_of}
 
@@ -53,13 +56,13 @@ bye_suits turn [] = refusal_suits turn (Refused Cut)
 bye_suits turn (code ∷ []) = bye_judged_suits turn code
 bye_suits turn (code ∷ more ∷ rest) = if_suits turn (ltb 6 code) (Err (Refused Bad)) (Err (Refused Extra)) (refusal_suits turn (Refused Bad)) (refusal_suits turn (Refused Extra))
 
-abbrev same_own : ReplicaValue → HelloBody → Result Said Stop
+abbrev same_own : ReplicaValue → Hello → Result Said Stop
 same_own kept h = cond (eqb h.own kept.own) (Err (Refused SameReplica)) (Ok (Greets h.own))
 
-abbrev other_names : ReplicaValue → HelloBody → Result Said Stop
+abbrev other_names : ReplicaValue → Hello → Result Said Stop
 other_names kept h = cond (same_names h.roster.names kept.roster.names) (same_own kept h) (Err (Refused WrongRoster))
 
-hello_suits : (kept : ReplicaValue) (h : HelloBody) → Suits ForHello (hello_judged kept h)
+hello_suits : (kept : ReplicaValue) (h : Hello) → Suits ForHello (hello_judged kept h)
 hello_suits kept h =
     if_suits ForHello (bytes_eq h.roster.group kept.roster.group) (other_names kept h) (Err (Refused WrongGroup))
     (if_suits ForHello (same_names h.roster.names kept.roster.names) (same_own kept h) (Err (Refused WrongRoster))
@@ -67,10 +70,10 @@ hello_suits kept h =
     (record { fits = tt }))
     (record { fits = tt })
 
-abbrev passing : ReplicaValue → AnswerBody → Result Said Stop
+abbrev passing : ReplicaValue → AnswerValue → Result Said Stop
 passing kept a = cond (passes (digest_of kept.state) a) (Ok (Receives a.state)) (Err (Refused BadCertificate))
 
-delta_suits : (q : ℕ) (g : DigestValue) (kept : ReplicaValue) (a : AnswerBody) → Suits (ForDelta q g) (delta_judged kept a)
+delta_suits : (q : ℕ) (g : DigestValue) (kept : ReplicaValue) (a : AnswerValue) → Suits (ForDelta q g) (delta_judged kept a)
 delta_suits q g kept a =
     if_suits (ForDelta q g) (eqb a.asker kept.own) (passing kept a) (Err (Refused WrongAsker))
     (if_suits (ForDelta q g) (passes (digest_of kept.state) a) (Ok (Receives a.state)) (Err (Refused BadCertificate)) (record { fits = tt }) (record { fits = tt }))

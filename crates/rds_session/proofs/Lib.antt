@@ -1,4 +1,5 @@
 pub mod Accepting
+pub mod Checks
 pub mod Course
 pub mod Cutting
 pub mod Messages
@@ -7,3 +8,4 @@ pub mod Runs
 pub mod Scans
 pub mod Sendings
 pub mod Splitting
+pub mod Talking

@@ -15,7 +15,10 @@ use Rattle.rds_session.specs.declared.talk.Act.{Act}
 use Rattle.rds_session.specs.declared.talk.Act.TheVariants as acts
 use Rattle.rds_session.specs.declared.talk.Stop.{Stop}
 use Rattle.rds_session.specs.declared.talk.Stop.TheVariants.{Refused, Left}
-use Rattle.rds_session.specs.Bodies.{HelloBody, AnswerBody, hello_in, digest_in, answer_in, passes}
+use Rattle.rds_codec.specs.AnswerValues.{AnswerValue}
+use Rattle.rds_codec.specs.declared.hellos.Hello.{Hello}
+use Rattle.rds_session.specs.Bodies.{hello_in, digest_in, answer_in}
+use Rattle.rds_session.specs.Checked.{passes}
 use Rattle.rds_session.specs.Messages.{hello_message, digest_message, delta_message, bye_message, fault_of_code}
 
 -- the message that is waited for, with what the earlier ones said: the peer's own number, and its digest
@@ -71,7 +74,7 @@ abbrev pub same_names : List (List ℕ) → List (List ℕ) → Bool
 same_names ns ms = pointwise bytes_eq ns ms
 
 -- the group, then the names and their order, then the own number
-abbrev pub hello_judged : ReplicaValue → HelloBody → Result Said Stop
+abbrev pub hello_judged : ReplicaValue → Hello → Result Said Stop
 hello_judged kept h =
     if bytes_eq h.roster.group kept.roster.group
     then (if same_names h.roster.names kept.roster.names
@@ -94,7 +97,7 @@ abbrev pub digest_came : ReplicaValue → ℕ → List ℕ → Result Said Stop
 digest_came kept peer body = read_then (digest_in (replicas_of kept) body) (λ digest. Ok (Learns peer digest))
 
 -- the asker, then the certificate against the own digest
-abbrev pub delta_judged : ReplicaValue → AnswerBody → Result Said Stop
+abbrev pub delta_judged : ReplicaValue → AnswerValue → Result Said Stop
 delta_judged kept a =
     if a.asker == kept.own
     then (if passes (digest_of kept.state) a then Ok (Receives a.state) else Err (Refused BadCertificate))

@@ -1,8 +1,9 @@
 pub mod Bodies
-pub mod BodyViews
+pub mod ByMessages
+pub mod Checked
 pub mod Chunks
 pub mod Judging
-pub mod LeastState
+pub mod Meeting
 pub mod Messages
 pub mod Scanning
 pub mod Sending

@@ -4,8 +4,10 @@ use Rattle.rds_names.specs.declared.fault.Fault.{Fault}
 use Rattle.rds_names.specs.declared.fault.Fault.TheVariants.{Memory, WrongVersion, WrongGroup, WrongRoster, SameReplica, PeerEnded}
 use Rattle.rds_state.specs.Fits.{ReplicaValue}
 use Rattle.rds_delta.specs.Digested.{DigestValue, digest_of}
-use Rattle.rds_session.specs.Bodies.{hello_text, digest_text, answer_text, certificate_of}
-use Rattle.rds_session.specs.LeastState.{least_state}
+use Rattle.rds_codec.specs.AnswerTexts.{answer, answer_text}
+use Rattle.rds_codec.specs.DigestTexts.{digest_text}
+use Rattle.rds_codec.specs.HelloTexts.{hello_text}
+use Rattle.rds_session.specs.Checked.{least_state, certificate_of}
 
 -- HELLO: who speaks
 abbrev pub hello_message : ReplicaValue → List ℕ
@@ -17,7 +19,7 @@ digest_message kept = 2 ∷ digest_text (digest_of kept.state)
 
 -- DELTA: what is kept here and the digest lacks, with its certificate, for the replica that asked
 abbrev pub delta_message : ReplicaValue → ℕ → DigestValue → List ℕ
-delta_message kept asker digest = let delta = least_state kept.state digest in 3 ∷ answer_text (record { asker = asker; state = delta; rows = certificate_of digest delta })
+delta_message kept asker digest = let delta = least_state kept.state digest in 3 ∷ answer_text (answer asker delta (certificate_of digest delta))
 
 -- BYE: the end, and why
 abbrev pub bye_message : ℕ → List ℕ

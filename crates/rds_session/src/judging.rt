@@ -1,14 +1,16 @@
 //! Judging a whole message.
 ghost use Rattle.std.specs.Prelude.{◌≡◌, ◌↔◌, ◌≤◌, IsTrue, true, length, IfErr, MatchResult};
 ghost use Rattle.rds_codec.specs.declared.limits.TheConstants.{LIMIT};
-ghost use Rattle.rds_session.specs.Judging.{Judges, awaited, bye_came, hello_came, digest_came, delta_came, body_came, accepted, type_of, other_version};
+ghost use Rattle.rds_session.specs.Judging.{Judges, awaited, bye_came, hello_came, digest_came, delta_came, body_came, accepted, type_of, other_version, same_names};
+ghost use Rattle.rds_session.specs.Checked.{passes};
+ghost use Rattle.std.specs.Str.{bytes_eq};
 ghost use Rattle.rds_session.specs.Messages.{fault_of_code};
 
-use crate::bodies::{check_answer, decode_answer, decode_digest, decode_hello};
 use crate::talk::{Act, Stop, Turn};
-use rds_delta::Digest;
+use rds_codec::{Answer, decode_answer, decode_digest, decode_hello};
+use rds_delta::{Digest, check};
 use rds_dots::DotSet;
-use rds_names::Fault;
+use rds_names::{Fault, Roster};
 use rds_state::Replica;
 use std::alloc::Global;
 
@@ -49,6 +51,15 @@ fn is_other_version(body: &[u8]) -> bool
     }
 }
 
+// Whether two rosters of one group have the same names in the same order.
+#[tactic(auto, using(crate::proofs::Checks::names_are))]
+fn has_same_names(hello: &Roster, kept: &Roster) -> bool
+    requires { bytes_eq hello.now.group kept.now.group ≡ true }
+    ensures { result ≡ same_names hello.now.names kept.now.names }
+{
+    hello.same(kept)
+}
+
 fn judge_hello<S: DotSet>(alloc: Global, kept: &Replica<S>, body: &[u8]) -> Result<Act<S>, Stop>
     requires { length body.now ≤ LIMIT }
     ensures { Judges result (hello_came kept.now body.now) }
@@ -60,7 +71,7 @@ fn judge_hello<S: DotSet>(alloc: Global, kept: &Replica<S>, body: &[u8]) -> Resu
     if hello.roster.group() != kept.roster().group() {
         return Err(Stop::Refused(Fault::WrongGroup));
     }
-    if !hello.roster.same(kept.roster()) {
+    if !has_same_names(&hello.roster, kept.roster()) {
         return Err(Stop::Refused(Fault::WrongRoster));
     }
     if hello.own == kept.own() {
@@ -77,6 +88,14 @@ fn judge_digest<S: DotSet>(alloc: Global, kept: &Replica<S>, peer: u8, body: &[u
     Ok(Act::Learn(peer, digest))
 }
 
+// Whether the answer's delta is needed by what was digested, component by component, and its certificate says so.
+#[tactic(auto, using(crate::proofs::Checks::passes_are))]
+fn passes<S: DotSet>(digest: &Digest<S>, answer: &Answer<S>) -> bool
+    ensures { result ≡ passes digest.now answer.now }
+{
+    check(digest, &answer.state, &answer.certificate)
+}
+
 fn judge_delta<S: DotSet>(alloc: Global, kept: &Replica<S>, body: &[u8]) -> Result<Act<S>, Stop>
     requires { length body.now ≤ LIMIT }
     ensures { Judges result (delta_came kept.now body.now) }
@@ -86,7 +105,7 @@ fn judge_delta<S: DotSet>(alloc: Global, kept: &Replica<S>, body: &[u8]) -> Resu
         return Err(Stop::Refused(Fault::WrongAsker));
     }
     let digest = Digest::of(alloc, kept.state())?;
-    if !check_answer(&digest, &answer) {
+    if !passes(&digest, &answer) {
         return Err(Stop::Refused(Fault::BadCertificate));
     }
     Ok(Act::Receive(answer.state))

@@ -1,7 +1,26 @@
 //! Laws of streams and sessions.
+ghost use Rattle.rds_session.specs.ByMessages.{IsByMessages, IsQuiet};
+ghost use Rattle.rds_session.specs.Meeting.{BothEnd, ReceiveDeltas};
 ghost use Rattle.rds_session.specs.Stream.{AreSplitOnce};
 
-/// A stream is messages and a rest in one way at most, however each message was cut into chunks.
+/// A stream is messages and a rest in one way at most, however each message was cut into chunks. The function does
+/// nothing: its contract is this law.
 pub fn streams_are_split_once()
     ensures { AreSplitOnce }
+{}
+
+/// What a session makes of a stream is what it makes of its messages, however each was cut into chunks; and nothing
+/// is answered before a message's closing chunk, but where the message is over the limit. The function does nothing:
+/// its contract is these laws.
+pub fn a_course_is_by_messages()
+    ensures messages { IsByMessages }
+    ensures quiet { IsQuiet }
+{}
+
+/// Two sessions, each of which hears a beginning of what the other sent, wherever it was cut: each has received
+/// nothing, or exactly what the other has and it lacks. Where each hears all that the other sent, both have received
+/// that and both are done. The function does nothing: its contract is these laws.
+pub fn two_sessions()
+    ensures receive { ReceiveDeltas }
+    ensures end { BothEnd }
 {}

@@ -1,7 +1,6 @@
 //! The session of two replicas, as a machine over a stream of bytes: each tells what it has, and gets what it lacks.
 #![tactic(auto)]
 
-mod bodies;
 mod chunks;
 mod judging;
 mod laws;
@@ -11,7 +10,7 @@ mod step;
 mod talk;
 mod writing;
 
-pub use laws::streams_are_split_once;
+pub use laws::{a_course_is_by_messages, streams_are_split_once, two_sessions};
 pub use session::Session;
 pub use step::{Ended, Input, Output};
 pub use talk::Side;

@@ -5,10 +5,10 @@ ghost use Rattle.rds_session.specs.Messages.{hello_message, digest_message, delt
 ghost use Rattle.rds_session.specs.Sending.{SendsBody, SendsOne, SendsAll};
 ghost use Rattle.rds_session.specs.Session.{opening};
 
-use crate::bodies::{Hello, encode_delta, encode_digest, encode_hello};
 use crate::talk::{Act, Side, Turn};
 use crate::writing::put_message;
-use rds_delta::Digest;
+use rds_codec::{Hello, VERSION, encode_answer, encode_digest, encode_hello};
+use rds_delta::{Digest, certificate, delta};
 use rds_dots::DotSet;
 use rds_names::Fault;
 use rds_state::Replica;
@@ -29,7 +29,7 @@ fn send_hello<S: DotSet>(alloc: Global, send: &mut Vec<u8>, kept: &Replica<S>) -
     ensures { SendsOne send.old.items send.new.items (hello_message kept.now) result }
 {
     let hello = Hello {
-        version: 1,
+        version: VERSION,
         roster: kept.roster().copy(alloc)?,
         own: kept.own(),
     };
@@ -52,7 +52,9 @@ fn send_delta<S: DotSet>(
 ) -> Result<bool, Fault>
     ensures { SendsOne send.old.items send.new.items (delta_message kept.now peer digest.now) result }
 {
-    send_body(send, 3, encode_delta(alloc, peer, kept.state(), digest))
+    let delta = delta(alloc, kept.state(), digest)?;
+    let certificate = certificate(alloc, digest, &delta)?;
+    send_body(send, 3, encode_answer(alloc, peer, &delta, &certificate))
 }
 
 /// Adds a BYE with this code.
