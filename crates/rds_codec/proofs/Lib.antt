@@ -1,9 +1,14 @@
 mod Adding
+mod AnswerFormats
+mod CertificateFormats
 mod CounterFormats
+mod DigestFormats
 mod DotFormats
 mod EntryFormats
 mod EntryParts
 mod Format
+mod HelloFormats
+mod LargeParts
 mod Lengths
 mod Lists
 mod LiveFormats
@@ -19,6 +24,7 @@ mod RowsRead
 mod RunSteps
 mod SnapshotFormats
 mod StateFormats
+mod Subsets
 mod Texts
 mod Whole
 mod Within
