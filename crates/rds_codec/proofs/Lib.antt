@@ -1,13 +1,13 @@
 mod Adding
-mod AnswerFormats
+pub mod AnswerFormats
 mod CertificateFormats
 mod CounterFormats
-mod DigestFormats
+pub mod DigestFormats
 mod DotFormats
 mod EntryFormats
 mod EntryParts
 mod Format
-mod HelloFormats
+pub mod HelloFormats
 mod LargeParts
 mod Lengths
 mod Lists
@@ -26,5 +26,5 @@ mod SnapshotFormats
 mod StateFormats
 mod Subsets
 mod Texts
-mod Whole
+pub mod Whole
 mod Within
