@@ -1,5 +1,5 @@
 -- An answer is a format.
-use Rattle.std.proofs.Common.{◌≡◌, ℕ, ◌^◌, ◌<◌, ◌≤◌, List, ◌++◌, length, refl, ap, ◌∙◌, arith, length-append}
+use Rattle.std.proofs.Common.{◌≡◌, ℕ, ◌+◌, ◌^◌, ◌<◌, ◌≤◌, List, ◌++◌, length, refl, ap, ◌∙◌, arith, length-append}
 use Rattle.rds_state.specs.Value.{StateValue}
 use Rattle.rds_delta.specs.declared.row.Row.{Row}
 use Rattle.rds_codec.specs.declared.limits.TheConstants.{LIMIT}
@@ -14,6 +14,7 @@ use Rattle.rds_codec.proofs.DotFormats.{TooMany}
 use Rattle.rds_codec.proofs.LargeParts.{large_first, large_second, LargeAfter}
 use Rattle.rds_codec.proofs.ManyDots.{many_of, of_many}
 use Rattle.rds_codec.proofs.PartFormats.{replica_format}
+use Rattle.rds_codec.proofs.Sequences.{three_lengths, three_added}
 use Rattle.rds_codec.proofs.StateFormats.{CanCountState, FitsState, state_format, state_within}
 use Rattle.rds_codec.proofs.Whole.{IsReaderOf, reader_of}
 
@@ -84,3 +85,13 @@ answer_within a le =
 pub answer_reader : (replicas : ℕ) → IsReaderOf (answer_kind replicas) (answer_at replicas)
 answer_reader replicas =
     reader_of (answer_kind replicas) (answer_at replicas) (FitsAnswer replicas) (Large replicas) (answer_format replicas) (λ a h. h.0) (λ a is le. (is, answer_within a le)) (many replicas) (large replicas)
+
+-- ---- its text, part after part
+
+pub answer_length : (a : AnswerValue) → length (answer_text a) ≡ 1 + length (state_text a.state) + length (certificate_text a.certificate)
+unfolding answer_text
+answer_length a = three_lengths (byte_text a.asker) (state_text a.state) (certificate_text a.certificate)
+
+pub answer_parts : (v : AnswerValue) (a b c d : List ℕ) → b ≡ a ++ byte_text v.asker → c ≡ b ++ state_text v.state → d ≡ c ++ certificate_text v.certificate → d ≡ a ++ answer_text v
+unfolding answer_text
+answer_parts v a b c d p q r = three_added a b c d (byte_text v.asker) (state_text v.state) (certificate_text v.certificate) p q r

@@ -1,5 +1,5 @@
 -- A hello is a format.
-use Rattle.std.proofs.Common.{◌≡◌, ℕ, ◌<◌, ◌≤◌, true, List, ◌++◌, length, refl, arith}
+use Rattle.std.proofs.Common.{◌≡◌, ℕ, ◌+◌, ◌<◌, ◌≤◌, true, List, ◌++◌, length, refl, arith}
 use Rattle.std.proofs.lemmas.Bool.{eqb-true}
 use Rattle.rds_names.specs.Roster.{RosterValue}
 use Rattle.rds_codec.specs.declared.hellos.Hello.{Hello}
@@ -8,6 +8,7 @@ use Rattle.rds_codec.specs.Spelling.{byte_text, member_text}
 use Rattle.rds_codec.specs.Values.{IsMember}
 use Rattle.rds_codec.proofs.Format.{IsPlain, Never, byte_format, plain_pair, made_format, when_format}
 use Rattle.rds_codec.proofs.PartFormats.{IsMemberPair, member_format}
+use Rattle.rds_codec.proofs.Sequences.{two_lengths, two_added}
 use Rattle.rds_codec.proofs.Whole.{IsReaderOf, reader_of}
 
 abbrev IsVersion : ℕ → Type 0
@@ -42,3 +43,13 @@ hello_format = made_format hello_by parts_of _ (λ p. byte_text p.0 ++ member_te
 
 pub hello_reader : IsReaderOf hello_kind hello_at
 hello_reader = reader_of hello_kind hello_at IsHello Never hello_format (λ h is. is) (λ h is le. is) (λ bytes h. absurd h) (λ bytes le h. absurd h)
+
+-- ---- its text, part after part
+
+pub hello_length : (h : Hello) → length (hello_text h) ≡ 1 + length (member_text h.roster h.own)
+unfolding hello_text
+hello_length h = two_lengths (byte_text h.version) (member_text h.roster h.own)
+
+pub hello_parts : (h : Hello) (a b c : List ℕ) → b ≡ a ++ byte_text h.version → c ≡ b ++ member_text h.roster h.own → c ≡ a ++ hello_text h
+unfolding hello_text
+hello_parts h a b c p q = two_added a b c (byte_text h.version) (member_text h.roster h.own) p q

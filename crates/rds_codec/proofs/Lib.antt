@@ -7,6 +7,7 @@ mod DotFormats
 mod EntryFormats
 mod EntryParts
 mod Format
+mod HaveTexts
 pub mod HelloFormats
 mod LargeParts
 mod Lengths
@@ -22,9 +23,10 @@ mod RowSets
 mod RowsLive
 mod RowsRead
 mod RunSteps
+mod Sequences
 mod SnapshotFormats
 mod StateFormats
-mod Subsets
+pub mod Subsets
 mod Texts
 pub mod Whole
 mod Within
