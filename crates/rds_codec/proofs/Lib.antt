@@ -1,14 +1,13 @@
 mod Adding
-pub mod AnswerFormats
+mod AnswerFormats
 mod CertificateFormats
 mod CounterFormats
-pub mod DigestFormats
+mod DigestFormats
 mod DotFormats
 mod EntryFormats
 mod EntryParts
 mod Format
-mod HaveTexts
-pub mod HelloFormats
+mod HelloFormats
 mod LargeParts
 mod Lengths
 mod Lists
@@ -26,7 +25,7 @@ mod RunSteps
 mod Sequences
 mod SnapshotFormats
 mod StateFormats
-pub mod Subsets
+mod Subsets
 mod Texts
-pub mod Whole
+mod Whole
 mod Within

@@ -71,12 +71,12 @@ hello_suits kept h =
     (record { fits = tt })
 
 abbrev passing : ReplicaValue → AnswerValue → Result Said Stop
-passing kept a = cond (passes (digest_of kept.state) a) (Ok (Receives a.state)) (Err (Refused BadCertificate))
+passing kept a = cond (passes (digest_of kept.state) a.state a.certificate) (Ok (Receives a.state)) (Err (Refused BadCertificate))
 
 delta_suits : (q : ℕ) (g : DigestValue) (kept : ReplicaValue) (a : AnswerValue) → Suits (ForDelta q g) (delta_judged kept a)
 delta_suits q g kept a =
     if_suits (ForDelta q g) (eqb a.asker kept.own) (passing kept a) (Err (Refused WrongAsker))
-    (if_suits (ForDelta q g) (passes (digest_of kept.state) a) (Ok (Receives a.state)) (Err (Refused BadCertificate)) (record { fits = tt }) (record { fits = tt }))
+    (if_suits (ForDelta q g) (passes (digest_of kept.state) a.state a.certificate) (Ok (Receives a.state)) (Err (Refused BadCertificate)) (record { fits = tt }) (record { fits = tt }))
     (record { fits = tt })
 
 body_suits : (kept : ReplicaValue) (turn : Awaited) (body : List ℕ) → Suits turn (body_came kept turn body)

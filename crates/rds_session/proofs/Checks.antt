@@ -1,5 +1,5 @@
 -- The tests of the definitions, and what the calls below answer.
-use Rattle.std.proofs.Common.{◌≡◌, ◌<◌, ℕ, Bool, true, false, ◌&&◌, ◌||◌, ◌↔◌, List, [], ◌∷◌, ◌⊎◌, inl, inr, Option, Some, None, is_some, refl, sym, ap, ◌∙◌, subst, cond, ltb, eqb}
+use Rattle.std.proofs.Common.{◌≡◌, ◌<◌, ℕ, Bool, true, false, ◌&&◌, ◌||◌, ◌↔◌, List, [], ◌∷◌, ◌⊎◌, inl, inr, Option, Some, None, is_some, refl, sym, ap, ◌∙◌, subst, cond, ltb, eqb, arith}
 use mathlib.Core.Bool.{false≢true}
 use Rattle.std.specs.Bool.{Decides}
 use Rattle.std.specs.Cmp.Lexicographic.{pointwise}
@@ -22,6 +22,7 @@ use Rattle.rds_counts.specs.PlaceOrder.{place_total, place_exact}
 use Rattle.rds_counts.specs.Place.{Place}
 use Rattle.rds_counts.specs.declared.row.Which.{Which}
 use Rattle.rds_counts.specs.declared.row.Which.TheVariants.{P, N}
+use Rattle.rds_state.specs.Coordinates.{Coordinates}
 use Rattle.rds_state.specs.Value.{StateValue, coordinates}
 use Rattle.rds_state.proofs.JoinLaws.{same_value}
 use Rattle.rds_delta.specs.Claims.{IsCertificate}
@@ -30,8 +31,9 @@ use Rattle.rds_delta.specs.Least.{IsAbove, least}
 use Rattle.rds_delta.specs.Ranks.{life_rank}
 use Rattle.rds_delta.specs.declared.row.Row.{Row}
 use Rattle.rds_delta.specs.declared.row.Row.TheVariants.{Live, Dead, Count}
+use Rattle.rds_delta.proofs.LeastLaws.{least_above}
 use Rattle.rds_delta.proofs.Grouping.{certificate_is, grouped_certificate}
-use Rattle.rds_codec.specs.AnswerValues.{AnswerValue}
+use Rattle.rds_codec.specs.AnswerTexts.{answer}
 use Rattle.rds_session.specs.Checked.{is_later, is_greater, is_all_above, same_dot, same_run, same_which, same_row, certificate_of, least_state, passes}
 use Rattle.rds_session.specs.Judging.{same_names}
 
@@ -110,10 +112,10 @@ keys_decide {K} {X} {R} o exact m test = (
   λ each. all_pass (eq_by_cmp R) test (map.keys m) (λ k. ap is_eq (tied_itself o k)) (λ d has. each d (map.contains_key-keys m d ∙ has)),
 )
 
-Lives_above : DigestValue → StateValue → Type 0
+abbrev Lives_above : DigestValue → StateValue → Type 0
 Lives_above g v = (d : Dot) → is_some (map.get v.lives d) ≡ true → rank_in g d < life_rank (map.get v.lives d)
 
-Numbers_above : DigestValue → StateValue → Type 0
+abbrev Numbers_above : DigestValue → StateValue → Type 0
 Numbers_above g v = (q : Place) → 0 < number v.counts q → number g.counts q < number v.counts q
 
 lives_decide : (g : DigestValue) (v : StateValue) → Decides (list_all (is_later g v) (map.keys v.lives)) (Lives_above g v)
@@ -147,8 +149,8 @@ certificate_decides g v rows = Decides-like (pointwise same_row rows (certificat
     (slice_eq-Decides rows_decide rows (certificate_of g v) (pointwise same_row rows (certificate_of g v)) refl)
 
 -- an exact check is the test
-pub passes_are : (g : DigestValue) (a : AnswerValue) (yes : Bool) → (yes ≡ true) ↔ (IsAbove (coordinates a.state) (ranks_in g) × IsCertificate (ranks_in g) a.state a.certificate) → yes ≡ passes g a
-passes_are g a yes exact = same_from_decides yes (passes g a) exact (Decides-and _ _ (above_decides g a.state) (certificate_decides g a.state a.certificate))
+pub passes_are : (g : DigestValue) (v : StateValue) (rows : List Row) (holds : Bool) → (holds ≡ true) ↔ (IsAbove (coordinates v) (ranks_in g) × IsCertificate (ranks_in g) v rows) → holds ≡ passes g v rows
+passes_are g v rows holds exact = same_from_decides holds (passes g v rows) exact (Decides-and _ _ (above_decides g v) (certificate_decides g v rows))
 
 -- rosters of one group are the same exactly where their names are
 pub names_are : (h k : RosterValue) (same : Bool) → bytes_eq h.group k.group ≡ true → (same ≡ true) ↔ (h ≡ k) → same ≡ same_names h.names k.names
@@ -159,10 +161,10 @@ names_are h k same group exact =
 
 -- ---- the least delta as a value
 
-kept_lives : (g : DigestValue) (v : StateValue) (d : Dot) → map.get (map.retain_keys v.lives (is_later g v)) d ≡ cond (is_later g v d) (map.get v.lives d) None
+pub kept_lives : (g : DigestValue) (v : StateValue) (d : Dot) → map.get (map.retain_keys v.lives (is_later g v)) d ≡ cond (is_later g v d) (map.get v.lives d) None
 kept_lives g v d = map.get-retain_keys v.lives (is_later g v) d (λ x e. ap (is_later g v) (sym (dots_exact d x e)))
 
-kept_numbers : (g : DigestValue) (v : StateValue) (q : Place) → number (map.retain_keys v.counts (is_greater g v)) q ≡ cond (is_greater g v q) (number v.counts q) 0
+pub kept_numbers : (g : DigestValue) (v : StateValue) (q : Place) → number (map.retain_keys v.counts (is_greater g v)) q ≡ cond (is_greater g v q) (number v.counts q) 0
 kept_numbers g v q =
     ap number_from (map.get-retain_keys v.counts (is_greater g v) q (λ x e. ap (is_greater g v) (sym (place_exact q x e)))) ∙ by_test (is_greater g v q) (map.get v.counts q)
   where
@@ -179,3 +181,17 @@ least_coordinates v g =
 -- a delta that is the least is the value of the definition
 pub least_is : (v : StateValue) (g : DigestValue) (w : StateValue) → coordinates w ≡ least (coordinates v) (ranks_in g) → w ≡ least_state v g
 least_is v g w e = same_value w (least_state v g) (e ∙ sym (least_coordinates v g))
+
+-- the least delta and its certificate pass
+pub least_passes : (v : StateValue) (g : DigestValue) → passes g (least_state v g) (certificate_of g (least_state v g)) ≡ true
+least_passes v g =
+    let delta = least_state v g in
+    let above : IsAbove (coordinates delta) (ranks_in g) = subst (λ (c : Coordinates). IsAbove c (ranks_in g)) (sym (least_coordinates v g)) (least_above (coordinates v) (ranks_in g)) in
+    and_true _ _ ((above_decides g delta).1 above) ((certificate_decides g delta (certificate_of g delta)).1 (grouped_certificate (ranks_in g) delta))
+
+-- what is sent in answer to a digest
+pub delta_is : (v : StateValue) (g : DigestValue) (asker : ℕ) (delta : StateValue) (rows : List Row) → coordinates delta ≡ least (coordinates v) (ranks_in g) → IsCertificate (ranks_in g) delta rows
+    → answer asker delta rows ≡ answer asker (least_state v g) (certificate_of g (least_state v g))
+delta_is v g asker delta rows is certified =
+    let whole : answer asker delta rows ≡ answer asker delta (certificate_of g delta) = ap (answer asker delta) (certificate_is (ranks_in g) delta rows certified) in
+    whole ∙ ap (λ (w : StateValue). answer asker w (certificate_of g w)) (least_is v g delta is)

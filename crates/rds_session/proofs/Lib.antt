@@ -2,6 +2,7 @@ pub mod Accepting
 pub mod Checks
 pub mod Course
 pub mod Cutting
+pub mod Meeting
 pub mod Messages
 pub mod Moves
 pub mod Runs
@@ -9,3 +10,6 @@ pub mod Scans
 pub mod Sendings
 pub mod Splitting
 pub mod Talking
+pub mod Tellings
+pub mod Told
+pub mod Turns

@@ -154,14 +154,17 @@ ran_all s new sent more piece (b ∷ rest) none r = absurd (omega arith)
 pub over_is : (e : Ended) → (e ≡ Done) ⊎ ((f : Fault) × (e ≡ Failed f)) → IsOver e
 over_is e h = elim h [ inl d ↦ subst IsOver (sym d) tt | inr f ↦ subst IsOver (sym f.1) tt ]
 
-pub ran_whole : (s new : Standing) (sent more piece rest m n : List ℕ) (u : Under) → s.ended ≡ Going → (scan piece s.under ≡ Whole m rest) × (u ≡ start) → n ≡ m
-    → (new ≡ (message_comes (with_under s u) n).0) × (more ≡ sent ++ (message_comes (with_under s u) n).1) → Ran s sent piece new more rest
-ran_whole s new sent more piece rest m n u going e same done =
-    let f : Sent = message_comes (with_under s u) n in
-    let at : message_comes (with_under s u) n ≡ message_comes (with_under s start) m =
-    ap (λ (v : Under). message_comes (with_under s v) n) e.1 ∙ ap (λ (x : List ℕ). message_comes (with_under s start) x) same in
-    ran_message s new sent more piece rest m going e.0 (done.0 ∙ ap (λ (q : Sent). q.0) at) (done.1 ∙ ap (λ (q : Sent). sent ++ q.1) at)
+pub ran_whole : (s mid new : Standing) (sent more piece rest m n : List ℕ) → s.ended ≡ Going → scan piece s.under ≡ Whole m rest → mid ≡ with_under s start → n ≡ m
+    → (new ≡ (message_comes mid n).0) × (more ≡ sent ++ (message_comes mid n).1) → Ran s sent piece new more rest
+ran_whole s mid new sent more piece rest m n going e mid-is same done =
+    let at : message_comes mid n ≡ message_comes (with_under s start) m = ap (λ (v : Standing). message_comes v n) mid-is ∙ ap (λ (x : List ℕ). message_comes (with_under s start) x) same in
+    ran_message s new sent more piece rest m going e (done.0 ∙ ap (λ (q : Sent). q.0) at) (done.1 ∙ ap (λ (q : Sent). sent ++ q.1) at)
 
-pub ran_too_long : (s new : Standing) (sent more piece : List ℕ) (u : Under) → s.ended ≡ Going → (scan piece s.under ≡ Long) × (u ≡ start)
-    → (new ≡ (refuses (with_under s u) TooLong).0) × (more ≡ sent ++ (refuses (with_under s u) TooLong).1) → Ran s sent piece new more []
-ran_too_long s new sent more piece u going e done = ran_long s new sent more piece going e.0 done.0 done.1
+pub ran_too_long : (s mid new : Standing) (sent more piece : List ℕ) → s.ended ≡ Going → scan piece s.under ≡ Long → mid ≡ with_under s start
+    → (new ≡ (refuses mid TooLong).0) × (more ≡ sent ++ (refuses mid TooLong).1) → Ran s sent piece new more []
+ran_too_long s mid new sent more piece going e mid-is done =
+    let at : refuses mid TooLong ≡ refuses s TooLong = ap (λ (v : Standing). refuses v TooLong) mid-is in
+    ran_long s new sent more piece going e (done.0 ∙ ap (λ (q : Sent). q.0) at) (done.1 ∙ ap (λ (q : Sent). sent ++ q.1) at)
+
+pub ran_on : (s new : Standing) (sent piece : List ℕ) (u : Under) → s.ended ≡ Going → scan piece s.under ≡ More u → new ≡ with_under s u → Ran s sent piece new sent []
+ran_on s new sent piece u going e is = subst (λ (t : Standing). Ran s sent piece t sent []) (sym is) (ran_more s sent piece u going e)

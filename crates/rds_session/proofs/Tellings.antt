@@ -1,15 +1,18 @@
 -- What a replica tells has a text, as the replica has.
 use Rattle.std.proofs.Common.{◌≡◌, ◌<◌, ◌≤◌, ◌+◌, ℕ, zero, suc, Bool, true, false, ◌&&◌, ◌||◌, cond, ltb, List, [], ◌∷◌, ◌++◌, length, Option, Some, None, refl, sym, ap, ◌∙◌, subst, arith}
 use mathlib.Core.Bool.{false≢true}
-use Rattle.std.specs.Prelude.{is_some, nat_lt, map as each}
+use Rattle.std.specs.Prelude.{◌==◌, is_some, nat_le, nat_lt, map as each}
 use Rattle.std.specs.Cmp.{tied_itself}
 use Rattle.std.specs.FinMap as map
+use Rattle.std.specs.FinMap.Entries.{below_all, is_sorted}
 use Rattle.std.specs.FinSet as set
 use Rattle.std.specs.List.{AllByRecursion, list_all, filter}
-use Rattle.std.specs.Ordering.{eq_by_cmp, is_eq}
+use Rattle.std.specs.Ordering.{eq_by_cmp, is_eq, is_lt}
+use Rattle.std.proofs.lemmas.Bool.{ltb-true}
 use Rattle.std.proofs.lemmas.Bool.Decides.{nat_tests}
+use lib.Dec.{T}
 use Rattle.rds_dots.specs.Ascending.{is_above, ascends}
-use Rattle.rds_dots.specs.Dots.{Dots, dot_cmp, is_dot, comes_after}
+use Rattle.rds_dots.specs.Dots.{Dots, IsRun, dot_cmp, is_dot, comes_after}
 use Rattle.rds_dots.specs.Merges.{and_true, and_left, and_right, less_of}
 use Rattle.rds_dots.specs.Order.{dots_total}
 use Rattle.rds_dots.specs.Sets.{same_dot}
@@ -17,7 +20,8 @@ use Rattle.rds_dots.specs.declared.dot.Dot.{Dot}
 use Rattle.rds_dots.specs.declared.dot.Run.{Run}
 use Rattle.rds_dots.specs.declared.dot.TheConstants.{MAX_SEQ}
 use Rattle.rds_counts.specs.Counted.{Counted, AreCountRows, counted, is_row, number, place}
-use Rattle.rds_counts.specs.Place.{Place}
+use Rattle.rds_counts.specs.CountedLemmas.{get-counted, number-row, number_in}
+use Rattle.rds_counts.specs.Place.{Place, place_cmp}
 use Rattle.rds_counts.specs.declared.row.CountRow.{CountRow}
 use Rattle.rds_counts.specs.declared.row.TheConstants.{MAX_COUNT}
 use Rattle.rds_counts.specs.declared.row.Which.{Which}
@@ -42,7 +46,7 @@ use Rattle.rds_delta.proofs.Whole.{certificate_rows}
 use Rattle.rds_codec.specs.AnswerTexts.{IsAnswerOf, answer}
 use Rattle.rds_codec.specs.CertificateTexts.{IsCertificateOf, IsReplicaOf, IsRowOf}
 use Rattle.rds_codec.specs.DigestTexts.{IsDigestOf}
-use Rattle.rds_codec.specs.Values.{AreCountsOf, AreDotsOf, IsCountRowOf, IsLiveRow, IsStateOf}
+use Rattle.rds_codec.specs.Values.{is_key_text, AreCountsOf, AreDotsOf, IsCountRowOf, IsLiveRow, IsStateOf}
 use Rattle.rds_codec.proofs.Subsets.{len_inside}
 use Rattle.rds_session.specs.Checked.{certificate_of, is_greater, is_later, least_state}
 use Rattle.rds_session.proofs.Checks.{kept_lives, kept_numbers}
@@ -202,9 +206,89 @@ module _ (n : ℕ) where
   counters_claimed peer [] peers are all = tt
   counters_claimed peer (r ∷ rs) peers are all =
       let range = row_range r.p r.n r.replica (and_left (is_row r) (list_all is_row rs) are) in
-      let is = (all.0.0, (range.1.1, all.0.1)) in
+      let is : (is_key_text r.key ≡ true) × IsReplicaOf n r.replica = (all.0.0, (range.1.1, all.0.1)) in
       let p = place r.key r.replica P in
       let m = place r.key r.replica N in
       let later = counters_claimed peer rs peers (and_right (is_row r) (list_all is_row rs) are) all.1 in
       number_claimed peer p r.p (number_rows m r.n (peer m) ++ counter_rows peer rs) peers is range.0
       (number_claimed peer m r.n (counter_rows peer rs) peers is range.1.0 later)
+
+-- ---- the numbers of counters are within their range
+
+chosen_within : (a b : Bool) (x y z : ℕ) → x ≤ MAX_COUNT → y ≤ MAX_COUNT → z ≤ MAX_COUNT → cond a x (cond b y z) ≤ MAX_COUNT
+chosen_within true b x y z p q r = p
+chosen_within false true x y z p q r = q
+chosen_within false false x y z p q r = r
+
+rows_within : (rs : List CountRow) → list_all is_row rs ≡ true → (q : Place) → number_in rs q ≤ MAX_COUNT
+rows_within [] are q = omega arith
+rows_within (r ∷ rs) are q =
+    let range = row_range 0 r.p r.n r.replica (and_left (is_row r) (list_all is_row rs) are) in
+    let later = rows_within rs (and_right (is_row r) (list_all is_row rs) are) q in
+    subst (λ (m : ℕ). m ≤ MAX_COUNT) (sym (number-row q r rs))
+    (chosen_within _ _ r.p r.n (number_in rs q) range.0 range.1.0 later)
+
+counts_within : (n : ℕ) (m : Counted) → AreCountsOf n m → (q : Place) → number m q ≤ MAX_COUNT
+counts_within n m h q = subst (λ (k : ℕ). k ≤ MAX_COUNT) (get-counted h.rows m h.value q) (rows_within h.rows h.are_rows.are q)
+
+-- ---- the whole answer
+
+both_true : (a b : Bool) → (a && b) ≡ true → (a ≡ true) × (b ≡ true)
+both_true a b h = (and_left a b h, and_right a b h)
+
+entries_rise : (es : List (Dot × Life)) → is_sorted dot_cmp es ≡ true → ascends (keys es) ≡ true
+entries_rise [] h = refl
+entries_rise (e ∷ es) h =
+    let both = both_true (below_all dot_cmp e.0 es) (is_sorted dot_cmp es) h in
+    and_true _ _ (below_keys e.0 es ∙ both.0) (entries_rise es both.1)
+  where
+    below_keys : (d : Dot) (rs : List (Dot × Life)) → list_all (is_above d) (keys rs) ≡ below_all dot_cmp d rs
+    below_keys d [] = refl
+    below_keys d (r ∷ rs) = ap (λ b. is_lt (dot_cmp d r.0) && b) (below_keys d rs)
+
+of_T : (b : Bool) → T b → b ≡ true
+of_T true h = refl
+of_T false h = absurd h
+
+some_life : (o : Option Life) (l : Life) → o ≡ Some l → is_some o ≡ true
+some_life o l e = ap is_some e
+
+kept_above : (g : DigestValue) (v : StateValue) (d : Dot) (l : Life) (b : Bool) → is_later g v d ≡ b → cond b (map.get v.lives d) None ≡ Some l → rank_in g d < life_rank (Some l)
+kept_above g v d l true later e = subst (λ (o : Option Life). rank_in g d < life_rank o) e (ltb-true (rank_in g d) (life_rank (map.get v.lives d)) later)
+kept_above g v d l false later e = absurd (let bad : None ≡ Some l = e in cc)
+
+one_filtered : (n : ℕ) (peer : Dot → ℕ) (e : Dot × Life) (es : List (Dot × Life)) (b : Bool) → IsOfLife n peer e.0 e.1 → AllByRecursion (λ (x : Dot × Life). IsOfLife n peer x.0 x.1) es
+    → AllByRecursion (λ (x : Dot × Life). IsOfLife n peer x.0 x.1) (cond b (e ∷ es) es)
+one_filtered n peer e es true one all = (one, all)
+one_filtered n peer e es false one all = all
+
+filtered : (n : ℕ) (peer : Dot → ℕ) (test : Dot × Life → Bool) (es : List (Dot × Life)) → AllByRecursion (λ (e : Dot × Life). IsOfLife n peer e.0 e.1) es → AllByRecursion (λ (e : Dot × Life). IsOfLife n peer e.0 e.1) (filter test es)
+filtered n peer test [] h = tt
+filtered n peer test (e ∷ es) h = one_filtered n peer e (filter test es) (test e) h.0 (filtered n peer test es h.1)
+
+module _ (n : ℕ) (v : StateValue) (g : DigestValue) (h : IsStateOf n v) (k : IsDigestOf n g) where
+  life_is : (d : Dot) (l : Life) → map.get (least_state v g).lives d ≡ Some l → IsOfLife n (rank_in g) d l
+  life_is d l e =
+      let kept = delta_is n v g h in
+      let is = kept.dots d (contains-seen_of (least_state v g).lives d ∙ some_life (map.get (least_state v g).lives d) l e) in
+      (is.0, (is.1, kept_above g v d l (is_later g v d) refl (sym (kept_lives g v d) ∙ e)))
+
+  lives_are : AllByRecursion (λ (e : Dot × Life). IsOfLife n (rank_in g) e.0 e.1) (map.entries (least_state v g).lives)
+  lives_are =
+      let lives = (least_state v g).lives in
+      each_row (IsOfLife n (rank_in g)) (map.entries lives) (entries_rise (map.entries lives) (of_T (is_sorted dot_cmp (map.entries lives)) (map.entries_sorted lives)))
+      (λ d l found. life_is d l (map.get-entries lives d ∙ found))
+
+  certificate_is_of : IsCertificateOf n (certificate_of g (least_state v g))
+  certificate_is_of =
+      let kept = delta_is n v g h in
+      let delta = least_state v g in
+      let rs = kept.counts.rows in
+      let counters = counters_claimed n (number g.counts) rs (counts_within n g.counts k.counts) kept.counts.are_rows.are kept.counts.each_row in
+      let is : certificate_of g delta ≡ rows_after (rank_in g) delta.lives None (counter_rows (number g.counts) rs) = certificate_rows (ranks_in g) delta rs kept.counts.are_rows (sym kept.counts.value) in
+      subst (IsCertificateOf n) (sym is) (lives_claimed n (rank_in g) (after_of None delta.lives) (counter_rows (number g.counts) rs) (filtered n (rank_in g) (λ e. comes_after None e.0) (map.entries delta.lives) lives_are) counters)
+
+-- an answer of a state with a text, against a digest with one, has one
+pub answer_is : (n asker : ℕ) (v : StateValue) (g : DigestValue) → IsReplicaOf n asker → IsStateOf n v → IsDigestOf n g
+    → IsAnswerOf n (answer asker (least_state v g) (certificate_of g (least_state v g)))
+answer_is n asker v g is h k = record { asker = is; state = delta_is n v g h; certificate = certificate_is_of n v g h k }

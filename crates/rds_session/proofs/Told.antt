@@ -1,13 +1,18 @@
 -- What one replica tells another is accepted, message by message.
-use Rattle.std.proofs.Common.{◌≡◌, ℕ, ◌+◌, ◌<◌, ◌≤◌, Bool, true, false, cond, eqb, List, [], ◌∷◌, ◌++◌, length, Option, Some, Result, Ok, Err, refl, sym, ap, ◌∙◌, arith}
+use Rattle.std.proofs.Common.{◌≡◌, ℕ, ◌+◌, ◌<◌, ◌≤◌, Bool, true, false, cond, eqb, ◌&&◌, List, [], ◌∷◌, ◌++◌, length, Option, Some, Result, Ok, Err, refl, sym, ap, ◌∙◌, arith}
 use Rattle.std.specs.Cmp.Lexicographic.{pointwise}
 use Rattle.std.specs.Str.{bytes_eq}
 use Rattle.std.proofs.lemmas.Bool.{ne_eqb, eq-eqb}
+use Rattle.std.proofs.lemmas.Bool.Decides.{nat_tests}
 use Rattle.std.proofs.lemmas.List.{append-nil}
 use Rattle.std.proofs.lemmas.Slice.Eq.{bytes_eq-Decides, slice_eq-Decides}
 use Rattle.rds_names.specs.declared.fault.Fault.{Fault}
 use Rattle.rds_names.specs.declared.fault.Fault.TheVariants.{Extra}
-use Rattle.rds_names.specs.Roster.{RosterValue}
+use Rattle.std.specs.Prelude.{nat_le}
+use Rattle.rds_names.specs.Roster.{RosterValue, all_differ, are_names}
+use Rattle.rds_dots.specs.Merges.{and_left, and_right}
+use Rattle.rds_delta.specs.Least.{least}
+use Rattle.rds_codec.specs.CertificateTexts.{IsReplicaOf}
 use Rattle.rds_state.specs.Fits.{ReplicaValue}
 use Rattle.rds_state.specs.Value.{StateValue, coordinates}
 use Rattle.rds_delta.specs.Digested.{DigestValue, digest_of, ranks_in}
@@ -42,11 +47,18 @@ pub record IsTold (k from : ReplicaValue) : Type 0 where
   pub own_text : IsSnapshot k
   pub room : HasRoom from k
 
+le_true : (a b : ℕ) → nat_le a b ≡ true → a ≤ b
+le_true a b h = grind (arith, nat_tests)
+
 -- a text is read whole
 read_whole : {V : Type 0} (kind : Kind V) (read : Reader V) → IsReaderOf kind read → (v : V) → kind.is_value v → length (kind.text v) ≤ LIMIT → all_of read (kind.text v) ≡ Ok v
 read_whole {V} kind read is v h le =
     let e : read (kind.text v) ≡ Ok (v, []) = ap read (sym (append-nil (kind.text v))) ∙ is.again v [] h le in
     ap (λ (r : Result (V × List ℕ) Fault). r >>= λ x. cond (eqb (length x.1) 0) (Ok x.0) (Err Extra)) e
+
+-- a roster has at most 256 names
+names_few : (names : List (List ℕ)) → are_names names ≡ true → length names ≤ 256
+names_few names h = le_true (length names) 256 (and_right (nat_le 1 (length names)) (nat_le (length names) 256) (and_left (nat_le 1 (length names) && nat_le (length names) 256) (all_differ names) h))
 
 -- ---- HELLO
 
@@ -83,6 +95,10 @@ digest_accepted k from peer t =
 
 -- ---- DELTA and BYE
 
+-- the own number is a byte, below the roster's length
+own_is : (k : ReplicaValue) → IsSnapshot k → IsReplicaOf (length k.roster.names) k.own
+own_is k h = let few = names_few k.roster.names h.member.names in (omega (arith, few, h.member.own_number), h.member.own_number)
+
 pub delta_accepted : (k from : ReplicaValue) (peer : ℕ) (digest : DigestValue) → IsTold k from
     → accepted k (ForDelta peer digest) (delta_message from k.own (digest_of k.state)) ≡ Ok (Receives (least_state from.state (digest_of k.state)))
 unfolding accepted answer_in
@@ -93,9 +109,9 @@ delta_accepted k from peer digest t =
     let delta = least_state from.state g in
     let sent = answer k.own delta (certificate_of g delta) in
     let read : answer_in n (answer_text sent) ≡ Ok sent =
-    read_whole (answer_kind n) (answer_at n) (answer_reader n) sent (answer_is n k.own from.state g t.own_text.member.own_number (rw (← same) t.text.state) (digest_is n k.state t.own_text.state)) (omega (arith, t.room.delta)) in
+    read_whole (answer_kind n) (answer_at n) (answer_reader n) sent (answer_is n k.own from.state g (own_is k t.own_text) (rw (← same) t.text.state) (digest_is n k.state t.own_text.state)) (omega (arith, t.room.delta)) in
     let own : eqb k.own k.own ≡ true = eq-eqb _ _ refl in
-    ap (λ (r : Result AnswerValue Fault). read_then r (delta_judged k)) read ∙ rw (own, least_passes k.own from.state g) refl
+    ap (λ (r : Result AnswerValue Fault). read_then r (delta_judged k)) read ∙ rw (own, least_passes from.state g) refl
 
 pub bye_accepted : (k : ReplicaValue) → accepted k ForBye (bye_message 0) ≡ Ok Finishes
 unfolding accepted

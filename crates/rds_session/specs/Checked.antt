@@ -1,4 +1,4 @@
--- Whether an answer's delta is needed, component by component, and its certificate says so.
+-- Whether a delta is needed, component by component, and its certificate says so.
 use Rattle.std.specs.Prelude.{◌≡◌, ℕ, Bool, true, false, ◌&&◌, ◌==◌, nat_lt, List}
 use Rattle.std.specs.Cmp.Lexicographic.{pointwise}
 use Rattle.std.specs.FinMap as map
@@ -17,7 +17,6 @@ use Rattle.rds_delta.specs.Grouped.{grouped}
 use Rattle.rds_delta.specs.Ranks.{life_rank}
 use Rattle.rds_delta.specs.declared.row.Row.{Row}
 use Rattle.rds_delta.specs.declared.row.Row.TheVariants.{Live, Dead, Count}
-use Rattle.rds_codec.specs.AnswerValues.{AnswerValue}
 
 -- whether a life is above the digest's
 abbrev pub is_later : DigestValue → StateValue → Dot → Bool
@@ -57,5 +56,5 @@ same_row (Count k r w s p) (Count l t x u q) = bytes_eq k l && ((r == t) && (sam
 same_row _ _ = false
 
 -- the delta is above the digest, and the rows are its certificate
-abbrev pub passes : DigestValue → AnswerValue → Bool
-passes g a = is_all_above g a.state && pointwise same_row a.certificate (certificate_of g a.state)
+abbrev pub passes : DigestValue → StateValue → List Row → Bool
+passes g v rows = is_all_above g v && pointwise same_row rows (certificate_of g v)

@@ -100,7 +100,7 @@ digest_came kept peer body = read_then (digest_in (replicas_of kept) body) (λ d
 abbrev pub delta_judged : ReplicaValue → AnswerValue → Result Said Stop
 delta_judged kept a =
     if a.asker == kept.own
-    then (if passes (digest_of kept.state) a then Ok (Receives a.state) else Err (Refused BadCertificate))
+    then (if passes (digest_of kept.state) a.state a.certificate then Ok (Receives a.state) else Err (Refused BadCertificate))
     else Err (Refused WrongAsker)
 
 abbrev pub delta_came : ReplicaValue → List ℕ → Result Said Stop

@@ -2,6 +2,8 @@ pub mod Bodies
 pub mod ByMessages
 pub mod Checked
 pub mod Chunks
+pub mod Code
+pub mod Exchange
 pub mod Judging
 pub mod Meeting
 pub mod Messages

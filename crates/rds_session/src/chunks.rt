@@ -2,7 +2,7 @@
 //! of length 0.
 ghost use Rattle.std.specs.Prelude.{◌≡◌, IfOk, IfErr};
 ghost use Rattle.rds_names.specs.declared.fault.Fault.TheVariants.{Memory};
-ghost use Rattle.rds_session.specs.Chunks.{place_of};
+ghost use Rattle.rds_session.specs.Chunks.{place_of, under_of};
 
 use rds_names::Fault;
 use std::alloc::Global;
@@ -59,6 +59,16 @@ fn place_of(left: u16) -> Place
         Place::First
     } else {
         Place::Within(left)
+    }
+}
+
+/// What has come of a message, which is nothing where nothing is held.
+pub fn chunks_of(alloc: Global, under: Option<Chunks>) -> Chunks
+    ensures { result ≡ under_of under }
+{
+    match under {
+        Some(chunks) => chunks,
+        None => Chunks::new(alloc),
     }
 }
 

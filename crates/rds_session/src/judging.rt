@@ -1,17 +1,21 @@
 //! Judging a whole message.
-ghost use Rattle.std.specs.Prelude.{◌≡◌, ◌↔◌, ◌≤◌, IsTrue, true, length, IfErr, MatchResult};
+ghost use Rattle.std.specs.Prelude.{◌≡◌, ◌↔◌, ◌≤◌, IsTrue, true, length, IfOk, IfErr};
 ghost use Rattle.rds_codec.specs.declared.limits.TheConstants.{LIMIT};
+ghost use Rattle.rds_codec.specs.Reading.{Gives};
+ghost use Rattle.rds_session.specs.Bodies.{hello_in, digest_in, answer_in};
+ghost use Rattle.rds_delta.specs.Digested.{digest_of};
+ghost use Rattle.rds_names.specs.declared.fault.Fault.TheVariants.{Memory};
 ghost use Rattle.rds_session.specs.Judging.{Judges, awaited, bye_came, hello_came, digest_came, delta_came, body_came, accepted, type_of, other_version, same_names};
 ghost use Rattle.rds_session.specs.Checked.{passes};
 ghost use Rattle.std.specs.Str.{bytes_eq};
 ghost use Rattle.rds_session.specs.Messages.{fault_of_code};
 
 use crate::talk::{Act, Stop, Turn};
-use rds_codec::{Answer, decode_answer, decode_digest, decode_hello};
-use rds_delta::{Digest, check};
+use rds_codec::{Answer, Hello, decode_answer, decode_digest, decode_hello};
+use rds_delta::{Certificate, Digest, check};
 use rds_dots::DotSet;
 use rds_names::{Fault, Roster};
-use rds_state::Replica;
+use rds_state::{Replica, State};
 use std::alloc::Global;
 
 // What a BYE with a code other than 0 ends the session with.
@@ -51,8 +55,31 @@ fn is_other_version(body: &[u8]) -> bool
     }
 }
 
+#[tactic(auto, unfolding(crate::specs::Bodies::hello_in))]
+fn read_hello(alloc: Global, body: &[u8]) -> Result<Hello, Fault>
+    requires { length body.now ≤ LIMIT }
+    ensures { Gives (λ hello. hello) result (hello_in body.now) }
+{
+    decode_hello(alloc, body)
+}
+
+#[tactic(auto, unfolding(crate::specs::Bodies::digest_in))]
+fn read_digest<S: DotSet>(alloc: Global, replicas: u16, body: &[u8]) -> Result<Digest<S>, Fault>
+    requires { length body.now ≤ LIMIT }
+    ensures { Gives (λ digest. digest) result (digest_in replicas body.now) }
+{
+    decode_digest(alloc, replicas, body)
+}
+
+#[tactic(auto, unfolding(crate::specs::Bodies::answer_in))]
+fn read_answer<S: DotSet>(alloc: Global, replicas: u16, body: &[u8]) -> Result<Answer<S>, Fault>
+    requires { length body.now ≤ LIMIT }
+    ensures { Gives (λ answer. answer) result (answer_in replicas body.now) }
+{
+    decode_answer(alloc, replicas, body)
+}
+
 // Whether two rosters of one group have the same names in the same order.
-#[tactic(auto, using(crate::proofs::Checks::names_are))]
 fn has_same_names(hello: &Roster, kept: &Roster) -> bool
     requires { bytes_eq hello.now.group kept.now.group ≡ true }
     ensures { result ≡ same_names hello.now.names kept.now.names }
@@ -67,7 +94,7 @@ fn judge_hello<S: DotSet>(alloc: Global, kept: &Replica<S>, body: &[u8]) -> Resu
     if is_other_version(body) {
         return Err(Stop::Refused(Fault::WrongVersion));
     }
-    let hello = decode_hello(alloc, body)?;
+    let hello = read_hello(alloc, body)?;
     if hello.roster.group() != kept.roster().group() {
         return Err(Stop::Refused(Fault::WrongGroup));
     }
@@ -84,28 +111,33 @@ fn judge_digest<S: DotSet>(alloc: Global, kept: &Replica<S>, peer: u8, body: &[u
     requires { length body.now ≤ LIMIT }
     ensures { Judges result (digest_came kept.now peer body.now) }
 {
-    let digest = decode_digest(alloc, kept.roster().len(), body)?;
+    let digest = read_digest(alloc, kept.roster().len(), body)?;
     Ok(Act::Learn(peer, digest))
 }
 
-// Whether the answer's delta is needed by what was digested, component by component, and its certificate says so.
-#[tactic(auto, using(crate::proofs::Checks::passes_are))]
-fn passes<S: DotSet>(digest: &Digest<S>, answer: &Answer<S>) -> bool
-    ensures { result ≡ passes digest.now answer.now }
+// Whether a delta is needed here, component by component, and its certificate says so.
+fn passes<S: DotSet>(
+    alloc: Global,
+    kept: &Replica<S>,
+    delta: &State<S>,
+    certificate: &Certificate,
+) -> Result<bool, Fault>
+    ensures ok { IfOk result (λ holds. holds ≡ passes (digest_of kept.now.state) delta.now certificate.now) }
+    ensures err { IfErr result (λ fault. fault ≡ Memory) }
 {
-    check(digest, &answer.state, &answer.certificate)
+    let digest = Digest::of(alloc, kept.state())?;
+    Ok(check(&digest, delta, certificate))
 }
 
 fn judge_delta<S: DotSet>(alloc: Global, kept: &Replica<S>, body: &[u8]) -> Result<Act<S>, Stop>
     requires { length body.now ≤ LIMIT }
     ensures { Judges result (delta_came kept.now body.now) }
 {
-    let answer = decode_answer(alloc, kept.roster().len(), body)?;
+    let answer = read_answer(alloc, kept.roster().len(), body)?;
     if answer.asker != kept.own() {
         return Err(Stop::Refused(Fault::WrongAsker));
     }
-    let digest = Digest::of(alloc, kept.state())?;
-    if !passes(&digest, &answer) {
+    if !passes(alloc, kept, &answer.state, &answer.certificate)? {
         return Err(Stop::Refused(Fault::BadCertificate));
     }
     Ok(Act::Receive(answer.state))

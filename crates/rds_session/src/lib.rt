@@ -2,6 +2,7 @@
 #![tactic(auto)]
 
 mod chunks;
+mod exchanging;
 mod judging;
 mod laws;
 mod sending;
@@ -10,6 +11,7 @@ mod step;
 mod talk;
 mod writing;
 
+pub use exchanging::{Exchanged, exchange};
 pub use laws::{a_course_is_by_messages, streams_are_split_once, two_sessions};
 pub use session::Session;
 pub use step::{Ended, Input, Output};

@@ -4,7 +4,7 @@ ghost use Rattle.std.specs.Prelude.{◌≡◌, ◌<◌, ◌≤◌, [], Ok, IfOk,
 ghost use Rattle.std.specs.Option.{option_copied};
 ghost use Rattle.rds_names.specs.declared.fault.Fault.TheVariants.{Memory};
 
-use crate::chunks::{Chunks, Scanned};
+use crate::chunks::{Chunks, Scanned, chunks_of};
 use crate::judging::accept;
 use crate::sending::{send_bye, send_opening, send_replies};
 use crate::step::{Ended, Input, Output};
@@ -31,10 +31,13 @@ pub struct Session<'a, S: DotSet> {
 
 impl<'a, S: DotSet> Model for Session<'a, S> {
     ghost use Rattle.rds_session.specs.Chunks.{under_of};
+    ghost use Rattle.rds_session.specs.Code.{coded_standing};
     ghost use Rattle.rds_session.specs.Judging.{awaited};
     ghost use Rattle.rds_session.specs.Session.{Standing};
 
     ghost Value = { Standing };
+
+    ghost coded = { coded_standing };
 
     ghost view = { λ s. record {
       side = s.side;
@@ -51,11 +54,13 @@ impl<'a, S: DotSet> Session<'a, S> {
     ghost use Rattle.rds_state.specs.Fits.{ReplicaValue};
     ghost use Rattle.rds_session.specs.declared.step.Ended.TheVariants.{Going};
     ghost use Rattle.rds_session.specs.declared.talk.Side.{Side};
+    ghost use Rattle.rds_session.specs.Chunks.{scan};
     ghost use Rattle.rds_session.specs.Judging.{said};
     ghost use Rattle.rds_session.specs.Session.{failed, performed, refuses, answered, message_comes, opened, cut_off, Heard, Nothing};
-    ghost use Rattle.rds_session.specs.Steps.{came, Continues, Does, HasStanding, IsLastWord, IsOver, Ran, Runs, Steps, Works};
+    ghost use Rattle.rds_session.specs.Steps.{came, Continues, Does, HasScanned, HasStanding, IsLastWord, IsOver, Ran, Runs, Steps, Works};
 
     /// A session that hasn't begun. Takes no memory.
+    #[tactic(auto, unfolding(crate::specs::Session::course))]
     pub fn new(side: Side, kept: &'a Kept<S>) -> Session<'a, S>
         ensures { HasStanding side kept.now Nothing result }
     {
@@ -196,15 +201,8 @@ impl<'a, S: DotSet> Session<'a, S> {
             Ended::Going => {}
             Ended::Done | Ended::Failed(_) => return Ok(&[]),
         }
-        let mut chunks = match self.under.take() {
-            Some(chunks) => chunks,
-            None => Chunks::new(alloc),
-        };
-        match chunks.take(alloc, piece)? {
-            Scanned::More => {
-                self.under = Some(chunks);
-                Ok(&[])
-            }
+        match self.scan(alloc, piece)? {
+            Scanned::More => Ok(&[]),
             Scanned::Whole(message, rest) => {
                 self.message(alloc, &message, send)?;
                 Ok(rest)
@@ -213,6 +211,22 @@ impl<'a, S: DotSet> Session<'a, S> {
                 self.refuse(Fault::TooLong, send)?;
                 Ok(&[])
             }
+        }
+    }
+
+    // Scans bytes up to the end of a message. What has come of a message that goes on is held.
+    fn scan<'p>(&mut self, alloc: Global, piece: &'p [u8]) -> Result<Scanned<'p>, Fault>
+        ensures ok { IfOk result (HasScanned (scan piece.now self.old.under) self.old self.new) }
+        ensures err { IfErr result (λ e. (e ≡ Memory) × (self.new.received ≡ self.old.received)) }
+    {
+        let mut chunks = chunks_of(alloc, self.under.take());
+        match chunks.take(alloc, piece)? {
+            Scanned::More => {
+                self.under = Some(chunks);
+                Ok(Scanned::More)
+            }
+            Scanned::Whole(message, rest) => Ok(Scanned::Whole(message, rest)),
+            Scanned::Long => Ok(Scanned::Long),
         }
     }
 
