@@ -1,5 +1,5 @@
 -- Which message is accepted when.
-use Rattle.std.proofs.Common.{◌≡◌, ℕ, Bool, true, false, cond, eqb, ltb, List, [], ◌∷◌, Result, Ok, Err, refl}
+use Rattle.std.proofs.Common.{ℕ, Bool, true, false, cond, eqb, ltb, List, [], ◌∷◌, Result, Ok, Err}
 use Rattle.std.specs.Str.{bytes_eq}
 use Rattle.rds_names.specs.declared.fault.Fault.{Fault}
 use Rattle.rds_names.specs.declared.fault.Fault.TheVariants.{WrongAsker, Cut, Bad, Extra, BadCertificate, WrongVersion, WrongGroup, WrongRoster, SameReplica, OutOfTurn}

@@ -1,23 +1,22 @@
 -- A session's course, step by step.
-use Rattle.std.proofs.Common.{◌≡◌, ℕ, Bool, true, false, cond, eqb, ltb, List, [], ◌∷◌, ◌++◌, Option, Some, None, Result, Ok, Err, refl, sym, ap, ◌∙◌, append_assoc, subst, ◌⊎◌, inl, inr}
+use Rattle.std.proofs.Common.{◌≡◌, ℕ, Bool, true, false, cond, List, [], ◌∷◌, ◌++◌, Option, Some, None, Result, Ok, Err, refl, sym, ap, ◌∙◌, append_assoc, subst, ◌⊎◌, inl, inr}
 use Rattle.std.proofs.lemmas.List.{append-nil}
 use Rattle.rds_names.specs.declared.fault.Fault.{Fault}
 use Rattle.rds_names.specs.declared.fault.Fault.TheVariants.{Memory, TooLong, PeerEnded}
 use Rattle.rds_state.specs.Fits.{ReplicaValue}
 use Rattle.rds_state.specs.Value.{StateValue}
 use Rattle.rds_session.specs.declared.talk.Side.{Side}
-use Rattle.rds_session.specs.declared.talk.Side.TheVariants.{Client, Server}
 use Rattle.rds_session.specs.declared.talk.Stop.{Stop}
 use Rattle.rds_session.specs.declared.talk.Stop.TheVariants.{Refused, Left}
 use Rattle.rds_session.specs.declared.step.Ended.{Ended}
 use Rattle.rds_session.specs.declared.step.Ended.TheVariants.{Going, Done, Failed}
-use Rattle.rds_session.specs.Chunks.{Under, start, Scan, More, Whole, Long, byte_scanned}
+use Rattle.rds_session.specs.Chunks.{start, Scan, More, Whole, Long, byte_scanned}
 use Rattle.rds_session.specs.Judging.{Awaited, ForHello, ForDigest, ForDelta, ForBye, Said, Greets, Learns, Receives, Finishes, accepted, replies_of}
 use Rattle.rds_session.specs.Sending.{sending}
 use Rattle.rds_session.specs.Session.{Standing, Sent, fresh, failed, then_more, when_going, after_sending, performed, answered, message_comes, scanned, stay, byte_comes, run, opening, opened, cut_off, Heard, Nothing, So_far, All_of, heard_more, course, taken, stepped}
 use Rattle.rds_session.specs.Steps as steps
 use Rattle.rds_session.specs.Steps.{piece_of, ReceivedOnTheWay, RunsOut, Steps, Continues, IsOver}
-use Rattle.rds_session.proofs.Accepting.{IsActFor, IsFor, Suits, accepted_suits}
+use Rattle.rds_session.proofs.Accepting.{IsActFor, IsFor, accepted_suits}
 use Rattle.rds_session.proofs.Runs.{run_over, run-append}
 
 -- ---- what stays

@@ -1,5 +1,5 @@
 -- The whole talk of two sessions, and each beginning of it.
-use Rattle.std.proofs.Common.{◌≡◌, ℕ, zero, suc, ◌+◌, ◌<◌, ◌≤◌, Bool, true, false, cond, eqb, ltb, List, [], ◌∷◌, ◌++◌, length, Option, Some, None, Result, Ok, Err, refl, sym, ap, ◌∙◌, append_assoc, subst, arith, ◌⊎◌, inl, inr}
+use Rattle.std.proofs.Common.{◌≡◌, ℕ, ◌≤◌, true, false, ltb, List, [], ◌∷◌, ◌++◌, length, Option, Some, None, Ok, refl, sym, ap, ◌∙◌, append_assoc, subst, arith, ◌⊎◌, inl, inr}
 use Rattle.std.specs.List.{AllByRecursion}
 use Rattle.std.proofs.lemmas.Bool.{le-ltb}
 use Rattle.std.proofs.lemmas.List.{append-nil}
@@ -7,19 +7,17 @@ use Rattle.rds_state.specs.Fits.{ReplicaValue}
 use Rattle.rds_state.specs.Value.{StateValue}
 use Rattle.rds_delta.specs.Digested.{digest_of}
 use Rattle.rds_session.specs.declared.chunks.TheConstants.{MESSAGE_LIMIT}
-use Rattle.rds_session.specs.declared.talk.Side.{Side}
 use Rattle.rds_session.specs.declared.talk.Side.TheVariants.{Client, Server}
-use Rattle.rds_session.specs.declared.step.Ended.{Ended}
-use Rattle.rds_session.specs.declared.step.Ended.TheVariants.{Going, Done, Failed}
+use Rattle.rds_session.specs.declared.step.Ended.TheVariants.{Going, Done}
 use Rattle.rds_session.specs.Checked.{least_state}
 use Rattle.rds_session.specs.Chunks.{Under, start, Scan, Whole, scan, spelled}
-use Rattle.rds_session.specs.Judging.{Awaited, ForHello, ForDigest, ForDelta, ForBye, Said, Greets, Learns, Receives, Finishes, accepted, replies_of}
-use Rattle.rds_session.specs.Meeting.{IsBeginningOf, HasRoom, CanMeet, IsItsLeast, IsItsDelta, Hear, HearAll, AreDone, ReceiveDeltas, BothEnd}
+use Rattle.rds_session.specs.Judging.{Said, Greets, Learns, Receives, Finishes, accepted, replies_of}
+use Rattle.rds_session.specs.Meeting.{IsBeginningOf, CanMeet, IsItsDelta, Hear, HearAll, ReceiveDeltas, BothEnd}
 use Rattle.rds_session.specs.Messages.{hello_message, digest_message, delta_message, bye_message}
 use Rattle.rds_session.specs.Sending.{sending, then_sent}
-use Rattle.rds_session.specs.Session.{Standing, Sent, fresh, then_more, when_going, after_sending, performed, answered, message_comes, scanned, run, opening, opened, So_far, course}
+use Rattle.rds_session.specs.Session.{Standing, Sent, fresh, then_more, after_sending, performed, answered, message_comes, scanned, run, opening, opened, So_far, course}
 use Rattle.rds_session.specs.Steps.{IsOver}
-use Rattle.rds_session.proofs.Course.{Follows, run_follows, IsOrderly}
+use Rattle.rds_session.proofs.Course.{run_follows, IsOrderly}
 use Rattle.rds_session.proofs.Messages.{scan_spelled}
 use Rattle.rds_session.proofs.Runs.{run-append, run-scan, run_over}
 use Rattle.rds_session.proofs.Told.{IsTold, hello_accepted, digest_accepted, delta_accepted, bye_accepted, its_least}

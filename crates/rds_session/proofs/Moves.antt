@@ -1,13 +1,12 @@
 -- What single steps of a session make.
-use Rattle.std.proofs.Common.{◌≡◌, ℕ, Bool, true, false, List, [], ◌∷◌, ◌++◌, refl, sym, ap, ◌∙◌, append_assoc, subst}
-use Rattle.rds_names.specs.declared.fault.Fault.{Fault}
+use Rattle.std.proofs.Common.{◌≡◌, ℕ, Bool, true, false, List, ◌++◌, refl, sym, ap, ◌∙◌, append_assoc}
 use Rattle.rds_names.specs.declared.fault.Fault.TheVariants.{TooLong}
 use Rattle.rds_session.specs.Chunks.{spelled}
 use Rattle.rds_session.specs.Messages.{bye_message}
 use Rattle.rds_session.specs.Sending.{then_sent, sending}
 use Rattle.std.proofs.lemmas.List.{append-nil}
 use Rattle.rds_session.specs.declared.talk.Side.TheVariants.{Server}
-use Rattle.rds_session.specs.Session.{Standing, Sent, failed, after_sending, opened}
+use Rattle.rds_session.specs.Session.{Standing, failed, after_sending, opened}
 
 -- all messages were sent
 pub all_sent : (s : Standing) (old new : List ℕ) (p : List ℕ × Bool) → then_sent old p ≡ (new, true) → (s ≡ (after_sending s p).0) × (new ≡ old ++ (after_sending s p).1)

@@ -1,9 +1,8 @@
 -- Messages that are sent one after the other.
-use Rattle.std.proofs.Common.{◌≡◌, ℕ, ◌<◌, ◌≤◌, Bool, true, false, cond, ltb, List, [], ◌∷◌, ◌++◌, length, Result, Ok, Err, refl, sym, ap, ◌∙◌, arith, append_assoc}
+use Rattle.std.proofs.Common.{◌≡◌, ℕ, ◌<◌, ◌≤◌, Bool, true, false, ltb, List, [], ◌∷◌, ◌++◌, length, Result, Ok, Err, sym, ap, ◌∙◌, append_assoc}
 use Rattle.std.proofs.lemmas.Bool.{lt-ltb, le-ltb}
 use Rattle.std.proofs.lemmas.List.{append-nil}
 use Rattle.rds_names.specs.declared.fault.Fault.{Fault}
-use Rattle.rds_names.specs.declared.fault.Fault.TheVariants.{Memory}
 use Rattle.rds_session.specs.declared.chunks.TheConstants.{MESSAGE_LIMIT}
 use Rattle.rds_session.specs.Chunks.{spelled}
 use Rattle.rds_session.specs.Sending.{sending, then_sent, SendsOne, SendsAll}

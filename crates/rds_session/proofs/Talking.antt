@@ -1,14 +1,12 @@
 -- The course of a stream, message by message.
-use Rattle.std.proofs.Common.{◌≡◌, ℕ, ◌+◌, ◌-◌, ◌*◌, ◌<◌, ◌≤◌, Bool, true, false, cond, eqb, ltb, List, [], ◌∷◌, ◌++◌, length, refl, sym, ap, ◌∙◌, append_assoc, subst, ◌⊎◌, inl, inr, arith, map, length-append, Result, Ok, Err, take, drop}
+use Rattle.std.proofs.Common.{◌≡◌, ℕ, ◌+◌, ◌-◌, ◌*◌, ◌≤◌, Bool, true, false, cond, eqb, ltb, List, [], ◌∷◌, ◌++◌, length, refl, sym, ap, ◌∙◌, append_assoc, subst, inl, inr, arith, map, length-append, Result, Ok, Err}
 use Rattle.std.specs.List.{flat_map, AllByRecursion}
 use Rattle.std.proofs.lemmas.Bool.{cases_lt, lt-ltb, le-ltb, ne_eqb}
 use Rattle.std.proofs.lemmas.List.{append-nil}
 use Rattle.std.proofs.lemmas.List.Concat.{flat_map-cons}
-use Rattle.rds_names.specs.declared.fault.Fault.{Fault}
 use Rattle.rds_names.specs.declared.fault.Fault.TheVariants.{TooLong}
 use Rattle.rds_state.specs.Fits.{ReplicaValue}
 use Rattle.rds_session.specs.declared.chunks.TheConstants.{MESSAGE_LIMIT}
-use Rattle.rds_session.specs.declared.chunks.Place.{Place}
 use Rattle.rds_session.specs.declared.chunks.Place.TheVariants.{First, Second, Within}
 use Rattle.rds_session.specs.declared.talk.Side.{Side}
 use Rattle.rds_session.specs.declared.talk.Stop.{Stop}
@@ -16,11 +14,11 @@ use Rattle.rds_session.specs.declared.talk.Stop.TheVariants.{Refused, Left}
 use Rattle.rds_session.specs.declared.step.Ended.{Ended}
 use Rattle.rds_session.specs.declared.step.Ended.TheVariants.{Going, Done, Failed}
 use Rattle.rds_session.specs.Chunks.{Under, start, Scan, More, Whole, Long, scan, chunk_text, message_text}
-use Rattle.rds_session.specs.Stream.{IsChunk, AreChunks, joined, IsPart, Splits, IsChunkFront}
-use Rattle.rds_session.specs.Judging.{Said, Greets, Learns, Receives, Finishes, accepted, replies_of}
+use Rattle.rds_session.specs.Stream.{AreChunks, joined, IsPart, IsChunkFront}
+use Rattle.rds_session.specs.Judging.{Said, accepted, replies_of}
 use Rattle.rds_session.specs.Sending.{sending}
 use Rattle.rds_session.specs.Steps.{IsOver}
-use Rattle.rds_session.specs.Session.{Standing, Sent, fresh, failed, then_more, when_going, refuses, after_sending, performed, answered, message_comes, scanned, run, opened, opening, So_far, course}
+use Rattle.rds_session.specs.Session.{Standing, Sent, fresh, failed, then_more, when_going, refuses, after_sending, performed, answered, message_comes, scanned, run, opened, opening, course}
 use Rattle.rds_session.specs.ByMessages.{judged, talk, IsByMessages, IsQuiet}
 use Rattle.rds_session.proofs.Messages.{scan_message, scan_message_long, scan_chunks}
 use Rattle.rds_session.proofs.Scans.{at, at-place, scan_run}

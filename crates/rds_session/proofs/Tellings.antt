@@ -1,41 +1,39 @@
 -- What a replica tells has a text, as the replica has.
-use Rattle.std.proofs.Common.{◌≡◌, ◌<◌, ◌≤◌, ◌+◌, ℕ, zero, suc, Bool, true, false, ◌&&◌, ◌||◌, cond, ltb, List, [], ◌∷◌, ◌++◌, length, Option, Some, None, refl, sym, ap, ◌∙◌, subst, arith}
+use Rattle.std.proofs.Common.{◌≡◌, ◌<◌, ◌≤◌, ◌+◌, ℕ, zero, suc, Bool, true, false, ◌&&◌, ◌||◌, cond, List, [], ◌∷◌, ◌++◌, Option, Some, None, refl, sym, ap, ◌∙◌, subst, arith}
 use mathlib.Core.Bool.{false≢true}
 use Rattle.std.specs.Prelude.{◌==◌, is_some, nat_le, nat_lt, map as each}
 use Rattle.std.specs.Cmp.{tied_itself}
 use Rattle.std.specs.FinMap as map
 use Rattle.std.specs.FinMap.Entries.{below_all, is_sorted}
-use Rattle.std.specs.FinSet as set
 use Rattle.std.specs.List.{AllByRecursion, list_all, filter}
 use Rattle.std.specs.Ordering.{eq_by_cmp, is_eq, is_lt}
 use Rattle.std.proofs.lemmas.Bool.{ltb-true}
 use Rattle.std.proofs.lemmas.Bool.Decides.{nat_tests}
 use lib.Dec.{T}
 use Rattle.rds_dots.specs.Ascending.{is_above, ascends}
-use Rattle.rds_dots.specs.Dots.{Dots, IsRun, dot_cmp, is_dot, comes_after}
+use Rattle.rds_dots.specs.Dots.{IsRun, dot_cmp, is_dot, comes_after}
 use Rattle.rds_dots.specs.Merges.{and_true, and_left, and_right, less_of}
 use Rattle.rds_dots.specs.Order.{dots_total}
 use Rattle.rds_dots.specs.Sets.{same_dot}
 use Rattle.rds_dots.specs.declared.dot.Dot.{Dot}
 use Rattle.rds_dots.specs.declared.dot.Run.{Run}
 use Rattle.rds_dots.specs.declared.dot.TheConstants.{MAX_SEQ}
-use Rattle.rds_counts.specs.Counted.{Counted, AreCountRows, counted, is_row, number, place}
+use Rattle.rds_counts.specs.Counted.{Counted, counted, is_row, number, place}
 use Rattle.rds_counts.specs.CountedLemmas.{get-counted, number-row, number_in}
-use Rattle.rds_counts.specs.Place.{Place, place_cmp}
+use Rattle.rds_counts.specs.Place.{Place}
 use Rattle.rds_counts.specs.declared.row.CountRow.{CountRow}
 use Rattle.rds_counts.specs.declared.row.TheConstants.{MAX_COUNT}
-use Rattle.rds_counts.specs.declared.row.Which.{Which}
 use Rattle.rds_counts.specs.declared.row.Which.TheVariants.{P, N}
 use Rattle.rds_names.specs.declared.entry.Entry.{Entry}
-use Rattle.rds_life.specs.Life.{Life, Live, Dead, Lived, entry_of, keys, live_rows, seen_of}
+use Rattle.rds_life.specs.Life.{Life, Live, Dead, entry_of, keys, live_rows, seen_of}
 use Rattle.rds_life.proofs.Views.{contains-seen_of, find-live_rows, rise-live_rows}
 use Rattle.rds_state.specs.Value.{StateValue, coordinates}
 use Rattle.rds_state.proofs.JoinLaws.{same_value}
-use Rattle.rds_delta.specs.Claims.{Claim, OfLive, OfDead, OfCount, claims, claim_at, goes_on, life_claim}
+use Rattle.rds_delta.specs.Claims.{Claim, OfLive, OfDead, OfCount, claim_at, goes_on, life_claim}
 use Rattle.rds_delta.specs.CounterRows.{counter_rows, number_rows}
 use Rattle.rds_delta.specs.Digested.{DigestValue, IsInside, digest_of, rank_in, ranks_in}
-use Rattle.rds_delta.specs.Grouped.{dead_front, front, grouped, grouped_onto, run_of}
-use Rattle.rds_delta.specs.Higher.{higher, higher_row, higher_rows, kept_row}
+use Rattle.rds_delta.specs.Grouped.{dead_front, front, grouped_onto, run_of}
+use Rattle.rds_delta.specs.Higher.{higher_row, higher_rows}
 use Rattle.rds_delta.specs.Ranks.{life_rank, ranks}
 use Rattle.rds_delta.specs.Rest.{after_of, rows_after}
 use Rattle.rds_delta.specs.declared.row.Row.{Row}
@@ -44,11 +42,11 @@ use Rattle.rds_delta.proofs.DeltaLemmas.{higher_are, number_above}
 use Rattle.rds_delta.proofs.Digests.{live_inside, ranks_of_digest}
 use Rattle.rds_delta.proofs.Whole.{certificate_rows}
 use Rattle.rds_codec.specs.AnswerTexts.{IsAnswerOf, answer}
-use Rattle.rds_codec.specs.CertificateTexts.{IsCertificateOf, IsReplicaOf, IsRowOf}
+use Rattle.rds_codec.specs.CertificateTexts.{IsCertificateOf, IsReplicaOf}
 use Rattle.rds_codec.specs.DigestTexts.{IsDigestOf}
 use Rattle.rds_codec.specs.Values.{is_key_text, AreCountsOf, AreDotsOf, IsCountRowOf, IsLiveRow, IsStateOf}
 use Rattle.rds_codec.proofs.Subsets.{len_inside}
-use Rattle.rds_session.specs.Checked.{certificate_of, is_greater, is_later, least_state}
+use Rattle.rds_session.specs.Checked.{certificate_of, is_later, least_state}
 use Rattle.rds_session.proofs.Checks.{kept_lives, kept_numbers}
 
 -- ---- the digest
@@ -106,8 +104,10 @@ module _ (n : ℕ) (v : StateValue) (g : DigestValue) (h : IsStateOf n v) where
   kept = least_state v g
 
   delta_inside : IsInside (seen_of kept.lives) (seen_of v.lives)
-  delta_inside = record { each_dot = λ d has.
-      contains-seen_of v.lives d ∙ some_kept (is_later g v d) (map.get v.lives d) (ap is_some (sym (kept_lives g v d)) ∙ sym (contains-seen_of kept.lives d) ∙ has) }
+  delta_inside = record {
+    each_dot = λ d has.
+        contains-seen_of v.lives d ∙ some_kept (is_later g v d) (map.get v.lives d) (ap is_some (sym (kept_lives g v d)) ∙ sym (contains-seen_of kept.lives d) ∙ has);
+  }
 
   delta_dots : AreDotsOf n (seen_of kept.lives)
   delta_dots d has = h.dots d (delta_inside.each_dot d has)

@@ -1,6 +1,5 @@
 -- What one replica tells another is accepted, message by message.
-use Rattle.std.proofs.Common.{◌≡◌, ℕ, ◌+◌, ◌<◌, ◌≤◌, Bool, true, false, cond, eqb, ◌&&◌, List, [], ◌∷◌, ◌++◌, length, Option, Some, Result, Ok, Err, refl, sym, ap, ◌∙◌, arith}
-use Rattle.std.specs.Cmp.Lexicographic.{pointwise}
+use Rattle.std.proofs.Common.{◌≡◌, ℕ, ◌≤◌, true, false, cond, eqb, ◌&&◌, List, [], length, Option, Some, Result, Ok, Err, refl, sym, ap, ◌∙◌, arith}
 use Rattle.std.specs.Str.{bytes_eq}
 use Rattle.std.proofs.lemmas.Bool.{ne_eqb, eq-eqb}
 use Rattle.std.proofs.lemmas.Bool.Decides.{nat_tests}
@@ -15,11 +14,11 @@ use Rattle.rds_delta.specs.Least.{least}
 use Rattle.rds_codec.specs.CertificateTexts.{IsReplicaOf}
 use Rattle.rds_state.specs.Fits.{ReplicaValue}
 use Rattle.rds_state.specs.Value.{StateValue, coordinates}
-use Rattle.rds_delta.specs.Digested.{DigestValue, digest_of, ranks_in}
+use Rattle.rds_delta.specs.Digested.{DigestValue, digest_of}
 use Rattle.rds_codec.specs.AnswerTexts.{answer, answer_at, answer_text, answer_kind}
 use Rattle.rds_codec.specs.AnswerValues.{AnswerValue}
 use Rattle.rds_codec.specs.DigestTexts.{digest_at, digest_text, digest_kind}
-use Rattle.rds_codec.specs.HelloTexts.{hello_at, hello_text, hello_kind, IsHello}
+use Rattle.rds_codec.specs.HelloTexts.{hello_at, hello_text, hello_kind}
 use Rattle.rds_codec.specs.Kinds.{Kind}
 use Rattle.rds_codec.specs.Reading.{◌>>=◌, Reader, all_of}
 use Rattle.rds_codec.specs.Values.{IsSnapshot}
@@ -29,11 +28,9 @@ use Rattle.rds_codec.proofs.AnswerFormats.{answer_reader}
 use Rattle.rds_codec.proofs.DigestFormats.{digest_reader}
 use Rattle.rds_codec.proofs.HelloFormats.{hello_reader}
 use Rattle.rds_codec.proofs.Whole.{IsReaderOf}
-use Rattle.rds_session.specs.declared.talk.Stop.{Stop}
-use Rattle.rds_session.specs.declared.talk.Stop.TheVariants.{Refused}
 use Rattle.rds_session.specs.Bodies.{hello_in, digest_in, answer_in}
-use Rattle.rds_session.specs.Checked.{certificate_of, least_state, passes}
-use Rattle.rds_session.specs.Judging.{Awaited, ForHello, ForDigest, ForDelta, ForBye, Said, Greets, Learns, Receives, Finishes, accepted, read_then, hello_judged, delta_judged, same_names}
+use Rattle.rds_session.specs.Checked.{certificate_of, least_state}
+use Rattle.rds_session.specs.Judging.{ForHello, ForDigest, ForDelta, ForBye, Greets, Learns, Receives, Finishes, accepted, read_then, hello_judged, delta_judged, same_names}
 use Rattle.rds_session.specs.Meeting.{HasRoom, IsItsLeast}
 use Rattle.rds_session.specs.Messages.{hello_message, digest_message, delta_message, bye_message}
 use Rattle.rds_session.proofs.Checks.{least_coordinates, least_passes}

@@ -1,6 +1,6 @@
 -- What was heard and said, turn by turn.
-use Rattle.std.proofs.Common.{◌≡◌, ℕ, ◌+◌, ◌<◌, ◌≤◌, List, [], ◌∷◌, ◌++◌, length, Option, Some, None, refl, sym, ap, ◌∙◌, append_assoc, subst, ◌⊎◌, inl, inr, arith, take}
-use Rattle.std.specs.Prelude.{IfSome}
+use Rattle.std.proofs.Common.{◌≡◌, ℕ, ◌<◌, List, [], ◌++◌, length, Option, Some, None, refl, sym, ap, ◌∙◌, append_assoc, subst, inl, inr, take}
+use Rattle.std.specs.Prelude.{IfSome, OnOk, Result, Ok, Err}
 use Rattle.std.specs.Io.KnownBytes.{Consumes, Appends, IsAtEnd}
 use Rattle.std.proofs.lemmas.List.{append-nil}
 use Rattle.rds_names.specs.declared.fault.Fault.{Fault}
@@ -9,11 +9,11 @@ use Rattle.rds_state.specs.Fits.{ReplicaValue}
 use Rattle.rds_state.specs.Value.{StateValue}
 use Rattle.rds_session.specs.declared.talk.Side.{Side}
 use Rattle.rds_session.specs.declared.step.Ended.{Ended}
-use Rattle.rds_session.specs.declared.step.Ended.TheVariants.{Going, Done, Failed}
-use Rattle.rds_session.specs.Session.{Standing, Sent, Heard, Nothing, So_far, All_of, heard_more, course, fresh, then_more, run, cut_off, opened, when_going}
-use Rattle.rds_session.specs.Steps.{HasStanding, ReceivedAtMost, IsOver, Continues}
+use Rattle.rds_session.specs.declared.step.Ended.TheVariants.{Going, Failed}
+use Rattle.rds_session.specs.Session.{Standing, Sent, Heard, Nothing, So_far, All_of, heard_more, course}
+use Rattle.rds_session.specs.Steps.{HasStanding, IsOver, Continues}
 use Rattle.rds_session.proofs.Course.{over_all, received_stays, all_over}
-use Rattle.rds_session.specs.Exchange.{IsWhole, HasRunOut, HasCourse, Says, IsHeard, Exchanges, Talks, TalksOn}
+use Rattle.rds_session.specs.Exchange.{HasCourse, Says, IsHeard, Exchanges, Talks, TalksOn}
 
 pub appends_then : (a b c : Option (List ℕ)) (x y z : List ℕ) → Appends a b x → Appends b c y → z ≡ x ++ y → Appends a c z
 appends_then None b c x y z p q e = tt
@@ -159,3 +159,7 @@ exchanged side kept first now s before after received ended talks over got =
 -- a turn, in the words of the code
 pub turned : (now later : Option (List ℕ)) (old new : Standing) (i : Option (List ℕ)) (said after : Option (List ℕ)) → old.ended ≡ Going → Came now later i → Says old i new said after → TalksOn now later old new said after
 turned now later old new i said after going came says side kept first before talks = talks_on side kept first now later old new before said after i going talks says came
+
+pub on_ok : {T : Type 0} (r : Result T Fault) (A B : Type 0) → OnOk r A → (A → B) → OnOk r B
+on_ok (Ok x) A B h f = f h
+on_ok (Err e) A B h f = h

@@ -107,7 +107,12 @@ fn judge_hello<S: DotSet>(alloc: Global, kept: &Replica<S>, body: &[u8]) -> Resu
     Ok(Act::Greet(hello.own))
 }
 
-fn judge_digest<S: DotSet>(alloc: Global, kept: &Replica<S>, peer: u8, body: &[u8]) -> Result<Act<S>, Stop>
+fn judge_digest<S: DotSet>(
+    alloc: Global,
+    kept: &Replica<S>,
+    peer: u8,
+    body: &[u8],
+) -> Result<Act<S>, Stop>
     requires { length body.now ≤ LIMIT }
     ensures { Judges result (digest_came kept.now peer body.now) }
 {

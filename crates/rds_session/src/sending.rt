@@ -25,7 +25,11 @@ fn send_body(send: &mut Vec<u8>, kind: u8, body: Result<Vec<u8>, Fault>) -> Resu
     }
 }
 
-fn send_hello<S: DotSet>(alloc: Global, send: &mut Vec<u8>, kept: &Replica<S>) -> Result<bool, Fault>
+fn send_hello<S: DotSet>(
+    alloc: Global,
+    send: &mut Vec<u8>,
+    kept: &Replica<S>,
+) -> Result<bool, Fault>
     ensures { SendsOne send.old.items send.new.items (hello_message kept.now) result }
 {
     let hello = Hello {
@@ -36,7 +40,11 @@ fn send_hello<S: DotSet>(alloc: Global, send: &mut Vec<u8>, kept: &Replica<S>) -
     send_body(send, 1, encode_hello(alloc, &hello))
 }
 
-fn send_digest<S: DotSet>(alloc: Global, send: &mut Vec<u8>, kept: &Replica<S>) -> Result<bool, Fault>
+fn send_digest<S: DotSet>(
+    alloc: Global,
+    send: &mut Vec<u8>,
+    kept: &Replica<S>,
+) -> Result<bool, Fault>
     ensures { SendsOne send.old.items send.new.items (digest_message kept.now) result }
 {
     let digest = Digest::of(alloc, kept.state())?;
@@ -65,7 +73,11 @@ pub fn send_bye(send: &mut Vec<u8>, code: u8) -> Result<bool, Fault>
 }
 
 /// Adds the messages with which a client begins.
-pub fn send_opening<S: DotSet>(alloc: Global, send: &mut Vec<u8>, kept: &Replica<S>) -> Result<bool, Fault>
+pub fn send_opening<S: DotSet>(
+    alloc: Global,
+    send: &mut Vec<u8>,
+    kept: &Replica<S>,
+) -> Result<bool, Fault>
     ensures { SendsAll send.old.items send.new.items (hello_message kept.now ∷ digest_message kept.now ∷ []) result }
 {
     if !send_hello(alloc, send, kept)? {

@@ -253,7 +253,14 @@ impl<'a, S: DotSet> Session<'a, S> {
     fn answer(&mut self, alloc: Global, act: Act<S>, send: &mut Vec<u8>) -> Result<(), Fault>
         ensures { Does self.old send.old.items self.new send.new.items result (λ s. answered s (Ok (said act))) }
     {
-        let all = send_replies(alloc, send, self.side, self.kept.view_of(), &self.turn, &act)?;
+        let all = send_replies(
+            alloc,
+            send,
+            self.side,
+            self.kept.view_of(),
+            &self.turn,
+            &act,
+        )?;
         if all {
             self.perform(act);
         } else {

@@ -1,4 +1,4 @@
-use Rattle.std.proofs.Common.{◌≡◌, ap, ◌∙◌}
+use Rattle.std.proofs.Common.{ap, ◌∙◌}
 use Rattle.rds_delta.specs.Digested.{DigestValue, digest_of}
 use Rattle.rds_session.specs.Checked.{passes}
 use Rattle.rds_session.proofs.Checks.{passes_are}

@@ -1,5 +1,3 @@
-use Rattle.rds_session.specs.Messages.{bye_message, delta_message}
-use Rattle.std.proofs.Common.{◌∷◌, []}
 use Rattle.rds_session.proofs.Sendings.{first_long, last_sent, more_sent}
 use Rattle.rds_session.proofs.sending.answer_delta.Goals as goal
 

@@ -1,5 +1,3 @@
-use Rattle.std.proofs.Common.{◌∷◌, []}
-use Rattle.rds_session.specs.Messages.{delta_message}
 use Rattle.rds_session.proofs.Sendings.{first_long, first_sent, last_sent, more_sent}
 use Rattle.rds_session.proofs.sending.answer_digest.Goals as goal
 

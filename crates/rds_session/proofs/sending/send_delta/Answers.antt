@@ -1,4 +1,4 @@
-use Rattle.std.proofs.Common.{◌≡◌, ◌∷◌, ap, ◌∙◌, subst}
+use Rattle.std.proofs.Common.{◌∷◌, ap, ◌∙◌, subst}
 use Rattle.rds_state.specs.Value.{StateValue, coordinates}
 use Rattle.rds_delta.specs.Digested.{ranks_in}
 use Rattle.rds_delta.specs.Least.{least}

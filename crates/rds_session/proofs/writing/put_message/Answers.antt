@@ -1,4 +1,4 @@
-use Rattle.std.proofs.Common.{◌≡◌, ◌<◌, ◌≤◌, length, arith}
+use Rattle.std.proofs.Common.{arith}
 use Rattle.rds_session.proofs.Cutting.{message_written}
 use Rattle.rds_session.proofs.writing.put_message.Goals as goal
 

@@ -1,5 +1,3 @@
-use Rattle.std.proofs.Common.{◌≡◌, refl, sym}
-use Rattle.rds_session.specs.Session.{opened}
 use Rattle.rds_session.proofs.Moves.{server_opened}
 use Rattle.rds_session.proofs.session.Session.open.Goals as goal
 

@@ -1,4 +1,4 @@
-use Rattle.std.proofs.Common.{◌≡◌, length, sym, ap, ◌∙◌, rules}
+use Rattle.std.proofs.Common.{◌≡◌, length, ap, ◌∙◌, rules}
 use Rattle.std.proofs.lemmas.Result.{err_from_is_err_and}
 use Rattle.rds_session.specs.Session.{Standing}
 use Rattle.rds_session.proofs.Runs.{ran_none, ran_then, ran_all}

@@ -1,4 +1,4 @@
-use Rattle.std.proofs.Common.{◌≡◌, refl, sym, ap, ◌∙◌}
+use Rattle.std.proofs.Common.{refl, sym, ap, ◌∙◌}
 use Rattle.rds_session.specs.Chunks.{scan, under_of}
 use Rattle.rds_session.proofs.session.Session.scan.Goals as goal
 

@@ -1,4 +1,4 @@
-use Rattle.std.proofs.Common.{◌≡◌, refl, sym, ap}
+use Rattle.std.proofs.Common.{refl, ap}
 use Rattle.rds_session.specs.Session.{Standing}
 use Rattle.rds_session.specs.Steps.{came, IsOver}
 use Rattle.rds_session.proofs.Course.{continues, rests}

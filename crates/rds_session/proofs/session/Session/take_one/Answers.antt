@@ -1,4 +1,4 @@
-use Rattle.std.proofs.Common.{◌≡◌, sym, ap, ◌∙◌}
+use Rattle.std.proofs.Common.{sym, ap, ◌∙◌}
 use Rattle.rds_session.specs.Session.{Standing}
 use Rattle.rds_session.proofs.Runs.{over_is, ran_over, ran_on, ran_whole, ran_too_long, rest_less}
 use Rattle.rds_session.proofs.session.Session.take_one.Goals as goal
@@ -21,7 +21,7 @@ returns-in_ok-message-in-Whole-clause-ran g c =
     let going = sym (ap (λ (s : Standing). s.ended) c.self.view_is) ∙ c.in-Going.is in
     let e = rw c.in-Whole.is at c.in_ok-scan.ensures.ok in
     ran_whole c.args.self.now c.scan.new.self c.message.new.self c.args.send.now.items c.message.new.send.items c.args.piece.now c.in-Whole.rest.now c.in-Whole.message.items c.deref.result.now
-        going e.0 e.1 c.deref.ensures.value c.in_ok-message-in-Whole.ensures
+    going e.0 e.1 c.deref.ensures.value c.in_ok-message-in-Whole.ensures
 
 pub returns-in_ok-message-in-Whole-clause-less : goal.returns-in_ok-message-in-Whole-clause-less
 returns-in_ok-message-in-Whole-clause-less g c =
