@@ -1,11 +1,13 @@
 mod Adding
 mod AnswerFormats
 mod CertificateFormats
+mod ClaimTexts
 mod CounterFormats
 mod DigestFormats
 mod DotFormats
 mod EntryFormats
 mod EntryParts
+pub mod ExchangeLemmas
 mod Format
 mod HelloFormats
 mod LargeParts

@@ -115,6 +115,18 @@ IsRowOf replicas (Live d) = (is_dot d ≡ true) × (d.replica < replicas)
 IsRowOf replicas (Dead r peer) = IsRun r × (IsReplicaOf replicas r.replica × (peer ≤ 1))
 IsRowOf replicas (Count key replica which sent peer) = (is_key_text key ≡ true) × (IsReplicaOf replicas replica × ((sent ≤ MAX_COUNT) × (peer ≤ MAX_COUNT)))
 
+-- what code holds as a row: a replica's number is a byte, and a key is text
+abbrev pub IsHeldRow : Row → Type 0
+IsHeldRow (Live d) = Unit {0}
+IsHeldRow (Dead r peer) = r.replica < 256
+IsHeldRow (Count key replica which sent peer) = (is_key_text key ≡ true) × (replica < 256)
+
+-- it lies in the ranges of the format, with one of so many replicas
+abbrev pub RowFits : ℕ → Row → Type 0
+RowFits replicas (Live d) = (is_dot d ≡ true) × (d.replica < replicas)
+RowFits replicas (Dead r peer) = IsRun r × ((r.replica < replicas) × (peer ≤ 1))
+RowFits replicas (Count key replica which sent peer) = (replica < replicas) × ((sent ≤ MAX_COUNT) × (peer ≤ MAX_COUNT))
+
 abbrev pub IsCertificateOf : ℕ → List Row → Type 0
 IsCertificateOf replicas rows = AllByRecursion (IsRowOf replicas) rows
 

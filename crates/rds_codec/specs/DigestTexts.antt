@@ -1,14 +1,15 @@
 -- The text of a digest, how it is read, and which digests have one.
-use Rattle.std.specs.Prelude.{◌≡◌, ◌≤◌, ◌<◌, ◌⊎◌, ℕ, Bool, List, ◌++◌}
+use Rattle.std.specs.Prelude.{◌≡◌, ◌<◌, ◌⊎◌, ℕ, Bool, true, List, ◌++◌}
 use Rattle.std.specs.FinSet as set
+use Rattle.rds_dots.specs.declared.dot.Dot.{Dot}
 use Rattle.rds_dots.specs.Dots.{Dots}
-use Rattle.rds_counts.specs.Counted.{Counted}
+use Rattle.rds_counts.specs.Counted.{Counted, number}
+use Rattle.rds_counts.specs.Place.{Place}
 use Rattle.rds_delta.specs.Digested.{DigestValue, IsInside}
-use Rattle.rds_codec.specs.declared.limits.TheConstants.{MOST_DOTS}
 use Rattle.rds_codec.specs.Kinds.{Kind, BeginsWithTooManyDots}
 use Rattle.rds_codec.specs.Reading.{Reader, then_at, pair_at, made_at, when_at, dots_at, counters_at}
 use Rattle.rds_codec.specs.Spelling.{dots_text, counters_text}
-use Rattle.rds_codec.specs.Values.{AreDotsOf, AreCountsOf}
+use Rattle.rds_codec.specs.Values.{AreFew, AreDotsOf, AreCountsOf}
 
 -- the seen dots, the live ones of them, and the counters
 unfoldable pub digest_text : DigestValue → List ℕ
@@ -31,10 +32,15 @@ digest_by p = record { seen = p.0; live = p.1.0; counts = p.1.1 }
 unfoldable pub digest_at : ℕ → Reader DigestValue
 digest_at replicas = made_at digest_by (then_at (dots_at replicas) (λ seen. pair_at (live_dots_at replicas seen) (counters_at replicas)))
 
--- the parts are within their limits, the live dots are seen, and none of the sets is above the cap
+-- all replica numbers of the digest are below this one
+pub record DigestFits (replicas : ℕ) (g : DigestValue) : Type 0 where
+  pub dots : (d : Dot) → set.contains g.seen d ≡ true → d.replica < replicas
+  pub numbers : (q : Place) → 0 < number g.counts q → q.replica < replicas
+
+-- the parts are within their limits, the live dots are seen, and the seen ones not above the cap
 pub record IsDigestOf (replicas : ℕ) (g : DigestValue) : Type 0 where
   pub dots : AreDotsOf replicas g.seen
-  pub few : set.len g.seen ≤ MOST_DOTS
+  pub few : AreFew g.seen
   pub inside : IsInside g.live g.seen
   pub counts : AreCountsOf replicas g.counts
 
@@ -43,7 +49,7 @@ pub record HasTooManyLive (replicas : ℕ) (bytes : List ℕ) : Type 0 where
   pub seen : Dots
   pub after : List ℕ
   pub are_dots : AreDotsOf replicas seen
-  pub few : set.len seen ≤ MOST_DOTS
+  pub few : AreFew seen
   pub many : BeginsWithTooManyDots replicas after
   pub spelled : bytes ≡ dots_text seen ++ after
 

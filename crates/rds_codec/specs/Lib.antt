@@ -5,6 +5,7 @@ pub mod Decoding
 pub mod DigestTexts
 pub mod DotRows
 pub mod Entries
+pub mod Exchanged
 pub mod HelloTexts
 pub mod Kinds
 pub mod Laws

@@ -1,11 +1,17 @@
 //! The text of an answer: who asked, the delta, and its certificate.
-ghost use Rattle.std.specs.Prelude.{◌≡◌, ◌≤◌, ℕ, length};
+ghost use Rattle.std.specs.Prelude.{◌≡◌, ◌<◌, ◌≤◌, ℕ, length};
+ghost use Rattle.rds_delta.specs.Claims.{IsCertificate};
+ghost use Rattle.rds_delta.specs.Least.{IsAbove};
+ghost use Rattle.rds_delta.specs.Ranks.{Ranks};
+ghost use Rattle.rds_state.specs.Fits.{Fits};
+ghost use Rattle.rds_state.specs.Value.{coordinates};
 ghost use Rattle.rds_dots.specs.Runs.{runs_of};
 ghost use Rattle.rds_life.specs.Life.{seen_of};
-ghost use Rattle.rds_codec.specs.AnswerTexts.{answer, answer_text, answer_at, answer_kind};
+ghost use Rattle.rds_codec.specs.AnswerTexts.{IsAnswerOf, answer, answer_text, answer_at, answer_kind};
 ghost use Rattle.rds_codec.specs.Decoding.{Decodes, ReadsAll};
 ghost use Rattle.rds_codec.specs.DotRows.{rows_from};
 ghost use Rattle.rds_codec.specs.Reading.{Gives, all_of};
+ghost use Rattle.rds_codec.specs.Values.{AreFew};
 ghost use Rattle.rds_codec.specs.Writing.{Adds, Encodes};
 
 use crate::certificates::{certificate_length, put_certificate, read_certificate};
@@ -93,9 +99,10 @@ pub fn decode_answer<S: DotSet>(
 }
 
 /// The number of rows of the delta's seen dots, and the length of the text.
-fn measure<S: DotSet>(state: &State<S>, certificate: &Certificate) -> (u16, u128)
+fn measure<S: DotSet>(asker: u8, state: &State<S>, certificate: &Certificate) -> (u16, u128)
     ensures rows { result.0 ≡ length (rows_from 0 (runs_of (seen_of state.now.lives))) }
-    ensures length { (asker : ℕ) → result.1 ≡ length (answer_text (answer asker state.now certificate.now)) }
+    ensures length { result.1 ≡ length (answer_text (answer asker state.now certificate.now)) }
+    ensures value { (replicas : ℕ) (peer : Ranks) → asker < replicas → Fits replicas (coordinates state.now) → AreFew (seen_of state.now.lives) → IsAbove (coordinates state.now) peer → IsCertificate peer state.now certificate.now → IsAnswerOf replicas (answer asker state.now certificate.now) }
 {
     let (rows, state_length) = measure_state(state);
     (rows, 1 + state_length + certificate_length(certificate))
@@ -126,9 +133,10 @@ pub fn encode_answer<S: DotSet>(
     state: &State<S>,
     certificate: &Certificate,
 ) -> Result<Vec<u8>, Fault>
-    ensures { Encodes (answer_text (answer asker state.now certificate.now)) result }
+    ensures text { Encodes (answer_text (answer asker state.now certificate.now)) result }
+    ensures value { (replicas : ℕ) (peer : Ranks) → asker < replicas → Fits replicas (coordinates state.now) → AreFew (seen_of state.now.lives) → IsAbove (coordinates state.now) peer → IsCertificate peer state.now certificate.now → IsAnswerOf replicas (answer asker state.now certificate.now) }
 {
-    let (rows, length) = measure(state, certificate);
+    let (rows, length) = measure(asker, state, certificate);
     let mut out = room_for(alloc, length)?;
     put_answer(&mut out, asker, state, rows, certificate)?;
     Ok(out)

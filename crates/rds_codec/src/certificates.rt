@@ -1,8 +1,8 @@
 //! The text of a certificate: its rows, each after a tag.
-ghost use Rattle.std.specs.Prelude.{◌≡◌, ◌≤◌, ◌<◌, ◌*◌, ◌^◌, length};
+ghost use Rattle.std.specs.Prelude.{◌≡◌, ℕ, ◌≤◌, ◌<◌, ◌*◌, ◌^◌, length};
 ghost use Rattle.std.specs.Int.{w32, w64};
-ghost use Rattle.std.specs.List.{flat_map};
-ghost use Rattle.rds_codec.specs.CertificateTexts.{run_text, which_byte, claim_text, row_text, certificate_text, claimed_dot_at, ends_at, run_at, dead_at, which_at, amount_at, claim_at, counter_at, number_claim_at, tagged_row_at, row_at, certificate_at, certificate_kind};
+ghost use Rattle.std.specs.List.{flat_map, AllByRecursion};
+ghost use Rattle.rds_codec.specs.CertificateTexts.{IsHeldRow, RowFits, IsCertificateOf, run_text, which_byte, claim_text, row_text, certificate_text, claimed_dot_at, ends_at, run_at, dead_at, which_at, amount_at, claim_at, counter_at, number_claim_at, tagged_row_at, row_at, certificate_at, certificate_kind};
 ghost use Rattle.rds_codec.specs.Decoding.{Decodes, ReadsAll};
 ghost use Rattle.rds_codec.specs.Reading.{Gives, byte_at, number_at, when_at, is_between, all_of};
 ghost use Rattle.rds_codec.specs.Spelling.{byte_text, dot_text};
@@ -207,11 +207,19 @@ pub fn decode_certificate(alloc: Global, replicas: u16, bytes: &[u8]) -> Result<
 fn row_length(row: &Row) -> usize
     ensures length { result ≡ length (row_text row.now) }
     ensures most { result ≤ 128 }
+    ensures held { IsHeldRow row.now }
 {
+    // Bytes: their ranges show where they are read.
     match row {
         Row::Live(_) => 10,
-        Row::Dead(_, _) => 19,
-        Row::Count { key, .. } => 19 + key_length(key),
+        Row::Dead(run, _) => {
+            let _replica = run.replica;
+            19
+        }
+        Row::Count { key, replica, .. } => {
+            let _replica = *replica;
+            19 + key_length(key)
+        }
     }
 }
 
@@ -220,6 +228,7 @@ fn row_length(row: &Row) -> usize
 fn rows_length(mut rows: &[Row]) -> u128
     ensures length { result ≡ length (flat_map row_text rows.entry.now) }
     ensures most { result ≤ 128 * length rows.entry.now }
+    ensures held { AllByRecursion IsHeldRow rows.entry.now }
 {
     let mut total = 0;
     'measuring: loop {
@@ -237,6 +246,8 @@ fn rows_length(mut rows: &[Row]) -> u128
 pub fn certificate_length(certificate: &Certificate) -> u128
     ensures length { result ≡ length (certificate_text certificate.now) }
     ensures few { result ≤ 2 ^ 101 }
+    ensures held { AllByRecursion IsHeldRow certificate.now }
+    ensures value { (replicas : ℕ) → AllByRecursion (RowFits replicas) certificate.now → IsCertificateOf replicas certificate.now }
 {
     4 + rows_length(certificate.rows())
 }
@@ -318,7 +329,8 @@ pub fn put_certificate(out: &mut Vec<u8>, certificate: &Certificate) -> Result<(
 /// numbers from 1 to `MAX_SEQ`, ranks 0 or 1, sums up to `MAX_COUNT`. Above the limit it is refused (`TooLong`) before
 /// any memory is taken; then all memory that the text needs is taken at once.
 pub fn encode_certificate(alloc: Global, certificate: &Certificate) -> Result<Vec<u8>, Fault>
-    ensures { Encodes (certificate_text certificate.now) result }
+    ensures text { Encodes (certificate_text certificate.now) result }
+    ensures value { (replicas : ℕ) → AllByRecursion (RowFits replicas) certificate.now → IsCertificateOf replicas certificate.now }
 {
     let mut out = room_for(alloc, certificate_length(certificate))?;
     put_certificate(&mut out, certificate)?;

@@ -1,10 +1,11 @@
 //! The text of a digest: the dots that were seen, those of them that are live, and the counters.
-ghost use Rattle.std.specs.Prelude.{◌≡◌, ◌≤◌, length};
+ghost use Rattle.std.specs.Prelude.{◌≡◌, ℕ, ◌≤◌, length};
 ghost use Rattle.rds_dots.specs.Runs.{runs_of};
 ghost use Rattle.rds_codec.specs.Decoding.{Decodes, ReadsAll};
-ghost use Rattle.rds_codec.specs.DigestTexts.{digest_text, live_dots_at, digest_at, digest_kind};
+ghost use Rattle.rds_codec.specs.DigestTexts.{DigestFits, IsDigestOf, digest_text, live_dots_at, digest_at, digest_kind};
 ghost use Rattle.rds_codec.specs.DotRows.{rows_from};
 ghost use Rattle.rds_codec.specs.Reading.{Gives, all_of};
+ghost use Rattle.rds_codec.specs.Values.{AreFew};
 ghost use Rattle.rds_codec.specs.Writing.{Adds, Encodes};
 
 use crate::counters::read_counters;
@@ -88,6 +89,7 @@ fn measure<S: DotSet>(digest: &Digest<S>) -> ((u16, u16), u128)
     ensures seen { result.0.0 ≡ length (rows_from 0 (runs_of digest.now.seen)) }
     ensures live { result.0.1 ≡ length (rows_from 0 (runs_of digest.now.live)) }
     ensures length { result.1 ≡ length (digest_text digest.now) }
+    ensures value { (replicas : ℕ) → DigestFits replicas digest.now → AreFew digest.now.seen → IsDigestOf replicas digest.now }
 {
     let (seen_rows, seen_length) = measure_dots(digest.seen());
     let (live_rows, live_length) = measure_dots(digest.live());
@@ -116,7 +118,8 @@ fn put_digest<S: DotSet>(
 /// The digest's text. Above the limit it is refused (`TooLong`) before any memory is taken; then all memory that
 /// the text needs is taken at once.
 pub fn encode_digest<S: DotSet>(alloc: Global, digest: &Digest<S>) -> Result<Vec<u8>, Fault>
-    ensures { Encodes (digest_text digest.now) result }
+    ensures text { Encodes (digest_text digest.now) result }
+    ensures value { (replicas : ℕ) → DigestFits replicas digest.now → AreFew digest.now.seen → IsDigestOf replicas digest.now }
 {
     let ((seen_rows, live_rows), length) = measure(digest);
     let mut out = room_for(alloc, length)?;

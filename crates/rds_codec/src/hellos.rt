@@ -1,7 +1,7 @@
 //! The text of a hello, by which a session begins.
-ghost use Rattle.std.specs.Prelude.{◌≡◌, length};
+ghost use Rattle.std.specs.Prelude.{◌≡◌, ◌<◌, length};
 ghost use Rattle.rds_codec.specs.Decoding.{Decodes, ReadsAll};
-ghost use Rattle.rds_codec.specs.HelloTexts.{hello_text, version_at, hello_at, hello_kind};
+ghost use Rattle.rds_codec.specs.HelloTexts.{IsHello, hello_text, version_at, hello_at, hello_kind};
 ghost use Rattle.rds_codec.specs.Reading.{Gives, all_of};
 ghost use Rattle.rds_codec.specs.Writing.{Adds, Encodes};
 
@@ -86,15 +86,17 @@ fn put_hello(out: &mut Vec<u8>, hello: &Hello) -> Result<(), AllocError>
 
 /// The length of the text.
 fn measure(hello: &Hello) -> u128
-    ensures { result ≡ length (hello_text hello.now) }
+    ensures length { result ≡ length (hello_text hello.now) }
+    ensures value { hello.now.version ≡ VERSION → hello.now.own < length hello.now.roster.names → IsHello hello.now }
 {
-    1 + member_length(&hello.roster) as u128
+    1 + member_length(&hello.roster, hello.own) as u128
 }
 
 /// The hello's text, which is read again where its version is [`VERSION`] and its own number is below the roster's
 /// length. All memory that the text needs is taken at once.
 pub fn encode_hello(alloc: Global, hello: &Hello) -> Result<Vec<u8>, Fault>
-    ensures { Encodes (hello_text hello.now) result }
+    ensures text { Encodes (hello_text hello.now) result }
+    ensures value { hello.now.version ≡ VERSION → hello.now.own < length hello.now.roster.names → IsHello hello.now }
 {
     let mut out = room_for(alloc, measure(hello))?;
     put_hello(&mut out, hello)?;

@@ -7,5 +7,7 @@ pub mod Higher
 pub mod Least
 pub mod Next
 pub mod Parts
+pub mod Ranges
 pub mod Ranks
 pub mod Rest
+pub mod Sized

@@ -1,11 +1,18 @@
 //! The certificate of a delta.
-ghost use Rattle.std.specs.Prelude.{◌≡◌, ◌++◌, List, true, None, IfOk, IfErr, OnOk};
+ghost use Rattle.std.specs.Prelude.{◌≡◌, ◌++◌, ℕ, List, true, None, is_some, IfOk, IfErr, OnOk};
+ghost use Rattle.std.specs.FinMap as map;
 ghost use Rattle.rds_names.specs.declared.fault.Fault.TheVariants.{Memory};
+ghost use Rattle.rds_dots.specs.declared.dot.Dot.{Dot};
+ghost use Rattle.rds_dots.specs.Dots.{is_dot};
 ghost use Rattle.rds_counts.specs.Counted.{number, place};
+ghost use Rattle.rds_state.specs.Fits.{Fits};
+ghost use Rattle.rds_state.specs.Value.{coordinates};
 ghost use Rattle.rds_delta.specs.declared.row.Row.{Row};
 ghost use Rattle.rds_delta.specs.Claims.{IsCertificate};
 ghost use Rattle.rds_delta.specs.CounterRows.{counter_rows, number_rows};
 ghost use Rattle.rds_delta.specs.Digested.{rank_in, ranks_in};
+ghost use Rattle.rds_delta.specs.Least.{IsAbove};
+ghost use Rattle.rds_delta.specs.Ranges.{AreRowsWithin};
 ghost use Rattle.rds_delta.specs.Rest.{is_flat, row_of, rows_after};
 
 use crate::digest::Digest;
@@ -19,7 +26,8 @@ use rds_state::State;
 use std::alloc::Global;
 
 /// What the digest has in place of each component of a delta, in the fewest rows: there is one such list. It says
-/// something of a delta whose components are all above the digest, as those of a least delta are.
+/// something of a delta whose components are all above the digest, as those of a least delta are: then each row lies in
+/// its range.
 pub fn certificate<S: DotSet>(
     alloc: Global,
     digest: &Digest<S>,
@@ -27,11 +35,20 @@ pub fn certificate<S: DotSet>(
 ) -> Result<Certificate, Fault>
     ensures ok { IfOk result (λ rows. IsCertificate (ranks_in digest.now) delta.now rows) }
     ensures unique { IfOk result (λ rows. (others : List Row) → IsCertificate (ranks_in digest.now) delta.now others → others ≡ rows) }
+    ensures within { (replicas : ℕ) → Fits replicas (coordinates delta.now) → IsAbove (coordinates delta.now) (ranks_in digest.now) → IfOk result (AreRowsWithin replicas) }
     ensures memory { IfErr result (λ fault. fault ≡ Memory) }
 {
+    seen_are_dots(delta.lives());
     let mut rows = dot_rows(alloc, digest, delta.lives())?;
     push_counts(alloc, &mut rows, digest.counts(), delta.counts().rows())?;
     Ok(Certificate::new(rows))
+}
+
+/// The dots that aren't unseen lie in the range of dots. The function does nothing: its contract is this fact.
+fn seen_are_dots<S: DotSet>(lives: &Lives<S>)
+    ensures { (d : Dot) → is_some (map.get lives.now d) ≡ true → is_dot d ≡ true }
+{
+    let _seen = lives.seen();
 }
 
 /// The rows of all dots.

@@ -45,11 +45,10 @@ impl<S: DotSet> Digest<S> {
         ensures value { IfOk result (λ digest. digest ≡ digest_of state.now) }
         ensures memory { IfErr result (λ fault. fault ≡ Memory) }
     {
-        Ok(Digest {
-            seen: state.lives().seen().copy(alloc)?,
-            live: state.lives().live_dots(alloc)?,
-            counts: state.counts().copy(alloc)?,
-        })
+        let seen = state.lives().seen().copy(alloc)?;
+        let live = state.lives().live_dots(alloc)?;
+        let counts = state.counts().copy(alloc)?;
+        Ok(Digest { seen, live, counts })
     }
 
     /// The digest of these parts, as a text holds them. `None` where a live dot isn't among the seen ones. Takes no

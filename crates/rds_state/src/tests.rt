@@ -1,5 +1,5 @@
 //! Two replicas of one group, edited apart and taking each other's whole states.
-use crate::{Command, Edited, Replica, State, join_laws};
+use crate::{Command, Edited, Replica, State, documents_have_the_sums, join_laws};
 use rds_counts::{CountRow, Counts};
 use rds_dots::{Dot, ListSet, MAX_SEQ};
 use rds_life::{Lives, Rank};
@@ -367,6 +367,7 @@ fn counting(alloc: Global, numbers: &[(u8, u64, u64)]) -> Result<State<ListSet>,
 fn states_are_joined_number_by_number(rt: HostRuntime) -> Result<(), Fail> {
     let alloc = rt.alloc();
     join_laws();
+    documents_have_the_sums();
     let mut state = counting(alloc, &[(0, 5, 0)])?;
     let other = counting(alloc, &[(0, 3, 2), (1, 1, 0)])?;
     assert!(rt; !state.same(&other));
@@ -406,5 +407,14 @@ fn a_state_fits_a_replica(rt: HostRuntime) -> Result<(), Fail> {
     assert!(rt; a.fits(&one_dot(alloc, dot(2, 1), 1)?));
     assert!(rt; !a.fits(&one_dot(alloc, dot(3, 1), 1)?));
     assert!(rt; !a.fits(&counting(alloc, &[(3, 0, 1)])?));
+    Ok(())
+}
+
+#[test]
+fn a_replica_is_made_again_of_its_parts(rt: HostRuntime) -> Result<(), Fail> {
+    let (roster, own, state) = replica(rt.alloc(), 1)?.into_parts();
+    assert_eq!(rt; own, 1);
+    let again = Replica::from_parts(roster, own, state)?;
+    assert_eq!(rt; again.own(), 1);
     Ok(())
 }

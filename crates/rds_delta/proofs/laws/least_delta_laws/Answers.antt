@@ -1,3 +1,8 @@
+use Rattle.std.proofs.Common.{sym, subst}
+use Rattle.rds_state.specs.Coordinates.{AtMost}
+use Rattle.rds_state.specs.Value.{coordinates}
+use Rattle.rds_delta.proofs.Counting.{size_counts}
+use Rattle.rds_delta.proofs.Sizes.{size_at_most}
 use Rattle.rds_delta.proofs.LeastLaws as laws
 use Rattle.rds_delta.proofs.laws.least_delta_laws.Goals as goal
 
@@ -15,3 +20,9 @@ returns-clause-above c = laws.least_above
 
 pub returns-clause-compatible : goal.returns-clause-compatible
 returns-clause-compatible c = λ a x b h. laws.compatible_least a b x h
+
+pub returns-clause-fewest : goal.returns-clause-fewest
+returns-clause-fewest c = λ a b x d is h e. size_at_most d x (subst (λ k. AtMost k (coordinates x)) (sym is) (laws.least_delta (coordinates a) (coordinates b) (coordinates x) e))
+
+pub returns-clause-counted : goal.returns-clause-counted
+returns-clause-counted c = size_counts

@@ -1,0 +1,101 @@
+-- What goes by bytes between friends comes as it was sent.
+use Rattle.std.proofs.Common.{◌≡◌, ℕ, ◌<◌, ◌≤◌, ◌⊎◌, inl, inr, Bool, true, false, cond, nat_lt, List, length, Option, Some, None, Result, Ok, Err, refl, sym, ap, subst, ◌∙◌, arith}
+use Rattle.std.specs.Prelude.{is_some, IfOk, IfErr, IsErrAnd, OnOk}
+use Rattle.std.specs.FinMap as map
+use Rattle.std.specs.FinSet as set
+use mathlib.Core.Bool.{false≢true}
+use Rattle.rds_names.specs.declared.fault.Fault.{Fault}
+use Rattle.rds_names.specs.declared.fault.Fault.TheVariants.{Memory}
+use Rattle.rds_dots.specs.declared.dot.Dot.{Dot}
+use Rattle.rds_life.specs.Life.{Life, seen_of}
+use Rattle.rds_life.proofs.Views.{contains-seen_of}
+use Rattle.rds_state.specs.Coordinates.{Coordinates, AtMost, join}
+use Rattle.rds_state.specs.Fits.{Fits}
+use Rattle.rds_state.specs.Value.{StateValue, coordinates}
+use Rattle.rds_state.specs.Ahead.{TakeGives}
+use Rattle.rds_state.specs.Friends.{AreFriends}
+use Rattle.rds_delta.specs.Digested.{DigestValue, IsInside, digest_of, ranks_in}
+use Rattle.rds_delta.specs.Least.{IsAbove, least}
+use Rattle.rds_delta.specs.Ranks.{Ranks, life_rank, ranks}
+use Rattle.rds_delta.proofs.Digests.{ranks_of_digest}
+use Rattle.rds_delta.proofs.Exchanges.{least_fits, least_is_taken}
+use Rattle.rds_delta.proofs.LeastLaws.{grown_delta, least_above}
+use Rattle.rds_codec.specs.AnswerValues.{AnswerValue}
+use Rattle.rds_codec.specs.declared.limits.TheConstants.{LIMIT}
+use Rattle.rds_codec.specs.Decoding.{Answers, Decodes}
+use Rattle.rds_codec.specs.DigestTexts.{DigestFits}
+use Rattle.rds_codec.specs.Exchanged.{IsAnswerTo, IsLost}
+use Rattle.rds_codec.specs.Kinds.{Kind}
+use Rattle.rds_codec.specs.Values.{AreFew}
+use Rattle.rds_codec.specs.Writing.{IsUnwritten}
+use Rattle.rds_codec.proofs.Subsets.{len_inside}
+
+-- ---- a text of a value is read as it, unless memory runs out
+
+pub is_read : {V : Type 0} (kind : Kind V) (v : V) (bytes : List ℕ) (result : Result V Fault) → Decodes kind bytes result → kind.is_value v → bytes ≡ kind.text v → length (kind.text v) ≤ LIMIT → Answers result (Ok v)
+is_read kind v bytes result decodes is e le = decodes.found v (subst (λ (t : List ℕ). length t ≤ LIMIT) (sym e) le) (record { is_value = is; spelled = e })
+
+pub read_ok : {V : Type 0} (v : V) (result : Result V Fault) (Q : V → Type 0) → Answers result (Ok v) → Q v → IfOk result Q
+read_ok {V} v result Q h q = elim h [
+  | inl e ↦ subst (λ (r : Result V Fault). IfOk r Q) (sym e) q
+  | inr e ↦ subst (λ (r : Result V Fault). IfOk r Q) (sym e) tt
+]
+
+pub read_err : {V : Type 0} (v : V) (result : Result V Fault) (IsLong : Type 0) → Answers result (Ok v) → IfErr result (IsLost IsLong)
+read_err {V} v result IsLong h = elim h [
+  | inl e ↦ subst (λ (r : Result V Fault). IfErr r (IsLost IsLong)) (sym e) tt
+  | inr e ↦ subst (λ (r : Result V Fault). IfErr r (IsLost IsLong)) (sym e) (inl refl)
+]
+
+-- ---- a text that isn't written
+
+pub unwritten : (n : ℕ) (fault : Fault) (IsLong : Type 0) → (LIMIT < n → IsLong) → IsUnwritten n fault → IsLost IsLong fault
+unwritten n fault IsLong long h = elim h [ inl m ↦ inl m.0 | inr l ↦ inr (l.0, long l.1) ]
+
+-- ---- what fits
+
+pub digest_fits : (replicas : ℕ) (v : StateValue) → Fits replicas (coordinates v) → DigestFits replicas (digest_of v)
+digest_fits replicas v fits = record { dots = λ d h. fits.dots d (sym (contains-seen_of v.lives d) ∙ h); numbers = fits.numbers }
+
+kept_some : (t : Bool) (a : Option Life) → is_some (cond t a None) ≡ true → is_some a ≡ true
+kept_some true a h = h
+kept_some false a h = absurd (false≢true h)
+
+-- a least delta has no more dots than the state
+pub delta_is_few : (d held : StateValue) (b : Ranks) → coordinates d ≡ least (coordinates held) b → AreFew (seen_of held.lives) → AreFew (seen_of d.lives)
+delta_is_few d held b is few =
+    let inside : IsInside (seen_of d.lives) (seen_of held.lives) = record {
+      each_dot = λ q h.
+          let here : is_some (map.get d.lives q) ≡ true = sym (contains-seen_of d.lives q) ∙ h in
+          contains-seen_of held.lives q ∙ kept_some (nat_lt (b.rank q) (life_rank (map.get held.lives q))) (map.get held.lives q) (sym (ap (λ (c : Coordinates). is_some (c.life q)) is) ∙ here);
+    } in
+    let fewer = len_inside (seen_of d.lives) (seen_of held.lives) inside in
+    omega (arith, fewer, few)
+
+-- ---- a fault that is handed on
+
+pub lost : {T : Type 0} (result : Result T Fault) (fault : Fault) (IsLong : Type 0) → IsErrAnd result (λ e. e ≡ fault) → IsLost IsLong fault → IfErr result (IsLost IsLong)
+lost (Ok x) fault IsLong is h = tt
+lost (Err e) fault IsLong is h = subst (IsLost IsLong) (sym is) h
+
+-- ---- what is answered
+
+module _ (digest : DigestValue) (asker : ℕ) (held : StateValue) (a : AnswerValue) (is : IsAnswerTo digest asker held a) where
+  pub answer_fits : (replicas : ℕ) → Fits replicas (coordinates held) → Fits replicas (coordinates a.state)
+  answer_fits replicas fits = subst (Fits replicas) (sym is.delta) (least_fits replicas (coordinates held) (ranks_in digest) fits)
+
+  pub answer_is_above : IsAbove (coordinates a.state) (ranks_in digest)
+  answer_is_above = subst (λ (c : Coordinates). IsAbove c (ranks_in digest)) (sym is.delta) (least_above (coordinates held) (ranks_in digest))
+
+  -- to the one that asked, whatever it has become, it does what the whole state does
+  pub answer_joins : (asked mine : StateValue) → digest ≡ digest_of asked → AtMost (coordinates asked) (coordinates mine) → join (coordinates mine) (coordinates a.state) ≡ join (coordinates mine) (coordinates held)
+  answer_joins asked mine e grown =
+      let delta : coordinates a.state ≡ least (coordinates held) (ranks (coordinates asked)) = is.delta ∙ ap (least (coordinates held)) (ap ranks_in e ∙ ranks_of_digest asked) in
+      ap (join (coordinates mine)) delta ∙ grown_delta (coordinates held) (coordinates asked) (coordinates mine) grown
+
+  -- and a friend takes it, unless memory runs out
+  pub answer_is_taken : (left : ℕ) (mine : StateValue) (result : Result (Unit {0}) Fault) (IsLong : Type 0) → AreFriends left (coordinates held) asker (coordinates mine) → TakeGives mine asker a.state result → IfErr result (IsLost IsLong)
+  answer_is_taken left mine result IsLong friends gives = elim (least_is_taken left asker held mine a.state (ranks_in digest) result friends is.delta gives) [
+    | inl e ↦ subst (λ (r : Result (Unit {0}) Fault). IfErr r (IsLost IsLong)) (sym e) tt
+    | inr e ↦ subst (λ (r : Result (Unit {0}) Fault). IfErr r (IsLost IsLong)) (sym e) (inl refl)
+  ]

@@ -1,0 +1,110 @@
+//! An exchange over bytes: what a replica asks, what another answers, and what the first one takes.
+ghost use Rattle.std.specs.Prelude.{◌≡◌, ◌<◌, ◌⊎◌, ℕ, length, IfOk, IfErr, OnOk, OnErr};
+ghost use Rattle.rds_state.specs.Ahead.{TakeGives};
+ghost use Rattle.rds_state.specs.Coordinates.{AtMost, join};
+ghost use Rattle.rds_state.specs.Fits.{Fits};
+ghost use Rattle.rds_state.specs.Friends.{AreFriends};
+ghost use Rattle.rds_state.specs.Value.{coordinates};
+ghost use Rattle.rds_life.specs.Life.{seen_of};
+ghost use Rattle.rds_delta.specs.Digested.{digest_of, ranks_in};
+ghost use Rattle.rds_delta.specs.Claims.{IsCertificate};
+ghost use Rattle.rds_delta.specs.Least.{IsAbove};
+ghost use Rattle.rds_codec.specs.Exchanged.{IsAnswerTo, IsLongDigest, IsLongAnswer, IsLost};
+ghost use Rattle.rds_codec.specs.Values.{AreFew};
+
+use crate::answers::{Answer, decode_answer, encode_answer};
+use crate::digests::{decode_digest, encode_digest};
+use rds_delta::{Digest, certificate, check, delta};
+use rds_dots::DotSet;
+use rds_names::Fault;
+use rds_state::{Replica, State};
+use std::alloc::Global;
+
+/// The digest of a state, as its text brings it.
+fn send_digest<S: DotSet>(
+    alloc: Global,
+    replicas: u16,
+    asked: &State<S>,
+) -> Result<Digest<S>, Fault>
+    requires fits { Fits replicas (coordinates asked.now) }
+    requires few { AreFew (seen_of asked.now.lives) }
+    ensures ok { IfOk result (λ digest. digest ≡ digest_of asked.now) }
+    ensures fault { IfErr result (IsLost (IsLongDigest asked.now)) }
+{
+    let digest = Digest::of(alloc, asked)?;
+    let bytes = encode_digest(alloc, &digest)?;
+    decode_digest(alloc, replicas, &bytes)
+}
+
+/// The answer to a digest, as its text brings it.
+fn send_answer<S: DotSet>(
+    alloc: Global,
+    replicas: u16,
+    asker: u8,
+    held: &State<S>,
+    digest: &Digest<S>,
+) -> Result<Answer<S>, Fault>
+    requires asker { asker < replicas }
+    requires fits { Fits replicas (coordinates held.now) }
+    requires few { AreFew (seen_of held.now.lives) }
+    ensures ok { IfOk result (IsAnswerTo digest.now asker held.now) }
+    ensures fault { IfErr result (IsLost (IsLongAnswer digest.now asker held.now)) }
+{
+    let state = delta(alloc, held, digest)?;
+    let rows = certificate(alloc, digest, &state)?;
+    let bytes = encode_answer(alloc, asker, &state, &rows)?;
+    decode_answer(alloc, replicas, &bytes)
+}
+
+/// Joins the delta of an answer into the replica that asked with this digest. Refused are an answer for another one
+/// (`WrongAsker`), then one whose certificate isn't that of its delta against the digest (`BadCertificate`), and then
+/// what [`Replica::take`] refuses.
+fn take_answer<S: DotSet>(
+    replica: &mut Replica<S>,
+    digest: &Digest<S>,
+    answer: &Answer<S>,
+) -> Result<(), Fault>
+    requires { Fits (length replica.old.roster.names) (coordinates answer.now.state) }
+    ensures taken { answer.now.asker ≡ replica.old.own → IsAbove (coordinates answer.now.state) (ranks_in digest.now) → IsCertificate (ranks_in digest.now) answer.now.state answer.now.certificate → TakeGives replica.old.state replica.old.own answer.now.state result }
+    ensures ok { OnOk result (coordinates replica.new.state ≡ join (coordinates replica.old.state) (coordinates answer.now.state)) }
+    ensures roster { replica.new.roster ≡ replica.old.roster }
+    ensures own { replica.new.own ≡ replica.old.own }
+    ensures err { OnErr result (replica.new ≡ replica.old) }
+{
+    if answer.asker != replica.own() {
+        return Err(Fault::WrongAsker);
+    }
+    if !check(digest, &answer.state, &answer.certificate) {
+        return Err(Fault::BadCertificate);
+    }
+    replica.take(&answer.state)
+}
+
+/// One replica asks another for what it lacks, and takes the answer: the digest of what it was when it asked goes as
+/// bytes to the other, which sends back as bytes the least delta and its certificate; these are checked and taken.
+///
+/// Between friends, whatever the one that asked has become since, it ends with all that both knew, and nothing but
+/// want of memory or too long a text is a hindrance: no text is refused by the one that reads it, no check says no,
+/// and no take finds a conflict or a loss.
+pub fn exchange<S: DotSet>(
+    alloc: Global,
+    answerer: &Replica<S>,
+    asked: &Replica<S>,
+    asker: &mut Replica<S>,
+) -> Result<(), Fault>
+    requires roster { (answerer.now.roster ≡ asker.old.roster) × (asked.now.roster ≡ asker.old.roster) }
+    requires friends { AreFriends answerer.now.own (coordinates answerer.now.state) asker.old.own (coordinates asker.old.state) }
+    requires grown { AtMost (coordinates asked.now.state) (coordinates asker.old.state) }
+    requires few_asked { AreFew (seen_of asked.now.state.lives) }
+    requires few_held { AreFew (seen_of answerer.now.state.lives) }
+    ensures joined { OnOk result (coordinates asker.new.state ≡ join (coordinates asker.old.state) (coordinates answerer.now.state)) }
+    ensures fault { IfErr result (IsLost (IsLongDigest asked.now.state ⊎ IsLongAnswer (digest_of asked.now.state) asker.old.own answerer.now.state)) }
+    ensures roster { asker.new.roster ≡ asker.old.roster }
+    ensures own { asker.new.own ≡ asker.old.own }
+    ensures err { OnErr result (asker.new ≡ asker.old) }
+{
+    let replicas = asker.roster().len();
+    let digest = send_digest(alloc, replicas, asked.state())?;
+    let answer = send_answer(alloc, replicas, asker.own(), answerer.state(), &digest)?;
+    take_answer(asker, &digest, &answer)
+}
