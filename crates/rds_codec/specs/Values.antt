@@ -23,6 +23,10 @@ use Rattle.rds_codec.specs.declared.limits.TheConstants.{MOST_DOTS}
 abbrev pub is_key_text : List ℕ → Bool
 is_key_text t = is_utf8 t && is_key t
 
+-- no more dots than are read
+abbrev pub AreFew : Dots → Type 0
+AreFew s = set.len s ≤ MOST_DOTS
+
 -- the roster holds a key and different names, and the replica is one of it
 pub record IsMember (roster : RosterValue) (own : ℕ) : Type 0 where
   pub group : is_key_text roster.group ≡ true
@@ -46,9 +50,12 @@ IsEntry e = (list_all is_key_text e.path ≡ true) × IsScalar e.value
 abbrev pub IsLiveRow : Dot × Entry → Type 0
 IsLiveRow row = IsEntry row.1
 
+abbrev pub IsKeyed : CountRow → Type 0
+IsKeyed r = is_key_text r.key ≡ true
+
 -- of a key and one of so many replicas
 abbrev pub IsCountRowOf : ℕ → CountRow → Type 0
-IsCountRowOf replicas r = (is_key_text r.key ≡ true) × (r.replica < replicas)
+IsCountRowOf replicas r = IsKeyed r × (r.replica < replicas)
 
 -- the numbers of rows, each of a key and one of so many replicas
 pub record AreCountsOf (replicas : ℕ) (m : Counted) : Type 0 where
@@ -60,7 +67,7 @@ pub record AreCountsOf (replicas : ℕ) (m : Counted) : Type 0 where
 -- the parts are within their limits, and the dots not above the cap
 pub record IsStateOf (replicas : ℕ) (v : StateValue) : Type 0 where
   pub dots : AreDotsOf replicas (seen_of v.lives)
-  pub few : set.len (seen_of v.lives) ≤ MOST_DOTS
+  pub few : AreFew (seen_of v.lives)
   pub entries : AllByRecursion IsLiveRow (live_rows v.lives)
   pub counts : AreCountsOf replicas v.counts
 

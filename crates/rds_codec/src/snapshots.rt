@@ -5,6 +5,7 @@ ghost use Rattle.rds_codec.specs.DotRows.{rows_from};
 ghost use Rattle.rds_codec.specs.Kinds.{snapshot_kind};
 ghost use Rattle.rds_codec.specs.Reading.{Gives, snapshot_at, all_of};
 ghost use Rattle.rds_codec.specs.Spelling.{snapshot_text};
+ghost use Rattle.rds_codec.specs.Values.{AreFew, IsSnapshot};
 ghost use Rattle.rds_codec.specs.Writing.{Adds, Encodes};
 ghost use Rattle.rds_dots.specs.Runs.{runs_of};
 ghost use Rattle.rds_life.specs.Life.{seen_of};
@@ -61,11 +62,12 @@ pub fn decode_snapshot<S: DotSet>(alloc: Global, bytes: &[u8]) -> Result<Replica
 fn measure<S: DotSet>(replica: &Replica<S>) -> (u16, u128)
     ensures rows { result.0 ≡ length (rows_from 0 (runs_of (seen_of replica.now.state.lives))) }
     ensures length { result.1 ≡ length (snapshot_text replica.now) }
+    ensures value { AreFew (seen_of replica.now.state.lives) → IsSnapshot replica.now }
 {
     let (rows, state_length) = measure_state(replica.state());
     (
         rows,
-        4 + member_length(replica.roster()) as u128 + state_length,
+        4 + member_length(replica.roster(), replica.own()) as u128 + state_length,
     )
 }
 
@@ -85,7 +87,8 @@ fn put_snapshot<S: DotSet>(
 /// The text of the replica's snapshot. Above the limit it is refused (`TooLong`) before any memory is taken;
 /// then all memory that the text needs is taken at once.
 pub fn encode_snapshot<S: DotSet>(alloc: Global, replica: &Replica<S>) -> Result<Vec<u8>, Fault>
-    ensures { Encodes (snapshot_text replica.now) result }
+    ensures text { Encodes (snapshot_text replica.now) result }
+    ensures value { AreFew (seen_of replica.now.state.lives) → IsSnapshot replica.now }
 {
     let (rows, length) = measure(replica);
     let mut out = room_for(alloc, length)?;

@@ -1,5 +1,5 @@
 //! The text of a state: the dots that were seen, the entries of those that live, and the counters.
-ghost use Rattle.std.specs.Prelude.{◌≡◌, ◌≤◌, ◌^◌, length};
+ghost use Rattle.std.specs.Prelude.{◌≡◌, ℕ, ◌≤◌, ◌^◌, length};
 ghost use Rattle.rds_dots.specs.Runs.{runs_of};
 ghost use Rattle.rds_life.specs.Life.{seen_of};
 ghost use Rattle.rds_codec.specs.Decoding.{Decodes, ReadsAll};
@@ -7,6 +7,9 @@ ghost use Rattle.rds_codec.specs.Kinds.{state_kind};
 ghost use Rattle.rds_codec.specs.DotRows.{rows_from};
 ghost use Rattle.rds_codec.specs.Reading.{Gives, state_at, all_of};
 ghost use Rattle.rds_codec.specs.Spelling.{state_text};
+ghost use Rattle.rds_codec.specs.Values.{AreFew, IsStateOf};
+ghost use Rattle.rds_state.specs.Fits.{Fits};
+ghost use Rattle.rds_state.specs.Value.{coordinates};
 ghost use Rattle.rds_codec.specs.Writing.{Adds, Encodes};
 
 use crate::counters::read_counters;
@@ -45,6 +48,7 @@ pub fn measure_state<S: DotSet>(state: &State<S>) -> (u16, u128)
     ensures rows { result.0 ≡ length (rows_from 0 (runs_of (seen_of state.now.lives))) }
     ensures length { result.1 ≡ length (state_text state.now) }
     ensures few { result.1 ≤ 2 ^ 101 }
+    ensures value { (replicas : ℕ) → Fits replicas (coordinates state.now) → AreFew (seen_of state.now.lives) → IsStateOf replicas state.now }
 {
     let lives = state.lives();
     let (rows, dots_length) = measure_dots(lives.seen());
@@ -101,7 +105,8 @@ pub fn decode_state<S: DotSet>(
 /// The text of the state. Above the limit it is refused (`TooLong`) before any memory is taken; then all memory
 /// that the text needs is taken at once.
 pub fn encode_state<S: DotSet>(alloc: Global, state: &State<S>) -> Result<Vec<u8>, Fault>
-    ensures { Encodes (state_text state.now) result }
+    ensures text { Encodes (state_text state.now) result }
+    ensures value { (replicas : ℕ) → Fits replicas (coordinates state.now) → AreFew (seen_of state.now.lives) → IsStateOf replicas state.now }
 {
     let (rows, length) = measure_state(state);
     let mut out = room_for(alloc, length)?;
