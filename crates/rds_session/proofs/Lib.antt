@@ -8,6 +8,7 @@ pub mod Moves
 pub mod Runs
 pub mod Scans
 pub mod Sendings
+pub mod Splits
 pub mod Splitting
 pub mod Talking
 pub mod Tellings

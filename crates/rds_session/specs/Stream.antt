@@ -36,6 +36,13 @@ pub record Splits (x : List ℕ) (messages : List (List ℕ)) (rest : List ℕ) 
   pub joined_are : map joined cuts ≡ messages
   pub part : IsPart rest
 
+abbrev pub IsByte : ℕ → Type 0
+IsByte b = b < 256
+
+-- a stream of bytes is messages and a rest
+abbrev pub AreSplit : Type 0
+AreSplit = (x : List ℕ) → AllByRecursion IsByte x → (messages : List (List ℕ)) × (rest : List ℕ) × Splits x messages rest
+
 -- a stream is split in one way at most
 abbrev pub AreSplitOnce : Type 0
 AreSplitOnce = (x : List ℕ) (ms ns : List (List ℕ)) (rest other : List ℕ) → Splits x ms rest → Splits x ns other → (ms ≡ ns) × (rest ≡ other)

@@ -1,12 +1,13 @@
 //! Laws of streams and sessions.
 ghost use Rattle.rds_session.specs.ByMessages.{IsByMessages, IsQuiet};
 ghost use Rattle.rds_session.specs.Meeting.{BothEnd, ReceiveDeltas};
-ghost use Rattle.rds_session.specs.Stream.{AreSplitOnce};
+ghost use Rattle.rds_session.specs.Stream.{AreSplit, AreSplitOnce};
 
-/// A stream is messages and a rest in one way at most, however each message was cut into chunks. The function does
-/// nothing: its contract is this law.
+/// A stream of bytes is messages and a rest, less than a message, in exactly one way, however each message was cut
+/// into chunks. The function does nothing: its contract is these laws.
 pub fn streams_are_split_once()
-    ensures { AreSplitOnce }
+    ensures split { AreSplit }
+    ensures once { AreSplitOnce }
 {}
 
 /// What a session makes of a stream is what it makes of its messages, however each was cut into chunks; and nothing

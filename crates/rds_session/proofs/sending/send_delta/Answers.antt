@@ -14,4 +14,4 @@ returns g c =
     let rows = c.in_ok-certificate.certificate in
     let is = delta_is c.args.kept.now.state c.args.digest.now c.args.peer delta rows (c.in_ok-delta.ensures.ok ∙ ap (λ (v : StateValue). least (coordinates v) (ranks_in c.args.digest.now)) c.state.ensures.state) c.in_ok-certificate.ensures.ok in
     subst (λ (a : AnswerValue). SendsOne c.args.send.now.items c.send_body.new.send.items (3 ∷ answer_text a) c.send_body.result) is
-    (c.send_body.ensures (answer_text (answer c.args.peer delta rows)) c.encode_answer.ensures)
+    (c.send_body.ensures (answer_text (answer c.args.peer delta rows)) c.encode_answer.ensures.text)
