@@ -2,6 +2,7 @@ pub mod Accepting
 pub mod Checks
 pub mod Course
 pub mod Cutting
+pub mod Knowing
 pub mod Meeting
 pub mod Messages
 pub mod Moves

@@ -1,6 +1,5 @@
 -- Each stream of bytes has a reading as messages and a rest.
-use Rattle.std.proofs.Common.{◌≡◌, ℕ, zero, suc, ◌+◌, ◌-◌, ◌*◌, ◌/◌, ◌%◌, ◌<◌, ◌≤◌, Bool, true, false, cond, eqb, List, [], ◌∷◌, ◌++◌, length, refl, sym, ap, ◌∙◌, arith, append_assoc, length-append, subst, map}
-use Rattle.std.specs.Prelude.{◌==◌}
+use Rattle.std.proofs.Common.{◌≡◌, ℕ, ◌+◌, ◌-◌, ◌*◌, ◌/◌, ◌%◌, ◌<◌, Bool, true, false, cond, eqb, List, [], ◌∷◌, ◌++◌, length, refl, sym, ap, ◌∙◌, arith, append_assoc, length-append, subst, map}
 use Rattle.std.specs.Int.{w16, to_be_bytes}
 use Rattle.std.specs.List.{flat_map, AllByRecursion}
 use Rattle.std.proofs.lemmas.Bool.Decides.{nat_tests}
@@ -9,7 +8,7 @@ use Rattle.std.proofs.lemmas.List.Concat.{flat_map-cons}
 use Rattle.rds_session.specs.declared.chunks.Place.{Place}
 use Rattle.rds_session.specs.declared.chunks.Place.TheVariants.{First, Second, Within}
 use Rattle.rds_session.specs.Chunks.{place_of, chunk_text, message_text}
-use Rattle.rds_session.specs.Stream.{IsByte, IsChunk, AreChunks, AreSplit, joined, IsChunkFront, IsPart, Splits}
+use Rattle.rds_session.specs.Stream.{IsByte, IsChunk, AreChunks, AreSplit, joined, IsChunkFront, Splits}
 use Rattle.rds_session.proofs.Messages.{high_low}
 use Rattle.rds_session.proofs.Splitting.{split_from, messages_of}
 

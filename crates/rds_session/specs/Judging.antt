@@ -3,7 +3,7 @@ use Rattle.std.specs.Prelude.{◌≡◌, ℕ, ◌==◌, nat_lt, Bool, true, fals
 use Rattle.std.specs.Str.{bytes_eq}
 use Rattle.std.specs.Cmp.Lexicographic.{pointwise}
 use Rattle.rds_names.specs.declared.fault.Fault.{Fault}
-use Rattle.rds_names.specs.declared.fault.Fault.TheVariants.{Memory, WrongAsker, Cut, Bad, Extra, BadCertificate, WrongVersion, WrongGroup, WrongRoster, SameReplica, OutOfTurn}
+use Rattle.rds_names.specs.declared.fault.Fault.TheVariants.{Device, Memory, WrongAsker, Cut, Bad, Extra, BadCertificate, WrongVersion, WrongGroup, WrongRoster, SameReplica, OutOfTurn}
 use Rattle.rds_state.specs.Fits.{ReplicaValue}
 use Rattle.rds_state.specs.Value.{StateValue}
 use Rattle.rds_delta.specs.Digested.{DigestValue, digest_of}
@@ -150,6 +150,12 @@ replies_of _ _ _ _ = []
 abbrev pub StopsAs : Stop → Result Said Stop → Type 0
 StopsAs (Refused Memory) wanted = Unit {0}
 StopsAs e wanted = wanted ≡ Err e
+
+-- no call of the system failed
+abbrev pub IsKnown : Stop → Type 0
+IsKnown (Refused Device) = ⊥
+IsKnown (Left Device) = ⊥
+IsKnown e = Unit {0}
 
 abbrev pub Judges : {S : Type 0} → Result (Act S) Stop → Result Said Stop → Type 0
 Judges (Ok act) wanted = wanted ≡ Ok (said act)

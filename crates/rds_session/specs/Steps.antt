@@ -13,6 +13,8 @@ use Rattle.rds_session.specs.declared.chunks.TheConstants.{MESSAGE_LIMIT}
 use Rattle.rds_session.specs.declared.chunks.Scanned.{Scanned}
 use Rattle.rds_session.specs.declared.chunks.Scanned.TheVariants as code
 use Rattle.rds_session.specs.Chunks.{Under, start, spelled, Scan, More, Whole, Long}
+use Rattle.rds_session.specs.declared.talk.Stop.TheVariants.{Refused}
+use Rattle.rds_session.specs.Judging.{IsKnown}
 use Rattle.rds_session.specs.Messages.{bye_message}
 use Rattle.rds_session.specs.Session.{Standing, Sent, then_more, run, opened, taken, stepped, Heard, heard_more, course}
 
@@ -54,6 +56,11 @@ Continues side kept heard input new sent = GoesOn side kept heard input new sent
 abbrev pub IsOver : Ended → Type 0
 IsOver Going = ⊥
 IsOver _ = Unit {0}
+
+-- it hasn't failed by a call of the system
+abbrev pub IsNoDevice : Ended → Type 0
+IsNoDevice (Failed f) = IsKnown (Refused f)
+IsNoDevice _ = Unit {0}
 
 -- ---- the parts of a step
 

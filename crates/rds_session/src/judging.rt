@@ -5,10 +5,11 @@ ghost use Rattle.rds_codec.specs.Reading.{Gives};
 ghost use Rattle.rds_session.specs.Bodies.{hello_in, digest_in, answer_in};
 ghost use Rattle.rds_delta.specs.Digested.{digest_of};
 ghost use Rattle.rds_names.specs.declared.fault.Fault.TheVariants.{Memory};
-ghost use Rattle.rds_session.specs.Judging.{Judges, awaited, bye_came, hello_came, digest_came, delta_came, body_came, accepted, type_of, other_version, same_names};
+ghost use Rattle.rds_session.specs.Judging.{IsKnown, Judges, awaited, bye_came, hello_came, digest_came, delta_came, body_came, accepted, type_of, other_version, same_names};
 ghost use Rattle.rds_session.specs.Checked.{passes};
 ghost use Rattle.std.specs.Str.{bytes_eq};
 ghost use Rattle.rds_session.specs.Messages.{fault_of_code};
+ghost use Rattle.rds_session.specs.declared.talk.Stop.TheVariants.{Left, Refused};
 
 use crate::talk::{Act, Stop, Turn};
 use rds_codec::{Answer, Hello, decode_answer, decode_digest, decode_hello};
@@ -20,7 +21,8 @@ use std::alloc::Global;
 
 // What a BYE with a code other than 0 ends the session with.
 fn fault_of_code(code: u8) -> Fault
-    ensures { result ≡ fault_of_code code }
+    ensures value { result ≡ fault_of_code code }
+    ensures known { IsKnown (Left result) }
 {
     match code {
         1 => Fault::WrongVersion,
@@ -32,7 +34,8 @@ fn fault_of_code(code: u8) -> Fault
 }
 
 fn judge_bye<S: DotSet>(turn: &Turn<S>, body: &[u8]) -> Result<Act<S>, Stop>
-    ensures { Judges result (bye_came (awaited turn.now) body.now) }
+    ensures known { IfErr result IsKnown }
+    ensures judges { Judges result (bye_came (awaited turn.now) body.now) }
 {
     match body {
         [] => Err(Stop::Refused(Fault::Cut)),
@@ -58,7 +61,8 @@ fn is_other_version(body: &[u8]) -> bool
 #[tactic(auto, unfolding(crate::specs::Bodies::hello_in))]
 fn read_hello(alloc: Global, body: &[u8]) -> Result<Hello, Fault>
     requires { length body.now ≤ LIMIT }
-    ensures { Gives (λ hello. hello) result (hello_in body.now) }
+    ensures known { IfErr result (λ fault. IsKnown (Refused fault)) }
+    ensures read { Gives (λ hello. hello) result (hello_in body.now) }
 {
     decode_hello(alloc, body)
 }
@@ -66,7 +70,8 @@ fn read_hello(alloc: Global, body: &[u8]) -> Result<Hello, Fault>
 #[tactic(auto, unfolding(crate::specs::Bodies::digest_in))]
 fn read_digest<S: DotSet>(alloc: Global, replicas: u16, body: &[u8]) -> Result<Digest<S>, Fault>
     requires { length body.now ≤ LIMIT }
-    ensures { Gives (λ digest. digest) result (digest_in replicas body.now) }
+    ensures known { IfErr result (λ fault. IsKnown (Refused fault)) }
+    ensures read { Gives (λ digest. digest) result (digest_in replicas body.now) }
 {
     decode_digest(alloc, replicas, body)
 }
@@ -74,7 +79,8 @@ fn read_digest<S: DotSet>(alloc: Global, replicas: u16, body: &[u8]) -> Result<D
 #[tactic(auto, unfolding(crate::specs::Bodies::answer_in))]
 fn read_answer<S: DotSet>(alloc: Global, replicas: u16, body: &[u8]) -> Result<Answer<S>, Fault>
     requires { length body.now ≤ LIMIT }
-    ensures { Gives (λ answer. answer) result (answer_in replicas body.now) }
+    ensures known { IfErr result (λ fault. IsKnown (Refused fault)) }
+    ensures read { Gives (λ answer. answer) result (answer_in replicas body.now) }
 {
     decode_answer(alloc, replicas, body)
 }
@@ -89,7 +95,8 @@ fn has_same_names(hello: &Roster, kept: &Roster) -> bool
 
 fn judge_hello<S: DotSet>(alloc: Global, kept: &Replica<S>, body: &[u8]) -> Result<Act<S>, Stop>
     requires { length body.now ≤ LIMIT }
-    ensures { Judges result (hello_came kept.now body.now) }
+    ensures known { IfErr result IsKnown }
+    ensures judges { Judges result (hello_came kept.now body.now) }
 {
     if is_other_version(body) {
         return Err(Stop::Refused(Fault::WrongVersion));
@@ -114,7 +121,8 @@ fn judge_digest<S: DotSet>(
     body: &[u8],
 ) -> Result<Act<S>, Stop>
     requires { length body.now ≤ LIMIT }
-    ensures { Judges result (digest_came kept.now peer body.now) }
+    ensures known { IfErr result IsKnown }
+    ensures judges { Judges result (digest_came kept.now peer body.now) }
 {
     let digest = read_digest(alloc, kept.roster().len(), body)?;
     Ok(Act::Learn(peer, digest))
@@ -136,7 +144,8 @@ fn passes<S: DotSet>(
 
 fn judge_delta<S: DotSet>(alloc: Global, kept: &Replica<S>, body: &[u8]) -> Result<Act<S>, Stop>
     requires { length body.now ≤ LIMIT }
-    ensures { Judges result (delta_came kept.now body.now) }
+    ensures known { IfErr result IsKnown }
+    ensures judges { Judges result (delta_came kept.now body.now) }
 {
     let answer = read_answer(alloc, kept.roster().len(), body)?;
     if answer.asker != kept.own() {
@@ -155,7 +164,8 @@ fn judge_body<S: DotSet>(
     body: &[u8],
 ) -> Result<Act<S>, Stop>
     requires { length body.now ≤ LIMIT }
-    ensures { Judges result (body_came kept.now (awaited turn.now) body.now) }
+    ensures known { IfErr result IsKnown }
+    ensures judges { Judges result (body_came kept.now (awaited turn.now) body.now) }
 {
     match turn {
         Turn::Hello => judge_hello(alloc, kept, body),
@@ -185,7 +195,8 @@ pub fn accept<S: DotSet>(
     message: &[u8],
 ) -> Result<Act<S>, Stop>
     requires { length message.now ≤ LIMIT }
-    ensures { Judges result (accepted kept.now (awaited turn.now) message.now) }
+    ensures known { IfErr result IsKnown }
+    ensures judges { Judges result (accepted kept.now (awaited turn.now) message.now) }
 {
     match message {
         [] => Err(Stop::Refused(Fault::Cut)),

@@ -1,6 +1,6 @@
 //! One end of a session.
 ghost use Rattle.rds_session.specs.declared.chunks.TheConstants.{MESSAGE_LIMIT};
-ghost use Rattle.std.specs.Prelude.{◌≡◌, ◌<◌, ◌≤◌, [], Ok, IfOk, IfErr, length};
+ghost use Rattle.std.specs.Prelude.{◌≡◌, ◌<◌, ◌≤◌, [], Ok, OnOk, IfOk, IfErr, length};
 ghost use Rattle.std.specs.Option.{option_copied};
 ghost use Rattle.rds_names.specs.declared.fault.Fault.TheVariants.{Memory};
 
@@ -55,14 +55,16 @@ impl<'a, S: DotSet> Session<'a, S> {
     ghost use Rattle.rds_session.specs.declared.step.Ended.TheVariants.{Going};
     ghost use Rattle.rds_session.specs.declared.talk.Side.{Side};
     ghost use Rattle.rds_session.specs.Chunks.{scan};
-    ghost use Rattle.rds_session.specs.Judging.{said};
+    ghost use Rattle.rds_session.specs.Judging.{IsKnown, said};
+    ghost use Rattle.rds_session.specs.declared.talk.Stop.TheVariants.{Refused};
     ghost use Rattle.rds_session.specs.Session.{failed, performed, refuses, answered, message_comes, opened, cut_off, Heard, Nothing};
-    ghost use Rattle.rds_session.specs.Steps.{came, Continues, Does, HasScanned, HasStanding, IsLastWord, IsOver, Ran, Runs, Steps, Works};
+    ghost use Rattle.rds_session.specs.Steps.{came, Continues, Does, HasScanned, HasStanding, IsLastWord, IsNoDevice, IsOver, Ran, Runs, Steps, Works};
 
     /// A session that hasn't begun. Takes no memory.
     #[tactic(auto, unfolding(crate::specs::Session::course))]
     pub fn new(side: Side, kept: &'a Kept<S>) -> Session<'a, S>
-        ensures { HasStanding side kept.now Nothing result }
+        ensures standing { HasStanding side kept.now Nothing result }
+        ensures going { result.ended ≡ Going }
     {
         Session {
             side,
@@ -99,6 +101,7 @@ impl<'a, S: DotSet> Session<'a, S> {
             → Continues side kept heard (came input.entry) self.new result.send.items }
         ensures ended { result.ended ≡ self.new.ended }
         ensures over { IsOver self.old.ended → (self.new ≡ self.old) × (result.send.items ≡ []) }
+        ensures device { IsNoDevice self.old.ended → IsNoDevice self.new.ended }
     {
         match self.ended {
             Ended::Going => {
@@ -117,7 +120,8 @@ impl<'a, S: DotSet> Session<'a, S> {
 
     fn go_on(&mut self, alloc: Global, input: Input<'_>) -> Vec<u8>
         requires { self.old.ended ≡ Going }
-        ensures { Steps self.old (came input.entry) self.new result.items }
+        ensures steps { Steps self.old (came input.entry) self.new result.items }
+        ensures known { IsNoDevice self.new.ended }
     {
         let mut send = Vec::new(alloc);
         match self.work(alloc, input, &mut send) {
@@ -140,7 +144,8 @@ impl<'a, S: DotSet> Session<'a, S> {
     }
 
     fn work(&mut self, alloc: Global, input: Input<'_>, send: &mut Vec<u8>) -> Result<(), Fault>
-        ensures { Works self.old send.old.items (came input.entry) self.new send.new.items result }
+        ensures works { Works self.old send.old.items (came input.entry) self.new send.new.items result }
+        ensures known { OnOk result (IsNoDevice self.old.ended → IsNoDevice self.new.ended) }
     {
         self.open(alloc, send)?;
         match input {
@@ -154,7 +159,8 @@ impl<'a, S: DotSet> Session<'a, S> {
 
     #[tactic(auto, unfolding(crate::specs::Session::opened), using(crate::proofs::Moves::all_sent, crate::proofs::Moves::some_sent))]
     fn open(&mut self, alloc: Global, send: &mut Vec<u8>) -> Result<(), Fault>
-        ensures { Does self.old send.old.items self.new send.new.items result opened }
+        ensures does { Does self.old send.old.items self.new send.new.items result opened }
+        ensures known { OnOk result (IsNoDevice self.old.ended → IsNoDevice self.new.ended) }
     {
         if self.begun {
             return Ok(());
@@ -176,7 +182,8 @@ impl<'a, S: DotSet> Session<'a, S> {
     }
 
     fn run(&mut self, alloc: Global, piece: &[u8], send: &mut Vec<u8>) -> Result<(), Fault>
-        ensures { Runs self.old send.old.items piece.now self.new send.new.items result }
+        ensures runs { Runs self.old send.old.items piece.now self.new send.new.items result }
+        ensures known { OnOk result (IsNoDevice self.old.ended → IsNoDevice self.new.ended) }
     {
         let mut rest = piece;
         while !rest.is_empty() {
@@ -195,6 +202,7 @@ impl<'a, S: DotSet> Session<'a, S> {
         requires { 0 < length piece.now }
         ensures ran { IfOk result (λ rest. Ran self.old send.old.items piece.now self.new send.new.items rest.now) }
         ensures less { IfOk result (λ rest. length rest.now < length piece.now) }
+        ensures known { OnOk result (IsNoDevice self.old.ended → IsNoDevice self.new.ended) }
         ensures err { IfErr result (λ e. (e ≡ Memory) × (self.new.received ≡ self.old.received)) }
     {
         match self.ended {
@@ -217,6 +225,7 @@ impl<'a, S: DotSet> Session<'a, S> {
     // Scans bytes up to the end of a message. What has come of a message that goes on is held.
     fn scan<'p>(&mut self, alloc: Global, piece: &'p [u8]) -> Result<Scanned<'p>, Fault>
         ensures ok { IfOk result (HasScanned (scan piece.now self.old.under) self.old self.new) }
+        ensures ended { OnOk result (self.new.ended ≡ self.old.ended) }
         ensures err { IfErr result (λ e. (e ≡ Memory) × (self.new.received ≡ self.old.received)) }
     {
         let mut chunks = chunks_of(alloc, self.under.take());
@@ -233,7 +242,8 @@ impl<'a, S: DotSet> Session<'a, S> {
     #[tactic(auto, unfolding(crate::specs::Session::message_comes))]
     fn message(&mut self, alloc: Global, message: &[u8], send: &mut Vec<u8>) -> Result<(), Fault>
         requires { length message.now ≤ MESSAGE_LIMIT }
-        ensures { Does self.old send.old.items self.new send.new.items result (λ s. message_comes s message.now) }
+        ensures does { Does self.old send.old.items self.new send.new.items result (λ s. message_comes s message.now) }
+        ensures known { OnOk result (IsNoDevice self.old.ended → IsNoDevice self.new.ended) }
     {
         match accept(alloc, self.kept.view_of(), &self.turn, message) {
             Ok(act) => self.answer(alloc, act, send),
@@ -251,7 +261,8 @@ impl<'a, S: DotSet> Session<'a, S> {
     // Answers an accepted message, and does what it says.
     #[tactic(auto, using(crate::proofs::Moves::all_sent, crate::proofs::Moves::some_sent))]
     fn answer(&mut self, alloc: Global, act: Act<S>, send: &mut Vec<u8>) -> Result<(), Fault>
-        ensures { Does self.old send.old.items self.new send.new.items result (λ s. answered s (Ok (said act))) }
+        ensures does { Does self.old send.old.items self.new send.new.items result (λ s. answered s (Ok (said act))) }
+        ensures known { OnOk result (IsNoDevice self.old.ended → IsNoDevice self.new.ended) }
     {
         let all = send_replies(
             alloc,
@@ -272,7 +283,8 @@ impl<'a, S: DotSet> Session<'a, S> {
     }
 
     fn perform(&mut self, act: Act<S>)
-        ensures { self.new ≡ performed self.old (said act) }
+        ensures performed { self.new ≡ performed self.old (said act) }
+        ensures known { IsNoDevice self.old.ended → IsNoDevice self.new.ended }
     {
         match act {
             Act::Greet(peer) => self.turn = Turn::Digest { peer },
@@ -287,7 +299,8 @@ impl<'a, S: DotSet> Session<'a, S> {
 
     // Refuses with a BYE.
     fn refuse(&mut self, fault: Fault, send: &mut Vec<u8>) -> Result<(), Fault>
-        ensures { Does self.old send.old.items self.new send.new.items result (λ s. refuses s fault) }
+        ensures does { Does self.old send.old.items self.new send.new.items result (λ s. refuses s fault) }
+        ensures known { OnOk result (IsKnown (Refused fault) → IsNoDevice self.new.ended) }
     {
         send_bye(send, code_of(fault))?;
         self.fail(fault);
@@ -302,7 +315,8 @@ impl<'a, S: DotSet> Session<'a, S> {
     }
 
     fn cut_off(&mut self)
-        ensures { self.new ≡ (cut_off self.old).0 }
+        ensures cut { self.new ≡ (cut_off self.old).0 }
+        ensures known { IsNoDevice self.old.ended → IsNoDevice self.new.ended }
     {
         match self.ended {
             Ended::Going => self.fail(Fault::PeerEnded),

@@ -4,6 +4,7 @@ use Rattle.rds_session.proofs.exchanging.talk.Goals as goal
 
 pub turns-init : goal.turns-init
 turns-init g c = (
+  c.in_ok-ended.ensures.known,
   c.in_ok-ended.ensures.ended,
   refl,
   c.in_ok-ended.ensures.steady,

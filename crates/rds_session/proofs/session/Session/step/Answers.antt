@@ -7,7 +7,7 @@ use Rattle.rds_session.proofs.session.Session.step.Goals as goal
 
 pub returns-in-Going-clause-course : goal.returns-in-Going-clause-course
 returns-in-Going-clause-course g c =
-    λ side kept heard is. continues side kept heard (came c.args.input) c.args.self.now c.go_on-send.new.self c.go_on-send.result.items c.go_on-send.ensures is
+    λ side kept heard is. continues side kept heard (came c.args.input) c.args.self.now c.go_on-send.new.self c.go_on-send.result.items c.go_on-send.ensures.steps is
 
 pub returns-in-Done : goal.returns-in-Done
 returns-in-Done g c =
@@ -16,6 +16,7 @@ returns-in-Done g c =
     let rest = rests c.args.self.now (came c.args.input) c.new.result.items over c.new.ensures.items in
     record {
       ended = e;
+      device = λ h. h;
       over = λ h. (refl, c.new.ensures.items);
       course = λ side kept heard is. continues side kept heard (came c.args.input) c.args.self.now c.args.self.now c.new.result.items rest is;
     }
