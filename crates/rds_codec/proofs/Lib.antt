@@ -1,16 +1,16 @@
 mod Adding
-mod AnswerFormats
+pub mod AnswerFormats
 mod CertificateFormats
 mod ClaimTexts
 mod CounterFormats
-mod DigestFormats
+pub mod DigestFormats
 mod DotFormats
 mod EntryFormats
 mod EntryParts
 pub mod ExchangeLemmas
 mod Format
 mod HaveTexts
-mod HelloFormats
+pub mod HelloFormats
 mod LargeParts
 mod Lengths
 mod Lists
@@ -28,7 +28,7 @@ mod RunSteps
 mod Sequences
 mod SnapshotFormats
 mod StateFormats
-mod Subsets
+pub mod Subsets
 mod Texts
-mod Whole
+pub mod Whole
 mod Within

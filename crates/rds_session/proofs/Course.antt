@@ -1,0 +1,359 @@
+-- A session's course, step by step.
+use Rattle.std.proofs.Common.{◌≡◌, ℕ, Bool, true, false, cond, List, [], ◌∷◌, ◌++◌, Option, Some, None, Result, Ok, Err, refl, sym, ap, ◌∙◌, append_assoc, subst, ◌⊎◌, inl, inr}
+use Rattle.std.proofs.lemmas.List.{append-nil}
+use Rattle.rds_names.specs.declared.fault.Fault.{Fault}
+use Rattle.rds_names.specs.declared.fault.Fault.TheVariants.{Memory, TooLong, PeerEnded}
+use Rattle.rds_state.specs.Fits.{ReplicaValue}
+use Rattle.rds_state.specs.Value.{StateValue}
+use Rattle.rds_session.specs.declared.talk.Side.{Side}
+use Rattle.rds_session.specs.declared.talk.Stop.{Stop}
+use Rattle.rds_session.specs.declared.talk.Stop.TheVariants.{Refused, Left}
+use Rattle.rds_session.specs.declared.step.Ended.{Ended}
+use Rattle.rds_session.specs.declared.step.Ended.TheVariants.{Going, Done, Failed}
+use Rattle.rds_session.specs.Chunks.{start, Scan, More, Whole, Long, byte_scanned}
+use Rattle.rds_session.specs.Judging.{Awaited, ForHello, ForDigest, ForDelta, ForBye, Said, Greets, Learns, Receives, Finishes, accepted, replies_of}
+use Rattle.rds_session.specs.Sending.{sending}
+use Rattle.rds_session.specs.Session.{Standing, Sent, fresh, failed, then_more, when_going, after_sending, performed, answered, message_comes, scanned, stay, byte_comes, run, opening, opened, cut_off, Heard, Nothing, So_far, All_of, heard_more, course, taken, stepped}
+use Rattle.rds_session.specs.Steps as steps
+use Rattle.rds_session.specs.Steps.{piece_of, ReceivedOnTheWay, RunsOut, Steps, Continues, IsOver}
+use Rattle.rds_session.proofs.Accepting.{IsActFor, IsFor, accepted_suits}
+use Rattle.rds_session.proofs.Runs.{run_over, run-append}
+
+-- ---- what stays
+
+-- what was received is received before the last message alone
+abbrev pub IsOrderly : Standing → Type 0
+IsOrderly s = (s.received ≡ None) ⊎ (s.turn ≡ ForBye)
+
+abbrev pub KeepsReceived : Standing → Standing → Type 0
+KeepsReceived s t = (s.received ≡ None) ⊎ (t.received ≡ s.received)
+
+-- one standing comes after another
+pub record Follows (s t : Standing) : Type 0 where
+  pub begun : t.begun ≡ s.begun
+  pub side : t.side ≡ s.side
+  pub kept : t.kept ≡ s.kept
+  pub orderly : IsOrderly s → IsOrderly t
+  pub received : IsOrderly s → KeepsReceived s t
+
+pub follows_same : (s t : Standing) → t.begun ≡ s.begun → t.side ≡ s.side → t.kept ≡ s.kept → t.turn ≡ s.turn → t.received ≡ s.received → Follows s t
+follows_same s t b d k u r = record {
+  begun = b;
+  side = d;
+  kept = k;
+  orderly = λ o. elim o [ inl none ↦ inl (r ∙ none) | inr bye ↦ inr (u ∙ bye) ];
+  received = λ o. inr r;
+}
+
+pub follows_then : (a b c : Standing) → Follows a b → Follows b c → Follows a c
+follows_then a b c p q = record {
+  begun = q.begun ∙ p.begun;
+  side = q.side ∙ p.side;
+  kept = q.kept ∙ p.kept;
+  orderly = λ o. q.orderly (p.orderly o);
+  received = λ o. elim (p.received o) [
+    | inl none ↦ inl none
+    | inr same ↦ elim (q.received (p.orderly o)) [ inl none ↦ inl (sym same ∙ none) | inr again ↦ inr (again ∙ same) ]
+  ];
+}
+
+not_yet : (s : Standing) → (s.turn ≡ ForBye → ⊥) → IsOrderly s → s.received ≡ None
+not_yet s h o = elim o [ inl none ↦ none | inr bye ↦ absurd (h bye) ]
+
+performed_by : (s : Standing) (turn : Awaited) (said : Said) → s.turn ≡ turn → IsActFor turn said → Follows s (performed s said)
+performed_by s ForHello (Greets p) is h = record { begun = refl; side = refl; kept = refl; orderly = λ o. inl (not_yet s (λ e. let bad : ForHello ≡ ForBye = sym is ∙ e in cc) o); received = λ o. inr refl }
+performed_by s (ForDigest q) (Learns p g) is h = record { begun = refl; side = refl; kept = refl; orderly = λ o. inl (not_yet s (λ e. let bad : ForDigest q ≡ ForBye = sym is ∙ e in cc) o); received = λ o. inr refl }
+performed_by s (ForDelta q g) (Receives d) is h = record { begun = refl; side = refl; kept = refl; orderly = λ o. inr refl; received = λ o. inl (not_yet s (λ e. let bad : ForDelta q g ≡ ForBye = sym is ∙ e in cc) o) }
+performed_by s ForBye Finishes is h = follows_same s (performed s Finishes) refl refl refl refl refl
+performed_by s ForHello (Learns p g) is h = absurd h
+performed_by s ForHello (Receives d) is h = absurd h
+performed_by s ForHello Finishes is h = absurd h
+performed_by s (ForDigest q) (Greets p) is h = absurd h
+performed_by s (ForDigest q) (Receives d) is h = absurd h
+performed_by s (ForDigest q) Finishes is h = absurd h
+performed_by s (ForDelta q g) (Greets p) is h = absurd h
+performed_by s (ForDelta q g) (Learns p f) is h = absurd h
+performed_by s (ForDelta q g) Finishes is h = absurd h
+performed_by s ForBye (Greets p) is h = absurd h
+performed_by s ForBye (Learns p g) is h = absurd h
+performed_by s ForBye (Receives d) is h = absurd h
+
+failed_follows : (s : Standing) (f : Fault) → Follows s (failed s f)
+failed_follows s f = follows_same s (failed s f) refl refl refl refl refl
+
+pub sending_follows : (s : Standing) (p : List ℕ × Bool) (all : Bool) → p.1 ≡ all → Follows s (after_sending s p).0
+sending_follows s p true e = rw e (follows_same s s refl refl refl refl refl)
+sending_follows s p false e = rw e (failed_follows s TooLong)
+
+answered_follows : (s : Standing) (r : Result Said Stop) → IsFor s.turn r → Follows s (answered s r).0
+answered_follows s (Ok said) h =
+    let p = sending (replies_of s.side s.kept s.turn said) in
+    follows_then s (performed s said) (after_sending (performed s said) p).0 (performed_by s s.turn said refl h) (sending_follows (performed s said) p p.1 refl)
+answered_follows s (Err (Refused f)) h = failed_follows s f
+answered_follows s (Err (Left f)) h = failed_follows s f
+
+message_follows : (s : Standing) (m : List ℕ) → Follows s (message_comes s m).0
+unfolding message_comes
+message_follows s m = answered_follows s (accepted s.kept s.turn m) (accepted_suits s.kept s.turn m).fits
+
+scanned_follows : (s : Standing) (sc : Scan) → Follows s (scanned s sc stay).0
+scanned_follows s (More u) = follows_same s (record s { under = u }) refl refl refl refl refl
+scanned_follows s (Whole m rest) =
+    let t = record s { under = start } in
+    follows_then s t (message_comes t m).0 (follows_same s t refl refl refl refl refl) (message_follows t m)
+scanned_follows s Long = failed_follows s TooLong
+
+run_by : (e : Ended) (s : Standing) (p : Sent) (bs : List ℕ) → Follows s p.0 → Follows p.0 (run bs p.0).0 → Follows s (when_going {A = Sent} e (then_more p (run bs)) (s, [])).0
+run_by Going s p bs f g = follows_then s p.0 (run bs p.0).0 f g
+run_by Done s p bs f g = follows_same s s refl refl refl refl refl
+run_by (Failed x) s p bs f g = follows_same s s refl refl refl refl refl
+
+pub run_follows : (bs : List ℕ) (s : Standing) → Follows s (run bs s).0
+unfolding run
+run_follows [] s = follows_same s s refl refl refl refl refl
+run_follows (b ∷ bs) s = run_by s.ended s (byte_comes s b) bs (scanned_follows s (byte_scanned s.under.place s.under.held b)) (run_follows bs (byte_comes s b).0)
+
+cut_by : (e : Ended) (s : Standing) → Follows s (when_going {A = Sent} e (failed s PeerEnded, []) (s, [])).0
+cut_by Going s = failed_follows s PeerEnded
+cut_by Done s = follows_same s s refl refl refl refl refl
+cut_by (Failed x) s = follows_same s s refl refl refl refl refl
+
+pub cut_follows : (s : Standing) → Follows s (cut_off s).0
+cut_follows s = cut_by s.ended s
+
+-- ---- the opening
+
+opened_fresh : (side : Side) (kept : ReplicaValue) → Follows (record (fresh side kept) { begun = true }) (opened (fresh side kept)).0
+unfolding opened
+opened_fresh side kept = let p = sending (opening side kept) in sending_follows (record (fresh side kept) { begun = true }) p p.1 refl
+
+pub opened_again : (s : Standing) → s.begun ≡ true → opened s ≡ (s, [])
+unfolding opened
+opened_again s e = rw e refl
+
+pub started : Side → ReplicaValue → Standing
+started side kept = record (fresh side kept) { begun = true }
+
+-- each standing but the first follows the one that has begun
+pub course_follows : (side : Side) (kept : ReplicaValue) (h : Heard) → (h ≡ Nothing) ⊎ Follows (started side kept) (course side kept h).0
+unfolding course started
+course_follows side kept Nothing = inl refl
+course_follows side kept (So_far x) =
+    let o = opened (fresh side kept) in
+    inr (follows_then (started side kept) o.0 (run x o.0).0 (opened_fresh side kept) (run_follows x o.0))
+course_follows side kept (All_of x) =
+    let o = opened (fresh side kept) in
+    let r = run x o.0 in
+    inr (follows_then (started side kept) r.0 (cut_off r.0).0 (follows_then (started side kept) o.0 r.0 (opened_fresh side kept) (run_follows x o.0)) (cut_follows r.0))
+
+-- ---- one step more
+
+over_cut : (e : Ended) (s : Standing) → s.ended ≡ e → IsOver (when_going {A = Sent} e (failed s PeerEnded, []) (s, [])).0.ended
+over_cut Going s is = tt
+over_cut Done s is = subst IsOver (sym is) tt
+over_cut (Failed f) s is = subst IsOver (sym is) tt
+
+step_over : (e : Ended) (x y : Sent) → IsOver e → when_going e x y ≡ y
+step_over Going x y h = absurd h
+step_over Done x y h = refl
+step_over (Failed f) x y h = refl
+
+pub stepped_over : (s : Standing) (i : Option (List ℕ)) → IsOver s.ended → stepped s i ≡ (s, [])
+unfolding stepped
+stepped_over s i h = step_over s.ended (then_more (opened s) (taken i)) (s, []) h
+
+taken_over : (e : Ended) (s : Standing) (i : Option (List ℕ)) → s.ended ≡ e → IsOver e → taken i s ≡ (s, [])
+taken_over e s (Some piece) is h = run_over piece s (subst IsOver (sym is) h)
+taken_over Going s None is h = absurd h
+taken_over Done s None is h = rw is refl
+taken_over (Failed f) s None is h = rw is refl
+
+stepped_by : (e : Ended) (s : Standing) (i : Option (List ℕ)) → s.ended ≡ e → opened s ≡ (s, []) → when_going e (then_more (opened s) (taken i)) (s, []) ≡ taken i s
+stepped_by Going s i is o = ap (λ (p : Sent). then_more p (taken i)) o
+stepped_by Done s i is o = sym (taken_over Done s i is tt)
+stepped_by (Failed f) s i is o = sym (taken_over (Failed f) s i is tt)
+
+-- a session that has begun takes the input as it is
+pub stepped_begun : (s : Standing) (i : Option (List ℕ)) → s.begun ≡ true → stepped s i ≡ taken i s
+unfolding stepped
+stepped_begun s i h = stepped_by s.ended s i refl (opened_again s h)
+
+pub course_begun : (side : Side) (kept : ReplicaValue) (x : List ℕ) → (course side kept (So_far x)).0.begun ≡ true
+unfolding course
+course_begun side kept x =
+    let o = opened (fresh side kept) in
+    (run_follows x o.0).begun ∙ (opened_fresh side kept).begun
+
+then_same_end : (p : Sent) (go to : Standing → Sent) → go p.0 ≡ to p.0 → then_more p go ≡ then_more p to
+then_same_end p go to e = ap (λ (q : Sent). (q.0, p.1 ++ q.1)) e
+
+pub nothing_more : (p : Sent) → then_more p (λ s. (s, [])) ≡ p
+nothing_more p = ap (λ (x : List ℕ). (p.0, x)) (append-nil p.1)
+
+abbrev pub step_on : Option (List ℕ) → Standing → Sent
+step_on i s = stepped s i
+
+-- the course of the stream goes on by a step
+pub course_steps : (side : Side) (kept : ReplicaValue) (h : Heard) (i : Option (List ℕ)) → course side kept (heard_more h i) ≡ then_more (course side kept h) (step_on i)
+unfolding course
+course_steps side kept Nothing (Some piece) = (unfold stepped in refl)
+course_steps side kept Nothing None =
+    let o = opened (fresh side kept) in
+    (unfold stepped run in ap (λ (p : Sent). then_more p cut_off) (nothing_more o))
+course_steps side kept (So_far x) (Some piece) =
+    let o = opened (fresh side kept) in
+    let p = then_more o (run x) in
+    let one : then_more o (run (x ++ piece)) ≡ then_more p (run piece) = then_same_end o (run (x ++ piece)) (λ s. then_more (run x s) (run piece)) (run-append x piece o.0) ∙ ap (λ (t : List ℕ). ((run piece (run x o.0).0).0, t)) (sym (append_assoc o.1 (run x o.0).1 (run piece (run x o.0).0).1)) in
+    one ∙ sym (then_same_end p (step_on (Some piece)) (run piece) (stepped_begun p.0 (Some piece) (course_begun side kept x)))
+course_steps side kept (So_far x) None =
+    let p = then_more (opened (fresh side kept)) (run x) in
+    sym (then_same_end p (step_on None) cut_off (stepped_begun p.0 None (course_begun side kept x)))
+course_steps side kept (All_of x) i =
+    let r = then_more (opened (fresh side kept)) (run x) in
+    let p = then_more r cut_off in
+    sym (then_same_end p (step_on i) (λ s. (s, [])) (stepped_over p.0 i (over_cut r.0.ended r.0 refl)) ∙ nothing_more p)
+
+started_orderly : (side : Side) (kept : ReplicaValue) → IsOrderly (started side kept)
+unfolding started
+started_orderly side kept = inl refl
+
+course_orderly_by : (side : Side) (kept : ReplicaValue) (h : Heard) (s : Standing) → s ≡ (course side kept h).0 → (h ≡ Nothing) ⊎ Follows (started side kept) (course side kept h).0 → IsOrderly s
+unfolding course
+course_orderly_by side kept h s is f = elim f [
+  | inl none ↦ inl (ap (λ (t : Standing). t.received) is ∙ ap (λ (g : Heard). (course side kept g).0.received) none)
+  | inr follows ↦ subst IsOrderly (sym is) (follows.orderly (started_orderly side kept))
+]
+
+pub course_orderly : (side : Side) (kept : ReplicaValue) (h : Heard) → IsOrderly (course side kept h).0
+course_orderly side kept h = course_orderly_by side kept h (course side kept h).0 refl (course_follows side kept h)
+
+sending_keeps_by : (s : Standing) (p : List ℕ × Bool) (all : Bool) → p.1 ≡ all → ((after_sending s p).0.received ≡ s.received) × ((after_sending s p).0.turn ≡ s.turn)
+sending_keeps_by s p true e = rw e (refl, refl)
+sending_keeps_by s p false e = rw e (refl, refl)
+
+sending_keeps : (s : Standing) (p : List ℕ × Bool) → ((after_sending s p).0.received ≡ s.received) × ((after_sending s p).0.turn ≡ s.turn)
+sending_keeps s p = sending_keeps_by s p p.1 refl
+
+-- the opening receives nothing and loses nothing
+opening_keeps : (s : Standing) → ((opened s).0.received ≡ s.received) × ((opened s).0.turn ≡ s.turn)
+unfolding opened
+opening_keeps s = elim s.begun as (λ b. ((cond b (s, []) (after_sending (record s { begun = true }) (sending (opening s.side s.kept)))).0.received ≡ s.received) × ((cond b (s, []) (after_sending (record s { begun = true }) (sending (opening s.side s.kept)))).0.turn ≡ s.turn)) [
+  | true ↦ (refl, refl)
+  | false ↦ sending_keeps (record s { begun = true }) (sending (opening s.side s.kept))
+]
+
+-- what was received on the way is received in the end, or nothing was
+on_the_way : (o : Standing) (piece : List ℕ) (received : Option StateValue) → IsOrderly o → ReceivedOnTheWay o piece received → (received ≡ None) ⊎ (received ≡ (run piece o).0.received)
+on_the_way o piece received orderly w =
+    let front = w.0 in
+    let rest = w.1 in
+    let mid = (run front o).0 in
+    let whole : run piece o ≡ then_more (run front o) (run rest) = ap (λ (x : List ℕ). run x o) w.2 ∙ run-append front rest o in
+    elim ((run_follows rest mid).received ((run_follows front o).orderly orderly)) [
+      | inl none ↦ inl (w.3 ∙ none)
+      | inr same ↦ inr (w.3 ∙ sym same ∙ ap (λ (p : Sent). p.0.received) (sym whole))
+    ]
+
+cut_keeps_by : (e : Ended) (s : Standing) → (when_going {A = Sent} e (failed s PeerEnded, []) (s, [])).0.received ≡ s.received
+cut_keeps_by Going s = refl
+cut_keeps_by Done s = refl
+cut_keeps_by (Failed f) s = refl
+
+cut_keeps : (s : Standing) → (cut_off s).0.received ≡ s.received
+cut_keeps s = cut_keeps_by s.ended s
+
+by_input : (o : Standing) (i : Option (List ℕ)) (received : Option StateValue) → IsOrderly o → ReceivedOnTheWay o (piece_of i) received → (received ≡ None) ⊎ (received ≡ (taken i o).0.received)
+unfolding run
+by_input o (Some piece) received orderly w = on_the_way o piece received orderly w
+by_input o None received orderly w = elim (on_the_way o [] received orderly w) [
+  | inl none ↦ inl none
+  | inr same ↦ inr (same ∙ sym (cut_keeps o))
+]
+
+when_going_is : {A : Type 0} (e : Ended) (x y : A) → e ≡ Going → when_going e x y ≡ x
+when_going_is Going x y h = refl
+when_going_is Done x y h = absurd cc
+when_going_is (Failed f) x y h = absurd cc
+
+-- what a step's contract says of a session that has the standing of a stream
+pub continues : (side : Side) (kept : ReplicaValue) (h : Heard) (i : Option (List ℕ)) (old new : Standing) (sent : List ℕ) → Steps old i new sent → old ≡ (course side kept h).0 → Continues side kept h i new sent
+unfolding stepped
+continues side kept h i old new sent steps is =
+    let c = course side kept h in
+    let more : course side kept (heard_more h i) ≡ then_more c (step_on i) = course_steps side kept h i in
+    elim steps [
+      | inl done ↦ inl (record {
+        standing = done.0 ∙ ap (λ (s : Standing). (stepped s i).0) is ∙ ap (λ (p : Sent). p.0) (sym more);
+        beyond = ap (λ (p : Sent). p.1) more ∙ ap (λ (s : Standing). c.1 ++ (stepped s i).1) (sym is) ∙ ap (λ (x : List ℕ). c.1 ++ x) (sym done.1);
+      })
+      | inr out ↦
+          let orderly : IsOrderly old = subst IsOrderly (sym is) (course_orderly side kept h) in
+          let o = (opened old).0 in
+          let keeps = opening_keeps old in
+          let orderly-now : IsOrderly o = elim orderly [ inl none ↦ inl (keeps.0 ∙ none) | inr bye ↦ inr (keeps.1 ∙ bye) ] in
+          let end : (stepped old i).0 ≡ (taken i o).0 = ap (λ (p : Sent). p.0) (when_going_is old.ended (then_more (opened old) (taken i)) (old, []) out.0) in
+          let end-course : (taken i o).0.received ≡ (course side kept (heard_more h i)).0.received =
+          ap (λ (s : Standing). s.received) (sym end) ∙ ap (λ (s : Standing). (stepped s i).0.received) is ∙ ap (λ (p : Sent). p.0.received) (sym more) in
+          inr (record {
+            ended = out.1;
+            received = elim (by_input o i new.received orderly-now out.2) [ inl none ↦ inl none | inr same ↦ inr (same ∙ end-course) ];
+            last_word = out.3;
+          })
+    ]
+
+-- ---- in the words of the code
+
+-- a step was taken whole
+pub took : (old new : Standing) (i : Option (List ℕ)) (before sent : List ℕ) → old.ended ≡ Going → before ≡ []
+    → (new ≡ (then_more (opened old) (taken i)).0) × (sent ≡ before ++ (then_more (opened old) (taken i)).1) → Steps old i new sent
+unfolding stepped
+took old new i before sent going none done =
+    let go = when_going_is old.ended (then_more (opened old) (taken i)) (old, []) going in
+    inl (done.0 ∙ ap (λ (p : Sent). p.0) (sym go), done.1 ∙ ap (λ (x : List ℕ). x ++ (then_more (opened old) (taken i)).1) none ∙ ap (λ (p : Sent). p.1) (sym go))
+
+-- memory ran out in it
+pub gave_up : (old mid new : Standing) (i : Option (List ℕ)) (sent : List ℕ) → old.ended ≡ Going → ReceivedOnTheWay (opened old).0 (piece_of i) mid.received
+    → new ≡ failed mid Memory → steps.IsLastWord sent → Steps old i new sent
+gave_up old mid new i sent going way is word =
+    inr (going, ap (λ (s : Standing). s.ended) is, (way.0, way.1, way.2, ap (λ (s : Standing). s.received) is ∙ way.3), word)
+
+-- nothing is done after the end
+pub rests : (s : Standing) (i : Option (List ℕ)) (sent : List ℕ) → IsOver s.ended → sent ≡ [] → Steps s i s sent
+rests s i sent over none = let e = stepped_over s i over in inl (ap (λ (p : Sent). p.0) (sym e), none ∙ ap (λ (p : Sent). p.1) (sym e))
+
+-- nothing was taken yet, so what was received stayed
+pub at_first : (old : Standing) (i : Option (List ℕ)) (received : Option StateValue) → received ≡ old.received → ReceivedOnTheWay (opened old).0 (piece_of i) received
+unfolding run
+at_first old i received e = ([], piece_of i, refl, e ∙ sym (opening_keeps old).0)
+
+-- ---- after the end
+
+-- once a session has ended, more of the stream changes nothing
+pub over_more : (side : Side) (kept : ReplicaValue) (h : Heard) (i : Option (List ℕ)) → IsOver (course side kept h).0.ended → course side kept (heard_more h i) ≡ course side kept h
+over_more side kept h i over =
+    let c = course side kept h in
+    course_steps side kept h i ∙ then_same_end c (step_on i) (λ s. (s, [])) (stepped_over c.0 i over) ∙ nothing_more c
+
+pub over_all : (side : Side) (kept : ReplicaValue) (x y : List ℕ) → IsOver (course side kept (So_far x)).0.ended → course side kept (All_of (x ++ y)) ≡ course side kept (So_far x)
+over_all side kept x y over =
+    let more : course side kept (So_far (x ++ y)) ≡ course side kept (So_far x) = over_more side kept (So_far x) (Some y) over in
+    over_more side kept (So_far (x ++ y)) None (subst (λ (p : Sent). IsOver p.0.ended) (sym more) over) ∙ more
+
+-- what was received stays
+pub received_stays : (side : Side) (kept : ReplicaValue) (h : Heard) (i : Option (List ℕ)) → ((course side kept h).0.received ≡ None) ⊎ ((course side kept (heard_more h i)).0.received ≡ (course side kept h).0.received)
+unfolding course
+received_stays side kept Nothing i = inl refl
+received_stays side kept (So_far x) (Some y) =
+    let o = opened (fresh side kept) in
+    let mid = (run x o.0).0 in
+    let e : run (x ++ y) o.0 ≡ then_more (run x o.0) (run y) = run-append x y o.0 in
+    elim ((run_follows y mid).received (course_orderly side kept (So_far x))) [
+      | inl none ↦ inl none
+      | inr same ↦ inr (ap (λ (p : Sent). p.0.received) e ∙ same)
+    ]
+received_stays side kept (So_far x) None = inr (cut_keeps (course side kept (So_far x)).0)
+received_stays side kept (All_of x) i = inr refl
+
+pub all_over : (side : Side) (kept : ReplicaValue) (x : List ℕ) → IsOver (course side kept (All_of x)).0.ended
+unfolding course
+all_over side kept x = let s = (course side kept (So_far x)).0 in over_cut s.ended s refl

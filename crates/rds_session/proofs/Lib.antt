@@ -1,0 +1,17 @@
+pub mod Accepting
+pub mod Checks
+pub mod Course
+pub mod Cutting
+pub mod Knowing
+pub mod Meeting
+pub mod Messages
+pub mod Moves
+pub mod Runs
+pub mod Scans
+pub mod Sendings
+pub mod Splits
+pub mod Splitting
+pub mod Talking
+pub mod Tellings
+pub mod Told
+pub mod Turns

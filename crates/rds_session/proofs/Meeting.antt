@@ -1,0 +1,352 @@
+-- The whole talk of two sessions, and each beginning of it.
+use Rattle.std.proofs.Common.{◌≡◌, ℕ, ◌≤◌, true, false, ltb, List, [], ◌∷◌, ◌++◌, length, Option, Some, None, Ok, refl, sym, ap, ◌∙◌, append_assoc, subst, arith, ◌⊎◌, inl, inr}
+use Rattle.std.specs.List.{AllByRecursion}
+use Rattle.std.proofs.lemmas.Bool.{le-ltb}
+use Rattle.std.proofs.lemmas.List.{append-nil}
+use Rattle.rds_state.specs.Fits.{ReplicaValue}
+use Rattle.rds_state.specs.Value.{StateValue}
+use Rattle.rds_delta.specs.Digested.{digest_of}
+use Rattle.rds_session.specs.declared.chunks.TheConstants.{MESSAGE_LIMIT}
+use Rattle.rds_session.specs.declared.talk.Side.TheVariants.{Client, Server}
+use Rattle.rds_session.specs.declared.step.Ended.TheVariants.{Going, Done}
+use Rattle.rds_session.specs.Checked.{least_state}
+use Rattle.rds_session.specs.Chunks.{Under, start, Scan, Whole, scan, spelled}
+use Rattle.rds_session.specs.Judging.{Said, Greets, Learns, Receives, Finishes, accepted, replies_of}
+use Rattle.rds_session.specs.Meeting.{IsBeginningOf, CanMeet, IsItsDelta, Hear, HearAll, ReceiveDeltas, BothEnd}
+use Rattle.rds_session.specs.Messages.{hello_message, digest_message, delta_message, bye_message}
+use Rattle.rds_session.specs.Sending.{sending, then_sent}
+use Rattle.rds_session.specs.Session.{Standing, Sent, fresh, then_more, after_sending, performed, answered, message_comes, scanned, run, opening, opened, So_far, course}
+use Rattle.rds_session.specs.Steps.{IsOver}
+use Rattle.rds_session.proofs.Course.{run_follows, IsOrderly}
+use Rattle.rds_session.proofs.Messages.{scan_spelled}
+use Rattle.rds_session.proofs.Runs.{run-append, run-scan, run_over}
+use Rattle.rds_session.proofs.Told.{IsTold, hello_accepted, digest_accepted, delta_accepted, bye_accepted, its_least}
+
+-- ---- sending
+
+abbrev texts : List (List ℕ) → List ℕ
+texts [] = []
+texts (m ∷ ms) = spelled m ++ texts ms
+
+abbrev Fits : List ℕ → Type 0
+Fits m = length m ≤ MESSAGE_LIMIT
+
+all_sent : (ms : List (List ℕ)) → AllByRecursion Fits ms → sending ms ≡ (texts ms, true)
+unfolding sending
+all_sent [] h = refl
+all_sent (m ∷ ms) h = let fits : ltb MESSAGE_LIMIT (length m) ≡ false = le-ltb _ _ h.0 in rw fits (ap (then_sent (spelled m)) (all_sent ms h.1))
+
+-- ---- hearing
+
+-- a message that is accepted, all of whose answers can be sent
+hears : (s : Standing) (m more : List ℕ) (act : Said) (ms : List (List ℕ)) → s.ended ≡ Going → s.under ≡ start → Fits m → accepted s.kept s.turn m ≡ Ok act
+    → replies_of s.side s.kept s.turn act ≡ ms → AllByRecursion Fits ms → run (spelled m ++ more) s ≡ then_more (performed s act, texts ms) (run more)
+unfolding message_comes
+hears s m more act ms going at room ok replies fit =
+    let sc : scan (spelled m ++ more) s.under ≡ Whole m more = ap (scan (spelled m ++ more)) at ∙ scan_spelled m more room in
+    let here : record s { under = start } ≡ s = ap (λ (u : Under). record s { under = u }) (sym at) in
+    let sent : sending (replies_of s.side s.kept s.turn act) ≡ (texts ms, true) = ap sending replies ∙ all_sent ms fit in
+    let comes : message_comes s m ≡ (performed s act, texts ms) = ap (answered s) ok ∙ ap (after_sending (performed s act)) sent in
+    run-scan (spelled m ++ more) s going ∙ ap (λ (x : Scan). scanned s x run) sc ∙ ap (λ (t : Standing). then_more (message_comes t m) (run more)) here ∙ ap (λ (p : Sent). then_more p (run more)) comes
+
+-- ---- one message after another
+
+abbrev Talks : Standing → List (List ℕ) → Standing → List (List ℕ) → Type 0
+Talks s ms t out = (more : List ℕ) → run (texts ms ++ more) s ≡ then_more (t, texts out) (run more)
+
+texts-append : (ms ns : List (List ℕ)) → texts (ms ++ ns) ≡ texts ms ++ texts ns
+texts-append [] ns = refl
+texts-append (m ∷ ms) ns = ap (λ (t : List ℕ). spelled m ++ t) (texts-append ms ns) ∙ sym (append_assoc (spelled m) (texts ms) (texts ns))
+
+one_talks : (s : Standing) (m : List ℕ) (act : Said) (out : List (List ℕ)) → s.ended ≡ Going → s.under ≡ start → Fits m → accepted s.kept s.turn m ≡ Ok act
+    → replies_of s.side s.kept s.turn act ≡ out → AllByRecursion Fits out → Talks s (m ∷ []) (performed s act) out
+one_talks s m act out going at room ok replies fit more =
+    ap (λ (t : List ℕ). run (t ++ more) s) (append-nil (spelled m)) ∙ hears s m more act out going at room ok replies fit
+
+talks_then : (s t u : Standing) (ms ns out put : List (List ℕ)) → Talks s ms t out → Talks t ns u put → Talks s (ms ++ ns) u (out ++ put)
+talks_then s t u ms ns out put p q more =
+    ap (λ (x : List ℕ). run (x ++ more) s) (texts-append ms ns) ∙ ap (λ (x : List ℕ). run x s) (append_assoc (texts ms) (texts ns) more) ∙ p (texts ns ++ more)
+    ∙ ap (λ (r : Sent). (r.0, texts out ++ r.1)) (q more)
+    ∙ ap (λ (x : List ℕ). ((run more u).0, x)) (sym (append_assoc (texts out) (texts put) (run more u).1) ∙ ap (λ (x : List ℕ). x ++ (run more u).1) (sym (texts-append out put)))
+
+-- ---- the whole talk
+
+abbrev client : ReplicaValue → Standing
+client a = record (fresh Client a) { begun = true }
+
+abbrev server : ReplicaValue → Standing
+server b = record (fresh Server b) { begun = true }
+
+abbrev greeting : ReplicaValue → List (List ℕ)
+greeting k = hello_message k ∷ digest_message k ∷ []
+
+-- what the client has heard before the last message, and after it
+abbrev client_told : ReplicaValue → ReplicaValue → Standing
+client_told a b = performed (performed (performed (client a) (Greets b.own)) (Learns b.own (digest_of b.state))) (Receives (least_state b.state (digest_of a.state)))
+
+abbrev client_done : ReplicaValue → ReplicaValue → Standing
+client_done a b = performed (client_told a b) Finishes
+
+abbrev server_asked : ReplicaValue → ReplicaValue → Standing
+server_asked b a = performed (performed (server b) (Greets a.own)) (Learns a.own (digest_of a.state))
+
+abbrev server_done : ReplicaValue → ReplicaValue → Standing
+server_done b a = performed (performed (server_asked b a) (Receives (least_state a.state (digest_of b.state)))) Finishes
+
+-- what each says, in its two turns
+abbrev server_says : ReplicaValue → ReplicaValue → List (List ℕ)
+server_says b a = hello_message b ∷ digest_message b ∷ delta_message b a.own (digest_of a.state) ∷ []
+
+abbrev client_says : ReplicaValue → ReplicaValue → List (List ℕ)
+client_says a b = delta_message a b.own (digest_of b.state) ∷ bye_message 0 ∷ []
+
+abbrev last_word : List (List ℕ)
+last_word = bye_message 0 ∷ []
+
+opened_by : (s : Standing) (ms : List (List ℕ)) → s.begun ≡ false → opening s.side s.kept ≡ ms → AllByRecursion Fits ms → opened s ≡ (record s { begun = true }, texts ms)
+unfolding opened
+opened_by s ms new is fit = rw new (ap (after_sending (record s { begun = true })) (ap sending is ∙ all_sent ms fit))
+
+bye_fits : Fits (bye_message 0)
+bye_fits = omega arith
+
+client_told_by : (a b : ReplicaValue) → CanMeet a b → IsTold a b
+client_told_by a b h = record { roster = sym h.roster; others = λ e. h.others (sym e); text = h.b_text; own_text = h.a_text; room = h.b_room }
+
+server_told_by : (a b : ReplicaValue) → CanMeet a b → IsTold b a
+server_told_by a b h = record { roster = h.roster; others = h.others; text = h.a_text; own_text = h.b_text; room = h.a_room }
+
+client_hears : (a b : ReplicaValue) → CanMeet a b → Talks (client a) (server_says b a) (client_told a b) (client_says a b)
+client_hears a b h =
+    let c1 = performed (client a) (Greets b.own) in
+    let c2 = performed c1 (Learns b.own (digest_of b.state)) in
+    talks_then (client a) c1 (client_told a b) (hello_message b ∷ []) (digest_message b ∷ delta_message b a.own (digest_of a.state) ∷ []) [] (client_says a b)
+    (one_talks (client a) (hello_message b) (Greets b.own) [] refl refl h.b_room.hello (hello_accepted a b (client_told_by a b h)) refl tt)
+    (talks_then c1 c2 (client_told a b) (digest_message b ∷ []) (delta_message b a.own (digest_of a.state) ∷ []) [] (client_says a b)
+    (one_talks c1 (digest_message b) (Learns b.own (digest_of b.state)) [] refl refl h.b_room.digest (digest_accepted a b b.own (client_told_by a b h)) refl tt)
+    (one_talks c2 (delta_message b a.own (digest_of a.state)) (Receives (least_state b.state (digest_of a.state))) (client_says a b) refl refl h.b_room.delta (delta_accepted a b b.own (digest_of b.state) (client_told_by a b h)) refl (h.a_room.delta, (bye_fits, tt))))
+
+client_ends : (a b : ReplicaValue) → Talks (client_told a b) last_word (client_done a b) []
+client_ends a b = one_talks (client_told a b) (bye_message 0) Finishes [] refl refl bye_fits (bye_accepted a) refl tt
+
+server_hears : (a b : ReplicaValue) → CanMeet a b → Talks (server b) (greeting a) (server_asked b a) (server_says b a)
+server_hears a b h =
+    let s1 = performed (server b) (Greets a.own) in
+    talks_then (server b) s1 (server_asked b a) (hello_message a ∷ []) (digest_message a ∷ []) [] (server_says b a)
+    (one_talks (server b) (hello_message a) (Greets a.own) [] refl refl h.a_room.hello (hello_accepted b a (server_told_by a b h)) refl tt)
+    (one_talks s1 (digest_message a) (Learns a.own (digest_of a.state)) (server_says b a) refl refl h.a_room.digest (digest_accepted b a a.own (server_told_by a b h)) refl (h.b_room.hello, (h.b_room.digest, (h.b_room.delta, tt))))
+
+server_ends : (a b : ReplicaValue) → CanMeet a b → Talks (server_asked b a) (client_says a b) (server_done b a) last_word
+server_ends a b h =
+    let s3 = performed (server_asked b a) (Receives (least_state a.state (digest_of b.state))) in
+    talks_then (server_asked b a) s3 (server_done b a) (delta_message a b.own (digest_of b.state) ∷ []) last_word [] last_word
+    (one_talks (server_asked b a) (delta_message a b.own (digest_of b.state)) (Receives (least_state a.state (digest_of b.state))) [] refl refl h.a_room.delta (delta_accepted b a a.own (digest_of a.state) (server_told_by a b h)) refl tt)
+    (one_talks s3 (bye_message 0) Finishes last_word refl refl bye_fits (bye_accepted b) refl (bye_fits, tt))
+
+client_opens : (a b : ReplicaValue) → CanMeet a b → opened (fresh Client a) ≡ (client a, texts (greeting a))
+client_opens a b h = opened_by (fresh Client a) (greeting a) refl refl (h.a_room.hello, (h.a_room.digest, tt))
+
+server_opens : (b : ReplicaValue) → opened (fresh Server b) ≡ (server b, [])
+server_opens b = opened_by (fresh Server b) [] refl refl tt
+
+-- ---- beginnings
+
+says : Standing → List ℕ → List ℕ
+says s x = (run x s).1
+
+cases_begin : (x u v : List ℕ) → IsBeginningOf x (u ++ v) → IsBeginningOf x u ⊎ ((more : List ℕ) × (x ≡ u ++ more) × IsBeginningOf more v)
+cases_begin x [] v h = inr (x, refl, h)
+cases_begin [] (b ∷ u) v h = inl (b ∷ u, refl)
+cases_begin (c ∷ x) (b ∷ u) v h =
+    let head : b ≡ c = cc (h.1) in
+    let tail : u ++ v ≡ x ++ h.0 = cc (h.1) in
+    elim (cases_begin x u v (h.0, tail)) [
+      | inl p ↦ inl (p.0, ap (λ (t : ℕ). t ∷ u) head ∙ ap (λ (t : List ℕ). c ∷ t) p.1)
+      | inr q ↦ inr (q.0, ap (λ (t : ℕ). t ∷ x) (sym head) ∙ ap (λ (t : List ℕ). b ∷ t) q.1, q.2)
+    ]
+
+begin_trans : (x y z : List ℕ) → IsBeginningOf x y → IsBeginningOf y z → IsBeginningOf x z
+begin_trans x y z p q = (p.0 ++ q.0, q.1 ∙ ap (λ (t : List ℕ). t ++ q.0) p.1 ∙ append_assoc x p.0 q.0)
+
+-- who hears a beginning says a beginning
+says_begin : (s : Standing) (x y : List ℕ) → IsBeginningOf x y → IsBeginningOf (says s x) (says s y)
+unfolding says
+says_begin s x y h = (says (run x s).0 h.0, ap (λ (t : List ℕ). (run t s).1) h.1 ∙ ap (λ (p : Sent). p.1) (run-append x h.0 s))
+
+begin_more : (u x y : List ℕ) → IsBeginningOf x y → IsBeginningOf (u ++ x) (u ++ y)
+begin_more u x y h = (h.0, ap (λ (t : List ℕ). u ++ t) h.1 ∙ sym (append_assoc u x h.0))
+
+begin_front : (x u v : List ℕ) → IsBeginningOf x u → IsBeginningOf x (u ++ v)
+begin_front x u v h = begin_trans x u (u ++ v) h (v, refl)
+
+-- who has ended says nothing
+says_over : (s : Standing) (x : List ℕ) → s.ended ≡ Done → says s x ≡ []
+unfolding says
+says_over s x done = ap (λ (p : Sent). p.1) (run_over x s (subst IsOver (sym done) tt))
+
+says_after : (s t : Standing) (ms out : List (List ℕ)) (more : List ℕ) → Talks s ms t out → says s (texts ms ++ more) ≡ texts out ++ says t more
+unfolding says
+says_after s t ms out more h = ap (λ (p : Sent). p.1) (h more)
+
+says_only : (s t : Standing) (ms out : List (List ℕ)) → Talks s ms t out → says s (texts ms) ≡ texts out
+unfolding says run
+says_only s t ms out h = ap (λ (x : List ℕ). (run x s).1) (sym (append-nil (texts ms))) ∙ ap (λ (p : Sent). p.1) (h []) ∙ append-nil (texts out)
+
+module _ (a b : ReplicaValue) (h : CanMeet a b) where
+  c0 : Standing
+  c0 = client a
+
+  s1 : List ℕ
+  s1 = texts (server_says b a)
+
+  c1 : List ℕ
+  c1 = texts (greeting a)
+
+  c2 : List ℕ
+  c2 = texts (client_says a b)
+
+  s2 : List ℕ
+  s2 = texts last_word
+
+  -- a server that heard a beginning of the greeting says a beginning of its first words
+  server_early : (y : List ℕ) → IsBeginningOf y c1 → IsBeginningOf (says (server b) y) s1
+  unfolding c1 s1
+  server_early y p = subst (IsBeginningOf (says (server b) y)) (says_only (server b) (server_asked b a) (greeting a) (server_says b a) (server_hears a b h)) (says_begin (server b) y (texts (greeting a)) p)
+
+  server_late : (y : List ℕ) → IsBeginningOf y c2 → IsBeginningOf (says (server_asked b a) y) s2
+  unfolding c2 s2
+  server_late y p = subst (IsBeginningOf (says (server_asked b a) y)) (says_only (server_asked b a) (server_done b a) (client_says a b) last_word (server_ends a b h)) (says_begin (server_asked b a) y (texts (client_says a b)) p)
+
+  client_early : (x : List ℕ) → IsBeginningOf x s1 → IsBeginningOf (says (client a) x) c2
+  unfolding s1 c2
+  client_early x p = subst (IsBeginningOf (says (client a) x)) (says_only (client a) (client_told a b) (server_says b a) (client_says a b) (client_hears a b h)) (says_begin (client a) x (texts (server_says b a)) p)
+
+  client_late : (x : List ℕ) → IsBeginningOf x s2 → IsBeginningOf (says (client_told a b) x) []
+  unfolding s2
+  client_late x p = subst (IsBeginningOf (says (client_told a b) x)) (says_only (client_told a b) (client_done a b) last_word [] (client_ends a b)) (says_begin (client_told a b) x (texts last_word) p)
+
+  server_on : (y : List ℕ) → says (server b) (c1 ++ y) ≡ s1 ++ says (server_asked b a) y
+  unfolding c1 s1
+  server_on y = says_after (server b) (server_asked b a) (greeting a) (server_says b a) y (server_hears a b h)
+
+  server_last : (y : List ℕ) → says (server_asked b a) (c2 ++ y) ≡ s2
+  unfolding c2 s2
+  server_last y = says_after (server_asked b a) (server_done b a) (client_says a b) last_word y (server_ends a b h) ∙ ap (λ (t : List ℕ). texts last_word ++ t) (says_over (server_done b a) y refl) ∙ append-nil (texts last_word)
+
+  client_on : (x : List ℕ) → says (client a) (s1 ++ x) ≡ c2 ++ says (client_told a b) x
+  unfolding s1 c2
+  client_on x = says_after (client a) (client_told a b) (server_says b a) (client_says a b) x (client_hears a b h)
+
+  -- each has heard a beginning of the whole talk
+  abbrev Talk : List ℕ → List ℕ → Type 0
+  Talk x y = IsBeginningOf x (s1 ++ s2) × IsBeginningOf y (c1 ++ c2)
+
+  -- both are past the first words
+  both_late : (x y : List ℕ) → IsBeginningOf x (says (server_asked b a) y) → IsBeginningOf y (c2 ++ says (client_told a b) x) → IsBeginningOf x s2 × IsBeginningOf y c2
+  both_late x y p q = elim (cases_begin y c2 (says (client_told a b) x) q) [
+    | inl early ↦ (begin_trans x (says (server_asked b a) y) s2 p (server_late y early), early)
+    | inr late ↦
+        let heard : IsBeginningOf x s2 = subst (IsBeginningOf x) (ap (says (server_asked b a)) late.1 ∙ server_last late.0) p in
+        let none : IsBeginningOf late.0 [] = begin_trans late.0 (says (client_told a b) x) [] late.2 (client_late x heard) in
+        (heard, subst (λ (t : List ℕ). IsBeginningOf t c2) (sym late.1) (subst (IsBeginningOf (c2 ++ late.0)) (append-nil c2) (begin_more c2 late.0 [] none)))
+  ]
+
+  talk_by : (x y : List ℕ) → IsBeginningOf x (says (server b) y) → IsBeginningOf y (c1 ++ says (client a) x) → Talk x y
+  talk_by x y p q = elim (cases_begin y c1 (says (client a) x) q) [
+    | inl early ↦ (begin_front x s1 s2 (begin_trans x (says (server b) y) s1 p (server_early y early)), begin_front y c1 c2 early)
+    | inr late ↦
+        let heard : IsBeginningOf x (s1 ++ says (server_asked b a) late.0) = subst (IsBeginningOf x) (ap (says (server b)) late.1 ∙ server_on late.0) p in
+        elim (cases_begin x s1 (says (server_asked b a) late.0) heard) [
+          | inl before ↦ (begin_front x s1 s2 before, subst (λ (t : List ℕ). IsBeginningOf t (c1 ++ c2)) (sym late.1) (begin_more c1 late.0 c2 (begin_trans late.0 (says (client a) x) c2 late.2 (client_early x before))))
+          | inr after ↦
+              let said : IsBeginningOf late.0 (c2 ++ says (client_told a b) after.0) = subst (IsBeginningOf late.0) (ap (says (client a)) after.1 ∙ client_on after.0) late.2 in
+              let both = both_late after.0 late.0 after.2 said in
+              (subst (λ (t : List ℕ). IsBeginningOf t (s1 ++ s2)) (sym after.1) (begin_more s1 after.0 s2 both.0), subst (λ (t : List ℕ). IsBeginningOf t (c1 ++ c2)) (sym late.1) (begin_more c1 late.0 c2 both.1))
+        ]
+  ]
+
+-- what is received of a beginning is nothing, or what is received of the whole
+received_of : (s : Standing) (x w : List ℕ) (d : StateValue) → IsOrderly s → IsBeginningOf x w → (run w s).0.received ≡ Some d → ((run x s).0.received ≡ None) ⊎ ((run x s).0.received ≡ Some d)
+received_of s x w d orderly p whole =
+    let mid = (run x s).0 in
+    let e : run w s ≡ then_more (run x s) (run p.0) = ap (λ (t : List ℕ). run t s) p.1 ∙ run-append x p.0 s in
+    elim ((run_follows p.0 mid).received ((run_follows x s).orderly orderly)) [
+      | inl none ↦ inl none
+      | inr same ↦ inr (sym same ∙ ap (λ (q : Sent). q.0.received) (sym e) ∙ whole)
+    ]
+
+comes_to : (s t u : Standing) (ms ns out put : List (List ℕ)) → Talks s ms t out → Talks t ns u put → (run (texts ms ++ texts ns) s).0 ≡ u
+unfolding run
+comes_to s t u ms ns out put p q =
+    ap (λ (r : Sent). r.0) (p (texts ns)) ∙ ap (λ (x : List ℕ). (run x t).0) (sym (append-nil (texts ns))) ∙ ap (λ (r : Sent). r.0) (q [])
+
+client_course : (a b : ReplicaValue) (x : List ℕ) → CanMeet a b → course Client a (So_far x) ≡ then_more (client a, texts (greeting a)) (run x)
+unfolding course
+client_course a b x h = ap (λ (p : Sent). then_more p (run x)) (client_opens a b h)
+
+server_course : (b : ReplicaValue) (y : List ℕ) → course Server b (So_far y) ≡ then_more (server b, []) (run y)
+unfolding course
+server_course b y = ap (λ (p : Sent). then_more p (run y)) (server_opens b)
+
+client_whole : (a b : ReplicaValue) → CanMeet a b → (run (texts (server_says b a) ++ texts last_word) (client a)).0 ≡ client_done a b
+client_whole a b h = comes_to (client a) (client_told a b) (client_done a b) (server_says b a) last_word (client_says a b) [] (client_hears a b h) (client_ends a b)
+
+server_whole : (a b : ReplicaValue) → CanMeet a b → (run (texts (greeting a) ++ texts (client_says a b)) (server b)).0 ≡ server_done b a
+server_whole a b h = comes_to (server b) (server_asked b a) (server_done b a) (greeting a) (client_says a b) (server_says b a) last_word (server_hears a b h) (server_ends a b h)
+
+-- both streams are beginnings of the whole talk
+the_talk : (a b : ReplicaValue) (x y : List ℕ) → CanMeet a b → Hear a b x y
+    → IsBeginningOf x (texts (server_says b a) ++ texts last_word) × IsBeginningOf y (texts (greeting a) ++ texts (client_says a b))
+unfolding s1 s2 c1 c2 says
+the_talk a b x y h hear =
+    talk_by a b h x y
+    (subst (IsBeginningOf x) (ap (λ (p : Sent). p.1) (server_course b y)) hear.client)
+    (subst (IsBeginningOf y) (ap (λ (p : Sent). p.1) (client_course a b x h)) hear.server)
+
+its_delta : (peer own : ReplicaValue) (received : Option StateValue) → (received ≡ None) ⊎ (received ≡ Some (least_state peer.state (digest_of own.state))) → IsItsDelta peer own received
+its_delta peer own received h = elim h [ inl none ↦ inl none | inr is ↦ inr (its_least peer own received is) ]
+
+pub receive_deltas : ReceiveDeltas
+receive_deltas a b x y h hear =
+    let talk = the_talk a b x y h hear in
+    let client-end = ap (λ (s : Standing). s.received) (client_whole a b h) in
+    let server-end = ap (λ (s : Standing). s.received) (server_whole a b h) in
+    let client-is = ap (λ (p : Sent). p.0.received) (client_course a b x h) in
+    let server-is = ap (λ (p : Sent). p.0.received) (server_course b y) in (
+      subst (IsItsDelta b a) (sym client-is) (its_delta b a _ (received_of (client a) x (texts (server_says b a) ++ texts last_word) (least_state b.state (digest_of a.state)) (inl refl) talk.0 client-end)),
+      subst (IsItsDelta a b) (sym server-is) (its_delta a b _ (received_of (server b) y (texts (greeting a) ++ texts (client_says a b)) (least_state a.state (digest_of b.state)) (inl refl) talk.1 server-end)),
+    )
+
+begins_itself : (x : List ℕ) → IsBeginningOf x x
+begins_itself x = ([], sym (append-nil x))
+
+-- all that was sent was heard, so both heard the whole talk
+whole_talk : (a b : ReplicaValue) (x y : List ℕ) → CanMeet a b → HearAll a b x y
+    → (x ≡ texts (server_says b a) ++ texts last_word) × (y ≡ texts (greeting a) ++ texts (client_says a b))
+unfolding s1 s2 c1 c2 says
+whole_talk a b x y h all =
+    let client-says : y ≡ texts (greeting a) ++ (run x (client a)).1 = all.server ∙ ap (λ (p : Sent). p.1) (client_course a b x h) in
+    let server-said : x ≡ (run y (server b)).1 = all.client ∙ ap (λ (p : Sent). p.1) (server_course b y) in
+    let x1 = says (server_asked b a) (says (client a) x) in
+    let x-is : x ≡ texts (server_says b a) ++ x1 = server-said ∙ ap (says (server b)) client-says ∙ server_on a b h (says (client a) x) in
+    let y1 = says (client_told a b) x1 in
+    let y-is : says (client a) x ≡ texts (client_says a b) ++ y1 = ap (says (client a)) x-is ∙ client_on a b h x1 in
+    let x1-is : x1 ≡ texts last_word = ap (says (server_asked b a)) y-is ∙ server_last a b h y1 in
+    let none : y1 ≡ [] = ap (says (client_told a b)) x1-is ∙ says_only (client_told a b) (client_done a b) last_word [] (client_ends a b) in (
+      x-is ∙ ap (λ (t : List ℕ). texts (server_says b a) ++ t) x1-is,
+      client-says ∙ ap (λ (t : List ℕ). texts (greeting a) ++ t) (y-is ∙ ap (λ (t : List ℕ). texts (client_says a b) ++ t) none ∙ append-nil (texts (client_says a b))),
+    )
+
+pub both_end : BothEnd
+both_end a b x y h all =
+    let whole = whole_talk a b x y h all in
+    let client-end : (course Client a (So_far x)).0 ≡ client_done a b =
+    ap (λ (p : Sent). p.0) (client_course a b x h) ∙ ap (λ (t : List ℕ). (run t (client a)).0) whole.0 ∙ client_whole a b h in
+    let server-end : (course Server b (So_far y)).0 ≡ server_done b a =
+    ap (λ (p : Sent). p.0) (server_course b y) ∙ ap (λ (t : List ℕ). (run t (server b)).0) whole.1 ∙ server_whole a b h in
+    record {
+      client = ap (λ (s : Standing). s.ended) client-end;
+      client_has = its_least b a _ (ap (λ (s : Standing). s.received) client-end);
+      server = ap (λ (s : Standing). s.ended) server-end;
+      server_has = its_least a b _ (ap (λ (s : Standing). s.received) server-end);
+    }

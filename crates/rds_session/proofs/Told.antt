@@ -1,0 +1,124 @@
+-- What one replica tells another is accepted, message by message.
+use Rattle.std.proofs.Common.{◌≡◌, ℕ, ◌≤◌, true, false, cond, eqb, ◌&&◌, List, [], length, Option, Some, Result, Ok, Err, refl, sym, ap, ◌∙◌, arith}
+use Rattle.std.specs.Str.{bytes_eq}
+use Rattle.std.proofs.lemmas.Bool.{ne_eqb, eq-eqb}
+use Rattle.std.proofs.lemmas.Bool.Decides.{nat_tests}
+use Rattle.std.proofs.lemmas.List.{append-nil}
+use Rattle.std.proofs.lemmas.Slice.Eq.{bytes_eq-Decides, slice_eq-Decides}
+use Rattle.rds_names.specs.declared.fault.Fault.{Fault}
+use Rattle.rds_names.specs.declared.fault.Fault.TheVariants.{Extra}
+use Rattle.std.specs.Prelude.{nat_le}
+use Rattle.rds_names.specs.Roster.{RosterValue, all_differ, are_names}
+use Rattle.rds_dots.specs.Merges.{and_left, and_right}
+use Rattle.rds_delta.specs.Least.{least}
+use Rattle.rds_codec.specs.CertificateTexts.{IsReplicaOf}
+use Rattle.rds_state.specs.Fits.{ReplicaValue}
+use Rattle.rds_state.specs.Value.{StateValue, coordinates}
+use Rattle.rds_delta.specs.Digested.{DigestValue, digest_of}
+use Rattle.rds_codec.specs.AnswerTexts.{answer, answer_at, answer_text, answer_kind}
+use Rattle.rds_codec.specs.AnswerValues.{AnswerValue}
+use Rattle.rds_codec.specs.DigestTexts.{digest_at, digest_text, digest_kind}
+use Rattle.rds_codec.specs.HelloTexts.{hello_at, hello_text, hello_kind}
+use Rattle.rds_codec.specs.Kinds.{Kind}
+use Rattle.rds_codec.specs.Reading.{◌>>=◌, Reader, all_of}
+use Rattle.rds_codec.specs.Values.{IsSnapshot}
+use Rattle.rds_codec.specs.declared.hellos.Hello.{Hello}
+use Rattle.rds_codec.specs.declared.limits.TheConstants.{LIMIT}
+use Rattle.rds_codec.proofs.AnswerFormats.{answer_reader}
+use Rattle.rds_codec.proofs.DigestFormats.{digest_reader}
+use Rattle.rds_codec.proofs.HelloFormats.{hello_reader}
+use Rattle.rds_codec.proofs.Whole.{IsReaderOf}
+use Rattle.rds_session.specs.Bodies.{hello_in, digest_in, answer_in}
+use Rattle.rds_session.specs.Checked.{certificate_of, least_state}
+use Rattle.rds_session.specs.Judging.{ForHello, ForDigest, ForDelta, ForBye, Greets, Learns, Receives, Finishes, accepted, read_then, hello_judged, delta_judged, same_names}
+use Rattle.rds_session.specs.Meeting.{HasRoom, IsItsLeast}
+use Rattle.rds_session.specs.Messages.{hello_message, digest_message, delta_message, bye_message}
+use Rattle.rds_session.proofs.Checks.{least_coordinates, least_passes}
+use Rattle.rds_session.proofs.Tellings.{digest_is, answer_is, digest_ranks}
+
+-- one hears what the other tells
+pub record IsTold (k from : ReplicaValue) : Type 0 where
+  pub roster : from.roster ≡ k.roster
+  pub others : from.own ≡ k.own → ⊥
+  pub text : IsSnapshot from
+  pub own_text : IsSnapshot k
+  pub room : HasRoom from k
+
+le_true : (a b : ℕ) → nat_le a b ≡ true → a ≤ b
+le_true a b h = grind (arith, nat_tests)
+
+-- a text is read whole
+read_whole : {V : Type 0} (kind : Kind V) (read : Reader V) → IsReaderOf kind read → (v : V) → kind.is_value v → length (kind.text v) ≤ LIMIT → all_of read (kind.text v) ≡ Ok v
+read_whole {V} kind read is v h le =
+    let e : read (kind.text v) ≡ Ok (v, []) = ap read (sym (append-nil (kind.text v))) ∙ is.again v [] h le in
+    ap (λ (r : Result (V × List ℕ) Fault). r >>= λ x. cond (eqb (length x.1) 0) (Ok x.0) (Err Extra)) e
+
+-- a roster has at most 256 names
+names_few : (names : List (List ℕ)) → are_names names ≡ true → length names ≤ 256
+names_few names h = le_true (length names) 256 (and_right (nat_le 1 (length names)) (nat_le (length names) 256) (and_left (nat_le 1 (length names) && nat_le (length names) 256) (all_differ names) h))
+
+-- ---- HELLO
+
+hello_of : ReplicaValue → Hello
+hello_of from = record { version = 1; roster = from.roster; own = from.own }
+
+hello_again : (from : ReplicaValue) → IsSnapshot from → length (hello_text (hello_of from)) ≤ LIMIT → hello_in (hello_text (hello_of from)) ≡ Ok (hello_of from)
+unfolding hello_in hello_of
+hello_again from h le = read_whole hello_kind hello_at hello_reader (hello_of from) (record { version = refl; member = h.member }) le
+
+group_is : (k from : ReplicaValue) → from.roster ≡ k.roster → bytes_eq from.roster.group k.roster.group ≡ true
+group_is k from e = (bytes_eq-Decides from.roster.group k.roster.group).1 (ap (λ (r : RosterValue). r.group) e)
+
+names_are_same : (k from : ReplicaValue) → from.roster ≡ k.roster → same_names from.roster.names k.roster.names ≡ true
+names_are_same k from e = (slice_eq-Decides bytes_eq-Decides from.roster.names k.roster.names (same_names from.roster.names k.roster.names) refl).1 (ap (λ (r : RosterValue). r.names) e)
+
+pub hello_accepted : (k from : ReplicaValue) → IsTold k from → accepted k ForHello (hello_message from) ≡ Ok (Greets from.own)
+unfolding accepted hello_of hello_text
+hello_accepted k from t =
+    let o : eqb from.own k.own ≡ false = ne_eqb _ _ t.others in
+    let read : hello_in (hello_text (hello_of from)) ≡ Ok (hello_of from) = hello_again from t.text (omega (arith, t.room.hello)) in
+    ap (λ (r : Result Hello Fault). read_then r (hello_judged k)) read ∙ rw (group_is k from t.roster, names_are_same k from t.roster, o) refl
+
+-- ---- DIGEST
+
+pub digest_accepted : (k from : ReplicaValue) (peer : ℕ) → IsTold k from → accepted k (ForDigest peer) (digest_message from) ≡ Ok (Learns peer (digest_of from.state))
+unfolding accepted digest_in
+digest_accepted k from peer t =
+    let n = length k.roster.names in
+    let same : length from.roster.names ≡ n = ap (λ (r : RosterValue). length r.names) t.roster in
+    let read : digest_in n (digest_text (digest_of from.state)) ≡ Ok (digest_of from.state) =
+    read_whole (digest_kind n) (digest_at n) (digest_reader n) (digest_of from.state) (digest_is n from.state (rw (← same) t.text.state)) (omega (arith, t.room.digest)) in
+    ap (λ (r : Result DigestValue Fault). read_then r (λ digest. Ok (Learns peer digest))) read
+
+-- ---- DELTA and BYE
+
+-- the own number is a byte, below the roster's length
+own_is : (k : ReplicaValue) → IsSnapshot k → IsReplicaOf (length k.roster.names) k.own
+own_is k h = let few = names_few k.roster.names h.member.names in (omega (arith, few, h.member.own_number), h.member.own_number)
+
+pub delta_accepted : (k from : ReplicaValue) (peer : ℕ) (digest : DigestValue) → IsTold k from
+    → accepted k (ForDelta peer digest) (delta_message from k.own (digest_of k.state)) ≡ Ok (Receives (least_state from.state (digest_of k.state)))
+unfolding accepted answer_in
+delta_accepted k from peer digest t =
+    let n = length k.roster.names in
+    let same : length from.roster.names ≡ n = ap (λ (r : RosterValue). length r.names) t.roster in
+    let g = digest_of k.state in
+    let delta = least_state from.state g in
+    let sent = answer k.own delta (certificate_of g delta) in
+    let read : answer_in n (answer_text sent) ≡ Ok sent =
+    read_whole (answer_kind n) (answer_at n) (answer_reader n) sent (answer_is n k.own from.state g (own_is k t.own_text) (rw (← same) t.text.state) (digest_is n k.state t.own_text.state)) (omega (arith, t.room.delta)) in
+    let own : eqb k.own k.own ≡ true = eq-eqb _ _ refl in
+    ap (λ (r : Result AnswerValue Fault). read_then r (delta_judged k)) read ∙ rw (own, least_passes from.state g) refl
+
+pub bye_accepted : (k : ReplicaValue) → accepted k ForBye (bye_message 0) ≡ Ok Finishes
+unfolding accepted
+bye_accepted k = refl
+
+-- ---- what is received
+
+pub its_least : (peer own : ReplicaValue) (received : Option StateValue) → received ≡ Some (least_state peer.state (digest_of own.state)) → IsItsLeast peer own received
+its_least peer own received is = record {
+  delta = least_state peer.state (digest_of own.state);
+  is_received = is;
+  is_least = least_coordinates peer.state (digest_of own.state) ∙ ap (least (coordinates peer.state)) (digest_ranks own.state);
+}

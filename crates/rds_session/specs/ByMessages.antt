@@ -1,0 +1,27 @@
+-- A session's course, message by message.
+use Rattle.std.specs.Prelude.{◌≡◌, ℕ, ◌≤◌, nat_lt, List, [], ◌∷◌, length, if◌then◌else◌}
+use Rattle.rds_names.specs.declared.fault.Fault.TheVariants.{TooLong}
+use Rattle.rds_state.specs.Fits.{ReplicaValue}
+use Rattle.rds_session.specs.declared.chunks.TheConstants.{MESSAGE_LIMIT}
+use Rattle.rds_session.specs.declared.talk.Side.{Side}
+use Rattle.rds_session.specs.Chunks.{start}
+use Rattle.rds_session.specs.Stream.{Splits, IsPart}
+use Rattle.rds_session.specs.Session.{Standing, Sent, fresh, then_more, when_going, refuses, message_comes, run, opened, So_far, course}
+
+-- a message comes: one over the limit is refused
+abbrev pub judged : Standing → List ℕ → Sent
+judged s m = if nat_lt MESSAGE_LIMIT (length m) then refuses s TooLong else message_comes s m
+
+-- messages come one after the other, until the end
+abbrev pub talk : List (List ℕ) → Standing → Sent
+talk [] s = (s, [])
+talk (m ∷ ms) s = when_going s.ended (then_more (judged s m) (talk ms)) (s, [])
+
+-- the course of a stream is that of its messages, and then its rest
+abbrev pub IsByMessages : Type 0
+IsByMessages = (side : Side) (kept : ReplicaValue) (x : List ℕ) (ms : List (List ℕ)) (rest : List ℕ) → Splits x ms rest
+    → course side kept (So_far x) ≡ then_more (then_more (opened (fresh side kept)) (talk ms)) (run rest)
+
+-- less than a message within the limit is answered by nothing, and ends nothing
+abbrev pub IsQuiet : Type 0
+IsQuiet = (s : Standing) (rest : List ℕ) → s.under ≡ start → IsPart rest → length rest ≤ MESSAGE_LIMIT → ((run rest s).1 ≡ []) × ((run rest s).0.ended ≡ s.ended)

@@ -1,0 +1,14 @@
+pub mod Bodies
+pub mod ByMessages
+pub mod Checked
+pub mod Chunks
+pub mod Code
+pub mod Exchange
+pub mod Judging
+pub mod Meeting
+pub mod Messages
+pub mod Scanning
+pub mod Sending
+pub mod Session
+pub mod Steps
+pub mod Stream

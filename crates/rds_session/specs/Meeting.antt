@@ -1,0 +1,66 @@
+-- Two sessions that hear each other.
+use Rattle.std.specs.Prelude.{◌≡◌, ◌≢◌, ℕ, ◌≤◌, ◌⊎◌, List, ◌++◌, length, Option, Some, None}
+use Rattle.rds_state.specs.Fits.{ReplicaValue}
+use Rattle.rds_state.specs.Value.{StateValue, coordinates}
+use Rattle.rds_delta.specs.Digested.{digest_of}
+use Rattle.rds_delta.specs.Least.{least}
+use Rattle.rds_delta.specs.Ranks.{ranks}
+use Rattle.rds_codec.specs.Values.{IsSnapshot}
+use Rattle.rds_session.specs.declared.chunks.TheConstants.{MESSAGE_LIMIT}
+use Rattle.rds_session.specs.declared.talk.Side.TheVariants.{Client, Server}
+use Rattle.rds_session.specs.declared.step.Ended.TheVariants.{Done}
+use Rattle.rds_session.specs.Messages.{hello_message, digest_message, delta_message}
+use Rattle.rds_session.specs.Session.{So_far, course}
+
+abbrev pub IsBeginningOf : List ℕ → List ℕ → Type 0
+IsBeginningOf x y = (rest : List ℕ) × (y ≡ x ++ rest)
+
+-- what one tells the other is within the limit
+pub record HasRoom (from to : ReplicaValue) : Type 0 where
+  pub hello : length (hello_message from) ≤ MESSAGE_LIMIT
+  pub digest : length (digest_message from) ≤ MESSAGE_LIMIT
+  pub delta : length (delta_message from to.own (digest_of to.state)) ≤ MESSAGE_LIMIT
+
+-- two replicas of one roster with different own numbers, each of which has a text
+pub record CanMeet (a b : ReplicaValue) : Type 0 where
+  pub roster : a.roster ≡ b.roster
+  pub others : a.own ≢ b.own
+  pub a_text : IsSnapshot a
+  pub b_text : IsSnapshot b
+  pub a_room : HasRoom a b
+  pub b_room : HasRoom b a
+
+-- a delta that is the least of what the peer kept against what was kept here
+pub record IsItsLeast (peer own : ReplicaValue) (received : Option StateValue) : Type 0 where
+  pub delta : StateValue
+  pub is_received : received ≡ Some delta
+  pub is_least : coordinates delta ≡ least (coordinates peer.state) (ranks (coordinates own.state))
+
+-- nothing, or exactly that
+abbrev pub IsItsDelta : ReplicaValue → ReplicaValue → Option StateValue → Type 0
+IsItsDelta peer own received = (received ≡ None) ⊎ IsItsLeast peer own received
+
+-- the client hears x and the server y, each a beginning of what the other sent
+pub record Hear (a b : ReplicaValue) (x y : List ℕ) : Type 0 where
+  pub client : IsBeginningOf x (course Server b (So_far y)).1
+  pub server : IsBeginningOf y (course Client a (So_far x)).1
+
+-- each has received nothing, or what the other has and it lacks
+abbrev pub ReceiveDeltas : Type 0
+ReceiveDeltas = (a b : ReplicaValue) (x y : List ℕ) → CanMeet a b → Hear a b x y
+    → IsItsDelta b a (course Client a (So_far x)).0.received × IsItsDelta a b (course Server b (So_far y)).0.received
+
+-- all that each sent, the other heard
+pub record HearAll (a b : ReplicaValue) (x y : List ℕ) : Type 0 where
+  pub client : x ≡ (course Server b (So_far y)).1
+  pub server : y ≡ (course Client a (So_far x)).1
+
+-- both are done, and each has received what the other has and it lacks
+pub record AreDone (a b : ReplicaValue) (x y : List ℕ) : Type 0 where
+  pub client : (course Client a (So_far x)).0.ended ≡ Done
+  pub client_has : IsItsLeast b a (course Client a (So_far x)).0.received
+  pub server : (course Server b (So_far y)).0.ended ≡ Done
+  pub server_has : IsItsLeast a b (course Server b (So_far y)).0.received
+
+abbrev pub BothEnd : Type 0
+BothEnd = (a b : ReplicaValue) (x y : List ℕ) → CanMeet a b → HearAll a b x y → AreDone a b x y

@@ -1,0 +1,30 @@
+-- Messages that are sent, one after the other.
+use Rattle.std.specs.Prelude.{◌≡◌, ◌<◌, ◌≤◌, ℕ, nat_lt, Bool, true, false, List, [], ◌∷◌, ◌++◌, length, Result, MatchResult, MatchBool, if◌then◌else◌}
+use Rattle.rds_names.specs.declared.fault.Fault.{Fault}
+use Rattle.rds_names.specs.declared.fault.Fault.TheVariants.{Memory}
+use Rattle.rds_session.specs.declared.chunks.TheConstants.{MESSAGE_LIMIT}
+use Rattle.std.specs.Global.{Vec}
+use Rattle.rds_codec.specs.Writing.{Encodes}
+use Rattle.rds_session.specs.Chunks.{spelled}
+
+abbrev pub then_sent : List ℕ → List ℕ × Bool → List ℕ × Bool
+then_sent bytes p = (bytes ++ p.0, p.1)
+
+-- the bytes of the messages before the first that is over the limit, and whether none is
+unfoldable pub sending : List (List ℕ) → List ℕ × Bool
+sending [] = ([], true)
+sending (m ∷ ms) = if nat_lt MESSAGE_LIMIT (length m) then ([], false) else then_sent (spelled m) (sending ms)
+
+-- a message was added, or is over the limit
+abbrev pub SendsOne : List ℕ → List ℕ → List ℕ → Result Bool Fault → Type 0
+SendsOne old new m result = MatchResult result
+    (λ fits. MatchBool fits ((length m ≤ MESSAGE_LIMIT) × (new ≡ old ++ spelled m)) ((MESSAGE_LIMIT < length m) × (new ≡ old)))
+    (λ e. e ≡ Memory)
+
+-- the same of a message whose body was encoded, or is over the limit itself
+abbrev pub SendsBody : List ℕ → List ℕ → ℕ → Result (Vec ℕ) Fault → Result Bool Fault → Type 0
+SendsBody old new kind body result = (text : List ℕ) → Encodes text body → SendsOne old new (kind ∷ text) result
+
+-- messages were added, or those before the first that is over the limit
+abbrev pub SendsAll : List ℕ → List ℕ → List (List ℕ) → Result Bool Fault → Type 0
+SendsAll old new ms result = MatchResult result (λ all. then_sent old (sending ms) ≡ (new, all)) (λ e. e ≡ Memory)

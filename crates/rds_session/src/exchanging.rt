@@ -1,0 +1,141 @@
+//! A session over a reader and a writer.
+ghost use Rattle.std.specs.Prelude.{◌≡◌, ◌⊎◌, ◌<◌, true, false, length, OnOk, IfOk, IfErr, IfSome};
+ghost use Rattle.rds_keep.specs.Counted.{HasFailed};
+ghost use Rattle.rds_names.specs.declared.fault.Fault.TheVariants.{Device};
+ghost use Rattle.rds_session.specs.declared.step.Ended.TheVariants.{Going, Failed};
+ghost use Rattle.rds_session.specs.declared.talk.Side.{Side};
+ghost use Rattle.rds_session.specs.Exchange.{Exchanges, Says, Talks, TalksOn};
+ghost use Rattle.rds_session.specs.Session.{Nothing};
+ghost use Rattle.rds_session.specs.Steps.{came, HasStanding, IsNoDevice, IsOver};
+ghost use Rattle.rds_state.specs.Fits.{ReplicaValue};
+
+use crate::session::Session;
+use crate::step::{Ended, Input};
+use crate::talk::Side;
+use rds_dots::DotSet;
+use rds_keep::{Counted, Kept};
+use rds_names::Fault;
+use rds_state::State;
+use std::alloc::Global;
+use std::io::{Read, Write};
+
+/// How many bytes one call of a reader is asked for.
+const PIECE: usize = 16_384;
+
+/// What a session over a reader and a writer came to.
+#[derive(Drop)]
+pub struct Exchanged<S: DotSet> {
+    /// The delta that was received.
+    pub received: Option<State<S>>,
+    /// How the session ended.
+    pub ended: Ended,
+}
+
+// Takes a step, and writes what it sends.
+fn say<S: DotSet, W: Write>(
+    alloc: Global,
+    session: &mut Session<'_, S>,
+    input: Input<'_>,
+    writer: &mut Counted<W>,
+) -> Result<Ended, Fault>
+    ensures ended { IfOk result (λ e. e ≡ session.new.ended) }
+    ensures known { OnOk result (IsNoDevice session.old.ended → IsNoDevice session.new.ended) }
+    ensures says { OnOk result (Says session.old (came input.entry) session.new (W.contents writer.old.inner) (W.contents writer.new.inner)) }
+    ensures fault { IfErr result (λ e. (e ≡ Device) × HasFailed writer.old writer.new) }
+    ensures steady { OnOk result (writer.new.failed ≡ writer.old.failed) }
+{
+    let output = session.step(alloc, input);
+    writer.write_all(&output.send)?;
+    Ok(output.ended)
+}
+
+// Reads once, takes a step with what was read, and writes what it sends.
+fn turn<S: DotSet, R: Read, W: Write>(
+    alloc: Global,
+    session: &mut Session<'_, S>,
+    reader: &mut Counted<R>,
+    writer: &mut Counted<W>,
+    piece: &mut [u8],
+) -> Result<Ended, Fault>
+    requires room { 0 < length piece.old }
+    requires going { session.old.ended ≡ Going }
+    ensures ended { IfOk result (λ e. e ≡ session.new.ended) }
+    ensures known { OnOk result (IsNoDevice session.old.ended → IsNoDevice session.new.ended) }
+    ensures talk { OnOk result (TalksOn (R.remaining reader.old.inner) (R.remaining reader.new.inner) session.old session.new (W.contents writer.old.inner) (W.contents writer.new.inner)) }
+    ensures fault { IfErr result (λ e. (e ≡ Device) × (HasFailed reader.old reader.new ⊎ HasFailed writer.old writer.new)) }
+    ensures steady_reader { OnOk result (reader.new.failed ≡ reader.old.failed) }
+    ensures steady_writer { OnOk result (writer.new.failed ≡ writer.old.failed) }
+{
+    let count = reader.read(piece)?;
+    if count == 0 {
+        return say(alloc, session, Input::End, writer);
+    }
+    let (front, _) = piece.split_at(count);
+    say(alloc, session, Input::Bytes(front), writer)
+}
+
+fn is_over(ended: Ended) -> bool
+    ensures over { result ≡ true → IsOver ended }
+    ensures going { result ≡ false → ended ≡ Going }
+{
+    match ended {
+        Ended::Going => false,
+        Ended::Done | Ended::Failed(_) => true,
+    }
+}
+
+// Says and hears by turns until the end.
+fn talk<S: DotSet, R: Read, W: Write>(
+    alloc: Global,
+    session: &mut Session<'_, S>,
+    reader: &mut Counted<R>,
+    writer: &mut Counted<W>,
+) -> Result<Ended, Fault>
+    ensures ended { IfOk result (λ e. (e ≡ session.new.ended) × IsOver e) }
+    ensures known { OnOk result (IsNoDevice session.old.ended → IsNoDevice session.new.ended) }
+    ensures talk { OnOk result ((side : Side) (kept : ReplicaValue) → HasStanding side kept Nothing session.old
+        → Talks side kept (R.remaining reader.old.inner) (R.remaining reader.new.inner) session.new (W.contents writer.old.inner) (W.contents writer.new.inner)) }
+    ensures fault { IfErr result (λ e. (e ≡ Device) × (HasFailed reader.old reader.new ⊎ HasFailed writer.old writer.new)) }
+{
+    let mut ended = say(alloc, session, Input::Bytes(&[]), writer)?;
+    let mut piece = [0u8; PIECE];
+    'turns: for _ in 0..reader.turns() {
+        if is_over(ended) {
+            return Ok(ended);
+        }
+        ended = turn(alloc, session, reader, writer, &mut piece)?;
+    }
+    if is_over(ended) {
+        return Ok(ended);
+    }
+    Err(reader.fail())
+}
+
+/// One session to its end, over all that the reader gives: a step with no bytes, then by turns a read, a step with
+/// what was read, and a write of what the step sends. The reader's end is the stream's. Where a call on the reader or
+/// the writer fails, or the reader's bound of turns is reached, the session has failed with `Device`; what it received
+/// before stays.
+pub fn exchange<S: DotSet, R: Read, W: Write>(
+    alloc: Global,
+    side: Side,
+    kept: &Kept<S>,
+    reader: &mut Counted<R>,
+    writer: &mut Counted<W>,
+) -> Exchanged<S>
+    ensures over { IsOver result.ended }
+    ensures device { result.ended ≡ Failed Device → HasFailed reader.old reader.new ⊎ HasFailed writer.old writer.new }
+    ensures exchange { reader.new.failed ≡ 0 → writer.new.failed ≡ 0 → IfSome (R.remaining reader.old.inner) (λ input.
+        Exchanges side kept.now input (W.contents writer.old.inner) (W.contents writer.new.inner) result.received result.ended) }
+{
+    let mut session = Session::new(side, kept);
+    match talk(alloc, &mut session, reader, writer) {
+        Ok(ended) => Exchanged {
+            received: session.into_received(),
+            ended,
+        },
+        Err(fault) => Exchanged {
+            received: session.into_received(),
+            ended: Ended::Failed(fault),
+        },
+    }
+}

@@ -1,0 +1,215 @@
+//! Judging a whole message.
+ghost use Rattle.std.specs.Prelude.{◌≡◌, ◌↔◌, ◌≤◌, IsTrue, true, length, IfOk, IfErr};
+ghost use Rattle.rds_codec.specs.declared.limits.TheConstants.{LIMIT};
+ghost use Rattle.rds_codec.specs.Reading.{Gives};
+ghost use Rattle.rds_session.specs.Bodies.{hello_in, digest_in, answer_in};
+ghost use Rattle.rds_delta.specs.Digested.{digest_of};
+ghost use Rattle.rds_names.specs.declared.fault.Fault.TheVariants.{Memory};
+ghost use Rattle.rds_session.specs.Judging.{IsKnown, Judges, awaited, bye_came, hello_came, digest_came, delta_came, body_came, accepted, type_of, other_version, same_names};
+ghost use Rattle.rds_session.specs.Checked.{passes};
+ghost use Rattle.std.specs.Str.{bytes_eq};
+ghost use Rattle.rds_session.specs.Messages.{fault_of_code};
+ghost use Rattle.rds_session.specs.declared.talk.Stop.TheVariants.{Left, Refused};
+
+use crate::talk::{Act, Stop, Turn};
+use rds_codec::{Answer, Hello, decode_answer, decode_digest, decode_hello};
+use rds_delta::{Certificate, Digest, check};
+use rds_dots::DotSet;
+use rds_names::{Fault, Roster};
+use rds_state::{Replica, State};
+use std::alloc::Global;
+
+// What a BYE with a code other than 0 ends the session with.
+fn fault_of_code(code: u8) -> Fault
+    ensures value { result ≡ fault_of_code code }
+    ensures known { IsKnown (Left result) }
+{
+    match code {
+        1 => Fault::WrongVersion,
+        2 => Fault::WrongGroup,
+        3 => Fault::WrongRoster,
+        4 => Fault::SameReplica,
+        _ => Fault::PeerEnded,
+    }
+}
+
+fn judge_bye<S: DotSet>(turn: &Turn<S>, body: &[u8]) -> Result<Act<S>, Stop>
+    ensures known { IfErr result IsKnown }
+    ensures judges { Judges result (bye_came (awaited turn.now) body.now) }
+{
+    match body {
+        [] => Err(Stop::Refused(Fault::Cut)),
+        [0] => match turn {
+            Turn::Bye => Ok(Act::Finish),
+            _ => Err(Stop::Refused(Fault::OutOfTurn)),
+        },
+        [code] if *code <= 6 => Err(Stop::Left(fault_of_code(*code))),
+        [code, ..] if *code <= 6 => Err(Stop::Refused(Fault::Extra)),
+        _ => Err(Stop::Refused(Fault::Bad)),
+    }
+}
+
+fn is_other_version(body: &[u8]) -> bool
+    ensures { result ≡ other_version body.now }
+{
+    match body {
+        [] => false,
+        [version, ..] => *version != 1,
+    }
+}
+
+#[tactic(auto, unfolding(crate::specs::Bodies::hello_in))]
+fn read_hello(alloc: Global, body: &[u8]) -> Result<Hello, Fault>
+    requires { length body.now ≤ LIMIT }
+    ensures known { IfErr result (λ fault. IsKnown (Refused fault)) }
+    ensures read { Gives (λ hello. hello) result (hello_in body.now) }
+{
+    decode_hello(alloc, body)
+}
+
+#[tactic(auto, unfolding(crate::specs::Bodies::digest_in))]
+fn read_digest<S: DotSet>(alloc: Global, replicas: u16, body: &[u8]) -> Result<Digest<S>, Fault>
+    requires { length body.now ≤ LIMIT }
+    ensures known { IfErr result (λ fault. IsKnown (Refused fault)) }
+    ensures read { Gives (λ digest. digest) result (digest_in replicas body.now) }
+{
+    decode_digest(alloc, replicas, body)
+}
+
+#[tactic(auto, unfolding(crate::specs::Bodies::answer_in))]
+fn read_answer<S: DotSet>(alloc: Global, replicas: u16, body: &[u8]) -> Result<Answer<S>, Fault>
+    requires { length body.now ≤ LIMIT }
+    ensures known { IfErr result (λ fault. IsKnown (Refused fault)) }
+    ensures read { Gives (λ answer. answer) result (answer_in replicas body.now) }
+{
+    decode_answer(alloc, replicas, body)
+}
+
+// Whether two rosters of one group have the same names in the same order.
+fn has_same_names(hello: &Roster, kept: &Roster) -> bool
+    requires { bytes_eq hello.now.group kept.now.group ≡ true }
+    ensures { result ≡ same_names hello.now.names kept.now.names }
+{
+    hello.same(kept)
+}
+
+fn judge_hello<S: DotSet>(alloc: Global, kept: &Replica<S>, body: &[u8]) -> Result<Act<S>, Stop>
+    requires { length body.now ≤ LIMIT }
+    ensures known { IfErr result IsKnown }
+    ensures judges { Judges result (hello_came kept.now body.now) }
+{
+    if is_other_version(body) {
+        return Err(Stop::Refused(Fault::WrongVersion));
+    }
+    let hello = read_hello(alloc, body)?;
+    if hello.roster.group() != kept.roster().group() {
+        return Err(Stop::Refused(Fault::WrongGroup));
+    }
+    if !has_same_names(&hello.roster, kept.roster()) {
+        return Err(Stop::Refused(Fault::WrongRoster));
+    }
+    if hello.own == kept.own() {
+        return Err(Stop::Refused(Fault::SameReplica));
+    }
+    Ok(Act::Greet(hello.own))
+}
+
+fn judge_digest<S: DotSet>(
+    alloc: Global,
+    kept: &Replica<S>,
+    peer: u8,
+    body: &[u8],
+) -> Result<Act<S>, Stop>
+    requires { length body.now ≤ LIMIT }
+    ensures known { IfErr result IsKnown }
+    ensures judges { Judges result (digest_came kept.now peer body.now) }
+{
+    let digest = read_digest(alloc, kept.roster().len(), body)?;
+    Ok(Act::Learn(peer, digest))
+}
+
+// Whether a delta is needed here, component by component, and its certificate says so.
+fn passes<S: DotSet>(
+    alloc: Global,
+    kept: &Replica<S>,
+    delta: &State<S>,
+    certificate: &Certificate,
+) -> Result<bool, Fault>
+    ensures ok { IfOk result (λ holds. holds ≡ passes (digest_of kept.now.state) delta.now certificate.now) }
+    ensures err { IfErr result (λ fault. fault ≡ Memory) }
+{
+    let digest = Digest::of(alloc, kept.state())?;
+    Ok(check(&digest, delta, certificate))
+}
+
+fn judge_delta<S: DotSet>(alloc: Global, kept: &Replica<S>, body: &[u8]) -> Result<Act<S>, Stop>
+    requires { length body.now ≤ LIMIT }
+    ensures known { IfErr result IsKnown }
+    ensures judges { Judges result (delta_came kept.now body.now) }
+{
+    let answer = read_answer(alloc, kept.roster().len(), body)?;
+    if answer.asker != kept.own() {
+        return Err(Stop::Refused(Fault::WrongAsker));
+    }
+    if !passes(alloc, kept, &answer.state, &answer.certificate)? {
+        return Err(Stop::Refused(Fault::BadCertificate));
+    }
+    Ok(Act::Receive(answer.state))
+}
+
+fn judge_body<S: DotSet>(
+    alloc: Global,
+    kept: &Replica<S>,
+    turn: &Turn<S>,
+    body: &[u8],
+) -> Result<Act<S>, Stop>
+    requires { length body.now ≤ LIMIT }
+    ensures known { IfErr result IsKnown }
+    ensures judges { Judges result (body_came kept.now (awaited turn.now) body.now) }
+{
+    match turn {
+        Turn::Hello => judge_hello(alloc, kept, body),
+        Turn::Digest { peer } => judge_digest(alloc, kept, *peer, body),
+        Turn::Delta { .. } => judge_delta(alloc, kept, body),
+        Turn::Bye => judge_bye(turn, body),
+    }
+}
+
+fn type_of<S: DotSet>(turn: &Turn<S>) -> u8
+    ensures { result ≡ type_of (awaited turn.now) }
+{
+    match turn {
+        Turn::Hello => 1,
+        Turn::Digest { .. } => 2,
+        Turn::Delta { .. } => 3,
+        Turn::Bye => 4,
+    }
+}
+
+/// What a whole message is taken as, or why it ends the session.
+#[tactic(auto, unfolding(crate::specs::Judging::accepted))]
+pub fn accept<S: DotSet>(
+    alloc: Global,
+    kept: &Replica<S>,
+    turn: &Turn<S>,
+    message: &[u8],
+) -> Result<Act<S>, Stop>
+    requires { length message.now ≤ LIMIT }
+    ensures known { IfErr result IsKnown }
+    ensures judges { Judges result (accepted kept.now (awaited turn.now) message.now) }
+{
+    match message {
+        [] => Err(Stop::Refused(Fault::Cut)),
+        [kind, body @ ..] => {
+            if *kind == 4 {
+                judge_bye(turn, body)
+            } else if *kind == 0 || 4 < *kind {
+                Err(Stop::Refused(Fault::Bad))
+            } else if *kind == type_of(turn) {
+                judge_body(alloc, kept, turn, body)
+            } else {
+                Err(Stop::Refused(Fault::OutOfTurn))
+            }
+        }
+    }
+}

@@ -1,0 +1,27 @@
+//! Laws of streams and sessions.
+ghost use Rattle.rds_session.specs.ByMessages.{IsByMessages, IsQuiet};
+ghost use Rattle.rds_session.specs.Meeting.{BothEnd, ReceiveDeltas};
+ghost use Rattle.rds_session.specs.Stream.{AreSplit, AreSplitOnce};
+
+/// A stream of bytes is messages and a rest, less than a message, in exactly one way, however each message was cut
+/// into chunks. The function does nothing: its contract is these laws.
+pub fn streams_are_split_once()
+    ensures split { AreSplit }
+    ensures once { AreSplitOnce }
+{}
+
+/// What a session makes of a stream is what it makes of its messages, however each was cut into chunks; and nothing
+/// is answered before a message's closing chunk, but where the message is over the limit. The function does nothing:
+/// its contract is these laws.
+pub fn a_course_is_by_messages()
+    ensures messages { IsByMessages }
+    ensures quiet { IsQuiet }
+{}
+
+/// Two sessions, each of which hears a beginning of what the other sent, wherever it was cut: each has received
+/// nothing, or exactly what the other has and it lacks. Where each hears all that the other sent, both have received
+/// that and both are done. The function does nothing: its contract is these laws.
+pub fn two_sessions()
+    ensures receive { ReceiveDeltas }
+    ensures end { BothEnd }
+{}

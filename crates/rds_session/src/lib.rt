@@ -1,0 +1,21 @@
+//! The session of two replicas, as a machine over a stream of bytes: each tells what it has, and gets what it lacks.
+#![tactic(auto)]
+
+mod chunks;
+mod exchanging;
+mod judging;
+mod laws;
+mod sending;
+mod session;
+mod step;
+mod talk;
+mod writing;
+
+pub use exchanging::{Exchanged, exchange};
+pub use laws::{a_course_is_by_messages, streams_are_split_once, two_sessions};
+pub use session::Session;
+pub use step::{Ended, Input, Output};
+pub use talk::Side;
+
+#[cfg(test)]
+mod tests;

@@ -1,0 +1,147 @@
+//! Sending messages.
+ghost use Rattle.std.specs.Prelude.{◌≡◌, [], ◌∷◌};
+ghost use Rattle.rds_session.specs.Judging.{awaited, said, replies_of};
+ghost use Rattle.rds_session.specs.Messages.{hello_message, digest_message, delta_message, bye_message};
+ghost use Rattle.rds_session.specs.Sending.{SendsBody, SendsOne, SendsAll};
+ghost use Rattle.rds_session.specs.Session.{opening};
+
+use crate::talk::{Act, Side, Turn};
+use crate::writing::put_message;
+use rds_codec::{Hello, VERSION, encode_answer, encode_digest, encode_hello};
+use rds_delta::{Digest, certificate, delta};
+use rds_dots::DotSet;
+use rds_names::Fault;
+use rds_state::Replica;
+use std::alloc::Global;
+
+// Adds a message whose body was encoded, and says whether it is within the limit.
+fn send_body(send: &mut Vec<u8>, kind: u8, body: Result<Vec<u8>, Fault>) -> Result<bool, Fault>
+    ensures { SendsBody send.old.items send.new.items kind body result }
+{
+    match body {
+        Ok(body) => put_message(send, kind, &body),
+        Err(Fault::TooLong) => Ok(false),
+        Err(_) => Err(Fault::Memory),
+    }
+}
+
+fn send_hello<S: DotSet>(
+    alloc: Global,
+    send: &mut Vec<u8>,
+    kept: &Replica<S>,
+) -> Result<bool, Fault>
+    ensures { SendsOne send.old.items send.new.items (hello_message kept.now) result }
+{
+    let hello = Hello {
+        version: VERSION,
+        roster: kept.roster().copy(alloc)?,
+        own: kept.own(),
+    };
+    send_body(send, 1, encode_hello(alloc, &hello))
+}
+
+fn send_digest<S: DotSet>(
+    alloc: Global,
+    send: &mut Vec<u8>,
+    kept: &Replica<S>,
+) -> Result<bool, Fault>
+    ensures { SendsOne send.old.items send.new.items (digest_message kept.now) result }
+{
+    let digest = Digest::of(alloc, kept.state())?;
+    send_body(send, 2, encode_digest(alloc, &digest))
+}
+
+fn send_delta<S: DotSet>(
+    alloc: Global,
+    send: &mut Vec<u8>,
+    kept: &Replica<S>,
+    peer: u8,
+    digest: &Digest<S>,
+) -> Result<bool, Fault>
+    ensures { SendsOne send.old.items send.new.items (delta_message kept.now peer digest.now) result }
+{
+    let delta = delta(alloc, kept.state(), digest)?;
+    let certificate = certificate(alloc, digest, &delta)?;
+    send_body(send, 3, encode_answer(alloc, peer, &delta, &certificate))
+}
+
+/// Adds a BYE with this code.
+pub fn send_bye(send: &mut Vec<u8>, code: u8) -> Result<bool, Fault>
+    ensures { SendsOne send.old.items send.new.items (bye_message code) result }
+{
+    put_message(send, 4, &[code])
+}
+
+/// Adds the messages with which a client begins.
+pub fn send_opening<S: DotSet>(
+    alloc: Global,
+    send: &mut Vec<u8>,
+    kept: &Replica<S>,
+) -> Result<bool, Fault>
+    ensures { SendsAll send.old.items send.new.items (hello_message kept.now ∷ digest_message kept.now ∷ []) result }
+{
+    if !send_hello(alloc, send, kept)? {
+        return Ok(false);
+    }
+    send_digest(alloc, send, kept)
+}
+
+fn answer_digest<S: DotSet>(
+    alloc: Global,
+    send: &mut Vec<u8>,
+    kept: &Replica<S>,
+    peer: u8,
+    digest: &Digest<S>,
+) -> Result<bool, Fault>
+    ensures { SendsAll send.old.items send.new.items (hello_message kept.now ∷ digest_message kept.now ∷ delta_message kept.now peer digest.now ∷ []) result }
+{
+    if !send_hello(alloc, send, kept)? {
+        return Ok(false);
+    }
+    if !send_digest(alloc, send, kept)? {
+        return Ok(false);
+    }
+    send_delta(alloc, send, kept, peer, digest)
+}
+
+fn answer_delta<S: DotSet>(
+    alloc: Global,
+    send: &mut Vec<u8>,
+    kept: &Replica<S>,
+    peer: u8,
+    digest: &Digest<S>,
+) -> Result<bool, Fault>
+    ensures { SendsAll send.old.items send.new.items (delta_message kept.now peer digest.now ∷ bye_message 0 ∷ []) result }
+{
+    if !send_delta(alloc, send, kept, peer, digest)? {
+        return Ok(false);
+    }
+    send_bye(send, 0)
+}
+
+/// Adds the messages that answer an accepted one.
+#[tactic(auto, using(crate::proofs::Sendings::last_sent, crate::proofs::Sendings::none_sent))]
+pub fn send_replies<S: DotSet>(
+    alloc: Global,
+    send: &mut Vec<u8>,
+    side: Side,
+    kept: &Replica<S>,
+    turn: &Turn<S>,
+    act: &Act<S>,
+) -> Result<bool, Fault>
+    ensures { SendsAll send.old.items send.new.items (replies_of side kept.now (awaited turn.now) (said act.now)) result }
+{
+    match side {
+        Side::Server => match act {
+            Act::Learn(peer, digest) => answer_digest(alloc, send, kept, *peer, digest),
+            Act::Finish => send_bye(send, 0),
+            Act::Greet(_) | Act::Receive(_) => Ok(true),
+        },
+        Side::Client => match (act, turn) {
+            (Act::Receive(_), Turn::Delta { peer, digest }) => {
+                answer_delta(alloc, send, kept, *peer, digest)
+            }
+            _ => Ok(true),
+        },
+    }
+}

@@ -1,0 +1,326 @@
+//! One end of a session.
+ghost use Rattle.rds_session.specs.declared.chunks.TheConstants.{MESSAGE_LIMIT};
+ghost use Rattle.std.specs.Prelude.{◌≡◌, ◌<◌, ◌≤◌, [], Ok, OnOk, IfOk, IfErr, length};
+ghost use Rattle.std.specs.Option.{option_copied};
+ghost use Rattle.rds_names.specs.declared.fault.Fault.TheVariants.{Memory};
+
+use crate::chunks::{Chunks, Scanned, chunks_of};
+use crate::judging::accept;
+use crate::sending::{send_bye, send_opening, send_replies};
+use crate::step::{Ended, Input, Output};
+use crate::talk::{Act, Side, Stop, Turn, code_of};
+use rds_dots::DotSet;
+use rds_keep::Kept;
+use rds_names::Fault;
+use rds_state::State;
+use std::alloc::Global;
+use std::marker::Model;
+
+/// One end of a session: it tells what was kept here, and receives what the peer has and it lacks. All that it sends
+/// comes from the replica that it was lent.
+#[derive(Drop)]
+pub struct Session<'a, S: DotSet> {
+    side: Side,
+    kept: &'a Kept<S>,
+    begun: bool,
+    turn: Turn<S>,
+    received: Option<State<S>>,
+    ended: Ended,
+    under: Option<Chunks>,
+}
+
+impl<'a, S: DotSet> Model for Session<'a, S> {
+    ghost use Rattle.rds_session.specs.Chunks.{under_of};
+    ghost use Rattle.rds_session.specs.Code.{coded_standing};
+    ghost use Rattle.rds_session.specs.Judging.{awaited};
+    ghost use Rattle.rds_session.specs.Session.{Standing};
+
+    ghost Value = { Standing };
+
+    ghost coded = { coded_standing };
+
+    ghost view = { λ s. record {
+      side = s.side;
+      kept = s.kept.now;
+      begun = s.begun;
+      turn = awaited s.turn;
+      received = s.received;
+      ended = s.ended;
+      under = under_of s.under;
+    } };
+}
+
+impl<'a, S: DotSet> Session<'a, S> {
+    ghost use Rattle.rds_state.specs.Fits.{ReplicaValue};
+    ghost use Rattle.rds_session.specs.declared.step.Ended.TheVariants.{Going};
+    ghost use Rattle.rds_session.specs.declared.talk.Side.{Side};
+    ghost use Rattle.rds_session.specs.Chunks.{scan};
+    ghost use Rattle.rds_session.specs.Judging.{IsKnown, said};
+    ghost use Rattle.rds_session.specs.declared.talk.Stop.TheVariants.{Refused};
+    ghost use Rattle.rds_session.specs.Session.{failed, performed, refuses, answered, message_comes, opened, cut_off, Heard, Nothing};
+    ghost use Rattle.rds_session.specs.Steps.{came, Continues, Does, HasScanned, HasStanding, IsLastWord, IsNoDevice, IsOver, Ran, Runs, Steps, Works};
+
+    /// A session that hasn't begun. Takes no memory.
+    #[tactic(auto, unfolding(crate::specs::Session::course))]
+    pub fn new(side: Side, kept: &'a Kept<S>) -> Session<'a, S>
+        ensures standing { HasStanding side kept.now Nothing result }
+        ensures going { result.ended ≡ Going }
+    {
+        Session {
+            side,
+            kept,
+            begun: false,
+            turn: Turn::Hello,
+            received: None,
+            ended: Ended::Going,
+            under: None,
+        }
+    }
+
+    /// The delta that was received.
+    pub fn received(&self) -> Option<&State<S>>
+        ensures { option_copied result ≡ self.now.received }
+    {
+        self.received.as_ref()
+    }
+
+    /// The delta that was received, taken out of the session. Takes no memory.
+    pub fn into_received(mut self) -> Option<State<S>>
+        ensures { result ≡ self.entry.received }
+    {
+        self.received.take()
+    }
+
+    /// Takes the next bytes of the stream, or its end, and answers what is to be sent, and how the session stands.
+    /// What it sends in all, how it ends and what it receives doesn't depend on how the stream is cut into steps.
+    ///
+    /// The first step of a client sends what it begins with, whatever comes in it. After the end each step answers
+    /// that end and sends nothing. Where memory runs out the session fails (`Memory`), and what it received stays.
+    pub fn step(&mut self, alloc: Global, input: Input<'_>) -> Output
+        ensures course { (side : Side) (kept : ReplicaValue) (heard : Heard) → HasStanding side kept heard self.old
+            → Continues side kept heard (came input.entry) self.new result.send.items }
+        ensures ended { result.ended ≡ self.new.ended }
+        ensures over { IsOver self.old.ended → (self.new ≡ self.old) × (result.send.items ≡ []) }
+        ensures device { IsNoDevice self.old.ended → IsNoDevice self.new.ended }
+    {
+        match self.ended {
+            Ended::Going => {
+                let send = self.go_on(alloc, input);
+                Output {
+                    send,
+                    ended: self.ended,
+                }
+            }
+            Ended::Done | Ended::Failed(_) => Output {
+                send: Vec::new(alloc),
+                ended: self.ended,
+            },
+        }
+    }
+
+    fn go_on(&mut self, alloc: Global, input: Input<'_>) -> Vec<u8>
+        requires { self.old.ended ≡ Going }
+        ensures steps { Steps self.old (came input.entry) self.new result.items }
+        ensures known { IsNoDevice self.new.ended }
+    {
+        let mut send = Vec::new(alloc);
+        match self.work(alloc, input, &mut send) {
+            Ok(()) => send,
+            Err(_) => self.give_up(alloc),
+        }
+    }
+
+    // Memory ran out: the peer is told, if that can be.
+    fn give_up(&mut self, alloc: Global) -> Vec<u8>
+        ensures failed { self.new ≡ failed self.old Memory }
+        ensures send { IsLastWord result.items }
+    {
+        self.fail(Fault::Memory);
+        let mut send = Vec::new(alloc);
+        match send_bye(&mut send, 6) {
+            Ok(_) => send,
+            Err(_) => Vec::new(alloc),
+        }
+    }
+
+    fn work(&mut self, alloc: Global, input: Input<'_>, send: &mut Vec<u8>) -> Result<(), Fault>
+        ensures works { Works self.old send.old.items (came input.entry) self.new send.new.items result }
+        ensures known { OnOk result (IsNoDevice self.old.ended → IsNoDevice self.new.ended) }
+    {
+        self.open(alloc, send)?;
+        match input {
+            Input::Bytes(piece) => self.run(alloc, piece, send),
+            Input::End => {
+                self.cut_off();
+                Ok(())
+            }
+        }
+    }
+
+    #[tactic(auto, unfolding(crate::specs::Session::opened), using(crate::proofs::Moves::all_sent, crate::proofs::Moves::some_sent))]
+    fn open(&mut self, alloc: Global, send: &mut Vec<u8>) -> Result<(), Fault>
+        ensures does { Does self.old send.old.items self.new send.new.items result opened }
+        ensures known { OnOk result (IsNoDevice self.old.ended → IsNoDevice self.new.ended) }
+    {
+        if self.begun {
+            return Ok(());
+        }
+        match self.side {
+            Side::Client => {
+                let all = send_opening(alloc, send, self.kept.view_of())?;
+                if all {
+                    self.begun = true;
+                } else {
+                    send_bye(send, 6)?;
+                    self.begun = true;
+                    self.fail(Fault::TooLong);
+                }
+            }
+            Side::Server => self.begun = true,
+        }
+        Ok(())
+    }
+
+    fn run(&mut self, alloc: Global, piece: &[u8], send: &mut Vec<u8>) -> Result<(), Fault>
+        ensures runs { Runs self.old send.old.items piece.now self.new send.new.items result }
+        ensures known { OnOk result (IsNoDevice self.old.ended → IsNoDevice self.new.ended) }
+    {
+        let mut rest = piece;
+        while !rest.is_empty() {
+            rest = self.take_one(alloc, rest, send)?;
+        }
+        Ok(())
+    }
+
+    // Takes bytes up to the end of a message, and answers the rest.
+    fn take_one<'p>(
+        &mut self,
+        alloc: Global,
+        piece: &'p [u8],
+        send: &mut Vec<u8>,
+    ) -> Result<&'p [u8], Fault>
+        requires { 0 < length piece.now }
+        ensures ran { IfOk result (λ rest. Ran self.old send.old.items piece.now self.new send.new.items rest.now) }
+        ensures less { IfOk result (λ rest. length rest.now < length piece.now) }
+        ensures known { OnOk result (IsNoDevice self.old.ended → IsNoDevice self.new.ended) }
+        ensures err { IfErr result (λ e. (e ≡ Memory) × (self.new.received ≡ self.old.received)) }
+    {
+        match self.ended {
+            Ended::Going => {}
+            Ended::Done | Ended::Failed(_) => return Ok(&[]),
+        }
+        match self.scan(alloc, piece)? {
+            Scanned::More => Ok(&[]),
+            Scanned::Whole(message, rest) => {
+                self.message(alloc, &message, send)?;
+                Ok(rest)
+            }
+            Scanned::Long => {
+                self.refuse(Fault::TooLong, send)?;
+                Ok(&[])
+            }
+        }
+    }
+
+    // Scans bytes up to the end of a message. What has come of a message that goes on is held.
+    fn scan<'p>(&mut self, alloc: Global, piece: &'p [u8]) -> Result<Scanned<'p>, Fault>
+        ensures ok { IfOk result (HasScanned (scan piece.now self.old.under) self.old self.new) }
+        ensures ended { OnOk result (self.new.ended ≡ self.old.ended) }
+        ensures err { IfErr result (λ e. (e ≡ Memory) × (self.new.received ≡ self.old.received)) }
+    {
+        let mut chunks = chunks_of(alloc, self.under.take());
+        match chunks.take(alloc, piece)? {
+            Scanned::More => {
+                self.under = Some(chunks);
+                Ok(Scanned::More)
+            }
+            Scanned::Whole(message, rest) => Ok(Scanned::Whole(message, rest)),
+            Scanned::Long => Ok(Scanned::Long),
+        }
+    }
+
+    #[tactic(auto, unfolding(crate::specs::Session::message_comes))]
+    fn message(&mut self, alloc: Global, message: &[u8], send: &mut Vec<u8>) -> Result<(), Fault>
+        requires { length message.now ≤ MESSAGE_LIMIT }
+        ensures does { Does self.old send.old.items self.new send.new.items result (λ s. message_comes s message.now) }
+        ensures known { OnOk result (IsNoDevice self.old.ended → IsNoDevice self.new.ended) }
+    {
+        match accept(alloc, self.kept.view_of(), &self.turn, message) {
+            Ok(act) => self.answer(alloc, act, send),
+            Err(Stop::Left(fault)) => {
+                self.fail(fault);
+                Ok(())
+            }
+            Err(Stop::Refused(fault)) => match fault {
+                Fault::Memory => Err(Fault::Memory),
+                fault => self.refuse(fault, send),
+            },
+        }
+    }
+
+    // Answers an accepted message, and does what it says.
+    #[tactic(auto, using(crate::proofs::Moves::all_sent, crate::proofs::Moves::some_sent))]
+    fn answer(&mut self, alloc: Global, act: Act<S>, send: &mut Vec<u8>) -> Result<(), Fault>
+        ensures does { Does self.old send.old.items self.new send.new.items result (λ s. answered s (Ok (said act))) }
+        ensures known { OnOk result (IsNoDevice self.old.ended → IsNoDevice self.new.ended) }
+    {
+        let all = send_replies(
+            alloc,
+            send,
+            self.side,
+            self.kept.view_of(),
+            &self.turn,
+            &act,
+        )?;
+        if all {
+            self.perform(act);
+        } else {
+            send_bye(send, 6)?;
+            self.perform(act);
+            self.fail(Fault::TooLong);
+        }
+        Ok(())
+    }
+
+    fn perform(&mut self, act: Act<S>)
+        ensures performed { self.new ≡ performed self.old (said act) }
+        ensures known { IsNoDevice self.old.ended → IsNoDevice self.new.ended }
+    {
+        match act {
+            Act::Greet(peer) => self.turn = Turn::Digest { peer },
+            Act::Learn(peer, digest) => self.turn = Turn::Delta { peer, digest },
+            Act::Receive(delta) => {
+                self.turn = Turn::Bye;
+                self.received = Some(delta);
+            }
+            Act::Finish => self.ended = Ended::Done,
+        }
+    }
+
+    // Refuses with a BYE.
+    fn refuse(&mut self, fault: Fault, send: &mut Vec<u8>) -> Result<(), Fault>
+        ensures does { Does self.old send.old.items self.new send.new.items result (λ s. refuses s fault) }
+        ensures known { OnOk result (IsKnown (Refused fault) → IsNoDevice self.new.ended) }
+    {
+        send_bye(send, code_of(fault))?;
+        self.fail(fault);
+        Ok(())
+    }
+
+    fn fail(&mut self, fault: Fault)
+        ensures { self.new ≡ failed self.old fault }
+    {
+        self.ended = Ended::Failed(fault);
+        self.under = None;
+    }
+
+    fn cut_off(&mut self)
+        ensures cut { self.new ≡ (cut_off self.old).0 }
+        ensures known { IsNoDevice self.old.ended → IsNoDevice self.new.ended }
+    {
+        match self.ended {
+            Ended::Going => self.fail(Fault::PeerEnded),
+            Ended::Done | Ended::Failed(_) => {}
+        }
+    }
+}
