@@ -59,13 +59,10 @@ fn hear(
     let first = session.step(alloc, Input::Bytes(&[]));
     let mut sent = first.send;
     let mut ended = first.ended;
-    let mut rest = bytes;
-    while !rest.is_empty() {
-        let (piece, more) = rest.split_at(rest.len().min(length.max(1)));
+    for piece in bytes.chunks(length.max(1)) {
         let output = session.step(alloc, Input::Bytes(piece));
         sent.extend_from_slice(&output.send)?;
         ended = output.ended;
-        rest = more;
     }
     if has_end {
         let output = session.step(alloc, Input::End);

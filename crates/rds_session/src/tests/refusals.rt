@@ -19,19 +19,19 @@ const REFUSED: &[u8] = b"\x00\x02\x04\x05\x00\x00";
 /// What the server sends once it has heard a's HELLO and DIGEST.
 const ANSWERS: &[&[u8]] = &[HELLO_B, DIGEST_B, DELTA_B];
 
-/// The server refuses what it hears for this reason, with this BYE.
-fn is_refused(
+/// The server fails for this reason, and has sent this by then.
+fn is_refused<'a>(
     rt: &impl Abort,
     alloc: Global,
-    heard: &[&[u8]],
+    heard: &'a [&'a [u8]],
     fault: Fault,
-    bye: &[u8],
+    sent: &'a [&'a [u8]],
 ) -> Result<(), Fail> {
     let row = Row {
         side: Side::Server,
         kept: KEPT_B,
         heard,
-        sent: &[bye],
+        sent,
         ended: Ended::Failed(fault),
         received: None,
     };
@@ -41,10 +41,16 @@ fn is_refused(
 #[test]
 fn bytes_that_are_no_message_are_refused(rt: HostRuntime) -> Result<(), Fail> {
     let alloc = rt.alloc();
-    is_refused(&rt, alloc, &[b"\x00\x00"], Fault::Cut, REFUSED)?;
-    is_refused(&rt, alloc, &[b"\x00\x01\x09\x00\x00"], Fault::Bad, REFUSED)?;
+    is_refused(&rt, alloc, &[b"\x00\x00"], Fault::Cut, &[REFUSED])?;
+    is_refused(
+        &rt,
+        alloc,
+        &[b"\x00\x01\x09\x00\x00"],
+        Fault::Bad,
+        &[REFUSED],
+    )?;
     let bye_of_7 = b"\x00\x02\x04\x07\x00\x00";
-    is_refused(&rt, alloc, &[bye_of_7], Fault::Bad, REFUSED)
+    is_refused(&rt, alloc, &[bye_of_7], Fault::Bad, &[REFUSED])
 }
 
 #[test]
@@ -52,24 +58,24 @@ fn other_hellos_are_refused(rt: HostRuntime) -> Result<(), Fail> {
     let alloc = rt.alloc();
     let version_3 = b"\x00\x02\x01\x03\x00\x00";
     let bye_1 = b"\x00\x02\x04\x01\x00\x00";
-    is_refused(&rt, alloc, &[version_3], Fault::WrongVersion, bye_1)?;
+    is_refused(&rt, alloc, &[version_3], Fault::WrongVersion, &[bye_1])?;
     let group_h = b"\x00\x0d\x01\x01\x01h\x00\x03\x01a\x01b\x01c\x00\x00\x00";
     let bye_2 = b"\x00\x02\x04\x02\x00\x00";
-    is_refused(&rt, alloc, &[group_h], Fault::WrongGroup, bye_2)?;
+    is_refused(&rt, alloc, &[group_h], Fault::WrongGroup, &[bye_2])?;
     let names_a_c = b"\x00\x0b\x01\x01\x01g\x00\x02\x01a\x01c\x00\x00\x00";
     let bye_3 = b"\x00\x02\x04\x03\x00\x00";
-    is_refused(&rt, alloc, &[names_a_c], Fault::WrongRoster, bye_3)?;
+    is_refused(&rt, alloc, &[names_a_c], Fault::WrongRoster, &[bye_3])?;
     let bye_4 = b"\x00\x02\x04\x04\x00\x00";
-    is_refused(&rt, alloc, &[HELLO_B], Fault::SameReplica, bye_4)
+    is_refused(&rt, alloc, &[HELLO_B], Fault::SameReplica, &[bye_4])
 }
 
 #[test]
 fn messages_out_of_turn_are_refused(rt: HostRuntime) -> Result<(), Fail> {
     let alloc = rt.alloc();
-    is_refused(&rt, alloc, &[DIGEST_B], Fault::OutOfTurn, REFUSED)?;
-    is_refused(&rt, alloc, &[BYE], Fault::OutOfTurn, REFUSED)?;
+    is_refused(&rt, alloc, &[DIGEST_B], Fault::OutOfTurn, &[REFUSED])?;
+    is_refused(&rt, alloc, &[BYE], Fault::OutOfTurn, &[REFUSED])?;
     let after = [b"\x00\x01\x09\x00\x00".as_slice(), HELLO_A, DIGEST_A];
-    is_refused(&rt, alloc, &after, Fault::Bad, REFUSED)
+    is_refused(&rt, alloc, &after, Fault::Bad, &[REFUSED])
 }
 
 #[test]
@@ -80,29 +86,14 @@ fn a_peer_may_end_the_session(rt: HostRuntime) -> Result<(), Fail> {
     is_refused(&rt, rt.alloc(), &[bye_5], Fault::PeerEnded, &[])
 }
 
-/// The server refuses this delta for this reason.
-fn is_refused_delta(
-    rt: &impl Abort,
-    alloc: Global,
-    delta: &[u8],
-    fault: Fault,
-) -> Result<(), Fail> {
-    let row = Row {
-        side: Side::Server,
-        kept: KEPT_B,
-        heard: &[HELLO_A, DIGEST_A, delta],
-        sent: &[HELLO_B, DIGEST_B, DELTA_B, REFUSED],
-        ended: Ended::Failed(fault),
-        received: None,
-    };
-    is_met(rt, alloc, &row)
-}
-
 #[test]
 fn deltas_that_are_not_for_it_are_refused(rt: HostRuntime) -> Result<(), Fail> {
     let alloc = rt.alloc();
-    is_refused_delta(&rt, alloc, DELTA_FOR_A, Fault::WrongAsker)?;
-    is_refused_delta(&rt, alloc, DELTA_WITH_A_ROW_MORE, Fault::BadCertificate)
+    let sent = [HELLO_B, DIGEST_B, DELTA_B, REFUSED];
+    let for_a = [HELLO_A, DIGEST_A, DELTA_FOR_A];
+    is_refused(&rt, alloc, &for_a, Fault::WrongAsker, &sent)?;
+    let with_more = [HELLO_A, DIGEST_A, DELTA_WITH_A_ROW_MORE];
+    is_refused(&rt, alloc, &with_more, Fault::BadCertificate, &sent)
 }
 
 #[test]
