@@ -6,8 +6,8 @@ use crate::{
 };
 use rds_delta::Digest;
 use rds_dots::ListSet;
-use rds_names::{Fault, Key, Name, Roster};
-use rds_state::{Replica, State};
+use rds_names::{Fault, Key, Name, Path, Roster, Scalar};
+use rds_state::{Command, Replica, State};
 use std::alloc::{AllocError, Global};
 use std::process::Abort;
 use std::test::Fail;
@@ -36,6 +36,13 @@ fn replica(alloc: Global, own: u8) -> Result<Replica<ListSet>, Fault> {
     let names = [Name::new("a")?, Name::new("b")?, Name::new("c")?];
     let roster = Roster::new(alloc, Key::new(alloc, "g")?, names.as_slice())?;
     Replica::new(alloc, roster, own)
+}
+
+/// The same, after it has put a number into the set "s".
+fn replica_with(alloc: Global, own: u8, number: i64) -> Result<Replica<ListSet>, Fault> {
+    let mut edited = replica(alloc, own)?;
+    edited.edit(Command::Add(Path::new(alloc, "s")?, Scalar::Int(number)))?;
+    Ok(edited)
 }
 
 fn snapshot_again(alloc: Global, bytes: &[u8]) -> Result<Vec<u8>, Fault> {

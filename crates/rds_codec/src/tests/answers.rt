@@ -1,9 +1,10 @@
 //! The texts of answers, byte for byte.
 use crate::encode_answer;
-use crate::tests::{Form, is_exact, is_read_and_written, is_whole, refusal, replica};
+use crate::tests::{Form, is_exact, is_read_and_written, is_whole, refusal, replica, replica_with};
 use rds_delta::{Digest, certificate, delta};
-use rds_names::{Fault, Key, Path, Scalar};
-use rds_state::Command;
+use rds_dots::ListSet;
+use rds_names::Fault;
+use std::alloc::Global;
 use std::test::Fail;
 
 /// Replica 0 asked, and lacks nothing.
@@ -55,15 +56,22 @@ fn answers_are_judged_part_by_part(rt: HostRuntime) {
     );
 }
 
+/// The digest of a replica without dots.
+fn digest(alloc: Global) -> Result<Digest<ListSet>, Fault> {
+    Digest::of(alloc, replica(alloc, 1)?.state())
+}
+
+/// The text of the answer to a digest, of a replica with one element.
+fn answer_text(alloc: Global) -> Result<Vec<u8>, Fault> {
+    let digest = digest(alloc)?;
+    let least = delta(alloc, replica_with(alloc, 0, 7)?.state(), &digest)?;
+    let rows = certificate(alloc, &digest, &least)?;
+    encode_answer(alloc, 1, &least, &rows)
+}
+
 #[test]
 fn the_answer_to_a_digest_is_written(rt: HostRuntime) -> Result<(), Fail> {
-    let alloc = rt.alloc();
-    let mut a = replica(alloc, 0)?;
-    a.edit(Command::Add(Path::new(alloc, "s")?, Scalar::Int(7)))?;
-    let digest = Digest::of(alloc, replica(alloc, 1)?.state())?;
-    let least = delta(alloc, a.state(), &digest)?;
-    let rows = certificate(alloc, &digest, &least)?;
-    let text = encode_answer(alloc, 1, &least, &rows)?;
+    let text = answer_text(rt.alloc())?;
     assert_eq!(rt; text.as_slice(), ONE_LIVE);
     Ok(())
 }

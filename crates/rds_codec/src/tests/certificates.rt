@@ -5,6 +5,7 @@ use rds_counts::Which;
 use rds_delta::{Certificate, Row};
 use rds_dots::{Dot, Run};
 use rds_names::{Fault, Key};
+use std::alloc::Global;
 use std::test::Fail;
 
 /// Dots 3 and 4 are dead, and live at the peer; 5 and 6 are dead, and unseen there.
@@ -98,31 +99,42 @@ fn a_count_of_rows_takes_no_memory_ahead(rt: HostRuntime) {
     );
 }
 
-#[test]
-fn rows_are_written(rt: HostRuntime) -> Result<(), Fail> {
-    let alloc = rt.alloc();
-    let mut rows = Vec::new(alloc);
-    rows.push(Row::Live(Dot {
-        replica: 2,
-        seq: 0x0000_ffff_ffff_ffff,
-    }))?;
-    rows.push(Row::Dead(
-        Run {
-            replica: 1,
-            lo: 1,
-            hi: 0x0000_ffff_ffff_ffff,
-        },
-        0,
-    ))?;
-    rows.push(Row::Count {
+fn counted(alloc: Global) -> Result<Row, Fault> {
+    Ok(Row::Count {
         key: Key::new(alloc, "aa")?,
         replica: 1,
         which: Which::P,
         sent: 0x0000_ffff_ffff_ffff,
         peer: 1,
-    })?;
+    })
+}
+
+/// The rows of `WHOLE`.
+fn rows(alloc: Global) -> Result<Vec<Row>, Fault> {
+    let last = 0x0000_ffff_ffff_ffff;
+    let run = Run {
+        replica: 1,
+        lo: 1,
+        hi: last,
+    };
+    let mut rows = Vec::new(alloc);
+    rows.push(Row::Live(Dot {
+        replica: 2,
+        seq: last,
+    }))?;
+    rows.push(Row::Dead(run, 0))?;
+    rows.push(counted(alloc)?)?;
     rows.push(Row::Live(Dot { replica: 0, seq: 1 }))?;
-    let text = encode_certificate(alloc, &Certificate::new(rows))?;
+    Ok(rows)
+}
+
+fn text_of_rows(alloc: Global) -> Result<Vec<u8>, Fault> {
+    encode_certificate(alloc, &Certificate::new(rows(alloc)?))
+}
+
+#[test]
+fn rows_are_written(rt: HostRuntime) -> Result<(), Fail> {
+    let text = text_of_rows(rt.alloc())?;
     assert_eq!(rt; text.as_slice(), WHOLE);
     Ok(())
 }

@@ -1,9 +1,9 @@
 //! The texts of digests, byte for byte.
 use crate::encode_digest;
-use crate::tests::{Form, is_exact, is_read_and_written, is_whole, refusal, replica};
+use crate::tests::{Form, is_exact, is_read_and_written, is_whole, refusal, replica_with};
 use rds_delta::Digest;
-use rds_names::{Fault, Key, Path, Scalar};
-use rds_state::Command;
+use rds_names::Fault;
+use std::alloc::Global;
 use std::test::Fail;
 
 /// Dots 1, 4 and 7 to 9 of replica 0, all dead.
@@ -85,12 +85,15 @@ fn live_dots_are_judged_where_their_set_ends(rt: HostRuntime) {
     }
 }
 
+/// The text of the digest of a replica with one element.
+fn digest_text(alloc: Global) -> Result<Vec<u8>, Fault> {
+    let digest = Digest::of(alloc, replica_with(alloc, 0, 7)?.state())?;
+    encode_digest(alloc, &digest)
+}
+
 #[test]
 fn the_digest_of_a_state_is_written(rt: HostRuntime) -> Result<(), Fail> {
-    let alloc = rt.alloc();
-    let mut a = replica(alloc, 0)?;
-    a.edit(Command::Add(Path::new(alloc, "s")?, Scalar::Int(7)))?;
-    let digest = Digest::of(alloc, a.state())?;
-    assert_eq!(rt; encode_digest(alloc, &digest)?.as_slice(), ONE_LIVE);
+    let text = digest_text(rt.alloc())?;
+    assert_eq!(rt; text.as_slice(), ONE_LIVE);
     Ok(())
 }
