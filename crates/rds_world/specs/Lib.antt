@@ -1,6 +1,9 @@
 pub mod Coherent
+pub mod Events
 pub mod Example
 pub mod Held
 pub mod Law
+pub mod Stands
+pub mod Stored
 pub mod Updates
 pub mod World
