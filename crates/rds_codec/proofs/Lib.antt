@@ -17,7 +17,7 @@ mod LiveFormats
 mod Loops
 mod ManyDots
 mod PartFormats
-mod Replicas
+pub mod Replicas
 mod RowAlgebra
 mod RowLoops
 mod RowSets

@@ -8,6 +8,7 @@ pub mod Facts
 pub mod Friends
 pub mod Invariant
 pub mod Joins
+pub mod Sendings
 pub mod Runs
 pub mod States
 pub mod Steps

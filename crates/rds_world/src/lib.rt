@@ -4,6 +4,8 @@
 
 mod event;
 mod laws;
+mod messages;
+mod stepping;
 mod texts;
 mod world;
 

@@ -1,6 +1,8 @@
 //! All replicas of a document, in memory and as kept.
-ghost use Rattle.std.specs.Prelude.{◌≡◌, ◌≤◌, Some, None, IfOk, IfErr, MatchResult, length, slice_get};
-ghost use Rattle.rds_names.specs.declared.fault.Fault.TheVariants.{Memory, NoSuch};
+ghost use Rattle.std.specs.Prelude.{◌≡◌, ◌≤◌, ◌<◌, ◌⊎◌, Some, None, IfOk, IfErr, OnOk, length, slice_get};
+ghost use Rattle.rds_codec.specs.Spelling.{snapshot_text};
+ghost use Rattle.rds_codec.specs.declared.limits.TheConstants.{LIMIT};
+ghost use Rattle.rds_names.specs.declared.fault.Fault.TheVariants.{Memory, NoSuch, TooLong};
 ghost use Rattle.rds_world.specs.Stands.{Stands};
 ghost use Rattle.rds_world.specs.World.{start};
 
@@ -64,5 +66,19 @@ impl<S: DotSet> World<S> {
             Some(kept) => Ok(kept),
             None => Err(Fault::NoSuch),
         }
+    }
+}
+
+/// Writes the replica's snapshot into memory: it is kept.
+pub fn keep<S: DotSet>(alloc: Global, replica: &Replica<S>) -> Result<Kept<S>, Fault>
+    ensures ok { IfOk result (λ kept. kept ≡ replica.now) }
+    ensures short { OnOk result (length (snapshot_text replica.now) ≤ LIMIT) }
+    ensures fault { IfErr result (λ fault. (fault ≡ Memory) ⊎ ((fault ≡ TooLong) × (LIMIT < length (snapshot_text replica.now)))) }
+{
+    let mut file = Counted::new(Vec::<u8>::new(alloc));
+    match write_snapshot(alloc, replica, &mut file) {
+        Ok(kept) => Ok(kept),
+        Err(Fault::Device) => Err(Fault::Memory),
+        Err(fault) => Err(fault),
     }
 }
