@@ -9,7 +9,9 @@ pub mod Friends
 pub mod Invariant
 pub mod Joins
 pub mod Sendings
+pub mod Performed
 pub mod Runs
+pub mod Standing
 pub mod States
 pub mod Steps
 pub mod Sums
