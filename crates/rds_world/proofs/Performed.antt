@@ -1,5 +1,5 @@
 -- Each event does to the value of a world what it does to the model.
-use Rattle.std.proofs.Common.{◌≡◌, suc, zero, ℕ, ◌<◌, ◌≤◌, Bool, true, false, List, [], ◌∷◌, ◌++◌, length, length-append, Option, Some, None, refl, sym, ap, ◌∙◌, subst, arith, slice_get, inl, inr, ◌⊎◌, count_by, nat_lt, get_or, ltb}
+use Rattle.std.proofs.Common.{◌≡◌, ◌+◌, suc, zero, ℕ, ◌<◌, ◌≤◌, Bool, true, false, List, [], ◌∷◌, ◌++◌, length, length-append, Option, Some, None, refl, sym, ap, ◌∙◌, subst, arith, slice_get, inl, inr, ◌⊎◌, count_by, nat_lt, get_or, ltb}
 use mathlib.Core.Bool.{false≢true}
 use Rattle.std.proofs.Math.ListN.{set, length-set}
 use Rattle.std.proofs.lemmas.Bool.{lt-ltb, le-ltb}
@@ -75,6 +75,23 @@ crash_absent v r h = stopped v (Crash r) NoSuch (λ w s. Due NoSuch (not_there r
 pub ask_absent : (v : WorldValue) (r : ℕ) → length v.memory ≤ r → IsStopped v (Ask r) NoSuch v
 ask_absent v r h = stopped v (Ask r) NoSuch (λ w s. Due NoSuch (not_there r w.replicas None (subst (λ n. n ≤ r) (sym s.replicas) h)))
 
+pub stopped_same : (v u : WorldValue) (e : Event) (f : Fault) → u ≡ v → IsStopped v e f v → IsStopped v e f u
+stopped_same v u e f same h = record { refused = h.refused; same = same }
+
+-- a world with another replica in memory
+world_memory : (v : WorldValue) (i : IsWorld v) (r : ℕ) (x : ReplicaValue) → r < length v.memory → (x.roster ≡ v.roster) × (x.own ≡ r) → ∥ HasModel (record v { memory = set v.memory r x }) ∥₁ → IsWorld (record v { memory = set v.memory r x })
+world_memory v i r x lt at model =
+    let len : length (set v.memory r x) ≡ length v.memory = length-set v.memory r x in
+    record {
+      memory = places_set v.roster v.memory r x lt at i.memory;
+      kept = i.kept;
+      same_length = i.same_length ∙ sym len;
+      within = subst (λ n. n ≤ length v.roster.names) (sym len) i.within;
+      asks = λ k a h. subst (λ n. a.asker < n) (sym len) (i.asks k a h);
+      answers = λ k a h. (let x = i.answers k a h in (subst (λ n. a.asker < n) (sym len) x.0, x.1));
+      model = model;
+    }
+
 -- a replica in memory
 module _ (v : WorldValue) (i : IsWorld v) (r : ℕ) (m : ReplicaValue) (lt : r < length v.memory) (there : slice_get v.memory r ≡ Some m) where
   in_model : (w : World) → Stands v w → w.memory r ≡ coordinates m.state
@@ -82,20 +99,6 @@ module _ (v : WorldValue) (i : IsWorld v) (r : ℕ) (m : ReplicaValue) (lt : r <
 
   below : (w : World) → Stands v w → r < w.replicas
   below w s = subst (λ n. r < n) (sym s.replicas) lt
-
-  pub world_memory : (x : ReplicaValue) → (x.roster ≡ m.roster) × (x.own ≡ m.own) → ∥ HasModel (record v { memory = set v.memory r x }) ∥₁ → IsWorld (record v { memory = set v.memory r x })
-  world_memory x same model =
-      let len : length (set v.memory r x) ≡ length v.memory = length-set v.memory r x in
-      let at = i.memory r m there in
-      record {
-        memory = places_set v.roster v.memory r x lt (same.0 ∙ at.0, same.1 ∙ at.1) i.memory;
-        kept = i.kept;
-        same_length = i.same_length ∙ sym len;
-        within = subst (λ n. n ≤ length v.roster.names) (sym len) i.within;
-        asks = λ k a h. subst (λ n. a.asker < n) (sym len) (i.asks k a h);
-        answers = λ k a h. (let x = i.answers k a h in (subst (λ n. a.asker < n) (sym len) x.0, x.1));
-        model = model;
-      }
 
   -- ---- edits
 
@@ -125,7 +128,7 @@ module _ (v : WorldValue) (i : IsWorld v) (r : ℕ) (m : ReplicaValue) (lt : r <
             ((λ j. edited (same j) (own j) c) ∙ sym (edit_is (coordinates m.state) (coordinates x.state) m.own c joins))) in
         let accepted : (w : World) → Stands v w → refused w (Edit r c) ≡ None = λ w s. edit_due w s ∙ due in
         record {
-          world = world_memory x same (model_after v (record v { memory = set v.memory r x }) (Edit r c) (λ w s. (accepted w s, stands w s)) i.model);
+          world = world_memory v i r x lt (same.0 ∙ (i.memory r m there).0, same.1 ∙ (i.memory r m there).1) (model_after v (record v { memory = set v.memory r x }) (Edit r c) (λ w s. (accepted w s, stands w s)) i.model);
           step = record {
             accepted = λ w s. record { due = accepted w s; few = λ h. h; short = λ h. h };
             stands = stands;
@@ -167,6 +170,75 @@ module _ (v : WorldValue) (i : IsWorld v) (r : ℕ) (m : ReplicaValue) (lt : r <
           };
           stands = stands;
           done = λ w s. tt;
+          roster = refl;
+        };
+      }
+
+-- a replica that is kept
+module _ (v : WorldValue) (i : IsWorld v) (r : ℕ) (m : ReplicaValue) (lt : r < length v.memory) (there : slice_get v.kept r ≡ Some m) where
+  kept_in_model : (w : World) → Stands v w → w.kept r ≡ coordinates m.state
+  kept_in_model w s = s.kept r ∙ ap state_of there
+
+  kept_below : (w : World) → Stands v w → r < w.replicas
+  kept_below w s = subst (λ n. r < n) (sym s.replicas) lt
+
+  -- ---- crashes
+
+  pub crash_done : (x : ReplicaValue) → x ≡ m → IsDoneTo v (Crash r) Plain (record v { memory = set v.memory r x })
+  crash_done x is =
+      let at = i.kept r m there in
+      let stands : (w : World) → Stands v w → Stands (record v { memory = set v.memory r x }) (Rattle.rds_world.specs.World.after w (Crash r)) =
+          λ w s. stands_memory v w r x (w.kept r) lt (length-set v.memory r x) s (kept_in_model w s ∙ ap (λ (z : ReplicaValue). coordinates z.state) (sym is)) in
+      let accepted : (w : World) → Stands v w → refused w (Crash r) ≡ None = λ w s. is_there r w.replicas None (kept_below w s) in
+      record {
+        world = world_memory v i r x lt (ap (λ (z : ReplicaValue). z.roster) is ∙ at.0, ap (λ (z : ReplicaValue). z.own) is ∙ at.1) (model_after v (record v { memory = set v.memory r x }) (Crash r) (λ w s. (accepted w s, stands w s)) i.model);
+        step = record {
+          accepted = λ w s. record { due = accepted w s; few = λ h. h; short = λ h. h };
+          stands = stands;
+          done = λ w s. tt;
+          roster = refl;
+        };
+      }
+
+  -- ---- asks
+
+  pub ask_stopped : (f : Fault) → (f ≡ Memory) ⊎ ((f ≡ TooLong) × (LIMIT < length (digest_text (digest_of m.state)))) → IsStopped v (Ask r) f v
+  ask_stopped f h = elim h [
+    | inl is ↦ no_memory v (Ask r) f is
+    | inr l ↦ subst (λ x. IsStopped v (Ask r) x v) (sym l.0) (stopped v (Ask r) TooLong (λ w s. Long (is_there r w.replicas None (kept_below w s)) (λ x. x) (record { replica = m; there = there; long = l.1 })))
+  ]
+
+  pub ask_done : (bytes : List ℕ) (asks : List AskText) (question : ℕ) → asks ≡ v.asks ++ record { asker = r; bytes = bytes } ∷ [] → question ≡ length v.asks
+      → HoldsAsk (length m.roster.names) (record { asker = m.own; state = coordinates m.state }) (record { asker = m.own; bytes = bytes }) → length (digest_text (digest_of m.state)) ≤ LIMIT
+      → IsDoneTo v (Ask r) (Asked question) (record v { asks = asks })
+  ask_done bytes asks question are number holds short =
+      let at = i.kept r m there in
+      let ask : AskText = record { asker = r; bytes = bytes } in
+      let here : HoldsAsk (length v.roster.names) (record { asker = r; state = coordinates m.state }) ask =
+          subst (λ (o : ℕ). HoldsAsk (length v.roster.names) (record { asker = o; state = coordinates m.state }) (record { asker = o; bytes = bytes })) at.1
+          (subst (λ (o : RosterValue). HoldsAsk (length o.names) (record { asker = m.own; state = coordinates m.state }) (record { asker = m.own; bytes = bytes })) at.0 holds) in
+      let stands : (w : World) → Stands v w → Stands (record v { asks = asks }) (Rattle.rds_world.specs.World.after w (Ask r)) =
+          λ w s. subst (λ (l : List AskText). Stands (record v { asks = l }) (Rattle.rds_world.specs.World.after w (Ask r))) (sym are)
+          (stands_asked v w (record { asker = r; state = w.kept r }) ask s (subst (λ (a : Coordinates). HoldsAsk (length v.roster.names) (record { asker = r; state = a }) ask) (sym (kept_in_model w s)) here)) in
+      let accepted : (w : World) → Stands v w → refused w (Ask r) ≡ None = λ w s. is_there r w.replicas None (kept_below w s) in
+      record {
+        world = record {
+          memory = i.memory;
+          kept = i.kept;
+          same_length = i.same_length;
+          within = i.within;
+          asks = λ k a h. elim (last_get v.asks ask a k (subst (λ (l : List AskText). slice_get l k ≡ Some a) are h)) [ inl old ↦ i.asks k a old | inr new ↦ subst (λ (z : AskText). z.asker < length v.memory) (sym new) lt ];
+          answers = λ k a h. (let x = i.answers k a h in (x.0, (let len : length asks ≡ length v.asks + 1 = ap length are ∙ length-append v.asks (ask ∷ []) in let before = x.1 in omega (arith, len, before))));
+          model = model_after v (record v { asks = asks }) (Ask r) (λ w s. (accepted w s, stands w s)) i.model;
+        };
+        step = record {
+          accepted = λ w s. record {
+            due = accepted w s;
+            few = λ h. h;
+            short = λ h. (let same = read_at v.kept r h.replica m h.there there in let long : LIMIT < length (digest_text (digest_of m.state)) = subst (λ (z : ReplicaValue). LIMIT < length (digest_text (digest_of z.state))) (sym same) h.long in omega (arith, short, long));
+          };
+          stands = stands;
+          done = λ w s. number ∙ sym (matched_length (HoldsAsk (length v.roster.names)) w.asks v.asks s.asks);
           roster = refl;
         };
       }
