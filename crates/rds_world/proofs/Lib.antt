@@ -1,4 +1,5 @@
 pub mod Answering
+pub mod Answered
 pub mod Coherent
 pub mod Counters
 pub mod Edits
@@ -10,6 +11,7 @@ pub mod Invariant
 pub mod Joins
 pub mod Sendings
 pub mod Performed
+pub mod Readings
 pub mod Runs
 pub mod Standing
 pub mod States

@@ -1,33 +1,6 @@
-use Rattle.std.proofs.Common.{rules, ◌≡◌, ◌⊎◌, IfOk, IfErr, OnOk, OnErr, Some, None, Ok, Err, count_by, slice_get, ℕ, ◌+◌, ◌-◌, ◌*◌, ◌<◌, ◌≤◌, length, ◌/◌, ◌%◌, Bool, true, false, nat_eq, nat_lt, List, [], ◌∷◌, ◌++◌, slice_index_or, slice_set, bit_and, bit_or, Fits, w8, w32, w64, Bor, MutBor}
-use Rattle.rds_names.specs.declared.fault.Fault.TheVariants.{Memory}
-use Rattle.rds_world.specs.declared.event.Event.TheVariants.{Edit, Save, Crash, Ask, Answer, Take}
-use Rattle.rds_world.specs.Events.{IsAccepted, Refuses, IsDone}
-use Rattle.rds_world.specs.Stands.{Stands}
-use Rattle.rds_world.specs.Steps.{IsStep, IsStopped}
-use Rattle.rds_world.specs.World.{World as Model}
-use Rattle.rds_world.specs.World.{after}
+use Rattle.std.proofs.Common.{rules, ◌≡◌, ◌≤◌, ◌<◌, ◌∙◌, ◌++◌, ◌∷◌, [], ap, refl, sym, subst, length, Some, Err, slice_get, slice_set}
+use Rattle.rds_world.proofs.Answered.{answer_absent, answer_stopped}
 use Rattle.rds_world.proofs.world.World.answer.Goals as goal
 
--- src/stepping.rt:113:13
-pub returns-then-at-len-clause-err : goal.returns-then-at-len-clause-err
-returns-then-at-len-clause-err g c = ?
-
--- src/stepping.rt:118:13
 pub answer-requires : goal.answer-requires
 answer-requires g c = ?
-
--- src/stepping.rt:118:13
-pub returns-in_err-bytes-clause-err : goal.returns-in_err-bytes-clause-err
-returns-in_err-bytes-clause-err g c = ?
-
--- src/stepping.rt:120:9
-pub returns-in_err-push-clause-err : goal.returns-in_err-push-clause-err
-returns-in_err-push-clause-err g c = ?
-
--- src/stepping.rt:107:5
-pub invariant_of-self-2 : goal.invariant_of-self-2
-invariant_of-self-2 g c = ?
-
--- src/stepping.rt:107:5
-pub returns-clause-ok : goal.returns-clause-ok
-returns-clause-ok g c = ?
