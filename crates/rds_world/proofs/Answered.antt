@@ -1,9 +1,10 @@
 -- Answers do to the value of a world what they do to the model.
-use Rattle.std.proofs.Common.{◌≡◌, ℕ, ◌<◌, ◌≤◌, ◌+◌, suc, zero, ◌⊎◌, inl, inr, true, List, [], ◌∷◌, ◌++◌, length, length-append, Option, Some, None, refl, sym, ap, ◌∙◌, subst, arith, slice_get, nat_lt}
+use Rattle.std.proofs.Common.{◌≡◌, ℕ, ◌<◌, ◌≤◌, ◌+◌, suc, zero, ◌⊎◌, inl, inr, Bool, true, false, Ok, Err, List, [], ◌∷◌, ◌++◌, length, length-append, Option, Some, None, refl, sym, ap, ◌∙◌, subst, arith, slice_get, nat_lt}
 use Rattle.std.specs.Prelude.{is_some}
 use Rattle.rds_names.specs.Roster.{RosterValue}
 use Rattle.rds_names.specs.declared.fault.Fault.{Fault}
 use Rattle.rds_names.specs.declared.fault.Fault.TheVariants.{Memory, NoSuch, TooLong, TooManyDots}
+use Rattle.rds_life.specs.Life.{seen_of}
 use Rattle.rds_state.specs.Coordinates.{Coordinates}
 use Rattle.rds_state.specs.Fits.{ReplicaValue}
 use Rattle.rds_state.specs.Value.{StateValue, coordinates, size}
@@ -14,9 +15,11 @@ use Rattle.rds_delta.specs.Digested.{DigestValue, ranks_in}
 use Rattle.rds_delta.specs.Least.{least}
 use Rattle.rds_delta.specs.Ranks.{Ranks, ranks}
 use Rattle.rds_delta.proofs.Grouping.{one_certificate}
-use Rattle.rds_codec.specs.AnswerTexts.{answer, answer_text}
+use Rattle.rds_codec.specs.AnswerTexts.{IsAnswerOf, answer, answer_text}
+use Rattle.rds_codec.specs.CertificateTexts.{IsReplicaOf}
 use Rattle.rds_codec.specs.Decoding.{Decodes}
 use Rattle.rds_codec.specs.DigestTexts.{HasTooManyInDigest, digest_kind}
+use Rattle.rds_codec.specs.Values.{AreDotsOf, AreFew}
 use Rattle.rds_codec.specs.declared.limits.TheConstants.{LIMIT}
 use Rattle.rds_world.specs.declared.event.Event.TheVariants.{Answer}
 use Rattle.rds_world.specs.declared.event.Done.TheVariants.{Answered}
@@ -59,9 +62,14 @@ absent_at P xs ys k m h = ap (λ o. unless_there (is_some o) None) (none_there P
 pub present_at : {A : Type 0} (xs : List A) (k : ℕ) (x : A) → slice_get xs k ≡ Some x → unless_there (is_some (slice_get xs k)) None ≡ None
 present_at xs k x e = ap (λ o. unless_there (is_some o) None) e
 
-either : (b : Rattle.std.proofs.Common.Bool) (due : Option Fault) → due ≡ Some NoSuch → unless_there b due ≡ Some NoSuch
+either : (b : Bool) (due : Option Fault) → due ≡ Some NoSuch → unless_there b due ≡ Some NoSuch
 either true due e = e
-either Rattle.std.proofs.Common.false due e = refl
+either false due e = refl
+
+pub slice_get_below : {A : Type 0} (xs : List A) (k : ℕ) (x : A) → slice_get xs k ≡ Some x → k < length xs
+slice_get_below [] k x e = cc
+slice_get_below (y ∷ ys) zero x e = omega arith
+slice_get_below (y ∷ ys) (suc k) x e = let below = slice_get_below ys k x e in omega (arith, below)
 
 pub answer_absent : (v : WorldValue) (r k : ℕ) → length v.memory ≤ r → IsStopped v (Answer r k) NoSuch v
 answer_absent v r k h = stopped v (Answer r k) NoSuch (λ w s. Due NoSuch (not_there r w.replicas (unless_there (is_some (slice_get w.asks k)) None) (subst (λ n. n ≤ r) (sym s.replicas) h)))
@@ -98,14 +106,14 @@ module _ (v : WorldValue) (i : IsWorld v) (r k : ℕ) (m : ReplicaValue) (a : As
   answer_stopped f (Lacks is) = no_memory v (Answer r k) f is
   answer_stopped f (Unread read) = stopped v (Answer r k) f (λ w s.
       let q = ask_of w s in
-      let why = unread_ask n q.it a q.related f (subst (λ j. Decodes (digest_kind j) a.bytes (Rattle.std.proofs.Common.Err f)) same_roster read) in
+      let why = unread_ask n q.it a q.related f (subst (λ j. Decodes (digest_kind j) a.bytes (Err f)) same_roster read) in
       elim why [
         | inl is ↦ subst (Refuses v w (Answer r k)) (sym is) NoMemory
         | inr large ↦ subst (Refuses v w (Answer r k)) (sym large.0) (Large (due w s) (record { ask = a; there = asked; large = large.1 }))
       ])
   answer_stopped f (TooBig g read is long) = stopped v (Answer r k) f (λ w s.
       let q = ask_of w s in
-      let read' = subst (λ j. Decodes (digest_kind j) a.bytes (Rattle.std.proofs.Common.Ok g)) same_roster read in
+      let read' = subst (λ j. Decodes (digest_kind j) a.bytes (Ok g)) same_roster read in
       let e = read_ranks n q.it a q.related g read' in
       subst (Refuses v w (Answer r k)) (sym is) (Long (due w s) (λ x. few_read n a.bytes g read' (subst (λ (z : AskText). HasTooManyInDigest n z.bytes) (sym (read_at v.asks k x.ask a x.there asked)) x.large))
       (record {
@@ -117,3 +125,94 @@ module _ (v : WorldValue) (i : IsWorld v) (r k : ℕ) (m : ReplicaValue) (a : As
         certificate = subst (λ b. IsCertificate b long.value long.rows) e long.least.certificate;
         long = subst (λ o. LIMIT < length (answer_text (answer o long.value long.rows))) q.related.asker long.long;
       })))
+
+  -- the ask is that of the model
+  same_ask : (w : World) (s : Stands v w) (q : Question) → slice_get w.asks k ≡ Some q → q ≡ (ask_of w s).it
+  same_ask w s q e = read_at w.asks k (ask_of w s).it q (ask_of w s).there e
+
+  module _ (bytes : List ℕ) (components number : ℕ) (r' : IsReply (length m.roster.names) a.bytes a.asker m.state bytes components) (at : number ≡ length v.answers) where
+    abbrev text : AnswerText
+    text = record { question = k; asker = a.asker; bytes = bytes }
+
+    read : Decodes (digest_kind n) a.bytes (Ok r'.digest)
+    read = subst (λ j. Decodes (digest_kind j) a.bytes (Ok r'.digest)) same_roster r'.read
+
+    told : (w : World) (s : Stands v w) → ranks_in r'.digest ≡ ranks (ask_of w s).it.state
+    told w s = read_ranks n (ask_of w s).it a (ask_of w s).related r'.digest read
+
+    holds : (w : World) (s : Stands v w) → HoldsAnswer n w.asks v.asks (reply w r k (ask_of w s).it) text
+    holds w s =
+        let q = ask_of w s in
+        let y = r'.reply in
+        record {
+          question = refl;
+          asker = q.related.asker;
+          replica = subst (λ j. IsReplicaOf j a.asker) same_roster r'.replica;
+          asked = q.it;
+          ask = q.there;
+          read = record { ask = a; there = asked; digest = r'.digest; is_text = read.value.1 };
+          value = y.value;
+          state = delta_is w s r'.digest q.it refl (told w s) y.value y.least.state;
+          rows = y.rows;
+          certificate = subst (λ b. IsCertificate b y.value y.rows) (told w s) y.least.certificate;
+          text = y.text;
+          within = y.within;
+          dots = subst (λ j. AreDotsOf j (seen_of y.value.lives)) same_roster y.dots;
+          again = subst (λ j. AreFew (seen_of y.value.lives) → IsAnswerOf j (answer a.asker y.value y.rows)) same_roster y.again;
+        }
+
+    answered_so : (w : World) (s : Stands v w) → after w (Answer r k) ≡ record w { answers = w.answers ++ reply w r k (ask_of w s).it ∷ [] }
+    answered_so w s = ap (answered w r k) (ask_of w s).there
+
+    stands : (w : World) (s : Stands v w) → Stands (record v { answers = v.answers ++ text ∷ [] }) (after w (Answer r k))
+    stands w s = subst (Stands (record v { answers = v.answers ++ text ∷ [] })) (sym (answered_so w s)) (stands_answered v w (reply w r k (ask_of w s).it) text s (holds w s))
+
+    not_long : (w : World) (s : Stands v w) → IsLongAnswer w r k → ⊥
+    not_long w s l =
+        let q = ask_of w s in
+        let y = r'.reply in
+        let is = same_ask w s l.asked l.there in
+        let state : coordinates l.value ≡ coordinates y.value = l.state ∙ ap (λ (z : Question). (reply w r k z).state) is ∙ sym (delta_is w s r'.digest q.it refl (told w s) y.value y.least.state) in
+        let value : l.value ≡ y.value = same_value l.value y.value state in
+        let certificate : IsCertificate (ranks_in r'.digest) y.value l.rows =
+            subst (λ b. IsCertificate b y.value l.rows) (sym (told w s)) (subst (λ (z : Question). IsCertificate (ranks z.state) y.value l.rows) is (subst (λ z. IsCertificate (ranks l.asked.state) z l.rows) value l.certificate)) in
+        let rows : l.rows ≡ y.rows = one_certificate (ranks_in r'.digest) y.value y.rows l.rows y.least.certificate certificate in
+        let asker : l.asked.asker ≡ a.asker = ap (λ (z : Question). z.asker) is ∙ sym q.related.asker in
+        let same : answer_text (answer l.asked.asker l.value l.rows) ≡ bytes = (λ j. answer_text (answer (asker j) (value j) (rows j))) ∙ sym y.text in
+        let long : LIMIT < length bytes = subst (λ (t : List ℕ). LIMIT < length t) same l.long in
+        let short = y.within in
+        omega (arith, long, short)
+
+    pub answer_done : (answers : List AnswerText) → answers ≡ v.answers ++ text ∷ [] → IsDoneTo v (Answer r k) (Answered number components) (record v { answers = answers })
+    answer_done answers are =
+        let stands' : (w : World) → Stands v w → Stands (record v { answers = answers }) (after w (Answer r k)) = λ w s. subst (λ (l : List AnswerText). Stands (record v { answers = l }) (after w (Answer r k))) (sym are) (stands w s) in
+        record {
+          world = record {
+            memory = i.memory;
+            kept = i.kept;
+            same_length = i.same_length;
+            within = i.within;
+            asks = i.asks;
+            answers = λ j b h. elim (last_get v.answers text b j (subst (λ (l : List AnswerText). slice_get l j ≡ Some b) are h)) [
+              | inl old ↦ i.answers j b old
+              | inr new ↦ subst (λ (z : AnswerText). (z.asker < length v.memory) × (z.question < length v.asks)) (sym new) (i.asks k a asked, slice_get_below v.asks k a asked)
+            ];
+            model = model_after v (record v { answers = answers }) (Answer r k) (λ w s. (due w s, stands' w s)) i.model;
+          };
+          step = record {
+            accepted = λ w s. record {
+              due = due w s;
+              few = λ x. few_read n a.bytes r'.digest read (subst (λ (z : AskText). HasTooManyInDigest n z.bytes) (sym (read_at v.asks k x.ask a x.there asked)) x.large);
+              short = not_long w s;
+            };
+            stands = stands';
+            done = λ w s. record {
+              number = at ∙ sym (matched_length (HoldsAnswer n w.asks v.asks) w.answers v.answers s.answers);
+              components = λ q d there' is.
+                  (let same = same_ask w s q there' in
+                  let e : coordinates d ≡ coordinates r'.reply.value = is ∙ ap (λ (z : Question). (reply w r k z).state) same ∙ sym (delta_is w s r'.digest (ask_of w s).it refl (told w s) r'.reply.value r'.reply.least.state) in
+                  r'.reply.sized ∙ ap size (sym (same_value d r'.reply.value e)));
+            };
+            roster = refl;
+          };
+        }
