@@ -18,3 +18,4 @@ pub mod States
 pub mod Steps
 pub mod Sums
 pub mod Tables
+pub mod Taken

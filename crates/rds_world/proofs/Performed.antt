@@ -44,7 +44,7 @@ matched_length P [] (y ∷ ys) m = absurd m
 matched_length P (x ∷ xs) [] m = absurd m
 matched_length P (x ∷ xs) (y ∷ ys) m = ap suc (matched_length P xs ys m.1)
 
-set_same : {A : Type 0} (xs : List A) (i : ℕ) (x : A) → slice_get xs i ≡ Some x → set xs i x ≡ xs
+pub set_same : {A : Type 0} (xs : List A) (i : ℕ) (x : A) → slice_get xs i ≡ Some x → set xs i x ≡ xs
 set_same [] i x is = refl
 set_same (y ∷ ys) zero x is = ap (λ z. z ∷ ys) (sym (same_some y x is))
 set_same (y ∷ ys) (suc i) x is = ap (λ zs. y ∷ zs) (set_same ys i x is)
@@ -79,7 +79,7 @@ pub stopped_same : (v u : WorldValue) (e : Event) (f : Fault) → u ≡ v → Is
 stopped_same v u e f same h = record { refused = h.refused; same = same }
 
 -- a world with another replica in memory
-world_memory : (v : WorldValue) (i : IsWorld v) (r : ℕ) (x : ReplicaValue) → r < length v.memory → (x.roster ≡ v.roster) × (x.own ≡ r) → ∥ HasModel (record v { memory = set v.memory r x }) ∥₁ → IsWorld (record v { memory = set v.memory r x })
+pub world_memory : (v : WorldValue) (i : IsWorld v) (r : ℕ) (x : ReplicaValue) → r < length v.memory → (x.roster ≡ v.roster) × (x.own ≡ r) → ∥ HasModel (record v { memory = set v.memory r x }) ∥₁ → IsWorld (record v { memory = set v.memory r x })
 world_memory v i r x lt at model =
     let len : length (set v.memory r x) ≡ length v.memory = length-set v.memory r x in
     record {
