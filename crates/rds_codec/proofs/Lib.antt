@@ -18,7 +18,7 @@ mod LiveFormats
 mod Loops
 mod ManyDots
 mod PartFormats
-mod Replicas
+pub mod Replicas
 mod RowAlgebra
 mod RowLoops
 mod RowSets
@@ -26,6 +26,7 @@ mod RowsLive
 mod RowsRead
 mod RunSteps
 mod Sequences
+mod SmallTexts
 mod SnapshotFormats
 mod StateFormats
 pub mod Subsets

@@ -11,7 +11,7 @@ ghost use Rattle.rds_codec.specs.AnswerTexts.{IsAnswerOf, answer, answer_text, a
 ghost use Rattle.rds_codec.specs.Decoding.{Decodes, ReadsAll};
 ghost use Rattle.rds_codec.specs.DotRows.{rows_from};
 ghost use Rattle.rds_codec.specs.Reading.{Gives, all_of};
-ghost use Rattle.rds_codec.specs.Values.{AreFew};
+ghost use Rattle.rds_codec.specs.Values.{AreDotsOf, AreFew};
 ghost use Rattle.rds_codec.specs.Writing.{Adds, Encodes};
 
 use crate::certificates::{certificate_length, put_certificate, read_certificate};
@@ -102,6 +102,7 @@ pub fn decode_answer<S: DotSet>(
 fn measure<S: DotSet>(asker: u8, state: &State<S>, certificate: &Certificate) -> (u16, u128)
     ensures rows { result.0 ≡ length (rows_from 0 (runs_of (seen_of state.now.lives))) }
     ensures length { result.1 ≡ length (answer_text (answer asker state.now certificate.now)) }
+    ensures dots { (replicas : ℕ) → Fits replicas (coordinates state.now) → AreDotsOf replicas (seen_of state.now.lives) }
     ensures value { (replicas : ℕ) (peer : Ranks) → asker < replicas → Fits replicas (coordinates state.now) → AreFew (seen_of state.now.lives) → IsAbove (coordinates state.now) peer → IsCertificate peer state.now certificate.now → IsAnswerOf replicas (answer asker state.now certificate.now) }
 {
     let (rows, state_length) = measure_state(state);
@@ -134,6 +135,7 @@ pub fn encode_answer<S: DotSet>(
     certificate: &Certificate,
 ) -> Result<Vec<u8>, Fault>
     ensures text { Encodes (answer_text (answer asker state.now certificate.now)) result }
+    ensures dots { (replicas : ℕ) → Fits replicas (coordinates state.now) → AreDotsOf replicas (seen_of state.now.lives) }
     ensures value { (replicas : ℕ) (peer : Ranks) → asker < replicas → Fits replicas (coordinates state.now) → AreFew (seen_of state.now.lives) → IsAbove (coordinates state.now) peer → IsCertificate peer state.now certificate.now → IsAnswerOf replicas (answer asker state.now certificate.now) }
 {
     let (rows, length) = measure(asker, state, certificate);

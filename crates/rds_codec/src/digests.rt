@@ -5,7 +5,7 @@ ghost use Rattle.rds_codec.specs.Decoding.{Decodes, ReadsAll};
 ghost use Rattle.rds_codec.specs.DigestTexts.{DigestFits, IsDigestOf, digest_text, live_dots_at, digest_at, digest_kind};
 ghost use Rattle.rds_codec.specs.DotRows.{rows_from};
 ghost use Rattle.rds_codec.specs.Reading.{Gives, all_of};
-ghost use Rattle.rds_codec.specs.Values.{AreFew};
+ghost use Rattle.rds_codec.specs.Values.{AreDotsOf, AreFew};
 ghost use Rattle.rds_codec.specs.Writing.{Adds, Encodes};
 
 use crate::counters::read_counters;
@@ -89,6 +89,7 @@ fn measure<S: DotSet>(digest: &Digest<S>) -> ((u16, u16), u128)
     ensures seen { result.0.0 ≡ length (rows_from 0 (runs_of digest.now.seen)) }
     ensures live { result.0.1 ≡ length (rows_from 0 (runs_of digest.now.live)) }
     ensures length { result.1 ≡ length (digest_text digest.now) }
+    ensures dots { (replicas : ℕ) → DigestFits replicas digest.now → AreDotsOf replicas digest.now.seen }
     ensures value { (replicas : ℕ) → DigestFits replicas digest.now → AreFew digest.now.seen → IsDigestOf replicas digest.now }
 {
     let (seen_rows, seen_length) = measure_dots(digest.seen());
@@ -119,6 +120,7 @@ fn put_digest<S: DotSet>(
 /// the text needs is taken at once.
 pub fn encode_digest<S: DotSet>(alloc: Global, digest: &Digest<S>) -> Result<Vec<u8>, Fault>
     ensures text { Encodes (digest_text digest.now) result }
+    ensures dots { (replicas : ℕ) → DigestFits replicas digest.now → AreDotsOf replicas digest.now.seen }
     ensures value { (replicas : ℕ) → DigestFits replicas digest.now → AreFew digest.now.seen → IsDigestOf replicas digest.now }
 {
     let ((seen_rows, live_rows), length) = measure(digest);

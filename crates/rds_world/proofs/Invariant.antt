@@ -13,7 +13,7 @@ use Rattle.rds_world.specs.Updates.{effect_of}
 use Rattle.rds_world.proofs.States.{agree_if}
 use Rattle.rds_world.proofs.Effects.{next_dot, next_unseen, effect_live}
 use Rattle.rds_world.proofs.Joins.{IsGathered}
-use Rattle.rds_world.proofs.Tables.{Matched}
+use Rattle.rds_world.specs.Stands.{Matched}
 
 -- An update ran on the join of what its memory held, which held all that its members held.
 pub record IsRecorded (T : ℕ → Update) (B : ℕ → Coordinates) (i : ℕ) : Type 0 where

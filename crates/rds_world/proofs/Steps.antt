@@ -15,7 +15,8 @@ use Rattle.rds_delta.proofs.LeastLaws.{grown_delta}
 use Rattle.rds_world.proofs.Effects.{effect_agrees}
 use Rattle.rds_world.proofs.Coherent.{there, is_there}
 use Rattle.rds_world.proofs.Joins.{IsGathered, gathered_smaller, gathered_none, gathered_single, gathered_both, in_either, in_left, in_right}
-use Rattle.rds_world.proofs.Tables.{Matched, Together, matched_last, matched_weaker, matched_at, put_one, put_two, put_here, put_there}
+use Rattle.rds_world.specs.Stands.{Matched}
+use Rattle.rds_world.proofs.Tables.{Together, matched_last, matched_weaker, matched_at, put_one, put_two, put_here, put_there}
 use Rattle.rds_world.proofs.Invariant.{IsRecorded, IsBacked, IsAsk, IsAnswer, Lawful, own, compatible, kept_own}
 
 -- at the beginning

@@ -2,6 +2,7 @@
 use Rattle.std.proofs.Common.{◌≡◌, ℕ, suc, zero, Bool, true, false, cond, List, [], ◌∷◌, ◌++◌, refl, sym, subst, inl, inr, ◌⊎◌, arith, ◌==◌, length, Option, Some, None, slice_get}
 use Rattle.std.proofs.lemmas.Bool.Decides.{nat_tests}
 use Rattle.rds_world.specs.World.{put}
+use Rattle.rds_world.specs.Stands.{Matched}
 
 is_same : (i n : ℕ) → (i == n) ≡ true → i ≡ n
 is_same i n h = grind (arith, nat_tests)
@@ -25,13 +26,6 @@ put_here f r x = put_one (λ s a. s ≡ r → a ≡ x) f r x (λ e. refl) (λ s 
 
 pub put_there : {A : Type 0} (f : ℕ → A) (r : ℕ) (x : A) (s : ℕ) → (s ≡ r → ⊥) → put f r x s ≡ f s
 put_there f r x s n = put_one (λ s a. (s ≡ r → ⊥) → a ≡ f s) f r x (λ e. absurd (e refl)) (λ s n e. refl) s n
-
--- two lists of one length, each pair related
-abbrev pub Matched : {A C : Type 0} → (A → C → Type 0) → List A → List C → Type 0
-Matched P [] [] = Unit {0}
-Matched P [] (y ∷ ys) = ⊥
-Matched P (x ∷ xs) [] = ⊥
-Matched P (x ∷ xs) (y ∷ ys) = P x y × Matched P xs ys
 
 abbrev pub Together : {A C : Type 0} → (A → C → Type 0) → Option A → Option C → Type 0
 Together P None None = Unit {0}

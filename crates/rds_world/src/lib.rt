@@ -4,12 +4,17 @@
 
 mod event;
 mod laws;
+mod messages;
+mod stepping;
+mod texts;
+mod world;
 
-pub use event::Event;
+pub use event::{Done, Event};
 pub use laws::{
     answers_bring_what_was_kept, coherent_replicas_are_friends, edits_are_steps,
     lost_dots_are_used_again, runs_go_on, states_are_joins_of_updates, worlds_stay_coherent,
 };
+pub use world::World;
 
 #[cfg(test)]
 mod tests;

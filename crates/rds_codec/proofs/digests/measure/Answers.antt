@@ -15,6 +15,9 @@ returns-clause-length g c =
     let counts = c.counters_length.ensures.length ∙ ap (λ (m : Counted). length (counters_text m)) c.counts.ensures in
     (λ i. seen i + live i + counts i) ∙ sym (digest_length c.args.digest.now)
 
+pub returns-clause-dots : goal.returns-clause-dots
+returns-clause-dots g c = λ replicas fits d h. (g.met.S.DotSet.within c.seen.result.now d (ap (λ (s : Dots). set.contains s d) c.seen.ensures.dots ∙ h), fits.dots d h)
+
 pub returns-clause-value : goal.returns-clause-value
 returns-clause-value g c = λ replicas fits few.
     let v = c.args.digest.now in
