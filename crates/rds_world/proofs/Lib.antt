@@ -10,6 +10,7 @@ pub mod Friends
 pub mod Invariant
 pub mod Joins
 pub mod Sendings
+pub mod Openings
 pub mod Performed
 pub mod Readings
 pub mod Runs
