@@ -14,6 +14,7 @@ pub mod Openings
 pub mod Performed
 pub mod Readings
 pub mod Runs
+pub mod Simulated
 pub mod Standing
 pub mod States
 pub mod Steps

@@ -173,11 +173,7 @@ fn replicas_of(roster: &Roster) -> u16
 }
 
 /// The replica with this number, without any component.
-fn empty_replica<S: DotSet>(
-    alloc: Global,
-    roster: &Roster,
-    number: u8,
-) -> Result<Replica<S>, Fault>
+fn empty_replica<S: DotSet>(alloc: Global, roster: &Roster, number: u8) -> Result<Replica<S>, Fault>
     requires { number < length roster.now.names }
     ensures ok { IfOk result (IsNew roster.now number) }
     ensures fault { IfErr result (λ fault. fault ≡ Memory) }
