@@ -23,4 +23,5 @@ pub mod FrontSoFar
 pub mod Fronts
 pub mod JoinedOnce
 pub mod Joining
+pub mod NamedTasks
 pub mod Running

@@ -47,7 +47,7 @@ pub fn run<H: AllocGlobal, R: Read, W: Write, S: AsStr>(
     let alloc = rt.alloc();
     match task_of(alloc, words) {
         Ok(Some(Task::Join)) => run_join(alloc, reader, writer),
-        Ok(None) => write_fault(writer, Fault::Usage),
+        Ok(_) => write_fault(writer, Fault::Usage),
         Err(error) => write_unparsed(writer, &error),
     }
 }

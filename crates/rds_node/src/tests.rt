@@ -143,7 +143,7 @@ fn reads_the_command_line(rt: HostRuntime) -> Result<(), Fail> {
     let alloc = rt.alloc();
     for (words, status, first, named) in [
         ("rds_node joyn", 2, "fault 27: Usage\n", "joyn"),
-        ("rds_node sim", 2, "fault 27: Usage\n", "sim"),
+        ("rds_node sim x", 2, "fault 27: Usage\n", "sim"),
         ("rds_node", 2, "fault 27: Usage\n", "join"),
         ("", 2, "fault 27: Usage\n", "join"),
         ("rds_node join x", 2, "fault 27: Usage\n", "join"),
@@ -151,6 +151,12 @@ fn reads_the_command_line(rt: HostRuntime) -> Result<(), Fail> {
         ("rds_node help", 0, "Keeps replicas", "  join  Joins two"),
         ("rds_node join --help", 0, "Joins two", "Input: two lines"),
         ("rds_node help join", 0, "Joins two", "Input: two lines"),
+        (
+            "rds_node add --help",
+            0,
+            "Adds an element",
+            "Example: rds_node add",
+        ),
     ] {
         let words: Vec<&str> = words.split_whitespace().collect(alloc)?;
         let mut written = Vec::new(alloc);
