@@ -7,7 +7,7 @@ use Rattle.hex.specs.Hex.{decode_of}
 use Rattle.rds_names.specs.declared.fault.Fault.{Fault}
 use Rattle.rds_names.specs.declared.fault.Fault.TheVariants.{TooLong}
 use Rattle.rds_node.specs.Lines.{line_of, after_line}
-use Rattle.rds_node.specs.SnapshotValue.{SnapshotValue}
+use Rattle.rds_state.specs.Fits.{ReplicaValue}
 use Rattle.rds_node.specs.Join.{line_limit, DigitsRead, LineRead, ReadsLine, AfterBoth, AfterSecond, AfterFirst, JoinsTo, MayJoinTo}
 
 -- the line of a front that reaches past it, and what follows
@@ -41,14 +41,14 @@ is_long (suc n) [] le = absurd (omega arith)
 is_long (suc n) (b ∷ xs) le = long_at (eqb b 10) n b xs le (is_long n xs)
 
 -- a line over the limit
-too_long : (line : List ℕ) (r : Result SnapshotValue Fault) → line_limit < length line → r ≡ Err TooLong → LineRead line r
+too_long : (line : List ℕ) (r : Result ReplicaValue Fault) → line_limit < length line → r ≡ Err TooLong → LineRead line r
 too_long line r lt e = let long : ltb line_limit (length line) ≡ true = lt-ltb _ _ lt in rw long e
 
-read_too_long : (line : List ℕ) (r : Result SnapshotValue Fault) → line_limit < length line → LineRead line r → r ≡ Err TooLong
+read_too_long : (line : List ℕ) (r : Result ReplicaValue Fault) → line_limit < length line → LineRead line r → r ≡ Err TooLong
 read_too_long line r lt h = let long : ltb line_limit (length line) ≡ true = lt-ltb _ _ lt in rw long at h
 
 -- the first line of a front is read as that of the whole
-same_line : (n : ℕ) (xs : List ℕ) (r : Result SnapshotValue Fault) → line_limit < n → ReadsLine (line_of (take n xs)) r → ReadsLine (line_of xs) r
+same_line : (n : ℕ) (xs : List ℕ) (r : Result ReplicaValue Fault) → line_limit < n → ReadsLine (line_of (take n xs)) r → ReadsLine (line_of xs) r
 same_line n xs r lt h = elim (cases_lt (length (line_of xs)) n) [
   | inl short ↦ subst (λ (l : List ℕ). ReadsLine l r) (is_front n xs short).line h
   | inr long ↦
@@ -57,23 +57,23 @@ same_line n xs r lt h = elim (cases_lt (length (line_of xs)) n) [
 ]
 
 -- a line that was read as a snapshot is within the limit
-abbrev done : SnapshotValue → Result SnapshotValue Fault
+abbrev done : ReplicaValue → Result ReplicaValue Fault
 done v = Ok v
 
-within : (long : Bool) (line : List ℕ) (v : SnapshotValue) → ltb line_limit (length line) ≡ long → MatchBool long (done v ≡ Err TooLong) (DigitsRead (decode_of line) (Ok v)) → length line ≤ line_limit
+within : (long : Bool) (line : List ℕ) (v : ReplicaValue) → ltb line_limit (length line) ≡ long → MatchBool long (done v ≡ Err TooLong) (DigitsRead (decode_of line) (Ok v)) → length line ≤ line_limit
 within true line v e h = absurd cc
 within false line v e h = ltb-false line_limit (length line) e
 
-is_within : (line : List ℕ) (v : SnapshotValue) → ReadsLine line (Ok v) → length line ≤ line_limit
+is_within : (line : List ℕ) (v : ReplicaValue) → ReadsLine line (Ok v) → length line ≤ line_limit
 is_within line v h = within (ltb line_limit (length line)) line v refl h.1
 
 -- a rest is empty where its front is
-same_rest : (n : ℕ) (ys : List ℕ) (v w : SnapshotValue) (r : Result (List ℕ) Fault) → 0 < n → AfterBoth (take n ys) v w r → AfterBoth ys v w r
+same_rest : (n : ℕ) (ys : List ℕ) (v w : ReplicaValue) (r : Result (List ℕ) Fault) → 0 < n → AfterBoth (take n ys) v w r → AfterBoth ys v w r
 same_rest zero ys v w r lt h = absurd (omega arith)
 same_rest (suc n) [] v w r lt h = h
 same_rest (suc n) (y ∷ ys) v w r lt h = h
 
-second_of : (n : ℕ) (rest : List ℕ) (v : SnapshotValue) (b : Result SnapshotValue Fault) (r : Result (List ℕ) Fault) → line_limit + 1 < n → ReadsLine (line_of rest) b → AfterSecond (after_line (take n rest)) v b r
+second_of : (n : ℕ) (rest : List ℕ) (v : ReplicaValue) (b : Result ReplicaValue Fault) (r : Result (List ℕ) Fault) → line_limit + 1 < n → ReadsLine (line_of rest) b → AfterSecond (after_line (take n rest)) v b r
     → AfterSecond (after_line rest) v b r
 second_of n rest v (Err e) r lt read h = h
 second_of n rest v (Ok w) r lt read h =
@@ -81,7 +81,7 @@ second_of n rest v (Ok w) r lt read h =
     let front = is_front n rest (omega arith) in
     same_rest (n - (length (line_of rest) + 1)) (after_line rest) v w r (omega arith) (subst (λ (l : List ℕ). AfterBoth l v w r) front.rest h)
 
-first_of : (n : ℕ) (input : List ℕ) (a : Result SnapshotValue Fault) (r : Result (List ℕ) Fault) → 2 * line_limit + 2 < n → ReadsLine (line_of input) a → AfterFirst (after_line (take n input)) a r → AfterFirst (after_line input) a r
+first_of : (n : ℕ) (input : List ℕ) (a : Result ReplicaValue Fault) (r : Result (List ℕ) Fault) → 2 * line_limit + 2 < n → ReadsLine (line_of input) a → AfterFirst (after_line (take n input)) a r → AfterFirst (after_line input) a r
 first_of n input (Err e) r lt read h = h
 first_of n input (Ok v) r lt read h =
     let small = is_within (line_of input) v read in

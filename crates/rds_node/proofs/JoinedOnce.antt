@@ -17,17 +17,17 @@ use Rattle.rds_state.proofs.JoinLaws.{same_value}
 use Rattle.rds_node.specs.Join.{line_limit, ReadsLine, IsJoined, JoinedTo, TextOfJoined, AfterBoth, AfterSecond, AfterFirst, JoinsTo}
 use Rattle.rds_node.specs.JoinLaws.{SpellsLine, SpellsBoth, IsJoinedOnce, AnswersSpelled}
 use Rattle.rds_node.specs.Lines.{line_of, after_line}
-use Rattle.rds_node.specs.SnapshotValue.{SnapshotValue}
-use Rattle.rds_node.specs.Spelling.{snapshot_text}
+use Rattle.rds_state.specs.Fits.{ReplicaValue}
+use Rattle.rds_codec.specs.Spelling.{snapshot_text}
 
 -- what two snapshots may be joined to
-data Cases (v w : SnapshotValue) (a : Result SnapshotValue Fault) : Type 0 where
-  is_joined : (both : SnapshotValue) → a ≡ Ok both → IsJoined v w both → Cases v w a
+data Cases (v w : ReplicaValue) (a : Result ReplicaValue Fault) : Type 0 where
+  is_joined : (both : ReplicaValue) → a ≡ Ok both → IsJoined v w both → Cases v w a
   other_groups : a ≡ Err WrongGroup → v.roster.group ≢ w.roster.group → Cases v w a
   other_rosters : a ≡ Err WrongRoster → v.roster.group ≡ w.roster.group → v.roster.names ≢ w.roster.names → Cases v w a
   first_conflict : (d : Dot) → a ≡ Err (Conflict d.replica d.seq) → v.roster ≡ w.roster → IsFirstConflict v.state.lives w.state.lives d → Cases v w a
 
-cases : (v w : SnapshotValue) (a : Result SnapshotValue Fault) → JoinedTo v w a → Cases v w a
+cases : (v w : ReplicaValue) (a : Result ReplicaValue Fault) → JoinedTo v w a → Cases v w a
 cases v w (Ok both) h = is_joined both refl h
 cases v w (Err WrongGroup) h = other_groups refl h
 cases v w (Err WrongRoster) h = other_rosters refl h.0 h.1
@@ -40,10 +40,10 @@ same_group e = ap (λ (r : RosterValue). r.group) e
 same_names : {v w : RosterValue} → v ≡ w → v.names ≡ w.names
 same_names e = ap (λ (r : RosterValue). r.names) e
 
-snapshot_of : RosterValue → ℕ → StateValue → SnapshotValue
+snapshot_of : RosterValue → ℕ → StateValue → ReplicaValue
 snapshot_of roster own state = record { roster = roster; own = own; state = state }
 
-one_joined : (v w x y : SnapshotValue) → IsJoined v w x → IsJoined v w y → x ≡ y
+one_joined : (v w x y : ReplicaValue) → IsJoined v w x → IsJoined v w y → x ≡ y
 unfolding snapshot_of
 one_joined v w x y h k =
     ap (λ (r : RosterValue). snapshot_of r x.own x.state) (h.roster ∙ sym k.roster)
@@ -56,13 +56,13 @@ one_conflict a b d e Less is h k = absurd (h.here (k.first d (ap is_lt is)))
 one_conflict a b d e Equal is h k = dots_exact d e is
 one_conflict a b d e Greater is h k = absurd (k.here (h.first e (ap is_lt (after_before d e is))))
 
-conflict_of : Dot → Result SnapshotValue Fault
+conflict_of : Dot → Result ReplicaValue Fault
 conflict_of d = Err (Conflict d.replica d.seq)
 
-done : SnapshotValue → Result SnapshotValue Fault
+done : ReplicaValue → Result ReplicaValue Fault
 done v = Ok v
 
-joined_else : (v w both : SnapshotValue) (a b : Result SnapshotValue Fault) → a ≡ Ok both → IsJoined v w both → Cases v w b → a ≡ b
+joined_else : (v w both : ReplicaValue) (a b : Result ReplicaValue Fault) → a ≡ Ok both → IsJoined v w both → Cases v w b → a ≡ b
 unfolding done
 joined_else v w both a b e h k = elim k [
   | is_joined other f j ↦ e ∙ ap done (one_joined v w both other h j) ∙ sym f
@@ -71,7 +71,7 @@ joined_else v w both a b e h k = elim k [
   | first_conflict d f same first ↦ absurd (first.here (h.compatible.each_dot d))
 ]
 
-groups_else : (v w : SnapshotValue) (a b : Result SnapshotValue Fault) → a ≡ Err WrongGroup → v.roster.group ≢ w.roster.group → Cases v w b → a ≡ b
+groups_else : (v w : ReplicaValue) (a b : Result ReplicaValue Fault) → a ≡ Err WrongGroup → v.roster.group ≢ w.roster.group → Cases v w b → a ≡ b
 groups_else v w a b e h k = elim k [
   | is_joined other f j ↦ absurd (h (same_group j.same_roster))
   | other_groups f differ ↦ e ∙ sym f
@@ -79,7 +79,7 @@ groups_else v w a b e h k = elim k [
   | first_conflict d f same first ↦ absurd (h (same_group same))
 ]
 
-rosters_else : (v w : SnapshotValue) (a b : Result SnapshotValue Fault) → a ≡ Err WrongRoster → v.roster.group ≡ w.roster.group → v.roster.names ≢ w.roster.names → Cases v w b → a ≡ b
+rosters_else : (v w : ReplicaValue) (a b : Result ReplicaValue Fault) → a ≡ Err WrongRoster → v.roster.group ≡ w.roster.group → v.roster.names ≢ w.roster.names → Cases v w b → a ≡ b
 rosters_else v w a b e group h k = elim k [
   | is_joined other f j ↦ absurd (h (same_names j.same_roster))
   | other_groups f differ ↦ absurd (differ group)
@@ -87,7 +87,7 @@ rosters_else v w a b e group h k = elim k [
   | first_conflict d f same first ↦ absurd (h (same_names same))
 ]
 
-conflict_else : (v w : SnapshotValue) (a b : Result SnapshotValue Fault) (d : Dot) → a ≡ Err (Conflict d.replica d.seq) → v.roster ≡ w.roster → IsFirstConflict v.state.lives w.state.lives d → Cases v w b → a ≡ b
+conflict_else : (v w : ReplicaValue) (a b : Result ReplicaValue Fault) (d : Dot) → a ≡ Err (Conflict d.replica d.seq) → v.roster ≡ w.roster → IsFirstConflict v.state.lives w.state.lives d → Cases v w b → a ≡ b
 unfolding conflict_of
 conflict_else v w a b d e roster h k = elim k [
   | is_joined other f j ↦ absurd (h.here (j.compatible.each_dot d))
@@ -105,7 +105,7 @@ joined_once v w a b h k = elim (cases v w a h) [
 ]
 
 -- a line that spells a snapshot is read as it
-read_spelled : (line : List ℕ) (v : SnapshotValue) (r : Result SnapshotValue Fault) → SpellsLine line v → ReadsLine line r → r ≡ Ok v
+read_spelled : (line : List ℕ) (v : ReplicaValue) (r : Result ReplicaValue Fault) → SpellsLine line v → ReadsLine line r → r ≡ Ok v
 read_spelled line v r spells reads =
     let long = (decode_of-ok line (snapshot_text v) spells.digits).2 in
     let short : ltb line_limit (length line) ≡ false = le-ltb line_limit (length line) (omega (arith, long, spells.within)) in
@@ -115,13 +115,13 @@ read_spelled line v r spells reads =
       | inr memory ↦ absurd (reads.0 memory)
     ]
 
-spelled : (input : List ℕ) (v w : SnapshotValue) (joined : Result SnapshotValue Fault) (r : Result (List ℕ) Fault) → SpellsBoth input v w → JoinedTo v w joined → JoinsTo input r → TextOfJoined joined r
+spelled : (input : List ℕ) (v w : ReplicaValue) (joined : Result ReplicaValue Fault) (r : Result (List ℕ) Fault) → SpellsBoth input v w → JoinedTo v w joined → JoinsTo input r → TextOfJoined joined r
 spelled input v w joined r both is h =
     let rest = after_line input in
-    let first = subst (λ (x : Result SnapshotValue Fault). AfterFirst rest x r) (read_spelled (line_of input) v h.0 both.first h.1) h.2 in
-    let second = subst (λ (x : Result SnapshotValue Fault). AfterSecond (after_line rest) v x r) (read_spelled (line_of rest) w first.0 both.second first.1) first.2 in
+    let first = subst (λ (x : Result ReplicaValue Fault). AfterFirst rest x r) (read_spelled (line_of input) v h.0 both.first h.1) h.2 in
+    let second = subst (λ (x : Result ReplicaValue Fault). AfterSecond (after_line rest) v x r) (read_spelled (line_of rest) w first.0 both.second first.1) first.2 in
     let answer = subst (λ (x : List ℕ). AfterBoth x v w r) both.ended second in
-    subst (λ (x : Result SnapshotValue Fault). TextOfJoined x r) (joined_once v w answer.0 joined answer.1 is) answer.2
+    subst (λ (x : Result ReplicaValue Fault). TextOfJoined x r) (joined_once v w answer.0 joined answer.1 is) answer.2
 
 pub answers_spelled : AnswersSpelled
 answers_spelled input v w joined r both is h = elim h [

@@ -6,7 +6,7 @@ use Rattle.std.specs.Io.KnownBytes.{Appends}
 use Rattle.hex.specs.Hex.{encode_lower}
 use Rattle.rds_names.specs.declared.fault.Fault.{Fault}
 use Rattle.rds_names.specs.declared.fault.Fault.TheVariants.{Memory}
-use Rattle.rds_node.specs.Counted.{one_more}
+use Rattle.rds_keep.specs.Counted.{one_more}
 use Rattle.rds_node.specs.Join.{JoinsTo, MayJoinTo}
 use Rattle.rds_node.specs.Output.{Writes}
 use Rattle.rds_node.specs.Refusal.{fault_of}

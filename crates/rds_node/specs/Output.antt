@@ -8,7 +8,7 @@ use Rattle.clap.specs.declared.error.kind.ErrorKind.TheVariants.{DisplayHelp, Ou
 use Rattle.rds_names.specs.declared.fault.Fault.{Fault}
 use Rattle.rds_names.specs.declared.fault.Fault.TheVariants.{Usage}
 use Rattle.rds_names.specs.Fault.{number_of, name_of}
-use Rattle.rds_node.specs.Counted.{CountedValue, HasFailed}
+use Rattle.rds_keep.specs.Counted.{CountedValue, HasFailed}
 
 -- the line of a fault
 abbrev pub fault_line : Fault → List ℕ

@@ -1,5 +1,5 @@
 //! Joining two snapshots.
-ghost use Rattle.std.specs.Prelude.{◌≡◌, ◌⊎◌, Ok, Err, OnOk, IfErr, MatchResult};
+ghost use Rattle.std.specs.Prelude.{◌≡◌, ◌⊎◌, Ok, Err, IfOk, IfErr, MatchResult};
 ghost use Rattle.rds_names.specs.declared.fault.Fault.TheVariants.{Memory};
 ghost use Rattle.rds_node.specs.Join.{AfterBoth, LineRead, JoinedTo, JoinsTo, MayJoinTo};
 ghost use Rattle.rds_node.specs.JoinLaws.{AnswersSpelled, IsJoinedOnce};
@@ -7,9 +7,10 @@ ghost use Rattle.rds_node.specs.Refusal.{fault_of};
 
 use crate::lines::split_line;
 use crate::refusal::Refusal;
-use crate::text::{Snapshot, decode_snapshot, encode_snapshot};
+use rds_codec::{decode_snapshot, encode_snapshot};
 use rds_dots::{DotSet, ListSet};
 use rds_names::Fault;
+use rds_state::Replica;
 use std::alloc::Global;
 
 /// The most bytes of a line.
@@ -28,7 +29,7 @@ pub fn join(alloc: Global, input: &[u8]) -> Result<Vec<u8>, Refusal>
         (λ e. MayJoinTo input.now (Err (fault_of e))) }
 {
     let (line, rest) = split_line(input);
-    let first: Snapshot<ListSet> = read_line(alloc, line)?;
+    let first: Replica<ListSet> = read_line(alloc, line)?;
     let (line, rest) = split_line(rest);
     let second = read_line(alloc, line)?;
     Ok(join_read(alloc, rest, first, &second)?)
@@ -38,8 +39,8 @@ pub fn join(alloc: Global, input: &[u8]) -> Result<Vec<u8>, Refusal>
 fn join_read<S: DotSet>(
     alloc: Global,
     rest: &[u8],
-    mut first: Snapshot<S>,
-    second: &Snapshot<S>,
+    first: Replica<S>,
+    second: &Replica<S>,
 ) -> Result<Vec<u8>, Fault>
     ensures { MatchResult result (λ v. AfterBoth rest.now first second.now (Ok v.items))
         (λ fault. (fault ≡ Memory) ⊎ AfterBoth rest.now first second.now (Err fault)) }
@@ -47,12 +48,12 @@ fn join_read<S: DotSet>(
     if !rest.is_empty() {
         return Err(Fault::Extra);
     }
-    take_in(&mut first, second)?;
-    encode_snapshot(alloc, &first)
+    let both = joined(first, second)?;
+    encode_snapshot(alloc, &both)
 }
 
 // The snapshot that a line of hex digits is.
-fn read_line<S: DotSet>(alloc: Global, line: &[u8]) -> Result<Snapshot<S>, Fault>
+fn read_line<S: DotSet>(alloc: Global, line: &[u8]) -> Result<Replica<S>, Fault>
     ensures { (result ≡ Err Memory) ⊎ LineRead line.now result }
 {
     if LINE_LIMIT < line.len() {
@@ -65,19 +66,21 @@ fn read_line<S: DotSet>(alloc: Global, line: &[u8]) -> Result<Snapshot<S>, Fault
     }
 }
 
-// Joins the second one's state into the first.
-fn take_in<S: DotSet>(first: &mut Snapshot<S>, second: &Snapshot<S>) -> Result<(), Fault>
-    ensures ok { OnOk result (JoinedTo first.old second.now (Ok first.new)) }
+// The first one with the join of both states.
+fn joined<S: DotSet>(first: Replica<S>, second: &Replica<S>) -> Result<Replica<S>, Fault>
+    ensures ok { IfOk result (λ both. JoinedTo first second.now (Ok both)) }
     ensures err { IfErr result (λ fault. (fault ≡ Memory)
-        ⊎ JoinedTo first.old second.now (Err fault)) }
+        ⊎ JoinedTo first second.now (Err fault)) }
 {
-    if first.roster.group() != second.roster.group() {
+    if first.roster().group() != second.roster().group() {
         return Err(Fault::WrongGroup);
     }
-    if !first.roster.same(&second.roster) {
+    if !first.roster().same(second.roster()) {
         return Err(Fault::WrongRoster);
     }
-    first.state.merge(&second.state)
+    let (roster, own, mut state) = first.into_parts();
+    state.merge(second.state())?;
+    Replica::from_parts(roster, own, state)
 }
 
 /// Two snapshots are joined to one thing alone. So whatever `join` answers for the lines of two

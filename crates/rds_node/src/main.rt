@@ -5,7 +5,6 @@ ghost use Rattle.std.specs.Prelude.{◌≡◌, ◌⊎◌, IfErr};
 ghost use Rattle.rds_names.specs.declared.fault.Fault.TheVariants.{Memory, Usage};
 
 mod commands;
-mod counted;
 mod join;
 mod lines;
 mod output;
@@ -13,10 +12,9 @@ mod refusal;
 mod run;
 #[cfg(test)]
 mod tests;
-mod text;
 
-use counted::Counted;
 use output::write_fault;
+use rds_keep::Counted;
 use rds_names::Fault;
 use run::run;
 use std::io::ErrorKind;

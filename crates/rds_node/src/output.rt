@@ -3,12 +3,12 @@ ghost use Rattle.std.specs.Prelude.{◌≡◌, ◌≤◌, Err, OnOk, OnErr, Matc
 ghost use Rattle.std.specs.Io.KnownBytes.{Appends};
 ghost use Rattle.clap.specs.Words.{kind_of};
 ghost use Rattle.rds_names.specs.declared.fault.Fault.TheVariants.{Memory};
-ghost use Rattle.rds_node.specs.Counted.{one_more};
+ghost use Rattle.rds_keep.specs.Counted.{one_more};
 ghost use Rattle.rds_node.specs.Output.{AnswersStatus, Writes, fault_line, fault_status, unparsed_status};
 
-use crate::counted::Counted;
 use clap::Error;
 use clap::error::ErrorKind;
+use rds_keep::Counted;
 use rds_names::Fault;
 use std::io::Write;
 

@@ -7,11 +7,10 @@ ghost use Rattle.rds_node.specs.Refusal.{fault_of};
 ghost use Rattle.rds_node.specs.Run.{WritesJoin, IsJoinLine};
 
 use crate::commands::{Task, task_of};
-use crate::counted::Counted;
 use crate::join::join;
-use crate::lines::read_front;
 use crate::output::{status_of, write_fault, write_unparsed};
 use crate::refusal::Refusal;
+use rds_keep::Counted;
 use rds_names::Fault;
 use std::alloc::Global;
 use std::convert::AsStr;
@@ -79,7 +78,7 @@ fn join_line<R: Read>(alloc: Global, reader: &mut Counted<R>) -> Result<String, 
     ensures unread { reader.new.failed ≢ reader.old.failed
         → IsErrAnd result (λ e. fault_of e ≡ Device) }
 {
-    let input = read_front(alloc, reader, MOST)?;
+    let input = reader.read_front(alloc, MOST)?;
     let text = join(alloc, &input)?;
     Ok(hex::encode(alloc, text.as_slice())?)
 }

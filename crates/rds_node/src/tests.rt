@@ -1,5 +1,5 @@
-use crate::counted::Counted;
 use crate::run::run;
+use rds_keep::Counted;
 use std::io;
 use std::io::{ErrorKind, Read, Write};
 use std::process::Abort;

@@ -93,6 +93,16 @@ impl<S: DotSet> Replica<S> {
         &self.state
     }
 
+    /// Its parts: the roster, the own number, the state.
+    pub fn into_parts(self) -> (Roster, u8, State<S>)
+        ensures roster { result.0 ≡ self.roster }
+        ensures own { result.1 ≡ self.own }
+        ensures state { result.2 ≡ self.state }
+        ensures fits { IsReplica self }
+    {
+        (self.roster, self.own, self.state)
+    }
+
     /// Whether all replica numbers of a state are below the roster's length.
     pub fn fits(&self, state: &State<S>) -> bool
         ensures { IsTrue result ↔ Fits (length self.now.roster.names) (coordinates state.now) }

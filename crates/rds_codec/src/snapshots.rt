@@ -1,0 +1,99 @@
+//! The text of a snapshot: the roster, the replica's own number, and its state.
+ghost use Rattle.std.specs.Prelude.{◌≡◌, ◌≤◌, length};
+ghost use Rattle.rds_codec.specs.Decoding.{Decodes};
+ghost use Rattle.rds_codec.specs.DotRows.{rows_from};
+ghost use Rattle.rds_codec.specs.Laws.{TextsStandApart};
+ghost use Rattle.rds_codec.specs.Reading.{Gives, snapshot_at, all_of};
+ghost use Rattle.rds_codec.specs.Spelling.{snapshot_text};
+ghost use Rattle.rds_codec.specs.Writing.{Adds, Encodes};
+ghost use Rattle.rds_dots.specs.Runs.{runs_of};
+ghost use Rattle.rds_life.specs.Life.{seen_of};
+
+use crate::front::read_front;
+use crate::limits::LIMIT;
+use crate::measuring::front_length;
+use crate::putting::put_front;
+use crate::states::{measure_state, put_state, read_state};
+use rds_dots::DotSet;
+use rds_names::Fault;
+use rds_state::Replica;
+use std::alloc::{AllocError, Global};
+
+#[tactic(auto, unfolding(crate::specs::Reading::snapshot_at))]
+fn read_snapshot<S: DotSet>(alloc: Global, bytes: &[u8]) -> Result<(Replica<S>, &[u8]), Fault>
+    ensures { Gives (λ x. (x.0, x.1.now)) result (snapshot_at bytes.now) }
+{
+    let ((roster, own), rest) = read_front(alloc, bytes)?;
+    let (state, rest) = read_state(alloc, roster.len(), rest)?;
+    match Replica::from_parts(roster, own, state) {
+        Ok(replica) => Ok((replica, rest)),
+        Err(_) => Err(Fault::Bad),
+    }
+}
+
+fn read_all<S: DotSet>(alloc: Global, bytes: &[u8]) -> Result<Replica<S>, Fault>
+    ensures { Gives (λ x. x) result (all_of snapshot_at bytes.now) }
+{
+    let (replica, rest) = read_snapshot(alloc, bytes)?;
+    if !rest.is_empty() {
+        return Err(Fault::Extra);
+    }
+    Ok(replica)
+}
+
+/// The replica whose snapshot the bytes are.
+///
+/// They are read from the left, and each part is judged as soon as it is there. Refused are bytes above the
+/// limit (`TooLong`, before anything is read); a set of more dots than are read (`TooManyDots`, before what
+/// follows it is read); bytes that go on after a text (`Extra`); and other bytes that are no text: `Cut` where
+/// they end inside a part, `Bad` where a part that is there is none.
+pub fn decode_snapshot<S: DotSet>(alloc: Global, bytes: &[u8]) -> Result<Replica<S>, Fault>
+    ensures { Decodes bytes.now result }
+{
+    if LIMIT < bytes.len() {
+        return Err(Fault::TooLong);
+    }
+    read_all(alloc, bytes)
+}
+
+/// The number of rows of the seen dots, and the length of the text.
+fn measure<S: DotSet>(replica: &Replica<S>) -> (u16, u128)
+    ensures rows { result.0 ≡ length (rows_from 0 (runs_of (seen_of replica.now.state.lives))) }
+    ensures length { result.1 ≡ length (snapshot_text replica.now) }
+{
+    let (rows, state_length) = measure_state(replica.state());
+    (rows, front_length(replica.roster()) as u128 + state_length)
+}
+
+fn put_snapshot<S: DotSet>(
+    out: &mut Vec<u8>,
+    replica: &Replica<S>,
+    rows: u16,
+) -> Result<(), AllocError>
+    requires rows { rows ≡ length (rows_from 0 (runs_of (seen_of replica.now.state.lives))) }
+    requires within { length (snapshot_text replica.now) ≤ LIMIT }
+    ensures { Adds out.old.items out.new.items (snapshot_text replica.now) result }
+{
+    put_front(out, replica.roster(), replica.own())?;
+    put_state(out, replica.state(), rows)
+}
+
+/// The text of the replica's snapshot. Above the limit it is refused (`TooLong`) before any memory is taken;
+/// then all memory that the text needs is taken at once.
+pub fn encode_snapshot<S: DotSet>(alloc: Global, replica: &Replica<S>) -> Result<Vec<u8>, Fault>
+    ensures { Encodes (snapshot_text replica.now) result }
+{
+    let (rows, length) = measure(replica);
+    if u128::from(LIMIT as u64) < length {
+        return Err(Fault::TooLong);
+    }
+    let mut out = Vec::with_capacity(alloc, length as usize)?;
+    put_snapshot(&mut out, replica, rows)?;
+    Ok(out)
+}
+
+/// No text begins another, and one text has one value. That a value has one text needs no law: its text is a
+/// function of it.
+pub fn texts_stand_apart()
+    ensures { TextsStandApart }
+{}

@@ -1,0 +1,4 @@
+mod FrontSoFar
+mod ReadWhole
+mod TextParts
+mod WrittenSoFar

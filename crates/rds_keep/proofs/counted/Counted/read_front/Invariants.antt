@@ -1,0 +1,5 @@
+use Rattle.rds_keep.proofs.FrontSoFar.{IsFrontSoFar}
+use Rattle.rds_keep.proofs.counted.Counted.read_front.Given as goal
+
+abbrev pub invariant-turns : goal.invariant-turns
+invariant-turns g l = IsFrontSoFar g.R.Read.remaining l.fn.self l.self l.front.items l.most

@@ -1,0 +1,11 @@
+-- What a writer has got of bytes that were to be written.
+use Rattle.std.specs.Prelude.{ℕ, ◌<◌, ◌≤◌, List, length, take, Option}
+use Rattle.std.specs.Io.KnownBytes.{Appends}
+
+-- known bytes grow by a beginning of these, which may be all of them
+abbrev pub AppendsFront : Option (List ℕ) → Option (List ℕ) → List ℕ → Type 0
+AppendsFront old new bytes = (n : ℕ) × (n ≤ length bytes) × Appends old new (take n bytes)
+
+-- known bytes grow by a beginning of these, and never by all of them
+abbrev pub AppendsPart : Option (List ℕ) → Option (List ℕ) → List ℕ → Type 0
+AppendsPart old new bytes = (n : ℕ) × (n < length bytes) × Appends old new (take n bytes)
