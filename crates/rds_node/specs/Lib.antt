@@ -1,3 +1,6 @@
+pub mod Ahead
+pub mod Answer
+pub mod Answering
 pub mod Commands
 pub mod Join
 pub mod JoinLaws

@@ -147,8 +147,8 @@ fn reads_the_command_line(rt: HostRuntime) -> Result<(), Fail> {
         ("rds_node", 2, "fault 27: Usage\n", "join"),
         ("", 2, "fault 27: Usage\n", "join"),
         ("rds_node join x", 2, "fault 27: Usage\n", "join"),
-        ("rds_node --help", 0, "Keeps replicas", "  join  Joins two"),
-        ("rds_node help", 0, "Keeps replicas", "  join  Joins two"),
+        ("rds_node --help", 0, "Keeps replicas", "  join   Joins two"),
+        ("rds_node help", 0, "Keeps replicas", "  join   Joins two"),
         ("rds_node join --help", 0, "Joins two", "Input: two lines"),
         ("rds_node help join", 0, "Joins two", "Input: two lines"),
         (
