@@ -8,7 +8,7 @@ use Rattle.rds_counts.specs.Counted.{Counted, counted, is_row, before_next, rows
 use Rattle.rds_counts.specs.CountedLemmas.{and_true, and_left, and_right, fits_rows, rows_fit_of}
 use Rattle.rds_counts.specs.RowsOf.{count_rows}
 use Rattle.rds_counts.specs.RowsOfLemmas.{count_rows-counted}
-use Rattle.rds_codec.specs.Decoding.{is_key_text, IsCountRowOf, AreCountsOf}
+use Rattle.rds_codec.specs.Values.{is_key_text, IsCountRowOf, AreCountsOf}
 use Rattle.rds_codec.specs.Spelling.{place_text, count_row_text, count_rows_text, counters_text}
 use Rattle.rds_codec.specs.Reading as read
 use Rattle.rds_codec.specs.Reading.{number_at, rows_after, last, comes_after_row, is_next_place, is_count, is_second}

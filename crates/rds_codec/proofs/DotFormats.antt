@@ -7,7 +7,7 @@ use Rattle.rds_dots.specs.Merges.{and_true, and_left, and_right}
 use Rattle.rds_dots.specs.Runs.{runs_of}
 use Rattle.rds_codec.specs.declared.rows.Gap.{Gap}
 use Rattle.rds_codec.specs.declared.rows.DotRow.{DotRow}
-use Rattle.rds_codec.specs.Decoding.{AreDotsOf}
+use Rattle.rds_codec.specs.Values.{AreDotsOf}
 use Rattle.rds_codec.specs.DotRows.{rows_from, CanCountAll}
 use Rattle.rds_codec.specs.RowDots.{dots_of_rows}
 use Rattle.rds_codec.specs.Spelling.{gap_text, gaps_text, dot_row_text, dot_rows_text, dots_text}

@@ -18,7 +18,7 @@ use Rattle.rds_codec.specs.Entries.{Parts, parts_of, entry_where, entry_of}
 use Rattle.rds_codec.specs.Spelling.{byte_text, kind_byte, text_text, scalar_text, path_text, entry_text}
 use Rattle.rds_codec.specs.Reading as read
 use Rattle.rds_codec.specs.Reading.{byte_at, made_at, when_at, pair_at, is_between, tagged_at, int_scalar, text_scalar}
-use Rattle.rds_codec.specs.Decoding.{is_key_text, IsScalar, IsEntry}
+use Rattle.rds_codec.specs.Values.{is_key_text, IsScalar, IsEntry}
 use Rattle.rds_codec.proofs.Format.{IsPlain, IsBytes, Takes, Takes-then, CutOrBad, Never, bind_ok, bind_err, chosen, err_is, ok_is, done, failed, byte_format, number16, number64, plain_pair, made_format, drawn_format, when_format, refit}
 use Rattle.rds_codec.proofs.Lists.{AllAfter, list_format, string_format}
 use Rattle.rds_codec.proofs.PartFormats.{key_format}

@@ -303,7 +303,7 @@ or_bad_err : {B : Type 0} (o : Option B) (rest : List ℕ) (e : Fault) → or_ba
 or_bad_err {B} None rest e h = inr (sym (err_is {A = B × List ℕ} Bad e h))
 or_bad_err (Some b) rest e h = absurd cc
 
-module _ {A B : Type 0} (make : A → Option B) (unmake : B → A) (f : Reader A) (s : A → List ℕ) (F : A → Type 0) (G : B → Type 0) (there : (b : B) → G b → F (unmake b) × (make (unmake b) ≡ Some b)) (back : (a : A) (b : B) → F a → make a ≡ Some b → G b × (unmake b ≡ a)) (p : IsPlain f s F) where
+module _ {A B : Type 0} (make : A → Option B) (unmake : B → A) (f : Reader A) (s : A → List ℕ) (F : A → Type 0) (G : B → Type 0) (there : (b : B) → G b → F (unmake b) × (make (unmake b) ≡ Some b)) (back : (a : A) (b : B) → F a → make a ≡ Some b → G b × (unmake b ≡ a)) {L : List ℕ → Type 0} (p : IsFormat f s F L) where
   drawn_takes : (bytes : List ℕ) (x : B × List ℕ) → IsBytes bytes → drawn_at make f bytes ≡ Ok x → Takes bytes (s (unmake x.0)) x.1 × G x.0
   drawn_takes bytes x fits e =
       let a = bind_ok (f bytes) (λ a. or_bad (make a.0) a.1) x e in
@@ -315,19 +315,19 @@ module _ {A B : Type 0} (make : A → Option B) (unmake : B → A) (f : Reader A
   drawn_again : (b : B) (rest : List ℕ) → G b → drawn_at make f (s (unmake b) ++ rest) ≡ Ok (b, rest)
   drawn_again b rest fits = let is = there b fits in let some = is.1 in rw (p.again (unmake b) rest is.0, some) refl
 
-  drawn_faults : (bytes : List ℕ) (e : Fault) → IsBytes bytes → drawn_at make f bytes ≡ Err e → CutOrBad e ⊎ ((e ≡ TooManyDots) × Never bytes)
+  drawn_faults : (bytes : List ℕ) (e : Fault) → IsBytes bytes → drawn_at make f bytes ≡ Err e → CutOrBad e ⊎ ((e ≡ TooManyDots) × L bytes)
   drawn_faults bytes e fits h =
       elim (bind_err (f bytes) (λ a. or_bad (make a.0) a.1) e h) [
         | inl first ↦ p.faults bytes e fits first
         | inr a ↦ inl (or_bad_err (make a.0.0) a.0.1 e a.2)
       ]
 
-  pub drawn_format : IsPlain (drawn_at make f) (λ b. s (unmake b)) G
-  drawn_format = record { takes = drawn_takes; again = drawn_again; large = λ bytes h. absurd h; faults = drawn_faults }
+  pub drawn_format : IsFormat (drawn_at make f) (λ b. s (unmake b)) G L
+  drawn_format = record { takes = drawn_takes; again = drawn_again; large = λ bytes h. (let e = p.large bytes h in rw e refl); faults = drawn_faults }
 
 -- ---- a part that passes a test
 
-module _ {A : Type 0} (test : A → Bool) (f : Reader A) (s : A → List ℕ) (F : A → Type 0) (p : IsPlain f s F) where
+module _ {A : Type 0} (test : A → Bool) (f : Reader A) (s : A → List ℕ) (F : A → Type 0) {L : List ℕ → Type 0} (p : IsFormat f s F L) where
   when_takes : (bytes : List ℕ) (x : A × List ℕ) → IsBytes bytes → when_at test f bytes ≡ Ok x → Takes bytes (s x.0) x.1 × (F x.0 × (test x.0 ≡ true))
   when_takes bytes x fits e =
       let a = bind_ok (f bytes) (λ a. cond (test a.0) (Ok a) (Err Bad)) x e in
@@ -338,15 +338,15 @@ module _ {A : Type 0} (test : A → Bool) (f : Reader A) (s : A → List ℕ) (F
   when_again : (v : A) (rest : List ℕ) → F v × (test v ≡ true) → when_at test f (s v ++ rest) ≡ Ok (v, rest)
   when_again v rest fits = let passes : test v ≡ true = fits.1 in rw (p.again v rest fits.0, passes) refl
 
-  when_faults : (bytes : List ℕ) (e : Fault) → IsBytes bytes → when_at test f bytes ≡ Err e → CutOrBad e ⊎ ((e ≡ TooManyDots) × Never bytes)
+  when_faults : (bytes : List ℕ) (e : Fault) → IsBytes bytes → when_at test f bytes ≡ Err e → CutOrBad e ⊎ ((e ≡ TooManyDots) × L bytes)
   when_faults bytes e fits h =
       elim (bind_err (f bytes) (λ a. cond (test a.0) (Ok a) (Err Bad)) e h) [
         | inl first ↦ p.faults bytes e fits first
         | inr a ↦ inl (inr (sym (passed_err (test a.0.0) Bad a.0 e a.2)))
       ]
 
-  pub when_format : IsPlain (when_at test f) s (λ v. F v × (test v ≡ true))
-  when_format = record { takes = when_takes; again = when_again; large = λ bytes h. absurd h; faults = when_faults }
+  pub when_format : IsFormat (when_at test f) s (λ v. F v × (test v ≡ true)) L
+  when_format = record { takes = when_takes; again = when_again; large = λ bytes h. (let e = p.large bytes h in rw e refl); faults = when_faults }
 
 -- ---- a part that isn't over the cap
 

@@ -4,10 +4,12 @@ mod DotFormats
 mod EntryFormats
 mod EntryParts
 mod Format
+mod HaveTexts
 mod Lengths
 mod Lists
 mod LiveFormats
 mod Loops
+mod ManyDots
 mod PartFormats
 mod Replicas
 mod RowAlgebra
@@ -17,5 +19,7 @@ mod RowsLive
 mod RowsRead
 mod RunSteps
 mod SnapshotFormats
+mod StateFormats
 mod Texts
 mod Whole
+mod Within

@@ -10,7 +10,7 @@ use Rattle.rds_dots.specs.Merges.{and_true, and_left, and_right}
 use Rattle.rds_life.specs.Fits.{fits, before_next}
 use Rattle.rds_life.specs.Life.{AreRows}
 use Rattle.rds_life.proofs.LivedLemmas.{fits_rows, rows_fit}
-use Rattle.rds_codec.specs.Decoding.{IsEntry, IsLiveRow}
+use Rattle.rds_codec.specs.Values.{IsEntry, IsLiveRow}
 use Rattle.rds_codec.specs.Spelling.{dot_text, live_row_text, live_rows_text}
 use Rattle.rds_codec.specs.Reading as read
 use Rattle.rds_codec.specs.Reading.{byte_at, number_at, pair_at, when_at, last, dot_of_row, is_next_dot}

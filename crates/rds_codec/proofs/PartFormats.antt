@@ -18,7 +18,7 @@ use Rattle.rds_codec.specs.Spelling as spell
 use Rattle.rds_codec.specs.Spelling.{byte_text, short_text, names_text, roster_text, magic}
 use Rattle.rds_codec.specs.Reading as read
 use Rattle.rds_codec.specs.Reading.{byte_at, number_at, bytes_at, string_at, pair_at, then_at, made_at, drawn_at, when_at, list_at, is_between, last}
-use Rattle.rds_codec.specs.Decoding.{is_key_text}
+use Rattle.rds_codec.specs.Values.{is_key_text}
 use Rattle.rds_codec.proofs.Format.{IsPlain, byte_format, number16, known_format, plain_then, plain_pair, made_format, drawn_format, when_format, refit}
 use Rattle.rds_codec.proofs.Lists.{AllAfter, list_format, string_format}
 
@@ -203,24 +203,28 @@ magic_format : IsPlain read.magic_at (λ t. t) IsMagic
 unfolding read.magic_at
 magic_format = when_format (bytes_eq magic) _ _ _ (known_format 4)
 
-abbrev pub Front : Type 0
-Front = RosterValue × ℕ
+abbrev pub Member : Type 0
+Member = RosterValue × ℕ
 
-abbrev pub IsFrontPair : Front → Type 0
-IsFrontPair f = IsRoster f.0 × (f.1 < length f.0.names)
+abbrev pub IsMemberPair : Member → Type 0
+IsMemberPair f = IsRoster f.0 × (f.1 < length f.0.names)
 
-abbrev front_parts : Front → List ℕ × Front
+abbrev front_parts : Member → List ℕ × Member
 front_parts f = (magic, f)
 
-front_there : (f : Front) → IsFrontPair f → (IsMagic magic × IsFrontPair f) × (f ≡ f)
+front_there : (f : Member) → IsMemberPair f → (IsMagic magic × IsMemberPair f) × (f ≡ f)
 front_there f is = (((refl, refl), is), refl)
 
-front_back : (p : List ℕ × Front) → IsMagic p.0 × IsFrontPair p.1 → IsFrontPair p.1 × (front_parts p.1 ≡ p)
-front_back p h = (h.1, ap (λ (m : List ℕ). let q : List ℕ × Front = (m, p.1) in q) ((bytes_eq-Decides magic p.0).0 h.0.1))
+front_back : (p : List ℕ × Member) → IsMagic p.0 × IsMemberPair p.1 → IsMemberPair p.1 × (front_parts p.1 ≡ p)
+front_back p h = (h.1, ap (λ (m : List ℕ). let q : List ℕ × Member = (m, p.1) in q) ((bytes_eq-Decides magic p.0).0 h.0.1))
 
-pub front_format : IsPlain read.front_at (λ f. spell.front_text f.0 f.1) IsFrontPair
+pub member_format : IsPlain read.member_at (λ f. spell.member_text f.0 f.1) IsMemberPair
+unfolding read.member_at
+member_format = plain_then _ _ _ _ _ _ roster_format own_format
+
+pub front_format : IsPlain read.front_at (λ f. spell.front_text f.0 f.1) IsMemberPair
 unfolding read.front_at
-front_format = made_format (λ p. p.1) front_parts _ _ _ IsFrontPair _ front_there front_back (plain_pair _ _ _ _ _ _ magic_format (plain_then _ _ _ _ _ _ roster_format own_format))
+front_format = made_format (λ p. p.1) front_parts _ _ _ IsMemberPair _ front_there front_back (plain_pair _ _ _ _ _ _ magic_format member_format)
 
 -- ---- the last of the parts before
 

@@ -24,7 +24,7 @@ use Rattle.rds_dots.specs.RunsOf.{are_runs, runs_are, covered_is_dot}
 use Rattle.rds_dots.specs.Sets.{contains_list, lists-run, ascends-run, len-list}
 use Rattle.rds_codec.specs.declared.rows.Gap.{Gap}
 use Rattle.rds_codec.specs.declared.rows.DotRow.{DotRow}
-use Rattle.rds_codec.specs.Decoding.{AreDotsOf}
+use Rattle.rds_codec.specs.Values.{AreDotsOf}
 use Rattle.rds_codec.specs.DotRows.{rows_from}
 use Rattle.rds_codec.specs.RowDots.{runs_between, row_runs, dots_of_runs, dots_of_rows, counted_between, counted}
 use Rattle.rds_codec.proofs.RowAlgebra.{RowsStand, rows_opens, rows_back, runs_back, rows_stand, before_some, before_none}

@@ -2,21 +2,18 @@
 use Rattle.std.proofs.Common.{◌≡◌, ℕ, ◌+◌, List, ◌++◌, length, Result, Ok, Err, ap, ◌∙◌, append_assoc, length-append, arith}
 use Rattle.std.specs.Prelude.{OnOk}
 use Rattle.std.specs.List.{flat_map}
-use Rattle.rds_counts.specs.RowsOf.{count_rows}
-use Rattle.rds_dots.specs.Runs.{runs_of}
 use Rattle.rds_life.specs.Life.{seen_of, live_rows}
 use Rattle.rds_state.specs.Value.{StateValue}
-use Rattle.rds_codec.specs.DotRows.{rows_from}
 use Rattle.rds_state.specs.Fits.{ReplicaValue}
-use Rattle.rds_codec.specs.Spelling.{front_text, dot_row_text, dots_text, live_row_text, live_rows_text, count_row_text, count_rows_text, counters_text, state_text, snapshot_text}
+use Rattle.rds_codec.specs.Spelling.{magic, member_text, front_text, dots_text, live_row_text, live_rows_text, counters_text, state_text, snapshot_text}
 
 pub OnOk-map : {T E : Type 0} {P Q : Type 0} (r : Result T E) → (P → Q) → OnOk r P → OnOk r Q
 OnOk-map (Ok x) f p = f p
 OnOk-map (Err e) f p = tt
 
-pub state_length : (v : StateValue) (dots live counts : ℕ) → dots ≡ length (flat_map dot_row_text (rows_from 0 (runs_of (seen_of v.lives)))) → live ≡ length (flat_map live_row_text (live_rows v.lives))
-    → counts ≡ length (flat_map count_row_text (count_rows v.counts)) → 2 + dots + 4 + live + 4 + counts ≡ length (state_text v)
-unfolding state_text dots_text counters_text
+pub state_length : (v : StateValue) (dots live counts : ℕ) → dots ≡ length (dots_text (seen_of v.lives)) → live ≡ length (flat_map live_row_text (live_rows v.lives))
+    → counts ≡ length (counters_text v.counts) → dots + (4 + live) + counts ≡ length (state_text v)
+unfolding state_text
 state_length v dots live counts p q r =
     let d = dots_text (seen_of v.lives) in
     let l = live_rows_text (live_rows v.lives) in
@@ -25,16 +22,18 @@ state_length v dots live counts p q r =
     let b = length-append l m in
     omega (arith, a, b, p, q, r)
 
-pub snapshot_length : (v : ReplicaValue) → length (snapshot_text v) ≡ length (front_text v.roster v.own) + length (state_text v.state)
+pub snapshot_length : (v : ReplicaValue) → length (snapshot_text v) ≡ 4 + length (member_text v.roster v.own) + length (state_text v.state)
 unfolding snapshot_text
-snapshot_length v = length-append (front_text v.roster v.own) (state_text v.state)
+snapshot_length v =
+    let member = member_text v.roster v.own in
+    length-append (magic ++ member) (state_text v.state) ∙ ap (λ n. n + length (state_text v.state)) (length-append magic member)
 
-pub state_parts : (v : StateValue) (a b c d : List ℕ) → b ≡ a ++ dots_text (seen_of v.lives) → c ≡ b ++ live_rows_text (live_rows v.lives) → d ≡ c ++ count_rows_text (count_rows v.counts) → d ≡ a ++ state_text v
-unfolding state_text counters_text
+pub state_parts : (v : StateValue) (a b c d : List ℕ) → b ≡ a ++ dots_text (seen_of v.lives) → c ≡ b ++ live_rows_text (live_rows v.lives) → d ≡ c ++ counters_text v.counts → d ≡ a ++ state_text v
+unfolding state_text
 state_parts v a b c d p q r =
     let dots = dots_text (seen_of v.lives) in
     let live = live_rows_text (live_rows v.lives) in
-    let counts = count_rows_text (count_rows v.counts) in
+    let counts = counters_text v.counts in
     r ∙ ap (λ (t : List ℕ). t ++ counts) q ∙ append_assoc b live counts ∙ ap (λ (t : List ℕ). t ++ (live ++ counts)) p ∙ append_assoc a dots (live ++ counts)
 
 pub snapshot_parts : (v : ReplicaValue) (a b c : List ℕ) → b ≡ a ++ front_text v.roster v.own → c ≡ b ++ state_text v.state → c ≡ a ++ snapshot_text v

@@ -1,15 +1,13 @@
--- The law of the texts of snapshots.
+-- The law of the texts of a kind.
 use Rattle.std.specs.Prelude.{◌≡◌, ◌≤◌, ℕ, List, ◌++◌, length}
 use Rattle.rds_codec.specs.declared.limits.TheConstants.{LIMIT}
-use Rattle.rds_state.specs.Fits.{ReplicaValue}
-use Rattle.rds_codec.specs.Spelling.{snapshot_text}
-use Rattle.rds_codec.specs.Decoding.{IsSnapshot}
+use Rattle.rds_codec.specs.Kinds.{Kind}
 
 -- the value has a text, which is within the limit
-pub record HasText (v : ReplicaValue) : Type 0 where
-  pub is_snapshot : IsSnapshot v
-  pub within : length (snapshot_text v) ≤ LIMIT
+pub record HasText {V : Type 0} (kind : Kind V) (v : V) : Type 0 where
+  pub is_value : kind.is_value v
+  pub within : length (kind.text v) ≤ LIMIT
 
 -- no text begins another, and one text has one value
-abbrev pub TextsStandApart : Type 0
-TextsStandApart = (v w : ReplicaValue) (x y : List ℕ) → HasText v → HasText w → snapshot_text v ++ x ≡ snapshot_text w ++ y → (v ≡ w) × (x ≡ y)
+abbrev pub StandApart : {V : Type 0} → Kind V → Type 0
+StandApart {V} kind = (v w : V) (x y : List ℕ) → HasText kind v → HasText kind w → kind.text v ++ x ≡ kind.text w ++ y → (v ≡ w) × (x ≡ y)

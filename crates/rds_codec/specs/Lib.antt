@@ -1,8 +1,10 @@
 pub mod Decoding
 pub mod DotRows
 pub mod Entries
+pub mod Kinds
 pub mod Laws
 pub mod Reading
 pub mod RowDots
 pub mod Spelling
+pub mod Values
 pub mod Writing

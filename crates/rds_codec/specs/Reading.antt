@@ -145,9 +145,13 @@ is_number replicas n = nat_lt n replicas
 unfoldable pub replica_at : ℕ → Reader ℕ
 replica_at replicas = when_at (is_number replicas) byte_at
 
+-- a roster, and the number of one of its replicas
+unfoldable pub member_at : Reader (RosterValue × ℕ)
+member_at = then_at roster_at (λ roster. replica_at (length roster.names))
+
 -- all that stands before the dots
 unfoldable pub front_at : Reader (RosterValue × ℕ)
-front_at = made_at (λ p. p.1) (pair_at magic_at (then_at roster_at (λ roster. replica_at (length roster.names))))
+front_at = made_at (λ p. p.1) (pair_at magic_at member_at)
 
 -- ---- a set of dots
 

@@ -38,9 +38,13 @@ names_text names = to_be_bytes w16 (length names) ++ flat_map short_text names
 abbrev pub roster_text : RosterValue → List ℕ
 roster_text roster = short_text roster.group ++ names_text roster.names
 
+-- a roster, and the number of one of its replicas
+abbrev pub member_text : RosterValue → ℕ → List ℕ
+member_text roster own = roster_text roster ++ byte_text own
+
 -- all that stands before the dots
 abbrev pub front_text : RosterValue → ℕ → List ℕ
-front_text roster own = magic ++ (roster_text roster ++ byte_text own)
+front_text roster own = magic ++ member_text roster own
 
 abbrev pub gap_text : Gap → List ℕ
 gap_text g = to_be_bytes w64 g.lo ++ to_be_bytes w64 g.hi

@@ -1,5 +1,5 @@
 -- What writing answers.
-use Rattle.std.specs.Prelude.{◌≡◌, ℕ, ◌<◌, ◌≤◌, ◌⊎◌, List, ◌++◌, length, Result, MatchResult, OnOk}
+use Rattle.std.specs.Prelude.{◌≡◌, ℕ, ◌<◌, ◌≤◌, ◌⊎◌, List, [], ◌++◌, length, Result, MatchResult, OnOk}
 use Rattle.std.specs.Global.{Vec}
 use Rattle.rds_names.specs.declared.fault.Fault.{Fault}
 use Rattle.rds_names.specs.declared.fault.Fault.TheVariants.{Memory, TooLong}
@@ -9,6 +9,14 @@ use Rattle.rds_codec.specs.declared.limits.TheConstants.{LIMIT}
 abbrev pub Adds : {T E : Type 0} → List ℕ → List ℕ → List ℕ → Result T E → Type 0
 Adds old new text result = OnOk result (new ≡ old ++ text)
 
+-- why a text of a length isn't written: TooLong exactly above the limit, else memory ran out
+abbrev pub IsUnwritten : ℕ → Fault → Type 0
+IsUnwritten length e = ((e ≡ Memory) × (length ≤ LIMIT)) ⊎ ((e ≡ TooLong) × (LIMIT < length))
+
+-- no bytes as yet, where a text of a length is within the limit
+abbrev pub HasRoom : ℕ → Result (Vec ℕ) Fault → Type 0
+HasRoom length result = MatchResult result (λ v. (v.items ≡ []) × (length ≤ LIMIT)) (IsUnwritten length)
+
 -- TooLong exactly above the limit; within it the text, unless memory ran out
 abbrev pub Encodes : List ℕ → Result (Vec ℕ) Fault → Type 0
-Encodes text result = MatchResult result (λ v. (v.items ≡ text) × (length text ≤ LIMIT)) (λ e. ((e ≡ Memory) × (length text ≤ LIMIT)) ⊎ ((e ≡ TooLong) × (LIMIT < length text)))
+Encodes text result = MatchResult result (λ v. (v.items ≡ text) × (length text ≤ LIMIT)) (IsUnwritten (length text))

@@ -2,7 +2,7 @@
 ghost use Rattle.std.specs.Prelude.{◌≡◌, true, false, MatchResult};
 ghost use Rattle.rds_names.specs.declared.fault.Fault.TheVariants.{Bad};
 ghost use Rattle.rds_names.specs.Name.{is_name};
-ghost use Rattle.rds_codec.specs.Reading.{Gives, is_new as is_new_name, Reader, magic_at, key_at, name_at, new_name_at, names_at, roster_at, replica_at, front_at, when_at, is_between, number_at};
+ghost use Rattle.rds_codec.specs.Reading.{Gives, is_new as is_new_name, Reader, magic_at, key_at, name_at, new_name_at, names_at, roster_at, replica_at, member_at, front_at, when_at, is_between, number_at};
 ghost use Rattle.rds_codec.specs.Spelling.{magic};
 ghost use Rattle.std.specs.Int.{w16};
 
@@ -139,13 +139,22 @@ pub fn read_replica(replicas: u16, bytes: &[u8]) -> Result<(u8, &[u8]), Fault>
     Ok((replica, rest))
 }
 
-/// The roster and the replica's own number.
+/// A roster, and the number of one of its replicas.
+#[tactic(auto, unfolding(crate::specs::Reading::member_at))]
+pub fn read_member(alloc: Global, bytes: &[u8]) -> Result<((Roster, u8), &[u8]), Fault>
+    ensures { Gives (λ x. (x.0, x.1.now)) result (member_at bytes.now) }
+{
+    let (roster, rest) = read_roster(alloc, bytes)?;
+    let (own, rest) = read_replica(roster.len(), rest)?;
+    Ok(((roster, own), rest))
+}
+
+/// What stands before the dots: the roster and the replica's own number.
 #[tactic(auto, unfolding(crate::specs::Reading::front_at))]
 pub fn read_front(alloc: Global, bytes: &[u8]) -> Result<((Roster, u8), &[u8]), Fault>
     ensures { Gives (λ x. (x.0, x.1.now)) result (front_at bytes.now) }
 {
     let (_magic, rest) = read_magic(bytes)?;
-    let (roster, rest) = read_roster(alloc, rest)?;
-    let (own, rest) = read_replica(roster.len(), rest)?;
-    Ok(((roster, own), rest))
+    let (member, rest) = read_member(alloc, rest)?;
+    Ok((member, rest))
 }

@@ -5,6 +5,7 @@
 mod counters;
 mod entries;
 mod front;
+mod laws;
 mod limits;
 mod list;
 mod measuring;
@@ -15,8 +16,10 @@ mod snapshots;
 mod states;
 mod walking;
 
+pub use laws::texts_stand_apart;
 pub use limits::{LIMIT, MOST_DOTS};
-pub use snapshots::{decode_snapshot, encode_snapshot, texts_stand_apart};
+pub use snapshots::{decode_snapshot, encode_snapshot};
+pub use states::{decode_state, encode_state};
 
 #[cfg(test)]
 mod tests;

@@ -2,12 +2,13 @@
 ghost use Rattle.std.specs.Prelude.{◌≡◌, ◌++◌, ◌<◌, ◌^◌, length, OnOk, [], ◌∷◌};
 ghost use Rattle.std.specs.List.{flat_map};
 ghost use Rattle.std.specs.Int.{w16, w32, w64, to_be_bytes, cast_unsigned};
-ghost use Rattle.rds_codec.specs.Spelling.{byte_text, short_text, kind_byte, text_text, scalar_text, path_text, entry_text, live_row_text, live_rows_text, place_text, counts_text, count_row_text, count_rows_text, names_text, roster_text, front_text};
+ghost use Rattle.rds_counts.specs.RowsOf.{count_rows};
+ghost use Rattle.rds_codec.specs.Spelling.{byte_text, short_text, kind_byte, text_text, scalar_text, path_text, entry_text, live_row_text, live_rows_text, place_text, counts_text, count_row_text, count_rows_text, counters_text, names_text, roster_text, member_text, front_text};
 ghost use Rattle.rds_codec.specs.Writing.{Adds};
 
 use crate::front::MAGIC;
 use byteorder::{BigEndian, ByteOrder};
-use rds_counts::CountRow;
+use rds_counts::{CountRow, Counts};
 use rds_dots::Dot;
 use rds_names::{Entry, Key, Kind, Roster, Scalar};
 use std::alloc::AllocError;
@@ -63,7 +64,8 @@ fn put_short(out: &mut Vec<u8>, text: &str) -> Result<(), AllocError>
     put(out, text.as_bytes())
 }
 
-fn put_key(out: &mut Vec<u8>, key: &Key) -> Result<(), AllocError>
+/// A key.
+pub fn put_key(out: &mut Vec<u8>, key: &Key) -> Result<(), AllocError>
     ensures { Adds out.old.items out.new.items (short_text key.now) result }
 {
     put_short(out, key.as_str())
@@ -170,8 +172,7 @@ fn put_count_row(out: &mut Vec<u8>, row: &CountRow) -> Result<(), AllocError>
     put_counts(out, row.p, row.n)
 }
 
-/// The rows of counters, after their number.
-pub fn put_count_rows(out: &mut Vec<u8>, rows: &[CountRow]) -> Result<(), AllocError>
+fn put_count_rows(out: &mut Vec<u8>, rows: &[CountRow]) -> Result<(), AllocError>
     requires { length rows.now < 2 ^ 32 }
     ensures { Adds out.old.items out.new.items (count_rows_text rows.now) result }
 {
@@ -180,6 +181,15 @@ pub fn put_count_rows(out: &mut Vec<u8>, rows: &[CountRow]) -> Result<(), AllocE
         put_count_row(out, row)?;
     }
     Ok(())
+}
+
+/// The counters.
+#[tactic(auto, unfolding(crate::specs::Spelling::counters_text))]
+pub fn put_counters(out: &mut Vec<u8>, counts: &Counts) -> Result<(), AllocError>
+    requires { length (count_rows counts.now) < 2 ^ 32 }
+    ensures { Adds out.old.items out.new.items (counters_text counts.now) result }
+{
+    put_count_rows(out, counts.rows())
 }
 
 fn put_names(out: &mut Vec<u8>, roster: &Roster) -> Result<(), AllocError>
@@ -201,6 +211,13 @@ pub fn put_front(out: &mut Vec<u8>, roster: &Roster, own: u8) -> Result<(), Allo
     ensures { Adds out.old.items out.new.items (front_text roster.now own) result }
 {
     put(out, MAGIC)?;
+    put_member(out, roster, own)
+}
+
+/// A roster, and the number of one of its replicas.
+pub fn put_member(out: &mut Vec<u8>, roster: &Roster, own: u8) -> Result<(), AllocError>
+    ensures { Adds out.old.items out.new.items (member_text roster.now own) result }
+{
     put_key(out, roster.group())?;
     put_names(out, roster)?;
     put_byte(out, own)

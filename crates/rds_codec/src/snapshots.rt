@@ -1,17 +1,18 @@
 //! The text of a snapshot: the roster, the replica's own number, and its state.
 ghost use Rattle.std.specs.Prelude.{◌≡◌, ◌≤◌, length};
-ghost use Rattle.rds_codec.specs.Decoding.{Decodes};
+ghost use Rattle.rds_codec.specs.Decoding.{Decodes, ReadsAll};
 ghost use Rattle.rds_codec.specs.DotRows.{rows_from};
-ghost use Rattle.rds_codec.specs.Laws.{TextsStandApart};
+ghost use Rattle.rds_codec.specs.Kinds.{snapshot_kind};
 ghost use Rattle.rds_codec.specs.Reading.{Gives, snapshot_at, all_of};
 ghost use Rattle.rds_codec.specs.Spelling.{snapshot_text};
+ghost use Rattle.rds_codec.specs.Values.{AreFew, IsSnapshot};
 ghost use Rattle.rds_codec.specs.Writing.{Adds, Encodes};
 ghost use Rattle.rds_dots.specs.Runs.{runs_of};
 ghost use Rattle.rds_life.specs.Life.{seen_of};
 
 use crate::front::read_front;
-use crate::limits::LIMIT;
-use crate::measuring::front_length;
+use crate::limits::{LIMIT, room_for};
+use crate::measuring::member_length;
 use crate::putting::put_front;
 use crate::states::{measure_state, put_state, read_state};
 use rds_dots::DotSet;
@@ -48,7 +49,8 @@ fn read_all<S: DotSet>(alloc: Global, bytes: &[u8]) -> Result<Replica<S>, Fault>
 /// follows it is read); bytes that go on after a text (`Extra`); and other bytes that are no text: `Cut` where
 /// they end inside a part, `Bad` where a part that is there is none.
 pub fn decode_snapshot<S: DotSet>(alloc: Global, bytes: &[u8]) -> Result<Replica<S>, Fault>
-    ensures { Decodes bytes.now result }
+    ensures text { Decodes snapshot_kind bytes.now result }
+    ensures read { ReadsAll snapshot_at bytes.now result }
 {
     if LIMIT < bytes.len() {
         return Err(Fault::TooLong);
@@ -60,9 +62,13 @@ pub fn decode_snapshot<S: DotSet>(alloc: Global, bytes: &[u8]) -> Result<Replica
 fn measure<S: DotSet>(replica: &Replica<S>) -> (u16, u128)
     ensures rows { result.0 ≡ length (rows_from 0 (runs_of (seen_of replica.now.state.lives))) }
     ensures length { result.1 ≡ length (snapshot_text replica.now) }
+    ensures value { AreFew (seen_of replica.now.state.lives) → IsSnapshot replica.now }
 {
     let (rows, state_length) = measure_state(replica.state());
-    (rows, front_length(replica.roster()) as u128 + state_length)
+    (
+        rows,
+        4 + member_length(replica.roster(), replica.own()) as u128 + state_length,
+    )
 }
 
 fn put_snapshot<S: DotSet>(
@@ -81,19 +87,11 @@ fn put_snapshot<S: DotSet>(
 /// The text of the replica's snapshot. Above the limit it is refused (`TooLong`) before any memory is taken;
 /// then all memory that the text needs is taken at once.
 pub fn encode_snapshot<S: DotSet>(alloc: Global, replica: &Replica<S>) -> Result<Vec<u8>, Fault>
-    ensures { Encodes (snapshot_text replica.now) result }
+    ensures text { Encodes (snapshot_text replica.now) result }
+    ensures value { AreFew (seen_of replica.now.state.lives) → IsSnapshot replica.now }
 {
     let (rows, length) = measure(replica);
-    if u128::from(LIMIT as u64) < length {
-        return Err(Fault::TooLong);
-    }
-    let mut out = Vec::with_capacity(alloc, length as usize)?;
+    let mut out = room_for(alloc, length)?;
     put_snapshot(&mut out, replica, rows)?;
     Ok(out)
 }
-
-/// No text begins another, and one text has one value. That a value has one text needs no law: its text is a
-/// function of it.
-pub fn texts_stand_apart()
-    ensures { TextsStandApart }
-{}

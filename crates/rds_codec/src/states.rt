@@ -1,19 +1,24 @@
 //! The text of a state: the dots that were seen, the entries of those that live, and the counters.
-ghost use Rattle.std.specs.Prelude.{◌≡◌, ◌≤◌, ◌^◌, length};
+ghost use Rattle.std.specs.Prelude.{◌≡◌, ℕ, ◌≤◌, ◌^◌, length};
 ghost use Rattle.rds_dots.specs.Runs.{runs_of};
 ghost use Rattle.rds_life.specs.Life.{seen_of};
+ghost use Rattle.rds_codec.specs.Decoding.{Decodes, ReadsAll};
+ghost use Rattle.rds_codec.specs.Kinds.{state_kind};
 ghost use Rattle.rds_codec.specs.DotRows.{rows_from};
-ghost use Rattle.rds_codec.specs.Reading.{Gives, state_at};
+ghost use Rattle.rds_codec.specs.Reading.{Gives, state_at, all_of};
 ghost use Rattle.rds_codec.specs.Spelling.{state_text};
-ghost use Rattle.rds_codec.specs.Writing.{Adds};
+ghost use Rattle.rds_codec.specs.Values.{AreFew, IsStateOf};
+ghost use Rattle.rds_state.specs.Fits.{Fits};
+ghost use Rattle.rds_state.specs.Value.{coordinates};
+ghost use Rattle.rds_codec.specs.Writing.{Adds, Encodes};
 
 use crate::counters::read_counters;
 use crate::entries::read_live_rows;
-use crate::limits::LIMIT;
-use crate::measuring::{count_rows_length, live_rows_length};
-use crate::putting::{put_count_rows, put_live_rows};
+use crate::limits::{LIMIT, room_for};
+use crate::measuring::{counters_length, live_rows_length};
+use crate::putting::{put_counters, put_live_rows};
 use crate::rows::read_dots;
-use crate::walking::{measure_rows, put_dots};
+use crate::walking::{measure_dots, put_dots};
 use rds_dots::DotSet;
 use rds_life::Lives;
 use rds_names::Fault;
@@ -43,14 +48,14 @@ pub fn measure_state<S: DotSet>(state: &State<S>) -> (u16, u128)
     ensures rows { result.0 ≡ length (rows_from 0 (runs_of (seen_of state.now.lives))) }
     ensures length { result.1 ≡ length (state_text state.now) }
     ensures few { result.1 ≤ 2 ^ 101 }
+    ensures value { (replicas : ℕ) → Fits replicas (coordinates state.now) → AreFew (seen_of state.now.lives) → IsStateOf replicas state.now }
 {
     let lives = state.lives();
-    let (rows, dots_length) = measure_rows(lives.seen());
-    let live_length = live_rows_length(lives.live().as_slice());
-    let counters_length = count_rows_length(state.counts().rows());
+    let (rows, dots_length) = measure_dots(lives.seen());
+    let live_length = 4 + live_rows_length(lives.live().as_slice());
     (
         rows,
-        2 + dots_length + 4 + live_length + 4 + counters_length,
+        dots_length + live_length + counters_length(state.counts()),
     )
 }
 
@@ -67,5 +72,44 @@ pub fn put_state<S: DotSet>(
     let lives = state.lives();
     put_dots(out, lives.seen(), rows)?;
     put_live_rows(out, lives.live().as_slice())?;
-    put_count_rows(out, state.counts().rows())
+    put_counters(out, state.counts())
+}
+
+fn read_all<S: DotSet>(alloc: Global, replicas: u16, bytes: &[u8]) -> Result<State<S>, Fault>
+    ensures { Gives (λ x. x) result (all_of (state_at replicas) bytes.now) }
+{
+    let (state, rest) = read_state(alloc, replicas, bytes)?;
+    if !rest.is_empty() {
+        return Err(Fault::Extra);
+    }
+    Ok(state)
+}
+
+/// The state whose text the bytes are, where the roster has so many replicas. Refused are bytes as
+/// [`decode_snapshot`](crate::decode_snapshot) refuses them; a replica's number that isn't below the roster's
+/// length is `Bad`.
+pub fn decode_state<S: DotSet>(
+    alloc: Global,
+    replicas: u16,
+    bytes: &[u8],
+) -> Result<State<S>, Fault>
+    ensures text { Decodes (state_kind replicas) bytes.now result }
+    ensures read { ReadsAll (state_at replicas) bytes.now result }
+{
+    if LIMIT < bytes.len() {
+        return Err(Fault::TooLong);
+    }
+    read_all(alloc, replicas, bytes)
+}
+
+/// The text of the state. Above the limit it is refused (`TooLong`) before any memory is taken; then all memory
+/// that the text needs is taken at once.
+pub fn encode_state<S: DotSet>(alloc: Global, state: &State<S>) -> Result<Vec<u8>, Fault>
+    ensures text { Encodes (state_text state.now) result }
+    ensures value { (replicas : ℕ) → Fits replicas (coordinates state.now) → AreFew (seen_of state.now.lives) → IsStateOf replicas state.now }
+{
+    let (rows, length) = measure_state(state);
+    let mut out = room_for(alloc, length)?;
+    put_state(&mut out, state, rows)?;
+    Ok(out)
 }

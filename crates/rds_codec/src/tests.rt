@@ -1,64 +1,75 @@
-//! The texts of snapshots, byte for byte.
-use crate::{Snapshot, decode_snapshot, encode_snapshot};
+//! Texts, byte for byte: what every kind of text has to do.
+use crate::{decode_snapshot, decode_state, encode_snapshot, encode_state};
 use rds_dots::ListSet;
-use rds_names::Fault;
-use rds_state::Replica;
+use rds_names::{Fault, Key, Name, Roster};
+use rds_state::{Replica, State};
 use std::alloc::{AllocError, Global};
 use std::process::Abort;
 use std::test::Fail;
 
-/// One live dot: an element 7 of the set "s".
-const ONE_LIVE: &[u8] =
-    b"RDS1\x01g\x00\x03\x01a\x01b\x01c\x00\x00\x01\x00\x00\x00\x00\x00\x00\x00\x00\x01\x00\x00\x00\x00\x00\x00\x00\x01\x00\x00\x00\x00\x00\x00\x00\x00\x01\x01\x01s\x02\x03\x00\x00\x00\x00\x00\x00\x00\x07\x00\x00\x00\x00";
+mod snapshots;
+mod states;
 
-/// The same dot, dead; the replica's number is 1.
-const ONE_DEAD: &[u8] =
-    b"RDS1\x01g\x00\x03\x01a\x01b\x01c\x01\x00\x01\x00\x00\x00\x00\x00\x00\x00\x00\x01\x00\x00\x00\x00\x00\x00\x00\x00\x00\x00\x00\x00";
+/// A kind of text.
+#[derive(Clone, Copy)]
+enum Form {
+    Snapshot,
+    State,
+}
 
-/// No dot.
-const EMPTY: &[u8] =
-    b"RDS1\x01g\x00\x03\x01a\x01b\x01c\x00\x00\x00\x00\x00\x00\x00\x00\x00\x00\x00";
+/// The replica with this number of the group of a, b and c.
+fn replica(alloc: Global, own: u8) -> Result<Replica<ListSet>, Fault> {
+    let names = [Name::new("a")?, Name::new("b")?, Name::new("c")?];
+    let roster = Roster::new(alloc, Key::new(alloc, "g")?, names.as_slice())?;
+    Replica::new(alloc, roster, own)
+}
 
-/// Two replicas with gaps, and live rows with each kind of value.
-const GAPS: &[u8] =
-    b"RDS1\x01g\x00\x03\x01a\x01b\x01c\x00\x00\x02\x00\x00\x00\x00\x00\x00\x00\x00\x09\x00\x00\x00\x02\x00\x00\x00\x00\x00\x00\x00\x02\x00\x00\x00\x00\x00\x00\x00\x03\x00\x00\x00\x00\x00\x00\x00\x05\x00\x00\x00\x00\x00\x00\x00\x06\x02\x00\x00\x00\x00\x00\x00\x00\x04\x00\x00\x00\x01\x00\x00\x00\x00\x00\x00\x00\x01\x00\x00\x00\x00\x00\x00\x00\x02\x00\x00\x00\x05\x00\x00\x00\x00\x00\x00\x00\x00\x01\x01\x01s\x01\x00\x00\x00\x00\x00\x00\x00\x00\x00\x04\x02\x01s\x01t\x02\x01\x00\x00\x00\x00\x00\x00\x00\x00\x09\x01\x01s\x02\x02\x02\x00\x00\x00\x00\x00\x00\x00\x03\x01\x01s\x02\x03\xff\xff\xff\xff\xff\xff\xff\xff\x02\x00\x00\x00\x00\x00\x00\x00\x04\x01\x01s\x02\x04\x00\x03abc\x00\x00\x00\x00";
+fn snapshot_again(alloc: Global, bytes: &[u8]) -> Result<Vec<u8>, Fault> {
+    let replica: Replica<ListSet> = decode_snapshot(alloc, bytes)?;
+    encode_snapshot(alloc, &replica)
+}
 
-/// Counters alone: under "n" replica 0 has counted up 3 and down 2, and replica 1 up 1.
-const COUNTERS: &[u8] =
-    b"RDS1\x01g\x00\x03\x01a\x01b\x01c\x01\x00\x00\x00\x00\x00\x00\x00\x00\x00\x02\x01n\x00\x00\x00\x00\x00\x00\x00\x00\x03\x00\x00\x00\x00\x00\x00\x00\x02\x01n\x01\x00\x00\x00\x00\x00\x00\x00\x01\x00\x00\x00\x00\x00\x00\x00\x00";
+fn state_again(alloc: Global, bytes: &[u8]) -> Result<Vec<u8>, Fault> {
+    let state: State<ListSet> = decode_state(alloc, 3, bytes)?;
+    encode_state(alloc, &state)
+}
 
-/// What stands before the dots in most of these texts, and then 65,537 dots.
-const TOO_MANY: &[u8] =
-    b"RDS1\x01g\x00\x03\x01a\x01b\x01c\x00\x00\x01\x00\x00\x00\x00\x00\x00\x01\x00\x01\x00\x00\x00\x00";
-
-fn decode(alloc: Global, bytes: &[u8]) -> Result<Replica<ListSet>, Fault> {
-    decode_snapshot(alloc, bytes)
+/// What the bytes are read as, written again; a roster has three names.
+fn again(alloc: Global, form: Form, bytes: &[u8]) -> Result<Vec<u8>, Fault> {
+    match form {
+        Form::Snapshot => snapshot_again(alloc, bytes),
+        Form::State => state_again(alloc, bytes),
+    }
 }
 
 /// The fault that decoding answers, if it does.
-fn refusal(alloc: Global, bytes: &[u8]) -> Option<Fault> {
-    match decode(alloc, bytes) {
+fn refusal(alloc: Global, form: Form, bytes: &[u8]) -> Option<Fault> {
+    match again(alloc, form, bytes) {
         Ok(_) => None,
         Err(fault) => Some(fault),
     }
 }
 
-fn is_read_and_written(rt: &impl Abort, alloc: Global, bytes: &[u8]) -> Result<(), Fail> {
-    let snapshot = decode(alloc, bytes)?;
-    let text = encode_snapshot(alloc, &snapshot)?;
-    assert_eq!(rt; text.as_slice(), bytes);
+fn is_read_and_written(
+    rt: &impl Abort,
+    alloc: Global,
+    form: Form,
+    bytes: &[u8],
+) -> Result<(), Fail> {
+    let written = again(alloc, form, bytes)?;
+    assert_eq!(rt; written.as_slice(), bytes);
     Ok(())
 }
 
 /// Each proper beginning is no text, and one more byte is too much.
-fn is_whole(rt: &impl Abort, alloc: Global, bytes: &[u8]) -> Result<(), Fail> {
+fn is_whole(rt: &impl Abort, alloc: Global, form: Form, bytes: &[u8]) -> Result<(), Fail> {
     for end in 0..bytes.len() {
-        let fault = refusal(alloc, &bytes[..end]);
+        let fault = refusal(alloc, form, &bytes[..end]);
         assert!(rt; matches!(fault, Some(Fault::Cut | Fault::Bad)));
     }
     let mut more = Vec::from_slice(alloc, bytes)?;
     more.push(0)?;
-    assert_eq!(rt; refusal(alloc, &more), Some(Fault::Extra));
+    assert_eq!(rt; refusal(alloc, form, &more), Some(Fault::Extra));
     Ok(())
 }
 
@@ -72,155 +83,14 @@ fn with_byte(alloc: Global, bytes: &[u8], place: usize, byte: u8) -> Result<Vec<
 }
 
 /// Whatever byte stands in whatever place, what is read is written so.
-fn is_exact(rt: &impl Abort, alloc: Global, bytes: &[u8]) -> Result<(), Fail> {
+fn is_exact(rt: &impl Abort, alloc: Global, form: Form, bytes: &[u8]) -> Result<(), Fail> {
     for place in 0..bytes.len() {
         for byte in 0..=255u8 {
             let changed = with_byte(alloc, bytes, place, byte)?;
-            if let Ok(snapshot) = decode(alloc, &changed) {
-                let text = encode_snapshot(alloc, &snapshot)?;
-                assert_eq!(rt; text.as_slice(), changed.as_slice());
+            if let Ok(written) = again(alloc, form, &changed) {
+                assert_eq!(rt; written.as_slice(), changed.as_slice());
             }
         }
     }
     Ok(())
-}
-
-#[test]
-fn texts_are_read_and_written_again(rt: HostRuntime) -> Result<(), Fail> {
-    is_read_and_written(&rt, rt.alloc(), ONE_LIVE)?;
-    is_read_and_written(&rt, rt.alloc(), ONE_DEAD)?;
-    is_read_and_written(&rt, rt.alloc(), EMPTY)?;
-    is_read_and_written(&rt, rt.alloc(), GAPS)?;
-    is_read_and_written(&rt, rt.alloc(), COUNTERS)
-}
-
-#[test]
-fn texts_are_read_whole(rt: HostRuntime) -> Result<(), Fail> {
-    is_whole(&rt, rt.alloc(), ONE_LIVE)?;
-    is_whole(&rt, rt.alloc(), EMPTY)?;
-    is_whole(&rt, rt.alloc(), GAPS)?;
-    is_whole(&rt, rt.alloc(), COUNTERS)
-}
-
-#[test]
-fn changed_texts_are_read_as_they_stand(rt: HostRuntime) -> Result<(), Fail> {
-    is_exact(&rt, rt.alloc(), ONE_LIVE)?;
-    is_exact(&rt, rt.alloc(), GAPS)?;
-    is_exact(&rt, rt.alloc(), COUNTERS)
-}
-
-#[test]
-fn other_bytes_are_bad(rt: HostRuntime) {
-    let bad: [&[u8]; 12] = [
-        // touching gaps
-        b"RDS1\x01g\x00\x03\x01a\x01b\x01c\x00\x00\x01\x00\x00\x00\x00\x00\x00\x00\x00\x09\x00\x00\x00\x02\x00\x00\x00\x00\x00\x00\x00\x02\x00\x00\x00\x00\x00\x00\x00\x03\x00\x00\x00\x00\x00\x00\x00\x04\x00\x00\x00\x00\x00\x00\x00\x05\x00\x00\x00\x00\x00\x00\x00\x00",
-        // a gap that ends at the top
-        b"RDS1\x01g\x00\x03\x01a\x01b\x01c\x00\x00\x01\x00\x00\x00\x00\x00\x00\x00\x00\x09\x00\x00\x00\x01\x00\x00\x00\x00\x00\x00\x00\x05\x00\x00\x00\x00\x00\x00\x00\x09\x00\x00\x00\x00\x00\x00\x00\x00",
-        // a gap that begins at 0
-        b"RDS1\x01g\x00\x03\x01a\x01b\x01c\x00\x00\x01\x00\x00\x00\x00\x00\x00\x00\x00\x09\x00\x00\x00\x01\x00\x00\x00\x00\x00\x00\x00\x00\x00\x00\x00\x00\x00\x00\x00\x03\x00\x00\x00\x00\x00\x00\x00\x00",
-        // top 0
-        b"RDS1\x01g\x00\x03\x01a\x01b\x01c\x00\x00\x01\x00\x00\x00\x00\x00\x00\x00\x00\x00\x00\x00\x00\x00\x00\x00\x00\x00\x00\x00\x00\x00",
-        // replicas 1, then 0
-        b"RDS1\x01g\x00\x03\x01a\x01b\x01c\x00\x00\x02\x01\x00\x00\x00\x00\x00\x00\x00\x01\x00\x00\x00\x00\x00\x00\x00\x00\x00\x00\x00\x00\x01\x00\x00\x00\x00\x00\x00\x00\x00\x00\x00\x00\x00",
-        // a live dot that is not seen
-        b"RDS1\x01g\x00\x03\x01a\x01b\x01c\x00\x00\x01\x00\x00\x00\x00\x00\x00\x00\x00\x01\x00\x00\x00\x00\x00\x00\x00\x01\x00\x00\x00\x00\x00\x00\x00\x00\x02\x01\x01s\x02\x03\x00\x00\x00\x00\x00\x00\x00\x07\x00\x00\x00\x00",
-        // a counter row without counts
-        b"RDS1\x01g\x00\x03\x01a\x01b\x01c\x00\x00\x00\x00\x00\x00\x00\x00\x00\x00\x01\x01n\x00\x00\x00\x00\x00\x00\x00\x00\x00\x00\x00\x00\x00\x00\x00\x00\x00",
-        // a replica that the roster lacks
-        b"RDS1\x01g\x00\x03\x01a\x01b\x01c\x00\x00\x01\x03\x00\x00\x00\x00\x00\x00\x00\x01\x00\x00\x00\x00\x00\x00\x00\x00\x00\x00\x00\x00",
-        // an own number that the roster lacks
-        b"RDS1\x01g\x00\x03\x01a\x01b\x01c\x03\x00\x00\x00\x00\x00\x00\x00\x00\x00\x00",
-        // a name that stands twice
-        b"RDS1\x01g\x00\x02\x01a\x01a\x00\x00\x00\x00\x00\x00\x00\x00\x00\x00\x00",
-        // a live row twice
-        b"RDS1\x01g\x00\x03\x01a\x01b\x01c\x00\x00\x01\x00\x00\x00\x00\x00\x00\x00\x00\x02\x00\x00\x00\x00\x00\x00\x00\x02\x00\x00\x00\x00\x00\x00\x00\x00\x02\x01\x01s\x02\x00\x00\x00\x00\x00\x00\x00\x00\x00\x02\x01\x01s\x02\x00\x00\x00\x00\x00",
-        // another format
-        b"RDS2\x01g\x00\x03\x01a\x01b\x01c\x00\x00\x01\x00\x00\x00\x00\x00\x00\x00\x00\x01\x00\x00\x00\x00\x00\x00\x00\x01\x00\x00\x00\x00\x00\x00\x00\x00\x01\x01\x01s\x02\x03\x00\x00\x00\x00\x00\x00\x00\x07\x00\x00\x00\x00",
-    ];
-    for bytes in bad {
-        assert_eq!(rt; refusal(rt.alloc(), bytes), Some(Fault::Bad));
-    }
-}
-
-/// A snapshot without dots, with these two rows of counters: key, replica, and the two numbers.
-fn with_counters(
-    alloc: Global,
-    rows: &[(u8, u8, [u8; 8], [u8; 8])],
-) -> Result<Vec<u8>, AllocError> {
-    let mut text = Vec::from_slice(
-        alloc,
-        b"RDS1\x01g\x00\x03\x01a\x01b\x01c\x01\x00\x00\x00\x00\x00\x00\x00\x00\x00\x02",
-    )?;
-    for (key, replica, p, n) in rows {
-        text.extend_from_slice(&[1, *key, *replica])?;
-        text.extend_from_slice(p)?;
-        text.extend_from_slice(n)?;
-    }
-    Ok(text)
-}
-
-#[test]
-fn counters_are_read_in_their_order_and_limits(rt: HostRuntime) -> Result<(), Fail> {
-    let zero = [0u8; 8];
-    let one = [0, 0, 0, 0, 0, 0, 0, 1];
-    let most = [0, 0, 255, 255, 255, 255, 255, 255];
-    let above = [0, 1, 0, 0, 0, 0, 0, 0];
-    for (rows, refused) in [
-        ([(b'm', 1, one, zero), (b'n', 0, zero, one)], None),
-        ([(b'n', 0, most, most), (b'n', 2, one, one)], None),
-        (
-            [(b'n', 0, one, zero), (b'n', 0, zero, one)],
-            Some(Fault::Bad),
-        ),
-        (
-            [(b'n', 1, one, zero), (b'n', 0, one, zero)],
-            Some(Fault::Bad),
-        ),
-        (
-            [(b'n', 0, one, zero), (b'm', 1, one, zero)],
-            Some(Fault::Bad),
-        ),
-        (
-            [(b'n', 0, one, zero), (b'n', 3, one, zero)],
-            Some(Fault::Bad),
-        ),
-        (
-            [(b'n', 0, zero, zero), (b'n', 1, one, zero)],
-            Some(Fault::Bad),
-        ),
-        (
-            [(b'n', 0, above, zero), (b'n', 1, one, zero)],
-            Some(Fault::Bad),
-        ),
-        (
-            [(b'n', 0, one, zero), (b'n', 1, one, above)],
-            Some(Fault::Bad),
-        ),
-    ] {
-        let text = with_counters(rt.alloc(), &rows)?;
-        assert_eq!(rt; refusal(rt.alloc(), &text), refused);
-    }
-    Ok(())
-}
-
-#[test]
-fn a_row_is_judged_with_the_part_that_breaks_it(rt: HostRuntime) {
-    // the first row ends with its replica, its first number, its second number
-    let bad: [&[u8]; 3] = [
-        b"RDS1\x01g\x00\x03\x01a\x01b\x01c\x01\x00\x00\x00\x00\x00\x00\x00\x00\x00\x02\x01n\x03",
-        b"RDS1\x01g\x00\x03\x01a\x01b\x01c\x01\x00\x00\x00\x00\x00\x00\x00\x00\x00\x02\x01n\x00\x00\x01\x00\x00\x00\x00\x00\x00",
-        b"RDS1\x01g\x00\x03\x01a\x01b\x01c\x01\x00\x00\x00\x00\x00\x00\x00\x00\x00\x02\x01n\x00\x00\x00\x00\x00\x00\x00\x00\x00\x00\x00\x00\x00\x00\x00\x00\x00",
-    ];
-    for bytes in bad {
-        assert_eq!(rt; refusal(rt.alloc(), bytes), Some(Fault::Bad));
-        assert_eq!(rt;
-            refusal(rt.alloc(), &bytes[..bytes.len() - 1]),
-            Some(Fault::Cut)
-        );
-    }
-}
-
-#[test]
-fn too_many_dots_are_refused_where_the_set_ends(rt: HostRuntime) {
-    assert_eq!(rt; refusal(rt.alloc(), TOO_MANY), Some(Fault::TooManyDots));
 }

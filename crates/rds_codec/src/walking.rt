@@ -1,5 +1,5 @@
 //! Writing a set of dots by its maximal runs, which are walked and not kept.
-ghost use Rattle.std.specs.Prelude.{◌≡◌, [], ◌≤◌, ◌<◌, ◌^◌, length};
+ghost use Rattle.std.specs.Prelude.{◌≡◌, ◌+◌, [], ◌≤◌, ◌<◌, ◌^◌, length};
 ghost use Rattle.std.specs.List.{flat_map};
 ghost use Rattle.rds_dots.specs.Dots.{IsRun, last_of as last_dot};
 ghost use Rattle.rds_dots.specs.Runs.{runs_of};
@@ -112,7 +112,7 @@ fn put_row<S: DotSet>(out: &mut Vec<u8>, seen: &S, first: Run) -> Result<(), All
 }
 
 /// How many rows a set has, and the length of their text.
-pub fn measure_rows<S: DotSet>(seen: &S) -> (u16, u128)
+fn measure_rows<S: DotSet>(seen: &S) -> (u16, u128)
     ensures rows { result.0 ≡ length (rows_from 0 (runs_of (S.contents seen.now))) }
     ensures length { result.1 ≡ length (flat_map dot_row_text (rows_from 0 (runs_of (S.contents seen.now)))) }
     ensures few { result.1 ≤ 2 ^ 100 }
@@ -134,6 +134,17 @@ pub fn measure_rows<S: DotSet>(seen: &S) -> (u16, u128)
         }
         after = Some(last_of(run));
     }
+}
+
+/// How many rows a set has, and the length of its text.
+#[tactic(auto, unfolding(crate::specs::Spelling::dots_text))]
+pub fn measure_dots<S: DotSet>(seen: &S) -> (u16, u128)
+    ensures rows { result.0 ≡ length (rows_from 0 (runs_of (S.contents seen.now))) }
+    ensures length { result.1 ≡ length (dots_text (S.contents seen.now)) }
+    ensures few { result.1 ≤ 2 + 2 ^ 100 }
+{
+    let (rows, length) = measure_rows(seen);
+    (rows, 2 + length)
 }
 
 fn put_rows<S: DotSet>(out: &mut Vec<u8>, seen: &S) -> Result<(), AllocError>

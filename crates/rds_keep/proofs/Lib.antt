@@ -1,4 +1,4 @@
 mod FrontSoFar
 mod ReadWhole
-mod TextParts
-mod WrittenSoFar
+pub mod TextParts
+pub mod WrittenSoFar

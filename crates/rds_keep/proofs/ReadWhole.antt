@@ -8,11 +8,12 @@ use Rattle.rds_names.specs.declared.fault.Fault.{Fault}
 use Rattle.rds_names.specs.declared.fault.Fault.TheVariants.{TooLong}
 use Rattle.rds_state.specs.Fits.{ReplicaValue}
 use Rattle.rds_codec.specs.Decoding.{Decodes}
+use Rattle.rds_codec.specs.Kinds.{snapshot_kind}
 use Rattle.rds_codec.specs.declared.limits.TheConstants.{LIMIT}
 use Rattle.rds_keep.specs.Snapshots.{ReadsWhole}
 
 -- bytes above the limit are refused, whatever they hold
-decodes_long : (bytes : List ℕ) → LIMIT < length bytes → Decodes bytes (Err TooLong)
+decodes_long : (bytes : List ℕ) → LIMIT < length bytes → Decodes snapshot_kind bytes (Err TooLong)
 decodes_long bytes lt = record {
   value = tt;
   found = λ v le is. absurd (omega arith);
@@ -25,16 +26,16 @@ decodes_long bytes lt = record {
   other = inr (inl refl);
 }
 
-long_front : (front rest : List ℕ) (result : Result ReplicaValue Fault) → LIMIT < length front → Decodes front result → Decodes (front ++ rest) result
+long_front : (front rest : List ℕ) (result : Result ReplicaValue Fault) → LIMIT < length front → Decodes snapshot_kind front result → Decodes snapshot_kind (front ++ rest) result
 long_front front rest result lt decoded =
     let same = length-append front rest in
-    subst (Decodes (front ++ rest)) (sym (decoded.long lt)) (decodes_long (front ++ rest) (omega arith))
+    subst (Decodes snapshot_kind (front ++ rest)) (sym (decoded.long lt)) (decodes_long (front ++ rest) (omega arith))
 
-pub front_decoded : (first now : Option (List ℕ)) (front : List ℕ) (result : Result ReplicaValue Fault) → Consumes first now front → (length front < LIMIT + 1 → IsAtEnd now) → Decodes front result
+pub front_decoded : (first now : Option (List ℕ)) (front : List ℕ) (result : Result ReplicaValue Fault) → Consumes first now front → (length front < LIMIT + 1 → IsAtEnd now) → Decodes snapshot_kind front result
     → IfSome first (λ input. ReadsWhole input result)
 front_decoded None now front result p end decoded = tt
 front_decoded (Some xs) None front result p end decoded = absurd p
 front_decoded (Some xs) (Some ys) front result p end decoded = elim (cases_lt (length front) (LIMIT + 1)) [
-  | inl short ↦ inl (subst (λ (l : List ℕ). Decodes l result) (sym (p ∙ ap (λ (l : List ℕ). front ++ l) (end short) ∙ append-nil front)) decoded)
-  | inr long ↦ inl (subst (λ (l : List ℕ). Decodes l result) (sym p) (long_front front ys result (omega arith) decoded))
+  | inl short ↦ inl (subst (λ (l : List ℕ). Decodes snapshot_kind l result) (sym (p ∙ ap (λ (l : List ℕ). front ++ l) (end short) ∙ append-nil front)) decoded)
+  | inr long ↦ inl (subst (λ (l : List ℕ). Decodes snapshot_kind l result) (sym p) (long_front front ys result (omega arith) decoded))
 ]

@@ -28,3 +28,6 @@ written_whole first now next text p q = (length text, omega arith, subst (Append
 pub refused_after : {T : Type 0} (first now next : Option (List ℕ)) (text : List ℕ) (result : Result T Fault) → Appends first now text → Keeps now next → OnErr result (AppendsFront first next text)
 refused_after first now next text (Ok x) p q = tt
 refused_after first now next text (Err e) p q = written_whole first now next text p q
+
+pub stays_written : (first now next : Option (List ℕ)) (text : List ℕ) → Appends first now text → Keeps now next → Appends first next text
+stays_written first now next text p q = Appends-kept first now next text p q

@@ -164,6 +164,7 @@ impl<W: Write> Counted<W> {
 
     /// Writes the bytes, in as many calls as the writer wants. Where a call fails, a beginning of
     /// them is written.
+    #[tactic(auto, using(crate::proofs::WrittenSoFar::more_written))]
     pub fn write_all(&mut self, bytes: &[u8]) -> Result<(), Fault>
         ensures bytes { OnOk result (Appends (W.contents self.old.inner)
             (W.contents self.new.inner) bytes.now) }

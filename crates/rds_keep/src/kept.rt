@@ -1,7 +1,6 @@
 //! A replica that is kept outside memory.
-ghost use Rattle.std.specs.Prelude.{◌≡◌, ◌≤◌, length};
-ghost use Rattle.rds_codec.specs.Spelling.{snapshot_text};
-ghost use Rattle.rds_codec.specs.declared.limits.TheConstants.{LIMIT};
+ghost use Rattle.std.specs.Prelude.{◌≡◌};
+ghost use Rattle.rds_keep.specs.Kept.{IsKept};
 
 use rds_dots::DotSet;
 use rds_state::Replica;
@@ -15,10 +14,8 @@ pub struct Kept<S: DotSet> {
 }
 
 impl<S: DotSet> Model for Kept<S> {
-    ghost use Rattle.std.specs.Prelude.{◌≤◌, length};
     ghost use Rattle.rds_state.specs.Fits.{ReplicaValue, coded_replica};
-    ghost use Rattle.rds_codec.specs.Spelling.{snapshot_text};
-    ghost use Rattle.rds_codec.specs.declared.limits.TheConstants.{LIMIT};
+    ghost use Rattle.rds_keep.specs.Kept.{IsKept};
 
     ghost Value = { ReplicaValue };
 
@@ -26,13 +23,13 @@ impl<S: DotSet> Model for Kept<S> {
 
     ghost view = { λ k. k.replica };
 
-    ghost invariant = { λ k. length (snapshot_text k.replica) ≤ LIMIT };
+    ghost invariant = { λ k. IsKept k.replica };
 }
 
 impl<S: DotSet> Kept<S> {
     /// For a replica whose text was written whole or read whole.
     pub(crate) fn new(replica: Replica<S>) -> Kept<S>
-        requires { length (snapshot_text replica) ≤ LIMIT }
+        requires { IsKept replica }
         ensures { result ≡ replica }
     {
         Kept { replica }
@@ -41,7 +38,7 @@ impl<S: DotSet> Kept<S> {
     /// The replica.
     pub fn view_of(&self) -> &Replica<S>
         ensures replica { result.now ≡ self.now }
-        ensures within { length (snapshot_text self.now) ≤ LIMIT }
+        ensures kept { IsKept self.now }
     {
         &self.replica
     }
@@ -49,7 +46,7 @@ impl<S: DotSet> Kept<S> {
     /// The replica, to be edited.
     pub fn replica(self) -> Replica<S>
         ensures replica { result ≡ self }
-        ensures within { length (snapshot_text self) ≤ LIMIT }
+        ensures kept { IsKept result }
     {
         self.replica
     }

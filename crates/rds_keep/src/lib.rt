@@ -3,11 +3,15 @@
 #![tactic(auto)]
 
 mod counted;
+mod keeping;
 mod kept;
 mod place;
 mod snapshots;
+#[cfg(test)]
+mod tests;
 
 pub use counted::Counted;
+pub use keeping::keep_in;
 pub use kept::Kept;
 pub use place::Place;
-pub use snapshots::{keep_in, read_snapshot, write_snapshot};
+pub use snapshots::{read_snapshot, write_snapshot};

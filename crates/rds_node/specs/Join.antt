@@ -7,6 +7,7 @@ use Rattle.rds_life.specs.Life.{IsFirstConflict}
 use Rattle.rds_state.specs.Coordinates.{AreCompatible, join}
 use Rattle.rds_state.specs.Value.{coordinates}
 use Rattle.rds_codec.specs.Decoding.{Decodes}
+use Rattle.rds_codec.specs.Kinds.{snapshot_kind}
 use Rattle.rds_node.specs.Lines.{line_of, after_line}
 use Rattle.rds_state.specs.Fits.{ReplicaValue}
 use Rattle.rds_codec.specs.Spelling.{snapshot_text}
@@ -17,7 +18,7 @@ line_limit = 536870912
 
 -- the bytes of the digits are decoded, or there are other characters
 abbrev pub DigitsRead : {E : Type 0} → Result (List ℕ) E → Result ReplicaValue Fault → Type 0
-DigitsRead (Ok bytes) r = Decodes bytes r
+DigitsRead (Ok bytes) r = Decodes snapshot_kind bytes r
 DigitsRead (Err e) r = r ≡ Err Bad
 
 -- a line over the limit is too long, whatever it holds

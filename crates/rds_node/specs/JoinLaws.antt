@@ -3,7 +3,7 @@ use Rattle.std.specs.Prelude.{◌≡◌, ◌≤◌, ◌⊎◌, ℕ, List, [], le
 use Rattle.hex.specs.Hex.{decode_of}
 use Rattle.rds_names.specs.declared.fault.Fault.{Fault}
 use Rattle.rds_names.specs.declared.fault.Fault.TheVariants.{Memory}
-use Rattle.rds_codec.specs.Decoding.{IsSnapshot}
+use Rattle.rds_codec.specs.Values.{IsSnapshot}
 use Rattle.rds_node.specs.Join.{JoinedTo, MayJoinTo, TextOfJoined}
 use Rattle.rds_node.specs.Lines.{line_of, after_line}
 use Rattle.rds_state.specs.Fits.{ReplicaValue}

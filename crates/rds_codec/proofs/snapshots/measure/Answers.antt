@@ -1,13 +1,26 @@
-use Rattle.std.proofs.Common.{ap, sym, ◌∙◌, ◌+◌, length}
+use Rattle.std.proofs.Common.{◌<◌, ℕ, subst, ap, sym, ◌∙◌, ◌+◌, length}
 use Rattle.rds_names.specs.Roster.{RosterValue}
-use Rattle.rds_state.specs.Value.{StateValue}
-use Rattle.rds_codec.specs.Spelling.{front_text, state_text}
+use Rattle.rds_life.specs.Life.{seen_of}
+use Rattle.rds_state.specs.Fits.{Fits}
+use Rattle.rds_state.specs.Value.{StateValue, coordinates}
+use Rattle.rds_codec.specs.Values.{AreFew, IsMember, IsStateOf}
+use Rattle.rds_codec.specs.Spelling.{member_text, state_text}
 use Rattle.rds_codec.proofs.Texts.{snapshot_length}
 use Rattle.rds_codec.proofs.snapshots.measure.Goals as goal
 
 pub returns-clause-length : goal.returns-clause-length
 returns-clause-length g c =
     let v = c.args.replica.now in
-    let front = c.front_length.ensures.length v.own ∙ ap (λ (r : RosterValue). length (front_text r v.own)) c.roster.ensures in
+    let front = c.member_length.ensures.length ∙ (λ i. length (member_text (c.roster.ensures i) (c.own.ensures.own i))) in
     let state = c.measure_state-rows.ensures.length ∙ ap (λ (s : StateValue). length (state_text s)) c.state.ensures.state in
-    (λ i. front i + state i) ∙ sym (snapshot_length v)
+    (λ i. 4 + front i + state i) ∙ sym (snapshot_length v)
+
+pub returns-clause-value : goal.returns-clause-value
+returns-clause-value g c = λ few.
+    let v = c.args.replica.now in
+    let own = subst (λ (r : RosterValue). c.own.result < length r.names) (sym c.roster.ensures) (subst (λ (n : ℕ). n < length v.roster.names) (sym c.own.ensures.own) c.own.ensures.within) in
+    let member = subst (λ (r : RosterValue). IsMember r v.own) c.roster.ensures (subst (λ (n : ℕ). IsMember c.roster.result.now n) c.own.ensures.own (c.member_length.ensures.is_member own)) in
+    let state = c.state.ensures.state in
+    let few_here = subst (λ (s : StateValue). AreFew (seen_of s.lives)) (sym state) few in
+    let fits = subst (λ (s : StateValue). Fits (length v.roster.names) (coordinates s)) (sym state) c.state.ensures.fits in
+    record { member = member; state = subst (IsStateOf (length v.roster.names)) state (c.measure_state-rows.ensures.value (length v.roster.names) fits few_here) }

@@ -1,5 +1,5 @@
 use Rattle.std.proofs.Common.{◌≡◌, ◌<◌, ◌^◌, ap, sym, subst, ◌∙◌, ◌++◌, length, List}
-use Rattle.rds_counts.specs.declared.row.CountRow.{CountRow}
+use Rattle.rds_counts.specs.Counted.{Counted}
 use Rattle.rds_counts.specs.RowsOf.{count_rows}
 use Rattle.rds_names.specs.declared.entry.Entry.{Entry}
 use Rattle.rds_dots.specs.declared.dot.Dot.{Dot}
@@ -7,8 +7,8 @@ use Rattle.rds_dots.specs.Dots.{Dots}
 use Rattle.rds_dots.specs.Runs.{runs_of}
 use Rattle.rds_life.specs.Life.{seen_of, live_rows}
 use Rattle.rds_codec.specs.DotRows.{rows_from, CanCountAll}
-use Rattle.rds_codec.specs.Spelling.{dots_text, live_rows_text, count_rows_text}
-use Rattle.rds_codec.proofs.SnapshotFormats.{state_within}
+use Rattle.rds_codec.specs.Spelling.{dots_text, live_rows_text, counters_text}
+use Rattle.rds_codec.proofs.StateFormats.{state_within}
 use Rattle.rds_codec.proofs.Texts.{state_parts, OnOk-map}
 use Rattle.rds_codec.proofs.states.put_state.Goals as goal
 
@@ -24,24 +24,22 @@ put_live_rows-requires g c =
     let live : c.as_slice.result.now ≡ live_rows v.lives = c.as_slice.ensures.value ∙ c.live.ensures.rows ∙ ap live_rows c.lives-lives.ensures in
     subst (λ (rows : List (Dot × Entry)). length rows < 2 ^ 32) (sym live) (state_within v c.requires.within).rows
 
-pub put_count_rows-requires : goal.put_count_rows-requires
-put_count_rows-requires g c =
+pub put_counters-requires : goal.put_counters-requires
+put_counters-requires g c =
     let v = c.args.state.now in
-    let counts : c.rows.result.now ≡ count_rows v.counts = c.rows.ensures.only ∙ ap count_rows c.counts.ensures in
-    subst (λ (rows : List CountRow). length rows < 2 ^ 32) (sym counts) (state_within v c.requires.within).counts
+    subst (λ (m : Counted). length (count_rows m) < 2 ^ 32) (sym c.counts.ensures) (state_within v c.requires.within).counts
 
 pub returns : goal.returns
 returns g c =
     let v = c.args.state.now in
     let seen : g.S.DotSet.contents c.seen.result.now ≡ seen_of v.lives = c.seen.ensures ∙ ap seen_of c.lives-lives.ensures in
     let live : c.as_slice.result.now ≡ live_rows v.lives = c.as_slice.ensures.value ∙ c.live.ensures.rows ∙ ap live_rows c.lives-lives.ensures in
-    let counts : c.rows.result.now ≡ count_rows v.counts = c.rows.ensures.only ∙ ap count_rows c.counts.ensures in
     let a = c.args.out.now.items in
     let b = c.put_dots.new.out.items in
     let p = c.put_live_rows.new.out.items in
-    OnOk-map c.put_count_rows.result
-    (λ last. state_parts v a b p c.put_count_rows.new.out.items
+    OnOk-map c.put_counters.result
+    (λ last. state_parts v a b p c.put_counters.new.out.items
     (c.in_ok-put_dots.ensures ∙ ap (λ (s : Dots). a ++ dots_text s) seen)
     (c.in_ok-put_live_rows.ensures ∙ ap (λ (rows : List (Dot × Entry)). b ++ live_rows_text rows) live)
-    (last ∙ ap (λ (rows : List CountRow). p ++ count_rows_text rows) counts))
-    c.put_count_rows.ensures
+    (last ∙ ap (λ (m : Counted). p ++ counters_text m) c.counts.ensures))
+    c.put_counters.ensures

@@ -1,0 +1,114 @@
+-- A state is a format.
+use Rattle.rds_codec.proofs.Within.{dots_within, live_within, counts_within}
+use Rattle.rds_codec.proofs.ManyDots.{many_of, of_many}
+use Rattle.std.proofs.Common.{◌≡◌, ℕ, ◌^◌, ◌<◌, ◌≤◌, inl, inr, false, List, ◌++◌, length, sym, subst, arith, length-append}
+use Rattle.std.specs.List.{AllByRecursion}
+use Rattle.std.specs.FinSet as set
+use Rattle.std.proofs.lemmas.Bool.{ltb-false, le-ltb}
+use Rattle.rds_names.specs.declared.entry.Entry.{Entry}
+use Rattle.rds_dots.specs.declared.dot.Dot.{Dot}
+use Rattle.rds_dots.specs.Dots.{Dots}
+use Rattle.rds_life.specs.Life.{Lived, lived, seen_of, live_rows}
+use Rattle.rds_life.proofs.Views.{rows_of_lives, lived_of_parts, seen_of-lived, live_rows-lived}
+use Rattle.rds_codec.specs.declared.limits.TheConstants.{LIMIT, MOST_DOTS}
+use Rattle.rds_counts.specs.Counted.{Counted}
+use Rattle.rds_counts.specs.RowsOf.{count_rows}
+use Rattle.rds_state.specs.Value.{StateValue}
+use Rattle.rds_codec.specs.Values.{AreDotsOf, IsLiveRow, IsStateOf}
+use Rattle.rds_codec.specs.Kinds.{state_kind}
+use Rattle.rds_codec.specs.Spelling.{dots_text, live_rows_text, counters_text, state_text}
+use Rattle.rds_codec.specs.Reading as read
+use Rattle.rds_codec.specs.Reading.{then_at, pair_at, StateParts}
+use Rattle.rds_codec.proofs.Format.{IsFormat, IsPlain, Never, plain_pair, then_format, LargeThen, made_format, relarge}
+use Rattle.rds_codec.proofs.Whole.{IsReaderOf, reader_of}
+use Rattle.rds_codec.proofs.DotFormats.{CanCountDots, AreDots, TooMany, dots_format}
+use Rattle.rds_codec.proofs.CounterFormats.{AreCounts, counters_format}
+use Rattle.rds_codec.proofs.LiveFormats.{AreLive, CanCountRows, live_format}
+
+abbrev IsRead : ℕ → Dots → Type 0
+IsRead replicas s = AreDots replicas s × (read.is_over s ≡ false)
+
+abbrev Tail : Type 0
+Tail = List (Dot × Entry) × Counted
+
+abbrev tail_text : Dots → Tail → List ℕ
+tail_text s p = live_rows_text p.0 ++ counters_text p.1
+
+abbrev IsTail : ℕ → Dots → Tail → Type 0
+IsTail replicas s p = (CanCountRows p.0 × AreLive s p.0) × AreCounts replicas p.1
+
+tail_format : (replicas : ℕ) (s : Dots) → IsRead replicas s → IsPlain (pair_at (read.live_rows_at s) (read.counters_at replicas)) (tail_text s) (IsTail replicas s)
+tail_format replicas s fits = plain_pair _ _ _ _ _ _ (live_format s (λ d h. (fits.0.0 d h).0)) (counters_format replicas)
+
+abbrev parts_text : StateParts → List ℕ
+parts_text b = dots_text b.0 ++ tail_text b.0 b.1
+
+abbrev AreParts : ℕ → StateParts → Type 0
+AreParts replicas b = IsRead replicas b.0 × IsTail replicas b.0 b.1
+
+parts_format : (replicas : ℕ) → IsFormat (then_at (read.dots_at replicas) (λ seen. pair_at (read.live_rows_at seen) (read.counters_at replicas))) parts_text (AreParts replicas) (TooMany replicas)
+parts_format replicas =
+    let f = read.dots_at replicas in
+    let g = λ (s : Dots). pair_at (read.live_rows_at s) (read.counters_at replicas) in
+    let p = dots_format replicas in
+    relarge (then_at f g) parts_text (AreParts replicas) (LargeThen f g dots_text tail_text (IsRead replicas) (IsTail replicas) (TooMany replicas) (λ _. Never) p (tail_format replicas)) (TooMany replicas)
+    (λ bytes h. elim h [ inl x ↦ x | inr y ↦ absurd y.4 ]) (λ bytes h. inl h)
+    (then_format f g dots_text tail_text (IsRead replicas) (IsTail replicas) (TooMany replicas) (λ _. Never) p (tail_format replicas))
+
+abbrev parts_of : StateValue → StateParts
+parts_of v = (seen_of v.lives, (live_rows v.lives, v.counts))
+
+-- its rows can be counted in their fields
+pub record CanCountState (v : StateValue) : Type 0 where
+  pub dots : CanCountDots (seen_of v.lives)
+  pub rows : CanCountRows (live_rows v.lives)
+  pub counts : length (count_rows v.counts) < 2 ^ 32
+
+abbrev pub FitsState : ℕ → StateValue → Type 0
+FitsState replicas v = IsStateOf replicas v × CanCountState v
+
+same_state : (v : StateValue) (l : Lived) → l ≡ v.lives → (let w : StateValue = record { lives = l; counts = v.counts } in w) ≡ v
+same_state v l e i = record { lives = e i; counts = v.counts }
+
+state_there : (replicas : ℕ) (v : StateValue) → FitsState replicas v → AreParts replicas (parts_of v) × (read.state_by (parts_of v) ≡ v)
+state_there replicas v h =
+    let is = h.0 in
+    let can = h.1 in (
+      (((is.dots, can.dots), le-ltb 65536 (set.len (seen_of v.lives)) is.few), ((can.rows, (rows_of_lives v.lives, is.entries)), (is.counts, can.counts))),
+      same_state v (lived (seen_of v.lives) (live_rows v.lives)) (lived_of_parts v.lives),
+    )
+
+state_back : (replicas : ℕ) (p : StateParts) → AreParts replicas p → FitsState replicas (read.state_by p) × (parts_of (read.state_by p) ≡ p)
+state_back replicas p h =
+    let s = p.0 in
+    let rows = p.1.0 in
+    let seen = seen_of-lived s rows in
+    let live = live_rows-lived s rows h.1.0.1.0 in
+    let dots = h.0 in
+    let is : IsStateOf replicas (read.state_by p) = record {
+      dots = subst (AreDotsOf replicas) (sym seen) dots.0.0;
+      few = subst (λ (x : Dots). set.len x ≤ MOST_DOTS) (sym seen) (ltb-false 65536 (set.len s) dots.1);
+      entries = subst (AllByRecursion IsLiveRow) (sym live) h.1.0.1.1;
+      counts = h.1.1.0;
+    } in
+    let can : CanCountState (read.state_by p) = record { dots = subst CanCountDots (sym seen) dots.0.1; rows = subst CanCountRows (sym live) h.1.0.0; counts = h.1.1.1 } in
+    ((is, can), (λ i. (seen i, (live i, p.1.1))))
+
+pub state_format : (replicas : ℕ) → IsFormat (read.state_at replicas) state_text (FitsState replicas) (TooMany replicas)
+unfolding read.state_at state_text
+state_format replicas = made_format read.state_by parts_of _ parts_text (AreParts replicas) (FitsState replicas) (TooMany replicas) (state_there replicas) (state_back replicas) (parts_format replicas)
+
+pub state_within : (v : StateValue) → length (state_text v) ≤ LIMIT → CanCountState v
+unfolding state_text
+state_within v le =
+    let dots = dots_text (seen_of v.lives) in
+    let rows = live_rows_text (live_rows v.lives) in
+    let counts = counters_text v.counts in
+    let a = length-append dots (rows ++ counts) in
+    let b = length-append rows counts in
+    record { dots = dots_within (seen_of v.lives) (omega arith); rows = live_within (live_rows v.lives) (omega arith); counts = counts_within v.counts (omega arith) }
+
+pub state_reader : (replicas : ℕ) → IsReaderOf (state_kind replicas) (read.state_at replicas)
+state_reader replicas =
+    reader_of (state_kind replicas) (read.state_at replicas) (FitsState replicas) (TooMany replicas) (state_format replicas) (λ v h. h.0) (λ v is le. (is, state_within v le))
+    (many_of replicas) (of_many replicas)

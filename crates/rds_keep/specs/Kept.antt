@@ -1,0 +1,12 @@
+-- Which replicas can be kept.
+use Rattle.std.specs.Prelude.{◌≤◌, length}
+use Rattle.rds_life.specs.Life.{seen_of}
+use Rattle.rds_state.specs.Fits.{ReplicaValue}
+use Rattle.rds_codec.specs.Spelling.{snapshot_text}
+use Rattle.rds_codec.specs.Values.{AreFew, IsSnapshot}
+use Rattle.rds_codec.specs.declared.limits.TheConstants.{LIMIT}
+
+-- its text is within the limit, and is read again where its dots are no more than are read
+pub record IsKept (v : ReplicaValue) : Type 0 where
+  pub within : length (snapshot_text v) ≤ LIMIT
+  pub value : AreFew (seen_of v.state.lives) → IsSnapshot v

@@ -1,0 +1,44 @@
+//! A replica that takes its old text's place.
+ghost use Rattle.std.specs.Prelude.{◌≡◌, true, false, is_ok, IfOk, IfErr, OnOk, OnErr};
+ghost use Rattle.std.specs.Io.KnownBytes.{Appends};
+ghost use Rattle.rds_codec.specs.Spelling.{snapshot_text};
+ghost use Rattle.rds_keep.specs.Parts.{AppendsFront};
+ghost use Rattle.rds_keep.specs.Snapshots.{RefusesText};
+
+use crate::counted::Counted;
+use crate::kept::Kept;
+use crate::place::Place;
+use crate::snapshots::write_snapshot;
+use rds_dots::DotSet;
+use rds_names::Fault;
+use rds_state::Replica;
+use std::alloc::Global;
+
+/// Writes the replica's snapshot into the place, syncs it and renames it: only then is the replica
+/// kept. Its caller gives a place that wasn't renamed.
+///
+/// Refuses as `write_snapshot` does; a sync or a rename that fails is `Device` too. After a refusal
+/// the place isn't renamed, and holds a beginning of the text, which may be all of it.
+#[tactic(auto, using(crate::proofs::TextParts::refused_after, crate::proofs::TextParts::stays_written))]
+pub fn keep_in<S: DotSet, P: Place>(
+    alloc: Global,
+    replica: &Replica<S>,
+    place: &mut Counted<P>,
+) -> Result<Kept<S>, Fault>
+    requires { place.old.renamed ≡ false }
+    ensures kept { IfOk result (λ kept. kept ≡ replica.now) }
+    ensures bytes { OnOk result (Appends (P.contents place.old.inner)
+        (P.contents place.new.inner) (snapshot_text replica.now)) }
+    ensures place { OnOk result (P.renamed place.new.inner ≡ true) }
+    ensures renamed { place.new.renamed ≡ is_ok result }
+    ensures front { OnErr result (AppendsFront (P.contents place.old.inner)
+        (P.contents place.new.inner) (snapshot_text replica.now)) }
+    ensures refused { IfErr result (RefusesText (snapshot_text replica.now) place.old place.new) }
+    ensures steady { OnOk result (place.new.failed ≡ place.old.failed) }
+    ensures turns { place.new.turns ≡ place.old.turns }
+{
+    let kept = write_snapshot(alloc, replica, place)?;
+    place.sync()?;
+    place.rename()?;
+    Ok(kept)
+}
