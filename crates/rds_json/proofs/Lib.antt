@@ -1,0 +1,3 @@
+pub mod Names
+pub mod Plain
+pub mod Sizes

@@ -1,0 +1,86 @@
+-- What stands behind the word of a line. Members are counted and their kinds judged first, then the members from left to right.
+use Rattle.std.specs.Prelude.{ℕ, ◌==◌, List, Option, Some, None, Result, Ok, Err, if◌then◌else◌}
+use Rattle.serde_json.specs.Data.{Data}
+use Rattle.serde_json.specs.Find.{at}
+use Rattle.rds_names.specs.declared.fault.Fault.{Fault}
+use Rattle.rds_names.specs.declared.fault.Fault.TheVariants.{BadLine}
+use Rattle.rds_names.specs.Key.{key_of}
+use Rattle.rds_names.specs.Name.{name_of}
+use Rattle.rds_names.specs.Path.{path_of}
+use Rattle.rds_json.specs.declared.parts.AnswerAt.{AnswerAt}
+use Rattle.rds_json.specs.declared.parts.CounterAt.{CounterAt}
+use Rattle.rds_json.specs.declared.parts.PlaceAt.{PlaceAt}
+use Rattle.rds_json.specs.declared.parts.ValueAt.{ValueAt}
+use Rattle.rds_json.specs.MayGive.{and_then}
+use Rattle.rds_json.specs.Members.{member_count, number_at, text_at}
+use Rattle.rds_json.specs.Scalar.{scalar_of}
+
+-- what a line of n members says; a line of another number says nothing
+abbrev pub of_count : {X : Type 0} → ℕ → Data → Result X Fault → Result X Fault
+of_count n d said = if member_count d == n then said else Err BadLine
+
+-- ---- [WORD, W]
+
+abbrev pub named : Option (List ℕ) → Result (List ℕ) Fault
+named (Some name) = name_of name
+named None = Err BadLine
+
+abbrev pub replica_at : Data → Result (List ℕ) Fault
+replica_at d = of_count 2 d (named (text_at 1 d))
+
+-- ---- [WORD, K]
+
+abbrev pub numbered : Option ℕ → Result ℕ Fault
+numbered (Some n) = Ok n
+numbered None = Err BadLine
+
+abbrev pub number_alone : Data → Result ℕ Fault
+number_alone d = of_count 2 d (numbered (number_at 1 d))
+
+-- ---- [WORD, W, K]
+
+abbrev pub named_answer : List ℕ → ℕ → Result AnswerAt Fault
+named_answer name ask = and_then (name_of name) (λ n. Ok (record { name = n; ask = ask }))
+
+abbrev pub answer_from : Option (List ℕ) → Option ℕ → Result AnswerAt Fault
+answer_from (Some name) (Some ask) = named_answer name ask
+answer_from _ _ = Err BadLine
+
+abbrev pub answer_at : Data → Result AnswerAt Fault
+answer_at d = of_count 3 d (answer_from (text_at 1 d) (number_at 2 d))
+
+-- ---- [WORD, W, PATH]
+
+abbrev pub named_place : List ℕ → List ℕ → Result PlaceAt Fault
+named_place name path = and_then (name_of name) (λ n. and_then (path_of path) (λ p. Ok (record { name = n; path = p })))
+
+abbrev pub place_from : Option (List ℕ) → Option (List ℕ) → Result PlaceAt Fault
+place_from (Some name) (Some path) = named_place name path
+place_from _ _ = Err BadLine
+
+abbrev pub place_at : Data → Result PlaceAt Fault
+place_at d = of_count 3 d (place_from (text_at 1 d) (text_at 2 d))
+
+-- ---- [WORD, W, PATH, VALUE]
+
+abbrev pub named_value : List ℕ → List ℕ → Data → Result ValueAt Fault
+named_value name path value = and_then (name_of name) (λ n. and_then (path_of path) (λ p. and_then (scalar_of value) (λ v. Ok (record { name = n; path = p; value = v }))))
+
+abbrev pub value_from : Option (List ℕ) → Option (List ℕ) → Option Data → Result ValueAt Fault
+value_from (Some name) (Some path) (Some value) = named_value name path value
+value_from _ _ _ = Err BadLine
+
+abbrev pub value_at : Data → Result ValueAt Fault
+value_at d = of_count 4 d (value_from (text_at 1 d) (text_at 2 d) (at 3 d))
+
+-- ---- [WORD, W, KEY, BY]
+
+abbrev pub named_counter : List ℕ → List ℕ → ℕ → Result CounterAt Fault
+named_counter name key by = and_then (name_of name) (λ n. and_then (key_of key) (λ k. Ok (record { name = n; key = k; by = by })))
+
+abbrev pub counter_from : Option (List ℕ) → Option (List ℕ) → Option ℕ → Result CounterAt Fault
+counter_from (Some name) (Some key) (Some by) = named_counter name key by
+counter_from _ _ _ = Err BadLine
+
+abbrev pub counter_at : Data → Result CounterAt Fault
+counter_at d = of_count 4 d (counter_from (text_at 1 d) (text_at 2 d) (number_at 3 d))

@@ -1,0 +1,134 @@
+//! Views as compact JSON.
+ghost use Rattle.std.specs.Prelude.{◌≡◌, IfErr, IfOk, OnOk, string_bytes};
+ghost use Rattle.rds_names.specs.declared.fault.Fault.TheVariants.{Memory};
+ghost use Rattle.serde_json.specs.Data.{put};
+ghost use Rattle.serde_json.specs.View.{members_view, view};
+ghost use Rattle.serde_json.specs.Written.{compact_text};
+ghost use Rattle.rds_tree.specs.Shown.{shown, maps_shown};
+ghost use Rattle.rds_json.specs.Show.{scalar_data, scalars_data, values_data, sums_data, maps_data, data_of};
+
+use rds_names::{Fault, Key, Scalar};
+use rds_tree::{Maps, Scalars, Sums, Values, View};
+use serde_json::{Map, Value};
+use std::alloc::Global;
+
+fn put(alloc: Global, map: &mut Map<String, Value>, key: &str, value: Value) -> Result<(), Fault>
+    ensures ok { OnOk result (members_view map.new.entries ≡ put key.now (view value) (members_view map.old.entries)) }
+    ensures memory { IfErr result (λ fault. fault ≡ Memory) }
+{
+    let key = String::from_str(alloc, key)?;
+    map.insert(key, value)?;
+    Ok(())
+}
+
+fn scalar_value(alloc: Global, scalar: &Scalar) -> Result<Value, Fault>
+    ensures ok { IfOk result (λ v. view v ≡ scalar_data scalar.now) }
+    ensures memory { IfErr result (λ fault. fault ≡ Memory) }
+{
+    match scalar {
+        Scalar::Null => Ok(Value::Null),
+        Scalar::Bool(truth) => Ok(Value::Bool(*truth)),
+        Scalar::Int(number) => Ok(Value::from(*number)),
+        Scalar::Text(text) => Ok(Value::String(String::from_str(alloc, text.as_str())?)),
+    }
+}
+
+fn scalars_value(alloc: Global, scalars: &[Scalar]) -> Result<Value, Fault>
+    ensures ok { IfOk result (λ v. view v ≡ scalars_data scalars.now) }
+    ensures memory { IfErr result (λ fault. fault ≡ Memory) }
+{
+    let mut items = Vec::new(alloc);
+    for scalar in scalars {
+        items.push(scalar_value(alloc, scalar)?)?;
+    }
+    Ok(Value::Array(items))
+}
+
+fn values_value(alloc: Global, rows: &[(Key, Scalars)]) -> Result<Value, Fault>
+    ensures ok { IfOk result (λ v. view v ≡ values_data rows.now) }
+    ensures memory { IfErr result (λ fault. fault ≡ Memory) }
+{
+    let mut map = Map::new(alloc);
+    let mut rest = rows;
+    'putting: loop {
+        let (row, later) = match rest.split_first() {
+            Some(parts) => parts,
+            None => return Ok(Value::Object(map)),
+        };
+        put(
+            alloc,
+            &mut map,
+            row.0.as_str(),
+            scalars_value(alloc, row.1.rows())?,
+        )?;
+        rest = later;
+    }
+}
+
+fn sums_value(alloc: Global, rows: &[(Key, i64)]) -> Result<Value, Fault>
+    ensures ok { IfOk result (λ v. view v ≡ sums_data rows.now) }
+    ensures memory { IfErr result (λ fault. fault ≡ Memory) }
+{
+    let mut map = Map::new(alloc);
+    let mut rest = rows;
+    'putting: loop {
+        let (row, later) = match rest.split_first() {
+            Some(parts) => parts,
+            None => return Ok(Value::Object(map)),
+        };
+        put(alloc, &mut map, row.0.as_str(), Value::from(row.1))?;
+        rest = later;
+    }
+}
+
+#[cycle(showing)]
+fn maps_value(alloc: Global, maps: &Maps) -> Result<Value, Fault>
+    ensures ok { IfOk result (λ v. view v ≡ maps_data (maps_shown maps.now)) }
+    ensures memory { IfErr result (λ fault. fault ≡ Memory) }
+{
+    let mut map = Map::new(alloc);
+    let mut rest = maps.rows();
+    'putting: loop {
+        let (row, later) = match rest.split_first() {
+            Some(parts) => parts,
+            None => return Ok(Value::Object(map)),
+        };
+        put(alloc, &mut map, row.0.as_str(), view_value(alloc, &row.1)?)?;
+        rest = later;
+    }
+}
+
+#[cycle(showing)]
+fn view_value(alloc: Global, shape: &View) -> Result<Value, Fault>
+    ensures ok { IfOk result (λ v. view v ≡ data_of (shown shape.now)) }
+    ensures memory { IfErr result (λ fault. fault ≡ Memory) }
+{
+    let mut map = Map::new(alloc);
+    if let Some(sums) = &shape.counters {
+        put(alloc, &mut map, "counters", sums_value(alloc, sums.rows())?)?;
+    }
+    put(alloc, &mut map, "maps", maps_value(alloc, &shape.maps)?)?;
+    put(
+        alloc,
+        &mut map,
+        "regs",
+        values_value(alloc, shape.regs.rows())?,
+    )?;
+    put(
+        alloc,
+        &mut map,
+        "sets",
+        values_value(alloc, shape.sets.rows())?,
+    )?;
+    Ok(Value::Object(map))
+}
+
+/// The view as compact JSON: an object with the members "counters" (at the root of the document alone), "maps", "regs"
+/// and "sets". In each of these the keys stand in ascending order, with a view, an ascending array of values, or a sum.
+pub fn show(alloc: Global, view: &View) -> Result<String, Fault>
+    ensures ok { IfOk result (λ text. string_bytes text ≡ compact_text (data_of (shown view.now))) }
+    ensures memory { IfErr result (λ fault. fault ≡ Memory) }
+{
+    let value = view_value(alloc, view)?;
+    Ok(value.to_string(alloc)?)
+}

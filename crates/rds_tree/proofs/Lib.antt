@@ -1,0 +1,16 @@
+pub mod Adding
+pub mod CountedKeys
+pub mod Distinct
+pub mod Growing
+pub mod HereValues
+pub mod InOrder
+pub mod Kids
+pub mod MapsShown
+pub mod Members
+pub mod Reached
+pub mod Rows
+pub mod SameDocument
+pub mod SameView
+pub mod Shows
+pub mod Walked
+pub mod Witness

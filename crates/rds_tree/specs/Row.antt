@@ -1,0 +1,64 @@
+-- The rows of a tree: live dots with what is left of their paths.
+use Rattle.std.specs.Prelude.{◌≡◌, ℕ, ◌+◌, nat_le, suc, Bool, true, false, ◌&&◌, ◌||◌, List, [], ◌∷◌, ◌++◌, length, map}
+use Rattle.std.specs.List.{list_all, list_any}
+use Rattle.rds_tree.specs.declared.leaf.Leaf.{Leaf}
+use Rattle.rds_tree.specs.Document.{Placed}
+
+-- a live dot, and the keys that lead to it
+pub record Row : Type 0 where
+  pub path : List (List ℕ)
+  pub leaf : Leaf
+
+abbrev pub under : List ℕ → Row → Row
+under k r = record { path = k ∷ r.path; leaf = r.leaf }
+
+abbrev pub at_end : Leaf → Row
+at_end l = record { path = []; leaf = l }
+
+-- the rows below each key, one key after the other
+abbrev pub rows_below : List (List ℕ × List Row) → List Row
+rows_below [] = []
+rows_below (c ∷ cs) = map (under c.0) c.1 ++ rows_below cs
+
+-- those that stand here, and those below
+abbrev pub rows_of : List Leaf → List (List ℕ × List Row) → List Row
+rows_of leaves children = map at_end leaves ++ rows_below children
+
+abbrev pub is_full : {X : Type 0} → List X → Bool
+is_full [] = false
+is_full (x ∷ xs) = true
+
+-- no child is empty
+abbrev pub are_full : List (List ℕ × List Row) → Bool
+are_full [] = true
+are_full (c ∷ cs) = is_full c.1 && are_full cs
+
+-- how long the paths are, taken together
+abbrev pub weight : List Row → ℕ
+weight [] = 0
+weight (r ∷ rows) = suc (length r.path) + weight rows
+
+-- the row without its dot
+abbrev pub placed : Row → Placed
+placed r = record { path = r.path; kind = r.leaf.kind; value = r.leaf.value }
+
+abbrev pub placed_all : List Row → List Placed
+placed_all rows = map placed rows
+
+-- each child with what stands there, without dots
+abbrev pub seen : List (List ℕ × List Row) → List (List ℕ × List Placed)
+seen cs = map (λ c. (c.0, placed_all c.1)) cs
+
+-- whether no path has more than n keys
+abbrev pub fits : ℕ → List Row → Bool
+fits n rows = list_all (λ r. nat_le (length r.path) n) rows
+
+abbrev pub all_fit : ℕ → List (List ℕ × List Row) → Bool
+all_fit n cs = list_all (λ c. fits n c.1) cs
+
+abbrev pub row_at : List (List ℕ) → Leaf → Row
+row_at path leaf = record { path = path; leaf = leaf }
+
+-- the new rows are the old ones and this one
+pub record Adds (old : List Row) (row : Row) (new : List Row) : Type 0 where
+  pub any : (t : Row → Bool) → list_any t new ≡ (t row || list_any t old)

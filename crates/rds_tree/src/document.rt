@@ -1,0 +1,74 @@
+//! What a state's document shows.
+ghost use Rattle.std.specs.Prelude.{◌≡◌, IfOk, IfErr, OnOk};
+ghost use Rattle.rds_names.specs.declared.fault.Fault.TheVariants.{Memory};
+ghost use Rattle.rds_tree.specs.Document.{document, sums_of};
+ghost use Rattle.rds_tree.specs.Growing.{Holds, row_of, rows_under};
+ghost use Rattle.rds_tree.specs.Row.{Adds};
+ghost use Rattle.rds_tree.specs.Shown.{shown};
+ghost use Rattle.rds_tree.specs.View.{counters_at, view_of};
+
+use crate::counting::sums_of;
+use crate::leaf::Leaf;
+use crate::node::Node;
+use crate::views::{Sums, View};
+use rds_counts::Counts;
+use rds_dots::{Dot, DotSet};
+use rds_names::{Entry, Fault, Path};
+use rds_state::State;
+use std::alloc::Global;
+
+/// What the state's document shows at the path: the maps, the values of registers and the values of
+/// sets under each key there that has some, in ascending order and each once. At the root alone it
+/// shows the counters of which some number is above 0. A path at which nothing stands shows nothing.
+pub fn view<S: DotSet>(alloc: Global, state: &State<S>, path: &Path) -> Result<View, Fault>
+    ensures shown { IfOk result (λ view. shown view ≡ view_of (document state.now) path.now) }
+    ensures memory { IfErr result (λ fault. fault ≡ Memory) }
+{
+    let counters = counters_at(alloc, state.counts(), path)?;
+    let tree = tree_of(alloc, state.lives().live().as_slice(), path)?;
+    let view = tree.view_at(alloc, path.keys(), counters)?;
+    Ok(view)
+}
+
+/// What the counters stand at, if the path is the root.
+fn counters_at(alloc: Global, counts: &Counts, path: &Path) -> Result<Option<Sums>, Fault>
+    ensures ok { IfOk result (λ counters. counters ≡ counters_at path.now (sums_of counts.now)) }
+    ensures memory { IfErr result (λ fault. fault ≡ Memory) }
+{
+    if !path.is_empty() {
+        return Ok(None);
+    }
+    Ok(Some(sums_of(alloc, counts)?))
+}
+
+/// The tree of the live dots at the path or below it.
+fn tree_of(alloc: Global, rows: &[(Dot, Entry)], path: &Path) -> Result<Node, Fault>
+    ensures ok { IfOk result (λ node. Holds (rows_under path.now rows.now) node) }
+    ensures memory { IfErr result (λ fault. fault ≡ Memory) }
+{
+    let mut node = Node::new(alloc);
+    let mut rest = rows;
+    'adding: loop {
+        let (row, later) = match rest.split_first() {
+            Some(parts) => parts,
+            None => return Ok(node),
+        };
+        if row.1.path.begins_with(path) {
+            add(alloc, &mut node, row)?;
+        }
+        rest = later;
+    }
+}
+
+/// Adds a live dot to the tree.
+fn add(alloc: Global, node: &mut Node, row: &(Dot, Entry)) -> Result<(), Fault>
+    ensures ok { OnOk result (Adds node.old (row_of row.now) node.new) }
+    ensures memory { IfErr result (λ fault. fault ≡ Memory) }
+{
+    let leaf = Leaf {
+        kind: row.1.kind,
+        value: row.1.value.copy(alloc)?,
+        dot: row.0,
+    };
+    node.insert(alloc, row.1.path.keys(), leaf)
+}

@@ -1,0 +1,230 @@
+//! A tree of live dots by path.
+ghost use Rattle.std.specs.Prelude.{◌≡◌, ◌++◌, ◌∷◌, [], ℕ, ℤ, List, None, Option, true, IfOk, IfErr, OnOk, OnErr, MatchOption};
+ghost use Rattle.std.specs.BTreeSet.{IsOrdered};
+ghost use Rattle.std.specs.Option.{option_to_list};
+ghost use Rattle.rds_names.specs.declared.fault.Fault.TheVariants.{Memory};
+ghost use Rattle.rds_tree.specs.Distinct.{distinct};
+ghost use Rattle.rds_tree.specs.Gathered.{values_in};
+ghost use Rattle.rds_tree.specs.LeafOrder.{leaf_cmp};
+ghost use Rattle.rds_tree.specs.ScalarOrder.{scalar_cmp};
+ghost use Rattle.rds_tree.specs.View.{below_path, entries_view, goes_on, shown_to, values_here, with_key};
+
+use crate::leaf::Leaf;
+use crate::repeats::is_last;
+use crate::views::{Maps, Scalars, Sums, Values, View};
+use rds_names::{Fault, Key, Kind, Scalar};
+use std::alloc::Global;
+use std::collections::{BTreeMap, BTreeSet};
+use std::marker::Model;
+
+/// The live dots that stand here, and those below each key; seen as the list of both, each with the
+/// keys that are left of its path. No child is empty.
+#[derive(Drop)]
+pub struct Node {
+    leaves: BTreeSet<Leaf>,
+    children: BTreeMap<Key, Node>,
+}
+
+impl Model for Node {
+    ghost use Rattle.std.specs.Prelude.{List};
+    ghost use Rattle.rds_tree.specs.Row.{Row, rows_of, weight, are_full};
+    ghost use Rattle.std.specs.Prelude.{◌≡◌, true};
+
+    ghost Value = { List Row };
+
+    ghost view = { λ a. rows_of a.leaves.keys a.children.entries };
+
+    ghost invariant = { λ a. are_full a.children.entries ≡ true };
+
+    ghost size = { weight };
+
+    ghost use Rattle.rds_tree.specs.RowWeight.{child_is_lighter};
+
+    ghost size_decreases = { λ a h. child_is_lighter a.leaves.keys a.children.entries h };
+}
+
+impl Node {
+    ghost use Rattle.rds_tree.specs.Row.{is_full, placed_all, fits, row_at, Adds};
+    ghost use Rattle.rds_tree.specs.Shown.{shown};
+
+    /// A tree without leaves. Takes no memory.
+    pub fn new(alloc: Global) -> Node
+        ensures { result ≡ [] }
+    {
+        Node {
+            leaves: BTreeSet::new(alloc),
+            children: BTreeMap::new(alloc),
+        }
+    }
+
+    /// A tree of one leaf.
+    fn single(alloc: Global, path: &[Key], leaf: Leaf) -> Result<Node, Fault>
+        ensures ok { IfOk result (λ node. node ≡ row_at path.now leaf ∷ []) }
+        ensures memory { IfErr result (λ fault. fault ≡ Memory) }
+    {
+        match path.split_first() {
+            None => {
+                let leaves = leaf_set(alloc, leaf)?;
+                Ok(Node {
+                    leaves,
+                    children: BTreeMap::new(alloc),
+                })
+            }
+            Some((key, rest)) => {
+                let child = Node::single(alloc, rest, leaf)?;
+                let children = child_map(alloc, key, child)?;
+                Ok(Node {
+                    leaves: BTreeSet::new(alloc),
+                    children,
+                })
+            }
+        }
+    }
+
+    /// Adds a leaf at the end of the path.
+    pub fn insert(&mut self, alloc: Global, path: &[Key], leaf: Leaf) -> Result<(), Fault>
+        ensures ok { OnOk result (Adds self.old (row_at path.now leaf) self.new) }
+        ensures err { OnErr result (self.new ≡ self.old) }
+        ensures memory { IfErr result (λ fault. fault ≡ Memory) }
+    {
+        match path.split_first() {
+            None => {
+                self.leaves.insert(leaf)?;
+                Ok(())
+            }
+            Some((key, rest)) => {
+                if let Some(child) = self.children.get_mut(key) {
+                    return child.insert(alloc, rest, leaf);
+                }
+                let child = Node::single(alloc, rest, leaf)?;
+                self.children.insert(key.copy(alloc)?, child)?;
+                Ok(())
+            }
+        }
+    }
+
+    /// The node at the end of the path, unless nothing stands there or below.
+    pub fn at(&self, path: &[Key]) -> Option<&Node>
+        ensures { MatchOption result (below_path path.now (placed_all self.now) ≡ []) (λ node. placed_all node.now ≡ below_path path.now (placed_all self.now)) }
+    {
+        match path.split_first() {
+            None => Some(self),
+            Some((key, rest)) => {
+                let _in_order = self.children.len();
+                match self.children.get(key) {
+                    None => None,
+                    Some(child) => child.at(rest),
+                }
+            }
+        }
+    }
+
+    /// The view of what stands below the path, with these counters.
+    pub fn view_at(
+        &self,
+        alloc: Global,
+        path: &[Key],
+        counters: Option<Sums>,
+    ) -> Result<View, Fault>
+        ensures ok { IfOk result (λ view. fits 8 self.now ≡ true → shown view ≡ entries_view counters path.now (placed_all self.now)) }
+        ensures memory { IfErr result (λ fault. fault ≡ Memory) }
+    {
+        if let Some(node) = self.at(path) {
+            let view = node.view(alloc, counters)?;
+            return Ok(view);
+        }
+        let view = Node::new(alloc).view(alloc, counters)?;
+        Ok(view)
+    }
+
+    /// The values of a kind that stand here, each once.
+    fn values(&self, alloc: Global, kind: Kind) -> Result<Vec<Scalar>, Fault>
+        ensures ok { IfOk result (λ values. values.items ≡ values_here kind (placed_all self.now)) }
+        ensures memory { IfErr result (λ fault. fault ≡ Memory) }
+    {
+        let values = values_of(alloc, &self.leaves, kind)?;
+        Ok(values)
+    }
+
+    /// Whether a path goes on below.
+    fn goes_on(&self) -> bool
+        ensures { result ≡ goes_on (placed_all self.now) }
+    {
+        !self.children.is_empty()
+    }
+
+    /// The view of what stands below, with these counters.
+    pub fn view(&self, alloc: Global, counters: Option<Sums>) -> Result<View, Fault>
+        ensures ok { IfOk result (λ view. (n : ℕ) → fits n self.now ≡ true → shown view ≡ shown_to n counters (placed_all self.now)) }
+        ensures memory { IfErr result (λ fault. fault ≡ Memory) }
+    {
+        let mut maps = Vec::new(alloc);
+        let mut regs = Vec::new(alloc);
+        let mut sets = Vec::new(alloc);
+        for (key, child) in self.children.iter() {
+            push_values(alloc, &mut regs, key, child.values(alloc, Kind::Reg)?)?;
+            push_values(alloc, &mut sets, key, child.values(alloc, Kind::Elem)?)?;
+            if child.goes_on() {
+                maps.push((key.copy(alloc)?, child.view(alloc, None)?))?;
+            }
+        }
+        Ok(View {
+            maps: Maps::from_rows(maps),
+            regs: Values::from_rows(regs),
+            sets: Values::from_rows(sets),
+            counters,
+        })
+    }
+}
+
+/// The values of a kind in ascending order, each once.
+fn values_of(alloc: Global, leaves: &BTreeSet<Leaf>, kind: Kind) -> Result<Vec<Scalar>, Fault>
+    ensures ok { IfOk result (λ values. (values.items ≡ distinct scalar_cmp None (values_in kind leaves.now.keys)) × IsOrdered leaf_cmp leaves.now) }
+    ensures memory { IfErr result (λ fault. fault ≡ Memory) }
+{
+    let mut values = Vec::new(alloc);
+    let mut last: Option<&Scalar> = None;
+    for leaf in leaves.iter() {
+        if leaf.kind == kind && !is_last(last, &leaf.value) {
+            values.push(leaf.value.copy(alloc)?)?;
+            last = Some(&leaf.value);
+        }
+    }
+    Ok(values)
+}
+
+/// Adds the values under the key, unless there are none.
+fn push_values(
+    alloc: Global,
+    rows: &mut Vec<(Key, Scalars)>,
+    key: &Key,
+    values: Vec<Scalar>,
+) -> Result<(), Fault>
+    ensures ok { OnOk result (rows.new.items ≡ rows.old.items ++ option_to_list (with_key key.now values.items)) }
+    ensures memory { IfErr result (λ fault. fault ≡ Memory) }
+{
+    if !values.is_empty() {
+        rows.push((key.copy(alloc)?, Scalars::from_rows(values)))?;
+    }
+    Ok(())
+}
+
+/// The set of one leaf.
+fn leaf_set(alloc: Global, leaf: Leaf) -> Result<BTreeSet<Leaf>, Fault>
+    ensures ok { IfOk result (λ leaves. leaves.keys ≡ leaf ∷ []) }
+    ensures memory { IfErr result (λ fault. fault ≡ Memory) }
+{
+    let mut leaves = BTreeSet::new(alloc);
+    leaves.insert(leaf)?;
+    Ok(leaves)
+}
+
+/// The children where there is one.
+fn child_map(alloc: Global, key: &Key, child: Node) -> Result<BTreeMap<Key, Node>, Fault>
+    ensures ok { IfOk result (λ children. children.entries ≡ (key.now, child) ∷ []) }
+    ensures memory { IfErr result (λ fault. fault ≡ Memory) }
+{
+    let mut children = BTreeMap::new(alloc);
+    children.insert(key.copy(alloc)?, child)?;
+    Ok(children)
+}
