@@ -4,5 +4,6 @@ pub mod Fronts
 pub mod JoinedOnce
 pub mod Joining
 pub mod NamedTasks
+pub mod Naming
 pub mod Pieces
 pub mod Running

@@ -1,7 +1,9 @@
 -- The JSON of an answer.
-use Rattle.std.specs.Prelude.{ℕ, Bool, true, false, List, ◌++◌, codes, Option, Some, None, String, string_bytes}
+use Rattle.std.specs.Prelude.{ℕ, Bool, true, false, List, ◌++◌, codes, Option, Some, None, option_and_then, option_map, slice_get, String, string_bytes}
 use Rattle.std.specs.Fmt.{decimal}
 use Rattle.rds_names.specs.declared.fault.Fault.{Fault}
+use Rattle.rds_names.specs.Roster.{RosterValue}
+use Rattle.rds_dots.specs.declared.dot.Dot.{Dot}
 use Rattle.rds_names.specs.Fault.{number_of, name_of}
 use Rattle.rds_node.specs.declared.answer.Answer.{Answer}
 use Rattle.rds_node.specs.declared.answer.Answer.TheVariants.{Done, Edited, Asked, Answered, Shown, Refused}
@@ -22,3 +24,11 @@ answer_text (Refused fault) = codes "{\"fault\":" ++ (decimal (number_of fault) 
 abbrev pub is_refusal : Answer → Bool
 is_refusal (Refused fault) = true
 is_refusal _ = false
+
+-- the name of a dot's replica, and the dot's number there
+abbrev pub named_in : RosterValue → Dot → Option (List ℕ × ℕ)
+named_in roster dot = option_map (λ name. (name, dot.seq)) (slice_get roster.names dot.replica)
+
+-- an edit that made such a dot live, and killed so many
+abbrev pub edit_answer : RosterValue → Option Dot → ℕ → Answer
+edit_answer roster dot killed = Edited (option_and_then (named_in roster) dot) killed

@@ -2,6 +2,8 @@ pub mod Ahead
 pub mod Answer
 pub mod Answering
 pub mod Commands
+pub mod Edits
+pub mod FileWords
 pub mod Join
 pub mod JoinLaws
 pub mod Lines

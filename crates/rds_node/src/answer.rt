@@ -1,8 +1,10 @@
 //! What a line or a command on a file is answered.
-ghost use Rattle.std.specs.Prelude.{◌≡◌, Some};
-ghost use Rattle.rds_node.specs.Answer.{answer_text, is_refusal};
+ghost use Rattle.std.specs.Prelude.{◌≡◌, Some, option_and_then};
+ghost use Rattle.rds_node.specs.Answer.{answer_text, edit_answer, is_refusal, named_in};
 
-use rds_names::{Fault, Name};
+use rds_dots::Dot;
+use rds_names::{Fault, Name, Roster};
+use rds_state::Edited;
 use std::fmt::{self, Display, Formatter, Write};
 
 /// An answer. It is shown as one line of JSON, without the newline, and that takes no memory.
@@ -33,12 +35,31 @@ pub enum Answer {
 }
 
 impl Answer {
+    /// The answer to an edit of a replica of this roster.
+    pub fn of_edit(roster: &Roster, edited: &Edited) -> Answer
+        ensures { result ≡ edit_answer roster.now edited.now.dot edited.now.killed }
+    {
+        Answer::Edited {
+            dot: named_in(roster, edited.dot),
+            killed: edited.killed,
+        }
+    }
+
     /// Whether it is a refusal.
     pub fn is_refusal(&self) -> bool
         ensures { result ≡ is_refusal self.now }
     {
         matches!(self, Answer::Refused(_))
     }
+}
+
+// The name of the dot's replica, and the dot's number there.
+fn named_in(roster: &Roster, dot: Option<Dot>) -> Option<(Name, u64)>
+    ensures { result ≡ option_and_then (named_in roster.now) dot }
+{
+    let dot = dot?;
+    let name = roster.name_of(dot.replica)?;
+    Some((name, dot.seq))
 }
 
 impl Display for Answer {

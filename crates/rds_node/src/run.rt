@@ -7,14 +7,16 @@ ghost use Rattle.rds_node.specs.Refusal.{fault_of};
 ghost use Rattle.rds_node.specs.Run.{WritesJoin, IsJoinLine};
 
 use crate::commands::{Task, task_of};
+use crate::file_commands::{edit_file, init_file, show_file};
 use crate::join::join;
-use crate::output::{status_of, write_fault, write_unparsed};
+use crate::output::{status_of, write_answer, write_fault, write_unparsed};
 use crate::refusal::Refusal;
 use rds_keep::Counted;
 use rds_names::Fault;
 use std::alloc::Global;
 use std::convert::AsStr;
 use std::io::{Read, Write};
+use std::rt::Files;
 
 /// The most bytes of an input that `join` reads: two lines of the greatest length with their
 /// newlines, and one byte more.
@@ -27,7 +29,7 @@ const MOST: usize = 1_073_741_827;
 /// doesn't have are `Usage`: that line, then the library's text, and 2. Help is written and answered
 /// by 0. A reader that fails, or that gives more reads than its bound of turns, is `Device`. Where
 /// the output itself fails the answer is 1.
-pub fn run<H: AllocGlobal, R: Read, W: Write, S: AsStr>(
+pub fn run<H: Files + AllocGlobal, R: Read, W: Write, S: AsStr>(
     rt: &H,
     words: &[S],
     reader: &mut Counted<R>,
@@ -46,6 +48,14 @@ pub fn run<H: AllocGlobal, R: Read, W: Write, S: AsStr>(
     let alloc = rt.alloc();
     match task_of(alloc, words) {
         Ok(Some(Task::Join)) => run_join(alloc, reader, writer),
+        Ok(Some(Task::Init {
+            file,
+            group,
+            own,
+            names,
+        })) => write_answer(writer, init_file(rt, file, group, own, &names)),
+        Ok(Some(Task::Edit { file, edit })) => write_answer(writer, edit_file(rt, file, &edit)),
+        Ok(Some(Task::Show { file, path })) => write_answer(writer, show_file(rt, file, path)),
         Ok(_) => write_fault(writer, Fault::Usage),
         Err(error) => write_unparsed(writer, &error),
     }
