@@ -408,3 +408,12 @@ fn a_state_fits_a_replica(rt: HostRuntime) -> Result<(), Fail> {
     assert!(rt; !a.fits(&counting(alloc, &[(3, 0, 1)])?));
     Ok(())
 }
+
+#[test]
+fn a_replica_is_made_again_of_its_parts(rt: HostRuntime) -> Result<(), Fail> {
+    let (roster, own, state) = replica(rt.alloc(), 1)?.into_parts();
+    assert_eq!(rt; own, 1);
+    let again = Replica::from_parts(roster, own, state)?;
+    assert_eq!(rt; again.own(), 1);
+    Ok(())
+}

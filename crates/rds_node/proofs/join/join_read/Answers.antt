@@ -5,7 +5,7 @@ use Rattle.rds_node.proofs.join.join_read.Goals as goal
 pub returns : goal.returns
 returns g c =
     let none = emptied c.args.rest.now c.is_empty.result c.is_empty.ensures c.if-not-is_empty.false in
-    join_encoded c.args.rest.now c.args.first c.args.second.now c.in_ok-both.both c.encode_snapshot.result none c.in_ok-both.ensures.ok c.encode_snapshot.ensures
+    join_encoded c.args.rest.now c.args.first c.args.second.now c.in_ok-both.both c.encode_snapshot.result none c.in_ok-both.ensures.ok c.encode_snapshot.ensures.text
 
 pub returns-in_err-both : goal.returns-in_err-both
 returns-in_err-both g c =
