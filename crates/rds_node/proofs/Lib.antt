@@ -7,3 +7,4 @@ pub mod NamedTasks
 pub mod Naming
 pub mod Pieces
 pub mod Running
+pub mod Told

@@ -1,4 +1,5 @@
-use Rattle.std.proofs.Common.{inl, inr}
+use Rattle.rds_names.specs.declared.fault.Fault.TheVariants.{Memory}
+use Rattle.rds_node.proofs.Told.{not_refused}
 use Rattle.rds_node.proofs.file_commands.edit_file.Goals as goal
 
 pub returns : goal.returns
@@ -7,7 +8,7 @@ returns g c = record {
     c.in_ok-command.command,
     c.replica-replica.result,
     c.edited.new.replica,
-    elim c.in_ok-command.ensures [ inl memory ↦ absurd cc | inr is ↦ is ],
+    not_refused c.in_ok-command.command Memory c.in_ok-command.ensures,
     c.in_ok-answer.ensures.edited,
   );
 }
