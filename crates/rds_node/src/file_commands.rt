@@ -4,6 +4,9 @@ ghost use Rattle.rds_names.specs.declared.fault.Fault.TheVariants.{Memory};
 ghost use Rattle.rds_node.specs.Edits.{IsEdited, ShowsView, ShowsFile, EditsFile};
 ghost use Rattle.rds_node.specs.FileWords.{roster_in};
 
+#[cfg(test)]
+mod tests;
+
 use crate::answer::Answer;
 use crate::commands::EditWords;
 use crate::file_words::{command_of, roster_in};
@@ -59,11 +62,7 @@ pub fn edit_file<H: Files + AllocGlobal>(
 
 /// Shows what the document of the replica in a file has at a path. The path is judged first:
 /// `BadPath`, then `BadKey`.
-pub fn show_file<H: Files + AllocGlobal>(
-    rt: &H,
-    file: &str,
-    path: &str,
-) -> Result<Answer, Fault>
+pub fn show_file<H: Files + AllocGlobal>(rt: &H, file: &str, path: &str) -> Result<Answer, Fault>
     ensures shown { IfOk result (ShowsFile path.now) }
 {
     let alloc = rt.alloc();

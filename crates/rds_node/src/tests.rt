@@ -38,7 +38,13 @@ const COUNTED: &str = "52445331016700030161016201630000000000000000000002016e000
 00000000050000000000000002016e0100000000000000010000000000000000";
 
 // What the words write for the input, and the status.
-fn answers<H: Files + AllocGlobal + Abort>(rt: &H, words: &[&str], input: &str, output: &str, status: u8) {
+fn answers<H: Files + AllocGlobal + Abort>(
+    rt: &H,
+    words: &[&str],
+    input: &str,
+    output: &str,
+    status: u8,
+) {
     let mut written = Vec::new(rt.alloc());
     let mut reader = Counted::new(input.as_bytes());
     let mut writer = Counted::new(&mut written);
