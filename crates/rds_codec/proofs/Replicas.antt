@@ -19,7 +19,7 @@ are_below : (replicas : ℕ) (rows : List CountRow) → AllByRecursion (IsCountR
 are_below replicas [] h = refl
 are_below replicas (r ∷ rows) h = and_true _ _ (lt-ltb r.replica replicas h.0.1) (are_below replicas rows h.1)
 
-state_fits : (replicas : ℕ) (v : StateValue) → IsStateOf replicas v → Fits replicas (coordinates v)
+pub state_fits : (replicas : ℕ) (v : StateValue) → IsStateOf replicas v → Fits replicas (coordinates v)
 state_fits replicas v is =
     fits_by replicas v (seen_of v.lives) refl is.counts.rows is.counts.are_rows is.counts.value (λ d h. (is.dots d h).1) (are_below replicas is.counts.rows is.counts.each_row)
 

@@ -1,6 +1,11 @@
+pub mod AnswerTexts
+pub mod AnswerValues
+pub mod CertificateTexts
 pub mod Decoding
+pub mod DigestTexts
 pub mod DotRows
 pub mod Entries
+pub mod HelloTexts
 pub mod Kinds
 pub mod Laws
 pub mod Reading

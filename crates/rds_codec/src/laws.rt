@@ -1,5 +1,9 @@
 //! The law of texts.
 ghost use Rattle.std.specs.Prelude.{ℕ};
+ghost use Rattle.rds_codec.specs.AnswerTexts.{answer_kind};
+ghost use Rattle.rds_codec.specs.CertificateTexts.{certificate_kind};
+ghost use Rattle.rds_codec.specs.DigestTexts.{digest_kind};
+ghost use Rattle.rds_codec.specs.HelloTexts.{hello_kind};
 ghost use Rattle.rds_codec.specs.Kinds.{state_kind, snapshot_kind};
 ghost use Rattle.rds_codec.specs.Laws.{StandApart};
 
@@ -8,4 +12,8 @@ ghost use Rattle.rds_codec.specs.Laws.{StandApart};
 pub fn texts_stand_apart()
     ensures states { (replicas : ℕ) → StandApart (state_kind replicas) }
     ensures snapshots { StandApart snapshot_kind }
+    ensures digests { (replicas : ℕ) → StandApart (digest_kind replicas) }
+    ensures certificates { (replicas : ℕ) → StandApart (certificate_kind replicas) }
+    ensures answers { (replicas : ℕ) → StandApart (answer_kind replicas) }
+    ensures hellos { StandApart hello_kind }
 {}

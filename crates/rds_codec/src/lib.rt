@@ -2,9 +2,13 @@
 //! begins another.
 #![tactic(auto)]
 
+mod answers;
+mod certificates;
 mod counters;
+mod digests;
 mod entries;
 mod front;
+mod hellos;
 mod laws;
 mod limits;
 mod list;
@@ -16,6 +20,10 @@ mod snapshots;
 mod states;
 mod walking;
 
+pub use answers::{Answer, decode_answer, encode_answer};
+pub use certificates::{decode_certificate, encode_certificate};
+pub use digests::{decode_digest, encode_digest};
+pub use hellos::{Hello, VERSION, decode_hello, encode_hello};
 pub use laws::texts_stand_apart;
 pub use limits::{LIMIT, MOST_DOTS};
 pub use snapshots::{decode_snapshot, encode_snapshot};

@@ -12,7 +12,8 @@ use rds_counts::{CountRow, Counts};
 use rds_dots::Dot;
 use rds_names::{Entry, Key, Roster, Scalar};
 
-fn key_length(key: &Key) -> usize
+/// The length of a key's text.
+pub fn key_length(key: &Key) -> usize
     ensures length { result ≡ length (short_text key.now) }
     ensures most { result ≤ 65 }
     ensures is_key { is_key_text key.now ≡ true }

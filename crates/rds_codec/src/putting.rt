@@ -151,7 +151,8 @@ pub fn put_live_rows(out: &mut Vec<u8>, rows: &[(Dot, Entry)]) -> Result<(), All
     Ok(())
 }
 
-fn put_place(out: &mut Vec<u8>, key: &Key, replica: u8) -> Result<(), AllocError>
+/// A key and a replica.
+pub fn put_place(out: &mut Vec<u8>, key: &Key, replica: u8) -> Result<(), AllocError>
     ensures { Adds out.old.items out.new.items (place_text key.now replica) result }
 {
     put_key(out, key)?;

@@ -7,7 +7,7 @@ ghost use Rattle.rds_codec.specs.Kinds.{state_kind};
 ghost use Rattle.rds_codec.specs.DotRows.{rows_from};
 ghost use Rattle.rds_codec.specs.Reading.{Gives, state_at, all_of};
 ghost use Rattle.rds_codec.specs.Spelling.{state_text};
-ghost use Rattle.rds_codec.specs.Values.{AreFew, IsStateOf};
+ghost use Rattle.rds_codec.specs.Values.{AreDotsOf, AreFew, IsStateOf};
 ghost use Rattle.rds_state.specs.Fits.{Fits};
 ghost use Rattle.rds_state.specs.Value.{coordinates};
 ghost use Rattle.rds_codec.specs.Writing.{Adds, Encodes};
@@ -48,6 +48,7 @@ pub fn measure_state<S: DotSet>(state: &State<S>) -> (u16, u128)
     ensures rows { result.0 ≡ length (rows_from 0 (runs_of (seen_of state.now.lives))) }
     ensures length { result.1 ≡ length (state_text state.now) }
     ensures few { result.1 ≤ 2 ^ 101 }
+    ensures dots { (replicas : ℕ) → Fits replicas (coordinates state.now) → AreDotsOf replicas (seen_of state.now.lives) }
     ensures value { (replicas : ℕ) → Fits replicas (coordinates state.now) → AreFew (seen_of state.now.lives) → IsStateOf replicas state.now }
 {
     let lives = state.lives();
@@ -106,6 +107,7 @@ pub fn decode_state<S: DotSet>(
 /// that the text needs is taken at once.
 pub fn encode_state<S: DotSet>(alloc: Global, state: &State<S>) -> Result<Vec<u8>, Fault>
     ensures text { Encodes (state_text state.now) result }
+    ensures dots { (replicas : ℕ) → Fits replicas (coordinates state.now) → AreDotsOf replicas (seen_of state.now.lives) }
     ensures value { (replicas : ℕ) → Fits replicas (coordinates state.now) → AreFew (seen_of state.now.lives) → IsStateOf replicas state.now }
 {
     let (rows, length) = measure_state(state);

@@ -15,7 +15,7 @@ use Rattle.rds_dots.specs.RunFacts.{Bounds, parts_of, has, has_past, has_none, s
 use Rattle.rds_dots.specs.RunsOf.{are_runs}
 
 -- the first of the runs that ends after a dot: what it has, what lies before it, and the gap behind it
-record IsFirst (rs : List Run) (after : Option Dot) (f : Run) : Type 0 where
+pub record IsFirst (rs : List Run) (after : Option Dot) (f : Run) : Type 0 where
   pub bounds : Bounds f
   pub ends : comes_after after (last_of f) ≡ true
   pub inside : (d : Dot) → in_run f d ≡ true → covers rs d ≡ true
@@ -88,7 +88,7 @@ first_later r rs max after ends f is =
       gap = or_false _ _ (past_stop (start r) (stop r) (stop f + 1) (omega arith)) is.gap;
     }
 
-is_first : (rs : List Run) → are_maximal rs ≡ true → (after : Option Dot) (f : Run) → first_after after rs ≡ Some f → IsFirst rs after f
+pub is_first : (rs : List Run) → are_maximal rs ≡ true → (after : Option Dot) (f : Run) → first_after after rs ≡ Some f → IsFirst rs after f
 is_first [] max after f is = cc
 is_first (r ∷ rs) max after f is =
     let again = is_first rs (parts_of r rs max).rest after f in
@@ -98,7 +98,7 @@ is_first (r ∷ rs) max after f is =
     ] refl is
 
 -- where no run ends after a dot, no dot comes after it
-none_after : (rs : List Run) (after : Option Dot) → first_after after rs ≡ None → (d : Dot) → covers rs d ≡ true → comes_after after d ≡ true → ⊥
+pub none_after : (rs : List Run) (after : Option Dot) → first_after after rs ≡ None → (d : Dot) → covers rs d ≡ true → comes_after after d ≡ true → ⊥
 none_after [] after none d h comes = false≢true h
 none_after (r ∷ rs) after none d h comes =
     let again = none_after rs after in

@@ -22,7 +22,7 @@ module _ {X : Type 0} where
   all_at d e (x ∷ rows) all zero lt = less_of (dot_cmp d x.0) (and_left (is_above d x.0) _ all)
   all_at d e (x ∷ rows) all (suc j) lt = all_at d e rows (and_right (is_above d x.0) _ all) j (omega arith)
 
-  rises_at : (rows : List (Dot × X)) → ascends (keys rows) ≡ true → (e : Dot × X) (i j : ℕ) → i < j → j < length rows → dot_cmp (get_or rows i e).0 (get_or rows j e).0 ≡ Less
+  pub rises_at : (rows : List (Dot × X)) → ascends (keys rows) ≡ true → (e : Dot × X) (i j : ℕ) → i < j → j < length rows → dot_cmp (get_or rows i e).0 (get_or rows j e).0 ≡ Less
   rises_at [] rise e i j lt within = absurd (omega arith)
   rises_at (x ∷ rows) rise e i zero lt within = absurd (omega arith)
   rises_at (x ∷ rows) rise e zero (suc j) lt within = all_at x.0 e rows (and_left _ (ascends (keys rows)) rise) j (omega arith)
@@ -37,7 +37,7 @@ module _ {X : Type 0} where
       ap (λ o. cond (is_eq o) (Some x.1) (find dot_cmp d rows)) (before_after x.0 d less)
       ∙ find_at rows (and_right (list_all (is_above x.0) (keys rows)) _ rise) e i (omega arith) d same
 
-  find_none : (rows : List (Dot × X)) (d : Dot) (e : Dot × X) → ((k : ℕ) → k < length rows → eq_by_cmp dot_cmp d (get_or rows k e).0 ≡ false) → find dot_cmp d rows ≡ None
+  pub find_none : (rows : List (Dot × X)) (d : Dot) (e : Dot × X) → ((k : ℕ) → k < length rows → eq_by_cmp dot_cmp d (get_or rows k e).0 ≡ false) → find dot_cmp d rows ≡ None
   find_none [] d e none = refl
   find_none (x ∷ rows) d e none = ap (λ b. cond b (Some x.1) (find dot_cmp d rows)) (none 0 (omega arith)) ∙ find_none rows d e (λ k lt. none (suc k) (omega arith))
 

@@ -2,7 +2,7 @@ mod Bounds
 mod Changes
 mod Clashes
 mod Deaths
-mod Finds
+pub mod Finds
 mod Joins
 pub mod Kills
 pub mod LivedLemmas

@@ -54,6 +54,10 @@ live_row d Dead = None
 abbrev pub live_rows : Lived → List (Dot × Entry)
 live_rows v = filter_map (λ x. live_row x.0 x.1) (map.entries v)
 
+-- the live dots
+abbrev pub live_of : Lived → Dots
+live_of v = set.from_list (keys (live_rows v))
+
 -- the entry of a live dot
 abbrev pub entry_of : Option Life → Option Entry
 entry_of None = None

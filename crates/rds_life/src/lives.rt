@@ -9,7 +9,7 @@ ghost use Rattle.rds_dots.specs.declared.dot.Dot.{Dot};
 ghost use Rattle.rds_dots.specs.Ascending.{ascends};
 ghost use Rattle.rds_dots.specs.Dots.{is_dot};
 ghost use Rattle.rds_life.specs.Killed.{killed_by};
-ghost use Rattle.rds_life.specs.Life.{Live, Dead, AreRows, keys, lived, seen_of, live_rows, entry_of, is_dead, Conflicts, IsJoin, IsLeastAbove, MergeGives};
+ghost use Rattle.rds_life.specs.Life.{Live, Dead, AreRows, keys, lived, seen_of, live_of, live_rows, entry_of, is_dead, Conflicts, IsJoin, IsLeastAbove, MergeGives};
 ghost use Rattle.rds_life.specs.Rank.{rank_of};
 
 use crate::chosen::{Choice, remove_chosen};
@@ -107,12 +107,21 @@ impl<S: DotSet> Lives<S> {
         self.rows.iter()
     }
 
+    /// The dots that are live.
+    pub fn live_dots(&self, alloc: Global) -> Result<S, Fault>
+        ensures dots { IfOk result (λ live. S.contents live ≡ live_of self.now) }
+        ensures memory { IfErr result (λ fault. fault ≡ Memory) }
+    {
+        let live = dots_of(alloc, &self.rows)?;
+        Ok(live)
+    }
+
     /// The dots that are dead.
     pub fn dead(&self, alloc: Global) -> Result<S, Fault>
         ensures dots { IfOk result (λ dead. (d : Dot) → set.contains (S.contents dead) d ≡ is_dead (map.get self.now d)) }
         ensures memory { IfErr result (λ fault. fault ≡ Memory) }
     {
-        let live = dots_of(alloc, &self.rows)?;
+        let live = self.live_dots(alloc)?;
         let dead = self.seen.minus(alloc, &live)?;
         Ok(dead)
     }

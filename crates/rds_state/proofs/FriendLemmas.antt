@@ -17,9 +17,10 @@ use Rattle.rds_dots.specs.Merges.{and_left, and_right, less_of}
 use Rattle.rds_counts.specs.Place.{Place, place_cmp}
 use Rattle.rds_counts.specs.PlaceOrder.{place_total, place_exact}
 use Rattle.rds_counts.specs.Counted.{Above, number, number_from}
+use Rattle.rds_state.specs.Coordinates.{AreCompatible}
 use Rattle.rds_state.specs.Value.{StateValue, coordinates}
 use Rattle.rds_state.specs.Ahead.{Ahead, TakeGives, first_ahead, number_ahead, own_number}
-use Rattle.rds_state.specs.Friends.{AreFriends, KnowsItsOwn}
+use Rattle.rds_state.specs.Friends.{AreFriends, KnowsItsOwn, MayTake}
 
 true_of : (b : Bool) → T b → b ≡ true
 true_of true h = refl
@@ -80,9 +81,13 @@ never_ahead own a d knows (Seq n) ahead = false≢true (sym ahead.lacking ∙ kn
 never_ahead own a d knows (Plus n) ahead = differ _ (sym (no_number own a d knows) ∙ ahead.1)
 never_ahead own a d knows (Minus n) ahead = differ _ (sym (no_number own a d knows) ∙ ahead.1)
 
+-- what a replica may take is taken
+pub may_take_is_taken : (own : ℕ) (a d : StateValue) (answer : Result (Unit {0}) Fault) → MayTake own (coordinates a) (coordinates d) → TakeGives a own d answer → (answer ≡ Ok tt) ⊎ (answer ≡ Err Memory)
+may_take_is_taken own a d (Ok x) may gives = inl refl
+may_take_is_taken own a d (Err Memory) may gives = inr refl
+may_take_is_taken own a d (Err (OwnAhead o)) may gives = absurd (never_ahead own a d may.knows o gives)
+may_take_is_taken own a d (Err (Conflict r n)) may gives = absurd (gives.1.here (may.compatible.each_dot (record { replica = r; seq = n })))
+may_take_is_taken own a d (Err f) may gives = absurd gives.1
+
 pub friends_are_taken : (own peer : ℕ) (a d : StateValue) (answer : Result (Unit {0}) Fault) → AreFriends own (coordinates a) peer (coordinates d) → TakeGives a own d answer → (answer ≡ Ok tt) ⊎ (answer ≡ Err Memory)
-friends_are_taken own peer a d (Ok x) friends gives = inl refl
-friends_are_taken own peer a d (Err Memory) friends gives = inr refl
-friends_are_taken own peer a d (Err (OwnAhead o)) friends gives = absurd (never_ahead own a d friends.left_knows o gives)
-friends_are_taken own peer a d (Err (Conflict r n)) friends gives = absurd (gives.1.here (friends.compatible.each_dot (record { replica = r; seq = n })))
-friends_are_taken own peer a d (Err f) friends gives = absurd gives.1
+friends_are_taken own peer a d answer friends gives = may_take_is_taken own a d answer (record { compatible = friends.compatible; knows = friends.left_knows }) gives

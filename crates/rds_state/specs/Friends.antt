@@ -19,6 +19,11 @@ pub record AreFriends (left : ℕ) (a : Coordinates) (right : ℕ) (b : Coordina
   pub left_knows : KnowsItsOwn left a b
   pub right_knows : KnowsItsOwn right b a
 
+-- what a replica may take: it is compatible, and has nothing of the replica's own that the replica lacks
+pub record MayTake (own : ℕ) (a d : Coordinates) : Type 0 where
+  pub compatible : AreCompatible a d
+  pub knows : KnowsItsOwn own a d
+
 -- what a take answers for a friend's state: nothing is refused, but for want of memory
 abbrev pub FriendsAreTaken : Type 0
 FriendsAreTaken = (own peer : ℕ) (a d : StateValue) (answer : Result (Unit {0}) Fault)

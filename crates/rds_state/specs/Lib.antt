@@ -1,8 +1,10 @@
 pub mod Ahead
 pub mod Chosen
 pub mod Coordinates
+pub mod Document
 pub mod Edit
 pub mod Fits
 pub mod Friends
+pub mod Made
 pub mod RowsAhead
 pub mod Value

@@ -1,6 +1,8 @@
 //! The laws of the join.
-ghost use Rattle.std.specs.Prelude.{◌≡◌};
+ghost use Rattle.std.specs.Prelude.{◌≡◌, ℕ, List};
+ghost use Rattle.rds_counts.specs.Value.{value_of};
 ghost use Rattle.rds_state.specs.Coordinates.{Coordinates, AtMost, AreCompatible, join};
+ghost use Rattle.rds_state.specs.Document.{value_in};
 ghost use Rattle.rds_state.specs.Friends.{FriendsAreTaken};
 ghost use Rattle.rds_state.specs.Value.{StateValue, coordinates};
 
@@ -24,4 +26,9 @@ pub fn join_laws()
 /// friend's state is refused for want of memory alone. The function does nothing: its contract is this law.
 pub fn friends_take_each_other()
     ensures { FriendsAreTaken }
+{}
+
+/// The document of a state has the sums that its counters answer. The function does nothing: its contract is this law.
+pub fn documents_have_the_sums()
+    ensures { (v : StateValue) (key : List ℕ) → value_in (coordinates v) key ≡ value_of v.counts key }
 {}

@@ -1,5 +1,5 @@
 //! Two replicas of one group, edited apart and taking each other's whole states.
-use crate::{Command, Edited, Replica, State, join_laws};
+use crate::{Command, Edited, Replica, State, documents_have_the_sums, join_laws};
 use rds_counts::{CountRow, Counts};
 use rds_dots::{Dot, ListSet, MAX_SEQ};
 use rds_life::{Lives, Rank};
@@ -367,6 +367,7 @@ fn counting(alloc: Global, numbers: &[(u8, u64, u64)]) -> Result<State<ListSet>,
 fn states_are_joined_number_by_number(rt: HostRuntime) -> Result<(), Fail> {
     let alloc = rt.alloc();
     join_laws();
+    documents_have_the_sums();
     let mut state = counting(alloc, &[(0, 5, 0)])?;
     let other = counting(alloc, &[(0, 3, 2), (1, 1, 0)])?;
     assert!(rt; !state.same(&other));

@@ -1,8 +1,9 @@
-use Rattle.std.proofs.Common.{◌≡◌, ◌<◌, ℕ, subst, ap, ◌∙◌, length, List}
+use Rattle.std.proofs.Common.{◌≡◌, ◌<◌, ℕ, refl, subst, ap, ◌∙◌, length, List}
 use Rattle.std.specs.List.{flat_map, AllByRecursion}
 use Rattle.std.specs.FinSet as set
 use Rattle.rds_counts.specs.Place.{Place}
 use Rattle.rds_codec.specs.Values.{IsLiveRow, AreCountsOf}
+use Rattle.rds_state.proofs.FitsLemmas.{fits_dots}
 use Rattle.rds_codec.proofs.HaveTexts.{is_state_of}
 use Rattle.rds_counts.specs.Counted.{Counted, number}
 use Rattle.rds_names.specs.declared.entry.Entry.{Entry}
@@ -23,6 +24,13 @@ returns-clause-length g c =
     (c.measure_dots-rows.ensures.length ∙ ap (λ (s : Dots). length (dots_text s)) seen)
     (c.live_rows_length-live_length.ensures.length ∙ ap (λ (rows : List (Dot × Entry)). length (flat_map live_row_text rows)) live)
     (c.counters_length.ensures.length ∙ ap (λ (m : Counted). length (counters_text m)) c.counts.ensures)
+
+pub returns-clause-dots : goal.returns-clause-dots
+returns-clause-dots g c = λ replicas fits d h.
+    let v = c.args.state.now in
+    let lives = c.lives-lives.ensures in
+    let seen : g.S.DotSet.contents c.seen.result.now ≡ seen_of v.lives = c.seen.ensures ∙ ap seen_of lives in
+    (g.met.S.DotSet.within c.seen.result.now d (ap (λ (s : Dots). set.contains s d) seen ∙ h), fits_dots replicas v (seen_of v.lives) refl fits d h)
 
 pub returns-clause-value : goal.returns-clause-value
 returns-clause-value g c =

@@ -1,0 +1,166 @@
+-- A digest is a format.
+use Rattle.std.proofs.Common.{◌≡◌, ℕ, ◌+◌, ◌^◌, ◌<◌, ◌≤◌, ◌⊎◌, inl, inr, Bool, true, false, cond, List, ◌++◌, length, Ok, Err, refl, ap, subst, ◌∙◌, arith, length-append}
+use Rattle.std.specs.FinSet as set
+use Rattle.std.proofs.lemmas.Bool.{ltb-false, le-ltb}
+use Rattle.rds_dots.specs.Dots.{Dots}
+use Rattle.rds_dots.specs.Order.{dots_total}
+use Rattle.rds_counts.specs.Counted.{Counted}
+use Rattle.rds_counts.specs.RowsOf.{count_rows}
+use Rattle.rds_delta.specs.Digested.{DigestValue, IsInside}
+use Rattle.rds_names.specs.declared.fault.Fault.TheVariants.{Bad}
+use Rattle.rds_codec.specs.declared.limits.TheConstants.{LIMIT}
+use Rattle.rds_codec.specs.DigestTexts.{DigestParts, IsDigestOf, HasTooManyLive, HasTooManyInDigest, are_seen, digest_by, digest_text, live_dots_at, digest_at, digest_kind}
+use Rattle.rds_codec.specs.Reading as read
+use Rattle.rds_codec.specs.Reading.{then_at, pair_at, when_at, dots_at, counters_at}
+use Rattle.rds_codec.specs.Spelling.{dots_text, counters_text}
+use Rattle.rds_codec.proofs.Format.{IsFormat, LargeThen, bind_ok, chosen, ok_is, failed, then_format, made_format, when_format}
+use Rattle.rds_codec.proofs.CounterFormats.{AreCounts, counters_format}
+use Rattle.rds_codec.proofs.DotFormats.{CanCountDots, AreDots, TooMany, dots_format}
+use Rattle.rds_codec.proofs.LargeParts.{large_first}
+use Rattle.rds_codec.proofs.ManyDots.{many_of, of_many}
+use Rattle.rds_codec.proofs.Sequences.{three_lengths, three_added}
+use Rattle.rds_codec.proofs.Subsets.{len_inside}
+use Rattle.rds_codec.proofs.Whole.{IsReaderOf, reader_of}
+use Rattle.rds_codec.proofs.Within.{dots_within, counts_within}
+
+-- its rows can be counted in their fields
+pub record CanCountDigest (g : DigestValue) : Type 0 where
+  pub seen : CanCountDots g.seen
+  pub live : CanCountDots g.live
+  pub counts : length (count_rows g.counts) < 2 ^ 32
+
+pub digest_within : (g : DigestValue) → length (digest_text g) ≤ LIMIT → CanCountDigest g
+unfolding digest_text
+digest_within g le =
+    let all = three_lengths (dots_text g.seen) (dots_text g.live) (counters_text g.counts) in
+    record { seen = dots_within g.seen (omega (arith, all)); live = dots_within g.live (omega (arith, all)); counts = counts_within g.counts (omega (arith, all)) }
+
+module _ (replicas : ℕ) where
+  abbrev IsRead : Dots → Type 0
+  IsRead s = AreDots replicas s × (read.is_over s ≡ false)
+
+  abbrev IsLive : Dots → Dots → Type 0
+  IsLive seen live = IsRead live × (are_seen seen live ≡ true)
+
+  live_format : (seen : Dots) → IsFormat (live_dots_at replicas seen) dots_text (IsLive seen) (TooMany replicas)
+  unfolding live_dots_at
+  live_format seen = when_format (are_seen seen) _ _ _ (dots_format replicas)
+
+  abbrev Tail : Type 0
+  Tail = Dots × Counted
+
+  abbrev tail_text : Tail → List ℕ
+  tail_text p = dots_text p.0 ++ counters_text p.1
+
+  abbrev IsTail : Dots → Tail → Type 0
+  IsTail seen p = IsLive seen p.0 × AreCounts replicas p.1
+
+  tail_format : (seen : Dots) → IsFormat (pair_at (live_dots_at replicas seen) (counters_at replicas)) tail_text (IsTail seen) (TooMany replicas)
+  tail_format seen =
+      large_first (live_dots_at replicas seen) (λ _. counters_at replicas) dots_text (λ _. counters_text) (IsLive seen) (λ _. AreCounts replicas) (TooMany replicas) (live_format seen) (λ _ _. counters_format replicas)
+
+  abbrev parts_text : DigestParts → List ℕ
+  parts_text p = dots_text p.0 ++ tail_text p.1
+
+  abbrev AreParts : DigestParts → Type 0
+  AreParts p = IsRead p.0 × IsTail p.0 p.1
+
+  abbrev tail_at : Dots → read.Reader Tail
+  tail_at seen = pair_at (live_dots_at replicas seen) (counters_at replicas)
+
+  -- the first set is too large, or the second after it
+  abbrev Large : List ℕ → Type 0
+  Large = LargeThen (dots_at replicas) tail_at dots_text (λ _. tail_text) IsRead IsTail (TooMany replicas) (λ _. TooMany replicas) (dots_format replicas) (λ seen _. tail_format seen)
+
+  parts_format : IsFormat (then_at (dots_at replicas) tail_at) parts_text AreParts Large
+  parts_format = then_format (dots_at replicas) tail_at dots_text (λ _. tail_text) IsRead IsTail (TooMany replicas) (λ _. TooMany replicas) (dots_format replicas) (λ seen _. tail_format seen)
+
+  abbrev parts_of : DigestValue → DigestParts
+  parts_of g = (g.seen, (g.live, g.counts))
+
+  abbrev FitsDigest : DigestValue → Type 0
+  FitsDigest g = IsDigestOf replicas g × CanCountDigest g
+
+  there : (g : DigestValue) → FitsDigest g → AreParts (parts_of g) × (digest_by (parts_of g) ≡ g)
+  there g h =
+      let is = h.0 in
+      let can = h.1 in
+      let fewer = len_inside g.live g.seen is.inside in
+      let few = is.few in (
+        (
+          ((is.dots, can.seen), le-ltb 65536 (set.len g.seen) few),
+          (
+            (((λ d in_live. is.dots d (is.inside.each_dot d in_live), can.live), le-ltb 65536 (set.len g.live) (omega arith)), set.contains-is_subset dots_total g.live g.seen is.inside.each_dot),
+            (is.counts, can.counts),
+          ),
+        ),
+        refl,
+      )
+
+  back : (p : DigestParts) → AreParts p → FitsDigest (digest_by p) × (parts_of (digest_by p) ≡ p)
+  back p h =
+      let seen = h.0 in
+      let live = h.1.0 in
+      let counts = h.1.1 in (
+        (
+          record { dots = seen.0.0; few = ltb-false 65536 (set.len p.0) seen.1; inside = record { each_dot = set.is_subset-contains dots_total p.1.0 p.0 live.1 }; counts = counts.0 },
+          record { seen = seen.0.1; live = live.0.0.1; counts = counts.1 },
+        ),
+        refl,
+      )
+
+  digest_format : IsFormat (digest_at replicas) digest_text FitsDigest Large
+  unfolding digest_at digest_text
+  digest_format = made_format digest_by parts_of _ parts_text AreParts FitsDigest Large there back parts_format
+
+  many : (bytes : List ℕ) → Large bytes → HasTooManyInDigest replicas bytes
+  many bytes h = elim h [
+    | inl x ↦ inl (many_of replicas bytes x)
+    | inr y ↦ inr (record { seen = y.0; after = y.1; are_dots = y.2.0.0; few = ltb-false 65536 (set.len y.0) y.2.1; many = many_of replicas y.1 y.4; spelled = y.3 })
+  ]
+
+  large_live : (bytes : List ℕ) → length bytes ≤ LIMIT → HasTooManyLive replicas bytes → Large bytes
+  large_live bytes le h =
+      let len = ap length h.spelled ∙ length-append (dots_text h.seen) h.after in
+      let few = h.few in
+      inr (h.seen, h.after, ((h.are_dots, dots_within h.seen (omega arith)), le-ltb 65536 (set.len h.seen) few), h.spelled, of_many replicas h.after (omega arith) h.many)
+
+  large : (bytes : List ℕ) → length bytes ≤ LIMIT → HasTooManyInDigest replicas bytes → Large bytes
+  large bytes le h = elim h [ inl x ↦ inl (of_many replicas bytes le x) | inr y ↦ large_live bytes le y ]
+
+  pub digest_reader : IsReaderOf (digest_kind replicas) (digest_at replicas)
+  digest_reader = reader_of (digest_kind replicas) (digest_at replicas) FitsDigest Large digest_format (λ g h. h.0) (λ g is le. (is, digest_within g le)) many large
+
+-- ---- what was read as live dots is inside
+
+module _ (replicas : ℕ) (seen : Dots) (bytes : List ℕ) (live : Dots) (rest : List ℕ) where
+  pub live_found : dots_at replicas bytes ≡ Ok (live, rest) → IsInside live seen → live_dots_at replicas seen bytes ≡ Ok (live, rest)
+  unfolding live_dots_at
+  live_found read is = let yes = set.contains-is_subset dots_total live seen is.each_dot in rw (read, yes) refl
+
+  pub live_refused : dots_at replicas bytes ≡ Ok (live, rest) → ¬ (IsInside live seen) → live_dots_at replicas seen bytes ≡ Err Bad
+  unfolding live_dots_at
+  live_refused read not_inside = no (are_seen seen live) refl
+    where
+      no : (b : Bool) → are_seen seen live ≡ b → when_at (are_seen seen) (dots_at replicas) bytes ≡ Err Bad
+      no true e = absurd (not_inside (record { each_dot = set.is_subset-contains dots_total live seen e }))
+      no false e = rw (read, e) refl
+
+  pub live_inside : live_dots_at replicas seen bytes ≡ Ok (live, rest) → IsInside live seen
+  unfolding live_dots_at
+  live_inside read =
+      let a = bind_ok (dots_at replicas bytes) (λ (x : Dots × List ℕ). cond (are_seen seen x.0) (Ok x) (Err Bad)) (live, rest) read in
+      elim (chosen (are_seen seen a.0.0) (Ok a.0) (Err Bad) (Ok (live, rest)) a.2) [
+        | inl k ↦ (let same = ap (λ (x : Dots × List ℕ). x.0) (ok_is a.0 (live, rest) k.1) in record { each_dot = set.is_subset-contains dots_total live seen (subst (λ (s : Dots). are_seen seen s ≡ true) same k.0) })
+        | inr k ↦ absurd (let bad : failed {A = Dots × List ℕ} Bad ≡ Ok (live, rest) = k.1 in cc)
+      ]
+
+-- ---- its text, part after part
+
+pub digest_length : (g : DigestValue) → length (digest_text g) ≡ length (dots_text g.seen) + length (dots_text g.live) + length (counters_text g.counts)
+unfolding digest_text
+digest_length g = three_lengths (dots_text g.seen) (dots_text g.live) (counters_text g.counts)
+
+pub digest_parts : (g : DigestValue) (a b c d : List ℕ) → b ≡ a ++ dots_text g.seen → c ≡ b ++ dots_text g.live → d ≡ c ++ counters_text g.counts → d ≡ a ++ digest_text g
+unfolding digest_text
+digest_parts g a b c d p q r = three_added a b c d (dots_text g.seen) (dots_text g.live) (counters_text g.counts) p q r

@@ -1,0 +1,55 @@
+-- A hello is a format.
+use Rattle.std.proofs.Common.{◌≡◌, ℕ, ◌+◌, ◌<◌, ◌≤◌, true, List, ◌++◌, length, refl, arith}
+use Rattle.std.proofs.lemmas.Bool.{eqb-true}
+use Rattle.rds_names.specs.Roster.{RosterValue}
+use Rattle.rds_codec.specs.declared.hellos.Hello.{Hello}
+use Rattle.rds_codec.specs.HelloTexts.{HelloParts, IsHello, is_version, hello_by, hello_text, version_at, hello_at, hello_kind}
+use Rattle.rds_codec.specs.Spelling.{byte_text, member_text}
+use Rattle.rds_codec.specs.Values.{IsMember}
+use Rattle.rds_codec.proofs.Format.{IsPlain, Never, byte_format, plain_pair, made_format, when_format}
+use Rattle.rds_codec.proofs.PartFormats.{IsMemberPair, member_format}
+use Rattle.rds_codec.proofs.Sequences.{two_lengths, two_added}
+use Rattle.rds_codec.proofs.Whole.{IsReaderOf, reader_of}
+
+abbrev IsVersion : ℕ → Type 0
+IsVersion b = (b < 256) × (is_version b ≡ true)
+
+version_format : IsPlain version_at byte_text IsVersion
+unfolding version_at
+version_format = when_format is_version _ _ _ byte_format
+
+abbrev parts_of : Hello → HelloParts
+parts_of h = (h.version, (h.roster, h.own))
+
+abbrev AreParts : HelloParts → Type 0
+AreParts p = IsVersion p.0 × IsMemberPair p.1
+
+is_one : (b : ℕ) → b ≡ 1 → IsVersion b
+is_one b e = rw e (omega arith, refl)
+
+there : (h : Hello) → IsHello h → AreParts (parts_of h) × (hello_by (parts_of h) ≡ h)
+there h is =
+    let m = is.member in
+    ((is_one h.version is.version, (record { group = m.group; each_name = m.each_name; names = m.names }, m.own_number)), refl)
+
+back : (p : HelloParts) → AreParts p → IsHello (hello_by p) × (parts_of (hello_by p) ≡ p)
+back p h =
+    let roster = h.1.0 in
+    (record { version = eqb-true p.0 1 h.0.1; member = record { group = roster.group; each_name = roster.each_name; names = roster.names; own_number = h.1.1 } }, refl)
+
+hello_format : IsPlain hello_at hello_text IsHello
+unfolding hello_at hello_text
+hello_format = made_format hello_by parts_of _ (λ p. byte_text p.0 ++ member_text p.1.0 p.1.1) AreParts IsHello Never there back (plain_pair _ _ _ _ _ _ version_format member_format)
+
+pub hello_reader : IsReaderOf hello_kind hello_at
+hello_reader = reader_of hello_kind hello_at IsHello Never hello_format (λ h is. is) (λ h is le. is) (λ bytes h. absurd h) (λ bytes le h. absurd h)
+
+-- ---- its text, part after part
+
+pub hello_length : (h : Hello) → length (hello_text h) ≡ 1 + length (member_text h.roster h.own)
+unfolding hello_text
+hello_length h = two_lengths (byte_text h.version) (member_text h.roster h.own)
+
+pub hello_parts : (h : Hello) (a b c : List ℕ) → b ≡ a ++ byte_text h.version → c ≡ b ++ member_text h.roster h.own → c ≡ a ++ hello_text h
+unfolding hello_text
+hello_parts h a b c p q = two_added a b c (byte_text h.version) (member_text h.roster h.own) p q

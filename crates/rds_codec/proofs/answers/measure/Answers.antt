@@ -1,0 +1,19 @@
+use Rattle.std.proofs.Common.{sym, ◌∙◌, ◌+◌, arith}
+use Rattle.rds_codec.specs.AnswerTexts.{answer}
+use Rattle.rds_codec.proofs.AnswerFormats.{answer_length}
+use Rattle.rds_codec.proofs.ClaimTexts.{is_certificate_of}
+use Rattle.rds_codec.proofs.answers.measure.Goals as goal
+
+pub returns-clause-length : goal.returns-clause-length
+returns-clause-length g c =
+    (λ i. 1 + c.measure_state-rows.ensures.length i + c.certificate_length.ensures.length i) ∙ sym (answer_length (answer c.args.asker c.args.state.now c.args.certificate.now))
+
+pub returns-clause-value : goal.returns-clause-value
+returns-clause-value g c = λ replicas peer below fits few above certificate.
+    let v = c.args.state.now in
+    let is = c.measure_state-rows.ensures.value replicas fits few in
+    record {
+      asker = (omega (arith, c.ranges.asker.fits), below);
+      state = is;
+      certificate = is_certificate_of replicas peer v c.args.certificate.now is above certificate c.certificate_length.ensures.held;
+    }

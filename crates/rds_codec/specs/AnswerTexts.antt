@@ -1,0 +1,43 @@
+-- The text of an answer, how it is read, and which answers have one.
+use Rattle.std.specs.Prelude.{◌≡◌, ◌<◌, ℕ, List, ◌++◌}
+use Rattle.rds_state.specs.Value.{StateValue}
+use Rattle.rds_delta.specs.declared.row.Row.{Row}
+use Rattle.rds_codec.specs.AnswerValues.{AnswerValue}
+use Rattle.rds_codec.specs.CertificateTexts.{IsReplicaOf, IsCertificateOf, certificate_text, certificate_at}
+use Rattle.rds_codec.specs.Kinds.{Kind, BeginsWithTooManyDots}
+use Rattle.rds_codec.specs.Reading.{Reader, pair_at, made_at, replica_at, state_at}
+use Rattle.rds_codec.specs.Spelling.{byte_text, state_text}
+use Rattle.rds_codec.specs.Values.{IsStateOf}
+
+-- who asked, the delta, and its certificate
+unfoldable pub answer_text : AnswerValue → List ℕ
+answer_text a = byte_text a.asker ++ (state_text a.state ++ certificate_text a.certificate)
+
+abbrev pub answer : ℕ → StateValue → List Row → AnswerValue
+answer asker state certificate = record { asker = asker; state = state; certificate = certificate }
+
+abbrev pub AnswerParts : Type 0
+AnswerParts = ℕ × (StateValue × List Row)
+
+abbrev pub answer_by : AnswerParts → AnswerValue
+answer_by p = answer p.0 p.1.0 p.1.1
+
+unfoldable pub answer_at : ℕ → Reader AnswerValue
+answer_at replicas = made_at answer_by (pair_at (replica_at replicas) (pair_at (state_at replicas) (certificate_at replicas)))
+
+-- the asker is one of so many replicas, and so are those of the parts
+pub record IsAnswerOf (replicas : ℕ) (a : AnswerValue) : Type 0 where
+  pub asker : IsReplicaOf replicas a.asker
+  pub state : IsStateOf replicas a.state
+  pub certificate : IsCertificateOf replicas a.certificate
+
+-- after the asker stands, to its end, a set of more dots than the cap
+pub record HasTooManySent (replicas : ℕ) (bytes : List ℕ) : Type 0 where
+  pub asker : ℕ
+  pub after : List ℕ
+  pub is_replica : IsReplicaOf replicas asker
+  pub many : BeginsWithTooManyDots replicas after
+  pub spelled : bytes ≡ byte_text asker ++ after
+
+abbrev pub answer_kind : ℕ → Kind AnswerValue
+answer_kind replicas = record { is_value = IsAnswerOf replicas; text = answer_text; has_too_many = HasTooManySent replicas }

@@ -1,0 +1,40 @@
+-- The text of a hello, how it is read, and which hellos have one.
+use Rattle.std.specs.Prelude.{◌≡◌, ℕ, Bool, ◌==◌, List, ◌++◌}
+use Rattle.rds_names.specs.Roster.{RosterValue}
+use Rattle.rds_codec.specs.declared.hellos.Hello.{Hello}
+use Rattle.rds_codec.specs.declared.hellos.TheConstants.{VERSION}
+use Rattle.rds_codec.specs.Kinds.{Kind}
+use Rattle.rds_codec.specs.Reading.{Reader, pair_at, made_at, when_at, byte_at, member_at}
+use Rattle.rds_codec.specs.Spelling.{byte_text, member_text}
+use Rattle.rds_codec.specs.Values.{IsMember}
+
+-- the version, the roster, and the own number
+unfoldable pub hello_text : Hello → List ℕ
+hello_text h = byte_text h.version ++ member_text h.roster h.own
+
+abbrev pub is_version : ℕ → Bool
+is_version b = b == VERSION
+
+unfoldable pub version_at : Reader ℕ
+version_at = when_at is_version byte_at
+
+abbrev pub HelloParts : Type 0
+HelloParts = ℕ × (RosterValue × ℕ)
+
+abbrev pub hello_by : HelloParts → Hello
+hello_by p = record { version = p.0; roster = p.1.0; own = p.1.1 }
+
+unfoldable pub hello_at : Reader Hello
+hello_at = made_at hello_by (pair_at version_at member_at)
+
+-- the version is the one that is spoken, and the replica is one of the roster
+pub record IsHello (h : Hello) : Type 0 where
+  pub version : h.version ≡ VERSION
+  pub member : IsMember h.roster h.own
+
+-- it has no dots
+abbrev pub HasNoDots : List ℕ → Type 0
+HasNoDots bytes = ⊥
+
+abbrev pub hello_kind : Kind Hello
+hello_kind = record { is_value = IsHello; text = hello_text; has_too_many = HasNoDots }

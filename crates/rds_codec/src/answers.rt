@@ -1,0 +1,145 @@
+//! The text of an answer: who asked, the delta, and its certificate.
+ghost use Rattle.std.specs.Prelude.{◌≡◌, ◌<◌, ◌≤◌, ℕ, length};
+ghost use Rattle.rds_delta.specs.Claims.{IsCertificate};
+ghost use Rattle.rds_delta.specs.Least.{IsAbove};
+ghost use Rattle.rds_delta.specs.Ranks.{Ranks};
+ghost use Rattle.rds_state.specs.Fits.{Fits};
+ghost use Rattle.rds_state.specs.Value.{coordinates};
+ghost use Rattle.rds_dots.specs.Runs.{runs_of};
+ghost use Rattle.rds_life.specs.Life.{seen_of};
+ghost use Rattle.rds_codec.specs.AnswerTexts.{IsAnswerOf, answer, answer_text, answer_at, answer_kind};
+ghost use Rattle.rds_codec.specs.Decoding.{Decodes, ReadsAll};
+ghost use Rattle.rds_codec.specs.DotRows.{rows_from};
+ghost use Rattle.rds_codec.specs.Reading.{Gives, all_of};
+ghost use Rattle.rds_codec.specs.Values.{AreDotsOf, AreFew};
+ghost use Rattle.rds_codec.specs.Writing.{Adds, Encodes};
+
+use crate::certificates::{certificate_length, put_certificate, read_certificate};
+use crate::front::read_replica;
+use crate::limits::{LIMIT, room_for};
+use crate::putting::put_byte;
+use crate::states::{measure_state, put_state, read_state};
+use rds_delta::Certificate;
+use rds_dots::DotSet;
+use rds_names::Fault;
+use rds_state::State;
+use std::alloc::{AllocError, Global};
+use std::marker::Model;
+
+/// What answers a digest: the delta for the replica that asked, and the certificate of it.
+#[derive(Drop)]
+pub struct Answer<S: DotSet> {
+    /// The number of the replica that asked.
+    pub asker: u8,
+    /// The delta.
+    pub state: State<S>,
+    /// What the digest has in place of each component of the delta.
+    pub certificate: Certificate,
+}
+
+impl<S: DotSet> Model for Answer<S> {
+    ghost use Rattle.rds_codec.specs.AnswerValues.{AnswerValue, coded_answer};
+
+    ghost Value = { AnswerValue };
+
+    ghost coded = { coded_answer };
+
+    ghost view = { λ a. record { asker = a.asker; state = a.state; certificate = a.certificate } };
+}
+
+/// An answer of so many replicas.
+#[tactic(auto, unfolding(crate::specs::AnswerTexts::answer_at))]
+pub fn read_answer<'a, S: DotSet>(
+    alloc: Global,
+    replicas: u16,
+    bytes: &'a [u8],
+) -> Result<(Answer<S>, &'a [u8]), Fault>
+    ensures { Gives (λ x. (x.0, x.1.now)) result (answer_at replicas bytes.now) }
+{
+    let (asker, rest) = read_replica(replicas, bytes)?;
+    let (state, rest) = read_state(alloc, replicas, rest)?;
+    let (certificate, rest) = read_certificate(alloc, replicas, rest)?;
+    let answer = Answer {
+        asker,
+        state,
+        certificate,
+    };
+    Ok((answer, rest))
+}
+
+fn read_all<S: DotSet>(alloc: Global, replicas: u16, bytes: &[u8]) -> Result<Answer<S>, Fault>
+    ensures { Gives (λ x. x) result (all_of (answer_at replicas) bytes.now) }
+{
+    let (answer, rest) = read_answer(alloc, replicas, bytes)?;
+    if !rest.is_empty() {
+        return Err(Fault::Extra);
+    }
+    Ok(answer)
+}
+
+/// The answer whose text the bytes are, of a roster of so many replicas. Whether its certificate is that of its
+/// delta isn't judged: that is what `check` does.
+///
+/// The bytes are read from the left, and each part is judged as soon as it is there. Refused are bytes above the
+/// limit (`TooLong`, before anything is read); a set of more dots than are read (`TooManyDots`, before what
+/// follows it is read); bytes that go on after a text (`Extra`); and other bytes that are no text: `Cut` where
+/// they end inside a part, `Bad` where a part that is there is none.
+pub fn decode_answer<S: DotSet>(
+    alloc: Global,
+    replicas: u16,
+    bytes: &[u8],
+) -> Result<Answer<S>, Fault>
+    ensures text { Decodes (answer_kind replicas) bytes.now result }
+    ensures read { ReadsAll (answer_at replicas) bytes.now result }
+{
+    if LIMIT < bytes.len() {
+        return Err(Fault::TooLong);
+    }
+    read_all(alloc, replicas, bytes)
+}
+
+/// The number of rows of the delta's seen dots, and the length of the text.
+fn measure<S: DotSet>(asker: u8, state: &State<S>, certificate: &Certificate) -> (u16, u128)
+    ensures rows { result.0 ≡ length (rows_from 0 (runs_of (seen_of state.now.lives))) }
+    ensures length { result.1 ≡ length (answer_text (answer asker state.now certificate.now)) }
+    ensures dots { (replicas : ℕ) → Fits replicas (coordinates state.now) → AreDotsOf replicas (seen_of state.now.lives) }
+    ensures value { (replicas : ℕ) (peer : Ranks) → asker < replicas → Fits replicas (coordinates state.now) → AreFew (seen_of state.now.lives) → IsAbove (coordinates state.now) peer → IsCertificate peer state.now certificate.now → IsAnswerOf replicas (answer asker state.now certificate.now) }
+{
+    let (rows, state_length) = measure_state(state);
+    (rows, 1 + state_length + certificate_length(certificate))
+}
+
+fn put_answer<S: DotSet>(
+    out: &mut Vec<u8>,
+    asker: u8,
+    state: &State<S>,
+    rows: u16,
+    certificate: &Certificate,
+) -> Result<(), AllocError>
+    requires rows { rows ≡ length (rows_from 0 (runs_of (seen_of state.now.lives))) }
+    requires within { length (answer_text (answer asker state.now certificate.now)) ≤ LIMIT }
+    ensures { Adds out.old.items out.new.items (answer_text (answer asker state.now certificate.now)) result }
+{
+    put_byte(out, asker)?;
+    put_state(out, state, rows)?;
+    put_certificate(out, certificate)
+}
+
+/// The text of an answer with these parts, which is read again where the asker is below the roster's length and the
+/// certificate's is read again. Above the limit it is refused (`TooLong`) before any memory is taken; then all memory
+/// that the text needs is taken at once.
+pub fn encode_answer<S: DotSet>(
+    alloc: Global,
+    asker: u8,
+    state: &State<S>,
+    certificate: &Certificate,
+) -> Result<Vec<u8>, Fault>
+    ensures text { Encodes (answer_text (answer asker state.now certificate.now)) result }
+    ensures dots { (replicas : ℕ) → Fits replicas (coordinates state.now) → AreDotsOf replicas (seen_of state.now.lives) }
+    ensures value { (replicas : ℕ) (peer : Ranks) → asker < replicas → Fits replicas (coordinates state.now) → AreFew (seen_of state.now.lives) → IsAbove (coordinates state.now) peer → IsCertificate peer state.now certificate.now → IsAnswerOf replicas (answer asker state.now certificate.now) }
+{
+    let (rows, length) = measure(asker, state, certificate);
+    let mut out = room_for(alloc, length)?;
+    put_answer(&mut out, asker, state, rows, certificate)?;
+    Ok(out)
+}

@@ -1,0 +1,104 @@
+//! The text of a hello, by which a session begins.
+ghost use Rattle.std.specs.Prelude.{◌≡◌, ◌<◌, length};
+ghost use Rattle.rds_codec.specs.Decoding.{Decodes, ReadsAll};
+ghost use Rattle.rds_codec.specs.HelloTexts.{IsHello, hello_text, version_at, hello_at, hello_kind};
+ghost use Rattle.rds_codec.specs.Reading.{Gives, all_of};
+ghost use Rattle.rds_codec.specs.Writing.{Adds, Encodes};
+
+use crate::front::read_member;
+use crate::limits::{LIMIT, room_for};
+use crate::measuring::member_length;
+use crate::numbers::read_byte;
+use crate::putting::{put_byte, put_member};
+use rds_names::{Fault, Roster};
+use std::alloc::{AllocError, Global};
+
+/// The version of the texts that are spoken.
+pub const VERSION: u8 = 1;
+
+/// What a session begins with: the version of the texts that follow, the roster, and the replica's own number.
+#[derive(Drop)]
+pub struct Hello {
+    /// The version of the texts.
+    pub version: u8,
+    /// The replicas of the group.
+    pub roster: Roster,
+    /// The number of the replica that says hello.
+    pub own: u8,
+}
+
+#[tactic(auto, unfolding(crate::specs::HelloTexts::version_at))]
+fn read_version(bytes: &[u8]) -> Result<(u8, &[u8]), Fault>
+    ensures { Gives (λ x. (x.0, x.1.now)) result (version_at bytes.now) }
+{
+    let (version, rest) = read_byte(bytes)?;
+    if version != VERSION {
+        return Err(Fault::Bad);
+    }
+    Ok((version, rest))
+}
+
+#[tactic(auto, unfolding(crate::specs::HelloTexts::hello_at))]
+fn read_hello(alloc: Global, bytes: &[u8]) -> Result<(Hello, &[u8]), Fault>
+    ensures { Gives (λ x. (x.0, x.1.now)) result (hello_at bytes.now) }
+{
+    let (version, rest) = read_version(bytes)?;
+    let ((roster, own), rest) = read_member(alloc, rest)?;
+    let hello = Hello {
+        version,
+        roster,
+        own,
+    };
+    Ok((hello, rest))
+}
+
+fn read_all(alloc: Global, bytes: &[u8]) -> Result<Hello, Fault>
+    ensures { Gives (λ x. x) result (all_of hello_at bytes.now) }
+{
+    let (hello, rest) = read_hello(alloc, bytes)?;
+    if !rest.is_empty() {
+        return Err(Fault::Extra);
+    }
+    Ok(hello)
+}
+
+/// The hello whose text the bytes are. Another version than [`VERSION`] is refused (`Bad`).
+///
+/// The bytes are read from the left, and each part is judged as soon as it is there. Refused are bytes above the
+/// limit (`TooLong`, before anything is read); bytes that go on after a text (`Extra`); and other bytes that are no
+/// text: `Cut` where they end inside a part, `Bad` where a part that is there is none.
+pub fn decode_hello(alloc: Global, bytes: &[u8]) -> Result<Hello, Fault>
+    ensures text { Decodes hello_kind bytes.now result }
+    ensures read { ReadsAll hello_at bytes.now result }
+{
+    if LIMIT < bytes.len() {
+        return Err(Fault::TooLong);
+    }
+    read_all(alloc, bytes)
+}
+
+fn put_hello(out: &mut Vec<u8>, hello: &Hello) -> Result<(), AllocError>
+    ensures { Adds out.old.items out.new.items (hello_text hello.now) result }
+{
+    put_byte(out, hello.version)?;
+    put_member(out, &hello.roster, hello.own)
+}
+
+/// The length of the text.
+fn measure(hello: &Hello) -> u128
+    ensures length { result ≡ length (hello_text hello.now) }
+    ensures value { hello.now.version ≡ VERSION → hello.now.own < length hello.now.roster.names → IsHello hello.now }
+{
+    1 + member_length(&hello.roster, hello.own) as u128
+}
+
+/// The hello's text, which is read again where its version is [`VERSION`] and its own number is below the roster's
+/// length. All memory that the text needs is taken at once.
+pub fn encode_hello(alloc: Global, hello: &Hello) -> Result<Vec<u8>, Fault>
+    ensures text { Encodes (hello_text hello.now) result }
+    ensures value { hello.now.version ≡ VERSION → hello.now.own < length hello.now.roster.names → IsHello hello.now }
+{
+    let mut out = room_for(alloc, measure(hello))?;
+    put_hello(&mut out, hello)?;
+    Ok(out)
+}

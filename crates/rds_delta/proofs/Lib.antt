@@ -1,0 +1,14 @@
+pub mod AfterLemmas
+pub mod Appends
+pub mod ClaimedLemmas
+pub mod DeltaLemmas
+pub mod Digests
+pub mod Exchanges
+pub mod Grouping
+pub mod LeastLaws
+pub mod LifelessLemmas
+pub mod NextLemmas
+pub mod PartLemmas
+pub mod Sent
+pub mod Sizes
+pub mod Whole

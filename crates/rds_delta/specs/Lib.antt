@@ -1,0 +1,11 @@
+pub mod Claimed
+pub mod Claims
+pub mod CounterRows
+pub mod Digested
+pub mod Grouped
+pub mod Higher
+pub mod Least
+pub mod Next
+pub mod Parts
+pub mod Ranks
+pub mod Rest

@@ -1,0 +1,117 @@
+//! The certificate of a delta.
+ghost use Rattle.std.specs.Prelude.{◌≡◌, ◌++◌, List, true, None, IfOk, IfErr, OnOk};
+ghost use Rattle.rds_names.specs.declared.fault.Fault.TheVariants.{Memory};
+ghost use Rattle.rds_counts.specs.Counted.{number, place};
+ghost use Rattle.rds_delta.specs.declared.row.Row.{Row};
+ghost use Rattle.rds_delta.specs.Claims.{IsCertificate};
+ghost use Rattle.rds_delta.specs.CounterRows.{counter_rows, number_rows};
+ghost use Rattle.rds_delta.specs.Digested.{rank_in, ranks_in};
+ghost use Rattle.rds_delta.specs.Rest.{is_flat, row_of, rows_after};
+
+use crate::digest::Digest;
+use crate::row::{Certificate, Row};
+use crate::step::{DotRow, next_row};
+use rds_counts::{CountRow, Counts, Which};
+use rds_dots::DotSet;
+use rds_life::Lives;
+use rds_names::{Fault, Key};
+use rds_state::State;
+use std::alloc::Global;
+
+/// What the digest has in place of each component of a delta, in the fewest rows: there is one such list. It says
+/// something of a delta whose components are all above the digest, as those of a least delta are.
+pub fn certificate<S: DotSet>(
+    alloc: Global,
+    digest: &Digest<S>,
+    delta: &State<S>,
+) -> Result<Certificate, Fault>
+    ensures ok { IfOk result (λ rows. IsCertificate (ranks_in digest.now) delta.now rows) }
+    ensures unique { IfOk result (λ rows. (others : List Row) → IsCertificate (ranks_in digest.now) delta.now others → others ≡ rows) }
+    ensures memory { IfErr result (λ fault. fault ≡ Memory) }
+{
+    let mut rows = dot_rows(alloc, digest, delta.lives())?;
+    push_counts(alloc, &mut rows, digest.counts(), delta.counts().rows())?;
+    Ok(Certificate::new(rows))
+}
+
+/// The rows of all dots.
+fn dot_rows<S: DotSet>(
+    alloc: Global,
+    digest: &Digest<S>,
+    lives: &Lives<S>,
+) -> Result<Vec<Row>, Fault>
+    ensures ok { IfOk result (λ rows. (more : List Row) → is_flat more ≡ true → rows.items ++ more ≡ rows_after (rank_in digest.now) lives.now None more) }
+    ensures memory { IfErr result (λ fault. fault ≡ Memory) }
+{
+    let mut rows = Vec::new(alloc);
+    let mut after = None;
+    'telling: loop {
+        match next_row(digest, lives, after) {
+            None => return Ok(rows),
+            Some(next) => {
+                rows.push(row(next))?;
+                after = Some(next.last());
+            }
+        }
+    }
+}
+
+/// The row of a live dot, or of dead ones.
+fn row(next: DotRow) -> Row
+    ensures { result ≡ row_of next }
+{
+    match next {
+        DotRow::Live(dot, _) => Row::Live(dot),
+        DotRow::Dead(run, peer) => Row::Dead(run, peer),
+    }
+}
+
+/// Puts the rows of all numbers at the end.
+#[tactic(auto, using(crate::proofs::Appends::appends))]
+fn push_counts(
+    alloc: Global,
+    rows: &mut Vec<Row>,
+    peer: &Counts,
+    counts: &[CountRow],
+) -> Result<(), Fault>
+    ensures ok { OnOk result (rows.new.items ≡ rows.old.items ++ counter_rows (number peer.now) counts.now) }
+    ensures memory { IfErr result (λ fault. fault ≡ Memory) }
+{
+    let mut left = counts;
+    'telling: loop {
+        let (count, later) = match left.split_first() {
+            Some(parts) => parts,
+            None => return Ok(()),
+        };
+        let (p, n) = peer.pair(&count.key, count.replica);
+        push_number(alloc, rows, &count.key, count.replica, Which::P, count.p, p)?;
+        push_number(alloc, rows, &count.key, count.replica, Which::N, count.n, n)?;
+        left = later;
+    }
+}
+
+/// Puts the row of a number at the end, if it is above 0.
+fn push_number(
+    alloc: Global,
+    rows: &mut Vec<Row>,
+    key: &Key,
+    replica: u8,
+    which: Which,
+    sent: u64,
+    peer: u64,
+) -> Result<(), Fault>
+    ensures ok { OnOk result (rows.new.items ≡ rows.old.items ++ number_rows (place key.now replica which) sent peer) }
+    ensures memory { IfErr result (λ fault. fault ≡ Memory) }
+{
+    if sent == 0 {
+        return Ok(());
+    }
+    rows.push(Row::Count {
+        key: key.copy(alloc)?,
+        replica,
+        which,
+        sent,
+        peer,
+    })?;
+    Ok(())
+}

@@ -1,0 +1,144 @@
+//! The least delta.
+ghost use Rattle.std.specs.Prelude.{◌≡◌, ◌&&◌, nat_lt, cond, None, IfOk, IfErr};
+ghost use Rattle.std.specs.FinMap as map;
+ghost use Rattle.std.specs.FinSet as set;
+ghost use Rattle.rds_names.specs.declared.fault.Fault.TheVariants.{Memory};
+ghost use Rattle.rds_dots.specs.declared.dot.Dot.{Dot};
+ghost use Rattle.rds_life.specs.Life.{is_dead};
+ghost use Rattle.rds_counts.specs.Place.{Place};
+ghost use Rattle.rds_counts.specs.Counted.{number};
+ghost use Rattle.rds_state.specs.Value.{coordinates};
+ghost use Rattle.rds_delta.specs.Digested.{rank_in, ranks_in};
+ghost use Rattle.rds_delta.specs.Higher.{higher, higher_rows, is_sent, unseen_rows};
+ghost use Rattle.rds_delta.specs.Least.{least};
+ghost use Rattle.rds_delta.specs.Ranks.{life_rank};
+
+use crate::digest::Digest;
+use rds_counts::{CountRow, Counts};
+use rds_dots::{Dot, DotSet};
+use rds_life::Lives;
+use rds_names::{Entry, Fault};
+use rds_state::State;
+use std::alloc::Global;
+
+/// The least delta of a state against a digest: the state's components that are above the digest's values, and
+/// nothing else. Joined into what was digested, or into what that has become since, it does what the whole state
+/// would do.
+pub fn delta<S: DotSet>(
+    alloc: Global,
+    state: &State<S>,
+    digest: &Digest<S>,
+) -> Result<State<S>, Fault>
+    ensures ok { IfOk result (λ delta. coordinates delta ≡ least (coordinates state.now) (ranks_in digest.now)) }
+    ensures memory { IfErr result (λ fault. fault ≡ Memory) }
+{
+    let lives = lives_above(alloc, state.lives(), digest)?;
+    let counts = counts_above(alloc, state.counts(), digest.counts())?;
+    Ok(State::from_parts(lives, counts))
+}
+
+/// The lives that are above the digest's ranks.
+fn lives_above<S: DotSet>(
+    alloc: Global,
+    lives: &Lives<S>,
+    digest: &Digest<S>,
+) -> Result<Lives<S>, Fault>
+    ensures ok { IfOk result (λ above. (d : Dot) → map.get above d ≡ cond (nat_lt (rank_in digest.now d) (life_rank (map.get lives.now d))) (map.get lives.now d) None) }
+    ensures memory { IfErr result (λ fault. fault ≡ Memory) }
+{
+    let rows = rows_unseen(alloc, digest.seen(), lives.live().as_slice())?;
+    let seen = dots_above(alloc, lives, digest)?;
+    let above = Lives::from_parts(seen, rows).unwrap();
+    Ok(above)
+}
+
+/// The dots that are above the digest's ranks: those that it hasn't, and those that are dead here and live there.
+#[tactic(auto, using(crate::proofs::Sent::sets))]
+fn dots_above<S: DotSet>(alloc: Global, lives: &Lives<S>, digest: &Digest<S>) -> Result<S, Fault>
+    ensures ok { IfOk result (λ dots. (d : Dot) → set.contains (S.contents dots) d ≡ is_sent (map.get lives.now d) (set.contains digest.now.seen d) (set.contains digest.now.live d)) }
+    ensures memory { IfErr result (λ fault. fault ≡ Memory) }
+{
+    let new = lives.seen().minus(alloc, digest.seen())?;
+    let killed = dots_killed(alloc, lives, digest.live())?;
+    let sent = new.union(alloc, &killed)?;
+    Ok(sent)
+}
+
+/// The dots of a set that are dead here.
+#[tactic(auto, using(crate::proofs::Sent::sets))]
+fn dots_killed<S: DotSet>(alloc: Global, lives: &Lives<S>, live: &S) -> Result<S, Fault>
+    ensures ok { IfOk result (λ dots. (d : Dot) → set.contains (S.contents dots) d ≡ (is_dead (map.get lives.now d) && set.contains (S.contents live.now) d)) }
+    ensures memory { IfErr result (λ fault. fault ≡ Memory) }
+{
+    let dead = lives.dead(alloc)?;
+    let other = live.minus(alloc, &dead)?;
+    let killed = live.minus(alloc, &other)?;
+    Ok(killed)
+}
+
+/// Copies of the rows whose dots aren't in the set.
+fn rows_unseen<S: DotSet>(
+    alloc: Global,
+    seen: &S,
+    rows: &[(Dot, Entry)],
+) -> Result<Vec<(Dot, Entry)>, Fault>
+    ensures ok { IfOk result (λ unseen. unseen.items ≡ unseen_rows (set.contains (S.contents seen.now)) rows.now) }
+    ensures memory { IfErr result (λ fault. fault ≡ Memory) }
+{
+    let mut unseen = Vec::new(alloc);
+    let mut rest = rows;
+    'copying: loop {
+        let (row, later) = match rest.split_first() {
+            Some(parts) => parts,
+            None => return Ok(unseen),
+        };
+        if !seen.contains(row.0) {
+            unseen.push((row.0, row.1.copy(alloc)?))?;
+        }
+        rest = later;
+    }
+}
+
+/// The numbers that are above the peer's.
+fn counts_above(alloc: Global, counts: &Counts, peer: &Counts) -> Result<Counts, Fault>
+    ensures ok { IfOk result (λ above. (q : Place) → number above q ≡ higher (number counts.now q) (number peer.now q)) }
+    ensures memory { IfErr result (λ fault. fault ≡ Memory) }
+{
+    let rows = rows_above(alloc, peer, counts.rows())?;
+    let above = Counts::from_rows(rows).unwrap();
+    Ok(above)
+}
+
+/// The rows with the numbers that are above the peer's, and 0 in place of the others.
+fn rows_above(alloc: Global, peer: &Counts, rows: &[CountRow]) -> Result<Vec<CountRow>, Fault>
+    ensures ok { IfOk result (λ above. above.items ≡ higher_rows (number peer.now) rows.now) }
+    ensures memory { IfErr result (λ fault. fault ≡ Memory) }
+{
+    let mut above = Vec::new(alloc);
+    let mut rest = rows;
+    'copying: loop {
+        let (row, later) = match rest.split_first() {
+            Some(parts) => parts,
+            None => return Ok(above),
+        };
+        let (peer_p, peer_n) = peer.pair(&row.key, row.replica);
+        let p = number_above(row.p, peer_p);
+        let n = number_above(row.n, peer_n);
+        if p > 0 || n > 0 {
+            above.push(CountRow {
+                key: row.key.copy(alloc)?,
+                replica: row.replica,
+                p,
+                n,
+            })?;
+        }
+        rest = later;
+    }
+}
+
+/// The number where it is above the peer's, else 0.
+fn number_above(number: u64, peer: u64) -> u64
+    ensures { result ≡ higher number peer }
+{
+    if peer < number { number } else { 0 }
+}

@@ -1,0 +1,16 @@
+pub mod Answering
+pub mod Coherent
+pub mod Counters
+pub mod Edits
+pub mod Effects
+pub mod Examples
+pub mod Facts
+pub mod Friends
+pub mod Invariant
+pub mod Joins
+pub mod Sendings
+pub mod Runs
+pub mod States
+pub mod Steps
+pub mod Sums
+pub mod Tables

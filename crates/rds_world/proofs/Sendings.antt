@@ -1,0 +1,75 @@
+-- The bytes of asks and answers hold what was asked and answered.
+use Rattle.std.proofs.Common.{◌≡◌, ℕ, ◌<◌, ◌≤◌, ◌⊎◌, inl, inr, List, length, Result, Ok, Err, IfOk, IfErr, refl, sym, ◌∙◌, ap, subst}
+use Rattle.std.specs.Global.{Vec}
+use Rattle.std.specs.FinSet as set
+use Rattle.rds_names.specs.declared.fault.Fault.{Fault}
+use Rattle.rds_names.specs.declared.fault.Fault.TheVariants.{Memory, TooLong}
+use Rattle.rds_dots.specs.declared.dot.Dot.{Dot}
+use Rattle.rds_life.specs.Life.{seen_of}
+use Rattle.rds_state.specs.Fits.{Fits}
+use Rattle.rds_state.specs.Value.{StateValue, coordinates, size}
+use Rattle.rds_state.proofs.FitsLemmas.{fits_dots}
+use Rattle.rds_delta.specs.declared.row.Row.{Row}
+use Rattle.rds_delta.specs.Claims.{IsCertificate}
+use Rattle.rds_delta.specs.Digested.{DigestValue, digest_of, ranks_in}
+use Rattle.rds_delta.specs.Least.{IsAbove, least}
+use Rattle.rds_delta.specs.Ranks.{Ranks}
+use Rattle.rds_delta.proofs.Digests.{ranks_of_digest}
+use Rattle.rds_delta.proofs.Exchanges.{least_fits}
+use Rattle.rds_delta.proofs.LeastLaws.{least_above}
+use Rattle.rds_codec.specs.AnswerTexts.{IsAnswerOf, answer, answer_text}
+use Rattle.rds_codec.specs.DigestTexts.{DigestFits, IsDigestOf, digest_text}
+use Rattle.rds_codec.specs.Values.{AreDotsOf, AreFew}
+use Rattle.rds_codec.specs.Writing.{Encodes, IsUnwritten}
+use Rattle.rds_codec.specs.declared.limits.TheConstants.{LIMIT}
+use Rattle.rds_world.specs.Replies.{IsLeastFor, IsReplyTo, IsLongReply}
+use Rattle.rds_world.specs.Stands.{HoldsAsk}
+
+pub fault_is : {T : Type 0} (P : Fault → Type 0) (r : Result T Fault) (f : Fault) → r ≡ Err f → P f → IfErr r P
+fault_is P r f is h = subst (λ x. IfErr x P) (sym is) h
+
+digest_fits : (n : ℕ) (v : StateValue) → Fits n (coordinates v) → DigestFits n (digest_of v)
+digest_fits n v fits = record { dots = λ d h. fits_dots n v (seen_of v.lives) refl fits d h; numbers = fits.numbers }
+
+pub holds_ask : (n own : ℕ) (v : StateValue) (g : DigestValue) (r : Result (Vec ℕ) Fault) → g ≡ digest_of v → Fits n (coordinates v) → Encodes (digest_text g) r
+    → ((m : ℕ) → DigestFits m g → AreDotsOf m g.seen) → ((m : ℕ) → DigestFits m g → AreFew g.seen → IsDigestOf m g)
+    → IfOk r (λ bytes. HoldsAsk n (record { asker = own; state = coordinates v }) (record { asker = own; bytes = bytes.items }))
+holds_ask n own v g (Ok b) is fits text dots value =
+    let small : DigestFits n g = subst (DigestFits n) (sym is) (digest_fits n v fits) in
+    record {
+      asker = refl;
+      digest = g;
+      ranks = ap ranks_in is ∙ ranks_of_digest v;
+      text = text.0;
+      within = subst (λ (t : List ℕ). length t ≤ LIMIT) (sym text.0) text.1;
+      dots = dots n small;
+      again = λ few. value n small few;
+    }
+holds_ask n own v g (Err f) is fits text dots value = tt
+
+-- why a text of an answer wasn't made
+pub long_reply : (g : DigestValue) (asker : ℕ) (held value : StateValue) (rows : List Row) (f : Fault) → IsLeastFor g held value rows → IsUnwritten (length (answer_text (answer asker value rows))) f
+    → (f ≡ Memory) ⊎ ((f ≡ TooLong) × IsLongReply g asker held)
+long_reply g asker held value rows f is h = elim h [
+  | inl m ↦ inl m.0
+  | inr l ↦ inr (l.0, record { value = value; rows = rows; least = is; long = l.1 })
+]
+
+pub is_reply : (n : ℕ) (g : DigestValue) (asker : ℕ) (held value : StateValue) (rows : List Row) (bytes : List ℕ) (components : ℕ) → asker < n → Fits n (coordinates held) → IsLeastFor g held value rows
+    → bytes ≡ answer_text (answer asker value rows) → length (answer_text (answer asker value rows)) ≤ LIMIT
+    → ((m : ℕ) → Fits m (coordinates value) → AreDotsOf m (seen_of value.lives))
+    → ((m : ℕ) (peer : Ranks) → asker < m → Fits m (coordinates value) → AreFew (seen_of value.lives) → IsAbove (coordinates value) peer → IsCertificate peer value rows → IsAnswerOf m (answer asker value rows))
+    → components ≡ size value → IsReplyTo n g asker held bytes components
+is_reply n g asker held value rows bytes components below fits is text within dots again sized =
+    let small : Fits n (coordinates value) = subst (Fits n) (sym is.state) (least_fits n (coordinates held) (ranks_in g) fits) in
+    let above : IsAbove (coordinates value) (ranks_in g) = subst (λ a. IsAbove a (ranks_in g)) (sym is.state) (least_above (coordinates held) (ranks_in g)) in
+    record {
+      value = value;
+      rows = rows;
+      least = is;
+      text = text;
+      within = subst (λ (t : List ℕ). length t ≤ LIMIT) (sym text) within;
+      dots = dots n small;
+      again = λ few. again n (ranks_in g) below small few above is.certificate;
+      sized = sized;
+    }

@@ -1,0 +1,82 @@
+-- A function with another value at one place, and lists that go side by side.
+use Rattle.std.proofs.Common.{◌≡◌, ℕ, suc, zero, Bool, true, false, cond, List, [], ◌∷◌, ◌++◌, refl, sym, subst, inl, inr, ◌⊎◌, arith, ◌==◌, length, Option, Some, None, slice_get}
+use Rattle.std.proofs.lemmas.Bool.Decides.{nat_tests}
+use Rattle.rds_world.specs.World.{put}
+use Rattle.rds_world.specs.Stands.{Matched}
+
+is_same : (i n : ℕ) → (i == n) ≡ true → i ≡ n
+is_same i n h = grind (arith, nat_tests)
+
+isnt_same : (i n : ℕ) → (i == n) ≡ false → i ≡ n → ⊥
+isnt_same i n h = grind (arith, nat_tests)
+
+put_case : {A C : Type 0} (P : ℕ → A → C → Type 0) (f : ℕ → A) (g : ℕ → C) (r : ℕ) (x : A) (y : C) → P r x y → ((s : ℕ) → (s ≡ r → ⊥) → P s (f s) (g s)) → (s : ℕ) (b : Bool) → (s == r) ≡ b → P s (cond b x (f s)) (cond b y (g s))
+put_case P f g r x y h k s true e = subst (λ t. P t x y) (sym (is_same s r e)) h
+put_case P f g r x y h k s false e = k s (isnt_same s r e)
+
+-- what holds at the place and elsewhere
+pub put_two : {A C : Type 0} (P : ℕ → A → C → Type 0) (f : ℕ → A) (g : ℕ → C) (r : ℕ) (x : A) (y : C) → P r x y → ((s : ℕ) → (s ≡ r → ⊥) → P s (f s) (g s)) → (s : ℕ) → P s (put f r x s) (put g r y s)
+put_two P f g r x y h k s = put_case P f g r x y h k s (s == r) refl
+
+pub put_one : {A : Type 0} (P : ℕ → A → Type 0) (f : ℕ → A) (r : ℕ) (x : A) → P r x → ((s : ℕ) → (s ≡ r → ⊥) → P s (f s)) → (s : ℕ) → P s (put f r x s)
+put_one P f r x h k s = put_two (λ s a c. P s a) f f r x x h k s
+
+pub put_here : {A : Type 0} (f : ℕ → A) (r : ℕ) (x : A) → put f r x r ≡ x
+put_here f r x = put_one (λ s a. s ≡ r → a ≡ x) f r x (λ e. refl) (λ s n e. absurd (n e)) r refl
+
+pub put_there : {A : Type 0} (f : ℕ → A) (r : ℕ) (x : A) (s : ℕ) → (s ≡ r → ⊥) → put f r x s ≡ f s
+put_there f r x s n = put_one (λ s a. (s ≡ r → ⊥) → a ≡ f s) f r x (λ e. absurd (e refl)) (λ s n e. refl) s n
+
+abbrev pub Together : {A C : Type 0} → (A → C → Type 0) → Option A → Option C → Type 0
+Together P None None = Unit {0}
+Together P None (Some y) = ⊥
+Together P (Some x) None = ⊥
+Together P (Some x) (Some y) = P x y
+
+pub matched_last : {A C : Type 0} (P : A → C → Type 0) (xs : List A) (ys : List C) (x : A) (y : C) → Matched P xs ys → P x y → Matched P (xs ++ x ∷ []) (ys ++ y ∷ [])
+matched_last P [] [] x y m h = (h, tt)
+matched_last P [] (b ∷ ys) x y m h = absurd m
+matched_last P (a ∷ xs) [] x y m h = absurd m
+matched_last P (a ∷ xs) (b ∷ ys) x y m h = (m.0, matched_last P xs ys x y m.1 h)
+
+pub matched_weaker : {A C : Type 0} (P Q : A → C → Type 0) (xs : List A) (ys : List C) → ((x : A) (y : C) → P x y → Q x y) → Matched P xs ys → Matched Q xs ys
+matched_weaker P Q [] [] f m = tt
+matched_weaker P Q [] (b ∷ ys) f m = m
+matched_weaker P Q (a ∷ xs) [] f m = m
+matched_weaker P Q (a ∷ xs) (b ∷ ys) f m = (f a b m.0, matched_weaker P Q xs ys f m.1)
+
+pub matched_at : {A C : Type 0} (P : A → C → Type 0) (xs : List A) (ys : List C) (k : ℕ) → Matched P xs ys → Together P (slice_get xs k) (slice_get ys k)
+matched_at P [] [] k m = tt
+matched_at P [] (b ∷ ys) k m = absurd m
+matched_at P (a ∷ xs) [] k m = absurd m
+matched_at P (a ∷ xs) (b ∷ ys) zero m = m.0
+matched_at P (a ∷ xs) (b ∷ ys) (suc k) m = matched_at P xs ys k m.1
+
+pub same_some : {A : Type 0} (x y : A) → Some x ≡ Some y → x ≡ y
+same_some x y e = cc
+
+pub together_some : {A C : Type 0} (P : A → C → Type 0) (x : Option A) (y : Option C) (m : A) → Together P x y → x ≡ Some m → (a : C) × (y ≡ Some a) × P m a
+together_some P None y m t e = cc
+together_some P (Some n) None m t e = absurd t
+together_some P (Some n) (Some a) m t e = (a, refl, subst (λ z. P z a) (same_some n m e) t)
+
+-- ---- lists that grow at their end
+
+pub last_get : {A : Type 0} (xs : List A) (x y : A) (k : ℕ) → slice_get (xs ++ x ∷ []) k ≡ Some y → (slice_get xs k ≡ Some y) ⊎ (y ≡ x)
+last_get [] x y zero e = inr (sym (same_some x y e))
+last_get [] x y (suc k) e = cc
+last_get (a ∷ xs) x y zero e = inl e
+last_get (a ∷ xs) x y (suc k) e = last_get xs x y k e
+
+-- what stands in a list keeps its number
+pub get_front : {A : Type 0} (xs ys : List A) (k : ℕ) (y : A) → slice_get xs k ≡ Some y → slice_get (xs ++ ys) k ≡ Some y
+get_front [] ys k y e = cc
+get_front (x ∷ xs) ys zero y e = e
+get_front (x ∷ xs) ys (suc k) y e = get_front xs ys k y e
+
+pub get_last : {A : Type 0} (xs : List A) (x : A) → slice_get (xs ++ x ∷ []) (length xs) ≡ Some x
+get_last [] x = refl
+get_last (a ∷ xs) x = get_last xs x
+
+pub same_or_not : (t r : ℕ) → (t ≡ r) ⊎ (t ≡ r → ⊥)
+same_or_not t r = grind arith

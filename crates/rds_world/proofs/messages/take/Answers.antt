@@ -1,0 +1,43 @@
+use Rattle.std.proofs.Common.{rules, ◌≡◌, ◌∙◌, ap, subst, length, Ok, Err}
+use Rattle.rds_names.specs.Roster.{RosterValue}
+use Rattle.rds_state.specs.Value.{coordinates}
+use Rattle.rds_codec.specs.AnswerTexts.{answer_kind}
+use Rattle.rds_codec.specs.Decoding.{Decodes}
+use Rattle.rds_codec.specs.DigestTexts.{digest_kind}
+use Rattle.rds_codec.proofs.Replicas.{state_fits}
+use Rattle.rds_world.specs.Replies.{NoDigest, NoAnswer, Uncertified, Untaken}
+use Rattle.rds_world.proofs.Sendings.{fault_is}
+use Rattle.rds_world.proofs.messages.take.Goals as goal
+
+pub returns-in_err-digest-clause-fault : goal.returns-in_err-digest-clause-fault
+returns-in_err-digest-clause-fault g c =
+    let f = c.in_err-digest.field-0.0 in
+    let n : c.len-replicas.result ≡ length c.args.replica.now.roster.names = c.len-replicas.ensures.names ∙ ap (λ (r : RosterValue). length r.names) c.roster.ensures in
+    let is : c.from_residual.result ≡ Err f = search rules in
+    fault_is _ _ f is (NoDigest (subst (λ m. Decodes (digest_kind m) c.args.ask.now (Err f)) n c.in_err-digest.ensures.text))
+
+pub returns-in_err-answer-clause-fault : goal.returns-in_err-answer-clause-fault
+returns-in_err-answer-clause-fault g c =
+    let f = c.in_err-answer.field-0.0 in
+    let n : c.len-replicas.result ≡ length c.args.replica.now.roster.names = c.len-replicas.ensures.names ∙ ap (λ (r : RosterValue). length r.names) c.roster.ensures in
+    let is : c.from_residual-in_err-answer.result ≡ Err f = search rules in
+    fault_is _ _ f is (NoAnswer (subst (λ m. Decodes (answer_kind m) c.args.answer.now (Err f)) n c.in_err-answer.ensures.text))
+
+pub returns-then-not-check-clause-fault : goal.returns-then-not-check-clause-fault
+returns-then-not-check-clause-fault g c =
+    let n : c.len-replicas.result ≡ length c.args.replica.now.roster.names = c.len-replicas.ensures.names ∙ ap (λ (r : RosterValue). length r.names) c.roster.ensures in
+    Uncertified c.in_ok-digest.digest c.in_ok-answer.answer
+    (subst (λ m. Decodes (digest_kind m) c.args.ask.now (Ok c.in_ok-digest.digest)) n c.in_ok-digest.ensures.text)
+    (subst (λ m. Decodes (answer_kind m) c.args.answer.now (Ok c.in_ok-answer.answer)) n c.in_ok-answer.ensures.text)
+    ?
+
+pub take-requires : goal.take-requires
+take-requires g c =
+    let n : c.len-replicas.result ≡ length c.args.replica.now.roster.names = c.len-replicas.ensures.names ∙ ap (λ (r : RosterValue). length r.names) c.roster.ensures in
+    ?
+
+pub returns-clause-ok : goal.returns-clause-ok
+returns-clause-ok g c = ?
+
+pub returns-clause-fault : goal.returns-clause-fault
+returns-clause-fault g c = ?

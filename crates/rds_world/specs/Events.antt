@@ -1,0 +1,107 @@
+-- When code refuses an event, and what it answers.
+use Rattle.std.specs.Prelude.{◌≡◌, ◌<◌, ◌⊎◌, ℕ, List, Some, None, length, count_by, slice_get}
+use Rattle.rds_names.specs.declared.fault.Fault.{Fault}
+use Rattle.rds_names.specs.declared.fault.Fault.TheVariants.{Memory, TooLong, TooManyDots}
+use Rattle.rds_life.specs.Life.{live_rows}
+use Rattle.rds_state.specs.Edit.{covers, new_dot}
+use Rattle.rds_state.specs.Fits.{ReplicaValue}
+use Rattle.rds_state.specs.Value.{StateValue, coordinates, size}
+use Rattle.rds_state.specs.declared.command.Command.{Command}
+use Rattle.rds_state.specs.declared.command.Edited.{Edited as Effected}
+use Rattle.rds_delta.specs.declared.row.Row.{Row}
+use Rattle.rds_delta.specs.Claims.{IsCertificate}
+use Rattle.rds_delta.specs.Digested.{digest_of}
+use Rattle.rds_delta.specs.Ranks.{ranks}
+use Rattle.rds_codec.specs.AnswerTexts.{HasTooManySent, answer, answer_text}
+use Rattle.rds_codec.specs.DigestTexts.{HasTooManyInDigest, digest_text}
+use Rattle.rds_codec.specs.Spelling.{snapshot_text}
+use Rattle.rds_codec.specs.declared.limits.TheConstants.{LIMIT}
+use Rattle.rds_world.specs.declared.event.Event.{Event}
+use Rattle.rds_world.specs.declared.event.Event.TheVariants.{Edit, Save, Crash, Ask, Answer, Take}
+use Rattle.rds_world.specs.declared.event.Done.{Done}
+use Rattle.rds_world.specs.declared.event.Done.TheVariants.{Edited, Plain, Asked, Answered}
+use Rattle.rds_world.specs.World.{World, Question, reply, refused}
+use Rattle.rds_world.specs.Stored.{AskText, AnswerText, WorldValue}
+
+-- the snapshot of a replica in memory is above the limit
+pub record IsLongSnapshot (v : WorldValue) (r : ℕ) : Type 0 where
+  pub replica : ReplicaValue
+  pub there : slice_get v.memory r ≡ Some replica
+  pub long : LIMIT < length (snapshot_text replica)
+
+-- the digest of a kept replica is above the limit
+pub record IsLongDigest (v : WorldValue) (r : ℕ) : Type 0 where
+  pub replica : ReplicaValue
+  pub there : slice_get v.kept r ≡ Some replica
+  pub long : LIMIT < length (digest_text (digest_of replica.state))
+
+-- the answer of s to ask k is above the limit
+pub record IsLongAnswer (w : World) (s k : ℕ) : Type 0 where
+  pub asked : Question
+  pub there : slice_get w.asks k ≡ Some asked
+  pub value : StateValue
+  pub state : coordinates value ≡ (reply w s k asked).state
+  pub rows : List Row
+  pub certificate : IsCertificate (ranks asked.state) value rows
+  pub long : LIMIT < length (answer_text (answer asked.asker value rows))
+
+-- the text that the event makes is above the limit
+abbrev pub MakesTooLong : WorldValue → World → Event → Type 0
+MakesTooLong v w (Edit r c) = ⊥
+MakesTooLong v w (Save r) = IsLongSnapshot v r
+MakesTooLong v w (Crash r) = ⊥
+MakesTooLong v w (Ask r) = IsLongDigest v r
+MakesTooLong v w (Answer s k) = IsLongAnswer w s k
+MakesTooLong v w (Take k) = ⊥
+
+pub record IsLargeAsk (v : WorldValue) (k : ℕ) : Type 0 where
+  pub ask : AskText
+  pub there : slice_get v.asks k ≡ Some ask
+  pub large : HasTooManyInDigest (length v.roster.names) ask.bytes
+
+pub record IsLargeAnswer (v : WorldValue) (k : ℕ) : Type 0 where
+  pub reply : AnswerText
+  pub there : slice_get v.answers k ≡ Some reply
+  pub large : HasTooManySent (length v.roster.names) reply.bytes
+
+-- the text that the event reads holds a set of more dots than are read
+abbrev pub ReadsTooMany : WorldValue → Event → Type 0
+ReadsTooMany v (Edit r c) = ⊥
+ReadsTooMany v (Save r) = ⊥
+ReadsTooMany v (Crash r) = ⊥
+ReadsTooMany v (Ask r) = ⊥
+ReadsTooMany v (Answer s k) = IsLargeAsk v k
+ReadsTooMany v (Take k) = IsLargeAnswer v k
+
+-- the model doesn't refuse the event, and its texts are within their limits
+pub record IsAccepted (v : WorldValue) (w : World) (e : Event) : Type 0 where
+  pub due : refused w e ≡ None
+  pub few : ReadsTooMany v e → ⊥
+  pub short : MakesTooLong v w e → ⊥
+
+-- Memory at any event; else what the model refuses it for; else a text that is read of too many dots; else one that is made too long
+pub data Refuses (v : WorldValue) (w : World) (e : Event) : Fault → Type 0 where
+  NoMemory : Refuses v w e Memory
+  Due : (f : Fault) → refused w e ≡ Some f → Refuses v w e f
+  Large : refused w e ≡ None → ReadsTooMany v e → Refuses v w e TooManyDots
+  Long : refused w e ≡ None → (ReadsTooMany v e → ⊥) → MakesTooLong v w e → Refuses v w e TooLong
+
+-- what an edit did: the dot that it made, and how many live dots it covers
+pub record IsEdited (v : WorldValue) (w : World) (r : ℕ) (c : Command) (e : Effected) : Type 0 where
+  pub dot : e.dot ≡ new_dot (w.memory r) r c
+  pub killed : (m : ReplicaValue) → slice_get v.memory r ≡ Some m → e.killed ≡ count_by (λ row. covers c row.1) (live_rows m.state.lives)
+
+-- the number of an answer, and how many components its delta has
+pub record IsAnswered (w : World) (s k number components : ℕ) : Type 0 where
+  pub number : number ≡ length w.answers
+  pub components : (q : Question) (d : StateValue) → slice_get w.asks k ≡ Some q → coordinates d ≡ (reply w s k q).state → components ≡ size d
+
+-- what the event answers
+abbrev pub IsDone : WorldValue → World → Event → Done → Type 0
+IsDone v w (Edit r c) (Edited e) = IsEdited v w r c e
+IsDone v w (Save r) Plain = Unit {0}
+IsDone v w (Crash r) Plain = Unit {0}
+IsDone v w (Ask r) (Asked k) = k ≡ length w.asks
+IsDone v w (Answer s j) (Answered k components) = IsAnswered w s j k components
+IsDone v w (Take k) Plain = Unit {0}
+IsDone v w e done = ⊥

@@ -1,0 +1,65 @@
+-- The law over all lists of events, as the statements that contracts name.
+use Rattle.std.specs.Prelude.{◌≡◌, ℕ, ◌≤◌, Bool, true, is_some, length, List, ◌∷◌, ◌++◌, Some, slice_get}
+use Rattle.rds_dots.specs.declared.dot.Dot.{Dot}
+use Rattle.rds_state.specs.Coordinates.{Coordinates, AtMost, AreCompatible, join}
+use Rattle.rds_world.specs.declared.event.Event.{Event}
+use Rattle.rds_world.specs.declared.event.Event.TheVariants.{Answer}
+use Rattle.rds_world.specs.World.{World, Question, empty, start, reply, run, Accepted}
+use Rattle.rds_world.specs.Held.{Holdings, nothing_held, held}
+use Rattle.rds_world.specs.Coherent.{Store, Memory, Kept, state_in, IsCoherent}
+use Rattle.rds_world.specs.Updates.{bases, effect_of, IsJoinOf, IsExplained, ShowsUpdates}
+
+-- what is said of n replicas and of events none of which was refused
+abbrev pub Afterwards : (ℕ → List Event → Type 0) → Type 0
+Afterwards P = (n : ℕ) (es : List Event) → Accepted es (start n) → P n es
+
+abbrev pub world_after : ℕ → List Event → World
+world_after n es = run es (start n)
+
+abbrev pub held_after : List Event → Holdings
+held_after es = held es nothing_held
+
+abbrev pub bases_after : ℕ → List Event → ℕ → Coordinates
+bases_after n es = bases es (λ u. empty) nothing_held (start n)
+
+abbrev pub effects_after : ℕ → List Event → ℕ → Coordinates
+effects_after n es = effect_of (held_after es).update (bases_after n es)
+
+-- which updates a replica's memory holds, or what it has kept
+abbrev pub held_in : Holdings → Store → ℕ → ℕ → Bool
+held_in h Memory r = h.memory r
+held_in h Kept r = h.kept r
+
+abbrev pub IsCoherentAfter : ℕ → List Event → Type 0
+IsCoherentAfter n es = IsCoherent (world_after n es)
+
+-- each state is the join of the effects of the updates that it holds
+abbrev pub EachIsTheJoin : ℕ → List Event → Type 0
+EachIsTheJoin n es = (x : Store) (r : ℕ) → IsJoinOf (effects_after n es) (held_in (held_after es) x r) (state_in (world_after n es) x r)
+
+-- each seen dot is that of one update held, and dead exactly where an update held that held that one covers its entry
+abbrev pub EachDotIsExplained : ℕ → List Event → Type 0
+EachDotIsExplained n es = (x : Store) (r : ℕ) (d : Dot) → is_some ((state_in (world_after n es) x r).life d) ≡ true
+    → IsExplained (held_after es).update (bases_after n es) (held_in (held_after es) x r) (state_in (world_after n es) x r) d
+
+-- each document is that of the updates held; a roster names at most 256 replicas
+abbrev pub EachShowsItsUpdates : ℕ → List Event → Type 0
+EachShowsItsUpdates n es = n ≤ 256 → (x : Store) (r : ℕ) → ShowsUpdates (held_after es).update (held_after es).size (held_in (held_after es) x r) (state_in (world_after n es) x r)
+
+-- states that hold the same updates are equal
+abbrev pub SameUpdatesSameState : ℕ → List Event → Type 0
+SameUpdatesSameState n es = (x y : Store) (r s : ℕ) → ((u : ℕ) → held_in (held_after es) x r u ≡ held_in (held_after es) y s u)
+    → state_in (world_after n es) x r ≡ state_in (world_after n es) y s
+
+-- ---- answers
+
+-- An answer of s to ask k has its number for good. Joined with the asker's memory, at any later moment, its delta is the
+-- join of that memory with what s had kept; and it lies below every state with this effect on the asked state.
+pub record BringsWhatWasKept (w later : World) (s k : ℕ) (q : Question) : Type 0 where
+  pub stands : slice_get later.answers (length w.answers) ≡ Some (reply w s k q)
+  pub effect : join (later.memory q.asker) (reply w s k q).state ≡ join (later.memory q.asker) (w.kept s)
+  pub least : (c : Coordinates) → AreCompatible q.state c → join q.state c ≡ join q.state (w.kept s) → AtMost (reply w s k q).state c
+
+abbrev pub EachAnswerBringsWhatWasKept : ℕ → List Event → Type 0
+EachAnswerBringsWhatWasKept n es = (before later : List Event) (s k : ℕ) (q : Question) → es ≡ before ++ Answer s k ∷ later
+    → slice_get (world_after n before).asks k ≡ Some q → BringsWhatWasKept (world_after n before) (world_after n es) s k q

@@ -1,0 +1,11 @@
+pub mod Coherent
+pub mod Events
+pub mod Example
+pub mod Held
+pub mod Law
+pub mod Replies
+pub mod Stands
+pub mod Steps
+pub mod Stored
+pub mod Updates
+pub mod World

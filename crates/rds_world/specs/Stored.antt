@@ -1,0 +1,39 @@
+-- A world as a value: the replicas in memory and as kept, and the bytes of each ask and answer.
+use Rattle.std.specs.Prelude.{◌≡◌, ℕ, List, refl}
+use Rattle.std.specs.Coded.{Coded, code_by, coded×, coded_ℕ, coded_list}
+use Rattle.rds_names.specs.Roster.{RosterValue}
+use Rattle.rds_state.specs.Fits.{ReplicaValue, coded_roster, coded_replica}
+
+-- who asked, and the text of the digest
+pub record AskText : Type 0 where
+  pub asker : ℕ
+  pub bytes : List ℕ
+
+-- the number of the ask, who asked, and the text of the answer
+pub record AnswerText : Type 0 where
+  pub question : ℕ
+  pub asker : ℕ
+  pub bytes : List ℕ
+
+pub record WorldValue : Type 0 where
+  pub roster : RosterValue
+  pub memory : List ReplicaValue
+  pub kept : List ReplicaValue
+  pub asks : List AskText
+  pub answers : List AnswerText
+
+abbrev pub coded_ask : Coded AskText
+coded_ask = code_by (ℕ × List ℕ) (coded× coded_ℕ (coded_list coded_ℕ)) (λ a. (a.asker, a.bytes)) (λ p. record { asker = p.0; bytes = p.1 }) (λ _. refl)
+
+abbrev pub coded_answer : Coded AnswerText
+coded_answer = code_by (ℕ × (ℕ × List ℕ)) (coded× coded_ℕ (coded× coded_ℕ (coded_list coded_ℕ))) (λ a. (a.question, (a.asker, a.bytes))) (λ p. record { question = p.0; asker = p.1.0; bytes = p.1.1 }) (λ _. refl)
+
+abbrev Parts : Type 0
+Parts = RosterValue × (List ReplicaValue × (List ReplicaValue × (List AskText × List AnswerText)))
+
+abbrev coded_parts : Coded Parts
+coded_parts = coded× coded_roster (coded× (coded_list coded_replica) (coded× (coded_list coded_replica) (coded× (coded_list coded_ask) (coded_list coded_answer))))
+
+abbrev pub coded_world : Coded WorldValue
+coded_world = code_by Parts coded_parts (λ v. (v.roster, (v.memory, (v.kept, (v.asks, v.answers)))))
+    (λ p. record { roster = p.0; memory = p.1.0; kept = p.1.1.0; asks = p.1.1.1.0; answers = p.1.1.1.1 }) (λ _. refl)

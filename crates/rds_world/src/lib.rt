@@ -1,0 +1,20 @@
+//! All replicas of a document: what each has in memory and what it has kept, the asks and answers that go between
+//! them, and the law over every list of events.
+#![tactic(auto)]
+
+mod event;
+mod laws;
+mod messages;
+mod stepping;
+mod texts;
+mod world;
+
+pub use event::{Done, Event};
+pub use laws::{
+    answers_bring_what_was_kept, coherent_replicas_are_friends, edits_are_steps,
+    lost_dots_are_used_again, runs_go_on, states_are_joins_of_updates, worlds_stay_coherent,
+};
+pub use world::World;
+
+#[cfg(test)]
+mod tests;

@@ -1,0 +1,82 @@
+//! What goes between replicas as bytes.
+ghost use Rattle.std.specs.Prelude.{◌≡◌, ◌<◌, ◌≤◌, ◌⊎◌, ℕ, IfOk, IfErr, OnOk, OnErr, Err, length};
+ghost use Rattle.rds_names.specs.declared.fault.Fault.TheVariants.{Memory, TooLong};
+ghost use Rattle.rds_state.specs.Fits.{Fits};
+ghost use Rattle.rds_state.specs.Value.{coordinates};
+ghost use Rattle.rds_delta.specs.Digested.{digest_of};
+ghost use Rattle.rds_codec.specs.DigestTexts.{digest_text};
+ghost use Rattle.rds_codec.specs.declared.limits.TheConstants.{LIMIT};
+ghost use Rattle.rds_world.specs.Replies.{IsReplyTo, IsLongReply, IsReply, HasNoReply, IsTaken, IsNotTaken};
+ghost use Rattle.rds_world.specs.Stands.{HoldsAsk};
+
+use rds_codec::{decode_answer, decode_digest, encode_answer, encode_digest};
+use rds_delta::{Digest, certificate, check, delta};
+use rds_dots::DotSet;
+use rds_names::Fault;
+use rds_state::{Replica, State};
+use std::alloc::Global;
+
+/// The text of the digest of what a replica has kept.
+pub fn ask<S: DotSet>(alloc: Global, kept: &Replica<S>) -> Result<Vec<u8>, Fault>
+    ensures ok { IfOk result (λ bytes. HoldsAsk (length kept.now.roster.names) (record { asker = kept.now.own; state = coordinates kept.now.state }) (record { asker = kept.now.own; bytes = bytes.items })) }
+    ensures short { OnOk result (length (digest_text (digest_of kept.now.state)) ≤ LIMIT) }
+    ensures fault { IfErr result (λ fault. (fault ≡ Memory) ⊎ ((fault ≡ TooLong) × (LIMIT < length (digest_text (digest_of kept.now.state))))) }
+{
+    let digest = Digest::of(alloc, kept.state())?;
+    encode_digest(alloc, &digest)
+}
+
+/// The text of the answer to a digest: the least delta of what a replica has kept, and its certificate. Also how many
+/// components the delta has.
+fn reply<S: DotSet>(
+    alloc: Global,
+    asker: u8,
+    kept: &State<S>,
+    digest: &Digest<S>,
+) -> Result<(Vec<u8>, u128), Fault>
+    ensures ok { IfOk result (λ p. (n : ℕ) → asker < n → Fits n (coordinates kept.now) → IsReplyTo n digest.now asker kept.now p.0.items p.1) }
+    ensures fault { IfErr result (λ fault. (fault ≡ Memory) ⊎ ((fault ≡ TooLong) × IsLongReply digest.now asker kept.now)) }
+{
+    let delta = delta(alloc, kept, digest)?;
+    let certificate = certificate(alloc, digest, &delta)?;
+    let bytes = encode_answer(alloc, asker, &delta, &certificate)?;
+    Ok((bytes, delta.components()))
+}
+
+/// The text of the answer to an ask, and how many components its delta has.
+pub fn answer<S: DotSet>(
+    alloc: Global,
+    kept: &Replica<S>,
+    asker: u8,
+    ask: &[u8],
+) -> Result<(Vec<u8>, u128), Fault>
+    requires { asker < length kept.now.roster.names }
+    ensures ok { IfOk result (λ p. IsReply (length kept.now.roster.names) ask.now asker kept.now.state p.0.items p.1) }
+    ensures fault { IfErr result (HasNoReply (length kept.now.roster.names) ask.now asker kept.now.state) }
+{
+    let digest = decode_digest(alloc, kept.roster().len(), ask)?;
+    let made = reply(alloc, asker, kept.state(), &digest)?;
+    Ok(made)
+}
+
+/// Joins the delta of an answer into the replica that asked, if its certificate is that of the delta against the ask.
+pub fn take<S: DotSet>(
+    alloc: Global,
+    replica: &mut Replica<S>,
+    ask: &[u8],
+    answer: &[u8],
+) -> Result<(), Fault>
+    ensures ok { OnOk result (IsTaken (length replica.old.roster.names) answer.now replica.old.state replica.new.state) }
+    ensures fault { IfErr result (IsNotTaken (length replica.old.roster.names) ask.now answer.now replica.old.own replica.old.state) }
+    ensures roster { replica.new.roster ≡ replica.old.roster }
+    ensures own { replica.new.own ≡ replica.old.own }
+    ensures err { OnErr result (replica.new ≡ replica.old) }
+{
+    let replicas = replica.roster().len();
+    let digest = decode_digest::<S>(alloc, replicas, ask)?;
+    let answer = decode_answer(alloc, replicas, answer)?;
+    if !check(&digest, &answer.state, &answer.certificate) {
+        return Err(Fault::BadCertificate);
+    }
+    replica.take(&answer.state)
+}

@@ -1,0 +1,37 @@
+//! The bytes of asks and answers.
+use std::marker::Model;
+
+/// An ask: who asked, and the text of the digest.
+#[derive(Drop)]
+pub struct Asking {
+    pub asker: u8,
+    pub bytes: Vec<u8>,
+}
+
+impl Model for Asking {
+    ghost use Rattle.rds_world.specs.Stored.{AskText, coded_ask};
+
+    ghost Value = { AskText };
+
+    ghost coded = { coded_ask };
+
+    ghost view = { λ a. record { asker = a.asker; bytes = a.bytes.items } };
+}
+
+/// An answer: the number of its ask, who asked, and the text.
+#[derive(Drop)]
+pub struct Answering {
+    pub question: u64,
+    pub asker: u8,
+    pub bytes: Vec<u8>,
+}
+
+impl Model for Answering {
+    ghost use Rattle.rds_world.specs.Stored.{AnswerText, coded_answer};
+
+    ghost Value = { AnswerText };
+
+    ghost coded = { coded_answer };
+
+    ghost view = { λ a. record { question = a.question; asker = a.asker; bytes = a.bytes.items } };
+}
