@@ -7,4 +7,5 @@ pub mod NamedTasks
 pub mod Naming
 pub mod Pieces
 pub mod Running
+pub mod Simulating
 pub mod Told

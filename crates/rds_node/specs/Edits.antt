@@ -1,5 +1,5 @@
 -- What edits and views of a replica are answered.
-use Rattle.std.specs.Prelude.{◌≡◌, ℕ, List, Ok, count_by, Option, option_and_then, option_map, slice_get}
+use Rattle.std.specs.Prelude.{◌≡◌, ℕ, false, List, Ok, count_by, Option, option_and_then, option_map, slice_get}
 use Rattle.serde_json.specs.Written.{compact_text}
 use Rattle.rds_names.specs.Path.{path_of}
 use Rattle.rds_names.specs.Roster.{RosterValue}
@@ -12,7 +12,7 @@ use Rattle.rds_state.specs.declared.command.Command.{Command}
 use Rattle.rds_tree.specs.Document.{document}
 use Rattle.rds_tree.specs.View.{view_of}
 use Rattle.rds_json.specs.Show.{data_of}
-use Rattle.rds_node.specs.Answer.{answer_text, edit_answer}
+use Rattle.rds_node.specs.Answer.{answer_text, edit_answer, is_refusal}
 use Rattle.rds_node.specs.FileWords.{IsCommand}
 use Rattle.rds_node.specs.declared.answer.Answer.{Answer}
 use Rattle.rds_node.specs.declared.commands.EditWords.{EditWords}
@@ -29,7 +29,7 @@ abbrev pub view_text : StateValue → List (List ℕ) → List ℕ
 view_text state path = compact_text (data_of (view_of (document state) path))
 
 abbrev pub ShowsView : StateValue → List (List ℕ) → Answer → Type 0
-ShowsView state path answer = answer_text answer ≡ view_text state path
+ShowsView state path answer = (answer_text answer ≡ view_text state path) × (is_refusal answer ≡ false)
 
 -- some replica, which the file held, was edited as the words ask
 abbrev pub EditsFile : EditWords → Answer → Type 0

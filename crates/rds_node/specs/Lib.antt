@@ -10,4 +10,6 @@ pub mod Lines
 pub mod Output
 pub mod Refusal
 pub mod Run
+pub mod Sim
+pub mod Simulated
 pub mod Task

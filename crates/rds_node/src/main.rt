@@ -16,6 +16,7 @@ mod lines;
 mod output;
 mod refusal;
 mod run;
+mod sim;
 #[cfg(test)]
 mod tests;
 
