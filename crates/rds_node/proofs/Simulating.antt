@@ -110,8 +110,12 @@ line_shows v line number path (Err fault) is ok err now h =
     let meets = λ (r : Result Request Fault). MeetsRequest now r (Refused fault) (Some now) in
     elim err [
       | inl memory ↦ (Some now, h, inl (ap Refused memory, refl))
-      | inr absent ↦ (Some now, h, inr (subst meets (asked_here v line (Ok (requests.Show number path)) is now h)
-          (inl (omega (arith, nothing_there v.memory number absent.1, h.stands.replicas), (ap Refused absent.0, refl)))))
+      | inr absent ↦ (
+        Some now,
+        h,
+        inr (subst meets (asked_here v line (Ok (requests.Show number path)) is now h)
+            (inl (omega (arith, nothing_there v.memory number absent.1, h.stands.replicas), (ap Refused absent.0, refl)))),
+      )
     ]
 
 -- ---- a line, whether there is a group or none

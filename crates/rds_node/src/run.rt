@@ -78,11 +78,7 @@ pub fn run<H: Files + AllocGlobal, R: Read, W: Write, S: AsStr>(
 }
 
 // Answers the lines that the reader holds.
-fn run_sim<R: Read, W: Write>(
-    alloc: Global,
-    reader: &mut Counted<R>,
-    writer: &mut Counted<W>,
-) -> u8
+fn run_sim<R: Read, W: Write>(alloc: Global, reader: &mut Counted<R>, writer: &mut Counted<W>) -> u8
     ensures sim { IfSome (R.remaining reader.old.inner)
         (λ input. reader.new.failed ≡ 0 → writer.new.failed ≡ 0
         → WritesSim input (W.contents writer.old.inner) (W.contents writer.new.inner) result) }

@@ -8,6 +8,9 @@ ghost use Rattle.rds_node.specs.Sim.{Group, MeetsBytes, done_answer, number_of, 
 ghost use Rattle.rds_node.specs.Simulated.{IsGroup, LeadsTo, LineLeadsTo, answer_of};
 ghost use Rattle.rds_state.specs.Fits.{ReplicaValue};
 
+#[cfg(test)]
+mod tests;
+
 use crate::answer::Answer;
 use crate::answering::Answers;
 use crate::file_commands::shown;
@@ -128,11 +131,7 @@ fn number_of(roster: &Roster, name: Name) -> Result<u8, Fault>
 }
 
 // Lets an event happen, and answers what it did.
-fn happen<S: DotSet>(
-    alloc: Global,
-    world: &mut World<S>,
-    event: &Event,
-) -> Result<Answer, Fault>
+fn happen<S: DotSet>(alloc: Global, world: &mut World<S>, event: &Event) -> Result<Answer, Fault>
     ensures { (now : Group) → LeadsTo world.old now event.now result world.new }
 {
     let done = world.step(alloc, event)?;
