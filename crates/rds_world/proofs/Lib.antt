@@ -1,4 +1,5 @@
 pub mod Answering
+pub mod Answered
 pub mod Coherent
 pub mod Counters
 pub mod Edits
@@ -9,8 +10,12 @@ pub mod Friends
 pub mod Invariant
 pub mod Joins
 pub mod Sendings
+pub mod Performed
+pub mod Readings
 pub mod Runs
+pub mod Standing
 pub mod States
 pub mod Steps
 pub mod Sums
 pub mod Tables
+pub mod Taken

@@ -1,11 +1,14 @@
 -- The bytes of asks and answers hold what was asked and answered.
-use Rattle.std.proofs.Common.{◌≡◌, ℕ, ◌<◌, ◌≤◌, ◌⊎◌, inl, inr, List, length, Result, Ok, Err, IfOk, IfErr, refl, sym, ◌∙◌, ap, subst}
+use Rattle.std.proofs.Common.{◌≡◌, ◌↔◌, IsTrue, Bool, true, false, OnOk, ℕ, ◌<◌, ◌≤◌, ◌⊎◌, inl, inr, List, length, Result, Ok, Err, IfOk, IfErr, refl, sym, ◌∙◌, ap, subst}
+use mathlib.Core.Bool.{false≢true}
 use Rattle.std.specs.Global.{Vec}
 use Rattle.std.specs.FinSet as set
 use Rattle.rds_names.specs.declared.fault.Fault.{Fault}
 use Rattle.rds_names.specs.declared.fault.Fault.TheVariants.{Memory, TooLong}
 use Rattle.rds_dots.specs.declared.dot.Dot.{Dot}
 use Rattle.rds_life.specs.Life.{seen_of}
+use Rattle.rds_state.specs.Ahead.{TakeGives}
+use Rattle.rds_state.specs.Coordinates.{join}
 use Rattle.rds_state.specs.Fits.{Fits}
 use Rattle.rds_state.specs.Value.{StateValue, coordinates, size}
 use Rattle.rds_state.proofs.FitsLemmas.{fits_dots}
@@ -17,12 +20,14 @@ use Rattle.rds_delta.specs.Ranks.{Ranks}
 use Rattle.rds_delta.proofs.Digests.{ranks_of_digest}
 use Rattle.rds_delta.proofs.Exchanges.{least_fits}
 use Rattle.rds_delta.proofs.LeastLaws.{least_above}
-use Rattle.rds_codec.specs.AnswerTexts.{IsAnswerOf, answer, answer_text}
+use Rattle.rds_codec.specs.AnswerTexts.{IsAnswerOf, answer, answer_text, answer_kind}
+use Rattle.rds_codec.specs.AnswerValues.{AnswerValue}
+use Rattle.rds_codec.specs.Decoding.{Decodes}
 use Rattle.rds_codec.specs.DigestTexts.{DigestFits, IsDigestOf, digest_text}
 use Rattle.rds_codec.specs.Values.{AreDotsOf, AreFew}
 use Rattle.rds_codec.specs.Writing.{Encodes, IsUnwritten}
 use Rattle.rds_codec.specs.declared.limits.TheConstants.{LIMIT}
-use Rattle.rds_world.specs.Replies.{IsLeastFor, IsReplyTo, IsLongReply}
+use Rattle.rds_world.specs.Replies.{IsLeastFor, IsReplyTo, IsLongReply, IsTaken, IsUncertified, IsNotTaken, Untaken}
 use Rattle.rds_world.specs.Stands.{HoldsAsk}
 
 pub fault_is : {T : Type 0} (P : Fault → Type 0) (r : Result T Fault) (f : Fault) → r ≡ Err f → P f → IfErr r P
@@ -73,3 +78,21 @@ is_reply n g asker held value rows bytes components below fits is text within do
       again = λ few. again n (ranks_in g) below small few above is.certificate;
       sized = sized;
     }
+
+-- ---- a take
+
+pub uncertified : (g : DigestValue) (inside a : AnswerValue) (answer : Bool) → inside ≡ a → answer ≡ false
+    → IsTrue answer ↔ (IsAbove (coordinates inside.state) (ranks_in g) × IsCertificate (ranks_in g) inside.state inside.certificate) → IsUncertified g a
+uncertified g inside a answer is never judged = record {
+  wrong = λ h. (let passed : answer ≡ true = judged.1 (subst (λ (x : AnswerValue). IsAbove (coordinates x.state) (ranks_in g) × IsCertificate (ranks_in g) x.state x.certificate) (sym is) h) in false≢true (sym never ∙ passed));
+}
+
+pub is_taken : (n : ℕ) (bytes : List ℕ) (old new : StateValue) (a : AnswerValue) (r : Result (Unit {0}) Fault) → Decodes (answer_kind n) bytes (Ok a)
+    → OnOk r (coordinates new ≡ join (coordinates old) (coordinates a.state)) → OnOk r (IsTaken n bytes old new)
+is_taken n bytes old new a (Ok x) read joined = record { answer = a; read = read; joined = joined }
+is_taken n bytes old new a (Err f) read joined = tt
+
+pub not_taken : (n : ℕ) (ask bytes : List ℕ) (own : ℕ) (old : StateValue) (a : AnswerValue) (r : Result (Unit {0}) Fault) → Decodes (answer_kind n) bytes (Ok a)
+    → TakeGives old own a.state r → IfErr r (IsNotTaken n ask bytes own old)
+not_taken n ask bytes own old a (Ok x) read gives = tt
+not_taken n ask bytes own old a (Err f) read gives = Untaken a read gives

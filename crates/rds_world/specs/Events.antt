@@ -92,9 +92,9 @@ pub record IsEdited (v : WorldValue) (w : World) (r : ℕ) (c : Command) (e : Ef
   pub killed : (m : ReplicaValue) → slice_get v.memory r ≡ Some m → e.killed ≡ count_by (λ row. covers c row.1) (live_rows m.state.lives)
 
 -- the number of an answer, and how many components its delta has
-pub record IsAnswered (w : World) (s k number components : ℕ) : Type 0 where
-  pub number : number ≡ length w.answers
-  pub components : (q : Question) (d : StateValue) → slice_get w.asks k ≡ Some q → coordinates d ≡ (reply w s k q).state → components ≡ size d
+pub record IsAnswered (w : World) (s k at many : ℕ) : Type 0 where
+  pub number : at ≡ length w.answers
+  pub components : (q : Question) (d : StateValue) → slice_get w.asks k ≡ Some q → coordinates d ≡ (reply w s k q).state → many ≡ size d
 
 -- what the event answers
 abbrev pub IsDone : WorldValue → World → Event → Done → Type 0

@@ -12,6 +12,7 @@ use Rattle.rds_delta.specs.Digested.{DigestValue, ranks_in}
 use Rattle.rds_delta.specs.Least.{IsAbove, least}
 use Rattle.rds_codec.specs.AnswerTexts.{IsAnswerOf, answer, answer_text, answer_kind}
 use Rattle.rds_codec.specs.AnswerValues.{AnswerValue}
+use Rattle.rds_codec.specs.CertificateTexts.{IsReplicaOf}
 use Rattle.rds_codec.specs.Decoding.{Decodes}
 use Rattle.rds_codec.specs.DigestTexts.{digest_kind}
 use Rattle.rds_codec.specs.Values.{AreDotsOf, AreFew}
@@ -41,6 +42,7 @@ pub record IsLongReply (digest : DigestValue) (asker : ℕ) (held : StateValue) 
 
 -- the digest in the bytes was read, and the answer made
 pub record IsReply (n : ℕ) (ask : List ℕ) (asker : ℕ) (held : StateValue) (bytes : List ℕ) (components : ℕ) : Type 0 where
+  pub replica : IsReplicaOf n asker
   pub digest : DigestValue
   pub read : Decodes (digest_kind n) ask (Ok digest)
   pub reply : IsReplyTo n digest asker held bytes components

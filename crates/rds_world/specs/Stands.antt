@@ -1,5 +1,5 @@
 -- Which world of the model the replicas, asks and answers that code holds stand for.
-use Rattle.std.specs.Prelude.{◌≡◌, ◌≤◌, ℕ, List, [], ◌∷◌, Option, Some, None, length, slice_get}
+use Rattle.std.specs.Prelude.{◌≡◌, ◌≤◌, ◌<◌, ℕ, List, [], ◌∷◌, Option, Some, None, length, slice_get}
 use Rattle.rds_names.specs.Roster.{RosterValue}
 use Rattle.rds_life.specs.Life.{seen_of}
 use Rattle.rds_state.specs.Coordinates.{Coordinates}
@@ -10,6 +10,7 @@ use Rattle.rds_delta.specs.Claims.{IsCertificate}
 use Rattle.rds_delta.specs.Digested.{DigestValue, ranks_in}
 use Rattle.rds_delta.specs.Ranks.{ranks}
 use Rattle.rds_codec.specs.AnswerTexts.{IsAnswerOf, answer, answer_text}
+use Rattle.rds_codec.specs.CertificateTexts.{IsReplicaOf}
 use Rattle.rds_codec.specs.Decoding.{IsTextOf}
 use Rattle.rds_codec.specs.DigestTexts.{IsDigestOf, digest_kind, digest_text}
 use Rattle.rds_codec.specs.Values.{AreDotsOf, AreFew}
@@ -52,6 +53,7 @@ pub record WasRead (n : ℕ) (asks : List AskText) (k : ℕ) : Type 0 where
 pub record HoldsAnswer (n : ℕ) (asks : List Question) (texts : List AskText) (m : Reply) (a : AnswerText) : Type 0 where
   pub question : a.question ≡ m.question
   pub asker : a.asker ≡ m.asker
+  pub replica : IsReplicaOf n a.asker
   pub asked : Question
   pub ask : slice_get asks m.question ≡ Some asked
   pub read : WasRead n texts m.question
@@ -82,6 +84,13 @@ pub record HasModel (v : WorldValue) : Type 0 where
 abbrev pub AreAtTheirPlaces : RosterValue → List ReplicaValue → Type 0
 AreAtTheirPlaces roster replicas = (r : ℕ) (m : ReplicaValue) → slice_get replicas r ≡ Some m → (m.roster ≡ roster) × (m.own ≡ r)
 
+-- who asked is of the roster, and so is who asked for an answer, whose ask is there
+abbrev pub AreAsks : WorldValue → Type 0
+AreAsks v = (k : ℕ) (a : AskText) → slice_get v.asks k ≡ Some a → a.asker < length v.memory
+
+abbrev pub AreAnswers : WorldValue → Type 0
+AreAnswers v = (k : ℕ) (a : AnswerText) → slice_get v.answers k ≡ Some a → (a.asker < length v.memory) × (a.question < length v.asks)
+
 -- what a world in code always is: one replica for each name of the roster in memory and one kept, or none at all; and some
 -- coherent world is that which it stands for
 pub record IsWorld (v : WorldValue) : Type 0 where
@@ -89,4 +98,6 @@ pub record IsWorld (v : WorldValue) : Type 0 where
   pub kept : AreAtTheirPlaces v.roster v.kept
   pub same_length : length v.kept ≡ length v.memory
   pub within : length v.memory ≤ length v.roster.names
+  pub asks : AreAsks v
+  pub answers : AreAnswers v
   pub model : ∥ HasModel v ∥₁

@@ -109,7 +109,10 @@ impl<S: DotSet> World<S> {
         ensures err { IfErr result (λ fault. IsStopped self.old (Answer number question) fault self.new) }
     {
         let at = usize::from(number);
-        if at >= self.memory.len() || question >= self.asks.len() as u64 {
+        if at >= self.memory.len() {
+            return Err(Fault::NoSuch);
+        }
+        if question >= self.asks.len() as u64 {
             return Err(Fault::NoSuch);
         }
         let ask = &self.asks[question as usize];

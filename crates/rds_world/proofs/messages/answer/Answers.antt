@@ -1,4 +1,4 @@
-use Rattle.std.proofs.Common.{rules, ◌≡◌, ◌∙◌, ap, subst, length, ℕ, List, Ok, Err, inl, inr}
+use Rattle.std.proofs.Common.{rules, arith, ◌≡◌, ◌∙◌, ap, subst, length, ℕ, List, Ok, Err, inl, inr}
 use Rattle.rds_names.specs.Roster.{RosterValue}
 use Rattle.rds_state.specs.Fits.{Fits}
 use Rattle.rds_state.specs.Value.{coordinates}
@@ -29,6 +29,7 @@ pub returns-clause-ok : goal.returns-clause-ok
 returns-clause-ok g c =
     let n : c.len.result ≡ length c.args.kept.now.roster.names = c.len.ensures.names ∙ ap (λ (r : RosterValue). length r.names) c.roster.ensures in
     record {
+      replica = (omega (arith, c.ranges.asker.fits), c.requires);
       digest = c.in_ok-digest.digest;
       read = subst (λ m. Decodes (digest_kind m) c.args.ask.now (Ok c.in_ok-digest.digest)) n c.in_ok-digest.ensures.text;
       reply = (rw c.state.ensures.state at c.in_ok-made.ensures.ok) (length c.args.kept.now.roster.names) c.requires c.state.ensures.fits;

@@ -1,0 +1,218 @@
+-- Answers do to the value of a world what they do to the model.
+use Rattle.std.proofs.Common.{◌≡◌, ℕ, ◌<◌, ◌≤◌, ◌+◌, suc, zero, ◌⊎◌, inl, inr, Bool, true, false, Ok, Err, List, [], ◌∷◌, ◌++◌, length, length-append, Option, Some, None, refl, sym, ap, ◌∙◌, subst, arith, slice_get, nat_lt}
+use Rattle.std.specs.Prelude.{is_some}
+use Rattle.rds_names.specs.Roster.{RosterValue}
+use Rattle.rds_names.specs.declared.fault.Fault.{Fault}
+use Rattle.rds_names.specs.declared.fault.Fault.TheVariants.{Memory, NoSuch, TooLong, TooManyDots}
+use Rattle.rds_life.specs.Life.{seen_of}
+use Rattle.rds_state.specs.Coordinates.{Coordinates}
+use Rattle.rds_state.specs.Fits.{ReplicaValue}
+use Rattle.rds_state.specs.Value.{StateValue, coordinates, size}
+use Rattle.rds_state.proofs.JoinLaws.{same_value}
+use Rattle.rds_delta.specs.declared.row.Row.{Row}
+use Rattle.rds_delta.specs.Claims.{IsCertificate}
+use Rattle.rds_delta.specs.Digested.{DigestValue, ranks_in}
+use Rattle.rds_delta.specs.Least.{least}
+use Rattle.rds_delta.specs.Ranks.{Ranks, ranks}
+use Rattle.rds_delta.proofs.Grouping.{one_certificate}
+use Rattle.rds_codec.specs.AnswerTexts.{IsAnswerOf, answer, answer_text}
+use Rattle.rds_codec.specs.CertificateTexts.{IsReplicaOf}
+use Rattle.rds_codec.specs.Decoding.{Decodes}
+use Rattle.rds_codec.specs.DigestTexts.{HasTooManyInDigest, digest_kind}
+use Rattle.rds_codec.specs.Values.{AreDotsOf, AreFew}
+use Rattle.rds_codec.specs.declared.limits.TheConstants.{LIMIT}
+use Rattle.rds_world.specs.declared.event.Event.TheVariants.{Answer}
+use Rattle.rds_world.specs.declared.event.Done.TheVariants.{Answered}
+use Rattle.rds_world.specs.World.{World, Question, Reply, answered, after, refused, reply, unless_there}
+use Rattle.rds_world.specs.Stored.{AskText, AnswerText, WorldValue}
+use Rattle.rds_world.specs.Stands.{state_of, HoldsAsk, HoldsAnswer, Matched, Stands, IsWorld}
+use Rattle.rds_world.specs.Events.{IsLongAnswer, Refuses, NoMemory, Due, Large, Long}
+use Rattle.rds_world.specs.Replies.{IsLeastFor, IsReply, IsLongReply, HasNoReply, Lacks, Unread, TooBig}
+use Rattle.rds_world.specs.Steps.{IsStep, IsStopped}
+use Rattle.rds_world.proofs.Performed.{IsDoneTo, is_there, not_there, matched_length, no_memory, read_at, stopped}
+use Rattle.rds_world.proofs.Readings.{few_read, read_ranks, unread_ask}
+use Rattle.rds_world.proofs.Standing.{stands_answered, model_after}
+use Rattle.rds_world.proofs.Tables.{Together, matched_at, last_get, same_some}
+
+-- what the model has at the place of a text
+pub record HasPartner {A C : Type 0} (P : A → C → Type 0) (xs : List A) (k : ℕ) (y : C) : Type 0 where
+  pub it : A
+  pub there : slice_get xs k ≡ Some it
+  pub related : P it y
+
+partner_of : {A C : Type 0} (P : A → C → Type 0) (x : Option A) (z : Option C) (y : C) → Together P x z → z ≡ Some y → (a : A) × (x ≡ Some a) × P a y
+partner_of P None None y t e = cc
+partner_of P None (Some n) y t e = absurd t
+partner_of P (Some a) None y t e = absurd t
+partner_of P (Some a) (Some n) y t e = (a, refl, subst (P a) (same_some n y e) t)
+
+pub partner : {A C : Type 0} (P : A → C → Type 0) (xs : List A) (ys : List C) (k : ℕ) (y : C) → Matched P xs ys → slice_get ys k ≡ Some y → HasPartner P xs k y
+partner P xs ys k y m e = (let p = partner_of P (slice_get xs k) (slice_get ys k) y (matched_at P xs ys k m) e in record { it = p.0; there = p.1; related = p.2 })
+
+none_there : {A C : Type 0} (P : A → C → Type 0) (xs : List A) (ys : List C) (k : ℕ) → Matched P xs ys → length ys ≤ k → slice_get xs k ≡ None
+none_there P [] [] k m h = refl
+none_there P [] (y ∷ ys) k m h = absurd m
+none_there P (x ∷ xs) [] k m h = absurd m
+none_there P (x ∷ xs) (y ∷ ys) zero m h = absurd (omega (arith, h))
+none_there P (x ∷ xs) (y ∷ ys) (suc k) m h = none_there P xs ys k m.1 (omega (arith, h))
+
+pub absent_at : {A C : Type 0} (P : A → C → Type 0) (xs : List A) (ys : List C) (k : ℕ) → Matched P xs ys → length ys ≤ k → unless_there (is_some (slice_get xs k)) None ≡ Some NoSuch
+absent_at P xs ys k m h = ap (λ o. unless_there (is_some o) None) (none_there P xs ys k m h)
+
+pub present_at : {A : Type 0} (xs : List A) (k : ℕ) (x : A) → slice_get xs k ≡ Some x → unless_there (is_some (slice_get xs k)) None ≡ None
+present_at xs k x e = ap (λ o. unless_there (is_some o) None) e
+
+either : (b : Bool) (due : Option Fault) → due ≡ Some NoSuch → unless_there b due ≡ Some NoSuch
+either true due e = e
+either false due e = refl
+
+pub slice_get_below : {A : Type 0} (xs : List A) (k : ℕ) (x : A) → slice_get xs k ≡ Some x → k < length xs
+slice_get_below [] k x e = cc
+slice_get_below (y ∷ ys) zero x e = omega arith
+slice_get_below (y ∷ ys) (suc k) x e = let below = slice_get_below ys k x e in omega (arith, below)
+
+pub answer_absent : (v : WorldValue) (r k : ℕ) → length v.memory ≤ r → IsStopped v (Answer r k) NoSuch v
+answer_absent v r k h = stopped v (Answer r k) NoSuch (λ w s. Due NoSuch (not_there r w.replicas (unless_there (is_some (slice_get w.asks k)) None) (subst (λ n. n ≤ r) (sym s.replicas) h)))
+
+pub answer_unasked : (v : WorldValue) (r k : ℕ) → length v.asks ≤ k → IsStopped v (Answer r k) NoSuch v
+answer_unasked v r k h = stopped v (Answer r k) NoSuch (λ w s. Due NoSuch (either (nat_lt r w.replicas) (unless_there (is_some (slice_get w.asks k)) None) (absent_at (HoldsAsk (length v.roster.names)) w.asks v.asks k s.asks h)))
+
+module _ (v : WorldValue) (i : IsWorld v) (r k : ℕ) (m : ReplicaValue) (a : AskText) (lt : r < length v.memory) (there : slice_get v.kept r ≡ Some m) (asked : slice_get v.asks k ≡ Some a) where
+  abbrev n : ℕ
+  n = length v.roster.names
+
+  kept_in_model : (w : World) → Stands v w → w.kept r ≡ coordinates m.state
+  kept_in_model w s = s.kept r ∙ ap state_of there
+
+  ask_of : (w : World) → Stands v w → HasPartner (HoldsAsk n) w.asks k a
+  ask_of w s = partner (HoldsAsk n) w.asks v.asks k a s.asks asked
+
+  due : (w : World) → Stands v w → refused w (Answer r k) ≡ None
+  due w s =
+      is_there r w.replicas (unless_there (is_some (slice_get w.asks k)) None) (subst (λ j. r < j) (sym s.replicas) lt)
+      ∙ present_at w.asks k (ask_of w s).it (ask_of w s).there
+
+  same_roster : length m.roster.names ≡ n
+  same_roster = ap (λ (o : RosterValue). length o.names) (i.kept r m there).0
+
+  -- the delta against what was asked from
+  delta_is : (w : World) (s : Stands v w) (g : DigestValue) (q : Question) → q ≡ (ask_of w s).it → ranks_in g ≡ ranks (ask_of w s).it.state → (x : StateValue) → coordinates x ≡ least (coordinates m.state) (ranks_in g)
+      → coordinates x ≡ (reply w r k q).state
+  delta_is w s g q is e x h =
+      let kept = kept_in_model w s in
+      h ∙ sym ((λ j. least (kept j) (ranks (is j).state)) ∙ ap (λ b. least (coordinates m.state) b) (sym e))
+
+  pub answer_stopped : (f : Fault) → HasNoReply (length m.roster.names) a.bytes a.asker m.state f → IsStopped v (Answer r k) f v
+  answer_stopped f (Lacks is) = no_memory v (Answer r k) f is
+  answer_stopped f (Unread read) = stopped v (Answer r k) f (λ w s.
+      let q = ask_of w s in
+      let why = unread_ask n q.it a q.related f (subst (λ j. Decodes (digest_kind j) a.bytes (Err f)) same_roster read) in
+      elim why [
+        | inl is ↦ subst (Refuses v w (Answer r k)) (sym is) NoMemory
+        | inr large ↦ subst (Refuses v w (Answer r k)) (sym large.0) (Large (due w s) (record { ask = a; there = asked; large = large.1 }))
+      ])
+  answer_stopped f (TooBig g read is long) = stopped v (Answer r k) f (λ w s.
+      let q = ask_of w s in
+      let read' = subst (λ j. Decodes (digest_kind j) a.bytes (Ok g)) same_roster read in
+      let e = read_ranks n q.it a q.related g read' in
+      subst (Refuses v w (Answer r k)) (sym is) (Long (due w s) (λ x. few_read n a.bytes g read' (subst (λ (z : AskText). HasTooManyInDigest n z.bytes) (sym (read_at v.asks k x.ask a x.there asked)) x.large))
+      (record {
+        asked = q.it;
+        there = q.there;
+        value = long.value;
+        state = delta_is w s g q.it refl e long.value long.least.state;
+        rows = long.rows;
+        certificate = subst (λ b. IsCertificate b long.value long.rows) e long.least.certificate;
+        long = subst (λ o. LIMIT < length (answer_text (answer o long.value long.rows))) q.related.asker long.long;
+      })))
+
+  -- the ask is that of the model
+  same_ask : (w : World) (s : Stands v w) (q : Question) → slice_get w.asks k ≡ Some q → q ≡ (ask_of w s).it
+  same_ask w s q e = read_at w.asks k (ask_of w s).it q (ask_of w s).there e
+
+  module _ (bytes : List ℕ) (components number : ℕ) (r' : IsReply (length m.roster.names) a.bytes a.asker m.state bytes components) (at : number ≡ length v.answers) where
+    abbrev text : AnswerText
+    text = record { question = k; asker = a.asker; bytes = bytes }
+
+    read : Decodes (digest_kind n) a.bytes (Ok r'.digest)
+    read = subst (λ j. Decodes (digest_kind j) a.bytes (Ok r'.digest)) same_roster r'.read
+
+    told : (w : World) (s : Stands v w) → ranks_in r'.digest ≡ ranks (ask_of w s).it.state
+    told w s = read_ranks n (ask_of w s).it a (ask_of w s).related r'.digest read
+
+    holds : (w : World) (s : Stands v w) → HoldsAnswer n w.asks v.asks (reply w r k (ask_of w s).it) text
+    holds w s =
+        let q = ask_of w s in
+        let y = r'.reply in
+        record {
+          question = refl;
+          asker = q.related.asker;
+          replica = subst (λ j. IsReplicaOf j a.asker) same_roster r'.replica;
+          asked = q.it;
+          ask = q.there;
+          read = record { ask = a; there = asked; digest = r'.digest; is_text = read.value.1 };
+          value = y.value;
+          state = delta_is w s r'.digest q.it refl (told w s) y.value y.least.state;
+          rows = y.rows;
+          certificate = subst (λ b. IsCertificate b y.value y.rows) (told w s) y.least.certificate;
+          text = y.text;
+          within = y.within;
+          dots = subst (λ j. AreDotsOf j (seen_of y.value.lives)) same_roster y.dots;
+          again = subst (λ j. AreFew (seen_of y.value.lives) → IsAnswerOf j (answer a.asker y.value y.rows)) same_roster y.again;
+        }
+
+    answered_so : (w : World) (s : Stands v w) → after w (Answer r k) ≡ record w { answers = w.answers ++ reply w r k (ask_of w s).it ∷ [] }
+    answered_so w s = ap (answered w r k) (ask_of w s).there
+
+    stands : (w : World) (s : Stands v w) → Stands (record v { answers = v.answers ++ text ∷ [] }) (after w (Answer r k))
+    stands w s = subst (Stands (record v { answers = v.answers ++ text ∷ [] })) (sym (answered_so w s)) (stands_answered v w (reply w r k (ask_of w s).it) text s (holds w s))
+
+    not_long : (w : World) (s : Stands v w) → IsLongAnswer w r k → ⊥
+    not_long w s l =
+        let q = ask_of w s in
+        let y = r'.reply in
+        let is = same_ask w s l.asked l.there in
+        let state : coordinates l.value ≡ coordinates y.value = l.state ∙ ap (λ (z : Question). (reply w r k z).state) is ∙ sym (delta_is w s r'.digest q.it refl (told w s) y.value y.least.state) in
+        let value : l.value ≡ y.value = same_value l.value y.value state in
+        let certificate : IsCertificate (ranks_in r'.digest) y.value l.rows =
+            subst (λ b. IsCertificate b y.value l.rows) (sym (told w s)) (subst (λ (z : Question). IsCertificate (ranks z.state) y.value l.rows) is (subst (λ z. IsCertificate (ranks l.asked.state) z l.rows) value l.certificate)) in
+        let rows : l.rows ≡ y.rows = one_certificate (ranks_in r'.digest) y.value y.rows l.rows y.least.certificate certificate in
+        let asker : l.asked.asker ≡ a.asker = ap (λ (z : Question). z.asker) is ∙ sym q.related.asker in
+        let same : answer_text (answer l.asked.asker l.value l.rows) ≡ bytes = (λ j. answer_text (answer (asker j) (value j) (rows j))) ∙ sym y.text in
+        let long : LIMIT < length bytes = subst (λ (t : List ℕ). LIMIT < length t) same l.long in
+        let short = y.within in
+        omega (arith, long, short)
+
+    pub answer_done : (answers : List AnswerText) → answers ≡ v.answers ++ text ∷ [] → IsDoneTo v (Answer r k) (Answered number components) (record v { answers = answers })
+    answer_done answers are =
+        let stands' : (w : World) → Stands v w → Stands (record v { answers = answers }) (after w (Answer r k)) = λ w s. subst (λ (l : List AnswerText). Stands (record v { answers = l }) (after w (Answer r k))) (sym are) (stands w s) in
+        record {
+          world = record {
+            memory = i.memory;
+            kept = i.kept;
+            same_length = i.same_length;
+            within = i.within;
+            asks = i.asks;
+            answers = λ j b h. elim (last_get v.answers text b j (subst (λ (l : List AnswerText). slice_get l j ≡ Some b) are h)) [
+              | inl old ↦ i.answers j b old
+              | inr new ↦ subst (λ (z : AnswerText). (z.asker < length v.memory) × (z.question < length v.asks)) (sym new) (i.asks k a asked, slice_get_below v.asks k a asked)
+            ];
+            model = model_after v (record v { answers = answers }) (Answer r k) (λ w s. (due w s, stands' w s)) i.model;
+          };
+          step = record {
+            accepted = λ w s. record {
+              due = due w s;
+              few = λ x. few_read n a.bytes r'.digest read (subst (λ (z : AskText). HasTooManyInDigest n z.bytes) (sym (read_at v.asks k x.ask a x.there asked)) x.large);
+              short = not_long w s;
+            };
+            stands = stands';
+            done = λ w s. record {
+              number = at ∙ sym (matched_length (HoldsAnswer n w.asks v.asks) w.answers v.answers s.answers);
+              components = λ q d there' is.
+                  (let same = same_ask w s q there' in
+                  let e : coordinates d ≡ coordinates r'.reply.value = is ∙ ap (λ (z : Question). (reply w r k z).state) same ∙ sym (delta_is w s r'.digest (ask_of w s).it refl (told w s) r'.reply.value r'.reply.least.state) in
+                  r'.reply.sized ∙ ap size (sym (same_value d r'.reply.value e)));
+            };
+            roster = refl;
+          };
+        }

@@ -1,0 +1,244 @@
+-- Each event does to the value of a world what it does to the model.
+use Rattle.std.proofs.Common.{◌≡◌, ◌+◌, suc, zero, ℕ, ◌<◌, ◌≤◌, Bool, true, false, List, [], ◌∷◌, ◌++◌, length, length-append, Option, Some, None, refl, sym, ap, ◌∙◌, subst, arith, slice_get, inl, inr, ◌⊎◌, count_by, nat_lt, get_or, ltb}
+use mathlib.Core.Bool.{false≢true}
+use Rattle.std.proofs.Math.ListN.{set, length-set}
+use Rattle.std.proofs.lemmas.Bool.{lt-ltb, le-ltb}
+use Rattle.std.proofs.lemmas.List.{set-get_or}
+use Rattle.rds_names.specs.Roster.{RosterValue}
+use Rattle.rds_names.specs.declared.fault.Fault.{Fault}
+use Rattle.rds_names.specs.declared.fault.Fault.TheVariants.{Memory, NoSuch, TooLong}
+use Rattle.rds_life.specs.Life.{live_rows}
+use Rattle.rds_state.specs.Coordinates.{Coordinates}
+use Rattle.rds_state.specs.Edit.{IsDue, JoinsEffect, covers, new_dot, refusal}
+use Rattle.rds_state.specs.Fits.{ReplicaValue}
+use Rattle.rds_state.specs.Value.{StateValue, coordinates}
+use Rattle.rds_state.specs.declared.command.Command.{Command}
+use Rattle.rds_state.specs.declared.command.Edited.{Edited as Effected}
+use Rattle.rds_delta.specs.Digested.{digest_of}
+use Rattle.rds_codec.specs.DigestTexts.{digest_text}
+use Rattle.rds_codec.specs.Spelling.{snapshot_text}
+use Rattle.rds_codec.specs.declared.limits.TheConstants.{LIMIT}
+use Rattle.rds_world.specs.declared.event.Event.{Event}
+use Rattle.rds_world.specs.declared.event.Event.TheVariants.{Edit, Save, Crash, Ask}
+use Rattle.rds_world.specs.declared.event.Done.TheVariants.{Edited, Plain, Asked}
+use Rattle.rds_world.specs.World.{World, edited, refused, unless_there}
+use Rattle.rds_world.specs.Stored.{AskText, AnswerText, WorldValue}
+use Rattle.rds_world.specs.Stands.{state_of, HoldsAsk, Stands, HasModel, Matched, IsWorld}
+use Rattle.rds_world.specs.Events.{Refuses, NoMemory, Due, Long}
+use Rattle.rds_world.specs.Steps.{IsStep, IsStopped}
+use Rattle.rds_world.proofs.Edits.{edit_is}
+use Rattle.rds_world.proofs.Standing.{places_set, stands_memory, stands_kept, stands_asked, model_after}
+use Rattle.rds_world.proofs.Tables.{same_some, last_get}
+
+-- the world that an event leaves is one, and stands for the model's
+pub record IsDoneTo (v : WorldValue) (e : Event) (answer : Rattle.rds_world.specs.declared.event.Done.Done) (u : WorldValue) : Type 0 where
+  pub world : IsWorld u
+  pub step : IsStep v e answer u
+
+pub read_at : {A : Type 0} (xs : List A) (i : ℕ) (x y : A) → slice_get xs i ≡ Some x → slice_get xs i ≡ Some y → y ≡ x
+read_at xs i x y p q = same_some y x (sym q ∙ p)
+
+pub matched_length : {A C : Type 0} (P : A → C → Type 0) (xs : List A) (ys : List C) → Matched P xs ys → length xs ≡ length ys
+matched_length P [] [] m = refl
+matched_length P [] (y ∷ ys) m = absurd m
+matched_length P (x ∷ xs) [] m = absurd m
+matched_length P (x ∷ xs) (y ∷ ys) m = ap suc (matched_length P xs ys m.1)
+
+pub set_same : {A : Type 0} (xs : List A) (i : ℕ) (x : A) → slice_get xs i ≡ Some x → set xs i x ≡ xs
+set_same [] i x is = refl
+set_same (y ∷ ys) zero x is = ap (λ z. z ∷ ys) (sym (same_some y x is))
+set_same (y ∷ ys) (suc i) x is = ap (λ zs. y ∷ zs) (set_same ys i x is)
+
+-- ---- refusals
+
+pub is_there : (r n : ℕ) (due : Option Fault) → r < n → unless_there (nat_lt r n) due ≡ due
+is_there r n due h = ap (λ b. unless_there b due) (lt-ltb r n h)
+
+pub not_there : (r n : ℕ) (due : Option Fault) → n ≤ r → unless_there (nat_lt r n) due ≡ Some NoSuch
+not_there r n due h = ap (λ b. unless_there b due) (le-ltb r n h)
+
+pub stopped : (v : WorldValue) (e : Event) (f : Fault) → ((w : World) → Stands v w → Refuses v w e f) → IsStopped v e f v
+stopped v e f h = record { refused = h; same = refl }
+
+pub no_memory : (v : WorldValue) (e : Event) (f : Fault) → f ≡ Memory → IsStopped v e f v
+no_memory v e f is = subst (λ x. IsStopped v e x v) (sym is) (stopped v e Memory (λ w s. NoMemory))
+
+pub edit_absent : (v : WorldValue) (r : ℕ) (c : Command) → length v.memory ≤ r → IsStopped v (Edit r c) NoSuch v
+edit_absent v r c h = stopped v (Edit r c) NoSuch (λ w s. Due NoSuch (not_there r w.replicas (refusal (w.memory r) r c) (subst (λ n. n ≤ r) (sym s.replicas) h)))
+
+pub save_absent : (v : WorldValue) (r : ℕ) → length v.memory ≤ r → IsStopped v (Save r) NoSuch v
+save_absent v r h = stopped v (Save r) NoSuch (λ w s. Due NoSuch (not_there r w.replicas None (subst (λ n. n ≤ r) (sym s.replicas) h)))
+
+pub crash_absent : (v : WorldValue) (r : ℕ) → length v.memory ≤ r → IsStopped v (Crash r) NoSuch v
+crash_absent v r h = stopped v (Crash r) NoSuch (λ w s. Due NoSuch (not_there r w.replicas None (subst (λ n. n ≤ r) (sym s.replicas) h)))
+
+pub ask_absent : (v : WorldValue) (r : ℕ) → length v.memory ≤ r → IsStopped v (Ask r) NoSuch v
+ask_absent v r h = stopped v (Ask r) NoSuch (λ w s. Due NoSuch (not_there r w.replicas None (subst (λ n. n ≤ r) (sym s.replicas) h)))
+
+pub stopped_same : (v u : WorldValue) (e : Event) (f : Fault) → u ≡ v → IsStopped v e f v → IsStopped v e f u
+stopped_same v u e f same h = record { refused = h.refused; same = same }
+
+-- a world with another replica in memory
+pub world_memory : (v : WorldValue) (i : IsWorld v) (r : ℕ) (x : ReplicaValue) → r < length v.memory → (x.roster ≡ v.roster) × (x.own ≡ r) → ∥ HasModel (record v { memory = set v.memory r x }) ∥₁ → IsWorld (record v { memory = set v.memory r x })
+world_memory v i r x lt at model =
+    let len : length (set v.memory r x) ≡ length v.memory = length-set v.memory r x in
+    record {
+      memory = places_set v.roster v.memory r x lt at i.memory;
+      kept = i.kept;
+      same_length = i.same_length ∙ sym len;
+      within = subst (λ n. n ≤ length v.roster.names) (sym len) i.within;
+      asks = λ k a h. subst (λ n. a.asker < n) (sym len) (i.asks k a h);
+      answers = λ k a h. (let x = i.answers k a h in (subst (λ n. a.asker < n) (sym len) x.0, x.1));
+      model = model;
+    }
+
+-- a replica in memory
+module _ (v : WorldValue) (i : IsWorld v) (r : ℕ) (m : ReplicaValue) (lt : r < length v.memory) (there : slice_get v.memory r ≡ Some m) where
+  in_model : (w : World) → Stands v w → w.memory r ≡ coordinates m.state
+  in_model w s = s.memory r ∙ ap state_of there
+
+  below : (w : World) → Stands v w → r < w.replicas
+  below w s = subst (λ n. r < n) (sym s.replicas) lt
+
+  -- ---- edits
+
+  module _ (c : Command) where
+    edit_due : (w : World) → Stands v w → refused w (Edit r c) ≡ refusal (coordinates m.state) m.own c
+    edit_due w s =
+        let own : r ≡ m.own = sym (i.memory r m there).1 in
+        let same = in_model w s in
+        is_there r w.replicas (refusal (w.memory r) r c) (below w s) ∙ (λ j. refusal (same j) (own j) c)
+
+    edit_stopped_by : (f : Fault) → IsDue (refusal (coordinates m.state) m.own c) f → (w : World) → Stands v w → Refuses v w (Edit r c) f
+    edit_stopped_by Memory h w s = NoMemory
+    edit_stopped_by f h w s = Due f (edit_due w s ∙ h)
+
+    pub edit_stopped : (x : ReplicaValue) (f : Fault) → x ≡ m → IsDue (refusal (coordinates m.state) m.own c) f → IsStopped v (Edit r c) f (record v { memory = set v.memory r x })
+    edit_stopped x f is h =
+        let same : set v.memory r x ≡ v.memory = ap (λ y. set v.memory r y) is ∙ set_same v.memory r m there in
+        record { refused = edit_stopped_by f h; same = λ j. record v { memory = same j } }
+
+    pub edit_done : (x : ReplicaValue) (e : Effected) → (x.roster ≡ m.roster) × (x.own ≡ m.own) → JoinsEffect (coordinates m.state) m.own c (coordinates x.state)
+        → e.dot ≡ new_dot (coordinates m.state) m.own c → e.killed ≡ count_by (λ row. covers c row.1) (live_rows m.state.lives) → refusal (coordinates m.state) m.own c ≡ None
+        → IsDoneTo v (Edit r c) (Edited e) (record v { memory = set v.memory r x })
+    edit_done x e same joins dot killed due =
+        let own : r ≡ m.own = sym (i.memory r m there).1 in
+        let stands : (w : World) → Stands v w → Stands (record v { memory = set v.memory r x }) (Rattle.rds_world.specs.World.after w (Edit r c)) =
+            λ w s. (let same = in_model w s in stands_memory v w r x (edited (w.memory r) r c) lt (length-set v.memory r x) s
+            ((λ j. edited (same j) (own j) c) ∙ sym (edit_is (coordinates m.state) (coordinates x.state) m.own c joins))) in
+        let accepted : (w : World) → Stands v w → refused w (Edit r c) ≡ None = λ w s. edit_due w s ∙ due in
+        record {
+          world = world_memory v i r x lt (same.0 ∙ (i.memory r m there).0, same.1 ∙ (i.memory r m there).1) (model_after v (record v { memory = set v.memory r x }) (Edit r c) (λ w s. (accepted w s, stands w s)) i.model);
+          step = record {
+            accepted = λ w s. record { due = accepted w s; few = λ h. h; short = λ h. h };
+            stands = stands;
+            done = λ w s. record { dot = (let same = in_model w s in dot ∙ sym (λ j. new_dot (same j) (own j) c)); killed = λ n is. killed ∙ ap (λ (z : ReplicaValue). count_by (λ row. covers c row.1) (live_rows z.state.lives)) (read_at v.memory r n m is there) };
+            roster = refl;
+          };
+        }
+
+  -- ---- saves
+
+  pub save_stopped : (f : Fault) → (f ≡ Memory) ⊎ ((f ≡ TooLong) × (LIMIT < length (snapshot_text m))) → IsStopped v (Save r) f v
+  save_stopped f h = elim h [
+    | inl is ↦ no_memory v (Save r) f is
+    | inr l ↦ subst (λ x. IsStopped v (Save r) x v) (sym l.0) (stopped v (Save r) TooLong (λ w s. Long (is_there r w.replicas None (below w s)) (λ x. x) (record { replica = m; there = there; long = l.1 })))
+  ]
+
+  pub save_done : (x : ReplicaValue) → x ≡ m → length (snapshot_text m) ≤ LIMIT → IsDoneTo v (Save r) Plain (record v { kept = set v.kept r x })
+  save_done x is short =
+      let lt_kept : r < length v.kept = subst (λ n. r < n) (sym i.same_length) lt in
+      let at = i.memory r m there in
+      let stands : (w : World) → Stands v w → Stands (record v { kept = set v.kept r x }) (Rattle.rds_world.specs.World.after w (Save r)) =
+          λ w s. stands_kept v w r x (w.memory r) lt_kept s (in_model w s ∙ ap (λ (z : ReplicaValue). coordinates z.state) (sym is)) in
+      let accepted : (w : World) → Stands v w → refused w (Save r) ≡ None = λ w s. is_there r w.replicas None (below w s) in
+      record {
+        world = record {
+          memory = i.memory;
+          kept = places_set v.roster v.kept r x lt_kept (ap (λ (z : ReplicaValue). z.roster) is ∙ at.0, ap (λ (z : ReplicaValue). z.own) is ∙ at.1) i.kept;
+          same_length = length-set v.kept r x ∙ i.same_length;
+          within = i.within;
+          asks = i.asks;
+          answers = i.answers;
+          model = model_after v (record v { kept = set v.kept r x }) (Save r) (λ w s. (accepted w s, stands w s)) i.model;
+        };
+        step = record {
+          accepted = λ w s. record {
+            due = accepted w s;
+            few = λ h. h;
+            short = λ h. (let same = read_at v.memory r h.replica m h.there there in let long = h.long in let long' : LIMIT < length (snapshot_text m) = subst (λ (z : ReplicaValue). LIMIT < length (snapshot_text z)) (sym same) long in omega (arith, short, long'));
+          };
+          stands = stands;
+          done = λ w s. tt;
+          roster = refl;
+        };
+      }
+
+-- a replica that is kept
+module _ (v : WorldValue) (i : IsWorld v) (r : ℕ) (m : ReplicaValue) (lt : r < length v.memory) (there : slice_get v.kept r ≡ Some m) where
+  kept_in_model : (w : World) → Stands v w → w.kept r ≡ coordinates m.state
+  kept_in_model w s = s.kept r ∙ ap state_of there
+
+  kept_below : (w : World) → Stands v w → r < w.replicas
+  kept_below w s = subst (λ n. r < n) (sym s.replicas) lt
+
+  -- ---- crashes
+
+  pub crash_done : (x : ReplicaValue) → x ≡ m → IsDoneTo v (Crash r) Plain (record v { memory = set v.memory r x })
+  crash_done x is =
+      let at = i.kept r m there in
+      let stands : (w : World) → Stands v w → Stands (record v { memory = set v.memory r x }) (Rattle.rds_world.specs.World.after w (Crash r)) =
+          λ w s. stands_memory v w r x (w.kept r) lt (length-set v.memory r x) s (kept_in_model w s ∙ ap (λ (z : ReplicaValue). coordinates z.state) (sym is)) in
+      let accepted : (w : World) → Stands v w → refused w (Crash r) ≡ None = λ w s. is_there r w.replicas None (kept_below w s) in
+      record {
+        world = world_memory v i r x lt (ap (λ (z : ReplicaValue). z.roster) is ∙ at.0, ap (λ (z : ReplicaValue). z.own) is ∙ at.1) (model_after v (record v { memory = set v.memory r x }) (Crash r) (λ w s. (accepted w s, stands w s)) i.model);
+        step = record {
+          accepted = λ w s. record { due = accepted w s; few = λ h. h; short = λ h. h };
+          stands = stands;
+          done = λ w s. tt;
+          roster = refl;
+        };
+      }
+
+  -- ---- asks
+
+  pub ask_stopped : (f : Fault) → (f ≡ Memory) ⊎ ((f ≡ TooLong) × (LIMIT < length (digest_text (digest_of m.state)))) → IsStopped v (Ask r) f v
+  ask_stopped f h = elim h [
+    | inl is ↦ no_memory v (Ask r) f is
+    | inr l ↦ subst (λ x. IsStopped v (Ask r) x v) (sym l.0) (stopped v (Ask r) TooLong (λ w s. Long (is_there r w.replicas None (kept_below w s)) (λ x. x) (record { replica = m; there = there; long = l.1 })))
+  ]
+
+  pub ask_done : (bytes : List ℕ) (asks : List AskText) (question : ℕ) → asks ≡ v.asks ++ record { asker = r; bytes = bytes } ∷ [] → question ≡ length v.asks
+      → HoldsAsk (length m.roster.names) (record { asker = m.own; state = coordinates m.state }) (record { asker = m.own; bytes = bytes }) → length (digest_text (digest_of m.state)) ≤ LIMIT
+      → IsDoneTo v (Ask r) (Asked question) (record v { asks = asks })
+  ask_done bytes asks question are number holds short =
+      let at = i.kept r m there in
+      let ask : AskText = record { asker = r; bytes = bytes } in
+      let here : HoldsAsk (length v.roster.names) (record { asker = r; state = coordinates m.state }) ask =
+          subst (λ (o : ℕ). HoldsAsk (length v.roster.names) (record { asker = o; state = coordinates m.state }) (record { asker = o; bytes = bytes })) at.1
+          (subst (λ (o : RosterValue). HoldsAsk (length o.names) (record { asker = m.own; state = coordinates m.state }) (record { asker = m.own; bytes = bytes })) at.0 holds) in
+      let stands : (w : World) → Stands v w → Stands (record v { asks = asks }) (Rattle.rds_world.specs.World.after w (Ask r)) =
+          λ w s. subst (λ (l : List AskText). Stands (record v { asks = l }) (Rattle.rds_world.specs.World.after w (Ask r))) (sym are)
+          (stands_asked v w (record { asker = r; state = w.kept r }) ask s (subst (λ (a : Coordinates). HoldsAsk (length v.roster.names) (record { asker = r; state = a }) ask) (sym (kept_in_model w s)) here)) in
+      let accepted : (w : World) → Stands v w → refused w (Ask r) ≡ None = λ w s. is_there r w.replicas None (kept_below w s) in
+      record {
+        world = record {
+          memory = i.memory;
+          kept = i.kept;
+          same_length = i.same_length;
+          within = i.within;
+          asks = λ k a h. elim (last_get v.asks ask a k (subst (λ (l : List AskText). slice_get l k ≡ Some a) are h)) [ inl old ↦ i.asks k a old | inr new ↦ subst (λ (z : AskText). z.asker < length v.memory) (sym new) lt ];
+          answers = λ k a h. (let x = i.answers k a h in (x.0, (let len : length asks ≡ length v.asks + 1 = ap length are ∙ length-append v.asks (ask ∷ []) in let before = x.1 in omega (arith, len, before))));
+          model = model_after v (record v { asks = asks }) (Ask r) (λ w s. (accepted w s, stands w s)) i.model;
+        };
+        step = record {
+          accepted = λ w s. record {
+            due = accepted w s;
+            few = λ h. h;
+            short = λ h. (let same = read_at v.kept r h.replica m h.there there in let long : LIMIT < length (digest_text (digest_of m.state)) = subst (λ (z : ReplicaValue). LIMIT < length (digest_text (digest_of z.state))) (sym same) h.long in omega (arith, short, long));
+          };
+          stands = stands;
+          done = λ w s. number ∙ sym (matched_length (HoldsAsk (length v.roster.names)) w.asks v.asks s.asks);
+          roster = refl;
+        };
+      }

@@ -1,0 +1,178 @@
+-- Takes do to the value of a world what they do to the model, and none is refused that the model takes.
+use Rattle.std.proofs.Common.{◌≡◌, ℕ, ◌<◌, ◌≤◌, ◌⊎◌, inl, inr, Bool, true, false, List, length, Option, Some, None, Ok, Err, Result, refl, sym, ap, ◌∙◌, subst, slice_get}
+use mathlib.Core.Bool.{false≢true}
+use mathlib.Core.HLevel.{⊥_prop}
+use mathlib.Core.Logic.{∥∥₁_elim}
+use Rattle.std.proofs.Math.ListN.{set, length-set}
+use Rattle.rds_names.specs.Roster.{RosterValue}
+use Rattle.rds_names.specs.declared.fault.Fault.{Fault}
+use Rattle.rds_names.specs.declared.fault.Fault.TheVariants.{Memory, NoSuch, TooManyDots}
+use Rattle.rds_state.specs.Ahead.{TakeGives}
+use Rattle.rds_state.specs.Coordinates.{Coordinates, join}
+use Rattle.rds_state.specs.Fits.{ReplicaValue}
+use Rattle.rds_state.specs.Friends.{MayTake}
+use Rattle.rds_state.specs.Value.{StateValue, coordinates}
+use Rattle.rds_state.proofs.FriendLemmas.{may_take_is_taken}
+use Rattle.rds_delta.specs.Claims.{IsCertificate}
+use Rattle.rds_delta.specs.Digested.{DigestValue, ranks_in}
+use Rattle.rds_delta.specs.Least.{IsAbove}
+use Rattle.rds_delta.specs.Ranks.{ranks}
+use Rattle.rds_codec.specs.AnswerTexts.{HasTooManySent, answer, answer_kind}
+use Rattle.rds_codec.specs.AnswerValues.{AnswerValue}
+use Rattle.rds_codec.specs.Decoding.{Decodes}
+use Rattle.rds_codec.specs.DigestTexts.{digest_kind}
+use Rattle.rds_world.specs.declared.event.Event.TheVariants.{Take}
+use Rattle.rds_world.specs.declared.event.Done.TheVariants.{Plain}
+use Rattle.rds_world.specs.World.{World, Question, Reply, after, put, refused, taken}
+use Rattle.rds_world.specs.Stored.{AskText, AnswerText, WorldValue}
+use Rattle.rds_world.specs.Stands.{state_of, HasModel, HoldsAsk, HoldsAnswer, Stands, IsWorld}
+use Rattle.rds_world.specs.Events.{Refuses, NoMemory, Due, Large}
+use Rattle.rds_world.specs.Replies.{IsTaken, IsUncertified, IsNotTaken, NoDigest, NoAnswer, Uncertified, Untaken}
+use Rattle.rds_world.specs.Steps.{IsStopped}
+use Rattle.rds_world.proofs.Answered.{HasPartner, absent_at, partner, present_at}
+use Rattle.rds_world.proofs.Friends.{may_take}
+use Rattle.rds_world.proofs.Performed.{IsDoneTo, no_memory, read_at, set_same, stopped, world_memory}
+use Rattle.rds_world.proofs.Readings.{few_sent, read_again, read_answer, read_ranks, unread_answer}
+use Rattle.rds_world.proofs.Standing.{model_after, stands_memory}
+
+abbrev is_memory : Fault → Bool
+is_memory Memory = true
+is_memory f = false
+
+the_memory : (f : Fault) → is_memory f ≡ true → f ≡ Memory
+the_memory Memory h = refl
+the_memory f h = absurd (false≢true h)
+
+pub take_absent : (v : WorldValue) (k : ℕ) → length v.answers ≤ k → IsStopped v (Take k) NoSuch v
+take_absent v k h = stopped v (Take k) NoSuch (λ w s. Due NoSuch (absent_at (HoldsAnswer (length v.roster.names) w.asks v.asks) w.answers v.answers k s.answers h))
+
+module _ (v : WorldValue) (i : IsWorld v) (k : ℕ) (t : AnswerText) (a : AskText) (m : ReplicaValue) (answer_there : slice_get v.answers k ≡ Some t) (ask_there : slice_get v.asks t.question ≡ Some a) (there : slice_get v.memory t.asker ≡ Some m) where
+  abbrev n : ℕ
+  n = length v.roster.names
+
+  same_roster : length m.roster.names ≡ n
+  same_roster = ap (λ (o : RosterValue). length o.names) (i.memory t.asker m there).0
+
+  in_model : (w : World) → Stands v w → w.memory t.asker ≡ coordinates m.state
+  in_model w s = s.memory t.asker ∙ ap state_of there
+
+  answer_of : (w : World) (s : Stands v w) → HasPartner (HoldsAnswer n w.asks v.asks) w.answers k t
+  answer_of w s = partner (HoldsAnswer n w.asks v.asks) w.answers v.answers k t s.answers answer_there
+
+  ask_of : (w : World) (s : Stands v w) → HasPartner (HoldsAsk n) w.asks t.question a
+  ask_of w s = partner (HoldsAsk n) w.asks v.asks t.question a s.asks ask_there
+
+  due : (w : World) → Stands v w → refused w (Take k) ≡ None
+  due w s = present_at w.answers k (answer_of w s).it (answer_of w s).there
+
+  -- what was read is the answer's state
+  state_is : (w : World) (s : Stands v w) (x : AnswerValue) → Decodes (answer_kind n) t.bytes (Ok x) → coordinates x.state ≡ (answer_of w s).it.state
+  state_is w s x d =
+      let y = answer_of w s in
+      ap (λ (z : AnswerValue). coordinates z.state) (read_answer n w.asks v.asks y.it t y.related x d) ∙ y.related.state
+
+  -- what was asked from is that of the answer's ask
+  asked_is : (w : World) (s : Stands v w) → (answer_of w s).related.asked ≡ (ask_of w s).it
+  asked_is w s =
+      let y = answer_of w s in
+      read_at w.asks t.question (ask_of w s).it y.related.asked (ask_of w s).there (subst (λ j. slice_get w.asks j ≡ Some y.related.asked) (sym y.related.question) y.related.ask)
+
+  certified : (m : HasModel v) (g : DigestValue) (x : AnswerValue) → Decodes (digest_kind n) a.bytes (Ok g) → Decodes (answer_kind n) t.bytes (Ok x)
+      → IsAbove (coordinates x.state) (ranks_in g) × IsCertificate (ranks_in g) x.state x.certificate
+  certified m g x dg dx =
+      let w = m.world in
+      let s = m.stands in
+      let y = answer_of w s in
+      let q = ask_of w s in
+      let told : ranks_in g ≡ ranks q.it.state = read_ranks n q.it a q.related g dg in
+      let is = read_answer n w.asks v.asks y.it t y.related x dx in
+      let its = m.coherent.answers_its k y.it y.there in
+      let same : its.question ≡ q.it = read_at w.asks t.question q.it its.question q.there (subst (λ j. slice_get w.asks j ≡ Some its.question) (sym y.related.question) its.asked) in
+      let above : IsAbove (coordinates x.state) (ranks_in g) =
+          subst (λ b. IsAbove (coordinates x.state) b) (sym told)
+          (subst (λ (z : Question). IsAbove (coordinates x.state) (ranks z.state)) same (subst (λ b. IsAbove b (ranks its.question.state)) (sym (state_is w s x dx)) its.above)) in
+      let certificate : IsCertificate (ranks_in g) x.state x.certificate =
+          subst (λ b. IsCertificate b x.state x.certificate) (sym told)
+          (subst (λ (z : Question). IsCertificate (ranks z.state) x.state x.certificate) (asked_is w s)
+          (subst (λ (z : AnswerValue). IsCertificate (ranks y.related.asked.state) z.state z.certificate) (sym is) y.related.certificate)) in
+      (above, certificate)
+
+  -- in the model the answer may be taken
+  taken_there : (h : HasModel v) (x : AnswerValue) → Decodes (answer_kind n) t.bytes (Ok x) → MayTake m.own (coordinates m.state) (coordinates x.state)
+  taken_there h x dx =
+      let w = h.world in
+      let s = h.stands in
+      let y = answer_of w s in
+      let may : MayTake y.it.asker (w.memory y.it.asker) y.it.state = may_take w h.coherent k y.it y.there in
+      let one : MayTake t.asker (w.memory t.asker) y.it.state = subst (λ o. MayTake o (w.memory o) y.it.state) (sym y.related.asker) may in
+      let two : MayTake m.own (w.memory t.asker) y.it.state = subst (λ o. MayTake o (w.memory t.asker) y.it.state) (sym (i.memory t.asker m there).1) one in
+      let three : MayTake m.own (coordinates m.state) y.it.state = subst (λ b. MayTake m.own b y.it.state) (in_model w s) two in
+      subst (λ b. MayTake m.own (coordinates m.state) b) (sym (state_is w s x dx)) three
+
+  only_memory : (f : Fault) (x : AnswerValue) → Decodes (answer_kind n) t.bytes (Ok x) → TakeGives {T = Unit {0}} m.state m.own x.state (Err f) → f ≡ Memory
+  only_memory f x dx gives = elim (is_memory f) as (λ b. is_memory f ≡ b → f ≡ Memory) [
+    | true ↦ λ e. the_memory f e
+    | false ↦ λ e. absurd (∥∥₁_elim i.model ⊥_prop (λ h. elim (may_take_is_taken m.own m.state x.state (Err f) (taken_there h x dx) gives) [
+      | inl bad ↦ not_ok f bad
+      | inr bad ↦ false≢true (sym e ∙ ap is_memory (same_fault f bad))
+    ]))
+  ] refl
+    where
+      not_ok : (f : Fault) → (let r : Result (Unit {0}) Fault = Err f in r ≡ Ok tt) → ⊥
+      not_ok f e = cc
+
+      same_fault : (f : Fault) → (let r : Result (Unit {0}) Fault = Err f in r ≡ Err Memory) → f ≡ Memory
+      same_fault f e = cc
+
+  stopped_by : (f : Fault) → IsNotTaken (length m.roster.names) a.bytes t.bytes m.own m.state f → (w : World) (s : Stands v w) → Refuses v w (Take k) f
+  stopped_by f (NoDigest d) w s =
+      let y = answer_of w s in
+      let read = y.related.read in
+      let same : read.ask ≡ a = read_at v.asks t.question a read.ask ask_there (subst (λ j. slice_get v.asks j ≡ Some read.ask) (sym y.related.question) read.there) in
+      let is_text = subst (λ (z : AskText). Rattle.rds_codec.specs.Decoding.IsTextOf (digest_kind n) z.bytes read.digest) same read.is_text in
+      let is : f ≡ Memory = read_again n a.bytes read.digest f is_text (ask_of w s).related.within (subst (λ j. Decodes (digest_kind j) a.bytes (Err f)) same_roster d) in
+      subst (Refuses v w (Take k)) (sym is) NoMemory
+  stopped_by f (NoAnswer d) w s =
+      let y = answer_of w s in
+      elim (unread_answer n w.asks v.asks y.it t y.related f (subst (λ j. Decodes (answer_kind j) t.bytes (Err f)) same_roster d)) [
+        | inl is ↦ subst (Refuses v w (Take k)) (sym is) NoMemory
+        | inr large ↦ subst (Refuses v w (Take k)) (sym large.0) (Large (due w s) (record { reply = t; there = answer_there; large = large.1 }))
+      ]
+  stopped_by f (Uncertified g x dg dx wrong) w s =
+      absurd (∥∥₁_elim i.model ⊥_prop (λ h. wrong.wrong (certified h g x (subst (λ j. Decodes (digest_kind j) a.bytes (Ok g)) same_roster dg) (subst (λ j. Decodes (answer_kind j) t.bytes (Ok x)) same_roster dx))))
+  stopped_by f (Untaken x dx gives) w s =
+      subst (Refuses v w (Take k)) (sym (only_memory f x (subst (λ j. Decodes (answer_kind j) t.bytes (Ok x)) same_roster dx) gives)) NoMemory
+
+  pub take_stopped : (x : ReplicaValue) (f : Fault) → x ≡ m → IsNotTaken (length m.roster.names) a.bytes t.bytes m.own m.state f → IsStopped v (Take k) f (record v { memory = set v.memory t.asker x })
+  take_stopped x f is h =
+      let same : set v.memory t.asker x ≡ v.memory = ap (λ y. set v.memory t.asker y) is ∙ set_same v.memory t.asker m there in
+      record { refused = stopped_by f h; same = λ j. record v { memory = same j } }
+
+  pub take_done : (x : ReplicaValue) → t.asker < length v.memory → (x.roster ≡ m.roster) × (x.own ≡ m.own) → IsTaken (length m.roster.names) t.bytes m.state x.state
+      → IsDoneTo v (Take k) Plain (record v { memory = set v.memory t.asker x })
+  take_done x lt same is =
+      let read : Decodes (answer_kind n) t.bytes (Ok is.answer) = subst (λ j. Decodes (answer_kind j) t.bytes (Ok is.answer)) same_roster is.read in
+      let at = i.memory t.asker m there in
+      let stands : (w : World) → Stands v w → Stands (record v { memory = set v.memory t.asker x }) (after w (Take k)) =
+          λ w s.
+            (let y = answer_of w s in
+            let mine = in_model w s in
+            let sent = state_is w s is.answer read in
+            let joined : join (w.memory t.asker) y.it.state ≡ coordinates x.state = (λ j. join (mine j) y.it.state) ∙ ap (λ b. join (coordinates m.state) b) (sym sent) ∙ sym is.joined in
+            let one = stands_memory v w t.asker x (join (w.memory t.asker) y.it.state) lt (length-set v.memory t.asker x) s joined in
+            let two : Stands (record v { memory = set v.memory t.asker x }) (record w { memory = put w.memory y.it.asker (join (w.memory y.it.asker) y.it.state) }) =
+                subst (λ o. Stands (record v { memory = set v.memory t.asker x }) (record w { memory = put w.memory o (join (w.memory o) y.it.state) })) y.related.asker one in
+            subst (Stands (record v { memory = set v.memory t.asker x })) (sym (ap (taken w) y.there)) two) in
+      record {
+        world = world_memory v i t.asker x lt (same.0 ∙ at.0, same.1 ∙ at.1) (model_after v (record v { memory = set v.memory t.asker x }) (Take k) (λ w s. (due w s, stands w s)) i.model);
+        step = record {
+          accepted = λ w s. record {
+            due = due w s;
+            few = λ z. few_sent n t.bytes is.answer read (subst (λ (y : AnswerText). HasTooManySent n y.bytes) (sym (read_at v.answers k z.reply t z.there answer_there)) z.large);
+            short = λ z. z;
+          };
+          stands = stands;
+          done = λ w s. tt;
+          roster = refl;
+        };
+      }
