@@ -1,5 +1,5 @@
 -- The task whose words are known.
-use Rattle.std.proofs.Common.{◌≡◌, List, [], ◌∷◌, codes, Option, Some, None, option_map, refl}
+use Rattle.std.proofs.Common.{◌≡◌, [], ◌∷◌, codes, Option, Some, None, option_map, refl}
 use Rattle.rds_node.specs.Task.{words_of}
 use Rattle.rds_node.specs.declared.commands.Task.{Task}
 use Rattle.rds_node.specs.declared.commands.Task.TheVariants.{Join, Sim, Init, Edit, Show}
@@ -9,7 +9,7 @@ pub is_join : (task : Option Task) → option_map words_of task ≡ Some (codes 
 is_join None e = absurd cc
 is_join (Some Join) e = refl
 is_join (Some Sim) e = absurd cc
-is_join (Some (Init file group own names)) e = absurd cc
+is_join (Some (Init words)) e = absurd cc
 is_join (Some (Edit file (Set path value))) e = absurd cc
 is_join (Some (Edit file (Add path value))) e = absurd cc
 is_join (Some (Edit file (Del path value))) e = absurd cc
@@ -22,7 +22,7 @@ pub is_sim : (task : Option Task) → option_map words_of task ≡ Some (codes "
 is_sim None e = absurd cc
 is_sim (Some Join) e = absurd cc
 is_sim (Some Sim) e = refl
-is_sim (Some (Init file group own names)) e = absurd cc
+is_sim (Some (Init words)) e = absurd cc
 is_sim (Some (Edit file (Set path value))) e = absurd cc
 is_sim (Some (Edit file (Add path value))) e = absurd cc
 is_sim (Some (Edit file (Del path value))) e = absurd cc

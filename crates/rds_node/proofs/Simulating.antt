@@ -1,14 +1,11 @@
 -- Lines that are met one after the other.
-use Rattle.std.proofs.Common.{◌≡◌, ◌∙◌, ◌≤◌, ◌⊎◌, ◌++◌, ◌||◌, ℕ, Bool, false, true, List, length, Option, Some, None, Result, Ok, Err, String, string_bytes, refl, sym, ap, subst, inl, inr, slice_get, arith}
+use Rattle.std.proofs.Common.{◌≡◌, ◌∙◌, ◌≤◌, ◌⊎◌, ◌++◌, ◌||◌, ℕ, Bool, List, length, Option, Some, None, Result, Ok, Err, refl, sym, ap, subst, inl, inr, slice_get, arith}
 use Rattle.std.specs.Prelude.{IfOk, IfErr, IfSome}
-use Rattle.std.specs.Global.{Global}
 use Rattle.std.proofs.lemmas.Option.{slice_get_cases}
 use Rattle.rds_names.specs.declared.fault.Fault.{Fault}
 use Rattle.rds_names.specs.declared.fault.Fault.TheVariants.{Memory, NoSuch}
 use Rattle.rds_names.specs.Roster.{RosterValue}
 use Rattle.rds_state.specs.Fits.{ReplicaValue}
-use Rattle.rds_json.specs.Line.{line_of}
-use Rattle.rds_json.specs.MayGive.{MayGive}
 use Rattle.rds_json.specs.declared.line.Line.{Line}
 use Rattle.rds_json.specs.declared.line.Line.TheVariants as lines
 use Rattle.rds_world.specs.Events.{IsAccepted, IsDone, Refuses}
@@ -24,7 +21,7 @@ use Rattle.rds_node.specs.Edits.{ShowsView}
 use Rattle.rds_node.specs.Lines.{lines_in}
 use Rattle.rds_node.specs.Output.{Writes}
 use Rattle.rds_node.specs.Run.{WritesSim}
-use Rattle.rds_node.specs.Sim.{Group, MayMeet, MeetsBytes, MeetsFirst, MeetsLines, MeetsRead, MeetsRequest, done_answer, line_in, opening, request_of}
+use Rattle.rds_node.specs.Sim.{Group, MeetsBytes, MeetsFirst, MeetsLines, MeetsRequest, done_answer, opening, request_of}
 use Rattle.rds_node.specs.Simulated.{IsGroup, LeadsTo, LineLeadsTo, StandsFor, answer_of}
 use Rattle.rds_node.specs.declared.answer.Answer.{Answer}
 use Rattle.rds_node.specs.declared.answer.Answer.TheVariants.{Done, Refused}

@@ -1,5 +1,5 @@
 -- What is told of an answer that is there.
-use Rattle.std.proofs.Common.{◌≡◌, ◌⊎◌, Result, Ok, Err, inl, inr}
+use Rattle.std.proofs.Common.{◌≡◌, ◌⊎◌, Ok, Err, inl, inr}
 
 ok_isnt_err : {X E : Type 0} (x : X) (e : E) → Ok x ≡ Err e → ⊥
 ok_isnt_err x e is = absurd cc

@@ -1,7 +1,6 @@
 -- The JSON of an answer.
-use Rattle.std.specs.Prelude.{ℕ, Bool, true, false, List, ◌++◌, codes, Option, Some, None, option_and_then, option_map, slice_get, String, string_bytes}
+use Rattle.std.specs.Prelude.{ℕ, Bool, true, false, List, ◌++◌, codes, Option, Some, None, option_and_then, option_map, slice_get, string_bytes}
 use Rattle.std.specs.Fmt.{decimal}
-use Rattle.rds_names.specs.declared.fault.Fault.{Fault}
 use Rattle.rds_names.specs.Roster.{RosterValue}
 use Rattle.rds_dots.specs.declared.dot.Dot.{Dot}
 use Rattle.rds_names.specs.Fault.{number_of, name_of}

@@ -1,9 +1,7 @@
 -- What edits and views of a replica are answered.
-use Rattle.std.specs.Prelude.{◌≡◌, ℕ, false, List, Ok, count_by, Option, option_and_then, option_map, slice_get}
+use Rattle.std.specs.Prelude.{◌≡◌, ℕ, false, List, Ok, count_by}
 use Rattle.serde_json.specs.Written.{compact_text}
 use Rattle.rds_names.specs.Path.{path_of}
-use Rattle.rds_names.specs.Roster.{RosterValue}
-use Rattle.rds_dots.specs.declared.dot.Dot.{Dot}
 use Rattle.rds_life.specs.Life.{live_rows}
 use Rattle.rds_state.specs.Edit.{JoinsEffect, covers, new_dot}
 use Rattle.rds_state.specs.Fits.{ReplicaValue}

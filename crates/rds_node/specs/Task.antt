@@ -20,7 +20,7 @@ edit_words file (Dec key by) = codes "dec" ∷ file ∷ key.now ∷ by.now ∷ [
 abbrev pub words_of : Task → List Text
 words_of Join = codes "join" ∷ []
 words_of Sim = codes "sim" ∷ []
-words_of (Init file group own names) = codes "init" ∷ file.now ∷ group.now ∷ own.now ∷ map (λ n. n.now) names.items
+words_of (Init words) = codes "init" ∷ words.file.now ∷ words.group.now ∷ words.own.now ∷ map (λ n. n.now) words.names.items
 words_of (Edit file edit) = edit_words file.now edit
 words_of (Show file path) = codes "show" ∷ file.now ∷ path.now ∷ []
 

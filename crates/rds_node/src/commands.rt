@@ -25,16 +25,7 @@ pub enum Task<'a> {
     /// Answers lines about a group of replicas in memory.
     Sim,
     /// Makes a file that holds an empty replica.
-    Init {
-        /// The file.
-        file: &'a str,
-        /// The group's name.
-        group: &'a str,
-        /// The replica's own name.
-        own: &'a str,
-        /// The names of all replicas, in their order.
-        names: Vec<&'a str>,
-    },
+    Init(InitWords<'a>),
     /// Edits the replica in a file.
     Edit {
         /// The file.
@@ -49,6 +40,19 @@ pub enum Task<'a> {
         /// The path of the part, empty for the root.
         path: &'a str,
     },
+}
+
+/// An empty replica in words.
+#[derive(Debug, Drop)]
+pub struct InitWords<'a> {
+    /// The file that is to hold it.
+    pub file: &'a str,
+    /// The group's name.
+    pub group: &'a str,
+    /// The replica's own name.
+    pub own: &'a str,
+    /// The names of all replicas, in their order.
+    pub names: Vec<&'a str>,
 }
 
 /// An edit in words: paths are keys with '/' between them, values are JSON.

@@ -60,16 +60,10 @@ pub fn run<H: Files + AllocGlobal, R: Read, W: Write, S: AsStr>(
     match task_of(alloc, words) {
         Ok(Some(Task::Join)) => run_join(alloc, reader, writer),
         Ok(Some(Task::Sim)) => run_sim(alloc, reader, writer),
-        Ok(
-            Some(
-                Task::Init {
-                    file,
-                    group,
-                    own,
-                    names,
-                },
-            ),
-        ) => write_answer(writer, init_file(rt, file, group, own, &names)),
+        Ok(Some(Task::Init(words))) => write_answer(
+            writer,
+            init_file(rt, words.file, words.group, words.own, &words.names),
+        ),
         Ok(Some(Task::Edit { file, edit })) => write_answer(writer, edit_file(rt, file, &edit)),
         Ok(Some(Task::Show { file, path })) => write_answer(writer, show_file(rt, file, path)),
         Ok(None) => write_fault(writer, Fault::Usage),

@@ -43,8 +43,7 @@ Output: one line of JSON for each line. A refused one answers
 {\"fault\":N,\"name\":\"Name\"} and changes nothing, and the next line is read.
 
 Exit status: 0 where no line was refused, 2 for words that are none of these, else 1,
-also with the line 'fault 24: Device' where the input can't be read, and
-'fault 1: Memory' where there is no memory for a line.
+also where the input can't be read: then the line 'fault 24: Device' is the last.
 
 Example: rds_node sim < lines";
 

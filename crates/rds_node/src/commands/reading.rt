@@ -3,7 +3,7 @@ ghost use Rattle.std.specs.Prelude.{◌≡◌, [], ◌∷◌, codes, map, option
 ghost use Rattle.clap.specs.Words.{all_of, first_of, found_of, rows_of, subcommand_rows_of};
 ghost use Rattle.rds_node.specs.Task.{edit_words_behind, file_and_path, init_words_in, named_words, plain_words_behind, words_in, words_of, words_under};
 
-use super::{EditWords, Task};
+use super::{EditWords, InitWords, Task};
 use clap::ArgMatches;
 use std::alloc::{AllocError, Global};
 
@@ -92,12 +92,12 @@ fn init_task<'a>(alloc: Global, inner: &ArgMatches<'a>) -> Result<Option<Task<'a
         return Ok(None);
     };
     let names = Vec::from_slice(alloc, names)?;
-    Ok(Some(Task::Init {
+    Ok(Some(Task::Init(InitWords {
         file,
         group,
         own,
         names,
-    }))
+    })))
 }
 
 // The file, and the words under these two ids.

@@ -70,7 +70,8 @@ fn reads_the_words_of_counters(rt: HostRuntime) -> Result<(), Fail> {
 
 #[test]
 fn reads_the_words_of_init(rt: HostRuntime) -> Result<(), Fail> {
-    let init = "Some(Init { file: \"f\", group: \"g\", own: \"a\", names: [\"a\", \"b\"] })";
+    let init =
+        "Some(Init(InitWords { file: \"f\", group: \"g\", own: \"a\", names: [\"a\", \"b\"] }))";
     asks(&rt, &["init", "f", "g", "a", "a", "b"], init)?;
     asks(&rt, &["sim"], "Some(Sim)")?;
     Ok(())

@@ -1,8 +1,7 @@
-use Rattle.std.proofs.Common.{◌≡◌, ◌∙◌, ap, subst, ℕ, false, true, Result, Ok, Vec}
+use Rattle.std.proofs.Common.{◌≡◌, ◌∙◌, ap, subst, ℕ, false, true, Vec}
 use Rattle.std.specs.Global.{Global}
 use Rattle.std.specs.Str.{IsUtf8}
 use Rattle.std.proofs.lemmas.Str.{IsUtf8-string_bytes}
-use Rattle.rds_names.specs.declared.fault.Fault.{Fault}
 use Rattle.rds_node.specs.Ahead.{IsHeld}
 use Rattle.rds_node.proofs.Pieces.{text_is_line, other_is_none}
 use Rattle.rds_node.proofs.ahead.text_of.Goals as goal

@@ -1,4 +1,4 @@
-use Rattle.std.proofs.Common.{◌≡◌, ◌∙◌, ◌||◌, ap, cond, sym, subst, Bool}
+use Rattle.std.proofs.Common.{◌∙◌, ◌||◌, ap, cond, sym, subst, Bool}
 use Rattle.std.proofs.KnownBytes.{Appends-trans}
 use Rattle.rds_node.specs.Ahead.{TakesLine, untaken}
 use Rattle.rds_node.proofs.Answered.{Runs, ends_in, runs_last, runs_on}

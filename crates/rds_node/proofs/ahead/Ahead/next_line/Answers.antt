@@ -1,8 +1,5 @@
-use Rattle.std.proofs.Common.{◌≡◌, ◌∙◌, ◌<◌, ◌≤◌, ap, sym, subst, refl, arith, length, List, ℕ, Bool, true, Option, Some, Result, String}
-use Rattle.std.specs.Global.{Global}
-use Rattle.rds_names.specs.declared.fault.Fault.{Fault}
+use Rattle.std.proofs.Common.{◌∙◌, ◌<◌, ap, sym, subst, refl, arith, Bool, true, Some}
 use Rattle.rds_node.specs.Ahead.{AheadValue, TakesLine, left_of, untaken}
-use Rattle.rds_node.specs.Lines.{after_line}
 use Rattle.rds_node.proofs.Pieces.{Walks, rest_shorter, walks_end, walks_first, walks_kept, walks_nothing, walks_on, walks_out}
 use Rattle.rds_node.proofs.ahead.Ahead.next_line.Goals.{then-begun, else-begun+in-Ok-1, else-begun+in-Err-1}
 use Rattle.rds_node.proofs.ahead.Ahead.next_line.Goals as goal

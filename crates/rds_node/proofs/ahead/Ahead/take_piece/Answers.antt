@@ -1,6 +1,4 @@
-use Rattle.std.proofs.Common.{◌≡◌, ◌∙◌, ◌++◌, ap, sym, subst, arith, List, ℕ, Result, length}
-use Rattle.std.specs.Global.{Vec}
-use Rattle.rds_names.specs.declared.fault.Fault.{Fault}
+use Rattle.std.proofs.Common.{◌≡◌, ◌∙◌, ◌++◌, ap, subst, arith, List, ℕ}
 use Rattle.rds_node.specs.Ahead.{AheadValue, IsHeld}
 use Rattle.rds_node.specs.Lines.{after_line, line_of}
 use Rattle.rds_node.proofs.Pieces.{rest_stands, rest_within_slice}
