@@ -117,8 +117,13 @@ line_shows v line number path (Err fault) is ok err now h =
 
 -- ---- a line, whether there is a group or none
 
-pub world_opens : (roster : RosterValue) (world : WorldValue) → (world.roster ≡ roster) × Stands world (start (length roster.names)) → LineLeadsTo None None (lines.Roster roster) (Ok Done) (Some world)
+world_opens : (roster : RosterValue) (world : WorldValue) → (world.roster ≡ roster) × Stands world (start (length roster.names)) → LineLeadsTo None None (lines.Roster roster) (Ok Done) (Some world)
 world_opens roster world h none = (Some (opening roster), record { stands = h.1; roster = h.0; whole = refl }, inr (refl, refl))
+
+pub worlds_open : (roster : RosterValue) (opened : Result WorldValue Fault) → IfOk opened (λ world. Stands world (start (length roster.names))) → IfOk opened (λ world. world.roster ≡ roster)
+    → IfOk opened (λ world. LineLeadsTo None None (lines.Roster roster) (Ok Done) (Some world))
+worlds_open roster (Ok world) stands same = world_opens roster world (same, stands)
+worlds_open roster (Err fault) stands same = tt
 
 -- a line's answer, and what is written for those after it
 pub first_met : (bytes : List ℕ) (lines : List (List ℕ)) (out : List ℕ) (refused : Bool) (result : Result Answer Fault) (new : Option WorldValue) (now : Option Group)
