@@ -25,6 +25,7 @@ mod RowsLive
 mod RowsRead
 mod RunSteps
 mod Sequences
+mod SmallTexts
 mod SnapshotFormats
 mod StateFormats
 mod Subsets

@@ -1,5 +1,6 @@
 //! The text of a snapshot: the roster, the replica's own number, and its state.
 ghost use Rattle.std.specs.Prelude.{◌≡◌, ◌≤◌, length};
+ghost use Rattle.std.specs.FinMap as map;
 ghost use Rattle.rds_codec.specs.Decoding.{Decodes, ReadsAll};
 ghost use Rattle.rds_codec.specs.DotRows.{rows_from};
 ghost use Rattle.rds_codec.specs.Kinds.{snapshot_kind};
@@ -62,6 +63,7 @@ pub fn decode_snapshot<S: DotSet>(alloc: Global, bytes: &[u8]) -> Result<Replica
 fn measure<S: DotSet>(replica: &Replica<S>) -> (u16, u128)
     ensures rows { result.0 ≡ length (rows_from 0 (runs_of (seen_of replica.now.state.lives))) }
     ensures length { result.1 ≡ length (snapshot_text replica.now) }
+    ensures small { replica.now.state.lives ≡ map.empty → replica.now.state.counts ≡ map.empty → length (snapshot_text replica.now) ≤ LIMIT }
     ensures value { AreFew (seen_of replica.now.state.lives) → IsSnapshot replica.now }
 {
     let (rows, state_length) = measure_state(replica.state());
@@ -88,6 +90,7 @@ fn put_snapshot<S: DotSet>(
 /// then all memory that the text needs is taken at once.
 pub fn encode_snapshot<S: DotSet>(alloc: Global, replica: &Replica<S>) -> Result<Vec<u8>, Fault>
     ensures text { Encodes (snapshot_text replica.now) result }
+    ensures small { replica.now.state.lives ≡ map.empty → replica.now.state.counts ≡ map.empty → length (snapshot_text replica.now) ≤ LIMIT }
     ensures value { AreFew (seen_of replica.now.state.lives) → IsSnapshot replica.now }
 {
     let (rows, length) = measure(replica);

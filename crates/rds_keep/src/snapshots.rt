@@ -1,10 +1,12 @@
 //! Snapshots, written and read whole.
-ghost use Rattle.std.specs.Prelude.{◌≡◌, ◌≢◌, ◌⊎◌, Err, IfOk, IfErr, IfSome, OnOk, OnErr};
+ghost use Rattle.std.specs.Prelude.{◌≡◌, ◌≢◌, ◌≤◌, ◌⊎◌, length, Err, IfOk, IfErr, IfSome, OnOk, OnErr};
+ghost use Rattle.std.specs.FinMap as map;
 ghost use Rattle.std.specs.Io.KnownBytes.{Appends, IsAtEnd};
 ghost use Rattle.rds_names.specs.declared.fault.Fault.TheVariants.{Device};
 ghost use Rattle.rds_codec.specs.Decoding.{IsOtherFault};
 ghost use Rattle.rds_codec.specs.Spelling.{snapshot_text};
 ghost use Rattle.rds_codec.specs.Values.{IsSnapshot};
+ghost use Rattle.rds_codec.specs.declared.limits.TheConstants.{LIMIT};
 ghost use Rattle.rds_keep.specs.Counted.{HasFailed};
 ghost use Rattle.rds_keep.specs.Parts.{AppendsPart};
 ghost use Rattle.rds_keep.specs.Snapshots.{ReadsWhole, RefusesText};
@@ -39,6 +41,7 @@ pub fn write_snapshot<S: DotSet, W: Write>(
     ensures steady { OnOk result (writer.new.failed ≡ writer.old.failed) }
     ensures turns { writer.new.turns ≡ writer.old.turns }
     ensures renamed { writer.new.renamed ≡ writer.old.renamed }
+    ensures small { replica.now.state.lives ≡ map.empty → replica.now.state.counts ≡ map.empty → length (snapshot_text replica.now) ≤ LIMIT }
 {
     let text = encode_snapshot(alloc, replica)?;
     let kept = Kept::new(replica.copy(alloc)?);

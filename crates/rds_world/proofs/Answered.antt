@@ -175,7 +175,7 @@ module _ (v : WorldValue) (i : IsWorld v) (r k : ℕ) (m : ReplicaValue) (a : As
         let state : coordinates l.value ≡ coordinates y.value = l.state ∙ ap (λ (z : Question). (reply w r k z).state) is ∙ sym (delta_is w s r'.digest q.it refl (told w s) y.value y.least.state) in
         let value : l.value ≡ y.value = same_value l.value y.value state in
         let certificate : IsCertificate (ranks_in r'.digest) y.value l.rows =
-            subst (λ b. IsCertificate b y.value l.rows) (sym (told w s)) (subst (λ (z : Question). IsCertificate (ranks z.state) y.value l.rows) is (subst (λ z. IsCertificate (ranks l.asked.state) z l.rows) value l.certificate)) in
+        subst (λ b. IsCertificate b y.value l.rows) (sym (told w s)) (subst (λ (z : Question). IsCertificate (ranks z.state) y.value l.rows) is (subst (λ z. IsCertificate (ranks l.asked.state) z l.rows) value l.certificate)) in
         let rows : l.rows ≡ y.rows = one_certificate (ranks_in r'.digest) y.value y.rows l.rows y.least.certificate certificate in
         let asker : l.asked.asker ≡ a.asker = ap (λ (z : Question). z.asker) is ∙ sym q.related.asker in
         let same : answer_text (answer l.asked.asker l.value l.rows) ≡ bytes = (λ j. answer_text (answer (asker j) (value j) (rows j))) ∙ sym y.text in

@@ -10,9 +10,11 @@ pub mod Friends
 pub mod Invariant
 pub mod Joins
 pub mod Sendings
+pub mod Openings
 pub mod Performed
 pub mod Readings
 pub mod Runs
+pub mod Simulated
 pub mod Standing
 pub mod States
 pub mod Steps

@@ -124,8 +124,8 @@ module _ (v : WorldValue) (i : IsWorld v) (r : ℕ) (m : ReplicaValue) (lt : r <
     edit_done x e same joins dot killed due =
         let own : r ≡ m.own = sym (i.memory r m there).1 in
         let stands : (w : World) → Stands v w → Stands (record v { memory = set v.memory r x }) (Rattle.rds_world.specs.World.after w (Edit r c)) =
-            λ w s. (let same = in_model w s in stands_memory v w r x (edited (w.memory r) r c) lt (length-set v.memory r x) s
-            ((λ j. edited (same j) (own j) c) ∙ sym (edit_is (coordinates m.state) (coordinates x.state) m.own c joins))) in
+        λ w s. (let same = in_model w s in stands_memory v w r x (edited (w.memory r) r c) lt (length-set v.memory r x) s
+        ((λ j. edited (same j) (own j) c) ∙ sym (edit_is (coordinates m.state) (coordinates x.state) m.own c joins))) in
         let accepted : (w : World) → Stands v w → refused w (Edit r c) ≡ None = λ w s. edit_due w s ∙ due in
         record {
           world = world_memory v i r x lt (same.0 ∙ (i.memory r m there).0, same.1 ∙ (i.memory r m there).1) (model_after v (record v { memory = set v.memory r x }) (Edit r c) (λ w s. (accepted w s, stands w s)) i.model);
@@ -150,7 +150,7 @@ module _ (v : WorldValue) (i : IsWorld v) (r : ℕ) (m : ReplicaValue) (lt : r <
       let lt_kept : r < length v.kept = subst (λ n. r < n) (sym i.same_length) lt in
       let at = i.memory r m there in
       let stands : (w : World) → Stands v w → Stands (record v { kept = set v.kept r x }) (Rattle.rds_world.specs.World.after w (Save r)) =
-          λ w s. stands_kept v w r x (w.memory r) lt_kept s (in_model w s ∙ ap (λ (z : ReplicaValue). coordinates z.state) (sym is)) in
+      λ w s. stands_kept v w r x (w.memory r) lt_kept s (in_model w s ∙ ap (λ (z : ReplicaValue). coordinates z.state) (sym is)) in
       let accepted : (w : World) → Stands v w → refused w (Save r) ≡ None = λ w s. is_there r w.replicas None (below w s) in
       record {
         world = record {
@@ -188,7 +188,7 @@ module _ (v : WorldValue) (i : IsWorld v) (r : ℕ) (m : ReplicaValue) (lt : r <
   crash_done x is =
       let at = i.kept r m there in
       let stands : (w : World) → Stands v w → Stands (record v { memory = set v.memory r x }) (Rattle.rds_world.specs.World.after w (Crash r)) =
-          λ w s. stands_memory v w r x (w.kept r) lt (length-set v.memory r x) s (kept_in_model w s ∙ ap (λ (z : ReplicaValue). coordinates z.state) (sym is)) in
+      λ w s. stands_memory v w r x (w.kept r) lt (length-set v.memory r x) s (kept_in_model w s ∙ ap (λ (z : ReplicaValue). coordinates z.state) (sym is)) in
       let accepted : (w : World) → Stands v w → refused w (Crash r) ≡ None = λ w s. is_there r w.replicas None (kept_below w s) in
       record {
         world = world_memory v i r x lt (ap (λ (z : ReplicaValue). z.roster) is ∙ at.0, ap (λ (z : ReplicaValue). z.own) is ∙ at.1) (model_after v (record v { memory = set v.memory r x }) (Crash r) (λ w s. (accepted w s, stands w s)) i.model);
@@ -215,11 +215,11 @@ module _ (v : WorldValue) (i : IsWorld v) (r : ℕ) (m : ReplicaValue) (lt : r <
       let at = i.kept r m there in
       let ask : AskText = record { asker = r; bytes = bytes } in
       let here : HoldsAsk (length v.roster.names) (record { asker = r; state = coordinates m.state }) ask =
-          subst (λ (o : ℕ). HoldsAsk (length v.roster.names) (record { asker = o; state = coordinates m.state }) (record { asker = o; bytes = bytes })) at.1
-          (subst (λ (o : RosterValue). HoldsAsk (length o.names) (record { asker = m.own; state = coordinates m.state }) (record { asker = m.own; bytes = bytes })) at.0 holds) in
+      subst (λ (o : ℕ). HoldsAsk (length v.roster.names) (record { asker = o; state = coordinates m.state }) (record { asker = o; bytes = bytes })) at.1
+      (subst (λ (o : RosterValue). HoldsAsk (length o.names) (record { asker = m.own; state = coordinates m.state }) (record { asker = m.own; bytes = bytes })) at.0 holds) in
       let stands : (w : World) → Stands v w → Stands (record v { asks = asks }) (Rattle.rds_world.specs.World.after w (Ask r)) =
-          λ w s. subst (λ (l : List AskText). Stands (record v { asks = l }) (Rattle.rds_world.specs.World.after w (Ask r))) (sym are)
-          (stands_asked v w (record { asker = r; state = w.kept r }) ask s (subst (λ (a : Coordinates). HoldsAsk (length v.roster.names) (record { asker = r; state = a }) ask) (sym (kept_in_model w s)) here)) in
+      λ w s. subst (λ (l : List AskText). Stands (record v { asks = l }) (Rattle.rds_world.specs.World.after w (Ask r))) (sym are)
+      (stands_asked v w (record { asker = r; state = w.kept r }) ask s (subst (λ (a : Coordinates). HoldsAsk (length v.roster.names) (record { asker = r; state = a }) ask) (sym (kept_in_model w s)) here)) in
       let accepted : (w : World) → Stands v w → refused w (Ask r) ≡ None = λ w s. is_there r w.replicas None (kept_below w s) in
       record {
         world = record {

@@ -89,12 +89,12 @@ module _ (v : WorldValue) (i : IsWorld v) (k : ℕ) (t : AnswerText) (a : AskTex
       let its = m.coherent.answers_its k y.it y.there in
       let same : its.question ≡ q.it = read_at w.asks t.question q.it its.question q.there (subst (λ j. slice_get w.asks j ≡ Some its.question) (sym y.related.question) its.asked) in
       let above : IsAbove (coordinates x.state) (ranks_in g) =
-          subst (λ b. IsAbove (coordinates x.state) b) (sym told)
-          (subst (λ (z : Question). IsAbove (coordinates x.state) (ranks z.state)) same (subst (λ b. IsAbove b (ranks its.question.state)) (sym (state_is w s x dx)) its.above)) in
+      subst (λ b. IsAbove (coordinates x.state) b) (sym told)
+      (subst (λ (z : Question). IsAbove (coordinates x.state) (ranks z.state)) same (subst (λ b. IsAbove b (ranks its.question.state)) (sym (state_is w s x dx)) its.above)) in
       let certificate : IsCertificate (ranks_in g) x.state x.certificate =
-          subst (λ b. IsCertificate b x.state x.certificate) (sym told)
-          (subst (λ (z : Question). IsCertificate (ranks z.state) x.state x.certificate) (asked_is w s)
-          (subst (λ (z : AnswerValue). IsCertificate (ranks y.related.asked.state) z.state z.certificate) (sym is) y.related.certificate)) in
+      subst (λ b. IsCertificate b x.state x.certificate) (sym told)
+      (subst (λ (z : Question). IsCertificate (ranks z.state) x.state x.certificate) (asked_is w s)
+      (subst (λ (z : AnswerValue). IsCertificate (ranks y.related.asked.state) z.state z.certificate) (sym is) y.related.certificate)) in
       (above, certificate)
 
   -- in the model the answer may be taken
@@ -154,15 +154,15 @@ module _ (v : WorldValue) (i : IsWorld v) (k : ℕ) (t : AnswerText) (a : AskTex
       let read : Decodes (answer_kind n) t.bytes (Ok is.answer) = subst (λ j. Decodes (answer_kind j) t.bytes (Ok is.answer)) same_roster is.read in
       let at = i.memory t.asker m there in
       let stands : (w : World) → Stands v w → Stands (record v { memory = set v.memory t.asker x }) (after w (Take k)) =
-          λ w s.
-            (let y = answer_of w s in
-            let mine = in_model w s in
-            let sent = state_is w s is.answer read in
-            let joined : join (w.memory t.asker) y.it.state ≡ coordinates x.state = (λ j. join (mine j) y.it.state) ∙ ap (λ b. join (coordinates m.state) b) (sym sent) ∙ sym is.joined in
-            let one = stands_memory v w t.asker x (join (w.memory t.asker) y.it.state) lt (length-set v.memory t.asker x) s joined in
-            let two : Stands (record v { memory = set v.memory t.asker x }) (record w { memory = put w.memory y.it.asker (join (w.memory y.it.asker) y.it.state) }) =
-                subst (λ o. Stands (record v { memory = set v.memory t.asker x }) (record w { memory = put w.memory o (join (w.memory o) y.it.state) })) y.related.asker one in
-            subst (Stands (record v { memory = set v.memory t.asker x })) (sym (ap (taken w) y.there)) two) in
+      λ w s.
+      (let y = answer_of w s in
+      let mine = in_model w s in
+      let sent = state_is w s is.answer read in
+      let joined : join (w.memory t.asker) y.it.state ≡ coordinates x.state = (λ j. join (mine j) y.it.state) ∙ ap (λ b. join (coordinates m.state) b) (sym sent) ∙ sym is.joined in
+      let one = stands_memory v w t.asker x (join (w.memory t.asker) y.it.state) lt (length-set v.memory t.asker x) s joined in
+      let two : Stands (record v { memory = set v.memory t.asker x }) (record w { memory = put w.memory y.it.asker (join (w.memory y.it.asker) y.it.state) }) =
+      subst (λ o. Stands (record v { memory = set v.memory t.asker x }) (record w { memory = put w.memory o (join (w.memory o) y.it.state) })) y.related.asker one in
+      subst (Stands (record v { memory = set v.memory t.asker x })) (sym (ap (taken w) y.there)) two) in
       record {
         world = world_memory v i t.asker x lt (same.0 ∙ at.0, same.1 ∙ at.1) (model_after v (record v { memory = set v.memory t.asker x }) (Take k) (λ w s. (due w s, stands w s)) i.model);
         step = record {

@@ -1,5 +1,6 @@
 -- Which world of the model the replicas, asks and answers that code holds stand for.
 use Rattle.std.specs.Prelude.{◌≡◌, ◌≤◌, ◌<◌, ℕ, List, [], ◌∷◌, Option, Some, None, length, slice_get}
+use Rattle.std.specs.FinMap as map
 use Rattle.rds_names.specs.Roster.{RosterValue}
 use Rattle.rds_life.specs.Life.{seen_of}
 use Rattle.rds_state.specs.Coordinates.{Coordinates}
@@ -101,3 +102,15 @@ pub record IsWorld (v : WorldValue) : Type 0 where
   pub asks : AreAsks v
   pub answers : AreAnswers v
   pub model : ∥ HasModel v ∥₁
+
+-- the replica with this number, without any component
+pub record IsNew (roster : RosterValue) (number : ℕ) (m : ReplicaValue) : Type 0 where
+  pub same_roster : m.roster ≡ roster
+  pub own : m.own ≡ number
+  pub lives : m.state.lives ≡ map.empty
+  pub counts : m.state.counts ≡ map.empty
+
+-- the replicas with the first numbers, without any component
+pub record AreNew (roster : RosterValue) (replicas : List ReplicaValue) (number : ℕ) : Type 0 where
+  pub count : length replicas ≡ number
+  pub each : (r : ℕ) (m : ReplicaValue) → slice_get replicas r ≡ Some m → IsNew roster r m

@@ -1,5 +1,5 @@
 -- A world as a value: the replicas in memory and as kept, and the bytes of each ask and answer.
-use Rattle.std.specs.Prelude.{◌≡◌, ℕ, List, refl}
+use Rattle.std.specs.Prelude.{◌≡◌, ℕ, List, Option, Some, None, slice_get, refl}
 use Rattle.std.specs.Coded.{Coded, code_by, coded×, coded_ℕ, coded_list}
 use Rattle.rds_names.specs.Roster.{RosterValue}
 use Rattle.rds_state.specs.Fits.{ReplicaValue, coded_roster, coded_replica}
@@ -21,6 +21,21 @@ pub record WorldValue : Type 0 where
   pub kept : List ReplicaValue
   pub asks : List AskText
   pub answers : List AnswerText
+
+abbrev pub bytes_asked : Option AskText → Option (List ℕ)
+bytes_asked None = None
+bytes_asked (Some a) = Some a.bytes
+
+abbrev pub bytes_answered : Option AnswerText → Option (List ℕ)
+bytes_answered None = None
+bytes_answered (Some a) = Some a.bytes
+
+-- the bytes of the ask or of the answer with this number
+abbrev pub ask_bytes_at : List AskText → ℕ → Option (List ℕ)
+ask_bytes_at asks k = bytes_asked (slice_get asks k)
+
+abbrev pub answer_bytes_at : List AnswerText → ℕ → Option (List ℕ)
+answer_bytes_at answers k = bytes_answered (slice_get answers k)
 
 abbrev pub coded_ask : Coded AskText
 coded_ask = code_by (ℕ × List ℕ) (coded× coded_ℕ (coded_list coded_ℕ)) (λ a. (a.asker, a.bytes)) (λ p. record { asker = p.0; bytes = p.1 }) (λ _. refl)

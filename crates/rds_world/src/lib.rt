@@ -5,6 +5,7 @@
 mod event;
 mod laws;
 mod messages;
+mod simulating;
 mod stepping;
 mod texts;
 mod world;
@@ -14,6 +15,7 @@ pub use laws::{
     answers_bring_what_was_kept, coherent_replicas_are_friends, edits_are_steps,
     lost_dots_are_used_again, runs_go_on, states_are_joins_of_updates, worlds_stay_coherent,
 };
+pub use simulating::simulate;
 pub use world::World;
 
 #[cfg(test)]

@@ -117,8 +117,12 @@ impl<S: DotSet> World<S> {
         }
         let ask = &self.asks[question as usize];
         let asker = ask.asker;
-        let (bytes, components) =
-            messages::answer(alloc, self.kept[at].view_of(), asker, &ask.bytes)?;
+        let (bytes, components) = messages::answer(
+            alloc,
+            self.kept[at].view_of(),
+            asker,
+            &ask.bytes,
+        )?;
         let answer = self.answers.len() as u64;
         self.answers.push(Answering {
             question,

@@ -1,9 +1,12 @@
 //! All replicas of a document, in memory and as kept.
 ghost use Rattle.std.specs.Prelude.{◌≡◌, ◌≤◌, ◌<◌, ◌⊎◌, Some, None, IfOk, IfErr, OnOk, length, slice_get};
+ghost use Rattle.std.specs.FinMap as map;
 ghost use Rattle.rds_codec.specs.Spelling.{snapshot_text};
 ghost use Rattle.rds_codec.specs.declared.limits.TheConstants.{LIMIT};
 ghost use Rattle.rds_names.specs.declared.fault.Fault.TheVariants.{Memory, NoSuch, TooLong};
-ghost use Rattle.rds_world.specs.Stands.{Stands};
+ghost use Rattle.rds_world.specs.Simulation.{HasNoReplicas};
+ghost use Rattle.rds_world.specs.Stands.{Stands, IsNew, AreNew};
+ghost use Rattle.rds_world.specs.Stored.{ask_bytes_at, answer_bytes_at};
 ghost use Rattle.rds_world.specs.World.{start};
 
 use crate::texts::{Answering, Asking};
@@ -39,6 +42,55 @@ impl<S: DotSet> Model for World<S> {
 }
 
 impl<S: DotSet> World<S> {
+    /// The replicas of the roster, all empty in memory and as kept, without asks or answers.
+    pub fn new(alloc: Global, roster: Roster) -> Result<World<S>, Fault>
+        ensures start { IfOk result (λ world. Stands world (start (length roster.names))) }
+        ensures roster { IfOk result (λ world. world.roster ≡ roster) }
+        ensures memory { IfErr result (λ fault. fault ≡ Memory) }
+    {
+        let (memory, kept) = empty_replicas(alloc, &roster)?;
+        Ok(World::opened(alloc, roster, memory, kept))
+    }
+
+    /// The same, or a world without replicas.
+    pub(crate) fn open(alloc: Global, roster: Roster) -> Result<World<S>, (World<S>, Fault)>
+        ensures start { IfOk result (λ world. Stands world (start (length roster.names))) }
+        ensures nothing { IfErr result (λ e. HasNoReplicas e.0 e.1) }
+        ensures few { length roster.names ≤ 256 }
+    {
+        match empty_replicas(alloc, &roster) {
+            Ok((memory, kept)) => Ok(World::opened(alloc, roster, memory, kept)),
+            Err(fault) => Err((
+                World::opened(alloc, roster, Vec::new(alloc), Vec::new(alloc)),
+                fault,
+            )),
+        }
+    }
+
+    /// A world of these replicas, which have no components.
+    fn opened(
+        alloc: Global,
+        roster: Roster,
+        memory: Vec<Replica<S>>,
+        kept: Vec<Kept<S>>,
+    ) -> World<S>
+        requires memory { AreNew roster memory.items (length memory.items) }
+        requires kept { AreNew roster kept.items (length memory.items) }
+        requires within { length memory.items ≤ length roster.names }
+        ensures start { Stands result (start (length memory.items)) }
+        ensures roster { result.roster ≡ roster }
+        ensures memory { result.memory ≡ memory.items }
+        ensures kept { result.kept ≡ kept.items }
+    {
+        World {
+            roster,
+            memory,
+            kept,
+            asks: Vec::new(alloc),
+            answers: Vec::new(alloc),
+        }
+    }
+
     /// The names of the replicas.
     pub fn roster(&self) -> &Roster
         ensures { result.now ≡ self.now.roster }
@@ -67,12 +119,84 @@ impl<S: DotSet> World<S> {
             None => Err(Fault::NoSuch),
         }
     }
+
+    /// The bytes of the ask with this number: the text of the digest.
+    pub fn ask_bytes(&self, number: u64) -> Result<&[u8], Fault>
+        ensures there { IfOk result (λ bytes. ask_bytes_at self.now.asks number ≡ Some bytes.now) }
+        ensures absent { IfErr result (λ fault. (fault ≡ NoSuch) × (ask_bytes_at self.now.asks number ≡ None)) }
+    {
+        match self.asks.get(number as usize) {
+            Some(ask) => Ok(&ask.bytes),
+            None => Err(Fault::NoSuch),
+        }
+    }
+
+    /// The bytes of the answer with this number: who asked, the delta and its certificate.
+    pub fn answer_bytes(&self, number: u64) -> Result<&[u8], Fault>
+        ensures there { IfOk result (λ bytes. answer_bytes_at self.now.answers number ≡ Some bytes.now) }
+        ensures absent { IfErr result (λ fault. (fault ≡ NoSuch) × (answer_bytes_at self.now.answers number ≡ None)) }
+    {
+        match self.answers.get(number as usize) {
+            Some(answer) => Ok(&answer.bytes),
+            None => Err(Fault::NoSuch),
+        }
+    }
+}
+
+/// A replica without any component for each number of the roster, and the same as kept.
+fn empty_replicas<S: DotSet>(
+    alloc: Global,
+    roster: &Roster,
+) -> Result<(Vec<Replica<S>>, Vec<Kept<S>>), Fault>
+    ensures memory { IfOk result (λ p. AreNew roster.now p.0.items (length roster.now.names)) }
+    ensures kept { IfOk result (λ p. AreNew roster.now p.1.items (length roster.now.names)) }
+    ensures few { length roster.now.names ≤ 256 }
+    ensures fault { IfErr result (λ fault. fault ≡ Memory) }
+{
+    let replicas = replicas_of(roster);
+    let mut memory = Vec::new(alloc);
+    let mut kept = Vec::new(alloc);
+    'making: for number in 0..replicas {
+        let replica = empty_replica(alloc, roster, number as u8)?;
+        kept.push(keep_empty(alloc, &replica)?)?;
+        memory.push(replica)?;
+    }
+    Ok((memory, kept))
+}
+
+/// How many replicas the roster names.
+fn replicas_of(roster: &Roster) -> u16
+    ensures count { result ≡ length roster.now.names }
+    ensures few { result ≤ 256 }
+{
+    roster.len()
+}
+
+/// The replica with this number, without any component.
+fn empty_replica<S: DotSet>(alloc: Global, roster: &Roster, number: u8) -> Result<Replica<S>, Fault>
+    requires { number < length roster.now.names }
+    ensures ok { IfOk result (IsNew roster.now number) }
+    ensures fault { IfErr result (λ fault. fault ≡ Memory) }
+{
+    let copy = roster.copy(alloc)?;
+    Replica::new(alloc, copy, number)
+}
+
+/// Keeps a replica without components, whose snapshot is never too long.
+fn keep_empty<S: DotSet>(alloc: Global, replica: &Replica<S>) -> Result<Kept<S>, Fault>
+    requires lives { replica.now.state.lives ≡ map.empty }
+    requires counts { replica.now.state.counts ≡ map.empty }
+    ensures ok { IfOk result (λ kept. kept ≡ replica.now) }
+    ensures fault { IfErr result (λ fault. fault ≡ Memory) }
+{
+    keep(alloc, replica)
 }
 
 /// Writes the replica's snapshot into memory: it is kept.
 pub fn keep<S: DotSet>(alloc: Global, replica: &Replica<S>) -> Result<Kept<S>, Fault>
     ensures ok { IfOk result (λ kept. kept ≡ replica.now) }
     ensures short { OnOk result (length (snapshot_text replica.now) ≤ LIMIT) }
+    ensures small { replica.now.state.lives ≡ map.empty → replica.now.state.counts ≡ map.empty → length (snapshot_text replica.now) ≤ LIMIT }
     ensures fault { IfErr result (λ fault. (fault ≡ Memory) ⊎ ((fault ≡ TooLong) × (LIMIT < length (snapshot_text replica.now)))) }
 {
     let mut file = Counted::new(Vec::<u8>::new(alloc));

@@ -1,10 +1,11 @@
-use Rattle.std.proofs.Common.{◌<◌, ℕ, subst, ap, sym, ◌∙◌, ◌+◌, length}
+use Rattle.std.proofs.Common.{arith, ◌<◌, ℕ, subst, ap, sym, ◌∙◌, ◌+◌, length}
 use Rattle.rds_names.specs.Roster.{RosterValue}
 use Rattle.rds_life.specs.Life.{seen_of}
 use Rattle.rds_state.specs.Fits.{Fits}
 use Rattle.rds_state.specs.Value.{StateValue, coordinates}
 use Rattle.rds_codec.specs.Values.{AreFew, IsMember, IsStateOf}
 use Rattle.rds_codec.specs.Spelling.{member_text, state_text}
+use Rattle.rds_codec.proofs.SmallTexts.{small_snapshot}
 use Rattle.rds_codec.proofs.Texts.{snapshot_length}
 use Rattle.rds_codec.proofs.snapshots.measure.Goals as goal
 
@@ -14,6 +15,13 @@ returns-clause-length g c =
     let front = c.member_length.ensures.length ∙ (λ i. length (member_text (c.roster.ensures i) (c.own.ensures.own i))) in
     let state = c.measure_state-rows.ensures.length ∙ ap (λ (s : StateValue). length (state_text s)) c.state.ensures.state in
     (λ i. 4 + front i + state i) ∙ sym (snapshot_length v)
+
+pub returns-clause-small : goal.returns-clause-small
+returns-clause-small g c = λ lives counts.
+    let v = c.args.replica.now in
+    let front = c.member_length.ensures.length ∙ (λ i. length (member_text (c.roster.ensures i) (c.own.ensures.own i))) in
+    let most = c.member_length.ensures.most in
+    small_snapshot v (omega (arith, front, most)) lives counts
 
 pub returns-clause-value : goal.returns-clause-value
 returns-clause-value g c = λ few.

@@ -69,9 +69,9 @@ returns-in_err-bytes-clause-err g c =
     let f = c.in_err-bytes.field-0.0 in
     let is : c.from_residual.result ≡ Err f = search rules in
     let why : HasNoReply (length m.roster.names) a.bytes a.asker m.state f =
-        subst (λ (b : List ℕ). HasNoReply (length m.roster.names) b a.asker m.state f) bytes_are
-        (subst (λ o. HasNoReply (length m.roster.names) c.deref.result.now o m.state f) asker_is
-        (subst (λ (z : ReplicaValue). HasNoReply (length z.roster.names) c.deref.result.now c.ask.inside.asker z.state f) kept_is c.in_err-bytes.ensures.fault)) in
+    subst (λ (b : List ℕ). HasNoReply (length m.roster.names) b a.asker m.state f) bytes_are
+    (subst (λ o. HasNoReply (length m.roster.names) c.deref.result.now o m.state f) asker_is
+    (subst (λ (z : ReplicaValue). HasNoReply (length z.roster.names) c.deref.result.now c.ask.inside.asker z.state f) kept_is c.in_err-bytes.ensures.fault)) in
     fault_is _ _ f is (subst (λ (u : WorldValue). IsStopped u (Answer n q) f u) c.self.view_is (answer_stopped v c.self.invariant n q m a lt there asked f why))
 
 pub returns-in_err-push-clause-err : goal.returns-in_err-push-clause-err
@@ -101,12 +101,12 @@ invariant_of-self-2 g c =
     let asker_is : c.ask.inside.asker ≡ a.asker = ap (λ (z : AskText). z.asker) ask_is in
     let kept_is = c.view_of.ensures.replica in
     let reply : IsReply (length m.roster.names) a.bytes a.asker m.state c.in_ok-bytes.bytes.items c.in_ok-bytes.components =
-        subst (λ (b : List ℕ). IsReply (length m.roster.names) b a.asker m.state c.in_ok-bytes.bytes.items c.in_ok-bytes.components) bytes_are
-        (subst (λ o. IsReply (length m.roster.names) c.deref.result.now o m.state c.in_ok-bytes.bytes.items c.in_ok-bytes.components) asker_is
-        (subst (λ (z : ReplicaValue). IsReply (length z.roster.names) c.deref.result.now c.ask.inside.asker z.state c.in_ok-bytes.bytes.items c.in_ok-bytes.components) kept_is c.in_ok-bytes.ensures.ok)) in
+    subst (λ (b : List ℕ). IsReply (length m.roster.names) b a.asker m.state c.in_ok-bytes.bytes.items c.in_ok-bytes.components) bytes_are
+    (subst (λ o. IsReply (length m.roster.names) c.deref.result.now o m.state c.in_ok-bytes.bytes.items c.in_ok-bytes.components) asker_is
+    (subst (λ (z : ReplicaValue). IsReply (length z.roster.names) c.deref.result.now c.ask.inside.asker z.state c.in_ok-bytes.bytes.items c.in_ok-bytes.components) kept_is c.in_ok-bytes.ensures.ok)) in
     let at : c.len-answer.result ≡ length v.answers = search rules in
     let grown : c.push.new.self.items ≡ v.answers ++ record { question = q; asker = a.asker; bytes = c.in_ok-bytes.bytes.items } ∷ [] =
-        c.in_ok-push.ensures.items ∙ ap (λ o. v.answers ++ record { question = q; asker = o; bytes = c.in_ok-bytes.bytes.items } ∷ []) asker_is in
+    c.in_ok-push.ensures.items ∙ ap (λ o. v.answers ++ record { question = q; asker = o; bytes = c.in_ok-bytes.bytes.items } ∷ []) asker_is in
     let done = answer_done v c.self.invariant n q m a lt there asked c.in_ok-bytes.bytes.items c.in_ok-bytes.components c.len-answer.result reply at c.push.new.self.items grown in
     done.world
 
@@ -127,11 +127,11 @@ returns-clause-ok g c =
     let asker_is : c.ask.inside.asker ≡ a.asker = ap (λ (z : AskText). z.asker) ask_is in
     let kept_is = c.view_of.ensures.replica in
     let reply : IsReply (length m.roster.names) a.bytes a.asker m.state c.in_ok-bytes.bytes.items c.in_ok-bytes.components =
-        subst (λ (b : List ℕ). IsReply (length m.roster.names) b a.asker m.state c.in_ok-bytes.bytes.items c.in_ok-bytes.components) bytes_are
-        (subst (λ o. IsReply (length m.roster.names) c.deref.result.now o m.state c.in_ok-bytes.bytes.items c.in_ok-bytes.components) asker_is
-        (subst (λ (z : ReplicaValue). IsReply (length z.roster.names) c.deref.result.now c.ask.inside.asker z.state c.in_ok-bytes.bytes.items c.in_ok-bytes.components) kept_is c.in_ok-bytes.ensures.ok)) in
+    subst (λ (b : List ℕ). IsReply (length m.roster.names) b a.asker m.state c.in_ok-bytes.bytes.items c.in_ok-bytes.components) bytes_are
+    (subst (λ o. IsReply (length m.roster.names) c.deref.result.now o m.state c.in_ok-bytes.bytes.items c.in_ok-bytes.components) asker_is
+    (subst (λ (z : ReplicaValue). IsReply (length z.roster.names) c.deref.result.now c.ask.inside.asker z.state c.in_ok-bytes.bytes.items c.in_ok-bytes.components) kept_is c.in_ok-bytes.ensures.ok)) in
     let at : c.len-answer.result ≡ length v.answers = search rules in
     let grown : c.push.new.self.items ≡ v.answers ++ record { question = q; asker = a.asker; bytes = c.in_ok-bytes.bytes.items } ∷ [] =
-        c.in_ok-push.ensures.items ∙ ap (λ o. v.answers ++ record { question = q; asker = o; bytes = c.in_ok-bytes.bytes.items } ∷ []) asker_is in
+    c.in_ok-push.ensures.items ∙ ap (λ o. v.answers ++ record { question = q; asker = o; bytes = c.in_ok-bytes.bytes.items } ∷ []) asker_is in
     let done = answer_done v c.self.invariant n q m a lt there asked c.in_ok-bytes.bytes.items c.in_ok-bytes.components c.len-answer.result reply at c.push.new.self.items grown in
     subst (λ (u : WorldValue). IsStep u (Answer n q) (Answered c.len-answer.result c.in_ok-bytes.components) (record v { answers = c.push.new.self.items })) c.self.view_is done.step

@@ -68,8 +68,8 @@ returns-in_err-take-clause-err g c =
     let f = c.in_err-take.field-0.0 in
     let is : c.from_residual.result ≡ Err f = search rules in
     let why : IsNotTaken (length m.roster.names) a.bytes t.bytes m.own m.state f =
-        subst (λ (b : List ℕ). IsNotTaken (length m.roster.names) a.bytes b m.own m.state f) bytes
-        (subst (λ (b : List ℕ). IsNotTaken (length m.roster.names) b c.deref-2.result.now m.own m.state f) ask_bytes c.in_err-take.ensures.fault) in
+    subst (λ (b : List ℕ). IsNotTaken (length m.roster.names) a.bytes b m.own m.state f) bytes
+    (subst (λ (b : List ℕ). IsNotTaken (length m.roster.names) b c.deref-2.result.now m.own m.state f) ask_bytes c.in_err-take.ensures.fault) in
     fault_is _ _ f is (subst (λ (u : WorldValue). IsStopped u (Take n) f (record v { memory = slice_set v.memory c.from.result c.take.new.replica })) c.self.view_is
     (subst (λ k. IsStopped v (Take n) f (record v { memory = slice_set v.memory k c.take.new.replica })) (sym place)
     (take_stopped v c.self.invariant n t a m t_there a_there there c.take.new.replica f c.in_err-take.ensures.err why)))

@@ -1,0 +1,57 @@
+-- The text of a replica without components is short.
+use Rattle.std.proofs.Common.{filter_map, ◌≡◌, ℕ, ◌+◌, ◌≤◌, Bool, true, false, List, [], ◌∷◌, length, Option, None, refl, sym, ◌∙◌, ap, arith}
+use Rattle.std.specs.Prelude.{is_some}
+use Rattle.std.proofs.lemmas.List.{nil_from_length}
+use Rattle.std.specs.List.{flat_map}
+use Rattle.std.specs.FinMap as map
+use Rattle.std.specs.FinSet as set
+use Rattle.rds_counts.specs.Counted.{Above, Counted}
+use Rattle.rds_counts.specs.Place.{Place, place_cmp}
+use Rattle.rds_counts.specs.RowsOf.{rows_of}
+use Rattle.rds_dots.specs.declared.dot.Dot.{Dot}
+use Rattle.rds_dots.specs.declared.dot.Run.{Run}
+use Rattle.rds_dots.specs.Dots.{dot_cmp}
+use Rattle.rds_dots.specs.Runs.{runs_of}
+use Rattle.rds_dots.specs.RunsOf.{runs_are}
+use Rattle.rds_life.specs.Life.{Life, Lived, seen_of, live_row, live_rows}
+use Rattle.rds_life.proofs.Views.{contains-seen_of}
+use Rattle.rds_state.specs.Fits.{ReplicaValue}
+use Rattle.rds_state.specs.Value.{StateValue}
+use Rattle.rds_codec.specs.DotRows.{rows_from}
+use Rattle.rds_codec.specs.Spelling.{dot_rows_text, dots_text, live_row_text, count_rows_text, counters_text, state_text, member_text, snapshot_text}
+use Rattle.rds_codec.specs.declared.limits.TheConstants.{LIMIT}
+use Rattle.rds_codec.proofs.Texts.{state_length, snapshot_length}
+
+none_seen : (d : Dot) → set.contains (seen_of map.empty) d ≡ false
+none_seen d = contains-seen_of map.empty d ∙ ap is_some (map.get-empty {X = Life} dot_cmp d)
+
+no_runs : runs_of (seen_of map.empty) ≡ []
+no_runs = runs_are (seen_of map.empty) [] (record { maximal = refl; same = λ d. sym (none_seen d) })
+
+no_dots : length (dots_text (seen_of map.empty)) ≡ 2
+unfolding dots_text
+no_dots = ap (λ (rs : List Run). length (dot_rows_text (rows_from 0 rs))) no_runs
+
+no_lives : map.entries {K = Dot} {X = Life} {R = dot_cmp} map.empty ≡ []
+no_lives = nil_from_length _ (sym (map.len-entries map.empty) ∙ map.len-empty dot_cmp Life)
+
+no_counts : map.entries {K = Place} {X = Above} {R = place_cmp} map.empty ≡ []
+no_counts = nil_from_length _ (sym (map.len-entries map.empty) ∙ map.len-empty place_cmp Above)
+
+no_live : length (flat_map live_row_text (live_rows map.empty)) ≡ 0
+no_live = ap (λ (es : List (Dot × Life)). length (flat_map live_row_text (filter_map (λ x. live_row x.0 x.1) es))) no_lives
+
+no_counters : length (counters_text map.empty) ≡ 4
+unfolding counters_text
+no_counters = ap (λ (es : List (Place × Above)). length (count_rows_text (rows_of es))) no_counts
+
+empty_length : (v : StateValue) → v.lives ≡ map.empty → v.counts ≡ map.empty → length (state_text v) ≡ 10
+empty_length v lives counts =
+    sym (state_length v 2 0 4 (sym (ap (λ (l : Lived). length (dots_text (seen_of l))) lives ∙ no_dots))
+    (sym (ap (λ (l : Lived). length (flat_map live_row_text (live_rows l))) lives ∙ no_live)) (sym (ap (λ (m : Counted). length (counters_text m)) counts ∙ no_counters)))
+
+pub small_snapshot : (v : ReplicaValue) → length (member_text v.roster v.own) ≤ 4420 → v.state.lives ≡ map.empty → v.state.counts ≡ map.empty → length (snapshot_text v) ≤ LIMIT
+small_snapshot v few lives counts =
+    let whole = snapshot_length v in
+    let state = empty_length v.state lives counts in
+    omega (arith, few, whole, state)

@@ -1,0 +1,84 @@
+-- Worlds without events.
+use Rattle.std.proofs.Common.{◌≡◌, ℕ, ◌≤◌, zero, suc, ◌+◌, true, ◌&&◌, List, [], ◌∷◌, ◌++◌, length, length-append, Option, Some, None, refl, sym, ap, ◌∙◌, subst, arith, slice_get, inl, inr, ◌⊎◌, IsTrue}
+use mathlib.Core.Path.{fun_ext}
+use mathlib.Core.Logic.{∥∥₁_map}
+use Rattle.std.specs.Prelude.{nat_le}
+use Rattle.std.specs.FinMap as map
+use Rattle.std.proofs.lemmas.Bool.{leb-true}
+use Rattle.rds_names.specs.Roster.{RosterValue, are_names, all_differ}
+use Rattle.rds_dots.specs.declared.dot.Dot.{Dot}
+use Rattle.rds_dots.specs.Dots.{dot_cmp}
+use Rattle.rds_dots.specs.Merges.{and_left, and_right}
+use Rattle.rds_counts.specs.Counted.{Above, number, number_from}
+use Rattle.rds_counts.specs.Place.{Place, place_cmp}
+use Rattle.rds_life.specs.Life.{Life}
+use Rattle.rds_state.specs.Coordinates.{Coordinates}
+use Rattle.rds_state.specs.Fits.{ReplicaValue}
+use Rattle.rds_state.specs.Value.{coordinates}
+use Rattle.rds_world.specs.World.{empty, start}
+use Rattle.rds_world.specs.Stored.{WorldValue}
+use Rattle.rds_world.specs.Stands.{Matched, HoldsAsk, HoldsAnswer, state_of, Stands, HasModel, IsNew, AreNew, IsWorld}
+use Rattle.rds_world.proofs.Coherent.{coherent_start}
+use Rattle.rds_world.proofs.Tables.{same_some}
+
+pub few_names : (names : List (List ℕ)) → IsTrue (are_names names) → length names ≤ 256
+few_names names h = leb-true (length names) 256 (and_right (nat_le 1 (length names)) (nat_le (length names) 256) (and_left (nat_le 1 (length names) && nat_le (length names) 256) (all_differ names) h))
+
+new_state : (roster : RosterValue) (r : ℕ) (m : ReplicaValue) → IsNew roster r m → coordinates m.state ≡ empty
+new_state roster r m h = λ i. record { life = fun_ext none i; number = fun_ext no_number i }
+  where
+    none : (d : Dot) → map.get m.state.lives d ≡ None
+    none d = ap (λ l. map.get l d) h.lives ∙ map.get-empty {X = Life} dot_cmp d
+
+    no_number : (q : Place) → number m.state.counts q ≡ 0
+    no_number q = ap (λ c. number c q) h.counts ∙ ap number_from (map.get-empty {X = Above} place_cmp q)
+
+new_states : (roster : RosterValue) (xs : List ReplicaValue) (n r : ℕ) → AreNew roster xs n → empty ≡ state_of (slice_get xs r)
+new_states roster xs n r h = elim (slice_get xs r) as (λ o. slice_get xs r ≡ o → empty ≡ state_of o) [
+  | None ↦ λ e. refl
+  | Some m ↦ λ e. sym (new_state roster r m (h.each r m e))
+] refl
+
+module _ (v : WorldValue) (memory : AreNew v.roster v.memory (length v.memory)) (kept : AreNew v.roster v.kept (length v.memory)) (asks : v.asks ≡ []) (answers : v.answers ≡ []) where
+  pub stands_start : Stands v (start (length v.memory))
+  stands_start = record {
+    replicas = refl;
+    memory = λ r. new_states v.roster v.memory (length v.memory) r memory;
+    kept = λ r. new_states v.roster v.kept (length v.memory) r kept;
+    asks = subst (λ l. Matched (HoldsAsk (length v.roster.names)) [] l) (sym asks) tt;
+    answers = subst (λ l. Matched (HoldsAnswer (length v.roster.names) [] v.asks) [] l) (sym answers) tt;
+  }
+
+  pub start_world : length v.memory ≤ length v.roster.names → IsWorld v
+  start_world within = record {
+    memory = λ r m e. (let new = memory.each r m e in (new.same_roster, new.own));
+    kept = λ r m e. (let new = kept.each r m e in (new.same_roster, new.own));
+    same_length = kept.count;
+    within = within;
+    asks = λ k a e. absurd (let none : None ≡ Some a = sym (ap (λ l. slice_get l k) asks) ∙ e in cc);
+    answers = λ k a e. absurd (let none : None ≡ Some a = sym (ap (λ l. slice_get l k) answers) ∙ e in cc);
+    model = ∣ record { world = start (length v.memory); stands = stands_start; coherent = coherent_start (length v.memory) } ∣₁;
+  }
+
+-- ---- the replicas, one after the other
+
+pub none_new : (roster : RosterValue) (xs : List ReplicaValue) → xs ≡ [] → AreNew roster xs 0
+none_new roster xs is = record {
+  count = ap length is;
+  each = λ r m e. absurd (let none : None ≡ Some m = sym (ap (λ l. slice_get l r) is) ∙ e in cc);
+}
+
+last_at : (xs : List ReplicaValue) (x m : ReplicaValue) (k : ℕ) → slice_get (xs ++ x ∷ []) k ≡ Some m → (slice_get xs k ≡ Some m) ⊎ ((m ≡ x) × (k ≡ length xs))
+last_at [] x m zero e = inr (sym (same_some x m e), refl)
+last_at [] x m (suc k) e = absurd (let none : None ≡ Some m = e in cc)
+last_at (y ∷ ys) x m zero e = inl e
+last_at (y ∷ ys) x m (suc k) e = elim (last_at ys x m k e) [ inl a ↦ inl a | inr b ↦ inr (b.0, ap suc b.1) ]
+
+pub more_new : (roster : RosterValue) (xs ys : List ReplicaValue) (x : ReplicaValue) (n : ℕ) → AreNew roster xs n → IsNew roster n x → ys ≡ xs ++ x ∷ [] → AreNew roster ys (n + 1)
+more_new roster xs ys x n h new is = record {
+  count = ap length is ∙ length-append xs (x ∷ []) ∙ ap (λ k. k + 1) h.count;
+  each = λ r m e. elim (last_at xs x m r (subst (λ l. slice_get l r ≡ Some m) is e)) [
+    | inl old ↦ h.each r m old
+    | inr last ↦ subst (λ k. IsNew roster k m) (sym (last.1 ∙ h.count)) (subst (IsNew roster n) (sym last.0) new)
+  ];
+}

@@ -1,0 +1,104 @@
+-- A run goes on by one event; and what holds of the model's run holds of the world that stands for it.
+use Rattle.std.proofs.Common.{◌≡◌, Result, Ok, Err, IfOk, ℕ, ◌<◌, ◌≤◌, ◌+◌, suc, zero, List, [], ◌∷◌, ◌++◌, length, take, drop, get_or, Option, Some, None, refl, sym, ap, ◌∙◌, subst, arith, slice_get, inl, inr, ◌⊎◌}
+use Rattle.std.proofs.lemmas.List.{take_more}
+use Rattle.rds_names.specs.declared.fault.Fault.{Fault}
+use Rattle.rds_state.specs.Coordinates.{Coordinates}
+use Rattle.rds_state.specs.Fits.{ReplicaValue}
+use Rattle.rds_state.specs.Value.{StateValue, coordinates}
+use Rattle.rds_state.proofs.JoinLaws.{same_value}
+use Rattle.rds_world.specs.declared.event.Event.{Event}
+use Rattle.rds_world.specs.World.{World, after, run, start, Accepted}
+use Rattle.rds_world.specs.Coherent.{Store, Memory, Kept, state_in, IsCoherent}
+use Rattle.rds_world.specs.Events.{IsAccepted, Refuses}
+use Rattle.rds_world.specs.Law.{IsCoherentAfter, EachIsTheJoin, EachDotIsExplained, EachShowsItsUpdates, SameUpdatesSameState, EachAnswerBringsWhatWasKept, world_after, held_after, bases_after, effects_after, held_in}
+use Rattle.rds_world.specs.Simulation.{Reaches, StopsAt, Stops, Throughout, replicas_in, ReplicasAreJoins, ReplicasShowTheirUpdates, SameUpdatesSameReplicas}
+use Rattle.rds_world.specs.Stands.{state_of, Stands}
+use Rattle.rds_world.specs.Stored.{WorldValue}
+use Rattle.rds_world.specs.Updates.{IsJoinOf, ShowsUpdates}
+use Rattle.rds_world.proofs.Answering.{each_answer_brings}
+use Rattle.rds_world.proofs.Coherent.{coherent_start, run_coherent}
+use Rattle.rds_world.proofs.Counters.{store_shows, run_replicas}
+use Rattle.rds_world.proofs.Facts.{store_join, explained, same_states}
+use Rattle.rds_world.proofs.Runs.{run_on, accepted_on}
+use Rattle.rds_world.proofs.Steps.{lawful}
+
+-- ---- one event more
+
+pub reaches_start : (n : ℕ) (v : WorldValue) (es : List Event) → es ≡ [] → Stands v (start n) → Reaches n es v
+reaches_start n v es is s = subst (λ fs. Reaches n fs v) (sym is) (record { accepted = tt; stands = s })
+
+module _ (n : ℕ) (xs : List Event) (i : ℕ) (e : Event) (lt : i < length xs) (is : get_or xs i e ≡ e) (v : WorldValue) (reached : Reaches n (take i xs) v) where
+  w : World
+  w = world_after n (take i xs)
+
+  pub reaches_more : (u : WorldValue) → IsAccepted v (world_after n (take i xs)) e → Stands u (after (world_after n (take i xs)) e) → Reaches n (take (i + 1) xs) u
+  reaches_more u accepted stands =
+      let more : take (i + 1) xs ≡ take i xs ++ e ∷ [] = take_more xs i e lt ∙ ap (λ x. take i xs ++ x ∷ []) is in
+      subst (λ es. Reaches n es u) (sym more) (record {
+        accepted = (accepted_on (take i xs) (e ∷ []) (start n)).1 (reached.accepted, (accepted.due, tt));
+        stands = subst (Stands u) (sym (run_on (take i xs) (e ∷ []) (start n))) stands;
+      })
+
+  pub stops_here : (u : WorldValue) (f : Fault) → u ≡ v → Refuses v (world_after n (take i xs)) e f → Stops n xs u f
+  stops_here u f same refused = inl (record {
+    before = take i xs;
+    last = e;
+    later = drop (suc i) xs;
+    whole = split xs i e lt is;
+    reached = subst (Reaches n (take i xs)) (sym same) reached;
+    refused = subst (λ z. Refuses z (world_after n (take i xs)) e f) (sym same) refused;
+  })
+    where
+      split : (xs : List Event) (i : ℕ) (e : Event) → i < length xs → get_or xs i e ≡ e → xs ≡ take i xs ++ e ∷ drop (suc i) xs
+      split [] i e lt is = absurd (omega (arith, lt))
+      split (x ∷ xs) zero e lt is = ap (λ y. y ∷ xs) is
+      split (x ∷ xs) (suc i) e lt is = ap (λ ys. x ∷ ys) (split xs i e (omega (arith, lt)) is)
+
+-- ---- the law
+
+joins : (n : ℕ) (es : List Event) → Accepted es (start n) → EachIsTheJoin n es
+joins n es a = store_join (held_after es).update (bases_after n es) (held_after es) (world_after n es) (lawful n es a)
+
+same : (n : ℕ) (es : List Event) → Accepted es (start n) → SameUpdatesSameState n es
+same n es a = same_states (held_after es).update (bases_after n es) (held_after es) (world_after n es) (lawful n es a)
+
+shows : (n : ℕ) (es : List Event) → Accepted es (start n) → EachShowsItsUpdates n es
+shows n es a le = store_shows (held_after es).update (bases_after n es) (held_after es) (world_after n es) (lawful n es a) 256 refl (subst (λ m. m ≤ 256) (sym (run_replicas es (start n))) le)
+
+pub coherent_throughout : (n : ℕ) (es : List Event) → Throughout n es IsCoherentAfter
+coherent_throughout n es before later is a = run_coherent before (start n) (coherent_start n) a
+
+pub joins_throughout : (n : ℕ) (es : List Event) → Throughout n es EachIsTheJoin
+joins_throughout n es before later is a = joins n before a
+
+pub dots_throughout : (n : ℕ) (es : List Event) → Throughout n es EachDotIsExplained
+dots_throughout n es before later is a = explained (held_after before).update (bases_after n before) (held_after before) (world_after n before) (lawful n before a)
+
+pub documents_throughout : (n : ℕ) (es : List Event) → Throughout n es EachShowsItsUpdates
+documents_throughout n es before later is a = shows n before a
+
+pub same_throughout : (n : ℕ) (es : List Event) → Throughout n es SameUpdatesSameState
+same_throughout n es before later is a = same n before a
+
+pub answers_throughout : (n : ℕ) (es : List Event) → Throughout n es EachAnswerBringsWhatWasKept
+answers_throughout n es before later is a = each_answer_brings n before a
+
+-- ---- the world that was reached
+
+module _ (n : ℕ) (es : List Event) (v : WorldValue) (r : Reaches n es v) where
+  stored : (x : Store) (k : ℕ) (m : ReplicaValue) → slice_get (replicas_in v x) k ≡ Some m → state_in (world_after n es) x k ≡ coordinates m.state
+  stored Memory k m e = r.stands.memory k ∙ ap state_of e
+  stored Kept k m e = r.stands.kept k ∙ ap state_of e
+
+  pub replicas_are_joins : ReplicasAreJoins n es v
+  replicas_are_joins x k m e = subst (IsJoinOf (effects_after n es) (held_in (held_after es) x k)) (stored x k m e) (joins n es r.accepted x k)
+
+  pub replicas_show : n ≤ 256 → ReplicasShowTheirUpdates n es v
+  replicas_show le x k m e = subst (ShowsUpdates (held_after es).update (held_after es).size (held_in (held_after es) x k)) (stored x k m e) (shows n es r.accepted le x k)
+
+  pub same_replicas : SameUpdatesSameReplicas n es v
+  same_replicas x y k j a b ea eb held = same_value a.state b.state (sym (stored x k a ea) ∙ same n es r.accepted x y k j held ∙ stored y j b eb)
+
+pub if_ok : {T E : Type 0} (P Q : T → Type 0) (r : Result T E) → ((x : T) → P x → Q x) → IfOk r P → IfOk r Q
+if_ok P Q (Ok x) f p = f x p
+if_ok P Q (Err e) f p = tt

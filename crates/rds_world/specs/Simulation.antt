@@ -1,0 +1,60 @@
+-- How far a list of events goes, and what holds of all that was reached on the way.
+use Rattle.std.specs.Prelude.{◌≡◌, ◌⊎◌, ℕ, List, ◌∷◌, ◌++◌, Some, [], slice_get}
+use Rattle.rds_names.specs.declared.fault.Fault.{Fault}
+use Rattle.rds_names.specs.declared.fault.Fault.TheVariants.{Memory}
+use Rattle.rds_state.specs.Fits.{ReplicaValue}
+use Rattle.rds_state.specs.Value.{coordinates}
+use Rattle.rds_world.specs.declared.event.Event.{Event}
+use Rattle.rds_world.specs.World.{start, Accepted}
+use Rattle.rds_world.specs.Stored.{WorldValue}
+use Rattle.rds_world.specs.Stands.{Stands}
+use Rattle.rds_world.specs.Events.{Refuses}
+use Rattle.rds_world.specs.Coherent.{Store, Memory as InMemory, Kept as AsKept}
+use Rattle.rds_world.specs.Law.{world_after, held_after, held_in, effects_after, bases_after}
+use Rattle.rds_world.specs.Updates.{IsJoinOf, ShowsUpdates}
+
+-- all events were accepted, and the world stands for the model's after them
+pub record Reaches (n : ℕ) (es : List Event) (v : WorldValue) : Type 0 where
+  pub accepted : Accepted es (start n)
+  pub stands : Stands v (world_after n es)
+
+-- the world was reached before an event that is refused so
+pub record StopsAt (n : ℕ) (es : List Event) (v : WorldValue) (fault : Fault) : Type 0 where
+  pub before : List Event
+  pub last : Event
+  pub later : List Event
+  pub whole : es ≡ before ++ last ∷ later
+  pub reached : Reaches n before v
+  pub refused : Refuses v (world_after n before) last fault
+
+-- there was no memory for the replicas
+pub record HasNoReplicas (v : WorldValue) (fault : Fault) : Type 0 where
+  pub fault_is : fault ≡ Memory
+  pub memory : v.memory ≡ []
+  pub kept : v.kept ≡ []
+
+-- why a list of events wasn't gone through
+abbrev pub Stops : ℕ → List Event → WorldValue → Fault → Type 0
+Stops n es v fault = StopsAt n es v fault ⊎ HasNoReplicas v fault
+
+-- it is said of each beginning of the events none of which was refused
+abbrev pub Throughout : ℕ → List Event → (ℕ → List Event → Type 0) → Type 0
+Throughout n es P = (before later : List Event) → es ≡ before ++ later → Accepted before (start n) → P n before
+
+abbrev pub replicas_in : WorldValue → Store → List ReplicaValue
+replicas_in v InMemory = v.memory
+replicas_in v AsKept = v.kept
+
+-- each replica's state is the join of the effects of the updates that it holds
+abbrev pub ReplicasAreJoins : ℕ → List Event → WorldValue → Type 0
+ReplicasAreJoins n es v = (x : Store) (r : ℕ) (m : ReplicaValue) → slice_get (replicas_in v x) r ≡ Some m → IsJoinOf (effects_after n es) (held_in (held_after es) x r) (coordinates m.state)
+
+-- each replica's document is that of the updates that it holds
+abbrev pub ReplicasShowTheirUpdates : ℕ → List Event → WorldValue → Type 0
+ReplicasShowTheirUpdates n es v = (x : Store) (r : ℕ) (m : ReplicaValue) → slice_get (replicas_in v x) r ≡ Some m
+    → ShowsUpdates (held_after es).update (held_after es).size (held_in (held_after es) x r) (coordinates m.state)
+
+-- replicas that hold the same updates have equal states
+abbrev pub SameUpdatesSameReplicas : ℕ → List Event → WorldValue → Type 0
+SameUpdatesSameReplicas n es v = (x y : Store) (r s : ℕ) (a b : ReplicaValue) → slice_get (replicas_in v x) r ≡ Some a → slice_get (replicas_in v y) s ≡ Some b
+    → ((u : ℕ) → held_in (held_after es) x r u ≡ held_in (held_after es) y s u) → a.state ≡ b.state

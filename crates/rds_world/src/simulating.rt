@@ -1,0 +1,57 @@
+//! Lists of events.
+ghost use Rattle.std.specs.Prelude.{◌≡◌, ◌≤◌, IfOk, IfErr, length};
+ghost use Rattle.rds_world.specs.Law.{IsCoherentAfter, EachIsTheJoin, EachDotIsExplained, EachShowsItsUpdates, SameUpdatesSameState, EachAnswerBringsWhatWasKept};
+ghost use Rattle.rds_world.specs.Simulation.{Reaches, Stops, Throughout, ReplicasAreJoins, ReplicasShowTheirUpdates, SameUpdatesSameReplicas};
+
+use crate::event::Event;
+use crate::world::World;
+use rds_dots::DotSet;
+use rds_names::{Fault, Roster};
+use std::alloc::Global;
+
+/// All replicas of the roster after these events, in order. Where one is refused: the world before the first that is, and
+/// why. Where there is no memory for the replicas: a world without any, and `Memory`.
+///
+/// Each state in memory and as kept is the join of the effects of exactly the updates that it holds, as these follow from
+/// the events alone, and its document is theirs, whatever was lost in crashes, came late, twice or never.
+pub fn simulate<S: DotSet>(
+    alloc: Global,
+    roster: Roster,
+    events: &[Event],
+) -> Result<World<S>, (World<S>, Fault)>
+    ensures reached { IfOk result (λ world. Reaches (length roster.names) events.now world) }
+    ensures stopped { IfErr result (λ e. Stops (length roster.names) events.now e.0 e.1) }
+    ensures joins { IfOk result (λ world. ReplicasAreJoins (length roster.names) events.now world) }
+    ensures documents { IfOk result (λ world. ReplicasShowTheirUpdates (length roster.names) events.now world) }
+    ensures same { IfOk result (λ world. SameUpdatesSameReplicas (length roster.names) events.now world) }
+    ensures coherent_throughout { Throughout (length roster.names) events.now IsCoherentAfter }
+    ensures joins_throughout { Throughout (length roster.names) events.now EachIsTheJoin }
+    ensures dots_throughout { Throughout (length roster.names) events.now EachDotIsExplained }
+    ensures documents_throughout { Throughout (length roster.names) events.now EachShowsItsUpdates }
+    ensures same_throughout { Throughout (length roster.names) events.now SameUpdatesSameState }
+    ensures answers_throughout { Throughout (length roster.names) events.now EachAnswerBringsWhatWasKept }
+{
+    go_through(alloc, roster, events)
+}
+
+fn go_through<S: DotSet>(
+    alloc: Global,
+    roster: Roster,
+    events: &[Event],
+) -> Result<World<S>, (World<S>, Fault)>
+    ensures reached { IfOk result (λ world. Reaches (length roster.names) events.now world) }
+    ensures stopped { IfErr result (λ e. Stops (length roster.names) events.now e.0 e.1) }
+    ensures few { length roster.names ≤ 256 }
+{
+    let mut world = match World::open(alloc, roster) {
+        Ok(world) => world,
+        Err(stopped) => return Err(stopped),
+    };
+    'happening: for event in events {
+        match world.step(alloc, event) {
+            Ok(_) => {}
+            Err(fault) => return Err((world, fault)),
+        }
+    }
+    Ok(world)
+}
