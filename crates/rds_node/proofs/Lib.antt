@@ -1,5 +1,11 @@
+pub mod Answered
 pub mod CommandWords
 pub mod Fronts
 pub mod JoinedOnce
 pub mod Joining
+pub mod NamedTasks
+pub mod Naming
+pub mod Pieces
 pub mod Running
+pub mod Simulating
+pub mod Told

@@ -1,8 +1,15 @@
+pub mod Ahead
+pub mod Answer
+pub mod Answering
 pub mod Commands
+pub mod Edits
+pub mod FileWords
 pub mod Join
 pub mod JoinLaws
 pub mod Lines
 pub mod Output
 pub mod Refusal
 pub mod Run
+pub mod Sim
+pub mod Simulated
 pub mod Task

@@ -4,12 +4,19 @@
 ghost use Rattle.std.specs.Prelude.{◌≡◌, ◌⊎◌, IfErr};
 ghost use Rattle.rds_names.specs.declared.fault.Fault.TheVariants.{Memory, Usage};
 
+mod ahead;
+mod answer;
+mod answering;
 mod commands;
+mod file_commands;
+mod file_words;
+mod files;
 mod join;
 mod lines;
 mod output;
 mod refusal;
 mod run;
+mod sim;
 #[cfg(test)]
 mod tests;
 

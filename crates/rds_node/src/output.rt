@@ -1,11 +1,13 @@
 //! What is written.
-ghost use Rattle.std.specs.Prelude.{◌≡◌, ◌≤◌, Err, OnOk, OnErr, MatchResult};
+ghost use Rattle.std.specs.Prelude.{◌≡◌, ◌≤◌, ◌⊎◌, Err, OnOk, OnErr, MatchResult};
 ghost use Rattle.std.specs.Io.KnownBytes.{Appends};
 ghost use Rattle.clap.specs.Words.{kind_of};
 ghost use Rattle.rds_names.specs.declared.fault.Fault.TheVariants.{Memory};
 ghost use Rattle.rds_keep.specs.Counted.{one_more};
+ghost use Rattle.rds_node.specs.Answering.{WritesAnswer};
 ghost use Rattle.rds_node.specs.Output.{AnswersStatus, Writes, fault_line, fault_status, unparsed_status};
 
+use crate::answer::Answer;
 use clap::Error;
 use clap::error::ErrorKind;
 use rds_keep::Counted;
@@ -34,6 +36,19 @@ pub fn write_unparsed<W: Write>(writer: &mut Counted<W>, error: &Error) -> u8
         ErrorKind::OutOfMemory => write_fault(writer, Fault::Memory),
         ErrorKind::DisplayHelp => status_of(writer.write_text(error), 0),
         _ => status_of(write_usage(writer, error), 2),
+    }
+}
+
+/// Writes an answer's line, with 0, or a fault's line.
+pub fn write_answer<W: Write>(writer: &mut Counted<W>, answer: Result<Answer, Fault>) -> u8
+    ensures written { writer.new.failed ≡ 0
+        → WritesAnswer answer (W.contents writer.old.inner) (W.contents writer.new.inner) result }
+    ensures within { result ≤ 2 }
+    ensures broken { (writer.new.failed ≡ writer.old.failed) ⊎ (result ≡ 1) }
+{
+    match answer {
+        Ok(answer) => status_of(writer.write_line(answer), 0),
+        Err(fault) => write_fault(writer, fault),
     }
 }
 

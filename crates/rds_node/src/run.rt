@@ -1,20 +1,25 @@
 //! The program's commands.
 ghost use Rattle.std.specs.Prelude.{◌≡◌, ◌≢◌, ◌∷◌, ◌≤◌, ◌⊎◌, List, ℕ, Err, map, IfSome, IsErrAnd};
 ghost use Rattle.rds_names.specs.declared.fault.Fault.TheVariants.{Device};
-ghost use Rattle.rds_node.specs.Commands.{join_words};
-ghost use Rattle.rds_node.specs.Output.{Writes};
+ghost use Rattle.rds_node.specs.Answering.{EndsIn};
+ghost use Rattle.rds_node.specs.Commands.{join_words, sim_words};
+ghost use Rattle.rds_node.specs.Output.{Writes, fault_line};
 ghost use Rattle.rds_node.specs.Refusal.{fault_of};
-ghost use Rattle.rds_node.specs.Run.{WritesJoin, IsJoinLine};
+ghost use Rattle.rds_node.specs.Run.{WritesJoin, WritesSim, IsJoinLine};
 
+use crate::answering::answer_lines;
 use crate::commands::{Task, task_of};
+use crate::file_commands::{edit_file, init_file, show_file};
 use crate::join::join;
-use crate::output::{status_of, write_fault, write_unparsed};
+use crate::output::{status_of, write_answer, write_fault, write_unparsed};
 use crate::refusal::Refusal;
+use crate::sim::Simulation;
 use rds_keep::Counted;
 use rds_names::Fault;
 use std::alloc::Global;
 use std::convert::AsStr;
 use std::io::{Read, Write};
+use std::rt::Files;
 
 /// The most bytes of an input that `join` reads: two lines of the greatest length with their
 /// newlines, and one byte more.
@@ -27,7 +32,7 @@ const MOST: usize = 1_073_741_827;
 /// doesn't have are `Usage`: that line, then the library's text, and 2. Help is written and answered
 /// by 0. A reader that fails, or that gives more reads than its bound of turns, is `Device`. Where
 /// the output itself fails the answer is 1.
-pub fn run<H: AllocGlobal, R: Read, W: Write, S: AsStr>(
+pub fn run<H: Files + AllocGlobal, R: Read, W: Write, S: AsStr>(
     rt: &H,
     words: &[S],
     reader: &mut Counted<R>,
@@ -40,15 +45,44 @@ pub fn run<H: AllocGlobal, R: Read, W: Write, S: AsStr>(
     ensures unread { (name : List ℕ) → map S.text words.entry.now ≡ name ∷ join_words
         → reader.new.failed ≢ reader.old.failed → writer.new.failed ≡ 0
         → Writes (Err Device) (W.contents writer.old.inner) (W.contents writer.new.inner) result }
+    ensures sim { (name : List ℕ) → map S.text words.entry.now ≡ name ∷ sim_words
+        → IfSome (R.remaining reader.old.inner)
+        (λ input. reader.new.failed ≡ 0 → writer.new.failed ≡ 0
+        → WritesSim input (W.contents writer.old.inner) (W.contents writer.new.inner) result) }
+    ensures cut { (name : List ℕ) → map S.text words.entry.now ≡ name ∷ sim_words
+        → reader.new.failed ≢ reader.old.failed → writer.new.failed ≡ 0
+        → EndsIn (fault_line Device) (W.contents writer.old.inner) (W.contents writer.new.inner)
+        × (result ≡ 1) }
     ensures status { result ≤ 2 }
     ensures broken { (writer.new.failed ≡ writer.old.failed) ⊎ (result ≡ 1) }
 {
     let alloc = rt.alloc();
     match task_of(alloc, words) {
         Ok(Some(Task::Join)) => run_join(alloc, reader, writer),
+        Ok(Some(Task::Sim)) => run_sim(alloc, reader, writer),
+        Ok(Some(Task::Init(words))) => write_answer(
+            writer,
+            init_file(rt, words.file, words.group, words.own, &words.names),
+        ),
+        Ok(Some(Task::Edit { file, edit })) => write_answer(writer, edit_file(rt, file, &edit)),
+        Ok(Some(Task::Show { file, path })) => write_answer(writer, show_file(rt, file, path)),
         Ok(None) => write_fault(writer, Fault::Usage),
         Err(error) => write_unparsed(writer, &error),
     }
+}
+
+// Answers the lines that the reader holds.
+fn run_sim<R: Read, W: Write>(alloc: Global, reader: &mut Counted<R>, writer: &mut Counted<W>) -> u8
+    ensures sim { IfSome (R.remaining reader.old.inner)
+        (λ input. reader.new.failed ≡ 0 → writer.new.failed ≡ 0
+        → WritesSim input (W.contents writer.old.inner) (W.contents writer.new.inner) result) }
+    ensures cut { reader.new.failed ≢ reader.old.failed → writer.new.failed ≡ 0
+        → EndsIn (fault_line Device) (W.contents writer.old.inner) (W.contents writer.new.inner)
+        × (result ≡ 1) }
+    ensures status { result ≤ 1 }
+    ensures broken { (writer.new.failed ≡ writer.old.failed) ⊎ (result ≡ 1) }
+{
+    answer_lines(alloc, &mut Simulation::new(), reader, writer)
 }
 
 // Writes what the two lines that the reader holds are joined to.

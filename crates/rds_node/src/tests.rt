@@ -3,6 +3,7 @@ use rds_keep::Counted;
 use std::io;
 use std::io::{ErrorKind, Read, Write};
 use std::process::Abort;
+use std::rt::Files;
 use std::test::Fail;
 
 // Replica a of the group g of a, b and c: its first dot is live, the element 7 of the set at 's'.
@@ -37,7 +38,13 @@ const COUNTED: &str = "52445331016700030161016201630000000000000000000002016e000
 00000000050000000000000002016e0100000000000000010000000000000000";
 
 // What the words write for the input, and the status.
-fn answers<H: AllocGlobal + Abort>(rt: &H, words: &[&str], input: &str, output: &str, status: u8) {
+fn answers<H: Files + AllocGlobal + Abort>(
+    rt: &H,
+    words: &[&str],
+    input: &str,
+    output: &str,
+    status: u8,
+) {
     let mut written = Vec::new(rt.alloc());
     let mut reader = Counted::new(input.as_bytes());
     let mut writer = Counted::new(&mut written);
@@ -46,7 +53,7 @@ fn answers<H: AllocGlobal + Abort>(rt: &H, words: &[&str], input: &str, output: 
     assert_eq!(rt; answer, status, "for {input}");
 }
 
-fn joins<H: AllocGlobal + Abort>(rt: &H, input: &str, output: &str, status: u8) {
+fn joins<H: Files + AllocGlobal + Abort>(rt: &H, input: &str, output: &str, status: u8) {
     answers(rt, &["rds_node", "join"], input, output, status);
 }
 
@@ -143,14 +150,20 @@ fn reads_the_command_line(rt: HostRuntime) -> Result<(), Fail> {
     let alloc = rt.alloc();
     for (words, status, first, named) in [
         ("rds_node joyn", 2, "fault 27: Usage\n", "joyn"),
-        ("rds_node sim", 2, "fault 27: Usage\n", "sim"),
+        ("rds_node sim x", 2, "fault 27: Usage\n", "sim"),
         ("rds_node", 2, "fault 27: Usage\n", "join"),
         ("", 2, "fault 27: Usage\n", "join"),
         ("rds_node join x", 2, "fault 27: Usage\n", "join"),
-        ("rds_node --help", 0, "Keeps replicas", "  join  Joins two"),
-        ("rds_node help", 0, "Keeps replicas", "  join  Joins two"),
+        ("rds_node --help", 0, "Keeps replicas", "  join   Joins two"),
+        ("rds_node help", 0, "Keeps replicas", "  join   Joins two"),
         ("rds_node join --help", 0, "Joins two", "Input: two lines"),
         ("rds_node help join", 0, "Joins two", "Input: two lines"),
+        (
+            "rds_node add --help",
+            0,
+            "Adds an element",
+            "Example: rds_node add",
+        ),
     ] {
         let words: Vec<&str> = words.split_whitespace().collect(alloc)?;
         let mut written = Vec::new(alloc);

@@ -1,0 +1,148 @@
+//! What `--help` says of the program and of each command.
+
+pub const ABOUT: &str =
+    "Keeps replicas of one document, which are edited apart and joined in any order.";
+
+pub const AFTER_HELP: &str = "\
+'rds_node COMMAND --help' says what a command reads and writes.
+
+Exit status: 0 where the command succeeded, 1 where it answered a fault, 2 where the
+words are none that the program takes. A fault is one line of output, 'fault N: Name'.
+
+Example: rds_node join < two_snapshots";
+
+pub const JOIN_ABOUT: &str = "Joins two snapshots of one group into one";
+
+pub const JOIN_AFTER_HELP: &str = "\
+Input: two lines of hex digits, each a snapshot. The second may lack its newline.
+Output: one line of hex digits, the snapshot of all that the two have seen, with the
+roster and the own number of the first.
+
+Exit status: 0 where the two were joined, 2 for words that are none of these, else 1
+with the line 'fault N: Name': 12 or 13 for a line that is no snapshot, 14 where
+something follows a snapshot or the second line, 15 for a line or an answer that is
+too long, 16 for too many dots, 19 for another group, 20 for other names, 9 where the
+two have different entries for one dot, 24 where the input can't be read, 1 where
+there is no memory.
+
+Example: rds_node join < two_snapshots";
+
+pub const SIM_ABOUT: &str = "Answers lines about a group of replicas in memory";
+
+pub const SIM_AFTER_HELP: &str = "\
+Input: lines, each one JSON array of at most 65,536 bytes; the last may lack its
+newline. W is a replica's name, PATH and KEY are texts, VALUE is null, true, false, a
+whole number or a text, BY and K are whole numbers from 0:
+  [\"roster\",GROUP,NAME,..]                     the group; the first line
+  [\"set\",W,PATH,VALUE], [\"add\",..], [\"del\",..]  edit an entry
+  [\"clear\",W,PATH], [\"inc\",W,KEY,BY], [\"dec\",W,KEY,BY]
+  [\"save\",W], [\"crash\",W]                      keep the memory; go back to what is kept
+  [\"ask\",W], [\"answer\",W,K], [\"take\",K]        a digest; a delta for ask K; take answer K
+  [\"show\",W,PATH]                              the document below the path
+Output: one line of JSON for each line. A refused one answers
+{\"fault\":N,\"name\":\"Name\"} and changes nothing, and the next line is read.
+
+Exit status: 0 where no line was refused, 2 for words that are none of these, else 1,
+also where the input can't be read: then the line 'fault 24: Device' is the last.
+
+Example: rds_node sim < lines";
+
+pub const INIT_ABOUT: &str = "Makes a file that holds an empty replica";
+
+pub const INIT_AFTER_HELP: &str = "\
+Writes FILE, which must not be there yet: the replica OWN of a group of the replicas
+NAMES, which has seen nothing.
+Output: the line {\"ok\":true}.
+
+Exit status: 0 where the file was written, 2 with the line 'fault 27: Usage' where FILE
+is there already, 2 for words that are none of these, else 1 with the line
+'fault N: Name': 3 for a bad group, 2 for a bad name, 6 for names that are too many or
+one twice, 26 where OWN is none of NAMES, 24 where FILE can't be written, 1 where
+there is no memory.
+
+Example: rds_node init notes.a notes a a b c";
+
+pub const SET_ABOUT: &str = "Writes a register of the replica in a file";
+
+pub const ADD_ABOUT: &str = "Adds an element to a set of the replica in a file";
+
+pub const DEL_ABOUT: &str = "Deletes an element of a set of the replica in a file";
+
+pub const ENTRY_AFTER_HELP: &str = "\
+PATH is 1 to 8 keys with '/' between them. VALUE is JSON: null, true, false, a whole
+number or a text; write a space before a number below 0.
+Reads FILE, edits it, and writes it anew: FILE.new is written and synced, and then
+renamed to FILE.
+Output: the line {\"dot\":[\"a\",1],\"killed\":0}: the name of the new entry or null, and
+how many entries were taken away.
+
+Exit status: 0 where the file was written, 2 for words that are none of these, else 1
+with the line 'fault N: Name': 4 for a bad path, 3 for a bad key in it, 25 for a VALUE
+that is no JSON, 5 for one that is no such value, 7 where there are no more names for
+entries, 12 to 16 for a file that is no snapshot, 24 where FILE can't be read or
+written, 1 where there is no memory.
+
+Example: rds_node add notes.a shopping/fruit '\"apple\"'";
+
+pub const CLEAR_ABOUT: &str = "Empties a part of the replica in a file";
+
+pub const CLEAR_AFTER_HELP: &str = "\
+Takes away each entry at PATH or below it; with no PATH all entries, and no counter.
+Reads FILE, edits it, and writes it anew: FILE.new is written and synced, and then
+renamed to FILE.
+Output: the line {\"dot\":null,\"killed\":0}, with the number of entries taken away.
+
+Exit status: 0 where the file was written, 2 for words that are none of these, else 1
+with the line 'fault N: Name': 4 for a bad path, 3 for a bad key in it, 12 to 16 for a
+file that is no snapshot, 24 where FILE can't be read or written, 1 where there is no
+memory.
+
+Example: rds_node clear notes.a shopping";
+
+pub const INC_ABOUT: &str = "Raises a counter of the replica in a file";
+
+pub const DEC_ABOUT: &str = "Lowers a counter of the replica in a file";
+
+pub const COUNTER_AFTER_HELP: &str = "\
+BY is a whole number from 0.
+Reads FILE, edits it, and writes it anew: FILE.new is written and synced, and then
+renamed to FILE.
+Output: the line {\"dot\":null,\"killed\":0}.
+
+Exit status: 0 where the file was written, 2 with the line 'fault 27: Usage' where BY is
+no such number, 2 for words that are none of these, else 1 with the line
+'fault N: Name': 3 for a bad key, 8 where the counter would pass its limit, 12 to 16
+for a file that is no snapshot, 24 where FILE can't be read or written, 1 where there
+is no memory.
+
+Example: rds_node inc notes.a visits 1";
+
+pub const SHOW_ABOUT: &str = "Prints the document of the replica in a file";
+
+pub const SHOW_AFTER_HELP: &str = "\
+Reads FILE and writes no file.
+Output: one line of JSON, the document below PATH, or all of it: {\"maps\":..,
+\"regs\":..,\"sets\":..}, each by key, with \"counters\" before them where there is no PATH.
+
+Exit status: 0 where the document was printed, 2 for words that are none of these, else
+1 with the line 'fault N: Name': 4 for a bad path, 3 for a bad key in it, 12 to 16 for
+a file that is no snapshot, 24 where FILE can't be read, 1 where there is no memory.
+
+Example: rds_node show notes.a shopping";
+
+pub const FILE_HELP: &str = "The file of a replica";
+
+pub const GROUP_HELP: &str = "The group's name: 1 to 64 bytes without '/'";
+
+pub const OWN_HELP: &str = "The name of the replica in this file";
+
+pub const NAMES_HELP: &str =
+    "The names of all replicas, in order: a to z first, then a to z, 0 to 9 and '-'";
+
+pub const PATH_HELP: &str = "Keys with '/' between them";
+
+pub const VALUE_HELP: &str = "null, true, false, a whole number or a text, as JSON";
+
+pub const KEY_HELP: &str = "The counter's key: 1 to 64 bytes without '/'";
+
+pub const BY_HELP: &str = "By how much, a whole number from 0";

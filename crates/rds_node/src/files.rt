@@ -1,0 +1,107 @@
+//! Replicas in files.
+ghost use Rattle.std.specs.Prelude.{◌≡◌, ◌⊎◌, IfOk, IfErr};
+ghost use Rattle.rds_names.specs.declared.fault.Fault.TheVariants.{Memory, TooLong, Device};
+ghost use Rattle.rds_codec.specs.Decoding.{IsOtherFault};
+
+use rds_dots::DotSet;
+use rds_keep::{Counted, Kept, Place, keep_in, read_snapshot};
+use rds_names::Fault;
+use rds_state::Replica;
+use std::fs::OpenFile;
+use std::io::{ErrorKind, Write};
+use std::rt::Files;
+use std::{fs, io};
+
+/// Keeps the replica in the file of this path: FILE.new is written anew, synced and renamed to FILE,
+/// and only then is the replica kept. A FILE.new that was left behind is overwritten.
+///
+/// Refuses `TooLong` where the replica's text is above the limit, and `Device` where a file can't be
+/// made, written, synced or renamed.
+pub fn keep_file<H: Files + AllocGlobal, S: DotSet>(
+    rt: &H,
+    replica: &Replica<S>,
+    path: &str,
+) -> Result<Kept<S>, Fault>
+    ensures kept { IfOk result (λ kept. kept ≡ replica.now) }
+    ensures fault { IfErr result (λ e. (e ≡ Memory) ⊎ ((e ≡ TooLong) ⊎ (e ≡ Device))) }
+{
+    let alloc = rt.alloc();
+    let name = format!(in alloc; "{path}.new")?;
+    let file = match fs::create(rt, name.as_str()) {
+        Ok(file) => file,
+        Err(_) => return Err(Fault::Device),
+    };
+    let mut place = Counted::new(Beside {
+        rt,
+        file,
+        name: name.as_str(),
+        path,
+        is_synced: false,
+        is_renamed: false,
+    });
+    keep_in(alloc, replica, &mut place)
+}
+
+/// The replica that the file of this path holds. Refuses `Device` where the file can't be opened or
+/// read, and as decoding does where it holds no snapshot.
+pub fn read_file<H: Files + AllocGlobal, S: DotSet>(rt: &H, path: &str) -> Result<Kept<S>, Fault>
+    ensures fault { IfErr result (λ e. (e ≡ Device) ⊎ IsOtherFault e) }
+{
+    match fs::open(rt, path) {
+        Ok(file) => read_snapshot(rt.alloc(), &mut Counted::new(file)),
+        Err(_) => Err(Fault::Device),
+    }
+}
+
+/// Whether something of this path can be opened. `Device` where it can't be, but not since it isn't
+/// there.
+pub fn is_there<H: Files>(rt: &H, path: &str) -> Result<bool, Fault>
+    ensures fault { IfErr result (λ e. e ≡ Device) }
+{
+    match fs::open(rt, path) {
+        Ok(_) => Ok(true),
+        Err(error) if error.kind() == ErrorKind::NotFound => Ok(false),
+        Err(_) => Err(Fault::Device),
+    }
+}
+
+// A file that is written beside the one whose place it is to take.
+#[derive(Drop)]
+struct Beside<'a, H: Files> {
+    rt: &'a H,
+    file: H::File,
+    name: &'a str,
+    path: &'a str,
+    is_synced: bool,
+    is_renamed: bool,
+}
+
+impl<H: Files> Write for Beside<'_, H> {
+    fn write(&mut self, buf: &[u8]) -> io::Result<usize> {
+        self.is_synced = false;
+        self.is_renamed = false;
+        self.file.write(buf)
+    }
+
+    fn flush(&mut self) -> io::Result<()> {
+        self.file.flush()
+    }
+}
+
+impl<H: Files> Place for Beside<'_, H> {
+    ghost synced = { λ p. p.is_synced };
+
+    ghost renamed = { λ p. p.is_renamed };
+
+    fn sync(&mut self) -> io::Result<()> {
+        self.file.sync_all()?;
+        self.is_synced = true;
+        Ok(())
+    }
+
+    fn rename(&mut self) -> io::Result<()> {
+        self.rt.rename(self.name, self.path)?;
+        self.is_renamed = true;
+        Ok(())
+    }
+}
