@@ -116,10 +116,8 @@ impl Chunks {
                         rest = more;
                     }
                 },
+                Place::Within(_) if rest.is_empty() => return Ok(Scanned::More),
                 Place::Within(left) => {
-                    if rest.is_empty() {
-                        return Ok(Scanned::More);
-                    }
                     let count = usize::from(left).min(rest.len());
                     if MESSAGE_LIMIT - self.held.len() < count {
                         self.place = Place::First;
