@@ -95,7 +95,8 @@ impl<S: DotSet> World<S> {
         if at >= self.memory.len() {
             return Err(Fault::NoSuch);
         }
-        let bytes = messages::ask(alloc, self.kept[at].view_of())?;
+        let kept = self.kept[at].view_of();
+        let bytes = messages::ask(alloc, kept)?;
         let question = self.asks.len() as u64;
         self.asks.push(Asking {
             asker: number,
@@ -117,12 +118,8 @@ impl<S: DotSet> World<S> {
         }
         let ask = &self.asks[question as usize];
         let asker = ask.asker;
-        let (bytes, components) = messages::answer(
-            alloc,
-            self.kept[at].view_of(),
-            asker,
-            &ask.bytes,
-        )?;
+        let kept = self.kept[at].view_of();
+        let (bytes, components) = messages::answer(alloc, kept, asker, &ask.bytes)?;
         let answer = self.answers.len() as u64;
         self.answers.push(Answering {
             question,

@@ -44,7 +44,7 @@ answer-requires g c =
     let ask_is : record { asker = c.ask.inside.asker; bytes = c.ask.inside.bytes.items } ≡ a = c.ask.view_is in
     let bytes_are : c.deref.result.now ≡ a.bytes = c.deref.ensures.value ∙ ap (λ (z : AskText). z.bytes) ask_is in
     let asker_is : c.ask.inside.asker ≡ a.asker = ap (λ (z : AskText). z.asker) ask_is in
-    let kept_is = c.view_of.ensures.replica in
+    let kept_is = c.view_of-kept.ensures.replica in
     let few : a.asker < length v.memory = c.self.invariant.asks q a asked in
     let within = c.self.invariant.within in
     let most : c.ask.inside.asker < length v.roster.names = omega (arith, few, within, asker_is) in
@@ -65,7 +65,7 @@ returns-in_err-bytes-clause-err g c =
     let ask_is : record { asker = c.ask.inside.asker; bytes = c.ask.inside.bytes.items } ≡ a = c.ask.view_is in
     let bytes_are : c.deref.result.now ≡ a.bytes = c.deref.ensures.value ∙ ap (λ (z : AskText). z.bytes) ask_is in
     let asker_is : c.ask.inside.asker ≡ a.asker = ap (λ (z : AskText). z.asker) ask_is in
-    let kept_is = c.view_of.ensures.replica in
+    let kept_is = c.view_of-kept.ensures.replica in
     let f = c.in_err-bytes.field-0.0 in
     let is : c.from_residual.result ≡ Err f = search rules in
     let why : HasNoReply (length m.roster.names) a.bytes a.asker m.state f =
@@ -99,7 +99,7 @@ invariant_of-self-2 g c =
     let ask_is : record { asker = c.ask.inside.asker; bytes = c.ask.inside.bytes.items } ≡ a = c.ask.view_is in
     let bytes_are : c.deref.result.now ≡ a.bytes = c.deref.ensures.value ∙ ap (λ (z : AskText). z.bytes) ask_is in
     let asker_is : c.ask.inside.asker ≡ a.asker = ap (λ (z : AskText). z.asker) ask_is in
-    let kept_is = c.view_of.ensures.replica in
+    let kept_is = c.view_of-kept.ensures.replica in
     let reply : IsReply (length m.roster.names) a.bytes a.asker m.state c.in_ok-bytes.bytes.items c.in_ok-bytes.components =
     subst (λ (b : List ℕ). IsReply (length m.roster.names) b a.asker m.state c.in_ok-bytes.bytes.items c.in_ok-bytes.components) bytes_are
     (subst (λ o. IsReply (length m.roster.names) c.deref.result.now o m.state c.in_ok-bytes.bytes.items c.in_ok-bytes.components) asker_is
@@ -125,7 +125,7 @@ returns-clause-ok g c =
     let ask_is : record { asker = c.ask.inside.asker; bytes = c.ask.inside.bytes.items } ≡ a = c.ask.view_is in
     let bytes_are : c.deref.result.now ≡ a.bytes = c.deref.ensures.value ∙ ap (λ (z : AskText). z.bytes) ask_is in
     let asker_is : c.ask.inside.asker ≡ a.asker = ap (λ (z : AskText). z.asker) ask_is in
-    let kept_is = c.view_of.ensures.replica in
+    let kept_is = c.view_of-kept.ensures.replica in
     let reply : IsReply (length m.roster.names) a.bytes a.asker m.state c.in_ok-bytes.bytes.items c.in_ok-bytes.components =
     subst (λ (b : List ℕ). IsReply (length m.roster.names) b a.asker m.state c.in_ok-bytes.bytes.items c.in_ok-bytes.components) bytes_are
     (subst (λ o. IsReply (length m.roster.names) c.deref.result.now o m.state c.in_ok-bytes.bytes.items c.in_ok-bytes.components) asker_is
