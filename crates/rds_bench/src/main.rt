@@ -1,6 +1,7 @@
 //! Times what the program doesn't show by itself. `rds_bench texts N` encodes and decodes a state of N dots, two
 //! thirds of them live; `rds_bench delta N` takes what a replica of N dots has that one without the last ten lacks. It
-//! prints a line of figures, and nothing where it was called by no words.
+//! prints a line of figures, and nothing where it was called by no words. Then it waits until its input ends, so that
+//! who called it can see how much memory it had.
 #![tactic(auto)]
 
 mod deltas;
@@ -8,6 +9,7 @@ mod samples;
 mod texts;
 
 use rds_names::Fault;
+use std::io::Read;
 use std::{env, io};
 
 /// The most dots of a sample.
@@ -17,7 +19,10 @@ fn main(rt: HostRuntime) -> io::Result<()> {
     let mut words = env::args(&rt)?;
     let _name = words.next();
     match (words.next(), words.next()) {
-        (Some(what), Some(size)) => time(&rt, what.as_str(), size.as_str()),
+        (Some(what), Some(size)) => {
+            time(&rt, what.as_str(), size.as_str())?;
+            wait(&rt)
+        }
         _ => Ok(()),
     }
 }
@@ -33,6 +38,13 @@ fn time(rt: &HostRuntime, what: &str, size: &str) -> io::Result<()> {
         "delta" => deltas::time(rt, size),
         _ => println!(rt; "nothing is called {what}"),
     }
+}
+
+/// Waits for the input's first byte or its end.
+fn wait(rt: &HostRuntime) -> io::Result<()> {
+    let mut byte = [0; 1];
+    rt.reader().read(&mut byte)?;
+    Ok(())
 }
 
 /// Prints a fault.
