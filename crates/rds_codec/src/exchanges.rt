@@ -61,6 +61,8 @@ fn take_answer<S: DotSet>(
 ) -> Result<(), Fault>
     requires { Fits (length replica.old.roster.names) (coordinates answer.now.state) }
     ensures taken { answer.now.asker ≡ replica.old.own → IsAbove (coordinates answer.now.state) (ranks_in digest.now) → IsCertificate (ranks_in digest.now) answer.now.state answer.now.certificate → TakeGives replica.old.state replica.old.own answer.now.state result }
+    ensures asked { OnOk result (answer.now.asker ≡ replica.old.own) }
+    ensures checked { OnOk result (IsAbove (coordinates answer.now.state) (ranks_in digest.now) × IsCertificate (ranks_in digest.now) answer.now.state answer.now.certificate) }
     ensures ok { OnOk result (coordinates replica.new.state ≡ join (coordinates replica.old.state) (coordinates answer.now.state)) }
     ensures roster { replica.new.roster ≡ replica.old.roster }
     ensures own { replica.new.own ≡ replica.old.own }

@@ -65,7 +65,7 @@ abbrev pub are_apart : List Row → Bool
 are_apart [] = true
 are_apart (r ∷ rs) = stops_before r rs && are_apart rs
 
--- the rows claim each component once, in order, in the fewest rows
+-- the rows claim each component once, in order, and no two neighbours could be one
 pub record IsCertificate (b : Ranks) (v : StateValue) (rs : List Row) : Type 0 where
   pub claimed : spread_all rs ≡ claims b v
   pub full : list_all is_full rs ≡ true

@@ -1,4 +1,4 @@
--- Claims in the fewest rows.
+-- Claims as rows, of which no two neighbours could be one.
 use Rattle.std.specs.Prelude.{ℕ, cond, List, [], ◌∷◌}
 use Rattle.rds_dots.specs.declared.dot.Dot.{Dot}
 use Rattle.rds_dots.specs.declared.dot.Run.{Run}

@@ -25,9 +25,9 @@ use rds_names::{Fault, Key};
 use rds_state::State;
 use std::alloc::Global;
 
-/// What the digest has in place of each component of a delta, in the fewest rows: there is one such list. It says
-/// something of a delta whose components are all above the digest, as those of a least delta are: then each row lies in
-/// its range.
+/// What the digest has in place of each component of a delta, in rows of which no two neighbours could be one: there is
+/// one such list. It says something of a delta whose components are all above the digest, as those of a least delta are:
+/// then each row lies in its range.
 pub fn certificate<S: DotSet>(
     alloc: Global,
     digest: &Digest<S>,

@@ -3,9 +3,13 @@ pub mod CommandWords
 pub mod Fronts
 pub mod JoinedOnce
 pub mod Joining
+pub mod Meaning
 pub mod NamedTasks
 pub mod Naming
+pub mod Paired
 pub mod Pieces
 pub mod Running
+pub mod Serving
 pub mod Simulating
+pub mod Takes
 pub mod Told

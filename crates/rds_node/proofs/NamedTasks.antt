@@ -2,7 +2,7 @@
 use Rattle.std.proofs.Common.{◌≡◌, [], ◌∷◌, codes, Option, Some, None, option_map, refl}
 use Rattle.rds_node.specs.Task.{words_of}
 use Rattle.rds_node.specs.declared.commands.Task.{Task}
-use Rattle.rds_node.specs.declared.commands.Task.TheVariants.{Join, Sim, Init, Edit, Show}
+use Rattle.rds_node.specs.declared.commands.Task.TheVariants.{Join, Sim, Init, Edit, Show, Serve, Sync, Pair}
 use Rattle.rds_node.specs.declared.commands.EditWords.TheVariants.{Set, Add, Del, Clear, Inc, Dec}
 
 pub is_join : (task : Option Task) → option_map words_of task ≡ Some (codes "join" ∷ []) → task ≡ Some Join
@@ -17,6 +17,9 @@ is_join (Some (Edit file (Clear path))) e = absurd cc
 is_join (Some (Edit file (Inc key by))) e = absurd cc
 is_join (Some (Edit file (Dec key by))) e = absurd cc
 is_join (Some (Show file path)) e = absurd cc
+is_join (Some (Serve words)) e = absurd cc
+is_join (Some (Sync file addr)) e = absurd cc
+is_join (Some (Pair first second)) e = absurd cc
 
 pub is_sim : (task : Option Task) → option_map words_of task ≡ Some (codes "sim" ∷ []) → task ≡ Some Sim
 is_sim None e = absurd cc
@@ -30,3 +33,6 @@ is_sim (Some (Edit file (Clear path))) e = absurd cc
 is_sim (Some (Edit file (Inc key by))) e = absurd cc
 is_sim (Some (Edit file (Dec key by))) e = absurd cc
 is_sim (Some (Show file path)) e = absurd cc
+is_sim (Some (Serve words)) e = absurd cc
+is_sim (Some (Sync file addr)) e = absurd cc
+is_sim (Some (Pair first second)) e = absurd cc

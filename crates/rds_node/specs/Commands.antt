@@ -36,6 +36,20 @@ counter_app name = with_rule (with_rule (file_app name) (required_rule (codes "K
 abbrev pub path_app : Text → App
 path_app name = with_rule (file_app name) (new_rule (codes "PATH"))
 
+-- a file's replica meets another at an address
+abbrev pub address_app : Text → App
+address_app name = with_rule (file_app name) (required_rule (codes "ADDR"))
+
+-- how many sessions, as an option, 1 where it isn't given
+abbrev pub sessions_rule : Rule
+sessions_rule = record (new_rule (codes "SESSIONS")) { long = Some (codes "sessions"); value_names = 1; defaults = codes "1" ∷ [] }
+
+abbrev pub serve_app : App
+serve_app = with_rule (address_app (codes "serve")) sessions_rule
+
+abbrev pub pair_app : App
+pair_app = with_rule (file_app (codes "pair")) (required_rule (codes "PEER"))
+
 -- one of the subcommands has to be named
 abbrev pub named_app : App
 named_app = let a = new_app (codes "rds_node") in record a { top = record a.top { subcommand_required = true } }
@@ -55,8 +69,11 @@ with_counters a = with_subcommand (with_subcommand a (counter_app (codes "inc"))
 unfoldable pub with_show : App → App
 with_show a = with_subcommand a (path_app (codes "show")).top
 
+unfoldable pub with_sessions : App → App
+with_sessions a = with_subcommand (with_subcommand (with_subcommand a serve_app.top) (address_app (codes "sync")).top) pair_app.top
+
 unfoldable pub node_app : App
-node_app = with_show (with_counters (with_removals (with_entries base_app)))
+node_app = with_sessions (with_show (with_counters (with_removals (with_entries base_app))))
 
 -- the words of `join`, behind the name that the program was called by
 abbrev pub join_words : List Text

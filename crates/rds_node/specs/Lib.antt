@@ -8,8 +8,12 @@ pub mod Join
 pub mod JoinLaws
 pub mod Lines
 pub mod Output
+pub mod Pairing
 pub mod Refusal
+pub mod Reports
 pub mod Run
+pub mod Settling
 pub mod Sim
 pub mod Simulated
+pub mod Syncing
 pub mod Task

@@ -3,7 +3,7 @@ use Rattle.std.specs.Prelude.{List, [], ◌∷◌, ◌++◌, Option, Some, None,
 use Rattle.std.specs.Str.{bytes_eq}
 use Rattle.clap.specs.Words.{Row, Text, all_of, first_of}
 use Rattle.rds_node.specs.declared.commands.Task.{Task}
-use Rattle.rds_node.specs.declared.commands.Task.TheVariants.{Join, Sim, Init, Edit, Show}
+use Rattle.rds_node.specs.declared.commands.Task.TheVariants.{Join, Sim, Init, Edit, Show, Serve, Sync, Pair}
 use Rattle.rds_node.specs.declared.commands.EditWords.{EditWords}
 use Rattle.rds_node.specs.declared.commands.EditWords.TheVariants.{Set, Add, Del, Clear, Inc, Dec}
 
@@ -23,6 +23,9 @@ words_of Sim = codes "sim" ∷ []
 words_of (Init words) = codes "init" ∷ words.file.now ∷ words.group.now ∷ words.own.now ∷ map (λ n. n.now) words.names.items
 words_of (Edit file edit) = edit_words file.now edit
 words_of (Show file path) = codes "show" ∷ file.now ∷ path.now ∷ []
+words_of (Serve words) = codes "serve" ∷ words.file.now ∷ words.addr.now ∷ words.sessions.now ∷ []
+words_of (Sync file addr) = codes "sync" ∷ file.now ∷ addr.now ∷ []
+words_of (Pair first second) = codes "pair" ∷ first.now ∷ second.now ∷ []
 
 -- the words under these ids, where each has one
 abbrev pub words_under : List Text → List Row → Option (List Text)
@@ -53,13 +56,21 @@ edit_words_behind name rows =
     else (if bytes_eq name (codes "dec") then counter_words_in rows
     else None)))))
 
+-- the words behind the name of a command that makes sessions, or that edits a file's replica
+abbrev pub session_words_behind : Text → List Row → Option (List Text)
+session_words_behind name rows =
+    if bytes_eq name (codes "serve") then words_under (codes "FILE" ∷ codes "ADDR" ∷ codes "SESSIONS" ∷ []) rows
+    else (if bytes_eq name (codes "sync") then words_under (codes "FILE" ∷ codes "ADDR" ∷ []) rows
+    else (if bytes_eq name (codes "pair") then words_under (codes "FILE" ∷ codes "PEER" ∷ []) rows
+    else edit_words_behind name rows))
+
 -- the words behind the name of a command but `init`
 abbrev pub plain_words_behind : Text → List Row → Option (List Text)
 plain_words_behind name rows =
     if bytes_eq name (codes "join") then Some []
     else (if bytes_eq name (codes "sim") then Some []
     else (if bytes_eq name (codes "show") then file_and_path rows
-    else edit_words_behind name rows))
+    else session_words_behind name rows))
 
 abbrev pub words_behind : Text → List Row → Option (List Text)
 words_behind name rows = if bytes_eq name (codes "init") then init_words_in rows else plain_words_behind name rows

@@ -40,6 +40,22 @@ pub enum Task<'a> {
         /// The path of the part, empty for the root.
         path: &'a str,
     },
+    /// Serves the replica in a file to peers, one session after the other.
+    Serve(ServeWords<'a>),
+    /// Has one session with a replica that is served.
+    Sync {
+        /// The file.
+        file: &'a str,
+        /// The address where it is served.
+        addr: &'a str,
+    },
+    /// Has one session between the replicas in two files.
+    Pair {
+        /// The client's file.
+        first: &'a str,
+        /// The server's file.
+        second: &'a str,
+    },
 }
 
 /// An empty replica in words.
@@ -53,6 +69,17 @@ pub struct InitWords<'a> {
     pub own: &'a str,
     /// The names of all replicas, in their order.
     pub names: Vec<&'a str>,
+}
+
+/// Sessions with peers, in words.
+#[derive(Clone, Copy, Debug)]
+pub struct ServeWords<'a> {
+    /// The file.
+    pub file: &'a str,
+    /// The address that peers connect to.
+    pub addr: &'a str,
+    /// How many sessions.
+    pub sessions: &'a str,
 }
 
 /// An edit in words: paths are keys with '/' between them, values are JSON.

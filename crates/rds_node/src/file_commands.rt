@@ -1,8 +1,9 @@
 //! Commands on the replica in a file.
 ghost use Rattle.std.specs.Prelude.{◌≡◌, ◌⊎◌, Ok, Err, map, IfErr, IfOk, OnErr, MatchResult};
 ghost use Rattle.rds_names.specs.declared.fault.Fault.TheVariants.{Memory};
+ghost use Rattle.rds_names.specs.Path.{path_of};
 ghost use Rattle.rds_node.specs.Edits.{IsEdited, ShowsView, ShowsFile, EditsFile};
-ghost use Rattle.rds_node.specs.FileWords.{roster_in};
+ghost use Rattle.rds_node.specs.FileWords.{IsCommand, roster_in};
 
 #[cfg(test)]
 mod tests;
@@ -51,6 +52,8 @@ pub fn edit_file<H: Files + AllocGlobal>(
     words: &EditWords<'_>,
 ) -> Result<Answer, Fault>
     ensures edited { IfOk result (EditsFile words.now) }
+    ensures words { (fault : Fault) → IsCommand words.now (Err fault)
+        → (result ≡ Err Memory) ⊎ (result ≡ Err fault) }
 {
     let command = command_of(rt.alloc(), words)?;
     let kept: Kept<ListSet> = read_file(rt, file)?;
@@ -64,6 +67,7 @@ pub fn edit_file<H: Files + AllocGlobal>(
 /// `BadPath`, then `BadKey`.
 pub fn show_file<H: Files + AllocGlobal>(rt: &H, file: &str, path: &str) -> Result<Answer, Fault>
     ensures shown { IfOk result (ShowsFile path.now) }
+    ensures path { (fault : Fault) → path_of path.now ≡ Err fault → result ≡ Err fault }
 {
     let alloc = rt.alloc();
     let path = Path::new(alloc, path)?;

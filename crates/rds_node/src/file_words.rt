@@ -87,7 +87,8 @@ fn value_of(alloc: Global, text: &str) -> Result<Scalar, Fault>
     }
 }
 
-fn amount_of(text: &str) -> Result<u64, Fault>
+/// The whole number of 64 bits that a text is; what is none is `Usage`.
+pub fn amount_of(text: &str) -> Result<u64, Fault>
     ensures { IsAmount text.now result }
 {
     match text.parse::<u64>() {

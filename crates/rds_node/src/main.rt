@@ -14,9 +14,16 @@ mod files;
 mod join;
 mod lines;
 mod output;
+mod pairing;
 mod refusal;
+mod reports;
 mod run;
+mod serve_words;
+mod settling;
 mod sim;
+#[cfg(test)]
+mod stored;
+mod syncing;
 #[cfg(test)]
 mod tests;
 

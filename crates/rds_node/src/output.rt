@@ -70,7 +70,8 @@ fn write_usage<W: Write>(writer: &mut Counted<W>, error: &Error) -> Result<(), F
     writer.write_text(error)
 }
 
-fn write_fault_line<W: Write>(writer: &mut Counted<W>, fault: Fault) -> Result<(), Fault>
+/// Writes a fault's line.
+pub fn write_fault_line<W: Write>(writer: &mut Counted<W>, fault: Fault) -> Result<(), Fault>
     ensures bytes { OnOk result (Appends (W.contents writer.old.inner)
         (W.contents writer.new.inner) (fault_line fault)) }
     ensures steady { OnOk result (writer.new.failed ≡ writer.old.failed) }

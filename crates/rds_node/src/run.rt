@@ -12,13 +12,17 @@ use crate::commands::{Task, task_of};
 use crate::file_commands::{edit_file, init_file, show_file};
 use crate::join::join;
 use crate::output::{status_of, write_answer, write_fault, write_unparsed};
+use crate::pairing::pair_files;
 use crate::refusal::Refusal;
+use crate::serve_words::run_serve;
 use crate::sim::Simulation;
+use crate::syncing::sync_file;
 use rds_keep::Counted;
 use rds_names::Fault;
 use std::alloc::Global;
 use std::convert::AsStr;
 use std::io::{Read, Write};
+use std::net::Net;
 use std::rt::Files;
 
 /// The most bytes of an input that `join` reads: two lines of the greatest length with their
@@ -32,7 +36,7 @@ const MOST: usize = 1_073_741_827;
 /// doesn't have are `Usage`: that line, then the library's text, and 2. Help is written and answered
 /// by 0. A reader that fails, or that gives more reads than its bound of turns, is `Device`. Where
 /// the output itself fails the answer is 1.
-pub fn run<H: Files + AllocGlobal, R: Read, W: Write, S: AsStr>(
+pub fn run<H: Files + Net + AllocGlobal, R: Read, W: Write, S: AsStr>(
     rt: &H,
     words: &[S],
     reader: &mut Counted<R>,
@@ -66,6 +70,11 @@ pub fn run<H: Files + AllocGlobal, R: Read, W: Write, S: AsStr>(
         ),
         Ok(Some(Task::Edit { file, edit })) => write_answer(writer, edit_file(rt, file, &edit)),
         Ok(Some(Task::Show { file, path })) => write_answer(writer, show_file(rt, file, path)),
+        Ok(Some(Task::Serve(words))) => {
+            run_serve(rt, words.file, words.addr, words.sessions, writer)
+        }
+        Ok(Some(Task::Sync { file, addr })) => sync_file(rt, file, addr, writer),
+        Ok(Some(Task::Pair { first, second })) => pair_files(rt, first, second, writer),
         Ok(None) => write_fault(writer, Fault::Usage),
         Err(error) => write_unparsed(writer, &error),
     }

@@ -2,6 +2,7 @@ use crate::run::run;
 use rds_keep::Counted;
 use std::io;
 use std::io::{ErrorKind, Read, Write};
+use std::net::Net;
 use std::process::Abort;
 use std::rt::Files;
 use std::test::Fail;
@@ -38,7 +39,7 @@ const COUNTED: &str = "52445331016700030161016201630000000000000000000002016e000
 00000000050000000000000002016e0100000000000000010000000000000000";
 
 // What the words write for the input, and the status.
-fn answers<H: Files + AllocGlobal + Abort>(
+fn answers<H: Files + Net + AllocGlobal + Abort>(
     rt: &H,
     words: &[&str],
     input: &str,
@@ -53,7 +54,7 @@ fn answers<H: Files + AllocGlobal + Abort>(
     assert_eq!(rt; answer, status, "for {input}");
 }
 
-fn joins<H: Files + AllocGlobal + Abort>(rt: &H, input: &str, output: &str, status: u8) {
+fn joins<H: Files + Net + AllocGlobal + Abort>(rt: &H, input: &str, output: &str, status: u8) {
     answers(rt, &["rds_node", "join"], input, output, status);
 }
 
@@ -278,6 +279,37 @@ fn says_that_a_writer_fails(rt: HostRuntime) -> Result<(), Fail> {
             "{word}"
         );
         assert_eq!(rt; writer.failed(), 1, "{word}");
+    }
+    Ok(())
+}
+
+#[test]
+fn tells_how_replicas_meet(rt: HostRuntime) -> Result<(), Fail> {
+    let alloc = rt.alloc();
+    for (word, first, named) in [
+        ("serve", "Serves the replica", "[default: 1]"),
+        ("sync", "Has a session of", "Example: rds_node sync"),
+        ("pair", "Has a session between", "Example: rds_node pair"),
+    ] {
+        let mut written = Vec::new(alloc);
+        let mut reader = Counted::new("".as_bytes());
+        let mut writer = Counted::new(&mut written);
+        let words = ["rds_node", word, "--help"];
+        assert_eq!(rt; run(&rt, &words, &mut reader, &mut writer), 0, "{word}");
+        let text = String::from_utf8(written).map_err(|_| "text")?;
+        assert!(rt; text.as_str().starts_with(first), "{text}");
+        assert!(rt; text.as_str().contains(named), "{text}");
+    }
+    Ok(())
+}
+
+#[test]
+fn reads_how_many_sessions_first(rt: HostRuntime) -> Result<(), Fail> {
+    let usage = "fault 27: Usage\n";
+    let f = "/nowhere/rds_node";
+    for text in ["x", "", "1.0", " 1", "18446744073709551616"] {
+        let words = ["rds_node", "serve", f, "x", "--sessions", text];
+        answers(&rt, &words, "", usage, 2);
     }
     Ok(())
 }

@@ -7,6 +7,7 @@ pub mod Exchange
 pub mod Judging
 pub mod Meeting
 pub mod Messages
+pub mod Received
 pub mod Scanning
 pub mod Sending
 pub mod Session

@@ -5,6 +5,7 @@ ghost use Rattle.rds_names.specs.declared.fault.Fault.TheVariants.{Device};
 ghost use Rattle.rds_session.specs.declared.step.Ended.TheVariants.{Going, Failed};
 ghost use Rattle.rds_session.specs.declared.talk.Side.{Side};
 ghost use Rattle.rds_session.specs.Exchange.{Exchanges, Says, Talks, TalksOn};
+ghost use Rattle.rds_session.specs.Received.{HasChecked};
 ghost use Rattle.rds_session.specs.Session.{Nothing};
 ghost use Rattle.rds_session.specs.Steps.{came, HasStanding, IsNoDevice, IsOver};
 ghost use Rattle.rds_state.specs.Fits.{ReplicaValue};
@@ -40,6 +41,7 @@ fn say<S: DotSet, W: Write>(
 ) -> Result<Ended, Fault>
     ensures ended { IfOk result (λ e. e ≡ session.new.ended) }
     ensures known { OnOk result (IsNoDevice session.old.ended → IsNoDevice session.new.ended) }
+    ensures kept { session.new.kept ≡ session.old.kept }
     ensures says { OnOk result (Says session.old (came input.entry) session.new (W.contents writer.old.inner) (W.contents writer.new.inner)) }
     ensures fault { IfErr result (λ e. (e ≡ Device) × HasFailed writer.old writer.new) }
     ensures steady { OnOk result (writer.new.failed ≡ writer.old.failed) }
@@ -61,6 +63,7 @@ fn turn<S: DotSet, R: Read, W: Write>(
     requires going { session.old.ended ≡ Going }
     ensures ended { IfOk result (λ e. e ≡ session.new.ended) }
     ensures known { OnOk result (IsNoDevice session.old.ended → IsNoDevice session.new.ended) }
+    ensures kept { session.new.kept ≡ session.old.kept }
     ensures talk { OnOk result (TalksOn (R.remaining reader.old.inner) (R.remaining reader.new.inner) session.old session.new (W.contents writer.old.inner) (W.contents writer.new.inner)) }
     ensures fault { IfErr result (λ e. (e ≡ Device) × (HasFailed reader.old reader.new ⊎ HasFailed writer.old writer.new)) }
     ensures steady_reader { OnOk result (reader.new.failed ≡ reader.old.failed) }
@@ -93,6 +96,7 @@ fn talk<S: DotSet, R: Read, W: Write>(
 ) -> Result<Ended, Fault>
     ensures ended { IfOk result (λ e. (e ≡ session.new.ended) × IsOver e) }
     ensures known { OnOk result (IsNoDevice session.old.ended → IsNoDevice session.new.ended) }
+    ensures kept { session.new.kept ≡ session.old.kept }
     ensures talk { OnOk result ((side : Side) (kept : ReplicaValue) → HasStanding side kept Nothing session.old
         → Talks side kept (R.remaining reader.old.inner) (R.remaining reader.new.inner) session.new (W.contents writer.old.inner) (W.contents writer.new.inner)) }
     ensures fault { IfErr result (λ e. (e ≡ Device) × (HasFailed reader.old reader.new ⊎ HasFailed writer.old writer.new)) }
@@ -123,6 +127,7 @@ pub fn exchange<S: DotSet, R: Read, W: Write>(
     writer: &mut Counted<W>,
 ) -> Exchanged<S>
     ensures over { IsOver result.ended }
+    ensures checked { HasChecked kept.now result.received }
     ensures device { result.ended ≡ Failed Device → HasFailed reader.old reader.new ⊎ HasFailed writer.old writer.new }
     ensures exchange { reader.new.failed ≡ 0 → writer.new.failed ≡ 0 → IfSome (R.remaining reader.old.inner) (λ input.
         Exchanges side kept.now input (W.contents writer.old.inner) (W.contents writer.new.inner) result.received result.ended) }

@@ -7,6 +7,12 @@ ghost use Rattle.rds_delta.specs.Digested.{digest_of};
 ghost use Rattle.rds_names.specs.declared.fault.Fault.TheVariants.{Memory};
 ghost use Rattle.rds_session.specs.Judging.{IsKnown, Judges, awaited, bye_came, hello_came, digest_came, delta_came, body_came, accepted, type_of, other_version, same_names};
 ghost use Rattle.rds_session.specs.Checked.{passes};
+ghost use Rattle.rds_session.specs.Received.{BringsChecked};
+ghost use Rattle.rds_codec.specs.AnswerTexts.{IsAnswerOf};
+ghost use Rattle.rds_delta.specs.Claims.{IsCertificate};
+ghost use Rattle.rds_delta.specs.Least.{IsAbove};
+ghost use Rattle.rds_delta.specs.Ranks.{ranks};
+ghost use Rattle.rds_state.specs.Value.{coordinates};
 ghost use Rattle.std.specs.Str.{bytes_eq};
 ghost use Rattle.rds_session.specs.Messages.{fault_of_code};
 ghost use Rattle.rds_session.specs.declared.talk.Stop.TheVariants.{Left, Refused};
@@ -81,6 +87,7 @@ fn read_answer<S: DotSet>(alloc: Global, replicas: u16, body: &[u8]) -> Result<A
     requires { length body.now ≤ LIMIT }
     ensures known { IfErr result (λ fault. IsKnown (Refused fault)) }
     ensures read { Gives (λ answer. answer) result (answer_in replicas body.now) }
+    ensures value { IfOk result (IsAnswerOf replicas) }
 {
     decode_answer(alloc, replicas, body)
 }
@@ -136,6 +143,8 @@ fn passes<S: DotSet>(
     certificate: &Certificate,
 ) -> Result<bool, Fault>
     ensures ok { IfOk result (λ holds. holds ≡ passes (digest_of kept.now.state) delta.now certificate.now) }
+    ensures above { IfOk result (λ holds. holds ≡ true → IsAbove (coordinates delta.now) (ranks (coordinates kept.now.state))) }
+    ensures certified { IfOk result (λ holds. holds ≡ true → IsCertificate (ranks (coordinates kept.now.state)) delta.now certificate.now) }
     ensures err { IfErr result (λ fault. fault ≡ Memory) }
 {
     let digest = Digest::of(alloc, kept.state())?;
@@ -146,6 +155,7 @@ fn judge_delta<S: DotSet>(alloc: Global, kept: &Replica<S>, body: &[u8]) -> Resu
     requires { length body.now ≤ LIMIT }
     ensures known { IfErr result IsKnown }
     ensures judges { Judges result (delta_came kept.now body.now) }
+    ensures checked { IfOk result (BringsChecked kept.now) }
 {
     let answer = read_answer(alloc, kept.roster().len(), body)?;
     if answer.asker != kept.own() {
@@ -166,6 +176,7 @@ fn judge_body<S: DotSet>(
     requires { length body.now ≤ LIMIT }
     ensures known { IfErr result IsKnown }
     ensures judges { Judges result (body_came kept.now (awaited turn.now) body.now) }
+    ensures checked { IfOk result (BringsChecked kept.now) }
 {
     match turn {
         Turn::Hello => judge_hello(alloc, kept, body),
@@ -197,6 +208,7 @@ pub fn accept<S: DotSet>(
     requires { length message.now ≤ LIMIT }
     ensures known { IfErr result IsKnown }
     ensures judges { Judges result (accepted kept.now (awaited turn.now) message.now) }
+    ensures checked { IfOk result (BringsChecked kept.now) }
 {
     match message {
         [] => Err(Stop::Refused(Fault::Cut)),

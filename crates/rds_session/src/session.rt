@@ -33,6 +33,7 @@ impl<'a, S: DotSet> Model for Session<'a, S> {
     ghost use Rattle.rds_session.specs.Chunks.{under_of};
     ghost use Rattle.rds_session.specs.Code.{coded_standing};
     ghost use Rattle.rds_session.specs.Judging.{awaited};
+    ghost use Rattle.rds_session.specs.Received.{HasChecked};
     ghost use Rattle.rds_session.specs.Session.{Standing};
 
     ghost Value = { Standing };
@@ -48,6 +49,8 @@ impl<'a, S: DotSet> Model for Session<'a, S> {
       ended = s.ended;
       under = under_of s.under;
     } };
+
+    ghost invariant = { λ s. HasChecked s.kept.now s.received };
 }
 
 impl<'a, S: DotSet> Session<'a, S> {
@@ -56,6 +59,7 @@ impl<'a, S: DotSet> Session<'a, S> {
     ghost use Rattle.rds_session.specs.declared.talk.Side.{Side};
     ghost use Rattle.rds_session.specs.Chunks.{scan};
     ghost use Rattle.rds_session.specs.Judging.{IsKnown, said};
+    ghost use Rattle.rds_session.specs.Received.{BringsChecked, HasChecked};
     ghost use Rattle.rds_session.specs.declared.talk.Stop.TheVariants.{Refused};
     ghost use Rattle.rds_session.specs.Session.{failed, performed, refuses, answered, message_comes, opened, cut_off, Heard, Nothing};
     ghost use Rattle.rds_session.specs.Steps.{came, Continues, Does, HasScanned, HasStanding, IsLastWord, IsNoDevice, IsOver, Ran, Runs, Steps, Works};
@@ -79,14 +83,16 @@ impl<'a, S: DotSet> Session<'a, S> {
 
     /// The delta that was received.
     pub fn received(&self) -> Option<&State<S>>
-        ensures { option_copied result ≡ self.now.received }
+        ensures received { option_copied result ≡ self.now.received }
+        ensures checked { HasChecked self.now.kept self.now.received }
     {
         self.received.as_ref()
     }
 
     /// The delta that was received, taken out of the session. Takes no memory.
     pub fn into_received(mut self) -> Option<State<S>>
-        ensures { result ≡ self.entry.received }
+        ensures received { result ≡ self.entry.received }
+        ensures checked { HasChecked self.entry.kept result }
     {
         self.received.take()
     }
@@ -102,6 +108,7 @@ impl<'a, S: DotSet> Session<'a, S> {
         ensures ended { result.ended ≡ self.new.ended }
         ensures over { IsOver self.old.ended → (self.new ≡ self.old) × (result.send.items ≡ []) }
         ensures device { IsNoDevice self.old.ended → IsNoDevice self.new.ended }
+        ensures kept { self.new.kept ≡ self.old.kept }
     {
         match self.ended {
             Ended::Going => {
@@ -122,6 +129,7 @@ impl<'a, S: DotSet> Session<'a, S> {
         requires { self.old.ended ≡ Going }
         ensures steps { Steps self.old (came input.entry) self.new result.items }
         ensures known { IsNoDevice self.new.ended }
+        ensures kept { self.new.kept ≡ self.old.kept }
     {
         let mut send = Vec::new(alloc);
         match self.work(alloc, input, &mut send) {
@@ -146,6 +154,7 @@ impl<'a, S: DotSet> Session<'a, S> {
     fn work(&mut self, alloc: Global, input: Input<'_>, send: &mut Vec<u8>) -> Result<(), Fault>
         ensures works { Works self.old send.old.items (came input.entry) self.new send.new.items result }
         ensures known { OnOk result (IsNoDevice self.old.ended → IsNoDevice self.new.ended) }
+        ensures kept { self.new.kept ≡ self.old.kept }
     {
         self.open(alloc, send)?;
         match input {
@@ -161,6 +170,7 @@ impl<'a, S: DotSet> Session<'a, S> {
     fn open(&mut self, alloc: Global, send: &mut Vec<u8>) -> Result<(), Fault>
         ensures does { Does self.old send.old.items self.new send.new.items result opened }
         ensures known { OnOk result (IsNoDevice self.old.ended → IsNoDevice self.new.ended) }
+        ensures kept { self.new.kept ≡ self.old.kept }
     {
         if self.begun {
             return Ok(());
@@ -184,6 +194,7 @@ impl<'a, S: DotSet> Session<'a, S> {
     fn run(&mut self, alloc: Global, piece: &[u8], send: &mut Vec<u8>) -> Result<(), Fault>
         ensures runs { Runs self.old send.old.items piece.now self.new send.new.items result }
         ensures known { OnOk result (IsNoDevice self.old.ended → IsNoDevice self.new.ended) }
+        ensures kept { self.new.kept ≡ self.old.kept }
     {
         let mut rest = piece;
         while !rest.is_empty() {
@@ -202,6 +213,7 @@ impl<'a, S: DotSet> Session<'a, S> {
         requires { 0 < length piece.now }
         ensures ran { IfOk result (λ rest. Ran self.old send.old.items piece.now self.new send.new.items rest.now) }
         ensures less { IfOk result (λ rest. length rest.now < length piece.now) }
+        ensures kept { self.new.kept ≡ self.old.kept }
         ensures known { OnOk result (IsNoDevice self.old.ended → IsNoDevice self.new.ended) }
         ensures err { IfErr result (λ e. (e ≡ Memory) × (self.new.received ≡ self.old.received)) }
     {
@@ -226,6 +238,7 @@ impl<'a, S: DotSet> Session<'a, S> {
     fn scan<'p>(&mut self, alloc: Global, piece: &'p [u8]) -> Result<Scanned<'p>, Fault>
         ensures ok { IfOk result (HasScanned (scan piece.now self.old.under) self.old self.new) }
         ensures ended { OnOk result (self.new.ended ≡ self.old.ended) }
+        ensures kept { self.new.kept ≡ self.old.kept }
         ensures err { IfErr result (λ e. (e ≡ Memory) × (self.new.received ≡ self.old.received)) }
     {
         let mut chunks = chunks_of(alloc, self.under.take());
@@ -244,6 +257,7 @@ impl<'a, S: DotSet> Session<'a, S> {
         requires { length message.now ≤ MESSAGE_LIMIT }
         ensures does { Does self.old send.old.items self.new send.new.items result (λ s. message_comes s message.now) }
         ensures known { OnOk result (IsNoDevice self.old.ended → IsNoDevice self.new.ended) }
+        ensures kept { self.new.kept ≡ self.old.kept }
     {
         match accept(alloc, self.kept.view_of(), &self.turn, message) {
             Ok(act) => self.answer(alloc, act, send),
@@ -261,8 +275,10 @@ impl<'a, S: DotSet> Session<'a, S> {
     // Answers an accepted message, and does what it says.
     #[tactic(auto, using(crate::proofs::Moves::all_sent, crate::proofs::Moves::some_sent))]
     fn answer(&mut self, alloc: Global, act: Act<S>, send: &mut Vec<u8>) -> Result<(), Fault>
+        requires { BringsChecked self.old.kept act }
         ensures does { Does self.old send.old.items self.new send.new.items result (λ s. answered s (Ok (said act))) }
         ensures known { OnOk result (IsNoDevice self.old.ended → IsNoDevice self.new.ended) }
+        ensures kept { self.new.kept ≡ self.old.kept }
     {
         let all = send_replies(
             alloc,
@@ -283,6 +299,7 @@ impl<'a, S: DotSet> Session<'a, S> {
     }
 
     fn perform(&mut self, act: Act<S>)
+        requires { BringsChecked self.old.kept act }
         ensures performed { self.new ≡ performed self.old (said act) }
         ensures known { IsNoDevice self.old.ended → IsNoDevice self.new.ended }
     {
@@ -301,6 +318,7 @@ impl<'a, S: DotSet> Session<'a, S> {
     fn refuse(&mut self, fault: Fault, send: &mut Vec<u8>) -> Result<(), Fault>
         ensures does { Does self.old send.old.items self.new send.new.items result (λ s. refuses s fault) }
         ensures known { OnOk result (IsKnown (Refused fault) → IsNoDevice self.new.ended) }
+        ensures kept { self.new.kept ≡ self.old.kept }
     {
         send_bye(send, code_of(fault))?;
         self.fail(fault);

@@ -11,16 +11,16 @@ use Rattle.rds_names.specs.declared.entry.Kind.TheVariants.{Reg, Elem}
 use Rattle.rds_life.specs.Life.{live_rows}
 use Rattle.rds_counts.specs.CountedLemmas.{and_true, and_left, and_right}
 use Rattle.rds_counts.specs.Value.{value_of}
-use Rattle.rds_state.specs.Value.{StateValue}
+use Rattle.rds_state.specs.Document.{IsCounted, value_in}
+use Rattle.rds_state.specs.Value.{StateValue, coordinates}
 use Rattle.rds_tree.specs.Document.{Placed, entries_in, keys_once, counted_keys, sums_of, document}
-use Rattle.rds_tree.specs.SameDocument.{IsCounted}
 use Rattle.rds_tree.specs.ScalarOrder.{scalars_total, scalars_exact}
 use Rattle.rds_tree.specs.Shows.{IsLiveAt, has_value, regs_in, same_scalar, sets_in, sum_at}
 use Rattle.rds_tree.specs.View.{below, below_path, children, entries_view, first_key, keys_in, same_key, value_here, values_by_key, values_here, view_of, with_key}
 use Rattle.rds_tree.proofs.Kids.{itself}
 use Rattle.rds_tree.proofs.Members.{any-once, any_wider, some_passes}
 use Rattle.rds_tree.proofs.Reached.{any-below, any-below_path, here_is, here_itself, is_here, is_reached, keys_exact, placed_at, reached, reaches}
-use Rattle.rds_tree.proofs.SameDocument.{any-map, at_key, counted_passes, shown_passes, some_counts, some_shows}
+use Rattle.rds_tree.proofs.SameDocument.{any-map, at_key, counted_passes, shown_passes, some_counts, some_shows, value_is}
 use Rattle.rds_tree.proofs.SameView.{any-filter_map, passes}
 use Rattle.rds_tree.proofs.Witness.{both_ways}
 
@@ -124,35 +124,35 @@ sum_at-of f key (k ∷ ks) = elim (same_key key k) as (λ b. same_key key k ≡ 
 same_sum : (a b : ℤ) → Some a ≡ Some b → b ≡ a
 same_sum a b h = cc
 
-is_counted : (v : StateValue) (key : List ℕ) → (list_any (same_key key) (counted_keys v.counts) ≡ true) ↔ IsCounted v key
+is_counted : (v : StateValue) (key : List ℕ) → (list_any (same_key key) (counted_keys v.counts) ≡ true) ↔ IsCounted (coordinates v) key
 is_counted v key = (to, from)
   where
     keys : list_any (same_key key) (counted_keys v.counts) ≡ list_any (at_key (same_key key)) (map_of.entries v.counts)
     keys = any_key-once (same_key key) (map (λ e. e.0.key) (map_of.entries v.counts)) ∙ any-map (same_key key) (λ e. e.0.key) (map_of.entries v.counts)
 
-    moved : (k : List ℕ) → same_key key k ≡ true → IsCounted v k → IsCounted v key
+    moved : (k : List ℕ) → same_key key k ≡ true → IsCounted (coordinates v) k → IsCounted (coordinates v) key
     moved k same is = coerce_key (sym (keys_exact key k same)) is
       where
-        coerce_key : {a b : List ℕ} → a ≡ b → IsCounted v a → IsCounted v b
-        coerce_key e is = subst (IsCounted v) e is
+        coerce_key : {a b : List ℕ} → a ≡ b → IsCounted (coordinates v) a → IsCounted (coordinates v) b
+        coerce_key e is = subst (IsCounted (coordinates v)) e is
 
-    to : list_any (same_key key) (counted_keys v.counts) ≡ true → IsCounted v key
+    to : list_any (same_key key) (counted_keys v.counts) ≡ true → IsCounted (coordinates v) key
     to h = let s = some_counts (same_key key) v (sym keys ∙ h) in moved s.0 s.1.1 s.1.0
 
-    from : IsCounted v key → list_any (same_key key) (counted_keys v.counts) ≡ true
+    from : IsCounted (coordinates v) key → list_any (same_key key) (counted_keys v.counts) ≡ true
     from is = keys ∙ counted_passes (same_key key) v (key, (is, itself key))
 
-pub sums_shown : (v : StateValue) (key : List ℕ) (sum : ℤ) → (sum_at (sums_of v.counts) key ≡ Some sum) ↔ (IsCounted v key × (sum ≡ value_of v.counts key))
+pub sums_shown : (v : StateValue) (key : List ℕ) (sum : ℤ) → (sum_at (sums_of v.counts) key ≡ Some sum) ↔ (IsCounted (coordinates v) key × (sum ≡ value_in (coordinates v) key))
 sums_shown v key sum = (to, from)
   where
     is : sum_at (sums_of v.counts) key ≡ cond (list_any (same_key key) (counted_keys v.counts)) (Some (value_of v.counts key)) None
     is = sum_at-of (value_of v.counts) key (counted_keys v.counts)
 
-    to : sum_at (sums_of v.counts) key ≡ Some sum → IsCounted v key × (sum ≡ value_of v.counts key)
-    to h = elim (list_any (same_key key) (counted_keys v.counts)) as (λ b. list_any (same_key key) (counted_keys v.counts) ≡ b → cond b (Some (value_of v.counts key)) None ≡ Some sum → IsCounted v key × (sum ≡ value_of v.counts key)) [
-      | true ↦ λ has g. ((is_counted v key).0 has, same_sum _ _ g)
+    to : sum_at (sums_of v.counts) key ≡ Some sum → IsCounted (coordinates v) key × (sum ≡ value_in (coordinates v) key)
+    to h = elim (list_any (same_key key) (counted_keys v.counts)) as (λ b. list_any (same_key key) (counted_keys v.counts) ≡ b → cond b (Some (value_of v.counts key)) None ≡ Some sum → IsCounted (coordinates v) key × (sum ≡ value_in (coordinates v) key)) [
+      | true ↦ λ has g. ((is_counted v key).0 has, same_sum _ _ g ∙ sym (value_is v key))
       | false ↦ λ _ g. absurd (cc)
     ] refl (sym is ∙ h)
 
-    from : IsCounted v key × (sum ≡ value_of v.counts key) → sum_at (sums_of v.counts) key ≡ Some sum
-    from p = is ∙ ap (λ b. cond b (Some (value_of v.counts key)) None) ((is_counted v key).1 p.0) ∙ ap Some (sym p.1)
+    from : IsCounted (coordinates v) key × (sum ≡ value_in (coordinates v) key) → sum_at (sums_of v.counts) key ≡ Some sum
+    from p = is ∙ ap (λ b. cond b (Some (value_of v.counts key)) None) ((is_counted v key).1 p.0) ∙ ap Some (sym (value_is v key) ∙ sym p.1)

@@ -7,10 +7,9 @@ use Rattle.rds_names.specs.declared.scalar.Scalar.{Scalar}
 use Rattle.rds_names.specs.declared.entry.Entry.{Entry}
 use Rattle.rds_names.specs.declared.entry.Kind.{Kind}
 use Rattle.rds_names.specs.Entry.{HasParts}
-use Rattle.rds_counts.specs.Value.{value_of}
-use Rattle.rds_state.specs.Value.{StateValue}
+use Rattle.rds_state.specs.Document.{IsCounted, IsShown, value_in}
+use Rattle.rds_state.specs.Value.{StateValue, coordinates}
 use Rattle.rds_tree.specs.Document.{key_cmp}
-use Rattle.rds_tree.specs.SameDocument.{IsCounted, IsLive}
 use Rattle.rds_tree.specs.ScalarOrder.{scalar_cmp}
 use Rattle.rds_tree.specs.Shown.{Shown, shows, ShownMaps, no_maps, a_map}
 use Rattle.rds_tree.specs.View.{same_key}
@@ -67,13 +66,13 @@ pub record IsInOrder (shown : Shown) : Type 0 where
 
 -- the value is live at the path, as a register's value or as a set's element
 abbrev pub IsLiveAt : StateValue → List (List ℕ) → Kind → Scalar → Type 0
-IsLiveAt v path kind value = (e : Entry) × (IsLive v e × HasParts path kind value e)
+IsLiveAt v path kind value = (e : Entry) × (IsShown (coordinates v) e × HasParts path kind value e)
 
 -- something is live further below the path
 abbrev pub IsLiveBelow : StateValue → List (List ℕ) → Type 0
-IsLiveBelow v path = (e : Entry) × (IsLive v e × ((key : List ℕ) × ((rest : List (List ℕ)) × (e.path ≡ path ++ key ∷ rest))))
+IsLiveBelow v path = (e : Entry) × (IsShown (coordinates v) e × ((key : List ℕ) × ((rest : List (List ℕ)) × (e.path ≡ path ++ key ∷ rest))))
 
 -- the keys of which some number is above 0, each with its sum
 abbrev pub HasSums : StateValue → Option (List (List ℕ × ℤ)) → Type 0
 HasSums v None = ⊥
-HasSums v (Some rows) = (key : List ℕ) (sum : ℤ) → (sum_at rows key ≡ Some sum) ↔ (IsCounted v key × (sum ≡ value_of v.counts key))
+HasSums v (Some rows) = (key : List ℕ) (sum : ℤ) → (sum_at rows key ≡ Some sum) ↔ (IsCounted (coordinates v) key × (sum ≡ value_in (coordinates v) key))

@@ -4,7 +4,8 @@ ghost use Rattle.rds_names.specs.declared.entry.Kind.TheVariants.{Reg, Elem};
 ghost use Rattle.rds_names.specs.declared.scalar.Scalar.{Scalar};
 ghost use Rattle.rds_state.specs.Value.{StateValue};
 ghost use Rattle.rds_tree.specs.Document.{document};
-ghost use Rattle.rds_tree.specs.SameDocument.{AreSameDocument, IsCounted};
+ghost use Rattle.rds_tree.specs.SameDocument.{AreSameDocument};
+ghost use Rattle.rds_tree.specs.ScalarOrder.{IsScalarOrder, scalar_cmp};
 ghost use Rattle.rds_tree.specs.Shown.{Shown};
 ghost use Rattle.rds_tree.specs.Shows.{counters_in, has_value, HasSums, IsInOrder, IsLiveAt, IsLiveBelow, map_at, maps_in, regs_in, sets_in};
 ghost use Rattle.rds_tree.specs.View.{view_of};
@@ -12,7 +13,8 @@ ghost use Rattle.rds_tree.specs.View.{view_of};
 /// A view has a value of a register or of a set under a key exactly where one is live at the path that goes on by this
 /// key alone. It has a map under a key exactly where something is live further below, and that map is the view there.
 /// At the root alone it has counters: those of which some number is above 0, each with its sum. Keys and values ascend,
-/// each once, and there is no key without values. The function does nothing: its contract is these laws.
+/// each once, and there is no key without values; keys are ordered by their bytes, and values so: null, false, true,
+/// integers by size, texts by their bytes. The function does nothing: its contract is these laws.
 pub fn views_show_what_is_live()
     ensures regs { (v : StateValue) (path : List (List ℕ)) (key : List ℕ) (value : Scalar) → (has_value (regs_in (view_of (document v) path)) key value ≡ true) ↔ IsLiveAt v (path ++ key ∷ []) Reg value }
     ensures sets { (v : StateValue) (path : List (List ℕ)) (key : List ℕ) (value : Scalar) → (has_value (sets_in (view_of (document v) path)) key value ≡ true) ↔ IsLiveAt v (path ++ key ∷ []) Elem value }
@@ -20,6 +22,7 @@ pub fn views_show_what_is_live()
     ensures root { (v : StateValue) → HasSums v (counters_in (view_of (document v) [])) }
     ensures below_root { (v : StateValue) (key : List ℕ) (path : List (List ℕ)) → counters_in (view_of (document v) (key ∷ path)) ≡ None }
     ensures order { (v : StateValue) (path : List (List ℕ)) → IsInOrder (view_of (document v) path) }
+    ensures scalars { IsScalarOrder scalar_cmp }
 {}
 
 /// States in which the same entries are live and the same keys are counted, with the same sums, show the same at every

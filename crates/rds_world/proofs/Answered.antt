@@ -87,7 +87,7 @@ module _ (v : WorldValue) (i : IsWorld v) (r k : ℕ) (m : ReplicaValue) (a : As
   ask_of : (w : World) → Stands v w → HasPartner (HoldsAsk n) w.asks k a
   ask_of w s = partner (HoldsAsk n) w.asks v.asks k a s.asks asked
 
-  due : (w : World) → Stands v w → refused w (Answer r k) ≡ None
+  pub due : (w : World) → Stands v w → refused w (Answer r k) ≡ None
   due w s =
       is_there r w.replicas (unless_there (is_some (slice_get w.asks k)) None) (subst (λ j. r < j) (sym s.replicas) lt)
       ∙ present_at w.asks k (ask_of w s).it (ask_of w s).there
@@ -103,12 +103,12 @@ module _ (v : WorldValue) (i : IsWorld v) (r k : ℕ) (m : ReplicaValue) (a : As
       h ∙ sym ((λ j. least (kept j) (ranks (is j).state)) ∙ ap (λ b. least (coordinates m.state) b) (sym e))
 
   pub answer_stopped : (f : Fault) → HasNoReply (length m.roster.names) a.bytes a.asker m.state f → IsStopped v (Answer r k) f v
-  answer_stopped f (Lacks is) = no_memory v (Answer r k) f is
+  answer_stopped f (Lacks is) = no_memory v (Answer r k) f is due (λ x. x)
   answer_stopped f (Unread read) = stopped v (Answer r k) f (λ w s.
       let q = ask_of w s in
       let why = unread_ask n q.it a q.related f (subst (λ j. Decodes (digest_kind j) a.bytes (Err f)) same_roster read) in
       elim why [
-        | inl is ↦ subst (Refuses v w (Answer r k)) (sym is) NoMemory
+        | inl is ↦ subst (Refuses v w (Answer r k)) (sym is) (NoMemory (due w s) (λ x. x))
         | inr large ↦ subst (Refuses v w (Answer r k)) (sym large.0) (Large (due w s) (record { ask = a; there = asked; large = large.1 }))
       ])
   answer_stopped f (TooBig g read is long) = stopped v (Answer r k) f (λ w s.

@@ -24,7 +24,7 @@ use Rattle.rds_world.specs.declared.event.Done.TheVariants.{Edited, Plain, Asked
 use Rattle.rds_world.specs.World.{World, edited, refused, unless_there}
 use Rattle.rds_world.specs.Stored.{AskText, AnswerText, WorldValue}
 use Rattle.rds_world.specs.Stands.{state_of, HoldsAsk, Stands, HasModel, Matched, IsWorld}
-use Rattle.rds_world.specs.Events.{Refuses, NoMemory, Due, Long}
+use Rattle.rds_world.specs.Events.{Refuses, NoMemory, Due, Long, SavesTooLong, IsLongSnapshot}
 use Rattle.rds_world.specs.Steps.{IsStep, IsStopped}
 use Rattle.rds_world.proofs.Edits.{edit_is}
 use Rattle.rds_world.proofs.Standing.{places_set, stands_memory, stands_kept, stands_asked, model_after}
@@ -60,8 +60,13 @@ not_there r n due h = ap (λ b. unless_there b due) (le-ltb r n h)
 pub stopped : (v : WorldValue) (e : Event) (f : Fault) → ((w : World) → Stands v w → Refuses v w e f) → IsStopped v e f v
 stopped v e f h = record { refused = h; same = refl }
 
-pub no_memory : (v : WorldValue) (e : Event) (f : Fault) → f ≡ Memory → IsStopped v e f v
-no_memory v e f is = subst (λ x. IsStopped v e x v) (sym is) (stopped v e Memory (λ w s. NoMemory))
+-- want of memory, where nothing is in the way that is found without memory
+pub no_memory : (v : WorldValue) (e : Event) (f : Fault) → f ≡ Memory → ((w : World) → Stands v w → refused w e ≡ None) → (SavesTooLong v e → ⊥) → IsStopped v e f v
+no_memory v e f is due short = subst (λ x. IsStopped v e x v) (sym is) (stopped v e Memory (λ w s. NoMemory (due w s) short))
+
+-- a replica of the world is one of the model's
+pub of_roster : (v : WorldValue) (r : ℕ) → r < length v.memory → (w : World) → Stands v w → unless_there (nat_lt r w.replicas) None ≡ None
+of_roster v r lt w s = is_there r w.replicas None (subst (λ n. r < n) (sym s.replicas) lt)
 
 pub edit_absent : (v : WorldValue) (r : ℕ) (c : Command) → length v.memory ≤ r → IsStopped v (Edit r c) NoSuch v
 edit_absent v r c h = stopped v (Edit r c) NoSuch (λ w s. Due NoSuch (not_there r w.replicas (refusal (w.memory r) r c) (subst (λ n. n ≤ r) (sym s.replicas) h)))
@@ -110,8 +115,14 @@ module _ (v : WorldValue) (i : IsWorld v) (r : ℕ) (m : ReplicaValue) (lt : r <
         is_there r w.replicas (refusal (w.memory r) r c) (below w s) ∙ (λ j. refusal (same j) (own j) c)
 
     edit_stopped_by : (f : Fault) → IsDue (refusal (coordinates m.state) m.own c) f → (w : World) → Stands v w → Refuses v w (Edit r c) f
-    edit_stopped_by Memory h w s = NoMemory
+    edit_stopped_by Memory h w s = NoMemory (edit_due w s ∙ h) (λ x. x)
     edit_stopped_by f h w s = Due f (edit_due w s ∙ h)
+
+    pub edit_judged : (f : Fault) → refusal (coordinates m.state) m.own c ≡ Some f → IsStopped v (Edit r c) f v
+    edit_judged f h = stopped v (Edit r c) f (λ w s. Due f (edit_due w s ∙ h))
+
+    pub edit_unmade : refusal (coordinates m.state) m.own c ≡ None → IsStopped v (Edit r c) Memory v
+    edit_unmade h = no_memory v (Edit r c) Memory refl (λ w s. edit_due w s ∙ h) (λ x. x)
 
     pub edit_stopped : (x : ReplicaValue) (f : Fault) → x ≡ m → IsDue (refusal (coordinates m.state) m.own c) f → IsStopped v (Edit r c) f (record v { memory = set v.memory r x })
     edit_stopped x f is h =
@@ -139,9 +150,16 @@ module _ (v : WorldValue) (i : IsWorld v) (r : ℕ) (m : ReplicaValue) (lt : r <
 
   -- ---- saves
 
-  pub save_stopped : (f : Fault) → (f ≡ Memory) ⊎ ((f ≡ TooLong) × (LIMIT < length (snapshot_text m))) → IsStopped v (Save r) f v
+  short_snapshot : length (snapshot_text m) ≤ LIMIT → IsLongSnapshot v r → ⊥
+  short_snapshot short h =
+      let same = read_at v.memory r h.replica m h.there there in
+      let long = h.long in
+      let long' : LIMIT < length (snapshot_text m) = subst (λ (z : ReplicaValue). LIMIT < length (snapshot_text z)) (sym same) long in
+      omega (arith, short, long')
+
+  pub save_stopped : (f : Fault) → ((f ≡ Memory) × (length (snapshot_text m) ≤ LIMIT)) ⊎ ((f ≡ TooLong) × (LIMIT < length (snapshot_text m))) → IsStopped v (Save r) f v
   save_stopped f h = elim h [
-    | inl is ↦ no_memory v (Save r) f is
+    | inl is ↦ no_memory v (Save r) f is.0 (of_roster v r lt) (short_snapshot is.1)
     | inr l ↦ subst (λ x. IsStopped v (Save r) x v) (sym l.0) (stopped v (Save r) TooLong (λ w s. Long (is_there r w.replicas None (below w s)) (λ x. x) (record { replica = m; there = there; long = l.1 })))
   ]
 
@@ -166,7 +184,7 @@ module _ (v : WorldValue) (i : IsWorld v) (r : ℕ) (m : ReplicaValue) (lt : r <
           accepted = λ w s. record {
             due = accepted w s;
             few = λ h. h;
-            short = λ h. (let same = read_at v.memory r h.replica m h.there there in let long = h.long in let long' : LIMIT < length (snapshot_text m) = subst (λ (z : ReplicaValue). LIMIT < length (snapshot_text z)) (sym same) long in omega (arith, short, long'));
+            short = short_snapshot short;
           };
           stands = stands;
           done = λ w s. tt;
@@ -204,7 +222,7 @@ module _ (v : WorldValue) (i : IsWorld v) (r : ℕ) (m : ReplicaValue) (lt : r <
 
   pub ask_stopped : (f : Fault) → (f ≡ Memory) ⊎ ((f ≡ TooLong) × (LIMIT < length (digest_text (digest_of m.state)))) → IsStopped v (Ask r) f v
   ask_stopped f h = elim h [
-    | inl is ↦ no_memory v (Ask r) f is
+    | inl is ↦ no_memory v (Ask r) f is (of_roster v r lt) (λ x. x)
     | inr l ↦ subst (λ x. IsStopped v (Ask r) x v) (sym l.0) (stopped v (Ask r) TooLong (λ w s. Long (is_there r w.replicas None (kept_below w s)) (λ x. x) (record { replica = m; there = there; long = l.1 })))
   ]
 

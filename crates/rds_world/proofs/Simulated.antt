@@ -10,7 +10,7 @@ use Rattle.rds_world.specs.declared.event.Event.{Event}
 use Rattle.rds_world.specs.World.{World, after, run, start, Accepted}
 use Rattle.rds_world.specs.Coherent.{Store, Memory, Kept, state_in, IsCoherent}
 use Rattle.rds_world.specs.Events.{IsAccepted, Refuses}
-use Rattle.rds_world.specs.Law.{IsCoherentAfter, EachIsTheJoin, EachDotIsExplained, EachShowsItsUpdates, SameUpdatesSameState, EachAnswerBringsWhatWasKept, world_after, held_after, bases_after, effects_after, held_in}
+use Rattle.rds_world.specs.Law.{IsCoherentAfter, AreFriendsAfter, EachIsTheJoin, EachDotIsExplained, EachShowsItsUpdates, SameUpdatesSameState, EachAnswerBringsWhatWasKept, world_after, held_after, bases_after, effects_after, held_in}
 use Rattle.rds_world.specs.Simulation.{Reaches, StopsAt, Stops, Throughout, replicas_in, ReplicasAreJoins, ReplicasShowTheirUpdates, SameUpdatesSameReplicas}
 use Rattle.rds_world.specs.Stands.{state_of, Stands}
 use Rattle.rds_world.specs.Stored.{WorldValue}
@@ -18,6 +18,7 @@ use Rattle.rds_world.specs.Updates.{IsJoinOf, ShowsUpdates}
 use Rattle.rds_world.proofs.Answering.{each_answer_brings}
 use Rattle.rds_world.proofs.Coherent.{coherent_start, run_coherent}
 use Rattle.rds_world.proofs.Counters.{store_shows, run_replicas}
+use Rattle.rds_world.proofs.Friends.{friends}
 use Rattle.rds_world.proofs.Facts.{store_join, explained, same_states}
 use Rattle.rds_world.proofs.Runs.{run_on, accepted_on}
 use Rattle.rds_world.proofs.Steps.{lawful}
@@ -67,6 +68,9 @@ shows n es a le = store_shows (held_after es).update (bases_after n es) (held_af
 
 pub coherent_throughout : (n : ℕ) (es : List Event) → Throughout n es IsCoherentAfter
 coherent_throughout n es before later is a = run_coherent before (start n) (coherent_start n) a
+
+pub friends_throughout : (n : ℕ) (es : List Event) → Throughout n es AreFriendsAfter
+friends_throughout n es before later is a = friends (world_after n before) (run_coherent before (start n) (coherent_start n) a)
 
 pub joins_throughout : (n : ℕ) (es : List Event) → Throughout n es EachIsTheJoin
 joins_throughout n es before later is a = joins n before a

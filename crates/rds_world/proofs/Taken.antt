@@ -131,17 +131,17 @@ module _ (v : WorldValue) (i : IsWorld v) (k : ℕ) (t : AnswerText) (a : AskTex
       let same : read.ask ≡ a = read_at v.asks t.question a read.ask ask_there (subst (λ j. slice_get v.asks j ≡ Some read.ask) (sym y.related.question) read.there) in
       let is_text = subst (λ (z : AskText). Rattle.rds_codec.specs.Decoding.IsTextOf (digest_kind n) z.bytes read.digest) same read.is_text in
       let is : f ≡ Memory = read_again n a.bytes read.digest f is_text (ask_of w s).related.within (subst (λ j. Decodes (digest_kind j) a.bytes (Err f)) same_roster d) in
-      subst (Refuses v w (Take k)) (sym is) NoMemory
+      subst (Refuses v w (Take k)) (sym is) (NoMemory (due w s) (λ z. z))
   stopped_by f (NoAnswer d) w s =
       let y = answer_of w s in
       elim (unread_answer n w.asks v.asks y.it t y.related f (subst (λ j. Decodes (answer_kind j) t.bytes (Err f)) same_roster d)) [
-        | inl is ↦ subst (Refuses v w (Take k)) (sym is) NoMemory
+        | inl is ↦ subst (Refuses v w (Take k)) (sym is) (NoMemory (due w s) (λ z. z))
         | inr large ↦ subst (Refuses v w (Take k)) (sym large.0) (Large (due w s) (record { reply = t; there = answer_there; large = large.1 }))
       ]
   stopped_by f (Uncertified g x dg dx wrong) w s =
       absurd (∥∥₁_elim i.model ⊥_prop (λ h. wrong.wrong (certified h g x (subst (λ j. Decodes (digest_kind j) a.bytes (Ok g)) same_roster dg) (subst (λ j. Decodes (answer_kind j) t.bytes (Ok x)) same_roster dx))))
   stopped_by f (Untaken x dx gives) w s =
-      subst (Refuses v w (Take k)) (sym (only_memory f x (subst (λ j. Decodes (answer_kind j) t.bytes (Ok x)) same_roster dx) gives)) NoMemory
+      subst (Refuses v w (Take k)) (sym (only_memory f x (subst (λ j. Decodes (answer_kind j) t.bytes (Ok x)) same_roster dx) gives)) (NoMemory (due w s) (λ z. z))
 
   pub take_stopped : (x : ReplicaValue) (f : Fault) → x ≡ m → IsNotTaken (length m.roster.names) a.bytes t.bytes m.own m.state f → IsStopped v (Take k) f (record v { memory = set v.memory t.asker x })
   take_stopped x f is h =

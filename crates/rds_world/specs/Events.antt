@@ -79,9 +79,19 @@ pub record IsAccepted (v : WorldValue) (w : World) (e : Event) : Type 0 where
   pub few : ReadsTooMany v e → ⊥
   pub short : MakesTooLong v w e → ⊥
 
--- Memory at any event; else what the model refuses it for; else a text that is read of too many dots; else one that is made too long
+-- the snapshot that a save makes is above the limit
+abbrev pub SavesTooLong : WorldValue → Event → Type 0
+SavesTooLong v (Edit r c) = ⊥
+SavesTooLong v (Save r) = IsLongSnapshot v r
+SavesTooLong v (Crash r) = ⊥
+SavesTooLong v (Ask r) = ⊥
+SavesTooLong v (Answer s k) = ⊥
+SavesTooLong v (Take k) = ⊥
+
+-- What the model refuses it for; else a text that is read of too many dots; else one that is made too long. Want of memory
+-- comes after what is found without memory: what the model refuses, and a snapshot that is too long.
 pub data Refuses (v : WorldValue) (w : World) (e : Event) : Fault → Type 0 where
-  NoMemory : Refuses v w e Memory
+  NoMemory : refused w e ≡ None → (SavesTooLong v e → ⊥) → Refuses v w e Memory
   Due : (f : Fault) → refused w e ≡ Some f → Refuses v w e f
   Large : refused w e ≡ None → ReadsTooMany v e → Refuses v w e TooManyDots
   Long : refused w e ≡ None → (ReadsTooMany v e → ⊥) → MakesTooLong v w e → Refuses v w e TooLong

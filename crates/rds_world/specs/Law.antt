@@ -6,7 +6,7 @@ use Rattle.rds_world.specs.declared.event.Event.{Event}
 use Rattle.rds_world.specs.declared.event.Event.TheVariants.{Answer}
 use Rattle.rds_world.specs.World.{World, Question, empty, start, reply, run, Accepted}
 use Rattle.rds_world.specs.Held.{Holdings, nothing_held, held}
-use Rattle.rds_world.specs.Coherent.{Store, Memory, Kept, state_in, IsCoherent}
+use Rattle.rds_world.specs.Coherent.{Store, Memory, Kept, state_in, IsCoherent, ReplicasAreFriends}
 use Rattle.rds_world.specs.Updates.{bases, effect_of, IsJoinOf, IsExplained, ShowsUpdates}
 
 -- what is said of n replicas and of events none of which was refused
@@ -32,6 +32,10 @@ held_in h Kept r = h.kept r
 
 abbrev pub IsCoherentAfter : ℕ → List Event → Type 0
 IsCoherentAfter n es = IsCoherent (world_after n es)
+
+-- every state of one replica and every state of another are friends
+abbrev pub AreFriendsAfter : ℕ → List Event → Type 0
+AreFriendsAfter n es = ReplicasAreFriends (world_after n es)
 
 -- each state is the join of the effects of the updates that it holds
 abbrev pub EachIsTheJoin : ℕ → List Event → Type 0

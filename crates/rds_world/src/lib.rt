@@ -3,6 +3,7 @@
 #![tactic(auto)]
 
 mod event;
+mod judging;
 mod laws;
 mod messages;
 mod simulating;

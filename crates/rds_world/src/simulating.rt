@@ -1,6 +1,6 @@
 //! Lists of events.
-ghost use Rattle.std.specs.Prelude.{◌≡◌, ◌≤◌, IfOk, IfErr, length};
-ghost use Rattle.rds_world.specs.Law.{IsCoherentAfter, EachIsTheJoin, EachDotIsExplained, EachShowsItsUpdates, SameUpdatesSameState, EachAnswerBringsWhatWasKept};
+ghost use Rattle.std.specs.Prelude.{◌≡◌, ◌≤◌, IfOk, IfErr, MatchResult, length};
+ghost use Rattle.rds_world.specs.Law.{IsCoherentAfter, AreFriendsAfter, EachIsTheJoin, EachDotIsExplained, EachShowsItsUpdates, SameUpdatesSameState, EachAnswerBringsWhatWasKept};
 ghost use Rattle.rds_world.specs.Simulation.{Reaches, Stops, Throughout, ReplicasAreJoins, ReplicasShowTheirUpdates, SameUpdatesSameReplicas};
 
 use crate::event::Event;
@@ -21,15 +21,18 @@ pub fn simulate<S: DotSet>(
 ) -> Result<World<S>, (World<S>, Fault)>
     ensures reached { IfOk result (λ world. Reaches (length roster.names) events.now world) }
     ensures stopped { IfErr result (λ e. Stops (length roster.names) events.now e.0 e.1) }
+    ensures roster { MatchResult result (λ world. world.roster ≡ roster) (λ e. e.0.roster ≡ roster) }
     ensures joins { IfOk result (λ world. ReplicasAreJoins (length roster.names) events.now world) }
     ensures documents { IfOk result (λ world. ReplicasShowTheirUpdates (length roster.names) events.now world) }
     ensures same { IfOk result (λ world. SameUpdatesSameReplicas (length roster.names) events.now world) }
     ensures coherent_throughout { Throughout (length roster.names) events.now IsCoherentAfter }
+    ensures friends_throughout { Throughout (length roster.names) events.now AreFriendsAfter }
     ensures joins_throughout { Throughout (length roster.names) events.now EachIsTheJoin }
     ensures dots_throughout { Throughout (length roster.names) events.now EachDotIsExplained }
     ensures documents_throughout { Throughout (length roster.names) events.now EachShowsItsUpdates }
     ensures same_throughout { Throughout (length roster.names) events.now SameUpdatesSameState }
     ensures answers_throughout { Throughout (length roster.names) events.now EachAnswerBringsWhatWasKept }
+    ensures few { length roster.names ≤ 256 }
 {
     go_through(alloc, roster, events)
 }
@@ -41,6 +44,7 @@ fn go_through<S: DotSet>(
 ) -> Result<World<S>, (World<S>, Fault)>
     ensures reached { IfOk result (λ world. Reaches (length roster.names) events.now world) }
     ensures stopped { IfErr result (λ e. Stops (length roster.names) events.now e.0 e.1) }
+    ensures roster { MatchResult result (λ world. world.roster ≡ roster) (λ e. e.0.roster ≡ roster) }
     ensures few { length roster.names ≤ 256 }
 {
     let mut world = match World::open(alloc, roster) {

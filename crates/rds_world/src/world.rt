@@ -1,5 +1,5 @@
 //! All replicas of a document, in memory and as kept.
-ghost use Rattle.std.specs.Prelude.{◌≡◌, ◌≤◌, ◌<◌, ◌⊎◌, Some, None, IfOk, IfErr, OnOk, length, slice_get};
+ghost use Rattle.std.specs.Prelude.{◌≡◌, ◌≤◌, ◌<◌, ◌⊎◌, Some, None, IfOk, IfErr, OnOk, MatchResult, length, slice_get};
 ghost use Rattle.std.specs.FinMap as map;
 ghost use Rattle.rds_codec.specs.Spelling.{snapshot_text};
 ghost use Rattle.rds_codec.specs.declared.limits.TheConstants.{LIMIT};
@@ -56,6 +56,7 @@ impl<S: DotSet> World<S> {
     pub(crate) fn open(alloc: Global, roster: Roster) -> Result<World<S>, (World<S>, Fault)>
         ensures start { IfOk result (λ world. Stands world (start (length roster.names))) }
         ensures nothing { IfErr result (λ e. HasNoReplicas e.0 e.1) }
+        ensures roster { MatchResult result (λ world. world.roster ≡ roster) (λ e. e.0.roster ≡ roster) }
         ensures few { length roster.names ≤ 256 }
     {
         match empty_replicas(alloc, &roster) {
@@ -197,7 +198,7 @@ pub fn keep<S: DotSet>(alloc: Global, replica: &Replica<S>) -> Result<Kept<S>, F
     ensures ok { IfOk result (λ kept. kept ≡ replica.now) }
     ensures short { OnOk result (length (snapshot_text replica.now) ≤ LIMIT) }
     ensures small { replica.now.state.lives ≡ map.empty → replica.now.state.counts ≡ map.empty → length (snapshot_text replica.now) ≤ LIMIT }
-    ensures fault { IfErr result (λ fault. (fault ≡ Memory) ⊎ ((fault ≡ TooLong) × (LIMIT < length (snapshot_text replica.now)))) }
+    ensures fault { IfErr result (λ fault. ((fault ≡ Memory) × (length (snapshot_text replica.now) ≤ LIMIT)) ⊎ ((fault ≡ TooLong) × (LIMIT < length (snapshot_text replica.now)))) }
 {
     let mut file = Counted::new(Vec::<u8>::new(alloc));
     match write_snapshot(alloc, replica, &mut file) {

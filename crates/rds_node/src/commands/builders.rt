@@ -2,7 +2,7 @@
 ghost use Rattle.std.specs.Prelude.{◌≡◌, codes, false, IfOk};
 ghost use Rattle.clap.specs.Words.{app_of, rule_of, with_rule};
 ghost use Rattle.clap.specs.declared.builder.command.Command.TheViews.{out-Command};
-ghost use Rattle.rds_node.specs.Commands.{base_app, counter_app, entry_app, file_app, init_app, join_app, names_rule, node_app, path_app, required_rule, sim_app, with_counters, with_entries, with_removals, with_show};
+ghost use Rattle.rds_node.specs.Commands.{address_app, base_app, counter_app, entry_app, file_app, init_app, join_app, names_rule, node_app, pair_app, path_app, required_rule, serve_app, sessions_rule, sim_app, with_counters, with_entries, with_removals, with_sessions, with_show};
 
 use super::help;
 use clap::{Arg, ArgAction, Command};
@@ -17,7 +17,8 @@ pub fn node_command<'a>(alloc: Global) -> Result<Command<'a>, AllocError>
     let command = with_entry_commands(alloc, command)?;
     let command = with_removal_commands(alloc, command)?;
     let command = with_counter_commands(alloc, command)?;
-    with_show_command(alloc, command)
+    let command = with_show_command(alloc, command)?;
+    with_session_commands(alloc, command)
 }
 
 // The program with the commands that no replica in a file is needed for.
@@ -75,6 +76,20 @@ fn with_show_command<'a>(alloc: Global, command: Command<'a>) -> Result<Command<
         .about(help::SHOW_ABOUT)
         .after_help(help::SHOW_AFTER_HELP);
     command.subcommand(show)
+}
+
+// Adds the commands by which replicas meet.
+#[tactic(auto, unfolding(crate::specs::Commands::with_sessions))]
+fn with_session_commands<'a>(alloc: Global, command: Command<'a>) -> Result<Command<'a>, AllocError>
+    ensures { IfOk result (λ c. app_of c ≡ with_sessions (app_of command.entry)) }
+{
+    let serve = serve_command(alloc)?;
+    let sync = sync_command(alloc)?;
+    let pair = pair_command(alloc)?;
+    command
+        .subcommand(serve)?
+        .subcommand(sync)?
+        .subcommand(pair)
 }
 
 fn join_command<'a>(alloc: Global) -> Command<'a>
@@ -155,6 +170,59 @@ fn path_command<'a>(alloc: Global, name: &'a str) -> Result<Command<'a>, AllocEr
 {
     let path = Arg::new(alloc, "PATH").help(help::PATH_HELP);
     file_command(alloc, name)?.arg(path)
+}
+
+fn serve_command<'a>(alloc: Global) -> Result<Command<'a>, AllocError>
+    ensures app { IfOk result (λ c. app_of c ≡ serve_app) }
+    ensures local { IfOk result (λ c. (out-Command c).has_globals ≡ false) }
+{
+    let sessions = sessions_option(alloc);
+    address_command(alloc, "serve")?
+        .about(help::SERVE_ABOUT)
+        .after_help(help::SERVE_AFTER_HELP)
+        .arg(sessions)
+}
+
+fn sync_command<'a>(alloc: Global) -> Result<Command<'a>, AllocError>
+    ensures app { IfOk result (λ c. app_of c ≡ address_app (codes "sync")) }
+    ensures local { IfOk result (λ c. (out-Command c).has_globals ≡ false) }
+{
+    let command = address_command(alloc, "sync")?
+        .about(help::SYNC_ABOUT)
+        .after_help(help::SYNC_AFTER_HELP);
+    Ok(command)
+}
+
+fn pair_command<'a>(alloc: Global) -> Result<Command<'a>, AllocError>
+    ensures app { IfOk result (λ c. app_of c ≡ pair_app) }
+    ensures local { IfOk result (λ c. (out-Command c).has_globals ≡ false) }
+{
+    let peer = required(alloc, "PEER", help::PEER_HELP);
+    file_command(alloc, "pair")?
+        .about(help::PAIR_ABOUT)
+        .after_help(help::PAIR_AFTER_HELP)
+        .arg(peer)
+}
+
+// A command by which a file's replica meets another at an address.
+fn address_command<'a>(alloc: Global, name: &'a str) -> Result<Command<'a>, AllocError>
+    ensures app { IfOk result (λ c. app_of c ≡ address_app name.entry.now) }
+    ensures local { IfOk result (λ c. (out-Command c).has_globals ≡ false) }
+{
+    let addr = required(alloc, "ADDR", help::ADDR_HELP);
+    file_command(alloc, name)?.arg(addr)
+}
+
+// How many sessions, 1 where it isn't said.
+fn sessions_option<'a>(alloc: Global) -> Arg<'a>
+    ensures rule { rule_of result ≡ sessions_rule }
+    ensures local { result.global ≡ false }
+{
+    Arg::new(alloc, "SESSIONS")
+        .long("sessions")
+        .value_name("N")
+        .default_value("1")
+        .help(help::SESSIONS_HELP)
 }
 
 // A command whose first word is a file.

@@ -130,6 +130,72 @@ a file that is no snapshot, 24 where FILE can't be read, 1 where there is no mem
 
 Example: rds_node show notes.a shopping";
 
+pub const SERVE_ABOUT: &str = "Serves the replica in a file to peers";
+
+pub const SERVE_AFTER_HELP: &str = "\
+Waits at ADDR, a host and a port, until a peer calls by 'sync', and has a session with it:
+each side gets a delta, what the other has and it lacks. So N times, one peer after the
+other. A session is plain and nobody is authenticated: anyone who reaches ADDR can read
+the document's changes and give changes.
+Reads FILE. A delta that was received is taken, and FILE is written anew: FILE.new is
+written and synced, and then renamed to FILE.
+Output: after each session the line {\"taken\":1}, with the number of the delta's
+components, where one was taken and kept; then the session's fault, if there was one.
+
+Exit status: 0 where no fault was written, 2 with the line 'fault 27: Usage' where N is no
+whole number, 2 for words that are none of these, else 1 with the line 'fault N: Name' of
+each fault: 12 to 16 for a file that is no snapshot, 10 where FILE is older than what its
+replica has sent, 11 to 17 for a message that is broken or isn't meant for it, 18 for
+another version, 19 for another group, 20 for other names, 21 for the same replica at both
+ends, 22 for a message out of turn, 23 where the peer ended early, 24 where FILE can't be
+read or written or a connection fails, 1 where there is no memory.
+
+Example: rds_node serve notes.a 127.0.0.1:4000 --sessions 3";
+
+pub const SYNC_ABOUT: &str = "Has a session of the replica in a file with one that is served";
+
+pub const SYNC_AFTER_HELP: &str = "\
+Connects to ADDR, a host and a port, where a peer waits by 'serve', and has one session:
+each side gets a delta, what the other has and it lacks. A session is plain and nobody is
+authenticated: anyone who is reached at ADDR can read the document's changes and give
+changes. It waits as long as the peer is silent.
+Reads FILE. A delta that was received is taken, and FILE is written anew: FILE.new is
+written and synced, and then renamed to FILE.
+Output: the line {\"taken\":1}, with the number of the delta's components, where one was
+taken and kept; then the session's fault, if there was one.
+
+Exit status: 0 where no fault was written, 2 for words that are none of these, else 1 with
+the line 'fault N: Name' of each fault: 12 to 16 for a file that is no snapshot, 10 where
+FILE is older than what its replica has sent, 11 to 17 for a message that is broken or
+isn't meant for it, 18 for another version, 19 for another group, 20 for other names, 21
+for the same replica at both ends, 22 for a message out of turn, 23 where the peer ended
+early, 24 where FILE can't be read or written or a connection fails, 1 where there is no
+memory.
+
+Example: rds_node sync notes.b 127.0.0.1:4000";
+
+pub const PAIR_ABOUT: &str = "Has a session between the replicas in two files";
+
+pub const PAIR_AFTER_HELP: &str = "\
+Connects to itself on 127.0.0.1, with FILE as the client and PEER as the server, and has one
+session: each side gets a delta, what the other has and it lacks. A session is plain and
+nobody is authenticated.
+Reads FILE, then PEER. A delta that was received is taken, and its file is written anew:
+FILE.new is written and synced, and then renamed to FILE; likewise PEER.
+Output: the line {\"taken\":1}, with the number of components of the delta that FILE got,
+where one was taken and kept; then the fault of its session, if there was one. Then the
+same for PEER.
+
+Exit status: 0 where no fault was written, 2 for words that are none of these, else 1 with
+the line 'fault N: Name' of each fault: 12 to 16 for a file that is no snapshot, 10 where a
+file is older than what its replica has sent, 11 to 17 for a message that is broken or
+isn't meant for the one that got it, 18 for another version, 19 for two groups, 20 for
+other names, 21 for the same replica twice, 22 for a message out of turn, 23 where the
+other ended early, 24 where a file can't be read or written or the connection fails, 1
+where there is no memory.
+
+Example: rds_node pair notes.a notes.b";
+
 pub const FILE_HELP: &str = "The file of a replica";
 
 pub const GROUP_HELP: &str = "The group's name: 1 to 64 bytes without '/'";
@@ -146,3 +212,9 @@ pub const VALUE_HELP: &str = "null, true, false, a whole number or a text, as JS
 pub const KEY_HELP: &str = "The counter's key: 1 to 64 bytes without '/'";
 
 pub const BY_HELP: &str = "By how much, a whole number from 0";
+
+pub const ADDR_HELP: &str = "A host and a port, as 127.0.0.1:4000";
+
+pub const SESSIONS_HELP: &str = "How many sessions, a whole number from 0";
+
+pub const PEER_HELP: &str = "The file of the replica that it meets, the server of the two";

@@ -1,9 +1,9 @@
 //! From what the library found to the task.
 ghost use Rattle.std.specs.Prelude.{◌≡◌, [], ◌∷◌, codes, map, option_map, unwrap_or, IfOk};
 ghost use Rattle.clap.specs.Words.{all_of, first_of, found_of, rows_of, subcommand_rows_of};
-ghost use Rattle.rds_node.specs.Task.{edit_words_behind, file_and_path, init_words_in, named_words, plain_words_behind, words_in, words_of, words_under};
+ghost use Rattle.rds_node.specs.Task.{edit_words_behind, file_and_path, init_words_in, named_words, plain_words_behind, session_words_behind, words_in, words_of, words_under};
 
-use super::{EditWords, InitWords, Task};
+use super::{EditWords, InitWords, ServeWords, Task};
 use clap::ArgMatches;
 use std::alloc::{AllocError, Global};
 
@@ -41,6 +41,32 @@ fn plain_task<'a>(name: &str, inner: &ArgMatches<'a>) -> Option<Task<'a>>
         "show" => {
             let (file, path) = file_and_path(inner)?;
             Some(Task::Show { file, path })
+        }
+        _ => session_task(name, inner),
+    }
+}
+
+// The task of a command that makes sessions, or that edits the replica in a file.
+fn session_task<'a>(name: &str, inner: &ArgMatches<'a>) -> Option<Task<'a>>
+    ensures { option_map words_of result
+        ≡ named_words name.now (session_words_behind name.now (rows_of (found_of inner.now))) }
+{
+    match name {
+        "serve" => {
+            let (file, addr, sessions) = file_and_two(inner, "ADDR", "SESSIONS")?;
+            Some(Task::Serve(ServeWords {
+                file,
+                addr,
+                sessions,
+            }))
+        }
+        "sync" => {
+            let (file, addr) = file_and_one(inner, "ADDR")?;
+            Some(Task::Sync { file, addr })
+        }
+        "pair" => {
+            let (first, second) = file_and_one(inner, "PEER")?;
+            Some(Task::Pair { first, second })
         }
         _ => edit_task(name, inner),
     }
@@ -98,6 +124,16 @@ fn init_task<'a>(alloc: Global, inner: &ArgMatches<'a>) -> Result<Option<Task<'a
         own,
         names,
     })))
+}
+
+// The file, and the word under this id.
+fn file_and_one<'a>(inner: &ArgMatches<'a>, second: &str) -> Option<(&'a str, &'a str)>
+    ensures { option_map (λ w. w.0.now ∷ w.1.now ∷ []) result
+        ≡ words_under (codes "FILE" ∷ second.now ∷ []) (rows_of (found_of inner.now)) }
+{
+    let file = word_under(inner, "FILE")?;
+    let second = word_under(inner, second)?;
+    Some((file, second))
 }
 
 // The file, and the words under these two ids.

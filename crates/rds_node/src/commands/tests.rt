@@ -90,3 +90,31 @@ fn refuses_words(rt: HostRuntime) -> Result<(), Fail> {
     refuses(&rt, &["show", "f", "--help"], ErrorKind::DisplayHelp)?;
     Ok(())
 }
+
+#[test]
+fn reads_the_words_of_sessions(rt: HostRuntime) -> Result<(), Fail> {
+    let one = "Some(Serve(ServeWords { file: \"f\", addr: \"h:1\", sessions: \"1\" }))";
+    asks(&rt, &["serve", "f", "h:1"], one)?;
+    let more = "Some(Serve(ServeWords { file: \"f\", addr: \"h:1\", sessions: \"x\" }))";
+    asks(&rt, &["serve", "f", "h:1", "--sessions", "x"], more)?;
+    asks(&rt, &["serve", "--sessions=x", "f", "h:1"], more)?;
+    let sync = "Some(Sync { file: \"f\", addr: \"h:1\" })";
+    asks(&rt, &["sync", "f", "h:1"], sync)?;
+    let pair = "Some(Pair { first: \"f\", second: \"g\" })";
+    asks(&rt, &["pair", "f", "g"], pair)?;
+    Ok(())
+}
+
+#[test]
+fn refuses_words_of_sessions(rt: HostRuntime) -> Result<(), Fail> {
+    let missing = ErrorKind::MissingRequiredArgument;
+    refuses(&rt, &["serve", "f"], missing)?;
+    refuses(&rt, &["sync", "f"], missing)?;
+    refuses(&rt, &["pair", "f"], missing)?;
+    let unknown = ErrorKind::UnknownArgument;
+    refuses(&rt, &["sync", "f", "h:1", "--sessions", "1"], unknown)?;
+    refuses(&rt, &["pair", "f", "g", "h"], unknown)?;
+    let valueless = ErrorKind::InvalidValue;
+    refuses(&rt, &["serve", "f", "h:1", "--sessions"], valueless)?;
+    Ok(())
+}

@@ -1,11 +1,12 @@
 use crate::run::run;
 use rds_keep::Counted;
+use std::net::Net;
 use std::process::Abort;
 use std::rt::Files;
 use std::test::Fail;
 
 // What the lines are answered, and the status.
-fn sims<H: Files + AllocGlobal + Abort>(rt: &H, lines: &str, answers: &str, status: u8) {
+fn sims<H: Files + Net + AllocGlobal + Abort>(rt: &H, lines: &str, answers: &str, status: u8) {
     let mut written = Vec::new(rt.alloc());
     let mut reader = Counted::new(lines.as_bytes());
     let mut writer = Counted::new(&mut written);

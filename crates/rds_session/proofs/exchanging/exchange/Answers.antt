@@ -1,7 +1,28 @@
+use Rattle.std.proofs.Common.{◌≡◌, ap, ◌∙◌, subst}
+use Rattle.rds_state.specs.Fits.{ReplicaValue}
+use Rattle.rds_session.specs.declared.talk.Side.{Side}
+use Rattle.rds_session.specs.Received.{HasChecked}
+use Rattle.rds_session.specs.Session.{Standing, Nothing, course}
+use Rattle.rds_session.specs.Steps.{HasStanding}
 use Rattle.rds_session.proofs.Turns.{exchanged}
 use Rattle.rds_session.proofs.exchanging.exchange.Goals as goal
+
+-- a session that hasn't begun is of the replica that it was lent
+kept_at_first : (side : Side) (kept : ReplicaValue) (s : Standing) → HasStanding side kept Nothing s → s.kept ≡ kept
+unfolding course
+kept_at_first side kept s is = ap (λ (t : Standing). t.kept) is
+
+pub returns-in-Ok-clause-checked : goal.returns-in-Ok-clause-checked
+returns-in-Ok-clause-checked g c =
+    let kept = c.talk.ensures.kept ∙ kept_at_first c.args.side c.args.kept.now _ c.new-session.ensures.standing in
+    subst (λ k. HasChecked k c.into_received.result) kept c.into_received.ensures.checked
+
+pub returns-in-Err-clause-checked : goal.returns-in-Err-clause-checked
+returns-in-Err-clause-checked g c =
+    let kept = c.talk.ensures.kept ∙ kept_at_first c.args.side c.args.kept.now _ c.new-session.ensures.standing in
+    subst (λ k. HasChecked k c.into_received-in-Err.result) kept c.into_received-in-Err.ensures.checked
 
 pub returns-in-Ok-clause-exchange : goal.returns-in-Ok-clause-exchange
 returns-in-Ok-clause-exchange g c =
     λ reader writer. exchanged c.args.side c.args.kept.now (g.R.Read.remaining c.args.reader.now.inner) _ c.talk.new.session _ _ c.into_received.result c.in-Ok.ended
-    (c.in-Ok.ensures.talk c.args.side c.args.kept.now c.new-session.ensures.standing) c.in-Ok.ensures.ended c.into_received.ensures
+    (c.in-Ok.ensures.talk c.args.side c.args.kept.now c.new-session.ensures.standing) c.in-Ok.ensures.ended c.into_received.ensures.received

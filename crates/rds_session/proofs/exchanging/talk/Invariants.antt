@@ -7,6 +7,6 @@ use Rattle.rds_session.specs.Steps.{HasStanding, IsNoDevice}
 use Rattle.rds_session.proofs.exchanging.talk.Given as goal
 
 abbrev pub invariant-turns : goal.invariant-turns
-invariant-turns g l = (IsNoDevice l.fn.session.ended → IsNoDevice l.session.ended) × (l.ended ≡ l.session.ended) × (l.reader.failed ≡ l.fn.reader.failed) × (l.writer.failed ≡ l.fn.writer.failed)
+invariant-turns g l = (IsNoDevice l.fn.session.ended → IsNoDevice l.session.ended) × (l.ended ≡ l.session.ended) × (l.session.kept ≡ l.fn.session.kept) × (l.reader.failed ≡ l.fn.reader.failed) × (l.writer.failed ≡ l.fn.writer.failed)
     × ((side : Side) (kept : ReplicaValue) → HasStanding side kept Nothing l.fn.session
     → Talks side kept (g.R.Read.remaining l.fn.reader.inner) (g.R.Read.remaining l.reader.inner) l.session (g.W.Write.contents l.fn.writer.inner) (g.W.Write.contents l.writer.inner))

@@ -1,4 +1,5 @@
 use Rattle.std.proofs.Common.{refl}
+use Rattle.rds_tree.specs.ScalarOrder.{scalars_total}
 use Rattle.rds_tree.specs.View.{entries_view}
 use Rattle.rds_tree.proofs.InOrder.{in_order}
 use Rattle.rds_tree.proofs.MapsShown.{maps_shown}
@@ -24,3 +25,14 @@ returns-clause-below_root c v key path = refl
 
 pub returns-clause-order : goal.returns-clause-order
 returns-clause-order c = in_order
+
+pub returns-clause-scalars : goal.returns-clause-scalars
+returns-clause-scalars c = record {
+  null = λ b. refl;
+  truth = refl;
+  truths = λ b n. refl;
+  sizes = λ m n. refl;
+  integers = λ n t. refl;
+  bytes = λ s t. refl;
+  total = scalars_total;
+}

@@ -1,6 +1,6 @@
 use Rattle.std.proofs.Common.{length}
 use Rattle.rds_world.specs.Simulation.{Reaches, ReplicasAreJoins, ReplicasShowTheirUpdates, SameUpdatesSameReplicas}
-use Rattle.rds_world.proofs.Simulated.{if_ok, replicas_are_joins, replicas_show, same_replicas, coherent_throughout, joins_throughout, dots_throughout, documents_throughout, same_throughout, answers_throughout}
+use Rattle.rds_world.proofs.Simulated.{if_ok, replicas_are_joins, replicas_show, same_replicas, coherent_throughout, friends_throughout, joins_throughout, dots_throughout, documents_throughout, same_throughout, answers_throughout}
 use Rattle.rds_world.proofs.simulating.simulate.Goals as goal
 
 pub returns-clause-joins : goal.returns-clause-joins
@@ -23,6 +23,9 @@ returns-clause-same g c =
 
 pub returns-clause-coherent_throughout : goal.returns-clause-coherent_throughout
 returns-clause-coherent_throughout g c = coherent_throughout (length c.args.roster.names) c.args.events.now
+
+pub returns-clause-friends_throughout : goal.returns-clause-friends_throughout
+returns-clause-friends_throughout g c = friends_throughout (length c.args.roster.names) c.args.events.now
 
 pub returns-clause-joins_throughout : goal.returns-clause-joins_throughout
 returns-clause-joins_throughout g c = joins_throughout (length c.args.roster.names) c.args.events.now

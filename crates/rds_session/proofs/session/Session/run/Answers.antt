@@ -1,14 +1,14 @@
-use Rattle.std.proofs.Common.{◌≡◌, length, ap, ◌∙◌, rules}
+use Rattle.std.proofs.Common.{◌≡◌, length, refl, ap, ◌∙◌, rules}
 use Rattle.std.proofs.lemmas.Result.{err_from_is_err_and}
 use Rattle.rds_session.specs.Session.{Standing}
 use Rattle.rds_session.proofs.Runs.{ran_none, ran_then, ran_all}
 use Rattle.rds_session.proofs.session.Session.run.Goals as goal
 
 pub loop-rest-init : goal.loop-rest-init
-loop-rest-init g c = (ran_none c.args.self.now c.args.send.now.items c.args.piece.now, λ h. h)
+loop-rest-init g c = (ran_none c.args.self.now c.args.send.now.items c.args.piece.now, λ h. h, refl)
 
 pub loop-rest-preserved : goal.loop-rest-preserved
-loop-rest-preserved g c = (ran_then _ _ _ _ _ _ _ _ _ c.loop-rest.invariant.0 c.in_ok-rest.ensures.ran, λ h. c.in_ok-rest.ensures.known (c.loop-rest.invariant.1 h))
+loop-rest-preserved g c = (ran_then _ _ _ _ _ _ _ _ _ c.loop-rest.invariant.0 c.in_ok-rest.ensures.ran, λ h. c.in_ok-rest.ensures.known (c.loop-rest.invariant.1 h), c.take_one.ensures.kept ∙ c.loop-rest.invariant.2)
 
 pub returns-in_err-rest-clause-runs : goal.returns-in_err-rest-clause-runs
 returns-in_err-rest-clause-runs g c =

@@ -16,6 +16,7 @@ returns-in-Done g c =
     let rest = rests c.args.self.now (came c.args.input) c.new.result.items over c.new.ensures.items in
     record {
       ended = e;
+      kept = refl;
       device = λ h. h;
       over = λ h. (refl, c.new.ensures.items);
       course = λ side kept heard is. continues side kept heard (came c.args.input) c.args.self.now c.args.self.now c.new.result.items rest is;

@@ -1,4 +1,4 @@
-use Rattle.std.proofs.Common.{sym, ap, ◌∙◌}
+use Rattle.std.proofs.Common.{refl, sym, ap, ◌∙◌}
 use Rattle.rds_session.specs.Session.{Standing}
 use Rattle.rds_session.proofs.Runs.{over_is, ran_over, ran_on, ran_whole, ran_too_long, rest_less}
 use Rattle.rds_session.proofs.session.Session.take_one.Goals as goal
@@ -8,6 +8,7 @@ returns-in-Done g c = record {
   ran = rw (← c.self.view_is) (ran_over _ _ _ (over_is _ c.in-Done.is));
   known = λ h. h;
   less = c.requires;
+  kept = refl;
   err = tt;
 }
 

@@ -8,7 +8,7 @@ use Rattle.rds_world.specs.declared.event.Done.TheVariants.{Answered}
 use Rattle.rds_world.specs.Replies.{HasNoReply, IsReply}
 use Rattle.rds_world.specs.Steps.{IsStep, IsStopped}
 use Rattle.rds_world.specs.Stored.{AskText, AnswerText, WorldValue}
-use Rattle.rds_world.proofs.Answered.{answer_absent, answer_done, answer_stopped, answer_unasked}
+use Rattle.rds_world.proofs.Answered.{answer_absent, answer_done, answer_stopped, answer_unasked, due}
 use Rattle.rds_world.proofs.Performed.{no_memory, stopped_same}
 use Rattle.rds_world.proofs.Sendings.{fault_is}
 use Rattle.rds_world.proofs.world.World.answer.Goals as goal
@@ -79,10 +79,18 @@ returns-in_err-push-clause-err g c =
     let v : WorldValue = record { roster = c.self.inside.roster; memory = c.self.inside.memory.items; kept = c.self.inside.kept.items; asks = c.self.inside.asks.items; answers = c.self.inside.answers.items } in
     let n = c.args.number in
     let q = c.args.question in
+    let lt : n < length v.memory = search rules in
+    let lt_kept : n < length v.kept = subst (λ k. n < k) (sym c.self.invariant.same_length) lt in
+    let m = c.index.result.now in
+    let there : slice_get v.kept n ≡ Some m = subst (λ k. slice_get v.kept k ≡ Some m) c.from-at.ensures (slice_get_read v.kept (length v.kept) c.from-at.result m refl (subst (λ k. k < length v.kept) (sym c.from-at.ensures) lt_kept) c.index.ensures) in
+    let a = c.index-ask.result.now in
+    let asks_lt : q < length v.asks = search rules in
+    let asked : slice_get v.asks q ≡ Some a = slice_get_read v.asks (length v.asks) q a refl asks_lt c.index-ask.ensures in
     let is : c.from_residual-in_err-push.result ≡ Err Memory = search rules in
     let answers : c.push.new.self.items ≡ v.answers = c.in_err-push.ensures.items in
     fault_is _ _ Memory is (subst (λ (u : WorldValue). IsStopped u (Answer n q) Memory (record v { answers = c.push.new.self.items })) c.self.view_is
-    (stopped_same v (record v { answers = c.push.new.self.items }) (Answer n q) Memory (λ j. record v { answers = answers j }) (no_memory v (Answer n q) Memory refl)))
+    (stopped_same v (record v { answers = c.push.new.self.items }) (Answer n q) Memory (λ j. record v { answers = answers j })
+    (no_memory v (Answer n q) Memory refl (due v c.self.invariant n q m a lt there asked) (λ x. x))))
 
 pub invariant_of-self-2 : goal.invariant_of-self-2
 invariant_of-self-2 g c =

@@ -7,7 +7,7 @@ use Rattle.rds_world.specs.declared.event.Done.TheVariants.{Edited, Plain, Asked
 use Rattle.rds_world.specs.Stands.{IsWorld}
 use Rattle.rds_world.specs.Steps.{IsStep, IsStopped}
 use Rattle.rds_world.specs.Stored.{AskText, WorldValue}
-use Rattle.rds_world.proofs.Performed.{ask_absent, ask_done, ask_stopped, no_memory, stopped_same}
+use Rattle.rds_world.proofs.Performed.{ask_absent, ask_done, ask_stopped, no_memory, of_roster, stopped_same}
 use Rattle.rds_world.proofs.Sendings.{fault_is}
 use Rattle.rds_world.proofs.world.World.ask.Goals as goal
 
@@ -33,10 +33,11 @@ pub returns-in_err-push-clause-err : goal.returns-in_err-push-clause-err
 returns-in_err-push-clause-err g c =
     let v : WorldValue = record { roster = c.self.inside.roster; memory = c.self.inside.memory.items; kept = c.self.inside.kept.items; asks = c.self.inside.asks.items; answers = c.self.inside.answers.items } in
     let n = c.args.number in
+    let lt : n < length v.memory = search rules in
     let is : c.from_residual-in_err-push.result ≡ Err Memory = search rules in
     let asks : c.push.new.self.items ≡ v.asks = c.in_err-push.ensures.items in
     fault_is _ _ Memory is (subst (λ (u : WorldValue). IsStopped u (Ask n) Memory (record v { asks = c.push.new.self.items })) c.self.view_is
-    (stopped_same v (record v { asks = c.push.new.self.items }) (Ask n) Memory (λ j. record v { asks = asks j }) (no_memory v (Ask n) Memory refl)))
+    (stopped_same v (record v { asks = c.push.new.self.items }) (Ask n) Memory (λ j. record v { asks = asks j }) (no_memory v (Ask n) Memory refl (of_roster v n lt) (λ x. x))))
 
 pub invariant_of-self-2 : goal.invariant_of-self-2
 invariant_of-self-2 g c =

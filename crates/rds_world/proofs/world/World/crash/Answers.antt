@@ -7,7 +7,7 @@ use Rattle.rds_world.specs.declared.event.Done.TheVariants.{Edited, Plain, Asked
 use Rattle.rds_world.specs.Stands.{IsWorld}
 use Rattle.rds_world.specs.Steps.{IsStep, IsStopped}
 use Rattle.rds_world.specs.Stored.{AskText, WorldValue}
-use Rattle.rds_world.proofs.Performed.{crash_absent, crash_done, no_memory}
+use Rattle.rds_world.proofs.Performed.{crash_absent, crash_done, no_memory, of_roster}
 use Rattle.rds_world.proofs.Sendings.{fault_is}
 use Rattle.rds_world.proofs.world.World.crash.Goals as goal
 
@@ -20,8 +20,11 @@ returns-then-at-len-clause-err g c =
 
 pub returns-in_err-replica-clause-err : goal.returns-in_err-replica-clause-err
 returns-in_err-replica-clause-err g c =
+    let v : WorldValue = record { roster = c.self.inside.roster; memory = c.self.inside.memory.items; kept = c.self.inside.kept.items; asks = c.self.inside.asks.items; answers = c.self.inside.answers.items } in
+    let n = c.args.number in
+    let lt : n < length v.memory = search rules in
     let is : c.from_residual.result ≡ Err Memory = search rules in
-    fault_is _ _ Memory is (no_memory c.args.self.now (Crash c.args.number) Memory refl)
+    fault_is _ _ Memory is (subst (λ (u : WorldValue). IsStopped u (Crash n) Memory u) c.self.view_is (no_memory v (Crash n) Memory refl (of_roster v n lt) (λ x. x)))
 
 pub invariant_of-self : goal.invariant_of-self
 invariant_of-self g c =

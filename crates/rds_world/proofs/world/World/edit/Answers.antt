@@ -7,7 +7,7 @@ use Rattle.rds_world.specs.declared.event.Done.TheVariants.{Edited, Plain, Asked
 use Rattle.rds_world.specs.Stands.{IsWorld}
 use Rattle.rds_world.specs.Steps.{IsStep, IsStopped}
 use Rattle.rds_world.specs.Stored.{AskText, WorldValue}
-use Rattle.rds_world.proofs.Performed.{edit_absent, edit_done, edit_stopped, no_memory}
+use Rattle.rds_world.proofs.Performed.{edit_absent, edit_done, edit_judged, edit_stopped, edit_unmade}
 use Rattle.rds_world.proofs.Sendings.{fault_is}
 use Rattle.rds_world.proofs.world.World.edit.Goals as goal
 
@@ -18,10 +18,26 @@ returns-then-at-len-clause-err g c =
     let absent : length v.memory ≤ n = search rules in
     subst (λ (u : WorldValue). IsStopped u (Edit n c.args.command.now) NoSuch u) c.self.view_is (edit_absent v n c.args.command.now absent)
 
+pub returns-in_err-judge-clause-err : goal.returns-in_err-judge-clause-err
+returns-in_err-judge-clause-err g c =
+    let v : WorldValue = record { roster = c.self.inside.roster; memory = c.self.inside.memory.items; kept = c.self.inside.kept.items; asks = c.self.inside.asks.items; answers = c.self.inside.answers.items } in
+    let n = c.args.number in
+    let lt : n < length v.memory = search rules in
+    let m = c.index.result.now in
+    let there : slice_get v.memory n ≡ Some m = subst (λ k. slice_get v.memory k ≡ Some m) c.from-at.ensures (slice_get_read v.memory (length v.memory) c.from-at.result m refl (subst (λ k. k < length v.memory) (sym c.from-at.ensures) lt) c.index.ensures) in
+    let f = c.in_err-judge.field-0.0 in
+    let is : c.from_residual.result ≡ Err f = search rules in
+    fault_is _ _ f is (subst (λ (u : WorldValue). IsStopped u (Edit n c.args.command.now) f u) c.self.view_is (edit_judged v c.self.invariant n m lt there c.args.command.now f c.in_err-judge.ensures))
+
 pub returns-in_err-command-clause-err : goal.returns-in_err-command-clause-err
 returns-in_err-command-clause-err g c =
-    let is : c.from_residual.result ≡ Err Memory = search rules in
-    fault_is _ _ Memory is (no_memory c.args.self.now (Edit c.args.number c.args.command.now) Memory refl)
+    let v : WorldValue = record { roster = c.self.inside.roster; memory = c.self.inside.memory.items; kept = c.self.inside.kept.items; asks = c.self.inside.asks.items; answers = c.self.inside.answers.items } in
+    let n = c.args.number in
+    let lt : n < length v.memory = search rules in
+    let m = c.index.result.now in
+    let there : slice_get v.memory n ≡ Some m = subst (λ k. slice_get v.memory k ≡ Some m) c.from-at.ensures (slice_get_read v.memory (length v.memory) c.from-at.result m refl (subst (λ k. k < length v.memory) (sym c.from-at.ensures) lt) c.index.ensures) in
+    let is : c.from_residual-in_err-command.result ≡ Err Memory = search rules in
+    fault_is _ _ Memory is (subst (λ (u : WorldValue). IsStopped u (Edit n c.args.command.now) Memory u) c.self.view_is (edit_unmade v c.self.invariant n m lt there c.args.command.now c.in_ok-judge.ensures))
 
 pub returns-in_err-edited-clause-err : goal.returns-in_err-edited-clause-err
 returns-in_err-edited-clause-err g c =
