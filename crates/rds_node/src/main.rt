@@ -4,33 +4,10 @@
 ghost use Rattle.std.specs.Prelude.{◌≡◌, ◌⊎◌, IfErr};
 ghost use Rattle.rds_names.specs.declared.fault.Fault.TheVariants.{Memory, Usage};
 
-mod ahead;
-mod answer;
-mod answering;
-mod commands;
-mod file_commands;
-mod file_words;
-mod files;
-mod join;
-mod lines;
-mod output;
-mod pairing;
-mod refusal;
-mod reports;
-mod run;
-mod serve_words;
-mod settling;
-mod sim;
-#[cfg(test)]
-mod stored;
-mod syncing;
-#[cfg(test)]
-mod tests;
-
-use output::write_fault;
+use rds_commands::run;
 use rds_keep::Counted;
+use rds_lines::write_fault;
 use rds_names::Fault;
-use run::run;
 use std::io::ErrorKind;
 use std::process::ExitCode;
 use std::{env, io};

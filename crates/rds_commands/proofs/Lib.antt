@@ -1,0 +1,5 @@
+pub mod CommandWords
+pub mod Meaning
+pub mod NamedTasks
+pub mod Naming
+pub mod Told

@@ -1,0 +1,7 @@
+use Rattle.std.proofs.Common.{Ok, Err}
+use Rattle.rds_names.specs.declared.fault.Fault.TheVariants.{Usage}
+use Rattle.rds_commands.proofs.Meaning.{amount_once, ok_isnt_err}
+use Rattle.rds_commands.proofs.serve_words.run_serve.Goals as goal
+
+pub returns-in-Ok-clause-refused : goal.returns-in-Ok-clause-refused
+returns-in-Ok-clause-refused g c = λ none. absurd (ok_isnt_err c.in-Ok.sessions Usage (amount_once c.args.sessions.now (Ok c.in-Ok.sessions) (Err Usage) c.in-Ok.ensures none))

@@ -1,0 +1,5 @@
+pub mod Commands
+pub mod Edits
+pub mod FileWords
+pub mod Task
+pub mod Unparsed

@@ -1,0 +1,11 @@
+//! The program's commands: words in, what is written and the exit status out.
+#![tactic(auto)]
+
+mod commands;
+mod file_commands;
+mod file_words;
+mod run;
+mod serve_words;
+mod unparsed;
+
+pub use run::run;

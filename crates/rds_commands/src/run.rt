@@ -1,0 +1,72 @@
+//! The program's commands.
+ghost use Rattle.std.specs.Prelude.{◌≡◌, ◌≢◌, ◌∷◌, ◌≤◌, ◌⊎◌, List, ℕ, Err, map, IfSome, IsErrAnd};
+ghost use Rattle.rds_names.specs.declared.fault.Fault.TheVariants.{Device};
+ghost use Rattle.rds_lines.specs.Answering.{EndsIn};
+ghost use Rattle.rds_commands.specs.Commands.{join_words, sim_words};
+ghost use Rattle.rds_lines.specs.Output.{Writes, fault_line};
+ghost use Rattle.rds_lines.specs.Refusal.{fault_of};
+ghost use Rattle.rds_lines.specs.Run.{WritesJoin, WritesSim, IsJoinLine};
+
+use crate::commands::{Task, task_of};
+use crate::file_commands::{edit_file, init_file, show_file};
+use crate::serve_words::run_serve;
+use crate::unparsed::write_unparsed;
+use rds_files::{pair_files, sync_file};
+use rds_keep::Counted;
+use rds_lines::{run_join, run_sim, write_answer, write_fault};
+use rds_names::Fault;
+use std::convert::AsStr;
+use std::io::{Read, Write};
+use std::net::Net;
+use std::rt::Files;
+
+/// Runs the command that the words name, and answers the exit status. The first word is the
+/// program's name, whatever it is.
+///
+/// A fault is written as the line `fault N: Name` and answered by 1. Words that the command line
+/// doesn't have are `Usage`: that line, then the library's text, and 2. Help is written and answered
+/// by 0. A reader that fails, or that gives more reads than its bound of turns, is `Device`. Where
+/// the output itself fails the answer is 1.
+pub fn run<H: Files + Net + AllocGlobal, R: Read, W: Write, S: AsStr>(
+    rt: &H,
+    words: &[S],
+    reader: &mut Counted<R>,
+    writer: &mut Counted<W>,
+) -> u8
+    ensures join { (name : List ℕ) → map S.text words.entry.now ≡ name ∷ join_words
+        → IfSome (R.remaining reader.old.inner)
+        (λ input. reader.new.failed ≡ 0 → writer.new.failed ≡ 0
+        → WritesJoin input (W.contents writer.old.inner) (W.contents writer.new.inner) result) }
+    ensures unread { (name : List ℕ) → map S.text words.entry.now ≡ name ∷ join_words
+        → reader.new.failed ≢ reader.old.failed → writer.new.failed ≡ 0
+        → Writes (Err Device) (W.contents writer.old.inner) (W.contents writer.new.inner) result }
+    ensures sim { (name : List ℕ) → map S.text words.entry.now ≡ name ∷ sim_words
+        → IfSome (R.remaining reader.old.inner)
+        (λ input. reader.new.failed ≡ 0 → writer.new.failed ≡ 0
+        → WritesSim input (W.contents writer.old.inner) (W.contents writer.new.inner) result) }
+    ensures cut { (name : List ℕ) → map S.text words.entry.now ≡ name ∷ sim_words
+        → reader.new.failed ≢ reader.old.failed → writer.new.failed ≡ 0
+        → EndsIn (fault_line Device) (W.contents writer.old.inner) (W.contents writer.new.inner)
+        × (result ≡ 1) }
+    ensures status { result ≤ 2 }
+    ensures broken { (writer.new.failed ≡ writer.old.failed) ⊎ (result ≡ 1) }
+{
+    let alloc = rt.alloc();
+    match task_of(alloc, words) {
+        Ok(Some(Task::Join)) => run_join(alloc, reader, writer),
+        Ok(Some(Task::Sim)) => run_sim(alloc, reader, writer),
+        Ok(Some(Task::Init(words))) => write_answer(
+            writer,
+            init_file(rt, words.file, words.group, words.own, &words.names),
+        ),
+        Ok(Some(Task::Edit { file, edit })) => write_answer(writer, edit_file(rt, file, &edit)),
+        Ok(Some(Task::Show { file, path })) => write_answer(writer, show_file(rt, file, path)),
+        Ok(Some(Task::Serve(words))) => {
+            run_serve(rt, words.file, words.addr, words.sessions, writer)
+        }
+        Ok(Some(Task::Sync { file, addr })) => sync_file(rt, file, addr, writer),
+        Ok(Some(Task::Pair { first, second })) => pair_files(rt, first, second, writer),
+        Ok(None) => write_fault(writer, Fault::Usage),
+        Err(error) => write_unparsed(writer, &error),
+    }
+}

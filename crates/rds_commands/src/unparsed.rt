@@ -1,0 +1,37 @@
+//! Words that are none of the program's.
+ghost use Rattle.std.specs.Prelude.{◌≡◌, ◌≤◌, Err, OnOk, OnErr};
+ghost use Rattle.clap.specs.Words.{kind_of};
+ghost use Rattle.rds_names.specs.declared.fault.Fault.TheVariants.{Memory};
+ghost use Rattle.rds_keep.specs.Counted.{one_more};
+ghost use Rattle.rds_lines.specs.Output.{AnswersStatus, Writes};
+ghost use Rattle.rds_commands.specs.Unparsed.{unparsed_status};
+
+use clap::Error;
+use clap::error::ErrorKind;
+use rds_keep::Counted;
+use rds_lines::{status_of, write_fault, write_fault_line};
+use rds_names::Fault;
+use std::io::Write;
+
+/// Writes why the words of the command line gave no task, and answers the status. Help is its text
+/// alone, with 0; want of memory is its fault. Else the text follows the line of `Usage`, with 2.
+pub fn write_unparsed<W: Write>(writer: &mut Counted<W>, error: &Error) -> u8
+    ensures memory { kind_of error.now ≡ ErrorKind.OutOfMemory → writer.new.failed ≡ 0
+        → Writes (Err Memory) (W.contents writer.old.inner) (W.contents writer.new.inner) result }
+    ensures status { AnswersStatus writer.old writer.new (unparsed_status (kind_of error.now)) result }
+    ensures within { result ≤ 2 }
+{
+    match error.kind() {
+        ErrorKind::OutOfMemory => write_fault(writer, Fault::Memory),
+        ErrorKind::DisplayHelp => status_of(writer.write_text(error), 0),
+        _ => status_of(write_usage(writer, error), 2),
+    }
+}
+
+fn write_usage<W: Write>(writer: &mut Counted<W>, error: &Error) -> Result<(), Fault>
+    ensures steady { OnOk result (writer.new.failed ≡ writer.old.failed) }
+    ensures counted { OnErr result (writer.new.failed ≡ one_more writer.old.failed) }
+{
+    write_fault_line(writer, Fault::Usage)?;
+    writer.write_text(error)
+}

@@ -1,0 +1,3 @@
+pub mod Paired
+pub mod Serving
+pub mod Takes

@@ -1,0 +1,4 @@
+pub mod Pairing
+pub mod Reports
+pub mod Settling
+pub mod Syncing

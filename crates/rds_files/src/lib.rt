@@ -1,0 +1,13 @@
+//! Replicas in files, and their sessions: over a stream with a peer, or of two files with one another.
+#![tactic(auto)]
+
+mod files;
+mod pairing;
+mod reports;
+mod settling;
+mod syncing;
+
+pub use files::{is_there, keep_file, read_file};
+pub use pairing::pair_files;
+pub use settling::{Settled, settle};
+pub use syncing::{meet, serve_file, sync_file};

@@ -1,0 +1,106 @@
+//! A session of the replicas in two files.
+ghost use Rattle.std.specs.Prelude.{◌≡◌, ◌≤◌, ◌⊎◌, ◌++◌, OnOk, OnErr};
+ghost use Rattle.std.specs.Io.KnownBytes.{Appends};
+ghost use Rattle.rds_keep.specs.Counted.{one_more};
+ghost use Rattle.rds_files.specs.Pairing.{WritesBoth, WritesPair};
+ghost use Rattle.rds_files.specs.Reports.{report_text};
+
+mod end;
+mod meeting;
+mod pending;
+
+use crate::files::read_file;
+use crate::reports::{give_up, tells_fault, write_report};
+use crate::settling::{Settled, settle};
+use meeting::{Link, connect, meet};
+use rds_dots::{DotSet, ListSet};
+use rds_keep::{Counted, Kept};
+use rds_lines::status_of;
+use rds_names::Fault;
+use rds_session::Ended;
+use std::io::Write;
+use std::net::Net;
+use std::rt::Files;
+
+/// One session of the replicas in two files, over a connection of the program to itself; the first
+/// is its client. Then what the first received is settled and told, and after that the second's.
+/// Where a file can't be read, that fault is told alone, and so is `Device` where the program can't
+/// connect. The session has at most as many turns as the writer says.
+pub fn pair_files<H: Files + Net + AllocGlobal, W: Write>(
+    rt: &H,
+    first: &str,
+    second: &str,
+    writer: &mut Counted<W>,
+) -> u8
+    ensures written { writer.new.failed ≡ 0
+        → WritesPair (W.contents writer.old.inner) (W.contents writer.new.inner) result }
+    ensures status { result ≤ 1 }
+    ensures broken { (writer.new.failed ≡ writer.old.failed) ⊎ (result ≡ 1) }
+{
+    let mut client = match open(rt, first) {
+        Ok(file) => file,
+        Err(fault) => return give_up(writer, fault),
+    };
+    let mut server = match open(rt, second) {
+        Ok(file) => file,
+        Err(fault) => return give_up(writer, fault),
+    };
+    match connect(rt) {
+        Ok(link) => pair(rt, &mut client, &mut server, link, writer),
+        Err(fault) => give_up(writer, fault),
+    }
+}
+
+// A file, and the replica that it holds.
+#[derive(Drop)]
+struct Held<'a, S: DotSet> {
+    path: &'a str,
+    kept: Kept<S>,
+}
+
+fn open<'a, H: Files + AllocGlobal>(rt: &H, path: &'a str) -> Result<Held<'a, ListSet>, Fault> {
+    let kept = read_file(rt, path)?;
+    Ok(Held { path, kept })
+}
+
+// A session over the connection, what it left in each file, and then what is told of both. Where the
+// output fails at the first, nothing of the second is told, but its delta is taken all the same.
+fn pair<H: Files + Net + AllocGlobal, S: DotSet, W: Write>(
+    rt: &H,
+    client: &mut Held<'_, S>,
+    server: &mut Held<'_, S>,
+    link: Link<H::Stream>,
+    writer: &mut Counted<W>,
+) -> u8
+    ensures written { writer.new.failed ≡ 0
+        → WritesBoth client.old.kept client.new.kept server.old.kept server.new.kept
+        (W.contents writer.old.inner) (W.contents writer.new.inner) result }
+    ensures status { result ≤ 1 }
+    ensures broken { (writer.new.failed ≡ writer.old.failed) ⊎ (result ≡ 1) }
+{
+    let (left, right) = meet(rt.alloc(), writer.turns(), &client.kept, &server.kept, link);
+    let first = settle(rt, client.path, &mut client.kept, left.received);
+    let second = settle(rt, server.path, &mut server.kept, right.received);
+    let told = tells_fault(&first, left.ended) | tells_fault(&second, right.ended);
+    status_of(
+        write_both(writer, &first, left.ended, &second, right.ended),
+        u8::from(told),
+    )
+}
+
+// Writes what one end came to, and then the other.
+fn write_both<W: Write>(
+    writer: &mut Counted<W>,
+    first: &Settled,
+    first_ended: Ended,
+    second: &Settled,
+    second_ended: Ended,
+) -> Result<(), Fault>
+    ensures bytes { OnOk result (Appends (W.contents writer.old.inner) (W.contents writer.new.inner)
+        (report_text first.now first_ended ++ report_text second.now second_ended)) }
+    ensures steady { OnOk result (writer.new.failed ≡ writer.old.failed) }
+    ensures counted { OnErr result (writer.new.failed ≡ one_more writer.old.failed) }
+{
+    write_report(writer, first, first_ended)?;
+    write_report(writer, second, second_ended)
+}

@@ -1,0 +1,85 @@
+//! What is told of a session.
+ghost use Rattle.std.specs.Prelude.{◌≡◌, ◌≤◌, ◌⊎◌, OnOk, OnErr};
+ghost use Rattle.std.specs.Io.KnownBytes.{Appends};
+ghost use Rattle.rds_keep.specs.Counted.{one_more};
+ghost use Rattle.rds_files.specs.Reports.{WritesFault, WritesReport, ended_text, report_text, settled_text, tells_fault};
+
+use crate::settling::Settled;
+use rds_keep::Counted;
+use rds_lines::{status_of, write_fault_line};
+use rds_names::Fault;
+use rds_session::Ended;
+use std::io::Write;
+
+/// Writes what a session came to, and answers the status: first what was taken into the replica in
+/// its file, or why it wasn't, then why the session failed, if it did. The status is 1 where a fault
+/// is told, else 0; where the output fails it is 1.
+pub fn report<W: Write>(writer: &mut Counted<W>, settled: &Settled, ended: Ended) -> u8
+    ensures written { writer.new.failed ≡ 0 → WritesReport settled.now ended
+        (W.contents writer.old.inner) (W.contents writer.new.inner) result }
+    ensures within { result ≤ 1 }
+    ensures broken { (writer.new.failed ≡ writer.old.failed) ⊎ (result ≡ 1) }
+{
+    status_of(
+        write_report(writer, settled, ended),
+        u8::from(tells_fault(settled, ended)),
+    )
+}
+
+/// Writes the lines of `report`, and nothing else.
+pub fn write_report<W: Write>(
+    writer: &mut Counted<W>,
+    settled: &Settled,
+    ended: Ended,
+) -> Result<(), Fault>
+    ensures bytes { OnOk result (Appends (W.contents writer.old.inner)
+        (W.contents writer.new.inner) (report_text settled.now ended)) }
+    ensures steady { OnOk result (writer.new.failed ≡ writer.old.failed) }
+    ensures counted { OnErr result (writer.new.failed ≡ one_more writer.old.failed) }
+{
+    write_settled(writer, settled)?;
+    write_ended(writer, ended)
+}
+
+/// Writes the line of the fault by which there is no session, and answers 1.
+pub fn give_up<W: Write>(writer: &mut Counted<W>, fault: Fault) -> u8
+    ensures written { writer.new.failed ≡ 0
+        → WritesFault (W.contents writer.old.inner) (W.contents writer.new.inner) result }
+    ensures status { result ≡ 1 }
+{
+    status_of(write_fault_line(writer, fault), 1)
+}
+
+/// Whether a fault's line is among them.
+pub fn tells_fault(settled: &Settled, ended: Ended) -> bool
+    ensures { result ≡ tells_fault settled.now ended }
+{
+    settled.is_fault() || matches!(ended, Ended::Failed(_))
+}
+
+fn write_settled<W: Write>(writer: &mut Counted<W>, settled: &Settled) -> Result<(), Fault>
+    ensures bytes { OnOk result (Appends (W.contents writer.old.inner)
+        (W.contents writer.new.inner) (settled_text settled.now)) }
+    ensures steady { OnOk result (writer.new.failed ≡ writer.old.failed) }
+    ensures counted { OnErr result (writer.new.failed ≡ one_more writer.old.failed) }
+{
+    match settled {
+        Settled::Nothing => Ok(()),
+        Settled::Taken(components) => {
+            writer.write_line(format_args!("{{\"taken\":{components}}}"))
+        }
+        Settled::Refused(fault) | Settled::Unkept(fault) => write_fault_line(writer, *fault),
+    }
+}
+
+fn write_ended<W: Write>(writer: &mut Counted<W>, ended: Ended) -> Result<(), Fault>
+    ensures bytes { OnOk result (Appends (W.contents writer.old.inner)
+        (W.contents writer.new.inner) (ended_text ended)) }
+    ensures steady { OnOk result (writer.new.failed ≡ writer.old.failed) }
+    ensures counted { OnErr result (writer.new.failed ≡ one_more writer.old.failed) }
+{
+    match ended {
+        Ended::Going | Ended::Done => Ok(()),
+        Ended::Failed(fault) => write_fault_line(writer, fault),
+    }
+}

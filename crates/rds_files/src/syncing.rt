@@ -1,0 +1,176 @@
+//! Sessions of the replica in a file, over the network.
+ghost use Rattle.std.specs.Prelude.{◌≡◌, ◌≤◌, ◌⊎◌};
+ghost use Rattle.rds_session.specs.Received.{HasChecked};
+ghost use Rattle.rds_session.specs.Steps.{IsOver};
+ghost use Rattle.rds_files.specs.Syncing.{IsSession, WritesSessions, WritesSync};
+
+use crate::files::read_file;
+use crate::reports::{give_up, report, tells_fault, write_report};
+use crate::settling::{Settled, settle};
+use rds_dots::{DotSet, ListSet};
+use rds_keep::{Counted, Kept};
+use rds_names::Fault;
+use rds_session::{Ended, Exchanged, Side, exchange};
+use std::alloc::Global;
+use std::io::{Read, Write};
+use std::net::{Net, OpenListener, OpenStream, Shutdown, TcpListener, TcpStream};
+use std::rt::Files;
+
+/// How many bytes are dropped at once.
+const PIECE: usize = 16_384;
+
+/// One session of the replica in the file, as the client of the peer at this address. The file is
+/// read before the address is used; a fault there, or a peer that can't be reached (`Device`), is
+/// told alone. Else the session is told as `report` does.
+pub fn sync_file<H: Files + Net + AllocGlobal, W: Write>(
+    rt: &H,
+    file: &str,
+    addr: &str,
+    writer: &mut Counted<W>,
+) -> u8
+    ensures written { writer.new.failed ≡ 0
+        → WritesSync 1 (W.contents writer.old.inner) (W.contents writer.new.inner) result }
+    ensures status { result ≤ 1 }
+    ensures broken { (writer.new.failed ≡ writer.old.failed) ⊎ (result ≡ 1) }
+{
+    let mut kept: Kept<ListSet> = match read_file(rt, file) {
+        Ok(kept) => kept,
+        Err(fault) => return give_up(writer, fault),
+    };
+    match TcpStream::connect(rt, addr) {
+        Ok(stream) => {
+            let (settled, ended) = meet(rt, Side::Client, file, &mut kept, stream);
+            report(writer, &settled, ended)
+        }
+        Err(_) => give_up(writer, Fault::Device),
+    }
+}
+
+/// So many sessions of the replica in the file, one after the other, as the server at this address.
+/// Each is told as `report` does, and the next one tells the peer what the file holds by then; a
+/// peer that can't be accepted is a session that failed. They end early where the file can't be kept
+/// or the output fails. The file is read before the address is used; a fault there, or an address
+/// that can't be had (`Device`), is told alone.
+pub fn serve_file<H: Files + Net + AllocGlobal, W: Write>(
+    rt: &H,
+    file: &str,
+    addr: &str,
+    sessions: u64,
+    writer: &mut Counted<W>,
+) -> u8
+    ensures written { writer.new.failed ≡ 0
+        → WritesSync sessions (W.contents writer.old.inner) (W.contents writer.new.inner) result }
+    ensures status { result ≤ 1 }
+    ensures broken { (writer.new.failed ≡ writer.old.failed) ⊎ (result ≡ 1) }
+{
+    let mut kept: Kept<ListSet> = match read_file(rt, file) {
+        Ok(kept) => kept,
+        Err(fault) => return give_up(writer, fault),
+    };
+    match TcpListener::bind(rt, addr) {
+        Ok(listener) => serve(rt, file, &mut kept, &listener, sessions, writer),
+        Err(_) => give_up(writer, Fault::Device),
+    }
+}
+
+// So many sessions with peers that the listener accepts.
+fn serve<H: Files + Net + AllocGlobal, S: DotSet, W: Write>(
+    rt: &H,
+    path: &str,
+    kept: &mut Kept<S>,
+    listener: &H::Listener,
+    sessions: u64,
+    writer: &mut Counted<W>,
+) -> u8
+    ensures written { writer.new.failed ≡ 0
+        → WritesSessions sessions (W.contents writer.old.inner) (W.contents writer.new.inner) result }
+    ensures status { result ≤ 1 }
+    ensures broken { (writer.new.failed ≡ writer.old.failed) ⊎ (result ≡ 1) }
+{
+    let mut told = false;
+    'sessions: for _ in 0..sessions {
+        let (settled, ended) = meet_next(rt, path, kept, listener);
+        match write_report(writer, &settled, ended) {
+            Ok(()) => (),
+            Err(_) => return 1,
+        }
+        if settled.is_unkept() {
+            return 1;
+        }
+        told |= tells_fault(&settled, ended);
+    }
+    u8::from(told)
+}
+
+// A session with the next peer that the listener accepts.
+fn meet_next<H: Files + Net + AllocGlobal, S: DotSet>(
+    rt: &H,
+    path: &str,
+    kept: &mut Kept<S>,
+    listener: &H::Listener,
+) -> (Settled, Ended)
+    ensures { IsSession kept.old kept.new result.0 result.1 }
+{
+    match listener.accept() {
+        Ok((stream, _)) => meet(rt, Side::Server, path, kept, stream),
+        Err(_) => (Settled::Nothing, Ended::Failed(Fault::Device)),
+    }
+}
+
+/// A session over the stream to its end. What it received is in the file before the peer is let go.
+pub fn meet<H: Files + AllocGlobal, S: DotSet, T: Read + Write + OpenStream + Drop>(
+    rt: &H,
+    side: Side,
+    path: &str,
+    kept: &mut Kept<S>,
+    mut stream: T,
+) -> (Settled, Ended)
+    ensures { IsSession kept.old kept.new result.0 result.1 }
+{
+    let exchanged = exchange_over(rt.alloc(), side, kept, &mut stream);
+    let settled = settle(rt, path, kept, exchanged.received);
+    hang_up(stream);
+    (settled, exchanged.ended)
+}
+
+// A session over the stream, which is read by one handle and written by another.
+fn exchange_over<S: DotSet, T: Read + Write + OpenStream + Drop>(
+    alloc: Global,
+    side: Side,
+    kept: &Kept<S>,
+    stream: &mut T,
+) -> Exchanged<S>
+    ensures checked { HasChecked kept.now result.received }
+    ensures over { IsOver result.ended }
+{
+    match stream.try_clone() {
+        Ok(mut sending) => exchange(
+            alloc,
+            side,
+            kept,
+            &mut Counted::new(stream),
+            &mut Counted::new(&mut sending),
+        ),
+        Err(_) => Exchanged {
+            received: None,
+            ended: Ended::Failed(Fault::Device),
+        },
+    }
+}
+
+// Says that nothing more is sent, and drops what the peer still sends. Nothing depends on whether that succeeds.
+fn hang_up<T: Read + OpenStream + Drop>(mut stream: T) {
+    let _ = stream.shutdown(Shutdown::Write);
+    drop_rest(&mut Counted::new(&mut stream));
+}
+
+// Reads to the end, within the reader's bound of turns.
+fn drop_rest<R: Read>(reader: &mut Counted<R>) {
+    let mut dropped = [0u8; PIECE];
+    'turns: for _ in 0..reader.turns() {
+        match reader.read(&mut dropped) {
+            Ok(0) | Err(_) => return,
+            Ok(_) => (),
+        }
+    }
+}

@@ -1,0 +1,65 @@
+-- From what the parts of `join` answer to what it answers.
+use Rattle.std.proofs.Common.{◌≡◌, ◌∙◌, ℕ, ◌<◌, ◌⊎◌, inl, inr, Bool, eqb, true, false, List, [], ◌∷◌, Result, Ok, Err, refl, sym, ap, subst, ltb, length}
+use Rattle.std.specs.Prelude.{MatchResult, IfErr}
+use Rattle.std.specs.Global.{Vec}
+use Rattle.std.proofs.lemmas.Bool.{eqb-true, lt-ltb, le-ltb}
+use Rattle.std.proofs.lemmas.List.{nil_from_length}
+use Rattle.rds_names.specs.declared.fault.Fault.{Fault}
+use Rattle.rds_names.specs.declared.fault.Fault.TheVariants.{Memory, TooLong}
+use Rattle.rds_names.specs.Roster.{RosterValue}
+use Rattle.rds_state.specs.Coordinates.{join}
+use Rattle.rds_state.specs.Fits.{Fits, ReplicaValue, IsReplica}
+use Rattle.rds_state.specs.Value.{StateValue, coordinates}
+use Rattle.rds_state.proofs.FitsLemmas.{join_fits}
+use Rattle.rds_codec.specs.Spelling.{snapshot_text}
+use Rattle.rds_codec.specs.Writing.{Encodes}
+use Rattle.rds_codec.specs.declared.limits.TheConstants.{LIMIT}
+use Rattle.rds_lines.specs.Join.{JoinedTo, TextOfJoined, AfterBoth}
+
+abbrev done : {A : Type 0} → A → Result A Fault
+done v = Ok v
+
+abbrev failed : {A : Type 0} → Fault → Result A Fault
+failed e = Err e
+
+-- a join that was refused is the answer
+pub join_refused : (rest : List ℕ) (v w : ReplicaValue) (e : Fault) → rest ≡ [] → (e ≡ Memory) ⊎ JoinedTo v w (Err e) → (e ≡ Memory) ⊎ AfterBoth rest v w (Err e)
+join_refused [] v w e none h = elim h [ inl m ↦ inl m | inr refused ↦ inr (Err e, refused, refl) ]
+join_refused (b ∷ rest) v w e none h = absurd cc
+
+text_within : (j : ReplicaValue) (text : List ℕ) → text ≡ snapshot_text j → ltb LIMIT (length (snapshot_text j)) ≡ false → TextOfJoined (Ok j) (Ok text)
+text_within j text same short = rw short (ap (λ (t : List ℕ). done t) same)
+
+text_beyond : (j : ReplicaValue) → ltb LIMIT (length (snapshot_text j)) ≡ true → TextOfJoined (Ok j) (Err TooLong)
+text_beyond j long = rw long refl
+
+-- the text of what was joined is the answer, or its fault
+pub join_encoded : (rest : List ℕ) (v w j : ReplicaValue) (r : Result (Vec ℕ) Fault) → rest ≡ [] → JoinedTo v w (Ok j) → Encodes (snapshot_text j) r
+    → MatchResult r (λ x. AfterBoth rest v w (Ok x.items)) (λ e. (e ≡ Memory) ⊎ AfterBoth rest v w (Err e))
+join_encoded (b ∷ rest) v w j r none joined text = absurd cc
+join_encoded [] v w j (Ok x) none joined text = (Ok j, joined, text_within j x.items text.0 (le-ltb LIMIT (length (snapshot_text j)) text.1))
+join_encoded [] v w j (Err e) none joined text = elim text [
+  | inl m ↦ inl m.0
+  | inr long ↦ inr (Ok j, joined, rw long.0 (text_beyond j (lt-ltb LIMIT (length (snapshot_text j)) long.1)))
+]
+
+-- the parts of a replica with another's state joined in are a replica's
+pub joined_is_replica : (v w x : ReplicaValue) (s : StateValue) → IsReplica v → Fits (length w.roster.names) (coordinates w.state) → v.roster ≡ w.roster → x.roster ≡ v.roster → x.own ≡ v.own → x.state ≡ v.state → s ≡ w.state
+    → (joined : StateValue) → coordinates joined ≡ join (coordinates x.state) (coordinates s) → (let r : ReplicaValue = record { roster = x.roster; own = x.own; state = joined } in IsReplica r)
+joined_is_replica v w x s is fits rosters roster own state other joined e =
+    let n = length v.roster.names in
+    let same : length w.roster.names ≡ n = ap (λ (r : RosterValue). length r.names) (sym rosters) in
+    let second : Fits n (coordinates s) = subst (λ (t : StateValue). Fits n (coordinates t)) (sym other) (subst (λ (k : ℕ). Fits k (coordinates w.state)) same fits) in
+    let first : Fits n (coordinates x.state) = subst (λ (t : StateValue). Fits n (coordinates t)) (sym state) is.fits in
+    let both : Fits n (coordinates joined) = subst (Fits n) (sym e) (join_fits n (coordinates x.state) (coordinates s) first second) in
+    let names : n ≡ length x.roster.names = ap (λ (r : RosterValue). length r.names) (sym roster) in
+    record { own = subst (λ (k : ℕ). x.own < k) names (subst (λ (k : ℕ). k < n) (sym own) is.own); fits = subst (λ (k : ℕ). Fits k (coordinates joined)) names both }
+
+-- what is refused only where it isn't so isn't refused where it is
+pub not_refused : {T X : Type 0} (B : Fault → Type 0) (r : Result T Fault) (e : Fault) → MatchResult r (λ _. X) (λ f. (f ≡ e) × (¬ X)) → X → IfErr r B
+not_refused B (Ok t) e h x = tt
+not_refused B (Err f) e h x = absurd (h.1 x)
+
+-- a list that was found to be empty
+pub emptied : {A : Type 0} (xs : List A) (b : Bool) → b ≡ eqb (length xs) 0 → b ≡ true → xs ≡ []
+emptied xs b e is = nil_from_length xs (eqb-true _ _ (sym e ∙ is))

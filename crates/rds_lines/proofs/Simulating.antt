@@ -1,0 +1,155 @@
+-- Lines that are met one after the other.
+use Rattle.std.proofs.Common.{◌≡◌, ◌∙◌, ◌≤◌, ◌⊎◌, ◌++◌, ◌||◌, ℕ, Bool, List, length, Option, Some, None, Result, Ok, Err, refl, sym, ap, subst, inl, inr, slice_get, arith}
+use Rattle.std.specs.Prelude.{IfOk, IfErr, IfSome}
+use Rattle.std.proofs.lemmas.Option.{slice_get_cases}
+use Rattle.rds_names.specs.declared.fault.Fault.{Fault}
+use Rattle.rds_names.specs.declared.fault.Fault.TheVariants.{Memory, NoSuch}
+use Rattle.rds_names.specs.Roster.{RosterValue}
+use Rattle.rds_state.specs.Fits.{ReplicaValue}
+use Rattle.rds_json.specs.declared.line.Line.{Line}
+use Rattle.rds_json.specs.declared.line.Line.TheVariants as lines
+use Rattle.rds_world.specs.Events.{IsAccepted, IsDone, Refuses}
+use Rattle.rds_world.specs.Stands.{Stands, state_of}
+use Rattle.rds_world.specs.Stored.{WorldValue}
+use Rattle.rds_world.specs.World.{World, Question, Reply, after, answered, taken, start}
+use Rattle.rds_world.specs.declared.event.Event.{Event}
+use Rattle.rds_world.specs.declared.event.Event.TheVariants.{Edit, Save, Crash, Ask, Answer as Answering, Take}
+use Rattle.rds_world.specs.declared.event.Done.{Done as Outcome}
+use Rattle.rds_lines.specs.Answer.{is_refusal}
+use Rattle.rds_lines.specs.Answering.{WritesAnswers, answer_line}
+use Rattle.rds_lines.specs.Views.{ShowsView}
+use Rattle.rds_lines.specs.Lines.{lines_in}
+use Rattle.rds_lines.specs.Output.{Writes}
+use Rattle.rds_lines.specs.Run.{WritesSim}
+use Rattle.rds_lines.specs.Sim.{Group, MeetsBytes, MeetsFirst, MeetsLines, MeetsRequest, done_answer, opening, request_of}
+use Rattle.rds_lines.specs.Simulated.{IsGroup, LeadsTo, LineLeadsTo, StandsFor, answer_of}
+use Rattle.rds_lines.specs.declared.answer.Answer.{Answer}
+use Rattle.rds_lines.specs.declared.answer.Answer.TheVariants.{Done, Refused}
+use Rattle.rds_lines.specs.declared.sim.Request.{Request}
+use Rattle.rds_lines.specs.declared.sim.Request.TheVariants as requests
+
+answered_replicas : (w : World) (s k : ℕ) (q : Option Question) → (answered w s k q).replicas ≡ w.replicas
+answered_replicas w s k None = refl
+answered_replicas w s k (Some q) = refl
+
+taken_replicas : (w : World) (m : Option Reply) → (taken w m).replicas ≡ w.replicas
+taken_replicas w None = refl
+taken_replicas w (Some m) = refl
+
+-- no event adds a replica
+replicas_stay : (w : World) (e : Event) → (after w e).replicas ≡ w.replicas
+replicas_stay w (Edit r c) = refl
+replicas_stay w (Save r) = refl
+replicas_stay w (Crash r) = refl
+replicas_stay w (Ask r) = refl
+replicas_stay w (Answering s k) = answered_replicas w s k (slice_get w.asks k)
+replicas_stay w (Take k) = taken_replicas w (slice_get w.answers k)
+
+pub happened : (v new : WorldValue) (e : Event) (done : Outcome) (answer : Answer) → ((w : World) → Stands v w → IsAccepted v w e) → ((w : World) → Stands v w → Stands new (after w e))
+    → ((w : World) → Stands v w → IsDone v w e done) → new.roster ≡ v.roster → answer ≡ done_answer new.roster done → (now : Group) → LeadsTo v now e (Ok answer) new
+happened v new e done answer accepted stands is_done same told now h =
+    let roster : new.roster ≡ now.roster = same ∙ h.roster in (
+      record now { world = after now.world e },
+      record { stands = stands now.world h.stands; roster = roster; whole = replicas_stay now.world e ∙ h.whole },
+      record {
+        value = v;
+        stands = h.stands;
+        roster = h.roster;
+        met = inl (record {
+          accepted = accepted now.world h.stands;
+          outcome = done;
+          done = is_done now.world h.stands;
+          told = told ∙ ap (λ (r : RosterValue). done_answer r done) roster;
+          next_is = refl;
+        });
+      },
+    )
+
+pub stopped : (v new : WorldValue) (e : Event) (fault : Fault) → ((w : World) → Stands v w → Refuses v w e fault) → new ≡ v → (now : Group) → LeadsTo v now e (Err fault) new
+stopped v new e fault refused same now h = (
+  now,
+  subst (λ (x : WorldValue). StandsFor x now) (sym same) h,
+  record { value = v; stands = h.stands; roster = h.roster; met = inr (record { fault = fault; refused = refused now.world h.stands; told = (refl, refl) }) },
+)
+
+-- ---- a line of replicas that are there
+
+asked_here : (v : WorldValue) (line : Line) (due : Result Request Fault) → request_of v.roster line ≡ due → (now : Group) → StandsFor v now → due ≡ request_of now.roster line
+asked_here v line due is now h = sym is ∙ ap (λ (r : RosterValue). request_of r line) h.roster
+
+pub line_refused : (v : WorldValue) (line : Line) (fault : Fault) → request_of v.roster line ≡ Err fault → (now : Group) → LineLeadsTo (Some v) (Some now) line (Err fault) (Some v)
+line_refused v line fault is now h = (Some now, h, inr (subst (λ (r : Result Request Fault). MeetsRequest now r (Refused fault) (Some now)) (asked_here v line (Err fault) is now h) (refl, refl)))
+
+pub line_happens : (v new : WorldValue) (line : Line) (e : Event) (result : Result Answer Fault) → request_of v.roster line ≡ Ok (requests.Event e) → ((now : Group) → LeadsTo v now e result new)
+    → (now : Group) → LineLeadsTo (Some v) (Some now) line result (Some new)
+line_happens v new line e result is leads now h =
+    let m = leads now h in
+    (Some m.0, m.1, inr (subst (λ (r : Result Request Fault). MeetsRequest now r (answer_of result) (Some m.0)) (asked_here v line (Ok (requests.Event e)) is now h) m.2))
+
+nothing_there : (xs : List ReplicaValue) (i : ℕ) → slice_get xs i ≡ None → length xs ≤ i
+nothing_there xs i none = elim (slice_get_cases xs i).1 [
+  | inl there ↦ absurd (some_isnt_none there.0 (sym there.2 ∙ none))
+  | inr past ↦ past.0
+]
+  where
+    some_isnt_none : (m : ReplicaValue) → Some m ≡ None → ⊥
+    some_isnt_none m e = absurd cc
+
+pub line_shows : (v : WorldValue) (line : Line) (number : ℕ) (path : List (List ℕ)) (result : Result Answer Fault) → request_of v.roster line ≡ Ok (requests.Show number path)
+    → IfOk result (λ answer. (replica : ReplicaValue) × (slice_get v.memory number ≡ Some replica) × ShowsView replica.state path answer)
+    → IfErr result (λ fault. (fault ≡ Memory) ⊎ ((fault ≡ NoSuch) × (slice_get v.memory number ≡ None)))
+    → (now : Group) → LineLeadsTo (Some v) (Some now) line result (Some v)
+line_shows v line number path (Ok answer) is ok err now h =
+    let meets = λ (r : Result Request Fault). MeetsRequest now r answer (Some now) in
+    let memory = sym (h.stands.memory number ∙ ap state_of ok.1) in
+    (Some now, h, inr (subst meets (asked_here v line (Ok (requests.Show number path)) is now h) (inr (record { state = ok.0.state; memory = memory; shown = ok.2; next_is = refl }))))
+line_shows v line number path (Err fault) is ok err now h =
+    let meets = λ (r : Result Request Fault). MeetsRequest now r (Refused fault) (Some now) in
+    elim err [
+      | inl memory ↦ (Some now, h, inl (ap Refused memory, refl))
+      | inr absent ↦ (
+        Some now,
+        h,
+        inr (subst meets (asked_here v line (Ok (requests.Show number path)) is now h)
+            (inl (omega (arith, nothing_there v.memory number absent.1, h.stands.replicas), (ap Refused absent.0, refl)))),
+      )
+    ]
+
+-- ---- a line, whether there is a group or none
+
+world_opens : (roster : RosterValue) (world : WorldValue) → (world.roster ≡ roster) × Stands world (start (length roster.names)) → LineLeadsTo None None (lines.Roster roster) (Ok Done) (Some world)
+world_opens roster world h none = (Some (opening roster), record { stands = h.1; roster = h.0; whole = refl }, inr (refl, refl))
+
+pub worlds_open : (roster : RosterValue) (opened : Result WorldValue Fault) → IfOk opened (λ world. Stands world (start (length roster.names))) → IfOk opened (λ world. world.roster ≡ roster)
+    → IfOk opened (λ world. LineLeadsTo None None (lines.Roster roster) (Ok Done) (Some world))
+worlds_open roster (Ok world) stands same = world_opens roster world (same, stands)
+worlds_open roster (Err fault) stands same = tt
+
+-- a line's answer, and what is written for those after it
+pub first_met : (bytes : List ℕ) (lines : List (List ℕ)) (out : List ℕ) (refused : Bool) (result : Result Answer Fault) (new : Option WorldValue) (now : Option Group)
+    → (next : Option Group) × IsGroup new next × MeetsBytes now bytes (answer_of result) next → ((next : Option Group) → IsGroup new next → MeetsLines lines next out refused)
+    → MeetsFirst now bytes (MeetsLines lines) (answer_line (answer_of result) ++ out) (is_refusal (answer_of result) || refused)
+first_met bytes lines out refused result new now m later = record {
+  answer = answer_of result;
+  next = m.0;
+  met = m.2;
+  rest = out;
+  more = refused;
+  later = later m.0 m.1;
+  out_is = refl;
+  refused_is = refl;
+}
+
+-- ---- a whole run
+
+pub sim_written : (o a b : Option (List ℕ)) (world : Option WorldValue) (read wrote status : ℕ) → world ≡ None
+    → IfSome o (λ input. read ≡ 0 → wrote ≡ 0 → WritesAnswers (λ out refused. (now : Option Group) → IsGroup world now → MeetsLines (lines_in input) now out refused) a b status)
+    → IfSome o (λ input. read ≡ 0 → wrote ≡ 0 → WritesSim input a b status)
+sim_written None a b world read wrote status none h = tt
+sim_written (Some input) a b world read wrote status none h = λ steady written.
+    let p = h steady written in
+    inr (p.0, p.1, p.2 None (subst (λ (w : Option WorldValue). IsGroup w None) (sym none) tt), p.3, p.4)
+
+pub sim_unwritten : (o a b : Option (List ℕ)) (read wrote status : ℕ) → (wrote ≡ 0 → Writes (Err Memory) a b status) → IfSome o (λ input. read ≡ 0 → wrote ≡ 0 → WritesSim input a b status)
+sim_unwritten None a b read wrote status h = tt
+sim_unwritten (Some input) a b read wrote status h = λ steady written. inl (h written)

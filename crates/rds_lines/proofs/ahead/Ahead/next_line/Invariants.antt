@@ -1,0 +1,15 @@
+use Rattle.std.proofs.Common.{◌≡◌, ◌<◌, ◌≤◌, true}
+use Rattle.rds_lines.specs.Ahead.{left_of, untaken}
+use Rattle.rds_lines.proofs.Pieces.{Walks}
+use Rattle.rds_lines.proofs.ahead.Ahead.next_line.Given as goal
+
+abbrev pub invariant-pieces : goal.invariant-pieces
+invariant-pieces g l = record {
+  walks : Walks (untaken l.initial.self (g.R.Read.remaining l.initial.reader.inner)) (untaken l.self (g.R.Read.remaining l.reader.inner)) l.line l.begun;
+  steady : l.reader.failed ≡ l.initial.reader.failed;
+  within : left_of l.self ≤ left_of l.initial.self;
+  less : l.begun ≡ true → left_of l.self < left_of l.initial.self;
+}
+
+abbrev pub decreases-pieces : goal.decreases-pieces
+decreases-pieces g l = left_of l.self

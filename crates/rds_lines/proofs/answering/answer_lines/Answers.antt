@@ -1,0 +1,42 @@
+use Rattle.std.proofs.Common.{◌∙◌, ◌||◌, ap, cond, sym, subst, Bool}
+use Rattle.std.proofs.KnownBytes.{Appends-trans}
+use Rattle.rds_lines.specs.Ahead.{TakesLine, untaken}
+use Rattle.rds_lines.proofs.Answered.{Runs, ends_in, runs_last, runs_on}
+use Rattle.rds_lines.proofs.answering.answer_lines.Goals as goal
+
+pub returns-then-refused-clause-answered : goal.returns-then-refused-clause-answered
+returns-then-refused-clause-answered g c =
+    let now = untaken c.lines.ahead (g.R.Read.remaining c.lines.reader.inner) in
+    let next = untaken c.next_line.new.self (g.R.Read.remaining c.next_line.new.reader.inner) in
+    runs_last g.A.Answers.may_answer (g.R.Read.remaining c.args.reader.now.inner) now next (g.W.Write.contents c.args.writer.now.inner) (g.W.Write.contents c.lines.writer.inner) c.args.answers.now c.lines.answers c.lines.refused _ _ 1
+    c.lines.invariant.runs (subst (TakesLine now next) c.in-Ok-None.field-0-is c.in-Ok-None.ensures.taken) g.met.A.Answers.ends (sym (ap (λ (b : Bool). cond b 1 0) c.if-refused.true))
+
+pub returns-else-refused-clause-answered : goal.returns-else-refused-clause-answered
+returns-else-refused-clause-answered g c =
+    let now = untaken c.lines.ahead (g.R.Read.remaining c.lines.reader.inner) in
+    let next = untaken c.next_line.new.self (g.R.Read.remaining c.next_line.new.reader.inner) in
+    runs_last g.A.Answers.may_answer (g.R.Read.remaining c.args.reader.now.inner) now next (g.W.Write.contents c.args.writer.now.inner) (g.W.Write.contents c.lines.writer.inner) c.args.answers.now c.lines.answers c.lines.refused _ _ 0
+    c.lines.invariant.runs (subst (TakesLine now next) c.in-Ok-None.field-0-is c.in-Ok-None.ensures.taken) g.met.A.Answers.ends (sym (ap (λ (b : Bool). cond b 1 0) c.if-refused.false))
+
+pub returns-in-Err-clause-unread : goal.returns-in-Err-clause-unread
+returns-in-Err-clause-unread g c = λ read wrote.
+    ends_in (g.W.Write.contents c.args.writer.now.inner) (g.W.Write.contents c.lines.writer.inner) (g.W.Write.contents c.write_fault.new.writer.inner) c.in-Err.fault c.write_fault.result c.lines.invariant.told
+    c.in-Err.ensures.fault.0 (c.write_fault.ensures.written wrote)
+
+pub lines-preserved : goal.lines-preserved
+lines-preserved g c =
+    let first = g.R.Read.remaining c.args.reader.now.inner in
+    let now = untaken c.lines.ahead (g.R.Read.remaining c.lines.reader.inner) in
+    let next = untaken c.next_line.new.self (g.R.Read.remaining c.next_line.new.reader.inner) in
+    let before = g.W.Write.contents c.args.writer.now.inner in
+    let after = g.W.Write.contents c.lines.writer.inner in
+    let later = g.W.Write.contents c.write_line.new.self.inner in
+    let taken = subst (TakesLine now next) c.in-Ok-Some.field-0-is c.in-Ok-Some.ensures.taken in
+    let on = runs_on g.A.Answers.may_answer first now next before after later c.args.answers.now c.lines.answers c.answer-answer.new.self c.lines.refused _ c.in-Ok-Some.line _
+    c.lines.invariant.runs taken c.in-Ok.ensures.bytes c.answer-answer.ensures in
+    record {
+      runs = subst (λ (b : Bool). Runs g.A.Answers.may_answer first next before later c.args.answers.now c.answer-answer.new.self (c.lines.refused || b)) (sym c.is_refusal-refused.ensures) on;
+      told = (_, Appends-trans before after later c.lines.invariant.told.0 _ c.lines.invariant.told.1 c.in-Ok.ensures.bytes);
+      read = c.in-Ok-Some.ensures.steady ∙ c.lines.invariant.read;
+      wrote = c.in-Ok.ensures.steady ∙ c.lines.invariant.wrote;
+    }

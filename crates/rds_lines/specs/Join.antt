@@ -1,0 +1,72 @@
+-- What joining an input of two lines answers: a text, or the first fault that is due.
+use Rattle.std.specs.Prelude.{◌≡◌, ◌≢◌, ℕ, ◌⊎◌, nat_lt, List, [], ◌∷◌, length, Result, Ok, Err, MatchBool}
+use Rattle.hex.specs.Hex.{decode_of}
+use Rattle.rds_names.specs.declared.fault.Fault.{Fault}
+use Rattle.rds_names.specs.declared.fault.Fault.TheVariants.{Memory, Conflict, Bad, Extra, TooLong, WrongGroup, WrongRoster}
+use Rattle.rds_life.specs.Life.{IsFirstConflict}
+use Rattle.rds_state.specs.Coordinates.{AreCompatible, join}
+use Rattle.rds_state.specs.Value.{coordinates}
+use Rattle.rds_codec.specs.Decoding.{Decodes}
+use Rattle.rds_codec.specs.Kinds.{snapshot_kind}
+use Rattle.rds_lines.specs.Lines.{line_of, after_line}
+use Rattle.rds_state.specs.Fits.{ReplicaValue}
+use Rattle.rds_codec.specs.Spelling.{snapshot_text}
+use Rattle.rds_codec.specs.declared.limits.TheConstants.{LIMIT}
+
+abbrev pub line_limit : ℕ
+line_limit = 536870912
+
+-- the bytes of the digits are decoded, or there are other characters
+abbrev pub DigitsRead : {E : Type 0} → Result (List ℕ) E → Result ReplicaValue Fault → Type 0
+DigitsRead (Ok bytes) r = Decodes snapshot_kind bytes r
+DigitsRead (Err e) r = r ≡ Err Bad
+
+-- a line over the limit is too long, whatever it holds
+abbrev pub LineRead : List ℕ → Result ReplicaValue Fault → Type 0
+LineRead line r = MatchBool (nat_lt line_limit (length line)) (r ≡ Err TooLong) (DigitsRead (decode_of line) r)
+
+-- what a line is read as, where there is memory
+abbrev pub ReadsLine : List ℕ → Result ReplicaValue Fault → Type 0
+ReadsLine line r = (r ≢ Err Memory) × LineRead line r
+
+-- the join of the states, with the first one's roster and number
+pub record IsJoined (first second both : ReplicaValue) : Type 0 where
+  pub same_roster : first.roster ≡ second.roster
+  pub compatible : AreCompatible (coordinates first.state) (coordinates second.state)
+  pub roster : both.roster ≡ first.roster
+  pub own : both.own ≡ first.own
+  pub state : coordinates both.state ≡ join (coordinates first.state) (coordinates second.state)
+
+-- what two snapshots are joined to, or why they can't be
+abbrev pub JoinedTo : ReplicaValue → ReplicaValue → Result ReplicaValue Fault → Type 0
+JoinedTo v w (Ok both) = IsJoined v w both
+JoinedTo v w (Err WrongGroup) = v.roster.group ≢ w.roster.group
+JoinedTo v w (Err WrongRoster) = (v.roster.group ≡ w.roster.group) × (v.roster.names ≢ w.roster.names)
+JoinedTo v w (Err (Conflict replica seq)) = (v.roster ≡ w.roster) × IsFirstConflict v.state.lives w.state.lives (record { replica = replica; seq = seq })
+JoinedTo v w (Err _) = ⊥
+
+-- the text of what was joined, where it is within the limit
+abbrev pub TextOfJoined : Result ReplicaValue Fault → Result (List ℕ) Fault → Type 0
+TextOfJoined (Ok both) r = MatchBool (nat_lt LIMIT (length (snapshot_text both))) (r ≡ Err TooLong) (r ≡ Ok (snapshot_text both))
+TextOfJoined (Err e) r = r ≡ Err e
+
+-- nothing may follow the second line
+abbrev pub AfterBoth : List ℕ → ReplicaValue → ReplicaValue → Result (List ℕ) Fault → Type 0
+AfterBoth (b ∷ rest) v w r = r ≡ Err Extra
+AfterBoth [] v w r = (joined : Result ReplicaValue Fault) × JoinedTo v w joined × TextOfJoined joined r
+
+abbrev pub AfterSecond : List ℕ → ReplicaValue → Result ReplicaValue Fault → Result (List ℕ) Fault → Type 0
+AfterSecond rest v (Ok w) r = AfterBoth rest v w r
+AfterSecond rest v (Err e) r = r ≡ Err e
+
+abbrev pub AfterFirst : List ℕ → Result ReplicaValue Fault → Result (List ℕ) Fault → Type 0
+AfterFirst rest (Ok v) r = (second : Result ReplicaValue Fault) × ReadsLine (line_of rest) second × AfterSecond (after_line rest) v second r
+AfterFirst rest (Err e) r = r ≡ Err e
+
+-- the first line is read first; a fault of it is the answer
+abbrev pub JoinsTo : List ℕ → Result (List ℕ) Fault → Type 0
+JoinsTo input r = (first : Result ReplicaValue Fault) × ReadsLine (line_of input) first × AfterFirst (after_line input) first r
+
+-- the same, or memory ran out
+abbrev pub MayJoinTo : List ℕ → Result (List ℕ) Fault → Type 0
+MayJoinTo input r = (r ≡ Err Memory) ⊎ JoinsTo input r

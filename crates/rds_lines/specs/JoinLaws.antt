@@ -1,0 +1,32 @@
+-- What the answer to two snapshots is, in terms of the snapshots alone.
+use Rattle.std.specs.Prelude.{◌≡◌, ◌≤◌, ◌⊎◌, ℕ, List, [], length, Result, Ok, Err}
+use Rattle.hex.specs.Hex.{decode_of}
+use Rattle.rds_names.specs.declared.fault.Fault.{Fault}
+use Rattle.rds_names.specs.declared.fault.Fault.TheVariants.{Memory}
+use Rattle.rds_codec.specs.Values.{IsSnapshot}
+use Rattle.rds_lines.specs.Join.{JoinedTo, MayJoinTo, TextOfJoined}
+use Rattle.rds_lines.specs.Lines.{line_of, after_line}
+use Rattle.rds_state.specs.Fits.{ReplicaValue}
+use Rattle.rds_codec.specs.Spelling.{snapshot_text}
+use Rattle.rds_codec.specs.declared.limits.TheConstants.{LIMIT}
+
+-- a line is the snapshot's text in hex digits of either case
+pub record SpellsLine (line : List ℕ) (v : ReplicaValue) : Type 0 where
+  pub is_snapshot : IsSnapshot v
+  pub digits : decode_of line ≡ Ok (snapshot_text v)
+  pub within : length (snapshot_text v) ≤ LIMIT
+
+-- the input is the lines of two snapshots, and nothing more
+pub record SpellsBoth (input : List ℕ) (v w : ReplicaValue) : Type 0 where
+  pub first : SpellsLine (line_of input) v
+  pub second : SpellsLine (line_of (after_line input)) w
+  pub ended : after_line (after_line input) ≡ []
+
+-- two snapshots are joined to one thing alone
+abbrev pub IsJoinedOnce : Type 0
+IsJoinedOnce = (v w : ReplicaValue) (a b : Result ReplicaValue Fault) → JoinedTo v w a → JoinedTo v w b → a ≡ b
+
+-- whatever is answered for the lines of two snapshots is the text of their join, or why there is none, or memory ran out
+abbrev pub AnswersSpelled : Type 0
+AnswersSpelled = (input : List ℕ) (v w : ReplicaValue) (joined : Result ReplicaValue Fault) (r : Result (List ℕ) Fault)
+    → SpellsBoth input v w → JoinedTo v w joined → MayJoinTo input r → TextOfJoined joined r ⊎ (r ≡ Err Memory)

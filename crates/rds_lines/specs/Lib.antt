@@ -1,0 +1,12 @@
+pub mod Ahead
+pub mod Answer
+pub mod Answering
+pub mod Join
+pub mod JoinLaws
+pub mod Lines
+pub mod Output
+pub mod Refusal
+pub mod Run
+pub mod Sim
+pub mod Simulated
+pub mod Views

@@ -1,0 +1,154 @@
+//! The lines of a reader, one after the other.
+ghost use Rattle.std.specs.Prelude.{◌≡◌, ◌++◌, ◌<◌, ◌≤◌, List, ℕ, [], length, MatchBool, IfOk, IfErr, OnOk, OnSome};
+ghost use Rattle.std.specs.Io.KnownBytes.{IsAtEnd, Keeps};
+ghost use Rattle.rds_names.specs.declared.fault.Fault.TheVariants.{Device};
+ghost use Rattle.rds_keep.specs.Counted.{HasFailed};
+ghost use Rattle.rds_lines.specs.Ahead.{IsHeld, TakesLine, left_of, untaken};
+ghost use Rattle.rds_lines.specs.Lines.{ReadsText, after_line, line_of};
+
+use crate::lines::split_line;
+use rds_keep::Counted;
+use rds_names::Fault;
+use std::alloc::Global;
+use std::io::Read;
+use std::marker::Model;
+
+/// The most bytes of a line, without its newline.
+const LINE_LIMIT: usize = 65_536;
+
+/// How many bytes one call of a reader is asked for.
+const ROOM: usize = 8_192;
+
+/// Bytes that were read and not yet taken, and how many reads may follow.
+#[derive(Drop)]
+pub struct Ahead {
+    chunk: [u8; ROOM],
+    at: usize,
+    end: usize,
+    turns: u64,
+}
+
+impl Model for Ahead {
+    ghost use Rattle.std.specs.Prelude.{◌-◌, ◌≤◌, take, drop};
+    ghost use Rattle.rds_lines.specs.Ahead.{AheadValue, ahead_code};
+
+    ghost Value = { AheadValue };
+
+    ghost coded = { ahead_code };
+
+    ghost view = { λ a. record { bytes = take (a.end - a.at) (drop a.at a.chunk); turns = a.turns } };
+
+    ghost invariant = { λ a. (a.at ≤ a.end) × (a.end ≤ 8192) };
+}
+
+impl Ahead {
+    /// Nothing was read yet, and so many reads may follow.
+    pub fn new(turns: u64) -> Ahead
+        ensures { result ≡ record { bytes = []; turns = turns } }
+    {
+        Ahead {
+            chunk: [0; ROOM],
+            at: 0,
+            end: 0,
+            turns,
+        }
+    }
+
+    /// Takes the next line, without its newline, which the last may lack. None is the end of the
+    /// input. One that is over 65,536 bytes or no UTF-8 is `BadLine`, and one for which there is no
+    /// memory is `Memory`: it is taken whole and not held. `Device` outside is a reader that
+    /// failed, or that had no more turns.
+    pub fn next_line<R: Read>(
+        &mut self,
+        alloc: Global,
+        reader: &mut Counted<R>,
+    ) -> Result<Option<Result<String, Fault>>, Fault>
+        ensures taken { IfOk result (TakesLine (untaken self.old (R.remaining reader.old.inner))
+            (untaken self.new (R.remaining reader.new.inner))) }
+        ensures fault { IfErr result (λ e. (e ≡ Device) × HasFailed reader.old reader.new) }
+        ensures steady { OnOk result (reader.new.failed ≡ reader.old.failed) }
+        ensures falls { IfOk result (λ line. OnSome line (left_of self.new < left_of self.old)) }
+    {
+        let mut line = Ok(Vec::new(alloc));
+        let mut begun = false;
+        'pieces: loop {
+            self.fill(reader)?;
+            if self.is_empty() {
+                return Ok(if begun { Some(text_of(line)) } else { None });
+            }
+            begun = true;
+            let (longer, ended) = self.take_piece(line);
+            if ended {
+                return Ok(Some(text_of(longer)));
+            }
+            line = longer;
+        }
+    }
+
+    // Reads where nothing is ahead.
+    fn fill<R: Read>(&mut self, reader: &mut Counted<R>) -> Result<(), Fault>
+        ensures kept { OnOk result (Keeps (untaken self.old (R.remaining reader.old.inner))
+            (untaken self.new (R.remaining reader.new.inner))) }
+        ensures end { OnOk result (self.new.bytes ≡ [] → IsAtEnd (R.remaining reader.new.inner)) }
+        ensures fault { IfErr result (λ e. (e ≡ Device) × HasFailed reader.old reader.new) }
+        ensures steady { OnOk result (reader.new.failed ≡ reader.old.failed) }
+        ensures falls { OnOk result (left_of self.new ≤ left_of self.old) }
+    {
+        if self.at < self.end {
+            return Ok(());
+        }
+        if self.turns == 0 {
+            return Err(reader.fail());
+        }
+        self.turns -= 1;
+        let taken = reader.read(&mut self.chunk)?;
+        self.at = 0;
+        self.end = taken;
+        Ok(())
+    }
+
+    // Whether nothing is ahead.
+    fn is_empty(&self) -> bool
+        ensures { MatchBool result (self.now.bytes ≡ []) (0 < length self.now.bytes) }
+    {
+        self.at == self.end
+    }
+
+    // Takes the bytes before the first newline to a line, and the newline. Whether the line has
+    // ended is answered too.
+    fn take_piece(&mut self, line: Result<Vec<u8>, Fault>) -> (Result<Vec<u8>, Fault>, bool)
+        ensures line { (taken : List ℕ) → IsHeld taken line
+            → IsHeld (taken ++ line_of self.old.bytes) result.0 }
+        ensures ended { MatchBool result.1 (length (line_of self.old.bytes) < length self.old.bytes)
+            (length self.old.bytes ≤ length (line_of self.old.bytes)) }
+        ensures rest { self.new ≡ record self.old { bytes = after_line self.old.bytes } }
+    {
+        let (piece, rest) = split_line(&self.chunk[self.at..self.end]);
+        let ended = piece.len() < self.end - self.at;
+        let longer = extended(line, piece);
+        self.at = self.end - rest.len();
+        (longer, ended)
+    }
+}
+
+// A line with a piece at its end.
+fn extended(line: Result<Vec<u8>, Fault>, piece: &[u8]) -> Result<Vec<u8>, Fault>
+    ensures { (taken : List ℕ) → IsHeld taken line → IsHeld (taken ++ piece.now) result }
+{
+    let mut bytes = line?;
+    if LINE_LIMIT < bytes.len() + piece.len() {
+        return Err(Fault::BadLine);
+    }
+    bytes.extend_from_slice(piece)?;
+    Ok(bytes)
+}
+
+// The text of a line that was taken whole.
+fn text_of(line: Result<Vec<u8>, Fault>) -> Result<String, Fault>
+    ensures { (taken : List ℕ) → IsHeld taken line → ReadsText taken result }
+{
+    match String::from_utf8(line?) {
+        Ok(text) => Ok(text),
+        Err(_) => Err(Fault::BadLine),
+    }
+}

@@ -1,0 +1,70 @@
+//! Lines that are answered one after the other.
+ghost use Rattle.std.specs.Prelude.{◌≡◌, ◌≢◌, ◌≤◌, ◌++◌, ◌∷◌, ◌||◌, ◌⊎◌, IfSome};
+ghost use Rattle.rds_names.specs.declared.fault.Fault.TheVariants.{Device};
+ghost use Rattle.rds_lines.specs.Answering.{EndsIn, WritesAnswers};
+ghost use Rattle.rds_lines.specs.Lines.{lines_in};
+ghost use Rattle.rds_lines.specs.Output.{fault_line};
+
+use crate::ahead::Ahead;
+use crate::answer::Answer;
+use crate::output::write_fault;
+use rds_keep::Counted;
+use rds_names::Fault;
+use std::alloc::Global;
+use std::io::{Read, Write};
+
+/// What answers lines, one after the other. `may_answer` says what lines may be answered from here
+/// on: all that is written, and whether one of them is refused.
+pub trait Answers {
+    ghost use Rattle.std.specs.Prelude.{◌≡◌, ◌++◌, ◌∷◌, ◌||◌, [], ℕ, Bool, false, List};
+    ghost use Rattle.rds_lines.specs.Answer.{is_refusal};
+    ghost use Rattle.rds_lines.specs.Answering.{answer_line};
+    ghost use Rattle.rds_lines.specs.Lines.{ReadsText};
+
+    ghost may_answer: { Self → List (List ℕ) → List ℕ → Bool → Type 0 };
+
+    /// Answers a line, by its text or why there is none.
+    fn answer(&mut self, alloc: Global, line: Result<String, Fault>) -> Answer
+        ensures { (bytes : List ℕ) (lines : List (List ℕ)) (out : List ℕ) (refused : Bool)
+            → ReadsText bytes line → may_answer self.new lines out refused
+            → may_answer self.old (bytes ∷ lines) (answer_line result ++ out) (is_refusal result || refused) };
+
+    /// Where no line is left nothing is written.
+    ghost ends: { (a : Self) → may_answer a [] [] false };
+}
+
+/// Answers each line that the reader holds, and answers the status: 0, or 1 where one was refused.
+/// Where the reader fails, the line of `Device` follows the answers so far, with 1; where the
+/// output fails it is 1.
+pub fn answer_lines<A: Answers, R: Read, W: Write>(
+    alloc: Global,
+    answers: &mut A,
+    reader: &mut Counted<R>,
+    writer: &mut Counted<W>,
+) -> u8
+    ensures answered { IfSome (R.remaining reader.old.inner)
+        (λ input. reader.new.failed ≡ 0 → writer.new.failed ≡ 0
+        → WritesAnswers (A.may_answer answers.old (lines_in input))
+        (W.contents writer.old.inner) (W.contents writer.new.inner) result) }
+    ensures unread { reader.new.failed ≢ reader.old.failed → writer.new.failed ≡ 0
+        → EndsIn (fault_line Device) (W.contents writer.old.inner) (W.contents writer.new.inner)
+        × (result ≡ 1) }
+    ensures status { result ≤ 1 }
+    ensures broken { (writer.new.failed ≡ writer.old.failed) ⊎ (result ≡ 1) }
+{
+    let mut ahead = Ahead::new(reader.turns());
+    let mut refused = false;
+    'lines: loop {
+        let line = match ahead.next_line(alloc, reader) {
+            Ok(Some(line)) => line,
+            Ok(None) => return if refused { 1 } else { 0 },
+            Err(fault) => return write_fault(writer, fault),
+        };
+        let answer = answers.answer(alloc, line);
+        refused |= answer.is_refusal();
+        match writer.write_line(answer) {
+            Ok(()) => (),
+            Err(_) => return 1,
+        }
+    }
+}

@@ -1,0 +1,91 @@
+//! Joining two snapshots.
+ghost use Rattle.std.specs.Prelude.{◌≡◌, ◌⊎◌, Ok, Err, IfOk, IfErr, MatchResult};
+ghost use Rattle.rds_names.specs.declared.fault.Fault.TheVariants.{Memory};
+ghost use Rattle.rds_lines.specs.Join.{AfterBoth, LineRead, JoinedTo, JoinsTo, MayJoinTo};
+ghost use Rattle.rds_lines.specs.JoinLaws.{AnswersSpelled, IsJoinedOnce};
+ghost use Rattle.rds_lines.specs.Refusal.{fault_of};
+
+use crate::lines::split_line;
+use crate::refusal::Refusal;
+use rds_codec::{decode_snapshot, encode_snapshot};
+use rds_dots::{DotSet, ListSet};
+use rds_names::Fault;
+use rds_state::Replica;
+use std::alloc::Global;
+
+/// The most bytes of a line.
+const LINE_LIMIT: usize = 536_870_912;
+
+/// The text of the join of the two snapshots that the input's lines are in hex digits, of either
+/// case: the least above both (Shapiro, Preguiça, Baquero, Zawirski 2011), with the first one's
+/// roster and own number. The two own numbers may be equal.
+///
+/// The faults, in the order in which they are looked for: those of the first line, then those of the
+/// second (`TooLong` above 536,870,912 bytes whatever they are, `Bad` where they are no hex digits,
+/// else those of decoding); `Extra` where anything follows; `WrongGroup`; `WrongRoster`, for other
+/// names or another order; `Conflict`; `TooLong` for the text.
+pub fn join(alloc: Global, input: &[u8]) -> Result<Vec<u8>, Refusal>
+    ensures { MatchResult result (λ v. JoinsTo input.now (Ok v.items))
+        (λ e. MayJoinTo input.now (Err (fault_of e))) }
+{
+    let (line, rest) = split_line(input);
+    let first: Replica<ListSet> = read_line(alloc, line)?;
+    let (line, rest) = split_line(rest);
+    let second = read_line(alloc, line)?;
+    Ok(join_read(alloc, rest, first, &second)?)
+}
+
+// The text of the join of two snapshots that were read, before a rest of the input.
+fn join_read<S: DotSet>(
+    alloc: Global,
+    rest: &[u8],
+    first: Replica<S>,
+    second: &Replica<S>,
+) -> Result<Vec<u8>, Fault>
+    ensures { MatchResult result (λ v. AfterBoth rest.now first second.now (Ok v.items))
+        (λ fault. (fault ≡ Memory) ⊎ AfterBoth rest.now first second.now (Err fault)) }
+{
+    if !rest.is_empty() {
+        return Err(Fault::Extra);
+    }
+    let both = joined(first, second)?;
+    encode_snapshot(alloc, &both)
+}
+
+// The snapshot that a line of hex digits is.
+fn read_line<S: DotSet>(alloc: Global, line: &[u8]) -> Result<Replica<S>, Fault>
+    ensures { (result ≡ Err Memory) ⊎ LineRead line.now result }
+{
+    if LINE_LIMIT < line.len() {
+        return Err(Fault::TooLong);
+    }
+    match hex::decode(alloc, line) {
+        Ok(bytes) => decode_snapshot(alloc, &bytes),
+        Err(hex::FromHexError::OutOfMemory) => Err(Fault::Memory),
+        Err(_) => Err(Fault::Bad),
+    }
+}
+
+// The first one with the join of both states.
+fn joined<S: DotSet>(first: Replica<S>, second: &Replica<S>) -> Result<Replica<S>, Fault>
+    ensures ok { IfOk result (λ both. JoinedTo first second.now (Ok both)) }
+    ensures err { IfErr result (λ fault. (fault ≡ Memory)
+        ⊎ JoinedTo first second.now (Err fault)) }
+{
+    if first.roster().group() != second.roster().group() {
+        return Err(Fault::WrongGroup);
+    }
+    if !first.roster().same(second.roster()) {
+        return Err(Fault::WrongRoster);
+    }
+    let (roster, own, mut state) = first.into_parts();
+    state.merge(second.state())?;
+    Replica::from_parts(roster, own, state)
+}
+
+/// Two snapshots are joined to one thing alone. So whatever `join` answers for the lines of two
+/// snapshots is the text of their join, or why there is none, or want of memory.
+pub fn join_is_known()
+    ensures once { IsJoinedOnce }
+    ensures answers { AnswersSpelled }
+{}

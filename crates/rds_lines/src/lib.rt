@@ -1,0 +1,23 @@
+//! Lines in, lines out: what lines about a group of replicas are answered, the two lines that are joined to one, and
+//! how an answer or a fault is written.
+#![tactic(auto)]
+
+mod ahead;
+mod answer;
+mod answering;
+mod join;
+mod lines;
+mod output;
+mod refusal;
+mod run;
+mod sim;
+mod views;
+
+pub use answer::Answer;
+pub use answering::{Answers, answer_lines};
+pub use join::{join, join_is_known};
+pub use output::{status_of, write_answer, write_fault, write_fault_line};
+pub use refusal::Refusal;
+pub use run::{run_join, run_sim};
+pub use sim::Simulation;
+pub use views::shown;

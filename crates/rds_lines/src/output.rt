@@ -1,0 +1,66 @@
+//! What is written.
+ghost use Rattle.std.specs.Prelude.{◌≡◌, ◌≤◌, ◌⊎◌, Err, OnOk, OnErr, MatchResult};
+ghost use Rattle.std.specs.Io.KnownBytes.{Appends};
+ghost use Rattle.rds_names.specs.declared.fault.Fault.TheVariants.{Memory};
+ghost use Rattle.rds_keep.specs.Counted.{one_more};
+ghost use Rattle.rds_lines.specs.Answering.{WritesAnswer};
+ghost use Rattle.rds_lines.specs.Output.{AnswersStatus, Writes, fault_line, fault_status};
+
+use crate::answer::Answer;
+use rds_keep::Counted;
+use rds_names::Fault;
+use std::io::Write;
+
+/// Writes a fault's line, and answers its status: 2 for `Usage`, else 1.
+pub fn write_fault<W: Write>(writer: &mut Counted<W>, fault: Fault) -> u8
+    ensures written { writer.new.failed ≡ 0
+        → Writes (Err fault) (W.contents writer.old.inner) (W.contents writer.new.inner) result }
+    ensures status { AnswersStatus writer.old writer.new (fault_status fault) result }
+    ensures within { result ≤ 2 }
+{
+    status_of(write_fault_line(writer, fault), fault_status(fault))
+}
+
+/// Writes an answer's line, with 0, or a fault's line.
+pub fn write_answer<W: Write>(writer: &mut Counted<W>, answer: Result<Answer, Fault>) -> u8
+    ensures written { writer.new.failed ≡ 0
+        → WritesAnswer answer (W.contents writer.old.inner) (W.contents writer.new.inner) result }
+    ensures within { result ≤ 2 }
+    ensures broken { (writer.new.failed ≡ writer.old.failed) ⊎ (result ≡ 1) }
+{
+    match answer {
+        Ok(answer) => status_of(writer.write_line(answer), 0),
+        Err(fault) => write_fault(writer, fault),
+    }
+}
+
+/// The status that is due, or 1 where the output failed.
+pub fn status_of(written: Result<(), Fault>, due: u8) -> u8
+    ensures { MatchResult written (λ _. result ≡ due) (λ _. result ≡ 1) }
+{
+    match written {
+        Ok(()) => due,
+        Err(_) => 1,
+    }
+}
+
+/// Writes a fault's line.
+pub fn write_fault_line<W: Write>(writer: &mut Counted<W>, fault: Fault) -> Result<(), Fault>
+    ensures bytes { OnOk result (Appends (W.contents writer.old.inner)
+        (W.contents writer.new.inner) (fault_line fault)) }
+    ensures steady { OnOk result (writer.new.failed ≡ writer.old.failed) }
+    ensures counted { OnErr result (writer.new.failed ≡ one_more writer.old.failed) }
+{
+    let number = fault.number();
+    let name = fault.name();
+    writer.write_line(format_args!("fault {number}: {name}"))
+}
+
+fn fault_status(fault: Fault) -> u8
+    ensures { result ≡ fault_status fault }
+{
+    match fault {
+        Fault::Usage => 2,
+        _ => 1,
+    }
+}

@@ -1,0 +1,165 @@
+//! All replicas of a group in memory, which lines edit and ask.
+ghost use Rattle.std.specs.Prelude.{◌≡◌, ◌⊎◌, List, ℕ, Ok, Err, Some, None, Option, IfOk, IfErr, MatchResult, slice_get};
+ghost use Rattle.rds_names.specs.declared.fault.Fault.TheVariants.{Memory, NoSuch};
+ghost use Rattle.rds_lines.specs.Answer.{is_refusal};
+ghost use Rattle.rds_lines.specs.Views.{ShowsView};
+ghost use Rattle.rds_lines.specs.Lines.{ReadsText};
+ghost use Rattle.rds_lines.specs.Sim.{Group, MeetsBytes, done_answer, number_of, request_of};
+ghost use Rattle.rds_lines.specs.Simulated.{IsGroup, LeadsTo, LineLeadsTo, answer_of};
+ghost use Rattle.rds_state.specs.Fits.{ReplicaValue};
+
+use crate::answer::Answer;
+use crate::answering::Answers;
+use crate::views::shown;
+use rds_dots::{DotSet, ListSet};
+use rds_json::{Line, command};
+use rds_names::{Fault, Name, Path, Roster};
+use rds_world::{Done, Event, World};
+use std::alloc::Global;
+
+/// All replicas of a group, once a line has named them.
+#[derive(Drop)]
+pub struct Simulation {
+    world: Option<World<ListSet>>,
+}
+
+// What a line asks of replicas that are there.
+#[derive(Drop)]
+enum Request {
+    // That this happens.
+    Event(Event),
+    // What a replica has in memory at a path.
+    Show(u8, Path),
+}
+
+impl Simulation {
+    /// No line has named a group yet.
+    pub fn new() -> Simulation
+        ensures { result.world ≡ None }
+    {
+        Simulation { world: None }
+    }
+
+    // Answers a line, or refuses it.
+    fn answered(&mut self, alloc: Global, line: Result<String, Fault>) -> Result<Answer, Fault>
+        ensures { (bytes : List ℕ) (now : Option Group) → ReadsText bytes line → IsGroup self.old.world now
+            → (next : Option Group) × IsGroup self.new.world next × MeetsBytes now bytes (answer_of result) next }
+    {
+        let text = line?;
+        let line = command(alloc, text.as_str())?;
+        self.meet(alloc, line)
+    }
+
+    // Does what a line asks for.
+    fn meet(&mut self, alloc: Global, line: Line) -> Result<Answer, Fault>
+        ensures { (now : Option Group) → LineLeadsTo self.old.world now line result self.new.world }
+    {
+        match &mut self.world {
+            Some(world) => meet_in(alloc, world, line),
+            None => {
+                self.world = Some(open(alloc, line)?);
+                Ok(Answer::Done)
+            }
+        }
+    }
+}
+
+impl Answers for Simulation {
+    ghost use Rattle.std.specs.Prelude.{Option, refl};
+    ghost use Rattle.rds_lines.specs.Sim.{Group, MeetsLines};
+    ghost use Rattle.rds_lines.specs.Simulated.{IsGroup};
+
+    ghost may_answer = { λ s lines out refused. (now : Option Group) → IsGroup s.world now → MeetsLines lines now out refused };
+
+    fn answer(&mut self, alloc: Global, line: Result<String, Fault>) -> Answer {
+        match self.answered(alloc, line) {
+            Ok(answer) => answer,
+            Err(fault) => Answer::Refused(fault),
+        }
+    }
+
+    ghost ends = { λ s now h. (refl, refl) };
+}
+
+// The replicas of the first line's roster.
+fn open<S: DotSet>(alloc: Global, line: Line) -> Result<World<S>, Fault>
+    ensures ok { IfOk result (λ world. LineLeadsTo None None line (Ok Answer.Done) (Some world)) }
+    ensures err { IfErr result (λ fault. LineLeadsTo None None line (Err fault) None) }
+{
+    match line {
+        Line::Roster(roster) => World::new(alloc, roster),
+        _ => Err(Fault::NoSuch),
+    }
+}
+
+// Does what a line asks of these replicas.
+fn meet_in<S: DotSet>(alloc: Global, world: &mut World<S>, line: Line) -> Result<Answer, Fault>
+    ensures { (now : Group) → LineLeadsTo (Some world.old) (Some now) line result (Some world.new) }
+{
+    match request_of(world.roster(), line)? {
+        Request::Event(event) => happen(alloc, world, &event),
+        Request::Show(number, path) => show(alloc, world, number, &path),
+    }
+}
+
+// What a line asks of replicas of this roster.
+fn request_of(roster: &Roster, line: Line) -> Result<Request, Fault>
+    ensures { result ≡ request_of roster.now line }
+{
+    Ok(match line {
+        Line::Roster(_) => return Err(Fault::BadRoster),
+        Line::Edit(name, command) => Request::Event(Event::Edit(number_of(roster, name)?, command)),
+        Line::Save(name) => Request::Event(Event::Save(number_of(roster, name)?)),
+        Line::Crash(name) => Request::Event(Event::Crash(number_of(roster, name)?)),
+        Line::Ask(name) => Request::Event(Event::Ask(number_of(roster, name)?)),
+        Line::Answer(name, ask) => Request::Event(Event::Answer(number_of(roster, name)?, ask)),
+        Line::Take(answer) => Request::Event(Event::Take(answer)),
+        Line::Show(name, path) => Request::Show(number_of(roster, name)?, path),
+    })
+}
+
+fn number_of(roster: &Roster, name: Name) -> Result<u8, Fault>
+    ensures { result ≡ number_of roster.now name }
+{
+    match roster.number_of(name) {
+        Some(number) => Ok(number),
+        None => Err(Fault::NoSuch),
+    }
+}
+
+// Lets an event happen, and answers what it did.
+fn happen<S: DotSet>(alloc: Global, world: &mut World<S>, event: &Event) -> Result<Answer, Fault>
+    ensures { (now : Group) → LeadsTo world.old now event.now result world.new }
+{
+    let done = world.step(alloc, event)?;
+    Ok(done_answer(world.roster(), &done))
+}
+
+// The answer to an event that happened.
+fn done_answer(roster: &Roster, done: &Done) -> Answer
+    ensures { result ≡ done_answer roster.now done.now }
+{
+    match done {
+        Done::Edited(edited) => Answer::of_edit(roster, edited),
+        Done::Plain => Answer::Done,
+        Done::Asked(number) => Answer::Asked(*number),
+        Done::Answered(number, components) => Answer::Answered {
+            number: *number,
+            components: *components,
+        },
+    }
+}
+
+// Shows what a replica has in memory at a path.
+fn show<S: DotSet>(
+    alloc: Global,
+    world: &World<S>,
+    number: u8,
+    path: &Path,
+) -> Result<Answer, Fault>
+    ensures shown { IfOk result (λ answer. (replica : ReplicaValue) × (slice_get world.now.memory number ≡ Some replica) × ShowsView replica.state path.now answer) }
+    ensures refused { IfErr result (λ fault. (fault ≡ Memory) ⊎ ((fault ≡ NoSuch) × (slice_get world.now.memory number ≡ None))) }
+{
+    let replica = world.memory(number)?;
+    shown(alloc, replica.state(), path)
+}

@@ -1,6 +1,0 @@
-use Rattle.rds_node.proofs.Simulating.{sim_written}
-use Rattle.rds_node.proofs.run.run_sim.Goals as goal
-
-pub returns-clause-sim : goal.returns-clause-sim
-returns-clause-sim g c =
-    sim_written (g.R.Read.remaining c.args.reader.now.inner) (g.W.Write.contents c.args.writer.now.inner) (g.W.Write.contents c.answer_lines.new.writer.inner) c.new.result.world _ _ _ c.new.ensures c.answer_lines.ensures.answered
