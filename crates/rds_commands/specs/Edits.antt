@@ -1,17 +1,14 @@
 -- What edits and views of a replica are answered.
-use Rattle.std.specs.Prelude.{◌≡◌, ℕ, false, List, Ok, count_by}
-use Rattle.serde_json.specs.Written.{compact_text}
+use Rattle.std.specs.Prelude.{◌≡◌, ℕ, List, Ok, count_by}
 use Rattle.rds_names.specs.Path.{path_of}
 use Rattle.rds_life.specs.Life.{live_rows}
 use Rattle.rds_state.specs.Edit.{JoinsEffect, covers, new_dot}
 use Rattle.rds_state.specs.Fits.{ReplicaValue}
-use Rattle.rds_state.specs.Value.{StateValue, coordinates}
+use Rattle.rds_state.specs.Value.{coordinates}
 use Rattle.rds_state.specs.declared.command.Command.{Command}
-use Rattle.rds_tree.specs.Document.{document}
-use Rattle.rds_tree.specs.View.{view_of}
-use Rattle.rds_json.specs.Show.{data_of}
-use Rattle.rds_lines.specs.Answer.{answer_text, edit_answer, is_refusal}
+use Rattle.rds_lines.specs.Answer.{edit_answer}
 use Rattle.rds_commands.specs.FileWords.{IsCommand}
+use Rattle.rds_lines.specs.Views.{ShowsView}
 use Rattle.rds_lines.specs.declared.answer.Answer.{Answer}
 use Rattle.rds_commands.specs.declared.commands.EditWords.{EditWords}
 

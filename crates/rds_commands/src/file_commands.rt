@@ -2,7 +2,6 @@
 ghost use Rattle.std.specs.Prelude.{◌≡◌, ◌⊎◌, Ok, Err, map, IfErr, IfOk, OnErr, MatchResult};
 ghost use Rattle.rds_names.specs.declared.fault.Fault.TheVariants.{Memory};
 ghost use Rattle.rds_names.specs.Path.{path_of};
-ghost use Rattle.rds_lines.specs.Views.{ShowsView};
 ghost use Rattle.rds_commands.specs.Edits.{IsEdited, ShowsFile, EditsFile};
 ghost use Rattle.rds_commands.specs.FileWords.{IsCommand, roster_in};
 

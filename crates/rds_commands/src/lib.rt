@@ -4,8 +4,8 @@
 mod commands;
 mod file_commands;
 mod file_words;
-mod run;
+mod program;
 mod serve_words;
 mod unparsed;
 
-pub use run::run;
+pub use program::run;

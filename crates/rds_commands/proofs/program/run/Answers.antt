@@ -1,6 +1,6 @@
 use Rattle.rds_lines.proofs.Running.{memory_written}
 use Rattle.rds_lines.proofs.Simulating.{sim_unwritten}
-use Rattle.rds_commands.proofs.run.run.Goals as goal
+use Rattle.rds_commands.proofs.program.run.Goals as goal
 
 pub returns-in-Err-clause-join : goal.returns-in-Err-clause-join
 returns-in-Err-clause-join g c = λ name words.
