@@ -110,7 +110,7 @@ read_spelled line v r spells reads =
     let long = (decode_of-ok line (snapshot_text v) spells.digits).2 in
     let short : ltb line_limit (length line) ≡ false = le-ltb line_limit (length line) (omega (arith, long, spells.within)) in
     let read = rw (short, spells.digits) at reads.1 in
-    elim (read.found v spells.within (record { is_value = spells.is_snapshot; spelled = refl })) [
+    elim (read.0.found v spells.within (record { is_value = spells.is_snapshot; spelled = refl })) [
       | inl is ↦ is
       | inr memory ↦ absurd (reads.0 memory)
     ]

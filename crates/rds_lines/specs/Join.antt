@@ -6,8 +6,9 @@ use Rattle.rds_names.specs.declared.fault.Fault.TheVariants.{Memory, Conflict, B
 use Rattle.rds_life.specs.Life.{IsFirstConflict}
 use Rattle.rds_state.specs.Coordinates.{AreCompatible, join}
 use Rattle.rds_state.specs.Value.{coordinates}
-use Rattle.rds_codec.specs.Decoding.{Decodes}
+use Rattle.rds_codec.specs.Decoding.{Decodes, ReadsAll}
 use Rattle.rds_codec.specs.Kinds.{snapshot_kind}
+use Rattle.rds_codec.specs.Reading.{snapshot_at}
 use Rattle.rds_lines.specs.Lines.{line_of, after_line}
 use Rattle.rds_state.specs.Fits.{ReplicaValue}
 use Rattle.rds_codec.specs.Spelling.{snapshot_text}
@@ -16,9 +17,9 @@ use Rattle.rds_codec.specs.declared.limits.TheConstants.{LIMIT}
 abbrev pub line_limit : ℕ
 line_limit = 536870912
 
--- the bytes of the digits are decoded, or there are other characters
+-- the bytes of the digits are read from the left, or there are other characters
 abbrev pub DigitsRead : {E : Type 0} → Result (List ℕ) E → Result ReplicaValue Fault → Type 0
-DigitsRead (Ok bytes) r = Decodes snapshot_kind bytes r
+DigitsRead (Ok bytes) r = Decodes snapshot_kind bytes r × ReadsAll snapshot_at bytes r
 DigitsRead (Err e) r = r ≡ Err Bad
 
 -- a line over the limit is too long, whatever it holds
