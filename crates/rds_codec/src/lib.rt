@@ -30,6 +30,3 @@ pub use laws::texts_stand_apart;
 pub use limits::{LIMIT, MOST_DOTS};
 pub use snapshots::{decode_snapshot, encode_snapshot};
 pub use states::{decode_state, encode_state};
-
-#[cfg(test)]
-mod tests;

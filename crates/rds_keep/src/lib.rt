@@ -7,8 +7,6 @@ mod keeping;
 mod kept;
 mod place;
 mod snapshots;
-#[cfg(test)]
-mod tests;
 
 pub use counted::Counted;
 pub use keeping::keep_in;

@@ -1,0 +1,27 @@
+//! Answers rows on texts and on what is kept outside memory. `rt ci` compares what it writes with what the rows are to
+//! be answered.
+//!
+//! Bytes stand in rows as hex digits, apart from each other or not. The group is always that of a, b and c, whose
+//! replicas have the numbers 0 to 2.
+#![tactic(auto)]
+
+mod certificates;
+mod devices;
+mod edits;
+mod forms;
+mod held;
+mod keeping;
+mod reading;
+mod steps;
+mod texts;
+mod values;
+mod words;
+
+use held::Held;
+use rds_rows::write_answers;
+use std::io;
+
+fn main(rt: HostRuntime) -> io::Result<()> {
+    let mut held = Held::new();
+    write_answers(&rt, &mut held)
+}
