@@ -19,6 +19,3 @@ pub use digest::Digest;
 pub use inside::is_inside;
 pub use laws::{checked_delta_laws, friends_exchange_deltas, least_delta_laws};
 pub use row::{Certificate, Row};
-
-#[cfg(test)]
-mod tests;

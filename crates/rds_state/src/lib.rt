@@ -15,6 +15,3 @@ pub use command::{Command, Edited};
 pub use laws::{documents_have_the_sums, friends_take_each_other, join_laws};
 pub use replica::Replica;
 pub use state::State;
-
-#[cfg(test)]
-mod tests;

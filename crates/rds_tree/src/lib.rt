@@ -12,6 +12,3 @@ mod views;
 pub use document::view;
 pub use laws::{same_documents_show_the_same, views_show_what_is_live};
 pub use views::{Maps, Scalars, Sums, Values, View};
-
-#[cfg(test)]
-mod tests;

@@ -1,0 +1,104 @@
+//! Rows that call replicas.
+use crate::commands::{command, edited_text};
+use crate::documents::Documents;
+use crate::listing::{refused, text, yes_or_no};
+use crate::words::Words;
+use rds_dots::ListSet;
+use rds_names::{Fault, Key, Name, Roster};
+use rds_state::{Replica, State};
+use std::alloc::Global;
+
+/// The roster of the group g with its replicas a, b and c.
+fn roster(alloc: Global) -> Result<Roster, Fault> {
+    let names = [Name::new("a")?, Name::new("b")?, Name::new("c")?];
+    Roster::new(alloc, Key::new(alloc, "g")?, names.as_slice())
+}
+
+/// Keeps a replica under a name, and says its number and how many there are.
+fn keep(
+    documents: &mut Documents,
+    alloc: Global,
+    name: &str,
+    replica: Replica<ListSet>,
+) -> Result<String, Fault> {
+    let own = replica.own();
+    let replicas = replica.roster().len();
+    documents.replicas.put(alloc, name, replica)?;
+    Ok(format!(in alloc; "replica {own} of {replicas}")?)
+}
+
+/// `new NAME NUMBER` makes a replica that has done nothing.
+pub fn make(documents: &mut Documents, alloc: Global, rest: &str) -> Result<String, Fault> {
+    let mut words = Words::new(rest);
+    let name = words.word()?;
+    let own = words.small()?;
+    let replica = Replica::new(alloc, roster(alloc)?, own)?;
+    keep(documents, alloc, name, replica)
+}
+
+/// `hold NAME NUMBER STATE` makes a replica that has this state.
+pub fn hold(documents: &mut Documents, alloc: Global, rest: &str) -> Result<String, Fault> {
+    let mut words = Words::new(rest);
+    let name = words.word()?;
+    let own = words.small()?;
+    let state = documents.state(words.word()?)?.copy(alloc)?;
+    let replica = Replica::from_parts(roster(alloc)?, own, state)?;
+    keep(documents, alloc, name, replica)
+}
+
+/// `edit NAME COMMAND` edits by a copy of the command.
+pub fn edit(documents: &mut Documents, alloc: Global, rest: &str) -> Result<String, Fault> {
+    let mut words = Words::new(rest);
+    let name = words.word()?;
+    let command = command(alloc, &mut words)?.copy(alloc)?;
+    let edited = documents.replicas.get_mut(name)?.edit(command)?;
+    edited_text(alloc, edited)
+}
+
+/// `take NAME STATE` has a replica take a state.
+pub fn take(documents: &mut Documents, alloc: Global, rest: &str) -> Result<String, Fault> {
+    let mut words = Words::new(rest);
+    let name = words.word()?;
+    let state = documents.state(words.word()?)?.copy(alloc)?;
+    take_state(alloc, documents.replicas.get_mut(name)?, &state)
+}
+
+fn take_state(
+    alloc: Global,
+    replica: &mut Replica<ListSet>,
+    state: &State<ListSet>,
+) -> Result<String, Fault> {
+    if !replica.fits(state) {
+        return text(alloc, "unfit");
+    }
+    match replica.take(state) {
+        Ok(()) => text(alloc, "taken"),
+        Err(fault) => refused(alloc, fault),
+    }
+}
+
+/// `copy NAME REPLICA` copies a replica.
+pub fn copy(documents: &mut Documents, alloc: Global, rest: &str) -> Result<String, Fault> {
+    let mut words = Words::new(rest);
+    let name = words.word()?;
+    let replica = documents.replicas.get(words.word()?)?.copy(alloc)?;
+    keep(documents, alloc, name, replica)
+}
+
+/// `rejoin NAME REPLICA` takes a copy of a replica apart, and makes one of the parts.
+pub fn rejoin(documents: &mut Documents, alloc: Global, rest: &str) -> Result<String, Fault> {
+    let mut words = Words::new(rest);
+    let name = words.word()?;
+    let whole = documents.replicas.get(words.word()?)?.copy(alloc)?;
+    let (roster, own, state) = whole.into_parts();
+    let replica = Replica::from_parts(roster, own, state)?;
+    keep(documents, alloc, name, replica)
+}
+
+/// `fits REPLICA STATE` asks whether the state's replicas are all in the roster.
+pub fn fits(documents: &Documents, alloc: Global, rest: &str) -> Result<String, Fault> {
+    let mut words = Words::new(rest);
+    let replica = documents.replicas.get(words.word()?)?;
+    let state = documents.state(words.word()?)?;
+    yes_or_no(alloc, replica.fits(state))
+}

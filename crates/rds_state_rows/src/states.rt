@@ -1,0 +1,94 @@
+//! Rows that call states.
+use crate::documents::Documents;
+use crate::drafts::{Draft, state_text};
+use crate::listing::{refused, text, yes_or_no};
+use crate::words::Words;
+use rds_dots::ListSet;
+use rds_names::Fault;
+use rds_state::State;
+use std::alloc::Global;
+
+/// Keeps a state under a name, and says how many components it has.
+pub fn keep(
+    documents: &mut Documents,
+    alloc: Global,
+    name: &str,
+    state: State<ListSet>,
+) -> Result<String, Fault> {
+    let components = state.components();
+    documents.states.put(alloc, name, state)?;
+    Ok(format!(in alloc; "components {components}")?)
+}
+
+/// `state NAME PARTS` makes the state of these parts.
+pub fn state(documents: &mut Documents, alloc: Global, rest: &str) -> Result<String, Fault> {
+    let (name, parts) = rest.split_once(' ').ok_or(Fault::BadLine)?;
+    let (lives, counts) = Draft::read(alloc, parts)?.into_parts()?;
+    keep(documents, alloc, name, State::from_parts(lives, counts))
+}
+
+/// `lives NAME PARTS` makes the state of the lives alone.
+pub fn lives(documents: &mut Documents, alloc: Global, rest: &str) -> Result<String, Fault> {
+    let (name, parts) = rest.split_once(' ').ok_or(Fault::BadLine)?;
+    let (lives, _) = Draft::read(alloc, parts)?.into_parts()?;
+    keep(documents, alloc, name, State::from_lives(alloc, lives))
+}
+
+/// `empty NAME` makes the empty state.
+pub fn empty(documents: &mut Documents, alloc: Global, rest: &str) -> Result<String, Fault> {
+    keep(documents, alloc, rest, State::empty(alloc))
+}
+
+/// `copy_of NAME STATE` copies a state.
+pub fn copy_of(documents: &mut Documents, alloc: Global, rest: &str) -> Result<String, Fault> {
+    let mut words = Words::new(rest);
+    let name = words.word()?;
+    let copy = documents.state(words.word()?)?.copy(alloc)?;
+    keep(documents, alloc, name, copy)
+}
+
+/// `merge NAME STATE` joins a state into the one of this name.
+pub fn merge(documents: &mut Documents, alloc: Global, rest: &str) -> Result<String, Fault> {
+    let mut words = Words::new(rest);
+    let name = words.word()?;
+    let other = documents.state(words.word()?)?.copy(alloc)?;
+    match documents.states.get_mut(name)?.merge(&other) {
+        Ok(()) => text(alloc, "merged"),
+        Err(fault) => refused(alloc, fault),
+    }
+}
+
+/// `show STATE` writes the whole state.
+pub fn show(documents: &Documents, alloc: Global, rest: &str) -> Result<String, Fault> {
+    state_text(alloc, documents.state(rest)?)
+}
+
+/// `same STATE STATE` asks whether two states are equal.
+pub fn same(documents: &Documents, alloc: Global, rest: &str) -> Result<String, Fault> {
+    let mut words = Words::new(rest);
+    let left = documents.state(words.word()?)?;
+    let right = documents.state(words.word()?)?;
+    yes_or_no(alloc, left.same(right))
+}
+
+/// `rank STATE REPLICA NUMBER` asks how far a dot has come.
+pub fn rank(documents: &Documents, alloc: Global, rest: &str) -> Result<String, Fault> {
+    let mut words = Words::new(rest);
+    let state = documents.state(words.word()?)?;
+    let rank = state.lives().rank(words.dot()?);
+    Ok(format!(in alloc; "{rank:?}")?)
+}
+
+/// `value STATE KEY` asks what a counter stands at.
+pub fn value(documents: &Documents, alloc: Global, rest: &str) -> Result<String, Fault> {
+    let mut words = Words::new(rest);
+    let state = documents.state(words.word()?)?;
+    let value = state.counts().value(&words.key(alloc)?);
+    Ok(value.to_string(alloc)?)
+}
+
+/// `components STATE` asks how many components a state has.
+pub fn components(documents: &Documents, alloc: Global, rest: &str) -> Result<String, Fault> {
+    let components = documents.state(rest)?.components();
+    Ok(components.to_string(alloc)?)
+}

@@ -1,0 +1,87 @@
+//! What each row calls.
+use crate::certificates::{certificate, check, given};
+use crate::deltas::delta;
+use crate::digests::{digest, digest_of_sets, inside, pair_in, rank_in};
+use crate::documents::Documents;
+use crate::laws::laws;
+use crate::replicas::{copy, edit, fits, hold, make, rejoin, take};
+use crate::states::{components, copy_of, empty, lives, merge, rank, same, show, state, value};
+use crate::views::show_view;
+use rds_names::Fault;
+use rds_rows::Table;
+use std::alloc::Global;
+
+impl Table for Documents {
+    fn answer(&mut self, alloc: Global, name: &str, rest: &str) -> Result<String, Fault> {
+        match name {
+            "new" | "hold" | "edit" | "take" | "copy" | "rejoin" | "fits" => {
+                replica_answer(self, alloc, name, rest)
+            }
+            "digest" | "digest_of_sets" | "inside" | "rank_in" | "pair_in" => {
+                digest_answer(self, alloc, name, rest)
+            }
+            "delta" => delta(self, alloc, rest),
+            "certificate" => certificate(self, alloc, rest),
+            "given" => given(self, alloc, rest),
+            "check" => check(self, alloc, rest),
+            "laws" => laws(alloc),
+            "view" => show_view(self, alloc, rest),
+            _ => state_answer(self, alloc, name, rest),
+        }
+    }
+}
+
+fn replica_answer(
+    documents: &mut Documents,
+    alloc: Global,
+    name: &str,
+    rest: &str,
+) -> Result<String, Fault> {
+    match name {
+        "new" => make(documents, alloc, rest),
+        "hold" => hold(documents, alloc, rest),
+        "edit" => edit(documents, alloc, rest),
+        "take" => take(documents, alloc, rest),
+        "copy" => copy(documents, alloc, rest),
+        "rejoin" => rejoin(documents, alloc, rest),
+        "fits" => fits(documents, alloc, rest),
+        _ => Err(Fault::BadLine),
+    }
+}
+
+fn state_answer(
+    documents: &mut Documents,
+    alloc: Global,
+    name: &str,
+    rest: &str,
+) -> Result<String, Fault> {
+    match name {
+        "state" => state(documents, alloc, rest),
+        "lives" => lives(documents, alloc, rest),
+        "empty" => empty(documents, alloc, rest),
+        "copy_of" => copy_of(documents, alloc, rest),
+        "merge" => merge(documents, alloc, rest),
+        "show" => show(documents, alloc, rest),
+        "same" => same(documents, alloc, rest),
+        "rank" => rank(documents, alloc, rest),
+        "value" => value(documents, alloc, rest),
+        "components" => components(documents, alloc, rest),
+        _ => Err(Fault::BadLine),
+    }
+}
+
+fn digest_answer(
+    documents: &mut Documents,
+    alloc: Global,
+    name: &str,
+    rest: &str,
+) -> Result<String, Fault> {
+    match name {
+        "digest" => digest(documents, alloc, rest),
+        "digest_of_sets" => digest_of_sets(alloc, rest),
+        "inside" => inside(alloc, rest),
+        "rank_in" => rank_in(documents, alloc, rest),
+        "pair_in" => pair_in(documents, alloc, rest),
+        _ => Err(Fault::BadLine),
+    }
+}
