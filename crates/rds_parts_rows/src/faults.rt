@@ -1,10 +1,9 @@
 //! Rows on faults: one that is named is answered as what it is.
 use crate::words::{first, number, replica};
 use rds_names::{Fault, Own};
-use std::alloc::Global;
 
 /// Refuses as the row says.
-pub fn answer(_alloc: Global, name: &str, rest: &str) -> Result<String, Fault> {
+pub fn answer(name: &str, rest: &str) -> Result<String, Fault> {
     match name {
         "Conflict" => Err(conflict(rest)?),
         "OwnAhead" => Err(own_ahead(rest)?),

@@ -34,7 +34,7 @@ impl Table for Parts {
     fn answer(&mut self, alloc: Global, name: &str, rest: &str) -> Result<String, Fault> {
         let (asked, words) = words::first(rest);
         match name {
-            "fault" => faults::answer(alloc, asked, words),
+            "fault" => faults::answer(asked, words),
             "name" => keys::answer_name(alloc, rest),
             "key" => keys::answer(alloc, asked, words),
             "path" => paths::answer(alloc, asked, words),
