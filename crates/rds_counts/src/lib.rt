@@ -5,8 +5,6 @@
 mod counts;
 mod row;
 mod rows;
-#[cfg(test)]
-mod tests;
 
 pub use counts::Counts;
 pub use row::{CountRow, MAX_COUNT, Which};

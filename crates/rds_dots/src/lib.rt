@@ -8,8 +8,6 @@ mod lists;
 mod over;
 mod questions;
 mod set;
-#[cfg(test)]
-mod tests;
 mod walk;
 
 pub use dot::{Dot, MAX_SEQ, Run};

@@ -11,6 +11,3 @@ mod rows;
 pub use chosen::Choice;
 pub use lives::Lives;
 pub use rank::Rank;
-
-#[cfg(test)]
-mod tests;

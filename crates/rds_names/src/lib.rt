@@ -9,8 +9,6 @@ mod name;
 mod path;
 mod roster;
 mod scalar;
-#[cfg(test)]
-mod tests;
 
 pub use entry::{Entry, Kind};
 pub use fault::{Fault, Own};

@@ -1,0 +1,77 @@
+//! Rows on faults: one that is named is answered as what it is.
+use crate::words::{first, number, replica};
+use rds_names::{Fault, Own};
+
+/// Refuses as the row says.
+pub fn answer(name: &str, rest: &str) -> Result<String, Fault> {
+    match name {
+        "Conflict" => Err(conflict(rest)?),
+        "OwnAhead" => Err(own_ahead(rest)?),
+        _ => Err(
+            of_document(name)
+                .or(of_text(name))
+                .or(of_program(name))
+                .unwrap_or(Fault::BadLine),
+        ),
+    }
+}
+
+fn conflict(rest: &str) -> Result<Fault, Fault> {
+    let (first, seq) = first(rest);
+    let replica = replica(first)?;
+    let seq = number(seq)?;
+    Ok(Fault::Conflict { replica, seq })
+}
+
+fn own_ahead(rest: &str) -> Result<Fault, Fault> {
+    let (which, amount) = first(rest);
+    let amount = number(amount)?;
+    match which {
+        "seq" => Ok(Fault::OwnAhead(Own::Seq(amount))),
+        "plus" => Ok(Fault::OwnAhead(Own::Plus(amount))),
+        "minus" => Ok(Fault::OwnAhead(Own::Minus(amount))),
+        _ => Err(Fault::BadLine),
+    }
+}
+
+fn of_document(name: &str) -> Option<Fault> {
+    match name {
+        "Memory" => Some(Fault::Memory),
+        "BadName" => Some(Fault::BadName),
+        "BadKey" => Some(Fault::BadKey),
+        "BadPath" => Some(Fault::BadPath),
+        "BadScalar" => Some(Fault::BadScalar),
+        "BadRoster" => Some(Fault::BadRoster),
+        "SeqFull" => Some(Fault::SeqFull),
+        "CounterFull" => Some(Fault::CounterFull),
+        _ => None,
+    }
+}
+
+fn of_text(name: &str) -> Option<Fault> {
+    match name {
+        "WrongAsker" => Some(Fault::WrongAsker),
+        "Cut" => Some(Fault::Cut),
+        "Bad" => Some(Fault::Bad),
+        "Extra" => Some(Fault::Extra),
+        "TooLong" => Some(Fault::TooLong),
+        "TooManyDots" => Some(Fault::TooManyDots),
+        "BadCertificate" => Some(Fault::BadCertificate),
+        "WrongVersion" => Some(Fault::WrongVersion),
+        _ => None,
+    }
+}
+
+fn of_program(name: &str) -> Option<Fault> {
+    match name {
+        "WrongGroup" => Some(Fault::WrongGroup),
+        "WrongRoster" => Some(Fault::WrongRoster),
+        "SameReplica" => Some(Fault::SameReplica),
+        "OutOfTurn" => Some(Fault::OutOfTurn),
+        "PeerEnded" => Some(Fault::PeerEnded),
+        "Device" => Some(Fault::Device),
+        "NoSuch" => Some(Fault::NoSuch),
+        "Usage" => Some(Fault::Usage),
+        _ => None,
+    }
+}

@@ -1,0 +1,53 @@
+//! Rows on names and keys.
+use crate::words::{parted, said, said_if, text};
+use rds_names::{Fault, Key, Name};
+use std::alloc::Global;
+
+/// Answers a row on a name.
+pub fn answer_name(alloc: Global, written: &str) -> Result<String, Fault> {
+    let text = text(alloc, written)?;
+    let name = Name::new(text.as_str())?;
+    said(alloc, name.as_str())
+}
+
+/// Answers a row on keys.
+pub fn answer(alloc: Global, asked: &str, rest: &str) -> Result<String, Fault> {
+    match asked {
+        "new" => made(alloc, rest),
+        "copy" => copied(alloc, rest),
+        "is" => is_key(alloc, rest),
+        "least" => least(alloc, rest),
+        _ => Err(Fault::BadLine),
+    }
+}
+
+/// The key of a text between quotes.
+pub fn key(alloc: Global, written: &str) -> Result<Key, Fault> {
+    let text = text(alloc, written)?;
+    Key::new(alloc, text.as_str())
+}
+
+fn made(alloc: Global, rest: &str) -> Result<String, Fault> {
+    said(alloc, key(alloc, rest)?.as_str())
+}
+
+fn copied(alloc: Global, rest: &str) -> Result<String, Fault> {
+    let copy = key(alloc, rest)?.copy(alloc)?;
+    said(alloc, copy.as_str())
+}
+
+fn is_key(alloc: Global, rest: &str) -> Result<String, Fault> {
+    let text = text(alloc, rest)?;
+    said_if(alloc, Key::is_key(text.as_str()))
+}
+
+fn least(alloc: Global, rest: &str) -> Result<String, Fault> {
+    let (left, right) = parted(rest, " ")?;
+    let least = lesser(key(alloc, left)?, key(alloc, right)?);
+    said(alloc, least.as_str())
+}
+
+/// The lesser of the two, as an order says.
+fn lesser<K: Ord + Drop>(left: K, right: K) -> K {
+    if right < left { right } else { left }
+}
