@@ -15,6 +15,3 @@ pub use line::Line;
 pub use reading::command;
 pub use scalars::scalar;
 pub use showing::show;
-
-#[cfg(test)]
-mod tests;

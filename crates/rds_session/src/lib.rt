@@ -16,6 +16,3 @@ pub use laws::{a_course_is_by_messages, streams_are_split_once, two_sessions};
 pub use session::Session;
 pub use step::{Ended, Input, Output};
 pub use talk::Side;
-
-#[cfg(test)]
-mod tests;

@@ -18,6 +18,3 @@ pub use laws::{
 };
 pub use simulating::simulate;
 pub use world::World;
-
-#[cfg(test)]
-mod tests;
