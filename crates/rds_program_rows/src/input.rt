@@ -1,0 +1,67 @@
+//! The input that rows make for the program.
+use crate::told::{told, unfit};
+use rds_names::Fault;
+use std::alloc::{AllocError, Global};
+
+/// The bytes that the program is to read.
+#[derive(Drop)]
+pub struct Input {
+    bytes: Vec<u8>,
+}
+
+impl Input {
+    /// No bytes yet.
+    pub fn new(alloc: Global) -> Input {
+        Input {
+            bytes: Vec::new(alloc),
+        }
+    }
+
+    /// The bytes.
+    pub fn as_slice(&self) -> &[u8] {
+        self.bytes.as_slice()
+    }
+
+    /// Goes back to no bytes.
+    pub fn empty(&mut self) {
+        self.bytes.clear();
+    }
+
+    /// Adds a text and a newline.
+    pub fn add_line(&mut self, text: &str) -> Result<(), AllocError> {
+        self.add(text.as_bytes())?;
+        self.add("\n".as_bytes())
+    }
+
+    /// Adds bytes.
+    pub fn add(&mut self, bytes: &[u8]) -> Result<(), AllocError> {
+        self.bytes.extend_from_slice(bytes)
+    }
+
+    /// `<x HEX`: adds the bytes of these hex digits.
+    pub fn add_digits(&mut self, alloc: Global, digits: &str) -> Result<String, Fault> {
+        match hex::decode(alloc, digits) {
+            Ok(bytes) => self.add(&bytes)?,
+            Err(_) => return unfit(alloc),
+        }
+        self.told(alloc)
+    }
+
+    /// `<n COUNT TEXT`: adds a text so many times.
+    pub fn add_repeated(&mut self, alloc: Global, rest: &str) -> Result<String, Fault> {
+        let Some((count, text)) = rest.split_once(' ') else {
+            return unfit(alloc);
+        };
+        match count.parse::<usize>() {
+            Ok(count) => self.add(text.repeat(alloc, count)?.as_bytes())?,
+            Err(_) => return unfit(alloc),
+        }
+        self.told(alloc)
+    }
+
+    /// How many bytes they are.
+    pub fn told(&self, alloc: Global) -> Result<String, Fault> {
+        let count = self.bytes.len();
+        told(alloc, format_args!("{count} bytes"))
+    }
+}

@@ -1,0 +1,37 @@
+//! Lines that are answered by how long they are.
+use crate::devices::reader_of;
+use crate::told::{told_output, unfit};
+use rds_keep::Counted;
+use rds_lines::{Answer, Answers, answer_lines};
+use rds_names::Fault;
+use std::alloc::Global;
+
+// Answers a line by the number of its bytes.
+#[derive(Drop)]
+struct Lengths;
+
+impl Answers for Lengths {
+    ghost may_answer = { λ _ _ _ _. Unit {0} };
+
+    fn answer(&mut self, _alloc: Global, line: Result<String, Fault>) -> Answer {
+        match line {
+            Ok(text) => Answer::Asked(text.len() as u64),
+            Err(fault) => Answer::Refused(fault),
+        }
+    }
+
+    ghost ends = { λ _. tt };
+}
+
+/// `lengths STEP TURNS END`: what the lines of the input are answered, from a reader that gives at most so many bytes a
+/// call, has such a bound of turns, and `fails` or `ends` behind the bytes.
+pub fn answer_lengths(alloc: Global, rest: &str, input: &[u8]) -> Result<String, Fault> {
+    let Some((mut reader, _)) = reader_of(rest, input) else {
+        return unfit(alloc);
+    };
+    let mut written = Vec::new(alloc);
+    let mut writer = Counted::new(&mut written);
+    let status = answer_lines(alloc, &mut Lengths, &mut reader, &mut writer);
+    let end = format!(in alloc; "status {status}")?;
+    told_output(alloc, written, end.as_str())
+}

@@ -1,0 +1,22 @@
+//! Rows about the program rds_node: it is run on the words, the input and the files that rows give it, and has sessions
+//! with peers whose bytes stand in rows.
+#![tactic(auto)]
+
+mod devices;
+mod files;
+mod input;
+mod lengths;
+mod peers;
+mod runs;
+mod sessions;
+mod simulated;
+mod told;
+mod transcript;
+
+use rds_rows::write_answers;
+use std::io;
+use transcript::Transcript;
+
+fn main(rt: HostRuntime) -> io::Result<()> {
+    write_answers(&rt, &mut Transcript::new(&rt))
+}

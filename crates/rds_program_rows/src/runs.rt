@@ -1,0 +1,82 @@
+//! Runs of the program.
+use crate::devices::{Narrow, reader_of, room_of};
+use crate::told::{told, told_output, unfit};
+use rds_commands::run;
+use rds_keep::Counted;
+use rds_names::Fault;
+use std::alloc::{AllocError, Global};
+
+/// `$ WORDS`: runs the program on these words behind its name, with spaces between them.
+pub fn run_spaced(rt: &HostRuntime, words: &str, input: &[u8]) -> Result<String, Fault> {
+    run_words(rt, &named(rt.alloc(), words)?, input)
+}
+
+/// `$| WORDS`: the same with bars between them, so that words can be empty and hold spaces.
+pub fn run_barred(rt: &HostRuntime, words: &str, input: &[u8]) -> Result<String, Fault> {
+    let words = format!(in rt.alloc(); "rds_node|{words}")?;
+    let words: Vec<&str> = words.as_str().split('|').collect(rt.alloc())?;
+    run_words(rt, &words, input)
+}
+
+/// `$$ WORDS`: runs the program on these words, of which the first is its name.
+pub fn run_renamed(rt: &HostRuntime, words: &str, input: &[u8]) -> Result<String, Fault> {
+    let words: Vec<&str> = words.split_whitespace().collect(rt.alloc())?;
+    run_words(rt, &words, input)
+}
+
+// The words behind the program's name.
+fn named<'a>(alloc: Global, words: &'a str) -> Result<Vec<&'a str>, AllocError> {
+    let mut all = Vec::new(alloc);
+    all.push("rds_node")?;
+    for word in words.split_whitespace() {
+        all.push(word)?;
+    }
+    Ok(all)
+}
+
+// What the program writes, and its status.
+fn run_words(rt: &HostRuntime, words: &[&str], input: &[u8]) -> Result<String, Fault> {
+    let mut written = Vec::new(rt.alloc());
+    let mut reader = Counted::new(input);
+    let status = run(rt, words, &mut reader, &mut Counted::new(&mut written));
+    let end = format!(in rt.alloc(); "status {status}")?;
+    told_output(rt.alloc(), written, end.as_str())
+}
+
+/// `reads STEP TURNS END WORDS`: the same with a reader that gives at most so many bytes a call, has such a bound of
+/// turns, and `fails` or `ends` behind the bytes. Answers also what was counted.
+pub fn run_reading(rt: &HostRuntime, rest: &str, input: &[u8]) -> Result<String, Fault> {
+    let Some((mut reader, words)) = reader_of(rest, input) else {
+        return unfit(rt.alloc());
+    };
+    let words = named(rt.alloc(), words)?;
+    let mut written = Vec::new(rt.alloc());
+    let status = run(rt, &words, &mut reader, &mut Counted::new(&mut written));
+    let end = counted_end(rt.alloc(), status, reader.failed(), reader.turns())?;
+    told_output(rt.alloc(), written, end.as_str())
+}
+
+/// `writes ROOM TURNS WORDS`: the same with a writer that takes so many bytes in all, and has such a bound of turns.
+/// Answers also what was counted.
+pub fn run_writing(rt: &HostRuntime, rest: &str, input: &[u8]) -> Result<String, Fault> {
+    let Some((room, turns, words)) = room_of(rest) else {
+        return unfit(rt.alloc());
+    };
+    let words = named(rt.alloc(), words)?;
+    let mut narrow = Narrow::new(rt.alloc(), room);
+    let mut writer = Counted::with_turns(&mut narrow, turns);
+    let status = run(rt, &words, &mut Counted::new(input), &mut writer);
+    let end = counted_end(rt.alloc(), status, writer.failed(), writer.turns())?;
+    told_output(rt.alloc(), narrow.into_taken(), end.as_str())
+}
+
+// How a run ended, and what was counted of its reader or its writer.
+fn counted_end(alloc: Global, status: u8, failed: u64, turns: u64) -> Result<String, AllocError> {
+    format!(in alloc; "status {status}, failed {failed}, turns {turns}")
+}
+
+/// `turns`: the usual bound of turns.
+pub fn usual_turns(alloc: Global) -> Result<String, Fault> {
+    let turns = Counted::new(0u8).turns();
+    told(alloc, format_args!("{turns}"))
+}

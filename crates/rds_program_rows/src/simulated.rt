@@ -1,0 +1,68 @@
+//! Lines of `sim`, one row each.
+use crate::input::Input;
+use crate::told::told;
+use rds_commands::run;
+use rds_keep::Counted;
+use rds_names::Fault;
+use std::alloc::Global;
+
+/// A run of `sim` that goes on line by line.
+#[derive(Drop)]
+pub struct Simulated {
+    lines: Input,
+    answers: Vec<u8>,
+}
+
+impl Simulated {
+    /// No line yet.
+    pub fn new(alloc: Global) -> Simulated {
+        Simulated {
+            lines: Input::new(alloc),
+            answers: Vec::new(alloc),
+        }
+    }
+
+    /// `group LINE`: begins with this line anew, and goes on as `sim` does.
+    pub fn begin(&mut self, rt: &HostRuntime, line: &str) -> Result<String, Fault> {
+        self.lines.empty();
+        self.answers.clear();
+        self.go_on(rt, line)
+    }
+
+    /// `sim LINE`: runs `sim` on all lines so far and this one, and answers the status, and what it writes beyond what
+    /// it wrote for the lines before.
+    pub fn go_on(&mut self, rt: &HostRuntime, line: &str) -> Result<String, Fault> {
+        self.lines.add_line(line)?;
+        let mut written = Vec::new(rt.alloc());
+        let status = run_sim(rt, self.lines.as_slice(), &mut written);
+        let answer = match written.as_slice().strip_prefix(self.answers.as_slice()) {
+            Some(line) => told_line(rt.alloc(), status, line)?,
+            None => return told(rt.alloc(), "other than before"),
+        };
+        self.answers = written;
+        Ok(answer)
+    }
+}
+
+fn run_sim(rt: &HostRuntime, input: &[u8], written: &mut Vec<u8>) -> u8 {
+    let words = ["rds_node", "sim"];
+    run(
+        rt,
+        &words,
+        &mut Counted::new(input),
+        &mut Counted::new(written),
+    )
+}
+
+// A status, and a line without its newline.
+fn told_line(alloc: Global, status: u8, line: &[u8]) -> Result<String, Fault> {
+    match line_in(line) {
+        Some(line) => told(alloc, format_args!("{status} {line}")),
+        None => told(alloc, "no line"),
+    }
+}
+
+fn line_in(bytes: &[u8]) -> Option<&str> {
+    let text = str::from_utf8(bytes).ok()?;
+    text.strip_suffix('\n')
+}

@@ -1,0 +1,111 @@
+//! Which row does what.
+use crate::files::{hold, make_folder, put, remove_file, remove_folder};
+use crate::input::Input;
+use crate::lengths::answer_lengths;
+use crate::peers::{meet_peer, run_away, run_busy};
+use crate::runs::{run_barred, run_reading, run_renamed, run_spaced, run_writing, usual_turns};
+use crate::sessions::{keep, settle_nothing, settle_received, told_components};
+use crate::simulated::Simulated;
+use crate::told::unfit;
+use rds_dots::ListSet;
+use rds_files::read_file;
+use rds_keep::Kept;
+use rds_names::Fault;
+use rds_rows::Table;
+use std::alloc::Global;
+
+/// What rows have made so far.
+#[derive(Drop)]
+pub struct Transcript<'a> {
+    rt: &'a HostRuntime,
+    input: Input,
+    simulated: Simulated,
+    kept: Option<Kept<ListSet>>,
+}
+
+impl<'a> Transcript<'a> {
+    /// No row has made anything yet.
+    pub fn new(rt: &'a HostRuntime) -> Transcript<'a> {
+        Transcript {
+            rt,
+            input: Input::new(rt.alloc()),
+            simulated: Simulated::new(rt.alloc()),
+            kept: None,
+        }
+    }
+
+    // Rows that make the input.
+    fn answer_input(&mut self, alloc: Global, name: &str, rest: &str) -> Result<String, Fault> {
+        match name {
+            "empty" => self.input.empty(),
+            "<" => self.input.add_line(rest)?,
+            "<-" => self.input.add(rest.as_bytes())?,
+            "<x" => return self.input.add_digits(alloc, rest),
+            _ => return self.input.add_repeated(alloc, rest),
+        }
+        self.input.told(alloc)
+    }
+
+    // Rows that run the program.
+    fn answer_run(&self, name: &str, rest: &str) -> Result<String, Fault> {
+        let input = self.input.as_slice();
+        match name {
+            "$" => run_spaced(self.rt, rest, input),
+            "$|" => run_barred(self.rt, rest, input),
+            "$$" => run_renamed(self.rt, rest, input),
+            "reads" => run_reading(self.rt, rest, input),
+            "writes" => run_writing(self.rt, rest, input),
+            "busy" => run_busy(self.rt, rest),
+            _ => run_away(self.rt, rest),
+        }
+    }
+
+    // Rows about files.
+    fn answer_file(&self, name: &str, rest: &str) -> Result<String, Fault> {
+        match name {
+            "put" => put(self.rt, rest),
+            "hold" => hold(self.rt, rest),
+            "folder" => make_folder(self.rt, rest),
+            "remove" => remove_file(self.rt, rest),
+            _ => remove_folder(self.rt, rest),
+        }
+    }
+
+    // Rows about the replica that the last row `read` has read.
+    fn answer_kept(&mut self, alloc: Global, name: &str, rest: &str) -> Result<String, Fault> {
+        let Some(kept) = &mut self.kept else {
+            return unfit(alloc);
+        };
+        match name {
+            "keep" => keep(self.rt, rest, kept),
+            "settle" => settle_received(self.rt, rest, kept),
+            _ => settle_nothing(self.rt, rest, kept),
+        }
+    }
+
+    // `read FILE`: reads the replica in a file, and answers how many components it has.
+    fn read(&mut self, alloc: Global, file: &str) -> Result<String, Fault> {
+        let kept = read_file(self.rt, file)?;
+        let answer = told_components(alloc, &kept)?;
+        self.kept = Some(kept);
+        Ok(answer)
+    }
+}
+
+impl Table for Transcript<'_> {
+    fn answer(&mut self, alloc: Global, name: &str, rest: &str) -> Result<String, Fault> {
+        match name {
+            "empty" | "<" | "<-" | "<x" | "<n" => self.answer_input(alloc, name, rest),
+            "$" | "$|" | "$$" | "reads" | "writes" | "busy" | "away" => self.answer_run(name, rest),
+            "group" => self.simulated.begin(self.rt, rest),
+            "sim" => self.simulated.go_on(self.rt, rest),
+            "turns" => usual_turns(alloc),
+            "lengths" => answer_lengths(alloc, rest, self.input.as_slice()),
+            "put" | "hold" | "folder" | "remove" | "remove_folder" => self.answer_file(name, rest),
+            "read" => self.read(alloc, rest),
+            "keep" | "settle" | "settle_nothing" => self.answer_kept(alloc, name, rest),
+            "meet" => meet_peer(self.rt, rest),
+            _ => unfit(alloc),
+        }
+    }
+}
