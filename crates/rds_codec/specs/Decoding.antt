@@ -27,7 +27,7 @@ Answers result wanted = (result ≡ wanted) ⊎ (result ≡ Err Memory)
 abbrev pub ReadsAll : {V : Type 0} → Reader V → List ℕ → Result V Fault → Type 0
 ReadsAll reader bytes result = length bytes ≤ LIMIT → Gives (λ v. v) result (all_of reader bytes)
 
--- a refusal that has no clause of its own
+-- each refusal of decoding
 abbrev pub IsOtherFault : Fault → Type 0
 IsOtherFault e = (e ≡ Memory) ⊎ ((e ≡ TooLong) ⊎ ((e ≡ TooManyDots) ⊎ ((e ≡ Extra) ⊎ ((e ≡ Cut) ⊎ (e ≡ Bad)))))
 

@@ -132,7 +132,7 @@ seq_fault top = cond (nat_lt top MAX_SEQ) None (Some SeqFull)
 abbrev pub count_fault : ℕ → Option Fault
 count_fault sum = cond (nat_le sum MAX_COUNT) None (Some CounterFull)
 
--- where the command has no effect, and why
+-- why the command is refused, if it is
 abbrev pub refusal : Coordinates → ℕ → Command → Option Fault
 refusal a own (Set p v) = path_fault p (seq_fault (own_top a own))
 refusal a own (Add p v) = path_fault p (seq_fault (own_top a own))
