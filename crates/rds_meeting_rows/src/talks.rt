@@ -141,7 +141,10 @@ fn chunks_sent(alloc: Global, end: &End, heard: &[u8]) -> Result<String, Fault> 
 fn show_chunks(alloc: Global, stream: &[u8]) -> Result<String, Fault> {
     let mut lengths = String::new(alloc);
     let mut rest = stream;
-    while let [high, low, more @ ..] = rest {
+    for _ in 0..stream.len() {
+        let [high, low, more @ ..] = rest else {
+            break;
+        };
         let length = u16::from_be_bytes([*high, *low]);
         write!(lengths, "{length} ")?;
         let (_, later) = more.split_at(more.len().min(usize::from(length)));
