@@ -1,5 +1,5 @@
 //! What one replica lacks of another: the digest, the delta, the certificate, the check, the take.
-ghost use Rattle.std.specs.Prelude.{◌≤◌};
+ghost use Rattle.std.specs.Prelude.{◌<◌, ◌≤◌};
 
 use crate::report;
 use crate::samples::{Living, state};
@@ -12,8 +12,17 @@ use std::alloc::Global;
 use std::io;
 use std::time::Instant;
 
-/// How many dots the one that asks lacks.
+/// How many dots one that is behind lacks.
 const LACKING: u64 = 10;
+
+/// The replica that asks.
+#[derive(Clone, Copy)]
+pub enum Asker {
+    /// It lacks the last ten dots.
+    Behind,
+    /// It has no dots.
+    Fresh,
+}
 
 /// What goes from one replica to another.
 #[derive(Drop)]
@@ -25,7 +34,7 @@ struct Sent {
 
 /// Prints the dots, the bytes of the digest, the delta and the certificate, and the microseconds of the digest, the
 /// delta, the certificate, the check and the take.
-pub fn time(rt: &HostRuntime, dots: u64) -> io::Result<()>
+pub fn time(rt: &HostRuntime, dots: u64, asker: Asker) -> io::Result<()>
     requires least { 1 ≤ dots }
     requires most { dots ≤ 1000000 }
 {
@@ -33,10 +42,7 @@ pub fn time(rt: &HostRuntime, dots: u64) -> io::Result<()>
         return println!(rt; "a size is above {LACKING}");
     }
     let alloc = rt.alloc();
-    match (
-        state(alloc, dots, Living::All),
-        replica(alloc, dots - LACKING),
-    ) {
+    match (state(alloc, dots, Living::All), replica(alloc, dots, asker)) {
         (Ok(whole), Ok(mut asker)) => match time_sending(rt, dots, &whole, asker.state()) {
             Ok(Ok(sent)) => time_taking(rt, &mut asker, &sent),
             Ok(Err(fault)) => report(rt, fault),
@@ -47,14 +53,25 @@ pub fn time(rt: &HostRuntime, dots: u64) -> io::Result<()>
     }
 }
 
-/// A replica with so many live dots of another.
-fn replica(alloc: Global, dots: u64) -> Result<Replica<ListSet>, Fault>
-    requires least { 1 ≤ dots }
+/// The replica that asks one with so many live dots.
+fn replica(alloc: Global, dots: u64, asker: Asker) -> Result<Replica<ListSet>, Fault>
+    requires least { 10 < dots }
     requires most { dots ≤ 1000000 }
 {
     let names = [Name::new("a")?, Name::new("b")?];
     let roster = Roster::new(alloc, Key::new(alloc, "g")?, names.as_slice())?;
-    Replica::from_parts(roster, 1, state(alloc, dots, Living::All)?)
+    Replica::from_parts(roster, 1, asking(alloc, dots, asker)?)
+}
+
+/// What the replica that asks has of so many live dots.
+fn asking(alloc: Global, dots: u64, asker: Asker) -> Result<State<ListSet>, Fault>
+    requires least { 10 < dots }
+    requires most { dots ≤ 1000000 }
+{
+    match asker {
+        Asker::Behind => state(alloc, dots - LACKING, Living::All),
+        Asker::Fresh => Ok(State::empty(alloc)),
+    }
 }
 
 /// Prints the first figures, and hands out what is sent.

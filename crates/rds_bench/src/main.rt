@@ -1,13 +1,14 @@
 //! Times what the program doesn't show by itself. `rds_bench texts N` encodes and decodes a state of N dots, two
-//! thirds of them live; `rds_bench delta N` takes what a replica of N dots has that one without the last ten lacks. It
-//! prints a line of figures, and nothing where it was called by no words. Then it waits until its input ends, so that
-//! who called it can see how much memory it had.
+//! thirds of them live; `rds_bench delta N` takes what a replica of N dots has that one without the last ten lacks, and
+//! `rds_bench fresh N` what one lacks that has none of them. It prints a line of figures, and nothing where it was
+//! called by no words. Then it waits until its input ends, so that who called it can see how much memory it had.
 #![tactic(auto)]
 
 mod deltas;
 mod samples;
 mod texts;
 
+use crate::deltas::Asker;
 use rds_names::Fault;
 use std::io::Read;
 use std::{env, io};
@@ -35,7 +36,8 @@ fn time(rt: &HostRuntime, what: &str, size: &str) -> io::Result<()> {
     };
     match what {
         "texts" => texts::time(rt, size),
-        "delta" => deltas::time(rt, size),
+        "delta" => deltas::time(rt, size, Asker::Behind),
+        "fresh" => deltas::time(rt, size, Asker::Fresh),
         _ => println!(rt; "nothing is called {what}"),
     }
 }

@@ -11,7 +11,7 @@ use Rattle.rds_dots.specs.declared.dot.Dot.{Dot}
 use Rattle.rds_life.specs.Life.{Life, seen_of}
 use Rattle.rds_life.proofs.Views.{contains-seen_of}
 use Rattle.rds_state.specs.Coordinates.{Coordinates, AtMost, join}
-use Rattle.rds_state.specs.Fits.{Fits}
+use Rattle.rds_state.specs.Fits.{Fits, ReplicaValue}
 use Rattle.rds_state.specs.Value.{StateValue, coordinates}
 use Rattle.rds_state.specs.Ahead.{TakeGives}
 use Rattle.rds_state.specs.Friends.{AreFriends}
@@ -26,7 +26,7 @@ use Rattle.rds_codec.specs.AnswerValues.{AnswerValue}
 use Rattle.rds_codec.specs.declared.limits.TheConstants.{LIMIT}
 use Rattle.rds_codec.specs.Decoding.{Answers, Decodes}
 use Rattle.rds_codec.specs.DigestTexts.{DigestFits}
-use Rattle.rds_codec.specs.Exchanged.{IsAnswerTo, IsLost}
+use Rattle.rds_codec.specs.Exchanged.{CanExchange, IsAnswerTo, IsLost}
 use Rattle.rds_codec.specs.Kinds.{Kind}
 use Rattle.rds_codec.specs.Values.{AreFew}
 use Rattle.rds_codec.specs.Writing.{IsUnwritten}
@@ -114,3 +114,21 @@ fits_here n r s v w e f k fits = subst (λ (m : ℕ). Fits m (coordinates w)) (s
 
 pub few_here : (v w : StateValue) → w ≡ v → AreFew (seen_of v.lives) → AreFew (seen_of w.lives)
 few_here v w k few = subst (λ (x : StateValue). AreFew (seen_of x.lives)) (sym k) few
+
+-- what was asked, and what was answered to it, of the replicas themselves
+pub record IsAsked (answerer asked mine : ReplicaValue) (digest : DigestValue) (a : AnswerValue) : Type 0 where
+  pub same : digest ≡ digest_of asked.state
+  pub answers : IsAnswerTo digest mine.own answerer.state a
+
+pub asked_of : (n own : ℕ) (answerer asked mine : ReplicaValue) (told held : StateValue) (digest : DigestValue) (a : AnswerValue) → n ≡ length mine.roster.names → own ≡ mine.own → own < n
+    → told ≡ asked.state → Fits (length asked.roster.names) (coordinates asked.state) → held ≡ answerer.state → Fits (length answerer.roster.names) (coordinates answerer.state)
+    → (Fits n (coordinates told) → AreFew (seen_of told.lives) → digest ≡ digest_of told)
+    → (own < n → Fits n (coordinates held) → AreFew (seen_of held.lives) → IsAnswerTo digest own held a)
+    → CanExchange answerer asked mine → IsAsked answerer asked mine digest a
+asked_of n own answerer asked mine told held digest a many is_own below told_is told_fits held_is held_fits asks answers can =
+    let fits = fits_here n answerer.roster mine.roster answerer.state held many can.answerer_roster held_is held_fits in
+    let here : IsAnswerTo digest own held a = answers below fits (few_here answerer.state held held_is can.few_held) in
+    record {
+      same = asks (fits_here n asked.roster mine.roster asked.state told many can.asked_roster told_is told_fits) (few_here asked.state told told_is can.few_asked) ∙ ap digest_of told_is;
+      answers = subst (λ (k : ℕ). IsAnswerTo digest k answerer.state a) is_own (subst (λ (s : StateValue). IsAnswerTo digest own s a) held_is here);
+    }

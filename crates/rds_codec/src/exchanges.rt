@@ -77,7 +77,7 @@ fn take_answer<S: DotSet>(
     replica.take(&answer.state)
 }
 
-/// One replica asks another for what it lacks, and takes the answer: the digest of what it was when it asked goes as
+/// One replica asks another for what it lacks, and takes the answer, which is answered: the digest of what it was when it asked goes as
 /// bytes to the other, which sends back as bytes the least delta and its certificate; these are checked and taken.
 ///
 /// Between friends, whatever the one that asked has become since, it ends with all that both knew, and nothing but
@@ -88,7 +88,8 @@ pub fn exchange<S: DotSet>(
     answerer: &Replica<S>,
     asked: &Replica<S>,
     asker: &mut Replica<S>,
-) -> Result<(), Fault>
+) -> Result<Answer<S>, Fault>
+    ensures answer { CanExchange answerer.now asked.now asker.old → IfOk result (IsAnswerTo (digest_of asked.now.state) asker.old.own answerer.now.state) }
     ensures joined { CanExchange answerer.now asked.now asker.old → OnOk result (coordinates asker.new.state ≡ join (coordinates asker.old.state) (coordinates answerer.now.state)) }
     ensures fault { CanExchange answerer.now asked.now asker.old → IfErr result (IsLost (IsLongDigest asked.now.state ⊎ IsLongAnswer (digest_of asked.now.state) asker.old.own answerer.now.state)) }
     ensures roster { asker.new.roster ≡ asker.old.roster }
@@ -98,5 +99,6 @@ pub fn exchange<S: DotSet>(
     let replicas = asker.roster().len();
     let digest = send_digest(alloc, replicas, asked.state())?;
     let answer = send_answer(alloc, replicas, asker.own(), answerer.state(), &digest)?;
-    take_answer(asker, &digest, &answer)
+    take_answer(asker, &digest, &answer)?;
+    Ok(answer)
 }

@@ -1,5 +1,7 @@
 pub mod CommandWords
+pub mod Entered
 pub mod Meaning
 pub mod NamedTasks
 pub mod Naming
+pub mod Refused
 pub mod Told

@@ -1,10 +1,9 @@
 -- Words mean one thing.
-use Rattle.std.proofs.Common.{◌≡◌, ◌∙◌, ◌⊎◌, ℕ, List, Result, Ok, Err, IsOk, ap, subst, sym, inl, inr, true≢false}
+use Rattle.std.proofs.Common.{◌≡◌, ◌∙◌, ◌⊎◌, ℕ, List, Result, Ok, Err, ap, sym, inl, inr}
 use Rattle.std.specs.Prelude.{MatchResult}
-use Rattle.rds_names.specs.Gives.{Refuses}
 use Rattle.rds_names.specs.Key.{key_of}
 use Rattle.rds_names.specs.declared.fault.Fault.{Fault}
-use Rattle.rds_names.specs.declared.fault.Fault.TheVariants.{Memory, BadName, BadKey, BadPath, BadScalar, BadRoster, SeqFull, CounterFull, Conflict, OwnAhead, WrongAsker, Cut, Bad, Extra, TooLong, TooManyDots, BadCertificate, WrongVersion, WrongGroup, WrongRoster, SameReplica, OutOfTurn, PeerEnded, Device, BadLine, NoSuch, Usage}
+use Rattle.rds_names.specs.declared.fault.Fault.TheVariants.{Memory}
 use Rattle.rds_state.specs.declared.command.Command.{Command}
 use Rattle.rds_state.specs.declared.command.Command.TheVariants as commands
 use Rattle.rds_json.specs.MayGive.{and_then}
@@ -36,13 +35,6 @@ command_once (Dec key by) r s h k = count_once commands.Dec by.now r s (key_of k
 pub ok_isnt_err : {X E : Type 0} (x : X) (e : E) → Ok x ≡ Err e → ⊥
 ok_isnt_err x e is = absurd cc
 
--- words that are no command gave none
-pub no_command : (words : EditWords) (command : Command) (fault : Fault) → (Ok command ≡ Err Memory) ⊎ IsCommand words (Ok command) → IsCommand words (Err fault) → ⊥
-no_command words command fault h due = elim h [
-  | inl is ↦ ok_isnt_err command Memory is
-  | inr is ↦ ok_isnt_err command fault (command_once words (Ok command) (Err fault) is due)
-]
-
 -- what refused them is why
 pub why_no_command : {X : Type 0} (words : EditWords) (given e fault : Fault) (result : Result X Fault) → (◌≡◌ {A = Result Command Fault} (Err given) (Err Memory)) ⊎ IsCommand words (Err given)
     → result ≡ Err e → e ≡ given → IsCommand words (Err fault) → (result ≡ Err Memory) ⊎ (result ≡ Err fault)
@@ -53,37 +45,3 @@ why_no_command words given e fault result h is from due = elim h [
   where
     err_is : (a b : Fault) → ◌≡◌ {A = Result Command Fault} (Err a) (Err b) → a ≡ b
     err_is a b same = cc
-
--- where a fault is due, it is what refuses
-module _ {X : Type 0} (due : Result X Fault) (fault : Fault) (is : due ≡ Err fault) where
-  same : (e : Fault) → due ≡ Err e → e ≡ fault
-  same e h = let k : ◌≡◌ {A = Result X Fault} (Err e) (Err fault) = sym h ∙ is in cc
-
-  pub only_due : (e : Fault) → Refuses e due → e ≡ fault
-  only_due Memory h = absurd (true≢false (sym (subst IsOk is h)))
-  only_due BadName h = same BadName h
-  only_due BadKey h = same BadKey h
-  only_due BadPath h = same BadPath h
-  only_due BadScalar h = same BadScalar h
-  only_due BadRoster h = same BadRoster h
-  only_due SeqFull h = same SeqFull h
-  only_due CounterFull h = same CounterFull h
-  only_due (Conflict replica seq) h = same (Conflict replica seq) h
-  only_due (OwnAhead own) h = same (OwnAhead own) h
-  only_due WrongAsker h = same WrongAsker h
-  only_due Cut h = same Cut h
-  only_due Bad h = same Bad h
-  only_due Extra h = same Extra h
-  only_due TooLong h = same TooLong h
-  only_due TooManyDots h = same TooManyDots h
-  only_due BadCertificate h = same BadCertificate h
-  only_due WrongVersion h = same WrongVersion h
-  only_due WrongGroup h = same WrongGroup h
-  only_due WrongRoster h = same WrongRoster h
-  only_due SameReplica h = same SameReplica h
-  only_due OutOfTurn h = same OutOfTurn h
-  only_due PeerEnded h = same PeerEnded h
-  only_due Device h = same Device h
-  only_due BadLine h = same BadLine h
-  only_due NoSuch h = same NoSuch h
-  only_due Usage h = same Usage h

@@ -1,5 +1,5 @@
 -- What the words of commands on files mean.
-use Rattle.std.specs.Prelude.{◌≡◌, ℕ, List, [], ◌∷◌, Option, Some, None, Result, Ok, Err, IfErr, MatchResult}
+use Rattle.std.specs.Prelude.{◌≡◌, ℕ, List, [], ◌∷◌, Option, Some, None, Result, Ok, Err, IfErr, MatchResult, map}
 use Rattle.std.specs.List.{position}
 use Rattle.std.specs.Str.{bytes_eq}
 use Rattle.std.specs.Str.Parse.{ParsesUnsigned}
@@ -18,6 +18,7 @@ use Rattle.rds_json.specs.MayGive.{and_then}
 use Rattle.rds_json.specs.Scalar.{scalar_of}
 use Rattle.rds_commands.specs.declared.commands.EditWords.{EditWords}
 use Rattle.rds_commands.specs.declared.commands.EditWords.TheVariants.{Set, Add, Del, Clear, Inc, Dec}
+use Rattle.rds_commands.specs.declared.commands.InitWords.{InitWords}
 
 abbrev pub value_from : Option Data → Result Scalar Fault
 value_from None = Err BadLine
@@ -60,3 +61,7 @@ place_in roster own = placed (position (bytes_eq own) roster.names)
 -- a roster and an own number, or the fault of the first word that is none
 abbrev pub roster_in : List ℕ → List ℕ → List (List ℕ) → Result (RosterValue × ℕ) Fault
 roster_in group own names = and_then (key_of group) (λ g. and_then (name_of own) (λ o. and_then (names_of names) (λ ns. and_then (roster_of g ns) (λ r. place_in r o))))
+
+-- the same, of the words of `init`
+abbrev pub roster_for : InitWords → Result (RosterValue × ℕ) Fault
+roster_for words = roster_in words.group.now words.own.now (map (λ n. n.now) words.names.items)

@@ -1,78 +1,123 @@
 //! Commands on the replica in a file.
-ghost use Rattle.std.specs.Prelude.{◌≡◌, ◌⊎◌, Ok, Err, map, IfErr, IfOk, OnErr, MatchResult};
+ghost use Rattle.std.specs.Prelude.{◌≡◌, ◌⊎◌, None, Err, IfErr, IfOk, MatchResult, OnErr};
 ghost use Rattle.rds_names.specs.declared.fault.Fault.TheVariants.{Memory};
 ghost use Rattle.rds_names.specs.Path.{path_of};
-ghost use Rattle.rds_commands.specs.Edits.{IsEdited, ShowsFile, EditsFile};
-ghost use Rattle.rds_commands.specs.FileWords.{IsCommand, roster_in};
+ghost use Rattle.rds_state.specs.Edit.{IsDue};
+ghost use Rattle.rds_commands.specs.Edits.{edit_refusal, EditsFile, InitsFile, IsEdited, RefusesEdit, RefusesEditIn, RefusesInit, RefusesShow, ShowsFile};
+ghost use Rattle.rds_commands.specs.FileWords.{IsCommand, roster_for};
 
-use crate::commands::EditWords;
+use crate::commands::{EditWords, InitWords};
 use crate::file_words::{command_of, roster_in};
 use rds_dots::{DotSet, ListSet};
-use rds_files::{is_there, keep_file, read_file};
-use rds_keep::Kept;
+use rds_files::{ReplicaFile, is_there};
 use rds_lines::{Answer, shown};
 use rds_names::{Fault, Path};
 use rds_state::{Command, Replica};
 use std::rt::Files;
 
+/// A file as a command left it, and what the command is answered.
+#[derive(Drop)]
+pub struct FileAnswer<'a> {
+    /// The file.
+    pub file: ReplicaFile<'a, ListSet>,
+    /// The answer.
+    pub answer: Answer,
+}
+
+impl<'a> FileAnswer<'a> {
+    /// The answer alone: the file is let go.
+    pub fn into_answer(self) -> Answer
+        ensures { result ≡ self.entry.answer }
+    {
+        self.answer
+    }
+}
+
 /// Makes a file that holds an empty replica of a group. The words are judged first, as `roster_in`
 /// does; then a file that is there already is `Usage`, and one that can't be made is `Device`.
-pub fn init_file<H: Files + AllocGlobal>(
+pub fn init_file<'a, H: Files + AllocGlobal>(
     rt: &H,
-    file: &str,
-    group: &str,
-    own: &str,
-    names: &[&str],
-) -> Result<Answer, Fault>
-    ensures done { IfOk result (λ answer. answer ≡ Answer.Done) }
-    ensures words { (fault : Fault) → roster_in group.now own.now (map (λ n. n.now) names.now) ≡ Err fault
+    words: &InitWords<'a>,
+) -> Result<FileAnswer<'a>, Fault>
+    ensures made { IfOk result (λ done. InitsFile words.now done.file done.answer) }
+    ensures words { (fault : Fault) → roster_for words.now ≡ Err fault
         → (result ≡ Err Memory) ⊎ (result ≡ Err fault) }
+    ensures fault { IfErr result (RefusesInit words.now) }
 {
     let alloc = rt.alloc();
-    let (roster, own) = roster_in(alloc, group, own, names)?;
-    let replica: Replica<ListSet> = Replica::new(alloc, roster, own)?;
-    if is_there(rt, file)? {
+    let (roster, own) = roster_in(alloc, words.group, words.own, &words.names)?;
+    let replica = Replica::new(alloc, roster, own)?;
+    if is_there(rt, words.file)? {
         return Err(Fault::Usage);
     }
-    keep_file(rt, &replica, file)?;
-    Ok(Answer::Done)
+    let file = ReplicaFile::create(rt, words.file, &replica)?;
+    Ok(FileAnswer {
+        file,
+        answer: Answer::Done,
+    })
 }
 
 /// Edits the replica in a file. The words are judged first, as `command_of` does; then the file is
 /// read, its replica edited and kept, and only then is the edit answered.
-pub fn edit_file<H: Files + AllocGlobal>(
+pub fn edit_file<'a, H: Files + AllocGlobal>(
     rt: &H,
-    file: &str,
+    path: &'a str,
     words: &EditWords<'_>,
-) -> Result<Answer, Fault>
-    ensures edited { IfOk result (EditsFile words.now) }
+) -> Result<FileAnswer<'a>, Fault>
+    ensures edited { IfOk result (λ done. EditsFile path.now words.now done.file done.answer) }
     ensures words { (fault : Fault) → IsCommand words.now (Err fault)
         → (result ≡ Err Memory) ⊎ (result ≡ Err fault) }
+    ensures fault { IfErr result (RefusesEdit words.now) }
 {
     let command = command_of(rt.alloc(), words)?;
-    let kept: Kept<ListSet> = read_file(rt, file)?;
-    let mut replica = kept.replica();
-    let answer = edited(&mut replica, command)?;
-    keep_file(rt, &replica, file)?;
-    Ok(answer)
+    let file = ReplicaFile::open(rt, path)?;
+    let done = edit_in(rt, file, command)?;
+    Ok(done)
 }
 
-/// Shows what the document of the replica in a file has at a path. The path is judged first:
-/// `BadPath`, then `BadKey`.
-pub fn show_file<H: Files + AllocGlobal>(rt: &H, file: &str, path: &str) -> Result<Answer, Fault>
-    ensures shown { IfOk result (ShowsFile path.now) }
-    ensures path { (fault : Fault) → path_of path.now ≡ Err fault → result ≡ Err fault }
+/// Edits the replica in the file, and answers once the edited one is kept. Refuses as the edit
+/// does, and where that doesn't refuse, as keeping does.
+pub fn edit_in<'a, H: Files + AllocGlobal>(
+    rt: &H,
+    file: ReplicaFile<'a, ListSet>,
+    command: Command,
+) -> Result<FileAnswer<'a>, Fault>
+    ensures edited { IfOk result (λ done. IsEdited command file.entry.kept done.file.kept done.answer) }
+    ensures path { IfOk result (λ done. done.file.path ≡ file.entry.path) }
+    ensures due { IfOk result (λ _. edit_refusal file.entry.kept command ≡ None) }
+    ensures fault { IfErr result (RefusesEditIn command file.entry.kept) }
+{
+    let path = file.path();
+    let mut replica = file.into_replica();
+    let answer = edited(&mut replica, command)?;
+    let file = ReplicaFile::create(rt, path, &replica)?;
+    Ok(FileAnswer { file, answer })
+}
+
+/// Shows what the document of the replica in a file has at the path of a text. The path is judged
+/// first: `BadPath`, then `BadKey`.
+pub fn show_file<'a, H: Files + AllocGlobal>(
+    rt: &H,
+    path: &'a str,
+    text: &str,
+) -> Result<FileAnswer<'a>, Fault>
+    ensures shown { IfOk result (λ done. ShowsFile path.now text.now done.file done.answer) }
+    ensures path { (fault : Fault) → path_of text.now ≡ Err fault → result ≡ Err fault }
+    ensures fault { IfErr result (RefusesShow text.now) }
 {
     let alloc = rt.alloc();
-    let path = Path::new(alloc, path)?;
-    let kept: Kept<ListSet> = read_file(rt, file)?;
-    shown(alloc, kept.view_of().state(), &path)
+    let keys = Path::new(alloc, text)?;
+    let file = ReplicaFile::open(rt, path)?;
+    let answer = shown(alloc, file.kept().view_of().state(), &keys)?;
+    Ok(FileAnswer { file, answer })
 }
 
 /// Edits a replica, and answers which dot is new and how many entries were taken away. Refuses as
 /// the edit does, and then nothing is changed.
 pub fn edited<S: DotSet>(replica: &mut Replica<S>, command: Command) -> Result<Answer, Fault>
     ensures edited { IfOk result (IsEdited command replica.old replica.new) }
+    ensures refusal { let due = edit_refusal replica.old command in
+        MatchResult result (λ _. due ≡ None) (IsDue due) }
     ensures err { OnErr result (replica.new ≡ replica.old) }
 {
     let edited = replica.edit(command)?;

@@ -1,5 +1,5 @@
 //! What the words of commands on files mean.
-ghost use Rattle.std.specs.Prelude.{◌≡◌, ◌⊎◌, Ok, Err, map, MatchResult};
+ghost use Rattle.std.specs.Prelude.{◌≡◌, ◌<◌, ◌⊎◌, Ok, Err, IfOk, length, map, MatchResult};
 ghost use Rattle.rds_names.specs.declared.fault.Fault.TheVariants.{Memory};
 ghost use Rattle.rds_json.specs.MayGive.{MayGive};
 ghost use Rattle.rds_commands.specs.FileWords.{IsAmount, IsCommand, names_of, roster_in, value_of};
@@ -51,7 +51,8 @@ pub fn roster_in(
     own: &str,
     names: &[&str],
 ) -> Result<(Roster, u8), Fault>
-    ensures { MayGive result (roster_in group.now own.now (map (λ n. n.now) names.now)) }
+    ensures given { MayGive result (roster_in group.now own.now (map (λ n. n.now) names.now)) }
+    ensures within { IfOk result (λ r. r.1 < length r.0.names) }
 {
     let group = Key::new(alloc, group)?;
     let own = Name::new(own)?;

@@ -6,6 +6,7 @@ mod file_commands;
 mod file_words;
 mod program;
 mod serve_words;
+mod telling;
 mod unparsed;
 
 pub use program::run;

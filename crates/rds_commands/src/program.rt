@@ -1,19 +1,19 @@
 //! The program's commands.
-ghost use Rattle.std.specs.Prelude.{◌≡◌, ◌≢◌, ◌∷◌, ◌≤◌, ◌⊎◌, List, ℕ, Err, map, IfSome, IsErrAnd};
+ghost use Rattle.std.specs.Prelude.{◌≡◌, ◌≢◌, [], ◌∷◌, ◌≤◌, ◌⊎◌, List, ℕ, Err, map, IfSome};
 ghost use Rattle.rds_names.specs.declared.fault.Fault.TheVariants.{Device};
 ghost use Rattle.rds_lines.specs.Answering.{EndsIn};
-ghost use Rattle.rds_commands.specs.Commands.{join_words, sim_words};
 ghost use Rattle.rds_lines.specs.Output.{Writes, fault_line};
-ghost use Rattle.rds_lines.specs.Refusal.{fault_of};
-ghost use Rattle.rds_lines.specs.Run.{WritesJoin, WritesSim, IsJoinLine};
+ghost use Rattle.rds_lines.specs.Run.{WritesJoin, WritesSim};
+ghost use Rattle.rds_commands.specs.Commands.{join_words, sim_words};
+ghost use Rattle.rds_commands.specs.Told.{AnswersMistake, MayWriteNamed, mistakes_in, named_in};
 
 use crate::commands::{Task, task_of};
-use crate::file_commands::{edit_file, init_file, show_file};
 use crate::serve_words::run_serve;
+use crate::telling::{run_edit, run_init, run_show};
 use crate::unparsed::write_unparsed;
 use rds_files::{pair_files, sync_file};
 use rds_keep::Counted;
-use rds_lines::{run_join, run_sim, write_answer, write_fault};
+use rds_lines::{run_join, run_sim, write_fault};
 use rds_names::Fault;
 use std::convert::AsStr;
 use std::io::{Read, Write};
@@ -48,6 +48,12 @@ pub fn run<H: Files + Net + AllocGlobal, R: Read, W: Write, S: AsStr>(
         → reader.new.failed ≢ reader.old.failed → writer.new.failed ≡ 0
         → EndsIn (fault_line Device) (W.contents writer.old.inner) (W.contents writer.new.inner)
         × (result ≡ 1) }
+    ensures task { mistakes_in (map S.text words.entry.now) ≡ [] → writer.new.failed ≡ 0
+        → MayWriteNamed (named_in (map S.text words.entry.now))
+        (W.contents writer.old.inner) (W.contents writer.new.inner) result }
+    ensures mistake { mistakes_in (map S.text words.entry.now) ≢ [] → writer.new.failed ≡ 0
+        → AnswersMistake (mistakes_in (map S.text words.entry.now))
+        (W.contents writer.old.inner) (W.contents writer.new.inner) result }
     ensures status { result ≤ 2 }
     ensures broken { (writer.new.failed ≡ writer.old.failed) ⊎ (result ≡ 1) }
 {
@@ -55,12 +61,9 @@ pub fn run<H: Files + Net + AllocGlobal, R: Read, W: Write, S: AsStr>(
     match task_of(alloc, words) {
         Ok(Some(Task::Join)) => run_join(alloc, reader, writer),
         Ok(Some(Task::Sim)) => run_sim(alloc, reader, writer),
-        Ok(Some(Task::Init(words))) => write_answer(
-            writer,
-            init_file(rt, words.file, words.group, words.own, &words.names),
-        ),
-        Ok(Some(Task::Edit { file, edit })) => write_answer(writer, edit_file(rt, file, &edit)),
-        Ok(Some(Task::Show { file, path })) => write_answer(writer, show_file(rt, file, path)),
+        Ok(Some(Task::Init(words))) => run_init(rt, &words, writer),
+        Ok(Some(Task::Edit { file, edit })) => run_edit(rt, file, &edit, writer),
+        Ok(Some(Task::Show { file, path })) => run_show(rt, file, path, writer),
         Ok(Some(Task::Serve(words))) => {
             run_serve(rt, words.file, words.addr, words.sessions, writer)
         }

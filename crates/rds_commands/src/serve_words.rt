@@ -2,6 +2,7 @@
 ghost use Rattle.std.specs.Prelude.{◌≡◌, ◌≤◌, ◌⊎◌, Err};
 ghost use Rattle.rds_names.specs.declared.fault.Fault.TheVariants.{Usage};
 ghost use Rattle.rds_commands.specs.FileWords.{IsAmount};
+ghost use Rattle.rds_commands.specs.Told.{WritesServe};
 ghost use Rattle.rds_lines.specs.Output.{Writes};
 
 use crate::file_words::amount_of;
@@ -21,6 +22,8 @@ pub fn run_serve<H: Files + Net + AllocGlobal, W: Write>(
     sessions: &str,
     writer: &mut Counted<W>,
 ) -> u8
+    ensures written { writer.new.failed ≡ 0 → WritesServe file.now sessions.now
+        (W.contents writer.old.inner) (W.contents writer.new.inner) result }
     ensures refused { IsAmount sessions.now (Err Usage) → writer.new.failed ≡ 0
         → Writes (Err Usage) (W.contents writer.old.inner) (W.contents writer.new.inner) result }
     ensures status { result ≤ 2 }

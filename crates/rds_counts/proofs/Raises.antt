@@ -1,6 +1,6 @@
 -- What rows say once a number has grown.
 use Rattle.std.proofs.Common.{◌≡◌, ℕ, ◌+◌, ◌<◌, ◌≤◌, ◌&&◌, Bool, true, false, max, nat_lt, List, [], ◌∷◌, refl, sym, ◌∙◌, ap, subst, arith}
-use Rattle.std.specs.Prelude.{nat_le, ◌||◌}
+use Rattle.std.specs.Prelude.{nat_le, ◌||◌, Result, Ok, Err, IfOk, IfErr}
 use Rattle.std.proofs.lemmas.Bool.Decides.{nat_tests}
 use Rattle.std.specs.Ordering.{eq_by_cmp}
 use Rattle.rds_counts.specs.declared.row.Which.{Which}
@@ -50,6 +50,15 @@ each_within N pair p n = n
 pub raised_above : (which : Which) (old : ℕ × ℕ) (by : ℕ) → (old.0 ≤ (pair_raised old which by).0) × (old.1 ≤ (pair_raised old which by).1)
 raised_above P old by = (omega arith, omega arith)
 raised_above N old by = (omega arith, omega arith)
+
+-- no row is found where a write of the pair was refused
+pub lacking : (found : Result ℕ ℕ) (pair : ℕ × ℕ) → IfOk found (λ _. false ≡ true) → IfErr found (λ _. pair ≡ (0, 0)) → pair ≡ (0, 0)
+lacking (Ok at) pair there nowhere = absurd (cc there)
+lacking (Err at) pair there nowhere = nowhere
+
+pub number_of_none : (which : Which) (pair : ℕ × ℕ) → pair ≡ (0, 0) → number_of which pair ≡ 0
+number_of_none P pair is = ap (λ (k : ℕ × ℕ). k.0) is
+number_of_none N pair is = ap (λ (k : ℕ × ℕ). k.1) is
 
 module _ (rows : List CountRow) (are : AreCountRows rows) (m : Counted) (says : counted rows ≡ m) (key : List ℕ) (replica : ℕ) (which : Which) (by : ℕ) where
   abbrev pub row : CountRow

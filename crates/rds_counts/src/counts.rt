@@ -1,11 +1,12 @@
 //! All counters of a document.
-ghost use Rattle.std.specs.Prelude.{◌≡◌, ◌≤◌, ◌<◌, ◌+◌, ◌^◌, ◌↔◌, ◌⊎◌, ℕ, Err, IsTrue, IsOk, IfOk, IfErr, OnOk, OnErr, MatchOption, max};
+ghost use Rattle.std.specs.Prelude.{◌≡◌, ◌≢◌, ◌≤◌, ◌<◌, ◌+◌, ◌^◌, ◌↔◌, ◌⊎◌, ℕ, Err, IsTrue, IsOk, IfOk, IfErr, OnOk, OnErr, MatchOption, max};
 ghost use Rattle.std.specs.FinMap as map;
 ghost use Rattle.rds_names.specs.declared.fault.Fault.TheVariants.{Memory, CounterFull};
 ghost use Rattle.rds_counts.specs.Place.{Place};
 ghost use Rattle.rds_counts.specs.Counted.{number, place, counted, AreCountRows};
 ghost use Rattle.rds_counts.specs.RowsOf.{count_rows};
 ghost use Rattle.rds_counts.specs.Value.{value_of};
+ghost use Rattle.rds_counts.specs.declared.row.Which.{Which as WhichNumber};
 ghost use Rattle.rds_counts.specs.declared.row.Which.TheVariants.{P, N};
 
 use crate::row::{CountRow, MAX_COUNT, Which};
@@ -98,13 +99,15 @@ impl Counts {
     }
 
     /// Adds an amount to one of a replica's numbers. A sum above `MAX_COUNT` is refused
-    /// (`CounterFull`). An amount of 0 is always fine and changes nothing.
+    /// (`CounterFull`). An amount of 0 is always fine and changes nothing. Takes no memory where one
+    /// of the two numbers of the key and the replica is above 0 already.
     pub fn raise(&mut self, key: &Key, replica: u8, which: Which, by: u64) -> Result<(), Fault>
         ensures raised { OnOk result (number self.new (place key.now replica which) ≡ number self.old (place key.now replica which) + by) }
         ensures others { OnOk result ((q : Place) → ¬ (q ≡ place key.now replica which) → number self.new q ≡ number self.old q) }
         ensures full { (result ≡ Err CounterFull) ↔ (MAX_COUNT < number self.old (place key.now replica which) + by) }
         ensures faults { IfErr result (λ fault. (fault ≡ Memory) ⊎ (fault ≡ CounterFull)) }
         ensures nothing { by ≡ 0 → IsOk result × (self.new ≡ self.old) }
+        ensures there { (some : WhichNumber) → 0 < number self.old (place key.now replica some) → result ≢ Err Memory }
         ensures err { OnErr result (self.new ≡ self.old) }
     {
         let found = find_row(&self.rows, key, replica);

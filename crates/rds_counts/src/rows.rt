@@ -1,5 +1,5 @@
 //! Rows of numbers, by key, then replica.
-ghost use Rattle.std.specs.Prelude.{List, IsTrue, ◌↔◌, ◌≡◌, ◌≤◌, ◌<◌, ◌+◌, ◌*◌, ℕ, IfOk, IfErr, OnOk, OnErr, MatchResult, length, ◌++◌, ◌∷◌, []};
+ghost use Rattle.std.specs.Prelude.{List, IsTrue, ◌↔◌, ◌≡◌, ◌≤◌, ◌<◌, ◌+◌, ◌*◌, ℕ, IsOk, IfOk, IfErr, OnOk, OnErr, MatchResult, length, ◌++◌, ◌∷◌, []};
 ghost use Rattle.std.specs.List.Sorted.{IsBinarySearchResult, IsSearchInRange};
 ghost use Rattle.rds_names.specs.declared.fault.Fault.TheVariants.{Memory, CounterFull};
 ghost use Rattle.rds_counts.specs.Place.{Place};
@@ -73,6 +73,7 @@ pub fn pair_at(rows: &[CountRow], found: Result<usize, usize>) -> (u64, u64)
     requires rows { AreCountRows rows.now }
     requires found { IsSearchInRange found (length rows.now) }
     ensures found { (key : List ℕ) (replica : ℕ) → IsSpot key replica rows.now found → result ≡ pair_of rows.now key replica }
+    ensures nowhere { IfErr found (λ _. result ≡ (0, 0)) }
     ensures within { (result.0 ≤ MAX_COUNT) × (result.1 ≤ MAX_COUNT) }
 {
     match found {
@@ -158,6 +159,7 @@ pub fn put_row(
     ensures ok { OnOk result (rows.new.items ≡ drawn (row_of key.now replica pair ∷ []) rows.old.items) }
     ensures err { OnErr result (rows.new.items ≡ rows.old.items) }
     ensures memory { IfErr result (λ fault. fault ≡ Memory) }
+    ensures there { IfOk found (λ _. IsOk result) }
 {
     let (p, n) = pair;
     match found {

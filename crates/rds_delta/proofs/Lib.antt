@@ -7,6 +7,7 @@ pub mod DeltaLemmas
 pub mod Digests
 pub mod Exchanges
 pub mod Grouping
+pub mod InsideLemmas
 pub mod LeastLaws
 pub mod LifelessLemmas
 pub mod NextLemmas

@@ -7,7 +7,7 @@ use Rattle.std.specs.FinSet as set
 use Rattle.std.proofs.lemmas.Bool.{cases_lt}
 use Rattle.rds_dots.specs.declared.dot.Dot.{Dot}
 use Rattle.rds_dots.specs.declared.dot.Run.{Run}
-use Rattle.rds_dots.specs.Dots.{Dots, first_of, comes_after}
+use Rattle.rds_dots.specs.Dots.{Dots, is_dot, first_of, comes_after}
 use Rattle.rds_dots.specs.Lacking.{dot_of}
 use Rattle.rds_life.specs.Life.{Life, Live, Dead, Lived, entry_of, seen_of}
 use Rattle.rds_life.proofs.Views.{contains-seen_of}
@@ -33,6 +33,10 @@ which_least a b c = elim (cases_lt c (min a b)) [
 module _ (v : Lived) (s : Dots) (is : s ≡ seen_of v) (after : Option Dot) where
   seen : (d : Dot) → set.contains s d ≡ is_some (map.get v d)
   seen d = ap (λ t. set.contains t d) is ∙ contains-seen_of v d
+
+  -- what isn't unseen is a dot, as all of a set of dots are
+  pub seen_dots : ((d : Dot) → set.contains s d ≡ true → is_dot d ≡ true) → (d : Dot) → is_some (map.get v d) ≡ true → is_dot d ≡ true
+  seen_dots within d h = within d (seen d ∙ h)
 
   unseen : (d : Dot) → set.contains s d ≡ false → map.get v d ≡ None
   unseen d h = is_none (map.get v d) (sym (seen d) ∙ h)

@@ -1,5 +1,5 @@
 //! The certificate of a delta.
-ghost use Rattle.std.specs.Prelude.{◌≡◌, ◌++◌, ℕ, List, true, None, is_some, IfOk, IfErr, OnOk};
+ghost use Rattle.std.specs.Prelude.{◌≡◌, ◌++◌, ℕ, List, true, None, is_some, IfOk, IfErr, IsOk, OnOk};
 ghost use Rattle.std.specs.FinMap as map;
 ghost use Rattle.rds_names.specs.declared.fault.Fault.TheVariants.{Memory};
 ghost use Rattle.rds_dots.specs.declared.dot.Dot.{Dot};
@@ -38,26 +38,19 @@ pub fn certificate<S: DotSet>(
     ensures within { (replicas : ℕ) → Fits replicas (coordinates delta.now) → IsAbove (coordinates delta.now) (ranks_in digest.now) → IfOk result (AreRowsWithin replicas) }
     ensures memory { IfErr result (λ fault. fault ≡ Memory) }
 {
-    seen_are_dots(delta.lives());
     let mut rows = dot_rows(alloc, digest, delta.lives())?;
     push_counts(alloc, &mut rows, digest.counts(), delta.counts().rows())?;
     Ok(Certificate::new(rows))
 }
 
-/// The dots that aren't unseen lie in the range of dots. The function does nothing: its contract is this fact.
-fn seen_are_dots<S: DotSet>(lives: &Lives<S>)
-    ensures { (d : Dot) → is_some (map.get lives.now d) ≡ true → is_dot d ≡ true }
-{
-    let _seen = lives.seen();
-}
-
-/// The rows of all dots.
+/// The rows of all dots. Those that aren't unseen lie in the range of dots.
 fn dot_rows<S: DotSet>(
     alloc: Global,
     digest: &Digest<S>,
     lives: &Lives<S>,
 ) -> Result<Vec<Row>, Fault>
     ensures ok { IfOk result (λ rows. (more : List Row) → is_flat more ≡ true → rows.items ++ more ≡ rows_after (rank_in digest.now) lives.now None more) }
+    ensures dots { IsOk result → (d : Dot) → is_some (map.get lives.now d) ≡ true → is_dot d ≡ true }
     ensures memory { IfErr result (λ fault. fault ≡ Memory) }
 {
     let mut rows = Vec::new(alloc);

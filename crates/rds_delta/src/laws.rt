@@ -12,9 +12,9 @@ ghost use Rattle.rds_delta.specs.Ranks.{Ranks, ranks};
 ghost use Rattle.rds_delta.specs.Sized.{HasComponents};
 
 /// Of all that does to a state B what a state A does, the least delta of A against B is the least: it does so to B
-/// and to whatever B has become since, it is a part of A, and it lies below each state that does the same to B, so
-/// that none has fewer components, of which the size is the number (after the decompositions of Enes, Almeida,
-/// Baquero, Leitão 2019). The function does nothing: its contract is these laws.
+/// and to whatever B has become since, it is a part of A, and it lies below each state that is compatible with B and
+/// does the same to it, so that none of these has fewer components, of which the size is the number (after the
+/// decompositions of Enes, Almeida, Baquero, Leitão 2019). The function does nothing: its contract is these laws.
 pub fn least_delta_laws()
     ensures effect { (a b grown : Coordinates) → AtMost b grown → join grown (least a (ranks b)) ≡ join grown a }
     ensures below { (a b c : Coordinates) → AreCompatible b c → join b c ≡ join b a → AtMost (least a (ranks b)) c }
@@ -26,8 +26,9 @@ pub fn least_delta_laws()
 {}
 
 /// A delta whose components are all above a digest, as `check` says of it, does no harm, whoever made it: the state
-/// that was digested is compatible with it, and it lies below every state that does to that one what it does, so
-/// that it has nothing that isn't needed. The function does nothing: its contract is these laws.
+/// that was digested is compatible with it, and it lies below each state that is compatible with that one and does
+/// to it what the delta does, so that it has nothing that isn't needed. The function does nothing: its contract is
+/// these laws.
 pub fn checked_delta_laws()
     ensures compatible { (d b : Coordinates) → IsAbove d (ranks b) → AreCompatible b d }
     ensures below { (d b c : Coordinates) → IsAbove d (ranks b) → AreCompatible b c → join b c ≡ join b d → AtMost d c }

@@ -6,7 +6,8 @@ use rds_dots::{Dot, Run};
 use rds_names::Key;
 use std::marker::Model;
 
-/// What the digested side has in place of one or more components of a delta.
+/// What the digested side has in place of one or more components of a delta. Any row can be written down; what is said
+/// here of each holds in a certificate that `check` accepts.
 #[derive(Debug, Drop)]
 pub enum Row {
     /// The dot is live in the delta, and unseen there.

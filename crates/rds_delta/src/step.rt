@@ -1,5 +1,7 @@
 //! The dot rows of a certificate, one after another.
-ghost use Rattle.std.specs.Prelude.{◌≡◌, ◌≤◌, true};
+ghost use Rattle.std.specs.Prelude.{◌≡◌, ◌≤◌, true, is_some};
+ghost use Rattle.std.specs.FinMap as map;
+ghost use Rattle.rds_dots.specs.declared.dot.Dot.{Dot};
 ghost use Rattle.rds_dots.specs.Dots.{is_dot};
 ghost use Rattle.rds_delta.specs.Claimed.{end_of};
 ghost use Rattle.rds_delta.specs.Digested.{rank_in};
@@ -85,13 +87,14 @@ pub fn lifeless_until<S: DotSet>(lives: &Lives<S>, dot: Dot) -> Option<u64>
     }
 }
 
-/// What stands at the next dots after the given one.
+/// What stands at the next dots after the given one. The dots that aren't unseen lie in the range of dots.
 pub fn next_row<S: DotSet>(
     digest: &Digest<S>,
     lives: &Lives<S>,
     after: Option<Dot>,
 ) -> Option<DotRow>
-    ensures { IsNextRow (rank_in digest.now) lives.now after result }
+    ensures next { IsNextRow (rank_in digest.now) lives.now after result }
+    ensures dots { (d : Dot) → is_some (map.get lives.now d) ≡ true → is_dot d ≡ true }
 {
     let part = part_after(lives.seen(), after)?;
     let dot = Dot {

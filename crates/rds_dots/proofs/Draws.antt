@@ -19,7 +19,7 @@ begin_drawn d [] = refl
 begin_drawn d (s ∷ rs) = refl
 
 -- what the first run, and those after it, begin with
-find_first : (after : Option Dot) (r : Run) (rs ts : List Run) → ts ≡ r ∷ rs → comes_after after (last_of r) ≡ true → Some r ≡ first_after after ts
+pub find_first : (after : Option Dot) (r : Run) (rs ts : List Run) → ts ≡ r ∷ rs → comes_after after (last_of r) ≡ true → Some r ≡ first_after after ts
 find_first after r rs ts e is = sym (ap (first_after after) e ∙ ap (λ b. cond b (Some r) (first_after after rs)) is)
 
 find_later : (after : Option Dot) (r : Run) (rs ts : List Run) → ts ≡ r ∷ rs → comes_after after (last_of r) ≡ false → first_after after ts ≡ first_after after rs
@@ -57,7 +57,7 @@ put_all_early after (d ∷ ds) rs early ends =
     let one = put_early after d (put_dots ds rs) (and_left (not (comes_after after d)) _ early) again.0 in
     (one.0, one.1 ∙ again.1)
 
-put_dots-append : (ds es : List Dot) (rs : List Run) → put_dots (ds ++ es) rs ≡ put_dots ds (put_dots es rs)
+pub put_dots-append : (ds es : List Dot) (rs : List Run) → put_dots (ds ++ es) rs ≡ put_dots ds (put_dots es rs)
 put_dots-append [] es rs = refl
 put_dots-append (d ∷ ds) es rs = ap (put_dot d) (put_dots-append ds es rs)
 
@@ -65,13 +65,7 @@ grouped-append : (ds es : List Dot) → grouped (ds ++ es) ≡ put_dots ds (grou
 grouped-append [] es = refl
 grouped-append (d ∷ ds) es = ap (put_dot d) (grouped-append ds es)
 
--- a run that the dot before it leads up to, and one that it doesn't
-pub step_back : (ds : List Dot) (d : Dot) (r : Run) → leads_to d (first_of r) ≡ true → let more : Run = record { replica = r.replica; lo = d.seq; hi = r.hi } in (rs : List Run) → put_dots ds (more ∷ rs) ≡ put_dots (ds ++ d ∷ []) (r ∷ rs)
-step_back ds d r is rs =
-    let one : Run = record { replica = d.replica; lo = d.seq; hi = d.seq } in
-    let more : ℕ → Run = λ replica. record { replica = replica; lo = d.seq; hi = r.hi } in
-    sym (put_dots-append ds (d ∷ []) (r ∷ rs) ∙ ap (λ t. put_dots ds (cond t (more d.replica ∷ rs) (one ∷ r ∷ rs))) is ∙ ap (λ n. put_dots ds (more n ∷ rs)) (same_number _ _ _ _ is))
-
+-- a run that the dot before it doesn't lead up to
 pub stop_back : (after : Option Dot) (ds : List Dot) (d : Dot) (r : Run) (rs : List Run) → list_all (λ e. not (comes_after after e)) (ds ++ d ∷ []) ≡ true → comes_after after (last_of r) ≡ true → leads_to d (first_of r) ≡ false → first_after after (put_dots (ds ++ d ∷ []) (r ∷ rs)) ≡ Some r
 stop_back after ds d r rs early ends isn't =
     let one : Run = record { replica = d.replica; lo = d.seq; hi = d.seq } in

@@ -1,5 +1,7 @@
 pub mod Draws
 pub mod Inserts
+pub mod Lines
+pub mod LinesBack
 pub mod NextRuns
 pub mod Parts
 pub mod RunWalks

@@ -1,5 +1,5 @@
 -- What the parts of a list have from the whole.
-use Rattle.std.proofs.Common.{◌≡◌, Bool, true, List, [], ◌∷◌, ◌++◌, refl}
+use Rattle.std.proofs.Common.{◌≡◌, Bool, true, List, [], ◌∷◌, ◌++◌, append_assoc, refl, ◌∙◌, ap}
 use Rattle.std.specs.List.{list_all}
 use Rattle.rds_dots.specs.declared.dot.Dot.{Dot}
 use Rattle.rds_dots.specs.Ascending.{is_above, ascends}
@@ -20,3 +20,7 @@ front_rises (d ∷ ds) es rise = and_true _ _ (all_front (is_above d) ds es (and
 pub back_rises : (ds es : List Dot) → ascends (ds ++ es) ≡ true → ascends es ≡ true
 back_rises [] es rise = rise
 back_rises (d ∷ ds) es rise = back_rises ds es (and_right (list_all (is_above d) (ds ++ es)) _ rise)
+
+-- the dots before one and that one
+pub upto_rises : (ds : List Dot) (d : Dot) (es : List Dot) → ascends (ds ++ d ∷ es) ≡ true → ascends (ds ++ d ∷ []) ≡ true
+upto_rises ds d es rise = front_rises (ds ++ d ∷ []) es (ap ascends (append_assoc ds (d ∷ []) es) ∙ rise)

@@ -3,8 +3,8 @@
 /// The greatest number of a dot.
 pub const MAX_SEQ: u64 = 281_474_976_710_655;
 
-/// A dot: the event `seq` of a replica (Almeida, Shoker, Baquero 2018). Its number is 1 to `MAX_SEQ`.
-/// Dots are ordered by replica, then number.
+/// A dot: the event `seq` of a replica (Almeida, Shoker, Baquero 2018). An event's number is 1 to
+/// `MAX_SEQ`; a value may hold any. Dots are ordered by replica, then number.
 #[derive(Clone, Copy, Debug, PartialEq, Eq, PartialOrd, Ord)]
 pub struct Dot {
     pub replica: u8,

@@ -13,13 +13,14 @@ use std::alloc::Global;
 
 /// A set of dots as a sorted list of them.
 ///
-/// A look-up is a binary search. A run that is inserted past the last dot is appended; union and
-/// difference are one pass over both lists; going over all runs passes each dot once.
+/// A look-up is a binary search, and so is finding where a run begins and where it ends, so that the
+/// first run after a dot takes no longer where runs are long. A run that is inserted past the last dot
+/// is appended; union and difference are one pass over both lists.
 #[derive(Debug, Drop)]
 pub struct ListSet {
     dots: Vec<Dot>,
-    pub ghost ascending: { IsTrue (ascends dots.items) },
-    pub ghost are_dots: { IsTrue (list_all is_dot dots.items) },
+    ghost ascending: { IsTrue (ascends dots.items) },
+    ghost are_dots: { IsTrue (list_all is_dot dots.items) },
 }
 
 impl DotSet for ListSet {

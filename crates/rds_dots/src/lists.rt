@@ -4,8 +4,8 @@ ghost use Rattle.std.specs.List.{list_all};
 ghost use Rattle.rds_dots.specs.declared.dot.Run.{Run};
 ghost use Rattle.rds_dots.specs.declared.dot.Dot.{Dot};
 ghost use Rattle.rds_dots.specs.Ascending.{ascends};
-ghost use Rattle.rds_dots.specs.Dots.{IsRun, comes_after, first_of, last_of, leads_to};
-ghost use Rattle.rds_dots.specs.Drawn.{drawn, put_dots};
+ghost use Rattle.rds_dots.specs.Dots.{IsRun, comes_after, first_of, last_of};
+ghost use Rattle.rds_dots.specs.Drawn.{drawn, leads_by, put_dots};
 ghost use Rattle.rds_dots.specs.Listed.{lists, dots_of, without};
 ghost use Rattle.rds_dots.specs.Merged.{merged};
 ghost use Rattle.rds_dots.specs.Runs.{first_after, grouped};
@@ -120,49 +120,60 @@ pub(crate) fn difference_of(
     }
 }
 
-/// Whether one dot is the next of another's replica.
-fn is_next(dot: Dot, next: Dot) -> bool
-    ensures { result ≡ leads_to dot next }
+/// Whether a dot is so many numbers past another of its replica.
+fn is_ahead(dot: Dot, steps: u64, later: Dot) -> bool
+    ensures { result ≡ leads_by steps dot later }
 {
-    dot.replica == next.replica && dot.seq < next.seq && next.seq - dot.seq == 1
+    dot.replica == later.replica && dot.seq <= later.seq && later.seq - dot.seq == steps
 }
 
-/// The run, drawn on through the dots that follow it.
-fn drawn_on(mut run: Run, mut rest: &[Dot]) -> Run
+/// The run, drawn on through the dots that follow it. A dot is among these where it is as far past the
+/// run's last as it comes later in the list, and then those between are, too: a binary search.
+fn drawn_on(mut run: Run, rest: &[Dot]) -> Run
+    requires { IsTrue (ascends (last_of run ∷ rest.now)) }
     ensures first { first_of result ≡ first_of run }
     ensures longer { run.hi ≤ result.hi }
-    ensures whole { slice_get (drawn run (grouped rest.entry.now)) 0 ≡ Some result }
+    ensures whole { slice_get (drawn run (grouped rest.now)) 0 ≡ Some result }
 {
-    'drawing: loop {
-        let Some((next, later)) = rest.split_first() else {
-            return run;
-        };
-        if !is_next(run.last(), *next) {
-            return run;
+    let last = run.last();
+    let mut low = 0;
+    let mut high = rest.len();
+    'searching: while low < high {
+        let middle = low + (high - low) / 2;
+        let dot = rest[middle];
+        if is_ahead(last, middle as u64 + 1, dot) {
+            run.hi = dot.seq;
+            low = middle + 1;
+        } else {
+            high = middle;
         }
-        run.hi = next.seq;
-        rest = later;
     }
+    run
 }
 
-/// The run, drawn back through the dots that lead up to it. Where none of the dots before it
-/// comes after the given one, and its own last dot does, it is the first to end there.
-fn drawn_back(mut before: &[Dot], mut run: Run) -> Run
+/// The run, drawn back through the dots that lead up to it, found as those that follow it are. Where none
+/// of the dots before it comes after the given one, and its own last dot does, it is the first to end there.
+fn drawn_back(before: &[Dot], mut run: Run) -> Run
+    requires { IsTrue (ascends (before.now ++ (first_of run ∷ []))) }
     ensures { (after : Option Dot) (rs : List Run)
-        → IsTrue (list_all (λ d. not (comes_after after d)) before.entry.now)
+        → IsTrue (list_all (λ d. not (comes_after after d)) before.now)
         → IsTrue (comes_after after (last_of run))
-        → first_after after (put_dots before.entry.now (run ∷ rs)) ≡ Some result }
+        → first_after after (put_dots before.now (run ∷ rs)) ≡ Some result }
 {
-    'drawing: loop {
-        let Some((last, earlier)) = before.split_last() else {
-            return run;
-        };
-        if !is_next(*last, run.first()) {
-            return run;
+    let first = run.first();
+    let mut low = 0;
+    let mut high = before.len();
+    'searching: while low < high {
+        let middle = low + (high - low) / 2;
+        let dot = before[middle];
+        if is_ahead(dot, (before.len() - middle) as u64, first) {
+            run.lo = dot.seq;
+            high = middle;
+        } else {
+            low = middle + 1;
         }
-        run.lo = last.seq;
-        before = earlier;
     }
+    run
 }
 
 /// The first maximal run whose last dot comes after the given one.

@@ -1,20 +1,21 @@
 -- The ends of a pair.
-use Rattle.std.proofs.Common.{◌≡◌, ◌∙◌, ◌⊎◌, ◌||◌, ◌++◌, ℕ, Bool, List, Option, inl, inr, refl, ap, subst, arith}
+use Rattle.std.proofs.Common.{◌≡◌, ◌∙◌, ◌⊎◌, ◌||◌, ◌++◌, ℕ, Bool, List, Option, inl, inr, None, refl, sym, ap, subst, arith}
 use Rattle.std.specs.Prelude.{Result, Ok, Err, OnOk, OnErr, MatchResult}
 use Rattle.std.specs.Io.KnownBytes.{Appends}
 use Rattle.rds_names.specs.declared.fault.Fault.{Fault}
-use Rattle.rds_names.specs.declared.fault.Fault.TheVariants.{Device}
+use Rattle.rds_names.specs.declared.fault.Fault.TheVariants.{Device, Memory}
 use Rattle.rds_keep.specs.Counted.{one_more}
 use Rattle.rds_state.specs.Fits.{ReplicaValue}
 use Rattle.rds_state.specs.Value.{StateValue}
 use Rattle.rds_session.specs.declared.step.Ended.{Ended}
-use Rattle.rds_session.specs.declared.step.Ended.TheVariants.{Failed}
+use Rattle.rds_session.specs.declared.step.Ended.TheVariants.{Done, Failed}
 use Rattle.rds_session.specs.declared.talk.Side.{Side}
 use Rattle.rds_session.specs.declared.talk.Side.TheVariants.{Client, Server}
-use Rattle.rds_session.specs.Received.{HasChecked}
+use Rattle.rds_session.specs.Leaving.{Leaves, StandsAs}
+use Rattle.rds_session.specs.Received.{HasChecked, IsDoneBy}
 use Rattle.rds_session.specs.Session.{Nothing, Standing, course}
 use Rattle.rds_session.specs.Steps.{Continues, HasStanding, IsOver}
-use Rattle.rds_files.specs.Pairing.{IsEnd, Leaves, Tells, WritesBoth}
+use Rattle.rds_files.specs.Pairing.{IsEnd, Tells, WritesBoth}
 use Rattle.rds_files.specs.Reports.{report_text, tells_fault, told_status}
 use Rattle.rds_files.specs.Settling.{Settles}
 use Rattle.rds_files.specs.declared.settling.Settled.{Settled}
@@ -38,24 +39,38 @@ begun side kept first s ended sent input is (inr out) same e = record {
   stands = inl e;
 }
 
+-- one that is left as done stood so
+left_done : (s : Standing) (ended last : Ended) (received : Option StateValue) → StandsAs s ended → (last ≡ ended) ⊎ (last ≡ Failed Device) → IsDoneBy s.ended received → IsDoneBy last received
+left_done s ended last received stands (inr device) done is = absurd (let bad : Done ≡ Failed Device = sym is ∙ device in cc)
+left_done s ended last received (inl same) (inl e) done is = done (sym same ∙ sym e ∙ is)
+left_done s ended last received (inr (inl device)) (inl e) done is = absurd (let bad : Done ≡ Failed Device = sym is ∙ e ∙ device in cc)
+left_done s ended last received (inr (inr memory)) (inl e) done is = absurd (let bad : Done ≡ Failed Memory = sym is ∙ e ∙ memory in cc)
+
+left_stands : (s : Standing) (ended last : Ended) → StandsAs s ended → (last ≡ ended) ⊎ (last ≡ Failed Device) → StandsAs s last
+left_stands s ended last stands (inl e) = rw e stands
+left_stands s ended last stands (inr device) = inr (inl device)
+
 -- an end that is left
 pub left : (side : Side) (kept : ReplicaValue) (s : Standing) (ended last : Ended) (received : Option StateValue)
-    → IsEnd side kept s ended → received ≡ s.received → HasChecked s.kept received → IsOver last → (last ≡ ended) ⊎ (last ≡ Failed Device) → Leaves side kept received last
-left side kept s ended last received is same checked over (inl e) = record {
+    → IsEnd side kept s ended → received ≡ s.received → HasChecked s.kept received → IsDoneBy s.ended received → IsOver last → (last ≡ ended) ⊎ (last ≡ Failed Device) → Leaves side kept received last
+left side kept s ended last received is same checked done over e = record {
   checked = subst (λ (k : ReplicaValue). HasChecked k received) is.kept_is checked;
+  done = left_done s ended last received is.stands e done;
   over = over;
-  session = s;
-  heard = is.heard;
-  is_received = same;
-  stands = rw e is.stands;
+  session = record { session = s; heard = is.heard; is_received = same; stands = left_stands s ended last is.stands e };
 }
-left side kept s ended last received is same checked over (inr e) = record {
-  checked = subst (λ (k : ReplicaValue). HasChecked k received) is.kept_is checked;
-  over = over;
-  session = s;
-  heard = is.heard;
-  is_received = same;
-  stands = inr (inl e);
+
+nothing_yet : (side : Side) (kept : ReplicaValue) → None ≡ (course side kept Nothing).0.received
+unfolding course
+nothing_yet side kept = refl
+
+-- a session that never began has received nothing, and failed by a call on its stream
+pub unheard : (side : Side) (kept : ReplicaValue) → Leaves side kept None (Failed Device)
+unheard side kept = record {
+  checked = tt;
+  done = λ is. absurd (let bad : Done ≡ Failed Device = sym is in cc);
+  over = tt;
+  session = record { session = (course side kept Nothing).0; heard = (Nothing, inl refl); is_received = nothing_yet side kept; stands = inr (inl refl) };
 }
 
 -- an end was settled, and is told of

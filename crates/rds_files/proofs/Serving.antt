@@ -2,8 +2,9 @@
 use Rattle.std.proofs.Common.{◌≡◌, ◌≤◌, ◌<◌, ◌+◌, ℕ, Bool, true, false, ◌||◌, List, [], ◌++◌, Option, refl, sym, ap, ◌∙◌, subst, inl, inr, arith, cond}
 use Rattle.std.specs.Io.KnownBytes.{Appends}
 use Rattle.std.proofs.KnownBytes.{Appends-nil, Appends-trans}
-use Rattle.rds_state.specs.Fits.{ReplicaValue}
 use Rattle.rds_session.specs.declared.step.Ended.{Ended}
+use Rattle.rds_session.specs.declared.talk.Side.{Side}
+use Rattle.rds_files.specs.Files.{FileValue}
 use Rattle.rds_files.specs.Reports.{report_text, tells_fault, told_status}
 use Rattle.rds_files.specs.Settling.{is_unkept, is_fault}
 use Rattle.rds_files.specs.Syncing.{IsSession, Served, unserved, served_more, Serves, none, more, WritesSessions}
@@ -11,17 +12,17 @@ use Rattle.rds_files.specs.declared.settling.Settled.{Settled}
 use Rattle.rds_files.specs.declared.settling.Settled.TheVariants.{Nothing, Taken, Refused, Unkept}
 
 -- so many sessions were told, and the file is kept
-pub record HasServed (first kept : ReplicaValue) (count : ℕ) (told : Bool) (before after : Option (List ℕ)) : Type 0 where
+pub record HasServed (side : Side) (first kept : FileValue) (count : ℕ) (told : Bool) (before after : Option (List ℕ)) : Type 0 where
   pub served : Served
-  pub serves : Serves first served
-  pub is_kept : served.kept ≡ kept
+  pub serves : Serves side first served
+  pub is_kept : served.file ≡ kept
   pub is_count : served.count ≡ count
   pub is_told : served.told ≡ told
   pub going : served.stopped ≡ false
   pub written : Appends before after served.text
 
-pub none_served : (first : ReplicaValue) (before : Option (List ℕ)) → HasServed first first 0 false before before
-none_served first before = record {
+pub none_served : (side : Side) (first : FileValue) (before : Option (List ℕ)) → HasServed side first first 0 false before before
+none_served side first before = record {
   served = unserved first;
   serves = none;
   is_kept = refl;
@@ -32,16 +33,16 @@ none_served first before = record {
 }
 
 -- one session more
-served_then : (first kept new : ReplicaValue) (count : ℕ) (told : Bool) (before now after : Option (List ℕ)) (settled : Settled) (ended : Ended) (s : HasServed first kept count told before now) → IsSession kept new settled ended
-    → Serves first (served_more s.served new settled ended)
-served_then first kept new count told before now after settled ended s session =
-    more s.served new settled ended s.serves s.going (subst (λ (k : ReplicaValue). IsSession k new settled ended) (sym s.is_kept) session)
+served_then : (side : Side) (first kept new : FileValue) (count : ℕ) (told : Bool) (before now after : Option (List ℕ)) (settled : Settled) (ended : Ended) (s : HasServed side first kept count told before now) → IsSession side kept new settled ended
+    → Serves side first (served_more s.served new settled ended)
+served_then side first kept new count told before now after settled ended s session =
+    more s.served new settled ended s.serves s.going (subst (λ (k : FileValue). IsSession side k new settled ended) (sym s.is_kept) session)
 
-pub more_served : (first kept new : ReplicaValue) (count : ℕ) (told : Bool) (before now after : Option (List ℕ)) (settled : Settled) (ended : Ended) → HasServed first kept count told before now → IsSession kept new settled ended
-    → Appends now after (report_text settled ended) → is_unkept settled ≡ false → HasServed first new (count + 1) (told || tells_fault settled ended) before after
-more_served first kept new count told before now after settled ended s session written goes = record {
+pub more_served : (side : Side) (first kept new : FileValue) (count : ℕ) (told : Bool) (before now after : Option (List ℕ)) (settled : Settled) (ended : Ended) → HasServed side first kept count told before now → IsSession side kept new settled ended
+    → Appends now after (report_text settled ended) → is_unkept settled ≡ false → HasServed side first new (count + 1) (told || tells_fault settled ended) before after
+more_served side first kept new count told before now after settled ended s session written goes = record {
   served = served_more s.served new settled ended;
-  serves = served_then first kept new count told before now after settled ended s session;
+  serves = served_then side first kept new count told before now after settled ended s session;
   is_kept = refl;
   is_count = ap (λ n. n + 1) s.is_count;
   is_told = ap (λ b. b || tells_fault settled ended) s.is_told;
@@ -58,21 +59,23 @@ or_unkept false (Taken n) ended is = absurd cc
 or_unkept false (Refused fault) ended is = absurd cc
 
 -- the session after which the file isn't kept is the last
-pub last_served : (sessions : ℕ) (first kept new : ReplicaValue) (count : ℕ) (told : Bool) (before now after : Option (List ℕ)) (settled : Settled) (ended : Ended) → HasServed first kept count told before now → IsSession kept new settled ended
-    → Appends now after (report_text settled ended) → is_unkept settled ≡ true → count < sessions → WritesSessions sessions before after 1
-last_served sessions first kept new count told before now after settled ended s session written stops less = record {
+pub last_served : (side : Side) (sessions : ℕ) (first kept new : FileValue) (count : ℕ) (told : Bool) (before now after : Option (List ℕ)) (settled : Settled) (ended : Ended) → HasServed side first kept count told before now → IsSession side kept new settled ended
+    → Appends now after (report_text settled ended) → is_unkept settled ≡ true → count < sessions → WritesSessions side first.path sessions before after 1
+last_served side sessions first kept new count told before now after settled ended s session written stops less = record {
   first = first;
+  at = refl;
   served = served_more s.served new settled ended;
-  serves = served_then first kept new count told before now after settled ended s session;
+  serves = served_then side first kept new count told before now after settled ended s session;
   most = let e = s.is_count in omega arith;
   whole = inr stops;
   written = Appends-trans before now after s.served.text (report_text settled ended) s.written written;
   told = sym (ap told_status (or_unkept s.served.told settled ended stops));
 }
 
-pub all_served : (sessions : ℕ) (first kept : ReplicaValue) (told : Bool) (before after : Option (List ℕ)) (status : ℕ) → HasServed first kept sessions told before after → status ≡ told_status told → WritesSessions sessions before after status
-all_served sessions first kept told before after status s is = record {
+pub all_served : (side : Side) (sessions : ℕ) (first kept : FileValue) (told : Bool) (before after : Option (List ℕ)) (status : ℕ) → HasServed side first kept sessions told before after → status ≡ told_status told → WritesSessions side first.path sessions before after status
+all_served side sessions first kept told before after status s is = record {
   first = first;
+  at = refl;
   served = s.served;
   serves = s.serves;
   most = let e = s.is_count in omega arith;
@@ -82,10 +85,11 @@ all_served sessions first kept told before after status s is = record {
 }
 
 -- one session alone
-pub one_served : (first new : ReplicaValue) (before after : Option (List ℕ)) (settled : Settled) (ended : Ended) (status : ℕ) → IsSession first new settled ended → Appends before after (report_text settled ended) → status ≡ told_status (tells_fault settled ended)
-    → WritesSessions 1 before after status
-one_served first new before after settled ended status session written is = record {
+pub one_served : (side : Side) (first new : FileValue) (before after : Option (List ℕ)) (settled : Settled) (ended : Ended) (status : ℕ) → IsSession side first new settled ended → Appends before after (report_text settled ended) → status ≡ told_status (tells_fault settled ended)
+    → WritesSessions side first.path 1 before after status
+one_served side first new before after settled ended status session written is = record {
   first = first;
+  at = refl;
   served = served_more (unserved first) new settled ended;
   serves = more (unserved first) new settled ended none refl session;
   most = omega arith;

@@ -1,3 +1,4 @@
+pub mod Files
 pub mod Pairing
 pub mod Reports
 pub mod Settling

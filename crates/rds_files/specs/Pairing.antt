@@ -1,28 +1,17 @@
 -- What becomes of the replicas in two files that have a session, and what is told of them.
 use Rattle.std.specs.Prelude.{◌≡◌, ◌⊎◌, ℕ, Bool, ◌||◌, List, ◌++◌, Option}
 use Rattle.std.specs.Io.KnownBytes.{Appends}
-use Rattle.rds_names.specs.declared.fault.Fault.TheVariants.{Memory, Device}
 use Rattle.rds_state.specs.Fits.{ReplicaValue}
 use Rattle.rds_state.specs.Value.{StateValue}
 use Rattle.rds_session.specs.declared.step.Ended.{Ended}
-use Rattle.rds_session.specs.declared.step.Ended.TheVariants.{Failed}
 use Rattle.rds_session.specs.declared.talk.Side.{Side}
 use Rattle.rds_session.specs.declared.talk.Side.TheVariants.{Client, Server}
-use Rattle.rds_session.specs.Exchange.{HasRunOut}
-use Rattle.rds_session.specs.Received.{HasChecked}
-use Rattle.rds_session.specs.Session.{Heard, Standing}
-use Rattle.rds_session.specs.Steps.{HasStanding, IsOver}
-use Rattle.rds_files.specs.Reports.{WritesFault, report_text, tells_fault, told_status}
+use Rattle.rds_session.specs.Leaving.{HasHeard, Leaves, StandsAs}
+use Rattle.rds_session.specs.Session.{Standing}
+use Rattle.rds_files.specs.Files.{FileValue}
+use Rattle.rds_files.specs.Reports.{WritesNone, report_text, tells_fault, told_status}
 use Rattle.rds_files.specs.Settling.{Settles}
 use Rattle.rds_files.specs.declared.settling.Settled.{Settled}
-
--- a session has the standing of some stream that it heard, or memory ran out on the way
-abbrev pub HasHeard : Side → ReplicaValue → Standing → Type 0
-HasHeard side kept s = (heard : Heard) × (HasStanding side kept heard s ⊎ HasRunOut side kept heard s.received s.ended)
-
--- an end stands as its session does, or a call on its stream failed, or there was no memory for what it had to say
-abbrev pub StandsAs : Standing → Ended → Type 0
-StandsAs s ended = (ended ≡ s.ended) ⊎ ((ended ≡ Failed Device) ⊎ (ended ≡ Failed Memory))
 
 -- an end of a session of this replica, on the way
 pub record IsEnd (side : Side) (kept : ReplicaValue) (s : Standing) (ended : Ended) : Type 0 where
@@ -33,15 +22,6 @@ pub record IsEnd (side : Side) (kept : ReplicaValue) (s : Standing) (ended : End
 -- whatever end it was, it still is
 abbrev pub StaysEnd : Standing → Ended → Standing → Ended → Type 0
 StaysEnd old was new is = (side : Side) (kept : ReplicaValue) → IsEnd side kept old was → IsEnd side kept new is
-
--- what an end came to: it is over, and has received nothing or what it checked, as a session does for some stream
-pub record Leaves (side : Side) (kept : ReplicaValue) (received : Option StateValue) (ended : Ended) : Type 0 where
-  pub checked : HasChecked kept received
-  pub over : IsOver ended
-  pub session : Standing
-  pub heard : HasHeard side kept session
-  pub is_received : received ≡ session.received
-  pub stands : StandsAs session ended
 
 -- what is told of an end, whose replica became so, and whether a fault is told
 pub record Tells (side : Side) (old new : ReplicaValue) (text : List ℕ) (told : Bool) : Type 0 where
@@ -64,7 +44,16 @@ pub record WritesBoth (client client_new server server_new : ReplicaValue) (befo
   pub written : Appends before after (first ++ second)
   pub status_is : status ≡ told_status (first_told || second_told)
 
--- a fault alone, or what two replicas came to
-abbrev pub WritesPair : Option (List ℕ) → Option (List ℕ) → ℕ → Type 0
-WritesPair before after status =
-    WritesFault before after status ⊎ ((client client_new server server_new : ReplicaValue) × WritesBoth client client_new server server_new before after status)
+-- a session of the files at these paths, the first of which is the client, was told of, and nothing else
+pub record WritesSessionOf (first second : List ℕ) (before after : Option (List ℕ)) (status : ℕ) : Type 0 where
+  pub client : FileValue
+  pub client_new : FileValue
+  pub client_at : (client.path ≡ first) × (client_new.path ≡ first)
+  pub server : FileValue
+  pub server_new : FileValue
+  pub server_at : (server.path ≡ second) × (server_new.path ≡ second)
+  pub both : WritesBoth client.kept client_new.kept server.kept server_new.kept before after status
+
+-- why there is no session alone, or what two replicas came to
+abbrev pub WritesPair : List ℕ → List ℕ → Option (List ℕ) → Option (List ℕ) → ℕ → Type 0
+WritesPair first second before after status = WritesNone before after status ⊎ WritesSessionOf first second before after status

@@ -1,8 +1,10 @@
 -- What is told of a session.
-use Rattle.std.specs.Prelude.{◌≡◌, ℕ, Bool, true, false, ◌||◌, List, [], ◌∷◌, ◌++◌, codes, Option, if◌then◌else◌}
+use Rattle.std.specs.Prelude.{◌≡◌, ◌⊎◌, ℕ, Bool, true, false, ◌||◌, List, [], ◌∷◌, ◌++◌, codes, Option, if◌then◌else◌}
 use Rattle.std.specs.Fmt.{decimal}
 use Rattle.std.specs.Io.KnownBytes.{Appends}
 use Rattle.rds_names.specs.declared.fault.Fault.{Fault}
+use Rattle.rds_names.specs.declared.fault.Fault.TheVariants.{Device}
+use Rattle.rds_codec.specs.Decoding.{IsOtherFault}
 use Rattle.rds_session.specs.declared.step.Ended.{Ended}
 use Rattle.rds_session.specs.declared.step.Ended.TheVariants.{Failed}
 use Rattle.rds_lines.specs.Output.{fault_line}
@@ -41,8 +43,12 @@ told_status told = if told then 1 else 0
 abbrev pub WritesReport : Settled → Ended → Option (List ℕ) → Option (List ℕ) → ℕ → Type 0
 WritesReport settled ended before after status = Appends before after (report_text settled ended) × (status ≡ told_status (tells_fault settled ended))
 
--- a fault's line was written, and nothing else, and its status is answered
-pub record WritesFault (before after : Option (List ℕ)) (status : ℕ) : Type 0 where
+-- the fault's line was written, and nothing else, and its status is answered
+abbrev pub WritesFault : Fault → Option (List ℕ) → Option (List ℕ) → ℕ → Type 0
+WritesFault fault before after status = Appends before after (fault_line fault) × (status ≡ 1)
+
+-- there is no session, and why is told alone: a file can't be had or holds no snapshot, or an address or a peer can't be had
+pub record WritesNone (before after : Option (List ℕ)) (status : ℕ) : Type 0 where
   pub fault : Fault
-  pub written : Appends before after (fault_line fault)
-  pub told : status ≡ 1
+  pub due : (fault ≡ Device) ⊎ IsOtherFault fault
+  pub written : WritesFault fault before after status

@@ -1,52 +1,55 @@
 -- What is told of the sessions of a replica in a file.
 use Rattle.std.specs.Prelude.{◌≡◌, ◌⊎◌, ◌≤◌, ℕ, ◌+◌, Bool, true, false, ◌||◌, List, [], ◌++◌, Option}
 use Rattle.std.specs.Io.KnownBytes.{Appends}
-use Rattle.rds_state.specs.Fits.{ReplicaValue}
 use Rattle.rds_state.specs.Value.{StateValue}
-use Rattle.rds_session.specs.Received.{HasChecked}
-use Rattle.rds_session.specs.Steps.{IsOver}
+use Rattle.rds_session.specs.declared.talk.Side.{Side}
+use Rattle.rds_session.specs.Leaving.{Leaves}
 use Rattle.rds_session.specs.declared.step.Ended.{Ended}
-use Rattle.rds_files.specs.Reports.{WritesFault, report_text, tells_fault, told_status}
+use Rattle.rds_files.specs.Files.{FileValue}
+use Rattle.rds_files.specs.Reports.{WritesNone, report_text, tells_fault, told_status}
 use Rattle.rds_files.specs.Settling.{Settles, is_unkept}
 use Rattle.rds_files.specs.declared.settling.Settled.{Settled}
 
--- a session of a kept replica: what it received became of the replica so, and it ended so
-pub record IsSession (old new : ReplicaValue) (settled : Settled) (ended : Ended) : Type 0 where
+-- a session of this side and the replica in a file: what it received became of the replica so, and it ended so
+pub record IsSession (side : Side) (old new : FileValue) (settled : Settled) (ended : Ended) : Type 0 where
+  pub path : new.path ≡ old.path
   pub received : Option StateValue
-  pub checked : HasChecked old received
-  pub settles : Settles old received new settled
-  pub over : IsOver ended
+  pub leaves : Leaves side old.kept received ended
+  pub settles : Settles old.kept received new.kept settled
 
--- sessions so far: the replica that they left, how many there were, what is told of them, whether a fault is, and
+-- sessions so far: the file as they left it, how many there were, what is told of them, whether a fault is, and
 -- whether the file couldn't be kept
 pub record Served : Type 0 where
-  pub kept : ReplicaValue
+  pub file : FileValue
   pub count : ℕ
   pub text : List ℕ
   pub told : Bool
   pub stopped : Bool
 
-abbrev pub unserved : ReplicaValue → Served
-unserved kept = record { kept = kept; count = 0; text = []; told = false; stopped = false }
+abbrev pub unserved : FileValue → Served
+unserved file = record { file = file; count = 0; text = []; told = false; stopped = false }
 
-abbrev pub served_more : Served → ReplicaValue → Settled → Ended → Served
+abbrev pub served_more : Served → FileValue → Settled → Ended → Served
 served_more s new settled ended =
-    record { kept = new; count = s.count + 1; text = s.text ++ report_text settled ended; told = s.told || tells_fault settled ended; stopped = is_unkept settled }
+    record { file = new; count = s.count + 1; text = s.text ++ report_text settled ended; told = s.told || tells_fault settled ended; stopped = is_unkept settled }
 
--- one session after the other, each of the replica that the one before left, while the file is kept
-pub data Serves (first : ReplicaValue) : Served → Type 0 where
-  none : Serves first (unserved first)
-  more : (s : Served) (new : ReplicaValue) (settled : Settled) (ended : Ended) → Serves first s → s.stopped ≡ false → IsSession s.kept new settled ended → Serves first (served_more s new settled ended)
+-- one session after the other, each of the file as the one before left it, while it is kept
+pub data Serves (side : Side) (first : FileValue) : Served → Type 0 where
+  none : Serves side first (unserved first)
+  more : (s : Served) (new : FileValue) (settled : Settled) (ended : Ended) → Serves side first s → s.stopped ≡ false → IsSession side s.file new settled ended → Serves side first (served_more s new settled ended)
 
--- the reports of sessions were written, and nothing else, and their status is answered: of so many, or of those until the file couldn't be kept
-pub record WritesSessions (sessions : ℕ) (before after : Option (List ℕ)) (status : ℕ) : Type 0 where
-  pub first : ReplicaValue
+-- the reports of sessions of the file at this path were written, and nothing else, and their status is answered: of so many, or of those until it
+-- couldn't be kept
+pub record WritesSessions (side : Side) (path : List ℕ) (sessions : ℕ) (before after : Option (List ℕ)) (status : ℕ) : Type 0 where
+  pub first : FileValue
+  pub at : first.path ≡ path
   pub served : Served
-  pub serves : Serves first served
+  pub serves : Serves side first served
   pub most : served.count ≤ sessions
   pub whole : (served.count ≡ sessions) ⊎ (served.stopped ≡ true)
   pub written : Appends before after served.text
   pub told : status ≡ told_status served.told
 
-abbrev pub WritesSync : ℕ → Option (List ℕ) → Option (List ℕ) → ℕ → Type 0
-WritesSync sessions before after status = WritesFault before after status ⊎ WritesSessions sessions before after status
+-- why there is no session alone, or the reports of sessions
+abbrev pub WritesSync : Side → List ℕ → ℕ → Option (List ℕ) → Option (List ℕ) → ℕ → Type 0
+WritesSync side path sessions before after status = WritesNone before after status ⊎ WritesSessions side path sessions before after status

@@ -1,5 +1,5 @@
 //! Replicas in files.
-ghost use Rattle.std.specs.Prelude.{◌≡◌, ◌⊎◌, IfOk, IfErr};
+ghost use Rattle.std.specs.Prelude.{◌≡◌, ◌⊎◌, IfOk, IfErr, OnOk, OnErr};
 ghost use Rattle.rds_names.specs.declared.fault.Fault.TheVariants.{Memory, TooLong, Device};
 ghost use Rattle.rds_codec.specs.Decoding.{IsOtherFault};
 
@@ -9,15 +9,99 @@ use rds_names::Fault;
 use rds_state::Replica;
 use std::fs::OpenFile;
 use std::io::{ErrorKind, Write};
+use std::marker::Model;
 use std::rt::Files;
 use std::{fs, io};
 
-/// Keeps the replica in the file of this path: FILE.new is written anew, synced and renamed to FILE,
-/// and only then is the replica kept. A FILE.new that was left behind is overwritten.
-///
-/// Refuses `TooLong` where the replica's text is above the limit, and `Device` where a file can't be
-/// made, written, synced or renamed.
-pub fn keep_file<H: Files + AllocGlobal, S: DotSet>(
+/// A replica in a file: it was read whole from the file of this path, or written whole to it. Nothing else makes one, and
+/// only `keep` changes it.
+#[derive(Drop)]
+pub struct ReplicaFile<'a, S: DotSet> {
+    path: &'a str,
+    kept: Kept<S>,
+}
+
+impl<'a, S: DotSet> Model for ReplicaFile<'a, S> {
+    ghost use Rattle.rds_files.specs.Files.{FileValue, coded_file};
+
+    ghost Value = { FileValue };
+
+    ghost coded = { coded_file };
+
+    ghost view = { λ f. record { path = f.path.now; kept = f.kept } };
+}
+
+impl<'a, S: DotSet> ReplicaFile<'a, S> {
+    /// Reads the file of this path. Refuses `Device` where it can't be opened or read, and as decoding does where it holds
+    /// no snapshot.
+    pub fn open<H: Files + AllocGlobal>(rt: &H, path: &'a str) -> Result<ReplicaFile<'a, S>, Fault>
+        ensures path { IfOk result (λ file. file.path ≡ path.now) }
+        ensures fault { IfErr result (λ e. (e ≡ Device) ⊎ IsOtherFault e) }
+    {
+        match fs::open(rt, path) {
+            Ok(file) => {
+                let kept = read_snapshot(rt.alloc(), &mut Counted::new(file))?;
+                Ok(ReplicaFile { path, kept })
+            }
+            Err(_) => Err(Fault::Device),
+        }
+    }
+
+    /// Makes the file of this path, or replaces it, as `keep` does.
+    pub fn create<H: Files + AllocGlobal>(
+        rt: &H,
+        path: &'a str,
+        replica: &Replica<S>,
+    ) -> Result<ReplicaFile<'a, S>, Fault>
+        ensures made { IfOk result (λ file. file ≡ record { path = path.now; kept = replica.now }) }
+        ensures fault { IfErr result (λ e. (e ≡ Memory) ⊎ ((e ≡ TooLong) ⊎ (e ≡ Device))) }
+    {
+        let kept = keep_file(rt, replica, path)?;
+        Ok(ReplicaFile { path, kept })
+    }
+
+    /// Keeps this replica in the file in place of the one that it holds: FILE.new is written anew, synced and renamed to
+    /// FILE, and only then is the replica kept. A FILE.new that was left behind is overwritten.
+    ///
+    /// Refuses `TooLong` where the replica's text is above the limit, and `Device` where a file can't be made, written,
+    /// synced or renamed.
+    pub fn keep<H: Files + AllocGlobal>(
+        &mut self,
+        rt: &H,
+        replica: &Replica<S>,
+    ) -> Result<(), Fault>
+        ensures kept { OnOk result (self.new ≡ record self.old { kept = replica.now }) }
+        ensures err { OnErr result (self.new ≡ self.old) }
+        ensures fault { IfErr result (λ e. (e ≡ Memory) ⊎ ((e ≡ TooLong) ⊎ (e ≡ Device))) }
+    {
+        self.kept = keep_file(rt, replica, self.path)?;
+        Ok(())
+    }
+
+    /// The file's path.
+    pub fn path(&self) -> &'a str
+        ensures { result.now ≡ self.now.path }
+    {
+        self.path
+    }
+
+    /// The replica.
+    pub fn kept(&self) -> &Kept<S>
+        ensures { result.now ≡ self.now.kept }
+    {
+        &self.kept
+    }
+
+    /// The replica, to be edited.
+    pub fn into_replica(self) -> Replica<S>
+        ensures { result ≡ self.entry.kept }
+    {
+        self.kept.replica()
+    }
+}
+
+// Keeps the replica in the file of this path.
+fn keep_file<H: Files + AllocGlobal, S: DotSet>(
     rt: &H,
     replica: &Replica<S>,
     path: &str,
@@ -40,17 +124,6 @@ pub fn keep_file<H: Files + AllocGlobal, S: DotSet>(
         is_renamed: false,
     });
     keep_in(alloc, replica, &mut place)
-}
-
-/// The replica that the file of this path holds. Refuses `Device` where the file can't be opened or
-/// read, and as decoding does where it holds no snapshot.
-pub fn read_file<H: Files + AllocGlobal, S: DotSet>(rt: &H, path: &str) -> Result<Kept<S>, Fault>
-    ensures fault { IfErr result (λ e. (e ≡ Device) ⊎ IsOtherFault e) }
-{
-    match fs::open(rt, path) {
-        Ok(file) => read_snapshot(rt.alloc(), &mut Counted::new(file)),
-        Err(_) => Err(Fault::Device),
-    }
 }
 
 /// Whether something of this path can be opened. `Device` where it can't be, but not since it isn't

@@ -9,12 +9,12 @@ mod end;
 mod meeting;
 mod pending;
 
-use crate::files::read_file;
+use crate::files::ReplicaFile;
 use crate::reports::{give_up, tells_fault, write_report};
 use crate::settling::{Settled, settle};
 use meeting::{Link, connect, meet};
 use rds_dots::{DotSet, ListSet};
-use rds_keep::{Counted, Kept};
+use rds_keep::Counted;
 use rds_lines::status_of;
 use rds_names::Fault;
 use rds_session::Ended;
@@ -33,15 +33,15 @@ pub fn pair_files<H: Files + Net + AllocGlobal, W: Write>(
     writer: &mut Counted<W>,
 ) -> u8
     ensures written { writer.new.failed ≡ 0
-        → WritesPair (W.contents writer.old.inner) (W.contents writer.new.inner) result }
+        → WritesPair first.now second.now (W.contents writer.old.inner) (W.contents writer.new.inner) result }
     ensures status { result ≤ 1 }
     ensures broken { (writer.new.failed ≡ writer.old.failed) ⊎ (result ≡ 1) }
 {
-    let mut client = match open(rt, first) {
+    let mut client: ReplicaFile<'_, ListSet> = match ReplicaFile::open(rt, first) {
         Ok(file) => file,
         Err(fault) => return give_up(writer, fault),
     };
-    let mut server = match open(rt, second) {
+    let mut server: ReplicaFile<'_, ListSet> = match ReplicaFile::open(rt, second) {
         Ok(file) => file,
         Err(fault) => return give_up(writer, fault),
     };
@@ -51,36 +51,32 @@ pub fn pair_files<H: Files + Net + AllocGlobal, W: Write>(
     }
 }
 
-// A file, and the replica that it holds.
-#[derive(Drop)]
-struct Held<'a, S: DotSet> {
-    path: &'a str,
-    kept: Kept<S>,
-}
-
-fn open<'a, H: Files + AllocGlobal>(rt: &H, path: &'a str) -> Result<Held<'a, ListSet>, Fault> {
-    let kept = read_file(rt, path)?;
-    Ok(Held { path, kept })
-}
-
 // A session over the connection, what it left in each file, and then what is told of both. Where the
 // output fails at the first, nothing of the second is told, but its delta is taken all the same.
 fn pair<H: Files + Net + AllocGlobal, S: DotSet, W: Write>(
     rt: &H,
-    client: &mut Held<'_, S>,
-    server: &mut Held<'_, S>,
+    client: &mut ReplicaFile<'_, S>,
+    server: &mut ReplicaFile<'_, S>,
     link: Link<H::Stream>,
     writer: &mut Counted<W>,
 ) -> u8
     ensures written { writer.new.failed ≡ 0
         → WritesBoth client.old.kept client.new.kept server.old.kept server.new.kept
         (W.contents writer.old.inner) (W.contents writer.new.inner) result }
+    ensures client { client.new.path ≡ client.old.path }
+    ensures server { server.new.path ≡ server.old.path }
     ensures status { result ≤ 1 }
     ensures broken { (writer.new.failed ≡ writer.old.failed) ⊎ (result ≡ 1) }
 {
-    let (left, right) = meet(rt.alloc(), writer.turns(), &client.kept, &server.kept, link);
-    let first = settle(rt, client.path, &mut client.kept, left.received);
-    let second = settle(rt, server.path, &mut server.kept, right.received);
+    let (left, right) = meet(
+        rt.alloc(),
+        writer.turns(),
+        client.kept(),
+        server.kept(),
+        link,
+    );
+    let first = settle(rt, client, left.received);
+    let second = settle(rt, server, right.received);
     let told = tells_fault(&first, left.ended) | tells_fault(&second, right.ended);
     status_of(
         write_both(writer, &first, left.ended, &second, right.ended),

@@ -44,7 +44,7 @@ pub fn write_report<W: Write>(
 /// Writes the line of the fault by which there is no session, and answers 1.
 pub fn give_up<W: Write>(writer: &mut Counted<W>, fault: Fault) -> u8
     ensures written { writer.new.failed ≡ 0
-        → WritesFault (W.contents writer.old.inner) (W.contents writer.new.inner) result }
+        → WritesFault fault (W.contents writer.old.inner) (W.contents writer.new.inner) result }
     ensures status { result ≡ 1 }
 {
     status_of(write_fault_line(writer, fault), 1)

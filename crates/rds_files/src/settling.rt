@@ -3,7 +3,7 @@ ghost use Rattle.std.specs.Prelude.{◌≡◌, IfOk, IfErr};
 ghost use Rattle.rds_session.specs.Received.{HasChecked, IsChecked};
 ghost use Rattle.rds_files.specs.Settling.{IsJoined, RefusesDelta, Settles, SettlesDelta};
 
-use crate::files::keep_file;
+use crate::files::ReplicaFile;
 use rds_dots::DotSet;
 use rds_keep::Kept;
 use rds_names::Fault;
@@ -42,20 +42,19 @@ impl Settled {
     }
 }
 
-/// Takes what a session received into the replica that is kept in the file of this path. The
-/// replica is the new one only where the file is kept; a delta that isn't taken leaves the file as
-/// it is, and a delta without components is taken and kept as any other.
+/// Takes what a session received into the replica in the file. The replica is the new one only where the file is kept; a
+/// delta that isn't taken leaves the file as it is, and a delta without components is taken and kept as any other.
 pub fn settle<H: Files + AllocGlobal, S: DotSet>(
     rt: &H,
-    path: &str,
-    kept: &mut Kept<S>,
+    file: &mut ReplicaFile<'_, S>,
     received: Option<State<S>>,
 ) -> Settled
-    requires checked { HasChecked kept.old received }
-    ensures settles { Settles kept.old received kept.new result }
+    requires checked { HasChecked file.old.kept received }
+    ensures settles { Settles file.old.kept received file.new.kept result }
+    ensures path { file.new.path ≡ file.old.path }
 {
     match received {
-        Some(delta) => settle_delta(rt, path, kept, &delta),
+        Some(delta) => settle_delta(rt, file, &delta),
         None => Settled::Nothing,
     }
 }
@@ -63,22 +62,19 @@ pub fn settle<H: Files + AllocGlobal, S: DotSet>(
 // Takes the delta and keeps the file.
 fn settle_delta<H: Files + AllocGlobal, S: DotSet>(
     rt: &H,
-    path: &str,
-    kept: &mut Kept<S>,
+    file: &mut ReplicaFile<'_, S>,
     delta: &State<S>,
 ) -> Settled
-    requires { IsChecked kept.old delta.now }
-    ensures { SettlesDelta kept.old delta.now kept.new result }
+    requires { IsChecked file.old.kept delta.now }
+    ensures settles { SettlesDelta file.old.kept delta.now file.new.kept result }
+    ensures path { file.new.path ≡ file.old.path }
 {
-    let replica = match joined(rt.alloc(), kept, delta) {
+    let replica = match joined(rt.alloc(), file.kept(), delta) {
         Ok(replica) => replica,
         Err(fault) => return Settled::Refused(fault),
     };
-    match keep_file(rt, &replica, path) {
-        Ok(new) => {
-            *kept = new;
-            Settled::Taken(delta.components())
-        }
+    match file.keep(rt, &replica) {
+        Ok(()) => Settled::Taken(delta.components()),
         Err(fault) => Settled::Unkept(fault),
     }
 }

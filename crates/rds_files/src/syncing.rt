@@ -1,10 +1,10 @@
 //! Sessions of the replica in a file, over the network.
 ghost use Rattle.std.specs.Prelude.{◌≡◌, ◌≤◌, ◌⊎◌};
-ghost use Rattle.rds_session.specs.Received.{HasChecked};
-ghost use Rattle.rds_session.specs.Steps.{IsOver};
+ghost use Rattle.rds_session.specs.declared.talk.Side.TheVariants.{Client, Server};
+ghost use Rattle.rds_session.specs.Leaving.{Leaves};
 ghost use Rattle.rds_files.specs.Syncing.{IsSession, WritesSessions, WritesSync};
 
-use crate::files::read_file;
+use crate::files::ReplicaFile;
 use crate::reports::{give_up, report, tells_fault, write_report};
 use crate::settling::{Settled, settle};
 use rds_dots::{DotSet, ListSet};
@@ -24,22 +24,22 @@ const PIECE: usize = 16_384;
 /// told alone. Else the session is told as `report` does.
 pub fn sync_file<H: Files + Net + AllocGlobal, W: Write>(
     rt: &H,
-    file: &str,
+    path: &str,
     addr: &str,
     writer: &mut Counted<W>,
 ) -> u8
     ensures written { writer.new.failed ≡ 0
-        → WritesSync 1 (W.contents writer.old.inner) (W.contents writer.new.inner) result }
+        → WritesSync Client path.now 1 (W.contents writer.old.inner) (W.contents writer.new.inner) result }
     ensures status { result ≤ 1 }
     ensures broken { (writer.new.failed ≡ writer.old.failed) ⊎ (result ≡ 1) }
 {
-    let mut kept: Kept<ListSet> = match read_file(rt, file) {
-        Ok(kept) => kept,
+    let mut file: ReplicaFile<'_, ListSet> = match ReplicaFile::open(rt, path) {
+        Ok(file) => file,
         Err(fault) => return give_up(writer, fault),
     };
     match TcpStream::connect(rt, addr) {
         Ok(stream) => {
-            let (settled, ended) = meet(rt, Side::Client, file, &mut kept, stream);
+            let (settled, ended) = meet(rt, Side::Client, &mut file, stream);
             report(writer, &settled, ended)
         }
         Err(_) => give_up(writer, Fault::Device),
@@ -53,22 +53,22 @@ pub fn sync_file<H: Files + Net + AllocGlobal, W: Write>(
 /// that can't be had (`Device`), is told alone.
 pub fn serve_file<H: Files + Net + AllocGlobal, W: Write>(
     rt: &H,
-    file: &str,
+    path: &str,
     addr: &str,
     sessions: u64,
     writer: &mut Counted<W>,
 ) -> u8
     ensures written { writer.new.failed ≡ 0
-        → WritesSync sessions (W.contents writer.old.inner) (W.contents writer.new.inner) result }
+        → WritesSync Server path.now sessions (W.contents writer.old.inner) (W.contents writer.new.inner) result }
     ensures status { result ≤ 1 }
     ensures broken { (writer.new.failed ≡ writer.old.failed) ⊎ (result ≡ 1) }
 {
-    let mut kept: Kept<ListSet> = match read_file(rt, file) {
-        Ok(kept) => kept,
+    let mut file: ReplicaFile<'_, ListSet> = match ReplicaFile::open(rt, path) {
+        Ok(file) => file,
         Err(fault) => return give_up(writer, fault),
     };
     match TcpListener::bind(rt, addr) {
-        Ok(listener) => serve(rt, file, &mut kept, &listener, sessions, writer),
+        Ok(listener) => serve(rt, &mut file, &listener, sessions, writer),
         Err(_) => give_up(writer, Fault::Device),
     }
 }
@@ -76,20 +76,19 @@ pub fn serve_file<H: Files + Net + AllocGlobal, W: Write>(
 // So many sessions with peers that the listener accepts.
 fn serve<H: Files + Net + AllocGlobal, S: DotSet, W: Write>(
     rt: &H,
-    path: &str,
-    kept: &mut Kept<S>,
+    file: &mut ReplicaFile<'_, S>,
     listener: &H::Listener,
     sessions: u64,
     writer: &mut Counted<W>,
 ) -> u8
     ensures written { writer.new.failed ≡ 0
-        → WritesSessions sessions (W.contents writer.old.inner) (W.contents writer.new.inner) result }
+        → WritesSessions Server file.old.path sessions (W.contents writer.old.inner) (W.contents writer.new.inner) result }
     ensures status { result ≤ 1 }
     ensures broken { (writer.new.failed ≡ writer.old.failed) ⊎ (result ≡ 1) }
 {
     let mut told = false;
     'sessions: for _ in 0..sessions {
-        let (settled, ended) = meet_next(rt, path, kept, listener);
+        let (settled, ended) = meet_next(rt, file, listener);
         match write_report(writer, &settled, ended) {
             Ok(()) => (),
             Err(_) => return 1,
@@ -105,14 +104,13 @@ fn serve<H: Files + Net + AllocGlobal, S: DotSet, W: Write>(
 // A session with the next peer that the listener accepts.
 fn meet_next<H: Files + Net + AllocGlobal, S: DotSet>(
     rt: &H,
-    path: &str,
-    kept: &mut Kept<S>,
+    file: &mut ReplicaFile<'_, S>,
     listener: &H::Listener,
 ) -> (Settled, Ended)
-    ensures { IsSession kept.old kept.new result.0 result.1 }
+    ensures { IsSession Server file.old file.new result.0 result.1 }
 {
     match listener.accept() {
-        Ok((stream, _)) => meet(rt, Side::Server, path, kept, stream),
+        Ok((stream, _)) => meet(rt, Side::Server, file, stream),
         Err(_) => (Settled::Nothing, Ended::Failed(Fault::Device)),
     }
 }
@@ -121,14 +119,13 @@ fn meet_next<H: Files + Net + AllocGlobal, S: DotSet>(
 pub fn meet<H: Files + AllocGlobal, S: DotSet, T: Read + Write + OpenStream + Drop>(
     rt: &H,
     side: Side,
-    path: &str,
-    kept: &mut Kept<S>,
+    file: &mut ReplicaFile<'_, S>,
     mut stream: T,
 ) -> (Settled, Ended)
-    ensures { IsSession kept.old kept.new result.0 result.1 }
+    ensures { IsSession side file.old file.new result.0 result.1 }
 {
-    let exchanged = exchange_over(rt.alloc(), side, kept, &mut stream);
-    let settled = settle(rt, path, kept, exchanged.received);
+    let exchanged = exchange_over(rt.alloc(), side, file.kept(), &mut stream);
+    let settled = settle(rt, file, exchanged.received);
     hang_up(stream);
     (settled, exchanged.ended)
 }
@@ -140,8 +137,7 @@ fn exchange_over<S: DotSet, T: Read + Write + OpenStream + Drop>(
     kept: &Kept<S>,
     stream: &mut T,
 ) -> Exchanged<S>
-    ensures checked { HasChecked kept.now result.received }
-    ensures over { IsOver result.ended }
+    ensures { Leaves side kept.now result.received result.ended }
 {
     match stream.try_clone() {
         Ok(mut sending) => exchange(
@@ -167,7 +163,8 @@ fn hang_up<T: Read + OpenStream + Drop>(mut stream: T) {
 // Reads to the end, within the reader's bound of turns.
 fn drop_rest<R: Read>(reader: &mut Counted<R>) {
     let mut dropped = [0u8; PIECE];
-    'turns: for _ in 0..reader.turns() {
+    reader.begin_turns();
+    'turns: loop {
         match reader.read(&mut dropped) {
             Ok(0) | Err(_) => return,
             Ok(_) => (),

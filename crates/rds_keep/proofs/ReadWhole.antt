@@ -7,8 +7,9 @@ use Rattle.std.proofs.lemmas.List.{append-nil, length-append}
 use Rattle.rds_names.specs.declared.fault.Fault.{Fault}
 use Rattle.rds_names.specs.declared.fault.Fault.TheVariants.{TooLong}
 use Rattle.rds_state.specs.Fits.{ReplicaValue}
-use Rattle.rds_codec.specs.Decoding.{Decodes}
+use Rattle.rds_codec.specs.Decoding.{Decodes, ReadsAll}
 use Rattle.rds_codec.specs.Kinds.{snapshot_kind}
+use Rattle.rds_codec.specs.Reading.{snapshot_at}
 use Rattle.rds_codec.specs.declared.limits.TheConstants.{LIMIT}
 use Rattle.rds_keep.specs.Snapshots.{ReadsWhole}
 
@@ -26,16 +27,20 @@ decodes_long bytes lt = record {
   other = inr (inl refl);
 }
 
-long_front : (front rest : List ℕ) (result : Result ReplicaValue Fault) → LIMIT < length front → Decodes snapshot_kind front result → Decodes snapshot_kind (front ++ rest) result
+abbrev Reads : List ℕ → Result ReplicaValue Fault → Type 0
+Reads bytes result = Decodes snapshot_kind bytes result × ReadsAll snapshot_at bytes result
+
+long_front : (front rest : List ℕ) (result : Result ReplicaValue Fault) → LIMIT < length front → Decodes snapshot_kind front result → Reads (front ++ rest) result
 long_front front rest result lt decoded =
     let same = length-append front rest in
-    subst (Decodes snapshot_kind (front ++ rest)) (sym (decoded.long lt)) (decodes_long (front ++ rest) (omega arith))
+    (subst (Decodes snapshot_kind (front ++ rest)) (sym (decoded.long lt)) (decodes_long (front ++ rest) (omega arith)), λ le. absurd (omega arith))
 
 pub front_decoded : (first now : Option (List ℕ)) (front : List ℕ) (result : Result ReplicaValue Fault) → Consumes first now front → (length front < LIMIT + 1 → IsAtEnd now) → Decodes snapshot_kind front result
+    → ReadsAll snapshot_at front result
     → IfSome first (λ input. ReadsWhole input result)
-front_decoded None now front result p end decoded = tt
-front_decoded (Some xs) None front result p end decoded = absurd p
-front_decoded (Some xs) (Some ys) front result p end decoded = elim (cases_lt (length front) (LIMIT + 1)) [
-  | inl short ↦ inl (subst (λ (l : List ℕ). Decodes snapshot_kind l result) (sym (p ∙ ap (λ (l : List ℕ). front ++ l) (end short) ∙ append-nil front)) decoded)
-  | inr long ↦ inl (subst (λ (l : List ℕ). Decodes snapshot_kind l result) (sym p) (long_front front ys result (omega arith) decoded))
+front_decoded None now front result p end decoded read = tt
+front_decoded (Some xs) None front result p end decoded read = absurd p
+front_decoded (Some xs) (Some ys) front result p end decoded read = elim (cases_lt (length front) (LIMIT + 1)) [
+  | inl short ↦ inl (subst (λ (l : List ℕ). Reads l result) (sym (p ∙ ap (λ (l : List ℕ). front ++ l) (end short) ∙ append-nil front)) (decoded, read))
+  | inr long ↦ inl (subst (λ (l : List ℕ). Reads l result) (sym p) (long_front front ys result (omega arith) decoded))
 ]

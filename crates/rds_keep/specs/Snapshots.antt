@@ -3,8 +3,9 @@ use Rattle.std.specs.Prelude.{◌≡◌, ℕ, ◌<◌, ◌≤◌, ◌⊎◌, Lis
 use Rattle.rds_names.specs.declared.fault.Fault.{Fault}
 use Rattle.rds_names.specs.declared.fault.Fault.TheVariants.{Memory, TooLong, Device}
 use Rattle.rds_state.specs.Fits.{ReplicaValue}
-use Rattle.rds_codec.specs.Decoding.{Decodes}
+use Rattle.rds_codec.specs.Decoding.{Decodes, ReadsAll}
 use Rattle.rds_codec.specs.Kinds.{snapshot_kind}
+use Rattle.rds_codec.specs.Reading.{snapshot_at}
 use Rattle.rds_codec.specs.declared.limits.TheConstants.{LIMIT}
 use Rattle.rds_keep.specs.Counted.{CountedValue, HasFailed}
 
@@ -18,4 +19,4 @@ RefusesText text old new e = ⊥
 
 -- what decoding the whole input answers, or why the input wasn't read whole
 abbrev pub ReadsWhole : List ℕ → Result ReplicaValue Fault → Type 0
-ReadsWhole input result = Decodes snapshot_kind input result ⊎ ((result ≡ Err Memory) ⊎ (result ≡ Err Device))
+ReadsWhole input result = (Decodes snapshot_kind input result × ReadsAll snapshot_at input result) ⊎ ((result ≡ Err Memory) ⊎ (result ≡ Err Device))

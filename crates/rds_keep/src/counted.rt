@@ -6,27 +6,30 @@ ghost use Rattle.rds_names.specs.declared.fault.Fault.TheVariants.{Memory, Devic
 ghost use Rattle.rds_keep.specs.Counted.{one_more, HasFailed};
 ghost use Rattle.rds_keep.specs.Parts.{AppendsPart};
 
+mod places;
+
 use rds_names::Fault;
 use std::alloc::Global;
 use std::fmt::Display;
 use std::io::{Read, Write};
 use std::marker::Model;
 
-/// How many reads a loop makes where nothing else is said.
+/// How many reads a loop may make where nothing else is said.
 const TURNS: u64 = 2_147_483_648;
 
 /// How many bytes one call of a reader is asked for.
 const CHUNK: usize = 65_536;
 
-/// A reader, a writer or a place. It counts the calls on it that failed, and says how many reads a
-/// loop over it may make; a loop that is given up at that bound counts as a call that failed. A full
+/// A reader, a writer or a place. It counts the calls on it that failed, and bounds how many reads a
+/// loop over it makes: one more counts as a call that failed. Nothing else makes the count rise. A full
 /// count stays, and is to be taken as risen. It also tells whether a rename through it was made.
 #[derive(Drop)]
 pub struct Counted<T> {
-    pub(crate) inner: T,
+    inner: T,
     failed: u64,
     turns: u64,
-    pub(crate) renamed: bool,
+    left: u64,
+    renamed: bool,
 }
 
 impl<T> Model for Counted<T> {
@@ -36,25 +39,26 @@ impl<T> Model for Counted<T> {
 
     ghost coded = { counted_code T.code };
 
-    ghost view = { λ c. record { inner = c.inner; failed = c.failed; turns = c.turns; renamed = c.renamed } };
+    ghost view = { λ c. record { inner = c.inner; failed = c.failed; turns = c.turns; left = c.left; renamed = c.renamed } };
 }
 
 impl<T> Counted<T> {
     /// Counts from 0, with the usual bound of turns: 2,147,483,648.
     pub fn new(inner: T) -> Counted<T>
-        ensures { result ≡ record { inner = inner; failed = 0; turns = 2147483648; renamed = false } }
+        ensures { result ≡ record { inner = inner; failed = 0; turns = 2147483648; left = 2147483648; renamed = false } }
     {
         Counted::with_turns(inner, TURNS)
     }
 
     /// Counts from 0, with this bound of turns.
     pub fn with_turns(inner: T, turns: u64) -> Counted<T>
-        ensures { result ≡ record { inner = inner; failed = 0; turns = turns; renamed = false } }
+        ensures { result ≡ record { inner = inner; failed = 0; turns = turns; left = turns; renamed = false } }
     {
         Counted {
             inner,
             failed: 0,
             turns,
+            left: turns,
             renamed: false,
         }
     }
@@ -80,8 +84,15 @@ impl<T> Counted<T> {
         self.renamed
     }
 
-    /// Counts a failure, or a loop that reached the bound of its turns, and names its fault.
-    pub fn fail(&mut self) -> Fault
+    /// A loop of reads begins: from here on it may make as many as the bound says.
+    pub fn begin_turns(&mut self)
+        ensures { self.new ≡ record self.old { left = self.old.turns } }
+    {
+        self.left = self.turns;
+    }
+
+    // Counts a failure, and names its fault.
+    fn fail(&mut self) -> Fault
         ensures fault { result ≡ Device }
         ensures counted { self.new ≡ record self.old { failed = one_more self.old.failed } }
     {
@@ -91,17 +102,25 @@ impl<T> Counted<T> {
 }
 
 impl<R: Read> Counted<R> {
-    /// One call of the reader's `read`. Whatever it fails by is `Device`.
+    /// One call of the reader's `read`, which takes a turn. Whatever it fails by is `Device`, and so is
+    /// a read for which no turn is left: then the reader isn't called.
     pub fn read(&mut self, buf: &mut [u8]) -> Result<usize, Fault>
         ensures bound { IfOk result (λ n. n ≤ length buf.new) }
         ensures bytes { ReadConsumes (R.remaining self.old.inner) (R.remaining self.new.inner)
             result buf.new }
         ensures fault { IfErr result (λ e. e ≡ Device) }
+        ensures spent { self.old.left ≡ 0 → self.new.inner ≡ self.old.inner }
+        ensures turn { OnOk result (0 < self.old.left) }
+        ensures left { self.new.left ≡ self.old.left - 1 }
         ensures steady { OnOk result (self.new.failed ≡ self.old.failed) }
         ensures counted { OnErr result (self.new.failed ≡ one_more self.old.failed) }
         ensures turns { self.new.turns ≡ self.old.turns }
         ensures renamed { self.new.renamed ≡ self.old.renamed }
     {
+        if self.left == 0 {
+            return Err(self.fail());
+        }
+        self.left -= 1;
         match self.inner.read(buf) {
             Ok(n) => Ok(n),
             Err(_) => Err(self.fail()),
@@ -110,7 +129,7 @@ impl<R: Read> Counted<R> {
 
     /// The first bytes of all that the reader holds, at most so many. It reads to the end or until
     /// it has them, each byte into its place once, within the reader's bound of turns (`Device`
-    /// where that is reached, and where a read fails).
+    /// where that doesn't do, and where a read fails).
     pub fn read_front(&mut self, alloc: Global, most: usize) -> Result<Vec<u8>, Fault>
         ensures front { IfOk result (λ v. IfSome (R.remaining self.old.inner)
             (λ input. v.items ≡ take most input)) }
@@ -126,7 +145,8 @@ impl<R: Read> Counted<R> {
     {
         let mut front = Vec::new(alloc);
         let mut chunk = [0u8; CHUNK];
-        'turns: for _ in 0..self.turns() {
+        self.begin_turns();
+        'turns: loop {
             let room = (most - front.len()).min(CHUNK);
             if room == 0 {
                 return Ok(front);
@@ -137,7 +157,6 @@ impl<R: Read> Counted<R> {
             }
             front.extend_from_slice(&chunk[..taken])?;
         }
-        Err(self.fail())
     }
 }
 

@@ -19,45 +19,43 @@ const LINE_LIMIT: usize = 65_536;
 /// How many bytes one call of a reader is asked for.
 const ROOM: usize = 8_192;
 
-/// Bytes that were read and not yet taken, and how many reads may follow.
+/// Bytes that were read and not yet taken.
 #[derive(Drop)]
 pub struct Ahead {
     chunk: [u8; ROOM],
     at: usize,
     end: usize,
-    turns: u64,
 }
 
 impl Model for Ahead {
-    ghost use Rattle.std.specs.Prelude.{◌-◌, ◌≤◌, take, drop};
-    ghost use Rattle.rds_lines.specs.Ahead.{AheadValue, ahead_code};
+    ghost use Rattle.std.specs.Prelude.{◌-◌, ◌≤◌, ℕ, List, take, drop};
+    ghost use Rattle.std.specs.Coded.{coded_ℕ, coded_list};
 
-    ghost Value = { AheadValue };
+    ghost Value = { List ℕ };
 
-    ghost coded = { ahead_code };
+    ghost coded = { coded_list coded_ℕ };
 
-    ghost view = { λ a. record { bytes = take (a.end - a.at) (drop a.at a.chunk); turns = a.turns } };
+    ghost view = { λ a. take (a.end - a.at) (drop a.at a.chunk) };
 
     ghost invariant = { λ a. (a.at ≤ a.end) × (a.end ≤ 8192) };
 }
 
 impl Ahead {
-    /// Nothing was read yet, and so many reads may follow.
-    pub fn new(turns: u64) -> Ahead
-        ensures { result ≡ record { bytes = []; turns = turns } }
+    /// Nothing was read yet.
+    pub fn new() -> Ahead
+        ensures { result ≡ [] }
     {
         Ahead {
             chunk: [0; ROOM],
             at: 0,
             end: 0,
-            turns,
         }
     }
 
     /// Takes the next line, without its newline, which the last may lack. None is the end of the
     /// input. One that is over 65,536 bytes or no UTF-8 is `BadLine`, and one for which there is no
     /// memory is `Memory`: it is taken whole and not held. `Device` outside is a reader that
-    /// failed, or that had no more turns.
+    /// failed, or for which no turn was left.
     pub fn next_line<R: Read>(
         &mut self,
         alloc: Global,
@@ -67,7 +65,7 @@ impl Ahead {
             (untaken self.new (R.remaining reader.new.inner))) }
         ensures fault { IfErr result (λ e. (e ≡ Device) × HasFailed reader.old reader.new) }
         ensures steady { OnOk result (reader.new.failed ≡ reader.old.failed) }
-        ensures falls { IfOk result (λ line. OnSome line (left_of self.new < left_of self.old)) }
+        ensures falls { IfOk result (λ line. OnSome line (left_of self.new reader.new.left < left_of self.old reader.old.left)) }
     {
         let mut line = Ok(Vec::new(alloc));
         let mut begun = false;
@@ -89,18 +87,14 @@ impl Ahead {
     fn fill<R: Read>(&mut self, reader: &mut Counted<R>) -> Result<(), Fault>
         ensures kept { OnOk result (Keeps (untaken self.old (R.remaining reader.old.inner))
             (untaken self.new (R.remaining reader.new.inner))) }
-        ensures end { OnOk result (self.new.bytes ≡ [] → IsAtEnd (R.remaining reader.new.inner)) }
+        ensures end { OnOk result (self.new ≡ [] → IsAtEnd (R.remaining reader.new.inner)) }
         ensures fault { IfErr result (λ e. (e ≡ Device) × HasFailed reader.old reader.new) }
         ensures steady { OnOk result (reader.new.failed ≡ reader.old.failed) }
-        ensures falls { OnOk result (left_of self.new ≤ left_of self.old) }
+        ensures falls { OnOk result (left_of self.new reader.new.left ≤ left_of self.old reader.old.left) }
     {
         if self.at < self.end {
             return Ok(());
         }
-        if self.turns == 0 {
-            return Err(reader.fail());
-        }
-        self.turns -= 1;
         let taken = reader.read(&mut self.chunk)?;
         self.at = 0;
         self.end = taken;
@@ -109,7 +103,7 @@ impl Ahead {
 
     // Whether nothing is ahead.
     fn is_empty(&self) -> bool
-        ensures { MatchBool result (self.now.bytes ≡ []) (0 < length self.now.bytes) }
+        ensures { MatchBool result (self.now ≡ []) (0 < length self.now) }
     {
         self.at == self.end
     }
@@ -118,10 +112,10 @@ impl Ahead {
     // ended is answered too.
     fn take_piece(&mut self, line: Result<Vec<u8>, Fault>) -> (Result<Vec<u8>, Fault>, bool)
         ensures line { (taken : List ℕ) → IsHeld taken line
-            → IsHeld (taken ++ line_of self.old.bytes) result.0 }
-        ensures ended { MatchBool result.1 (length (line_of self.old.bytes) < length self.old.bytes)
-            (length self.old.bytes ≤ length (line_of self.old.bytes)) }
-        ensures rest { self.new ≡ record self.old { bytes = after_line self.old.bytes } }
+            → IsHeld (taken ++ line_of self.old) result.0 }
+        ensures ended { MatchBool result.1 (length (line_of self.old) < length self.old)
+            (length self.old ≤ length (line_of self.old)) }
+        ensures rest { self.new ≡ after_line self.old }
     {
         let (piece, rest) = split_line(&self.chunk[self.at..self.end]);
         let ended = piece.len() < self.end - self.at;

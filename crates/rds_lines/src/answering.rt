@@ -52,7 +52,8 @@ pub fn answer_lines<A: Answers, R: Read, W: Write>(
     ensures status { result ≤ 1 }
     ensures broken { (writer.new.failed ≡ writer.old.failed) ⊎ (result ≡ 1) }
 {
-    let mut ahead = Ahead::new(reader.turns());
+    let mut ahead = Ahead::new();
+    reader.begin_turns();
     let mut refused = false;
     'lines: loop {
         let line = match ahead.next_line(alloc, reader) {

@@ -1,9 +1,11 @@
 //! Rows of lines of JSON, and of documents that are edited by them.
+use crate::commands::{show_edit, show_path, show_scalar};
 use crate::events::show_edited;
-use crate::words::first_word;
 use rds_dots::ListSet;
 use rds_json::{Line, command, scalar, show};
-use rds_names::{Fault, Name, Path, Roster, Scalar};
+use rds_names::{Fault, Name, Path, Roster};
+use rds_rows::told::said;
+use rds_rows::words::first;
 use rds_state::{Command, Replica};
 use rds_tree::view;
 use serde_json::Value;
@@ -72,7 +74,7 @@ impl Documents {
 
     /// The first of two replicas takes the whole state of the second.
     fn pull(&mut self, alloc: Global, words: &str) -> Result<String, Fault> {
-        let (taker, giver) = first_word(words);
+        let (taker, giver) = first(words);
         let taker = self.number_of(Name::new(taker)?)?;
         let giver = self.number_of(Name::new(giver)?)?;
         let given = self.replica(giver)?.copy(alloc)?;
@@ -98,29 +100,35 @@ fn take(
     giver: &Replica<ListSet>,
 ) -> Result<String, Fault> {
     if !taker.fits(giver.state()) {
-        return Ok(String::from_str(alloc, "unfit")?);
+        return said(alloc, "unfit");
     }
     taker.take(giver.state())?;
-    Ok(String::from_str(alloc, "taken")?)
+    said(alloc, "taken")
 }
 
 /// What a line asks for, and of whom.
 fn show_line(alloc: Global, line: &Line) -> Result<String, Fault> {
     match line {
         Line::Roster(roster) => show_roster(alloc, roster),
-        Line::Edit(name, _) => show_named(alloc, "edit", name),
+        Line::Edit(name, command) => show_edit(alloc, name, command),
         Line::Save(name) => show_named(alloc, "save", name),
         Line::Crash(name) => show_named(alloc, "crash", name),
         Line::Ask(name) => show_named(alloc, "ask", name),
         Line::Answer(name, ask) => show_answer(alloc, name, *ask),
         Line::Take(answer) => Ok(format!(in alloc; "take {answer}")?),
-        Line::Show(name, _) => show_named(alloc, "show", name),
+        Line::Show(name, path) => show_place(alloc, name, path),
     }
 }
 
 fn show_named(alloc: Global, word: &str, name: &Name) -> Result<String, Fault> {
     let name = name.as_str();
     Ok(format!(in alloc; "{word} {name}")?)
+}
+
+fn show_place(alloc: Global, name: &Name, path: &Path) -> Result<String, Fault> {
+    let name = name.as_str();
+    let path = show_path(alloc, path)?;
+    Ok(format!(in alloc; "show {name} {path}")?)
 }
 
 fn show_answer(alloc: Global, name: &Name, ask: u64) -> Result<String, Fault> {
@@ -138,18 +146,5 @@ fn read_scalar(alloc: Global, text: &str) -> Result<String, Fault> {
     match Value::from_str(alloc, text) {
         Ok(value) => show_scalar(alloc, &scalar(alloc, &value)?),
         Err(_) => Err(Fault::BadLine),
-    }
-}
-
-/// The kind of a scalar, and the scalar.
-pub fn show_scalar(alloc: Global, scalar: &Scalar) -> Result<String, Fault> {
-    match scalar {
-        Scalar::Null => Ok(String::from_str(alloc, "null")?),
-        Scalar::Bool(truth) => Ok(format!(in alloc; "truth {truth}")?),
-        Scalar::Int(number) => Ok(format!(in alloc; "number {number}")?),
-        Scalar::Text(text) => {
-            let text = text.as_str();
-            Ok(format!(in alloc; "text {text}")?)
-        }
     }
 }

@@ -1,7 +1,8 @@
 //! Events as words.
-use crate::words::{first_word, number, small_number};
 use rds_json::{Line, command};
 use rds_names::Fault;
+use rds_rows::told::said;
+use rds_rows::words::{first, number, small};
 use rds_state::{Command, Edited};
 use rds_world::{Done, Event};
 use std::alloc::Global;
@@ -10,9 +11,9 @@ use std::alloc::Global;
 pub fn event(alloc: Global, word: &str, rest: &str) -> Result<Event, Fault> {
     match word {
         "edit" => edit(alloc, rest),
-        "save" => Ok(Event::Save(small_number(rest)?)),
-        "crash" => Ok(Event::Crash(small_number(rest)?)),
-        "ask" => Ok(Event::Ask(small_number(rest)?)),
+        "save" => Ok(Event::Save(small(rest)?)),
+        "crash" => Ok(Event::Crash(small(rest)?)),
+        "ask" => Ok(Event::Ask(small(rest)?)),
         "answer" => answer(rest),
         "take" => Ok(Event::Take(number(rest)?)),
         _ => Err(Fault::Usage),
@@ -20,28 +21,28 @@ pub fn event(alloc: Global, word: &str, rest: &str) -> Result<Event, Fault> {
 }
 
 fn edit(alloc: Global, rest: &str) -> Result<Event, Fault> {
-    let (replica, line) = first_word(rest);
-    let replica = small_number(replica)?;
+    let (replica, line) = first(rest);
+    let replica = small(replica)?;
     Ok(Event::Edit(replica, edit_of(command(alloc, line)?)?))
 }
 
 fn edit_of(line: Line) -> Result<Command, Fault> {
     match line {
         Line::Edit(_, command) => Ok(command),
-        _ => Err(Fault::BadLine),
+        _ => Err(Fault::Usage),
     }
 }
 
 fn answer(rest: &str) -> Result<Event, Fault> {
-    let (replica, ask) = first_word(rest);
-    Ok(Event::Answer(small_number(replica)?, number(ask)?))
+    let (replica, ask) = first(rest);
+    Ok(Event::Answer(small(replica)?, number(ask)?))
 }
 
 /// What an event did.
 pub fn show_done(alloc: Global, done: Done) -> Result<String, Fault> {
     match done {
         Done::Edited(edited) => show_edited(alloc, edited),
-        Done::Plain => Ok(String::from_str(alloc, "done")?),
+        Done::Plain => said(alloc, "done"),
         Done::Asked(number) => Ok(format!(in alloc; "ask {number}")?),
         Done::Answered(number, components) => {
             Ok(format!(in alloc; "answer {number}, components {components}")?)

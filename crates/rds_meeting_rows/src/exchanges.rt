@@ -4,10 +4,10 @@ use crate::named::Named;
 use crate::outcomes::Outcomes;
 use crate::showing::show_outcome;
 use crate::steps::End;
-use crate::words::{first_word, number};
 use rds_dots::ListSet;
 use rds_keep::Counted;
 use rds_names::Fault;
+use rds_rows::words::{first, number};
 use rds_session::{Exchanged, exchange};
 use std::alloc::Global;
 
@@ -59,9 +59,9 @@ pub fn exchange_once(
     named: &Named,
     words: &str,
 ) -> Result<String, Fault> {
-    let (turns, words) = first_word(words);
-    let (reads, words) = first_word(words);
-    let (writes, words) = first_word(words);
+    let (turns, words) = first(words);
+    let (reads, words) = first(words);
+    let (writes, words) = first(words);
     let line = Line {
         turns: number(turns)?,
         reads: manner(reads)?,

@@ -1,6 +1,7 @@
 //! Rows of sessions, of worlds and of lines of JSON, and what each is answered.
 #![tactic(auto)]
 
+mod commands;
 mod devices;
 mod documents;
 mod events;
@@ -10,16 +11,15 @@ mod outcomes;
 mod showing;
 mod steps;
 mod talks;
-mod words;
 mod worlds;
 
 use documents::Documents;
 use rds_names::Fault;
+use rds_rows::words::first;
 use rds_rows::{Table, write_answers};
 use std::alloc::Global;
 use std::io;
 use talks::Talks;
-use words::first_word;
 use worlds::Worlds;
 
 /// What rows have named, made and edited.
@@ -32,7 +32,7 @@ struct Meetings {
 
 impl Table for Meetings {
     fn answer(&mut self, alloc: Global, name: &str, rest: &str) -> Result<String, Fault> {
-        let (word, rest) = first_word(rest);
+        let (word, rest) = first(rest);
         match name {
             "session" => self.talks.answer(alloc, word, rest),
             "world" => self.worlds.answer(alloc, word, rest),

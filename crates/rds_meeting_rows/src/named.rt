@@ -1,6 +1,6 @@
 //! Words that stand for bytes.
-use crate::words::number;
 use rds_names::Fault;
+use rds_rows::words::{bytes_of, number};
 use std::alloc::Global;
 use std::collections::BTreeMap;
 
@@ -53,7 +53,7 @@ impl Named {
     pub fn part(&self, alloc: Global, word: &str) -> Result<Vec<u8>, Fault> {
         match self.bytes.get(word) {
             Some(bytes) => Ok(Vec::from_slice(alloc, bytes)?),
-            None => digits(alloc, word),
+            None => bytes_of(alloc, word),
         }
     }
 }
@@ -63,13 +63,5 @@ pub fn repeated(word: &str) -> Result<(&str, u64), Fault> {
     match word.split_once('*') {
         Some((word, count)) => Ok((word, number(count)?)),
         None => Ok((word, 1)),
-    }
-}
-
-fn digits(alloc: Global, word: &str) -> Result<Vec<u8>, Fault> {
-    match hex::decode(alloc, word) {
-        Ok(bytes) => Ok(bytes),
-        Err(hex::FromHexError::OutOfMemory) => Err(Fault::Memory),
-        Err(_) => Err(Fault::Usage),
     }
 }

@@ -2,6 +2,7 @@
 use rds_codec::encode_state;
 use rds_dots::ListSet;
 use rds_names::Fault;
+use rds_rows::told::{digits_of, named, said};
 use rds_session::Ended;
 use rds_state::State;
 use std::alloc::Global;
@@ -22,9 +23,9 @@ pub fn show_outcome(
 /// Hex digits, or `nothing`.
 pub fn show_bytes(alloc: Global, bytes: &[u8]) -> Result<String, Fault> {
     if bytes.is_empty() {
-        return Ok(String::from_str(alloc, "nothing")?);
+        return said(alloc, "nothing");
     }
-    Ok(hex::encode(alloc, bytes)?)
+    digits_of(alloc, bytes)
 }
 
 fn show_received(alloc: Global, received: Option<&State<ListSet>>) -> Result<String, Fault> {
@@ -42,14 +43,13 @@ pub fn show_state(alloc: Global, state: &State<ListSet>) -> Result<String, Fault
 
 fn show_ended(alloc: Global, ended: Ended) -> Result<String, Fault> {
     match ended {
-        Ended::Going => Ok(String::from_str(alloc, "going")?),
-        Ended::Done => Ok(String::from_str(alloc, "done")?),
+        Ended::Going => said(alloc, "going"),
+        Ended::Done => said(alloc, "done"),
         Ended::Failed(fault) => show_failed(alloc, fault),
     }
 }
 
 fn show_failed(alloc: Global, fault: Fault) -> Result<String, Fault> {
-    let number = fault.number();
-    let name = fault.name();
-    Ok(format!(in alloc; "failed {number}: {name}")?)
+    let fault = named(alloc, fault)?;
+    Ok(format!(in alloc; "failed {fault}")?)
 }

@@ -4,10 +4,13 @@ use crate::named::{Named, repeated};
 use crate::outcomes::Outcomes;
 use crate::showing::show_bytes;
 use crate::steps::{Course, End};
-use crate::words::first_word;
 use rds_keep::{Counted, read_snapshot};
 use rds_names::Fault;
-use rds_session::{Input, Side, a_course_is_by_messages, streams_are_split_once, two_sessions};
+use rds_rows::told::said;
+use rds_rows::words::first;
+use rds_session::{
+    Input, Side, a_course_is_by_messages, streams_are_split_once, two_sessions, values_are_least,
+};
 use std::alloc::Global;
 use std::fmt::Write;
 
@@ -29,7 +32,7 @@ impl Talks {
     pub fn answer(&mut self, alloc: Global, word: &str, rest: &str) -> Result<String, Fault> {
         match word {
             "bytes" => {
-                let (name, words) = first_word(rest);
+                let (name, words) = first(rest);
                 self.named.name(alloc, name, words)
             }
             "laws" => laws(alloc),
@@ -39,8 +42,8 @@ impl Talks {
 
     /// A row whose words are the side, what it has kept, and what it hears.
     fn meet(&self, alloc: Global, word: &str, rest: &str) -> Result<String, Fault> {
-        let (side, rest) = first_word(rest);
-        let (kept, words) = first_word(rest);
+        let (side, rest) = first(rest);
+        let (kept, words) = first(rest);
         let end = self.end(alloc, side, kept)?;
         match word {
             "steps" => self.step_by_step(alloc, &end, words),
@@ -159,5 +162,6 @@ fn laws(alloc: Global) -> Result<String, Fault> {
     streams_are_split_once();
     a_course_is_by_messages();
     two_sessions();
-    Ok(String::from_str(alloc, "proved")?)
+    values_are_least();
+    said(alloc, "called")
 }

@@ -1,11 +1,12 @@
 //! Rows of worlds: each event is a row.
-use crate::documents::show_scalar;
+use crate::commands::show_scalar;
 use crate::events::{event, show_done};
 use crate::showing::show_bytes;
-use crate::words::{first_word, number, roster, small_number};
 use rds_dots::{Dot, ListSet};
 use rds_life::Rank;
 use rds_names::{Entry, Fault};
+use rds_rows::told::said;
+use rds_rows::words::{first, number, roster, small};
 use rds_state::Replica;
 use rds_world::{
     Event, World, answers_bring_what_was_kept, coherent_replicas_are_friends, edits_are_steps,
@@ -52,7 +53,7 @@ impl Worlds {
     }
 
     fn plan(&mut self, alloc: Global, words: &str) -> Result<String, Fault> {
-        let (word, rest) = first_word(words);
+        let (word, rest) = first(words);
         self.events.push(event(alloc, word, rest)?)?;
         let events = self.events.len();
         Ok(format!(in alloc; "{events} events")?)
@@ -65,7 +66,7 @@ impl Worlds {
         match simulate(alloc, roster, &events) {
             Ok(world) => {
                 self.world = Some(world);
-                Ok(String::from_str(alloc, "done")?)
+                said(alloc, "done")
             }
             Err((world, fault)) => {
                 self.world = Some(world);
@@ -83,8 +84,8 @@ fn happen(
     rest: &str,
 ) -> Result<String, Fault> {
     match word {
-        "memory" => show_size(alloc, world.memory(small_number(rest)?)?),
-        "kept" => show_size(alloc, world.kept(small_number(rest)?)?.view_of()),
+        "memory" => show_size(alloc, world.memory(small(rest)?)?),
+        "kept" => show_size(alloc, world.kept(small(rest)?)?.view_of()),
         "asked" => show_bytes(alloc, world.ask_bytes(number(rest)?)?),
         "answered" => show_bytes(alloc, world.answer_bytes(number(rest)?)?),
         "dot" => find_dot(alloc, world, rest),
@@ -102,15 +103,15 @@ fn show_size(alloc: Global, replica: &Replica<ListSet>) -> Result<String, Fault>
 
 /// How far a dot has come in a replica's memory: its words are the replica that looks, and the dot's replica and number.
 fn find_dot(alloc: Global, world: &World<ListSet>, words: &str) -> Result<String, Fault> {
-    let (looking, words) = first_word(words);
-    let memory = world.memory(small_number(looking)?)?;
+    let (looking, words) = first(words);
+    let memory = world.memory(small(looking)?)?;
     show_dot(alloc, memory, dot(words)?)
 }
 
 fn dot(words: &str) -> Result<Dot, Fault> {
-    let (replica, seq) = first_word(words);
+    let (replica, seq) = first(words);
     Ok(Dot {
-        replica: small_number(replica)?,
+        replica: small(replica)?,
         seq: number(seq)?,
     })
 }
@@ -118,8 +119,8 @@ fn dot(words: &str) -> Result<Dot, Fault> {
 fn show_dot(alloc: Global, replica: &Replica<ListSet>, dot: Dot) -> Result<String, Fault> {
     let lives = replica.state().lives();
     match lives.rank(dot) {
-        Rank::Unseen => Ok(String::from_str(alloc, "unseen")?),
-        Rank::Dead => Ok(String::from_str(alloc, "dead")?),
+        Rank::Unseen => said(alloc, "unseen"),
+        Rank::Dead => said(alloc, "dead"),
         Rank::Live => show_entry(alloc, lives.entry(dot)),
     }
 }
@@ -130,7 +131,7 @@ fn show_entry(alloc: Global, entry: Option<&Entry>) -> Result<String, Fault> {
             let value = show_scalar(alloc, entry.value())?;
             Ok(format!(in alloc; "live with {value}")?)
         }
-        None => Ok(String::from_str(alloc, "live with nothing")?),
+        None => said(alloc, "live with nothing"),
     }
 }
 
@@ -143,5 +144,5 @@ fn laws(alloc: Global) -> Result<String, Fault> {
     answers_bring_what_was_kept();
     runs_go_on();
     lost_dots_are_used_again();
-    Ok(String::from_str(alloc, "proved")?)
+    said(alloc, "called")
 }

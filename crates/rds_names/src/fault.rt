@@ -17,7 +17,9 @@ pub enum Own {
     Minus(u64),
 }
 
-/// Why a call refused. After a refusal the value that was called is unchanged.
+/// Why a call refused. After a refusal the value that was called is unchanged. Three are not: a session, which has
+/// failed from then on; a reader, of which a beginning may be read; and a writer or a new file, which may have got a
+/// beginning of the text.
 #[derive(Clone, Copy, Debug, PartialEq, Eq)]
 pub enum Fault {
     /// There was no memory for what the call had to grow.

@@ -1,7 +1,9 @@
 //! Rows on counters.
-use crate::words::{number, parted, push, replica, said, said_if};
+use crate::words::push;
 use rds_counts::{CountRow, Counts, Which};
 use rds_names::{Fault, Key};
+use rds_rows::told::{said, said_if};
+use rds_rows::words::{number, parted, small};
 use std::alloc::Global;
 use std::mem;
 
@@ -35,7 +37,7 @@ impl Counters {
             "value" => self.value(alloc, rest),
             "numbers" => self.numbers(alloc),
             "same" => said_if(alloc, self.counts.same(&self.other)),
-            _ => Err(Fault::BadLine),
+            _ => Err(Fault::Usage),
         }
     }
 
@@ -76,7 +78,7 @@ impl Counters {
         by: u64,
     ) -> Result<String, Fault> {
         let (text, number) = parted(place, ":")?;
-        let replica = replica(number)?;
+        let replica = small(number)?;
         let key = Key::new(alloc, text)?;
         self.counts.raise(&key, replica, which, by)?;
         said_pair(alloc, self.counts.pair(&key, replica))
@@ -96,7 +98,7 @@ impl Counters {
 
     fn pair(&self, alloc: Global, rest: &str) -> Result<String, Fault> {
         let (text, number) = parted(rest, ":")?;
-        let replica = replica(number)?;
+        let replica = small(number)?;
         let key = Key::new(alloc, text)?;
         said_pair(alloc, self.counts.pair(&key, replica))
     }
@@ -118,7 +120,7 @@ fn which(word: &str) -> Result<Which, Fault> {
     match word {
         "up" => Ok(Which::P),
         "down" => Ok(Which::N),
-        _ => Err(Fault::BadLine),
+        _ => Err(Fault::Usage),
     }
 }
 
@@ -134,7 +136,7 @@ fn row(alloc: Global, word: &str) -> Result<CountRow, Fault> {
     let (place, pair) = parted(word, "=")?;
     let (text, first) = parted(place, ":")?;
     let (up, down) = parted(pair, ",")?;
-    let replica = replica(first)?;
+    let replica = small(first)?;
     let p = number(up)?;
     let n = number(down)?;
     let key = Key::new(alloc, text)?;

@@ -1,9 +1,11 @@
 //! Rows on sets of dots, through the trait: each representation can answer the same rows.
-use crate::words::{dot, number, push, replica, run, said, said_if, said_number};
+use crate::words::{dot, push, run, said_number};
 use rds_dots::{
     DotSet, MAX_SEQ, Run, are_below, equal_sets_have_equal_runs, first_lacking, runs, same,
 };
 use rds_names::Fault;
+use rds_rows::told::{said, said_if};
+use rds_rows::words::small;
 use std::alloc::Global;
 use std::mem;
 
@@ -74,14 +76,14 @@ impl<S: DotSet> Sets<S> {
         match asked {
             "runs" => shown(alloc, &self.set),
             "has" => said_if(alloc, self.set.contains(dot(rest)?)),
-            "top" => said_number(alloc, Some(self.set.top(replica(rest)?))),
+            "top" => said_number(alloc, Some(self.set.top(small(rest)?))),
             "count" => said_number(alloc, Some(self.set.count())),
             "after" => self.after(alloc, rest),
             "same" => said_if(alloc, same(&self.set, &self.other)),
             "below" => self.below(alloc, rest),
             "lacks" => self.lacks(alloc, rest),
             "together" => self.together(alloc),
-            _ => Err(Fault::BadLine),
+            _ => Err(Fault::Usage),
         }
     }
 
@@ -98,16 +100,16 @@ impl<S: DotSet> Sets<S> {
     }
 
     fn below(&self, alloc: Global, rest: &str) -> Result<String, Fault> {
-        let replicas = u16::from(replica(rest)?);
+        let replicas = u16::from(small(rest)?);
         if replicas == 0 {
-            return Err(Fault::BadLine);
+            return Err(Fault::Usage);
         }
         said_if(alloc, are_below(&self.set, replicas))
     }
 
     /// The least number of a replica's dots that the other set has and this one lacks.
     fn lacks(&self, alloc: Global, rest: &str) -> Result<String, Fault> {
-        said_number(alloc, first_lacking(&self.set, &self.other, replica(rest)?))
+        said_number(alloc, first_lacking(&self.set, &self.other, small(rest)?))
     }
 
     /// The runs of both sets, side by side.
@@ -122,10 +124,10 @@ impl<S: DotSet> Sets<S> {
     }
 }
 
-/// Puts a run into a set; what is no run is answered `BadLine`.
+/// Puts a run into a set; what is no run is answered `Usage`.
 pub fn insert<S: DotSet>(set: &mut S, run: Run) -> Result<(), Fault> {
     if run.lo < 1 || run.hi < run.lo || run.hi > MAX_SEQ {
-        return Err(Fault::BadLine);
+        return Err(Fault::Usage);
     }
     set.insert_run(run)
 }

@@ -1,8 +1,9 @@
 //! Rows on entries.
 use crate::paths::{self, path};
 use crate::scalars::{self, scalar};
-use crate::words::{parted, said_if};
 use rds_names::{Entry, Fault, Kind};
+use rds_rows::told::said_if;
+use rds_rows::words::parted;
 use std::alloc::Global;
 
 /// Answers a row on entries.
@@ -11,7 +12,7 @@ pub fn answer(alloc: Global, asked: &str, rest: &str) -> Result<String, Fault> {
         "new" => shown(alloc, &entry(alloc, rest)?),
         "copy" => copied(alloc, rest),
         "same" => same(alloc, rest),
-        _ => Err(Fault::BadLine),
+        _ => Err(Fault::Usage),
     }
 }
 
@@ -28,7 +29,7 @@ fn kind(word: &str) -> Result<Kind, Fault> {
     match word {
         "reg" => Ok(Kind::Reg),
         "elem" => Ok(Kind::Elem),
-        _ => Err(Fault::BadLine),
+        _ => Err(Fault::Usage),
     }
 }
 

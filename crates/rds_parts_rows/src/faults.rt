@@ -1,6 +1,6 @@
 //! Rows on faults: one that is named is answered as what it is.
-use crate::words::{first, number, replica};
 use rds_names::{Fault, Own};
+use rds_rows::words::{first, number, small};
 
 /// Refuses as the row says.
 pub fn answer(name: &str, rest: &str) -> Result<String, Fault> {
@@ -11,14 +11,14 @@ pub fn answer(name: &str, rest: &str) -> Result<String, Fault> {
             of_document(name)
                 .or(of_text(name))
                 .or(of_program(name))
-                .unwrap_or(Fault::BadLine),
+                .unwrap_or(Fault::Usage),
         ),
     }
 }
 
 fn conflict(rest: &str) -> Result<Fault, Fault> {
     let (first, seq) = first(rest);
-    let replica = replica(first)?;
+    let replica = small(first)?;
     let seq = number(seq)?;
     Ok(Fault::Conflict { replica, seq })
 }
@@ -30,7 +30,7 @@ fn own_ahead(rest: &str) -> Result<Fault, Fault> {
         "seq" => Ok(Fault::OwnAhead(Own::Seq(amount))),
         "plus" => Ok(Fault::OwnAhead(Own::Plus(amount))),
         "minus" => Ok(Fault::OwnAhead(Own::Minus(amount))),
-        _ => Err(Fault::BadLine),
+        _ => Err(Fault::Usage),
     }
 }
 
@@ -70,6 +70,7 @@ fn of_program(name: &str) -> Option<Fault> {
         "OutOfTurn" => Some(Fault::OutOfTurn),
         "PeerEnded" => Some(Fault::PeerEnded),
         "Device" => Some(Fault::Device),
+        "BadLine" => Some(Fault::BadLine),
         "NoSuch" => Some(Fault::NoSuch),
         "Usage" => Some(Fault::Usage),
         _ => None,

@@ -1,6 +1,8 @@
 //! Rows on names and keys.
-use crate::words::{parted, said, said_if, text};
+use crate::words::text;
 use rds_names::{Fault, Key, Name};
+use rds_rows::told::{said, said_if};
+use rds_rows::words::parted;
 use std::alloc::Global;
 
 /// Answers a row on a name.
@@ -17,7 +19,7 @@ pub fn answer(alloc: Global, asked: &str, rest: &str) -> Result<String, Fault> {
         "copy" => copied(alloc, rest),
         "is" => is_key(alloc, rest),
         "least" => least(alloc, rest),
-        _ => Err(Fault::BadLine),
+        _ => Err(Fault::Usage),
     }
 }
 

@@ -4,10 +4,12 @@ ghost use Rattle.rds_dots.specs.Dots.{is_dot as dot_test};
 
 use crate::dots::{self, insert};
 use crate::scalars::integer;
-use crate::words::{self, parted, push, run, said};
+use crate::words::{self, push, run};
 use rds_dots::{Dot, DotSet, ListSet, MAX_SEQ};
 use rds_life::{Choice, Lives, Rank};
 use rds_names::{Entry, Fault, Kind, Path, Scalar};
+use rds_rows::told::said;
+use rds_rows::words::{number, parted};
 use std::alloc::Global;
 use std::mem;
 
@@ -89,9 +91,7 @@ impl Histories {
 
     /// Kills the live dots whose numbers are below a number, and says how many there were.
     fn kill_below(&mut self, alloc: Global, rest: &str) -> Result<String, Fault> {
-        let below = Below {
-            seq: words::number(rest)?,
-        };
+        let below = Below { seq: number(rest)? };
         let killed = self.lives.kill_chosen(&below);
         words::said_number(alloc, Some(killed))
     }
@@ -128,7 +128,7 @@ impl Histories {
             "dead" => dots::shown(alloc, &self.lives.dead(alloc)?),
             "live_dots" => dots::shown(alloc, &self.lives.live_dots(alloc)?),
             "conflict" => conflict(alloc, self.lives.conflict(&self.other)),
-            _ => Err(Fault::BadLine),
+            _ => Err(Fault::Usage),
         }
     }
 }

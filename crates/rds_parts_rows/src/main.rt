@@ -18,6 +18,7 @@ use dots::Sets;
 use life::Histories;
 use rds_dots::ListSet;
 use rds_names::Fault;
+use rds_rows::words::first;
 use rds_rows::{Table, write_answers};
 use std::alloc::Global;
 use std::io;
@@ -32,7 +33,7 @@ struct Parts {
 
 impl Table for Parts {
     fn answer(&mut self, alloc: Global, name: &str, rest: &str) -> Result<String, Fault> {
-        let (asked, words) = words::first(rest);
+        let (asked, words) = first(rest);
         match name {
             "fault" => faults::answer(asked, words),
             "name" => keys::answer_name(alloc, rest),
@@ -44,7 +45,7 @@ impl Table for Parts {
             "dots" => self.sets.answer(alloc, asked, words),
             "life" => self.histories.answer(alloc, asked, words),
             "counts" => self.counters.answer(alloc, asked, words),
-            _ => Err(Fault::BadLine),
+            _ => Err(Fault::Usage),
         }
     }
 }

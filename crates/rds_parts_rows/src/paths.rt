@@ -1,7 +1,9 @@
 //! Rows on paths.
 use crate::keys::key;
-use crate::words::{number, parted, push, said, said_if, text};
+use crate::words::{push, text};
 use rds_names::{Fault, Key, Path};
+use rds_rows::told::{said, said_if};
+use rds_rows::words::{number, parted};
 use std::alloc::Global;
 
 /// Answers a row on paths.
@@ -14,7 +16,7 @@ pub fn answer(alloc: Global, asked: &str, rest: &str) -> Result<String, Fault> {
         "same" => same(alloc, rest),
         "begins" => begins(alloc, rest),
         "keys" => of_keys(alloc, rest),
-        _ => Err(Fault::BadLine),
+        _ => Err(Fault::Usage),
     }
 }
 

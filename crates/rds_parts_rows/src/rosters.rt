@@ -1,6 +1,8 @@
 //! Rows on rosters.
-use crate::words::{first, number, parted, replica, said, said_if, said_number};
+use crate::words::said_number;
 use rds_names::{Fault, Key, Name, Roster};
+use rds_rows::told::{said, said_if};
+use rds_rows::words::{number, parted, roster, small};
 use std::alloc::Global;
 
 /// Answers a row on rosters.
@@ -13,23 +15,8 @@ pub fn answer(alloc: Global, asked: &str, rest: &str) -> Result<String, Fault> {
         "same" => same(alloc, rest),
         "many" => shown(alloc, &many(alloc, rest)?),
         "number_of_many" => number_of_many(alloc, rest),
-        _ => Err(Fault::BadLine),
+        _ => Err(Fault::Usage),
     }
-}
-
-/// The roster that is written, as `g a b c`, of which `g` is the group.
-fn roster(alloc: Global, written: &str) -> Result<Roster, Fault> {
-    let (group, rest) = first(written);
-    let names = names(alloc, rest)?;
-    Roster::new(alloc, Key::new(alloc, group)?, &names)
-}
-
-fn names(alloc: Global, written: &str) -> Result<Vec<Name>, Fault> {
-    let mut names = Vec::new(alloc);
-    for word in written.split_whitespace() {
-        names.push(Name::new(word)?)?;
-    }
-    Ok(names)
 }
 
 fn shown(alloc: Global, roster: &Roster) -> Result<String, Fault> {
@@ -49,7 +36,7 @@ fn number_of(alloc: Global, rest: &str) -> Result<String, Fault> {
 fn name_of(alloc: Global, rest: &str) -> Result<String, Fault> {
     let (number, written) = parted(rest, " in ")?;
     let roster = roster(alloc, written)?;
-    match roster.name_of(replica(number)?) {
+    match roster.name_of(small(number)?) {
         Some(name) => said(alloc, name.as_str()),
         None => said(alloc, "none"),
     }

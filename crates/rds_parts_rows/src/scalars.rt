@@ -1,6 +1,7 @@
 //! Rows on the values at the leaves.
-use crate::words::{said, said_if, text};
+use crate::words::text;
 use rds_names::{Fault, Scalar};
+use rds_rows::told::{said, said_if};
 use std::alloc::Global;
 
 /// Answers a row on values.
@@ -9,7 +10,7 @@ pub fn answer(alloc: Global, asked: &str, rest: &str) -> Result<String, Fault> {
         "new" => shown(alloc, &scalar(alloc, rest)?),
         "copy" => copied(alloc, rest),
         "order" => order(alloc, rest),
-        _ => Err(Fault::BadLine),
+        _ => Err(Fault::Usage),
     }
 }
 
@@ -26,7 +27,7 @@ pub fn scalar(alloc: Global, written: &str) -> Result<Scalar, Fault> {
 
 /// An integer.
 pub fn integer(word: &str) -> Result<i64, Fault> {
-    word.parse::<i64>().map_err(|_| Fault::BadLine)
+    word.parse::<i64>().map_err(|_| Fault::Usage)
 }
 
 /// The value as rows write it.

@@ -1,32 +1,14 @@
-//! How rows write what they are on, and how answers are said. What a row's words don't write is answered `BadLine`.
+//! How rows write the parts that they are on, and how answers are said.
 use rds_dots::{Dot, Run};
 use rds_names::Fault;
+use rds_rows::told::said;
+use rds_rows::words::{number, parted, small};
 use std::alloc::Global;
-
-/// The first word of a row, and those behind it.
-pub fn first(row: &str) -> (&str, &str) {
-    row.split_once(' ').unwrap_or((row, ""))
-}
-
-/// What stands before and what stands behind a sign.
-pub fn parted<'a>(words: &'a str, sign: &str) -> Result<(&'a str, &'a str), Fault> {
-    words.split_once(sign).ok_or(Fault::BadLine)
-}
-
-/// A number.
-pub fn number(word: &str) -> Result<u64, Fault> {
-    word.parse::<u64>().map_err(|_| Fault::BadLine)
-}
-
-/// The number of a replica.
-pub fn replica(word: &str) -> Result<u8, Fault> {
-    word.parse::<u8>().map_err(|_| Fault::BadLine)
-}
 
 /// A dot, as `0:4`.
 pub fn dot(word: &str) -> Result<Dot, Fault> {
     let (first, seq) = parted(word, ":")?;
-    let replica = replica(first)?;
+    let replica = small(first)?;
     let seq = number(seq)?;
     Ok(Dot { replica, seq })
 }
@@ -51,8 +33,8 @@ pub fn text(alloc: Global, written: &str) -> Result<String, Fault> {
 }
 
 fn unquoted(quoted: &str) -> Result<&str, Fault> {
-    let opened = quoted.strip_prefix('"').ok_or(Fault::BadLine)?;
-    opened.strip_suffix('"').ok_or(Fault::BadLine)
+    let opened = quoted.strip_prefix('"').ok_or(Fault::Usage)?;
+    opened.strip_suffix('"').ok_or(Fault::Usage)
 }
 
 fn repeated(alloc: Global, piece: &str, times: u64) -> Result<String, Fault> {
@@ -61,16 +43,6 @@ fn repeated(alloc: Global, piece: &str, times: u64) -> Result<String, Fault> {
         text.push_str(piece)?;
     }
     Ok(text)
-}
-
-/// The answer that is this text.
-pub fn said(alloc: Global, text: &str) -> Result<String, Fault> {
-    Ok(String::from_str(alloc, text)?)
-}
-
-/// The answer to a question.
-pub fn said_if(alloc: Global, holds: bool) -> Result<String, Fault> {
-    said(alloc, if holds { "yes" } else { "no" })
 }
 
 /// The answer that is a number, or none.

@@ -1,5 +1,7 @@
 //! Readers and writers that give and take little, and fail.
 use rds_keep::Counted;
+use rds_names::Fault;
+use rds_rows::words::{cut, first, number};
 use std::alloc::Global;
 use std::io::{self, ErrorKind, Read, Write};
 
@@ -26,20 +28,27 @@ impl Read for Pieces<'_> {
 
 /// `STEP TURNS END ..`: a reader of the bytes that gives at most so many a call, has such a bound of turns, and `fails`
 /// or `ends` behind them; and what else the row says.
-pub fn reader_of<'a>(row: &'a str, bytes: &'a [u8]) -> Option<(Counted<Pieces<'a>>, &'a str)> {
-    let (step, row) = number(row)?;
-    let (turns, row) = number(row)?;
-    let (end, row) = row.split_once(' ').unwrap_or((row, ""));
-    let step = usize::try_from(step).ok()?;
-    let fails = end == "fails";
+pub fn reader_of<'a>(
+    row: &'a str,
+    bytes: &'a [u8],
+) -> Result<(Counted<Pieces<'a>>, &'a str), Fault> {
+    let (step, row) = cut(row)?;
+    let (turns, row) = cut(row)?;
+    let (end, row) = first(row);
+    let step = number(step)? as usize;
+    let turns = number(turns)?;
+    let fails = fails(end)?;
     let pieces = Pieces { bytes, step, fails };
-    Some((Counted::with_turns(pieces, turns), row))
+    Ok((Counted::with_turns(pieces, turns), row))
 }
 
-// The number that a row begins with, and what else it says.
-fn number(row: &str) -> Option<(u64, &str)> {
-    let (number, row) = row.split_once(' ')?;
-    Some((number.parse::<u64>().ok()?, row))
+// Whether a reader fails behind its bytes.
+fn fails(end: &str) -> Result<bool, Fault> {
+    match end {
+        "fails" => Ok(true),
+        "ends" => Ok(false),
+        _ => Err(Fault::Usage),
+    }
 }
 
 /// Takes so many bytes in all, and no more.
@@ -78,8 +87,10 @@ impl Write for Narrow {
 }
 
 /// `ROOM TURNS ..`: how many bytes a writer takes, its bound of turns, and what else the row says.
-pub fn room_of(row: &str) -> Option<(usize, u64, &str)> {
-    let (room, row) = number(row)?;
-    let (turns, row) = number(row)?;
-    Some((usize::try_from(room).ok()?, turns, row))
+pub fn room_of(row: &str) -> Result<(usize, u64, &str), Fault> {
+    let (room, row) = cut(row)?;
+    let (turns, row) = cut(row)?;
+    let room = number(room)? as usize;
+    let turns = number(turns)?;
+    Ok((room, turns, row))
 }

@@ -1,22 +1,21 @@
 //! Files and folders that rows make, look at and remove.
-use crate::told::{told, told_bytes, unfit};
 use rds_names::Fault;
+use rds_rows::told::{digits_of, said};
+use rds_rows::words::{bytes_of, first};
 use std::{fs, io};
 
 /// `put FILE HEX`: writes the bytes of these hex digits into a file.
 pub fn put(rt: &HostRuntime, rest: &str) -> Result<String, Fault> {
-    let (file, digits) = rest.split_once(' ').unwrap_or((rest, ""));
-    match hex::decode(rt.alloc(), digits) {
-        Ok(bytes) => told_done(rt, fs::write(rt, file, bytes.as_slice())),
-        Err(_) => unfit(rt.alloc()),
-    }
+    let (file, digits) = first(rest);
+    let bytes = bytes_of(rt.alloc(), digits)?;
+    told_done(rt, fs::write(rt, file, bytes.as_slice()))
 }
 
 /// `hold FILE`: the hex digits of a file's bytes.
 pub fn hold(rt: &HostRuntime, file: &str) -> Result<String, Fault> {
     match fs::read(rt, file) {
-        Ok(bytes) => told_bytes(rt.alloc(), &bytes),
-        Err(_) => told(rt.alloc(), "no file"),
+        Ok(bytes) => digits_of(rt.alloc(), &bytes),
+        Err(_) => said(rt.alloc(), "no file"),
     }
 }
 
@@ -37,7 +36,7 @@ pub fn remove_folder(rt: &HostRuntime, name: &str) -> Result<String, Fault> {
 
 fn told_done(rt: &HostRuntime, done: io::Result<()>) -> Result<String, Fault> {
     match done {
-        Ok(()) => told(rt.alloc(), "done"),
-        Err(_) => told(rt.alloc(), "not done"),
+        Ok(()) => said(rt.alloc(), "done"),
+        Err(_) => said(rt.alloc(), "not done"),
     }
 }

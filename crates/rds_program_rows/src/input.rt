@@ -1,6 +1,6 @@
 //! The input that rows make for the program.
-use crate::told::{told, unfit};
 use rds_names::Fault;
+use rds_rows::words::{bytes_of, cut, number};
 use std::alloc::{AllocError, Global};
 
 /// The bytes that the program is to read.
@@ -40,28 +40,22 @@ impl Input {
 
     /// `<x HEX`: adds the bytes of these hex digits.
     pub fn add_digits(&mut self, alloc: Global, digits: &str) -> Result<String, Fault> {
-        match hex::decode(alloc, digits) {
-            Ok(bytes) => self.add(&bytes)?,
-            Err(_) => return unfit(alloc),
-        }
+        let bytes = bytes_of(alloc, digits)?;
+        self.add(&bytes)?;
         self.told(alloc)
     }
 
     /// `<n COUNT TEXT`: adds a text so many times.
     pub fn add_repeated(&mut self, alloc: Global, rest: &str) -> Result<String, Fault> {
-        let Some((count, text)) = rest.split_once(' ') else {
-            return unfit(alloc);
-        };
-        match count.parse::<usize>() {
-            Ok(count) => self.add(text.repeat(alloc, count)?.as_bytes())?,
-            Err(_) => return unfit(alloc),
-        }
+        let (count, text) = cut(rest)?;
+        let count = number(count)? as usize;
+        self.add(text.repeat(alloc, count)?.as_bytes())?;
         self.told(alloc)
     }
 
     /// How many bytes they are.
     pub fn told(&self, alloc: Global) -> Result<String, Fault> {
         let count = self.bytes.len();
-        told(alloc, format_args!("{count} bytes"))
+        Ok(format!(in alloc; "{count} bytes")?)
     }
 }

@@ -1,6 +1,6 @@
 //! Lines that are answered by how long they are.
 use crate::devices::reader_of;
-use crate::told::{told_output, unfit};
+use crate::told::told_output;
 use rds_keep::Counted;
 use rds_lines::{Answer, Answers, answer_lines};
 use rds_names::Fault;
@@ -26,9 +26,7 @@ impl Answers for Lengths {
 /// `lengths STEP TURNS END`: what the lines of the input are answered, from a reader that gives at most so many bytes a
 /// call, has such a bound of turns, and `fails` or `ends` behind the bytes.
 pub fn answer_lengths(alloc: Global, rest: &str, input: &[u8]) -> Result<String, Fault> {
-    let Some((mut reader, _)) = reader_of(rest, input) else {
-        return unfit(alloc);
-    };
+    let (mut reader, _) = reader_of(rest, input)?;
     let mut written = Vec::new(alloc);
     let mut writer = Counted::new(&mut written);
     let status = answer_lines(alloc, &mut Lengths, &mut reader, &mut writer);

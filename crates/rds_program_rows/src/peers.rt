@@ -1,11 +1,10 @@
 //! Sessions over TCP. A peer has told all that it tells before the program has its session.
 use crate::runs::run_spaced;
-use crate::sessions::{Meeting, meeting_of};
-use crate::told::{told, unfit};
+use crate::sessions::{Meeting, meeting_of, read};
 use rds_dots::ListSet;
-use rds_files::{Settled, meet, read_file};
-use rds_keep::Kept;
+use rds_files::{ReplicaFile, Settled, meet};
 use rds_names::Fault;
+use rds_rows::told::{digits_of, said};
 use rds_session::Ended;
 use std::alloc::Global;
 use std::io::{self, Read, Write};
@@ -19,32 +18,34 @@ struct Met {
     sent: Vec<u8>,
 }
 
-/// `meet SIDE FILE HEX`: has a session of the replica in a file, and answers what became of what it received, how it
+/// `meet SIDE HEX`: has a session of the replica in the file, and answers what became of what it received, how it
 /// ended, and what the peer heard.
 pub fn meet_peer(rt: &HostRuntime, row: &str) -> Result<String, Fault> {
-    let Some(meeting) = meeting_of(rt.alloc(), row) else {
-        return unfit(rt.alloc());
-    };
-    let mut kept = read_file(rt, meeting.file)?;
-    match session(rt, &meeting, &mut kept) {
+    let meeting = meeting_of(rt.alloc(), row)?;
+    let mut file = read(rt)?;
+    match session(rt, &meeting, &mut file) {
         Ok(met) => told_met(rt.alloc(), &met),
-        Err(_) => told(rt.alloc(), "no connection"),
+        Err(_) => said(rt.alloc(), "no connection"),
     }
 }
 
 fn told_met(alloc: Global, met: &Met) -> Result<String, Fault> {
     let settled = met.settled;
     let ended = met.ended;
-    let sent = hex::encode(alloc, met.sent.as_slice())?;
-    told(alloc, format_args!("{settled:?}, {ended:?}\n  {sent}"))
+    let sent = digits_of(alloc, &met.sent)?;
+    Ok(format!(in alloc; "{settled:?}, {ended:?}\n  {sent}")?)
 }
 
 // The session, over a connection of the program to itself.
-fn session(rt: &HostRuntime, meeting: &Meeting<'_>, kept: &mut Kept<ListSet>) -> io::Result<Met> {
+fn session(
+    rt: &HostRuntime,
+    meeting: &Meeting,
+    file: &mut ReplicaFile<'_, ListSet>,
+) -> io::Result<Met> {
     let (mut peer, stream) = connection(rt)?;
     peer.write_all(&meeting.heard)?;
     peer.shutdown(Shutdown::Write)?;
-    let (settled, ended) = meet(rt, meeting.side, meeting.file, kept, stream);
+    let (settled, ended) = meet(rt, meeting.side, file, stream);
     let mut sent = Vec::new(rt.alloc());
     peer.read_to_end(&mut sent)?;
     Ok(Met {
@@ -77,7 +78,7 @@ pub fn run_busy(rt: &HostRuntime, words: &str) -> Result<String, Fault> {
             drop(listener);
             answer
         }
-        Err(_) => told(rt.alloc(), "no listener"),
+        Err(_) => said(rt.alloc(), "no listener"),
     }
 }
 
@@ -88,7 +89,7 @@ pub fn run_away(rt: &HostRuntime, words: &str) -> Result<String, Fault> {
             drop(listener);
             run_at(rt, words, addr)
         }
-        Err(_) => told(rt.alloc(), "no listener"),
+        Err(_) => said(rt.alloc(), "no listener"),
     }
 }
 

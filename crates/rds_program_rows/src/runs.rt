@@ -1,6 +1,6 @@
 //! Runs of the program.
 use crate::devices::{Narrow, reader_of, room_of};
-use crate::told::{told, told_output, unfit};
+use crate::told::told_output;
 use rds_commands::run;
 use rds_keep::Counted;
 use rds_names::Fault;
@@ -46,9 +46,7 @@ fn run_words(rt: &HostRuntime, words: &[&str], input: &[u8]) -> Result<String, F
 /// `reads STEP TURNS END WORDS`: the same with a reader that gives at most so many bytes a call, has such a bound of
 /// turns, and `fails` or `ends` behind the bytes. Answers also what was counted.
 pub fn run_reading(rt: &HostRuntime, rest: &str, input: &[u8]) -> Result<String, Fault> {
-    let Some((mut reader, words)) = reader_of(rest, input) else {
-        return unfit(rt.alloc());
-    };
+    let (mut reader, words) = reader_of(rest, input)?;
     let words = named(rt.alloc(), words)?;
     let mut written = Vec::new(rt.alloc());
     let status = run(rt, &words, &mut reader, &mut Counted::new(&mut written));
@@ -59,9 +57,7 @@ pub fn run_reading(rt: &HostRuntime, rest: &str, input: &[u8]) -> Result<String,
 /// `writes ROOM TURNS WORDS`: the same with a writer that takes so many bytes in all, and has such a bound of turns.
 /// Answers also what was counted.
 pub fn run_writing(rt: &HostRuntime, rest: &str, input: &[u8]) -> Result<String, Fault> {
-    let Some((room, turns, words)) = room_of(rest) else {
-        return unfit(rt.alloc());
-    };
+    let (room, turns, words) = room_of(rest)?;
     let words = named(rt.alloc(), words)?;
     let mut narrow = Narrow::new(rt.alloc(), room);
     let mut writer = Counted::with_turns(&mut narrow, turns);
@@ -78,5 +74,5 @@ fn counted_end(alloc: Global, status: u8, failed: u64, turns: u64) -> Result<Str
 /// `turns`: the usual bound of turns.
 pub fn usual_turns(alloc: Global) -> Result<String, Fault> {
     let turns = Counted::new(0u8).turns();
-    told(alloc, format_args!("{turns}"))
+    Ok(format!(in alloc; "{turns}")?)
 }

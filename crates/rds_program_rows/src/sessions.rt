@@ -1,78 +1,92 @@
 //! What sessions leave of the replica in a file.
 ghost use Rattle.rds_session.specs.Received.{HasChecked};
 
-use crate::told::{told, unfit};
 use rds_dots::ListSet;
-use rds_files::{Settled, keep_file, settle};
+use rds_files::{ReplicaFile, Settled, settle};
 use rds_keep::{Counted, Kept};
 use rds_names::Fault;
+use rds_rows::words::{bytes_of, cut};
 use rds_session::{Side, exchange};
 use rds_state::State;
 use std::alloc::Global;
 
-/// A session in a row, `SIDE FILE HEX`: of the replica that a file holds, with a peer that tells these bytes.
+/// The file whose replica has the sessions.
+pub const FILE: &str = "f";
+
+/// A session in a row, `SIDE HEX`: with a peer that tells these bytes.
 #[derive(Drop)]
-pub struct Meeting<'a> {
+pub struct Meeting {
     /// Which end of the stream the replica is.
     pub side: Side,
-    /// The file.
-    pub file: &'a str,
     /// What the peer tells.
     pub heard: Vec<u8>,
 }
 
 /// The session that a row says.
-pub fn meeting_of(alloc: Global, row: &str) -> Option<Meeting<'_>> {
-    let (side, row) = row.split_once(' ')?;
-    let (file, digits) = row.split_once(' ')?;
-    let heard = hex::decode(alloc, digits).ok()?;
-    let side = if side == "client" {
-        Side::Client
-    } else {
-        Side::Server
-    };
-    Some(Meeting { side, file, heard })
+pub fn meeting_of(alloc: Global, row: &str) -> Result<Meeting, Fault> {
+    let (side, digits) = cut(row)?;
+    let side = side_of(side)?;
+    let heard = bytes_of(alloc, digits)?;
+    Ok(Meeting { side, heard })
 }
 
-/// `keep FILE`: keeps a replica in a file.
-pub fn keep(rt: &HostRuntime, file: &str, kept: &Kept<ListSet>) -> Result<String, Fault> {
-    let kept = keep_file(rt, kept.view_of(), file)?;
-    told_components(rt.alloc(), &kept)
+fn side_of(word: &str) -> Result<Side, Fault> {
+    match word {
+        "client" => Ok(Side::Client),
+        "server" => Ok(Side::Server),
+        _ => Err(Fault::Usage),
+    }
 }
 
-/// How many components a replica has.
-pub fn told_components(alloc: Global, kept: &Kept<ListSet>) -> Result<String, Fault> {
-    let components = kept.view_of().state().components();
-    told(alloc, format_args!("{components} components"))
+/// `read`: reads the replica in the file.
+pub fn read(rt: &HostRuntime) -> Result<ReplicaFile<'static, ListSet>, Fault> {
+    ReplicaFile::open(rt, FILE)
 }
 
-/// `settle_nothing FILE`: settles in a file a session that received nothing, and answers what came of it and how many
+/// `keep NAME`: keeps the replica in another file.
+pub fn keep(
+    rt: &HostRuntime,
+    name: &str,
+    file: &ReplicaFile<'_, ListSet>,
+) -> Result<String, Fault> {
+    let made = ReplicaFile::create(rt, name, file.kept().view_of())?;
+    told_components(rt.alloc(), &made)
+}
+
+/// How many components the replica in a file has.
+pub fn told_components(alloc: Global, file: &ReplicaFile<'_, ListSet>) -> Result<String, Fault> {
+    let components = components_of(file);
+    Ok(format!(in alloc; "{components} components")?)
+}
+
+fn components_of(file: &ReplicaFile<'_, ListSet>) -> u128 {
+    file.kept().view_of().state().components()
+}
+
+/// `settle_nothing`: settles in the file a session that received nothing, and answers what came of it and how many
 /// components the replica has then.
 pub fn settle_nothing(
     rt: &HostRuntime,
-    file: &str,
-    kept: &mut Kept<ListSet>,
+    file: &mut ReplicaFile<'_, ListSet>,
 ) -> Result<String, Fault> {
-    let settled = settle(rt, file, kept, None);
-    told_settled(rt.alloc(), settled, kept)
+    let settled = settle(rt, file, None);
+    told_settled(rt.alloc(), settled, file)
 }
 
-/// `settle SIDE FILE HEX`: has a session of the replica that was read, and settles in the file what it received.
+/// `settle SIDE HEX`: has a session of the replica that was read, and settles in its file what it received.
 pub fn settle_received(
     rt: &HostRuntime,
     row: &str,
-    kept: &mut Kept<ListSet>,
+    file: &mut ReplicaFile<'_, ListSet>,
 ) -> Result<String, Fault> {
-    let Some(meeting) = meeting_of(rt.alloc(), row) else {
-        return unfit(rt.alloc());
-    };
-    let received = received(rt.alloc(), &meeting, kept);
-    let settled = settle(rt, meeting.file, kept, received);
-    told_settled(rt.alloc(), settled, kept)
+    let meeting = meeting_of(rt.alloc(), row)?;
+    let received = received(rt.alloc(), &meeting, file.kept());
+    let settled = settle(rt, file, received);
+    told_settled(rt.alloc(), settled, file)
 }
 
 // What a session receives.
-fn received(alloc: Global, meeting: &Meeting<'_>, kept: &Kept<ListSet>) -> Option<State<ListSet>>
+fn received(alloc: Global, meeting: &Meeting, kept: &Kept<ListSet>) -> Option<State<ListSet>>
     ensures { HasChecked kept.now result }
 {
     let mut sent = Vec::new(alloc);
@@ -82,7 +96,11 @@ fn received(alloc: Global, meeting: &Meeting<'_>, kept: &Kept<ListSet>) -> Optio
     exchanged.received
 }
 
-fn told_settled(alloc: Global, settled: Settled, kept: &Kept<ListSet>) -> Result<String, Fault> {
-    let components = kept.view_of().state().components();
-    told(alloc, format_args!("{settled:?}, {components} components"))
+fn told_settled(
+    alloc: Global,
+    settled: Settled,
+    file: &ReplicaFile<'_, ListSet>,
+) -> Result<String, Fault> {
+    let components = components_of(file);
+    Ok(format!(in alloc; "{settled:?}, {components} components")?)
 }

@@ -1,9 +1,9 @@
 //! Lines of `sim`, one row each.
 use crate::input::Input;
-use crate::told::told;
 use rds_commands::run;
 use rds_keep::Counted;
 use rds_names::Fault;
+use rds_rows::told::said;
 use std::alloc::Global;
 
 /// A run of `sim` that goes on line by line.
@@ -37,7 +37,7 @@ impl Simulated {
         let status = run_sim(rt, self.lines.as_slice(), &mut written);
         let answer = match written.as_slice().strip_prefix(self.answers.as_slice()) {
             Some(line) => told_line(rt.alloc(), status, line)?,
-            None => return told(rt.alloc(), "other than before"),
+            None => return said(rt.alloc(), "other than before"),
         };
         self.answers = written;
         Ok(answer)
@@ -57,8 +57,8 @@ fn run_sim(rt: &HostRuntime, input: &[u8], written: &mut Vec<u8>) -> u8 {
 // A status, and a line without its newline.
 fn told_line(alloc: Global, status: u8, line: &[u8]) -> Result<String, Fault> {
     match line_in(line) {
-        Some(line) => told(alloc, format_args!("{status} {line}")),
-        None => told(alloc, "no line"),
+        Some(line) => Ok(format!(in alloc; "{status} {line}")?),
+        None => said(alloc, "no line"),
     }
 }
 

@@ -4,14 +4,14 @@ use crate::input::Input;
 use crate::lengths::answer_lengths;
 use crate::peers::{meet_peer, run_away, run_busy};
 use crate::runs::{run_barred, run_reading, run_renamed, run_spaced, run_writing, usual_turns};
-use crate::sessions::{keep, settle_nothing, settle_received, told_components};
+use crate::sessions::{keep, read, settle_nothing, settle_received, told_components};
 use crate::simulated::Simulated;
-use crate::told::unfit;
 use rds_dots::ListSet;
-use rds_files::read_file;
-use rds_keep::Kept;
+use rds_files::ReplicaFile;
+use rds_lines::join_is_known;
 use rds_names::Fault;
 use rds_rows::Table;
+use rds_rows::told::said;
 use std::alloc::Global;
 
 /// What rows have made so far.
@@ -20,7 +20,7 @@ pub struct Transcript<'a> {
     rt: &'a HostRuntime,
     input: Input,
     simulated: Simulated,
-    kept: Option<Kept<ListSet>>,
+    file: Option<ReplicaFile<'static, ListSet>>,
 }
 
 impl<'a> Transcript<'a> {
@@ -30,7 +30,7 @@ impl<'a> Transcript<'a> {
             rt,
             input: Input::new(rt.alloc()),
             simulated: Simulated::new(rt.alloc()),
-            kept: None,
+            file: None,
         }
     }
 
@@ -71,23 +71,23 @@ impl<'a> Transcript<'a> {
         }
     }
 
-    // Rows about the replica that the last row `read` has read.
-    fn answer_kept(&mut self, alloc: Global, name: &str, rest: &str) -> Result<String, Fault> {
-        let Some(kept) = &mut self.kept else {
-            return unfit(alloc);
+    // Rows about the file that the last row `read` has read.
+    fn answer_read(&mut self, alloc: Global, name: &str, rest: &str) -> Result<String, Fault> {
+        let Some(file) = &mut self.file else {
+            return Err(Fault::Usage);
         };
         match name {
-            "keep" => keep(self.rt, rest, kept),
-            "settle" => settle_received(self.rt, rest, kept),
-            _ => settle_nothing(self.rt, rest, kept),
+            "keep" => keep(self.rt, rest, file),
+            "settle" => settle_received(self.rt, rest, file),
+            _ => settle_nothing(self.rt, file),
         }
     }
 
-    // `read FILE`: reads the replica in a file, and answers how many components it has.
-    fn read(&mut self, alloc: Global, file: &str) -> Result<String, Fault> {
-        let kept = read_file(self.rt, file)?;
-        let answer = told_components(alloc, &kept)?;
-        self.kept = Some(kept);
+    // `read`: reads the replica in the file, and answers how many components it has.
+    fn read(&mut self, alloc: Global) -> Result<String, Fault> {
+        let file = read(self.rt)?;
+        let answer = told_components(alloc, &file)?;
+        self.file = Some(file);
         Ok(answer)
     }
 }
@@ -100,12 +100,19 @@ impl Table for Transcript<'_> {
             "group" => self.simulated.begin(self.rt, rest),
             "sim" => self.simulated.go_on(self.rt, rest),
             "turns" => usual_turns(alloc),
+            "laws" => laws(alloc),
             "lengths" => answer_lengths(alloc, rest, self.input.as_slice()),
             "put" | "hold" | "folder" | "remove" | "remove_folder" => self.answer_file(name, rest),
-            "read" => self.read(alloc, rest),
-            "keep" | "settle" | "settle_nothing" => self.answer_kept(alloc, name, rest),
+            "read" => self.read(alloc),
+            "keep" | "settle" | "settle_nothing" => self.answer_read(alloc, name, rest),
             "meet" => meet_peer(self.rt, rest),
-            _ => unfit(alloc),
+            _ => Err(Fault::Usage),
         }
     }
+}
+
+// `laws`: the function whose contract is the law of joins is called.
+fn laws(alloc: Global) -> Result<String, Fault> {
+    join_is_known();
+    said(alloc, "called")
 }

@@ -2,6 +2,9 @@
 //! are to be answered.
 #![tactic(auto)]
 
+pub mod told;
+pub mod words;
+
 use rds_names::Fault;
 use std::alloc::Global;
 use std::io;
@@ -28,13 +31,12 @@ pub fn write_answers<T: Table>(rt: &HostRuntime, table: &mut T) -> io::Result<()
 }
 
 fn write_answer<T: Table>(rt: &HostRuntime, table: &mut T, row: &str) -> io::Result<()> {
-    let (name, rest) = row.split_once(' ').unwrap_or((row, ""));
+    let (name, rest) = words::first(row);
     match table.answer(rt.alloc(), name, rest) {
         Ok(answer) => println!(rt; "  {answer}"),
         Err(fault) => {
-            let number = fault.number();
-            let name = fault.name();
-            println!(rt; "  fault {number}: {name}")
+            let fault = told::fault_text(rt.alloc(), fault)?;
+            println!(rt; "  {fault}")
         }
     }
 }

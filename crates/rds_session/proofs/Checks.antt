@@ -34,7 +34,7 @@ use Rattle.rds_delta.specs.declared.row.Row.TheVariants.{Live, Dead, Count}
 use Rattle.rds_delta.proofs.LeastLaws.{least_above}
 use Rattle.rds_delta.proofs.Grouping.{certificate_is, grouped_certificate}
 use Rattle.rds_codec.specs.AnswerTexts.{answer}
-use Rattle.rds_session.specs.Checked.{is_later, is_greater, is_all_above, same_dot, same_run, same_which, same_row, certificate_of, least_state, passes}
+use Rattle.rds_session.specs.Checked.{is_later, is_greater, is_all_above, same_dot, same_run, same_which, same_row, certificate_of, least_state, passes, IsLeastDelta, IsOwnCertificate, PassesExactly}
 use Rattle.rds_session.specs.Judging.{same_names}
 
 -- ---- equal rows
@@ -148,6 +148,9 @@ certificate_decides g v rows = Decides-like (pointwise same_row rows (certificat
     (λ e. subst (IsCertificate (ranks_in g) v) (sym e) (grouped_certificate (ranks_in g) v)) (λ is. certificate_is (ranks_in g) v rows is)
     (slice_eq-Decides rows_decide rows (certificate_of g v) (pointwise same_row rows (certificate_of g v)) refl)
 
+pub passes_exactly : PassesExactly
+passes_exactly v g rows = Decides-and _ _ (above_decides g v) (certificate_decides g v rows)
+
 -- an exact check is the test
 pub passes_are : (g : DigestValue) (v : StateValue) (rows : List Row) (holds : Bool) → (holds ≡ true) ↔ (IsAbove (coordinates v) (ranks_in g) × IsCertificate (ranks_in g) v rows) → holds ≡ passes g v rows
 passes_are g v rows holds exact = same_from_decides holds (passes g v rows) exact (Decides-and _ _ (above_decides g v) (certificate_decides g v rows))
@@ -172,11 +175,14 @@ kept_numbers g v q =
     by_test true x = refl
     by_test false x = refl
 
-pub least_coordinates : (v : StateValue) (g : DigestValue) → coordinates (least_state v g) ≡ least (coordinates v) (ranks_in g)
+pub least_coordinates : IsLeastDelta
 least_coordinates v g =
     let lives = λ (d : Dot). kept_lives g v d in
     let numbers = λ (q : Place). kept_numbers g v q in
     λ i. record { life = λ d. lives d i; number = λ q. numbers q i }
+
+pub own_certificate : IsOwnCertificate
+own_certificate v g = grouped_certificate (ranks_in g) v
 
 -- a delta that is the least is the value of the definition
 pub least_is : (v : StateValue) (g : DigestValue) (w : StateValue) → coordinates w ≡ least (coordinates v) (ranks_in g) → w ≡ least_state v g

@@ -259,7 +259,7 @@ cut_keeps_by Going s = refl
 cut_keeps_by Done s = refl
 cut_keeps_by (Failed f) s = refl
 
-cut_keeps : (s : Standing) → (cut_off s).0.received ≡ s.received
+pub cut_keeps : (s : Standing) → (cut_off s).0.received ≡ s.received
 cut_keeps s = cut_keeps_by s.ended s
 
 by_input : (o : Standing) (i : Option (List ℕ)) (received : Option StateValue) → IsOrderly o → ReceivedOnTheWay o (piece_of i) received → (received ≡ None) ⊎ (received ≡ (taken i o).0.received)
@@ -297,6 +297,10 @@ continues side kept h i old new sent steps is =
           inr (record {
             ended = out.1;
             received = elim (by_input o i new.received orderly-now out.2) [ inl none ↦ inl none | inr same ↦ inr (same ∙ end-course) ];
+            stays = elim ((run_follows out.2.0 o).received orderly-now) [
+              | inl none ↦ inl (ap (λ (s : Standing). s.received) (sym is) ∙ sym keeps.0 ∙ none)
+              | inr same ↦ inr (out.2.3 ∙ same ∙ keeps.0 ∙ ap (λ (s : Standing). s.received) is)
+            ];
             last_word = out.3;
           })
     ]

@@ -19,7 +19,7 @@ use Rattle.rds_session.specs.Judging.{Said, accepted, replies_of}
 use Rattle.rds_session.specs.Sending.{sending}
 use Rattle.rds_session.specs.Steps.{IsOver}
 use Rattle.rds_session.specs.Session.{Standing, Sent, fresh, failed, then_more, when_going, refuses, after_sending, performed, answered, message_comes, scanned, run, opened, opening, course}
-use Rattle.rds_session.specs.ByMessages.{judged, talk, IsByMessages, IsQuiet}
+use Rattle.rds_session.specs.ByMessages.{content_of, judged, talk, IsByMessages, IsQuiet}
 use Rattle.rds_session.proofs.Messages.{scan_message, scan_message_long, scan_chunks}
 use Rattle.rds_session.proofs.Scans.{at, at-place, scan_run}
 use Rattle.rds_session.proofs.Runs.{run_over, run-scan, with_under}
@@ -96,7 +96,7 @@ by_messages side kept x ms rest r =
     ap (λ (q : Sent). (q.0, o.1 ++ q.1)) e ∙ ap (λ (t : List ℕ). ((run rest (talk ms o.0).0).0, t)) (sym (append_assoc o.1 (talk ms o.0).1 (run rest (talk ms o.0).0).1))
 
 -- less than a message is not answered
-front_more : (front held : List ℕ) → IsChunkFront front → length held + length front ≤ MESSAGE_LIMIT → (u : Under) × (scan front (at-place First held) ≡ More u)
+front_more : (front held : List ℕ) → IsChunkFront front → length held + (length front - 2) ≤ MESSAGE_LIMIT → (u : Under) × (scan front (at-place First held) ≡ More u)
 unfolding scan
 front_more [] held h room = (at-place First held, refl)
 front_more (high ∷ []) held h room = (record { place = Second high; held = held }, refl)
@@ -107,21 +107,12 @@ front_more (high ∷ low ∷ c) held h room =
     let w : at n held ≡ at-place (Within n) held = rw some refl in
     (at (n - length c) (held ++ c), rw some (ap (scan c) (sym w) ∙ ap (λ (t : List ℕ). scan t (at n held)) (sym (append-nil c)) ∙ run-all))
 
-chunk_less : (cs : List (List ℕ)) → length (joined cs) ≤ length (flat_map chunk_text cs)
-chunk_less [] = omega arith
-chunk_less (c ∷ cs) =
-    let one : length (flat_map chunk_text (c ∷ cs)) ≡ length (chunk_text c ++ flat_map chunk_text cs) = ap length (flat_map-cons chunk_text c cs) in
-    omega (arith, one, chunk_less cs, length-append c (joined cs), length-append (chunk_text c) (flat_map chunk_text cs))
-
-part_more : (rest : List ℕ) → IsPart rest → length rest ≤ MESSAGE_LIMIT → (u : Under) × (scan rest start ≡ More u)
+part_more : (rest : List ℕ) (p : IsPart rest) → content_of p ≤ MESSAGE_LIMIT → (u : Under) × (scan rest start ≡ More u)
 part_more rest p room =
-    let len = ap length p.split in
-    let sum = length-append (flat_map chunk_text p.chunks) p.front in
-    let less = chunk_less p.chunks in
-    let f = front_more p.front (joined p.chunks) p.is_front (omega (arith, len, sum, less)) in
-    (f.0, ap (λ (t : List ℕ). scan t start) p.split ∙ scan_chunks p.chunks p.front [] p.are_chunks (omega (arith, len, sum, less)) ∙ f.1)
+    let f = front_more p.front (joined p.chunks) p.is_front room in
+    (f.0, ap (λ (t : List ℕ). scan t start) p.split ∙ scan_chunks p.chunks p.front [] p.are_chunks (omega (arith, room)) ∙ f.1)
 
-quiet_by : (e : Ended) (s : Standing) (rest : List ℕ) → s.ended ≡ e → s.under ≡ start → IsPart rest → length rest ≤ MESSAGE_LIMIT → ((run rest s).1 ≡ []) × ((run rest s).0.ended ≡ s.ended)
+quiet_by : (e : Ended) (s : Standing) (rest : List ℕ) → s.ended ≡ e → s.under ≡ start → (p : IsPart rest) → content_of p ≤ MESSAGE_LIMIT → ((run rest s).1 ≡ []) × ((run rest s).0.ended ≡ s.ended)
 quiet_by Going s rest is at p room =
     let f = part_more rest p room in
     let r : run rest s ≡ (with_under s f.0, []) = run-scan rest s is ∙ ap (λ (u : Under). scanned s (scan rest u) run) at ∙ ap (λ (x : Scan). scanned s x run) f.1 in

@@ -14,6 +14,7 @@ use Rattle.rds_session.specs.Session.{Standing, Sent, Heard, Nothing, So_far, Al
 use Rattle.rds_session.specs.Steps.{HasStanding, IsOver, Continues}
 use Rattle.rds_session.proofs.Course.{over_all, received_stays, all_over}
 use Rattle.rds_session.specs.Exchange.{HasCourse, Says, IsHeard, Exchanges, Talks, TalksOn}
+use Rattle.rds_session.specs.Leaving.{HasHeard}
 
 pub appends_then : (a b c : Option (List ℕ)) (x y z : List ℕ) → Appends a b x → Appends b c y → z ≡ x ++ y → Appends a c z
 appends_then None b c x y z p q e = tt
@@ -44,6 +45,25 @@ says_by old new i sent before after steps written side kept heard first is so_fa
       | inl done ↦ inl (done.standing, appends_then first before after (course side kept heard).1 sent (course side kept (heard_more heard i)).1 so_far written done.beyond)
       | inr out ↦ inr (record { memory = out.ended; at_most = out.received })
     ]
+
+-- after a step a session has heard something, whatever became of what it sends
+pub heard_by : (side : Side) (kept : ReplicaValue) (heard : Heard) (i : Option (List ℕ)) (new : Standing) (sent : List ℕ) → Continues side kept heard i new sent → HasHeard side kept new
+heard_by side kept heard i new sent (inl on) = (_, inl on.standing)
+heard_by side kept heard i new sent (inr out) = (_, inr (record { memory = out.ended; at_most = out.received }))
+
+-- a session that goes on hasn't run out of memory
+pub heard_more_by : (side : Side) (kept : ReplicaValue) (old new : Standing) → old.ended ≡ Going → ((heard : Heard) → HasStanding side kept heard old → HasHeard side kept new) → HasHeard side kept old → HasHeard side kept new
+heard_more_by side kept old new going step has = elim has.1 [
+  | inl is ↦ step has.0 is
+  | inr out ↦ absurd (let bad : Going ≡ Failed Memory = sym going ∙ out.memory in cc)
+]
+
+-- a talk's session has heard something
+pub heard_in_talk : (side : Side) (kept : ReplicaValue) (first now : Option (List ℕ)) (s : Standing) (before after : Option (List ℕ)) → Talks side kept first now s before after → HasHeard side kept s
+heard_in_talk side kept first now s before after talks = elim talks.2 [
+  | inl done ↦ (talks.0, inl done.0)
+  | inr out ↦ (talks.0, inr out)
+]
 
 -- a step's bytes, or the end, came from the reader
 abbrev pub Came : Option (List ℕ) → Option (List ℕ) → Option (List ℕ) → Type 0

@@ -1,11 +1,11 @@
 -- A session's course, message by message.
-use Rattle.std.specs.Prelude.{◌≡◌, ℕ, ◌≤◌, nat_lt, List, [], ◌∷◌, length, if◌then◌else◌}
+use Rattle.std.specs.Prelude.{◌≡◌, ℕ, ◌+◌, ◌-◌, ◌≤◌, nat_lt, List, [], ◌∷◌, length, if◌then◌else◌}
 use Rattle.rds_names.specs.declared.fault.Fault.TheVariants.{TooLong}
 use Rattle.rds_state.specs.Fits.{ReplicaValue}
 use Rattle.rds_session.specs.declared.chunks.TheConstants.{MESSAGE_LIMIT}
 use Rattle.rds_session.specs.declared.talk.Side.{Side}
 use Rattle.rds_session.specs.Chunks.{start}
-use Rattle.rds_session.specs.Stream.{Splits, IsPart}
+use Rattle.rds_session.specs.Stream.{Splits, IsPart, joined}
 use Rattle.rds_session.specs.Session.{Standing, Sent, fresh, then_more, when_going, refuses, message_comes, run, opened, So_far, course}
 
 -- a message comes: one over the limit is refused
@@ -22,6 +22,10 @@ abbrev pub IsByMessages : Type 0
 IsByMessages = (side : Side) (kept : ReplicaValue) (x : List ℕ) (ms : List (List ℕ)) (rest : List ℕ) → Splits x ms rest
     → course side kept (So_far x) ≡ then_more (then_more (opened (fresh side kept)) (talk ms)) (run rest)
 
--- less than a message within the limit is answered by nothing, and ends nothing
+-- how much of a message's content has come: what its chunks hold, without the two bytes that each begins with
+abbrev pub content_of : {rest : List ℕ} → IsPart rest → ℕ
+content_of p = length (joined p.chunks) + (length p.front - 2)
+
+-- less than a message is answered by nothing, and ends nothing, as long as its content is within the limit
 abbrev pub IsQuiet : Type 0
-IsQuiet = (s : Standing) (rest : List ℕ) → s.under ≡ start → IsPart rest → length rest ≤ MESSAGE_LIMIT → ((run rest s).1 ≡ []) × ((run rest s).0.ended ≡ s.ended)
+IsQuiet = (s : Standing) (rest : List ℕ) → s.under ≡ start → (p : IsPart rest) → content_of p ≤ MESSAGE_LIMIT → ((run rest s).1 ≡ []) × ((run rest s).0.ended ≡ s.ended)

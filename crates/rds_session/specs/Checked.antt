@@ -1,5 +1,5 @@
 -- Whether a delta is needed, component by component, and its certificate says so.
-use Rattle.std.specs.Prelude.{Bool, true, false, ◌&&◌, ◌==◌, nat_lt, List}
+use Rattle.std.specs.Prelude.{◌≡◌, ◌↔◌, IsTrue, Bool, true, false, ◌&&◌, ◌==◌, nat_lt, List}
 use Rattle.std.specs.Cmp.Lexicographic.{pointwise}
 use Rattle.std.specs.FinMap as map
 use Rattle.std.specs.List.{list_all}
@@ -10,10 +10,11 @@ use Rattle.rds_counts.specs.Counted.{number}
 use Rattle.rds_counts.specs.Place.{Place}
 use Rattle.rds_counts.specs.declared.row.Which.{Which}
 use Rattle.rds_counts.specs.declared.row.Which.TheVariants.{P, N}
-use Rattle.rds_state.specs.Value.{StateValue}
-use Rattle.rds_delta.specs.Claims.{claims}
+use Rattle.rds_state.specs.Value.{StateValue, coordinates}
+use Rattle.rds_delta.specs.Claims.{IsCertificate, claims}
 use Rattle.rds_delta.specs.Digested.{DigestValue, rank_in, ranks_in}
 use Rattle.rds_delta.specs.Grouped.{grouped}
+use Rattle.rds_delta.specs.Least.{IsAbove, least}
 use Rattle.rds_delta.specs.Ranks.{life_rank}
 use Rattle.rds_delta.specs.declared.row.Row.{Row}
 use Rattle.rds_delta.specs.declared.row.Row.TheVariants.{Live, Dead, Count}
@@ -58,3 +59,15 @@ same_row _ _ = false
 -- the delta is above the digest, and the rows are its certificate
 abbrev pub passes : DigestValue → StateValue → List Row → Bool
 passes g v rows = is_all_above g v && pointwise same_row rows (certificate_of g v)
+
+-- the value of the least delta is the least delta
+abbrev pub IsLeastDelta : Type 0
+IsLeastDelta = (v : StateValue) (g : DigestValue) → coordinates (least_state v g) ≡ least (coordinates v) (ranks_in g)
+
+-- the one certificate is the delta's
+abbrev pub IsOwnCertificate : Type 0
+IsOwnCertificate = (v : StateValue) (g : DigestValue) → IsCertificate (ranks_in g) v (certificate_of g v)
+
+-- what passes is above the digest, and has the delta's certificate; and nothing else passes
+abbrev pub PassesExactly : Type 0
+PassesExactly = (v : StateValue) (g : DigestValue) (rows : List Row) → IsTrue (passes g v rows) ↔ (IsAbove (coordinates v) (ranks_in g) × IsCertificate (ranks_in g) v rows)

@@ -5,6 +5,7 @@ pub mod Chunks
 pub mod Code
 pub mod Exchange
 pub mod Judging
+pub mod Leaving
 pub mod Meeting
 pub mod Messages
 pub mod Received

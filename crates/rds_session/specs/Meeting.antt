@@ -7,10 +7,11 @@ use Rattle.rds_delta.specs.Least.{least}
 use Rattle.rds_delta.specs.Ranks.{ranks}
 use Rattle.rds_codec.specs.Values.{IsSnapshot}
 use Rattle.rds_session.specs.declared.chunks.TheConstants.{MESSAGE_LIMIT}
+use Rattle.rds_session.specs.declared.talk.Side.{Side}
 use Rattle.rds_session.specs.declared.talk.Side.TheVariants.{Client, Server}
 use Rattle.rds_session.specs.declared.step.Ended.TheVariants.{Done}
 use Rattle.rds_session.specs.Messages.{hello_message, digest_message, delta_message}
-use Rattle.rds_session.specs.Session.{So_far, course}
+use Rattle.rds_session.specs.Session.{So_far, All_of, course}
 
 abbrev pub IsBeginningOf : List ℕ → List ℕ → Type 0
 IsBeginningOf x y = (rest : List ℕ) × (y ≡ x ++ rest)
@@ -64,3 +65,7 @@ pub record AreDone (a b : ReplicaValue) (x y : List ℕ) : Type 0 where
 
 abbrev pub BothEnd : Type 0
 BothEnd = (a b : ReplicaValue) (x y : List ℕ) → CanMeet a b → HearAll a b x y → AreDone a b x y
+
+-- the end of a stream takes nothing from what was received
+abbrev pub KeepsAtEnd : Type 0
+KeepsAtEnd = (side : Side) (kept : ReplicaValue) (x : List ℕ) → (course side kept (All_of x)).0.received ≡ (course side kept (So_far x)).0.received

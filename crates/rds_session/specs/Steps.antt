@@ -43,14 +43,19 @@ pub record GoesOn (side : Side) (kept : ReplicaValue) (heard : Heard) (input : O
   pub standing : HasStanding side kept (heard_more heard input) new
   pub beyond : (course side kept (heard_more heard input)).1 ≡ (course side kept heard).1 ++ sent
 
+-- what had been received for the stream so far stays
+abbrev pub StaysReceived : Side → ReplicaValue → Heard → Option StateValue → Type 0
+StaysReceived side kept heard received = ((course side kept heard).0.received ≡ None) ⊎ (received ≡ (course side kept heard).0.received)
+
 -- memory ran out in the step
-pub record RanOut (side : Side) (kept : ReplicaValue) (heard : Heard) (new : Standing) (sent : List ℕ) : Type 0 where
+pub record RanOut (side : Side) (kept : ReplicaValue) (heard : Heard) (input : Option (List ℕ)) (new : Standing) (sent : List ℕ) : Type 0 where
   pub ended : new.ended ≡ Failed Memory
-  pub received : ReceivedAtMost side kept heard new.received
+  pub received : ReceivedAtMost side kept (heard_more heard input) new.received
+  pub stays : StaysReceived side kept heard new.received
   pub last_word : IsLastWord sent
 
 abbrev pub Continues : Side → ReplicaValue → Heard → Option (List ℕ) → Standing → List ℕ → Type 0
-Continues side kept heard input new sent = GoesOn side kept heard input new sent ⊎ RanOut side kept (heard_more heard input) new sent
+Continues side kept heard input new sent = GoesOn side kept heard input new sent ⊎ RanOut side kept heard input new sent
 
 -- the session has ended
 abbrev pub IsOver : Ended → Type 0

@@ -5,8 +5,9 @@ ghost use Rattle.rds_names.specs.declared.fault.Fault.TheVariants.{Device};
 ghost use Rattle.rds_session.specs.declared.step.Ended.TheVariants.{Going, Failed};
 ghost use Rattle.rds_session.specs.declared.talk.Side.{Side};
 ghost use Rattle.rds_session.specs.Exchange.{Exchanges, Says, Talks, TalksOn};
-ghost use Rattle.rds_session.specs.Received.{HasChecked};
-ghost use Rattle.rds_session.specs.Session.{Nothing};
+ghost use Rattle.rds_session.specs.Received.{HasChecked, IsDoneBy};
+ghost use Rattle.rds_session.specs.Leaving.{HasHeard, IsOfSession};
+ghost use Rattle.rds_session.specs.Session.{Heard, Nothing};
 ghost use Rattle.rds_session.specs.Steps.{came, HasStanding, IsNoDevice, IsOver};
 ghost use Rattle.rds_state.specs.Fits.{ReplicaValue};
 
@@ -42,6 +43,7 @@ fn say<S: DotSet, W: Write>(
     ensures ended { IfOk result (λ e. e ≡ session.new.ended) }
     ensures known { OnOk result (IsNoDevice session.old.ended → IsNoDevice session.new.ended) }
     ensures kept { session.new.kept ≡ session.old.kept }
+    ensures heard { (side : Side) (kept : ReplicaValue) (heard : Heard) → HasStanding side kept heard session.old → HasHeard side kept session.new }
     ensures says { OnOk result (Says session.old (came input.entry) session.new (W.contents writer.old.inner) (W.contents writer.new.inner)) }
     ensures fault { IfErr result (λ e. (e ≡ Device) × HasFailed writer.old writer.new) }
     ensures steady { OnOk result (writer.new.failed ≡ writer.old.failed) }
@@ -64,10 +66,12 @@ fn turn<S: DotSet, R: Read, W: Write>(
     ensures ended { IfOk result (λ e. e ≡ session.new.ended) }
     ensures known { OnOk result (IsNoDevice session.old.ended → IsNoDevice session.new.ended) }
     ensures kept { session.new.kept ≡ session.old.kept }
+    ensures heard { (side : Side) (kept : ReplicaValue) → HasHeard side kept session.old → HasHeard side kept session.new }
     ensures talk { OnOk result (TalksOn (R.remaining reader.old.inner) (R.remaining reader.new.inner) session.old session.new (W.contents writer.old.inner) (W.contents writer.new.inner)) }
     ensures fault { IfErr result (λ e. (e ≡ Device) × (HasFailed reader.old reader.new ⊎ HasFailed writer.old writer.new)) }
     ensures steady_reader { OnOk result (reader.new.failed ≡ reader.old.failed) }
     ensures steady_writer { OnOk result (writer.new.failed ≡ writer.old.failed) }
+    ensures fewer { OnOk result (reader.new.left < reader.old.left) }
 {
     let count = reader.read(piece)?;
     if count == 0 {
@@ -75,16 +79,6 @@ fn turn<S: DotSet, R: Read, W: Write>(
     }
     let (front, _) = piece.split_at(count);
     say(alloc, session, Input::Bytes(front), writer)
-}
-
-fn is_over(ended: Ended) -> bool
-    ensures over { result ≡ true → IsOver ended }
-    ensures going { result ≡ false → ended ≡ Going }
-{
-    match ended {
-        Ended::Going => false,
-        Ended::Done | Ended::Failed(_) => true,
-    }
 }
 
 // Says and hears by turns until the end.
@@ -97,22 +91,22 @@ fn talk<S: DotSet, R: Read, W: Write>(
     ensures ended { IfOk result (λ e. (e ≡ session.new.ended) × IsOver e) }
     ensures known { OnOk result (IsNoDevice session.old.ended → IsNoDevice session.new.ended) }
     ensures kept { session.new.kept ≡ session.old.kept }
+    ensures heard { (side : Side) (kept : ReplicaValue) → HasStanding side kept Nothing session.old → HasHeard side kept session.new }
     ensures talk { OnOk result ((side : Side) (kept : ReplicaValue) → HasStanding side kept Nothing session.old
         → Talks side kept (R.remaining reader.old.inner) (R.remaining reader.new.inner) session.new (W.contents writer.old.inner) (W.contents writer.new.inner)) }
     ensures fault { IfErr result (λ e. (e ≡ Device) × (HasFailed reader.old reader.new ⊎ HasFailed writer.old writer.new)) }
+    ensures steady_reader { OnOk result (reader.new.failed ≡ reader.old.failed) }
+    ensures steady_writer { OnOk result (writer.new.failed ≡ writer.old.failed) }
 {
     let mut ended = say(alloc, session, Input::Bytes(&[]), writer)?;
     let mut piece = [0u8; PIECE];
-    'turns: for _ in 0..reader.turns() {
-        if is_over(ended) {
+    reader.begin_turns();
+    'turns: loop {
+        if ended.is_over() {
             return Ok(ended);
         }
         ended = turn(alloc, session, reader, writer, &mut piece)?;
     }
-    if is_over(ended) {
-        return Ok(ended);
-    }
-    Err(reader.fail())
 }
 
 /// One session to its end, over all that the reader gives: a step with no bytes, then by turns a read, a step with
@@ -128,6 +122,9 @@ pub fn exchange<S: DotSet, R: Read, W: Write>(
 ) -> Exchanged<S>
     ensures over { IsOver result.ended }
     ensures checked { HasChecked kept.now result.received }
+    ensures done { IsDoneBy result.ended result.received }
+    ensures session { IsOfSession side kept.now result.received result.ended }
+    ensures told { ((reader.new.failed ≡ reader.old.failed) × (writer.new.failed ≡ writer.old.failed)) ⊎ (result.ended ≡ Failed Device) }
     ensures device { result.ended ≡ Failed Device → HasFailed reader.old reader.new ⊎ HasFailed writer.old writer.new }
     ensures exchange { reader.new.failed ≡ 0 → writer.new.failed ≡ 0 → IfSome (R.remaining reader.old.inner) (λ input.
         Exchanges side kept.now input (W.contents writer.old.inner) (W.contents writer.new.inner) result.received result.ended) }

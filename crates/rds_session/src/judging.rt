@@ -5,13 +5,14 @@ ghost use Rattle.rds_codec.specs.Reading.{Gives};
 ghost use Rattle.rds_session.specs.Bodies.{hello_in, digest_in, answer_in};
 ghost use Rattle.rds_delta.specs.Digested.{digest_of};
 ghost use Rattle.rds_names.specs.declared.fault.Fault.TheVariants.{Memory};
-ghost use Rattle.rds_session.specs.Judging.{IsKnown, Judges, awaited, bye_came, hello_came, digest_came, delta_came, body_came, accepted, type_of, other_version, same_names};
+ghost use Rattle.rds_session.specs.Judging.{Awaited, IsKnown, Judges, awaited, bye_came, hello_came, digest_came, delta_came, body_came, accepted, type_of, other_version, same_names};
 ghost use Rattle.rds_session.specs.Checked.{passes};
-ghost use Rattle.rds_session.specs.Received.{BringsChecked};
+ghost use Rattle.rds_session.specs.Received.{Brings};
 ghost use Rattle.rds_codec.specs.AnswerTexts.{IsAnswerOf};
 ghost use Rattle.rds_delta.specs.Claims.{IsCertificate};
 ghost use Rattle.rds_delta.specs.Least.{IsAbove};
 ghost use Rattle.rds_delta.specs.Ranks.{ranks};
+ghost use Rattle.rds_state.specs.Fits.{ReplicaValue};
 ghost use Rattle.rds_state.specs.Value.{coordinates};
 ghost use Rattle.std.specs.Str.{bytes_eq};
 ghost use Rattle.rds_session.specs.Messages.{fault_of_code};
@@ -42,6 +43,7 @@ fn fault_of_code(code: u8) -> Fault
 fn judge_bye<S: DotSet>(turn: &Turn<S>, body: &[u8]) -> Result<Act<S>, Stop>
     ensures known { IfErr result IsKnown }
     ensures judges { Judges result (bye_came (awaited turn.now) body.now) }
+    ensures brings { (kept : ReplicaValue) → IfOk result (Brings kept (awaited turn.now)) }
 {
     match body {
         [] => Err(Stop::Refused(Fault::Cut)),
@@ -155,7 +157,7 @@ fn judge_delta<S: DotSet>(alloc: Global, kept: &Replica<S>, body: &[u8]) -> Resu
     requires { length body.now ≤ LIMIT }
     ensures known { IfErr result IsKnown }
     ensures judges { Judges result (delta_came kept.now body.now) }
-    ensures checked { IfOk result (BringsChecked kept.now) }
+    ensures brings { (turn : Awaited) → IfOk result (Brings kept.now turn) }
 {
     let answer = read_answer(alloc, kept.roster().len(), body)?;
     if answer.asker != kept.own() {
@@ -176,7 +178,7 @@ fn judge_body<S: DotSet>(
     requires { length body.now ≤ LIMIT }
     ensures known { IfErr result IsKnown }
     ensures judges { Judges result (body_came kept.now (awaited turn.now) body.now) }
-    ensures checked { IfOk result (BringsChecked kept.now) }
+    ensures brings { IfOk result (Brings kept.now (awaited turn.now)) }
 {
     match turn {
         Turn::Hello => judge_hello(alloc, kept, body),
@@ -208,7 +210,7 @@ pub fn accept<S: DotSet>(
     requires { length message.now ≤ LIMIT }
     ensures known { IfErr result IsKnown }
     ensures judges { Judges result (accepted kept.now (awaited turn.now) message.now) }
-    ensures checked { IfOk result (BringsChecked kept.now) }
+    ensures brings { IfOk result (Brings kept.now (awaited turn.now)) }
 {
     match message {
         [] => Err(Stop::Refused(Fault::Cut)),

@@ -1,6 +1,7 @@
 //! Laws of streams and sessions.
 ghost use Rattle.rds_session.specs.ByMessages.{IsByMessages, IsQuiet};
-ghost use Rattle.rds_session.specs.Meeting.{BothEnd, ReceiveDeltas};
+ghost use Rattle.rds_session.specs.Checked.{IsLeastDelta, IsOwnCertificate, PassesExactly};
+ghost use Rattle.rds_session.specs.Meeting.{BothEnd, KeepsAtEnd, ReceiveDeltas};
 ghost use Rattle.rds_session.specs.Stream.{AreSplit, AreSplitOnce};
 
 /// A stream of bytes is messages and a rest, less than a message, in exactly one way, however each message was cut
@@ -20,8 +21,18 @@ pub fn a_course_is_by_messages()
 
 /// Two sessions, each of which hears a beginning of what the other sent, wherever it was cut: each has received
 /// nothing, or exactly what the other has and it lacks. Where each hears all that the other sent, both have received
-/// that and both are done. The function does nothing: its contract is these laws.
+/// that and both are done. The end of a stream takes nothing from what was received. The function does nothing: its
+/// contract is these laws.
 pub fn two_sessions()
     ensures receive { ReceiveDeltas }
     ensures end { BothEnd }
+    ensures cut { KeepsAtEnd }
+{}
+
+/// What a session sends and judges as values is what the laws of deltas speak of: the least delta, its certificate, and
+/// what passes. The function does nothing: its contract is these laws.
+pub fn values_are_least()
+    ensures least { IsLeastDelta }
+    ensures certificate { IsOwnCertificate }
+    ensures passes { PassesExactly }
 {}

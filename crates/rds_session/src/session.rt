@@ -33,7 +33,7 @@ impl<'a, S: DotSet> Model for Session<'a, S> {
     ghost use Rattle.rds_session.specs.Chunks.{under_of};
     ghost use Rattle.rds_session.specs.Code.{coded_standing};
     ghost use Rattle.rds_session.specs.Judging.{awaited};
-    ghost use Rattle.rds_session.specs.Received.{HasChecked};
+    ghost use Rattle.rds_session.specs.Received.{IsSound};
     ghost use Rattle.rds_session.specs.Session.{Standing};
 
     ghost Value = { Standing };
@@ -50,7 +50,7 @@ impl<'a, S: DotSet> Model for Session<'a, S> {
       under = under_of s.under;
     } };
 
-    ghost invariant = { λ s. HasChecked s.kept.now s.received };
+    ghost invariant = { λ s. IsSound s.kept.now (awaited s.turn) s.ended s.received };
 }
 
 impl<'a, S: DotSet> Session<'a, S> {
@@ -59,7 +59,7 @@ impl<'a, S: DotSet> Session<'a, S> {
     ghost use Rattle.rds_session.specs.declared.talk.Side.{Side};
     ghost use Rattle.rds_session.specs.Chunks.{scan};
     ghost use Rattle.rds_session.specs.Judging.{IsKnown, said};
-    ghost use Rattle.rds_session.specs.Received.{BringsChecked, HasChecked};
+    ghost use Rattle.rds_session.specs.Received.{Brings, HasChecked, IsDoneBy};
     ghost use Rattle.rds_session.specs.declared.talk.Stop.TheVariants.{Refused};
     ghost use Rattle.rds_session.specs.Session.{failed, performed, refuses, answered, message_comes, opened, cut_off, Heard, Nothing};
     ghost use Rattle.rds_session.specs.Steps.{came, Continues, Does, HasScanned, HasStanding, IsLastWord, IsNoDevice, IsOver, Ran, Runs, Steps, Works};
@@ -85,6 +85,7 @@ impl<'a, S: DotSet> Session<'a, S> {
     pub fn received(&self) -> Option<&State<S>>
         ensures received { option_copied result ≡ self.now.received }
         ensures checked { HasChecked self.now.kept self.now.received }
+        ensures done { IsDoneBy self.now.ended self.now.received }
     {
         self.received.as_ref()
     }
@@ -93,6 +94,7 @@ impl<'a, S: DotSet> Session<'a, S> {
     pub fn into_received(mut self) -> Option<State<S>>
         ensures received { result ≡ self.entry.received }
         ensures checked { HasChecked self.entry.kept result }
+        ensures done { IsDoneBy self.entry.ended result }
     {
         self.received.take()
     }
@@ -275,7 +277,7 @@ impl<'a, S: DotSet> Session<'a, S> {
     // Answers an accepted message, and does what it says.
     #[tactic(auto, using(crate::proofs::Moves::all_sent, crate::proofs::Moves::some_sent))]
     fn answer(&mut self, alloc: Global, act: Act<S>, send: &mut Vec<u8>) -> Result<(), Fault>
-        requires { BringsChecked self.old.kept act }
+        requires { Brings self.old.kept self.old.turn act }
         ensures does { Does self.old send.old.items self.new send.new.items result (λ s. answered s (Ok (said act))) }
         ensures known { OnOk result (IsNoDevice self.old.ended → IsNoDevice self.new.ended) }
         ensures kept { self.new.kept ≡ self.old.kept }
@@ -299,7 +301,7 @@ impl<'a, S: DotSet> Session<'a, S> {
     }
 
     fn perform(&mut self, act: Act<S>)
-        requires { BringsChecked self.old.kept act }
+        requires { Brings self.old.kept self.old.turn act }
         ensures performed { self.new ≡ performed self.old (said act) }
         ensures known { IsNoDevice self.old.ended → IsNoDevice self.new.ended }
     {

@@ -12,6 +12,23 @@ pub enum Ended {
     Failed(Fault),
 }
 
+impl Ended {
+    ghost use Rattle.std.specs.Prelude.{◌≡◌, true, false};
+    ghost use Rattle.rds_session.specs.declared.step.Ended.TheVariants.{Going};
+    ghost use Rattle.rds_session.specs.Steps.{IsOver};
+
+    /// Whether it waits for nothing more.
+    pub fn is_over(self) -> bool
+        ensures over { result ≡ true → IsOver self }
+        ensures going { result ≡ false → self ≡ Going }
+    {
+        match self {
+            Ended::Going => false,
+            Ended::Done | Ended::Failed(_) => true,
+        }
+    }
+}
+
 /// What comes in a step.
 #[derive(Clone, Copy, Debug)]
 pub enum Input<'a> {

@@ -1,6 +1,8 @@
 -- Rows that are ahead are numbers that are.
-use Rattle.std.proofs.Common.{◌≡◌, ℕ, zero, suc, ◌+◌, Bool, true, false, ◌&&◌, ◌==◌, nat_lt, cond, List, [], ◌∷◌, ◌++◌, Option, Some, None, refl, sym, ◌∙◌, ap, arith}
+use Rattle.std.proofs.Common.{◌≡◌, ℕ, zero, suc, ◌+◌, Bool, true, false, ◌&&◌, ◌==◌, nat_lt, cond, List, [], ◌∷◌, ◌++◌, Option, Some, None, refl, sym, ◌∙◌, ap, subst, arith}
+use lib.Dec.{T}
 use Rattle.std.specs.Prelude.{is_some}
+use Rattle.std.proofs.Math.Path.{fun_ext}
 use Rattle.std.specs.FinMap as map
 use Rattle.std.specs.FinSet as set
 use Rattle.std.proofs.lemmas.Bool.Decides.{nat_tests}
@@ -10,15 +12,15 @@ use Rattle.rds_dots.specs.Dots.{Dots}
 use Rattle.rds_dots.specs.Lacking.{dot_of, IsLacking}
 use Rattle.rds_life.specs.Life.{Lived, seen_of}
 use Rattle.rds_life.proofs.Views.{contains-seen_of}
-use Rattle.rds_counts.specs.declared.row.Which.{Which}
 use Rattle.rds_counts.specs.declared.row.Which.TheVariants.{P, N}
 use Rattle.rds_counts.specs.declared.row.CountRow.{CountRow}
 use Rattle.rds_counts.specs.Place.{Place}
-use Rattle.rds_counts.specs.Counted.{Above, Counted, number, place, above, components, counted, AreCountRows}
+use Rattle.rds_counts.specs.Counted.{Above, Counted, number, number_from, place, above, components, counted, AreCountRows}
 use Rattle.rds_counts.specs.Entries.{entries-counted}
 use Rattle.rds_state.specs.Value.{StateValue}
-use Rattle.rds_state.specs.Ahead.{KnowsDots, Ahead, SeqAhead, own_number, first_ahead, number_ahead}
+use Rattle.rds_state.specs.Ahead.{KnowsDots, Ahead, SeqAhead, NumberAhead}
 use Rattle.rds_state.specs.RowsAhead.{rows_ahead}
+use Rattle.rds_state.proofs.FirstAbove.{own_number, first_ahead, listed, first_ahead_is}
 
 module _ (here : Place → ℕ) (own : ℕ) where
   never : (x : ℕ) (b : Bool) → (b && nat_lt x 0) ≡ false
@@ -41,24 +43,26 @@ module _ (here : Place → ℕ) (own : ℕ) where
       ∙ ap (cond ((r.replica == own) && nat_lt (here p) r.p) (Some (Plus r.p))) (ahead-above n r.n (components rs) ∙ ap (cond ((r.replica == own) && nat_lt (here n) r.n) (Some (Minus r.n))) (ahead-components rs))
       ∙ both (r.replica == own) (nat_lt (here p) r.p) (nat_lt (here n) r.n) (Some (Plus r.p)) (Some (Minus r.n)) (rows_ahead here own rs)
 
-pub number_ahead_is : (a : Counted) (own : ℕ) (d : Counted) (rs : List CountRow) → AreCountRows rs → d ≡ counted rs → rows_ahead (λ q. number a q) own rs ≡ number_ahead a own d
-number_ahead_is a own d rs are is = sym (ap (first_ahead (λ q. number a q) own) (ap map.entries is ∙ entries-counted rs are.rise) ∙ ahead-components (λ q. number a q) own rs)
+true_of : (b : Bool) → T b → b ≡ true
+true_of true h = refl
+true_of false h = absurd h
 
--- a number that is ahead is no dot
-no_seq : (here : Place → ℕ) (own : ℕ) (es : List (Place × Above)) (n : ℕ) → first_ahead here own es ≡ Some (Seq n) → ⊥
-no_seq here own [] n h = cc h
-no_seq here own (e ∷ es) n h = by_test ((e.0.replica == own) && nat_lt (here e.0) (e.1.before + 1)) e.0.which (no_seq here own es n) h
-  where
-    by_test : (b : Bool) (w : Which) → (first_ahead here own es ≡ Some (Seq n) → ⊥) → cond b (Some (own_number w (e.1.before + 1))) (first_ahead here own es) ≡ Some (Seq n) → ⊥
-    by_test true P again h = cc h
-    by_test true N again h = cc h
-    by_test false w again h = again h
+rows_are_entries : (here : Place → ℕ) (own : ℕ) (d : Counted) (rs : List CountRow) → AreCountRows rs → d ≡ counted rs → first_ahead here own (map.entries d) ≡ rows_ahead here own rs
+rows_are_entries here own d rs are is = ap (first_ahead here own) (ap map.entries is ∙ entries-counted rs are.rise) ∙ ahead-components here own rs
 
-pub ahead_of_numbers : (a : StateValue) (own : ℕ) (d : StateValue) → KnowsDots a.lives own d.lives → (o : Option Own) → o ≡ number_ahead a.counts own d.counts → Ahead a own d o
-ahead_of_numbers a own d knows None e = (knows, sym e)
-ahead_of_numbers a own d knows (Some (Seq n)) e = absurd (no_seq (λ q. number a.counts q) own (map.entries d.counts) n (sym e))
-ahead_of_numbers a own d knows (Some (Plus n)) e = (knows, sym e)
-ahead_of_numbers a own d knows (Some (Minus n)) e = (knows, sym e)
+-- what the search in rows finds is the first own number above
+pub rows_ahead_is : (here : Place → ℕ) (own : ℕ) (d : Counted) (rs : List CountRow) → AreCountRows rs → d ≡ counted rs → NumberAhead here own (number d) (rows_ahead here own rs)
+rows_ahead_is here own d rs are is =
+    let es = map.entries d in
+    let listed_is : listed es ≡ (λ q. number d q) = fun_ext (λ q. ap number_from (sym (map.get-entries d q))) in
+    subst (NumberAhead here own (number d)) (rows_are_entries here own d rs are is)
+    (subst (λ (sent : Place → ℕ). NumberAhead here own sent (first_ahead here own es)) listed_is (first_ahead_is here own es (true_of _ (map.entries_sorted d))))
+
+pub ahead_of_numbers : (a : StateValue) (own : ℕ) (d : StateValue) → KnowsDots a.lives own d.lives → (o : Option Own) → NumberAhead (number a.counts) own (number d.counts) o → Ahead a own d o
+ahead_of_numbers a own d knows None h = (knows, h)
+ahead_of_numbers a own d knows (Some (Seq n)) h = absurd h
+ahead_of_numbers a own d knows (Some (Plus n)) h = (knows, h)
+ahead_of_numbers a own d knows (Some (Minus n)) h = (knows, h)
 
 seen_at : (v : Lived) (x : Dots) (own : ℕ) → x ≡ seen_of v → (n : ℕ) → set.contains x (dot_of own n) ≡ is_some (map.get v (dot_of own n))
 seen_at v x own e n = ap (λ y. set.contains y (dot_of own n)) e ∙ contains-seen_of v (dot_of own n)

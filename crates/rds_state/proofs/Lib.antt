@@ -2,6 +2,7 @@ pub mod AheadLemmas
 pub mod CountLemmas
 pub mod EditFits
 pub mod EditLemmas
+pub mod FirstAbove
 pub mod FitsLemmas
 pub mod FriendLemmas
 pub mod JoinLaws

@@ -1,6 +1,6 @@
 -- What a raise leaves, and when it is refused.
-use Rattle.std.proofs.Common.{◌≡◌, ℕ, ◌+◌, ◌<◌, Bool, true, false, cond, Some, None, Result, Ok, Err, OnOk, refl, sym, ◌∙◌, ap, arith, ◌⊎◌, inl, inr}
-use Rattle.std.specs.Prelude.{◌↔◌, IfErr, MatchResult, nat_le}
+use Rattle.std.proofs.Common.{◌≡◌, ℕ, zero, suc, ◌+◌, ◌<◌, Bool, true, false, cond, Some, None, Result, Ok, Err, OnOk, refl, sym, ◌∙◌, ap, subst, arith, ◌⊎◌, inl, inr}
+use Rattle.std.specs.Prelude.{◌↔◌, ◌≢◌, IsOk, IfErr, MatchResult, nat_le}
 use mathlib.Core.Bool.{false≢true}
 use Rattle.std.specs.Ordering.{eq_by_cmp, is_eq}
 use Rattle.std.specs.Cmp.{tied_itself}
@@ -13,7 +13,7 @@ use Rattle.rds_counts.specs.PlaceOrder.{place_total, place_exact}
 use Rattle.rds_counts.specs.Counted.{Counted, number}
 use Rattle.rds_counts.specs.CountedLemmas.{equal_of}
 use Rattle.rds_state.specs.Chosen.{AreRaised}
-use Rattle.rds_state.specs.Edit.{count_fault, IsDue}
+use Rattle.rds_state.specs.Edit.{count_fault, makes_number, IsDue}
 
 at_place : (a b : Counted) (at : Place) (by : ℕ) → number b at ≡ number a at + by → ((q : Place) → ¬ (q ≡ at) → number b q ≡ number a q) → (q : Place) (t : Bool) → eq_by_cmp place_cmp q at ≡ t → number b q ≡ cond t (number a q + by) (number a q)
 at_place a b at by raised others q true is =
@@ -48,3 +48,12 @@ due sum f r is full (inr e) = rw e (full_due sum (full.0 (cc (is, e))))
 pub raise_is_due : (sum : ℕ) (r : Result (Unit {0}) Fault) → (r ≡ Err CounterFull) ↔ (MAX_COUNT < sum) → IfErr r (λ f. (f ≡ Memory) ⊎ (f ≡ CounterFull)) → MatchResult r (λ _. count_fault sum ≡ None) (IsDue (count_fault sum))
 raise_is_due sum (Ok x) full faults = none_due sum (λ h. let c = full.1 h in cc c)
 raise_is_due sum (Err f) full faults = due sum f (Err f) refl full faults
+
+-- a raise takes no memory, but where it makes a number
+pub raise_has_room : (n by : ℕ) (r : Result (Unit {0}) Fault) → (by ≡ 0 → IsOk r) → (0 < n → r ≢ Err Memory) → makes_number n by ≡ false → r ≢ Err Memory
+raise_has_room n zero r nothing there no_room is = let ok = subst (λ (x : Result (Unit {0}) Fault). IsOk x) is (nothing refl) in absurd (cc ok)
+raise_has_room zero (suc by) r nothing there no_room is = absurd (false≢true (sym no_room ∙ makes by))
+  where
+    makes : (n : ℕ) → makes_number 0 (suc n) ≡ true
+    makes n = grind (arith, nat_tests)
+raise_has_room (suc n) (suc by) r nothing there no_room is = there (omega arith) is

@@ -1,6 +1,7 @@
 -- What a delta has of a replica's own that the replica lacks.
-use Rattle.std.specs.Prelude.{◌≡◌, ℕ, ◌+◌, ◌&&◌, ◌==◌, ◌<◌, nat_lt, cond, true, false, is_some, List, [], ◌∷◌, Option, Some, None, Result, Ok, Err}
+use Rattle.std.specs.Prelude.{◌≡◌, ℕ, ◌≤◌, ◌<◌, true, false, is_some, Option, Some, None, Result, Ok, Err}
 use Rattle.std.specs.FinMap as map
+use Rattle.std.specs.declared.cmp.Ordering.TheVariants.{Less}
 use Rattle.rds_names.specs.declared.fault.Own.{Own}
 use Rattle.rds_names.specs.declared.fault.Own.TheVariants.{Seq, Plus, Minus}
 use Rattle.rds_names.specs.declared.fault.Fault.{Fault}
@@ -8,8 +9,8 @@ use Rattle.rds_names.specs.declared.fault.Fault.TheVariants.{OwnAhead}
 use Rattle.rds_dots.specs.Lacking.{dot_of}
 use Rattle.rds_counts.specs.declared.row.Which.{Which}
 use Rattle.rds_counts.specs.declared.row.Which.TheVariants.{P, N}
-use Rattle.rds_counts.specs.Place.{Place}
-use Rattle.rds_counts.specs.Counted.{Above, Counted, number}
+use Rattle.rds_counts.specs.Place.{Place, place_cmp}
+use Rattle.rds_counts.specs.Counted.{number}
 use Rattle.rds_life.specs.Life.{Lived, MergeGives}
 use Rattle.rds_state.specs.Value.{StateValue}
 
@@ -27,25 +28,35 @@ abbrev pub SeqAhead : Lived → ℕ → Lived → Option ℕ → Type 0
 SeqAhead a own d None = KnowsDots a own d
 SeqAhead a own d (Some n) = IsLeastAhead a own d n
 
-abbrev pub own_number : Which → ℕ → Own
-own_number P n = Plus n
-own_number N n = Minus n
+-- no own number that was sent is above the one here
+abbrev pub KnowsNumbers : (Place → ℕ) → ℕ → (Place → ℕ) → Type 0
+KnowsNumbers here own sent = (q : Place) → q.replica ≡ own → sent q ≤ here q
 
--- the first of the numbers that is the replica's own and above what is here
-abbrev pub first_ahead : (Place → ℕ) → ℕ → List (Place × Above) → Option Own
-first_ahead here own [] = None
-first_ahead here own (e ∷ es) = cond ((e.0.replica == own) && nat_lt (here e.0) (e.1.before + 1)) (Some (own_number e.0.which (e.1.before + 1))) (first_ahead here own es)
+-- the first own place, by key and P before N, where the number sent is above the one here
+pub record IsFirstAbove (here : Place → ℕ) (own : ℕ) (sent : Place → ℕ) (q : Place) : Type 0 where
+  pub own_place : q.replica ≡ own
+  pub above : here q < sent q
+  pub first : (p : Place) → p.replica ≡ own → place_cmp p q ≡ Less → sent p ≤ here p
 
--- the first own number, by key and P before N, that is above
-abbrev pub number_ahead : Counted → ℕ → Counted → Option Own
-number_ahead a own d = first_ahead (λ q. number a q) own (map.entries d)
+-- the first such place is one of increments (P) or of decrements (N), and the number sent for it is n
+pub record IsNumberAhead (here : Place → ℕ) (own : ℕ) (sent : Place → ℕ) (which : Which) (n : ℕ) : Type 0 where
+  pub place : Place
+  pub is_first : IsFirstAbove here own sent place
+  pub is_which : place.which ≡ which
+  pub is_sent : sent place ≡ n
+
+abbrev pub NumberAhead : (Place → ℕ) → ℕ → (Place → ℕ) → Option Own → Type 0
+NumberAhead here own sent None = KnowsNumbers here own sent
+NumberAhead here own sent (Some (Seq n)) = ⊥
+NumberAhead here own sent (Some (Plus n)) = IsNumberAhead here own sent P n
+NumberAhead here own sent (Some (Minus n)) = IsNumberAhead here own sent N n
 
 -- a dot that is ahead, else a number, else nothing
 abbrev pub Ahead : StateValue → ℕ → StateValue → Option Own → Type 0
-Ahead a own d None = KnowsDots a.lives own d.lives × (number_ahead a.counts own d.counts ≡ None)
+Ahead a own d None = KnowsDots a.lives own d.lives × KnowsNumbers (number a.counts) own (number d.counts)
 Ahead a own d (Some (Seq n)) = IsLeastAhead a.lives own d.lives n
-Ahead a own d (Some (Plus n)) = KnowsDots a.lives own d.lives × (number_ahead a.counts own d.counts ≡ Some (Plus n))
-Ahead a own d (Some (Minus n)) = KnowsDots a.lives own d.lives × (number_ahead a.counts own d.counts ≡ Some (Minus n))
+Ahead a own d (Some (Plus n)) = KnowsDots a.lives own d.lives × IsNumberAhead (number a.counts) own (number d.counts) P n
+Ahead a own d (Some (Minus n)) = KnowsDots a.lives own d.lives × IsNumberAhead (number a.counts) own (number d.counts) N n
 
 -- when a take succeeds, and which fault it gives: first what is ahead, then what a merge gives
 abbrev pub TakeGives : {T : Type 0} → StateValue → ℕ → StateValue → Result T Fault → Type 0

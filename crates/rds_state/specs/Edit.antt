@@ -120,6 +120,21 @@ new_dot a own (Set p v) = Some (dot_of own (own_top a own + 1))
 new_dot a own (Add p v) = Some (dot_of own (own_top a own + 1))
 new_dot a own c = None
 
+-- ---- when it may want memory
+
+-- an amount makes a number above 0 of one that is 0
+abbrev pub makes_number : ℕ → ℕ → Bool
+makes_number number by = (number == 0) && not (by == 0)
+
+-- whether the command adds a live dot or a number to what is kept. No other command takes memory.
+abbrev pub needs_room : Coordinates → ℕ → Command → Bool
+needs_room a own (Set p v) = true
+needs_room a own (Add p v) = true
+needs_room a own (Del p v) = false
+needs_room a own (Clear p) = false
+needs_room a own (Inc k by) = makes_number (a.number (place k own P)) by
+needs_room a own (Dec k by) = makes_number (a.number (place k own N)) by
+
 -- ---- when it is refused
 
 abbrev pub path_fault : List (List ℕ) → Option Fault → Option Fault

@@ -1,10 +1,7 @@
 -- The entry that a command makes live.
-use Rattle.std.specs.Prelude.{◌≡◌, ℕ, Bool, true, false, nat_le, List, length, Option, Some, None, refl}
+use Rattle.std.specs.Prelude.{◌≡◌, Bool, true, false, nat_le, length, Option, Some, None, refl}
 use Rattle.std.proofs.lemmas.Bool.{leb-true}
 use Rattle.rds_names.specs.declared.entry.Entry.{Entry}
-use Rattle.rds_names.specs.declared.entry.Kind.{Kind}
-use Rattle.rds_names.specs.declared.entry.Kind.TheVariants.{Reg, Elem}
-use Rattle.rds_names.specs.declared.scalar.Scalar.{Scalar}
 use Rattle.rds_state.specs.Chosen.{Parts, parts_of}
 use Rattle.rds_state.specs.declared.command.Command.{Command}
 

@@ -1,7 +1,7 @@
 //! What a delta has of a replica's own that the replica lacks.
 ghost use Rattle.std.specs.Prelude.{◌≡◌};
 ghost use Rattle.rds_counts.specs.Counted.{number};
-ghost use Rattle.rds_state.specs.Ahead.{Ahead, SeqAhead, number_ahead};
+ghost use Rattle.rds_state.specs.Ahead.{Ahead, SeqAhead, NumberAhead};
 ghost use Rattle.rds_state.specs.RowsAhead.{rows_ahead};
 
 use crate::state::State;
@@ -27,7 +27,7 @@ fn seq_ahead<S: DotSet>(lives: &Lives<S>, own: u8, delta: &Lives<S>) -> Option<u
 }
 
 fn number_above(counts: &Counts, own: u8, delta: &Counts) -> Option<Own>
-    ensures { result ≡ number_ahead counts.now own delta.now }
+    ensures { NumberAhead (number counts.now) own (number delta.now) result }
 {
     first_above(counts, own, delta.rows())
 }
@@ -37,10 +37,7 @@ fn first_above(counts: &Counts, own: u8, rows: &[CountRow]) -> Option<Own>
 {
     let mut rest = rows;
     'looking: loop {
-        let (row, later) = match rest.split_first() {
-            Some(parts) => parts,
-            None => return None,
-        };
+        let (row, later) = rest.split_first()?;
         if row.replica == own {
             let (p, n) = counts.pair(&row.key, row.replica);
             if p < row.p {

@@ -15,7 +15,7 @@ pub enum Command {
     Add(Path, Scalar),
     /// Removes the value from the set at the path.
     Del(Path, Scalar),
-    /// Removes all entries under the path.
+    /// Removes all entries at or below the path.
     Clear(Path),
     /// Adds an amount to the counter of the key.
     Inc(Key, u64),

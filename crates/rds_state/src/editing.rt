@@ -1,5 +1,5 @@
 //! The edit of a state.
-ghost use Rattle.std.specs.Prelude.{◌≡◌, ◌+◌, ◌≢◌, [], true, None, Some, count_by, IfOk, IfErr, OnErr, MatchResult};
+ghost use Rattle.std.specs.Prelude.{◌≡◌, ◌+◌, ◌≢◌, [], true, false, None, Some, Err, count_by, IfOk, IfErr, OnErr, MatchResult};
 ghost use Rattle.std.specs.FinMap as map;
 ghost use Rattle.rds_counts.specs.Counted.{number, place};
 ghost use Rattle.rds_dots.specs.declared.dot.Dot.{Dot};
@@ -9,7 +9,7 @@ ghost use Rattle.rds_life.specs.Life.{Live, live_rows};
 ghost use Rattle.rds_names.specs.declared.fault.Fault.TheVariants.{Memory};
 ghost use Rattle.rds_names.specs.Entry.{HasParts};
 ghost use Rattle.rds_state.specs.Chosen.{is_chosen, parts_of, Parts, AreRaised};
-ghost use Rattle.rds_state.specs.Edit.{covers, JoinsEffect, new_dot, refusal, count_fault, IsDue};
+ghost use Rattle.rds_state.specs.Edit.{covers, JoinsEffect, new_dot, makes_number, needs_room, refusal, count_fault, IsDue};
 ghost use Rattle.rds_state.specs.Value.{coordinates};
 
 use crate::command::{Command, Edited};
@@ -45,6 +45,7 @@ pub fn edit<S: DotSet>(state: &mut State<S>, own: u8, command: &Command) -> Resu
     ensures dot { IfOk result (λ edited. edited.dot ≡ new_dot (coordinates state.old) own command.now) }
     ensures killed { IfOk result (λ edited. edited.killed ≡ count_by (λ r. covers command.now r.1) (live_rows state.old.lives)) }
     ensures refusal { let due = refusal (coordinates state.old) own command.now in MatchResult result (λ _. due ≡ None) (IsDue due) }
+    ensures room { needs_room (coordinates state.old) own command.now ≡ false → result ≢ Err Memory }
     ensures err { OnErr result (state.new ≡ state.old) }
 {
     match command {
@@ -152,13 +153,12 @@ fn raise<S: DotSet>(
     ensures lives { state.new.lives ≡ state.old.lives }
     ensures edited { IfOk result (λ edited. (edited.dot ≡ None) × (edited.killed ≡ 0)) }
     ensures refusal { let due = count_fault (number state.old.counts (place key.now own which) + by) in MatchResult result (λ _. due ≡ None) (IsDue due) }
+    ensures room { makes_number (number state.old.counts (place key.now own which)) by ≡ false → result ≢ Err Memory }
     ensures err { OnErr result (state.new ≡ state.old) }
 {
-    match state.raise(key, own, which, by) {
-        Ok(()) => Ok(Edited {
-            dot: None,
-            killed: 0,
-        }),
-        Err(fault) => Err(fault),
-    }
+    state.raise(key, own, which, by)?;
+    Ok(Edited {
+        dot: None,
+        killed: 0,
+    })
 }

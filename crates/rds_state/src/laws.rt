@@ -7,8 +7,8 @@ ghost use Rattle.rds_state.specs.Friends.{FriendsAreTaken};
 ghost use Rattle.rds_state.specs.Value.{StateValue, coordinates};
 
 /// States are ordered coordinate by coordinate, and the join of compatible states is the least state above both
-/// (Shapiro, Preguiça, Baquero, Zawirski 2011). So replicas that took the same states, in any order and any number
-/// of times, are equal. The function does nothing: its contract is these laws.
+/// (Shapiro, Preguiça, Baquero, Zawirski 2011). The join is associative and idempotent, and commutative on compatible
+/// states; equal coordinates are equal states. The function does nothing: its contract is these laws.
 pub fn join_laws()
     ensures reflexive { (a : Coordinates) → AtMost a a }
     ensures transitive { (a b c : Coordinates) → AtMost a b → AtMost b c → AtMost a c }

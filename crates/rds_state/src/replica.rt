@@ -1,11 +1,11 @@
 //! One replica of a document.
-ghost use Rattle.std.specs.Prelude.{◌≡◌, ◌≤◌, ◌<◌, ◌↔◌, IsTrue, None, count_by, IfOk, IfErr, OnOk, OnErr, MatchResult, length};
+ghost use Rattle.std.specs.Prelude.{◌≡◌, ◌≢◌, ◌≤◌, ◌<◌, ◌↔◌, IsTrue, false, None, Err, count_by, IfOk, IfErr, OnOk, OnErr, MatchResult, length};
 ghost use Rattle.std.specs.FinMap as map;
 ghost use Rattle.rds_names.specs.declared.fault.Fault.TheVariants.{Memory, BadRoster};
 ghost use Rattle.rds_life.specs.Life.{live_rows};
 ghost use Rattle.rds_state.specs.Ahead.{TakeGives};
 ghost use Rattle.rds_state.specs.Coordinates.{join};
-ghost use Rattle.rds_state.specs.Edit.{covers, JoinsEffect, new_dot, refusal, IsDue};
+ghost use Rattle.rds_state.specs.Edit.{covers, JoinsEffect, new_dot, needs_room, refusal, IsDue};
 ghost use Rattle.rds_state.specs.Fits.{Fits, ReplicaValue, IsReplica};
 ghost use Rattle.rds_state.specs.RowsAhead.{rows_below};
 ghost use Rattle.rds_state.specs.Value.{coordinates};
@@ -112,16 +112,18 @@ impl<S: DotSet> Replica<S> {
 
     /// Edits the document: the state is joined with what the command does to it. `Set` and `Add` make the next own
     /// dot live, and the live dots that the command covers die: for `Set` those of the register, for `Add` and `Del`
-    /// those of the value in the set, for `Clear` all under the path. `Inc` and `Dec` raise an own number. An entry
-    /// that this replica hasn't seen is not touched (Almeida, Shoker, Baquero 2018).
+    /// those of the value in the set, for `Clear` all at or below the path. `Inc` and `Dec` raise an own number. An
+    /// entry that this replica hasn't seen is not touched (Almeida, Shoker, Baquero 2018).
     ///
     /// Refuses `BadPath` where a value is meant for the root, then `SeqFull` where the last own dot is used, and
-    /// `CounterFull` where a number would pass its limit.
+    /// `CounterFull` where a number would pass its limit. Only `Set`, `Add` and the raise of a number that is 0 take
+    /// memory.
     pub fn edit(&mut self, command: Command) -> Result<Edited, Fault>
         ensures joined { IfOk result (λ _. JoinsEffect (coordinates self.old.state) self.old.own command (coordinates self.new.state)) }
         ensures dot { IfOk result (λ edited. edited.dot ≡ new_dot (coordinates self.old.state) self.old.own command) }
         ensures killed { IfOk result (λ edited. edited.killed ≡ count_by (λ r. covers command r.1) (live_rows self.old.state.lives)) }
         ensures refusal { let due = refusal (coordinates self.old.state) self.old.own command in MatchResult result (λ _. due ≡ None) (IsDue due) }
+        ensures room { needs_room (coordinates self.old.state) self.old.own command ≡ false → result ≢ Err Memory }
         ensures roster { self.new.roster ≡ self.old.roster }
         ensures own { self.new.own ≡ self.old.own }
         ensures err { OnErr result (self.new ≡ self.old) }

@@ -1,5 +1,5 @@
 //! The state of a document.
-ghost use Rattle.std.specs.Prelude.{◌≡◌, ◌↔◌, ◌+◌, IsTrue, true, None, count_by, IfOk, IfErr, OnOk, OnErr, MatchResult};
+ghost use Rattle.std.specs.Prelude.{◌≡◌, ◌≢◌, ◌↔◌, ◌+◌, IsTrue, true, false, None, Err, count_by, IfOk, IfErr, OnOk, OnErr, MatchResult};
 ghost use Rattle.std.specs.FinMap as map;
 ghost use Rattle.rds_names.specs.declared.fault.Fault.TheVariants.{Memory};
 ghost use Rattle.rds_counts.specs.Counted.{number, place};
@@ -9,7 +9,7 @@ ghost use Rattle.rds_life.specs.Killed.{killed_by};
 ghost use Rattle.rds_life.specs.Life.{Live, MergeGives, live_rows};
 ghost use Rattle.rds_state.specs.Chosen.{AreRaised};
 ghost use Rattle.rds_state.specs.Coordinates.{join};
-ghost use Rattle.rds_state.specs.Edit.{count_fault, IsDue};
+ghost use Rattle.rds_state.specs.Edit.{count_fault, makes_number, IsDue};
 ghost use Rattle.rds_state.specs.Value.{coordinates, size};
 
 use crate::sameness::are_same_lives;
@@ -162,6 +162,7 @@ impl<S: DotSet> State<S> {
         ensures numbers { OnOk result (AreRaised self.old.counts (place key.now replica which) by self.new.counts) }
         ensures lives { self.new.lives ≡ self.old.lives }
         ensures refusal { let due = count_fault (number self.old.counts (place key.now replica which) + by) in MatchResult result (λ _. due ≡ None) (IsDue due) }
+        ensures room { makes_number (number self.old.counts (place key.now replica which)) by ≡ false → result ≢ Err Memory }
         ensures err { OnErr result (self.new ≡ self.old) }
     {
         self.counts.raise(key, replica, which, by)

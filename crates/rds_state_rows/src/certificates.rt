@@ -4,12 +4,14 @@
 //! - `dead REPLICA FIRST LAST PEER`: these dots are dead in the delta, and have this rank in the digest.
 //! - `count KEY REPLICA WHICH SENT PEER`: a number of the delta, and the one in the digest.
 use crate::documents::Documents;
-use crate::listing::{Listing, yes_or_no};
+use crate::listing::Listing;
 use crate::words::Words;
 use rds_counts::Which;
 use rds_delta::{Certificate, Row};
 use rds_dots::{Dot, Run};
 use rds_names::{Fault, Key};
+use rds_rows::told::said_if;
+use rds_rows::words::first;
 use std::alloc::Global;
 
 /// Keeps a certificate under a name, and writes its rows.
@@ -36,7 +38,7 @@ pub fn certificate(documents: &mut Documents, alloc: Global, rest: &str) -> Resu
 
 /// `given NAME ROWS` makes the certificate of these rows.
 pub fn given(documents: &mut Documents, alloc: Global, rest: &str) -> Result<String, Fault> {
-    let (name, rows) = rest.split_once(' ').unwrap_or((rest, ""));
+    let (name, rows) = first(rest);
     let certificate = Certificate::new(read_rows(alloc, rows)?);
     keep(documents, alloc, name, certificate)
 }
@@ -47,7 +49,7 @@ pub fn check(documents: &Documents, alloc: Global, rest: &str) -> Result<String,
     let digest = documents.digests.get(words.word()?)?;
     let delta = documents.state(words.word()?)?;
     let certificate = documents.certificates.get(words.word()?)?;
-    yes_or_no(alloc, rds_delta::check(digest, delta, certificate))
+    said_if(alloc, rds_delta::check(digest, delta, certificate))
 }
 
 fn read_rows(alloc: Global, text: &str) -> Result<Vec<Row>, Fault> {
@@ -66,7 +68,7 @@ fn read_row(alloc: Global, words: &mut Words<'_>) -> Result<Row, Fault> {
         "live" => Ok(Row::Live(words.dot()?)),
         "dead" => Ok(Row::Dead(words.run()?, words.small()?)),
         "count" => read_count(alloc, words),
-        _ => Err(Fault::BadLine),
+        _ => Err(Fault::Usage),
     }
 }
 

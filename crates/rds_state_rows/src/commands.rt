@@ -14,7 +14,7 @@ pub fn command(alloc: Global, words: &mut Words<'_>) -> Result<Command, Fault> {
         "clear" => Ok(Command::Clear(words.path(alloc)?)),
         "inc" => Ok(Command::Inc(words.key(alloc)?, words.number()?)),
         "dec" => Ok(Command::Dec(words.key(alloc)?, words.number()?)),
-        _ => Err(Fault::BadLine),
+        _ => Err(Fault::Usage),
     }
 }
 

@@ -1,12 +1,13 @@
 //! Rows that call digests.
 use crate::documents::Documents;
 use crate::drafts::insert;
-use crate::listing::yes_or_no;
 use crate::words::Words;
 use rds_counts::Counts;
 use rds_delta::{Digest, is_inside};
 use rds_dots::{DotSet, ListSet};
 use rds_names::Fault;
+use rds_rows::told::said_if;
+use rds_rows::words::parted;
 use std::alloc::Global;
 
 /// `digest NAME STATE` makes the digest of a state, and says how many dots are seen, how many are live, and how many
@@ -31,17 +32,17 @@ fn sizes_text(alloc: Global, digest: &Digest<ListSet>) -> Result<String, Fault> 
 pub fn digest_of_sets(alloc: Global, rest: &str) -> Result<String, Fault> {
     let (seen, live) = two_sets(alloc, rest)?;
     let digest = Digest::from_parts(seen, live, Counts::empty(alloc));
-    yes_or_no(alloc, digest.is_some())
+    said_if(alloc, digest.is_some())
 }
 
 /// `inside OUTER; INNER` asks whether the outer set has all dots of the inner one.
 pub fn inside(alloc: Global, rest: &str) -> Result<String, Fault> {
     let (outer, inner) = two_sets(alloc, rest)?;
-    yes_or_no(alloc, is_inside(&inner, &outer))
+    said_if(alloc, is_inside(&inner, &outer))
 }
 
 fn two_sets(alloc: Global, text: &str) -> Result<(ListSet, ListSet), Fault> {
-    let (left, right) = text.split_once(';').ok_or(Fault::BadLine)?;
+    let (left, right) = parted(text, ";")?;
     let left = one_run(alloc, left)?;
     let right = one_run(alloc, right)?;
     Ok((left, right))

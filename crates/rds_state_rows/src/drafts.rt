@@ -40,7 +40,7 @@ impl Draft {
             "seen" => insert(&mut self.seen, words.run()?),
             "live" => push_live(alloc, &mut self.live, words),
             "count" => push_count(alloc, &mut self.counts, words),
-            _ => Err(Fault::BadLine),
+            _ => Err(Fault::Usage),
         }
     }
 

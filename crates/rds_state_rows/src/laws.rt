@@ -1,7 +1,7 @@
 //! The row of the laws.
-use crate::listing::text;
 use rds_delta::{checked_delta_laws, friends_exchange_deltas, least_delta_laws};
 use rds_names::Fault;
+use rds_rows::told::said;
 use rds_state::{documents_have_the_sums, friends_take_each_other, join_laws};
 use rds_tree::{same_documents_show_the_same, views_show_what_is_live};
 use std::alloc::Global;
@@ -16,5 +16,5 @@ pub fn laws(alloc: Global) -> Result<String, Fault> {
     friends_exchange_deltas();
     same_documents_show_the_same();
     views_show_what_is_live();
-    text(alloc, "called")
+    said(alloc, "called")
 }

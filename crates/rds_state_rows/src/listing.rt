@@ -1,5 +1,6 @@
 //! Answers as texts.
 use rds_names::Fault;
+use rds_rows::told::said;
 use std::alloc::Global;
 
 /// Items of one line.
@@ -28,20 +29,10 @@ impl Listing {
     /// The line; without items the word `none`.
     pub fn into_text(self, alloc: Global) -> Result<String, Fault> {
         if self.text.is_empty() {
-            return text(alloc, "none");
+            return said(alloc, "none");
         }
         Ok(self.text)
     }
-}
-
-/// A text with memory of its own.
-pub fn text(alloc: Global, text: &str) -> Result<String, Fault> {
-    Ok(String::from_str(alloc, text)?)
-}
-
-/// The answer to a question.
-pub fn yes_or_no(alloc: Global, holds: bool) -> Result<String, Fault> {
-    text(alloc, if holds { "yes" } else { "no" })
 }
 
 /// The fault with what it names.

@@ -1,17 +1,18 @@
 //! Rows that call replicas.
 use crate::commands::{command, edited_text};
 use crate::documents::Documents;
-use crate::listing::{refused, text, yes_or_no};
+use crate::listing::refused;
 use crate::words::Words;
 use rds_dots::ListSet;
-use rds_names::{Fault, Key, Name, Roster};
+use rds_names::{Fault, Roster};
+use rds_rows::told::{said, said_if};
+use rds_rows::words;
 use rds_state::{Replica, State};
 use std::alloc::Global;
 
 /// The roster of the group g with its replicas a, b and c.
 fn roster(alloc: Global) -> Result<Roster, Fault> {
-    let names = [Name::new("a")?, Name::new("b")?, Name::new("c")?];
-    Roster::new(alloc, Key::new(alloc, "g")?, names.as_slice())
+    words::roster(alloc, "g a b c")
 }
 
 /// Keeps a replica under a name, and says its number and how many there are.
@@ -69,10 +70,10 @@ fn take_state(
     state: &State<ListSet>,
 ) -> Result<String, Fault> {
     if !replica.fits(state) {
-        return text(alloc, "unfit");
+        return said(alloc, "unfit");
     }
     match replica.take(state) {
-        Ok(()) => text(alloc, "taken"),
+        Ok(()) => said(alloc, "taken"),
         Err(fault) => refused(alloc, fault),
     }
 }
@@ -100,5 +101,5 @@ pub fn fits(documents: &Documents, alloc: Global, rest: &str) -> Result<String, 
     let mut words = Words::new(rest);
     let replica = documents.replicas.get(words.word()?)?;
     let state = documents.state(words.word()?)?;
-    yes_or_no(alloc, replica.fits(state))
+    said_if(alloc, replica.fits(state))
 }

@@ -1,10 +1,12 @@
 //! Rows that call states.
 use crate::documents::Documents;
 use crate::drafts::{Draft, state_text};
-use crate::listing::{refused, text, yes_or_no};
+use crate::listing::refused;
 use crate::words::Words;
 use rds_dots::ListSet;
 use rds_names::Fault;
+use rds_rows::told::{said, said_if};
+use rds_rows::words::cut;
 use rds_state::State;
 use std::alloc::Global;
 
@@ -22,14 +24,14 @@ pub fn keep(
 
 /// `state NAME PARTS` makes the state of these parts.
 pub fn state(documents: &mut Documents, alloc: Global, rest: &str) -> Result<String, Fault> {
-    let (name, parts) = rest.split_once(' ').ok_or(Fault::BadLine)?;
+    let (name, parts) = cut(rest)?;
     let (lives, counts) = Draft::read(alloc, parts)?.into_parts()?;
     keep(documents, alloc, name, State::from_parts(lives, counts))
 }
 
 /// `lives NAME PARTS` makes the state of the lives alone.
 pub fn lives(documents: &mut Documents, alloc: Global, rest: &str) -> Result<String, Fault> {
-    let (name, parts) = rest.split_once(' ').ok_or(Fault::BadLine)?;
+    let (name, parts) = cut(rest)?;
     let (lives, _) = Draft::read(alloc, parts)?.into_parts()?;
     keep(documents, alloc, name, State::from_lives(alloc, lives))
 }
@@ -53,7 +55,7 @@ pub fn merge(documents: &mut Documents, alloc: Global, rest: &str) -> Result<Str
     let name = words.word()?;
     let other = documents.state(words.word()?)?.copy(alloc)?;
     match documents.states.get_mut(name)?.merge(&other) {
-        Ok(()) => text(alloc, "merged"),
+        Ok(()) => said(alloc, "merged"),
         Err(fault) => refused(alloc, fault),
     }
 }
@@ -68,7 +70,7 @@ pub fn same(documents: &Documents, alloc: Global, rest: &str) -> Result<String, 
     let mut words = Words::new(rest);
     let left = documents.state(words.word()?)?;
     let right = documents.state(words.word()?)?;
-    yes_or_no(alloc, left.same(right))
+    said_if(alloc, left.same(right))
 }
 
 /// `rank STATE REPLICA NUMBER` asks how far a dot has come.

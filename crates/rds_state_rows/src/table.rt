@@ -45,7 +45,7 @@ fn replica_answer(
         "copy" => copy(documents, alloc, rest),
         "rejoin" => rejoin(documents, alloc, rest),
         "fits" => fits(documents, alloc, rest),
-        _ => Err(Fault::BadLine),
+        _ => Err(Fault::Usage),
     }
 }
 
@@ -66,7 +66,7 @@ fn state_answer(
         "rank" => rank(documents, alloc, rest),
         "value" => value(documents, alloc, rest),
         "components" => components(documents, alloc, rest),
-        _ => Err(Fault::BadLine),
+        _ => Err(Fault::Usage),
     }
 }
 
@@ -82,6 +82,6 @@ fn digest_answer(
         "inside" => inside(alloc, rest),
         "rank_in" => rank_in(documents, alloc, rest),
         "pair_in" => pair_in(documents, alloc, rest),
-        _ => Err(Fault::BadLine),
+        _ => Err(Fault::Usage),
     }
 }

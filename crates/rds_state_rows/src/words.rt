@@ -1,7 +1,8 @@
-//! The words of a row. A row in which one is missing, or is another than is meant there, is answered `BadLine`.
+//! The words of a row. A row in which one is missing, or is another than is meant there, is answered `Usage`.
 use rds_counts::Which;
 use rds_dots::{Dot, Run};
 use rds_names::{Fault, Key, Kind, Path};
+use rds_rows::words::{number, small};
 use std::alloc::Global;
 use std::str::SplitWhitespace;
 
@@ -21,23 +22,17 @@ impl<'a> Words<'a> {
 
     /// The next word.
     pub fn word(&mut self) -> Result<&'a str, Fault> {
-        self.words.next().ok_or(Fault::BadLine)
+        self.words.next().ok_or(Fault::Usage)
     }
 
     /// A number.
     pub fn number(&mut self) -> Result<u64, Fault> {
-        match self.word()?.parse::<u64>() {
-            Ok(number) => Ok(number),
-            Err(_) => Err(Fault::BadLine),
-        }
+        number(self.word()?)
     }
 
     /// A small number, as that of a replica.
     pub fn small(&mut self) -> Result<u8, Fault> {
-        match self.word()?.parse::<u8>() {
-            Ok(number) => Ok(number),
-            Err(_) => Err(Fault::BadLine),
-        }
+        small(self.word()?)
     }
 
     /// A replica and a number of one of its dots.
@@ -73,7 +68,7 @@ impl<'a> Words<'a> {
         match self.word()? {
             "reg" => Ok(Kind::Reg),
             "elem" => Ok(Kind::Elem),
-            _ => Err(Fault::BadLine),
+            _ => Err(Fault::Usage),
         }
     }
 
@@ -82,7 +77,7 @@ impl<'a> Words<'a> {
         match self.word()? {
             "P" => Ok(Which::P),
             "N" => Ok(Which::N),
-            _ => Err(Fault::BadLine),
+            _ => Err(Fault::Usage),
         }
     }
 }

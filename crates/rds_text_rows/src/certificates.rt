@@ -1,10 +1,11 @@
 //! Certificates that are spelled in words.
-use crate::words::{cut, digits_of, number, small};
 use rds_codec::encode_certificate;
 use rds_counts::Which;
 use rds_delta::{Certificate, Row};
 use rds_dots::{Dot, Run};
 use rds_names::{Fault, Key};
+use rds_rows::told::digits_of;
+use rds_rows::words::{cut, number, small};
 use std::alloc::Global;
 
 /// `rows ROW,ROW,..`: the text of the certificate of these rows.
@@ -23,7 +24,7 @@ fn row_of(alloc: Global, words: &str) -> Result<Row, Fault> {
         "live" => live(words),
         "dead" => dead(words),
         "count" => count(alloc, words),
-        _ => Err(Fault::BadLine),
+        _ => Err(Fault::Usage),
     }
 }
 
@@ -70,6 +71,6 @@ fn which_of(name: &str) -> Result<Which, Fault> {
     match name {
         "P" => Ok(Which::P),
         "N" => Ok(Which::N),
-        _ => Err(Fault::BadLine),
+        _ => Err(Fault::Usage),
     }
 }

@@ -1,6 +1,6 @@
 //! Commands that are spelled in words.
-use crate::words::{cut, number};
 use rds_names::{Fault, Key, Path, Scalar};
+use rds_rows::words::{cut, number};
 use rds_state::Command;
 use std::alloc::Global;
 
@@ -12,13 +12,13 @@ pub fn command(alloc: Global, words: &str) -> Result<Command, Fault> {
         "add" => add(alloc, place, amount),
         "inc" => Ok(Command::Inc(Key::new(alloc, place)?, number(amount)?)),
         "dec" => Ok(Command::Dec(Key::new(alloc, place)?, number(amount)?)),
-        _ => Err(Fault::BadLine),
+        _ => Err(Fault::Usage),
     }
 }
 
 fn add(alloc: Global, place: &str, value: &str) -> Result<Command, Fault> {
     let Ok(value) = value.parse::<i64>() else {
-        return Err(Fault::BadLine);
+        return Err(Fault::Usage);
     };
     Ok(Command::Add(Path::new(alloc, place)?, Scalar::Int(value)))
 }

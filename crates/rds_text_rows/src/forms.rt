@@ -34,7 +34,7 @@ impl Form {
             "certificate" => Ok(Form::Certificate),
             "answer" => Ok(Form::Answer),
             "hello" => Ok(Form::Hello),
-            _ => Err(Fault::BadLine),
+            _ => Err(Fault::Usage),
         }
     }
 }

@@ -1,11 +1,12 @@
 //! The replica that is held from row to row.
 use crate::values::{snapshot_of, snapshot_text};
-use crate::words::cut;
 use crate::{certificates, keeping, reading, steps, texts, values};
 use rds_codec::texts_stand_apart;
 use rds_dots::ListSet;
 use rds_names::Fault;
 use rds_rows::Table;
+use rds_rows::told::said;
+use rds_rows::words::cut;
 use rds_state::Replica;
 use std::alloc::Global;
 
@@ -59,5 +60,5 @@ impl Held {
 /// `laws`: the function whose contract is the law of texts is called.
 fn laws(alloc: Global) -> Result<String, Fault> {
     texts_stand_apart();
-    Ok(String::from_str(alloc, "called")?)
+    said(alloc, "called")
 }

@@ -1,14 +1,15 @@
 //! Rows that write the replica's snapshot.
 use crate::devices::{Full, Shelf};
 use crate::values::snapshot_text;
-use crate::words::{cut, digits_of, fault_text, number};
 use rds_dots::ListSet;
 use rds_keep::{Counted, Kept, keep_in, write_snapshot};
 use rds_names::Fault;
+use rds_rows::told::{digits_of, fault_text};
+use rds_rows::words::{cut, number};
 use rds_state::Replica;
 use std::alloc::Global;
 
-/// `write to WRITER CALL`: what was kept or why not, what the writer counted, and what it holds. The call of this number
+/// `write WRITER CALL`: what was kept or why not, what the writer counted, and what it holds. The call of this number
 /// fails, if there is one.
 pub fn answer(alloc: Global, replica: &Replica<ListSet>, rest: &str) -> Result<String, Fault> {
     let (writer, call) = cut(rest)?;
@@ -18,7 +19,7 @@ pub fn answer(alloc: Global, replica: &Replica<ListSet>, rest: &str) -> Result<S
         "full" => to_full(alloc, replica),
         "shelf" => to_shelf(alloc, replica, call),
         "place" => to_place(alloc, replica, call),
-        _ => Err(Fault::BadLine),
+        _ => Err(Fault::Usage),
     }
 }
 
@@ -57,7 +58,7 @@ fn to_place(alloc: Global, replica: &Replica<ListSet>, call: u64) -> Result<Stri
 fn outcome(alloc: Global, answer: Result<Kept<ListSet>, Fault>) -> Result<String, Fault> {
     match answer {
         Ok(kept) => snapshot_text(alloc, &kept.replica()),
-        Err(fault) => fault_text(alloc, fault),
+        Err(fault) => Ok(fault_text(alloc, fault)?),
     }
 }
 

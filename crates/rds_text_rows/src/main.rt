@@ -15,7 +15,6 @@ mod reading;
 mod steps;
 mod texts;
 mod values;
-mod words;
 
 use held::Held;
 use rds_rows::write_answers;

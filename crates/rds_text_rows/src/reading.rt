@@ -1,11 +1,12 @@
 //! Rows that read a snapshot.
 use crate::devices::Slow;
 use crate::values::snapshot_text;
-use crate::words::{bytes_of, cut, digits_of, fault_text, number};
 use rds_codec::encode_snapshot;
 use rds_dots::ListSet;
 use rds_keep::{Counted, Kept, read_snapshot};
 use rds_names::Fault;
+use rds_rows::told::{digits_of, fault_text};
+use rds_rows::words::{bytes_of, cut, number};
 use rds_state::Replica;
 use std::alloc::Global;
 use std::io::Read;
@@ -32,7 +33,7 @@ fn read_text(alloc: Global, text: &[u8], name: &str, count: u64) -> Result<Strin
         "slowly" => read_from(alloc, Counted::new(Slow::new(text, count))),
         "turns" => read_from(alloc, Counted::with_turns(Slow::new(text, 0), count)),
         "front" => read_front(alloc, Counted::with_turns(text, count)),
-        _ => Err(Fault::BadLine),
+        _ => Err(Fault::Usage),
     }
 }
 
@@ -47,7 +48,7 @@ fn read_from<R: Read + Drop>(alloc: Global, mut reader: Counted<R>) -> Result<St
 fn outcome(alloc: Global, answer: Result<Kept<ListSet>, Fault>) -> Result<String, Fault> {
     match answer {
         Ok(kept) => snapshot_text(alloc, kept.view_of()),
-        Err(fault) => fault_text(alloc, fault),
+        Err(fault) => Ok(fault_text(alloc, fault)?),
     }
 }
 

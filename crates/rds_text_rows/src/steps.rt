@@ -1,9 +1,9 @@
 //! Rows that call a counted place step by step.
 use crate::devices::Shelf;
 use crate::keeping::told;
-use crate::words::{cut, number};
 use rds_keep::Counted;
 use rds_names::Fault;
+use rds_rows::words::{cut, first, number};
 use std::alloc::Global;
 
 /// `calls CALL STEP,STEP,..`: what each step answers, what the place counted, and what it holds. The call of this
@@ -39,14 +39,14 @@ fn step_text(alloc: Global, place: &mut Counted<Shelf<'_>>, step: &str) -> Resul
 
 /// How many bytes of its text the step wrote, or its fault.
 fn take_step(place: &mut Counted<Shelf<'_>>, step: &str) -> Result<usize, Fault> {
-    let (name, text) = step.split_once(' ').unwrap_or((step, ""));
+    let (name, text) = first(step);
     match name {
         "write" => return place.write(text.as_bytes()),
         "all" => place.write_all(text.as_bytes())?,
         "text" => place.write_text(text)?,
         "line" => place.write_line(text)?,
-        "fail" => return Err(place.fail()),
-        _ => settle(place)?,
+        "settle" => settle(place)?,
+        _ => return Err(Fault::Usage),
     }
     Ok(text.len())
 }

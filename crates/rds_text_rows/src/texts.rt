@@ -1,7 +1,8 @@
 //! Rows that try texts.
 use crate::forms::{Form, again, state_again};
-use crate::words::{bytes_of, cut, digits_of, named, number};
 use rds_names::Fault;
+use rds_rows::told::digits_of;
+use rds_rows::words::{bytes_of, cut, first, number};
 use std::alloc::Global;
 use std::ops::Range;
 
@@ -13,13 +14,13 @@ pub fn answer(alloc: Global, name: &str, rest: &str) -> Result<String, Fault> {
         "bytes" => bytes(alloc, rest),
         "state-of" => state_of(alloc, rest),
         "zeros" => zeros(alloc, rest),
-        _ => Err(Fault::BadLine),
+        _ => Err(Fault::Usage),
     }
 }
 
 /// `again FORM DIGITS`: the text, read and written again.
 fn read_and_written(alloc: Global, rest: &str) -> Result<String, Fault> {
-    let (form, digits) = named(rest);
+    let (form, digits) = first(rest);
     let form = Form::of(form)?;
     let text = bytes_of(alloc, digits)?;
     let written = again(alloc, form, &text)?;
@@ -28,7 +29,7 @@ fn read_and_written(alloc: Global, rest: &str) -> Result<String, Fault> {
 
 /// `beginnings FORM DIGITS`: how many proper beginnings of the text are refused as cut or bad, and of how many.
 fn beginnings(alloc: Global, rest: &str) -> Result<String, Fault> {
-    let (form, digits) = named(rest);
+    let (form, digits) = first(rest);
     let form = Form::of(form)?;
     let text = bytes_of(alloc, digits)?;
     let refused = refused_beginnings(alloc, form, &text);
@@ -50,8 +51,8 @@ fn is_refused(alloc: Global, form: Form, text: &[u8]) -> bool {
     matches!(again(alloc, form, text), Err(Fault::Cut | Fault::Bad))
 }
 
-/// `bytes FORM FROM TO DIGITS`: with each value of a byte in each of these places of the text, how many of those that are
-/// read are written otherwise.
+/// `bytes FORM FROM TO DIGITS`: with each value of a byte in each of these places of the text, how many texts are read,
+/// and how many of those are written otherwise.
 fn bytes(alloc: Global, rest: &str) -> Result<String, Fault> {
     let (form, words) = cut(rest)?;
     let (from, words) = cut(words)?;
@@ -59,43 +60,47 @@ fn bytes(alloc: Global, rest: &str) -> Result<String, Fault> {
     let form = Form::of(form)?;
     let places = number(from)?..number(to)?;
     let text = bytes_of(alloc, digits)?;
-    let others = written_otherwise(alloc, form, &text, places)?;
-    Ok(format!(in alloc; "{others} are written otherwise")?)
+    let Tally { read, otherwise } = changed_in(alloc, form, &text, places)?;
+    Ok(format!(in alloc; "{read} are read, {otherwise} are written otherwise")?)
 }
 
-fn written_otherwise(
-    alloc: Global,
-    form: Form,
-    text: &[u8],
-    places: Range<u64>,
-) -> Result<u64, Fault> {
-    let mut others = 0u64;
+fn changed_in(alloc: Global, form: Form, text: &[u8], places: Range<u64>) -> Result<Tally, Fault> {
+    let mut tally = Tally {
+        read: 0,
+        otherwise: 0,
+    };
     for place in places {
         let changed = Vec::from_slice(alloc, text)?;
-        others = others.saturating_add(others_at(alloc, form, changed, place as usize));
+        tally.count_changed(alloc, form, changed, place as usize);
     }
-    Ok(others)
+    Ok(tally)
 }
 
-/// The same, with each value of a byte in this place.
-fn others_at(alloc: Global, form: Form, mut text: Vec<u8>, place: usize) -> u64 {
-    let mut others = 0u64;
-    for value in 0..=255u8 {
-        if let Some(byte) = text.get_mut(place) {
-            *byte = value;
-        }
-        if !is_exact(alloc, form, text.as_slice()) {
-            others = others.saturating_add(1);
-        }
-    }
-    others
+/// How many texts are read, and how many of those are written otherwise.
+#[derive(Clone, Copy)]
+struct Tally {
+    read: u64,
+    otherwise: u64,
 }
 
-/// Whether the text is refused, or is written as it is read.
-fn is_exact(alloc: Global, form: Form, text: &[u8]) -> bool {
-    match again(alloc, form, text) {
-        Ok(written) => written.as_slice() == text,
-        Err(_) => true,
+impl Tally {
+    /// Counts the texts with each value of a byte in this place.
+    fn count_changed(&mut self, alloc: Global, form: Form, mut text: Vec<u8>, place: usize) {
+        for value in 0..=255u8 {
+            if let Some(byte) = text.get_mut(place) {
+                *byte = value;
+            }
+            self.count(alloc, form, text.as_slice());
+        }
+    }
+
+    fn count(&mut self, alloc: Global, form: Form, text: &[u8]) {
+        if let Ok(written) = again(alloc, form, text) {
+            self.read = self.read.saturating_add(1);
+            if written.as_slice() != text {
+                self.otherwise = self.otherwise.saturating_add(1);
+            }
+        }
     }
 }
 
@@ -103,7 +108,7 @@ fn is_exact(alloc: Global, form: Form, text: &[u8]) -> bool {
 fn state_of(alloc: Global, rest: &str) -> Result<String, Fault> {
     let (replicas, digits) = cut(rest)?;
     let Ok(replicas) = replicas.parse::<u16>() else {
-        return Err(Fault::BadLine);
+        return Err(Fault::Usage);
     };
     let text = bytes_of(alloc, digits)?;
     let written = state_again(alloc, replicas, &text)?;

@@ -1,6 +1,5 @@
 //! What is made of the replica that rows speak of.
 use crate::edits::command;
-use crate::words::{bytes_of, cut, digits_of, small};
 use rds_codec::{
     Hello, VERSION, decode_snapshot, encode_answer, encode_digest, encode_hello, encode_snapshot,
     encode_state, exchange,
@@ -8,6 +7,8 @@ use rds_codec::{
 use rds_delta::{Digest, certificate, delta};
 use rds_dots::ListSet;
 use rds_names::Fault;
+use rds_rows::told::digits_of;
+use rds_rows::words::{bytes_of, cut, small};
 use rds_state::{Replica, State};
 use std::alloc::Global;
 
@@ -37,7 +38,7 @@ pub fn answer(
         "answer-to" => answer_to(alloc, replica.state(), rest),
         "hello" => hello(alloc, replica, rest),
         "exchange" => exchanged(alloc, replica, rest),
-        _ => Err(Fault::BadLine),
+        _ => Err(Fault::Usage),
     }
 }
 
@@ -52,7 +53,7 @@ fn text(alloc: Global, replica: &Replica<ListSet>, form: &str) -> Result<String,
         "snapshot" => snapshot_text(alloc, replica),
         "state" => state_text(alloc, replica.state()),
         "digest" => digest_text(alloc, replica.state()),
-        _ => Err(Fault::BadLine),
+        _ => Err(Fault::Usage),
     }
 }
 

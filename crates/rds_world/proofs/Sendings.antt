@@ -23,11 +23,11 @@ use Rattle.rds_delta.proofs.LeastLaws.{least_above}
 use Rattle.rds_codec.specs.AnswerTexts.{IsAnswerOf, answer, answer_text, answer_kind}
 use Rattle.rds_codec.specs.AnswerValues.{AnswerValue}
 use Rattle.rds_codec.specs.Decoding.{Decodes}
-use Rattle.rds_codec.specs.DigestTexts.{DigestFits, IsDigestOf, digest_text}
+use Rattle.rds_codec.specs.DigestTexts.{digest_kind, DigestFits, IsDigestOf, digest_text}
 use Rattle.rds_codec.specs.Values.{AreDotsOf, AreFew}
 use Rattle.rds_codec.specs.Writing.{Encodes, IsUnwritten}
 use Rattle.rds_codec.specs.declared.limits.TheConstants.{LIMIT}
-use Rattle.rds_world.specs.Replies.{IsLeastFor, IsReplyTo, IsLongReply, IsTaken, IsUncertified, IsNotTaken, Untaken}
+use Rattle.rds_world.specs.Replies.{IsLeastFor, IsReplyTo, IsLongReply, IsCertified, IsTaken, IsUncertified, IsNotTaken, Untaken}
 use Rattle.rds_world.specs.Stands.{HoldsAsk}
 
 pub fault_is : {T : Type 0} (P : Fault → Type 0) (r : Result T Fault) (f : Fault) → r ≡ Err f → P f → IfErr r P
@@ -81,16 +81,18 @@ is_reply n g asker held value rows bytes components below fits is text within do
 
 -- ---- a take
 
-pub uncertified : (g : DigestValue) (inside a : AnswerValue) (answer : Bool) → inside ≡ a → answer ≡ false
-    → IsTrue answer ↔ (IsAbove (coordinates inside.state) (ranks_in g) × IsCertificate (ranks_in g) inside.state inside.certificate) → IsUncertified g a
+pub certified : (g : DigestValue) (inside a : AnswerValue) (answer : Bool) → inside ≡ a → answer ≡ true → IsTrue answer ↔ IsCertified g inside → IsCertified g a
+certified g inside a answer is passed judged = subst (IsCertified g) is (judged.0 passed)
+
+pub uncertified : (g : DigestValue) (inside a : AnswerValue) (answer : Bool) → inside ≡ a → answer ≡ false → IsTrue answer ↔ IsCertified g inside → IsUncertified g a
 uncertified g inside a answer is never judged = record {
-  wrong = λ h. (let passed : answer ≡ true = judged.1 (subst (λ (x : AnswerValue). IsAbove (coordinates x.state) (ranks_in g) × IsCertificate (ranks_in g) x.state x.certificate) (sym is) h) in false≢true (sym never ∙ passed));
+  wrong = λ h. (let passed : answer ≡ true = judged.1 (subst (IsCertified g) (sym is) h) in false≢true (sym never ∙ passed));
 }
 
-pub is_taken : (n : ℕ) (bytes : List ℕ) (old new : StateValue) (a : AnswerValue) (r : Result (Unit {0}) Fault) → Decodes (answer_kind n) bytes (Ok a)
-    → OnOk r (coordinates new ≡ join (coordinates old) (coordinates a.state)) → OnOk r (IsTaken n bytes old new)
-is_taken n bytes old new a (Ok x) read joined = record { answer = a; read = read; joined = joined }
-is_taken n bytes old new a (Err f) read joined = tt
+pub is_taken : (n : ℕ) (ask bytes : List ℕ) (old new : StateValue) (g : DigestValue) (a : AnswerValue) (r : Result (Unit {0}) Fault) → Decodes (digest_kind n) ask (Ok g) → Decodes (answer_kind n) bytes (Ok a)
+    → IsCertified g a → OnOk r (coordinates new ≡ join (coordinates old) (coordinates a.state)) → OnOk r (IsTaken n ask bytes old new)
+is_taken n ask bytes old new g a (Ok x) asked read certified joined = record { digest = g; asked = asked; answer = a; read = read; certified = certified; joined = joined }
+is_taken n ask bytes old new g a (Err f) asked read certified joined = tt
 
 pub not_taken : (n : ℕ) (ask bytes : List ℕ) (own : ℕ) (old : StateValue) (a : AnswerValue) (r : Result (Unit {0}) Fault) → Decodes (answer_kind n) bytes (Ok a)
     → TakeGives old own a.state r → IfErr r (IsNotTaken n ask bytes own old)

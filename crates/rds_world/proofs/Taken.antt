@@ -138,7 +138,7 @@ module _ (v : WorldValue) (i : IsWorld v) (k : ℕ) (t : AnswerText) (a : AskTex
         | inl is ↦ subst (Refuses v w (Take k)) (sym is) (NoMemory (due w s) (λ z. z))
         | inr large ↦ subst (Refuses v w (Take k)) (sym large.0) (Large (due w s) (record { reply = t; there = answer_there; large = large.1 }))
       ]
-  stopped_by f (Uncertified g x dg dx wrong) w s =
+  stopped_by f (Uncertified g x dg dx is wrong) w s =
       absurd (∥∥₁_elim i.model ⊥_prop (λ h. wrong.wrong (certified h g x (subst (λ j. Decodes (digest_kind j) a.bytes (Ok g)) same_roster dg) (subst (λ j. Decodes (answer_kind j) t.bytes (Ok x)) same_roster dx))))
   stopped_by f (Untaken x dx gives) w s =
       subst (Refuses v w (Take k)) (sym (only_memory f x (subst (λ j. Decodes (answer_kind j) t.bytes (Ok x)) same_roster dx) gives)) (NoMemory (due w s) (λ z. z))
@@ -148,7 +148,7 @@ module _ (v : WorldValue) (i : IsWorld v) (k : ℕ) (t : AnswerText) (a : AskTex
       let same : set v.memory t.asker x ≡ v.memory = ap (λ y. set v.memory t.asker y) is ∙ set_same v.memory t.asker m there in
       record { refused = stopped_by f h; same = λ j. record v { memory = same j } }
 
-  pub take_done : (x : ReplicaValue) → t.asker < length v.memory → (x.roster ≡ m.roster) × (x.own ≡ m.own) → IsTaken (length m.roster.names) t.bytes m.state x.state
+  pub take_done : (x : ReplicaValue) → t.asker < length v.memory → (x.roster ≡ m.roster) × (x.own ≡ m.own) → IsTaken (length m.roster.names) a.bytes t.bytes m.state x.state
       → IsDoneTo v (Take k) Plain (record v { memory = set v.memory t.asker x })
   take_done x lt same is =
       let read : Decodes (answer_kind n) t.bytes (Ok is.answer) = subst (λ j. Decodes (answer_kind j) t.bytes (Ok is.answer)) same_roster is.read in

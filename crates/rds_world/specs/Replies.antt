@@ -53,19 +53,26 @@ pub data HasNoReply (n : ℕ) (ask : List ℕ) (asker : ℕ) (held : StateValue)
   Unread : Decodes (digest_kind n) ask (Err fault) → HasNoReply n ask asker held fault
   TooBig : (digest : DigestValue) → Decodes (digest_kind n) ask (Ok digest) → fault ≡ TooLong → IsLongReply digest asker held → HasNoReply n ask asker held fault
 
--- the answer was read, and its delta joined
-pub record IsTaken (n : ℕ) (bytes : List ℕ) (old new : StateValue) : Type 0 where
+-- the delta is above the digest, and the certificate is that of the delta against it
+abbrev pub IsCertified : DigestValue → AnswerValue → Type 0
+IsCertified digest a = IsAbove (coordinates a.state) (ranks_in digest) × IsCertificate (ranks_in digest) a.state a.certificate
+
+-- the digest and the answer to it were read, the certificate was the right one, and the delta is joined
+pub record IsTaken (n : ℕ) (ask bytes : List ℕ) (old new : StateValue) : Type 0 where
+  pub digest : DigestValue
+  pub asked : Decodes (digest_kind n) ask (Ok digest)
   pub answer : AnswerValue
   pub read : Decodes (answer_kind n) bytes (Ok answer)
+  pub certified : IsCertified digest answer
   pub joined : coordinates new ≡ join (coordinates old) (coordinates answer.state)
 
--- the certificate isn't that of the delta against the digest, or the delta isn't above it
+-- the certificate is not the right one
 pub record IsUncertified (digest : DigestValue) (a : AnswerValue) : Type 0 where
-  pub wrong : IsAbove (coordinates a.state) (ranks_in digest) × IsCertificate (ranks_in digest) a.state a.certificate → ⊥
+  pub wrong : IsCertified digest a → ⊥
 
 -- why an answer isn't taken
 pub data IsNotTaken (n : ℕ) (ask bytes : List ℕ) (own : ℕ) (old : StateValue) (fault : Fault) : Type 0 where
   NoDigest : Decodes (digest_kind n) ask (Err fault) → IsNotTaken n ask bytes own old fault
   NoAnswer : Decodes (answer_kind n) bytes (Err fault) → IsNotTaken n ask bytes own old fault
-  Uncertified : (digest : DigestValue) (a : AnswerValue) → Decodes (digest_kind n) ask (Ok digest) → Decodes (answer_kind n) bytes (Ok a) → IsUncertified digest a → IsNotTaken n ask bytes own old fault
+  Uncertified : (digest : DigestValue) (a : AnswerValue) → Decodes (digest_kind n) ask (Ok digest) → Decodes (answer_kind n) bytes (Ok a) → fault ≡ BadCertificate → IsUncertified digest a → IsNotTaken n ask bytes own old fault
   Untaken : (a : AnswerValue) → Decodes (answer_kind n) bytes (Ok a) → TakeGives {T = Unit {0}} old own a.state (Err fault) → IsNotTaken n ask bytes own old fault

@@ -66,7 +66,7 @@ pub fn take<S: DotSet>(
     ask: &[u8],
     answer: &[u8],
 ) -> Result<(), Fault>
-    ensures ok { OnOk result (IsTaken (length replica.old.roster.names) answer.now replica.old.state replica.new.state) }
+    ensures ok { OnOk result (IsTaken (length replica.old.roster.names) ask.now answer.now replica.old.state replica.new.state) }
     ensures fault { IfErr result (IsNotTaken (length replica.old.roster.names) ask.now answer.now replica.old.own replica.old.state) }
     ensures roster { replica.new.roster ≡ replica.old.roster }
     ensures own { replica.new.own ≡ replica.old.own }

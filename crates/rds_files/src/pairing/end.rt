@@ -3,9 +3,10 @@ ghost use Rattle.std.specs.Prelude.{◌≡◌, ◌≤◌, ◌⊎◌, true, false
 ghost use Rattle.rds_names.specs.declared.fault.Fault.TheVariants.{Device};
 ghost use Rattle.rds_session.specs.declared.step.Ended.TheVariants.{Going, Failed};
 ghost use Rattle.rds_session.specs.declared.talk.Side.{Side};
+ghost use Rattle.rds_session.specs.Leaving.{Leaves};
 ghost use Rattle.rds_session.specs.Steps.{IsOver};
 ghost use Rattle.rds_state.specs.Fits.{ReplicaValue};
-ghost use Rattle.rds_files.specs.Pairing.{IsEnd, Leaves, StaysEnd};
+ghost use Rattle.rds_files.specs.Pairing.{IsEnd, StaysEnd};
 
 use super::pending::Pending;
 use rds_dots::DotSet;
@@ -55,7 +56,7 @@ impl<'a, T: Read + Write + OpenStream + Drop, S: DotSet> End<'a, T, S> {
 
     /// Whether the session has ended.
     pub fn is_over(&self) -> bool {
-        is_over(self.ended)
+        self.ended.is_over()
     }
 
     /// Whether writing was shut down.
@@ -118,7 +119,7 @@ impl<'a, T: Read + Write + OpenStream + Drop, S: DotSet> End<'a, T, S> {
                 self.take(alloc, Input::Bytes(front));
                 Ok(count)
             }
-            Err(_) if is_over(self.ended) => Err(Fault::Device),
+            Err(_) if self.ended.is_over() => Err(Fault::Device),
             Err(_) => Err(self.fail()),
         }
     }
@@ -134,7 +135,7 @@ impl<'a, T: Read + Write + OpenStream + Drop, S: DotSet> End<'a, T, S> {
     fn take(&mut self, alloc: Global, input: Input<'_>)
         ensures { StaysEnd self.old.session self.old.ended self.new.session self.new.ended }
     {
-        if is_over(self.ended) {
+        if self.ended.is_over() {
             return;
         }
         let output = self.session.step(alloc, input);
@@ -172,15 +173,5 @@ fn at_last(ended: Ended) -> Ended
     match ended {
         Ended::Going => Ended::Failed(Fault::Device),
         ended => ended,
-    }
-}
-
-fn is_over(ended: Ended) -> bool
-    ensures over { result ≡ true → IsOver ended }
-    ensures going { result ≡ false → ended ≡ Going }
-{
-    match ended {
-        Ended::Going => false,
-        Ended::Done | Ended::Failed(_) => true,
     }
 }

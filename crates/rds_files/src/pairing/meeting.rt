@@ -2,7 +2,8 @@
 ghost use Rattle.std.specs.Prelude.{◌≡◌, IfErr};
 ghost use Rattle.rds_names.specs.declared.fault.Fault.TheVariants.{Device};
 ghost use Rattle.rds_session.specs.declared.talk.Side.TheVariants.{Client, Server};
-ghost use Rattle.rds_files.specs.Pairing.{Leaves, StaysEnd};
+ghost use Rattle.rds_session.specs.Leaving.{Leaves};
+ghost use Rattle.rds_files.specs.Pairing.{StaysEnd};
 
 use super::end::End;
 use rds_dots::DotSet;

@@ -1,10 +1,9 @@
-use Rattle.std.proofs.Common.{◌≡◌, ◌<◌, ◌⊎◌, ℕ, length, subst, ap, ◌∙◌, arith}
+use Rattle.std.proofs.Common.{◌≡◌, ◌<◌, ◌⊎◌, Err, length, subst, ap, ◌∙◌, arith}
+use Rattle.std.proofs.lemmas.Result.{err_from_is_err_and}
 use Rattle.rds_names.specs.Roster.{RosterValue}
-use Rattle.rds_state.specs.Value.{StateValue}
-use Rattle.rds_delta.specs.Digested.{digest_of}
+use Rattle.rds_delta.specs.Digested.{DigestValue, digest_of}
 use Rattle.rds_codec.specs.Exchanged.{CanExchange, IsAnswerTo, IsLongDigest, IsLongAnswer}
-use Rattle.rds_codec.proofs.ExchangeLemmas.{answer_is_above, answer_joins, answer_is_taken, few_here, fits_here}
-use Rattle.rds_codec.proofs.Texts.{OnOk-map}
+use Rattle.rds_codec.proofs.ExchangeLemmas.{IsAsked, answer_is_above, answer_is_taken, answer_joins, asked_of}
 use Rattle.rds_codec.proofs.exchanges.exchange.Goals as goal
 
 pub returns : goal.returns
@@ -16,24 +15,35 @@ returns g c =
     let digest = c.in_ok-digest.digest in
     let a = c.in_ok-answer.answer in
     let many : n ≡ length mine.roster.names = c.len-replicas.ensures.names ∙ ap (λ (r : RosterValue). length r.names) c.roster.ensures in
-    let told = c.state.result.now in
-    let held = c.state-2.result.now in
-    let same : CanExchange answerer asked mine → digest ≡ digest_of asked.state = λ can.
-    c.in_ok-digest.ensures.ok (fits_here n asked.roster mine.roster asked.state told many can.asked_roster c.state.ensures.state c.state.ensures.fits) (few_here asked.state told c.state.ensures.state can.few_asked)
-    ∙ ap digest_of c.state.ensures.state in
     let below : c.own.result < n = omega (arith, many, c.own.ensures.own, c.own.ensures.within) in
-    let own : CanExchange answerer asked mine → IsAnswerTo digest c.own.result held a = λ can.
-    c.in_ok-answer.ensures.ok below (fits_here n answerer.roster mine.roster answerer.state held many can.answerer_roster c.state-2.ensures.state c.state-2.ensures.fits)
-    (few_here answerer.state held c.state-2.ensures.state can.few_held) in
-    let is : CanExchange answerer asked mine → IsAnswerTo digest mine.own answerer.state a = λ can.
-    subst (λ (k : ℕ). IsAnswerTo digest k answerer.state a) c.own.ensures.own (subst (λ (s : StateValue). IsAnswerTo digest c.own.result s a) c.state-2.ensures.state (own can)) in
-    let IsLong = IsLongDigest asked.state ⊎ IsLongAnswer (digest_of asked.state) mine.own answerer.state in
+    let told : CanExchange answerer asked mine → IsAsked answerer asked mine digest a =
+    asked_of n c.own.result answerer asked mine c.state.result.now c.state-2.result.now digest a many c.own.ensures.own below c.state.ensures.state c.state.ensures.fits c.state-2.ensures.state c.state-2.ensures.fits
+    c.in_ok-digest.ensures.ok c.in_ok-answer.ensures.ok in
     record {
-      joined = λ can. OnOk-map c.take_answer.result (λ joined. joined ∙ answer_joins digest mine.own answerer.state a (is can) asked.state mine.state (same can) can.grown) c.take_answer.ensures.ok;
-      fault = λ can.
-          answer_is_taken digest mine.own answerer.state a (is can) answerer.own mine.state c.take_answer.result IsLong can.friends
-          (c.take_answer.ensures.taken (is can).asked (answer_is_above digest mine.own answerer.state a (is can)) (is can).certificate);
+      answer = λ can. subst (λ (d : DigestValue). IsAnswerTo d mine.own answerer.state a) (told can).same (told can).answers;
+      joined = λ can. c.in_ok-take_answer.ensures.ok ∙ answer_joins digest mine.own answerer.state a (told can).answers asked.state mine.state (told can).same can.grown;
+      fault = λ can. tt;
       roster = c.take_answer.ensures.roster;
       own = c.take_answer.ensures.own;
-      err = c.take_answer.ensures.err;
+      err = tt;
     }
+
+pub returns-in_err-take_answer-clause-fault : goal.returns-in_err-take_answer-clause-fault
+returns-in_err-take_answer-clause-fault g c =
+    let answerer = c.args.answerer.now in
+    let asked = c.args.asked.now in
+    let mine = c.args.asker.now in
+    let n = c.len-replicas.result in
+    let digest = c.in_ok-digest.digest in
+    let a = c.in_ok-answer.answer in
+    let many : n ≡ length mine.roster.names = c.len-replicas.ensures.names ∙ ap (λ (r : RosterValue). length r.names) c.roster.ensures in
+    let below : c.own.result < n = omega (arith, many, c.own.ensures.own, c.own.ensures.within) in
+    let told : CanExchange answerer asked mine → IsAsked answerer asked mine digest a =
+    asked_of n c.own.result answerer asked mine c.state.result.now c.state-2.result.now digest a many c.own.ensures.own below c.state.ensures.state c.state.ensures.fits c.state-2.ensures.state c.state-2.ensures.fits
+    c.in_ok-digest.ensures.ok c.in_ok-answer.ensures.ok in
+    let IsLong = IsLongDigest asked.state ⊎ IsLongAnswer (digest_of asked.state) mine.own answerer.state in
+    let p = err_from_is_err_and c.from_residual-in_err-take_answer.result c.from_residual-in_err-take_answer.ensures.1 in
+    rw (p.1, p.2) (λ can.
+    (let is = (told can).answers in
+    answer_is_taken digest mine.own answerer.state a is answerer.own mine.state (Err c.in_err-take_answer.field-0.0) IsLong can.friends
+    (c.in_err-take_answer.ensures.taken is.asked (answer_is_above digest mine.own answerer.state a is) is.certificate)))

@@ -1,4 +1,4 @@
-use Rattle.std.proofs.Common.{◌≡◌, ◌∙◌, ◌++◌, sym, ap, subst, List, None, true}
+use Rattle.std.proofs.Common.{◌≡◌, ◌∙◌, ◌++◌, refl, sym, ap, subst, List, None, true}
 use Rattle.std.specs.Prelude.{is_some}
 use Rattle.std.specs.FinMap as map
 use Rattle.rds_dots.specs.declared.dot.Dot.{Dot}
@@ -22,7 +22,7 @@ returns-clause-ok g c =
     let rs = c.rows.result.now in
     let dots = c.in_ok-rows.rows.items in
     let is : v.counts ≡ counted rs = sym c.counts-2.ensures ∙ c.rows.ensures.value in
-    let told = subst (λ (l : Lived). (more : List Row) → is_flat more ≡ true → dots ++ more ≡ rows_after (rank_in c.args.digest.now) l None more) c.lives-2.ensures c.in_ok-rows.ensures.ok in
+    let told = subst (λ (l : Lived). (more : List Row) → is_flat more ≡ true → dots ++ more ≡ rows_after (rank_in c.args.digest.now) l None more) c.lives.ensures c.in_ok-rows.ensures.ok in
     let all : c.push_counts.new.rows.items ≡ dots ++ counter_rows b.number rs = c.in_ok-push_counts.ensures.ok ∙ ap (λ (m : Counted). dots ++ counter_rows (number m) rs) c.counts.ensures in
     subst (IsCertificate b v) (sym (c.new.ensures ∙ all)) (whole_certificate b v rs c.rows.ensures.are_rows is dots told)
 
@@ -35,5 +35,5 @@ returns-clause-within g c = λ replicas fits above.
     let v = c.args.delta.now in
     let rs = c.rows.result.now in
     let is : v.counts ≡ counted rs = sym c.counts-2.ensures ∙ c.rows.ensures.value in
-    let dots = subst (λ (l : Lived). (d : Dot) → is_some (map.get l d) ≡ true → is_dot d ≡ true) c.lives.ensures c.seen_are_dots.ensures in
+    let dots = subst (λ (l : Lived). (d : Dot) → is_some (map.get l d) ≡ true → is_dot d ≡ true) c.lives.ensures (c.in_ok-rows.ensures.dots refl) in
     certificate_within replicas b v dots (number_most v.counts rs c.rows.ensures.are_rows is) fits above c.new.result (returns-clause-ok g c)

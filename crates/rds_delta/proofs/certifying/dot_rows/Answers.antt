@@ -8,12 +8,12 @@ use Rattle.rds_delta.proofs.ClaimedLemmas.{step_rows, fewer_left}
 use Rattle.rds_delta.proofs.certifying.dot_rows.Goals as goal
 
 pub returns-in-None-clause-ok : goal.returns-in-None-clause-ok
-returns-in-None-clause-ok g c = λ more flat. ap (λ l. c.telling.rows.items ++ l) (sym (step_none (rank_in c.args.digest.now) c.args.lives.now c.telling.after more c.in-None.ensures)) ∙ c.telling.invariant more flat
+returns-in-None-clause-ok g c = λ more flat. ap (λ l. c.telling.rows.items ++ l) (sym (step_none (rank_in c.args.digest.now) c.args.lives.now c.telling.after more c.in-None.ensures.next)) ∙ c.telling.invariant more flat
 
 pub telling-smaller : goal.telling-smaller
 telling-smaller g c =
     let v = c.args.lives.now in
-    subst (λ (d : Dot). length (after_of (Some d) v) < length (after_of c.telling.after v)) (sym c.last.ensures) (fewer_left (rank_in c.args.digest.now) v c.telling.after c.in-Some.next c.in-Some.ensures)
+    subst (λ (d : Dot). length (after_of (Some d) v) < length (after_of c.telling.after v)) (sym c.last.ensures) (fewer_left (rank_in c.args.digest.now) v c.telling.after c.in-Some.next c.in-Some.ensures.next)
 
 pub telling-preserved : goal.telling-preserved
 telling-preserved g c = λ more flat.
@@ -25,5 +25,5 @@ telling-preserved g c = λ more flat.
     ∙ append_assoc c.telling.rows.items (c.row.result ∷ []) (rest c.last.result)
     ∙ ap (λ (r : Row). c.telling.rows.items ++ (r ∷ rest c.last.result)) c.row.ensures
     ∙ ap (λ (d : Dot). c.telling.rows.items ++ (row_of c.in-Some.next ∷ rest d)) c.last.ensures
-    ∙ ap (λ (l : List Row). c.telling.rows.items ++ l) (sym (step_rows peer v c.telling.after c.in-Some.next c.in-Some.ensures more flat))
+    ∙ ap (λ (l : List Row). c.telling.rows.items ++ l) (sym (step_rows peer v c.telling.after c.in-Some.next c.in-Some.ensures.next more flat))
     ∙ c.telling.invariant more flat

@@ -9,14 +9,14 @@ use Rattle.rds_delta.proofs.ClaimedLemmas.{claim_step, claim_other, claim_end, f
 use Rattle.rds_delta.proofs.checking.dots_claimed.Goals as goal
 
 pub returns-in-None : goal.returns-in-None
-returns-in-None g c = claim_end (rank_in c.args.digest.now) c.args.lives.now c.args.rows.now c.claiming.after c.claiming.rest.now c.in-None.ensures c.claiming.invariant
+returns-in-None g c = claim_end (rank_in c.args.digest.now) c.args.lives.now c.args.rows.now c.claiming.after c.claiming.rest.now c.in-None.ensures.next c.claiming.invariant
 
 pub returns-in-None-split_first : goal.returns-in-None-split_first
-returns-in-None-split_first g c = claim_other (rank_in c.args.digest.now) c.args.lives.now c.args.rows.now c.claiming.after c.in-Some.next c.claiming.rest.now c.in-Some.ensures c.claiming.invariant (λ later h.
+returns-in-None-split_first g c = claim_other (rank_in c.args.digest.now) c.args.lives.now c.args.rows.now c.claiming.after c.in-Some.next c.claiming.rest.now c.in-Some.ensures.next c.claiming.invariant (λ later h.
     let n = c.in-None-split_first.ensures.cases in let e = ap length h in omega (arith, n, e))
 
 pub returns-then-not-is_row : goal.returns-then-not-is_row
-returns-then-not-is_row g c = claim_other (rank_in c.args.digest.now) c.args.lives.now c.args.rows.now c.claiming.after c.in-Some.next c.claiming.rest.now c.in-Some.ensures c.claiming.invariant (λ later h.
+returns-then-not-is_row g c = claim_other (rank_in c.args.digest.now) c.args.lives.now c.args.rows.now c.claiming.after c.in-Some.next c.claiming.rest.now c.in-Some.ensures.next c.claiming.invariant (λ later h.
     let a = c.in-Some-split_first.ensures.cases.0 in
     let same : c.in-Some-split_first.parts.0.now ≡ row_of c.in-Some.next = cc (a, h) in
     false≢true (sym c.if-not-is_row.true ∙ c.is_row.ensures.1 same))
@@ -24,7 +24,7 @@ returns-then-not-is_row g c = claim_other (rank_in c.args.digest.now) c.args.liv
 pub claiming-smaller : goal.claiming-smaller
 claiming-smaller g c =
     let v = c.args.lives.now in
-    subst (λ (d : Dot). length (after_of (Some d) v) < length (after_of c.claiming.after v)) (sym c.last.ensures) (fewer_left (rank_in c.args.digest.now) v c.claiming.after c.in-Some.next c.in-Some.ensures)
+    subst (λ (d : Dot). length (after_of (Some d) v) < length (after_of c.claiming.after v)) (sym c.last.ensures) (fewer_left (rank_in c.args.digest.now) v c.claiming.after c.in-Some.next c.in-Some.ensures.next)
 
 pub claiming-preserved : goal.claiming-preserved
 claiming-preserved g c =
@@ -35,4 +35,4 @@ claiming-preserved g c =
     let is = c.in-Some-split_first.ensures.cases.0 ∙ ap (λ (r : Row). r ∷ later) same in
     let high : row_above c.in-Some.next ≡ true = sym c.is_above.ensures ∙ c.if-not-is_above.false in
     subst (λ (d : Dot). IsClaimedTo peer v c.args.rows.now (Some d) later) (sym c.last.ensures)
-    (claim_step peer v c.args.rows.now c.claiming.after c.in-Some.next later c.in-Some.ensures high (subst (IsClaimedTo peer v c.args.rows.now c.claiming.after) is c.claiming.invariant))
+    (claim_step peer v c.args.rows.now c.claiming.after c.in-Some.next later c.in-Some.ensures.next high (subst (IsClaimedTo peer v c.args.rows.now c.claiming.after) is c.claiming.invariant))

@@ -1,17 +1,20 @@
-use Rattle.std.proofs.Common.{◌≡◌, true, Bool, List, ◌∷◌, length}
-use Rattle.std.specs.List.{list_all}
+use Rattle.std.proofs.Common.{◌≡◌, ◌+◌, ◌-◌, ◌≤◌, false, List, ◌∷◌, take, get_or, length}
 use Rattle.rds_dots.specs.declared.dot.Dot.{Dot}
 use Rattle.rds_dots.specs.declared.dot.Run.{Run}
-use Rattle.rds_dots.specs.Dots.{last_of}
-use Rattle.rds_dots.specs.Drawn.{put_dots}
+use Rattle.rds_dots.specs.Dots.{first_of, last_of}
+use Rattle.rds_dots.specs.Drawn.{leads_by, put_dots}
 use Rattle.rds_dots.proofs.lists.drawn_back.Given as goal
 
-abbrev pub invariant-drawing : goal.invariant-drawing
-invariant-drawing l = record {
+-- the run is drawn back through the dots from high on, and that before low isn't in line
+abbrev pub invariant-searching : goal.invariant-searching
+invariant-searching l = record {
+  order : l.low ≤ l.high;
+  within : l.high ≤ length l.before;
   last : last_of l.run ≡ last_of l.fn.run;
-  whole : (rs : List Run) → put_dots l.before (l.run ∷ rs) ≡ put_dots l.fn.before (l.fn.run ∷ rs);
-  part : (p : Dot → Bool) → list_all p l.fn.before ≡ true → list_all p l.before ≡ true;
+  far : l.run.lo + (length l.before - l.high) ≡ l.fn.run.lo;
+  whole : (rs : List Run) → put_dots (take l.high l.before) (l.run ∷ rs) ≡ put_dots l.before (l.fn.run ∷ rs);
+  apart : 1 ≤ l.low → (d : Dot) → leads_by (length l.before - (l.low - 1)) (get_or l.before (l.low - 1) d) (first_of l.fn.run) ≡ false;
 }
 
-abbrev pub decreases-drawing : goal.decreases-drawing
-decreases-drawing l = length l.before
+abbrev pub decreases-searching : goal.decreases-searching
+decreases-searching l = l.high - l.low

@@ -1,15 +1,20 @@
-use Rattle.std.proofs.Common.{◌≡◌, ◌≤◌, length}
-use Rattle.rds_dots.specs.Dots.{first_of}
+use Rattle.std.proofs.Common.{◌≡◌, ◌+◌, ◌-◌, ◌≤◌, ◌<◌, false, drop, get_or, length}
+use Rattle.rds_dots.specs.declared.dot.Dot.{Dot}
+use Rattle.rds_dots.specs.Dots.{first_of, last_of}
+use Rattle.rds_dots.specs.Drawn.{drawn, leads_by}
 use Rattle.rds_dots.specs.Runs.{grouped}
-use Rattle.rds_dots.specs.Drawn.{drawn}
 use Rattle.rds_dots.proofs.lists.drawn_on.Given as goal
 
-abbrev pub invariant-drawing : goal.invariant-drawing
-invariant-drawing l = record {
+-- the run is drawn on through the dots before low, and that at high isn't in line
+abbrev pub invariant-searching : goal.invariant-searching
+invariant-searching l = record {
+  order : l.low ≤ l.high;
+  within : l.high ≤ length l.rest;
   first : first_of l.run ≡ first_of l.fn.run;
-  longer : l.fn.run.hi ≤ l.run.hi;
-  whole : drawn l.run (grouped l.rest) ≡ drawn l.fn.run (grouped l.fn.rest);
+  last : l.run.hi ≡ l.fn.run.hi + l.low;
+  whole : drawn l.run (grouped (drop l.low l.rest)) ≡ drawn l.fn.run (grouped l.rest);
+  apart : l.high < length l.rest → (d : Dot) → leads_by (l.high + 1) (last_of l.fn.run) (get_or l.rest l.high d) ≡ false;
 }
 
-abbrev pub decreases-drawing : goal.decreases-drawing
-decreases-drawing l = length l.rest
+abbrev pub decreases-searching : goal.decreases-searching
+decreases-searching l = l.high - l.low

@@ -1,7 +1,8 @@
 use Rattle.std.proofs.Common.{◌≡◌}
+use Rattle.rds_session.specs.declared.talk.Side.TheVariants.{Server}
 use Rattle.rds_files.proofs.Serving.{HasServed}
 use Rattle.rds_files.proofs.syncing.serve.Given as goal
 
 abbrev pub invariant-sessions : goal.invariant-sessions
 invariant-sessions g l =
-    record { served : HasServed l.fn.kept l.kept l.counter l.told (g.W.Write.contents l.fn.writer.inner) (g.W.Write.contents l.writer.inner); steady : l.writer.failed ≡ l.fn.writer.failed }
+    record { served : HasServed Server l.fn.file l.file l.counter l.told (g.W.Write.contents l.fn.writer.inner) (g.W.Write.contents l.writer.inner); steady : l.writer.failed ≡ l.fn.writer.failed }

@@ -6,9 +6,9 @@ pub returns-in_err-replica-clause-whole : goal.returns-in_err-replica-clause-who
 returns-in_err-replica-clause-whole g c =
     let p = err_from_is_err_and c.from_residual-in_err-replica.result c.from_residual-in_err-replica.ensures.1 in
     rw (p.1, p.2) (front_decoded (g.R.Read.remaining c.args.reader.now.inner) (g.R.Read.remaining c.read_front.new.self.inner) c.in_ok-input.input.items _
-    c.in_ok-input.ensures.bytes c.in_ok-input.ensures.end (rw (← c.as_slice.ensures.value) c.in_err-replica.ensures.text))
+    c.in_ok-input.ensures.bytes c.in_ok-input.ensures.end (rw (← c.as_slice.ensures.value) c.in_err-replica.ensures.text) (rw (← c.as_slice.ensures.value) c.in_err-replica.ensures.read))
 
 pub returns-clause-whole : goal.returns-clause-whole
 returns-clause-whole g c =
     rw c.new.ensures (front_decoded (g.R.Read.remaining c.args.reader.now.inner) (g.R.Read.remaining c.read_front.new.self.inner) c.in_ok-input.input.items _
-    c.in_ok-input.ensures.bytes c.in_ok-input.ensures.end (rw (← c.as_slice.ensures.value) c.in_ok-replica.ensures.text))
+    c.in_ok-input.ensures.bytes c.in_ok-input.ensures.end (rw (← c.as_slice.ensures.value) c.in_ok-replica.ensures.text) (rw (← c.as_slice.ensures.value) c.in_ok-replica.ensures.read))

@@ -6,17 +6,19 @@ use Rattle.rds_lines.proofs.answering.answer_lines.Goals as goal
 
 pub returns-then-refused-clause-answered : goal.returns-then-refused-clause-answered
 returns-then-refused-clause-answered g c =
+    let runs = rw c.begin_turns.ensures at c.lines.invariant.runs in
     let now = untaken c.lines.ahead (g.R.Read.remaining c.lines.reader.inner) in
     let next = untaken c.next_line.new.self (g.R.Read.remaining c.next_line.new.reader.inner) in
     runs_last g.A.Answers.may_answer (g.R.Read.remaining c.args.reader.now.inner) now next (g.W.Write.contents c.args.writer.now.inner) (g.W.Write.contents c.lines.writer.inner) c.args.answers.now c.lines.answers c.lines.refused _ _ 1
-    c.lines.invariant.runs (subst (TakesLine now next) c.in-Ok-None.field-0-is c.in-Ok-None.ensures.taken) g.met.A.Answers.ends (sym (ap (λ (b : Bool). cond b 1 0) c.if-refused.true))
+    runs (subst (TakesLine now next) c.in-Ok-None.field-0-is c.in-Ok-None.ensures.taken) g.met.A.Answers.ends (sym (ap (λ (b : Bool). cond b 1 0) c.if-refused.true))
 
 pub returns-else-refused-clause-answered : goal.returns-else-refused-clause-answered
 returns-else-refused-clause-answered g c =
+    let runs = rw c.begin_turns.ensures at c.lines.invariant.runs in
     let now = untaken c.lines.ahead (g.R.Read.remaining c.lines.reader.inner) in
     let next = untaken c.next_line.new.self (g.R.Read.remaining c.next_line.new.reader.inner) in
     runs_last g.A.Answers.may_answer (g.R.Read.remaining c.args.reader.now.inner) now next (g.W.Write.contents c.args.writer.now.inner) (g.W.Write.contents c.lines.writer.inner) c.args.answers.now c.lines.answers c.lines.refused _ _ 0
-    c.lines.invariant.runs (subst (TakesLine now next) c.in-Ok-None.field-0-is c.in-Ok-None.ensures.taken) g.met.A.Answers.ends (sym (ap (λ (b : Bool). cond b 1 0) c.if-refused.false))
+    runs (subst (TakesLine now next) c.in-Ok-None.field-0-is c.in-Ok-None.ensures.taken) g.met.A.Answers.ends (sym (ap (λ (b : Bool). cond b 1 0) c.if-refused.false))
 
 pub returns-in-Err-clause-unread : goal.returns-in-Err-clause-unread
 returns-in-Err-clause-unread g c = λ read wrote.
@@ -25,7 +27,7 @@ returns-in-Err-clause-unread g c = λ read wrote.
 
 pub lines-preserved : goal.lines-preserved
 lines-preserved g c =
-    let first = g.R.Read.remaining c.args.reader.now.inner in
+    let first = g.R.Read.remaining c.begin_turns.new.self.inner in
     let now = untaken c.lines.ahead (g.R.Read.remaining c.lines.reader.inner) in
     let next = untaken c.next_line.new.self (g.R.Read.remaining c.next_line.new.reader.inner) in
     let before = g.W.Write.contents c.args.writer.now.inner in

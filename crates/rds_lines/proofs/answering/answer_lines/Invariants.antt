@@ -13,4 +13,4 @@ invariant-lines g l = record {
 }
 
 abbrev pub decreases-lines : goal.decreases-lines
-decreases-lines g l = left_of l.ahead
+decreases-lines g l = left_of l.ahead l.reader.left

@@ -1,5 +1,6 @@
-use Rattle.std.proofs.Common.{◌≡◌, ap, ◌∙◌, subst}
+use Rattle.std.proofs.Common.{◌≡◌, ap, sym, inl, inr, ◌∙◌, subst}
 use Rattle.rds_state.specs.Fits.{ReplicaValue}
+use Rattle.rds_session.specs.declared.step.Ended.TheVariants.{Failed}
 use Rattle.rds_session.specs.declared.talk.Side.{Side}
 use Rattle.rds_session.specs.Received.{HasChecked}
 use Rattle.rds_session.specs.Session.{Standing, Nothing, course}
@@ -26,3 +27,22 @@ pub returns-in-Ok-clause-exchange : goal.returns-in-Ok-clause-exchange
 returns-in-Ok-clause-exchange g c =
     λ reader writer. exchanged c.args.side c.args.kept.now (g.R.Read.remaining c.args.reader.now.inner) _ c.talk.new.session _ _ c.into_received.result c.in-Ok.ended
     (c.in-Ok.ensures.talk c.args.side c.args.kept.now c.new-session.ensures.standing) c.in-Ok.ensures.ended c.into_received.ensures.received
+
+pub returns-in-Ok-clause-done : goal.returns-in-Ok-clause-done
+returns-in-Ok-clause-done g c = λ is_done. c.into_received.ensures.done (sym c.in-Ok.ensures.ended.0 ∙ is_done)
+
+pub returns-in-Ok-clause-session : goal.returns-in-Ok-clause-session
+returns-in-Ok-clause-session g c = record {
+  session = c.talk.new.session;
+  heard = c.in-Ok.ensures.heard c.args.side c.args.kept.now c.new-session.ensures.standing;
+  is_received = c.into_received.ensures.received;
+  stands = inl c.in-Ok.ensures.ended.0;
+}
+
+pub returns-in-Err-clause-session : goal.returns-in-Err-clause-session
+returns-in-Err-clause-session g c = record {
+  session = c.talk.new.session;
+  heard = c.in-Err.ensures.heard c.args.side c.args.kept.now c.new-session.ensures.standing;
+  is_received = c.into_received-in-Err.ensures.received;
+  stands = inr (inl (ap Failed c.in-Err.ensures.fault.0));
+}

@@ -10,3 +10,6 @@ abbrev pub invariant-turns : goal.invariant-turns
 invariant-turns g l = (IsNoDevice l.fn.session.ended → IsNoDevice l.session.ended) × (l.ended ≡ l.session.ended) × (l.session.kept ≡ l.fn.session.kept) × (l.reader.failed ≡ l.fn.reader.failed) × (l.writer.failed ≡ l.fn.writer.failed)
     × ((side : Side) (kept : ReplicaValue) → HasStanding side kept Nothing l.fn.session
     → Talks side kept (g.R.Read.remaining l.fn.reader.inner) (g.R.Read.remaining l.reader.inner) l.session (g.W.Write.contents l.fn.writer.inner) (g.W.Write.contents l.writer.inner))
+
+abbrev pub decreases-turns : goal.decreases-turns
+decreases-turns g l = l.reader.left

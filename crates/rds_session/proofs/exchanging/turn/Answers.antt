@@ -1,5 +1,18 @@
-use Rattle.rds_session.proofs.Turns.{came_piece, on_ok, turned}
+use Rattle.std.proofs.Common.{◌<◌, length, rules}
+use Rattle.rds_session.proofs.Turns.{came_end, came_piece, heard_more_by, on_ok, turned}
 use Rattle.rds_session.proofs.exchanging.turn.Goals as goal
+
+pub returns-then-count-eq0-clause-heard : goal.returns-then-count-eq0-clause-heard
+returns-then-count-eq0-clause-heard g c = λ side kept. heard_more_by side kept c.args.session.now c.say.new.session c.requires.going (c.say.ensures.heard side kept)
+
+pub returns-then-count-eq0-clause-talk : goal.returns-then-count-eq0-clause-talk
+returns-then-count-eq0-clause-talk g c =
+    let room : 0 < length c.read.new.buf = search rules in
+    let came = came_end _ _ c.in_ok-count.count c.read.new.buf c.in_ok-count.ensures.bytes c.if-count-eq0.true room in
+    on_ok c.say.result _ _ c.say.ensures.says (λ says. turned _ _ _ _ _ _ _ c.requires.going came says)
+
+pub returns-clause-heard : goal.returns-clause-heard
+returns-clause-heard g c = λ side kept. heard_more_by side kept c.args.session.now c.say-2.new.session c.requires.going (c.say-2.ensures.heard side kept)
 
 pub returns-clause-talk : goal.returns-clause-talk
 returns-clause-talk g c =

@@ -6,8 +6,8 @@ use Rattle.rds_codec.specs.AnswerValues.{AnswerValue}
 use Rattle.rds_codec.proofs.Replicas.{state_fits}
 use Rattle.rds_session.proofs.judging.judge_delta.Goals as goal
 
-pub returns-clause-checked : goal.returns-clause-checked
-returns-clause-checked g c =
+pub returns-clause-brings : goal.returns-clause-brings
+returns-clause-brings g c = λ turn.
     let replicas = c.len.ensures.names ∙ ap (λ (r : RosterValue). length r.names) c.roster.ensures in
     let state = sym (ap (λ (a : AnswerValue). a.state) c.answer.view_is) in
     let fits = state_fits _ _ c.in_ok-answer.ensures.value.state in

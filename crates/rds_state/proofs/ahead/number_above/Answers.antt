@@ -1,6 +1,11 @@
-use Rattle.std.proofs.Common.{◌∙◌}
-use Rattle.rds_state.proofs.AheadLemmas.{number_ahead_is}
+use Rattle.std.proofs.Common.{subst, sym}
+use Rattle.rds_counts.specs.Counted.{number}
+use Rattle.rds_state.specs.Ahead.{NumberAhead}
+use Rattle.rds_state.proofs.AheadLemmas.{rows_ahead_is}
 use Rattle.rds_state.proofs.ahead.number_above.Goals as goal
 
 pub returns : goal.returns
-returns c = c.first_above.ensures ∙ number_ahead_is c.args.counts.now c.args.own c.args.delta.now c.rows.result.now c.rows.ensures.are_rows c.rows.ensures.value
+returns c =
+    let here = number c.args.counts.now in
+    let sent = number c.args.delta.now in
+    subst (NumberAhead here c.args.own sent) (sym c.first_above.ensures) (rows_ahead_is here c.args.own c.args.delta.now c.rows.result.now c.rows.ensures.are_rows c.rows.ensures.value)

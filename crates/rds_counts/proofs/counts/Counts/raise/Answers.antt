@@ -5,7 +5,7 @@ use Rattle.rds_counts.specs.Counted.{number, number_of, place, counted, pair_of,
 use Rattle.rds_counts.specs.Search.{IsSpot}
 use Rattle.rds_counts.specs.Raised.{pair_raised, row_of}
 use Rattle.rds_counts.specs.Drawn.{drawn}
-use Rattle.rds_counts.proofs.Raises.{one_row, raised_some, old_number, sum_within, raised-number, others-number}
+use Rattle.rds_counts.proofs.Raises.{one_row, raised_some, old_number, sum_within, raised-number, others-number, lacking, number_of_none}
 use Rattle.rds_counts.proofs.DrawnLemmas.{drawn_are}
 use Rattle.rds_counts.proofs.counts.Counts.raise.Goals as goal
 
@@ -42,6 +42,17 @@ returns-in_err-put_row-clause-full c =
     let within = sum_within rows c.self.invariant c.args.self.now c.self.view_is key replica c.args.which c.args.by c.in_ok-pair.pair is c.in_ok-pair.ensures.within.0 c.in_ok-pair.ensures.within.1 in
     let is : c.from_residual-in_err-put_row.result ≡ Err Memory = search rules in
     ((λ h. absurd (cc)), (λ more. absurd (omega arith)))
+
+pub returns-in_err-put_row-clause-there : goal.returns-in_err-put_row-clause-there
+returns-in_err-put_row-clause-there c = λ some above is.
+    let key = c.args.key.now in
+    let replica = c.args.replica in
+    let rows = c.self.inside.rows.items in
+    let spot : IsSpot key replica c.deref-2.result.now c.find_row-found.result = rw (c.deref-2.ensures.value, ← c.deref.ensures.value) c.find_row-found.ensures in
+    let old : c.pair_at.result ≡ pair_of rows key replica = c.pair_at.ensures.found key replica spot ∙ ap (λ l. pair_of l key replica) c.deref-2.ensures.value in
+    let none : c.pair_at.result ≡ (0, 0) = lacking c.find_row-found.result c.pair_at.result c.in_err-put_row.ensures.there c.pair_at.ensures.nowhere in
+    let number_is : number c.args.self.now (place key replica some) ≡ 0 = sym (old_number rows c.self.invariant c.args.self.now c.self.view_is key replica c.args.which c.args.by some) ∙ number_of_none some _ (sym old ∙ none) in
+    absurd (omega arith)
 
 pub returns-clause-full : goal.returns-clause-full
 returns-clause-full c =

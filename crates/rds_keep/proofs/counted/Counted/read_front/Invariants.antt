@@ -3,3 +3,6 @@ use Rattle.rds_keep.proofs.counted.Counted.read_front.Given as goal
 
 abbrev pub invariant-turns : goal.invariant-turns
 invariant-turns g l = IsFrontSoFar g.R.Read.remaining l.fn.self l.self l.front.items l.most
+
+abbrev pub decreases-turns : goal.decreases-turns
+decreases-turns g l = l.self.left

@@ -1,5 +1,5 @@
-use Rattle.std.proofs.Common.{◌∙◌, ◌<◌, ap, sym, subst, refl, arith, Bool, true, Some}
-use Rattle.rds_lines.specs.Ahead.{AheadValue, TakesLine, left_of, untaken}
+use Rattle.std.proofs.Common.{◌∙◌, ◌<◌, ap, sym, subst, refl, arith, Bool, List, ℕ, length, true, Some}
+use Rattle.rds_lines.specs.Ahead.{TakesLine, left_of, untaken}
 use Rattle.rds_lines.proofs.Pieces.{Walks, rest_shorter, walks_end, walks_first, walks_kept, walks_nothing, walks_on, walks_out}
 use Rattle.rds_lines.proofs.ahead.Ahead.next_line.Goals.{then-begun, else-begun+in-Ok-1, else-begun+in-Err-1}
 use Rattle.rds_lines.proofs.ahead.Ahead.next_line.Goals as goal
@@ -16,7 +16,7 @@ pub returns-then-is_empty-clause-taken : goal.returns-then-is_empty-clause-taken
 returns-then-is_empty-clause-taken g c =
     let first = untaken c.args.self.now (g.R.Read.remaining c.args.reader.now.inner) in
     let held = g.R.Read.remaining c.fill.new.reader.inner in
-    let bytes = c.fill.new.self.bytes in
+    let bytes = c.fill.new.self in
     let now = untaken c.fill.new.self held in
     let walked = walks_kept first _ now c.pieces.line c.pieces.begun c.pieces.invariant.walks c.in_ok-fill.ensures.kept in
     let none = c.if-is_empty.ensures in
@@ -34,16 +34,16 @@ returns-then-ended-clause-taken g c =
     let held = g.R.Read.remaining c.fill.new.reader.inner in
     let now = untaken c.fill.new.self held in
     let walked = walks_kept first _ now c.pieces.line c.pieces.begun c.pieces.invariant.walks c.in_ok-fill.ensures.kept in
-    let out = walks_out first held c.pieces.line c.take_piece-longer.result.0 c.text_of-then-ended.result c.pieces.begun c.fill.new.self.bytes walked c.if-is_empty.ensures (rw c.if-ended.true at c.take_piece-longer.ensures.ended) c.take_piece-longer.ensures.line c.text_of-then-ended.ensures in
-    subst (λ (a : AheadValue). TakesLine first (untaken a held) (Some c.text_of-then-ended.result)) (sym c.take_piece-longer.ensures.rest) out
+    let out = walks_out first held c.pieces.line c.take_piece-longer.result.0 c.text_of-then-ended.result c.pieces.begun c.fill.new.self walked c.if-is_empty.ensures (rw c.if-ended.true at c.take_piece-longer.ensures.ended) c.take_piece-longer.ensures.line c.text_of-then-ended.ensures in
+    subst (λ (a : List ℕ). TakesLine first (untaken a held) (Some c.text_of-then-ended.result)) (sym c.take_piece-longer.ensures.rest) out
 
 pub returns-then-ended-clause-falls : goal.returns-then-ended-clause-falls
 returns-then-ended-clause-falls g c =
-    omega (arith, ap left_of c.take_piece-longer.ensures.rest, rest_shorter c.fill.new.self.bytes c.if-is_empty.ensures, c.in_ok-fill.ensures.falls, c.pieces.invariant.within)
+    omega (arith, ap length c.take_piece-longer.ensures.rest, rest_shorter c.fill.new.self c.if-is_empty.ensures, c.in_ok-fill.ensures.falls, c.pieces.invariant.within)
 
 pub pieces-smaller : goal.pieces-smaller
 pieces-smaller g c =
-    omega (arith, ap left_of c.take_piece-longer.ensures.rest, rest_shorter c.fill.new.self.bytes c.if-is_empty.ensures, c.in_ok-fill.ensures.falls)
+    omega (arith, ap length c.take_piece-longer.ensures.rest, rest_shorter c.fill.new.self c.if-is_empty.ensures, c.in_ok-fill.ensures.falls)
 
 pub pieces-preserved : goal.pieces-preserved
 pieces-preserved g c =
@@ -51,10 +51,10 @@ pieces-preserved g c =
     let held = g.R.Read.remaining c.fill.new.reader.inner in
     let now = untaken c.fill.new.self held in
     let walked = walks_kept first _ now c.pieces.line c.pieces.begun c.pieces.invariant.walks c.in_ok-fill.ensures.kept in
-    let on = walks_on first held c.pieces.line c.take_piece-longer.result.0 c.pieces.begun c.fill.new.self.bytes walked c.if-is_empty.ensures (rw c.if-ended.false at c.take_piece-longer.ensures.ended) c.take_piece-longer.ensures.line in
-    let less : left_of c.take_piece-longer.new.self < left_of c.args.self.now = omega (arith, ap left_of c.take_piece-longer.ensures.rest, rest_shorter c.fill.new.self.bytes c.if-is_empty.ensures, c.in_ok-fill.ensures.falls, c.pieces.invariant.within) in
+    let on = walks_on first held c.pieces.line c.take_piece-longer.result.0 c.pieces.begun c.fill.new.self walked c.if-is_empty.ensures (rw c.if-ended.false at c.take_piece-longer.ensures.ended) c.take_piece-longer.ensures.line in
+    let less : left_of c.take_piece-longer.new.self c.fill.new.reader.left < left_of c.args.self.now c.args.reader.now.left = omega (arith, ap length c.take_piece-longer.ensures.rest, rest_shorter c.fill.new.self c.if-is_empty.ensures, c.in_ok-fill.ensures.falls, c.pieces.invariant.within) in
     record {
-      walks = subst (λ (a : AheadValue). Walks first (untaken a held) c.take_piece-longer.result.0 true) (sym c.take_piece-longer.ensures.rest) on;
+      walks = subst (λ (a : List ℕ). Walks first (untaken a held) c.take_piece-longer.result.0 true) (sym c.take_piece-longer.ensures.rest) on;
       steady = c.in_ok-fill.ensures.steady ∙ c.pieces.invariant.steady;
       within = omega (arith, less);
       less = λ e. less;

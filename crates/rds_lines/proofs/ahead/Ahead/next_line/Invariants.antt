@@ -7,9 +7,9 @@ abbrev pub invariant-pieces : goal.invariant-pieces
 invariant-pieces g l = record {
   walks : Walks (untaken l.initial.self (g.R.Read.remaining l.initial.reader.inner)) (untaken l.self (g.R.Read.remaining l.reader.inner)) l.line l.begun;
   steady : l.reader.failed ≡ l.initial.reader.failed;
-  within : left_of l.self ≤ left_of l.initial.self;
-  less : l.begun ≡ true → left_of l.self < left_of l.initial.self;
+  within : left_of l.self l.reader.left ≤ left_of l.initial.self l.initial.reader.left;
+  less : l.begun ≡ true → left_of l.self l.reader.left < left_of l.initial.self l.initial.reader.left;
 }
 
 abbrev pub decreases-pieces : goal.decreases-pieces
-decreases-pieces g l = left_of l.self
+decreases-pieces g l = left_of l.self l.reader.left

@@ -94,7 +94,9 @@ invariant_of-self-2 g c =
     let place : c.from.result ≡ t.asker = c.from.ensures ∙ asker in
     let there : slice_get v.memory t.asker ≡ Some m = slice_get_read v.memory (length v.memory) t.asker m refl below.0 (subst (λ k. m ≡ slice_index_or v.memory k m) place c.index_mut-replica.ensures.value) in
     let x = c.take.new.replica in
-    let is : IsTaken (length m.roster.names) t.bytes m.state x.state = subst (λ (b : List ℕ). IsTaken (length m.roster.names) b m.state x.state) bytes c.in_ok-take.ensures.ok in
+    let is : IsTaken (length m.roster.names) a.bytes t.bytes m.state x.state =
+    subst (λ (b : List ℕ). IsTaken (length m.roster.names) b t.bytes m.state x.state) ask_bytes
+    (subst (λ (b : List ℕ). IsTaken (length m.roster.names) c.deref.result.now b m.state x.state) bytes c.in_ok-take.ensures.ok) in
     let done = take_done v c.self.invariant n t a m t_there a_there there x below.0 (c.take.ensures.roster, c.take.ensures.own) is in
     subst (λ k. IsWorld (record v { memory = slice_set v.memory k x })) (sym place) done.world
 
@@ -118,7 +120,9 @@ returns-clause-ok g c =
     let place : c.from.result ≡ t.asker = c.from.ensures ∙ asker in
     let there : slice_get v.memory t.asker ≡ Some m = slice_get_read v.memory (length v.memory) t.asker m refl below.0 (subst (λ k. m ≡ slice_index_or v.memory k m) place c.index_mut-replica.ensures.value) in
     let x = c.take.new.replica in
-    let is : IsTaken (length m.roster.names) t.bytes m.state x.state = subst (λ (b : List ℕ). IsTaken (length m.roster.names) b m.state x.state) bytes c.in_ok-take.ensures.ok in
+    let is : IsTaken (length m.roster.names) a.bytes t.bytes m.state x.state =
+    subst (λ (b : List ℕ). IsTaken (length m.roster.names) b t.bytes m.state x.state) ask_bytes
+    (subst (λ (b : List ℕ). IsTaken (length m.roster.names) c.deref.result.now b m.state x.state) bytes c.in_ok-take.ensures.ok) in
     let done = take_done v c.self.invariant n t a m t_there a_there there x below.0 (c.take.ensures.roster, c.take.ensures.own) is in
     subst (λ (u : WorldValue). IsStep u (Take n) Plain (record v { memory = slice_set v.memory c.from.result x })) c.self.view_is
     (subst (λ k. IsStep v (Take n) Plain (record v { memory = slice_set v.memory k x })) (sym place) done.step)

@@ -1,0 +1,19 @@
+-- Why an edit in words isn't carried out.
+use Rattle.std.proofs.Common.{◌≡◌, ◌⊎◌, Result, Ok, Err, inl, inr}
+use Rattle.rds_names.specs.declared.fault.Fault.{Fault}
+use Rattle.rds_names.specs.declared.fault.Fault.TheVariants.{Memory}
+use Rattle.rds_state.specs.Fits.{ReplicaValue}
+use Rattle.rds_state.specs.declared.command.Command.{Command}
+use Rattle.rds_commands.specs.Edits.{IsUnread, RefusesEdit, RefusesEditIn}
+use Rattle.rds_commands.specs.FileWords.{IsCommand}
+use Rattle.rds_commands.specs.declared.commands.EditWords.{EditWords}
+use Rattle.rds_commands.proofs.Told.{not_refused}
+
+module _ (words : EditWords) (command : Command) (given : (◌≡◌ {A = Result Command Fault} (Ok command) (Err Memory)) ⊎ IsCommand words (Ok command)) (fault : Fault) where
+  -- there is no replica in the file
+  pub no_replica : IsUnread fault → RefusesEdit words fault
+  no_replica unread = inr (inr (command, not_refused command Memory given, inl unread))
+
+  -- the one in it isn't edited
+  pub no_edit : (before : ReplicaValue) → RefusesEditIn command before fault → RefusesEdit words fault
+  no_edit before refused = inr (inr (command, not_refused command Memory given, inr (before, refused)))

@@ -1,0 +1,63 @@
+//! Commands on the replica in a file, and what is written of them.
+ghost use Rattle.std.specs.Prelude.{◌≡◌, ◌≤◌, ◌⊎◌};
+ghost use Rattle.rds_commands.specs.Told.{WritesEdit, WritesInit, WritesShow};
+
+use crate::commands::{EditWords, InitWords};
+use crate::file_commands::{edit_file, init_file, show_file};
+use rds_keep::Counted;
+use rds_lines::write_answer;
+use std::io::Write;
+use std::rt::Files;
+
+/// Makes a file as `init_file` does, and writes the answer.
+pub fn run_init<H: Files + AllocGlobal, W: Write>(
+    rt: &H,
+    words: &InitWords<'_>,
+    writer: &mut Counted<W>,
+) -> u8
+    ensures written { writer.new.failed ≡ 0
+        → WritesInit words.now (W.contents writer.old.inner) (W.contents writer.new.inner) result }
+    ensures status { result ≤ 2 }
+    ensures broken { (writer.new.failed ≡ writer.old.failed) ⊎ (result ≡ 1) }
+{
+    match init_file(rt, words) {
+        Ok(done) => write_answer(writer, Ok(done.into_answer())),
+        Err(fault) => write_answer(writer, Err(fault)),
+    }
+}
+
+/// Edits the replica in a file as `edit_file` does, and writes the answer.
+pub fn run_edit<H: Files + AllocGlobal, W: Write>(
+    rt: &H,
+    path: &str,
+    words: &EditWords<'_>,
+    writer: &mut Counted<W>,
+) -> u8
+    ensures written { writer.new.failed ≡ 0
+        → WritesEdit path.now words.now (W.contents writer.old.inner) (W.contents writer.new.inner) result }
+    ensures status { result ≤ 2 }
+    ensures broken { (writer.new.failed ≡ writer.old.failed) ⊎ (result ≡ 1) }
+{
+    match edit_file(rt, path, words) {
+        Ok(done) => write_answer(writer, Ok(done.into_answer())),
+        Err(fault) => write_answer(writer, Err(fault)),
+    }
+}
+
+/// Shows a part of the replica in a file as `show_file` does, and writes the answer.
+pub fn run_show<H: Files + AllocGlobal, W: Write>(
+    rt: &H,
+    path: &str,
+    text: &str,
+    writer: &mut Counted<W>,
+) -> u8
+    ensures written { writer.new.failed ≡ 0
+        → WritesShow path.now text.now (W.contents writer.old.inner) (W.contents writer.new.inner) result }
+    ensures status { result ≤ 2 }
+    ensures broken { (writer.new.failed ≡ writer.old.failed) ⊎ (result ≡ 1) }
+{
+    match show_file(rt, path, text) {
+        Ok(done) => write_answer(writer, Ok(done.into_answer())),
+        Err(fault) => write_answer(writer, Err(fault)),
+    }
+}
