@@ -6,15 +6,16 @@ use Rattle.rds_codec.specs.declared.limits.TheConstants.{LIMIT}
 use Rattle.rds_codec.specs.AnswerTexts.{AnswerParts, IsAnswerOf, HasTooManySent, answer_by, answer_text, answer_at, answer_kind}
 use Rattle.rds_codec.specs.AnswerValues.{AnswerValue}
 use Rattle.rds_codec.specs.CertificateTexts.{IsReplicaOf, certificate_text, certificate_at}
-use Rattle.rds_codec.specs.Reading.{Reader, pair_at, replica_at, state_at}
-use Rattle.rds_codec.specs.Spelling.{byte_text, state_text}
-use Rattle.rds_codec.proofs.Format.{IsFormat, made_format}
+use Rattle.rds_bytes.specs.Reading.{Reader, pair_at, replica_at}
+use Rattle.rds_codec.specs.StateTexts.{state_at, state_text}
+use Rattle.rds_bytes.specs.Spelling.{byte_text}
+use Rattle.rds_bytes.proofs.Format.{IsFormat, made_format}
 use Rattle.rds_codec.proofs.CertificateFormats.{FitsCertificate, certificate_format, certificate_within}
-use Rattle.rds_codec.proofs.DotFormats.{TooMany}
-use Rattle.rds_codec.proofs.LargeParts.{large_first, large_second, LargeAfter}
+use Rattle.rds_bytes.proofs.DotFormats.{TooMany}
+use Rattle.rds_bytes.proofs.LargeParts.{large_first, large_second, LargeAfter}
 use Rattle.rds_codec.proofs.ManyDots.{many_of, of_many}
-use Rattle.rds_codec.proofs.PartFormats.{replica_format}
-use Rattle.rds_codec.proofs.Sequences.{three_lengths, three_added}
+use Rattle.rds_bytes.proofs.PartFormats.{replica_format}
+use Rattle.rds_bytes.proofs.Sequences.{three_lengths, three_added}
 use Rattle.rds_codec.proofs.StateFormats.{CanCountState, FitsState, state_format, state_within}
 use Rattle.rds_codec.proofs.Whole.{IsReaderOf, reader_of}
 

@@ -1,6 +1,5 @@
 -- A certificate is a format.
-use Rattle.std.proofs.Common.{◌≡◌, ℕ, ◌^◌, ◌<◌, ◌≤◌, ◌⊎◌, inl, inr, Bool, true, false, cond, eqb, leb, ◌&&◌, List, [], ◌∷◌, ◌++◌, length, Result, Ok, Err, refl, sym, ap, subst, ◌∙◌, arith, length-append}
-use Rattle.std.specs.List.{AllByRecursion, flat_map}
+use Rattle.std.proofs.Common.{◌≡◌, ℕ, ◌^◌, ◌<◌, ◌≤◌, ◌⊎◌, inl, inr, Bool, true, false, cond, eqb, leb, ◌&&◌, List, [], ◌∷◌, ◌++◌, length, Result, Ok, Err, refl, sym, ap, subst, arith}
 use Rattle.std.specs.Int.{w64, to_be_bytes}
 use Rattle.std.proofs.lemmas.Bool.{eqb-true, leb-true, le-leb}
 use Rattle.std.proofs.lemmas.Bool.Decides.{nat_tests}
@@ -9,7 +8,7 @@ use Rattle.rds_names.specs.declared.fault.Fault.TheVariants.{Bad, TooManyDots}
 use Rattle.rds_dots.specs.declared.dot.Dot.{Dot}
 use Rattle.rds_dots.specs.declared.dot.Run.{Run}
 use Rattle.rds_dots.specs.Dots.{is_dot, IsRun}
-use Rattle.rds_dots.specs.Merges.{and_true, and_left, and_right}
+use Rattle.rds_names.specs.Conditions.{and_true, and_left, and_right}
 use Rattle.rds_counts.specs.declared.row.Which.{Which}
 use Rattle.rds_counts.specs.declared.row.Which.TheVariants.{P, N}
 use Rattle.rds_delta.specs.declared.row.Row.{Row}
@@ -17,12 +16,12 @@ use Rattle.rds_delta.specs.declared.row.Row.TheVariants.{Live, Dead, Count}
 use Rattle.rds_codec.specs.declared.limits.TheConstants.{LIMIT}
 use Rattle.rds_codec.specs.CertificateTexts as read
 use Rattle.rds_codec.specs.CertificateTexts.{CountParts, IsReplicaOf, IsRowOf, IsCertificateOf, live_by, dead_by, count_by, run_by, which_by, which_byte, run_text, claim_text, row_text, certificate_text, certificate_at, certificate_kind, tagged_row_at}
-use Rattle.rds_codec.specs.Reading.{Reader, byte_at, number_at, pair_at, made_at, when_at, is_between, is_count, dot_by, replica_at}
-use Rattle.rds_codec.specs.Spelling.{byte_text, dot_text, place_text}
-use Rattle.rds_codec.specs.Values.{is_key_text}
-use Rattle.rds_codec.proofs.Format.{IsPlain, IsBytes, Takes, Takes-then, CutOrBad, Never, bind_ok, bind_err, chosen, err_is, ok_is, done, failed, byte_format, number32, number64, plain_then, plain_pair, made_format, when_format, refit}
-use Rattle.rds_codec.proofs.Lists.{AllAfter, list_format}
-use Rattle.rds_codec.proofs.PartFormats.{key_format, replica_format}
+use Rattle.rds_bytes.specs.Reading.{Reader, byte_at, made_at, is_between, is_count, dot_by}
+use Rattle.rds_bytes.specs.Spelling.{byte_text, dot_text, place_text}
+use Rattle.rds_bytes.specs.Values.{is_key_text}
+use Rattle.rds_bytes.proofs.Format.{IsPlain, IsBytes, Takes, Takes-then, CutOrBad, Never, bind_ok, bind_err, chosen, err_is, ok_is, done, failed, byte_format, number32, number64, plain_then, plain_pair, made_format, when_format, refit}
+use Rattle.rds_bytes.proofs.Lists.{AllAfter, list_format}
+use Rattle.rds_bytes.proofs.PartFormats.{key_format, replica_format}
 use Rattle.rds_codec.proofs.Whole.{IsReaderOf, reader_of}
 use Rattle.rds_codec.proofs.Within.{longer}
 

@@ -1,40 +1,39 @@
 -- The certificate of a delta that has a text has one too.
-use Rattle.std.proofs.Common.{◌≡◌, ℕ, zero, suc, ◌+◌, ◌-◌, ◌<◌, ◌≤◌, Bool, true, false, cond, leb, ltb, ◌&&◌, ◌||◌, List, [], ◌∷◌, ◌++◌, Option, Some, None, refl, sym, ap, subst, ◌∙◌, arith}
-use lib.Dec.{T}
+use Rattle.std.proofs.Common.{◌≡◌, ℕ, zero, suc, ◌+◌, ◌-◌, ◌<◌, ◌≤◌, true, false, cond, leb, ltb, ◌&&◌, ◌||◌, List, [], ◌∷◌, ◌++◌, Option, Some, None, refl, sym, ap, subst, ◌∙◌, arith}
 use mathlib.Core.Bool.{false≢true}
 use Rattle.std.specs.Prelude.{is_some, map as each}
 use Rattle.std.specs.List.{AllByRecursion, list_all}
 use Rattle.std.specs.Cmp.{IsTotalOrder, tied_itself}
-use Rattle.std.specs.Ordering.{eq_by_cmp, is_eq, is_lt}
+use Rattle.std.specs.Ordering.{is_eq, is_lt}
 use Rattle.std.specs.declared.cmp.Ordering.{Ordering}
 use Rattle.std.specs.declared.cmp.Ordering.TheVariants.{Equal}
 use Rattle.std.specs.FinMap as map
 use Rattle.std.specs.FinMap.Entries.{below_all}
 use Rattle.std.specs.FinSet as set
 use Rattle.std.proofs.lemmas.Bool.{leb-true}
+use Rattle.rds_names.specs.Conditions.{true_of, and_left, and_right, less_of, equal_of}
 use Rattle.rds_dots.specs.declared.dot.Dot.{Dot}
-use Rattle.rds_dots.specs.Dots.{dot_cmp, is_dot, IsRun}
+use Rattle.rds_dots.specs.Dots.{dot_cmp, is_dot}
 use Rattle.rds_dots.specs.Listed.{dots_from}
-use Rattle.rds_dots.specs.Merges.{and_left, and_right, less_of}
 use Rattle.rds_dots.specs.Order.{dots_total}
 use Rattle.rds_counts.specs.declared.row.CountRow.{CountRow}
 use Rattle.rds_counts.specs.declared.row.Which.{Which}
 use Rattle.rds_counts.specs.declared.row.Which.TheVariants.{P, N}
-use Rattle.rds_counts.specs.Counted.{Above, Counted, above, components, counted, is_row, number, number_from, place}
-use Rattle.rds_counts.specs.CountedLemmas.{equal_of}
+use Rattle.rds_counts.specs.Counted.{Above, above, components, is_row, number, number_from, place}
 use Rattle.rds_counts.specs.Entries.{entries-counted}
 use Rattle.rds_counts.specs.Place.{Place, place_cmp}
 use Rattle.rds_counts.specs.PlaceOrder.{place_total}
-use Rattle.rds_life.specs.Life.{Life, Live, Dead, Lived, seen_of}
+use Rattle.rds_life.specs.Life.{Life, Live, Dead, seen_of}
 use Rattle.rds_life.proofs.Views.{contains-seen_of}
 use Rattle.rds_state.specs.Value.{StateValue, coordinates}
-use Rattle.rds_delta.specs.Claims.{Claim, OfLive, OfDead, OfCount, IsCertificate, claims, claim_at, life_claim, number_claim, spread, spread_all, is_full}
+use Rattle.rds_delta.specs.Claims.{Claim, OfLive, OfDead, OfCount, IsCertificate, claim_at, life_claim, number_claim, spread, spread_all, is_full}
 use Rattle.rds_delta.specs.Least.{IsAbove}
 use Rattle.rds_delta.specs.Ranks.{Ranks, life_rank}
 use Rattle.rds_delta.specs.declared.row.Row.{Row}
 use Rattle.rds_delta.specs.declared.row.Row.TheVariants as rows
 use Rattle.rds_codec.specs.CertificateTexts.{IsHeldRow, RowFits, IsRowOf, IsCertificateOf}
-use Rattle.rds_codec.specs.Values.{IsCountRowOf, IsStateOf}
+use Rattle.rds_bytes.specs.Values.{IsCountRowOf}
+use Rattle.rds_codec.specs.StateTexts.{IsStateOf}
 
 -- ---- all of a list
 
@@ -55,10 +54,6 @@ all_both Q R S both [] h k = tt
 all_both Q R S both (x ∷ xs) h k = (both x h.0 k.0, all_both Q R S both xs h.1 k.1)
 
 -- ---- entries are found
-
-true_of : (b : Bool) → T b → b ≡ true
-true_of true h = refl
-true_of false h = absurd h
 
 module _ {K X : Type 0} (R : K → K → Ordering) (o : IsTotalOrder R) where
   above_none : (q k : K) → R q k ≡ Equal → (es : List (K × X)) → below_all R k es ≡ true → map.find R q es ≡ None

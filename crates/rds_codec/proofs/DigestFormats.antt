@@ -1,5 +1,5 @@
 -- A digest is a format.
-use Rattle.std.proofs.Common.{◌≡◌, ℕ, ◌+◌, ◌^◌, ◌<◌, ◌≤◌, ◌⊎◌, inl, inr, Bool, true, false, cond, List, ◌++◌, length, Ok, Err, refl, ap, subst, ◌∙◌, arith, length-append}
+use Rattle.std.proofs.Common.{◌≡◌, ℕ, ◌+◌, ◌^◌, ◌<◌, ◌≤◌, inl, inr, Bool, true, false, cond, List, ◌++◌, length, Ok, Err, refl, ap, subst, ◌∙◌, arith, length-append}
 use Rattle.std.specs.FinSet as set
 use Rattle.std.proofs.lemmas.Bool.{ltb-false, le-ltb}
 use Rattle.rds_dots.specs.Dots.{Dots}
@@ -10,15 +10,15 @@ use Rattle.rds_delta.specs.Digested.{DigestValue, IsInside}
 use Rattle.rds_names.specs.declared.fault.Fault.TheVariants.{Bad}
 use Rattle.rds_codec.specs.declared.limits.TheConstants.{LIMIT}
 use Rattle.rds_codec.specs.DigestTexts.{DigestParts, IsDigestOf, HasTooManyLive, HasTooManyInDigest, are_seen, digest_by, digest_text, live_dots_at, digest_at, digest_kind}
-use Rattle.rds_codec.specs.Reading as read
-use Rattle.rds_codec.specs.Reading.{then_at, pair_at, when_at, dots_at, counters_at}
-use Rattle.rds_codec.specs.Spelling.{dots_text, counters_text}
-use Rattle.rds_codec.proofs.Format.{IsFormat, LargeThen, bind_ok, chosen, ok_is, failed, then_format, made_format, when_format}
-use Rattle.rds_codec.proofs.CounterFormats.{AreCounts, counters_format}
-use Rattle.rds_codec.proofs.DotFormats.{CanCountDots, AreDots, TooMany, dots_format}
-use Rattle.rds_codec.proofs.LargeParts.{large_first}
+use Rattle.rds_bytes.specs.Reading as read
+use Rattle.rds_bytes.specs.Reading.{then_at, pair_at, when_at, dots_at, counters_at}
+use Rattle.rds_bytes.specs.Spelling.{dots_text, counters_text}
+use Rattle.rds_bytes.proofs.Format.{IsFormat, LargeThen, bind_ok, chosen, ok_is, failed, then_format, made_format, when_format}
+use Rattle.rds_bytes.proofs.CounterFormats.{AreCounts, counters_format}
+use Rattle.rds_bytes.proofs.DotFormats.{CanCountDots, AreDots, TooMany, dots_format}
+use Rattle.rds_bytes.proofs.LargeParts.{large_first}
 use Rattle.rds_codec.proofs.ManyDots.{many_of, of_many}
-use Rattle.rds_codec.proofs.Sequences.{three_lengths, three_added}
+use Rattle.rds_bytes.proofs.Sequences.{three_lengths, three_added}
 use Rattle.rds_codec.proofs.Subsets.{len_inside}
 use Rattle.rds_codec.proofs.Whole.{IsReaderOf, reader_of}
 use Rattle.rds_codec.proofs.Within.{dots_within, counts_within}

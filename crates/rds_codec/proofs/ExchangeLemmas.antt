@@ -1,13 +1,10 @@
 -- What goes by bytes between friends comes as it was sent.
-use Rattle.std.proofs.Common.{◌≡◌, ℕ, ◌<◌, ◌≤◌, ◌⊎◌, inl, inr, Bool, true, false, cond, nat_lt, List, length, Option, Some, None, Result, Ok, Err, refl, sym, ap, subst, ◌∙◌, arith}
-use Rattle.std.specs.Prelude.{is_some, IfOk, IfErr, IsErrAnd, OnOk}
+use Rattle.std.proofs.Common.{◌≡◌, ℕ, ◌<◌, ◌≤◌, inl, inr, Bool, true, false, cond, nat_lt, List, length, Option, None, Result, Ok, Err, refl, sym, ap, subst, ◌∙◌, arith}
+use Rattle.std.specs.Prelude.{is_some, IfOk, IfErr, IsErrAnd}
 use Rattle.std.specs.FinMap as map
-use Rattle.std.specs.FinSet as set
 use mathlib.Core.Bool.{false≢true}
 use Rattle.rds_names.specs.Roster.{RosterValue}
 use Rattle.rds_names.specs.declared.fault.Fault.{Fault}
-use Rattle.rds_names.specs.declared.fault.Fault.TheVariants.{Memory}
-use Rattle.rds_dots.specs.declared.dot.Dot.{Dot}
 use Rattle.rds_life.specs.Life.{Life, seen_of}
 use Rattle.rds_life.proofs.Views.{contains-seen_of}
 use Rattle.rds_state.specs.Coordinates.{Coordinates, AtMost, join}
@@ -28,7 +25,7 @@ use Rattle.rds_codec.specs.Decoding.{Answers, Decodes}
 use Rattle.rds_codec.specs.DigestTexts.{DigestFits}
 use Rattle.rds_codec.specs.Exchanged.{CanExchange, IsAnswerTo, IsLost}
 use Rattle.rds_codec.specs.Kinds.{Kind}
-use Rattle.rds_codec.specs.Values.{AreFew}
+use Rattle.rds_bytes.specs.Values.{AreFew}
 use Rattle.rds_codec.specs.Writing.{IsUnwritten}
 use Rattle.rds_codec.proofs.Replicas.{state_fits}
 use Rattle.rds_codec.proofs.Subsets.{len_inside}

@@ -1,14 +1,12 @@
 -- A hello is a format.
-use Rattle.std.proofs.Common.{◌≡◌, ℕ, ◌+◌, ◌<◌, ◌≤◌, true, List, ◌++◌, length, refl, arith}
+use Rattle.std.proofs.Common.{◌≡◌, ℕ, ◌+◌, ◌<◌, true, List, ◌++◌, length, refl, arith}
 use Rattle.std.proofs.lemmas.Bool.{eqb-true}
-use Rattle.rds_names.specs.Roster.{RosterValue}
 use Rattle.rds_codec.specs.declared.hellos.Hello.{Hello}
 use Rattle.rds_codec.specs.HelloTexts.{HelloParts, IsHello, is_version, hello_by, hello_text, version_at, hello_at, hello_kind}
-use Rattle.rds_codec.specs.Spelling.{byte_text, member_text}
-use Rattle.rds_codec.specs.Values.{IsMember}
-use Rattle.rds_codec.proofs.Format.{IsPlain, Never, byte_format, plain_pair, made_format, when_format}
-use Rattle.rds_codec.proofs.PartFormats.{IsMemberPair, member_format}
-use Rattle.rds_codec.proofs.Sequences.{two_lengths, two_added}
+use Rattle.rds_bytes.specs.Spelling.{byte_text, member_text}
+use Rattle.rds_bytes.proofs.Format.{IsPlain, Never, byte_format, plain_pair, made_format, when_format}
+use Rattle.rds_bytes.proofs.PartFormats.{IsMemberPair, member_format}
+use Rattle.rds_bytes.proofs.Sequences.{two_lengths, two_added}
 use Rattle.rds_codec.proofs.Whole.{IsReaderOf, reader_of}
 
 abbrev IsVersion : ℕ → Type 0

@@ -5,8 +5,8 @@ use Rattle.std.specs.FinSet as set
 use Rattle.std.proofs.lemmas.Bool.{ltb-true, lt-ltb}
 use Rattle.rds_codec.specs.declared.limits.TheConstants.{LIMIT}
 use Rattle.rds_codec.specs.Kinds.{BeginsWithTooManyDots}
-use Rattle.rds_codec.specs.Spelling.{dots_text}
-use Rattle.rds_codec.proofs.DotFormats.{TooMany}
+use Rattle.rds_bytes.specs.Spelling.{dots_text}
+use Rattle.rds_bytes.proofs.DotFormats.{TooMany}
 
 pub many_of : (replicas : ℕ) (bytes : List ℕ) → TooMany replicas bytes → BeginsWithTooManyDots replicas bytes
 many_of replicas bytes h = record { dots = h.0; rest = h.1; are_dots = h.2.0; many = ltb-true 65536 (set.len h.0) h.4; spelled = h.3 }

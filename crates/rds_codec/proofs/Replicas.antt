@@ -3,16 +3,17 @@ use Rattle.std.proofs.Common.{◌≡◌, ℕ, true, List, [], ◌∷◌, length,
 use Rattle.std.specs.List.{AllByRecursion}
 use Rattle.std.proofs.lemmas.Bool.{lt-ltb}
 use Rattle.rds_counts.specs.declared.row.CountRow.{CountRow}
-use Rattle.rds_dots.specs.Merges.{and_true}
+use Rattle.rds_names.specs.Conditions.{and_true}
 use Rattle.rds_life.specs.Life.{seen_of}
 use Rattle.rds_state.specs.Fits.{Fits, ReplicaValue, IsReplica}
-use Rattle.rds_state.specs.RowsAhead.{rows_below}
+use Rattle.rds_counts.specs.Below.{rows_below}
 use Rattle.rds_state.specs.Value.{StateValue, coordinates}
 use Rattle.rds_state.proofs.FitsLemmas.{fits_by}
-use Rattle.rds_codec.specs.Values.{IsCountRowOf, IsStateOf}
-use Rattle.rds_codec.specs.Reading.{front_at, state_at}
-use Rattle.rds_codec.proofs.Format.{IsBytes}
-use Rattle.rds_codec.proofs.PartFormats.{Member, front_format}
+use Rattle.rds_bytes.specs.Values.{IsCountRowOf}
+use Rattle.rds_codec.specs.StateTexts.{IsStateOf, state_at}
+use Rattle.rds_bytes.specs.Reading.{front_at}
+use Rattle.rds_bytes.proofs.Format.{IsBytes}
+use Rattle.rds_bytes.proofs.PartFormats.{Member, front_format}
 use Rattle.rds_codec.proofs.StateFormats.{state_format}
 
 are_below : (replicas : ℕ) (rows : List CountRow) → AllByRecursion (IsCountRowOf replicas) rows → rows_below replicas rows ≡ true

@@ -1,5 +1,5 @@
 -- The text of a replica without components is short.
-use Rattle.std.proofs.Common.{filter_map, ◌≡◌, ℕ, ◌+◌, ◌≤◌, Bool, true, false, List, [], ◌∷◌, length, Option, None, refl, sym, ◌∙◌, ap, arith}
+use Rattle.std.proofs.Common.{filter_map, ◌≡◌, ◌≤◌, false, List, [], length, refl, sym, ◌∙◌, ap, arith}
 use Rattle.std.specs.Prelude.{is_some}
 use Rattle.std.proofs.lemmas.List.{nil_from_length}
 use Rattle.std.specs.List.{flat_map}
@@ -17,8 +17,9 @@ use Rattle.rds_life.specs.Life.{Life, Lived, seen_of, live_row, live_rows}
 use Rattle.rds_life.proofs.Views.{contains-seen_of}
 use Rattle.rds_state.specs.Fits.{ReplicaValue}
 use Rattle.rds_state.specs.Value.{StateValue}
-use Rattle.rds_codec.specs.DotRows.{rows_from}
-use Rattle.rds_codec.specs.Spelling.{dot_rows_text, dots_text, live_row_text, count_rows_text, counters_text, state_text, member_text, snapshot_text}
+use Rattle.rds_bytes.specs.DotRows.{rows_from}
+use Rattle.rds_bytes.specs.Spelling.{dot_rows_text, dots_text, live_row_text, count_rows_text, counters_text, member_text}
+use Rattle.rds_codec.specs.StateTexts.{state_text, snapshot_text}
 use Rattle.rds_codec.specs.declared.limits.TheConstants.{LIMIT}
 use Rattle.rds_codec.proofs.Texts.{state_length, snapshot_length}
 

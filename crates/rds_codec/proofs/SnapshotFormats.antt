@@ -6,15 +6,17 @@ use Rattle.rds_names.specs.Roster.{RosterValue}
 use Rattle.rds_codec.specs.declared.limits.TheConstants.{LIMIT}
 use Rattle.rds_state.specs.Value.{StateValue}
 use Rattle.rds_state.specs.Fits.{ReplicaValue}
-use Rattle.rds_codec.specs.Values.{IsMember, IsSnapshot}
+use Rattle.rds_bytes.specs.Values.{IsMember}
+use Rattle.rds_codec.specs.StateTexts.{IsSnapshot, state_text, snapshot_text}
 use Rattle.rds_codec.specs.Kinds.{HasTooManyDots, snapshot_kind}
-use Rattle.rds_codec.specs.Spelling.{front_text, state_text, snapshot_text}
-use Rattle.rds_codec.specs.Reading as read
-use Rattle.rds_codec.specs.Reading.{then_at}
-use Rattle.rds_codec.proofs.Format.{IsFormat, Never, then_format, LargeThen, made_format, relarge}
+use Rattle.rds_bytes.specs.Spelling.{front_text}
+use Rattle.rds_bytes.specs.Reading as read
+use Rattle.rds_codec.specs.StateTexts as texts
+use Rattle.rds_bytes.specs.Reading.{then_at}
+use Rattle.rds_bytes.proofs.Format.{IsFormat, Never, then_format, LargeThen, made_format, relarge}
 use Rattle.rds_codec.proofs.Whole.{IsReaderOf, reader_of}
-use Rattle.rds_codec.proofs.PartFormats.{Member, IsMemberPair, front_format}
-use Rattle.rds_codec.proofs.DotFormats.{TooMany}
+use Rattle.rds_bytes.proofs.PartFormats.{Member, IsMemberPair, front_format}
+use Rattle.rds_bytes.proofs.DotFormats.{TooMany}
 
 abbrev All : Type 0
 All = Member × StateValue
@@ -29,9 +31,9 @@ IsAll p = IsMemberPair p.0 × FitsState (length p.0.0.names) p.1
 abbrev pub Large : List ℕ → Type 0
 Large bytes = (f : Member) × (rest : List ℕ) × IsMemberPair f × (bytes ≡ front_text f.0 f.1 ++ rest) × TooMany (length f.0.names) rest
 
-all_format : IsFormat (then_at read.front_at (λ f. read.state_at (length f.0.names))) all_text IsAll Large
+all_format : IsFormat (then_at read.front_at (λ f. texts.state_at (length f.0.names))) all_text IsAll Large
 all_format =
-    let g = λ (f : Member). read.state_at (length f.0.names) in
+    let g = λ (f : Member). texts.state_at (length f.0.names) in
     let s = λ (f : Member). front_text f.0 f.1 in
     let q = λ (f : Member) (is : IsMemberPair f). state_format (length f.0.names) in
     relarge (then_at read.front_at g) all_text IsAll (LargeThen read.front_at g s (λ f. state_text) IsMemberPair (λ f. FitsState (length f.0.names)) Never (λ f. TooMany (length f.0.names)) front_format q) Large
@@ -50,15 +52,15 @@ member_pair roster own is = (record { group = is.group; each_name = is.each_name
 of_member_pair : (f : Member) → IsMemberPair f → IsMember f.0 f.1
 of_member_pair f is = record { group = is.0.group; each_name = is.0.each_name; names = is.0.names; own_number = is.1 }
 
-there : (v : ReplicaValue) → Fits v → IsAll (all_of_value v) × (read.snapshot_by (all_of_value v) ≡ v)
+there : (v : ReplicaValue) → Fits v → IsAll (all_of_value v) × (texts.snapshot_by (all_of_value v) ≡ v)
 there v h = ((member_pair v.roster v.own h.0.member, (h.0.state, h.1)), refl)
 
-back : (p : All) → IsAll p → Fits (read.snapshot_by p) × (all_of_value (read.snapshot_by p) ≡ p)
+back : (p : All) → IsAll p → Fits (texts.snapshot_by p) × (all_of_value (texts.snapshot_by p) ≡ p)
 back p h = ((record { member = of_member_pair p.0 h.0; state = h.1.0 }, h.1.1), refl)
 
-pub snapshot_format : IsFormat read.snapshot_at snapshot_text Fits Large
-unfolding read.snapshot_at snapshot_text
-snapshot_format = made_format read.snapshot_by all_of_value _ all_text IsAll Fits Large there back all_format
+pub snapshot_format : IsFormat texts.snapshot_at snapshot_text Fits Large
+unfolding texts.snapshot_at snapshot_text
+snapshot_format = made_format texts.snapshot_by all_of_value _ all_text IsAll Fits Large there back all_format
 
 pub value_within : (v : ReplicaValue) → length (snapshot_text v) ≤ LIMIT → CanCountState v.state
 unfolding snapshot_text
@@ -72,6 +74,6 @@ of_has_many bytes le h =
     let len = ap length h.spelled ∙ length-append (front_text h.roster h.own) h.after in
     ((h.roster, h.own), h.after, member_pair h.roster h.own h.member, h.spelled, of_many (length h.roster.names) h.after (omega arith) h.many)
 
-pub snapshot_reader : IsReaderOf snapshot_kind read.snapshot_at
+pub snapshot_reader : IsReaderOf snapshot_kind texts.snapshot_at
 snapshot_reader =
-    reader_of snapshot_kind read.snapshot_at Fits Large snapshot_format (λ v h. h.0) (λ v is le. (is, value_within v le)) has_many of_has_many
+    reader_of snapshot_kind texts.snapshot_at Fits Large snapshot_format (λ v h. h.0) (λ v is le. (is, value_within v le)) has_many of_has_many

@@ -10,20 +10,23 @@ use Rattle.rds_dots.specs.declared.dot.Dot.{Dot}
 use Rattle.rds_dots.specs.Dots.{Dots}
 use Rattle.rds_life.specs.Life.{Lived, lived, seen_of, live_rows}
 use Rattle.rds_life.proofs.Views.{rows_of_lives, lived_of_parts, seen_of-lived, live_rows-lived}
-use Rattle.rds_codec.specs.declared.limits.TheConstants.{LIMIT, MOST_DOTS}
+use Rattle.rds_codec.specs.declared.limits.TheConstants.{LIMIT}
+use Rattle.rds_bytes.specs.declared.rows.TheConstants.{MOST_DOTS}
 use Rattle.rds_counts.specs.Counted.{Counted}
 use Rattle.rds_counts.specs.RowsOf.{count_rows}
 use Rattle.rds_state.specs.Value.{StateValue}
-use Rattle.rds_codec.specs.Values.{AreDotsOf, IsLiveRow, IsStateOf}
+use Rattle.rds_bytes.specs.Values.{AreDotsOf, IsLiveRow}
+use Rattle.rds_codec.specs.StateTexts.{IsStateOf, state_text, StateParts}
 use Rattle.rds_codec.specs.Kinds.{state_kind}
-use Rattle.rds_codec.specs.Spelling.{dots_text, live_rows_text, counters_text, state_text}
-use Rattle.rds_codec.specs.Reading as read
-use Rattle.rds_codec.specs.Reading.{then_at, pair_at, StateParts}
-use Rattle.rds_codec.proofs.Format.{IsFormat, IsPlain, Never, plain_pair, then_format, LargeThen, made_format, relarge}
+use Rattle.rds_bytes.specs.Spelling.{dots_text, live_rows_text, counters_text}
+use Rattle.rds_bytes.specs.Reading as read
+use Rattle.rds_codec.specs.StateTexts as texts
+use Rattle.rds_bytes.specs.Reading.{then_at, pair_at}
+use Rattle.rds_bytes.proofs.Format.{IsFormat, IsPlain, Never, plain_pair, then_format, LargeThen, made_format, relarge}
 use Rattle.rds_codec.proofs.Whole.{IsReaderOf, reader_of}
-use Rattle.rds_codec.proofs.DotFormats.{CanCountDots, AreDots, TooMany, dots_format}
-use Rattle.rds_codec.proofs.CounterFormats.{AreCounts, counters_format}
-use Rattle.rds_codec.proofs.LiveFormats.{AreLive, CanCountRows, live_format}
+use Rattle.rds_bytes.proofs.DotFormats.{CanCountDots, AreDots, TooMany, dots_format}
+use Rattle.rds_bytes.proofs.CounterFormats.{AreCounts, counters_format}
+use Rattle.rds_bytes.proofs.LiveFormats.{AreLive, CanCountRows, live_format}
 
 abbrev IsRead : ℕ → Dots → Type 0
 IsRead replicas s = AreDots replicas s × (read.is_over s ≡ false)
@@ -70,7 +73,7 @@ FitsState replicas v = IsStateOf replicas v × CanCountState v
 same_state : (v : StateValue) (l : Lived) → l ≡ v.lives → (let w : StateValue = record { lives = l; counts = v.counts } in w) ≡ v
 same_state v l e i = record { lives = e i; counts = v.counts }
 
-state_there : (replicas : ℕ) (v : StateValue) → FitsState replicas v → AreParts replicas (parts_of v) × (read.state_by (parts_of v) ≡ v)
+state_there : (replicas : ℕ) (v : StateValue) → FitsState replicas v → AreParts replicas (parts_of v) × (texts.state_by (parts_of v) ≡ v)
 state_there replicas v h =
     let is = h.0 in
     let can = h.1 in (
@@ -78,25 +81,25 @@ state_there replicas v h =
       same_state v (lived (seen_of v.lives) (live_rows v.lives)) (lived_of_parts v.lives),
     )
 
-state_back : (replicas : ℕ) (p : StateParts) → AreParts replicas p → FitsState replicas (read.state_by p) × (parts_of (read.state_by p) ≡ p)
+state_back : (replicas : ℕ) (p : StateParts) → AreParts replicas p → FitsState replicas (texts.state_by p) × (parts_of (texts.state_by p) ≡ p)
 state_back replicas p h =
     let s = p.0 in
     let rows = p.1.0 in
     let seen = seen_of-lived s rows in
     let live = live_rows-lived s rows h.1.0.1.0 in
     let dots = h.0 in
-    let is : IsStateOf replicas (read.state_by p) = record {
+    let is : IsStateOf replicas (texts.state_by p) = record {
       dots = subst (AreDotsOf replicas) (sym seen) dots.0.0;
       few = subst (λ (x : Dots). set.len x ≤ MOST_DOTS) (sym seen) (ltb-false 65536 (set.len s) dots.1);
       entries = subst (AllByRecursion IsLiveRow) (sym live) h.1.0.1.1;
       counts = h.1.1.0;
     } in
-    let can : CanCountState (read.state_by p) = record { dots = subst CanCountDots (sym seen) dots.0.1; rows = subst CanCountRows (sym live) h.1.0.0; counts = h.1.1.1 } in
+    let can : CanCountState (texts.state_by p) = record { dots = subst CanCountDots (sym seen) dots.0.1; rows = subst CanCountRows (sym live) h.1.0.0; counts = h.1.1.1 } in
     ((is, can), (λ i. (seen i, (live i, p.1.1))))
 
-pub state_format : (replicas : ℕ) → IsFormat (read.state_at replicas) state_text (FitsState replicas) (TooMany replicas)
-unfolding read.state_at state_text
-state_format replicas = made_format read.state_by parts_of _ parts_text (AreParts replicas) (FitsState replicas) (TooMany replicas) (state_there replicas) (state_back replicas) (parts_format replicas)
+pub state_format : (replicas : ℕ) → IsFormat (texts.state_at replicas) state_text (FitsState replicas) (TooMany replicas)
+unfolding texts.state_at state_text
+state_format replicas = made_format texts.state_by parts_of _ parts_text (AreParts replicas) (FitsState replicas) (TooMany replicas) (state_there replicas) (state_back replicas) (parts_format replicas)
 
 pub state_within : (v : StateValue) → length (state_text v) ≤ LIMIT → CanCountState v
 unfolding state_text
@@ -108,7 +111,7 @@ state_within v le =
     let b = length-append rows counts in
     record { dots = dots_within (seen_of v.lives) (omega arith); rows = live_within (live_rows v.lives) (omega arith); counts = counts_within v.counts (omega arith) }
 
-pub state_reader : (replicas : ℕ) → IsReaderOf (state_kind replicas) (read.state_at replicas)
+pub state_reader : (replicas : ℕ) → IsReaderOf (state_kind replicas) (texts.state_at replicas)
 state_reader replicas =
-    reader_of (state_kind replicas) (read.state_at replicas) (FitsState replicas) (TooMany replicas) (state_format replicas) (λ v h. h.0) (λ v is le. (is, state_within v le))
+    reader_of (state_kind replicas) (texts.state_at replicas) (FitsState replicas) (TooMany replicas) (state_format replicas) (λ v h. h.0) (λ v is le. (is, state_within v le))
     (many_of replicas) (of_many replicas)

@@ -5,7 +5,8 @@ use Rattle.std.specs.List.{flat_map}
 use Rattle.rds_life.specs.Life.{seen_of, live_rows}
 use Rattle.rds_state.specs.Value.{StateValue}
 use Rattle.rds_state.specs.Fits.{ReplicaValue}
-use Rattle.rds_codec.specs.Spelling.{magic, member_text, front_text, dots_text, live_row_text, live_rows_text, counters_text, state_text, snapshot_text}
+use Rattle.rds_bytes.specs.Spelling.{magic, member_text, front_text, dots_text, live_row_text, live_rows_text, counters_text}
+use Rattle.rds_codec.specs.StateTexts.{state_text, snapshot_text}
 
 pub OnOk-map : {T E : Type 0} {P Q : Type 0} (r : Result T E) → (P → Q) → OnOk r P → OnOk r Q
 OnOk-map (Ok x) f p = f p

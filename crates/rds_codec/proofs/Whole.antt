@@ -5,11 +5,11 @@ use Rattle.std.proofs.lemmas.List.{append-nil, nil_from_length}
 use Rattle.rds_names.specs.declared.fault.Fault.{Fault}
 use Rattle.rds_names.specs.declared.fault.Fault.TheVariants.{Memory, Cut, Bad, Extra, TooLong, TooManyDots}
 use Rattle.rds_codec.specs.declared.limits.TheConstants.{LIMIT}
-use Rattle.rds_codec.specs.Decoding.{IsTextOf, BeginsWithText, IsOtherFault, Decodes}
+use Rattle.rds_codec.specs.Decoding.{IsTextOf, BeginsWithText, IsOtherFault, Decodes, all_of}
 use Rattle.rds_codec.specs.Kinds.{Kind}
 use Rattle.rds_codec.specs.Laws.{StandApart}
-use Rattle.rds_codec.specs.Reading.{Reader, Fails, Gives, all_of}
-use Rattle.rds_codec.proofs.Format.{IsBytes, IsFormat, Takes, CutOrBad, bind_ok, bind_err, chosen, err_is, ok_is, done, failed}
+use Rattle.rds_bytes.specs.Reading.{Reader, Fails, Reads}
+use Rattle.rds_bytes.proofs.Format.{IsBytes, IsFormat, Takes, CutOrBad, bind_ok, bind_err, chosen, err_is, ok_is, done, failed}
 
 -- The reader of a kind of text: what it reads is spelled so, what is spelled so within the limit is read,
 -- whatever follows, and it refuses sets of too many dots exactly where the kind says so.
@@ -112,7 +112,7 @@ module _ {V : Type 0} (kind : Kind V) (reader : Reader V) (laws : IsReaderOf kin
   is_extra : (e : Fault) → Refused e → e ≡ Extra → BeginsWithText kind bytes
   is_extra e h is = elim h [ inl a ↦ absurd (let bad : TooManyDots ≡ Extra = sym a.0 ∙ is in cc) | inr b ↦ elim b [ inl c ↦ c.1 | inr d ↦ elim d [ inl x ↦ absurd (let bad : Cut ≡ Extra = sym x ∙ is in cc) | inr y ↦ absurd (let bad : Bad ≡ Extra = sym y ∙ is in cc) ] ] ]
 
-  pub decodes : (r : Result V Fault) → Gives (λ x. x) r read → Decodes kind bytes r
+  pub decodes : (r : Result V Fault) → Reads (λ x. x) r read → Decodes kind bytes r
   decodes (Ok v) g = record {
     value = (within, read_value v g);
     found = λ w le h. inl (sym g ∙ read_found w h);

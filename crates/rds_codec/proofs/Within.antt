@@ -6,15 +6,15 @@ use Rattle.rds_names.specs.declared.entry.Entry.{Entry}
 use Rattle.rds_dots.specs.declared.dot.Dot.{Dot}
 use Rattle.rds_dots.specs.Dots.{Dots}
 use Rattle.rds_dots.specs.Runs.{runs_of}
-use Rattle.rds_codec.specs.declared.rows.Gap.{Gap}
-use Rattle.rds_codec.specs.declared.rows.DotRow.{DotRow}
+use Rattle.rds_bytes.specs.declared.rows.Gap.{Gap}
+use Rattle.rds_bytes.specs.declared.rows.DotRow.{DotRow}
 use Rattle.rds_codec.specs.declared.limits.TheConstants.{LIMIT}
 use Rattle.rds_counts.specs.Counted.{Counted}
 use Rattle.rds_counts.specs.RowsOf.{count_rows}
-use Rattle.rds_codec.specs.DotRows.{rows_from, CanCountAll}
-use Rattle.rds_codec.specs.Spelling.{gap_text, gaps_text, dot_row_text, dots_text, live_row_text, live_rows_text, count_row_text, counters_text}
-use Rattle.rds_codec.proofs.DotFormats.{CanCountDots}
-use Rattle.rds_codec.proofs.LiveFormats.{CanCountRows}
+use Rattle.rds_bytes.specs.DotRows.{rows_from, CanCountAll}
+use Rattle.rds_bytes.specs.Spelling.{gap_text, gaps_text, dot_row_text, dots_text, live_row_text, live_rows_text, count_row_text, counters_text}
+use Rattle.rds_bytes.proofs.DotFormats.{CanCountDots}
+use Rattle.rds_bytes.proofs.LiveFormats.{CanCountRows}
 
 pub longer : {A : Type 0} (f : A → List ℕ) → ((a : A) → 1 ≤ length (f a)) → (xs : List A) → length xs ≤ length (flat_map f xs)
 longer f some [] = omega arith

@@ -1,13 +1,13 @@
 -- The text of an answer, how it is read, and which answers have one.
-use Rattle.std.specs.Prelude.{◌≡◌, ◌<◌, ℕ, List, ◌++◌}
+use Rattle.std.specs.Prelude.{◌≡◌, ℕ, List, ◌++◌}
 use Rattle.rds_state.specs.Value.{StateValue}
 use Rattle.rds_delta.specs.declared.row.Row.{Row}
 use Rattle.rds_codec.specs.AnswerValues.{AnswerValue}
 use Rattle.rds_codec.specs.CertificateTexts.{IsReplicaOf, IsCertificateOf, certificate_text, certificate_at}
 use Rattle.rds_codec.specs.Kinds.{Kind, BeginsWithTooManyDots}
-use Rattle.rds_codec.specs.Reading.{Reader, pair_at, made_at, replica_at, state_at}
-use Rattle.rds_codec.specs.Spelling.{byte_text, state_text}
-use Rattle.rds_codec.specs.Values.{IsStateOf}
+use Rattle.rds_bytes.specs.Reading.{Reader, pair_at, made_at, replica_at}
+use Rattle.rds_codec.specs.StateTexts.{state_at, state_text, IsStateOf}
+use Rattle.rds_bytes.specs.Spelling.{byte_text}
 
 -- who asked, the delta, and its certificate
 unfoldable pub answer_text : AnswerValue → List ℕ

@@ -1,5 +1,5 @@
 -- An answer as a value.
-use Rattle.std.specs.Prelude.{◌≡◌, ℕ, List, refl}
+use Rattle.std.specs.Prelude.{ℕ, List, refl}
 use Rattle.std.specs.Coded.{Coded, code_by, coded×, coded_ℕ, coded_list}
 use Rattle.rds_state.specs.Value.{StateValue, coded_state}
 use Rattle.rds_delta.specs.contracts.row.Row as row

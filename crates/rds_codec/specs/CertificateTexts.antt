@@ -1,8 +1,7 @@
 -- The text of a certificate, how it is read, and which certificates have one.
-use Rattle.std.specs.Prelude.{◌≡◌, ◌≤◌, ◌<◌, ℕ, true, ◌==◌, if◌then◌else◌, List, ◌∷◌, ◌++◌, length, Result, Err}
+use Rattle.std.specs.Prelude.{◌≡◌, ◌≤◌, ◌<◌, ℕ, true, ◌==◌, if◌then◌else◌, List, ◌∷◌, ◌++◌, length, Err}
 use Rattle.std.specs.List.{AllByRecursion, flat_map}
 use Rattle.std.specs.Int.{w32, w64, to_be_bytes}
-use Rattle.rds_names.specs.declared.fault.Fault.{Fault}
 use Rattle.rds_names.specs.declared.fault.Fault.TheVariants.{Bad}
 use Rattle.rds_dots.specs.declared.dot.Dot.{Dot}
 use Rattle.rds_dots.specs.declared.dot.Run.{Run}
@@ -14,9 +13,9 @@ use Rattle.rds_counts.specs.declared.row.TheConstants.{MAX_COUNT}
 use Rattle.rds_delta.specs.declared.row.Row.{Row}
 use Rattle.rds_delta.specs.declared.row.Row.TheVariants.{Live, Dead, Count}
 use Rattle.rds_codec.specs.Kinds.{Kind, HasNoDots}
-use Rattle.rds_codec.specs.Reading.{◌>>=◌, Reader, then_at, pair_at, made_at, when_at, list_at, byte_at, number_at, is_between, is_count, key_at, replica_at, dot_by}
-use Rattle.rds_codec.specs.Spelling.{byte_text, dot_text, place_text}
-use Rattle.rds_codec.specs.Values.{is_key_text}
+use Rattle.rds_bytes.specs.Reading.{◌>>=◌, Reader, then_at, pair_at, made_at, when_at, list_at, byte_at, number_at, is_between, is_count, key_at, replica_at, dot_by}
+use Rattle.rds_bytes.specs.Spelling.{byte_text, dot_text, place_text}
+use Rattle.rds_bytes.specs.Values.{is_key_text}
 
 -- ---- spelling
 

@@ -1,10 +1,14 @@
 -- What decoding answers for all of its input, in terms of the texts alone.
-use Rattle.std.specs.Prelude.{◌≡◌, ◌≢◌, ℕ, ◌<◌, ◌≤◌, ◌⊎◌, List, [], ◌++◌, length, Result, Ok, Err, IfOk, IfErr}
+use Rattle.std.specs.Prelude.{◌≡◌, ◌≢◌, ◌==◌, if◌then◌else◌, ℕ, ◌<◌, ◌≤◌, ◌⊎◌, List, [], ◌++◌, length, Result, Ok, Err, IfOk, IfErr}
 use Rattle.rds_names.specs.declared.fault.Fault.{Fault}
 use Rattle.rds_names.specs.declared.fault.Fault.TheVariants.{Memory, Cut, Bad, Extra, TooLong, TooManyDots}
 use Rattle.rds_codec.specs.declared.limits.TheConstants.{LIMIT}
 use Rattle.rds_codec.specs.Kinds.{Kind}
-use Rattle.rds_codec.specs.Reading.{Reader, Gives, all_of}
+use Rattle.rds_bytes.specs.Reading.{◌>>=◌, Reader, Reads}
+
+-- all of the bytes
+abbrev pub all_of : {A : Type 0} → Reader A → List ℕ → Result A Fault
+all_of f bytes = f bytes >>= λ x. if length x.1 == 0 then Ok x.0 else Err Extra
 
 -- the bytes are the value's text
 pub record IsTextOf {V : Type 0} (kind : Kind V) (bytes : List ℕ) (v : V) : Type 0 where
@@ -25,7 +29,7 @@ Answers result wanted = (result ≡ wanted) ⊎ (result ≡ Err Memory)
 
 -- within the limit, what reading all of the bytes from the left gives, unless memory ran out
 abbrev pub ReadsAll : {V : Type 0} → Reader V → List ℕ → Result V Fault → Type 0
-ReadsAll reader bytes result = length bytes ≤ LIMIT → Gives (λ v. v) result (all_of reader bytes)
+ReadsAll reader bytes result = length bytes ≤ LIMIT → Reads (λ v. v) result (all_of reader bytes)
 
 -- each refusal of decoding
 abbrev pub IsOtherFault : Fault → Type 0

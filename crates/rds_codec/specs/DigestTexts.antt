@@ -7,9 +7,9 @@ use Rattle.rds_counts.specs.Counted.{Counted, number}
 use Rattle.rds_counts.specs.Place.{Place}
 use Rattle.rds_delta.specs.Digested.{DigestValue, IsInside}
 use Rattle.rds_codec.specs.Kinds.{Kind, BeginsWithTooManyDots}
-use Rattle.rds_codec.specs.Reading.{Reader, then_at, pair_at, made_at, when_at, dots_at, counters_at}
-use Rattle.rds_codec.specs.Spelling.{dots_text, counters_text}
-use Rattle.rds_codec.specs.Values.{AreFew, AreDotsOf, AreCountsOf}
+use Rattle.rds_bytes.specs.Reading.{Reader, then_at, pair_at, made_at, when_at, dots_at, counters_at}
+use Rattle.rds_bytes.specs.Spelling.{dots_text, counters_text}
+use Rattle.rds_bytes.specs.Values.{AreFew, AreDotsOf, AreCountsOf}
 
 -- the seen dots, the live ones of them, and the counters
 unfoldable pub digest_text : DigestValue → List ℕ

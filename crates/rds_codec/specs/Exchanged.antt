@@ -13,7 +13,7 @@ use Rattle.rds_delta.specs.Least.{least}
 use Rattle.rds_codec.specs.AnswerTexts.{answer_text}
 use Rattle.rds_codec.specs.AnswerValues.{AnswerValue}
 use Rattle.rds_codec.specs.DigestTexts.{digest_text}
-use Rattle.rds_codec.specs.Values.{AreFew}
+use Rattle.rds_bytes.specs.Values.{AreFew}
 use Rattle.rds_codec.specs.declared.limits.TheConstants.{LIMIT}
 
 -- it answers a digest for the one that asked: the least delta of a state, and its certificate

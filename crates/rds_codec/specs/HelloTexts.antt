@@ -4,9 +4,9 @@ use Rattle.rds_names.specs.Roster.{RosterValue}
 use Rattle.rds_codec.specs.declared.hellos.Hello.{Hello}
 use Rattle.rds_codec.specs.declared.hellos.TheConstants.{VERSION}
 use Rattle.rds_codec.specs.Kinds.{Kind, HasNoDots}
-use Rattle.rds_codec.specs.Reading.{Reader, pair_at, made_at, when_at, byte_at, member_at}
-use Rattle.rds_codec.specs.Spelling.{byte_text, member_text}
-use Rattle.rds_codec.specs.Values.{IsMember}
+use Rattle.rds_bytes.specs.Reading.{Reader, pair_at, made_at, when_at, byte_at, member_at}
+use Rattle.rds_bytes.specs.Spelling.{byte_text, member_text}
+use Rattle.rds_bytes.specs.Values.{IsMember}
 
 -- the version, the roster, and the own number
 unfoldable pub hello_text : Hello → List ℕ

@@ -5,9 +5,10 @@ use Rattle.rds_names.specs.Roster.{RosterValue}
 use Rattle.rds_dots.specs.Dots.{Dots}
 use Rattle.rds_state.specs.Fits.{ReplicaValue}
 use Rattle.rds_state.specs.Value.{StateValue}
-use Rattle.rds_codec.specs.declared.limits.TheConstants.{MOST_DOTS}
-use Rattle.rds_codec.specs.Spelling.{front_text, dots_text, state_text, snapshot_text}
-use Rattle.rds_codec.specs.Values.{IsMember, AreDotsOf, IsStateOf, IsSnapshot}
+use Rattle.rds_bytes.specs.declared.rows.TheConstants.{MOST_DOTS}
+use Rattle.rds_bytes.specs.Spelling.{front_text, dots_text}
+use Rattle.rds_codec.specs.StateTexts.{state_text, snapshot_text, IsStateOf, IsSnapshot}
+use Rattle.rds_bytes.specs.Values.{IsMember, AreDotsOf}
 
 -- which values have a text, what it is, and which bytes hold more dots than are read
 pub record Kind (V : Type 0) : Type 1 where

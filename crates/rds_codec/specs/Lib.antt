@@ -3,14 +3,9 @@ pub mod AnswerValues
 pub mod CertificateTexts
 pub mod Decoding
 pub mod DigestTexts
-pub mod DotRows
-pub mod Entries
 pub mod Exchanged
 pub mod HelloTexts
 pub mod Kinds
 pub mod Laws
-pub mod Reading
-pub mod RowDots
-pub mod Spelling
-pub mod Values
+pub mod StateTexts
 pub mod Writing

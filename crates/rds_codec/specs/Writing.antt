@@ -1,13 +1,9 @@
 -- What writing answers.
-use Rattle.std.specs.Prelude.{◌≡◌, ℕ, ◌<◌, ◌≤◌, ◌⊎◌, List, [], ◌++◌, length, Result, MatchResult, OnOk}
+use Rattle.std.specs.Prelude.{◌≡◌, ℕ, ◌<◌, ◌≤◌, ◌⊎◌, List, [], length, Result, MatchResult}
 use Rattle.std.specs.Global.{Vec}
 use Rattle.rds_names.specs.declared.fault.Fault.{Fault}
 use Rattle.rds_names.specs.declared.fault.Fault.TheVariants.{Memory, TooLong}
 use Rattle.rds_codec.specs.declared.limits.TheConstants.{LIMIT}
-
--- where it didn't fail, a text was added at the end
-abbrev pub Adds : {T E : Type 0} → List ℕ → List ℕ → List ℕ → Result T E → Type 0
-Adds old new text result = OnOk result (new ≡ old ++ text)
 
 -- why a text of a length isn't written: TooLong exactly above the limit, else memory ran out
 abbrev pub IsUnwritten : ℕ → Fault → Type 0

@@ -8,17 +8,17 @@ ghost use Rattle.rds_state.specs.Value.{coordinates};
 ghost use Rattle.rds_dots.specs.Runs.{runs_of};
 ghost use Rattle.rds_life.specs.Life.{seen_of};
 ghost use Rattle.rds_codec.specs.AnswerTexts.{IsAnswerOf, answer, answer_text, answer_at, answer_kind};
-ghost use Rattle.rds_codec.specs.Decoding.{Decodes, ReadsAll};
-ghost use Rattle.rds_codec.specs.DotRows.{rows_from};
-ghost use Rattle.rds_codec.specs.Reading.{Gives, all_of};
-ghost use Rattle.rds_codec.specs.Values.{AreDotsOf, AreFew};
-ghost use Rattle.rds_codec.specs.Writing.{Adds, Encodes};
+ghost use Rattle.rds_codec.specs.Decoding.{Decodes, ReadsAll, all_of};
+ghost use Rattle.rds_bytes.specs.DotRows.{rows_from};
+ghost use Rattle.rds_bytes.specs.Reading.{Reads};
+ghost use Rattle.rds_bytes.specs.Values.{AreDotsOf, AreFew};
+ghost use Rattle.rds_codec.specs.Writing.{Encodes};
+ghost use Rattle.rds_bytes.specs.Writing.{Adds};
 
 use crate::certificates::{certificate_length, put_certificate, read_certificate};
-use crate::front::read_replica;
 use crate::limits::{LIMIT, room_for};
-use crate::putting::put_byte;
 use crate::states::{measure_state, put_state, read_state};
+use rds_bytes::{put_byte, read_replica};
 use rds_delta::Certificate;
 use rds_dots::DotSet;
 use rds_names::Fault;
@@ -54,7 +54,7 @@ pub fn read_answer<'a, S: DotSet>(
     replicas: u16,
     bytes: &'a [u8],
 ) -> Result<(Answer<S>, &'a [u8]), Fault>
-    ensures { Gives (λ x. (x.0, x.1.now)) result (answer_at replicas bytes.now) }
+    ensures { Reads (λ x. (x.0, x.1.now)) result (answer_at replicas bytes.now) }
 {
     let (asker, rest) = read_replica(replicas, bytes)?;
     let (state, rest) = read_state(alloc, replicas, rest)?;
@@ -68,7 +68,7 @@ pub fn read_answer<'a, S: DotSet>(
 }
 
 fn read_all<S: DotSet>(alloc: Global, replicas: u16, bytes: &[u8]) -> Result<Answer<S>, Fault>
-    ensures { Gives (λ x. x) result (all_of (answer_at replicas) bytes.now) }
+    ensures { Reads (λ x. x) result (all_of (answer_at replicas) bytes.now) }
 {
     let (answer, rest) = read_answer(alloc, replicas, bytes)?;
     if !rest.is_empty() {

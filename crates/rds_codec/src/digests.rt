@@ -1,19 +1,16 @@
 //! The text of a digest: the dots that were seen, those of them that are live, and the counters.
 ghost use Rattle.std.specs.Prelude.{◌≡◌, ℕ, ◌≤◌, length};
 ghost use Rattle.rds_dots.specs.Runs.{runs_of};
-ghost use Rattle.rds_codec.specs.Decoding.{Decodes, ReadsAll};
+ghost use Rattle.rds_codec.specs.Decoding.{Decodes, ReadsAll, all_of};
 ghost use Rattle.rds_codec.specs.DigestTexts.{DigestFits, IsDigestOf, digest_text, live_dots_at, digest_at, digest_kind};
-ghost use Rattle.rds_codec.specs.DotRows.{rows_from};
-ghost use Rattle.rds_codec.specs.Reading.{Gives, all_of};
-ghost use Rattle.rds_codec.specs.Values.{AreDotsOf, AreFew};
-ghost use Rattle.rds_codec.specs.Writing.{Adds, Encodes};
+ghost use Rattle.rds_bytes.specs.DotRows.{rows_from};
+ghost use Rattle.rds_bytes.specs.Reading.{Reads};
+ghost use Rattle.rds_bytes.specs.Values.{AreDotsOf, AreFew};
+ghost use Rattle.rds_codec.specs.Writing.{Encodes};
+ghost use Rattle.rds_bytes.specs.Writing.{Adds};
 
-use crate::counters::read_counters;
 use crate::limits::{LIMIT, room_for};
-use crate::measuring::counters_length;
-use crate::putting::put_counters;
-use crate::rows::read_dots;
-use crate::walking::{measure_dots, put_dots};
+use rds_bytes::{counters_length, measure_dots, put_counters, put_dots, read_counters, read_dots};
 use rds_delta::{Digest, is_inside};
 use rds_dots::DotSet;
 use rds_names::Fault;
@@ -27,7 +24,7 @@ fn read_live<'a, S: DotSet>(
     seen: &S,
     bytes: &'a [u8],
 ) -> Result<(S, &'a [u8]), Fault>
-    ensures { Gives (λ x. (S.contents x.0, x.1.now)) result (live_dots_at replicas (S.contents seen.now) bytes.now) }
+    ensures { Reads (λ x. (S.contents x.0, x.1.now)) result (live_dots_at replicas (S.contents seen.now) bytes.now) }
 {
     let (live, rest) = read_dots::<S>(alloc, replicas, bytes)?;
     if !is_inside(&live, seen) {
@@ -43,7 +40,7 @@ pub fn read_digest<'a, S: DotSet>(
     replicas: u16,
     bytes: &'a [u8],
 ) -> Result<(Digest<S>, &'a [u8]), Fault>
-    ensures { Gives (λ x. (x.0, x.1.now)) result (digest_at replicas bytes.now) }
+    ensures { Reads (λ x. (x.0, x.1.now)) result (digest_at replicas bytes.now) }
 {
     let (seen, rest) = read_dots::<S>(alloc, replicas, bytes)?;
     let (live, rest) = read_live(alloc, replicas, &seen, rest)?;
@@ -55,7 +52,7 @@ pub fn read_digest<'a, S: DotSet>(
 }
 
 fn read_all<S: DotSet>(alloc: Global, replicas: u16, bytes: &[u8]) -> Result<Digest<S>, Fault>
-    ensures { Gives (λ x. x) result (all_of (digest_at replicas) bytes.now) }
+    ensures { Reads (λ x. x) result (all_of (digest_at replicas) bytes.now) }
 {
     let (digest, rest) = read_digest(alloc, replicas, bytes)?;
     if !rest.is_empty() {

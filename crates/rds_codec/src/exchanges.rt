@@ -9,7 +9,7 @@ ghost use Rattle.rds_delta.specs.Digested.{digest_of, ranks_in};
 ghost use Rattle.rds_delta.specs.Claims.{IsCertificate};
 ghost use Rattle.rds_delta.specs.Least.{IsAbove};
 ghost use Rattle.rds_codec.specs.Exchanged.{CanExchange, IsAnswerTo, IsLongDigest, IsLongAnswer, IsLost};
-ghost use Rattle.rds_codec.specs.Values.{AreFew};
+ghost use Rattle.rds_bytes.specs.Values.{AreFew};
 
 use crate::answers::{Answer, decode_answer, encode_answer};
 use crate::digests::{decode_digest, encode_digest};

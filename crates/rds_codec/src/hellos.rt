@@ -1,16 +1,14 @@
 //! The text of a hello, by which a session begins.
 ghost use Rattle.std.specs.Prelude.{◌≡◌, ◌<◌, ◌≤◌, length, IfErr};
 ghost use Rattle.rds_names.specs.declared.fault.Fault.TheVariants.{Memory};
-ghost use Rattle.rds_codec.specs.Decoding.{Decodes, ReadsAll};
+ghost use Rattle.rds_codec.specs.Decoding.{Decodes, ReadsAll, all_of};
 ghost use Rattle.rds_codec.specs.HelloTexts.{IsHello, hello_text, version_at, hello_at, hello_kind};
-ghost use Rattle.rds_codec.specs.Reading.{Gives, all_of};
-ghost use Rattle.rds_codec.specs.Writing.{Adds, Encodes};
+ghost use Rattle.rds_bytes.specs.Reading.{Reads};
+ghost use Rattle.rds_codec.specs.Writing.{Encodes};
+ghost use Rattle.rds_bytes.specs.Writing.{Adds};
 
-use crate::front::read_member;
 use crate::limits::{LIMIT, room_for};
-use crate::measuring::member_length;
-use crate::numbers::read_byte;
-use crate::putting::{put_byte, put_member};
+use rds_bytes::{member_length, put_byte, put_member, read_byte, read_member};
 use rds_names::{Fault, Roster};
 use std::alloc::{AllocError, Global};
 
@@ -30,7 +28,7 @@ pub struct Hello {
 
 #[tactic(auto, unfolding(crate::specs::HelloTexts::version_at))]
 fn read_version(bytes: &[u8]) -> Result<(u8, &[u8]), Fault>
-    ensures { Gives (λ x. (x.0, x.1.now)) result (version_at bytes.now) }
+    ensures { Reads (λ x. (x.0, x.1.now)) result (version_at bytes.now) }
 {
     let (version, rest) = read_byte(bytes)?;
     if version != VERSION {
@@ -41,7 +39,7 @@ fn read_version(bytes: &[u8]) -> Result<(u8, &[u8]), Fault>
 
 #[tactic(auto, unfolding(crate::specs::HelloTexts::hello_at))]
 fn read_hello(alloc: Global, bytes: &[u8]) -> Result<(Hello, &[u8]), Fault>
-    ensures { Gives (λ x. (x.0, x.1.now)) result (hello_at bytes.now) }
+    ensures { Reads (λ x. (x.0, x.1.now)) result (hello_at bytes.now) }
 {
     let (version, rest) = read_version(bytes)?;
     let ((roster, own), rest) = read_member(alloc, rest)?;
@@ -54,7 +52,7 @@ fn read_hello(alloc: Global, bytes: &[u8]) -> Result<(Hello, &[u8]), Fault>
 }
 
 fn read_all(alloc: Global, bytes: &[u8]) -> Result<Hello, Fault>
-    ensures { Gives (λ x. x) result (all_of hello_at bytes.now) }
+    ensures { Reads (λ x. x) result (all_of hello_at bytes.now) }
 {
     let (hello, rest) = read_hello(alloc, bytes)?;
     if !rest.is_empty() {

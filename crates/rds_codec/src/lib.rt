@@ -4,22 +4,13 @@
 
 mod answers;
 mod certificates;
-mod counters;
 mod digests;
-mod entries;
 mod exchanges;
-mod front;
 mod hellos;
 mod laws;
 mod limits;
-mod list;
-mod measuring;
-mod numbers;
-mod putting;
-mod rows;
 mod snapshots;
 mod states;
-mod walking;
 
 pub use answers::{Answer, decode_answer, encode_answer};
 pub use certificates::{decode_certificate, encode_certificate};
@@ -27,6 +18,6 @@ pub use digests::{decode_digest, encode_digest};
 pub use exchanges::exchange;
 pub use hellos::{Hello, VERSION, decode_hello, encode_hello};
 pub use laws::texts_stand_apart;
-pub use limits::{LIMIT, MOST_DOTS};
+pub use limits::LIMIT;
 pub use snapshots::{decode_snapshot, encode_snapshot};
 pub use states::{decode_state, encode_state};

@@ -1,4 +1,4 @@
-//! How long a text may be, and how many dots may be read.
+//! How long a text may be.
 ghost use Rattle.std.specs.Prelude.{◌≡◌, ◌≤◌, []};
 ghost use Rattle.rds_codec.specs.Writing.{HasRoom};
 
@@ -7,9 +7,6 @@ use std::alloc::Global;
 
 /// The greatest length of a text, in bytes.
 pub const LIMIT: usize = 268_435_456;
-
-/// The most dots that a set may have to be read.
-pub const MOST_DOTS: u64 = 65_536;
 
 /// No bytes, with room for a text of this length.
 pub fn room_for(alloc: Global, length: u128) -> Result<Vec<u8>, Fault>

@@ -1,29 +1,28 @@
 //! The text of a snapshot: the roster, the replica's own number, and its state.
 ghost use Rattle.std.specs.Prelude.{◌≡◌, ◌≤◌, length};
 ghost use Rattle.std.specs.FinMap as map;
-ghost use Rattle.rds_codec.specs.Decoding.{Decodes, ReadsAll};
-ghost use Rattle.rds_codec.specs.DotRows.{rows_from};
+ghost use Rattle.rds_codec.specs.Decoding.{Decodes, ReadsAll, all_of};
+ghost use Rattle.rds_bytes.specs.DotRows.{rows_from};
 ghost use Rattle.rds_codec.specs.Kinds.{snapshot_kind};
-ghost use Rattle.rds_codec.specs.Reading.{Gives, snapshot_at, all_of};
-ghost use Rattle.rds_codec.specs.Spelling.{snapshot_text};
-ghost use Rattle.rds_codec.specs.Values.{AreFew, IsSnapshot};
-ghost use Rattle.rds_codec.specs.Writing.{Adds, Encodes};
+ghost use Rattle.rds_bytes.specs.Reading.{Reads};
+ghost use Rattle.rds_codec.specs.StateTexts.{snapshot_at, snapshot_text, IsSnapshot};
+ghost use Rattle.rds_bytes.specs.Values.{AreFew};
+ghost use Rattle.rds_codec.specs.Writing.{Encodes};
+ghost use Rattle.rds_bytes.specs.Writing.{Adds};
 ghost use Rattle.rds_dots.specs.Runs.{runs_of};
 ghost use Rattle.rds_life.specs.Life.{seen_of};
 
-use crate::front::read_front;
 use crate::limits::{LIMIT, room_for};
-use crate::measuring::member_length;
-use crate::putting::put_front;
 use crate::states::{measure_state, put_state, read_state};
+use rds_bytes::{member_length, put_front, read_front};
 use rds_dots::DotSet;
 use rds_names::Fault;
 use rds_state::Replica;
 use std::alloc::{AllocError, Global};
 
-#[tactic(auto, unfolding(crate::specs::Reading::snapshot_at))]
+#[tactic(auto, unfolding(crate::specs::StateTexts::snapshot_at))]
 fn read_snapshot<S: DotSet>(alloc: Global, bytes: &[u8]) -> Result<(Replica<S>, &[u8]), Fault>
-    ensures { Gives (λ x. (x.0, x.1.now)) result (snapshot_at bytes.now) }
+    ensures { Reads (λ x. (x.0, x.1.now)) result (snapshot_at bytes.now) }
 {
     let ((roster, own), rest) = read_front(alloc, bytes)?;
     let (state, rest) = read_state(alloc, roster.len(), rest)?;
@@ -34,7 +33,7 @@ fn read_snapshot<S: DotSet>(alloc: Global, bytes: &[u8]) -> Result<(Replica<S>, 
 }
 
 fn read_all<S: DotSet>(alloc: Global, bytes: &[u8]) -> Result<Replica<S>, Fault>
-    ensures { Gives (λ x. x) result (all_of snapshot_at bytes.now) }
+    ensures { Reads (λ x. x) result (all_of snapshot_at bytes.now) }
 {
     let (replica, rest) = read_snapshot(alloc, bytes)?;
     if !rest.is_empty() {

@@ -2,23 +2,22 @@
 ghost use Rattle.std.specs.Prelude.{◌≡◌, ℕ, ◌≤◌, ◌^◌, length};
 ghost use Rattle.rds_dots.specs.Runs.{runs_of};
 ghost use Rattle.rds_life.specs.Life.{seen_of};
-ghost use Rattle.rds_codec.specs.Decoding.{Decodes, ReadsAll};
+ghost use Rattle.rds_codec.specs.Decoding.{Decodes, ReadsAll, all_of};
 ghost use Rattle.rds_codec.specs.Kinds.{state_kind};
-ghost use Rattle.rds_codec.specs.DotRows.{rows_from};
-ghost use Rattle.rds_codec.specs.Reading.{Gives, state_at, all_of};
-ghost use Rattle.rds_codec.specs.Spelling.{state_text};
-ghost use Rattle.rds_codec.specs.Values.{AreDotsOf, AreFew, IsStateOf};
+ghost use Rattle.rds_bytes.specs.DotRows.{rows_from};
+ghost use Rattle.rds_bytes.specs.Reading.{Reads};
+ghost use Rattle.rds_codec.specs.StateTexts.{state_at, state_text, IsStateOf};
+ghost use Rattle.rds_bytes.specs.Values.{AreDotsOf, AreFew};
 ghost use Rattle.rds_state.specs.Fits.{Fits};
 ghost use Rattle.rds_state.specs.Value.{coordinates};
-ghost use Rattle.rds_codec.specs.Writing.{Adds, Encodes};
+ghost use Rattle.rds_codec.specs.Writing.{Encodes};
+ghost use Rattle.rds_bytes.specs.Writing.{Adds};
 
-use crate::counters::read_counters;
-use crate::entries::read_live_rows;
 use crate::limits::{LIMIT, room_for};
-use crate::measuring::{counters_length, live_rows_length};
-use crate::putting::{put_counters, put_live_rows};
-use crate::rows::read_dots;
-use crate::walking::{measure_dots, put_dots};
+use rds_bytes::{
+    counters_length, live_rows_length, measure_dots, put_counters, put_dots, put_live_rows,
+    read_counters, read_dots, read_live_rows,
+};
 use rds_dots::DotSet;
 use rds_life::Lives;
 use rds_names::Fault;
@@ -26,13 +25,13 @@ use rds_state::State;
 use std::alloc::{AllocError, Global};
 
 /// A state of so many replicas.
-#[tactic(auto, unfolding(crate::specs::Reading::state_at))]
+#[tactic(auto, unfolding(crate::specs::StateTexts::state_at))]
 pub fn read_state<'a, S: DotSet>(
     alloc: Global,
     replicas: u16,
     bytes: &'a [u8],
 ) -> Result<(State<S>, &'a [u8]), Fault>
-    ensures { Gives (λ x. (x.0, x.1.now)) result (state_at replicas bytes.now) }
+    ensures { Reads (λ x. (x.0, x.1.now)) result (state_at replicas bytes.now) }
 {
     let (seen, rest) = read_dots::<S>(alloc, replicas, bytes)?;
     let (rows, rest) = read_live_rows(alloc, &seen, rest)?;
@@ -77,7 +76,7 @@ pub fn put_state<S: DotSet>(
 }
 
 fn read_all<S: DotSet>(alloc: Global, replicas: u16, bytes: &[u8]) -> Result<State<S>, Fault>
-    ensures { Gives (λ x. x) result (all_of (state_at replicas) bytes.now) }
+    ensures { Reads (λ x. x) result (all_of (state_at replicas) bytes.now) }
 {
     let (state, rest) = read_state(alloc, replicas, bytes)?;
     if !rest.is_empty() {

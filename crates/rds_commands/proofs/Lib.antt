@@ -4,4 +4,5 @@ pub mod Meaning
 pub mod NamedTasks
 pub mod Naming
 pub mod Refused
+pub mod SimTold
 pub mod Told

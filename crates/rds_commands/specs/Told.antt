@@ -5,8 +5,9 @@ use Rattle.clap.specs.declared.error.kind.ErrorKind.{ErrorKind}
 use Rattle.rds_names.specs.declared.fault.Fault.{Fault}
 use Rattle.rds_names.specs.declared.fault.Fault.TheVariants.{Memory, Usage}
 use Rattle.rds_session.specs.declared.talk.Side.TheVariants.{Client, Server}
-use Rattle.rds_lines.specs.Answering.{WritesAnswer}
+use Rattle.rds_lines.specs.Answering.{WritesAnswer, WritesAnswers}
 use Rattle.rds_lines.specs.Output.{Writes}
+use Rattle.rds_lines.specs.Sim.{IsSimOutput}
 use Rattle.rds_lines.specs.declared.answer.Answer.{Answer}
 use Rattle.rds_files.specs.Files.{FileValue}
 use Rattle.rds_files.specs.Pairing.{WritesPair}
@@ -28,6 +29,10 @@ named_in entered = words_in (subcommand_of node_app entered)
 -- the ways in which what was entered is none of the program's
 abbrev pub mistakes_in : List Text → Kinds
 mistakes_in entered = fault_of node_app entered
+
+-- the answers to the lines of the input were written, and nothing else; or there was no memory to read the words
+abbrev pub WritesSim : List ℕ → Option (List ℕ) → Option (List ℕ) → ℕ → Type 0
+WritesSim input before after status = Writes (Err Memory) before after status ⊎ WritesAnswers (IsSimOutput input) before after status
 
 -- an answer that came with such a file, or such a fault, was written, and nothing else, and its status is answered
 abbrev pub WritesOfFile : (FileValue → Answer → Type 0) → (Fault → Type 0) → Option (List ℕ) → Option (List ℕ) → ℕ → Type 0

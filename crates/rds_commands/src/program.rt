@@ -1,11 +1,12 @@
 //! The program's commands.
 ghost use Rattle.std.specs.Prelude.{◌≡◌, ◌≢◌, [], ◌∷◌, ◌≤◌, ◌⊎◌, List, ℕ, Err, map, IfSome};
 ghost use Rattle.rds_names.specs.declared.fault.Fault.TheVariants.{Device};
-ghost use Rattle.rds_lines.specs.Answering.{EndsIn};
+ghost use Rattle.rds_lines.specs.Answering.{WritesCut};
 ghost use Rattle.rds_lines.specs.Output.{Writes, fault_line};
-ghost use Rattle.rds_lines.specs.Run.{WritesJoin, WritesSim};
+ghost use Rattle.rds_lines.specs.Run.{WritesJoin};
+ghost use Rattle.rds_lines.specs.Sim.{MayBeSimulated};
 ghost use Rattle.rds_commands.specs.Commands.{join_words, sim_words};
-ghost use Rattle.rds_commands.specs.Told.{AnswersMistake, MayWriteNamed, mistakes_in, named_in};
+ghost use Rattle.rds_commands.specs.Told.{AnswersMistake, MayWriteNamed, WritesSim, mistakes_in, named_in};
 
 use crate::commands::{Task, task_of};
 use crate::serve_words::run_serve;
@@ -46,8 +47,8 @@ pub fn run<H: Files + Net + AllocGlobal, R: Read, W: Write, S: AsStr>(
         → WritesSim input (W.contents writer.old.inner) (W.contents writer.new.inner) result) }
     ensures cut { (name : List ℕ) → map S.text words.entry.now ≡ name ∷ sim_words
         → reader.new.failed ≢ reader.old.failed → writer.new.failed ≡ 0
-        → EndsIn (fault_line Device) (W.contents writer.old.inner) (W.contents writer.new.inner)
-        × (result ≡ 1) }
+        → WritesCut MayBeSimulated (fault_line Device)
+        (W.contents writer.old.inner) (W.contents writer.new.inner) × (result ≡ 1) }
     ensures task { mistakes_in (map S.text words.entry.now) ≡ [] → writer.new.failed ≡ 0
         → MayWriteNamed (named_in (map S.text words.entry.now))
         (W.contents writer.old.inner) (W.contents writer.new.inner) result }

@@ -15,7 +15,8 @@ use Rattle.rds_counts.specs.declared.row.TheConstants.{MAX_COUNT}
 use Rattle.rds_counts.specs.Place.{Place, place_cmp}
 use Rattle.rds_counts.specs.PlaceOrder.{place_exact}
 use Rattle.rds_counts.specs.Counted.{Counted, number, place, counted, row_cmp, is_row, rows_rise, AreCountRows}
-use Rattle.rds_counts.specs.CountedLemmas.{and_true, and_left, and_right, less_of, equal_of, some, number_in, number_past, number-row, get-counted, row_total}
+use Rattle.rds_counts.specs.CountedLemmas.{some, number_in, number_past, number-row, get-counted, row_total}
+use Rattle.rds_names.specs.Conditions.{and_true, and_left, and_right, less_of, equal_of}
 use Rattle.rds_counts.specs.Drawn.{choose, greater, drawn_onto, drawn}
 
 -- a row's own number at a place

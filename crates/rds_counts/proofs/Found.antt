@@ -11,7 +11,8 @@ use Rattle.std.proofs.lemmas.Bool.{cases_lt}
 use Rattle.std.proofs.lemmas.Map.Lookups.{exact_pairs, exact_unsigned, exact_bytes}
 use Rattle.rds_counts.specs.declared.row.CountRow.{CountRow}
 use Rattle.rds_counts.specs.Counted.{row_cmp, rows_rise, pair_of}
-use Rattle.rds_counts.specs.CountedLemmas.{and_left, and_right, less_of, row_total}
+use Rattle.rds_counts.specs.CountedLemmas.{row_total}
+use Rattle.rds_names.specs.Conditions.{and_left, and_right, less_of}
 use Rattle.rds_counts.specs.Search.{spot_cmp, IsSpot}
 use Rattle.rds_counts.specs.Raised.{row_of}
 

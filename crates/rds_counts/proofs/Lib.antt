@@ -1,3 +1,4 @@
+pub mod BelowLemmas
 pub mod DrawnLemmas
 pub mod Found
 pub mod Puts

@@ -6,7 +6,8 @@ use Rattle.std.specs.Ordering.{is_lt, ordering_reverse}
 use Rattle.std.specs.declared.cmp.Ordering.TheVariants.{Less, Equal, Greater}
 use Rattle.rds_counts.specs.declared.row.CountRow.{CountRow}
 use Rattle.rds_counts.specs.Counted.{row_cmp, rows_rise}
-use Rattle.rds_counts.specs.CountedLemmas.{and_left, and_right, row_total}
+use Rattle.rds_counts.specs.CountedLemmas.{row_total}
+use Rattle.rds_names.specs.Conditions.{and_left, and_right}
 use Rattle.rds_counts.specs.Search.{spot_cmp}
 use Rattle.rds_counts.specs.Drawn.{choose, greater, drawn}
 use Rattle.rds_counts.proofs.Found.{after_at, same_spot}

@@ -10,7 +10,8 @@ use Rattle.rds_counts.specs.declared.row.TheConstants.{MAX_COUNT}
 use Rattle.rds_counts.specs.Place.{Place, place_cmp}
 use Rattle.rds_counts.specs.PlaceOrder.{place_exact}
 use Rattle.rds_counts.specs.Counted.{Counted, number, number_of, place, counted, pair_of, AreCountRows}
-use Rattle.rds_counts.specs.CountedLemmas.{and_true, equal_of, some, number_in, number-row, number-own, both_other, pair_number, get-counted}
+use Rattle.rds_counts.specs.CountedLemmas.{some, number_in, number-row, number-own, both_other, pair_number, get-counted}
+use Rattle.rds_names.specs.Conditions.{and_true, equal_of}
 use Rattle.rds_counts.specs.Drawn.{drawn}
 use Rattle.rds_counts.specs.Raised.{pair_raised, row_of}
 use Rattle.rds_counts.proofs.DrawnLemmas.{drawn_number}

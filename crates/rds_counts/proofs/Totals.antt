@@ -22,7 +22,8 @@ use Rattle.rds_counts.specs.declared.row.Which.TheVariants.{P, N}
 use Rattle.rds_counts.specs.declared.row.CountRow.{CountRow}
 use Rattle.rds_counts.specs.declared.row.TheConstants.{MAX_COUNT}
 use Rattle.rds_counts.specs.Counted.{number_of, place, counted, pair_of, row_cmp, is_row, rows_rise, AreCountRows}
-use Rattle.rds_counts.specs.CountedLemmas.{and_left, and_right, less_of, equal_of, number_in, number_past, pair_number, get-counted}
+use Rattle.rds_counts.specs.CountedLemmas.{number_in, number_past, pair_number, get-counted}
+use Rattle.rds_names.specs.Conditions.{and_left, and_right, less_of, equal_of}
 use Rattle.rds_counts.specs.Value.{total, first_total}
 use Rattle.rds_counts.proofs.Found.{rises_at}
 

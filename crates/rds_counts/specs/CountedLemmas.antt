@@ -9,33 +9,13 @@ use Rattle.std.specs.declared.cmp.Ordering.{Ordering}
 use Rattle.std.specs.declared.cmp.Ordering.TheVariants.{Less, Equal, Greater}
 use Rattle.std.specs.FinMap as map
 use Rattle.std.proofs.lemmas.Cmp.{on_total, then_total}
+use Rattle.rds_names.specs.Conditions.{and_true, and_left, and_right, less_of, equal_of}
 use Rattle.rds_counts.specs.declared.row.Which.{Which}
 use Rattle.rds_counts.specs.declared.row.Which.TheVariants.{P, N}
 use Rattle.rds_counts.specs.declared.row.CountRow.{CountRow}
 use Rattle.rds_counts.specs.Place.{Place, place_cmp, index_of}
 use Rattle.rds_counts.specs.PlaceOrder.{place_total, place_exact}
 use Rattle.rds_counts.specs.Counted.{Above, Counted, number, number_from, place, above, components, counted, row_cmp, is_row, rows_rise, before_next, rows_fit, pair_of, number_of, AreCountRows}
-
-pub and_true : (a b : Bool) → a ≡ true → b ≡ true → (a && b) ≡ true
-and_true a b p q = rw p q
-
-pub and_left : (a b : Bool) → (a && b) ≡ true → a ≡ true
-and_left true b p = refl
-and_left false b p = p
-
-pub and_right : (a b : Bool) → (a && b) ≡ true → b ≡ true
-and_right true b p = p
-and_right false b p = absurd (false≢true p)
-
-pub less_of : (o : Ordering) → is_lt o ≡ true → o ≡ Less
-less_of Less h = refl
-less_of Equal h = absurd (false≢true h)
-less_of Greater h = absurd (false≢true h)
-
-pub equal_of : (o : Ordering) → is_eq o ≡ true → o ≡ Equal
-equal_of Less h = absurd (false≢true h)
-equal_of Equal h = refl
-equal_of Greater h = absurd (false≢true h)
 
 pub row_total : IsTotalOrder row_cmp
 row_total = then_total (on_total (λ (r : CountRow). r.key) nat_list_cmp_total) (on_total (λ (r : CountRow). r.replica) nat_cmp_total)

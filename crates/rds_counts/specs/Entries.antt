@@ -14,7 +14,8 @@ use Rattle.rds_counts.specs.declared.row.CountRow.{CountRow}
 use Rattle.rds_counts.specs.Place.{Place, place_cmp}
 use Rattle.rds_counts.specs.PlaceOrder.{place_total, place_exact}
 use Rattle.rds_counts.specs.Counted.{Above, place, above, components, counted, row_cmp, rows_rise}
-use Rattle.rds_counts.specs.CountedLemmas.{and_true, and_left, and_right, less_of, then_less}
+use Rattle.rds_counts.specs.CountedLemmas.{then_less}
+use Rattle.rds_names.specs.Conditions.{and_true, and_left, and_right, less_of}
 
 below_above : (q x : Place) (n : ℕ) (es : List (Place × Above)) → is_lt (place_cmp q x) ≡ true → below_all place_cmp q es ≡ true → below_all place_cmp q (above x n ++ es) ≡ true
 below_above q x zero es lt all = all

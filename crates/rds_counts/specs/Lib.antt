@@ -1,3 +1,4 @@
+pub mod Below
 pub mod Counted
 pub mod CountedLemmas
 pub mod Drawn

@@ -10,7 +10,8 @@ use Rattle.rds_counts.specs.declared.row.CountRow.{CountRow}
 use Rattle.rds_counts.specs.declared.row.TheConstants.{MAX_COUNT}
 use Rattle.rds_counts.specs.Place.{Place}
 use Rattle.rds_counts.specs.Counted.{Above, place, above, components, counted, row_cmp, is_row, rows_rise, before_next, AreCountRows}
-use Rattle.rds_counts.specs.CountedLemmas.{and_left, and_right, less_of, row_total, all_before}
+use Rattle.rds_counts.specs.CountedLemmas.{row_total, all_before}
+use Rattle.rds_names.specs.Conditions.{and_left, and_right, less_of}
 use Rattle.rds_counts.specs.Entries.{entries-counted}
 use Rattle.rds_counts.specs.RowsOf.{row_at, both, with_row, rows_of, count_rows}
 

@@ -25,13 +25,11 @@ pub struct Counts {
 }
 
 impl Model for Counts {
-    ghost use Rattle.rds_counts.specs.Counted.{Counted, coded_counts};
+    ghost use Rattle.rds_counts.specs.Counted.{Counted, coded_counts, counted, AreCountRows};
 
     ghost Value = { Counted };
 
     ghost coded = { coded_counts };
-
-    ghost use Rattle.rds_counts.specs.Counted.{counted, AreCountRows};
 
     ghost view = { λ c. counted c.rows.items };
 

@@ -17,7 +17,7 @@ use Rattle.rds_dots.specs.Dots.{dot_cmp, first_of, last_of, comes_after}
 use Rattle.rds_dots.specs.Lacking.{dot_of}
 use Rattle.rds_dots.specs.Listed.{dots_from}
 use Rattle.rds_dots.specs.Order.{dots_total, dots_exact, before_after, after_before}
-use Rattle.rds_dots.specs.Merges.{and_true, less_of}
+use Rattle.rds_names.specs.Conditions.{and_true, less_of}
 use Rattle.rds_life.specs.Life.{Life, Live, Dead, Lived, entry_of}
 use Rattle.rds_delta.specs.declared.row.Row.{Row}
 use Rattle.rds_delta.specs.declared.row.Row.TheVariants as rows

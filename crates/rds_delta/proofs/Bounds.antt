@@ -15,7 +15,7 @@ use Rattle.rds_dots.specs.declared.dot.Dot.{Dot}
 use Rattle.rds_dots.specs.Dots.{is_dot}
 use Rattle.rds_dots.specs.Lacking.{dot_of}
 use Rattle.rds_dots.specs.Listed.{dots_from}
-use Rattle.rds_dots.specs.Merges.{and_left, and_right}
+use Rattle.rds_names.specs.Conditions.{and_left, and_right, true_of, equal_of}
 use Rattle.rds_dots.specs.Order.{dots_total, dots_exact}
 use Rattle.rds_counts.specs.declared.row.CountRow.{CountRow}
 use Rattle.rds_counts.specs.declared.row.TheConstants.{MAX_COUNT}
@@ -33,7 +33,7 @@ use Rattle.rds_delta.specs.Claims.{Claim, OfLive, OfDead, OfCount, claims, claim
 use Rattle.rds_delta.specs.Least.{IsAbove}
 use Rattle.rds_delta.specs.Ranges.{IsRowWithin, AreRowsWithin}
 use Rattle.rds_delta.specs.Ranks.{Ranks, life_rank}
-use Rattle.rds_delta.proofs.Sizes.{no_entry, true_of, equal_of}
+use Rattle.rds_delta.proofs.Sizes.{no_entry}
 
 -- the same of claims
 abbrev ClaimWithin : ℕ → Claim → Type 0

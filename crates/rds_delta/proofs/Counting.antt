@@ -11,7 +11,7 @@ use Rattle.std.specs.FinMap as map
 use Rattle.std.specs.FinMap.Entries.{find, is_sorted, below_all}
 use Rattle.std.proofs.lemmas.Cmp.{tied_itself}
 use Rattle.rds_dots.specs.declared.dot.Dot.{Dot}
-use Rattle.rds_dots.specs.Merges.{and_left, and_right, less_of}
+use Rattle.rds_names.specs.Conditions.{and_left, and_right, less_of, true_of, equal_of}
 use Rattle.rds_dots.specs.Order.{dots_total, dots_exact}
 use Rattle.rds_counts.specs.Place.{Place}
 use Rattle.rds_counts.specs.PlaceOrder.{place_total, place_exact}
@@ -21,7 +21,6 @@ use Rattle.rds_state.specs.Coordinates.{Coordinate, AtDot, AtPlace, IsComponent}
 use Rattle.rds_state.specs.Value.{StateValue, coordinates, size}
 use Rattle.rds_delta.specs.Sized.{IsListed, AreDistinct, HasComponents}
 use Rattle.rds_delta.proofs.Bounds.{all_append, all_each, all_entries}
-use Rattle.rds_delta.proofs.Sizes.{true_of, equal_of}
 
 listed_left : (c : Coordinate) (xs ys : List Coordinate) → IsListed c xs → IsListed c (xs ++ ys)
 listed_left c [] ys h = absurd h

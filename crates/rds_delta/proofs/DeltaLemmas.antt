@@ -15,7 +15,7 @@ use Rattle.rds_dots.specs.declared.dot.Dot.{Dot}
 use Rattle.rds_dots.specs.Dots.{dot_cmp, Dots}
 use Rattle.rds_dots.specs.Ascending.{ascends, is_above}
 use Rattle.rds_dots.specs.Order.{dots_total, dots_exact}
-use Rattle.rds_dots.specs.Merges.{and_true, and_left, and_right}
+use Rattle.rds_names.specs.Conditions.{and_true, and_left, and_right, equal_of}
 use Rattle.rds_life.specs.Life.{Life, Live, Dead, Lived, keys, life_of, life_in, entry_of, lived, AreRows}
 use Rattle.rds_life.proofs.LivedLemmas.{get-lived}
 use Rattle.rds_counts.specs.declared.row.Which.{Which}
@@ -25,7 +25,7 @@ use Rattle.rds_counts.specs.declared.row.TheConstants.{MAX_COUNT}
 use Rattle.rds_counts.specs.Place.{Place, place_cmp}
 use Rattle.rds_counts.specs.PlaceOrder.{place_exact}
 use Rattle.rds_counts.specs.Counted.{Counted, number, place, counted, row_cmp, is_row, rows_rise, AreCountRows}
-use Rattle.rds_counts.specs.CountedLemmas.{some, number_in, number-row, number_past, get-counted, equal_of}
+use Rattle.rds_counts.specs.CountedLemmas.{some, number_in, number-row, number_past, get-counted}
 use Rattle.rds_delta.specs.Ranks.{life_rank}
 use Rattle.rds_delta.specs.Digested.{DigestValue, rank_in, IsInside}
 use Rattle.rds_delta.specs.Higher.{higher, higher_row, kept_row, higher_rows, unseen_rows, is_sent}

@@ -6,7 +6,7 @@ use Rattle.std.proofs.lemmas.Bool.Decides.{nat_tests}
 use Rattle.rds_dots.specs.declared.dot.Dot.{Dot}
 use Rattle.rds_dots.specs.declared.dot.Run.{Run}
 use Rattle.rds_dots.specs.Listed.{dots_from}
-use Rattle.rds_dots.specs.Merges.{and_true, and_left, and_right}
+use Rattle.rds_names.specs.Conditions.{and_true, and_left, and_right}
 use Rattle.rds_delta.specs.Ranks.{Ranks}
 use Rattle.rds_state.specs.Value.{StateValue}
 use Rattle.rds_delta.specs.declared.row.Row.{Row}

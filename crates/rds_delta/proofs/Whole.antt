@@ -10,7 +10,8 @@ use Rattle.rds_counts.specs.declared.row.CountRow.{CountRow}
 use Rattle.rds_counts.specs.Place.{Place, place_cmp}
 use Rattle.rds_counts.specs.PlaceOrder.{place_exact}
 use Rattle.rds_counts.specs.Counted.{Above, number, place, above, components, counted, row_cmp, rows_rise, AreCountRows}
-use Rattle.rds_counts.specs.CountedLemmas.{and_left, and_right, some, number_in, number_past, number-row, number-own, get-counted, equal_of}
+use Rattle.rds_counts.specs.CountedLemmas.{some, number_in, number_past, number-row, number-own, get-counted}
+use Rattle.rds_names.specs.Conditions.{and_left, and_right, equal_of}
 use Rattle.rds_counts.specs.Entries.{entries-counted}
 use Rattle.rds_delta.specs.Ranks.{Ranks}
 use Rattle.rds_delta.specs.Least.{IsAbove}

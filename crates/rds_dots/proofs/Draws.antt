@@ -6,13 +6,12 @@ use Rattle.std.proofs.lemmas.Bool.{cases_lt, not-true}
 use Rattle.std.proofs.lemmas.Bool.Decides.{nat_tests}
 use Rattle.rds_dots.specs.declared.dot.Dot.{Dot}
 use Rattle.rds_dots.specs.declared.dot.Run.{Run}
-use Rattle.rds_dots.specs.Dots.{first_of, last_of, comes_after}
-use Rattle.rds_dots.specs.Merges.{and_left, and_right, less_of}
+use Rattle.rds_dots.specs.Dots.{first_of, last_of, comes_after, leads_to}
+use Rattle.rds_names.specs.Conditions.{and_left, and_right, less_of}
 use Rattle.rds_dots.specs.Runs.{put_dot, grouped, first_after}
 use Rattle.rds_dots.proofs.Parts.{all_front, all_back}
 use Rattle.rds_dots.proofs.RunWalks.{after_trans}
 use Rattle.rds_dots.specs.Drawn.{drawn, put_dots}
-use Rattle.rds_dots.specs.Dots.{leads_to}
 
 begin_drawn : (d : Dot) (rs : List Run) → let one : Run = record { replica = d.replica; lo = d.seq; hi = d.seq } in put_dot d rs ≡ drawn one rs
 begin_drawn d [] = refl

@@ -12,7 +12,7 @@ use Rattle.rds_dots.specs.declared.dot.Run.{Run}
 use Rattle.rds_dots.specs.Dots.{dot_cmp, is_dot, in_run, IsRun}
 use Rattle.rds_dots.specs.Ascending.{is_above, ascends}
 use Rattle.rds_dots.specs.Listed.{lists, dots_from, dots_of}
-use Rattle.rds_dots.specs.Merges.{and_left, and_right, and_true}
+use Rattle.rds_names.specs.Conditions.{and_left, and_right, and_true}
 use Rattle.rds_dots.specs.Sets.{all_listed, contains_list, lists-run, ascends-run, all-run}
 use Rattle.rds_dots.proofs.Parts.{all_front, all_back, front_rises, back_rises}
 

@@ -13,7 +13,7 @@ use Rattle.rds_dots.specs.Dots.{first_of, last_of, leads_to}
 use Rattle.rds_dots.specs.Drawn.{drawn, leads_by}
 use Rattle.rds_dots.specs.Lacking.{dot_of}
 use Rattle.rds_dots.specs.Listed.{dots_from}
-use Rattle.rds_dots.specs.Merges.{and_left, and_right}
+use Rattle.rds_names.specs.Conditions.{and_left, and_right}
 use Rattle.rds_dots.specs.Runs.{put_dot, grouped}
 use Rattle.rds_dots.proofs.Search.{all_at}
 

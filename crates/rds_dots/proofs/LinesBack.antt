@@ -11,7 +11,7 @@ use Rattle.rds_dots.specs.Dots.{first_of, last_of, comes_after, leads_to}
 use Rattle.rds_dots.specs.Drawn.{leads_by, put_dots}
 use Rattle.rds_dots.specs.Lacking.{dot_of}
 use Rattle.rds_dots.specs.Listed.{dots_from}
-use Rattle.rds_dots.specs.Merges.{and_right}
+use Rattle.rds_names.specs.Conditions.{and_right}
 use Rattle.rds_dots.specs.Runs.{first_after}
 use Rattle.rds_dots.proofs.Draws.{stop_back, find_first, put_dots-append}
 use Rattle.rds_dots.proofs.Lines.{in_line, same_dot, leads_next, of_one, so_far}

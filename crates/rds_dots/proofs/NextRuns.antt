@@ -9,7 +9,7 @@ use Rattle.rds_dots.specs.declared.dot.Run.{Run}
 use Rattle.rds_dots.specs.declared.dot.TheConstants.{MAX_SEQ}
 use Rattle.rds_dots.specs.Dots.{Dots, is_dot, in_run, last_of, comes_after}
 use Rattle.rds_dots.specs.Lacking.{dot_of, IsNextRun}
-use Rattle.rds_dots.specs.Merges.{and_right}
+use Rattle.rds_names.specs.Conditions.{and_right}
 use Rattle.rds_dots.specs.Runs.{covers, place, start, stop, are_maximal, first_after, runs_of, AreRuns}
 use Rattle.rds_dots.specs.RunFacts.{Bounds, parts_of, has, has_past, has_none, start_stop, spans, covers_is}
 use Rattle.rds_dots.specs.RunsOf.{are_runs}

@@ -3,7 +3,7 @@ use Rattle.std.proofs.Common.{◌≡◌, Bool, true, List, [], ◌∷◌, ◌++�
 use Rattle.std.specs.List.{list_all}
 use Rattle.rds_dots.specs.declared.dot.Dot.{Dot}
 use Rattle.rds_dots.specs.Ascending.{is_above, ascends}
-use Rattle.rds_dots.specs.Merges.{and_true, and_left, and_right}
+use Rattle.rds_names.specs.Conditions.{and_true, and_left, and_right}
 
 pub all_front : (p : Dot → Bool) (ds es : List Dot) → list_all p (ds ++ es) ≡ true → list_all p ds ≡ true
 all_front p [] es all = refl

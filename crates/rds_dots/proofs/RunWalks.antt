@@ -9,7 +9,7 @@ use Rattle.rds_dots.specs.declared.dot.Dot.{Dot}
 use Rattle.rds_dots.specs.declared.dot.Run.{Run}
 use Rattle.rds_dots.specs.Dots.{dot_cmp, last_of, comes_after}
 use Rattle.rds_dots.specs.Order.{dots_total}
-use Rattle.rds_dots.specs.Merges.{less_of}
+use Rattle.rds_names.specs.Conditions.{less_of}
 use Rattle.rds_dots.specs.Runs.{start, stop, begins_past, are_maximal, first_after}
 use Rattle.rds_dots.specs.RunFacts.{Bounds, parts_of, start_stop, lt_of, begins_later}
 use Rattle.rds_dots.specs.RunsAfter.{runs_left}

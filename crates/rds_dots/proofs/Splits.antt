@@ -10,7 +10,7 @@ use Rattle.rds_dots.specs.declared.dot.Dot.{Dot}
 use Rattle.rds_dots.specs.Dots.{dot_cmp, comes_after}
 use Rattle.rds_dots.specs.Ascending.{is_above, ascends}
 use Rattle.rds_dots.specs.Order.{dots_total, before_after, after_before}
-use Rattle.rds_dots.specs.Merges.{and_true, less_of}
+use Rattle.rds_names.specs.Conditions.{and_true, less_of}
 use Rattle.rds_dots.proofs.Search.{rises_at}
 
 pub all_taken : (p : Dot → Bool) (xs : List Dot) (i : ℕ) → ((k : ℕ) (d : Dot) → k < i → p (get_or xs k d) ≡ true) → list_all p (take i xs) ≡ true

@@ -8,7 +8,8 @@ use Rattle.rds_dots.specs.Dots.{dot_cmp}
 use Rattle.rds_dots.specs.Ascending.{is_above, ascends}
 use Rattle.rds_dots.specs.Listed.{lists, without}
 use Rattle.rds_dots.specs.Order.{dots_exact, before_after, after_before}
-use Rattle.rds_dots.specs.Merges.{and_true, and_left, and_right, less_of, above, above_trans}
+use Rattle.rds_dots.specs.Merges.{above, above_trans}
+use Rattle.rds_names.specs.Conditions.{and_true, and_left, and_right, less_of}
 use Rattle.rds_dots.specs.Sets.{not_above}
 
 pub without_none : (xs ys : List Dot) → length ys ≡ 0 → without xs ys ≡ xs

@@ -15,7 +15,7 @@ use Rattle.rds_dots.specs.Dots.{dot_cmp, is_dot, IsTop}
 use Rattle.rds_dots.specs.Ascending.{is_above, ascends}
 use Rattle.rds_dots.specs.Listed.{lists}
 use Rattle.rds_dots.specs.Order.{dots_total}
-use Rattle.rds_dots.specs.Merges.{and_left, and_right, and_true}
+use Rattle.rds_names.specs.Conditions.{and_left, and_right, and_true}
 use Rattle.rds_dots.proofs.Parts.{all_back}
 use Rattle.rds_dots.specs.Sets.{all_listed, contains_list, same_dot}
 

@@ -1,11 +1,10 @@
 -- What a merge of two rising lists of dots has, and that it rises.
 use Rattle.std.proofs.Common.{◌≡◌, Bool, true, false, ◌&&◌, ◌||◌, List, [], ◌∷◌, length, refl, sym, ◌∙◌, ap, arith}
+use Rattle.rds_names.specs.Conditions.{and_true, and_left, and_right, less_of}
 use Rattle.rds_dots.specs.declared.dot.Dot.{Dot}
-use mathlib.Core.Bool.{false≢true}
 use Rattle.std.proofs.Math.Bool.{and_assoc, or_assoc}
 use Rattle.std.specs.List.{list_any, list_all}
 use Rattle.std.specs.Ordering.{is_lt}
-use Rattle.std.specs.declared.cmp.Ordering.{Ordering}
 use Rattle.std.specs.declared.cmp.Ordering.TheVariants.{Less, Equal, Greater}
 use Rattle.rds_dots.specs.Dots.{dot_cmp}
 use Rattle.rds_dots.specs.Ascending.{is_above, ascends}
@@ -42,17 +41,6 @@ and_twice true true c d e = ap (λ x. x && c) e
 and_twice true false c d e = refl
 and_twice false b c d e = refl
 
-pub and_true : (a b : Bool) → a ≡ true → b ≡ true → (a && b) ≡ true
-and_true a b p q = rw p q
-
-pub and_left : (a b : Bool) → (a && b) ≡ true → a ≡ true
-and_left true b p = refl
-and_left false b p = p
-
-pub and_right : (a b : Bool) → (a && b) ≡ true → b ≡ true
-and_right true b p = p
-and_right false b p = absurd (false≢true p)
-
 module _ (p : Dot → Bool) where
   -- what a merge has is in one of the two
   any-merge_onto : (x : Dot) (xs : List Dot) (rest : List Dot → List Dot) → ((ys : List Dot) → list_any p (rest ys) ≡ (list_any p xs || list_any p ys)) → (ys : List Dot) → list_any p (merge_onto x rest ys) ≡ ((p x || list_any p xs) || list_any p ys)
@@ -86,11 +74,6 @@ module _ (p : Dot → Bool) where
 
 pub above : (x y : Dot) → dot_cmp x y ≡ Less → is_above x y ≡ true
 above x y is = ap is_lt is
-
-pub less_of : (o : Ordering) → is_lt o ≡ true → o ≡ Less
-less_of Less h = refl
-less_of Equal h = absurd (false≢true h)
-less_of Greater h = absurd (false≢true h)
 
 -- what is above y is above all that y is above
 pub above_trans : (x y : Dot) → dot_cmp x y ≡ Less → (zs : List Dot) → list_all (is_above y) zs ≡ true → list_all (is_above x) zs ≡ true

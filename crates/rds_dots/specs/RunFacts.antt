@@ -7,7 +7,7 @@ use Rattle.std.proofs.lemmas.Bool.Decides.{nat_tests}
 use Rattle.rds_dots.specs.declared.dot.Dot.{Dot}
 use Rattle.rds_dots.specs.declared.dot.Run.{Run}
 use Rattle.rds_dots.specs.Dots.{is_dot}
-use Rattle.rds_dots.specs.Merges.{and_left, and_right, and_true}
+use Rattle.rds_names.specs.Conditions.{and_left, and_right, and_true}
 use Rattle.rds_dots.specs.Runs.{covers, place, start, stop, is_run, begins_past, are_maximal}
 
 -- the limits of a run

@@ -13,7 +13,8 @@ use Rattle.rds_dots.specs.declared.dot.Run.{Run}
 use Rattle.rds_dots.specs.Dots.{Dots, dot_cmp, is_dot, in_run, first_of}
 use Rattle.rds_dots.specs.Ascending.{is_above, ascends}
 use Rattle.rds_dots.specs.Listed.{lists}
-use Rattle.rds_dots.specs.Merges.{and_left, and_right, and_true, any-merged, ascends-merged}
+use Rattle.rds_dots.specs.Merges.{any-merged, ascends-merged}
+use Rattle.rds_names.specs.Conditions.{and_left, and_right, and_true}
 use Rattle.rds_dots.specs.Order.{dots_total}
 use Rattle.rds_dots.specs.Sets.{contains_list, tied_is}
 use Rattle.rds_dots.specs.Runs.{covers, place, start, stop, begins_past, are_maximal, put_dot, grouped, arranged, runs_of}

@@ -3,10 +3,9 @@ use Rattle.std.proofs.Common.{◌≡◌, ℕ, suc, zero, ◌+◌, ◌-◌, ◌<�
 use mathlib.Core.Bool.{false≢true}
 use Rattle.std.specs.List.{list_all, filter}
 use Rattle.std.specs.Ordering.{eq_by_cmp, is_eq, is_lt, ordering_then, nat_cmp}
-use Rattle.std.specs.declared.cmp.Ordering.{Ordering}
-use Rattle.std.specs.declared.cmp.Ordering.TheVariants.{Less, Equal, Greater}
 use Rattle.std.specs.FinSet as set
 use Rattle.std.proofs.lemmas.Bool.Decides.{nat_tests}
+use Rattle.rds_names.specs.Conditions.{equal_of, and_left, and_right, and_true, less_of}
 use Rattle.rds_dots.specs.declared.dot.Dot.{Dot}
 use Rattle.rds_dots.specs.declared.dot.Run.{Run}
 use Rattle.rds_dots.specs.declared.dot.TheConstants.{MAX_SEQ}
@@ -15,7 +14,7 @@ use Rattle.rds_dots.specs.Ascending.{is_above, ascends}
 use Rattle.rds_dots.specs.Merged.{merged}
 use Rattle.rds_dots.specs.Listed.{lists, dots_from, dots_of, without}
 use Rattle.rds_dots.specs.Order.{dots_total, dots_exact}
-use Rattle.rds_dots.specs.Merges.{any-merged, and_left, and_right, and_true, less_of}
+use Rattle.rds_dots.specs.Merges.{any-merged}
 
 pub contains_list : (ds : List Dot) (q : Dot) → set.contains (set.from_list {R = dot_cmp} ds) q ≡ lists ds q
 contains_list ds q = set.contains-from_list dots_total ds q
@@ -25,11 +24,6 @@ pub list-merged : (ds es : List Dot) → set.from_list {R = dot_cmp} (merged ds 
 list-merged ds es = set.same_set dots_total dots_exact _ _ (λ q.
     contains_list (merged ds es) q ∙ any-merged (eq_by_cmp dot_cmp q) ds es
     ∙ sym (set.contains-union dots_total (set.from_list ds) (set.from_list es) q ∙ ap (λ b. b || set.contains (set.from_list {R = dot_cmp} es) q) (contains_list ds q) ∙ ap (λ b. lists ds q || b) (contains_list es q)))
-
-equal_of : (o : Ordering) → is_eq o ≡ true → o ≡ Equal
-equal_of Less h = absurd (false≢true h)
-equal_of Equal h = refl
-equal_of Greater h = absurd (false≢true h)
 
 -- dots that tie are one
 pub same_dot : (q d : Dot) → eq_by_cmp dot_cmp q d ≡ true → q ≡ d

@@ -1,12 +1,12 @@
 -- Sessions that are told one after the other.
-use Rattle.std.proofs.Common.{◌≡◌, ◌≤◌, ◌<◌, ◌+◌, ℕ, Bool, true, false, ◌||◌, List, [], ◌++◌, Option, refl, sym, ap, ◌∙◌, subst, inl, inr, arith, cond}
+use Rattle.std.proofs.Common.{◌≡◌, ◌<◌, ◌+◌, ℕ, Bool, true, false, ◌||◌, List, Option, refl, sym, ap, ◌∙◌, subst, inl, inr, arith}
 use Rattle.std.specs.Io.KnownBytes.{Appends}
 use Rattle.std.proofs.KnownBytes.{Appends-nil, Appends-trans}
 use Rattle.rds_session.specs.declared.step.Ended.{Ended}
 use Rattle.rds_session.specs.declared.talk.Side.{Side}
 use Rattle.rds_files.specs.Files.{FileValue}
 use Rattle.rds_files.specs.Reports.{report_text, tells_fault, told_status}
-use Rattle.rds_files.specs.Settling.{is_unkept, is_fault}
+use Rattle.rds_files.specs.Settling.{is_unkept}
 use Rattle.rds_files.specs.Syncing.{IsSession, Served, unserved, served_more, Serves, none, more, WritesSessions}
 use Rattle.rds_files.specs.declared.settling.Settled.{Settled}
 use Rattle.rds_files.specs.declared.settling.Settled.TheVariants.{Nothing, Taken, Refused, Unkept}

@@ -1,5 +1,5 @@
 -- Why a delta that was checked isn't taken.
-use Rattle.std.proofs.Common.{◌≡◌, Result, Err, refl}
+use Rattle.std.proofs.Common.{Err, refl}
 use Rattle.rds_names.specs.declared.fault.Fault.{Fault}
 use Rattle.rds_names.specs.declared.fault.Fault.TheVariants.{Memory, Conflict, OwnAhead}
 use Rattle.rds_state.specs.Ahead.{TakeGives}

@@ -9,7 +9,7 @@ use Rattle.rds_names.specs.declared.fault.Fault.TheVariants.{TooLong}
 use Rattle.rds_state.specs.Fits.{ReplicaValue}
 use Rattle.rds_codec.specs.Decoding.{Decodes, ReadsAll}
 use Rattle.rds_codec.specs.Kinds.{snapshot_kind}
-use Rattle.rds_codec.specs.Reading.{snapshot_at}
+use Rattle.rds_codec.specs.StateTexts.{snapshot_at}
 use Rattle.rds_codec.specs.declared.limits.TheConstants.{LIMIT}
 use Rattle.rds_keep.specs.Snapshots.{ReadsWhole}
 

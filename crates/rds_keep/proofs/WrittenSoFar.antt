@@ -11,6 +11,7 @@ pub record IsWrittenSoFar {W : Type 0} (contents : W → Option (List ℕ)) (fir
   pub written : Appends (contents first.inner) (contents now.inner) (take at bytes)
   pub steady : now.failed ≡ first.failed
   pub turns : now.turns ≡ first.turns
+  pub left : now.left ≡ first.left
   pub renamed : now.renamed ≡ first.renamed
 
 -- the bytes that are left

@@ -2,8 +2,8 @@
 use Rattle.std.specs.Prelude.{◌≤◌, length}
 use Rattle.rds_life.specs.Life.{seen_of}
 use Rattle.rds_state.specs.Fits.{ReplicaValue}
-use Rattle.rds_codec.specs.Spelling.{snapshot_text}
-use Rattle.rds_codec.specs.Values.{AreFew, IsSnapshot}
+use Rattle.rds_codec.specs.StateTexts.{snapshot_text, IsSnapshot}
+use Rattle.rds_bytes.specs.Values.{AreFew}
 use Rattle.rds_codec.specs.declared.limits.TheConstants.{LIMIT}
 
 -- its text is within the limit, and is read again where its dots are no more than are read

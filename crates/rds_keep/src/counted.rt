@@ -172,6 +172,7 @@ impl<W: Write> Counted<W> {
         ensures steady { OnOk result (self.new.failed ≡ self.old.failed) }
         ensures counted { OnErr result (self.new.failed ≡ one_more self.old.failed) }
         ensures turns { self.new.turns ≡ self.old.turns }
+        ensures left { self.new.left ≡ self.old.left }
         ensures renamed { self.new.renamed ≡ self.old.renamed }
     {
         match self.inner.write(bytes) {
@@ -193,6 +194,7 @@ impl<W: Write> Counted<W> {
         ensures steady { OnOk result (self.new.failed ≡ self.old.failed) }
         ensures counted { OnErr result (self.new.failed ≡ one_more self.old.failed) }
         ensures turns { self.new.turns ≡ self.old.turns }
+        ensures left { self.new.left ≡ self.old.left }
         ensures renamed { self.new.renamed ≡ self.old.renamed }
     {
         let mut at = 0;
@@ -211,6 +213,7 @@ impl<W: Write> Counted<W> {
         ensures steady { OnOk result (self.new.failed ≡ self.old.failed) }
         ensures counted { OnErr result (self.new.failed ≡ one_more self.old.failed) }
         ensures turns { self.new.turns ≡ self.old.turns }
+        ensures left { self.new.left ≡ self.old.left }
         ensures renamed { self.new.renamed ≡ self.old.renamed }
     {
         match self.inner.write_fmt(text) {
@@ -227,6 +230,7 @@ impl<W: Write> Counted<W> {
         ensures steady { OnOk result (self.new.failed ≡ self.old.failed) }
         ensures counted { OnErr result (self.new.failed ≡ one_more self.old.failed) }
         ensures turns { self.new.turns ≡ self.old.turns }
+        ensures left { self.new.left ≡ self.old.left }
         ensures renamed { self.new.renamed ≡ self.old.renamed }
     {
         match self.inner.writeln(text) {

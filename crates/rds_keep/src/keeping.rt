@@ -1,7 +1,7 @@
 //! A replica that takes its old text's place.
 ghost use Rattle.std.specs.Prelude.{◌≡◌, true, false, is_ok, IfOk, IfErr, OnOk, OnErr};
 ghost use Rattle.std.specs.Io.KnownBytes.{Appends};
-ghost use Rattle.rds_codec.specs.Spelling.{snapshot_text};
+ghost use Rattle.rds_codec.specs.StateTexts.{snapshot_text};
 ghost use Rattle.rds_keep.specs.Parts.{AppendsFront};
 ghost use Rattle.rds_keep.specs.Snapshots.{RefusesText};
 

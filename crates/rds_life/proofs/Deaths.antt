@@ -9,7 +9,7 @@ use Rattle.rds_names.specs.declared.entry.Entry.{Entry}
 use Rattle.rds_dots.specs.declared.dot.Dot.{Dot}
 use Rattle.rds_dots.specs.Dots.{dot_cmp, Dots}
 use Rattle.rds_dots.specs.Order.{dots_total}
-use Rattle.rds_dots.specs.Merges.{and_true, and_left, and_right}
+use Rattle.rds_names.specs.Conditions.{and_true, and_left, and_right}
 use Rattle.rds_life.specs.Life.{Lived, keys, life_of, lived, is_dead}
 use Rattle.rds_life.proofs.LivedLemmas.{get-lived}
 

@@ -12,7 +12,7 @@ use Rattle.rds_dots.specs.declared.dot.Dot.{Dot}
 use Rattle.rds_dots.specs.Dots.{dot_cmp}
 use Rattle.rds_dots.specs.Ascending.{is_above, ascends}
 use Rattle.rds_dots.specs.Order.{dots_total, dots_exact, before_after, after_before}
-use Rattle.rds_dots.specs.Merges.{and_left, and_right, less_of}
+use Rattle.rds_names.specs.Conditions.{and_left, and_right, less_of}
 use Rattle.rds_dots.proofs.Search.{index_rises}
 use Rattle.rds_life.specs.Life.{keys}
 

@@ -9,7 +9,8 @@ use Rattle.rds_dots.specs.declared.dot.Dot.{Dot}
 use Rattle.rds_dots.specs.Dots.{dot_cmp}
 use Rattle.rds_dots.specs.Ascending.{is_above, ascends}
 use Rattle.rds_dots.specs.Order.{dots_exact, after_before}
-use Rattle.rds_dots.specs.Merges.{and_true, and_left, and_right, above, above_trans}
+use Rattle.rds_dots.specs.Merges.{above, above_trans}
+use Rattle.rds_names.specs.Conditions.{and_true, and_left, and_right}
 use Rattle.rds_dots.specs.Sets.{same_dot}
 use Rattle.rds_life.specs.Life.{keys}
 use Rattle.rds_life.specs.Joined.{kept, choose, right_only, joined_onto, joined}

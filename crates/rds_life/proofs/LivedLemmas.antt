@@ -16,7 +16,8 @@ use Rattle.rds_dots.specs.declared.dot.Dot.{Dot}
 use Rattle.rds_dots.specs.Dots.{dot_cmp, Dots}
 use Rattle.rds_dots.specs.Ascending.{ascends, is_above}
 use Rattle.rds_dots.specs.Order.{dots_total, dots_exact}
-use Rattle.rds_dots.specs.Merges.{and_true, and_left, and_right, less_of, above_trans}
+use Rattle.rds_dots.specs.Merges.{above_trans}
+use Rattle.rds_names.specs.Conditions.{and_true, and_left, and_right, less_of}
 use Rattle.rds_life.specs.Joined.{joined}
 use Rattle.rds_life.specs.Clash.{SameIfBoth, Clashes}
 use Rattle.rds_life.specs.Life.{Life, Live, Dead, Lived, keys, life_of, life_in, entry_of, lived, AreRows, join_life, IsJoin, Agree, Conflicts}

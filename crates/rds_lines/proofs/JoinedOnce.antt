@@ -18,7 +18,7 @@ use Rattle.rds_lines.specs.Join.{line_limit, ReadsLine, IsJoined, JoinedTo, Text
 use Rattle.rds_lines.specs.JoinLaws.{SpellsLine, SpellsBoth, IsJoinedOnce, AnswersSpelled}
 use Rattle.rds_lines.specs.Lines.{line_of, after_line}
 use Rattle.rds_state.specs.Fits.{ReplicaValue}
-use Rattle.rds_codec.specs.Spelling.{snapshot_text}
+use Rattle.rds_codec.specs.StateTexts.{snapshot_text}
 
 -- what two snapshots may be joined to
 data Cases (v w : ReplicaValue) (a : Result ReplicaValue Fault) : Type 0 where

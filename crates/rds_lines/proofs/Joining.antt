@@ -11,7 +11,7 @@ use Rattle.rds_state.specs.Coordinates.{join}
 use Rattle.rds_state.specs.Fits.{Fits, ReplicaValue, IsReplica}
 use Rattle.rds_state.specs.Value.{StateValue, coordinates}
 use Rattle.rds_state.proofs.FitsLemmas.{join_fits}
-use Rattle.rds_codec.specs.Spelling.{snapshot_text}
+use Rattle.rds_codec.specs.StateTexts.{snapshot_text}
 use Rattle.rds_codec.specs.Writing.{Encodes}
 use Rattle.rds_codec.specs.declared.limits.TheConstants.{LIMIT}
 use Rattle.rds_lines.specs.Join.{JoinedTo, TextOfJoined, AfterBoth}

@@ -3,7 +3,7 @@ use Rattle.std.proofs.Common.{◌≡◌, ◌∙◌, ◌≤◌, ◌⊎◌, ◌++�
 use Rattle.std.specs.Prelude.{IfOk, IfErr, IfSome}
 use Rattle.std.proofs.lemmas.Option.{slice_get_cases}
 use Rattle.rds_names.specs.declared.fault.Fault.{Fault}
-use Rattle.rds_names.specs.declared.fault.Fault.TheVariants.{Memory, NoSuch}
+use Rattle.rds_names.specs.declared.fault.Fault.TheVariants.{Device, Memory, NoSuch}
 use Rattle.rds_names.specs.Roster.{RosterValue}
 use Rattle.rds_state.specs.Fits.{ReplicaValue}
 use Rattle.rds_json.specs.declared.line.Line.{Line}
@@ -16,12 +16,11 @@ use Rattle.rds_world.specs.declared.event.Event.{Event}
 use Rattle.rds_world.specs.declared.event.Event.TheVariants.{Edit, Save, Crash, Ask, Answer as Answering, Take}
 use Rattle.rds_world.specs.declared.event.Done.{Done as Outcome}
 use Rattle.rds_lines.specs.Answer.{is_refusal}
-use Rattle.rds_lines.specs.Answering.{WritesAnswers, answer_line}
+use Rattle.rds_lines.specs.Answering.{WritesAnswers, WritesCut, answer_line}
 use Rattle.rds_lines.specs.Views.{ShowsView}
 use Rattle.rds_lines.specs.Lines.{lines_in}
-use Rattle.rds_lines.specs.Output.{Writes}
-use Rattle.rds_lines.specs.Run.{WritesSim}
-use Rattle.rds_lines.specs.Sim.{Group, MeetsBytes, MeetsFirst, MeetsLines, MeetsRequest, done_answer, opening, request_of}
+use Rattle.rds_lines.specs.Output.{fault_line}
+use Rattle.rds_lines.specs.Sim.{Group, IsSimOutput, MayBeSimulated, MeetsBytes, MeetsFirst, MeetsLines, MeetsRequest, done_answer, opening, request_of}
 use Rattle.rds_lines.specs.Simulated.{IsGroup, LeadsTo, LineLeadsTo, StandsFor, answer_of}
 use Rattle.rds_lines.specs.declared.answer.Answer.{Answer}
 use Rattle.rds_lines.specs.declared.answer.Answer.TheVariants.{Done, Refused}
@@ -144,12 +143,12 @@ first_met bytes lines out refused result new now m later = record {
 
 pub sim_written : (o a b : Option (List ℕ)) (world : Option WorldValue) (read wrote status : ℕ) → world ≡ None
     → IfSome o (λ input. read ≡ 0 → wrote ≡ 0 → WritesAnswers (λ out refused. (now : Option Group) → IsGroup world now → MeetsLines (lines_in input) now out refused) a b status)
-    → IfSome o (λ input. read ≡ 0 → wrote ≡ 0 → WritesSim input a b status)
+    → IfSome o (λ input. read ≡ 0 → wrote ≡ 0 → WritesAnswers (IsSimOutput input) a b status)
 sim_written None a b world read wrote status none h = tt
 sim_written (Some input) a b world read wrote status none h = λ steady written.
     let p = h steady written in
-    inr (p.0, p.1, p.2 None (subst (λ (w : Option WorldValue). IsGroup w None) (sym none) tt), p.3, p.4)
+    (p.0, p.1, p.2 None (subst (λ (w : Option WorldValue). IsGroup w None) (sym none) tt), p.3, p.4)
 
-pub sim_unwritten : (o a b : Option (List ℕ)) (read wrote status : ℕ) → (wrote ≡ 0 → Writes (Err Memory) a b status) → IfSome o (λ input. read ≡ 0 → wrote ≡ 0 → WritesSim input a b status)
-sim_unwritten None a b read wrote status h = tt
-sim_unwritten (Some input) a b read wrote status h = λ steady written. inl (h written)
+pub sim_cut : (a b : Option (List ℕ)) (world : Option WorldValue) → world ≡ None → WritesCut (λ lines out refused. (now : Option Group) → IsGroup world now → MeetsLines lines now out refused) (fault_line Device) a b
+    → WritesCut MayBeSimulated (fault_line Device) a b
+sim_cut a b world none h = (h.0, h.1, h.2, h.3 None (subst (λ (w : Option WorldValue). IsGroup w None) (sym none) tt), h.4)

@@ -26,6 +26,10 @@ abbrev pub IsFirstLine : List ℕ → Option (Result (String Global) Fault) → 
 IsFirstLine xs None = xs ≡ []
 IsFirstLine xs (Some line) = (0 < length xs) × ReadsText (line_of xs) line
 
+-- there is a line of which this is the text, or why there is none
+abbrev pub IsOfSomeLine : Result (String Global) Fault → Type 0
+IsOfSomeLine text = (line : List ℕ) × ReadsText line text
+
 -- known bytes lose the line that was taken, with its newline
 abbrev pub TakesLine : Option (List ℕ) → Option (List ℕ) → Option (Result (String Global) Fault) → Type 0
 TakesLine None new taken = Unit {0}

@@ -19,6 +19,6 @@ WritesAnswer (Err fault) before after status = Appends before after (fault_line 
 abbrev pub WritesAnswers : (List ℕ → Bool → Type 0) → Option (List ℕ) → Option (List ℕ) → ℕ → Type 0
 WritesAnswers may before after status = (out : List ℕ) × (refused : Bool) × may out refused × Appends before after out × (status ≡ (if refused then 1 else 0))
 
--- what was written ends in a line
-abbrev pub EndsIn : List ℕ → Option (List ℕ) → Option (List ℕ) → Type 0
-EndsIn line before after = (front : List ℕ) × Appends before after (front ++ line)
+-- what some lines may be answered was written, then this line, and nothing else
+abbrev pub WritesCut : (List (List ℕ) → List ℕ → Bool → Type 0) → List ℕ → Option (List ℕ) → Option (List ℕ) → Type 0
+WritesCut may line before after = (lines : List (List ℕ)) × (out : List ℕ) × (refused : Bool) × may lines out refused × Appends before after (out ++ line)

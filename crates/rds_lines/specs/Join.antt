@@ -8,10 +8,9 @@ use Rattle.rds_state.specs.Coordinates.{AreCompatible, join}
 use Rattle.rds_state.specs.Value.{coordinates}
 use Rattle.rds_codec.specs.Decoding.{Decodes, ReadsAll}
 use Rattle.rds_codec.specs.Kinds.{snapshot_kind}
-use Rattle.rds_codec.specs.Reading.{snapshot_at}
+use Rattle.rds_codec.specs.StateTexts.{snapshot_at, snapshot_text}
 use Rattle.rds_lines.specs.Lines.{line_of, after_line}
 use Rattle.rds_state.specs.Fits.{ReplicaValue}
-use Rattle.rds_codec.specs.Spelling.{snapshot_text}
 use Rattle.rds_codec.specs.declared.limits.TheConstants.{LIMIT}
 
 abbrev pub line_limit : ℕ

@@ -3,11 +3,10 @@ use Rattle.std.specs.Prelude.{◌≡◌, ◌≤◌, ◌⊎◌, ℕ, List, [], le
 use Rattle.hex.specs.Hex.{decode_of}
 use Rattle.rds_names.specs.declared.fault.Fault.{Fault}
 use Rattle.rds_names.specs.declared.fault.Fault.TheVariants.{Memory}
-use Rattle.rds_codec.specs.Values.{IsSnapshot}
+use Rattle.rds_codec.specs.StateTexts.{IsSnapshot, snapshot_text}
 use Rattle.rds_lines.specs.Join.{JoinedTo, MayJoinTo, TextOfJoined}
 use Rattle.rds_lines.specs.Lines.{line_of, after_line}
 use Rattle.rds_state.specs.Fits.{ReplicaValue}
-use Rattle.rds_codec.specs.Spelling.{snapshot_text}
 use Rattle.rds_codec.specs.declared.limits.TheConstants.{LIMIT}
 
 -- a line is the snapshot's text in hex digits of either case

@@ -1,11 +1,8 @@
 -- What a run writes.
-use Rattle.std.specs.Prelude.{◌≡◌, ◌⊎◌, ℕ, List, Option, Result, Ok, Err, MatchResult, String, string_bytes}
+use Rattle.std.specs.Prelude.{◌≡◌, ℕ, List, Option, Result, Ok, Err, MatchResult, String, string_bytes}
 use Rattle.std.specs.Global.{Global}
 use Rattle.hex.specs.Hex.{encode_lower}
 use Rattle.rds_names.specs.declared.fault.Fault.{Fault}
-use Rattle.rds_names.specs.declared.fault.Fault.TheVariants.{Memory}
-use Rattle.rds_lines.specs.Answering.{WritesAnswers}
-use Rattle.rds_lines.specs.Sim.{IsSimOutput}
 use Rattle.rds_lines.specs.Join.{JoinsTo, MayJoinTo}
 use Rattle.rds_lines.specs.Output.{Writes}
 use Rattle.rds_lines.specs.Refusal.{fault_of}
@@ -20,7 +17,3 @@ abbrev pub IsJoinLine : List ℕ → Result (String Global) Refusal → Type 0
 IsJoinLine input answer = MatchResult answer
     (λ line. (text : List ℕ) × JoinsTo input (Ok text) × (string_bytes line ≡ encode_lower text))
     (λ e. MayJoinTo input (Err (fault_of e)))
-
--- the answers to the lines of the input were written, and nothing else; or there was no memory to read the words
-abbrev pub WritesSim : List ℕ → Option (List ℕ) → Option (List ℕ) → ℕ → Type 0
-WritesSim input before after status = Writes (Err Memory) before after status ⊎ WritesAnswers (IsSimOutput input) before after status

@@ -141,6 +141,10 @@ abbrev pub MeetsLines : List (List ℕ) → Option Group → List ℕ → Bool �
 MeetsLines [] now out refused = (out ≡ []) × (refused ≡ false)
 MeetsLines (bytes ∷ rest) now out refused = MeetsFirst now bytes (MeetsLines rest) out refused
 
+-- what `sim` may write for lines, and whether one of them is refused
+abbrev pub MayBeSimulated : List (List ℕ) → List ℕ → Bool → Type 0
+MayBeSimulated lines = MeetsLines lines None
+
 -- what `sim` writes for an input, and whether one of its lines is refused
 abbrev pub IsSimOutput : List ℕ → List ℕ → Bool → Type 0
-IsSimOutput input = MeetsLines (lines_in input) None
+IsSimOutput input = MayBeSimulated (lines_in input)

@@ -1,7 +1,7 @@
 //! Lines that are answered one after the other.
 ghost use Rattle.std.specs.Prelude.{◌≡◌, ◌≢◌, ◌≤◌, ◌++◌, ◌∷◌, ◌||◌, ◌⊎◌, IfSome};
 ghost use Rattle.rds_names.specs.declared.fault.Fault.TheVariants.{Device};
-ghost use Rattle.rds_lines.specs.Answering.{EndsIn, WritesAnswers};
+ghost use Rattle.rds_lines.specs.Answering.{WritesAnswers, WritesCut};
 ghost use Rattle.rds_lines.specs.Lines.{lines_in};
 ghost use Rattle.rds_lines.specs.Output.{fault_line};
 
@@ -47,8 +47,8 @@ pub fn answer_lines<A: Answers, R: Read, W: Write>(
         → WritesAnswers (A.may_answer answers.old (lines_in input))
         (W.contents writer.old.inner) (W.contents writer.new.inner) result) }
     ensures unread { reader.new.failed ≢ reader.old.failed → writer.new.failed ≡ 0
-        → EndsIn (fault_line Device) (W.contents writer.old.inner) (W.contents writer.new.inner)
-        × (result ≡ 1) }
+        → WritesCut (A.may_answer answers.old) (fault_line Device)
+        (W.contents writer.old.inner) (W.contents writer.new.inner) × (result ≡ 1) }
     ensures status { result ≤ 1 }
     ensures broken { (writer.new.failed ≡ writer.old.failed) ⊎ (result ≡ 1) }
 {

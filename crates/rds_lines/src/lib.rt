@@ -17,7 +17,5 @@ pub use answer::Answer;
 pub use answering::{Answers, answer_lines};
 pub use join::join_is_known;
 pub use output::{status_of, write_answer, write_fault, write_fault_line};
-pub use refusal::Refusal;
 pub use run::{run_join, run_sim};
-pub use sim::Simulation;
 pub use views::shown;

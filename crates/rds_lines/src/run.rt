@@ -1,10 +1,11 @@
 //! Commands that read their input alone.
 ghost use Rattle.std.specs.Prelude.{◌≡◌, ◌≢◌, ◌≤◌, ◌⊎◌, Err, IfSome, IsErrAnd};
 ghost use Rattle.rds_names.specs.declared.fault.Fault.TheVariants.{Device};
-ghost use Rattle.rds_lines.specs.Answering.{EndsIn};
+ghost use Rattle.rds_lines.specs.Answering.{WritesAnswers, WritesCut};
 ghost use Rattle.rds_lines.specs.Output.{Writes, fault_line};
 ghost use Rattle.rds_lines.specs.Refusal.{fault_of};
-ghost use Rattle.rds_lines.specs.Run.{WritesJoin, WritesSim, IsJoinLine};
+ghost use Rattle.rds_lines.specs.Run.{WritesJoin, IsJoinLine};
+ghost use Rattle.rds_lines.specs.Sim.{IsSimOutput, MayBeSimulated};
 
 use crate::answering::answer_lines;
 use crate::join::join;
@@ -29,10 +30,11 @@ pub fn run_sim<R: Read, W: Write>(
 ) -> u8
     ensures sim { IfSome (R.remaining reader.old.inner)
         (λ input. reader.new.failed ≡ 0 → writer.new.failed ≡ 0
-        → WritesSim input (W.contents writer.old.inner) (W.contents writer.new.inner) result) }
+        → WritesAnswers (IsSimOutput input)
+        (W.contents writer.old.inner) (W.contents writer.new.inner) result) }
     ensures cut { reader.new.failed ≢ reader.old.failed → writer.new.failed ≡ 0
-        → EndsIn (fault_line Device) (W.contents writer.old.inner) (W.contents writer.new.inner)
-        × (result ≡ 1) }
+        → WritesCut MayBeSimulated (fault_line Device)
+        (W.contents writer.old.inner) (W.contents writer.new.inner) × (result ≡ 1) }
     ensures status { result ≤ 1 }
     ensures broken { (writer.new.failed ≡ writer.old.failed) ⊎ (result ≡ 1) }
 {

@@ -5,7 +5,7 @@ use Rattle.std.specs.Str.{IsAscii, IsUtf8}
 use Rattle.std.proofs.lemmas.Bool.Decides.{nat_tests}
 use Rattle.std.proofs.lemmas.Str.{IsUtf8-from_ascii}
 use Rattle.rds_names.specs.Name.{is_name, is_name_byte}
-use Rattle.rds_names.proofs.Differ.{and_left, and_right}
+use Rattle.rds_names.specs.Conditions.{and_left, and_right}
 
 small : (b : ℕ) → is_name_byte b ≡ true → b < 128
 small b h = grind (arith, nat_tests)

@@ -1,8 +1,7 @@
 -- A call that is due to succeed.
-use Rattle.std.proofs.Common.{◌≡◌, ℕ, true, List, Result, Ok, Err, IfOk, IfErr, sym, ◌∙◌, refl}
-use Rattle.std.proofs.Common.{Bool, suc, zero, [], ◌∷◌, ◌<◌, length, get_or, arith}
+use Rattle.std.proofs.Common.{◌≡◌, ℕ, true, List, Result, Ok, Err, IfOk, IfErr, sym, ◌∙◌, refl, Bool, suc, zero, [], ◌∷◌, ◌<◌, length, get_or, arith}
 use Rattle.std.specs.List.{list_all}
-use Rattle.rds_names.proofs.Differ.{and_left, and_right}
+use Rattle.rds_names.specs.Conditions.{and_left, and_right}
 use Rattle.rds_names.specs.declared.fault.Fault.{Fault}
 use Rattle.rds_names.specs.declared.fault.Fault.TheVariants.{Memory, BadName, BadKey, BadPath, BadScalar, BadRoster, SeqFull, CounterFull, Conflict, OwnAhead, WrongAsker, Cut, Bad, Extra, TooLong, TooManyDots, BadCertificate, WrongVersion, WrongGroup, WrongRoster, SameReplica, OutOfTurn, PeerEnded, Device, BadLine, NoSuch, Usage}
 use Rattle.rds_names.specs.Gives.{Gives, Refuses}

@@ -8,14 +8,13 @@ use Rattle.std.specs.List.{list_all, list_any}
 use Rattle.std.specs.Cmp.{IsTotalOrder, tied_itself}
 use Rattle.std.specs.Ordering.{eq_by_cmp, is_eq}
 use Rattle.std.specs.declared.cmp.Ordering.{Ordering}
-use Rattle.std.specs.declared.cmp.Ordering.TheVariants.{Less, Equal, Greater}
 use Rattle.std.specs.Str.{bytes_eq}
 use Rattle.std.proofs.lemmas.Bool.Decides.{Decides-and, Decides-eqb, Decides-like, Decides-ltb, same_from_decides}
 use Rattle.std.proofs.lemmas.Slice.Eq.{bytes_eq-Decides, slice_eq-Decides}
+use Rattle.rds_names.specs.Conditions.{equal_of, and_true, and_left, and_right}
 use Rattle.rds_names.specs.Roster.{RosterValue}
 use Rattle.rds_dots.specs.declared.dot.Dot.{Dot}
 use Rattle.rds_dots.specs.declared.dot.Run.{Run}
-use Rattle.rds_dots.specs.Merges.{and_true, and_left, and_right}
 use Rattle.rds_dots.specs.Order.{dots_total, dots_exact}
 use Rattle.rds_counts.specs.Counted.{Above, number, number_from}
 use Rattle.rds_counts.specs.PlaceOrder.{place_total, place_exact}
@@ -81,11 +80,6 @@ either false b h = inr h
 or_true : (a : Bool) → (a || true) ≡ true
 or_true true = refl
 or_true false = refl
-
-equal_of : (o : Ordering) → is_eq o ≡ true → o ≡ Equal
-equal_of Less h = absurd (false≢true h)
-equal_of Equal h = refl
-equal_of Greater h = absurd (false≢true h)
 
 -- all of a list pass, so one that is there does
 one_passes : {K : Type 0} (same : K → K → Bool) (test : K → Bool) (ks : List K) (d : K) → ((k : K) → same d k ≡ true → d ≡ k)

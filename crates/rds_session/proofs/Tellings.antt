@@ -12,7 +12,7 @@ use Rattle.std.proofs.lemmas.Bool.Decides.{nat_tests}
 use lib.Dec.{T}
 use Rattle.rds_dots.specs.Ascending.{is_above, ascends}
 use Rattle.rds_dots.specs.Dots.{IsRun, dot_cmp, is_dot, comes_after}
-use Rattle.rds_dots.specs.Merges.{and_true, and_left, and_right, less_of}
+use Rattle.rds_names.specs.Conditions.{and_true, and_left, and_right, less_of}
 use Rattle.rds_dots.specs.Order.{dots_total}
 use Rattle.rds_dots.specs.Sets.{same_dot}
 use Rattle.rds_dots.specs.declared.dot.Dot.{Dot}
@@ -44,7 +44,8 @@ use Rattle.rds_delta.proofs.Whole.{certificate_rows}
 use Rattle.rds_codec.specs.AnswerTexts.{IsAnswerOf, answer}
 use Rattle.rds_codec.specs.CertificateTexts.{IsCertificateOf, IsReplicaOf}
 use Rattle.rds_codec.specs.DigestTexts.{IsDigestOf}
-use Rattle.rds_codec.specs.Values.{is_key_text, AreCountsOf, AreDotsOf, IsCountRowOf, IsLiveRow, IsStateOf}
+use Rattle.rds_bytes.specs.Values.{is_key_text, AreCountsOf, AreDotsOf, IsCountRowOf, IsLiveRow}
+use Rattle.rds_codec.specs.StateTexts.{IsStateOf}
 use Rattle.rds_codec.proofs.Subsets.{len_inside}
 use Rattle.rds_session.specs.Checked.{certificate_of, is_later, least_state}
 use Rattle.rds_session.proofs.Checks.{kept_lives, kept_numbers}

@@ -9,7 +9,7 @@ use Rattle.rds_names.specs.declared.fault.Fault.{Fault}
 use Rattle.rds_names.specs.declared.fault.Fault.TheVariants.{Extra}
 use Rattle.std.specs.Prelude.{nat_le}
 use Rattle.rds_names.specs.Roster.{RosterValue, all_differ, are_names}
-use Rattle.rds_dots.specs.Merges.{and_left, and_right}
+use Rattle.rds_names.specs.Conditions.{and_left, and_right}
 use Rattle.rds_delta.specs.Least.{least}
 use Rattle.rds_codec.specs.CertificateTexts.{IsReplicaOf}
 use Rattle.rds_state.specs.Fits.{ReplicaValue}
@@ -20,8 +20,9 @@ use Rattle.rds_codec.specs.AnswerValues.{AnswerValue}
 use Rattle.rds_codec.specs.DigestTexts.{digest_at, digest_text, digest_kind}
 use Rattle.rds_codec.specs.HelloTexts.{hello_at, hello_text, hello_kind}
 use Rattle.rds_codec.specs.Kinds.{Kind}
-use Rattle.rds_codec.specs.Reading.{◌>>=◌, Reader, all_of}
-use Rattle.rds_codec.specs.Values.{IsSnapshot}
+use Rattle.rds_bytes.specs.Reading.{◌>>=◌, Reader}
+use Rattle.rds_codec.specs.Decoding.{all_of}
+use Rattle.rds_codec.specs.StateTexts.{IsSnapshot}
 use Rattle.rds_codec.specs.declared.hellos.Hello.{Hello}
 use Rattle.rds_codec.specs.declared.limits.TheConstants.{LIMIT}
 use Rattle.rds_codec.proofs.AnswerFormats.{answer_reader}

@@ -6,7 +6,7 @@ use Rattle.rds_codec.specs.AnswerTexts.{answer_at}
 use Rattle.rds_codec.specs.AnswerValues.{AnswerValue}
 use Rattle.rds_codec.specs.DigestTexts.{digest_at}
 use Rattle.rds_codec.specs.HelloTexts.{hello_at}
-use Rattle.rds_codec.specs.Reading.{all_of}
+use Rattle.rds_codec.specs.Decoding.{all_of}
 use Rattle.rds_codec.specs.declared.hellos.Hello.{Hello}
 
 unfoldable pub hello_in : List ℕ → Result Hello Fault

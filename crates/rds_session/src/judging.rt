@@ -1,7 +1,7 @@
 //! Judging a whole message.
 ghost use Rattle.std.specs.Prelude.{◌≡◌, ◌↔◌, ◌≤◌, IsTrue, true, length, IfOk, IfErr};
 ghost use Rattle.rds_codec.specs.declared.limits.TheConstants.{LIMIT};
-ghost use Rattle.rds_codec.specs.Reading.{Gives};
+ghost use Rattle.rds_bytes.specs.Reading.{Reads};
 ghost use Rattle.rds_session.specs.Bodies.{hello_in, digest_in, answer_in};
 ghost use Rattle.rds_delta.specs.Digested.{digest_of};
 ghost use Rattle.rds_names.specs.declared.fault.Fault.TheVariants.{Memory};
@@ -70,7 +70,7 @@ fn is_other_version(body: &[u8]) -> bool
 fn read_hello(alloc: Global, body: &[u8]) -> Result<Hello, Fault>
     requires { length body.now ≤ LIMIT }
     ensures known { IfErr result (λ fault. IsKnown (Refused fault)) }
-    ensures read { Gives (λ hello. hello) result (hello_in body.now) }
+    ensures read { Reads (λ hello. hello) result (hello_in body.now) }
 {
     decode_hello(alloc, body)
 }
@@ -79,7 +79,7 @@ fn read_hello(alloc: Global, body: &[u8]) -> Result<Hello, Fault>
 fn read_digest<S: DotSet>(alloc: Global, replicas: u16, body: &[u8]) -> Result<Digest<S>, Fault>
     requires { length body.now ≤ LIMIT }
     ensures known { IfErr result (λ fault. IsKnown (Refused fault)) }
-    ensures read { Gives (λ digest. digest) result (digest_in replicas body.now) }
+    ensures read { Reads (λ digest. digest) result (digest_in replicas body.now) }
 {
     decode_digest(alloc, replicas, body)
 }
@@ -88,7 +88,7 @@ fn read_digest<S: DotSet>(alloc: Global, replicas: u16, body: &[u8]) -> Result<D
 fn read_answer<S: DotSet>(alloc: Global, replicas: u16, body: &[u8]) -> Result<Answer<S>, Fault>
     requires { length body.now ≤ LIMIT }
     ensures known { IfErr result (λ fault. IsKnown (Refused fault)) }
-    ensures read { Gives (λ answer. answer) result (answer_in replicas body.now) }
+    ensures read { Reads (λ answer. answer) result (answer_in replicas body.now) }
     ensures value { IfOk result (IsAnswerOf replicas) }
 {
     decode_answer(alloc, replicas, body)

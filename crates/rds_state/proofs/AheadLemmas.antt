@@ -1,11 +1,11 @@
 -- Rows that are ahead are numbers that are.
 use Rattle.std.proofs.Common.{◌≡◌, ℕ, zero, suc, ◌+◌, Bool, true, false, ◌&&◌, ◌==◌, nat_lt, cond, List, [], ◌∷◌, ◌++◌, Option, Some, None, refl, sym, ◌∙◌, ap, subst, arith}
-use lib.Dec.{T}
 use Rattle.std.specs.Prelude.{is_some}
 use Rattle.std.proofs.Math.Path.{fun_ext}
 use Rattle.std.specs.FinMap as map
 use Rattle.std.specs.FinSet as set
 use Rattle.std.proofs.lemmas.Bool.Decides.{nat_tests}
+use Rattle.rds_names.specs.Conditions.{true_of}
 use Rattle.rds_names.specs.declared.fault.Own.{Own}
 use Rattle.rds_names.specs.declared.fault.Own.TheVariants.{Seq, Plus, Minus}
 use Rattle.rds_dots.specs.Dots.{Dots}
@@ -42,10 +42,6 @@ module _ (here : Place → ℕ) (own : ℕ) where
       ahead-above p r.p (above n r.n ++ components rs)
       ∙ ap (cond ((r.replica == own) && nat_lt (here p) r.p) (Some (Plus r.p))) (ahead-above n r.n (components rs) ∙ ap (cond ((r.replica == own) && nat_lt (here n) r.n) (Some (Minus r.n))) (ahead-components rs))
       ∙ both (r.replica == own) (nat_lt (here p) r.p) (nat_lt (here n) r.n) (Some (Plus r.p)) (Some (Minus r.n)) (rows_ahead here own rs)
-
-true_of : (b : Bool) → T b → b ≡ true
-true_of true h = refl
-true_of false h = absurd h
 
 rows_are_entries : (here : Place → ℕ) (own : ℕ) (d : Counted) (rs : List CountRow) → AreCountRows rs → d ≡ counted rs → first_ahead here own (map.entries d) ≡ rows_ahead here own rs
 rows_are_entries here own d rs are is = ap (first_ahead here own) (ap map.entries is ∙ entries-counted rs are.rise) ∙ ahead-components here own rs

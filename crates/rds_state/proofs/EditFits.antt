@@ -12,7 +12,7 @@ use Rattle.rds_counts.specs.declared.row.Which.TheVariants.{P, N}
 use Rattle.rds_counts.specs.Place.{Place, place_cmp}
 use Rattle.rds_counts.specs.PlaceOrder.{place_exact}
 use Rattle.rds_counts.specs.Counted.{place}
-use Rattle.rds_counts.specs.CountedLemmas.{equal_of}
+use Rattle.rds_names.specs.Conditions.{equal_of}
 use Rattle.rds_life.specs.Life.{Life}
 use Rattle.rds_state.specs.Coordinates.{Coordinates}
 use Rattle.rds_state.specs.Edit.{own_top, is_next, life_made, life_killed, effect, effect_number, JoinsEffect}

@@ -8,13 +8,12 @@ use Rattle.std.proofs.lemmas.Bool.Decides.{nat_tests}
 use Rattle.std.proofs.lemmas.Cmp.{tied_itself}
 use Rattle.rds_names.specs.declared.fault.Own.{Own}
 use Rattle.rds_names.specs.declared.fault.Own.TheVariants.{Seq, Plus, Minus}
-use Rattle.rds_dots.specs.Merges.{and_left, and_right, less_of}
+use Rattle.rds_names.specs.Conditions.{and_left, and_right, less_of, and_true, equal_of}
 use Rattle.rds_counts.specs.declared.row.Which.{Which}
 use Rattle.rds_counts.specs.declared.row.Which.TheVariants.{P, N}
 use Rattle.rds_counts.specs.Place.{Place, place_cmp}
 use Rattle.rds_counts.specs.PlaceOrder.{place_total, place_exact}
 use Rattle.rds_counts.specs.Counted.{Above, number_from}
-use Rattle.rds_counts.specs.CountedLemmas.{and_true, equal_of}
 use Rattle.rds_state.specs.Ahead.{IsFirstAbove, IsNumberAhead, NumberAhead}
 
 abbrev pub own_number : Which → ℕ → Own

@@ -11,7 +11,7 @@ use Rattle.rds_counts.specs.declared.row.TheConstants.{MAX_COUNT}
 use Rattle.rds_counts.specs.Place.{Place, place_cmp}
 use Rattle.rds_counts.specs.PlaceOrder.{place_total, place_exact}
 use Rattle.rds_counts.specs.Counted.{Counted, number}
-use Rattle.rds_counts.specs.CountedLemmas.{equal_of}
+use Rattle.rds_names.specs.Conditions.{equal_of}
 use Rattle.rds_state.specs.Chosen.{AreRaised}
 use Rattle.rds_state.specs.Edit.{count_fault, makes_number, IsDue}
 

@@ -1,5 +1,5 @@
--- What is ahead, and what is below a number, said of rows.
-use Rattle.std.specs.Prelude.{ℕ, Bool, ◌&&◌, ◌==◌, nat_lt, cond, true, List, [], ◌∷◌, Option, Some, None}
+-- What is ahead, said of rows.
+use Rattle.std.specs.Prelude.{ℕ, ◌==◌, nat_lt, cond, List, [], ◌∷◌, Option, Some, None}
 use Rattle.rds_names.specs.declared.fault.Own.{Own}
 use Rattle.rds_names.specs.declared.fault.Own.TheVariants.{Plus, Minus}
 use Rattle.rds_counts.specs.declared.row.Which.TheVariants.{P, N}
@@ -14,8 +14,3 @@ row_ahead here r later = cond (nat_lt (here (place r.key r.replica P)) r.p) (Som
 abbrev pub rows_ahead : (Place → ℕ) → ℕ → List CountRow → Option Own
 rows_ahead here own [] = None
 rows_ahead here own (r ∷ rs) = cond (r.replica == own) (row_ahead here r (rows_ahead here own rs)) (rows_ahead here own rs)
-
--- whether all replica numbers are below this one
-abbrev pub rows_below : ℕ → List CountRow → Bool
-rows_below replicas [] = true
-rows_below replicas (r ∷ rs) = nat_lt r.replica replicas && rows_below replicas rs

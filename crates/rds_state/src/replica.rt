@@ -7,7 +7,7 @@ ghost use Rattle.rds_state.specs.Ahead.{TakeGives};
 ghost use Rattle.rds_state.specs.Coordinates.{join};
 ghost use Rattle.rds_state.specs.Edit.{covers, JoinsEffect, new_dot, needs_room, refusal, IsDue};
 ghost use Rattle.rds_state.specs.Fits.{Fits, ReplicaValue, IsReplica};
-ghost use Rattle.rds_state.specs.RowsAhead.{rows_below};
+ghost use Rattle.rds_counts.specs.Below.{rows_below};
 ghost use Rattle.rds_state.specs.Value.{coordinates};
 
 use crate::ahead::own_ahead;
@@ -128,7 +128,21 @@ impl<S: DotSet> Replica<S> {
         ensures own { self.new.own ≡ self.old.own }
         ensures err { OnErr result (self.new ≡ self.old) }
     {
-        edit(&mut self.state, self.own, &command)
+        self.edit_by(&command)
+    }
+
+    /// Edits the document as [`edit`](Replica::edit) does, by a command that the caller keeps.
+    pub fn edit_by(&mut self, command: &Command) -> Result<Edited, Fault>
+        ensures joined { IfOk result (λ _. JoinsEffect (coordinates self.old.state) self.old.own command.now (coordinates self.new.state)) }
+        ensures dot { IfOk result (λ edited. edited.dot ≡ new_dot (coordinates self.old.state) self.old.own command.now) }
+        ensures killed { IfOk result (λ edited. edited.killed ≡ count_by (λ r. covers command.now r.1) (live_rows self.old.state.lives)) }
+        ensures refusal { let due = refusal (coordinates self.old.state) self.old.own command.now in MatchResult result (λ _. due ≡ None) (IsDue due) }
+        ensures room { needs_room (coordinates self.old.state) self.old.own command.now ≡ false → result ≢ Err Memory }
+        ensures roster { self.new.roster ≡ self.old.roster }
+        ensures own { self.new.own ≡ self.old.own }
+        ensures err { OnErr result (self.new ≡ self.old) }
+    {
+        edit(&mut self.state, self.own, command)
     }
 
     /// Joins a delta into the state. Refuses `OwnAhead` first, where the delta has an own dot that is unseen here,

@@ -1,5 +1,5 @@
 -- One more row.
-use Rattle.std.proofs.Common.{◌≡◌, ℕ, Bool, true, false, cond, ◌&&◌, ◌||◌, List, [], ◌∷◌, map, refl, sym, ◌∙◌, ap, subst, length, arith}
+use Rattle.std.proofs.Common.{◌≡◌, ℕ, Bool, true, false, cond, ◌||◌, List, [], ◌∷◌, map, refl, sym, ◌∙◌, ap, subst, length, arith}
 use Rattle.std.specs.Prelude.{Some, None, Result, Ok, Err, OnOk, OnErr}
 use Rattle.std.specs.List.{list_any}
 use Rattle.std.specs.Ordering.{is_eq, ordering_then, match_ordering}
@@ -10,6 +10,7 @@ use Rattle.std.specs.BTreeMap.{insert_entry}
 use Rattle.std.specs.Map.{lookup, set_value}
 use Rattle.std.specs.FinMap.{nat_cmp-IsAntisymmetric, slice_cmp-IsAntisymmetric}
 use Rattle.std.proofs.lemmas.List.Folds.{list_any-append}
+use Rattle.rds_names.specs.Conditions.{and_true, and_left, and_right, equal_of}
 use Rattle.rds_names.specs.declared.scalar.Scalar.{Scalar}
 use Rattle.rds_names.specs.declared.entry.Kind.{Kind}
 use Rattle.rds_names.specs.declared.entry.Kind.TheVariants.{Reg, Elem}
@@ -20,7 +21,6 @@ use Rattle.rds_tree.specs.declared.leaf.Leaf.{Leaf}
 use Rattle.rds_tree.specs.LeafOrder.{leaf_cmp}
 use Rattle.rds_tree.specs.ScalarOrder.{scalar_cmp, scalars_exact}
 use Rattle.rds_tree.specs.Document.{key_cmp}
-use Rattle.rds_tree.proofs.Distinct.{equal_of}
 use Rattle.rds_tree.specs.Row.{Row, under, at_end, rows_below, rows_of, is_full, are_full, row_at, Adds}
 
 -- ---- leaves that tie are one
@@ -149,32 +149,21 @@ full_of_any (r ∷ rows) h = refl
 pub adds_full : (old new : List Row) (row : Row) → Adds old row new → is_full new ≡ true
 adds_full old new row adds = full_of_any new (adds.any (λ r. true))
 
-and_right : (a b : Bool) → (a && b) ≡ true → b ≡ true
-and_right true b h = h
-and_right false b h = absurd (cc)
-
-and_left : (a b : Bool) → (a && b) ≡ true → a ≡ true
-and_left true b h = refl
-and_left false b h = absurd (cc)
-
-both_true : (a b : Bool) → a ≡ true → b ≡ true → (a && b) ≡ true
-both_true a b h g = rw h g
-
 pub full-set_value : (t : List ℕ → Bool) (rows : List Row) (cs : List (List ℕ × List Row)) → is_full rows ≡ true → are_full cs ≡ true → are_full (set_value t cs rows) ≡ true
 full-set_value t rows [] one all = refl
 full-set_value t rows (c ∷ cs) one all =
     elim (t c.0) as (λ b. are_full (cond b ((c.0, rows) ∷ cs) (c ∷ set_value t cs rows)) ≡ true) [
-      | true ↦ both_true _ _ one (and_right (is_full c.1) _ all)
-      | false ↦ both_true _ _ (and_left (is_full c.1) _ all) (full-set_value t rows cs one (and_right (is_full c.1) _ all))
+      | true ↦ and_true _ _ one (and_right (is_full c.1) _ all)
+      | false ↦ and_true _ _ (and_left (is_full c.1) _ all) (full-set_value t rows cs one (and_right (is_full c.1) _ all))
     ]
 
 pub full-insert_entry : (k : List ℕ) (rows : List Row) (cs : List (List ℕ × List Row)) → is_full rows ≡ true → are_full cs ≡ true → are_full (insert_entry key_cmp cs k rows) ≡ true
-full-insert_entry k rows [] one all = both_true _ _ one refl
+full-insert_entry k rows [] one all = and_true _ _ one refl
 full-insert_entry k rows (c ∷ cs) one all =
     elim (key_cmp k c.0) as (λ o. are_full (match_ordering o ((k, rows) ∷ c ∷ cs) ((c.0, rows) ∷ cs) (c ∷ insert_entry key_cmp cs k rows)) ≡ true) [
-      | Less ↦ both_true _ _ one all
-      | Equal ↦ both_true _ _ one (and_right (is_full c.1) _ all)
-      | Greater ↦ both_true _ _ (and_left (is_full c.1) _ all) (full-insert_entry k rows cs one (and_right (is_full c.1) _ all))
+      | Less ↦ and_true _ _ one all
+      | Equal ↦ and_true _ _ one (and_right (is_full c.1) _ all)
+      | Greater ↦ and_true _ _ (and_left (is_full c.1) _ all) (full-insert_entry k rows cs one (and_right (is_full c.1) _ all))
     ]
 
 -- what is written back unchanged changes nothing

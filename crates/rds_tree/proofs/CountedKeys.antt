@@ -13,7 +13,7 @@ use Rattle.rds_counts.specs.declared.row.TheConstants.{MAX_COUNT}
 use Rattle.rds_counts.specs.Place.{Place}
 use Rattle.rds_counts.specs.Counted.{Above, Counted, counted, components, above, row_cmp, is_row, rows_rise, AreCountRows}
 use Rattle.rds_counts.specs.Value.{value_of}
-use Rattle.rds_counts.specs.CountedLemmas.{and_left, and_right}
+use Rattle.rds_names.specs.Conditions.{and_left, and_right}
 use Rattle.rds_counts.specs.Entries.{entries-counted}
 use Rattle.rds_tree.specs.Distinct.{distinct}
 use Rattle.rds_tree.specs.Document.{key_cmp, counted_keys, sums_of}

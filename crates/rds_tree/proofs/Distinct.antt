@@ -8,13 +8,9 @@ use Rattle.std.specs.declared.cmp.Ordering.{Ordering}
 use Rattle.std.specs.declared.cmp.Ordering.TheVariants.{Less, Equal, Greater}
 use Rattle.std.specs.Cmp.{IsTotalOrder}
 use Rattle.std.specs.FinMap as map_of
+use Rattle.rds_names.specs.Conditions.{equal_of}
 use Rattle.rds_tree.specs.Once.{once, once_is}
 use Rattle.rds_tree.specs.Distinct.{is_last, distinct}
-
-pub equal_of : (o : Ordering) → is_eq o ≡ true → o ≡ Equal
-equal_of Less h = absurd (cc)
-equal_of Equal h = refl
-equal_of Greater h = absurd (cc)
 
 less_of : (o : Ordering) → is_gt o ≡ false → is_eq o ≡ false → o ≡ Less
 less_of Less g e = refl

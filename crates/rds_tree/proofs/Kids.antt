@@ -11,11 +11,11 @@ use Rattle.std.specs.declared.cmp.Ordering.TheVariants.{Less, Equal, Greater}
 use Rattle.std.specs.Cmp.{tied_itself}
 use Rattle.std.specs.FinMap.{nat_cmp-IsAntisymmetric, slice_cmp-IsAntisymmetric}
 use Rattle.std.specs.Cmp.Lexicographic.{nat_list_cmp_total}
+use Rattle.rds_names.specs.Conditions.{and_true, and_left, and_right, equal_of}
 use Rattle.rds_names.specs.declared.scalar.Scalar.{Scalar}
 use Rattle.rds_names.specs.declared.entry.Kind.{Kind}
 use Rattle.rds_tree.specs.declared.leaf.Leaf.{Leaf}
 use Rattle.rds_tree.specs.Once.{once_is}
-use Rattle.rds_tree.proofs.Distinct.{equal_of}
 use Rattle.rds_tree.specs.Document.{Placed, key_cmp}
 use Rattle.rds_tree.specs.View.{keys_in, first_key, same_key, step_into, below, below_path, children}
 use Rattle.rds_tree.specs.Row.{Row, under, at_end, rows_below, rows_of, is_full, are_full, placed, placed_all, seen, fits}
@@ -142,22 +142,11 @@ fit-placed : (n : ℕ) (rows : List Row) → fit n (placed_all rows) ≡ fits n 
 fit-placed n [] = refl
 fit-placed n (r ∷ rows) = ap (λ b. leb (length r.path) n && b) (fit-placed n rows)
 
-and_right : (a b : Bool) → (a && b) ≡ true → b ≡ true
-and_right true b h = h
-and_right false b h = absurd (cc)
-
-and_left : (a b : Bool) → (a && b) ≡ true → a ≡ true
-and_left true b h = refl
-and_left false b h = absurd (cc)
-
-both_true : (a b : Bool) → a ≡ true → b ≡ true → (a && b) ≡ true
-both_true a b h g = rw h g
-
 stepped : (n : ℕ) (k : List ℕ) (path : List (List ℕ)) (kind : Kind) (value : Scalar) (rest : List Placed) → leb (length path) n ≡ true → fit n rest ≡ true → fit n (cons_option (step_into k kind value path) rest) ≡ true
 stepped n k [] kind value rest h all = all
 stepped n k (x ∷ path) kind value rest h all =
     elim (same_key x k) as (λ b. fit n (cons_option (cond b (Some (record { path = path; kind = kind; value = value })) None) rest) ≡ true) [
-      | true ↦ both_true _ _ (le_less (length path) n h) all
+      | true ↦ and_true _ _ (le_less (length path) n h) all
       | false ↦ all
     ]
 

@@ -12,7 +12,7 @@ use Rattle.rds_names.specs.declared.entry.Kind.{Kind}
 use Rattle.rds_names.specs.declared.entry.Kind.TheVariants.{Reg, Elem}
 use Rattle.rds_dots.specs.declared.dot.Dot.{Dot}
 use Rattle.rds_life.specs.Life.{live_rows}
-use Rattle.rds_counts.specs.CountedLemmas.{and_true, and_left, and_right}
+use Rattle.rds_names.specs.Conditions.{and_true, and_left, and_right}
 use Rattle.rds_state.specs.Value.{StateValue}
 use Rattle.rds_tree.specs.Once.{once_is}
 use Rattle.rds_tree.specs.Document.{Placed, entries_in, sums_of, document}

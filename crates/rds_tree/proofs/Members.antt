@@ -1,16 +1,15 @@
 -- Lists and what is made of them: which tests their members pass.
 use Rattle.std.proofs.Common.{◌≡◌, Bool, true, false, ◌||◌, List, [], ◌∷◌, map, refl, sym, ◌∙◌, ap}
-use Rattle.std.specs.Prelude.{is_some, T}
+use Rattle.std.specs.Prelude.{is_some}
 use Rattle.std.specs.List.{list_any, AllByRecursion}
 use Rattle.std.specs.List.Sorted.{IsStrictlySortedBy}
 use Rattle.std.specs.Ordering.{eq_by_cmp, is_eq, is_lt}
 use Rattle.std.specs.declared.cmp.Ordering.{Ordering}
-use Rattle.std.specs.declared.cmp.Ordering.TheVariants.{Less, Equal, Greater}
+use Rattle.std.specs.declared.cmp.Ordering.TheVariants.{Less}
 use Rattle.std.specs.Cmp.{IsTotalOrder, tied_itself}
 use Rattle.std.specs.FinMap as map_of
-use Rattle.rds_counts.specs.CountedLemmas.{and_left, and_right}
+use Rattle.rds_names.specs.Conditions.{true_of, less_of, and_left, and_right, equal_of}
 use Rattle.rds_tree.specs.Once.{once, marked, firsts-marked}
-use Rattle.rds_tree.proofs.Distinct.{equal_of}
 use Rattle.rds_tree.proofs.Witness.{both_ways, or_left, or_right}
 
 -- some member passes
@@ -58,15 +57,6 @@ module _ {K : Type 0} {R : K → K → Ordering} (total : IsTotalOrder R) (exact
   any-once t xs = both_ways _ _
       (λ h. let p = passing_member t (once R xs) h in member_passes t p.0 xs (sym (member-once p.0 xs) ∙ p.1.0) p.1.1)
       (λ h. let p = passing_member t xs h in member_passes t p.0 (once R xs) (member-once p.0 xs ∙ p.1.0) p.1.1)
-
-less_of : (o : Ordering) → is_lt o ≡ true → o ≡ Less
-less_of Less h = refl
-less_of Equal h = absurd (cc)
-less_of Greater h = absurd (cc)
-
-true_of : (b : Bool) → T b → b ≡ true
-true_of true t = refl
-true_of false t = absurd t
 
 module _ {K X : Type 0} (R : K → K → Ordering) where
   all_less : (k : K) (es : List (K × X)) → map_of.Entries.below_all R k es ≡ true → AllByRecursion (λ q. R k q ≡ Less) (map (λ e. e.0) es)

@@ -12,7 +12,7 @@ use Rattle.rds_tree.specs.Document.{Placed}
 use Rattle.rds_tree.specs.ScalarOrder.{scalars_total, scalars_exact}
 use Rattle.rds_tree.specs.Shows.{same_scalar}
 use Rattle.rds_tree.specs.View.{below, below_path, is_kind, same_key, step_into, value_here}
-use Rattle.rds_tree.proofs.Distinct.{equal_of}
+use Rattle.rds_names.specs.Conditions.{equal_of}
 use Rattle.rds_tree.proofs.Kids.{itself}
 use Rattle.rds_tree.proofs.SameView.{passes, any-filter_map}
 

@@ -9,7 +9,7 @@ use Rattle.rds_names.specs.declared.scalar.Scalar.{Scalar}
 use Rattle.rds_names.specs.declared.entry.Kind.{Kind}
 use Rattle.rds_names.specs.declared.entry.Kind.TheVariants.{Reg, Elem}
 use Rattle.rds_life.specs.Life.{live_rows}
-use Rattle.rds_counts.specs.CountedLemmas.{and_true, and_left, and_right}
+use Rattle.rds_names.specs.Conditions.{and_true, and_left, and_right}
 use Rattle.rds_counts.specs.Value.{value_of}
 use Rattle.rds_state.specs.Document.{IsCounted, value_in}
 use Rattle.rds_state.specs.Value.{StateValue, coordinates}

@@ -1,6 +1,6 @@
 -- What a walk over a tree's children has gathered so far.
 use Rattle.std.proofs.Common.{◌≡◌, ℕ, zero, suc, Bool, true, false, ◌&&◌, List, [], ◌∷◌, ◌++◌, map, refl, sym, ◌∙◌, ap, length, leb, arith, append-nil, append_assoc, subst}
-use Rattle.std.specs.Prelude.{Option, Some, None, if◌then◌else◌}
+use Rattle.std.specs.Prelude.{Option, Some, None, if◌then◌else◌, ℤ}
 use Rattle.std.specs.Option.{option_to_list}
 use Rattle.std.proofs.lemmas.Bool.Decides.{nat_tests}
 use Rattle.std.specs.List.{cons_option}
@@ -16,7 +16,6 @@ use Rattle.rds_tree.specs.Shown.{Shown, ShownMaps, maps_step, view_step, shows, 
 use Rattle.rds_tree.specs.declared.views.Maps.{Maps}
 use Rattle.rds_tree.specs.declared.views.Maps.TheViews.{roll-View}
 use Rattle.rds_tree.specs.declared.views.Maps.TheFolds.{fold-roll-View}
-use Rattle.std.specs.Prelude.{ℤ}
 use Rattle.rds_tree.specs.declared.views.View.{View}
 use Rattle.rds_tree.proofs.Kids.{children-rows}
 

@@ -1,14 +1,13 @@
 -- What some entry of a finite map passes.
 use Rattle.std.proofs.Common.{◌≡◌, Bool, true, false, cond, ◌||◌, List, [], ◌∷◌, refl, sym, ◌∙◌, ap}
-use Rattle.std.specs.Prelude.{Some, None, T}
+use Rattle.std.specs.Prelude.{Some, None}
 use Rattle.std.specs.List.{list_any}
 use Rattle.std.specs.Ordering.{eq_by_cmp, is_eq, is_lt}
 use Rattle.std.specs.declared.cmp.Ordering.{Ordering}
 use Rattle.std.specs.declared.cmp.Ordering.TheVariants.{Less, Equal, Greater}
 use Rattle.std.specs.Cmp.{IsTotalOrder, tied_itself}
 use Rattle.std.specs.FinMap as map_of
-use Rattle.rds_counts.specs.CountedLemmas.{and_left, and_right}
-use Rattle.rds_tree.proofs.Distinct.{equal_of}
+use Rattle.rds_names.specs.Conditions.{true_of, and_left, and_right, equal_of}
 
 -- two tests that follow from each other are one
 pub both_ways : (a b : Bool) → (a ≡ true → b ≡ true) → (b ≡ true → a ≡ true) → a ≡ b
@@ -78,10 +77,6 @@ module _ {K X : Type 0} {R : K → K → Ordering} (total : IsTotalOrder R) (exa
   pub entry_passes : (t : K × X → Bool) (m : map_of.FinMap R X) → list_any t (map_of.entries m) ≡ true → (k : K) × ((x : X) × ((map_of.get m k ≡ Some x) × (t (k, x) ≡ true)))
   entry_passes t m h = let p = passing t (map_of.entries m) (rising m) h in (p.0, (p.1.0, (map_of.get-entries m p.0 ∙ p.1.1.0, p.1.1.1)))
     where
-      true_of : (b : Bool) → T b → b ≡ true
-      true_of true t = refl
-      true_of false t = absurd t
-
       rising : (m : map_of.FinMap R X) → map_of.is_sorted R (map_of.entries m) ≡ true
       rising m = true_of _ (map_of.entries_sorted m)
 

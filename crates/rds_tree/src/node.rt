@@ -26,9 +26,8 @@ pub struct Node {
 }
 
 impl Model for Node {
-    ghost use Rattle.std.specs.Prelude.{List};
+    ghost use Rattle.std.specs.Prelude.{List, ◌≡◌, true};
     ghost use Rattle.rds_tree.specs.Row.{Row, rows_of, weight, are_full};
-    ghost use Rattle.std.specs.Prelude.{◌≡◌, true};
 
     ghost Value = { List Row };
 

@@ -1,34 +1,32 @@
 -- Answers do to the value of a world what they do to the model.
-use Rattle.std.proofs.Common.{◌≡◌, ℕ, ◌<◌, ◌≤◌, ◌+◌, suc, zero, ◌⊎◌, inl, inr, Bool, true, false, Ok, Err, List, [], ◌∷◌, ◌++◌, length, length-append, Option, Some, None, refl, sym, ap, ◌∙◌, subst, arith, slice_get, nat_lt}
+use Rattle.std.proofs.Common.{◌≡◌, ℕ, ◌<◌, ◌≤◌, suc, zero, inl, inr, Bool, true, false, Ok, Err, List, [], ◌∷◌, ◌++◌, length, Option, Some, None, refl, sym, ap, ◌∙◌, subst, arith, slice_get, nat_lt}
 use Rattle.std.specs.Prelude.{is_some}
 use Rattle.rds_names.specs.Roster.{RosterValue}
 use Rattle.rds_names.specs.declared.fault.Fault.{Fault}
-use Rattle.rds_names.specs.declared.fault.Fault.TheVariants.{Memory, NoSuch, TooLong, TooManyDots}
+use Rattle.rds_names.specs.declared.fault.Fault.TheVariants.{NoSuch}
 use Rattle.rds_life.specs.Life.{seen_of}
-use Rattle.rds_state.specs.Coordinates.{Coordinates}
 use Rattle.rds_state.specs.Fits.{ReplicaValue}
 use Rattle.rds_state.specs.Value.{StateValue, coordinates, size}
 use Rattle.rds_state.proofs.JoinLaws.{same_value}
-use Rattle.rds_delta.specs.declared.row.Row.{Row}
 use Rattle.rds_delta.specs.Claims.{IsCertificate}
 use Rattle.rds_delta.specs.Digested.{DigestValue, ranks_in}
 use Rattle.rds_delta.specs.Least.{least}
-use Rattle.rds_delta.specs.Ranks.{Ranks, ranks}
+use Rattle.rds_delta.specs.Ranks.{ranks}
 use Rattle.rds_delta.proofs.Grouping.{one_certificate}
 use Rattle.rds_codec.specs.AnswerTexts.{IsAnswerOf, answer, answer_text}
 use Rattle.rds_codec.specs.CertificateTexts.{IsReplicaOf}
 use Rattle.rds_codec.specs.Decoding.{Decodes}
 use Rattle.rds_codec.specs.DigestTexts.{HasTooManyInDigest, digest_kind}
-use Rattle.rds_codec.specs.Values.{AreDotsOf, AreFew}
+use Rattle.rds_bytes.specs.Values.{AreDotsOf, AreFew}
 use Rattle.rds_codec.specs.declared.limits.TheConstants.{LIMIT}
 use Rattle.rds_world.specs.declared.event.Event.TheVariants.{Answer}
 use Rattle.rds_world.specs.declared.event.Done.TheVariants.{Answered}
-use Rattle.rds_world.specs.World.{World, Question, Reply, answered, after, refused, reply, unless_there}
+use Rattle.rds_world.specs.World.{World, Question, answered, after, refused, reply, unless_there}
 use Rattle.rds_world.specs.Stored.{AskText, AnswerText, WorldValue}
 use Rattle.rds_world.specs.Stands.{state_of, HoldsAsk, HoldsAnswer, Matched, Stands, IsWorld}
 use Rattle.rds_world.specs.Events.{IsLongAnswer, Refuses, NoMemory, Due, Large, Long}
-use Rattle.rds_world.specs.Replies.{IsLeastFor, IsReply, IsLongReply, HasNoReply, Lacks, Unread, TooBig}
-use Rattle.rds_world.specs.Steps.{IsStep, IsStopped}
+use Rattle.rds_world.specs.Replies.{IsReply, HasNoReply, Lacks, Unread, TooBig}
+use Rattle.rds_world.specs.Steps.{IsStopped}
 use Rattle.rds_world.proofs.Performed.{IsDoneTo, is_there, not_there, matched_length, no_memory, read_at, stopped}
 use Rattle.rds_world.proofs.Readings.{few_read, read_ranks, unread_ask}
 use Rattle.rds_world.proofs.Standing.{stands_answered, model_after}

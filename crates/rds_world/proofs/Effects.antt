@@ -5,9 +5,8 @@ use Rattle.std.specs.Str.{bytes_eq}
 use Rattle.std.specs.Ordering.{eq_by_cmp, is_eq}
 use Rattle.std.proofs.lemmas.Cmp.{tied_itself}
 use Rattle.std.proofs.lemmas.Slice.Eq.{bytes_eq-Decides}
-use Rattle.std.specs.declared.cmp.Ordering.{Ordering}
-use Rattle.std.specs.declared.cmp.Ordering.TheVariants.{Less, Equal, Greater}
 use Rattle.std.proofs.lemmas.Bool.Decides.{nat_tests}
+use Rattle.rds_names.specs.Conditions.{equal_of}
 use Rattle.rds_names.specs.declared.entry.Entry.{Entry}
 use Rattle.rds_names.specs.declared.fault.Fault.{Fault}
 use Rattle.rds_names.specs.declared.fault.Fault.TheVariants.{SeqFull}
@@ -174,11 +173,6 @@ raised_own false n h = inl refl
 
 at_place : (q at : Place) → eq_by_cmp place_cmp q at ≡ true → q ≡ at
 at_place q at h = place_exact q at (equal_of (place_cmp q at) h)
-  where
-    equal_of : (o : Ordering) → is_eq o ≡ true → o ≡ Equal
-    equal_of Less h = cc
-    equal_of Equal h = refl
-    equal_of Greater h = cc
 
 -- a number of the effect is 0, or the replica's own
 pub effect_number_own : (a : Coordinates) (own : ℕ) (c : Command) (q : Place) → ((effect a own c (entry_made c)).number q ≡ 0) ⊎ (q.replica ≡ own)

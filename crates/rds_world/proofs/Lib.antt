@@ -9,7 +9,6 @@ pub mod Facts
 pub mod Friends
 pub mod Invariant
 pub mod Joins
-pub mod Judged
 pub mod Sendings
 pub mod Openings
 pub mod Performed

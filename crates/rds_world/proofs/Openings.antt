@@ -1,23 +1,21 @@
 -- Worlds without events.
-use Rattle.std.proofs.Common.{◌≡◌, ℕ, ◌≤◌, zero, suc, ◌+◌, true, ◌&&◌, List, [], ◌∷◌, ◌++◌, length, length-append, Option, Some, None, refl, sym, ap, ◌∙◌, subst, arith, slice_get, inl, inr, ◌⊎◌, IsTrue}
+use Rattle.std.proofs.Common.{◌≡◌, ℕ, ◌≤◌, zero, suc, ◌+◌, ◌&&◌, List, [], ◌∷◌, ◌++◌, length, length-append, Some, None, refl, sym, ap, ◌∙◌, subst, slice_get, inl, inr, ◌⊎◌, IsTrue}
 use mathlib.Core.Path.{fun_ext}
-use mathlib.Core.Logic.{∥∥₁_map}
 use Rattle.std.specs.Prelude.{nat_le}
 use Rattle.std.specs.FinMap as map
 use Rattle.std.proofs.lemmas.Bool.{leb-true}
 use Rattle.rds_names.specs.Roster.{RosterValue, are_names, all_differ}
 use Rattle.rds_dots.specs.declared.dot.Dot.{Dot}
 use Rattle.rds_dots.specs.Dots.{dot_cmp}
-use Rattle.rds_dots.specs.Merges.{and_left, and_right}
+use Rattle.rds_names.specs.Conditions.{and_left, and_right}
 use Rattle.rds_counts.specs.Counted.{Above, number, number_from}
 use Rattle.rds_counts.specs.Place.{Place, place_cmp}
 use Rattle.rds_life.specs.Life.{Life}
-use Rattle.rds_state.specs.Coordinates.{Coordinates}
 use Rattle.rds_state.specs.Fits.{ReplicaValue}
 use Rattle.rds_state.specs.Value.{coordinates}
 use Rattle.rds_world.specs.World.{empty, start}
 use Rattle.rds_world.specs.Stored.{WorldValue}
-use Rattle.rds_world.specs.Stands.{Matched, HoldsAsk, HoldsAnswer, state_of, Stands, HasModel, IsNew, AreNew, IsWorld}
+use Rattle.rds_world.specs.Stands.{Matched, HoldsAsk, HoldsAnswer, state_of, Stands, IsNew, AreNew, IsWorld}
 use Rattle.rds_world.proofs.Coherent.{coherent_start}
 use Rattle.rds_world.proofs.Tables.{same_some}
 

@@ -1,9 +1,7 @@
 -- Each event does to the value of a world what it does to the model.
-use Rattle.std.proofs.Common.{◌≡◌, ◌+◌, suc, zero, ℕ, ◌<◌, ◌≤◌, Bool, true, false, List, [], ◌∷◌, ◌++◌, length, length-append, Option, Some, None, refl, sym, ap, ◌∙◌, subst, arith, slice_get, inl, inr, ◌⊎◌, count_by, nat_lt, get_or, ltb}
-use mathlib.Core.Bool.{false≢true}
+use Rattle.std.proofs.Common.{◌≡◌, ◌+◌, suc, zero, ℕ, ◌<◌, ◌≤◌, List, [], ◌∷◌, ◌++◌, length, length-append, Option, Some, None, refl, sym, ap, ◌∙◌, subst, arith, slice_get, inl, inr, ◌⊎◌, count_by, nat_lt}
 use Rattle.std.proofs.Math.ListN.{set, length-set}
 use Rattle.std.proofs.lemmas.Bool.{lt-ltb, le-ltb}
-use Rattle.std.proofs.lemmas.List.{set-get_or}
 use Rattle.rds_names.specs.Roster.{RosterValue}
 use Rattle.rds_names.specs.declared.fault.Fault.{Fault}
 use Rattle.rds_names.specs.declared.fault.Fault.TheVariants.{Memory, NoSuch, TooLong}
@@ -11,18 +9,18 @@ use Rattle.rds_life.specs.Life.{live_rows}
 use Rattle.rds_state.specs.Coordinates.{Coordinates}
 use Rattle.rds_state.specs.Edit.{IsDue, JoinsEffect, covers, new_dot, refusal}
 use Rattle.rds_state.specs.Fits.{ReplicaValue}
-use Rattle.rds_state.specs.Value.{StateValue, coordinates}
+use Rattle.rds_state.specs.Value.{coordinates}
 use Rattle.rds_state.specs.declared.command.Command.{Command}
 use Rattle.rds_state.specs.declared.command.Edited.{Edited as Effected}
 use Rattle.rds_delta.specs.Digested.{digest_of}
 use Rattle.rds_codec.specs.DigestTexts.{digest_text}
-use Rattle.rds_codec.specs.Spelling.{snapshot_text}
+use Rattle.rds_codec.specs.StateTexts.{snapshot_text}
 use Rattle.rds_codec.specs.declared.limits.TheConstants.{LIMIT}
 use Rattle.rds_world.specs.declared.event.Event.{Event}
 use Rattle.rds_world.specs.declared.event.Event.TheVariants.{Edit, Save, Crash, Ask}
 use Rattle.rds_world.specs.declared.event.Done.TheVariants.{Edited, Plain, Asked}
 use Rattle.rds_world.specs.World.{World, edited, refused, unless_there}
-use Rattle.rds_world.specs.Stored.{AskText, AnswerText, WorldValue}
+use Rattle.rds_world.specs.Stored.{AskText, WorldValue}
 use Rattle.rds_world.specs.Stands.{state_of, HoldsAsk, Stands, HasModel, Matched, IsWorld}
 use Rattle.rds_world.specs.Events.{Refuses, NoMemory, Due, Long, SavesTooLong, IsLongSnapshot}
 use Rattle.rds_world.specs.Steps.{IsStep, IsStopped}
@@ -117,12 +115,6 @@ module _ (v : WorldValue) (i : IsWorld v) (r : ℕ) (m : ReplicaValue) (lt : r <
     edit_stopped_by : (f : Fault) → IsDue (refusal (coordinates m.state) m.own c) f → (w : World) → Stands v w → Refuses v w (Edit r c) f
     edit_stopped_by Memory h w s = NoMemory (edit_due w s ∙ h) (λ x. x)
     edit_stopped_by f h w s = Due f (edit_due w s ∙ h)
-
-    pub edit_judged : (f : Fault) → refusal (coordinates m.state) m.own c ≡ Some f → IsStopped v (Edit r c) f v
-    edit_judged f h = stopped v (Edit r c) f (λ w s. Due f (edit_due w s ∙ h))
-
-    pub edit_unmade : refusal (coordinates m.state) m.own c ≡ None → IsStopped v (Edit r c) Memory v
-    edit_unmade h = no_memory v (Edit r c) Memory refl (λ w s. edit_due w s ∙ h) (λ x. x)
 
     pub edit_stopped : (x : ReplicaValue) (f : Fault) → x ≡ m → IsDue (refusal (coordinates m.state) m.own c) f → IsStopped v (Edit r c) f (record v { memory = set v.memory r x })
     edit_stopped x f is h =

@@ -1,5 +1,5 @@
 -- What is read of the bytes of asks and answers.
-use Rattle.std.proofs.Common.{◌≡◌, ℕ, ◌<◌, ◌≤◌, ◌⊎◌, inl, inr, Bool, true, false, List, ◌++◌, append_assoc, length, Result, Ok, Err, refl, sym, ◌∙◌, ap, subst, arith}
+use Rattle.std.proofs.Common.{◌≡◌, ℕ, ◌<◌, ◌≤◌, ◌⊎◌, inl, inr, List, ◌++◌, append_assoc, length, Result, Ok, Err, refl, ◌∙◌, ap, arith}
 use Rattle.std.specs.FinSet as set
 use Rattle.rds_names.specs.declared.fault.Fault.{Fault}
 use Rattle.rds_names.specs.declared.fault.Fault.TheVariants.{Memory, TooManyDots}
@@ -11,9 +11,9 @@ use Rattle.rds_codec.specs.AnswerValues.{AnswerValue}
 use Rattle.rds_codec.specs.CertificateTexts.{certificate_text}
 use Rattle.rds_codec.specs.Decoding.{Decodes}
 use Rattle.rds_codec.specs.DigestTexts.{HasTooManyInDigest, digest_text, digest_kind}
-use Rattle.rds_codec.specs.Kinds.{BeginsWithTooManyDots}
-use Rattle.rds_codec.specs.Spelling.{byte_text, dots_text, live_rows_text, counters_text, state_text}
-use Rattle.rds_codec.specs.declared.limits.TheConstants.{MOST_DOTS}
+use Rattle.rds_bytes.specs.Spelling.{byte_text, dots_text, live_rows_text, counters_text}
+use Rattle.rds_codec.specs.StateTexts.{state_text}
+use Rattle.rds_bytes.specs.declared.rows.TheConstants.{MOST_DOTS}
 use Rattle.rds_world.specs.World.{Question, Reply}
 use Rattle.rds_world.specs.Stored.{AskText, AnswerText}
 use Rattle.rds_world.specs.Stands.{HoldsAsk, HoldsAnswer}

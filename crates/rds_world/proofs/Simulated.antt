@@ -1,17 +1,16 @@
 -- A run goes on by one event; and what holds of the model's run holds of the world that stands for it.
-use Rattle.std.proofs.Common.{◌≡◌, Result, Ok, Err, IfOk, ℕ, ◌<◌, ◌≤◌, ◌+◌, suc, zero, List, [], ◌∷◌, ◌++◌, length, take, drop, get_or, Option, Some, None, refl, sym, ap, ◌∙◌, subst, arith, slice_get, inl, inr, ◌⊎◌}
+use Rattle.std.proofs.Common.{◌≡◌, Result, Ok, Err, IfOk, ℕ, ◌<◌, ◌≤◌, ◌+◌, suc, zero, List, [], ◌∷◌, ◌++◌, length, take, drop, get_or, Some, refl, sym, ap, ◌∙◌, subst, arith, slice_get, inl}
 use Rattle.std.proofs.lemmas.List.{take_more}
 use Rattle.rds_names.specs.declared.fault.Fault.{Fault}
-use Rattle.rds_state.specs.Coordinates.{Coordinates}
 use Rattle.rds_state.specs.Fits.{ReplicaValue}
-use Rattle.rds_state.specs.Value.{StateValue, coordinates}
+use Rattle.rds_state.specs.Value.{coordinates}
 use Rattle.rds_state.proofs.JoinLaws.{same_value}
 use Rattle.rds_world.specs.declared.event.Event.{Event}
-use Rattle.rds_world.specs.World.{World, after, run, start, Accepted}
-use Rattle.rds_world.specs.Coherent.{Store, Memory, Kept, state_in, IsCoherent}
+use Rattle.rds_world.specs.World.{World, after, start, Accepted}
+use Rattle.rds_world.specs.Coherent.{Store, Memory, Kept, state_in}
 use Rattle.rds_world.specs.Events.{IsAccepted, Refuses}
 use Rattle.rds_world.specs.Law.{IsCoherentAfter, AreFriendsAfter, EachIsTheJoin, EachDotIsExplained, EachShowsItsUpdates, SameUpdatesSameState, EachAnswerBringsWhatWasKept, world_after, held_after, bases_after, effects_after, held_in}
-use Rattle.rds_world.specs.Simulation.{Reaches, StopsAt, Stops, Throughout, replicas_in, ReplicasAreJoins, ReplicasShowTheirUpdates, SameUpdatesSameReplicas}
+use Rattle.rds_world.specs.Simulation.{Reaches, Stops, Throughout, replicas_in, ReplicasAreJoins, ReplicasShowTheirUpdates, SameUpdatesSameReplicas}
 use Rattle.rds_world.specs.Stands.{state_of, Stands}
 use Rattle.rds_world.specs.Stored.{WorldValue}
 use Rattle.rds_world.specs.Updates.{IsJoinOf, ShowsUpdates}

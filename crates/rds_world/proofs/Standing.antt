@@ -1,5 +1,5 @@
 -- What stands for a world of the model before an event stands for the world after it.
-use Rattle.std.proofs.Common.{◌≡◌, ℕ, ◌<◌, ◌≤◌, suc, zero, Bool, true, false, cond, List, [], ◌∷◌, ◌++◌, length, Option, Some, None, refl, sym, ap, ◌∙◌, subst, arith, ◌==◌, slice_get, inl, inr, ◌⊎◌}
+use Rattle.std.proofs.Common.{◌≡◌, ℕ, ◌<◌, suc, zero, Bool, true, false, cond, List, [], ◌∷◌, ◌++◌, length, Option, Some, None, refl, sym, ap, ◌∙◌, arith, ◌==◌, slice_get}
 use mathlib.Core.Logic.{∥∥₁_map}
 use Rattle.std.proofs.Math.ListN.{set}
 use Rattle.std.proofs.lemmas.Bool.Decides.{nat_tests}
@@ -9,9 +9,8 @@ use Rattle.rds_state.specs.Fits.{ReplicaValue}
 use Rattle.rds_state.specs.Value.{coordinates}
 use Rattle.rds_world.specs.declared.event.Event.{Event}
 use Rattle.rds_world.specs.World.{World, Question, Reply, put, after, refused}
-use Rattle.rds_world.specs.Coherent.{IsCoherent}
 use Rattle.rds_world.specs.Stored.{AskText, AnswerText, WorldValue}
-use Rattle.rds_world.specs.Stands.{Matched, state_of, HoldsAsk, HoldsAnswer, Stands, HasModel, AreAtTheirPlaces}
+use Rattle.rds_world.specs.Stands.{state_of, HoldsAsk, HoldsAnswer, Stands, HasModel, AreAtTheirPlaces}
 use Rattle.rds_world.proofs.Coherent.{event_coherent}
 use Rattle.rds_world.proofs.Tables.{matched_last, matched_weaker, get_front, same_some}
 

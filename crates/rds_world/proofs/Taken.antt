@@ -1,37 +1,37 @@
 -- Takes do to the value of a world what they do to the model, and none is refused that the model takes.
-use Rattle.std.proofs.Common.{◌≡◌, ℕ, ◌<◌, ◌≤◌, ◌⊎◌, inl, inr, Bool, true, false, List, length, Option, Some, None, Ok, Err, Result, refl, sym, ap, ◌∙◌, subst, slice_get}
+use Rattle.std.proofs.Common.{◌≡◌, ℕ, ◌<◌, ◌≤◌, inl, inr, Bool, true, false, length, Some, None, Ok, Err, Result, refl, sym, ap, ◌∙◌, subst, slice_get}
 use mathlib.Core.Bool.{false≢true}
 use mathlib.Core.HLevel.{⊥_prop}
 use mathlib.Core.Logic.{∥∥₁_elim}
 use Rattle.std.proofs.Math.ListN.{set, length-set}
 use Rattle.rds_names.specs.Roster.{RosterValue}
 use Rattle.rds_names.specs.declared.fault.Fault.{Fault}
-use Rattle.rds_names.specs.declared.fault.Fault.TheVariants.{Memory, NoSuch, TooManyDots}
+use Rattle.rds_names.specs.declared.fault.Fault.TheVariants.{Memory, NoSuch}
 use Rattle.rds_state.specs.Ahead.{TakeGives}
-use Rattle.rds_state.specs.Coordinates.{Coordinates, join}
+use Rattle.rds_state.specs.Coordinates.{join}
 use Rattle.rds_state.specs.Fits.{ReplicaValue}
 use Rattle.rds_state.specs.Friends.{MayTake}
-use Rattle.rds_state.specs.Value.{StateValue, coordinates}
+use Rattle.rds_state.specs.Value.{coordinates}
 use Rattle.rds_state.proofs.FriendLemmas.{may_take_is_taken}
 use Rattle.rds_delta.specs.Claims.{IsCertificate}
 use Rattle.rds_delta.specs.Digested.{DigestValue, ranks_in}
 use Rattle.rds_delta.specs.Least.{IsAbove}
 use Rattle.rds_delta.specs.Ranks.{ranks}
-use Rattle.rds_codec.specs.AnswerTexts.{HasTooManySent, answer, answer_kind}
+use Rattle.rds_codec.specs.AnswerTexts.{HasTooManySent, answer_kind}
 use Rattle.rds_codec.specs.AnswerValues.{AnswerValue}
 use Rattle.rds_codec.specs.Decoding.{Decodes}
 use Rattle.rds_codec.specs.DigestTexts.{digest_kind}
 use Rattle.rds_world.specs.declared.event.Event.TheVariants.{Take}
 use Rattle.rds_world.specs.declared.event.Done.TheVariants.{Plain}
-use Rattle.rds_world.specs.World.{World, Question, Reply, after, put, refused, taken}
+use Rattle.rds_world.specs.World.{World, Question, after, put, refused, taken}
 use Rattle.rds_world.specs.Stored.{AskText, AnswerText, WorldValue}
 use Rattle.rds_world.specs.Stands.{state_of, HasModel, HoldsAsk, HoldsAnswer, Stands, IsWorld}
 use Rattle.rds_world.specs.Events.{Refuses, NoMemory, Due, Large}
-use Rattle.rds_world.specs.Replies.{IsTaken, IsUncertified, IsNotTaken, NoDigest, NoAnswer, Uncertified, Untaken}
+use Rattle.rds_world.specs.Replies.{IsTaken, IsNotTaken, NoDigest, NoAnswer, Uncertified, Untaken}
 use Rattle.rds_world.specs.Steps.{IsStopped}
 use Rattle.rds_world.proofs.Answered.{HasPartner, absent_at, partner, present_at}
 use Rattle.rds_world.proofs.Friends.{may_take}
-use Rattle.rds_world.proofs.Performed.{IsDoneTo, no_memory, read_at, set_same, stopped, world_memory}
+use Rattle.rds_world.proofs.Performed.{IsDoneTo, read_at, set_same, stopped, world_memory}
 use Rattle.rds_world.proofs.Readings.{few_sent, read_again, read_answer, read_ranks, unread_answer}
 use Rattle.rds_world.proofs.Standing.{model_after, stands_memory}
 

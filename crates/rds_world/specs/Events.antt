@@ -1,5 +1,5 @@
 -- When code refuses an event, and what it answers.
-use Rattle.std.specs.Prelude.{◌≡◌, ◌<◌, ◌⊎◌, ℕ, List, Some, None, length, count_by, slice_get}
+use Rattle.std.specs.Prelude.{◌≡◌, ◌<◌, ℕ, List, Some, None, length, count_by, slice_get}
 use Rattle.rds_names.specs.declared.fault.Fault.{Fault}
 use Rattle.rds_names.specs.declared.fault.Fault.TheVariants.{Memory, TooLong, TooManyDots}
 use Rattle.rds_life.specs.Life.{live_rows}
@@ -14,7 +14,7 @@ use Rattle.rds_delta.specs.Digested.{digest_of}
 use Rattle.rds_delta.specs.Ranks.{ranks}
 use Rattle.rds_codec.specs.AnswerTexts.{HasTooManySent, answer, answer_text}
 use Rattle.rds_codec.specs.DigestTexts.{HasTooManyInDigest, digest_text}
-use Rattle.rds_codec.specs.Spelling.{snapshot_text}
+use Rattle.rds_codec.specs.StateTexts.{snapshot_text}
 use Rattle.rds_codec.specs.declared.limits.TheConstants.{LIMIT}
 use Rattle.rds_world.specs.declared.event.Event.{Event}
 use Rattle.rds_world.specs.declared.event.Event.TheVariants.{Edit, Save, Crash, Ask, Answer, Take}

@@ -1,5 +1,5 @@
 -- What the bytes of an answer hold, and why an answer isn't taken.
-use Rattle.std.specs.Prelude.{◌≡◌, ◌<◌, ◌≤◌, ◌⊎◌, ℕ, List, length, Ok, Err}
+use Rattle.std.specs.Prelude.{◌≡◌, ◌<◌, ◌≤◌, ℕ, List, length, Ok, Err}
 use Rattle.rds_names.specs.declared.fault.Fault.{Fault}
 use Rattle.rds_names.specs.declared.fault.Fault.TheVariants.{Memory, TooLong, BadCertificate}
 use Rattle.rds_life.specs.Life.{seen_of}
@@ -15,7 +15,7 @@ use Rattle.rds_codec.specs.AnswerValues.{AnswerValue}
 use Rattle.rds_codec.specs.CertificateTexts.{IsReplicaOf}
 use Rattle.rds_codec.specs.Decoding.{Decodes}
 use Rattle.rds_codec.specs.DigestTexts.{digest_kind}
-use Rattle.rds_codec.specs.Values.{AreDotsOf, AreFew}
+use Rattle.rds_bytes.specs.Values.{AreDotsOf, AreFew}
 use Rattle.rds_codec.specs.declared.limits.TheConstants.{LIMIT}
 
 -- the least delta of a state against a digest, and its certificate

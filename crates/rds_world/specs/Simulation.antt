@@ -10,7 +10,7 @@ use Rattle.rds_world.specs.Stored.{WorldValue}
 use Rattle.rds_world.specs.Stands.{Stands}
 use Rattle.rds_world.specs.Events.{Refuses}
 use Rattle.rds_world.specs.Coherent.{Store, Memory as InMemory, Kept as AsKept}
-use Rattle.rds_world.specs.Law.{world_after, held_after, held_in, effects_after, bases_after}
+use Rattle.rds_world.specs.Law.{world_after, held_after, held_in, effects_after}
 use Rattle.rds_world.specs.Updates.{IsJoinOf, ShowsUpdates}
 
 -- all events were accepted, and the world stands for the model's after them

@@ -14,7 +14,7 @@ use Rattle.rds_codec.specs.AnswerTexts.{IsAnswerOf, answer, answer_text}
 use Rattle.rds_codec.specs.CertificateTexts.{IsReplicaOf}
 use Rattle.rds_codec.specs.Decoding.{IsTextOf}
 use Rattle.rds_codec.specs.DigestTexts.{IsDigestOf, digest_kind, digest_text}
-use Rattle.rds_codec.specs.Values.{AreDotsOf, AreFew}
+use Rattle.rds_bytes.specs.Values.{AreDotsOf, AreFew}
 use Rattle.rds_codec.specs.declared.limits.TheConstants.{LIMIT}
 use Rattle.rds_world.specs.World.{World, Question, Reply, empty}
 use Rattle.rds_world.specs.Coherent.{IsCoherent}

@@ -3,7 +3,6 @@
 #![tactic(auto)]
 
 mod event;
-mod judging;
 mod laws;
 mod messages;
 mod simulating;

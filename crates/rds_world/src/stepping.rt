@@ -8,7 +8,6 @@ ghost use Rattle.rds_world.specs.Steps.{IsStep, IsStopped};
 ghost use Rattle.rds_world.specs.World.{World as Model, after};
 
 use crate::event::{Done, Event};
-use crate::judging::judge;
 use crate::messages;
 use crate::texts::{Answering, Asking};
 use crate::world::{World, keep};
@@ -40,7 +39,7 @@ impl<S: DotSet> World<S> {
         ensures err { IfErr result (λ fault. IsStopped self.old event.now fault self.new) }
     {
         match event {
-            Event::Edit(number, command) => self.edit(alloc, *number, command),
+            Event::Edit(number, command) => self.edit(*number, command),
             Event::Save(number) => self.save(alloc, *number),
             Event::Crash(number) => self.crash(alloc, *number),
             Event::Ask(number) => self.ask(alloc, *number),
@@ -49,7 +48,7 @@ impl<S: DotSet> World<S> {
         }
     }
 
-    fn edit(&mut self, alloc: Global, number: u8, command: &Command) -> Result<Done, Fault>
+    fn edit(&mut self, number: u8, command: &Command) -> Result<Done, Fault>
         ensures ok { IfOk result (λ done. IsStep self.old (Edit number command.now) done self.new) }
         ensures err { IfErr result (λ fault. IsStopped self.old (Edit number command.now) fault self.new) }
     {
@@ -57,9 +56,7 @@ impl<S: DotSet> World<S> {
         if at >= self.memory.len() {
             return Err(Fault::NoSuch);
         }
-        judge(&self.memory[at], command)?;
-        let command = command.copy(alloc)?;
-        let edited = self.memory[at].edit(command)?;
+        let edited = self.memory[at].edit_by(command)?;
         Ok(Done::Edited(edited))
     }
 

@@ -1,7 +1,7 @@
 //! All replicas of a document, in memory and as kept.
 ghost use Rattle.std.specs.Prelude.{◌≡◌, ◌≤◌, ◌<◌, ◌⊎◌, Some, None, IfOk, IfErr, OnOk, MatchResult, length, slice_get};
 ghost use Rattle.std.specs.FinMap as map;
-ghost use Rattle.rds_codec.specs.Spelling.{snapshot_text};
+ghost use Rattle.rds_codec.specs.StateTexts.{snapshot_text};
 ghost use Rattle.rds_codec.specs.declared.limits.TheConstants.{LIMIT};
 ghost use Rattle.rds_names.specs.declared.fault.Fault.TheVariants.{Memory, NoSuch, TooLong};
 ghost use Rattle.rds_world.specs.Simulation.{HasNoReplicas};

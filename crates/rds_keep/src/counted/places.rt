@@ -17,6 +17,7 @@ impl<P: Place> Counted<P> {
         ensures steady { OnOk result (self.new.failed ≡ self.old.failed) }
         ensures counted { OnErr result (self.new.failed ≡ one_more self.old.failed) }
         ensures turns { self.new.turns ≡ self.old.turns }
+        ensures left { self.new.left ≡ self.old.left }
         ensures renamed { self.new.renamed ≡ self.old.renamed }
     {
         match self.inner.sync() {
@@ -37,6 +38,7 @@ impl<P: Place> Counted<P> {
         ensures steady { OnOk result (self.new.failed ≡ self.old.failed) }
         ensures counted { OnErr result (self.new.failed ≡ one_more self.old.failed) }
         ensures turns { self.new.turns ≡ self.old.turns }
+        ensures left { self.new.left ≡ self.old.left }
     {
         match self.inner.rename() {
             Ok(()) => {

@@ -1,8 +1,8 @@
 use Rattle.std.proofs.Common.{sym, ap, ◌∙◌, ◌∷◌, ◌++◌, []}
 use Rattle.rds_delta.specs.declared.row.Row.{Row}
 use Rattle.rds_codec.specs.CertificateTexts.{run_text, row_text}
-use Rattle.rds_codec.specs.Spelling.{byte_text}
-use Rattle.rds_codec.proofs.Sequences.{three_added}
+use Rattle.rds_bytes.specs.Spelling.{byte_text}
+use Rattle.rds_bytes.proofs.Sequences.{three_added}
 use Rattle.rds_codec.proofs.Texts.{OnOk-map}
 use Rattle.rds_codec.proofs.certificates.put_row.Goals as goal
 

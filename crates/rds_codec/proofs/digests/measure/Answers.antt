@@ -3,8 +3,8 @@ use Rattle.std.specs.FinSet as set
 use Rattle.rds_dots.specs.Dots.{Dots}
 use Rattle.rds_counts.specs.Counted.{Counted, number}
 use Rattle.rds_counts.specs.Place.{Place}
-use Rattle.rds_codec.specs.Spelling.{dots_text, counters_text}
-use Rattle.rds_codec.specs.Values.{AreCountsOf}
+use Rattle.rds_bytes.specs.Spelling.{dots_text, counters_text}
+use Rattle.rds_bytes.specs.Values.{AreCountsOf}
 use Rattle.rds_codec.proofs.DigestFormats.{digest_length}
 use Rattle.rds_codec.proofs.digests.measure.Goals as goal
 

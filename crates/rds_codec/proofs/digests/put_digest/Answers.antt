@@ -1,10 +1,10 @@
-use Rattle.std.proofs.Common.{◌≡◌, ◌<◌, ◌^◌, ap, sym, subst, ◌∙◌, ◌++◌, length}
+use Rattle.std.proofs.Common.{◌<◌, ◌^◌, ap, sym, subst, ◌∙◌, ◌++◌, length}
 use Rattle.rds_counts.specs.Counted.{Counted}
 use Rattle.rds_counts.specs.RowsOf.{count_rows}
 use Rattle.rds_dots.specs.Dots.{Dots}
 use Rattle.rds_dots.specs.Runs.{runs_of}
-use Rattle.rds_codec.specs.DotRows.{rows_from, CanCountAll}
-use Rattle.rds_codec.specs.Spelling.{dots_text, counters_text}
+use Rattle.rds_bytes.specs.DotRows.{rows_from, CanCountAll}
+use Rattle.rds_bytes.specs.Spelling.{dots_text, counters_text}
 use Rattle.rds_codec.proofs.DigestFormats.{digest_within, digest_parts}
 use Rattle.rds_codec.proofs.Texts.{OnOk-map}
 use Rattle.rds_codec.proofs.digests.put_digest.Goals as goal

@@ -8,7 +8,7 @@ use Rattle.rds_codec.specs.AnswerTexts.{answer, answer_kind, answer_text}
 use Rattle.rds_codec.specs.AnswerValues.{AnswerValue}
 use Rattle.rds_codec.specs.Decoding.{Answers}
 use Rattle.rds_codec.specs.Exchanged.{IsAnswerTo, IsLongAnswer}
-use Rattle.rds_codec.specs.Values.{AreFew}
+use Rattle.rds_bytes.specs.Values.{AreFew}
 use Rattle.rds_codec.proofs.ExchangeLemmas.{is_read, read_ok, read_err, read_fits, lost, unwritten, delta_is_few, answer_fits, answer_is_above}
 use Rattle.rds_codec.proofs.exchanges.send_answer.Goals as goal
 

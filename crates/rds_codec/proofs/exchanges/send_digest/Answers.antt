@@ -6,7 +6,7 @@ use Rattle.rds_delta.specs.Digested.{DigestValue, digest_of}
 use Rattle.rds_codec.specs.Decoding.{Answers}
 use Rattle.rds_codec.specs.DigestTexts.{DigestFits, digest_kind}
 use Rattle.rds_codec.specs.Exchanged.{IsLongDigest}
-use Rattle.rds_codec.specs.Values.{AreFew}
+use Rattle.rds_bytes.specs.Values.{AreFew}
 use Rattle.rds_codec.proofs.ExchangeLemmas.{is_read, read_ok, read_err, digest_fits}
 use Rattle.rds_codec.proofs.exchanges.send_digest.Goals as goal
 

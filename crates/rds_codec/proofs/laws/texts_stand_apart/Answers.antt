@@ -3,7 +3,7 @@ use Rattle.rds_codec.specs.CertificateTexts.{certificate_at, certificate_kind}
 use Rattle.rds_codec.specs.DigestTexts.{digest_at, digest_kind}
 use Rattle.rds_codec.specs.HelloTexts.{hello_at, hello_kind}
 use Rattle.rds_codec.specs.Kinds.{state_kind, snapshot_kind}
-use Rattle.rds_codec.specs.Reading.{state_at, snapshot_at}
+use Rattle.rds_codec.specs.StateTexts.{state_at, snapshot_at}
 use Rattle.rds_codec.proofs.AnswerFormats.{answer_reader}
 use Rattle.rds_codec.proofs.CertificateFormats.{certificate_reader}
 use Rattle.rds_codec.proofs.DigestFormats.{digest_reader}

@@ -1,6 +1,6 @@
 use Rattle.std.proofs.Common.{arith}
 use Rattle.rds_codec.specs.Kinds.{snapshot_kind}
-use Rattle.rds_codec.specs.Reading.{snapshot_at}
+use Rattle.rds_codec.specs.StateTexts.{snapshot_at}
 use Rattle.rds_codec.proofs.SnapshotFormats.{snapshot_reader}
 use Rattle.rds_codec.proofs.Whole.{decodes}
 use Rattle.rds_codec.proofs.snapshots.decode_snapshot.Goals as goal

@@ -3,8 +3,9 @@ use Rattle.rds_names.specs.Roster.{RosterValue}
 use Rattle.rds_life.specs.Life.{seen_of}
 use Rattle.rds_state.specs.Fits.{Fits}
 use Rattle.rds_state.specs.Value.{StateValue, coordinates}
-use Rattle.rds_codec.specs.Values.{AreFew, IsMember, IsStateOf}
-use Rattle.rds_codec.specs.Spelling.{member_text, state_text}
+use Rattle.rds_bytes.specs.Values.{AreFew, IsMember}
+use Rattle.rds_codec.specs.StateTexts.{IsStateOf, state_text}
+use Rattle.rds_bytes.specs.Spelling.{member_text}
 use Rattle.rds_codec.proofs.SmallTexts.{small_snapshot}
 use Rattle.rds_codec.proofs.Texts.{snapshot_length}
 use Rattle.rds_codec.proofs.snapshots.measure.Goals as goal

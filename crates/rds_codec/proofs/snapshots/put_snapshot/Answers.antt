@@ -1,6 +1,7 @@
 use Rattle.std.proofs.Common.{ap, ◌∙◌, ◌++◌, length, arith}
 use Rattle.rds_state.specs.Value.{StateValue}
-use Rattle.rds_codec.specs.Spelling.{front_text, state_text}
+use Rattle.rds_bytes.specs.Spelling.{front_text}
+use Rattle.rds_codec.specs.StateTexts.{state_text}
 use Rattle.rds_codec.proofs.Texts.{snapshot_length, snapshot_parts, OnOk-map}
 use Rattle.rds_codec.proofs.snapshots.put_snapshot.Goals as goal
 

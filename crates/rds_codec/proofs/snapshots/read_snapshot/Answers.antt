@@ -1,5 +1,5 @@
 use Rattle.std.proofs.Common.{◌≡◌, ℕ, Ok, arith, subst}
-use Rattle.rds_codec.specs.Reading.{state_at}
+use Rattle.rds_codec.specs.StateTexts.{state_at}
 use Rattle.rds_codec.proofs.Replicas.{is_replica}
 use Rattle.rds_codec.proofs.snapshots.read_snapshot.Goals as goal
 

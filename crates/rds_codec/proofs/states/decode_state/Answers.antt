@@ -1,6 +1,6 @@
 use Rattle.std.proofs.Common.{arith}
 use Rattle.rds_codec.specs.Kinds.{state_kind}
-use Rattle.rds_codec.specs.Reading.{state_at}
+use Rattle.rds_codec.specs.StateTexts.{state_at}
 use Rattle.rds_codec.proofs.StateFormats.{state_reader}
 use Rattle.rds_codec.proofs.Whole.{decodes}
 use Rattle.rds_codec.proofs.states.decode_state.Goals as goal

@@ -2,7 +2,7 @@ use Rattle.std.proofs.Common.{◌≡◌, ◌<◌, ℕ, refl, subst, ap, ◌∙�
 use Rattle.std.specs.List.{flat_map, AllByRecursion}
 use Rattle.std.specs.FinSet as set
 use Rattle.rds_counts.specs.Place.{Place}
-use Rattle.rds_codec.specs.Values.{IsLiveRow, AreCountsOf}
+use Rattle.rds_bytes.specs.Values.{IsLiveRow, AreCountsOf}
 use Rattle.rds_state.proofs.FitsLemmas.{fits_dots}
 use Rattle.rds_codec.proofs.HaveTexts.{is_state_of}
 use Rattle.rds_counts.specs.Counted.{Counted, number}
@@ -10,7 +10,7 @@ use Rattle.rds_names.specs.declared.entry.Entry.{Entry}
 use Rattle.rds_dots.specs.declared.dot.Dot.{Dot}
 use Rattle.rds_dots.specs.Dots.{Dots}
 use Rattle.rds_life.specs.Life.{seen_of, live_rows}
-use Rattle.rds_codec.specs.Spelling.{dots_text, live_row_text, counters_text}
+use Rattle.rds_bytes.specs.Spelling.{dots_text, live_row_text, counters_text}
 use Rattle.rds_codec.proofs.Texts.{state_length}
 use Rattle.rds_codec.proofs.states.measure_state.Goals as goal
 

@@ -6,8 +6,8 @@ use Rattle.rds_dots.specs.declared.dot.Dot.{Dot}
 use Rattle.rds_dots.specs.Dots.{Dots}
 use Rattle.rds_dots.specs.Runs.{runs_of}
 use Rattle.rds_life.specs.Life.{seen_of, live_rows}
-use Rattle.rds_codec.specs.DotRows.{rows_from, CanCountAll}
-use Rattle.rds_codec.specs.Spelling.{dots_text, live_rows_text, counters_text}
+use Rattle.rds_bytes.specs.DotRows.{rows_from, CanCountAll}
+use Rattle.rds_bytes.specs.Spelling.{dots_text, live_rows_text, counters_text}
 use Rattle.rds_codec.proofs.StateFormats.{state_within}
 use Rattle.rds_codec.proofs.Texts.{state_parts, OnOk-map}
 use Rattle.rds_codec.proofs.states.put_state.Goals as goal

@@ -1,7 +1,9 @@
-use Rattle.std.proofs.Common.{◌∙◌, ◌||◌, ap, cond, sym, subst, Bool}
-use Rattle.std.proofs.KnownBytes.{Appends-trans}
-use Rattle.rds_lines.specs.Ahead.{TakesLine, untaken}
-use Rattle.rds_lines.proofs.Answered.{Runs, ends_in, runs_last, runs_on}
+use Rattle.std.proofs.Common.{◌∙◌, ◌||◌, ap, cond, sym, subst, refl, false, Bool, ℕ, List, Option, Result, String}
+use Rattle.std.specs.Global.{Global}
+use Rattle.std.specs.Prelude.{IfSome}
+use Rattle.rds_names.specs.declared.fault.Fault.{Fault}
+use Rattle.rds_lines.specs.Ahead.{IsOfSomeLine, TakesLine, untaken}
+use Rattle.rds_lines.proofs.Answered.{Runs, Told, runs_first, runs_last, runs_on, told_cut, told_first, told_on}
 use Rattle.rds_lines.proofs.answering.answer_lines.Goals as goal
 
 pub returns-then-refused-clause-answered : goal.returns-then-refused-clause-answered
@@ -22,8 +24,8 @@ returns-else-refused-clause-answered g c =
 
 pub returns-in-Err-clause-unread : goal.returns-in-Err-clause-unread
 returns-in-Err-clause-unread g c = λ read wrote.
-    ends_in (g.W.Write.contents c.args.writer.now.inner) (g.W.Write.contents c.lines.writer.inner) (g.W.Write.contents c.write_fault.new.writer.inner) c.in-Err.fault c.write_fault.result c.lines.invariant.told
-    c.in-Err.ensures.fault.0 (c.write_fault.ensures.written wrote)
+    told_cut g.A.Answers.may_answer (g.W.Write.contents c.args.writer.now.inner) (g.W.Write.contents c.lines.writer.inner) (g.W.Write.contents c.write_fault.new.writer.inner) c.args.answers.now c.lines.answers c.lines.refused
+    c.in-Err.fault c.write_fault.result c.lines.invariant.told g.met.A.Answers.ends c.in-Err.ensures.fault.0 (c.write_fault.ensures.written wrote)
 
 pub lines-preserved : goal.lines-preserved
 lines-preserved g c =
@@ -36,9 +38,24 @@ lines-preserved g c =
     let taken = subst (TakesLine now next) c.in-Ok-Some.field-0-is c.in-Ok-Some.ensures.taken in
     let on = runs_on g.A.Answers.may_answer first now next before after later c.args.answers.now c.lines.answers c.answer-answer.new.self c.lines.refused _ c.in-Ok-Some.line _
     c.lines.invariant.runs taken c.in-Ok.ensures.bytes c.answer-answer.ensures in
+    let told = told_on g.A.Answers.may_answer before after later c.args.answers.now c.lines.answers c.answer-answer.new.self c.lines.refused _ c.in-Ok-Some.line _
+    c.lines.invariant.told (subst (λ (l : Option (Result (String Global) Fault)). IfSome l IsOfSomeLine) c.in-Ok-Some.field-0-is c.in-Ok-Some.ensures.line) c.in-Ok.ensures.bytes c.answer-answer.ensures in
     record {
       runs = subst (λ (b : Bool). Runs g.A.Answers.may_answer first next before later c.args.answers.now c.answer-answer.new.self (c.lines.refused || b)) (sym c.is_refusal-refused.ensures) on;
-      told = (_, Appends-trans before after later c.lines.invariant.told.0 _ c.lines.invariant.told.1 c.in-Ok.ensures.bytes);
+      told = subst (λ (b : Bool). Told g.A.Answers.may_answer before later c.args.answers.now c.answer-answer.new.self (c.lines.refused || b)) (sym c.is_refusal-refused.ensures) told;
       read = c.in-Ok-Some.ensures.steady ∙ c.lines.invariant.read;
       wrote = c.in-Ok.ensures.steady ∙ c.lines.invariant.wrote;
+    }
+
+pub lines-init : goal.lines-init
+lines-init g c =
+    let first = g.R.Read.remaining c.begin_turns.new.self.inner in
+    let before = g.W.Write.contents c.args.writer.now.inner in
+    let may = g.A.Answers.may_answer in
+    let answers = c.args.answers.now in
+    record {
+      runs = subst (λ (a : List ℕ). Runs may first (untaken a first) before before answers answers false) (sym c.new-ahead.ensures) (runs_first may first before answers);
+      told = told_first may before answers;
+      read = refl;
+      wrote = refl;
     }

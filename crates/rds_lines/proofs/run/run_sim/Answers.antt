@@ -1,6 +1,11 @@
-use Rattle.rds_lines.proofs.Simulating.{sim_written}
+use Rattle.rds_lines.proofs.Simulating.{sim_cut, sim_written}
 use Rattle.rds_lines.proofs.run.run_sim.Goals as goal
 
 pub returns-clause-sim : goal.returns-clause-sim
 returns-clause-sim g c =
     sim_written (g.R.Read.remaining c.args.reader.now.inner) (g.W.Write.contents c.args.writer.now.inner) (g.W.Write.contents c.answer_lines.new.writer.inner) c.new.result.world _ _ _ c.new.ensures c.answer_lines.ensures.answered
+
+pub returns-clause-cut : goal.returns-clause-cut
+returns-clause-cut g c = λ read wrote.
+    let cut = c.answer_lines.ensures.unread read wrote in
+    (sim_cut (g.W.Write.contents c.args.writer.now.inner) (g.W.Write.contents c.answer_lines.new.writer.inner) c.new.result.world c.new.ensures cut.0, cut.1)

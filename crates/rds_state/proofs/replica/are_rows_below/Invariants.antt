@@ -1,5 +1,5 @@
 use Rattle.std.proofs.Common.{◌≡◌, length}
-use Rattle.rds_state.specs.RowsAhead.{rows_below}
+use Rattle.rds_counts.specs.Below.{rows_below}
 use Rattle.rds_state.proofs.replica.are_rows_below.Given as goal
 
 -- what is left decides

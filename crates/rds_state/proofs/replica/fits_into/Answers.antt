@@ -1,7 +1,7 @@
 use Rattle.std.proofs.Common.{◌∙◌, ◌<◌, ap, sym, subst, refl, length}
 use mathlib.Core.Bool.{false≢true}
 use Rattle.rds_life.specs.Life.{seen_of}
-use Rattle.rds_state.specs.RowsAhead.{rows_below}
+use Rattle.rds_counts.specs.Below.{rows_below}
 use Rattle.rds_state.proofs.FitsLemmas.{fits_by, rows_fit, fits_dots}
 use Rattle.rds_state.proofs.replica.fits_into.Goals as goal
 

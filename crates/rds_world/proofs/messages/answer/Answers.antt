@@ -1,10 +1,8 @@
-use Rattle.std.proofs.Common.{rules, arith, ◌≡◌, ◌∙◌, ap, subst, length, ℕ, List, Ok, Err, inl, inr}
+use Rattle.std.proofs.Common.{rules, arith, ◌≡◌, ◌∙◌, ap, subst, length, Ok, Err, inl, inr}
 use Rattle.rds_names.specs.Roster.{RosterValue}
-use Rattle.rds_state.specs.Fits.{Fits}
-use Rattle.rds_state.specs.Value.{coordinates}
 use Rattle.rds_codec.specs.Decoding.{Decodes}
 use Rattle.rds_codec.specs.DigestTexts.{digest_kind}
-use Rattle.rds_world.specs.Replies.{HasNoReply, Lacks, Unread, TooBig}
+use Rattle.rds_world.specs.Replies.{Lacks, Unread, TooBig}
 use Rattle.rds_world.proofs.Sendings.{fault_is}
 use Rattle.rds_world.proofs.messages.answer.Goals as goal
 

@@ -1,6 +1,4 @@
-use Rattle.std.proofs.Common.{◌≡◌, ap, ◌∙◌, length, subst}
-use Rattle.rds_state.specs.Fits.{Fits}
-use Rattle.rds_state.specs.Value.{coordinates}
+use Rattle.std.proofs.Common.{ap, ◌∙◌, length}
 use Rattle.rds_delta.specs.Digested.{digest_of}
 use Rattle.rds_world.proofs.Sendings.{holds_ask}
 use Rattle.rds_world.proofs.messages.ask.Goals as goal

@@ -1,4 +1,4 @@
-use Rattle.std.proofs.Common.{rules, ◌≡◌, [], length, take, take_all, sym, ◌∙◌, subst, refl}
+use Rattle.std.proofs.Common.{length, take, take_all, sym, ◌∙◌, subst, refl}
 use Rattle.rds_world.specs.Simulation.{Reaches}
 use Rattle.rds_world.specs.Law.{world_after}
 use Rattle.rds_world.proofs.Simulated.{reaches_start, reaches_more, stops_here}

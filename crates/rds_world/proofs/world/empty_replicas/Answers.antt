@@ -1,5 +1,4 @@
-use Rattle.std.proofs.Common.{rules, ◌≡◌, ◌∙◌, ◌≤◌, ◌++◌, ◌∷◌, [], arith, ap, subst, sym, length}
-use Rattle.rds_state.specs.Fits.{ReplicaValue}
+use Rattle.std.proofs.Common.{rules, ◌≡◌, subst, sym, length}
 use Rattle.rds_world.specs.Stands.{IsNew, AreNew}
 use Rattle.rds_world.proofs.Openings.{more_new, none_new}
 use Rattle.rds_world.proofs.world.empty_replicas.Goals as goal

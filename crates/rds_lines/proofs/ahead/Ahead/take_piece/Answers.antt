@@ -1,4 +1,4 @@
-use Rattle.std.proofs.Common.{◌≡◌, ◌∙◌, ◌++◌, ap, subst, arith, List, ℕ}
+use Rattle.std.proofs.Common.{◌∙◌, ◌++◌, ap, subst, arith, List, ℕ}
 use Rattle.rds_lines.specs.Ahead.{IsHeld}
 use Rattle.rds_lines.specs.Lines.{after_line, line_of}
 use Rattle.rds_lines.proofs.Pieces.{rest_stands, rest_within_slice}

@@ -1,5 +1,4 @@
-use Rattle.std.proofs.Common.{subst, sym}
-use Rattle.std.proofs.Common.{List, ℕ}
+use Rattle.std.proofs.Common.{subst, sym, List, ℕ}
 use Rattle.std.specs.Str.{IsUtf8}
 use Rattle.rds_names.proofs.Ascii.{name_is_text}
 use Rattle.rds_names.proofs.name.Name.as_str.Goals as goal

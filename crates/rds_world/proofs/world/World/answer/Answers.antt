@@ -1,4 +1,4 @@
-use Rattle.std.proofs.Common.{rules, ◌≡◌, ◌≤◌, ◌<◌, ◌∙◌, ◌++◌, ◌∷◌, [], ℕ, List, ap, refl, sym, subst, arith, length, Some, Err, slice_get, slice_set}
+use Rattle.std.proofs.Common.{rules, ◌≡◌, ◌≤◌, ◌<◌, ◌∙◌, ◌++◌, ◌∷◌, [], ℕ, List, ap, refl, sym, subst, arith, length, Some, Err, slice_get}
 use Rattle.std.proofs.lemmas.Option.{slice_get_read}
 use Rattle.rds_names.specs.declared.fault.Fault.TheVariants.{Memory, NoSuch}
 use Rattle.rds_names.specs.Roster.{RosterValue}
@@ -7,7 +7,7 @@ use Rattle.rds_world.specs.declared.event.Event.TheVariants.{Answer}
 use Rattle.rds_world.specs.declared.event.Done.TheVariants.{Answered}
 use Rattle.rds_world.specs.Replies.{HasNoReply, IsReply}
 use Rattle.rds_world.specs.Steps.{IsStep, IsStopped}
-use Rattle.rds_world.specs.Stored.{AskText, AnswerText, WorldValue}
+use Rattle.rds_world.specs.Stored.{AskText, WorldValue}
 use Rattle.rds_world.proofs.Answered.{answer_absent, answer_done, answer_stopped, answer_unasked, due}
 use Rattle.rds_world.proofs.Performed.{no_memory, stopped_same}
 use Rattle.rds_world.proofs.Sendings.{fault_is}

@@ -1,12 +1,10 @@
-use Rattle.std.proofs.Common.{rules, ◌≡◌, ◌≤◌, ◌<◌, ◌∙◌, ◌++◌, ◌∷◌, [], ap, refl, sym, subst, length, Some, Err, slice_get, slice_set}
+use Rattle.std.proofs.Common.{rules, ◌≡◌, ◌≤◌, ◌<◌, refl, sym, subst, length, Some, Err, slice_get}
 use Rattle.std.proofs.lemmas.Option.{slice_get_read}
 use Rattle.rds_names.specs.declared.fault.Fault.TheVariants.{Memory, NoSuch}
-use Rattle.rds_state.specs.Edit.{JoinsEffect, IsDue}
-use Rattle.rds_world.specs.declared.event.Event.TheVariants.{Edit, Crash, Ask}
-use Rattle.rds_world.specs.declared.event.Done.TheVariants.{Edited, Plain, Asked}
-use Rattle.rds_world.specs.Stands.{IsWorld}
+use Rattle.rds_world.specs.declared.event.Event.TheVariants.{Ask}
+use Rattle.rds_world.specs.declared.event.Done.TheVariants.{Asked}
 use Rattle.rds_world.specs.Steps.{IsStep, IsStopped}
-use Rattle.rds_world.specs.Stored.{AskText, WorldValue}
+use Rattle.rds_world.specs.Stored.{WorldValue}
 use Rattle.rds_world.proofs.Performed.{ask_absent, ask_done, ask_stopped, no_memory, of_roster, stopped_same}
 use Rattle.rds_world.proofs.Sendings.{fault_is}
 use Rattle.rds_world.proofs.world.World.ask.Goals as goal

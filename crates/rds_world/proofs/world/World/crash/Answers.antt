@@ -1,12 +1,11 @@
-use Rattle.std.proofs.Common.{rules, ◌≡◌, ◌≤◌, ◌<◌, ◌∙◌, ◌++◌, ◌∷◌, [], ap, refl, sym, subst, length, Some, Err, slice_get, slice_set}
+use Rattle.std.proofs.Common.{rules, ◌≡◌, ◌≤◌, ◌<◌, ◌∙◌, refl, sym, subst, length, Some, Err, slice_get, slice_set}
 use Rattle.std.proofs.lemmas.Option.{slice_get_read}
 use Rattle.rds_names.specs.declared.fault.Fault.TheVariants.{Memory, NoSuch}
-use Rattle.rds_state.specs.Edit.{JoinsEffect, IsDue}
-use Rattle.rds_world.specs.declared.event.Event.TheVariants.{Edit, Crash, Ask}
-use Rattle.rds_world.specs.declared.event.Done.TheVariants.{Edited, Plain, Asked}
+use Rattle.rds_world.specs.declared.event.Event.TheVariants.{Crash}
+use Rattle.rds_world.specs.declared.event.Done.TheVariants.{Plain}
 use Rattle.rds_world.specs.Stands.{IsWorld}
 use Rattle.rds_world.specs.Steps.{IsStep, IsStopped}
-use Rattle.rds_world.specs.Stored.{AskText, WorldValue}
+use Rattle.rds_world.specs.Stored.{WorldValue}
 use Rattle.rds_world.proofs.Performed.{crash_absent, crash_done, no_memory, of_roster}
 use Rattle.rds_world.proofs.Sendings.{fault_is}
 use Rattle.rds_world.proofs.world.World.crash.Goals as goal

@@ -1,4 +1,4 @@
-use Rattle.std.proofs.Common.{rules, ◌≡◌, ◌≤◌, ◌<◌, ◌∙◌, ap, refl, sym, subst, length, Some, Err, slice_get, slice_set}
+use Rattle.std.proofs.Common.{rules, ◌≡◌, ◌≤◌, ◌<◌, refl, sym, subst, length, Some, Err, slice_get, slice_set}
 use Rattle.std.proofs.lemmas.Option.{slice_get_read}
 use Rattle.rds_names.specs.declared.fault.Fault.TheVariants.{NoSuch}
 use Rattle.rds_world.specs.declared.event.Event.TheVariants.{Save}

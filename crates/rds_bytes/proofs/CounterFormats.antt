@@ -1,0 +1,158 @@
+-- The counters are a format.
+use Rattle.std.proofs.Common.{◌≡◌, ℕ, ◌^◌, ◌<◌, Bool, true, ltb, ◌&&◌, ◌||◌, List, [], ◌∷◌, ◌++◌, length, Ok, Option, Some, None, refl, sym, ap, subst, ◌∙◌, arith}
+use Rattle.std.specs.List.{AllByRecursion}
+use Rattle.std.specs.Int.{w32, w64, to_be_bytes}
+use Rattle.std.proofs.lemmas.Bool.{leb-true, ltb-true, lt-ltb}
+use Rattle.rds_counts.specs.declared.row.CountRow.{CountRow}
+use Rattle.rds_counts.specs.Counted.{Counted, counted, is_row, before_next, rows_fit, AreCountRows}
+use Rattle.rds_counts.specs.CountedLemmas.{fits_rows, rows_fit_of}
+use Rattle.rds_names.specs.Conditions.{and_true, and_left, and_right}
+use Rattle.rds_counts.specs.RowsOf.{count_rows}
+use Rattle.rds_counts.specs.RowsOfLemmas.{count_rows-counted}
+use Rattle.rds_bytes.specs.Values.{is_key_text, IsCountRowOf, AreCountsOf}
+use Rattle.rds_bytes.specs.Spelling.{place_text, count_row_text, count_rows_text, counters_text}
+use Rattle.rds_bytes.specs.Reading as read
+use Rattle.rds_bytes.specs.Reading.{number_at, rows_after, last, comes_after_row, is_next_place, is_count, is_second}
+use Rattle.rds_bytes.proofs.Format.{IsPlain, IsBytes, byte_format, number32, number64, plain_then, plain_pair, made_format, when_format, refit}
+use Rattle.rds_bytes.proofs.Lists.{AllAfter, list_format}
+use Rattle.rds_bytes.proofs.PartFormats.{key_format, last-push}
+use Rattle.rds_bytes.proofs.RowsRead.{list_found}
+
+-- ---- a row
+
+abbrev ArePlaced : ℕ → List CountRow → List ℕ × ℕ → Type 0
+ArePlaced replicas before p = ((is_key_text p.0 ≡ true) × (p.1 < 256)) × (is_next_place replicas before p ≡ true)
+
+place_format : (replicas : ℕ) (before : List CountRow) → IsPlain (read.place_at replicas before) (λ p. place_text p.0 p.1) (ArePlaced replicas before)
+unfolding read.place_at
+place_format replicas before = when_format (is_next_place replicas before) _ _ _ (plain_pair _ _ _ _ _ _ key_format byte_format)
+
+abbrev ArePair : ℕ × ℕ → Type 0
+ArePair x = ((x.0 < 2 ^ 64) × (is_count x.0 ≡ true)) × ((x.1 < 2 ^ 64) × (is_second x.0 x.1 ≡ true))
+
+counts_format : IsPlain read.counts_at (λ x. to_be_bytes w64 x.0 ++ to_be_bytes w64 x.1) ArePair
+unfolding read.counts_at
+counts_format =
+    plain_then _ _ _ (λ p. to_be_bytes w64) _ (λ p n. (n < 2 ^ 64) × (is_second p n ≡ true)) (when_format is_count _ _ _ number64) (λ p fits. when_format (is_second p) _ _ _ number64)
+
+-- it comes next, and its key and replica and numbers are within their limits
+record IsRowAfter (replicas : ℕ) (before : List CountRow) (r : CountRow) : Type 0 where
+  next : is_next_place replicas before (r.key, r.replica) ≡ true
+  key : is_key_text r.key ≡ true
+  is : is_row r ≡ true
+
+abbrev row_parts : CountRow → (List ℕ × ℕ) × (ℕ × ℕ)
+row_parts r = ((r.key, r.replica), (r.p, r.n))
+
+abbrev AreRowParts : ℕ → List CountRow → (List ℕ × ℕ) × (ℕ × ℕ) → Type 0
+AreRowParts replicas before x = ArePlaced replicas before x.0 × ArePair x.1
+
+row_there : (replicas : ℕ) (before : List CountRow) (r : CountRow) → IsRowAfter replicas before r → AreRowParts replicas before (row_parts r) × (r ≡ r)
+row_there replicas before r h =
+    let some = ltb 0 r.p || ltb 0 r.n in
+    let below = ltb-true r.replica 256 (and_right (some && is_count r.p && is_count r.n) _ h.is) in
+    let both = and_left (some && is_count r.p && is_count r.n) _ h.is in
+    let n = and_right (some && is_count r.p) (is_count r.n) both in
+    let front = and_left (some && is_count r.p) (is_count r.n) both in
+    let p = and_right some (is_count r.p) front in
+    let p_most = leb-true r.p 281474976710655 p in
+    let n_most = leb-true r.n 281474976710655 n in
+    ((((h.key, below), h.next), ((omega arith, p), (omega arith, and_true _ _ n (and_left some (is_count r.p) front)))), refl)
+
+row_back : (replicas : ℕ) (before : List CountRow) (x : (List ℕ × ℕ) × (ℕ × ℕ)) → AreRowParts replicas before x → IsRowAfter replicas before (read.count_row_by x) × (x ≡ x)
+row_back replicas before x h =
+    let n = and_left (is_count x.1.1) _ h.1.1.1 in
+    let some = and_right (is_count x.1.1) _ h.1.1.1 in
+    (record { next = h.0.1; key = h.0.0.0; is = and_true _ _ (and_true _ _ (and_true _ _ some h.1.0.1) n) (lt-ltb x.0.1 256 h.0.0.1) }, refl)
+
+row_format : (replicas : ℕ) (before : List CountRow) → IsPlain (read.count_row_at replicas before) count_row_text (IsRowAfter replicas before)
+unfolding read.count_row_at
+row_format replicas before =
+    made_format read.count_row_by row_parts _ _ _ (IsRowAfter replicas before) _ (row_there replicas before) (row_back replicas before)
+    (plain_pair _ _ _ _ _ _ (place_format replicas before) counts_format)
+
+-- ---- rows
+
+-- the first of the rows comes after a row
+abbrev follows : Option CountRow → List CountRow → Bool
+follows after [] = true
+follows after (r ∷ rows) = comes_after_row after r.key r.replica
+
+next_is : (r : CountRow) (rows : List CountRow) → follows (Some r) rows ≡ before_next r rows
+next_is r [] = refl
+next_is r (s ∷ rows) = refl
+
+follows_none : (rows : List CountRow) → follows None rows ≡ true
+follows_none [] = refl
+follows_none (r ∷ rows) = refl
+
+next_pushed : (r : CountRow) (rows before : List CountRow) → follows (last (before ++ r ∷ [])) rows ≡ before_next r rows
+next_pushed r rows before = ap (λ (o : Option CountRow). follows o rows) (last-push before r) ∙ next_is r rows
+
+module _ (replicas : ℕ) where
+  abbrev AreOf : List CountRow → Type 0
+  AreOf rows = AllByRecursion (IsCountRowOf replicas) rows
+
+  abbrev IsNext : List CountRow → CountRow → Type 0
+  IsNext = IsRowAfter replicas
+
+  rows_of : (rows before : List CountRow) → AllAfter IsNext before rows → ((follows (last before) rows ≡ true) × (rows_fit rows ≡ true)) × AreOf rows
+  rows_of [] before h = ((refl, refl), tt)
+  rows_of (r ∷ rows) before h =
+      let again = rows_of rows (before ++ r ∷ []) h.1 in
+      let next : before_next r rows ≡ true = sym (next_pushed r rows before) ∙ again.0.0 in
+      let after = and_left (comes_after_row (last before) r.key r.replica) _ h.0.next in
+      let below = ltb-true r.replica replicas (and_right (comes_after_row (last before) r.key r.replica) _ h.0.next) in
+      ((after, and_true _ _ (and_true _ _ h.0.is next) again.0.1), ((h.0.key, below), again.1))
+
+  of_rows : (rows before : List CountRow) → follows (last before) rows ≡ true → rows_fit rows ≡ true → AreOf rows → AllAfter IsNext before rows
+  of_rows [] before first fit each = tt
+  of_rows (r ∷ rows) before first fit each =
+      let front = and_left (is_row r && before_next r rows) (rows_fit rows) fit in
+      let next : follows (last (before ++ r ∷ [])) rows ≡ true = next_pushed r rows before ∙ and_right (is_row r) _ front in (
+        record { next = and_true _ _ first (lt-ltb r.replica replicas each.0.1); key = each.0.0; is = and_left (is_row r) _ front },
+        of_rows rows (before ++ r ∷ []) next (and_right (is_row r && before_next r rows) _ fit) each.1,
+      )
+
+  abbrev CanCountRows : List CountRow → Type 0
+  CanCountRows rows = length rows < 2 ^ 32
+
+  abbrev AreRead : List CountRow → Type 0
+  AreRead rows = CanCountRows rows × (AreCountRows rows × AreOf rows)
+
+  rows_format : IsPlain (read.count_rows_at replicas) count_rows_text AreRead
+  unfolding read.count_rows_at
+  rows_format =
+      refit _ _ _ AreRead _
+      (λ rows h. (let is = rows_of rows [] h.1 in (h.0, (fits_rows rows is.0.1, is.1))))
+      (λ rows h. (h.0, of_rows rows [] (follows_none rows) (rows_fit_of rows h.1.0) h.1.1))
+      (list_format _ _ _ (row_format replicas) _ _ _ number32)
+
+  -- ---- the counters
+
+  abbrev pub AreCounts : Counted → Type 0
+  AreCounts m = AreCountsOf replicas m × CanCountRows (count_rows m)
+
+  same_rows : (m : Counted) (h : AreCountsOf replicas m) → count_rows m ≡ h.rows
+  same_rows m h = ap count_rows (sym h.value) ∙ count_rows-counted h.rows h.are_rows
+
+  there : (m : Counted) → AreCounts m → AreRead (count_rows m) × (counted (count_rows m) ≡ m)
+  there m h =
+      let same = same_rows m h.0 in
+      ((h.1, (subst AreCountRows (sym same) h.0.are_rows, subst AreOf (sym same) h.0.each_row)), ap counted same ∙ h.0.value)
+
+  back : (rows : List CountRow) → AreRead rows → AreCounts (counted rows) × (count_rows (counted rows) ≡ rows)
+  back rows h =
+      let same = count_rows-counted rows h.1.0 in
+      ((record { rows = rows; are_rows = h.1.0; each_row = h.1.1; value = refl }, subst CanCountRows (sym same) h.0), same)
+
+  pub counters_format : IsPlain (read.counters_at replicas) counters_text AreCounts
+  unfolding read.counters_at counters_text
+  counters_format = made_format counted count_rows _ count_rows_text AreRead AreCounts _ there back rows_format
+
+  -- rows that were read are rows
+  pub count_rows_read : (bytes : List ℕ) (n : ℕ) (middle : List ℕ) (rows : List CountRow) (rest : List ℕ) → IsBytes bytes
+      → number_at w32 bytes ≡ Ok (n, middle) → rows_after (read.count_row_at replicas) [] n middle ≡ Ok (rows, rest) → AreCountRows rows
+  unfolding read.count_rows_at
+  count_rows_read bytes n middle rows rest fits p q =
+      (rows_format.takes bytes (rows, rest) fits (list_found (number_at w32) (read.count_row_at replicas) bytes n middle rows rest p q)).1.1.0

@@ -1,0 +1,234 @@
+-- The entries of a snapshot are formats.
+use Rattle.std.proofs.Common.{◌≡◌, ℕ, ◌^◌, ◌<◌, ◌≤◌, ◌⊎◌, inl, inr, Bool, true, false, cond, eqb, leb, ◌||◌, List, [], ◌∷◌, ◌++◌, length, Result, Ok, Err, Option, Some, None, ℤ, refl, sym, ap, subst, ◌∙◌, arith, rules}
+use Rattle.std.specs.Prelude.{FitsSigned}
+use Rattle.std.specs.List.{list_all}
+use Rattle.std.specs.Str.{is_utf8}
+use Rattle.std.specs.Int.{w64, to_be_bytes, cast_signed, cast_unsigned}
+use Rattle.std.proofs.lemmas.Bool.{eqb-true, leb-true, le-leb}
+use Rattle.std.proofs.lemmas.Int.{to_z-of_z, of_z-to_z}
+use Rattle.rds_names.specs.declared.fault.Fault.{Fault}
+use Rattle.rds_names.specs.declared.fault.Fault.TheVariants.{Bad, TooManyDots}
+use Rattle.rds_names.specs.declared.entry.Entry.{Entry}
+use Rattle.rds_names.specs.declared.entry.Kind.{Kind}
+use Rattle.rds_names.specs.declared.entry.Kind.TheVariants.{Reg, Elem}
+use Rattle.rds_names.specs.declared.scalar.Scalar.{Scalar}
+use Rattle.rds_names.specs.declared.scalar.Scalar.TheVariants.{Null, Bool as Truth, Int, Text}
+use Rattle.rds_names.specs.Conditions.{and_true, and_left, and_right}
+use Rattle.rds_bytes.specs.Entries.{Parts, parts_of, entry_where, entry_of}
+use Rattle.rds_bytes.specs.Spelling.{byte_text, kind_byte, text_text, scalar_text, path_text, entry_text}
+use Rattle.rds_bytes.specs.Reading as read
+use Rattle.rds_bytes.specs.Reading.{byte_at, made_at, when_at, pair_at, is_between, tagged_at, int_scalar, text_scalar}
+use Rattle.rds_bytes.specs.Values.{is_key_text, IsScalar, IsEntry}
+use Rattle.rds_bytes.proofs.Format.{IsPlain, IsBytes, Takes, Takes-then, CutOrBad, Never, bind_ok, bind_err, chosen, err_is, ok_is, done, failed, byte_format, number16, number64, plain_pair, made_format, drawn_format, when_format, refit}
+use Rattle.rds_bytes.proofs.Lists.{AllAfter, list_format, string_format}
+use Rattle.rds_bytes.proofs.PartFormats.{key_format}
+use Rattle.rds_bytes.proofs.EntryParts.{entry_of_parts}
+
+-- ---- kinds
+
+kind_there : (k : Kind) → Unit {0} → ((kind_byte k < 256) × (read.is_kind (kind_byte k) ≡ true)) × (read.kind_by (kind_byte k) ≡ k)
+kind_there Reg h = ((omega arith, refl), refl)
+kind_there Elem h = ((omega arith, refl), refl)
+
+kind_by : (b : ℕ) (one two : Bool) → eqb b 1 ≡ one → eqb b 2 ≡ two → (one ≡ true) ⊎ (two ≡ true) → kind_byte (cond one Reg Elem) ≡ b
+kind_by b true two e1 e2 h = sym (eqb-true b 1 e1)
+kind_by b false true e1 e2 h = sym (eqb-true b 2 e2)
+kind_by b false false e1 e2 h = elim h [ inl x ↦ absurd cc | inr x ↦ absurd cc ]
+
+or_true : (a b : Bool) → (a || b) ≡ true → (a ≡ true) ⊎ (b ≡ true)
+or_true true b h = inl refl
+or_true false b h = inr h
+
+kind_back : (b : ℕ) → (b < 256) × (read.is_kind b ≡ true) → Unit {0} × (kind_byte (read.kind_by b) ≡ b)
+kind_back b h = (tt, kind_by b (eqb b 1) (eqb b 2) refl refl (or_true (eqb b 1) (eqb b 2) h.1))
+
+kind_format : IsPlain read.kind_at (λ k. byte_text (kind_byte k)) (λ _. Unit {0})
+unfolding read.kind_at
+kind_format = made_format read.kind_by kind_byte _ _ _ _ _ kind_there kind_back (when_format read.is_kind _ _ _ byte_format)
+
+-- ---- numbers and texts
+
+int_there : (z : ℤ) → FitsSigned w64 z → (cast_unsigned w64 z < 2 ^ 64) × (cast_signed w64 (cast_unsigned w64 z) ≡ z)
+int_there z h = (search rules, to_z-of_z w64 z h)
+
+int_back : (n : ℕ) → n < 2 ^ 64 → FitsSigned w64 (cast_signed w64 n) × (cast_unsigned w64 (cast_signed w64 n) ≡ n)
+int_back n h = (search rules, of_z-to_z w64 n h)
+
+abbrev int_text : ℤ → List ℕ
+int_text z = to_be_bytes w64 (cast_unsigned w64 z)
+
+int_format : IsPlain read.int_at int_text (FitsSigned w64)
+unfolding read.int_at
+int_format = made_format (cast_signed w64) (cast_unsigned w64) _ _ _ _ _ int_there int_back number64
+
+abbrev IsText : List ℕ → Type 0
+IsText t = (length t ≤ 1024) × (is_utf8 t ≡ true)
+
+text_format : IsPlain (when_at (λ t. leb (length t) 1024) read.text_at) text_text IsText
+unfolding read.text_at
+text_format =
+    refit _ _ _ IsText _
+    (λ t h. (leb-true (length t) 1024 h.1, h.0.1))
+    (λ t h. (let le = h.0 in (((omega arith, and_true _ _ (le-leb 0 (length t) (omega arith)) (le-leb (length t) 1024 le)), h.1), le-leb (length t) 1024 le)))
+    (when_format (λ t. leb (length t) 1024) _ _ _ (when_format is_utf8 _ _ _ (string_format _ _ _ (when_format (is_between 0 1024) _ _ _ number16))))
+
+-- ---- scalars: a tag, and what follows it
+
+abbrev Spelled : List ℕ → Scalar × List ℕ → Type 0
+Spelled bytes x = Takes bytes (scalar_text x.0) x.1 × IsScalar x.0
+
+after_tag : (bytes rest : List ℕ) (t : ℕ) (text after : List ℕ) → Takes bytes (t ∷ []) rest → Takes rest text after → Takes bytes (t ∷ text) after
+after_tag bytes rest t text after p q = Takes-then bytes (t ∷ []) rest text after p q
+
+abbrev from_four : ℕ → List ℕ → Result (Scalar × List ℕ) Fault
+from_four t rest = cond (eqb t 4) (read.text_scalar_at rest) (Err Bad)
+
+abbrev from_three : ℕ → List ℕ → Result (Scalar × List ℕ) Fault
+from_three t rest = cond (eqb t 3) (made_at int_scalar read.int_at rest) (from_four t rest)
+
+abbrev from_two : ℕ → List ℕ → Result (Scalar × List ℕ) Fault
+from_two t rest = cond (eqb t 2) (Ok (Truth true, rest)) (from_three t rest)
+
+abbrev from_one : ℕ → List ℕ → Result (Scalar × List ℕ) Fault
+from_one t rest = cond (eqb t 1) (Ok (Truth false, rest)) (from_two t rest)
+
+-- a tag that stands for the whole scalar
+plain : (bytes rest : List ℕ) (t k : ℕ) (v : Scalar) (x : Scalar × List ℕ) → Takes bytes (t ∷ []) rest → eqb t k ≡ true → scalar_text v ≡ k ∷ [] → IsScalar v → done (v, rest) ≡ Ok x → Spelled bytes x
+plain bytes rest t k v x p e text fits is =
+    let t-is : t ≡ k = eqb-true t k e in
+    subst (Spelled bytes) (ok_is (v, rest) x is) (rw text (subst (λ (n : ℕ). Takes bytes (n ∷ []) rest) t-is p), fits)
+
+int_takes : (bytes rest : List ℕ) (t : ℕ) (x : Scalar × List ℕ) → Takes bytes (t ∷ []) rest → eqb t 3 ≡ true → made_at int_scalar read.int_at rest ≡ Ok x → Spelled bytes x
+int_takes bytes rest t x p e is =
+    let a = bind_ok (read.int_at rest) (λ z. Ok (int_scalar z.0, z.1)) x is in
+    let got = int_format.takes rest a.0 p.rest_fits a.1 in
+    let tag : Takes bytes (3 ∷ []) rest = subst (λ (n : ℕ). Takes bytes (n ∷ []) rest) (eqb-true t 3 e) p in
+    subst (Spelled bytes) (ok_is (int_scalar a.0.0, a.0.1) x a.2) (after_tag bytes rest 3 _ a.0.1 tag got.0, got.1)
+
+text_takes : (bytes rest : List ℕ) (t : ℕ) (x : Scalar × List ℕ) → Takes bytes (t ∷ []) rest → eqb t 4 ≡ true → read.text_scalar_at rest ≡ Ok x → Spelled bytes x
+unfolding read.text_scalar_at
+text_takes bytes rest t x p e is =
+    let a = bind_ok (when_at (λ t. leb (length t) 1024) read.text_at rest) (λ z. Ok (text_scalar z.0, z.1)) x is in
+    let got = text_format.takes rest a.0 p.rest_fits a.1 in
+    let tag : Takes bytes (4 ∷ []) rest = subst (λ (n : ℕ). Takes bytes (n ∷ []) rest) (eqb-true t 4 e) p in
+    subst (Spelled bytes) (ok_is (text_scalar a.0.0, a.0.1) x a.2) (after_tag bytes rest 4 _ a.0.1 tag got.0, got.1)
+
+scalar_takes : (bytes : List ℕ) (x : Scalar × List ℕ) → IsBytes bytes → read.scalar_at bytes ≡ Ok x → Spelled bytes x
+unfolding read.scalar_at
+scalar_takes bytes x fits e =
+    let a = bind_ok (byte_at bytes) (λ t. tagged_at t.0 t.1) x e in
+    let t = a.0.0 in
+    let rest = a.0.1 in
+    let tag = (byte_format.takes bytes a.0 fits a.1).0 in
+    elim (chosen (eqb t 0) (Ok (Null, rest)) (from_one t rest) (Ok x) a.2) [
+      | inl h ↦ plain bytes rest t 0 Null x tag h.0 refl tt h.1
+      | inr n0 ↦ elim (chosen (eqb t 1) (Ok (Truth false, rest)) (from_two t rest) (Ok x) n0.1) [
+        | inl h ↦ plain bytes rest t 1 (Truth false) x tag h.0 refl tt h.1
+        | inr n1 ↦ elim (chosen (eqb t 2) (Ok (Truth true, rest)) (from_three t rest) (Ok x) n1.1) [
+          | inl h ↦ plain bytes rest t 2 (Truth true) x tag h.0 refl tt h.1
+          | inr n2 ↦ elim (chosen (eqb t 3) (made_at int_scalar read.int_at rest) (from_four t rest) (Ok x) n2.1) [
+            | inl h ↦ int_takes bytes rest t x tag h.0 h.1
+            | inr n3 ↦ elim (chosen (eqb t 4) (read.text_scalar_at rest) (Err Bad) (Ok x) n3.1) [
+              | inl h ↦ text_takes bytes rest t x tag h.0 h.1
+              | inr n4 ↦ absurd (let bad : failed Bad ≡ Ok x = n4.1 in cc)
+            ]
+          ]
+        ]
+      ]
+    ]
+
+scalar_again : (v : Scalar) (rest : List ℕ) → IsScalar v → read.scalar_at (scalar_text v ++ rest) ≡ Ok (v, rest)
+unfolding read.scalar_at read.text_scalar_at
+scalar_again Null rest fits = refl
+scalar_again (Truth false) rest fits = refl
+scalar_again (Truth true) rest fits = refl
+scalar_again (Int z) rest fits = rw (int_format.again z rest fits) refl
+scalar_again (Text t) rest fits = let e = text_format.again t rest fits in ap (λ r. read.◌>>=◌ r (λ z. Ok (text_scalar z.0, z.1))) e
+
+scalar_faults : (bytes : List ℕ) (e : Fault) → IsBytes bytes → read.scalar_at bytes ≡ Err e → CutOrBad e ⊎ ((e ≡ TooManyDots) × Never bytes)
+unfolding read.scalar_at read.text_scalar_at
+scalar_faults bytes e fits h =
+    elim (bind_err (byte_at bytes) (λ t. tagged_at t.0 t.1) e h) [
+      | inl first ↦ byte_format.faults bytes e fits first
+      | inr a ↦
+          let t = a.0.0 in
+          let rest = a.0.1 in
+          let rest_fits = (byte_format.takes bytes a.0 fits a.1).0.rest_fits in
+          elim (chosen (eqb t 0) (Ok (Null, rest)) (from_one t rest) (Err e) a.2) [
+            | inl h0 ↦ absurd (let bad : done (Null, rest) ≡ Err e = h0.1 in cc)
+            | inr n0 ↦ elim (chosen (eqb t 1) (Ok (Truth false, rest)) (from_two t rest) (Err e) n0.1) [
+              | inl h1 ↦ absurd (let bad : done (Truth false, rest) ≡ Err e = h1.1 in cc)
+              | inr n1 ↦ elim (chosen (eqb t 2) (Ok (Truth true, rest)) (from_three t rest) (Err e) n1.1) [
+                | inl h2 ↦ absurd (let bad : done (Truth true, rest) ≡ Err e = h2.1 in cc)
+                | inr n2 ↦ elim (chosen (eqb t 3) (made_at int_scalar read.int_at rest) (from_four t rest) (Err e) n2.1) [
+                  | inl h3 ↦ elim (bind_err (read.int_at rest) (λ z. Ok (int_scalar z.0, z.1)) e h3.1) [
+                    | inl f ↦ elim (int_format.faults rest e rest_fits f) [ inl x ↦ inl x | inr y ↦ absurd y.1 ]
+                    | inr z ↦ absurd (let bad : done (int_scalar z.0.0, z.0.1) ≡ Err e = z.2 in cc)
+                  ]
+                  | inr n3 ↦ elim (chosen (eqb t 4) (read.text_scalar_at rest) (Err Bad) (Err e) n3.1) [
+                    | inl h4 ↦ elim (bind_err (when_at (λ t. leb (length t) 1024) read.text_at rest) (λ z. Ok (text_scalar z.0, z.1)) e h4.1) [
+                      | inl f ↦ elim (text_format.faults rest e rest_fits f) [ inl x ↦ inl x | inr y ↦ absurd y.1 ]
+                      | inr z ↦ absurd (let bad : done (text_scalar z.0.0, z.0.1) ≡ Err e = z.2 in cc)
+                    ]
+                    | inr n4 ↦ inl (inr (sym (err_is {A = Scalar × List ℕ} Bad e n4.1)))
+                  ]
+                ]
+              ]
+            ]
+          ]
+    ]
+
+scalar_format : IsPlain read.scalar_at scalar_text IsScalar
+scalar_format = record { takes = scalar_takes; again = scalar_again; large = λ bytes h. absurd h; faults = scalar_faults }
+
+-- ---- paths and entries
+
+abbrev IsKeyAfter : List (List ℕ) → List ℕ → Type 0
+IsKeyAfter before t = is_key_text t ≡ true
+
+all_keys : (keys before : List (List ℕ)) → AllAfter IsKeyAfter before keys → list_all is_key_text keys ≡ true
+all_keys [] before h = refl
+all_keys (k ∷ keys) before h = and_true (is_key_text k) _ h.0 (all_keys keys (before ++ k ∷ []) h.1)
+
+keys_all : (keys before : List (List ℕ)) → list_all is_key_text keys ≡ true → AllAfter IsKeyAfter before keys
+keys_all [] before h = tt
+keys_all (k ∷ keys) before h = (and_left (is_key_text k) _ h, keys_all keys (before ++ k ∷ []) (and_right (is_key_text k) _ h))
+
+abbrev IsPath : List (List ℕ) → Type 0
+IsPath keys = (is_between 1 8 (length keys) ≡ true) × (list_all is_key_text keys ≡ true)
+
+path_format : IsPlain read.path_at path_text IsPath
+unfolding read.path_at
+path_format =
+    refit _ _ _ IsPath _
+    (λ keys h. (h.0.0.1, all_keys keys [] h.0.1))
+    (λ keys h. (let few = and_right (leb 1 (length keys)) _ h.0 in let le = leb-true (length keys) 8 few in (((omega arith, h.0), keys_all keys [] h.1), few)))
+    (when_format (λ keys. leb (length keys) 8) _ _ _ (list_format _ _ IsKeyAfter (λ _. key_format) _ _ _ (when_format (is_between 1 8) _ _ _ byte_format)))
+
+abbrev AreParts : Parts → Type 0
+AreParts p = IsPath p.0 × (Unit {0} × IsScalar p.1.1)
+
+entry_there : (e : Entry) → IsEntry e → AreParts (parts_of e) × (entry_of (parts_of e) ≡ Some e)
+entry_there e is = (((and_true _ _ (le-leb 1 (length e.path) e.below_root) (le-leb (length e.path) 8 e.within), is.0), (tt, is.1)), entry_of_parts e)
+
+parts_where : (p : Parts) (some few : Bool) (a : leb 1 (length p.0) ≡ some) (b : leb (length p.0) 8 ≡ few) (e : Entry) → entry_where p some few a b ≡ Some e → parts_of e ≡ p
+parts_where p true true a b e is =
+    let made : Entry = record { path = p.0; kind = p.1.0; value = p.1.1; below_root = leb-true 1 (length p.0) a; within = leb-true (length p.0) 8 b } in
+    let some : ◌≡◌ {A = Option Entry} (Some made) (Some e) = is in
+    let same : made ≡ e = ap (λ (o : Option Entry). or_made made o) some in
+    ap parts_of (sym same)
+  where
+    or_made : Entry → Option Entry → Entry
+    or_made m None = m
+    or_made m (Some x) = x
+parts_where p true false a b e is = absurd cc
+parts_where p false few a b e is = absurd cc
+
+entry_back : (p : Parts) (e : Entry) → AreParts p → entry_of p ≡ Some e → IsEntry e × (parts_of e ≡ p)
+entry_back p e h is =
+    let same = parts_where p _ _ refl refl e is in
+    ((ap (λ (q : Parts). list_all is_key_text q.0) same ∙ h.0.1, subst (λ (q : Parts). IsScalar q.1.1) (sym same) h.1.1), same)
+
+pub entry_format : IsPlain read.entry_at entry_text IsEntry
+unfolding read.entry_at
+entry_format = drawn_format entry_of parts_of _ _ _ IsEntry entry_there entry_back (plain_pair _ _ _ _ _ _ path_format (plain_pair _ _ _ _ _ _ kind_format scalar_format))

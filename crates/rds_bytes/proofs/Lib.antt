@@ -1,0 +1,20 @@
+mod Adding
+pub mod CounterFormats
+pub mod DotFormats
+mod EntryFormats
+mod EntryParts
+pub mod Format
+mod HaveTexts
+pub mod LargeParts
+pub mod Lengths
+pub mod Lists
+pub mod LiveFormats
+mod Loops
+pub mod PartFormats
+mod RowAlgebra
+mod RowLoops
+mod RowSets
+mod RowsLive
+mod RowsRead
+mod RunSteps
+pub mod Sequences

@@ -1,0 +1,95 @@
+-- The rows of live dots are a format.
+use Rattle.std.proofs.Common.{◌≡◌, ℕ, ◌^◌, ◌<◌, Bool, true, leb, ◌&&◌, List, [], ◌∷◌, ◌++◌, length, Option, Some, None, refl, sym, ap, ◌∙◌, arith}
+use Rattle.std.specs.List.{AllByRecursion}
+use Rattle.std.specs.FinSet as set
+use Rattle.std.proofs.lemmas.Bool.Decides.{nat_tests}
+use Rattle.rds_names.specs.declared.entry.Entry.{Entry}
+use Rattle.rds_dots.specs.declared.dot.Dot.{Dot}
+use Rattle.rds_dots.specs.Dots.{Dots, is_dot, comes_after}
+use Rattle.rds_names.specs.Conditions.{and_true, and_left, and_right}
+use Rattle.rds_life.specs.Fits.{fits, before_next}
+use Rattle.rds_life.specs.Life.{AreRows}
+use Rattle.rds_life.proofs.LivedLemmas.{fits_rows, rows_fit}
+use Rattle.rds_bytes.specs.Values.{IsEntry, IsLiveRow}
+use Rattle.rds_bytes.specs.Spelling.{dot_text, live_row_text, live_rows_text}
+use Rattle.rds_bytes.specs.Reading as read
+use Rattle.rds_bytes.specs.Reading.{byte_at, number_at, pair_at, when_at, last, dot_of_row, is_next_dot}
+use Rattle.rds_bytes.proofs.Format.{IsPlain, byte_format, number32, number64, plain_pair, made_format, when_format, refit}
+use Rattle.rds_bytes.proofs.Lists.{AllAfter, list_format}
+use Rattle.rds_bytes.proofs.PartFormats.{last-push}
+use Rattle.rds_bytes.proofs.EntryFormats.{entry_format}
+
+abbrev AreNumbers : Dot → Type 0
+AreNumbers d = (d.replica < 256) × (d.seq < 2 ^ 64)
+
+dot_bounds : (a s : ℕ) → (leb a 255 && leb 1 s && leb s 281474976710655) ≡ true → (a < 256) × (s < 2 ^ 64)
+dot_bounds a s h = (small a s h, most a s h)
+  where
+    small : (a s : ℕ) → (leb a 255 && leb 1 s && leb s 281474976710655) ≡ true → a < 256
+    small a s h = grind (arith, nat_tests)
+
+    most : (a s : ℕ) → (leb a 255 && leb 1 s && leb s 281474976710655) ≡ true → s < 2 ^ 64
+    most a s h = grind (arith, nat_tests)
+
+-- each dot of the set is one
+abbrev pub AreOnlyDots : Dots → Type 0
+AreOnlyDots s = (d : Dot) → set.contains s d ≡ true → is_dot d ≡ true
+
+dot_format : (s : Dots) → AreOnlyDots s → (before : List (Dot × Entry)) → IsPlain (read.dot_at s before) dot_text (λ d. is_next_dot s before d ≡ true)
+unfolding read.dot_at
+dot_format s dots before =
+    refit _ _ _ (λ d. is_next_dot s before d ≡ true) _ (λ d h. h.1) (λ d h. (dot_bounds d.replica d.seq (dots d (and_right (comes_after (dot_of_row (last before)) d) _ h)), h))
+    (when_format (is_next_dot s before) _ _ _ (made_format read.dot_by (λ d. (d.replica, d.seq)) _ _ _ AreNumbers _ (λ d h. (h, refl)) (λ p h. (h, refl)) (plain_pair _ _ _ _ _ _ byte_format number64)))
+
+abbrev IsRowAfter : Dots → List (Dot × Entry) → Dot × Entry → Type 0
+IsRowAfter s before row = (is_next_dot s before row.0 ≡ true) × IsEntry row.1
+
+row_format : (s : Dots) → AreOnlyDots s → (before : List (Dot × Entry)) → IsPlain (read.live_row_at s before) live_row_text (IsRowAfter s before)
+unfolding read.live_row_at
+row_format s dots before = plain_pair _ _ _ _ _ _ (dot_format s dots before) entry_format
+
+-- the first of the rows comes after a dot
+abbrev follows : Option Dot → List (Dot × Entry) → Bool
+follows after [] = true
+follows after (row ∷ rows) = comes_after after row.0
+
+next_is : (d : Dot) (rows : List (Dot × Entry)) → follows (Some d) rows ≡ before_next d rows
+next_is d [] = refl
+next_is d (row ∷ rows) = refl
+
+abbrev pub AreLive : Dots → List (Dot × Entry) → Type 0
+AreLive s rows = AreRows s rows × AllByRecursion IsLiveRow rows
+
+rows_of : (s : Dots) (rows before : List (Dot × Entry)) → AllAfter (IsRowAfter s) before rows → ((follows (dot_of_row (last before)) rows ≡ true) × (fits (set.contains s) rows ≡ true)) × AllByRecursion IsLiveRow rows
+rows_of s [] before h = ((refl, refl), tt)
+rows_of s (row ∷ rows) before h =
+    let again = rows_of s rows (before ++ row ∷ []) h.1 in
+    let d = row.0 in
+    let next : before_next d rows ≡ true = sym (next_is d rows) ∙ ap (λ (o : Option (Dot × Entry)). follows (dot_of_row o) rows) (sym (last-push before row)) ∙ again.0.0 in
+    let after = and_left (comes_after (dot_of_row (last before)) d) _ h.0.0 in
+    let seen = and_right (comes_after (dot_of_row (last before)) d) _ h.0.0 in
+    ((after, and_true _ _ (and_true _ _ seen next) again.0.1), (h.0.1, again.1))
+
+of_rows : (s : Dots) (rows before : List (Dot × Entry)) → follows (dot_of_row (last before)) rows ≡ true → fits (set.contains s) rows ≡ true → AllByRecursion IsLiveRow rows → AllAfter (IsRowAfter s) before rows
+of_rows s [] before first fit each = tt
+of_rows s (row ∷ rows) before first fit each =
+    let d = row.0 in
+    let front = and_left (set.contains s d && before_next d rows) (fits (set.contains s) rows) fit in
+    let next : follows (dot_of_row (last (before ++ row ∷ []))) rows ≡ true =
+    ap (λ (o : Option (Dot × Entry)). follows (dot_of_row o) rows) (last-push before row) ∙ next_is d rows ∙ and_right (set.contains s d) _ front in
+    ((and_true _ _ first (and_left (set.contains s d) _ front), each.0), of_rows s rows (before ++ row ∷ []) next (and_right (set.contains s d && before_next d rows) _ fit) each.1)
+
+follows_none : (rows : List (Dot × Entry)) → follows None rows ≡ true
+follows_none [] = refl
+follows_none (row ∷ rows) = refl
+
+abbrev pub CanCountRows : List (Dot × Entry) → Type 0
+CanCountRows rows = length rows < 2 ^ 32
+
+pub live_format : (s : Dots) → AreOnlyDots s → IsPlain (read.live_rows_at s) live_rows_text (λ rows. CanCountRows rows × AreLive s rows)
+unfolding read.live_rows_at
+live_format s dots =
+    refit _ _ _ (λ rows. CanCountRows rows × AreLive s rows) _
+    (λ rows h. (let is = rows_of s rows [] h.1 in (h.0, (fits_rows s rows is.0.1, is.1))))
+    (λ rows h. (h.0, of_rows s rows [] (follows_none rows) (rows_fit s rows h.1.0) h.1.1))
+    (list_format _ _ _ (row_format s dots) _ _ _ number32)

@@ -1,0 +1,301 @@
+-- Walking the maximal runs of a set, one after the other.
+use Rattle.std.proofs.Common.{◌≡◌, ℕ, ◌+◌, ◌-◌, ◌*◌, ◌<◌, ◌≤◌, ◌≢◌, ◌^◌, true, false, cond, ltb, List, [], ◌∷◌, ◌++◌, length, Option, Some, None, refl, sym, ap, subst, ◌∙◌, arith, inl, inr, append_assoc, length-append}
+use Rattle.std.specs.List.{flat_map}
+use Rattle.std.specs.Ordering.{is_lt, nat_cmp, ordering_then}
+use Rattle.std.proofs.lemmas.Bool.Decides.{nat_tests, eqb_tells}
+use Rattle.std.proofs.lemmas.List.{append-nil}
+use Rattle.std.proofs.lemmas.List.Concat.{flat_map-cons}
+use Rattle.std.proofs.lemmas.Grind.{flat_map-append}
+use Rattle.std.specs.FinSet as set
+use Rattle.rds_dots.specs.declared.dot.Dot.{Dot}
+use Rattle.rds_dots.specs.declared.dot.Run.{Run}
+use Rattle.rds_dots.specs.Dots.{Dots, IsRun, is_dot, last_of, comes_after}
+use Rattle.rds_dots.specs.RunFacts.{Bounds, parts_of}
+use Rattle.rds_dots.specs.Runs.{are_maximal, first_after, runs_of}
+use Rattle.rds_dots.specs.RunsAfter.{runs_left}
+use Rattle.rds_dots.specs.RunsOf.{are_runs}
+use Rattle.rds_dots.proofs.RunWalks.{all_left, none_left, one_left}
+use Rattle.rds_bytes.specs.declared.rows.Gap.{Gap}
+use Rattle.rds_bytes.specs.declared.rows.DotRow.{DotRow}
+use Rattle.rds_bytes.specs.DotRows.{gap_before, gaps_in, top_in, rows_from, row_of_run, CanCountAll, next_of, IsNext}
+use Rattle.rds_bytes.specs.Spelling.{gap_text, dot_row_text}
+use Rattle.rds_bytes.proofs.RowAlgebra.{ne_eqb, rows_skip, rows_open, gaps_same, gaps_other, top_same, top_other}
+
+-- what is found is in the list, and passes
+found_bounds : (after : Option Dot) (rs : List Run) → are_maximal rs ≡ true → (r : Run) → first_after after rs ≡ Some r → Bounds r
+found_bounds after [] max r is = absurd (let none : ⊥ = cc in none)
+found_bounds after (t ∷ ts) max r is =
+    let p = parts_of t ts max in
+    elim (comes_after after (last_of t)) as (λ b. cond b (Some t) (first_after after ts) ≡ Some r → Bounds r) [
+      | true ↦ λ e. (let same : t ≡ r = cc in subst Bounds same p.bounds)
+      | false ↦ λ e. found_bounds after ts p.rest r e
+    ] is
+
+found_passes : (after : Option Dot) (rs : List Run) (r : Run) → first_after after rs ≡ Some r → comes_after after (last_of r) ≡ true
+found_passes after [] r is = absurd (let none : ⊥ = cc in none)
+found_passes after (t ∷ ts) r is =
+    elim (comes_after after (last_of t)) as (λ b. comes_after after (last_of t) ≡ b → cond b (Some t) (first_after after ts) ≡ Some r → comes_after after (last_of r) ≡ true) [
+      | true ↦ λ h e. (let same : t ≡ r = cc in ap (λ (x : Run). comes_after after (last_of x)) (sym same) ∙ h)
+      | false ↦ λ h e. found_passes after ts r e
+    ] refl is
+
+higher : (a s b t : ℕ) → b ≡ a → is_lt (ordering_then (nat_cmp a b) (nat_cmp s t)) ≡ true → s < t
+higher a s b t e h = grind (arith, nat_tests)
+
+abbrev pub AreOnlyDots : Dots → Type 0
+AreOnlyDots s = (d : Dot) → set.contains s d ≡ true → is_dot d ≡ true
+
+-- the runs that are left after a dot
+abbrev pub left : Dots → Option Dot → List Run
+left s after = runs_left after (runs_of s)
+
+module _ (s : Dots) (dots : AreOnlyDots s) where
+  maximal : are_maximal (runs_of s) ≡ true
+  maximal = (are_runs s dots).maximal
+
+  pub step : (after : Option Dot) (r : Run) → first_after after (runs_of s) ≡ Some r → left s after ≡ r ∷ left s (Some (last_of r))
+  step after r is = one_left after (runs_of s) maximal r is
+
+  pub stop_at : (after : Option Dot) → first_after after (runs_of s) ≡ None → left s after ≡ []
+  stop_at after is = none_left after (runs_of s) is
+
+  pub is_run : (after : Option Dot) (r : Run) → first_after after (runs_of s) ≡ Some r → IsRun r
+  is_run after r is = let b = found_bounds after (runs_of s) maximal r is in record { from_one = b.one; rises = b.rises; within = b.most }
+
+  pub is_small : (after : Option Dot) (r : Run) → first_after after (runs_of s) ≡ Some r → r.replica < 256
+  is_small after r is = let small = (found_bounds after (runs_of s) maximal r is).small in omega arith
+
+  -- the next run, where it is of the same replica
+  pub follows_some : (q next : Run) → first_after (Some (last_of q)) (runs_of s) ≡ Some next → next.replica ≡ q.replica → IsNext s q next
+  follows_some q next is same = record {
+    is_run = is_run (Some (last_of q)) next is;
+    same = same;
+    higher = higher q.replica q.hi next.replica next.hi same (found_passes (Some (last_of q)) (runs_of s) next is);
+    left = step (Some (last_of q)) next is;
+  }
+
+  pub follows_other : (q next : Run) → first_after (Some (last_of q)) (runs_of s) ≡ Some next → next.replica ≢ q.replica → next_of q.replica (left s (Some (last_of q))) ≡ None
+  follows_other q next is other =
+      let out = ne_eqb next.replica q.replica other in
+      ap (next_of q.replica) (step (Some (last_of q)) next is) ∙ ap (λ b. cond b (Some next) None) out
+
+  pub follows_none : (q : Run) → first_after (Some (last_of q)) (runs_of s) ≡ None → next_of q.replica (left s (Some (last_of q))) ≡ None
+  follows_none q is = ap (next_of q.replica) (stop_at (Some (last_of q)) is)
+
+-- where no run of the replica comes next, its row is at its end
+no_gaps : (ρ : ℕ) (rs : List Run) → next_of ρ rs ≡ None → (least : ℕ) → gaps_in ρ least rs ≡ []
+no_gaps ρ [] none least = refl
+no_gaps ρ (r ∷ rs) none least = elim (eqb_tells r.replica ρ) [
+  | inl e ↦ absurd (let bad : ◌≡◌ {A = Option Run} (Some r) None = sym (ap (λ b. cond b (Some r) None) e.0) ∙ none in cc)
+  | inr ne ↦ gaps_other ρ least r rs ne.1
+]
+
+no_top : (ρ : ℕ) (rs : List Run) → next_of ρ rs ≡ None → (top : ℕ) → top_in ρ top rs ≡ top
+no_top ρ [] none top = refl
+no_top ρ (r ∷ rs) none top = elim (eqb_tells r.replica ρ) [
+  | inl e ↦ absurd (let bad : ◌≡◌ {A = Option Run} (Some r) None = sym (ap (λ b. cond b (Some r) None) e.0) ∙ none in cc)
+  | inr ne ↦ top_other ρ top r rs ne.1
+]
+
+before-some : (least lo : ℕ) (gs : List Gap) → gap_before least lo gs ≡ gap_before least lo [] ++ gs
+before-some least lo gs = elim (ltb least lo) as (λ b. let g : Gap = record { lo = least; hi = lo - 1 } in cond b (g ∷ gs) gs ≡ cond b (g ∷ []) [] ++ gs) [ true ↦ refl | false ↦ refl ]
+
+-- what is left of a row from a run on
+abbrev pub rest_of : Dots → ℕ → ℕ → Run → List Gap
+rest_of s ρ least r = gaps_in ρ least (r ∷ left s (Some (last_of r)))
+
+rest_is : (s : Dots) (ρ least : ℕ) (r : Run) → r.replica ≡ ρ → rest_of s ρ least r ≡ gap_before least r.lo [] ++ gaps_in ρ (r.hi + 1) (left s (Some (last_of r)))
+rest_is s ρ least r e = gaps_same ρ least r (left s (Some (last_of r))) e ∙ before-some least r.lo (gaps_in ρ (r.hi + 1) (left s (Some (last_of r))))
+
+-- ---- counting the gaps of a row
+
+pub record IsCountingGaps (s : Dots) (first run : Run) (least gaps : ℕ) : Type 0 where
+  pub run_is : IsRun run
+  pub same : run.replica ≡ first.replica
+  pub low : gaps < least
+  pub most : least ≤ run.hi
+  pub counted : gaps + length (rest_of s first.replica least run) ≡ length (row_of_run s first).gaps
+  pub top : top_in first.replica run.hi (left s (Some (last_of run))) ≡ (row_of_run s first).top
+
+pub gaps_begin : (s : Dots) (first : Run) → IsRun first → IsCountingGaps s first first 1 0
+gaps_begin s first is =
+    let one = is.from_one in
+    let rises = is.rises in
+    record { run_is = is; same = refl; low = omega arith; most = omega arith; counted = omega arith; top = refl }
+
+module _ (s : Dots) (first run : Run) (least gaps more : ℕ) (i : IsCountingGaps s first run least gaps) (is_more : more ≡ length (gap_before least run.lo [])) (one : more ≤ 1) where
+  now_counted : (gaps + more) + length (gaps_in first.replica (run.hi + 1) (left s (Some (last_of run)))) ≡ length (row_of_run s first).gaps
+  now_counted =
+      let before = gap_before least run.lo [] in
+      let after = gaps_in first.replica (run.hi + 1) (left s (Some (last_of run))) in
+      let e = ap length (rest_is s first.replica least run i.same) ∙ length-append before after in
+      let so_far = i.counted in omega arith
+
+  pub gaps_fit : gaps + more < 2 ^ 48
+  gaps_fit = let low = i.low in let most = i.most in let within = i.run_is.within in omega arith
+
+  pub gaps_go_on : (next : Run) → IsNext s run next → IsCountingGaps s first next (run.hi + 1) (gaps + more)
+  gaps_go_on next n =
+      let low = i.low in
+      let most = i.most in
+      let higher = n.higher in
+      record {
+        run_is = n.is_run;
+        same = n.same ∙ i.same;
+        low = omega arith;
+        most = omega arith;
+        counted = ap (λ (rs : List Run). (gaps + more) + length (gaps_in first.replica (run.hi + 1) rs)) (sym n.left) ∙ now_counted;
+        top = sym (top_same first.replica run.hi next (left s (Some (last_of next))) (n.same ∙ i.same)) ∙ ap (top_in first.replica run.hi) (sym n.left) ∙ i.top;
+      }
+
+  none_of : next_of run.replica (left s (Some (last_of run))) ≡ None → next_of first.replica (left s (Some (last_of run))) ≡ None
+  none_of none = ap (λ n. next_of n (left s (Some (last_of run)))) (sym i.same) ∙ none
+
+  pub gaps_end : next_of run.replica (left s (Some (last_of run))) ≡ None → gaps + more ≡ length (row_of_run s first).gaps
+  gaps_end none =
+      let e = ap length (no_gaps first.replica (left s (Some (last_of run))) (none_of none) (run.hi + 1)) in
+      let so_far = now_counted in omega arith
+
+  pub top_ends : next_of run.replica (left s (Some (last_of run))) ≡ None → run.hi ≡ (row_of_run s first).top
+  top_ends none = sym (no_top first.replica (left s (Some (last_of run))) (none_of none) run.hi) ∙ i.top
+
+-- ---- writing the gaps of a row
+
+pub record IsWritingGaps (s : Dots) (first run : Run) (least : ℕ) (out all : List ℕ) : Type 0 where
+  pub run_is : IsRun run
+  pub same : run.replica ≡ first.replica
+  pub written : out ++ flat_map gap_text (rest_of s first.replica least run) ≡ all
+
+pub writing_begins : (s : Dots) (first : Run) (out : List ℕ) → IsRun first → IsWritingGaps s first first 1 out (out ++ flat_map gap_text (row_of_run s first).gaps)
+writing_begins s first out is = record { run_is = is; same = refl; written = refl }
+
+module _ (s : Dots) (first run : Run) (least : ℕ) (out next_out all : List ℕ) (i : IsWritingGaps s first run least out all) (more : next_out ≡ out ++ flat_map gap_text (gap_before least run.lo [])) where
+  now_written : next_out ++ flat_map gap_text (gaps_in first.replica (run.hi + 1) (left s (Some (last_of run)))) ≡ all
+  now_written =
+      let before = gap_before least run.lo [] in
+      let after = gaps_in first.replica (run.hi + 1) (left s (Some (last_of run))) in
+      ap (λ (t : List ℕ). t ++ flat_map gap_text after) more ∙ append_assoc out (flat_map gap_text before) (flat_map gap_text after)
+      ∙ ap (λ (t : List ℕ). out ++ t) (sym (flat_map-append gap_text before after)) ∙ ap (λ (gs : List Gap). out ++ flat_map gap_text gs) (sym (rest_is s first.replica least run i.same)) ∙ i.written
+
+  pub writing_goes_on : (next : Run) → IsNext s run next → IsWritingGaps s first next (run.hi + 1) next_out all
+  writing_goes_on next n = record {
+    run_is = n.is_run;
+    same = n.same ∙ i.same;
+    written = ap (λ (rs : List Run). next_out ++ flat_map gap_text (gaps_in first.replica (run.hi + 1) rs)) (sym n.left) ∙ now_written;
+  }
+
+  pub writing_ends : next_of run.replica (left s (Some (last_of run))) ≡ None → next_out ≡ all
+  writing_ends none =
+      let ended = no_gaps first.replica (left s (Some (last_of run))) (ap (λ n. next_of n (left s (Some (last_of run)))) (sym i.same) ∙ none) (run.hi + 1) in
+      sym (append-nil next_out) ∙ ap (λ (gs : List Gap). next_out ++ flat_map gap_text gs) (sym ended) ∙ now_written
+
+-- ---- measuring and writing the rows
+
+length-gaps : (gs : List Gap) → length (flat_map gap_text gs) ≡ 16 * length gs
+length-gaps [] = refl
+length-gaps (g ∷ gs) = let e = ap length (flat_map-cons gap_text g gs) ∙ length-append (gap_text g) (flat_map gap_text gs) in let again = length-gaps gs in omega arith
+
+pub row_length : (r : DotRow) → length (dot_row_text r) ≡ 13 + 16 * length r.gaps
+row_length r = let e = length-gaps r.gaps in omega arith
+
+-- the rows that are left from a replica on
+abbrev pub rows_left : Dots → ℕ → Option Dot → List DotRow
+rows_left s least after = rows_from least (left s after)
+
+pub rows_at_none : (s : Dots) → rows_left s 0 None ≡ rows_from 0 (runs_of s)
+rows_at_none s = ap (rows_from 0) (all_left (runs_of s))
+
+module _ (s : Dots) (dots : AreOnlyDots s) (least : ℕ) (after : Option Dot) where
+  pub rows_opened : (r : Run) → first_after after (runs_of s) ≡ Some r → least ≤ r.replica → rows_left s least after ≡ row_of_run s r ∷ rows_left s (r.replica + 1) (Some (last_of r))
+  rows_opened r is le = ap (rows_from least) (step s dots after r is) ∙ rows_open least r (left s (Some (last_of r))) le
+
+  pub rows_skipped : (r : Run) → first_after after (runs_of s) ≡ Some r → r.replica < least → rows_left s least after ≡ rows_left s least (Some (last_of r))
+  rows_skipped r is lt = ap (rows_from least) (step s dots after r is) ∙ rows_skip least r (left s (Some (last_of r))) lt
+
+  pub rows_ended : first_after after (runs_of s) ≡ None → rows_left s least after ≡ []
+  rows_ended is = ap (rows_from least) (stop_at s dots after is)
+
+  pub walked : (r : Run) → first_after after (runs_of s) ≡ Some r → length (left s (Some (last_of r))) < length (left s after)
+  walked r is = let e = ap length (step s dots after r is) in omega arith
+
+pub record IsMeasuring (s : Dots) (least : ℕ) (after : Option Dot) (rows len : ℕ) : Type 0 where
+  pub counted : rows + length (rows_left s least after) ≡ length (rows_from 0 (runs_of s))
+  pub measured : len + length (flat_map dot_row_text (rows_left s least after)) ≡ length (flat_map dot_row_text (rows_from 0 (runs_of s)))
+  pub few : rows ≤ least
+  pub least_small : least ≤ 256
+  pub small : len ≤ 2 ^ 60 * least
+
+pub measuring_is : (s : Dots) (least least' : ℕ) (after : Option Dot) (rows rows' len len' : ℕ) → least ≡ least' → rows ≡ rows' → len ≡ len' → IsMeasuring s least' after rows' len' → IsMeasuring s least after rows len
+measuring_is s least least' after rows rows' len len' p q r i =
+    subst (λ n. IsMeasuring s n after rows len) (sym p) (subst (λ n. IsMeasuring s least' after n len) (sym q) (subst (λ n. IsMeasuring s least' after rows' n) (sym r) i))
+
+pub measuring_begins : (s : Dots) → IsMeasuring s 0 None 0 0
+measuring_begins s =
+    let e = ap length (rows_at_none s) in
+    let f = ap (λ (rows : List DotRow). length (flat_map dot_row_text rows)) (rows_at_none s) in
+    record { counted = omega arith; measured = omega arith; few = omega arith; least_small = omega arith; small = omega arith }
+
+pub measuring_opens : (s : Dots) → AreOnlyDots s → (least : ℕ) (after : Option Dot) (rows len gaps : ℕ) (r : Run) → IsMeasuring s least after rows len → first_after after (runs_of s) ≡ Some r → least ≤ r.replica → r.replica < 256
+    → gaps ≡ length (row_of_run s r).gaps → gaps < 2 ^ 48 → IsMeasuring s (r.replica + 1) (Some (last_of r)) (rows + 1) (len + (13 + 16 * gaps))
+measuring_opens s dots least after rows len gaps r i is le byte e lt =
+    let row = row_of_run s r in
+    let later = rows_left s (r.replica + 1) (Some (last_of r)) in
+    let opened = rows_opened s dots least after r is le in
+    let a = ap length opened in
+    let b = ap (λ (x : List DotRow). length (flat_map dot_row_text x)) opened ∙ ap length (flat_map-cons dot_row_text row later) ∙ length-append (dot_row_text row) (flat_map dot_row_text later) in
+    let c = row_length row in
+    let counted = i.counted in
+    let measured = i.measured in
+    let few = i.few in
+    let small = i.small in
+    record { counted = omega arith; measured = omega arith; few = omega arith; least_small = omega arith; small = omega arith }
+
+pub measuring_skips : (s : Dots) → AreOnlyDots s → (least : ℕ) (after : Option Dot) (rows len : ℕ) (r : Run) → IsMeasuring s least after rows len → first_after after (runs_of s) ≡ Some r → r.replica < least → IsMeasuring s least (Some (last_of r)) rows len
+measuring_skips s dots least after rows len r i is lt =
+    let skipped = rows_skipped s dots least after r is lt in
+    record {
+      counted = ap (λ (x : List DotRow). rows + length x) (sym skipped) ∙ i.counted;
+      measured = ap (λ (x : List DotRow). len + length (flat_map dot_row_text x)) (sym skipped) ∙ i.measured;
+      few = i.few;
+      least_small = i.least_small;
+      small = i.small;
+    }
+
+pub record IsWritingRows (s : Dots) (least : ℕ) (after : Option Dot) (out all : List ℕ) : Type 0 where
+  pub can_count : CanCountAll (rows_left s least after)
+  pub written : out ++ flat_map dot_row_text (rows_left s least after) ≡ all
+
+pub rows_writing_is : (s : Dots) (least least' : ℕ) (after : Option Dot) (out out' all : List ℕ) → least ≡ least' → out ≡ out' → IsWritingRows s least' after out' all → IsWritingRows s least after out all
+rows_writing_is s least least' after out out' all p q i = subst (λ n. IsWritingRows s n after out all) (sym p) (subst (λ (o : List ℕ). IsWritingRows s least' after o all) (sym q) i)
+
+pub rows_writing_begins : (s : Dots) (out : List ℕ) → CanCountAll (rows_from 0 (runs_of s)) → IsWritingRows s 0 None out (out ++ flat_map dot_row_text (rows_from 0 (runs_of s)))
+rows_writing_begins s out can = record {
+  can_count = subst CanCountAll (sym (rows_at_none s)) can;
+  written = ap (λ (x : List DotRow). out ++ flat_map dot_row_text x) (rows_at_none s);
+}
+
+module _ (s : Dots) (dots : AreOnlyDots s) (least : ℕ) (after : Option Dot) (out all : List ℕ) (i : IsWritingRows s least after out all) where
+  pub row_can_count : (r : Run) → first_after after (runs_of s) ≡ Some r → least ≤ r.replica → length (row_of_run s r).gaps < 2 ^ 32
+  row_can_count r is le = (subst CanCountAll (rows_opened s dots least after r is le) i.can_count).0
+
+  pub rows_writing_opens : (r : Run) (next_out : List ℕ) → first_after after (runs_of s) ≡ Some r → least ≤ r.replica → next_out ≡ out ++ dot_row_text (row_of_run s r) → IsWritingRows s (r.replica + 1) (Some (last_of r)) next_out all
+  rows_writing_opens r next_out is le more =
+      let row = row_of_run s r in
+      let later = rows_left s (r.replica + 1) (Some (last_of r)) in
+      let opened = rows_opened s dots least after r is le in
+      record {
+        can_count = (subst CanCountAll opened i.can_count).1;
+        written = ap (λ (t : List ℕ). t ++ flat_map dot_row_text later) more ∙ append_assoc out (dot_row_text row) (flat_map dot_row_text later)
+            ∙ ap (λ (t : List ℕ). out ++ t) (sym (flat_map-cons dot_row_text row later)) ∙ ap (λ (x : List DotRow). out ++ flat_map dot_row_text x) (sym opened) ∙ i.written;
+      }
+
+  pub rows_writing_skips : (r : Run) → first_after after (runs_of s) ≡ Some r → r.replica < least → IsWritingRows s least (Some (last_of r)) out all
+  rows_writing_skips r is lt =
+      let skipped = rows_skipped s dots least after r is lt in
+      record {
+        can_count = subst CanCountAll skipped i.can_count;
+        written = ap (λ (x : List DotRow). out ++ flat_map dot_row_text x) (sym skipped) ∙ i.written;
+      }
+
+  pub rows_writing_ends : first_after after (runs_of s) ≡ None → out ≡ all
+  rows_writing_ends is = sym (append-nil out) ∙ ap (λ (x : List DotRow). out ++ flat_map dot_row_text x) (sym (rows_ended s dots least after is)) ∙ i.written
