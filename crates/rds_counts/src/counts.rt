@@ -117,7 +117,8 @@ impl Counts {
         Ok(())
     }
 
-    /// Takes the greater of each number, which is the join of positive-negative counters.
+    /// Takes the greater of each number, which is the join of positive-negative counters (Shapiro, Preguiça, Baquero,
+    /// Zawirski 2011).
     pub fn merge(&mut self, other: &Counts) -> Result<(), Fault>
         ensures ok { OnOk result ((q : Place) → number self.new q ≡ max (number self.old q) (number other.now q)) }
         ensures memory { IfErr result (λ fault. fault ≡ Memory) }

@@ -22,8 +22,8 @@ use rds_state::State;
 use std::alloc::Global;
 
 /// The least delta of a state against a digest: the state's components that are above the digest's values, and
-/// nothing else. Joined into what was digested, or into what that has become since, it does what the whole state
-/// would do.
+/// nothing else (after Enes, Almeida, Baquero, Leitão 2019). Joined into what was digested, or into what that has become
+/// since, it does what the whole state would do.
 pub fn delta<S: DotSet>(
     alloc: Global,
     state: &State<S>,

@@ -18,7 +18,7 @@ use std::alloc::Global;
 use std::marker::Model;
 
 /// What a replica tells of its state when it asks for what it lacks: the dots that it has seen, those of them that
-/// are live, and its counters. It has no entries.
+/// are live, and its counters. It has no entries. (Digest-driven synchronization: Enes, Almeida, Baquero, Leitão 2019.)
 #[derive(Drop)]
 pub struct Digest<S: DotSet> {
     seen: S,

@@ -14,7 +14,7 @@ use rds_names::Fault;
 use serde_json::Value;
 use std::alloc::Global;
 
-/// What a line asks for, which is an array of JSON: a word, and what belongs to it.
+/// What a line asks for, which is an array of JSON (RFC 8259, Bray 2017): a word, and what belongs to it.
 ///
 /// Refuses `BadLine` first: where the text is no JSON or nests deeper than 127, is no array, has another word, another
 /// number of members, or a member of another kind. Then the members are judged from left to right: `BadName`,

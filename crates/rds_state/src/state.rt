@@ -98,7 +98,8 @@ impl<S: DotSet> State<S> {
         are_same_lives(&self.lives, &other.lives) && self.counts.same(&other.counts)
     }
 
-    /// Joins the other state into this one: each coordinate becomes the later life or the greater number. Refuses a
+    /// Joins the other state into this one (Shapiro, Preguiça, Baquero, Zawirski 2011): each coordinate becomes the later
+    /// life or the greater number. Refuses a
     /// `Conflict`, which names the least dot that is live in both with different entries.
     pub fn merge(&mut self, other: &State<S>) -> Result<(), Fault>
         ensures ok { OnOk result (coordinates self.new ≡ join (coordinates self.old) (coordinates other.now)) }

@@ -4,7 +4,7 @@ ghost use Rattle.std.specs.Prelude.{◌≡◌};
 use rds_names::{Key, Scalar};
 use std::marker::Model;
 
-/// Scalars in ascending order, each once; seen as their list.
+/// Scalars, seen as their list; `view` puts them in ascending order, each once.
 #[derive(Debug, Drop)]
 pub struct Scalars {
     scalars: Vec<Scalar>,
