@@ -44,6 +44,11 @@ abbrev pub Reads : {X Y : Type 0} → (X → Y) → Result X Fault → Result Y 
 Reads view (Ok x) read = read ≡ Ok (view x)
 Reads view (Err e) read = Fails e read
 
+-- The same of a call that takes no memory: what it returned is what reading gives, whatever that is.
+abbrev pub ReadsExactly : {X Y : Type 0} → (X → Y) → Result X Fault → Result Y Fault → Type 0
+ReadsExactly view (Ok x) read = read ≡ Ok (view x)
+ReadsExactly view (Err e) read = read ≡ Err e
+
 abbrev pub Reader : Type 0 → Type 0
 Reader A = List ℕ → Result (A × List ℕ) Fault
 
@@ -132,6 +137,7 @@ names_at = list_at (when_at (is_between 1 256) (number_at w16)) new_name_at
 abbrev pub roster_by : List ℕ × List (List ℕ) → Option RosterValue
 roster_by p = if are_names p.1 then Some (record { group = p.0; names = p.1 }) else None
 
+-- each name and their number were judged where they were read, so these parts are always a roster
 unfoldable pub roster_at : Reader RosterValue
 roster_at = drawn_at roster_by (pair_at key_at names_at)
 
@@ -225,6 +231,7 @@ int_scalar z = Int z
 abbrev pub text_scalar : List ℕ → Scalar
 text_scalar t = Text t
 
+-- the length was judged where it was read, so the test, which is that of every text, never fails here
 unfoldable pub text_scalar_at : Reader Scalar
 text_scalar_at = made_at text_scalar (when_at (λ t. nat_le (length t) 1024) text_at)
 
@@ -241,9 +248,11 @@ tagged_at tag rest =
 unfoldable pub scalar_at : Reader Scalar
 scalar_at bytes = byte_at bytes >>= λ tag. tagged_at tag.0 tag.1
 
+-- the number of keys was judged where it was read, so the test, which is that of every path, never fails here
 unfoldable pub path_at : Reader (List (List ℕ))
 path_at = when_at (λ keys. nat_le (length keys) 8) (list_at (when_at (is_between 1 8) byte_at) (λ _. key_at))
 
+-- a path that was read has 1 to 8 keys, so these parts are always an entry
 unfoldable pub entry_at : Reader Entry
 entry_at = drawn_at entry_of (pair_at path_at (pair_at kind_at scalar_at))
 

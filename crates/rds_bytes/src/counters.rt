@@ -2,7 +2,7 @@
 ghost use Rattle.std.specs.Prelude.{◌≡◌, ◌<◌, ◌^◌, length, IfOk};
 ghost use Rattle.std.specs.Int.{w32, w64};
 ghost use Rattle.rds_counts.specs.Counted.{AreCountRows};
-ghost use Rattle.rds_bytes.specs.Reading.{Reads, number_at, when_at, last, comes_after_row as is_after_row, is_count as is_count_of, is_second, place_at, counts_at, count_row_at, count_rows_at, counters_at};
+ghost use Rattle.rds_bytes.specs.Reading.{Reads, ReadsExactly, number_at, when_at, last, comes_after_row as is_after_row, is_count as is_count_of, is_second, place_at, counts_at, count_row_at, count_rows_at, counters_at};
 
 use crate::front::read_key;
 use crate::list::{PartReader, read_parts};
@@ -22,7 +22,7 @@ fn comes_after_row(before: &[CountRow], key: &Key, replica: u8) -> bool
 }
 
 fn read_p(bytes: &[u8]) -> Result<(u64, &[u8]), Fault>
-    ensures { Reads (λ x. (x.0, x.1.now)) result (when_at is_count_of (number_at w64) bytes.now) }
+    ensures { ReadsExactly (λ x. (x.0, x.1.now)) result (when_at is_count_of (number_at w64) bytes.now) }
 {
     let (p, rest) = read_u64(bytes)?;
     if MAX_COUNT < p {
@@ -32,7 +32,7 @@ fn read_p(bytes: &[u8]) -> Result<(u64, &[u8]), Fault>
 }
 
 fn read_n(p: u64, bytes: &[u8]) -> Result<(u64, &[u8]), Fault>
-    ensures { Reads (λ x. (x.0, x.1.now)) result (when_at (is_second p) (number_at w64) bytes.now) }
+    ensures { ReadsExactly (λ x. (x.0, x.1.now)) result (when_at (is_second p) (number_at w64) bytes.now) }
 {
     let (n, rest) = read_u64(bytes)?;
     if MAX_COUNT < n || (p == 0 && n == 0) {
@@ -44,7 +44,7 @@ fn read_n(p: u64, bytes: &[u8]) -> Result<(u64, &[u8]), Fault>
 /// Two numbers, not both 0.
 #[tactic(auto, unfolding(crate::specs::Reading::counts_at))]
 fn read_counts(bytes: &[u8]) -> Result<((u64, u64), &[u8]), Fault>
-    ensures { Reads (λ x. (x.0, x.1.now)) result (counts_at bytes.now) }
+    ensures { ReadsExactly (λ x. (x.0, x.1.now)) result (counts_at bytes.now) }
 {
     let (p, rest) = read_p(bytes)?;
     let (n, rest) = read_n(p, rest)?;

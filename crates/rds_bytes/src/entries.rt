@@ -3,7 +3,7 @@ ghost use Rattle.std.specs.Prelude.{◌≡◌, IfOk};
 ghost use Rattle.std.specs.Int.{w16, w32, w64};
 ghost use Rattle.rds_dots.specs.Dots.{comes_after};
 ghost use Rattle.rds_life.specs.Life.{AreRows};
-ghost use Rattle.rds_bytes.specs.Reading.{Reads, byte_at, number_at, when_at, is_between, kind_at, int_at, text_at, text_scalar_at, scalar_at, path_at, entry_at, dot_at, live_row_at, live_rows_at, dot_of_row, last};
+ghost use Rattle.rds_bytes.specs.Reading.{Reads, ReadsExactly, byte_at, number_at, when_at, is_between, kind_at, int_at, text_at, text_scalar_at, scalar_at, path_at, entry_at, dot_at, live_row_at, live_rows_at, dot_of_row, last};
 
 use crate::front::KeyReader;
 use crate::list::{PartReader, read_parts};
@@ -14,7 +14,7 @@ use std::alloc::Global;
 
 #[tactic(auto, unfolding(crate::specs::Reading::kind_at))]
 fn read_kind(bytes: &[u8]) -> Result<(Kind, &[u8]), Fault>
-    ensures { Reads (λ x. (x.0, x.1.now)) result (kind_at bytes.now) }
+    ensures { ReadsExactly (λ x. (x.0, x.1.now)) result (kind_at bytes.now) }
 {
     let (kind, rest) = read_byte(bytes)?;
     match kind {
@@ -26,14 +26,14 @@ fn read_kind(bytes: &[u8]) -> Result<(Kind, &[u8]), Fault>
 
 #[tactic(auto, unfolding(crate::specs::Reading::int_at))]
 fn read_int(bytes: &[u8]) -> Result<(i64, &[u8]), Fault>
-    ensures { Reads (λ x. (x.0, x.1.now)) result (int_at bytes.now) }
+    ensures { ReadsExactly (λ x. (x.0, x.1.now)) result (int_at bytes.now) }
 {
     let (number, rest) = read_u64(bytes)?;
     Ok((number.cast_signed(), rest))
 }
 
 fn read_text_length(bytes: &[u8]) -> Result<(u16, &[u8]), Fault>
-    ensures { Reads (λ x. (x.0, x.1.now)) result (when_at (is_between 0 1024) (number_at w16) bytes.now) }
+    ensures { ReadsExactly (λ x. (x.0, x.1.now)) result (when_at (is_between 0 1024) (number_at w16) bytes.now) }
 {
     let (length, rest) = read_u16(bytes)?;
     if 1024 < length {
@@ -44,7 +44,7 @@ fn read_text_length(bytes: &[u8]) -> Result<(u16, &[u8]), Fault>
 
 #[tactic(auto, unfolding(crate::specs::Reading::text_at))]
 fn read_text(bytes: &[u8]) -> Result<(&str, &[u8]), Fault>
-    ensures { Reads (λ x. (x.0.now, x.1.now)) result (text_at bytes.now) }
+    ensures { ReadsExactly (λ x. (x.0.now, x.1.now)) result (text_at bytes.now) }
 {
     let (length, rest) = read_text_length(bytes)?;
     let (text, rest) = read_bytes(usize::from(length), rest)?;
@@ -143,7 +143,7 @@ impl<S: DotSet> LiveRowReader<'_, S> {
         before: &[(Dot, Entry)],
         bytes: &'b [u8],
     ) -> Result<(Dot, &'b [u8]), Fault>
-        ensures { Reads (λ x. (x.0, x.1.now)) result (dot_at (S.contents self.now.seen.now) before.now bytes.now) }
+        ensures { ReadsExactly (λ x. (x.0, x.1.now)) result (dot_at (S.contents self.now.seen.now) before.now bytes.now) }
     {
         let (replica, rest) = read_byte(bytes)?;
         let (seq, rest) = read_u64(rest)?;

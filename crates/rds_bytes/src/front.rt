@@ -2,7 +2,7 @@
 ghost use Rattle.std.specs.Prelude.{◌≡◌, true, false, MatchResult};
 ghost use Rattle.rds_names.specs.declared.fault.Fault.TheVariants.{Bad};
 ghost use Rattle.rds_names.specs.Name.{is_name};
-ghost use Rattle.rds_bytes.specs.Reading.{Reads, is_new as is_new_name, Reader, magic_at, key_at, name_at, new_name_at, names_at, roster_at, replica_at, member_at, front_at, when_at, is_between, number_at};
+ghost use Rattle.rds_bytes.specs.Reading.{Reads, ReadsExactly, is_new as is_new_name, Reader, magic_at, key_at, name_at, new_name_at, names_at, roster_at, replica_at, member_at, front_at, when_at, is_between, number_at};
 ghost use Rattle.rds_bytes.specs.Spelling.{magic};
 ghost use Rattle.std.specs.Int.{w16};
 
@@ -16,7 +16,7 @@ pub const MAGIC: &[u8; 4] = b"RDS1";
 
 #[tactic(auto, unfolding(crate::specs::Reading::magic_at))]
 fn read_magic(bytes: &[u8]) -> Result<((), &[u8]), Fault>
-    ensures { Reads (λ x. (magic, x.1.now)) result (magic_at bytes.now) }
+    ensures { ReadsExactly (λ x. (magic, x.1.now)) result (magic_at bytes.now) }
 {
     let (front, rest) = read_bytes(4, bytes)?;
     if front != MAGIC.as_slice() {
@@ -96,7 +96,7 @@ impl PartReader<Name> for NameReader {
 }
 
 fn read_count_of_names(bytes: &[u8]) -> Result<(u16, &[u8]), Fault>
-    ensures { Reads (λ x. (x.0, x.1.now)) result (when_at (is_between 1 256) (number_at w16) bytes.now) }
+    ensures { ReadsExactly (λ x. (x.0, x.1.now)) result (when_at (is_between 1 256) (number_at w16) bytes.now) }
 {
     let (count, rest) = read_u16(bytes)?;
     if count < 1 || 256 < count {
@@ -130,7 +130,7 @@ fn read_roster(alloc: Global, bytes: &[u8]) -> Result<(Roster, &[u8]), Fault>
 /// The number of one of so many replicas.
 #[tactic(auto, unfolding(crate::specs::Reading::replica_at))]
 pub fn read_replica(replicas: u16, bytes: &[u8]) -> Result<(u8, &[u8]), Fault>
-    ensures { Reads (λ x. (x.0, x.1.now)) result (replica_at replicas bytes.now) }
+    ensures { ReadsExactly (λ x. (x.0, x.1.now)) result (replica_at replicas bytes.now) }
 {
     let (replica, rest) = read_byte(bytes)?;
     if replicas <= u16::from(replica) {

@@ -10,6 +10,7 @@ use std::alloc::Global;
 pub trait PartReader<T> {
     ghost reader: { Self → List T → List ℕ → Result (T × List ℕ) Fault };
 
+    /// The next part, where these stand before it, and the bytes after it; or the fault of a part that is cut or bad.
     fn read<'a>(&self, alloc: Global, before: &[T], bytes: &'a [u8]) -> Result<(T, &'a [u8]), Fault>
         ensures { Reads (λ x. (x.0, x.1.now)) result (reader self.now before.now bytes.now) };
 }

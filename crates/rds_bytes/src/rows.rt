@@ -7,7 +7,7 @@ ghost use Rattle.rds_dots.specs.Runs.{covers};
 ghost use Rattle.rds_bytes.specs.RowDots.{run_before, row_runs, counted_between, counted, gaps_stand, row_stands, AreStanding};
 ghost use Rattle.std.specs.Int.{w16, w32, w64};
 ghost use Rattle.std.specs.Option.{option_copied};
-ghost use Rattle.rds_bytes.specs.Reading.{Reads, number_at, byte_at, when_at, is_between, least_lo as lo_after, least_replica as replica_after, last, gap_at, gaps_at, numbers_at, dot_row_at, dot_rows_at, is_next_replica, dots_at};
+ghost use Rattle.rds_bytes.specs.Reading.{Reads, ReadsExactly, number_at, byte_at, when_at, is_between, least_lo as lo_after, least_replica as replica_after, last, gap_at, gaps_at, numbers_at, dot_row_at, dot_rows_at, is_next_replica, dots_at};
 
 use crate::list::{PartReader, read_parts};
 use crate::numbers::{read_byte, read_u16, read_u32, read_u64};
@@ -106,7 +106,7 @@ fn read_gaps(alloc: Global, top: u64, bytes: &[u8]) -> Result<(Gaps, &[u8]), Fau
 }
 
 fn read_top(bytes: &[u8]) -> Result<(u64, &[u8]), Fault>
-    ensures { Reads (λ x. (x.0, x.1.now)) result (when_at (is_between 1 MAX_SEQ) (number_at w64) bytes.now) }
+    ensures { ReadsExactly (λ x. (x.0, x.1.now)) result (when_at (is_between 1 MAX_SEQ) (number_at w64) bytes.now) }
 {
     let (top, rest) = read_u64(bytes)?;
     if top < 1 || MAX_SEQ < top {
@@ -148,7 +148,7 @@ struct DotRowReader {
 
 impl DotRowReader {
     fn read_replica<'b>(&self, before: &[DotRow], bytes: &'b [u8]) -> Result<(u8, &'b [u8]), Fault>
-        ensures { Reads (λ x. (x.0, x.1.now)) result (when_at (is_next_replica self.now.replicas before.now) byte_at bytes.now) }
+        ensures { ReadsExactly (λ x. (x.0, x.1.now)) result (when_at (is_next_replica self.now.replicas before.now) byte_at bytes.now) }
     {
         let (replica, rest) = read_byte(bytes)?;
         let number = u16::from(replica);

@@ -21,8 +21,8 @@ use Rattle.rds_delta.proofs.LeastLaws.{grown_delta, least_above}
 use Rattle.rds_codec.specs.AnswerTexts.{answer_kind}
 use Rattle.rds_codec.specs.AnswerValues.{AnswerValue}
 use Rattle.rds_codec.specs.declared.limits.TheConstants.{LIMIT}
-use Rattle.rds_codec.specs.Decoding.{Answers, Decodes}
-use Rattle.rds_codec.specs.DigestTexts.{DigestFits}
+use Rattle.rds_codec.specs.Decoding.{Answers, IsTextOf, Decodes}
+use Rattle.rds_codec.specs.DigestTexts.{DigestFits, digest_text, digest_kind}
 use Rattle.rds_codec.specs.Exchanged.{CanExchange, IsAnswerTo, IsLost}
 use Rattle.rds_codec.specs.Kinds.{Kind}
 use Rattle.rds_bytes.specs.Values.{AreFew}
@@ -46,6 +46,11 @@ read_err {V} v result IsLong h = elim h [
   | inl e ↦ subst (λ (r : Result V Fault). IfErr r (IsLost IsLong)) (sym e) tt
   | inr e ↦ subst (λ (r : Result V Fault). IfErr r (IsLost IsLong)) (sym e) (inl refl)
 ]
+
+-- what is read from a text has that text
+pub brought : {V : Type 0} (kind : Kind V) (text bytes : List ℕ) (result : Result V Fault) → bytes ≡ text → Decodes kind bytes result → IfOk result (IsTextOf kind text)
+brought kind text bytes (Ok v) e decodes = subst (λ (t : List ℕ). IsTextOf kind t v) e decodes.value.1
+brought kind text bytes (Err f) e decodes = tt
 
 -- an answer that was read fits
 pub read_fits : (replicas : ℕ) (bytes : List ℕ) (result : Result AnswerValue Fault) → Decodes (answer_kind replicas) bytes result → IfOk result (λ a. Fits replicas (coordinates a.state))
@@ -129,3 +134,9 @@ asked_of n own answerer asked mine told held digest a many is_own below told_is 
       same = asks (fits_here n asked.roster mine.roster asked.state told many can.asked_roster told_is told_fits) (few_here asked.state told told_is can.few_asked) ∙ ap digest_of told_is;
       answers = subst (λ (k : ℕ). IsAnswerTo digest k answerer.state a) is_own (subst (λ (s : StateValue). IsAnswerTo digest own s a) held_is here);
     }
+
+-- the same text of the same replicas
+pub checked_text : (asked : StateValue) (n : ℕ) (r : RosterValue) (told : StateValue) (digest : DigestValue) → n ≡ length r.names → told ≡ asked
+    → IsTextOf (digest_kind n) (digest_text (digest_of told)) digest → IsTextOf (digest_kind (length r.names)) (digest_text (digest_of asked)) digest
+checked_text asked n r told digest many is text =
+    subst (λ (m : ℕ). IsTextOf (digest_kind m) (digest_text (digest_of asked)) digest) many (subst (λ (s : StateValue). IsTextOf (digest_kind n) (digest_text (digest_of s)) digest) is text)

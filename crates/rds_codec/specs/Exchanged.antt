@@ -9,10 +9,11 @@ use Rattle.rds_state.specs.Friends.{AreFriends}
 use Rattle.rds_state.specs.Value.{StateValue, coordinates}
 use Rattle.rds_delta.specs.Claims.{IsCertificate}
 use Rattle.rds_delta.specs.Digested.{DigestValue, digest_of, ranks_in}
-use Rattle.rds_delta.specs.Least.{least}
+use Rattle.rds_delta.specs.Least.{IsAbove, least}
 use Rattle.rds_codec.specs.AnswerTexts.{answer_text}
 use Rattle.rds_codec.specs.AnswerValues.{AnswerValue}
-use Rattle.rds_codec.specs.DigestTexts.{digest_text}
+use Rattle.rds_codec.specs.Decoding.{IsTextOf}
+use Rattle.rds_codec.specs.DigestTexts.{digest_text, digest_kind}
 use Rattle.rds_bytes.specs.Values.{AreFew}
 use Rattle.rds_codec.specs.declared.limits.TheConstants.{LIMIT}
 
@@ -30,6 +31,13 @@ pub record IsLongAnswer (digest : DigestValue) (asker : ℕ) (held : StateValue)
   pub value : AnswerValue
   pub answers : IsAnswerTo digest asker held value
   pub long : LIMIT < length (answer_text value)
+
+-- It passes the check against what the text of the asked one's digest brings.
+pub record IsChecked (replicas : ℕ) (asked : StateValue) (a : AnswerValue) : Type 0 where
+  pub digest : DigestValue
+  pub brought : IsTextOf (digest_kind replicas) (digest_text (digest_of asked)) digest
+  pub above : IsAbove (coordinates a.state) (ranks_in digest)
+  pub certificate : IsCertificate (ranks_in digest) a.state a.certificate
 
 -- Two friends of one roster, what one of them was when it asked, and no more dots than are read.
 pub record CanExchange (answerer asked asker : ReplicaValue) : Type 0 where

@@ -1,5 +1,6 @@
 //! The text of an answer: who asked, the delta, and its certificate.
 ghost use Rattle.std.specs.Prelude.{◌≡◌, ◌<◌, ◌≤◌, ℕ, length};
+ghost use Rattle.std.specs.List.{AllByRecursion};
 ghost use Rattle.rds_delta.specs.Claims.{IsCertificate};
 ghost use Rattle.rds_delta.specs.Least.{IsAbove};
 ghost use Rattle.rds_delta.specs.Ranks.{Ranks};
@@ -8,6 +9,7 @@ ghost use Rattle.rds_state.specs.Value.{coordinates};
 ghost use Rattle.rds_dots.specs.Runs.{runs_of};
 ghost use Rattle.rds_life.specs.Life.{seen_of};
 ghost use Rattle.rds_codec.specs.AnswerTexts.{IsAnswerOf, answer, answer_text, answer_at, answer_kind};
+ghost use Rattle.rds_codec.specs.CertificateTexts.{RowFits};
 ghost use Rattle.rds_codec.specs.Decoding.{Decodes, ReadsAll, all_of};
 ghost use Rattle.rds_bytes.specs.DotRows.{rows_from};
 ghost use Rattle.rds_bytes.specs.Reading.{Reads};
@@ -103,7 +105,8 @@ fn measure<S: DotSet>(asker: u8, state: &State<S>, certificate: &Certificate) ->
     ensures rows { result.0 ≡ length (rows_from 0 (runs_of (seen_of state.now.lives))) }
     ensures length { result.1 ≡ length (answer_text (answer asker state.now certificate.now)) }
     ensures dots { (replicas : ℕ) → Fits replicas (coordinates state.now) → AreDotsOf replicas (seen_of state.now.lives) }
-    ensures value { (replicas : ℕ) (peer : Ranks) → asker < replicas → Fits replicas (coordinates state.now) → AreFew (seen_of state.now.lives) → IsAbove (coordinates state.now) peer → IsCertificate peer state.now certificate.now → IsAnswerOf replicas (answer asker state.now certificate.now) }
+    ensures value { (replicas : ℕ) → asker < replicas → Fits replicas (coordinates state.now) → AreFew (seen_of state.now.lives) → AllByRecursion (RowFits replicas) certificate.now → IsAnswerOf replicas (answer asker state.now certificate.now) }
+    ensures certified { (replicas : ℕ) (peer : Ranks) → asker < replicas → Fits replicas (coordinates state.now) → AreFew (seen_of state.now.lives) → IsAbove (coordinates state.now) peer → IsCertificate peer state.now certificate.now → IsAnswerOf replicas (answer asker state.now certificate.now) }
 {
     let (rows, state_length) = measure_state(state);
     (rows, 1 + state_length + certificate_length(certificate))
@@ -125,9 +128,10 @@ fn put_answer<S: DotSet>(
     put_certificate(out, certificate)
 }
 
-/// The text of an answer with these parts, which is read again where the asker is below the roster's length and the
-/// certificate's is read again. Above the limit it is refused (`TooLong`) before any memory is taken; then all memory
-/// that the text needs is taken at once.
+/// The text of an answer with these parts. It is read again where the asker and the delta's replicas are below the
+/// roster's length, the delta has seen no more than 65,536 dots, and the rows of the certificate lie in the ranges of
+/// the format, as those of the delta's own certificate do. Above the limit it is refused (`TooLong`) before any memory
+/// is taken; then all memory that the text needs is taken at once.
 pub fn encode_answer<S: DotSet>(
     alloc: Global,
     asker: u8,
@@ -136,7 +140,8 @@ pub fn encode_answer<S: DotSet>(
 ) -> Result<Vec<u8>, Fault>
     ensures text { Encodes (answer_text (answer asker state.now certificate.now)) result }
     ensures dots { (replicas : ℕ) → Fits replicas (coordinates state.now) → AreDotsOf replicas (seen_of state.now.lives) }
-    ensures value { (replicas : ℕ) (peer : Ranks) → asker < replicas → Fits replicas (coordinates state.now) → AreFew (seen_of state.now.lives) → IsAbove (coordinates state.now) peer → IsCertificate peer state.now certificate.now → IsAnswerOf replicas (answer asker state.now certificate.now) }
+    ensures value { (replicas : ℕ) → asker < replicas → Fits replicas (coordinates state.now) → AreFew (seen_of state.now.lives) → AllByRecursion (RowFits replicas) certificate.now → IsAnswerOf replicas (answer asker state.now certificate.now) }
+    ensures certified { (replicas : ℕ) (peer : Ranks) → asker < replicas → Fits replicas (coordinates state.now) → AreFew (seen_of state.now.lives) → IsAbove (coordinates state.now) peer → IsCertificate peer state.now certificate.now → IsAnswerOf replicas (answer asker state.now certificate.now) }
 {
     let (rows, length) = measure(asker, state, certificate);
     let mut out = room_for(alloc, length)?;

@@ -4,7 +4,7 @@ ghost use Rattle.std.specs.Int.{w32, w64};
 ghost use Rattle.std.specs.List.{flat_map, AllByRecursion};
 ghost use Rattle.rds_codec.specs.CertificateTexts.{IsHeldRow, RowFits, IsCertificateOf, run_text, which_byte, claim_text, row_text, certificate_text, claimed_dot_at, ends_at, run_at, dead_at, which_at, amount_at, claim_at, counter_at, number_claim_at, tagged_row_at, row_at, certificate_at, certificate_kind};
 ghost use Rattle.rds_codec.specs.Decoding.{Decodes, ReadsAll, all_of};
-ghost use Rattle.rds_bytes.specs.Reading.{Reads, byte_at, number_at, when_at, is_between};
+ghost use Rattle.rds_bytes.specs.Reading.{Reads, ReadsExactly, byte_at, number_at, when_at, is_between};
 ghost use Rattle.rds_bytes.specs.Spelling.{byte_text, dot_text};
 ghost use Rattle.rds_codec.specs.Writing.{Encodes};
 ghost use Rattle.rds_bytes.specs.Writing.{Adds};
@@ -22,7 +22,7 @@ use std::alloc::{AllocError, Global};
 
 /// A number of a dot, from a least one on.
 fn read_seq(least: u64, bytes: &[u8]) -> Result<(u64, &[u8]), Fault>
-    ensures { Reads (λ x. (x.0, x.1.now)) result (when_at (is_between least MAX_SEQ) (number_at w64) bytes.now) }
+    ensures { ReadsExactly (λ x. (x.0, x.1.now)) result (when_at (is_between least MAX_SEQ) (number_at w64) bytes.now) }
 {
     let (seq, rest) = read_u64(bytes)?;
     if seq < least || MAX_SEQ < seq {
@@ -33,7 +33,7 @@ fn read_seq(least: u64, bytes: &[u8]) -> Result<(u64, &[u8]), Fault>
 
 #[tactic(auto, unfolding(crate::specs::CertificateTexts::claimed_dot_at))]
 fn read_dot(replicas: u16, bytes: &[u8]) -> Result<(Dot, &[u8]), Fault>
-    ensures { Reads (λ x. (x.0, x.1.now)) result (claimed_dot_at replicas bytes.now) }
+    ensures { ReadsExactly (λ x. (x.0, x.1.now)) result (claimed_dot_at replicas bytes.now) }
 {
     let (replica, rest) = read_replica(replicas, bytes)?;
     let (seq, rest) = read_seq(1, rest)?;
@@ -42,7 +42,7 @@ fn read_dot(replicas: u16, bytes: &[u8]) -> Result<(Dot, &[u8]), Fault>
 
 #[tactic(auto, unfolding(crate::specs::CertificateTexts::ends_at))]
 fn read_ends(bytes: &[u8]) -> Result<((u64, u64), &[u8]), Fault>
-    ensures { Reads (λ x. (x.0, x.1.now)) result (ends_at bytes.now) }
+    ensures { ReadsExactly (λ x. (x.0, x.1.now)) result (ends_at bytes.now) }
 {
     let (lo, rest) = read_seq(1, bytes)?;
     let (hi, rest) = read_seq(lo, rest)?;
@@ -51,7 +51,7 @@ fn read_ends(bytes: &[u8]) -> Result<((u64, u64), &[u8]), Fault>
 
 #[tactic(auto, unfolding(crate::specs::CertificateTexts::run_at))]
 fn read_run(replicas: u16, bytes: &[u8]) -> Result<(Run, &[u8]), Fault>
-    ensures { Reads (λ x. (x.0, x.1.now)) result (run_at replicas bytes.now) }
+    ensures { ReadsExactly (λ x. (x.0, x.1.now)) result (run_at replicas bytes.now) }
 {
     let (replica, rest) = read_replica(replicas, bytes)?;
     let ((lo, hi), rest) = read_ends(rest)?;
@@ -61,7 +61,7 @@ fn read_run(replicas: u16, bytes: &[u8]) -> Result<(Run, &[u8]), Fault>
 /// A run of dead dots, and their rank at the peer.
 #[tactic(auto, unfolding(crate::specs::CertificateTexts::dead_at))]
 fn read_dead(replicas: u16, bytes: &[u8]) -> Result<((Run, u8), &[u8]), Fault>
-    ensures { Reads (λ x. (x.0, x.1.now)) result (dead_at replicas bytes.now) }
+    ensures { ReadsExactly (λ x. (x.0, x.1.now)) result (dead_at replicas bytes.now) }
 {
     let (run, rest) = read_run(replicas, bytes)?;
     let (peer, rest) = read_length(0, 1, rest)?;
@@ -70,7 +70,7 @@ fn read_dead(replicas: u16, bytes: &[u8]) -> Result<((Run, u8), &[u8]), Fault>
 
 #[tactic(auto, unfolding(crate::specs::CertificateTexts::which_at))]
 fn read_which(bytes: &[u8]) -> Result<(Which, &[u8]), Fault>
-    ensures { Reads (λ x. (x.0, x.1.now)) result (which_at bytes.now) }
+    ensures { ReadsExactly (λ x. (x.0, x.1.now)) result (which_at bytes.now) }
 {
     let (which, rest) = read_byte(bytes)?;
     match which {
@@ -82,7 +82,7 @@ fn read_which(bytes: &[u8]) -> Result<(Which, &[u8]), Fault>
 
 #[tactic(auto, unfolding(crate::specs::CertificateTexts::amount_at))]
 fn read_amount(bytes: &[u8]) -> Result<(u64, &[u8]), Fault>
-    ensures { Reads (λ x. (x.0, x.1.now)) result (amount_at bytes.now) }
+    ensures { ReadsExactly (λ x. (x.0, x.1.now)) result (amount_at bytes.now) }
 {
     let (amount, rest) = read_u64(bytes)?;
     if MAX_COUNT < amount {
@@ -94,7 +94,7 @@ fn read_amount(bytes: &[u8]) -> Result<(u64, &[u8]), Fault>
 /// Which number, what was sent of it, and what the peer has.
 #[tactic(auto, unfolding(crate::specs::CertificateTexts::claim_at))]
 fn read_claim(bytes: &[u8]) -> Result<((Which, (u64, u64)), &[u8]), Fault>
-    ensures { Reads (λ x. (x.0, x.1.now)) result (claim_at bytes.now) }
+    ensures { ReadsExactly (λ x. (x.0, x.1.now)) result (claim_at bytes.now) }
 {
     let (which, rest) = read_which(bytes)?;
     let (sent, rest) = read_amount(rest)?;

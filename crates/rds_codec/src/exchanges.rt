@@ -8,7 +8,9 @@ ghost use Rattle.rds_life.specs.Life.{seen_of};
 ghost use Rattle.rds_delta.specs.Digested.{digest_of, ranks_in};
 ghost use Rattle.rds_delta.specs.Claims.{IsCertificate};
 ghost use Rattle.rds_delta.specs.Least.{IsAbove};
-ghost use Rattle.rds_codec.specs.Exchanged.{CanExchange, IsAnswerTo, IsLongDigest, IsLongAnswer, IsLost};
+ghost use Rattle.rds_codec.specs.Decoding.{IsTextOf};
+ghost use Rattle.rds_codec.specs.DigestTexts.{digest_text, digest_kind};
+ghost use Rattle.rds_codec.specs.Exchanged.{CanExchange, IsChecked, IsAnswerTo, IsLongDigest, IsLongAnswer, IsLost};
 ghost use Rattle.rds_bytes.specs.Values.{AreFew};
 
 use crate::answers::{Answer, decode_answer, encode_answer};
@@ -25,6 +27,7 @@ fn send_digest<S: DotSet>(
     replicas: u16,
     asked: &State<S>,
 ) -> Result<Digest<S>, Fault>
+    ensures brought { IfOk result (IsTextOf (digest_kind replicas) (digest_text (digest_of asked.now))) }
     ensures ok { Fits replicas (coordinates asked.now) → AreFew (seen_of asked.now.lives) → IfOk result (λ digest. digest ≡ digest_of asked.now) }
     ensures fault { Fits replicas (coordinates asked.now) → AreFew (seen_of asked.now.lives) → IfErr result (IsLost (IsLongDigest asked.now)) }
 {
@@ -77,18 +80,23 @@ fn take_answer<S: DotSet>(
     replica.take(&answer.state)
 }
 
-/// One replica asks another for what it lacks, and takes the answer, which is answered: the digest of what it was when it asked goes as
-/// bytes to the other, which sends back as bytes the least delta and its certificate; these are checked and taken.
+/// One replica asks another for what it lacks, and takes what it is answered. The digest of what it was when it asked
+/// goes to the other as bytes. The other sends back, as bytes, the least delta against that digest and its certificate.
+/// The one that asked checks the two and joins the delta into its state. The answer that it took is handed back.
 ///
-/// Between friends, whatever the one that asked has become since, it ends with all that both knew, and nothing but
-/// want of memory or too long a text is a hindrance: no text is refused by the one that reads it, no check says no,
-/// and no take finds a conflict or a loss.
+/// Where the two are friends of one roster, and neither the one that asked, when it asked, nor the other has seen more
+/// than 65,536 dots, it ends with all that both knew, whatever it has become since. Then nothing but want of memory or
+/// too long a text is a hindrance: no text is refused by the one that reads it, no check says no, and no take finds a
+/// conflict or a loss. Elsewhere any of these may refuse it, and then nothing has changed.
 pub fn exchange<S: DotSet>(
     alloc: Global,
     answerer: &Replica<S>,
     asked: &Replica<S>,
     asker: &mut Replica<S>,
 ) -> Result<Answer<S>, Fault>
+    ensures taken { IfOk result (λ answer. coordinates asker.new.state ≡ join (coordinates asker.old.state) (coordinates answer.state)) }
+    ensures asked { IfOk result (λ answer. answer.asker ≡ asker.old.own) }
+    ensures checked { IfOk result (IsChecked (length asker.old.roster.names) asked.now.state) }
     ensures answer { CanExchange answerer.now asked.now asker.old → IfOk result (IsAnswerTo (digest_of asked.now.state) asker.old.own answerer.now.state) }
     ensures joined { CanExchange answerer.now asked.now asker.old → OnOk result (coordinates asker.new.state ≡ join (coordinates asker.old.state) (coordinates answerer.now.state)) }
     ensures fault { CanExchange answerer.now asked.now asker.old → IfErr result (IsLost (IsLongDigest asked.now.state ⊎ IsLongAnswer (digest_of asked.now.state) asker.old.own answerer.now.state)) }

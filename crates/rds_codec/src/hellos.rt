@@ -3,7 +3,7 @@ ghost use Rattle.std.specs.Prelude.{◌≡◌, ◌<◌, ◌≤◌, length, IfErr
 ghost use Rattle.rds_names.specs.declared.fault.Fault.TheVariants.{Memory};
 ghost use Rattle.rds_codec.specs.Decoding.{Decodes, ReadsAll, all_of};
 ghost use Rattle.rds_codec.specs.HelloTexts.{IsHello, hello_text, version_at, hello_at, hello_kind};
-ghost use Rattle.rds_bytes.specs.Reading.{Reads};
+ghost use Rattle.rds_bytes.specs.Reading.{Reads, ReadsExactly};
 ghost use Rattle.rds_codec.specs.Writing.{Encodes};
 ghost use Rattle.rds_bytes.specs.Writing.{Adds};
 
@@ -28,7 +28,7 @@ pub struct Hello {
 
 #[tactic(auto, unfolding(crate::specs::HelloTexts::version_at))]
 fn read_version(bytes: &[u8]) -> Result<(u8, &[u8]), Fault>
-    ensures { Reads (λ x. (x.0, x.1.now)) result (version_at bytes.now) }
+    ensures { ReadsExactly (λ x. (x.0, x.1.now)) result (version_at bytes.now) }
 {
     let (version, rest) = read_byte(bytes)?;
     if version != VERSION {

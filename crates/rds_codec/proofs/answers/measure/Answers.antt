@@ -8,8 +8,8 @@ pub returns-clause-length : goal.returns-clause-length
 returns-clause-length g c =
     (λ i. 1 + c.measure_state-rows.ensures.length i + c.certificate_length.ensures.length i) ∙ sym (answer_length (answer c.args.asker c.args.state.now c.args.certificate.now))
 
-pub returns-clause-value : goal.returns-clause-value
-returns-clause-value g c = λ replicas peer below fits few above certificate.
+pub returns-clause-certified : goal.returns-clause-certified
+returns-clause-certified g c = λ replicas peer below fits few above certificate.
     let v = c.args.state.now in
     let is = c.measure_state-rows.ensures.value replicas fits few in
     record {
@@ -17,3 +17,10 @@ returns-clause-value g c = λ replicas peer below fits few above certificate.
       state = is;
       certificate = is_certificate_of replicas peer v c.args.certificate.now is above certificate c.certificate_length.ensures.held;
     }
+
+pub returns-clause-value : goal.returns-clause-value
+returns-clause-value g c = λ replicas below fits few rows. record {
+  asker = (omega (arith, c.ranges.asker.fits), below);
+  state = c.measure_state-rows.ensures.value replicas fits few;
+  certificate = c.certificate_length.ensures.value replicas rows;
+}

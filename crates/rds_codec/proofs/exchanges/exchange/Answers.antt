@@ -3,7 +3,7 @@ use Rattle.std.proofs.lemmas.Result.{err_from_is_err_and}
 use Rattle.rds_names.specs.Roster.{RosterValue}
 use Rattle.rds_delta.specs.Digested.{DigestValue, digest_of}
 use Rattle.rds_codec.specs.Exchanged.{CanExchange, IsAnswerTo, IsLongDigest, IsLongAnswer}
-use Rattle.rds_codec.proofs.ExchangeLemmas.{IsAsked, answer_is_above, answer_is_taken, answer_joins, asked_of}
+use Rattle.rds_codec.proofs.ExchangeLemmas.{IsAsked, checked_text, answer_is_above, answer_is_taken, answer_joins, asked_of}
 use Rattle.rds_codec.proofs.exchanges.exchange.Goals as goal
 
 pub returns : goal.returns
@@ -20,6 +20,14 @@ returns g c =
     asked_of n c.own.result answerer asked mine c.state.result.now c.state-2.result.now digest a many c.own.ensures.own below c.state.ensures.state c.state.ensures.fits c.state-2.ensures.state c.state-2.ensures.fits
     c.in_ok-digest.ensures.ok c.in_ok-answer.ensures.ok in
     record {
+      taken = c.in_ok-take_answer.ensures.ok;
+      asked = c.in_ok-take_answer.ensures.asked;
+      checked = record {
+        digest = digest;
+        brought = checked_text asked.state n mine.roster c.state.result.now digest many c.state.ensures.state c.in_ok-digest.ensures.brought;
+        above = c.in_ok-take_answer.ensures.checked.0;
+        certificate = c.in_ok-take_answer.ensures.checked.1;
+      };
       answer = λ can. subst (λ (d : DigestValue). IsAnswerTo d mine.own answerer.state a) (told can).same (told can).answers;
       joined = λ can. c.in_ok-take_answer.ensures.ok ∙ answer_joins digest mine.own answerer.state a (told can).answers asked.state mine.state (told can).same can.grown;
       fault = λ can. tt;

@@ -32,7 +32,7 @@ returns g c =
     let wrote = c.in_ok-bytes.ensures in
     let read : c.args.asker < n → Fits n (coordinates held) → AreFew (seen_of held.lives) → Answers c.decode_answer.result (Ok v) = λ below fits few.
     is_read (answer_kind n) v c.deref.result.now c.decode_answer.result c.decode_answer.ensures.text
-    (wrote.value n b below (answer_fits c.args.digest.now c.args.asker held v is n fits) (delta_is_few d held b delta few) (answer_is_above c.args.digest.now c.args.asker held v is) is.certificate)
+    (wrote.certified n b below (answer_fits c.args.digest.now c.args.asker held v is n fits) (delta_is_few d held b delta few) (answer_is_above c.args.digest.now c.args.asker held v is) is.certificate)
     (c.deref.ensures.value ∙ wrote.text.0) wrote.text.1 in
     record {
       fits = read_fits n c.deref.result.now c.decode_answer.result c.decode_answer.ensures.text;
