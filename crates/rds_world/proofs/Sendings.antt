@@ -12,10 +12,10 @@ use Rattle.rds_state.specs.Value.{StateValue, coordinates, size}
 use Rattle.rds_state.proofs.FitsLemmas.{fits_dots}
 use Rattle.rds_delta.specs.declared.row.Row.{Row}
 use Rattle.rds_delta.specs.Claims.{IsCertificate}
-use Rattle.rds_delta.specs.Digested.{DigestValue, digest_of, ranks_in}
+use Rattle.rds_delta.specs.Digested.{DigestValue, IsInside, digest_of, ranks_in}
 use Rattle.rds_delta.specs.Least.{IsAbove}
 use Rattle.rds_delta.specs.Ranks.{Ranks}
-use Rattle.rds_delta.proofs.Digests.{ranks_of_digest}
+use Rattle.rds_delta.proofs.Digests.{live_inside, ranks_of_digest}
 use Rattle.rds_delta.proofs.Exchanges.{least_fits}
 use Rattle.rds_delta.proofs.LeastLaws.{least_above}
 use Rattle.rds_codec.specs.AnswerTexts.{IsAnswerOf, answer, answer_text, answer_kind}
@@ -43,6 +43,7 @@ holds_ask n own v g (Ok b) is fits text dots value =
       asker = refl;
       digest = g;
       ranks = ap ranks_in is ∙ ranks_of_digest v;
+      inside = subst (λ (d : DigestValue). IsInside d.live d.seen) (sym is) (live_inside v.lives);
       text = text.0;
       within = subst (λ (t : List ℕ). length t ≤ LIMIT) (sym text.0) text.1;
       dots = dots n small;
