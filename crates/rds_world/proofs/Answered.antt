@@ -17,7 +17,7 @@ use Rattle.rds_codec.specs.AnswerTexts.{IsAnswerOf, answer, answer_text}
 use Rattle.rds_codec.specs.CertificateTexts.{IsReplicaOf}
 use Rattle.rds_codec.specs.Decoding.{Decodes}
 use Rattle.rds_codec.specs.DigestTexts.{HasTooManyInDigest, digest_kind}
-use Rattle.rds_bytes.specs.Values.{AreDotsOf, AreFew}
+use Rattle.rds_bytes.specs.Values.{AreDotsOf}
 use Rattle.rds_codec.specs.declared.limits.TheConstants.{LIMIT}
 use Rattle.rds_world.specs.declared.event.Event.TheVariants.{Answer}
 use Rattle.rds_world.specs.declared.event.Done.TheVariants.{Answered}
@@ -117,11 +117,11 @@ module _ (v : WorldValue) (i : IsWorld v) (r k : ℕ) (m : ReplicaValue) (a : As
       (record {
         asked = q.it;
         there = q.there;
-        value = long.value;
-        state = delta_is w s g q.it refl e long.value long.least.state;
-        rows = long.rows;
-        certificate = subst (λ b. IsCertificate b long.value long.rows) e long.least.certificate;
-        long = subst (λ o. LIMIT < length (answer_text (answer o long.value long.rows))) q.related.asker long.long;
+        value = long.value.state;
+        state = delta_is w s g q.it refl e long.value.state long.answers.delta;
+        rows = long.value.certificate;
+        certificate = subst (λ b. IsCertificate b long.value.state long.value.certificate) e long.answers.certificate;
+        long = subst (λ o. LIMIT < length (answer_text (answer o long.value.state long.value.certificate))) (long.answers.asked ∙ q.related.asker) long.long;
       })))
 
   -- the ask is that of the model
@@ -142,6 +142,7 @@ module _ (v : WorldValue) (i : IsWorld v) (r k : ℕ) (m : ReplicaValue) (a : As
     holds w s =
         let q = ask_of w s in
         let y = r'.reply in
+        let whole : y.value ≡ answer a.asker y.value.state y.value.certificate = λ j. answer (y.answers.asked j) y.value.state y.value.certificate in
         record {
           question = refl;
           asker = q.related.asker;
@@ -149,14 +150,14 @@ module _ (v : WorldValue) (i : IsWorld v) (r k : ℕ) (m : ReplicaValue) (a : As
           asked = q.it;
           ask = q.there;
           read = record { ask = a; there = asked; digest = r'.digest; is_text = read.value.1 };
-          value = y.value;
-          state = delta_is w s r'.digest q.it refl (told w s) y.value y.least.state;
-          rows = y.rows;
-          certificate = subst (λ b. IsCertificate b y.value y.rows) (told w s) y.least.certificate;
-          text = y.text;
+          value = y.value.state;
+          state = delta_is w s r'.digest q.it refl (told w s) y.value.state y.answers.delta;
+          rows = y.value.certificate;
+          certificate = subst (λ b. IsCertificate b y.value.state y.value.certificate) (told w s) y.answers.certificate;
+          text = y.text ∙ ap answer_text whole;
           within = y.within;
-          dots = subst (λ j. AreDotsOf j (seen_of y.value.lives)) same_roster y.dots;
-          again = subst (λ j. AreFew (seen_of y.value.lives) → IsAnswerOf j (answer a.asker y.value y.rows)) same_roster y.again;
+          dots = subst (λ j. AreDotsOf j (seen_of y.value.state.lives)) same_roster y.dots;
+          again = λ few. subst (IsAnswerOf n) whole (subst (λ j. IsAnswerOf j y.value) same_roster (y.again few));
         }
 
     answered_so : (w : World) (s : Stands v w) → after w (Answer r k) ≡ record w { answers = w.answers ++ reply w r k (ask_of w s).it ∷ [] }
@@ -170,12 +171,12 @@ module _ (v : WorldValue) (i : IsWorld v) (r k : ℕ) (m : ReplicaValue) (a : As
         let q = ask_of w s in
         let y = r'.reply in
         let is = same_ask w s l.asked l.there in
-        let state : coordinates l.value ≡ coordinates y.value = l.state ∙ ap (λ (z : Question). (reply w r k z).state) is ∙ sym (delta_is w s r'.digest q.it refl (told w s) y.value y.least.state) in
-        let value : l.value ≡ y.value = same_value l.value y.value state in
-        let certificate : IsCertificate (ranks_in r'.digest) y.value l.rows =
-        subst (λ b. IsCertificate b y.value l.rows) (sym (told w s)) (subst (λ (z : Question). IsCertificate (ranks z.state) y.value l.rows) is (subst (λ z. IsCertificate (ranks l.asked.state) z l.rows) value l.certificate)) in
-        let rows : l.rows ≡ y.rows = one_certificate (ranks_in r'.digest) y.value y.rows l.rows y.least.certificate certificate in
-        let asker : l.asked.asker ≡ a.asker = ap (λ (z : Question). z.asker) is ∙ sym q.related.asker in
+        let state : coordinates l.value ≡ coordinates y.value.state = l.state ∙ ap (λ (z : Question). (reply w r k z).state) is ∙ sym (delta_is w s r'.digest q.it refl (told w s) y.value.state y.answers.delta) in
+        let value : l.value ≡ y.value.state = same_value l.value y.value.state state in
+        let certificate : IsCertificate (ranks_in r'.digest) y.value.state l.rows =
+        subst (λ b. IsCertificate b y.value.state l.rows) (sym (told w s)) (subst (λ (z : Question). IsCertificate (ranks z.state) y.value.state l.rows) is (subst (λ z. IsCertificate (ranks l.asked.state) z l.rows) value l.certificate)) in
+        let rows : l.rows ≡ y.value.certificate = one_certificate (ranks_in r'.digest) y.value.state y.value.certificate l.rows y.answers.certificate certificate in
+        let asker : l.asked.asker ≡ y.value.asker = ap (λ (z : Question). z.asker) is ∙ sym q.related.asker ∙ sym y.answers.asked in
         let same : answer_text (answer l.asked.asker l.value l.rows) ≡ bytes = (λ j. answer_text (answer (asker j) (value j) (rows j))) ∙ sym y.text in
         let long : LIMIT < length bytes = subst (λ (t : List ℕ). LIMIT < length t) same l.long in
         let short = y.within in
@@ -208,8 +209,8 @@ module _ (v : WorldValue) (i : IsWorld v) (r k : ℕ) (m : ReplicaValue) (a : As
               number = at ∙ sym (matched_length (HoldsAnswer n w.asks v.asks) w.answers v.answers s.answers);
               components = λ q d there' is.
                   (let same = same_ask w s q there' in
-                  let e : coordinates d ≡ coordinates r'.reply.value = is ∙ ap (λ (z : Question). (reply w r k z).state) same ∙ sym (delta_is w s r'.digest (ask_of w s).it refl (told w s) r'.reply.value r'.reply.least.state) in
-                  r'.reply.sized ∙ ap size (sym (same_value d r'.reply.value e)));
+                  let e : coordinates d ≡ coordinates r'.reply.value.state = is ∙ ap (λ (z : Question). (reply w r k z).state) same ∙ sym (delta_is w s r'.digest (ask_of w s).it refl (told w s) r'.reply.value.state r'.reply.answers.delta) in
+                  r'.reply.sized ∙ ap size (sym (same_value d r'.reply.value.state e)));
             };
             roster = refl;
           };

@@ -21,3 +21,4 @@ pub mod Steps
 pub mod Sums
 pub mod Tables
 pub mod Taken
+pub mod Values

@@ -15,7 +15,7 @@ use Rattle.rds_state.specs.Fits.{ReplicaValue}
 use Rattle.rds_state.specs.Value.{coordinates}
 use Rattle.rds_world.specs.World.{empty, start}
 use Rattle.rds_world.specs.Stored.{WorldValue}
-use Rattle.rds_world.specs.Stands.{Matched, HoldsAsk, HoldsAnswer, state_of, Stands, IsNew, AreNew, IsWorld}
+use Rattle.rds_world.specs.Stands.{Matched, HoldsAsk, HoldsAnswer, state_of, AreAtTheirPlaces, Stands, IsNew, AreNew, IsWorld}
 use Rattle.rds_world.proofs.Coherent.{coherent_start}
 use Rattle.rds_world.proofs.Tables.{same_some}
 
@@ -38,9 +38,15 @@ new_states roster xs n r h = elim (slice_get xs r) as (λ o. slice_get xs r ≡ 
 ] refl
 
 module _ (v : WorldValue) (memory : AreNew v.roster v.memory (length v.memory)) (kept : AreNew v.roster v.kept (length v.memory)) (asks : v.asks ≡ []) (answers : v.answers ≡ []) where
+  new_places : (replicas : List ReplicaValue) → AreNew v.roster replicas (length v.memory) → AreAtTheirPlaces v.roster replicas
+  new_places replicas new r m e = let is = new.each r m e in (is.same_roster, is.own)
+
   pub stands_start : Stands v (start (length v.memory))
   stands_start = record {
     replicas = refl;
+    same_length = kept.count;
+    memory_places = new_places v.memory memory;
+    kept_places = new_places v.kept kept;
     memory = λ r. new_states v.roster v.memory (length v.memory) r memory;
     kept = λ r. new_states v.roster v.kept (length v.memory) r kept;
     asks = subst (λ l. Matched (HoldsAsk (length v.roster.names)) [] l) (sym asks) tt;
@@ -49,8 +55,8 @@ module _ (v : WorldValue) (memory : AreNew v.roster v.memory (length v.memory)) 
 
   pub start_world : length v.memory ≤ length v.roster.names → IsWorld v
   start_world within = record {
-    memory = λ r m e. (let new = memory.each r m e in (new.same_roster, new.own));
-    kept = λ r m e. (let new = kept.each r m e in (new.same_roster, new.own));
+    memory = new_places v.memory memory;
+    kept = new_places v.kept kept;
     same_length = kept.count;
     within = within;
     asks = λ k a e. absurd (let none : None ≡ Some a = sym (ap (λ l. slice_get l k) asks) ∙ e in cc);

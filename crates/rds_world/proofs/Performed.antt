@@ -126,12 +126,13 @@ module _ (v : WorldValue) (i : IsWorld v) (r : ℕ) (m : ReplicaValue) (lt : r <
         → IsDoneTo v (Edit r c) (Edited e) (record v { memory = set v.memory r x })
     edit_done x e same joins dot killed due =
         let own : r ≡ m.own = sym (i.memory r m there).1 in
+        let at : (x.roster ≡ v.roster) × (x.own ≡ r) = (same.0 ∙ (i.memory r m there).0, same.1 ∙ (i.memory r m there).1) in
         let stands : (w : World) → Stands v w → Stands (record v { memory = set v.memory r x }) (Rattle.rds_world.specs.World.after w (Edit r c)) =
-        λ w s. (let same = in_model w s in stands_memory v w r x (edited (w.memory r) r c) lt (length-set v.memory r x) s
+        λ w s. (let same = in_model w s in stands_memory v w r x (edited (w.memory r) r c) lt at s
         ((λ j. edited (same j) (own j) c) ∙ sym (edit_is (coordinates m.state) (coordinates x.state) m.own c joins))) in
         let accepted : (w : World) → Stands v w → refused w (Edit r c) ≡ None = λ w s. edit_due w s ∙ due in
         record {
-          world = world_memory v i r x lt (same.0 ∙ (i.memory r m there).0, same.1 ∙ (i.memory r m there).1) (model_after v (record v { memory = set v.memory r x }) (Edit r c) (λ w s. (accepted w s, stands w s)) i.model);
+          world = world_memory v i r x lt at (model_after v (record v { memory = set v.memory r x }) (Edit r c) (λ w s. (accepted w s, stands w s)) i.model);
           step = record {
             accepted = λ w s. record { due = accepted w s; few = λ h. h; short = λ h. h };
             stands = stands;
@@ -158,14 +159,14 @@ module _ (v : WorldValue) (i : IsWorld v) (r : ℕ) (m : ReplicaValue) (lt : r <
   pub save_done : (x : ReplicaValue) → x ≡ m → length (snapshot_text m) ≤ LIMIT → IsDoneTo v (Save r) Plain (record v { kept = set v.kept r x })
   save_done x is short =
       let lt_kept : r < length v.kept = subst (λ n. r < n) (sym i.same_length) lt in
-      let at = i.memory r m there in
+      let at : (x.roster ≡ v.roster) × (x.own ≡ r) = (ap (λ (z : ReplicaValue). z.roster) is ∙ (i.memory r m there).0, ap (λ (z : ReplicaValue). z.own) is ∙ (i.memory r m there).1) in
       let stands : (w : World) → Stands v w → Stands (record v { kept = set v.kept r x }) (Rattle.rds_world.specs.World.after w (Save r)) =
-      λ w s. stands_kept v w r x (w.memory r) lt_kept s (in_model w s ∙ ap (λ (z : ReplicaValue). coordinates z.state) (sym is)) in
+      λ w s. stands_kept v w r x (w.memory r) lt_kept at s (in_model w s ∙ ap (λ (z : ReplicaValue). coordinates z.state) (sym is)) in
       let accepted : (w : World) → Stands v w → refused w (Save r) ≡ None = λ w s. is_there r w.replicas None (below w s) in
       record {
         world = record {
           memory = i.memory;
-          kept = places_set v.roster v.kept r x lt_kept (ap (λ (z : ReplicaValue). z.roster) is ∙ at.0, ap (λ (z : ReplicaValue). z.own) is ∙ at.1) i.kept;
+          kept = places_set v.roster v.kept r x lt_kept at i.kept;
           same_length = length-set v.kept r x ∙ i.same_length;
           within = i.within;
           asks = i.asks;
@@ -196,12 +197,12 @@ module _ (v : WorldValue) (i : IsWorld v) (r : ℕ) (m : ReplicaValue) (lt : r <
 
   pub crash_done : (x : ReplicaValue) → x ≡ m → IsDoneTo v (Crash r) Plain (record v { memory = set v.memory r x })
   crash_done x is =
-      let at = i.kept r m there in
+      let at : (x.roster ≡ v.roster) × (x.own ≡ r) = (ap (λ (z : ReplicaValue). z.roster) is ∙ (i.kept r m there).0, ap (λ (z : ReplicaValue). z.own) is ∙ (i.kept r m there).1) in
       let stands : (w : World) → Stands v w → Stands (record v { memory = set v.memory r x }) (Rattle.rds_world.specs.World.after w (Crash r)) =
-      λ w s. stands_memory v w r x (w.kept r) lt (length-set v.memory r x) s (kept_in_model w s ∙ ap (λ (z : ReplicaValue). coordinates z.state) (sym is)) in
+      λ w s. stands_memory v w r x (w.kept r) lt at s (kept_in_model w s ∙ ap (λ (z : ReplicaValue). coordinates z.state) (sym is)) in
       let accepted : (w : World) → Stands v w → refused w (Crash r) ≡ None = λ w s. is_there r w.replicas None (kept_below w s) in
       record {
-        world = world_memory v i r x lt (ap (λ (z : ReplicaValue). z.roster) is ∙ at.0, ap (λ (z : ReplicaValue). z.own) is ∙ at.1) (model_after v (record v { memory = set v.memory r x }) (Crash r) (λ w s. (accepted w s, stands w s)) i.model);
+        world = world_memory v i r x lt at (model_after v (record v { memory = set v.memory r x }) (Crash r) (λ w s. (accepted w s, stands w s)) i.model);
         step = record {
           accepted = λ w s. record { due = accepted w s; few = λ h. h; short = λ h. h };
           stands = stands;

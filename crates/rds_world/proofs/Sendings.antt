@@ -12,20 +12,21 @@ use Rattle.rds_state.specs.Value.{StateValue, coordinates, size}
 use Rattle.rds_state.proofs.FitsLemmas.{fits_dots}
 use Rattle.rds_delta.specs.declared.row.Row.{Row}
 use Rattle.rds_delta.specs.Claims.{IsCertificate}
-use Rattle.rds_delta.specs.Digested.{DigestValue, digest_of, ranks_in}
+use Rattle.rds_delta.specs.Digested.{DigestValue, IsInside, digest_of, ranks_in}
 use Rattle.rds_delta.specs.Least.{IsAbove}
 use Rattle.rds_delta.specs.Ranks.{Ranks}
-use Rattle.rds_delta.proofs.Digests.{ranks_of_digest}
+use Rattle.rds_delta.proofs.Digests.{live_inside, ranks_of_digest}
 use Rattle.rds_delta.proofs.Exchanges.{least_fits}
 use Rattle.rds_delta.proofs.LeastLaws.{least_above}
 use Rattle.rds_codec.specs.AnswerTexts.{IsAnswerOf, answer, answer_text, answer_kind}
 use Rattle.rds_codec.specs.AnswerValues.{AnswerValue}
 use Rattle.rds_codec.specs.Decoding.{Decodes}
 use Rattle.rds_codec.specs.DigestTexts.{digest_kind, DigestFits, IsDigestOf, digest_text}
+use Rattle.rds_codec.specs.Exchanged.{IsAnswerTo, IsLongAnswer}
 use Rattle.rds_bytes.specs.Values.{AreDotsOf, AreFew}
 use Rattle.rds_codec.specs.Writing.{Encodes, IsUnwritten}
 use Rattle.rds_codec.specs.declared.limits.TheConstants.{LIMIT}
-use Rattle.rds_world.specs.Replies.{IsLeastFor, IsReplyTo, IsLongReply, IsCertified, IsTaken, IsUncertified, IsNotTaken, Untaken}
+use Rattle.rds_world.specs.Replies.{IsReplyTo, IsCertified, IsTaken, IsUncertified, IsNotTaken, Untaken}
 use Rattle.rds_world.specs.Stands.{HoldsAsk}
 
 pub fault_is : {T : Type 0} (P : Fault → Type 0) (r : Result T Fault) (f : Fault) → r ≡ Err f → P f → IfErr r P
@@ -43,6 +44,7 @@ holds_ask n own v g (Ok b) is fits text dots value =
       asker = refl;
       digest = g;
       ranks = ap ranks_in is ∙ ranks_of_digest v;
+      inside = subst (λ (d : DigestValue). IsInside d.live d.seen) (sym is) (live_inside v.lives);
       text = text.0;
       within = subst (λ (t : List ℕ). length t ≤ LIMIT) (sym text.0) text.1;
       dots = dots n small;
@@ -51,25 +53,24 @@ holds_ask n own v g (Ok b) is fits text dots value =
 holds_ask n own v g (Err f) is fits text dots value = tt
 
 -- why a text of an answer wasn't made
-pub long_reply : (g : DigestValue) (asker : ℕ) (held value : StateValue) (rows : List Row) (f : Fault) → IsLeastFor g held value rows → IsUnwritten (length (answer_text (answer asker value rows))) f
-    → (f ≡ Memory) ⊎ ((f ≡ TooLong) × IsLongReply g asker held)
+pub long_reply : (g : DigestValue) (asker : ℕ) (held value : StateValue) (rows : List Row) (f : Fault) → IsAnswerTo g asker held (answer asker value rows) → IsUnwritten (length (answer_text (answer asker value rows))) f
+    → (f ≡ Memory) ⊎ ((f ≡ TooLong) × IsLongAnswer g asker held)
 long_reply g asker held value rows f is h = elim h [
   | inl m ↦ inl m.0
-  | inr l ↦ inr (l.0, record { value = value; rows = rows; least = is; long = l.1 })
+  | inr l ↦ inr (l.0, record { value = answer asker value rows; answers = is; long = l.1 })
 ]
 
-pub is_reply : (n : ℕ) (g : DigestValue) (asker : ℕ) (held value : StateValue) (rows : List Row) (bytes : List ℕ) (components : ℕ) → asker < n → Fits n (coordinates held) → IsLeastFor g held value rows
+pub is_reply : (n : ℕ) (g : DigestValue) (asker : ℕ) (held value : StateValue) (rows : List Row) (bytes : List ℕ) (components : ℕ) → asker < n → Fits n (coordinates held) → IsAnswerTo g asker held (answer asker value rows)
     → bytes ≡ answer_text (answer asker value rows) → length (answer_text (answer asker value rows)) ≤ LIMIT
     → ((m : ℕ) → Fits m (coordinates value) → AreDotsOf m (seen_of value.lives))
     → ((m : ℕ) (peer : Ranks) → asker < m → Fits m (coordinates value) → AreFew (seen_of value.lives) → IsAbove (coordinates value) peer → IsCertificate peer value rows → IsAnswerOf m (answer asker value rows))
     → components ≡ size value → IsReplyTo n g asker held bytes components
 is_reply n g asker held value rows bytes components below fits is text within dots again sized =
-    let small : Fits n (coordinates value) = subst (Fits n) (sym is.state) (least_fits n (coordinates held) (ranks_in g) fits) in
-    let above : IsAbove (coordinates value) (ranks_in g) = subst (λ a. IsAbove a (ranks_in g)) (sym is.state) (least_above (coordinates held) (ranks_in g)) in
+    let small : Fits n (coordinates value) = subst (Fits n) (sym is.delta) (least_fits n (coordinates held) (ranks_in g) fits) in
+    let above : IsAbove (coordinates value) (ranks_in g) = subst (λ a. IsAbove a (ranks_in g)) (sym is.delta) (least_above (coordinates held) (ranks_in g)) in
     record {
-      value = value;
-      rows = rows;
-      least = is;
+      value = answer asker value rows;
+      answers = is;
       text = text;
       within = subst (λ (t : List ℕ). length t ≤ LIMIT) (sym text) within;
       dots = dots n small;

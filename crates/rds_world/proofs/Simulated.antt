@@ -1,16 +1,17 @@
 -- A run goes on by one event; and what holds of the model's run holds of the world that stands for it.
 use Rattle.std.proofs.Common.{◌≡◌, Result, Ok, Err, IfOk, ℕ, ◌<◌, ◌≤◌, ◌+◌, suc, zero, List, [], ◌∷◌, ◌++◌, length, take, drop, get_or, Some, refl, sym, ap, ◌∙◌, subst, arith, slice_get, inl}
 use Rattle.std.proofs.lemmas.List.{take_more}
+use Rattle.rds_names.specs.Roster.{RosterValue}
 use Rattle.rds_names.specs.declared.fault.Fault.{Fault}
 use Rattle.rds_state.specs.Fits.{ReplicaValue}
 use Rattle.rds_state.specs.Value.{coordinates}
 use Rattle.rds_state.proofs.JoinLaws.{same_value}
 use Rattle.rds_world.specs.declared.event.Event.{Event}
-use Rattle.rds_world.specs.World.{World, after, start, Accepted}
+use Rattle.rds_world.specs.World.{World, after, run, start, Accepted}
 use Rattle.rds_world.specs.Coherent.{Store, Memory, Kept, state_in}
 use Rattle.rds_world.specs.Events.{IsAccepted, Refuses}
 use Rattle.rds_world.specs.Law.{IsCoherentAfter, AreFriendsAfter, EachIsTheJoin, EachDotIsExplained, EachShowsItsUpdates, SameUpdatesSameState, EachAnswerBringsWhatWasKept, world_after, held_after, bases_after, effects_after, held_in}
-use Rattle.rds_world.specs.Simulation.{Reaches, Stops, Throughout, replicas_in, ReplicasAreJoins, ReplicasShowTheirUpdates, SameUpdatesSameReplicas}
+use Rattle.rds_world.specs.Simulation.{AllHappen, Happens, Reaches, Stops, Throughout, replicas_in, ReplicasAreJoins, ReplicasShowTheirUpdates, SameUpdatesSameReplicas}
 use Rattle.rds_world.specs.Stands.{state_of, Stands}
 use Rattle.rds_world.specs.Stored.{WorldValue}
 use Rattle.rds_world.specs.Updates.{IsJoinOf, ShowsUpdates}
@@ -19,33 +20,42 @@ use Rattle.rds_world.proofs.Coherent.{coherent_start, run_coherent}
 use Rattle.rds_world.proofs.Counters.{store_shows, run_replicas}
 use Rattle.rds_world.proofs.Friends.{friends}
 use Rattle.rds_world.proofs.Facts.{store_join, explained, same_states}
-use Rattle.rds_world.proofs.Runs.{run_on, accepted_on}
+use Rattle.rds_world.proofs.Runs.{run_on}
 use Rattle.rds_world.proofs.Steps.{lawful}
 
 -- ---- one event more
 
-pub reaches_start : (n : ℕ) (v : WorldValue) (es : List Event) → es ≡ [] → Stands v (start n) → Reaches n es v
-reaches_start n v es is s = subst (λ fs. Reaches n fs v) (sym is) (record { accepted = tt; stands = s })
+pub reaches_start : (roster : RosterValue) (v : WorldValue) (es : List Event) → es ≡ [] → Stands v (start (length roster.names)) → Reaches roster es v
+reaches_start roster v es is s = subst (λ fs. Reaches roster fs v) (sym is) (record { happened = tt; stands = s })
 
-module _ (n : ℕ) (xs : List Event) (i : ℕ) (e : Event) (lt : i < length xs) (is : get_or xs i e ≡ e) (v : WorldValue) (reached : Reaches n (take i xs) v) where
-  w : World
-  w = world_after n (take i xs)
+happens_last : (roster : RosterValue) (es : List Event) (e : Event) (w : World) → AllHappen roster es w → Happens roster (run es w) e → AllHappen roster (es ++ e ∷ []) w
+happens_last roster [] e w all last = (last, tt)
+happens_last roster (x ∷ es) e w all last = (all.0, happens_last roster es e (after w x) all.1 last)
 
-  pub reaches_more : (u : WorldValue) → IsAccepted v (world_after n (take i xs)) e → Stands u (after (world_after n (take i xs)) e) → Reaches n (take (i + 1) xs) u
-  reaches_more u accepted stands =
+-- what happens, the model doesn't refuse
+accepted_by_model : (roster : RosterValue) (es : List Event) (w : World) → AllHappen roster es w → Accepted es w
+accepted_by_model roster [] w all = tt
+accepted_by_model roster (e ∷ es) w all = (all.0.accepted.due, accepted_by_model roster es (after w e) all.1)
+
+module _ (roster : RosterValue) (xs : List Event) (i : ℕ) (e : Event) (lt : i < length xs) (is : get_or xs i e ≡ e) (v : WorldValue) (reached : Reaches roster (take i xs) v) where
+  abbrev n : ℕ
+  n = length roster.names
+
+  pub reaches_more : (u : WorldValue) → v.roster ≡ roster → IsAccepted v (world_after n (take i xs)) e → Stands u (after (world_after n (take i xs)) e) → Reaches roster (take (i + 1) xs) u
+  reaches_more u same accepted stands =
       let more : take (i + 1) xs ≡ take i xs ++ e ∷ [] = take_more xs i e lt ∙ ap (λ x. take i xs ++ x ∷ []) is in
-      subst (λ es. Reaches n es u) (sym more) (record {
-        accepted = (accepted_on (take i xs) (e ∷ []) (start n)).1 (reached.accepted, (accepted.due, tt));
+      subst (λ es. Reaches roster es u) (sym more) (record {
+        happened = happens_last roster (take i xs) e (start n) reached.happened (record { value = v; of_roster = same; stands = reached.stands; accepted = accepted });
         stands = subst (Stands u) (sym (run_on (take i xs) (e ∷ []) (start n))) stands;
       })
 
-  pub stops_here : (u : WorldValue) (f : Fault) → u ≡ v → Refuses v (world_after n (take i xs)) e f → Stops n xs u f
+  pub stops_here : (u : WorldValue) (f : Fault) → u ≡ v → Refuses v (world_after n (take i xs)) e f → Stops roster xs u f
   stops_here u f same refused = inl (record {
     before = take i xs;
     last = e;
     later = drop (suc i) xs;
     whole = split xs i e lt is;
-    reached = subst (Reaches n (take i xs)) (sym same) reached;
+    reached = subst (Reaches roster (take i xs)) (sym same) reached;
     refused = subst (λ z. Refuses z (world_after n (take i xs)) e f) (sym same) refused;
   })
     where
@@ -88,19 +98,25 @@ answers_throughout n es before later is a = each_answer_brings n before a
 
 -- ---- the world that was reached
 
-module _ (n : ℕ) (es : List Event) (v : WorldValue) (r : Reaches n es v) where
-  stored : (x : Store) (k : ℕ) (m : ReplicaValue) → slice_get (replicas_in v x) k ≡ Some m → state_in (world_after n es) x k ≡ coordinates m.state
+module _ (roster : RosterValue) (es : List Event) (v : WorldValue) (r : Reaches roster es v) where
+  abbrev size : ℕ
+  size = length roster.names
+
+  accepted : Accepted es (start size)
+  accepted = accepted_by_model roster es (start size) r.happened
+
+  stored : (x : Store) (k : ℕ) (m : ReplicaValue) → slice_get (replicas_in v x) k ≡ Some m → state_in (world_after size es) x k ≡ coordinates m.state
   stored Memory k m e = r.stands.memory k ∙ ap state_of e
   stored Kept k m e = r.stands.kept k ∙ ap state_of e
 
-  pub replicas_are_joins : ReplicasAreJoins n es v
-  replicas_are_joins x k m e = subst (IsJoinOf (effects_after n es) (held_in (held_after es) x k)) (stored x k m e) (joins n es r.accepted x k)
+  pub replicas_are_joins : ReplicasAreJoins size es v
+  replicas_are_joins x k m e = subst (IsJoinOf (effects_after size es) (held_in (held_after es) x k)) (stored x k m e) (joins size es accepted x k)
 
-  pub replicas_show : n ≤ 256 → ReplicasShowTheirUpdates n es v
-  replicas_show le x k m e = subst (ShowsUpdates (held_after es).update (held_after es).size (held_in (held_after es) x k)) (stored x k m e) (shows n es r.accepted le x k)
+  pub replicas_show : size ≤ 256 → ReplicasShowTheirUpdates size es v
+  replicas_show le x k m e = subst (ShowsUpdates (held_after es).update (held_after es).size (held_in (held_after es) x k)) (stored x k m e) (shows size es accepted le x k)
 
-  pub same_replicas : SameUpdatesSameReplicas n es v
-  same_replicas x y k j a b ea eb held = same_value a.state b.state (sym (stored x k a ea) ∙ same n es r.accepted x y k j held ∙ stored y j b eb)
+  pub same_replicas : SameUpdatesSameReplicas size es v
+  same_replicas x y k j a b ea eb held = same_value a.state b.state (sym (stored x k a ea) ∙ same size es accepted x y k j held ∙ stored y j b eb)
 
 pub if_ok : {T E : Type 0} (P Q : T → Type 0) (r : Result T E) → ((x : T) → P x → Q x) → IfOk r P → IfOk r Q
 if_ok P Q (Ok x) f p = f x p

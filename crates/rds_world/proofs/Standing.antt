@@ -1,7 +1,7 @@
 -- What stands for a world of the model before an event stands for the world after it.
 use Rattle.std.proofs.Common.{◌≡◌, ℕ, ◌<◌, suc, zero, Bool, true, false, cond, List, [], ◌∷◌, ◌++◌, length, Option, Some, None, refl, sym, ap, ◌∙◌, arith, ◌==◌, slice_get}
 use mathlib.Core.Logic.{∥∥₁_map}
-use Rattle.std.proofs.Math.ListN.{set}
+use Rattle.std.proofs.Math.ListN.{set, length-set}
 use Rattle.std.proofs.lemmas.Bool.Decides.{nat_tests}
 use Rattle.rds_names.specs.Roster.{RosterValue}
 use Rattle.rds_state.specs.Coordinates.{Coordinates}
@@ -60,20 +60,26 @@ places_set roster xs r x h at all s m is = place_case roster r s x m (slice_get 
 
 -- ---- the parts of a world
 
-pub stands_memory : (v : WorldValue) (w : World) (r : ℕ) (x : ReplicaValue) (c : Coordinates) → r < length v.memory → length (set v.memory r x) ≡ length v.memory → Stands v w → c ≡ coordinates x.state
+pub stands_memory : (v : WorldValue) (w : World) (r : ℕ) (x : ReplicaValue) (c : Coordinates) → r < length v.memory → (x.roster ≡ v.roster) × (x.own ≡ r) → Stands v w → c ≡ coordinates x.state
     → Stands (record v { memory = set v.memory r x }) (record w { memory = put w.memory r c })
-stands_memory v w r x c h len s is = record {
-  replicas = s.replicas ∙ sym len;
+stands_memory v w r x c h at s is = record {
+  replicas = s.replicas ∙ sym (length-set v.memory r x);
+  same_length = s.same_length ∙ sym (length-set v.memory r x);
+  memory_places = places_set v.roster v.memory r x h at s.memory_places;
+  kept_places = s.kept_places;
   memory = state_put v.memory w.memory r x c h s.memory is;
   kept = s.kept;
   asks = s.asks;
   answers = s.answers;
 }
 
-pub stands_kept : (v : WorldValue) (w : World) (r : ℕ) (x : ReplicaValue) (c : Coordinates) → r < length v.kept → Stands v w → c ≡ coordinates x.state
+pub stands_kept : (v : WorldValue) (w : World) (r : ℕ) (x : ReplicaValue) (c : Coordinates) → r < length v.kept → (x.roster ≡ v.roster) × (x.own ≡ r) → Stands v w → c ≡ coordinates x.state
     → Stands (record v { kept = set v.kept r x }) (record w { kept = put w.kept r c })
-stands_kept v w r x c h s is = record {
+stands_kept v w r x c h at s is = record {
   replicas = s.replicas;
+  same_length = length-set v.kept r x ∙ s.same_length;
+  memory_places = s.memory_places;
+  kept_places = places_set v.roster v.kept r x h at s.kept_places;
   memory = s.memory;
   kept = state_put v.kept w.kept r x c h s.kept is;
   asks = s.asks;
@@ -102,6 +108,9 @@ pub stands_asked : (v : WorldValue) (w : World) (q : Question) (a : AskText) →
     → Stands (record v { asks = v.asks ++ a ∷ [] }) (record w { asks = w.asks ++ q ∷ [] })
 stands_asked v w q a s h = record {
   replicas = s.replicas;
+  same_length = s.same_length;
+  memory_places = s.memory_places;
+  kept_places = s.kept_places;
   memory = s.memory;
   kept = s.kept;
   asks = matched_last (HoldsAsk (length v.roster.names)) w.asks v.asks q a s.asks h;
@@ -112,6 +121,9 @@ pub stands_answered : (v : WorldValue) (w : World) (m : Reply) (a : AnswerText) 
     → Stands (record v { answers = v.answers ++ a ∷ [] }) (record w { answers = w.answers ++ m ∷ [] })
 stands_answered v w m a s h = record {
   replicas = s.replicas;
+  same_length = s.same_length;
+  memory_places = s.memory_places;
+  kept_places = s.kept_places;
   memory = s.memory;
   kept = s.kept;
   asks = s.asks;

@@ -3,7 +3,7 @@ use Rattle.std.proofs.Common.{◌≡◌, ℕ, ◌<◌, ◌≤◌, inl, inr, Bool
 use mathlib.Core.Bool.{false≢true}
 use mathlib.Core.HLevel.{⊥_prop}
 use mathlib.Core.Logic.{∥∥₁_elim}
-use Rattle.std.proofs.Math.ListN.{set, length-set}
+use Rattle.std.proofs.Math.ListN.{set}
 use Rattle.rds_names.specs.Roster.{RosterValue}
 use Rattle.rds_names.specs.declared.fault.Fault.{Fault}
 use Rattle.rds_names.specs.declared.fault.Fault.TheVariants.{Memory, NoSuch}
@@ -152,19 +152,19 @@ module _ (v : WorldValue) (i : IsWorld v) (k : ℕ) (t : AnswerText) (a : AskTex
       → IsDoneTo v (Take k) Plain (record v { memory = set v.memory t.asker x })
   take_done x lt same is =
       let read : Decodes (answer_kind n) t.bytes (Ok is.answer) = subst (λ j. Decodes (answer_kind j) t.bytes (Ok is.answer)) same_roster is.read in
-      let at = i.memory t.asker m there in
+      let at : (x.roster ≡ v.roster) × (x.own ≡ t.asker) = (same.0 ∙ (i.memory t.asker m there).0, same.1 ∙ (i.memory t.asker m there).1) in
       let stands : (w : World) → Stands v w → Stands (record v { memory = set v.memory t.asker x }) (after w (Take k)) =
       λ w s.
       (let y = answer_of w s in
       let mine = in_model w s in
       let sent = state_is w s is.answer read in
       let joined : join (w.memory t.asker) y.it.state ≡ coordinates x.state = (λ j. join (mine j) y.it.state) ∙ ap (λ b. join (coordinates m.state) b) (sym sent) ∙ sym is.joined in
-      let one = stands_memory v w t.asker x (join (w.memory t.asker) y.it.state) lt (length-set v.memory t.asker x) s joined in
+      let one = stands_memory v w t.asker x (join (w.memory t.asker) y.it.state) lt at s joined in
       let two : Stands (record v { memory = set v.memory t.asker x }) (record w { memory = put w.memory y.it.asker (join (w.memory y.it.asker) y.it.state) }) =
       subst (λ o. Stands (record v { memory = set v.memory t.asker x }) (record w { memory = put w.memory o (join (w.memory o) y.it.state) })) y.related.asker one in
       subst (Stands (record v { memory = set v.memory t.asker x })) (sym (ap (taken w) y.there)) two) in
       record {
-        world = world_memory v i t.asker x lt (same.0 ∙ at.0, same.1 ∙ at.1) (model_after v (record v { memory = set v.memory t.asker x }) (Take k) (λ w s. (due w s, stands w s)) i.model);
+        world = world_memory v i t.asker x lt at (model_after v (record v { memory = set v.memory t.asker x }) (Take k) (λ w s. (due w s, stands w s)) i.model);
         step = record {
           accepted = λ w s. record {
             due = due w s;

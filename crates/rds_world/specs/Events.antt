@@ -10,10 +10,10 @@ use Rattle.rds_state.specs.declared.command.Command.{Command}
 use Rattle.rds_state.specs.declared.command.Edited.{Edited as Effected}
 use Rattle.rds_delta.specs.declared.row.Row.{Row}
 use Rattle.rds_delta.specs.Claims.{IsCertificate}
-use Rattle.rds_delta.specs.Digested.{digest_of}
 use Rattle.rds_delta.specs.Ranks.{ranks}
 use Rattle.rds_codec.specs.AnswerTexts.{HasTooManySent, answer, answer_text}
-use Rattle.rds_codec.specs.DigestTexts.{HasTooManyInDigest, digest_text}
+use Rattle.rds_codec.specs.DigestTexts.{HasTooManyInDigest}
+use Rattle.rds_codec.specs.Exchanged as exchanged
 use Rattle.rds_codec.specs.StateTexts.{snapshot_text}
 use Rattle.rds_codec.specs.declared.limits.TheConstants.{LIMIT}
 use Rattle.rds_world.specs.declared.event.Event.{Event}
@@ -33,7 +33,7 @@ pub record IsLongSnapshot (v : WorldValue) (r : ℕ) : Type 0 where
 pub record IsLongDigest (v : WorldValue) (r : ℕ) : Type 0 where
   pub replica : ReplicaValue
   pub there : slice_get v.kept r ≡ Some replica
-  pub long : LIMIT < length (digest_text (digest_of replica.state))
+  pub long : exchanged.IsLongDigest replica.state
 
 -- the answer of s to ask k is above the limit
 pub record IsLongAnswer (w : World) (s k : ℕ) : Type 0 where

@@ -1,44 +1,32 @@
 -- What the bytes of an answer hold, and why an answer isn't taken.
-use Rattle.std.specs.Prelude.{◌≡◌, ◌<◌, ◌≤◌, ℕ, List, length, Ok, Err}
+use Rattle.std.specs.Prelude.{◌≡◌, ◌≤◌, ℕ, List, length, Ok, Err}
 use Rattle.rds_names.specs.declared.fault.Fault.{Fault}
 use Rattle.rds_names.specs.declared.fault.Fault.TheVariants.{Memory, TooLong, BadCertificate}
 use Rattle.rds_life.specs.Life.{seen_of}
 use Rattle.rds_state.specs.Ahead.{TakeGives}
 use Rattle.rds_state.specs.Coordinates.{join}
 use Rattle.rds_state.specs.Value.{StateValue, coordinates, size}
-use Rattle.rds_delta.specs.declared.row.Row.{Row}
 use Rattle.rds_delta.specs.Claims.{IsCertificate}
 use Rattle.rds_delta.specs.Digested.{DigestValue, ranks_in}
-use Rattle.rds_delta.specs.Least.{IsAbove, least}
-use Rattle.rds_codec.specs.AnswerTexts.{IsAnswerOf, answer, answer_text, answer_kind}
+use Rattle.rds_delta.specs.Least.{IsAbove}
+use Rattle.rds_codec.specs.AnswerTexts.{IsAnswerOf, answer_text, answer_kind}
 use Rattle.rds_codec.specs.AnswerValues.{AnswerValue}
 use Rattle.rds_codec.specs.CertificateTexts.{IsReplicaOf}
 use Rattle.rds_codec.specs.Decoding.{Decodes}
 use Rattle.rds_codec.specs.DigestTexts.{digest_kind}
+use Rattle.rds_codec.specs.Exchanged.{IsAnswerTo, IsLongAnswer}
 use Rattle.rds_bytes.specs.Values.{AreDotsOf, AreFew}
 use Rattle.rds_codec.specs.declared.limits.TheConstants.{LIMIT}
 
--- the least delta of a state against a digest, and its certificate
-pub record IsLeastFor (digest : DigestValue) (held value : StateValue) (rows : List Row) : Type 0 where
-  pub state : coordinates value ≡ least (coordinates held) (ranks_in digest)
-  pub certificate : IsCertificate (ranks_in digest) value rows
-
 -- The bytes are the text of the answer, of so many components, for one of n replicas. It is read again where its dots are few.
 pub record IsReplyTo (n : ℕ) (digest : DigestValue) (asker : ℕ) (held : StateValue) (bytes : List ℕ) (components : ℕ) : Type 0 where
-  pub value : StateValue
-  pub rows : List Row
-  pub least : IsLeastFor digest held value rows
-  pub text : bytes ≡ answer_text (answer asker value rows)
+  pub value : AnswerValue
+  pub answers : IsAnswerTo digest asker held value
+  pub text : bytes ≡ answer_text value
   pub within : length bytes ≤ LIMIT
-  pub dots : AreDotsOf n (seen_of value.lives)
-  pub again : AreFew (seen_of value.lives) → IsAnswerOf n (answer asker value rows)
-  pub sized : components ≡ size value
-
-pub record IsLongReply (digest : DigestValue) (asker : ℕ) (held : StateValue) : Type 0 where
-  pub value : StateValue
-  pub rows : List Row
-  pub least : IsLeastFor digest held value rows
-  pub long : LIMIT < length (answer_text (answer asker value rows))
+  pub dots : AreDotsOf n (seen_of value.state.lives)
+  pub again : AreFew (seen_of value.state.lives) → IsAnswerOf n value
+  pub sized : components ≡ size value.state
 
 -- the digest in the bytes was read, and the answer made
 pub record IsReply (n : ℕ) (ask : List ℕ) (asker : ℕ) (held : StateValue) (bytes : List ℕ) (components : ℕ) : Type 0 where
@@ -51,7 +39,7 @@ pub record IsReply (n : ℕ) (ask : List ℕ) (asker : ℕ) (held : StateValue) 
 pub data HasNoReply (n : ℕ) (ask : List ℕ) (asker : ℕ) (held : StateValue) (fault : Fault) : Type 0 where
   Lacks : fault ≡ Memory → HasNoReply n ask asker held fault
   Unread : Decodes (digest_kind n) ask (Err fault) → HasNoReply n ask asker held fault
-  TooBig : (digest : DigestValue) → Decodes (digest_kind n) ask (Ok digest) → fault ≡ TooLong → IsLongReply digest asker held → HasNoReply n ask asker held fault
+  TooBig : (digest : DigestValue) → Decodes (digest_kind n) ask (Ok digest) → fault ≡ TooLong → IsLongAnswer digest asker held → HasNoReply n ask asker held fault
 
 -- the delta is above the digest, and the certificate is that of the delta against it
 abbrev pub IsCertified : DigestValue → AnswerValue → Type 0

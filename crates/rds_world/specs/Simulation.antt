@@ -1,31 +1,45 @@
 -- How far a list of events goes, and what holds of all that was reached on the way.
-use Rattle.std.specs.Prelude.{◌≡◌, ◌⊎◌, ℕ, List, ◌∷◌, ◌++◌, Some, [], slice_get}
+use Rattle.std.specs.Prelude.{◌≡◌, ◌⊎◌, ℕ, List, ◌∷◌, ◌++◌, Some, [], length, slice_get}
 use Rattle.rds_names.specs.declared.fault.Fault.{Fault}
 use Rattle.rds_names.specs.declared.fault.Fault.TheVariants.{Memory}
+use Rattle.rds_names.specs.Roster.{RosterValue}
 use Rattle.rds_state.specs.Fits.{ReplicaValue}
 use Rattle.rds_state.specs.Value.{coordinates}
 use Rattle.rds_world.specs.declared.event.Event.{Event}
-use Rattle.rds_world.specs.World.{start, Accepted}
+use Rattle.rds_world.specs.World.{World, after, start, Accepted}
 use Rattle.rds_world.specs.Stored.{WorldValue}
 use Rattle.rds_world.specs.Stands.{Stands}
-use Rattle.rds_world.specs.Events.{Refuses}
+use Rattle.rds_world.specs.Events.{IsAccepted, Refuses}
 use Rattle.rds_world.specs.Coherent.{Store, Memory as InMemory, Kept as AsKept}
 use Rattle.rds_world.specs.Law.{world_after, held_after, held_in, effects_after}
 use Rattle.rds_world.specs.Updates.{IsJoinOf, ShowsUpdates}
 
--- all events were accepted, and the world stands for the model's after them
-pub record Reaches (n : ℕ) (es : List Event) (v : WorldValue) : Type 0 where
-  pub accepted : Accepted es (start n)
-  pub stands : Stands v (world_after n es)
+-- what stands for the model's world, of this roster, accepts the event: nothing that it reads is too large, and nothing that
+-- it makes is too long
+pub record Happens (roster : RosterValue) (w : World) (e : Event) : Type 0 where
+  pub value : WorldValue
+  pub of_roster : value.roster ≡ roster
+  pub stands : Stands value w
+  pub accepted : IsAccepted value w e
+
+-- each event of the list happens, one after the other
+abbrev pub AllHappen : RosterValue → List Event → World → Type 0
+AllHappen roster [] w = Unit {0}
+AllHappen roster (e ∷ es) w = Happens roster w e × AllHappen roster es (after w e)
+
+-- all events happened, and the world stands for the model's after them
+pub record Reaches (roster : RosterValue) (es : List Event) (v : WorldValue) : Type 0 where
+  pub happened : AllHappen roster es (start (length roster.names))
+  pub stands : Stands v (world_after (length roster.names) es)
 
 -- the world was reached before an event that is refused so
-pub record StopsAt (n : ℕ) (es : List Event) (v : WorldValue) (fault : Fault) : Type 0 where
+pub record StopsAt (roster : RosterValue) (es : List Event) (v : WorldValue) (fault : Fault) : Type 0 where
   pub before : List Event
   pub last : Event
   pub later : List Event
   pub whole : es ≡ before ++ last ∷ later
-  pub reached : Reaches n before v
-  pub refused : Refuses v (world_after n before) last fault
+  pub reached : Reaches roster before v
+  pub refused : Refuses v (world_after (length roster.names) before) last fault
 
 -- there was no memory for the replicas
 pub record HasNoReplicas (v : WorldValue) (fault : Fault) : Type 0 where
@@ -34,8 +48,8 @@ pub record HasNoReplicas (v : WorldValue) (fault : Fault) : Type 0 where
   pub kept : v.kept ≡ []
 
 -- why a list of events wasn't gone through
-abbrev pub Stops : ℕ → List Event → WorldValue → Fault → Type 0
-Stops n es v fault = StopsAt n es v fault ⊎ HasNoReplicas v fault
+abbrev pub Stops : RosterValue → List Event → WorldValue → Fault → Type 0
+Stops roster es v fault = StopsAt roster es v fault ⊎ HasNoReplicas v fault
 
 -- it is said of each beginning of the events none of which was refused
 abbrev pub Throughout : ℕ → List Event → (ℕ → List Event → Type 0) → Type 0

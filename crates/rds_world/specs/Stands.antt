@@ -8,7 +8,7 @@ use Rattle.rds_state.specs.Fits.{ReplicaValue}
 use Rattle.rds_state.specs.Value.{StateValue, coordinates}
 use Rattle.rds_delta.specs.declared.row.Row.{Row}
 use Rattle.rds_delta.specs.Claims.{IsCertificate}
-use Rattle.rds_delta.specs.Digested.{DigestValue, ranks_in}
+use Rattle.rds_delta.specs.Digested.{DigestValue, IsInside, ranks_in}
 use Rattle.rds_delta.specs.Ranks.{ranks}
 use Rattle.rds_codec.specs.AnswerTexts.{IsAnswerOf, answer, answer_text}
 use Rattle.rds_codec.specs.CertificateTexts.{IsReplicaOf}
@@ -37,6 +37,7 @@ pub record HoldsAsk (n : ℕ) (q : Question) (a : AskText) : Type 0 where
   pub asker : a.asker ≡ q.asker
   pub digest : DigestValue
   pub ranks : ranks_in digest ≡ ranks q.state
+  pub inside : IsInside digest.live digest.seen
   pub text : a.bytes ≡ digest_text digest
   pub within : length a.bytes ≤ LIMIT
   pub dots : AreDotsOf n digest.seen
@@ -67,23 +68,31 @@ pub record HoldsAnswer (n : ℕ) (asks : List Question) (texts : List AskText) (
   pub dots : AreDotsOf n (seen_of value.lives)
   pub again : AreFew (seen_of value.lives) → IsAnswerOf n (answer a.asker value rows)
 
--- the replicas have the states of the model's, and the bytes are the texts of its asks and answers
+-- each replica is of the roster, and its number is its place
+abbrev pub AreAtTheirPlaces : RosterValue → List ReplicaValue → Type 0
+AreAtTheirPlaces roster replicas = (r : ℕ) (m : ReplicaValue) → slice_get replicas r ≡ Some m → (m.roster ≡ roster) × (m.own ≡ r)
+
+-- The replicas are the roster's, with their numbers, and have the states of the model's; and the bytes are the texts of its
+-- asks and answers.
 pub record Stands (v : WorldValue) (w : World) : Type 0 where
   pub replicas : w.replicas ≡ length v.memory
+  pub same_length : length v.kept ≡ length v.memory
+  pub memory_places : AreAtTheirPlaces v.roster v.memory
+  pub kept_places : AreAtTheirPlaces v.roster v.kept
   pub memory : (r : ℕ) → w.memory r ≡ state_of (slice_get v.memory r)
   pub kept : (r : ℕ) → w.kept r ≡ state_of (slice_get v.kept r)
   pub asks : Matched (HoldsAsk (length v.roster.names)) w.asks v.asks
   pub answers : Matched (HoldsAnswer (length v.roster.names) w.asks v.asks) w.answers v.answers
+
+-- of one roster, one value alone stands for a world of the model
+abbrev pub WorldsHaveOneValue : Type 0
+WorldsHaveOneValue = (v u : WorldValue) (w : World) → v.roster ≡ u.roster → Stands v w → Stands u w → v ≡ u
 
 -- a coherent world of the model that the value stands for
 pub record HasModel (v : WorldValue) : Type 0 where
   pub world : World
   pub stands : Stands v world
   pub coherent : IsCoherent world
-
--- each replica is of the roster, and its number is its place
-abbrev pub AreAtTheirPlaces : RosterValue → List ReplicaValue → Type 0
-AreAtTheirPlaces roster replicas = (r : ℕ) (m : ReplicaValue) → slice_get replicas r ≡ Some m → (m.roster ≡ roster) × (m.own ≡ r)
 
 -- who asked is of the roster, and so is who asked for an answer, whose ask is there
 abbrev pub AreAsks : WorldValue → Type 0

@@ -22,6 +22,7 @@ ghost use Rattle.rds_world.specs.Law.{
   EachAnswerBringsWhatWasKept,
 };
 ghost use Rattle.rds_world.specs.Example.{add_to_s, lost_and_again};
+ghost use Rattle.rds_world.specs.Stands.{WorldsHaveOneValue};
 ghost use Rattle.rds_world.specs.World.{World, start, run, Accepted};
 ghost use Rattle.rds_world.specs.declared.event.Event.{Event};
 
@@ -41,6 +42,13 @@ pub fn coherent_replicas_are_friends()
     ensures friends { (w : World) → IsCoherent w → ReplicasAreFriends w }
     ensures take { (w : World) → IsCoherent w → AnswersMayBeTaken w }
     ensures accepted { (w : World) → IsCoherent w → NoDeliveryIsRefused w }
+{}
+
+/// A world of the model and a roster determine the replicas in memory and as kept, and the bytes of each ask and answer.
+/// So what is said of some value of a roster that stands for a world, as when a text of it is too long, is said of the
+/// one there is.
+pub fn worlds_have_one_value()
+    ensures { WorldsHaveOneValue }
 {}
 
 /// What an edit does is determined by its command and the state on which it runs.

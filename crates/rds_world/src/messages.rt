@@ -1,12 +1,12 @@
 //! What goes between replicas as bytes.
-ghost use Rattle.std.specs.Prelude.{◌≡◌, ◌<◌, ◌≤◌, ◌⊎◌, ℕ, IfOk, IfErr, OnOk, OnErr, Err, length};
-ghost use Rattle.rds_names.specs.declared.fault.Fault.TheVariants.{Memory, TooLong};
+ghost use Rattle.std.specs.Prelude.{◌≡◌, ◌<◌, ◌≤◌, ℕ, IfOk, IfErr, OnOk, OnErr, Err, length};
 ghost use Rattle.rds_state.specs.Fits.{Fits};
 ghost use Rattle.rds_state.specs.Value.{coordinates};
 ghost use Rattle.rds_delta.specs.Digested.{digest_of};
 ghost use Rattle.rds_codec.specs.DigestTexts.{digest_text};
+ghost use Rattle.rds_codec.specs.Exchanged.{IsLongAnswer, IsLongDigest, IsLost};
 ghost use Rattle.rds_codec.specs.declared.limits.TheConstants.{LIMIT};
-ghost use Rattle.rds_world.specs.Replies.{IsReplyTo, IsLongReply, IsReply, HasNoReply, IsTaken, IsNotTaken};
+ghost use Rattle.rds_world.specs.Replies.{IsReplyTo, IsReply, HasNoReply, IsTaken, IsNotTaken};
 ghost use Rattle.rds_world.specs.Stands.{HoldsAsk};
 
 use rds_codec::{decode_answer, decode_digest, encode_answer, encode_digest};
@@ -20,7 +20,7 @@ use std::alloc::Global;
 pub fn ask<S: DotSet>(alloc: Global, kept: &Replica<S>) -> Result<Vec<u8>, Fault>
     ensures ok { IfOk result (λ bytes. HoldsAsk (length kept.now.roster.names) (record { asker = kept.now.own; state = coordinates kept.now.state }) (record { asker = kept.now.own; bytes = bytes.items })) }
     ensures short { OnOk result (length (digest_text (digest_of kept.now.state)) ≤ LIMIT) }
-    ensures fault { IfErr result (λ fault. (fault ≡ Memory) ⊎ ((fault ≡ TooLong) × (LIMIT < length (digest_text (digest_of kept.now.state))))) }
+    ensures fault { IfErr result (IsLost (IsLongDigest kept.now.state)) }
 {
     let digest = Digest::of(alloc, kept.state())?;
     encode_digest(alloc, &digest)
@@ -35,7 +35,7 @@ fn reply<S: DotSet>(
     digest: &Digest<S>,
 ) -> Result<(Vec<u8>, u128), Fault>
     ensures ok { IfOk result (λ p. (n : ℕ) → asker < n → Fits n (coordinates kept.now) → IsReplyTo n digest.now asker kept.now p.0.items p.1) }
-    ensures fault { IfErr result (λ fault. (fault ≡ Memory) ⊎ ((fault ≡ TooLong) × IsLongReply digest.now asker kept.now)) }
+    ensures fault { IfErr result (IsLost (IsLongAnswer digest.now asker kept.now)) }
 {
     let delta = delta(alloc, kept, digest)?;
     let certificate = certificate(alloc, digest, &delta)?;

@@ -19,8 +19,8 @@ pub fn simulate<S: DotSet>(
     roster: Roster,
     events: &[Event],
 ) -> Result<World<S>, (World<S>, Fault)>
-    ensures reached { IfOk result (λ world. Reaches (length roster.names) events.now world) }
-    ensures stopped { IfErr result (λ e. Stops (length roster.names) events.now e.0 e.1) }
+    ensures reached { IfOk result (λ world. Reaches roster events.now world) }
+    ensures stopped { IfErr result (λ e. Stops roster events.now e.0 e.1) }
     ensures roster { MatchResult result (λ world. world.roster ≡ roster) (λ e. e.0.roster ≡ roster) }
     ensures joins { IfOk result (λ world. ReplicasAreJoins (length roster.names) events.now world) }
     ensures documents { IfOk result (λ world. ReplicasShowTheirUpdates (length roster.names) events.now world) }
@@ -42,8 +42,8 @@ fn go_through<S: DotSet>(
     roster: Roster,
     events: &[Event],
 ) -> Result<World<S>, (World<S>, Fault)>
-    ensures reached { IfOk result (λ world. Reaches (length roster.names) events.now world) }
-    ensures stopped { IfErr result (λ e. Stops (length roster.names) events.now e.0 e.1) }
+    ensures reached { IfOk result (λ world. Reaches roster events.now world) }
+    ensures stopped { IfErr result (λ e. Stops roster events.now e.0 e.1) }
     ensures roster { MatchResult result (λ world. world.roster ≡ roster) (λ e. e.0.roster ≡ roster) }
     ensures few { length roster.names ≤ 256 }
 {

@@ -102,6 +102,8 @@ impl<S: DotSet> World<S> {
     /// What the replica with this number has in memory.
     pub fn memory(&self, number: u8) -> Result<&Replica<S>, Fault>
         ensures there { IfOk result (λ replica. slice_get self.now.memory number ≡ Some replica.now) }
+        ensures own { IfOk result (λ replica. replica.now.own ≡ number) }
+        ensures roster { IfOk result (λ replica. replica.now.roster ≡ self.now.roster) }
         ensures absent { IfErr result (λ fault. (fault ≡ NoSuch) × (slice_get self.now.memory number ≡ None)) }
     {
         match self.memory.get(usize::from(number)) {
@@ -113,6 +115,8 @@ impl<S: DotSet> World<S> {
     /// What the replica with this number has kept.
     pub fn kept(&self, number: u8) -> Result<&Kept<S>, Fault>
         ensures there { IfOk result (λ kept. slice_get self.now.kept number ≡ Some kept.now) }
+        ensures own { IfOk result (λ kept. kept.now.own ≡ number) }
+        ensures roster { IfOk result (λ kept. kept.now.roster ≡ self.now.roster) }
         ensures absent { IfErr result (λ fault. (fault ≡ NoSuch) × (slice_get self.now.kept number ≡ None)) }
     {
         match self.kept.get(usize::from(number)) {

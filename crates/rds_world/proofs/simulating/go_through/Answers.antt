@@ -5,14 +5,14 @@ use Rattle.rds_world.proofs.Simulated.{reaches_start, reaches_more, stops_here}
 use Rattle.rds_world.proofs.simulating.go_through.Goals as goal
 
 pub happening-init : goal.happening-init
-happening-init g c = (reaches_start (length c.args.roster.names) c.in-Ok.world (take 0 c.args.events.now) refl c.in-Ok.ensures.start, c.in-Ok.ensures.roster)
+happening-init g c = (reaches_start c.args.roster c.in-Ok.world (take 0 c.args.events.now) refl c.in-Ok.ensures.start, c.in-Ok.ensures.roster)
 
 pub returns-in-Err-step-clause-stopped : goal.returns-in-Err-step-clause-stopped
 returns-in-Err-step-clause-stopped g c =
     let n = length c.args.roster.names in
     let i = c.happening.event-index in
     let w = world_after n (take i c.args.events.now) in
-    stops_here n c.args.events.now i c.event-item.result c.happening-test.true (sym c.event-item.is) c.happening.world c.happening.invariant.0 c.step.new.self c.in-Err-step.fault c.in-Err-step.ensures.err
+    stops_here c.args.roster c.args.events.now i c.event-item.result c.happening-test.true (sym c.event-item.is) c.happening.world c.happening.invariant.0 c.step.new.self c.in-Err-step.fault c.in-Err-step.ensures.err
     (c.in-Err-step.ensures.refused w c.happening.invariant.0.stands)
 
 pub happening-preserved : goal.happening-preserved
@@ -20,11 +20,11 @@ happening-preserved g c =
     let n = length c.args.roster.names in
     let i = c.happening.event-index in
     let w = world_after n (take i c.args.events.now) in (
-      reaches_more n c.args.events.now i c.event-item.result c.happening-test.true (sym c.event-item.is) c.happening.world c.happening.invariant.0 c.step.new.self
-          (c.in-Ok-step.ensures.accepted w c.happening.invariant.0.stands) (c.in-Ok-step.ensures.after w c.happening.invariant.0.stands),
+      reaches_more c.args.roster c.args.events.now i c.event-item.result c.happening-test.true (sym c.event-item.is) c.happening.world c.happening.invariant.0 c.step.new.self
+          c.happening.invariant.1 (c.in-Ok-step.ensures.accepted w c.happening.invariant.0.stands) (c.in-Ok-step.ensures.after w c.happening.invariant.0.stands),
       c.step.ensures.roster ∙ c.happening.invariant.1,
     )
 
 pub returns-clause-reached : goal.returns-clause-reached
 returns-clause-reached g c =
-    subst (λ es. Reaches (length c.args.roster.names) es c.happening.world) (take_all c.happening.event-index c.args.events.now c.happening-test.false) c.happening.invariant.0
+    subst (λ es. Reaches c.args.roster es c.happening.world) (take_all c.happening.event-index c.args.events.now c.happening-test.false) c.happening.invariant.0

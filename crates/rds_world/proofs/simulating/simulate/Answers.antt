@@ -5,21 +5,24 @@ use Rattle.rds_world.proofs.simulating.simulate.Goals as goal
 
 pub returns-clause-joins : goal.returns-clause-joins
 returns-clause-joins g c =
-    let n = length c.args.roster.names in
+    let roster = c.args.roster in
+    let n = length roster.names in
     let es = c.args.events.now in
-    if_ok (Reaches n es) (ReplicasAreJoins n es) c.go_through.result (replicas_are_joins n es) c.go_through.ensures.reached
+    if_ok (Reaches roster es) (ReplicasAreJoins n es) c.go_through.result (replicas_are_joins roster es) c.go_through.ensures.reached
 
 pub returns-clause-documents : goal.returns-clause-documents
 returns-clause-documents g c =
-    let n = length c.args.roster.names in
+    let roster = c.args.roster in
+    let n = length roster.names in
     let es = c.args.events.now in
-    if_ok (Reaches n es) (ReplicasShowTheirUpdates n es) c.go_through.result (λ v r. replicas_show n es v r c.go_through.ensures.few) c.go_through.ensures.reached
+    if_ok (Reaches roster es) (ReplicasShowTheirUpdates n es) c.go_through.result (λ v r. replicas_show roster es v r c.go_through.ensures.few) c.go_through.ensures.reached
 
 pub returns-clause-same : goal.returns-clause-same
 returns-clause-same g c =
-    let n = length c.args.roster.names in
+    let roster = c.args.roster in
+    let n = length roster.names in
     let es = c.args.events.now in
-    if_ok (Reaches n es) (SameUpdatesSameReplicas n es) c.go_through.result (same_replicas n es) c.go_through.ensures.reached
+    if_ok (Reaches roster es) (SameUpdatesSameReplicas n es) c.go_through.result (same_replicas roster es) c.go_through.ensures.reached
 
 pub returns-clause-coherent_throughout : goal.returns-clause-coherent_throughout
 returns-clause-coherent_throughout g c = coherent_throughout (length c.args.roster.names) c.args.events.now
