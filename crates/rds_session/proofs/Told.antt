@@ -24,6 +24,7 @@ use Rattle.rds_bytes.specs.Reading.{◌>>=◌, Reader}
 use Rattle.rds_codec.specs.Decoding.{all_of}
 use Rattle.rds_codec.specs.StateTexts.{IsSnapshot}
 use Rattle.rds_codec.specs.declared.hellos.Hello.{Hello}
+use Rattle.rds_codec.specs.declared.hellos.TheConstants.{VERSION}
 use Rattle.rds_codec.specs.declared.limits.TheConstants.{LIMIT}
 use Rattle.rds_codec.proofs.AnswerFormats.{answer_reader}
 use Rattle.rds_codec.proofs.DigestFormats.{digest_reader}
@@ -61,7 +62,7 @@ names_few names h = le_true (length names) 256 (and_right (nat_le 1 (length name
 -- ---- HELLO
 
 hello_of : ReplicaValue → Hello
-hello_of from = record { version = 1; roster = from.roster; own = from.own }
+hello_of from = record { version = VERSION; roster = from.roster; own = from.own }
 
 hello_again : (from : ReplicaValue) → IsSnapshot from → length (hello_text (hello_of from)) ≤ LIMIT → hello_in (hello_text (hello_of from)) ≡ Ok (hello_of from)
 unfolding hello_in hello_of

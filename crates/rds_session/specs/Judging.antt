@@ -17,6 +17,7 @@ use Rattle.rds_session.specs.declared.talk.Stop.{Stop}
 use Rattle.rds_session.specs.declared.talk.Stop.TheVariants.{Refused, Left}
 use Rattle.rds_codec.specs.AnswerValues.{AnswerValue}
 use Rattle.rds_codec.specs.declared.hellos.Hello.{Hello}
+use Rattle.rds_codec.specs.declared.hellos.TheConstants.{VERSION}
 use Rattle.rds_session.specs.Bodies.{hello_in, digest_in, answer_in}
 use Rattle.rds_session.specs.Checked.{passes}
 use Rattle.rds_session.specs.Messages.{hello_message, digest_message, delta_message, bye_message, fault_of_code}
@@ -85,7 +86,7 @@ hello_judged kept h =
 -- another version is refused whatever follows it
 abbrev pub other_version : List ℕ → Bool
 other_version [] = false
-other_version (v ∷ rest) = if v == 1 then false else true
+other_version (v ∷ rest) = if v == VERSION then false else true
 
 abbrev pub hello_came : ReplicaValue → List ℕ → Result Said Stop
 hello_came kept body = if other_version body then Err (Refused WrongVersion) else read_then (hello_in body) (hello_judged kept)

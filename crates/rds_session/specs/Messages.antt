@@ -7,11 +7,12 @@ use Rattle.rds_delta.specs.Digested.{DigestValue, digest_of}
 use Rattle.rds_codec.specs.AnswerTexts.{answer, answer_text}
 use Rattle.rds_codec.specs.DigestTexts.{digest_text}
 use Rattle.rds_codec.specs.HelloTexts.{hello_text}
+use Rattle.rds_codec.specs.declared.hellos.TheConstants.{VERSION}
 use Rattle.rds_session.specs.Checked.{least_state, certificate_of}
 
 -- HELLO: who speaks
 abbrev pub hello_message : ReplicaValue → List ℕ
-hello_message kept = 1 ∷ hello_text (record { version = 1; roster = kept.roster; own = kept.own })
+hello_message kept = 1 ∷ hello_text (record { version = VERSION; roster = kept.roster; own = kept.own })
 
 -- DIGEST: what is kept here
 abbrev pub digest_message : ReplicaValue → List ℕ

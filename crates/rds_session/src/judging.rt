@@ -19,7 +19,7 @@ ghost use Rattle.rds_session.specs.Messages.{fault_of_code};
 ghost use Rattle.rds_session.specs.declared.talk.Stop.TheVariants.{Left, Refused};
 
 use crate::talk::{Act, Stop, Turn};
-use rds_codec::{Answer, Hello, decode_answer, decode_digest, decode_hello};
+use rds_codec::{Answer, Hello, VERSION, decode_answer, decode_digest, decode_hello};
 use rds_delta::{Certificate, Digest, check};
 use rds_dots::DotSet;
 use rds_names::{Fault, Roster};
@@ -62,7 +62,7 @@ fn is_other_version(body: &[u8]) -> bool
 {
     match body {
         [] => false,
-        [version, ..] => *version != 1,
+        [version, ..] => *version != VERSION,
     }
 }
 
