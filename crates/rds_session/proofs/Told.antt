@@ -32,6 +32,7 @@ use Rattle.rds_codec.proofs.HelloFormats.{hello_reader}
 use Rattle.rds_codec.proofs.Whole.{IsReaderOf}
 use Rattle.rds_session.specs.Bodies.{hello_in, digest_in, answer_in}
 use Rattle.rds_session.specs.Checked.{certificate_of, least_state}
+use Rattle.rds_session.specs.declared.kinds.ByeCode.TheVariants as byes
 use Rattle.rds_session.specs.Judging.{ForHello, ForDigest, ForDelta, ForBye, Greets, Learns, Receives, Finishes, accepted, read_then, hello_judged, delta_judged, same_names}
 use Rattle.rds_session.specs.Meeting.{HasRoom, IsItsLeast}
 use Rattle.rds_session.specs.Messages.{hello_message, digest_message, delta_message, bye_message}
@@ -112,7 +113,7 @@ delta_accepted k from peer digest t =
     let own : eqb k.own k.own ≡ true = eq-eqb _ _ refl in
     ap (λ (r : Result AnswerValue Fault). read_then r (delta_judged k)) read ∙ rw (own, least_passes from.state g) refl
 
-pub bye_accepted : (k : ReplicaValue) → accepted k ForBye (bye_message 0) ≡ Ok Finishes
+pub bye_accepted : (k : ReplicaValue) → accepted k ForBye (bye_message byes.Done) ≡ Ok Finishes
 unfolding accepted
 bye_accepted k = refl
 
