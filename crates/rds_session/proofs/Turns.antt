@@ -14,7 +14,6 @@ use Rattle.rds_session.specs.Session.{Standing, Sent, Heard, Nothing, So_far, Al
 use Rattle.rds_session.specs.Steps.{HasStanding, IsOver, Continues}
 use Rattle.rds_session.proofs.Course.{over_all, received_stays, all_over}
 use Rattle.rds_session.specs.Exchange.{HasCourse, Says, IsHeard, Exchanges, Talks, TalksOn}
-use Rattle.rds_session.specs.Leaving.{HasHeard, HasHeardFrom, StandsFor}
 
 pub appends_then : (a b c : Option (List ℕ)) (x y z : List ℕ) → Appends a b x → Appends b c y → z ≡ x ++ y → Appends a c z
 appends_then None b c x y z p q e = tt
@@ -52,28 +51,12 @@ says_by old new i sent before after steps written side kept heard first is so_fa
       | inr out ↦ inr (record { memory = out.ended; at_most = out.received })
     ]
 
--- after a step a session stands for what it heard and what came, whatever became of what it sends
-pub stands_by : (side : Side) (kept : ReplicaValue) (heard : Heard) (i : Option (List ℕ)) (new : Standing) (sent : List ℕ) → Continues side kept heard i new sent → StandsFor side kept (heard_more heard i) new
-stands_by side kept heard i new sent (inl on) = inl on.standing
-stands_by side kept heard i new sent (inr out) = inr (record { memory = out.ended; at_most = out.received })
-
--- a talk's session has heard what came from its reader
-pub heard_in_talk : (side : Side) (kept : ReplicaValue) (first now : Option (List ℕ)) (s : Standing) (before after : Option (List ℕ)) → Talks side kept first now s before after → HasHeardFrom side kept first now s
-heard_in_talk side kept first now s before after talks = elim talks.2 [
-  | inl done ↦ (talks.0, talks.1, inl done.0)
-  | inr out ↦ (talks.0, talks.1, inr out)
-]
-
--- what was heard from a reader is some stream
-pub heard_some : (side : Side) (kept : ReplicaValue) (first now : Option (List ℕ)) (s : Standing) → HasHeardFrom side kept first now s → HasHeard side kept s
-heard_some side kept first now s has = (has.0, has.2)
-
 -- a step's bytes, or the end, came from the reader
 abbrev pub Came : Option (List ℕ) → Option (List ℕ) → Option (List ℕ) → Type 0
 Came now later None = Consumes now later [] × IsAtEnd later
 Came now later (Some piece) = Consumes now later piece
 
-heard_on : (first now later : Option (List ℕ)) (side : Side) (kept : ReplicaValue) (heard : Heard) (i : Option (List ℕ)) → (course side kept heard).0.ended ≡ Going
+pub heard_on : (first now later : Option (List ℕ)) (side : Side) (kept : ReplicaValue) (heard : Heard) (i : Option (List ℕ)) → (course side kept heard).0.ended ≡ Going
     → IsHeard first now heard → Came now later i → IsHeard first later (heard_more heard i)
 heard_on first now later side kept Nothing None going h c = (consumes_then first now later [] [] h c.0, c.1)
 heard_on first now later side kept Nothing (Some piece) going h c = consumes_then first now later [] piece h c
@@ -81,34 +64,11 @@ heard_on first now later side kept (So_far x) None going h c = (subst (Consumes 
 heard_on first now later side kept (So_far x) (Some piece) going h c = consumes_then first now later x piece h c
 heard_on first now later side kept (All_of x) i going h c = absurd (subst IsOver going (all_over side kept x))
 
-heard_kept : (first now later : Option (List ℕ)) (side : Side) (kept : ReplicaValue) (heard : Heard) → (course side kept heard).0.ended ≡ Going
+pub heard_kept : (first now later : Option (List ℕ)) (side : Side) (kept : ReplicaValue) (heard : Heard) → (course side kept heard).0.ended ≡ Going
     → IsHeard first now heard → Keeps now later → IsHeard first later heard
 heard_kept first now later side kept Nothing going h same = consumes_kept first now later [] h same
 heard_kept first now later side kept (So_far x) going h same = consumes_kept first now later x h same
 heard_kept first now later side kept (All_of x) going h same = absurd (subst IsOver going (all_over side kept x))
-
--- a session that goes on hasn't run out of memory
-still_going : (side : Side) (kept : ReplicaValue) (heard : Heard) (s : Standing) → s.ended ≡ Going → StandsFor side kept heard s → HasStanding side kept heard s
-still_going side kept heard s going has = elim has [
-  | inl is ↦ is
-  | inr out ↦ absurd (let bad : Going ≡ Failed Memory = sym going ∙ out.memory in cc)
-]
-
-course_going : (side : Side) (kept : ReplicaValue) (heard : Heard) (s : Standing) → s.ended ≡ Going → HasStanding side kept heard s → (course side kept heard).0.ended ≡ Going
-course_going side kept heard s going is = ap (λ (x : Standing). x.ended) (sym is) ∙ going
-
--- bytes, or the end, came from the reader, and a step was taken
-pub heard_from : (side : Side) (kept : ReplicaValue) (first now later : Option (List ℕ)) (i : Option (List ℕ)) (old new : Standing) → old.ended ≡ Going → Came now later i
-    → ((heard : Heard) → HasStanding side kept heard old → StandsFor side kept (heard_more heard i) new) → HasHeardFrom side kept first now old → HasHeardFrom side kept first later new
-heard_from side kept first now later i old new going came step has =
-    let is = still_going side kept has.0 old going has.2 in
-    (heard_more has.0 i, heard_on first now later side kept has.0 i (course_going side kept has.0 old going is) has.1 came, step has.0 is)
-
--- a read failed, and the reader keeps what it had
-pub heard_before : (side : Side) (kept : ReplicaValue) (first now later : Option (List ℕ)) (s : Standing) → s.ended ≡ Going → Keeps now later → HasHeardFrom side kept first now s → HasHeardFrom side kept first later s
-heard_before side kept first now later s going same has =
-    let is = still_going side kept has.0 s going has.2 in
-    (has.0, heard_kept first now later side kept has.0 (course_going side kept has.0 s going is) has.1 same, inl is)
 
 -- the talk goes on by a step
 pub talks_on : (side : Side) (kept : ReplicaValue) (first now later : Option (List ℕ)) (s t : Standing) (before said after : Option (List ℕ)) (i : Option (List ℕ))
@@ -124,10 +84,6 @@ talks_on side kept first now later s t before said after i going talks says came
 
 ap-heard : (first : Option (List ℕ)) (i : Option (List ℕ)) → i ≡ Some [] → IsHeard first first (heard_more Nothing i)
 ap-heard first i e = subst (λ (o : Option (List ℕ)). IsHeard first first (heard_more Nothing o)) (sym e) (consumes_none first)
-
--- the first step, whatever became of what it sends
-pub heard_first : (side : Side) (kept : ReplicaValue) (first : Option (List ℕ)) (s : Standing) (i : Option (List ℕ)) → i ≡ Some [] → StandsFor side kept (heard_more Nothing i) s → HasHeardFrom side kept first first s
-heard_first side kept first s i i-is stands = (heard_more Nothing i, ap-heard first i i-is, stands)
 
 -- the first step
 pub talk_begins : (side : Side) (kept : ReplicaValue) (first : Option (List ℕ)) (s t : Standing) (before after : Option (List ℕ)) (i : Option (List ℕ))
