@@ -1,18 +1,22 @@
 -- Which message is accepted when.
-use Rattle.std.proofs.Common.{ℕ, Bool, true, false, cond, eqb, ltb, List, [], ◌∷◌, Result, Ok, Err}
+use Rattle.std.proofs.Common.{ℕ, Bool, true, false, cond, eqb, List, [], ◌∷◌, Option, Some, None, Result, Ok, Err}
 use Rattle.std.specs.Str.{bytes_eq}
 use Rattle.rds_names.specs.declared.fault.Fault.{Fault}
-use Rattle.rds_names.specs.declared.fault.Fault.TheVariants.{WrongAsker, Cut, Bad, Extra, BadCertificate, WrongVersion, WrongGroup, WrongRoster, SameReplica, OutOfTurn}
+use Rattle.rds_names.specs.declared.fault.Fault.TheVariants.{WrongAsker, Cut, BadCertificate, WrongVersion, WrongGroup, WrongRoster, SameReplica}
 use Rattle.rds_state.specs.Fits.{ReplicaValue}
 use Rattle.rds_delta.specs.Digested.{DigestValue, digest_of}
 use Rattle.rds_session.specs.declared.talk.Stop.{Stop}
-use Rattle.rds_session.specs.declared.talk.Stop.TheVariants.{Refused, Left}
+use Rattle.rds_session.specs.declared.talk.Stop.TheVariants.{Refused}
 use Rattle.rds_codec.specs.AnswerValues.{AnswerValue}
 use Rattle.rds_codec.specs.declared.hellos.Hello.{Hello}
 use Rattle.rds_session.specs.Bodies.{hello_in, digest_in, answer_in}
 use Rattle.rds_session.specs.Checked.{passes}
-use Rattle.rds_session.specs.Messages.{fault_of_code}
-use Rattle.rds_session.specs.Judging.{Awaited, ForHello, ForDigest, ForDelta, ForBye, Said, Greets, Learns, Receives, Finishes, accepted, bye_came, bye_judged, left_by, body_came, hello_judged, delta_judged, read_then, other_version, type_of, is_type, same_names, replicas_of}
+use Rattle.rds_session.specs.declared.kinds.ByeCode.{ByeCode}
+use Rattle.rds_session.specs.declared.kinds.ByeCode.TheVariants as byes
+use Rattle.rds_session.specs.declared.kinds.MessageKind.{MessageKind}
+use Rattle.rds_session.specs.declared.kinds.MessageKind.TheVariants as kinds
+use Rattle.rds_session.specs.Messages.{kind_of, bye_of}
+use Rattle.rds_session.specs.Judging.{Awaited, ForHello, ForDigest, ForDelta, ForBye, Said, Greets, Learns, Receives, Finishes, accepted, bye_came, bye_judged, code_came, body_came, kind_came, hello_judged, delta_judged, read_then, other_version, same_names, replicas_of}
 
 abbrev pub IsActFor : Awaited → Said → Type 0
 IsActFor ForHello (Greets p) = Unit {0}
@@ -39,22 +43,29 @@ read_suits : {A : Type 0} (turn : Awaited) (r : Result A Fault) (f : A → Resul
 read_suits turn (Ok x) f h = h x
 read_suits turn (Err e) f h = refusal_suits turn (Refused e)
 
-left_suits : (turn : Awaited) (code : ℕ) → Suits turn (left_by code)
-left_suits turn code = if_suits turn (ltb 6 code) (Err (Refused Bad)) (Err (Left (fault_of_code code))) (record { fits = tt }) (record { fits = tt })
+done_suits : (turn : Awaited) → Suits turn (bye_judged byes.Done turn)
+done_suits ForBye = record { fits = tt }
+done_suits ForHello = record { fits = tt }
+done_suits (ForDigest q) = record { fits = tt }
+done_suits (ForDelta q g) = record { fits = tt }
 
-early_suits : (turn : Awaited) (code : ℕ) → Suits turn (cond (eqb code 0) (Err (Refused OutOfTurn)) (left_by code))
-early_suits turn code = if_suits turn (eqb code 0) (Err (Refused OutOfTurn)) (left_by code) (record { fits = tt }) (left_suits turn code)
+bye_judged_suits : (code : ByeCode) (turn : Awaited) → Suits turn (bye_judged code turn)
+bye_judged_suits byes.Done turn = done_suits turn
+bye_judged_suits byes.WrongVersion turn = record { fits = tt }
+bye_judged_suits byes.WrongGroup turn = record { fits = tt }
+bye_judged_suits byes.WrongRoster turn = record { fits = tt }
+bye_judged_suits byes.SameReplica turn = record { fits = tt }
+bye_judged_suits byes.Refused turn = record { fits = tt }
+bye_judged_suits byes.OwnFault turn = record { fits = tt }
 
-bye_judged_suits : (turn : Awaited) (code : ℕ) → Suits turn (bye_judged turn code)
-bye_judged_suits ForBye code = if_suits ForBye (eqb code 0) (Ok Finishes) (left_by code) (record { fits = tt }) (left_suits ForBye code)
-bye_judged_suits ForHello code = early_suits ForHello code
-bye_judged_suits (ForDigest q) code = early_suits (ForDigest q) code
-bye_judged_suits (ForDelta q g) code = early_suits (ForDelta q g) code
+code_suits : (turn : Awaited) (code : Option ByeCode) (rest : List ℕ) → Suits turn (code_came turn code rest)
+code_suits turn None rest = record { fits = tt }
+code_suits turn (Some code) [] = bye_judged_suits code turn
+code_suits turn (Some code) (b ∷ rest) = record { fits = tt }
 
 bye_suits : (turn : Awaited) (body : List ℕ) → Suits turn (bye_came turn body)
 bye_suits turn [] = refusal_suits turn (Refused Cut)
-bye_suits turn (code ∷ []) = bye_judged_suits turn code
-bye_suits turn (code ∷ more ∷ rest) = if_suits turn (ltb 6 code) (Err (Refused Bad)) (Err (Refused Extra)) (refusal_suits turn (Refused Bad)) (refusal_suits turn (Refused Extra))
+bye_suits turn (b ∷ rest) = code_suits turn (bye_of b) rest
 
 abbrev same_own : ReplicaValue → Hello → Result Said Stop
 same_own kept h = cond (eqb h.own kept.own) (Err (Refused SameReplica)) (Ok (Greets h.own))
@@ -79,26 +90,29 @@ delta_suits q g kept a =
     (if_suits (ForDelta q g) (passes (digest_of kept.state) a.state a.certificate) (Ok (Receives a.state)) (Err (Refused BadCertificate)) (record { fits = tt }) (record { fits = tt }))
     (record { fits = tt })
 
-body_suits : (kept : ReplicaValue) (turn : Awaited) (body : List ℕ) → Suits turn (body_came kept turn body)
-body_suits kept ForHello body =
+body_suits : (kept : ReplicaValue) (kind : MessageKind) (turn : Awaited) (body : List ℕ) → Suits turn (body_came kept kind turn body)
+body_suits kept kinds.Bye turn body = bye_suits turn body
+body_suits kept kinds.Hello ForHello body =
     if_suits ForHello (other_version body) (Err (Refused WrongVersion)) (read_then (hello_in body) (hello_judged kept)) (record { fits = tt })
     (read_suits ForHello (hello_in body) (hello_judged kept) (hello_suits kept))
-body_suits kept (ForDigest q) body = read_suits (ForDigest q) (digest_in (replicas_of kept) body) (λ g. Ok (Learns q g)) (λ g. record { fits = tt })
-body_suits kept (ForDelta q g) body = read_suits (ForDelta q g) (answer_in (replicas_of kept) body) (delta_judged kept) (delta_suits q g kept)
-body_suits kept ForBye body = bye_suits ForBye body
+body_suits kept kinds.Hello (ForDigest q) body = record { fits = tt }
+body_suits kept kinds.Hello (ForDelta q g) body = record { fits = tt }
+body_suits kept kinds.Hello ForBye body = record { fits = tt }
+body_suits kept kinds.Digest ForHello body = record { fits = tt }
+body_suits kept kinds.Digest (ForDigest q) body = read_suits (ForDigest q) (digest_in (replicas_of kept) body) (λ g. Ok (Learns q g)) (λ g. record { fits = tt })
+body_suits kept kinds.Digest (ForDelta q g) body = record { fits = tt }
+body_suits kept kinds.Digest ForBye body = record { fits = tt }
+body_suits kept kinds.Delta ForHello body = record { fits = tt }
+body_suits kept kinds.Delta (ForDigest q) body = record { fits = tt }
+body_suits kept kinds.Delta (ForDelta q g) body = read_suits (ForDelta q g) (answer_in (replicas_of kept) body) (delta_judged kept) (delta_suits q g kept)
+body_suits kept kinds.Delta ForBye body = record { fits = tt }
 
-abbrev in_turn : ReplicaValue → Awaited → ℕ → List ℕ → Result Said Stop
-in_turn kept turn t body = cond (eqb t (type_of turn)) (body_came kept turn body) (Err (Refused OutOfTurn))
-
-abbrev of_type : ReplicaValue → Awaited → ℕ → List ℕ → Result Said Stop
-of_type kept turn t body = cond (is_type t) (in_turn kept turn t body) (Err (Refused Bad))
+kind_suits : (kept : ReplicaValue) (turn : Awaited) (kind : Option MessageKind) (body : List ℕ) → Suits turn (kind_came kept turn kind body)
+kind_suits kept turn None body = record { fits = tt }
+kind_suits kept turn (Some kind) body = body_suits kept kind turn body
 
 -- an accepted message is the one that is waited for
 pub accepted_suits : (kept : ReplicaValue) (turn : Awaited) (m : List ℕ) → Suits turn (accepted kept turn m)
 unfolding accepted
 accepted_suits kept turn [] = refusal_suits turn (Refused Cut)
-accepted_suits kept turn (t ∷ body) =
-    if_suits turn (eqb t 4) (bye_came turn body) (of_type kept turn t body) (bye_suits turn body)
-    (if_suits turn (is_type t) (in_turn kept turn t body) (Err (Refused Bad))
-    (if_suits turn (eqb t (type_of turn)) (body_came kept turn body) (Err (Refused OutOfTurn)) (body_suits kept turn body) (refusal_suits turn (Refused OutOfTurn)))
-    (refusal_suits turn (Refused Bad)))
+accepted_suits kept turn (n ∷ body) = kind_suits kept turn (kind_of n) body

@@ -11,6 +11,7 @@ pub mod Scans
 pub mod Sendings
 pub mod Splits
 pub mod Splitting
+pub mod Spoken
 pub mod Talking
 pub mod Tellings
 pub mod Told

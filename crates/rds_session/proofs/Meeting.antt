@@ -11,6 +11,7 @@ use Rattle.rds_session.specs.declared.talk.Side.TheVariants.{Client, Server}
 use Rattle.rds_session.specs.declared.step.Ended.TheVariants.{Going, Done}
 use Rattle.rds_session.specs.Checked.{least_state}
 use Rattle.rds_session.specs.Chunks.{Under, start, Scan, Whole, scan, spelled}
+use Rattle.rds_session.specs.declared.kinds.ByeCode.TheVariants as byes
 use Rattle.rds_session.specs.Judging.{Said, Greets, Learns, Receives, Finishes, accepted, replies_of}
 use Rattle.rds_session.specs.Meeting.{IsBeginningOf, CanMeet, IsItsDelta, Hear, HearAll, ReceiveDeltas, BothEnd}
 use Rattle.rds_session.specs.Messages.{hello_message, digest_message, delta_message, bye_message}
@@ -98,16 +99,16 @@ abbrev server_says : ReplicaValue → ReplicaValue → List (List ℕ)
 server_says b a = hello_message b ∷ digest_message b ∷ delta_message b a.own (digest_of a.state) ∷ []
 
 abbrev client_says : ReplicaValue → ReplicaValue → List (List ℕ)
-client_says a b = delta_message a b.own (digest_of b.state) ∷ bye_message 0 ∷ []
+client_says a b = delta_message a b.own (digest_of b.state) ∷ bye_message byes.Done ∷ []
 
 abbrev last_word : List (List ℕ)
-last_word = bye_message 0 ∷ []
+last_word = bye_message byes.Done ∷ []
 
 opened_by : (s : Standing) (ms : List (List ℕ)) → s.begun ≡ false → opening s.side s.kept ≡ ms → AllByRecursion Fits ms → opened s ≡ (record s { begun = true }, texts ms)
 unfolding opened
 opened_by s ms new is fit = rw new (ap (after_sending (record s { begun = true })) (ap sending is ∙ all_sent ms fit))
 
-bye_fits : Fits (bye_message 0)
+bye_fits : Fits (bye_message byes.Done)
 bye_fits = omega arith
 
 client_told_by : (a b : ReplicaValue) → CanMeet a b → IsTold a b
@@ -127,7 +128,7 @@ client_hears a b h =
     (one_talks c2 (delta_message b a.own (digest_of a.state)) (Receives (least_state b.state (digest_of a.state))) (client_says a b) refl refl h.b_room.delta (delta_accepted a b b.own (digest_of b.state) (client_told_by a b h)) refl (h.a_room.delta, (bye_fits, tt))))
 
 client_ends : (a b : ReplicaValue) → Talks (client_told a b) last_word (client_done a b) []
-client_ends a b = one_talks (client_told a b) (bye_message 0) Finishes [] refl refl bye_fits (bye_accepted a) refl tt
+client_ends a b = one_talks (client_told a b) (bye_message byes.Done) Finishes [] refl refl bye_fits (bye_accepted a) refl tt
 
 server_hears : (a b : ReplicaValue) → CanMeet a b → Talks (server b) (greeting a) (server_asked b a) (server_says b a)
 server_hears a b h =
@@ -141,7 +142,7 @@ server_ends a b h =
     let s3 = performed (server_asked b a) (Receives (least_state a.state (digest_of b.state))) in
     talks_then (server_asked b a) s3 (server_done b a) (delta_message a b.own (digest_of b.state) ∷ []) last_word [] last_word
     (one_talks (server_asked b a) (delta_message a b.own (digest_of b.state)) (Receives (least_state a.state (digest_of b.state))) [] refl refl h.a_room.delta (delta_accepted b a a.own (digest_of a.state) (server_told_by a b h)) refl tt)
-    (one_talks s3 (bye_message 0) Finishes last_word refl refl bye_fits (bye_accepted b) refl (bye_fits, tt))
+    (one_talks s3 (bye_message byes.Done) Finishes last_word refl refl bye_fits (bye_accepted b) refl (bye_fits, tt))
 
 client_opens : (a b : ReplicaValue) → CanMeet a b → opened (fresh Client a) ≡ (client a, texts (greeting a))
 client_opens a b h = opened_by (fresh Client a) (greeting a) refl refl (h.a_room.hello, (h.a_room.digest, tt))

@@ -24,6 +24,7 @@ use Rattle.rds_bytes.specs.Reading.{◌>>=◌, Reader}
 use Rattle.rds_codec.specs.Decoding.{all_of}
 use Rattle.rds_codec.specs.StateTexts.{IsSnapshot}
 use Rattle.rds_codec.specs.declared.hellos.Hello.{Hello}
+use Rattle.rds_codec.specs.declared.hellos.TheConstants.{VERSION}
 use Rattle.rds_codec.specs.declared.limits.TheConstants.{LIMIT}
 use Rattle.rds_codec.proofs.AnswerFormats.{answer_reader}
 use Rattle.rds_codec.proofs.DigestFormats.{digest_reader}
@@ -31,6 +32,7 @@ use Rattle.rds_codec.proofs.HelloFormats.{hello_reader}
 use Rattle.rds_codec.proofs.Whole.{IsReaderOf}
 use Rattle.rds_session.specs.Bodies.{hello_in, digest_in, answer_in}
 use Rattle.rds_session.specs.Checked.{certificate_of, least_state}
+use Rattle.rds_session.specs.declared.kinds.ByeCode.TheVariants as byes
 use Rattle.rds_session.specs.Judging.{ForHello, ForDigest, ForDelta, ForBye, Greets, Learns, Receives, Finishes, accepted, read_then, hello_judged, delta_judged, same_names}
 use Rattle.rds_session.specs.Meeting.{HasRoom, IsItsLeast}
 use Rattle.rds_session.specs.Messages.{hello_message, digest_message, delta_message, bye_message}
@@ -61,7 +63,7 @@ names_few names h = le_true (length names) 256 (and_right (nat_le 1 (length name
 -- ---- HELLO
 
 hello_of : ReplicaValue → Hello
-hello_of from = record { version = 1; roster = from.roster; own = from.own }
+hello_of from = record { version = VERSION; roster = from.roster; own = from.own }
 
 hello_again : (from : ReplicaValue) → IsSnapshot from → length (hello_text (hello_of from)) ≤ LIMIT → hello_in (hello_text (hello_of from)) ≡ Ok (hello_of from)
 unfolding hello_in hello_of
@@ -111,7 +113,7 @@ delta_accepted k from peer digest t =
     let own : eqb k.own k.own ≡ true = eq-eqb _ _ refl in
     ap (λ (r : Result AnswerValue Fault). read_then r (delta_judged k)) read ∙ rw (own, least_passes from.state g) refl
 
-pub bye_accepted : (k : ReplicaValue) → accepted k ForBye (bye_message 0) ≡ Ok Finishes
+pub bye_accepted : (k : ReplicaValue) → accepted k ForBye (bye_message byes.Done) ≡ Ok Finishes
 unfolding accepted
 bye_accepted k = refl
 

@@ -1,7 +1,7 @@
 -- What was heard and said, turn by turn.
 use Rattle.std.proofs.Common.{◌≡◌, ℕ, ◌<◌, List, [], ◌++◌, length, Option, Some, None, refl, sym, ap, ◌∙◌, append_assoc, subst, inl, inr, take}
 use Rattle.std.specs.Prelude.{IfSome, OnOk, Result, Ok, Err}
-use Rattle.std.specs.Io.KnownBytes.{Consumes, Appends, IsAtEnd}
+use Rattle.std.specs.Io.KnownBytes.{Consumes, Appends, Keeps, IsAtEnd}
 use Rattle.std.proofs.lemmas.List.{append-nil}
 use Rattle.rds_names.specs.declared.fault.Fault.{Fault}
 use Rattle.rds_names.specs.declared.fault.Fault.TheVariants.{Memory}
@@ -14,7 +14,6 @@ use Rattle.rds_session.specs.Session.{Standing, Sent, Heard, Nothing, So_far, Al
 use Rattle.rds_session.specs.Steps.{HasStanding, IsOver, Continues}
 use Rattle.rds_session.proofs.Course.{over_all, received_stays, all_over}
 use Rattle.rds_session.specs.Exchange.{HasCourse, Says, IsHeard, Exchanges, Talks, TalksOn}
-use Rattle.rds_session.specs.Leaving.{HasHeard}
 
 pub appends_then : (a b c : Option (List ℕ)) (x y z : List ℕ) → Appends a b x → Appends b c y → z ≡ x ++ y → Appends a c z
 appends_then None b c x y z p q e = tt
@@ -36,6 +35,12 @@ pub consumes_none : (a : Option (List ℕ)) → Consumes a a []
 consumes_none None = tt
 consumes_none (Some u) = refl
 
+consumes_kept : (a b c : Option (List ℕ)) (x : List ℕ) → Consumes a b x → Keeps b c → Consumes a c x
+consumes_kept None b c x p q = tt
+consumes_kept (Some u) None c x p q = absurd p
+consumes_kept (Some u) (Some v) None x p q = absurd q
+consumes_kept (Some u) (Some v) (Some w) x p q = p ∙ ap (λ (t : List ℕ). x ++ t) (sym q)
+
 -- a step's course and what was written for it
 pub says_by : (old new : Standing) (i : Option (List ℕ)) (sent : List ℕ) (before after : Option (List ℕ))
     → ((side : Side) (kept : ReplicaValue) (heard : Heard) → old ≡ (course side kept heard).0 → Continues side kept heard i new sent)
@@ -46,37 +51,24 @@ says_by old new i sent before after steps written side kept heard first is so_fa
       | inr out ↦ inr (record { memory = out.ended; at_most = out.received })
     ]
 
--- after a step a session has heard something, whatever became of what it sends
-pub heard_by : (side : Side) (kept : ReplicaValue) (heard : Heard) (i : Option (List ℕ)) (new : Standing) (sent : List ℕ) → Continues side kept heard i new sent → HasHeard side kept new
-heard_by side kept heard i new sent (inl on) = (_, inl on.standing)
-heard_by side kept heard i new sent (inr out) = (_, inr (record { memory = out.ended; at_most = out.received }))
-
--- a session that goes on hasn't run out of memory
-pub heard_more_by : (side : Side) (kept : ReplicaValue) (old new : Standing) → old.ended ≡ Going → ((heard : Heard) → HasStanding side kept heard old → HasHeard side kept new) → HasHeard side kept old → HasHeard side kept new
-heard_more_by side kept old new going step has = elim has.1 [
-  | inl is ↦ step has.0 is
-  | inr out ↦ absurd (let bad : Going ≡ Failed Memory = sym going ∙ out.memory in cc)
-]
-
--- a talk's session has heard something
-pub heard_in_talk : (side : Side) (kept : ReplicaValue) (first now : Option (List ℕ)) (s : Standing) (before after : Option (List ℕ)) → Talks side kept first now s before after → HasHeard side kept s
-heard_in_talk side kept first now s before after talks = elim talks.2 [
-  | inl done ↦ (talks.0, inl done.0)
-  | inr out ↦ (talks.0, inr out)
-]
-
 -- a step's bytes, or the end, came from the reader
 abbrev pub Came : Option (List ℕ) → Option (List ℕ) → Option (List ℕ) → Type 0
 Came now later None = Consumes now later [] × IsAtEnd later
 Came now later (Some piece) = Consumes now later piece
 
-heard_on : (first now later : Option (List ℕ)) (side : Side) (kept : ReplicaValue) (heard : Heard) (i : Option (List ℕ)) → (course side kept heard).0.ended ≡ Going
+pub heard_on : (first now later : Option (List ℕ)) (side : Side) (kept : ReplicaValue) (heard : Heard) (i : Option (List ℕ)) → (course side kept heard).0.ended ≡ Going
     → IsHeard first now heard → Came now later i → IsHeard first later (heard_more heard i)
 heard_on first now later side kept Nothing None going h c = (consumes_then first now later [] [] h c.0, c.1)
 heard_on first now later side kept Nothing (Some piece) going h c = consumes_then first now later [] piece h c
 heard_on first now later side kept (So_far x) None going h c = (subst (Consumes first later) (append-nil x) (consumes_then first now later x [] h c.0), c.1)
 heard_on first now later side kept (So_far x) (Some piece) going h c = consumes_then first now later x piece h c
 heard_on first now later side kept (All_of x) i going h c = absurd (subst IsOver going (all_over side kept x))
+
+pub heard_kept : (first now later : Option (List ℕ)) (side : Side) (kept : ReplicaValue) (heard : Heard) → (course side kept heard).0.ended ≡ Going
+    → IsHeard first now heard → Keeps now later → IsHeard first later heard
+heard_kept first now later side kept Nothing going h same = consumes_kept first now later [] h same
+heard_kept first now later side kept (So_far x) going h same = consumes_kept first now later x h same
+heard_kept first now later side kept (All_of x) going h same = absurd (subst IsOver going (all_over side kept x))
 
 -- the talk goes on by a step
 pub talks_on : (side : Side) (kept : ReplicaValue) (first now later : Option (List ℕ)) (s t : Standing) (before said after : Option (List ℕ)) (i : Option (List ℕ))

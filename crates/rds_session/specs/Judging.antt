@@ -1,5 +1,5 @@
 -- What a whole message is taken as, or why it ends the session.
-use Rattle.std.specs.Prelude.{◌≡◌, ℕ, ◌==◌, nat_lt, Bool, true, false, List, [], ◌∷◌, length, Result, Ok, Err, if◌then◌else◌}
+use Rattle.std.specs.Prelude.{◌≡◌, ℕ, ◌==◌, Bool, true, false, List, [], ◌∷◌, length, Option, Some, None, Result, Ok, Err, if◌then◌else◌}
 use Rattle.std.specs.Str.{bytes_eq}
 use Rattle.std.specs.Cmp.Lexicographic.{pointwise}
 use Rattle.rds_names.specs.declared.fault.Fault.{Fault}
@@ -7,6 +7,10 @@ use Rattle.rds_names.specs.declared.fault.Fault.TheVariants.{Device, Memory, Wro
 use Rattle.rds_state.specs.Fits.{ReplicaValue}
 use Rattle.rds_state.specs.Value.{StateValue}
 use Rattle.rds_delta.specs.Digested.{DigestValue, digest_of}
+use Rattle.rds_session.specs.declared.kinds.ByeCode.{ByeCode}
+use Rattle.rds_session.specs.declared.kinds.ByeCode.TheVariants as byes
+use Rattle.rds_session.specs.declared.kinds.MessageKind.{MessageKind}
+use Rattle.rds_session.specs.declared.kinds.MessageKind.TheVariants as kinds
 use Rattle.rds_session.specs.declared.talk.Side.{Side}
 use Rattle.rds_session.specs.declared.talk.Side.TheVariants.{Client, Server}
 use Rattle.rds_session.specs.declared.talk.Turn.{Turn}
@@ -17,9 +21,10 @@ use Rattle.rds_session.specs.declared.talk.Stop.{Stop}
 use Rattle.rds_session.specs.declared.talk.Stop.TheVariants.{Refused, Left}
 use Rattle.rds_codec.specs.AnswerValues.{AnswerValue}
 use Rattle.rds_codec.specs.declared.hellos.Hello.{Hello}
+use Rattle.rds_codec.specs.declared.hellos.TheConstants.{VERSION}
 use Rattle.rds_session.specs.Bodies.{hello_in, digest_in, answer_in}
 use Rattle.rds_session.specs.Checked.{passes}
-use Rattle.rds_session.specs.Messages.{hello_message, digest_message, delta_message, bye_message, fault_of_code}
+use Rattle.rds_session.specs.Messages.{kind_of, bye_of, hello_message, digest_message, delta_message, bye_message, fault_of}
 
 -- the message that is waited for, with what the earlier ones said: the peer's own number, and its digest
 pub data Awaited : Type 0 where
@@ -49,19 +54,22 @@ said acts.Finish = Finishes
 
 -- ---- BYE
 
--- a code other than 0
-abbrev pub left_by : ℕ → Result Said Stop
-left_by code = if nat_lt 6 code then Err (Refused Bad) else Err (Left (fault_of_code code))
+-- the peer is done in its turn alone, and may end the session at any time
+abbrev pub bye_judged : ByeCode → Awaited → Result Said Stop
+bye_judged byes.Done ForBye = Ok Finishes
+bye_judged byes.Done turn = Err (Refused OutOfTurn)
+bye_judged code turn = Err (Left (fault_of code))
 
-abbrev pub bye_judged : Awaited → ℕ → Result Said Stop
-bye_judged ForBye code = if code == 0 then Ok Finishes else left_by code
-bye_judged _ code = if code == 0 then Err (Refused OutOfTurn) else left_by code
+-- a code came, and then these bytes
+abbrev pub code_came : Awaited → Option ByeCode → List ℕ → Result Said Stop
+code_came turn None rest = Err (Refused Bad)
+code_came turn (Some code) [] = bye_judged code turn
+code_came turn (Some code) (b ∷ rest) = Err (Refused Extra)
 
 -- a BYE has one byte, its code
 abbrev pub bye_came : Awaited → List ℕ → Result Said Stop
 bye_came turn [] = Err (Refused Cut)
-bye_came turn (code ∷ []) = bye_judged turn code
-bye_came turn (code ∷ more ∷ rest) = if nat_lt 6 code then Err (Refused Bad) else Err (Refused Extra)
+bye_came turn (b ∷ rest) = code_came turn (bye_of b) rest
 
 -- ---- the other messages
 
@@ -85,7 +93,7 @@ hello_judged kept h =
 -- another version is refused whatever follows it
 abbrev pub other_version : List ℕ → Bool
 other_version [] = false
-other_version (v ∷ rest) = if v == 1 then false else true
+other_version (v ∷ rest) = if v == VERSION then false else true
 
 abbrev pub hello_came : ReplicaValue → List ℕ → Result Said Stop
 hello_came kept body = if other_version body then Err (Refused WrongVersion) else read_then (hello_in body) (hello_judged kept)
@@ -106,27 +114,23 @@ delta_judged kept a =
 abbrev pub delta_came : ReplicaValue → List ℕ → Result Said Stop
 delta_came kept body = read_then (answer_in (replicas_of kept) body) (delta_judged kept)
 
-abbrev pub type_of : Awaited → ℕ
-type_of ForHello = 1
-type_of (ForDigest peer) = 2
-type_of (ForDelta peer digest) = 3
-type_of ForBye = 4
+-- a body comes: a BYE at any time, another message where it is waited for
+abbrev pub body_came : ReplicaValue → MessageKind → Awaited → List ℕ → Result Said Stop
+body_came kept kinds.Bye turn body = bye_came turn body
+body_came kept kinds.Hello ForHello body = hello_came kept body
+body_came kept kinds.Digest (ForDigest peer) body = digest_came kept peer body
+body_came kept kinds.Delta (ForDelta peer digest) body = delta_came kept body
+body_came kept kind turn body = Err (Refused OutOfTurn)
 
-abbrev pub body_came : ReplicaValue → Awaited → List ℕ → Result Said Stop
-body_came kept ForHello body = hello_came kept body
-body_came kept (ForDigest peer) body = digest_came kept peer body
-body_came kept (ForDelta peer digest) body = delta_came kept body
-body_came kept ForBye body = bye_came ForBye body
-
-abbrev pub is_type : ℕ → Bool
-is_type t = if t == 0 then false else nat_lt t 5
+-- a message of no type is refused
+abbrev pub kind_came : ReplicaValue → Awaited → Option MessageKind → List ℕ → Result Said Stop
+kind_came kept turn None body = Err (Refused Bad)
+kind_came kept turn (Some kind) body = body_came kept kind turn body
 
 -- what a whole message is taken as, or why it ends the session
 unfoldable pub accepted : ReplicaValue → Awaited → List ℕ → Result Said Stop
 accepted kept turn [] = Err (Refused Cut)
-accepted kept turn (t ∷ body) =
-    if t == 4 then bye_came turn body
-    else (if is_type t then (if t == type_of turn then body_came kept turn body else Err (Refused OutOfTurn)) else Err (Refused Bad))
+accepted kept turn (n ∷ body) = kind_came kept turn (kind_of n) body
 
 -- ---- what follows from it
 
@@ -140,8 +144,8 @@ turn_after turn Finishes = turn
 -- the messages that answer it
 abbrev pub replies_of : Side → ReplicaValue → Awaited → Said → List (List ℕ)
 replies_of Server kept turn (Learns peer digest) = hello_message kept ∷ digest_message kept ∷ delta_message kept peer digest ∷ []
-replies_of Client kept (ForDelta peer digest) (Receives delta) = delta_message kept peer digest ∷ bye_message 0 ∷ []
-replies_of Server kept turn Finishes = bye_message 0 ∷ []
+replies_of Client kept (ForDelta peer digest) (Receives delta) = delta_message kept peer digest ∷ bye_message byes.Done ∷ []
+replies_of Server kept turn Finishes = bye_message byes.Done ∷ []
 replies_of _ _ _ _ = []
 
 -- ---- what the code answers

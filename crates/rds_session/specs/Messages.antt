@@ -1,5 +1,5 @@
 -- The messages of a session: a type byte and a body.
-use Rattle.std.specs.Prelude.{ℕ, List, [], ◌∷◌, ◌==◌, if◌then◌else◌}
+use Rattle.std.specs.Prelude.{ℕ, List, [], ◌∷◌, ◌==◌, Option, Some, None, if◌then◌else◌}
 use Rattle.rds_names.specs.declared.fault.Fault.{Fault}
 use Rattle.rds_names.specs.declared.fault.Fault.TheVariants.{Memory, WrongVersion, WrongGroup, WrongRoster, SameReplica, PeerEnded}
 use Rattle.rds_state.specs.Fits.{ReplicaValue}
@@ -7,38 +7,80 @@ use Rattle.rds_delta.specs.Digested.{DigestValue, digest_of}
 use Rattle.rds_codec.specs.AnswerTexts.{answer, answer_text}
 use Rattle.rds_codec.specs.DigestTexts.{digest_text}
 use Rattle.rds_codec.specs.HelloTexts.{hello_text}
+use Rattle.rds_codec.specs.declared.hellos.TheConstants.{VERSION}
+use Rattle.rds_session.specs.declared.kinds.ByeCode.{ByeCode}
+use Rattle.rds_session.specs.declared.kinds.ByeCode.TheVariants as byes
+use Rattle.rds_session.specs.declared.kinds.MessageKind.{MessageKind}
+use Rattle.rds_session.specs.declared.kinds.MessageKind.TheVariants as kinds
 use Rattle.rds_session.specs.Checked.{least_state, certificate_of}
+
+-- the byte that messages of a type begin with
+abbrev pub number_of : MessageKind → ℕ
+number_of kinds.Hello = 1
+number_of kinds.Digest = 2
+number_of kinds.Delta = 3
+number_of kinds.Bye = 4
+
+-- the type that a byte says
+abbrev pub kind_of : ℕ → Option MessageKind
+kind_of n =
+    if n == 1 then Some kinds.Hello
+    else (if n == 2 then Some kinds.Digest
+    else (if n == 3 then Some kinds.Delta
+    else (if n == 4 then Some kinds.Bye
+    else None)))
 
 -- HELLO: who speaks
 abbrev pub hello_message : ReplicaValue → List ℕ
-hello_message kept = 1 ∷ hello_text (record { version = 1; roster = kept.roster; own = kept.own })
+hello_message kept = number_of kinds.Hello ∷ hello_text (record { version = VERSION; roster = kept.roster; own = kept.own })
 
 -- DIGEST: what is kept here
 abbrev pub digest_message : ReplicaValue → List ℕ
-digest_message kept = 2 ∷ digest_text (digest_of kept.state)
+digest_message kept = number_of kinds.Digest ∷ digest_text (digest_of kept.state)
 
 -- DELTA: what is kept here and the digest lacks, with its certificate, for the replica that asked
 abbrev pub delta_message : ReplicaValue → ℕ → DigestValue → List ℕ
-delta_message kept asker digest = let delta = least_state kept.state digest in 3 ∷ answer_text (answer asker delta (certificate_of digest delta))
+delta_message kept asker digest = let delta = least_state kept.state digest in number_of kinds.Delta ∷ answer_text (answer asker delta (certificate_of digest delta))
+
+-- the byte of a BYE
+abbrev pub byte_of : ByeCode → ℕ
+byte_of byes.Done = 0
+byte_of byes.WrongVersion = 1
+byte_of byes.WrongGroup = 2
+byte_of byes.WrongRoster = 3
+byte_of byes.SameReplica = 4
+byte_of byes.Refused = 5
+byte_of byes.OwnFault = 6
+
+-- what a byte of a BYE says
+abbrev pub bye_of : ℕ → Option ByeCode
+bye_of b =
+    if b == 0 then Some byes.Done
+    else (if b == 1 then Some byes.WrongVersion
+    else (if b == 2 then Some byes.WrongGroup
+    else (if b == 3 then Some byes.WrongRoster
+    else (if b == 4 then Some byes.SameReplica
+    else (if b == 5 then Some byes.Refused
+    else (if b == 6 then Some byes.OwnFault
+    else None))))))
 
 -- BYE: the end, and why
-abbrev pub bye_message : ℕ → List ℕ
-bye_message code = 4 ∷ code ∷ []
+abbrev pub bye_message : ByeCode → List ℕ
+bye_message code = number_of kinds.Bye ∷ byte_of code ∷ []
 
 -- the code of the BYE that a refusal sends
-abbrev pub code_of : Fault → ℕ
-code_of WrongVersion = 1
-code_of WrongGroup = 2
-code_of WrongRoster = 3
-code_of SameReplica = 4
-code_of Memory = 6
-code_of _ = 5
+abbrev pub code_of : Fault → ByeCode
+code_of WrongVersion = byes.WrongVersion
+code_of WrongGroup = byes.WrongGroup
+code_of WrongRoster = byes.WrongRoster
+code_of SameReplica = byes.SameReplica
+code_of Memory = byes.OwnFault
+code_of _ = byes.Refused
 
--- what a BYE with a code other than 0 ends the session with
-abbrev pub fault_of_code : ℕ → Fault
-fault_of_code code =
-    if code == 1 then WrongVersion
-    else (if code == 2 then WrongGroup
-    else (if code == 3 then WrongRoster
-    else (if code == 4 then SameReplica
-    else PeerEnded)))
+-- what a BYE that isn't the last message ends the session with
+abbrev pub fault_of : ByeCode → Fault
+fault_of byes.WrongVersion = WrongVersion
+fault_of byes.WrongGroup = WrongGroup
+fault_of byes.WrongRoster = WrongRoster
+fault_of byes.SameReplica = SameReplica
+fault_of _ = PeerEnded

@@ -1,22 +1,21 @@
 -- What a session may receive.
-use Rattle.std.specs.Prelude.{◌≡◌, List, length, Option, IfSome, IsSome}
+use Rattle.std.specs.Prelude.{◌≡◌, ℕ, List, length, Option, Ok, IfSome, IsSome}
 use Rattle.rds_state.specs.Fits.{Fits, ReplicaValue}
 use Rattle.rds_state.specs.Value.{StateValue, coordinates}
-use Rattle.rds_delta.specs.Claims.{IsCertificate}
 use Rattle.rds_delta.specs.Least.{IsAbove}
 use Rattle.rds_delta.specs.Ranks.{ranks}
-use Rattle.rds_delta.specs.declared.row.Row.{Row}
 use Rattle.rds_session.specs.declared.step.Ended.{Ended}
 use Rattle.rds_session.specs.declared.step.Ended.TheVariants.{Done}
 use Rattle.rds_session.specs.declared.talk.Act.{Act}
 use Rattle.rds_session.specs.declared.talk.Act.TheVariants as acts
-use Rattle.rds_session.specs.Judging.{Awaited, ForBye}
+use Rattle.rds_session.specs.Judging.{Awaited, ForBye, Receives, delta_came}
 
--- a delta of replicas of the roster, all of whose components are above what was kept here, as a certificate said
+-- a delta of replicas of the roster, all of whose components are above what was kept here, for which the body of a DELTA is
+-- accepted here: the rows in that body are its certificate. Which body was heard is said by the clauses on streams
 pub record IsChecked (kept : ReplicaValue) (delta : StateValue) : Type 0 where
   pub fits : Fits (length kept.roster.names) (coordinates delta)
   pub above : IsAbove (coordinates delta) (ranks (coordinates kept.state))
-  pub certified : (rows : List Row) × IsCertificate (ranks (coordinates kept.state)) delta rows
+  pub came : (body : List ℕ) × (delta_came kept body ≡ Ok (Receives delta))
 
 -- nothing, or such a delta
 abbrev pub HasChecked : ReplicaValue → Option StateValue → Type 0

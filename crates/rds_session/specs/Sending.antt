@@ -5,7 +5,9 @@ use Rattle.rds_names.specs.declared.fault.Fault.TheVariants.{Memory}
 use Rattle.rds_session.specs.declared.chunks.TheConstants.{MESSAGE_LIMIT}
 use Rattle.std.specs.Global.{Vec}
 use Rattle.rds_codec.specs.Writing.{Encodes}
+use Rattle.rds_session.specs.declared.kinds.MessageKind.{MessageKind}
 use Rattle.rds_session.specs.Chunks.{spelled}
+use Rattle.rds_session.specs.Messages.{number_of}
 
 abbrev pub then_sent : List ℕ → List ℕ × Bool → List ℕ × Bool
 then_sent bytes p = (bytes ++ p.0, p.1)
@@ -22,8 +24,8 @@ SendsOne old new m result = MatchResult result
     (λ e. e ≡ Memory)
 
 -- the same of a message whose body was encoded, or is over the limit itself
-abbrev pub SendsBody : List ℕ → List ℕ → ℕ → Result (Vec ℕ) Fault → Result Bool Fault → Type 0
-SendsBody old new kind body result = (text : List ℕ) → Encodes text body → SendsOne old new (kind ∷ text) result
+abbrev pub SendsBody : List ℕ → List ℕ → MessageKind → Result (Vec ℕ) Fault → Result Bool Fault → Type 0
+SendsBody old new kind body result = (text : List ℕ) → Encodes text body → SendsOne old new (number_of kind ∷ text) result
 
 -- messages were added, or those before the first that is over the limit
 abbrev pub SendsAll : List ℕ → List ℕ → List (List ℕ) → Result Bool Fault → Type 0

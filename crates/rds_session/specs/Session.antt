@@ -4,6 +4,7 @@ use Rattle.rds_names.specs.declared.fault.Fault.{Fault}
 use Rattle.rds_names.specs.declared.fault.Fault.TheVariants.{TooLong, PeerEnded}
 use Rattle.rds_state.specs.Fits.{ReplicaValue}
 use Rattle.rds_state.specs.Value.{StateValue}
+use Rattle.rds_session.specs.declared.kinds.ByeCode.TheVariants as byes
 use Rattle.rds_session.specs.declared.talk.Side.{Side}
 use Rattle.rds_session.specs.declared.talk.Side.TheVariants.{Client, Server}
 use Rattle.rds_session.specs.declared.talk.Stop.{Stop}
@@ -44,7 +45,7 @@ when_going Going x y = x
 when_going _ x y = y
 
 abbrev pub after_sending : Standing → List ℕ × Bool → Sent
-after_sending s p = if p.1 then (s, p.0) else (failed s TooLong, p.0 ++ spelled (bye_message 6))
+after_sending s p = if p.1 then (s, p.0) else (failed s TooLong, p.0 ++ spelled (bye_message byes.OwnFault))
 
 abbrev pub sends : Standing → List (List ℕ) → Sent
 sends s ms = after_sending s (sending ms)

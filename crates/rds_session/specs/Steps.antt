@@ -4,6 +4,7 @@ use Rattle.rds_names.specs.declared.fault.Fault.{Fault}
 use Rattle.rds_names.specs.declared.fault.Fault.TheVariants.{Memory}
 use Rattle.rds_state.specs.Fits.{ReplicaValue}
 use Rattle.rds_state.specs.Value.{StateValue}
+use Rattle.rds_session.specs.declared.kinds.ByeCode.TheVariants as byes
 use Rattle.rds_session.specs.declared.talk.Side.{Side}
 use Rattle.rds_session.specs.declared.step.Ended.{Ended}
 use Rattle.rds_session.specs.declared.step.Ended.TheVariants.{Going, Failed}
@@ -35,7 +36,7 @@ ReceivedAtMost side kept heard received = (received ≡ None) ⊎ (received ≡ 
 
 -- the last bytes where memory ran out: a BYE that says so, or nothing where there is no memory for it either
 abbrev pub IsLastWord : List ℕ → Type 0
-IsLastWord sent = (sent ≡ []) ⊎ (sent ≡ spelled (bye_message 6))
+IsLastWord sent = (sent ≡ []) ⊎ (sent ≡ spelled (bye_message byes.OwnFault))
 
 -- a session that has the standing of a stream has that of the longer stream, and sends what is sent for it beyond
 -- what is sent for the shorter one

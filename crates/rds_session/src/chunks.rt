@@ -4,12 +4,13 @@ ghost use Rattle.std.specs.Prelude.{◌≡◌, IfOk, IfErr};
 ghost use Rattle.rds_names.specs.declared.fault.Fault.TheVariants.{Memory};
 ghost use Rattle.rds_session.specs.Chunks.{place_of, under_of};
 
+use rds_codec::LIMIT;
 use rds_names::Fault;
 use std::alloc::Global;
 use std::marker::Model;
 
 /// The greatest length of a message, without the lengths of its chunks.
-pub const MESSAGE_LIMIT: usize = 268_435_456;
+pub const MESSAGE_LIMIT: usize = LIMIT;
 
 /// Where the next byte stands in its chunk.
 #[derive(Clone, Copy, Debug, PartialEq, Eq)]

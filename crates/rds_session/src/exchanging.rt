@@ -1,14 +1,16 @@
 //! A session over a reader and a writer.
-ghost use Rattle.std.specs.Prelude.{◌≡◌, ◌⊎◌, ◌<◌, true, false, length, OnOk, IfOk, IfErr, IfSome};
+ghost use Rattle.std.specs.Prelude.{◌≡◌, ◌⊎◌, ◌<◌, ℕ, List, Option, true, false, length, OnOk, OnErr, IfOk, IfErr, IfSome};
 ghost use Rattle.rds_keep.specs.Counted.{HasFailed};
+ghost use Rattle.rds_keep.specs.Parts.{AppendsFront, AppendsPart};
+ghost use Rattle.std.specs.Io.KnownBytes.{Appends};
 ghost use Rattle.rds_names.specs.declared.fault.Fault.TheVariants.{Device};
 ghost use Rattle.rds_session.specs.declared.step.Ended.TheVariants.{Going, Failed};
 ghost use Rattle.rds_session.specs.declared.talk.Side.{Side};
 ghost use Rattle.rds_session.specs.Exchange.{Exchanges, Says, Talks, TalksOn};
 ghost use Rattle.rds_session.specs.Received.{HasChecked, IsDoneBy};
-ghost use Rattle.rds_session.specs.Leaving.{HasHeard, IsOfSession};
+ghost use Rattle.rds_session.specs.Leaving.{IsOfCalls, IsOfSession, Speaks};
 ghost use Rattle.rds_session.specs.Session.{Heard, Nothing};
-ghost use Rattle.rds_session.specs.Steps.{came, HasStanding, IsNoDevice, IsOver};
+ghost use Rattle.rds_session.specs.Steps.{came, Continues, HasStanding, IsNoDevice, IsOver};
 ghost use Rattle.rds_state.specs.Fits.{ReplicaValue};
 
 use crate::session::Session;
@@ -43,7 +45,10 @@ fn say<S: DotSet, W: Write>(
     ensures ended { IfOk result (λ e. e ≡ session.new.ended) }
     ensures known { OnOk result (IsNoDevice session.old.ended → IsNoDevice session.new.ended) }
     ensures kept { session.new.kept ≡ session.old.kept }
-    ensures heard { (side : Side) (kept : ReplicaValue) (heard : Heard) → HasStanding side kept heard session.old → HasHeard side kept session.new }
+    ensures sent { OnOk result ((side : Side) (kept : ReplicaValue) (heard : Heard) → HasStanding side kept heard session.old
+        → (sent : List ℕ) × Continues side kept heard (came input.entry) session.new sent × Appends (W.contents writer.old.inner) (W.contents writer.new.inner) sent) }
+    ensures part { OnErr result ((side : Side) (kept : ReplicaValue) (heard : Heard) → HasStanding side kept heard session.old
+        → (sent : List ℕ) × Continues side kept heard (came input.entry) session.new sent × AppendsPart (W.contents writer.old.inner) (W.contents writer.new.inner) sent) }
     ensures says { OnOk result (Says session.old (came input.entry) session.new (W.contents writer.old.inner) (W.contents writer.new.inner)) }
     ensures fault { IfErr result (λ e. (e ≡ Device) × HasFailed writer.old writer.new) }
     ensures steady { OnOk result (writer.new.failed ≡ writer.old.failed) }
@@ -66,7 +71,12 @@ fn turn<S: DotSet, R: Read, W: Write>(
     ensures ended { IfOk result (λ e. e ≡ session.new.ended) }
     ensures known { OnOk result (IsNoDevice session.old.ended → IsNoDevice session.new.ended) }
     ensures kept { session.new.kept ≡ session.old.kept }
-    ensures heard { (side : Side) (kept : ReplicaValue) → HasHeard side kept session.old → HasHeard side kept session.new }
+    ensures speaks { OnOk result ((side : Side) (kept : ReplicaValue) (first before : Option (List ℕ))
+        → Speaks side kept first (R.remaining reader.old.inner) session.old (Appends before (W.contents writer.old.inner))
+        → Speaks side kept first (R.remaining reader.new.inner) session.new (Appends before (W.contents writer.new.inner))) }
+    ensures part { OnErr result ((side : Side) (kept : ReplicaValue) (first before : Option (List ℕ))
+        → Speaks side kept first (R.remaining reader.old.inner) session.old (Appends before (W.contents writer.old.inner))
+        → Speaks side kept first (R.remaining reader.new.inner) session.new (AppendsFront before (W.contents writer.new.inner))) }
     ensures talk { OnOk result (TalksOn (R.remaining reader.old.inner) (R.remaining reader.new.inner) session.old session.new (W.contents writer.old.inner) (W.contents writer.new.inner)) }
     ensures fault { IfErr result (λ e. (e ≡ Device) × (HasFailed reader.old reader.new ⊎ HasFailed writer.old writer.new)) }
     ensures steady_reader { OnOk result (reader.new.failed ≡ reader.old.failed) }
@@ -91,7 +101,10 @@ fn talk<S: DotSet, R: Read, W: Write>(
     ensures ended { IfOk result (λ e. (e ≡ session.new.ended) × IsOver e) }
     ensures known { OnOk result (IsNoDevice session.old.ended → IsNoDevice session.new.ended) }
     ensures kept { session.new.kept ≡ session.old.kept }
-    ensures heard { (side : Side) (kept : ReplicaValue) → HasStanding side kept Nothing session.old → HasHeard side kept session.new }
+    ensures speaks { OnOk result ((side : Side) (kept : ReplicaValue) → HasStanding side kept Nothing session.old
+        → Speaks side kept (R.remaining reader.old.inner) (R.remaining reader.new.inner) session.new (Appends (W.contents writer.old.inner) (W.contents writer.new.inner))) }
+    ensures part { OnErr result ((side : Side) (kept : ReplicaValue) → HasStanding side kept Nothing session.old
+        → Speaks side kept (R.remaining reader.old.inner) (R.remaining reader.new.inner) session.new (AppendsFront (W.contents writer.old.inner) (W.contents writer.new.inner))) }
     ensures talk { OnOk result ((side : Side) (kept : ReplicaValue) → HasStanding side kept Nothing session.old
         → Talks side kept (R.remaining reader.old.inner) (R.remaining reader.new.inner) session.new (W.contents writer.old.inner) (W.contents writer.new.inner)) }
     ensures fault { IfErr result (λ e. (e ≡ Device) × (HasFailed reader.old reader.new ⊎ HasFailed writer.old writer.new)) }
@@ -124,6 +137,8 @@ pub fn exchange<S: DotSet, R: Read, W: Write>(
     ensures checked { HasChecked kept.now result.received }
     ensures done { IsDoneBy result.ended result.received }
     ensures session { IsOfSession side kept.now result.received result.ended }
+    ensures heard { IsOfCalls side kept.now (R.remaining reader.old.inner) (R.remaining reader.new.inner)
+        (W.contents writer.old.inner) (W.contents writer.new.inner) result.received result.ended }
     ensures told { ((reader.new.failed ≡ reader.old.failed) × (writer.new.failed ≡ writer.old.failed)) ⊎ (result.ended ≡ Failed Device) }
     ensures device { result.ended ≡ Failed Device → HasFailed reader.old reader.new ⊎ HasFailed writer.old writer.new }
     ensures exchange { reader.new.failed ≡ 0 → writer.new.failed ≡ 0 → IfSome (R.remaining reader.old.inner) (λ input.

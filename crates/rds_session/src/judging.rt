@@ -5,7 +5,7 @@ ghost use Rattle.rds_bytes.specs.Reading.{Reads};
 ghost use Rattle.rds_session.specs.Bodies.{hello_in, digest_in, answer_in};
 ghost use Rattle.rds_delta.specs.Digested.{digest_of};
 ghost use Rattle.rds_names.specs.declared.fault.Fault.TheVariants.{Memory};
-ghost use Rattle.rds_session.specs.Judging.{Awaited, IsKnown, Judges, awaited, bye_came, hello_came, digest_came, delta_came, body_came, accepted, type_of, other_version, same_names};
+ghost use Rattle.rds_session.specs.Judging.{Awaited, IsKnown, Judges, awaited, bye_came, bye_judged, hello_came, digest_came, delta_came, body_came, accepted, other_version, same_names};
 ghost use Rattle.rds_session.specs.Checked.{passes};
 ghost use Rattle.rds_session.specs.Received.{Brings};
 ghost use Rattle.rds_codec.specs.AnswerTexts.{IsAnswerOf};
@@ -15,28 +15,43 @@ ghost use Rattle.rds_delta.specs.Ranks.{ranks};
 ghost use Rattle.rds_state.specs.Fits.{ReplicaValue};
 ghost use Rattle.rds_state.specs.Value.{coordinates};
 ghost use Rattle.std.specs.Str.{bytes_eq};
-ghost use Rattle.rds_session.specs.Messages.{fault_of_code};
+ghost use Rattle.rds_session.specs.Messages.{fault_of};
 ghost use Rattle.rds_session.specs.declared.talk.Stop.TheVariants.{Left, Refused};
 
+use crate::kinds::{ByeCode, MessageKind};
 use crate::talk::{Act, Stop, Turn};
-use rds_codec::{Answer, Hello, decode_answer, decode_digest, decode_hello};
+use rds_codec::{Answer, Hello, VERSION, decode_answer, decode_digest, decode_hello};
 use rds_delta::{Certificate, Digest, check};
 use rds_dots::DotSet;
 use rds_names::{Fault, Roster};
 use rds_state::{Replica, State};
 use std::alloc::Global;
 
-// What a BYE with a code other than 0 ends the session with.
-fn fault_of_code(code: u8) -> Fault
-    ensures value { result ≡ fault_of_code code }
+// What a BYE that isn't the last message ends the session with.
+fn fault_of(code: ByeCode) -> Fault
+    ensures value { result ≡ fault_of code }
     ensures known { IsKnown (Left result) }
 {
     match code {
-        1 => Fault::WrongVersion,
-        2 => Fault::WrongGroup,
-        3 => Fault::WrongRoster,
-        4 => Fault::SameReplica,
-        _ => Fault::PeerEnded,
+        ByeCode::WrongVersion => Fault::WrongVersion,
+        ByeCode::WrongGroup => Fault::WrongGroup,
+        ByeCode::WrongRoster => Fault::WrongRoster,
+        ByeCode::SameReplica => Fault::SameReplica,
+        ByeCode::Done | ByeCode::Refused | ByeCode::OwnFault => Fault::PeerEnded,
+    }
+}
+
+fn judge_code<S: DotSet>(turn: &Turn<S>, code: ByeCode) -> Result<Act<S>, Stop>
+    ensures known { IfErr result IsKnown }
+    ensures judges { Judges result (bye_judged code (awaited turn.now)) }
+    ensures brings { (kept : ReplicaValue) → IfOk result (Brings kept (awaited turn.now)) }
+{
+    match code {
+        ByeCode::Done => match turn {
+            Turn::Bye => Ok(Act::Finish),
+            _ => Err(Stop::Refused(Fault::OutOfTurn)),
+        },
+        code => Err(Stop::Left(fault_of(code))),
     }
 }
 
@@ -47,13 +62,11 @@ fn judge_bye<S: DotSet>(turn: &Turn<S>, body: &[u8]) -> Result<Act<S>, Stop>
 {
     match body {
         [] => Err(Stop::Refused(Fault::Cut)),
-        [0] => match turn {
-            Turn::Bye => Ok(Act::Finish),
-            _ => Err(Stop::Refused(Fault::OutOfTurn)),
+        [byte, rest @ ..] => match ByeCode::from_byte(*byte) {
+            Some(code) if rest.is_empty() => judge_code(turn, code),
+            Some(_) => Err(Stop::Refused(Fault::Extra)),
+            None => Err(Stop::Refused(Fault::Bad)),
         },
-        [code] if *code <= 6 => Err(Stop::Left(fault_of_code(*code))),
-        [code, ..] if *code <= 6 => Err(Stop::Refused(Fault::Extra)),
-        _ => Err(Stop::Refused(Fault::Bad)),
     }
 }
 
@@ -62,7 +75,7 @@ fn is_other_version(body: &[u8]) -> bool
 {
     match body {
         [] => false,
-        [version, ..] => *version != 1,
+        [version, ..] => *version != VERSION,
     }
 }
 
@@ -169,33 +182,25 @@ fn judge_delta<S: DotSet>(alloc: Global, kept: &Replica<S>, body: &[u8]) -> Resu
     Ok(Act::Receive(answer.state))
 }
 
+// A BYE may come at any time, another message where it is waited for.
 fn judge_body<S: DotSet>(
     alloc: Global,
     kept: &Replica<S>,
+    kind: MessageKind,
     turn: &Turn<S>,
     body: &[u8],
 ) -> Result<Act<S>, Stop>
     requires { length body.now ≤ LIMIT }
     ensures known { IfErr result IsKnown }
-    ensures judges { Judges result (body_came kept.now (awaited turn.now) body.now) }
+    ensures judges { Judges result (body_came kept.now kind (awaited turn.now) body.now) }
     ensures brings { IfOk result (Brings kept.now (awaited turn.now)) }
 {
-    match turn {
-        Turn::Hello => judge_hello(alloc, kept, body),
-        Turn::Digest { peer } => judge_digest(alloc, kept, *peer, body),
-        Turn::Delta { .. } => judge_delta(alloc, kept, body),
-        Turn::Bye => judge_bye(turn, body),
-    }
-}
-
-fn type_of<S: DotSet>(turn: &Turn<S>) -> u8
-    ensures { result ≡ type_of (awaited turn.now) }
-{
-    match turn {
-        Turn::Hello => 1,
-        Turn::Digest { .. } => 2,
-        Turn::Delta { .. } => 3,
-        Turn::Bye => 4,
+    match (kind, turn) {
+        (MessageKind::Bye, _) => judge_bye(turn, body),
+        (MessageKind::Hello, Turn::Hello) => judge_hello(alloc, kept, body),
+        (MessageKind::Digest, Turn::Digest { peer }) => judge_digest(alloc, kept, *peer, body),
+        (MessageKind::Delta, Turn::Delta { .. }) => judge_delta(alloc, kept, body),
+        _ => Err(Stop::Refused(Fault::OutOfTurn)),
     }
 }
 
@@ -214,16 +219,9 @@ pub fn accept<S: DotSet>(
 {
     match message {
         [] => Err(Stop::Refused(Fault::Cut)),
-        [kind, body @ ..] => {
-            if *kind == 4 {
-                judge_bye(turn, body)
-            } else if *kind == 0 || 4 < *kind {
-                Err(Stop::Refused(Fault::Bad))
-            } else if *kind == type_of(turn) {
-                judge_body(alloc, kept, turn, body)
-            } else {
-                Err(Stop::Refused(Fault::OutOfTurn))
-            }
-        }
+        [number, body @ ..] => match MessageKind::from_number(*number) {
+            Some(kind) => judge_body(alloc, kept, kind, turn, body),
+            None => Err(Stop::Refused(Fault::Bad)),
+        },
     }
 }

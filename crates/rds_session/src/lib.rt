@@ -4,6 +4,7 @@
 mod chunks;
 mod exchanging;
 mod judging;
+mod kinds;
 mod laws;
 mod sending;
 mod session;

@@ -1,10 +1,12 @@
 //! Sending messages.
 ghost use Rattle.std.specs.Prelude.{◌≡◌, [], ◌∷◌};
+ghost use Rattle.rds_session.specs.declared.kinds.ByeCode.TheVariants as byes;
 ghost use Rattle.rds_session.specs.Judging.{awaited, said, replies_of};
 ghost use Rattle.rds_session.specs.Messages.{hello_message, digest_message, delta_message, bye_message};
 ghost use Rattle.rds_session.specs.Sending.{SendsBody, SendsOne, SendsAll};
 ghost use Rattle.rds_session.specs.Session.{opening};
 
+use crate::kinds::{ByeCode, MessageKind};
 use crate::talk::{Act, Side, Turn};
 use crate::writing::put_message;
 use rds_codec::{Hello, VERSION, encode_answer, encode_digest, encode_hello};
@@ -15,7 +17,11 @@ use rds_state::Replica;
 use std::alloc::Global;
 
 // Adds a message whose body was encoded, and says whether it is within the limit.
-fn send_body(send: &mut Vec<u8>, kind: u8, body: Result<Vec<u8>, Fault>) -> Result<bool, Fault>
+fn send_body(
+    send: &mut Vec<u8>,
+    kind: MessageKind,
+    body: Result<Vec<u8>, Fault>,
+) -> Result<bool, Fault>
     ensures { SendsBody send.old.items send.new.items kind body result }
 {
     match body {
@@ -37,7 +43,7 @@ fn send_hello<S: DotSet>(
         roster: kept.roster().copy(alloc)?,
         own: kept.own(),
     };
-    send_body(send, 1, encode_hello(alloc, &hello))
+    send_body(send, MessageKind::Hello, encode_hello(alloc, &hello))
 }
 
 fn send_digest<S: DotSet>(
@@ -48,7 +54,7 @@ fn send_digest<S: DotSet>(
     ensures { SendsOne send.old.items send.new.items (digest_message kept.now) result }
 {
     let digest = Digest::of(alloc, kept.state())?;
-    send_body(send, 2, encode_digest(alloc, &digest))
+    send_body(send, MessageKind::Digest, encode_digest(alloc, &digest))
 }
 
 fn send_delta<S: DotSet>(
@@ -62,14 +68,18 @@ fn send_delta<S: DotSet>(
 {
     let delta = delta(alloc, kept.state(), digest)?;
     let certificate = certificate(alloc, digest, &delta)?;
-    send_body(send, 3, encode_answer(alloc, peer, &delta, &certificate))
+    send_body(
+        send,
+        MessageKind::Delta,
+        encode_answer(alloc, peer, &delta, &certificate),
+    )
 }
 
 /// Adds a BYE with this code.
-pub fn send_bye(send: &mut Vec<u8>, code: u8) -> Result<bool, Fault>
+pub fn send_bye(send: &mut Vec<u8>, code: ByeCode) -> Result<bool, Fault>
     ensures { SendsOne send.old.items send.new.items (bye_message code) result }
 {
-    put_message(send, 4, &[code])
+    put_message(send, MessageKind::Bye, &[code.byte()])
 }
 
 /// Adds the messages with which a client begins.
@@ -111,12 +121,12 @@ fn answer_delta<S: DotSet>(
     peer: u8,
     digest: &Digest<S>,
 ) -> Result<bool, Fault>
-    ensures { SendsAll send.old.items send.new.items (delta_message kept.now peer digest.now ∷ bye_message 0 ∷ []) result }
+    ensures { SendsAll send.old.items send.new.items (delta_message kept.now peer digest.now ∷ bye_message byes.Done ∷ []) result }
 {
     if !send_delta(alloc, send, kept, peer, digest)? {
         return Ok(false);
     }
-    send_bye(send, 0)
+    send_bye(send, ByeCode::Done)
 }
 
 /// Adds the messages that answer an accepted one.
@@ -134,7 +144,7 @@ pub fn send_replies<S: DotSet>(
     match side {
         Side::Server => match act {
             Act::Learn(peer, digest) => answer_digest(alloc, send, kept, *peer, digest),
-            Act::Finish => send_bye(send, 0),
+            Act::Finish => send_bye(send, ByeCode::Done),
             Act::Greet(_) | Act::Receive(_) => Ok(true),
         },
         Side::Client => match (act, turn) {

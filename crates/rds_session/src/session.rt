@@ -6,6 +6,7 @@ ghost use Rattle.rds_names.specs.declared.fault.Fault.TheVariants.{Memory};
 
 use crate::chunks::{Chunks, Scanned, chunks_of};
 use crate::judging::accept;
+use crate::kinds::ByeCode;
 use crate::sending::{send_bye, send_opening, send_replies};
 use crate::step::{Ended, Input, Output};
 use crate::talk::{Act, Side, Stop, Turn, code_of};
@@ -147,7 +148,7 @@ impl<'a, S: DotSet> Session<'a, S> {
     {
         self.fail(Fault::Memory);
         let mut send = Vec::new(alloc);
-        match send_bye(&mut send, 6) {
+        match send_bye(&mut send, ByeCode::OwnFault) {
             Ok(_) => send,
             Err(_) => Vec::new(alloc),
         }
@@ -183,7 +184,7 @@ impl<'a, S: DotSet> Session<'a, S> {
                 if all {
                     self.begun = true;
                 } else {
-                    send_bye(send, 6)?;
+                    send_bye(send, ByeCode::OwnFault)?;
                     self.begun = true;
                     self.fail(Fault::TooLong);
                 }
@@ -293,7 +294,7 @@ impl<'a, S: DotSet> Session<'a, S> {
         if all {
             self.perform(act);
         } else {
-            send_bye(send, 6)?;
+            send_bye(send, ByeCode::OwnFault)?;
             self.perform(act);
             self.fail(Fault::TooLong);
         }

@@ -2,6 +2,7 @@
 ghost use Rattle.std.specs.Prelude.{◌≡◌};
 ghost use Rattle.rds_session.specs.Messages.{code_of};
 
+use crate::kinds::ByeCode;
 use rds_delta::Digest;
 use rds_dots::DotSet;
 use rds_names::Fault;
@@ -48,16 +49,16 @@ pub enum Stop {
 }
 
 /// The code of the BYE that a refusal sends.
-pub fn code_of(fault: Fault) -> u8
+pub fn code_of(fault: Fault) -> ByeCode
     ensures { result ≡ code_of fault }
 {
     match fault {
-        Fault::WrongVersion => 1,
-        Fault::WrongGroup => 2,
-        Fault::WrongRoster => 3,
-        Fault::SameReplica => 4,
-        Fault::Memory => 6,
-        _ => 5,
+        Fault::WrongVersion => ByeCode::WrongVersion,
+        Fault::WrongGroup => ByeCode::WrongGroup,
+        Fault::WrongRoster => ByeCode::WrongRoster,
+        Fault::SameReplica => ByeCode::SameReplica,
+        Fault::Memory => ByeCode::OwnFault,
+        _ => ByeCode::Refused,
     }
 }
 

@@ -2,9 +2,11 @@
 ghost use Rattle.std.specs.Prelude.{◌≡◌, ◌++◌, ◌∷◌, ◌<◌, length, OnOk, IfErr};
 ghost use Rattle.rds_names.specs.declared.fault.Fault.TheVariants.{Memory};
 ghost use Rattle.rds_session.specs.Chunks.{spelled, chunk_text};
+ghost use Rattle.rds_session.specs.Messages.{number_of};
 ghost use Rattle.rds_session.specs.Sending.{SendsOne};
 
 use crate::chunks::MESSAGE_LIMIT;
+use crate::kinds::MessageKind;
 use rds_names::Fault;
 
 /// The greatest length of a chunk that is sent.
@@ -22,14 +24,14 @@ fn put_chunk(send: &mut Vec<u8>, chunk: &[u8]) -> Result<(), Fault>
 }
 
 // The chunk that begins with the message's type.
-fn put_first(send: &mut Vec<u8>, kind: u8, front: &[u8]) -> Result<(), Fault>
+fn put_first(send: &mut Vec<u8>, kind: MessageKind, front: &[u8]) -> Result<(), Fault>
     requires { length front.now < 65535 }
-    ensures ok { OnOk result (send.new.items ≡ send.old.items ++ chunk_text (kind ∷ front.now)) }
+    ensures ok { OnOk result (send.new.items ≡ send.old.items ++ chunk_text (number_of kind ∷ front.now)) }
     ensures err { IfErr result (λ e. e ≡ Memory) }
 {
     let length = (front.len() as u16 + 1).to_be_bytes();
     send.extend_from_slice(&length)?;
-    send.push(kind)?;
+    send.push(kind.number())?;
     send.extend_from_slice(front)?;
     Ok(())
 }
@@ -52,8 +54,8 @@ fn put_chunks(send: &mut Vec<u8>, message: &[u8]) -> Result<(), Fault>
 
 /// Adds the message of this type and body, and says whether it is within the limit; one that isn't is not added.
 #[tactic(auto, unfolding(crate::specs::Chunks::spelled))]
-pub fn put_message(send: &mut Vec<u8>, kind: u8, body: &[u8]) -> Result<bool, Fault>
-    ensures { SendsOne send.old.items send.new.items (kind ∷ body.now) result }
+pub fn put_message(send: &mut Vec<u8>, kind: MessageKind, body: &[u8]) -> Result<bool, Fault>
+    ensures { SendsOne send.old.items send.new.items (number_of kind ∷ body.now) result }
 {
     if MESSAGE_LIMIT <= body.len() {
         return Ok(false);

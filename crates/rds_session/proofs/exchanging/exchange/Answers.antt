@@ -5,6 +5,7 @@ use Rattle.rds_session.specs.declared.talk.Side.{Side}
 use Rattle.rds_session.specs.Received.{HasChecked}
 use Rattle.rds_session.specs.Session.{Standing, Nothing, course}
 use Rattle.rds_session.specs.Steps.{HasStanding}
+use Rattle.rds_session.proofs.Spoken.{heard_some}
 use Rattle.rds_session.proofs.Turns.{exchanged}
 use Rattle.rds_session.proofs.exchanging.exchange.Goals as goal
 
@@ -34,7 +35,7 @@ returns-in-Ok-clause-done g c = λ is_done. c.into_received.ensures.done (sym c.
 pub returns-in-Ok-clause-session : goal.returns-in-Ok-clause-session
 returns-in-Ok-clause-session g c = record {
   session = c.talk.new.session;
-  heard = c.in-Ok.ensures.heard c.args.side c.args.kept.now c.new-session.ensures.standing;
+  heard = heard_some _ _ _ _ _ _ (c.in-Ok.ensures.speaks c.args.side c.args.kept.now c.new-session.ensures.standing);
   is_received = c.into_received.ensures.received;
   stands = inl c.in-Ok.ensures.ended.0;
 }
@@ -42,7 +43,33 @@ returns-in-Ok-clause-session g c = record {
 pub returns-in-Err-clause-session : goal.returns-in-Err-clause-session
 returns-in-Err-clause-session g c = record {
   session = c.talk.new.session;
-  heard = c.in-Err.ensures.heard c.args.side c.args.kept.now c.new-session.ensures.standing;
+  heard = heard_some _ _ _ _ _ _ (c.in-Err.ensures.part c.args.side c.args.kept.now c.new-session.ensures.standing);
   is_received = c.into_received-in-Err.ensures.received;
   stands = inr (inl (ap Failed c.in-Err.ensures.fault.0));
 }
+
+pub returns-in-Ok-clause-heard : goal.returns-in-Ok-clause-heard
+returns-in-Ok-clause-heard g c =
+    let spoken = c.in-Ok.ensures.speaks c.args.side c.args.kept.now c.new-session.ensures.standing in
+    record {
+      session = c.talk.new.session;
+      heard = spoken.0;
+      is_heard = spoken.1;
+      sent = spoken.2;
+      is_sent = spoken.3;
+      is_received = c.into_received.ensures.received;
+      stands = inl (c.in-Ok.ensures.ended.0, spoken.4);
+    }
+
+pub returns-in-Err-clause-heard : goal.returns-in-Err-clause-heard
+returns-in-Err-clause-heard g c =
+    let spoken = c.in-Err.ensures.part c.args.side c.args.kept.now c.new-session.ensures.standing in
+    record {
+      session = c.talk.new.session;
+      heard = spoken.0;
+      is_heard = spoken.1;
+      sent = spoken.2;
+      is_sent = spoken.3;
+      is_received = c.into_received-in-Err.ensures.received;
+      stands = inr (ap Failed c.in-Err.ensures.fault.0, spoken.4);
+    }

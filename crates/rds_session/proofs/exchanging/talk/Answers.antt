@@ -1,5 +1,7 @@
 use Rattle.std.proofs.Common.{refl}
-use Rattle.rds_session.proofs.Turns.{heard_in_talk, talk_begins}
+use Rattle.std.proofs.lemmas.Result.{err_from_is_err_and}
+use Rattle.rds_session.proofs.Spoken.{first_part, first_spoken}
+use Rattle.rds_session.proofs.Turns.{talk_begins}
 use Rattle.rds_session.proofs.exchanging.talk.Goals as goal
 
 pub turns-init : goal.turns-init
@@ -10,10 +12,18 @@ turns-init g c = rw c.begin_turns.ensures (
   refl,
   c.in_ok-ended.ensures.steady,
   λ side kept is. talk_begins side kept (g.R.Read.remaining c.args.reader.now.inner) c.args.session.now c.say.new.session _ _ _ refl is c.in_ok-ended.ensures.says,
+  λ side kept is. first_spoken side kept (g.R.Read.remaining c.args.reader.now.inner) _ _ _ c.args.session.now c.say.new.session refl is c.in_ok-ended.ensures.sent,
 )
 
-pub returns-then-is_over-clause-heard : goal.returns-then-is_over-clause-heard
-returns-then-is_over-clause-heard g c = λ side kept is. heard_in_talk side kept _ _ c.turns.session _ _ (c.turns.invariant.5 side kept is)
+pub returns-in_err-ended-clause-part : goal.returns-in_err-ended-clause-part
+returns-in_err-ended-clause-part g c =
+    let p = err_from_is_err_and c.from_residual.result c.from_residual.ensures.1 in
+    rw p.1 (λ side kept is. first_part side kept _ _ _ _ c.args.session.now c.say.new.session refl is c.in_err-ended.ensures.part)
 
-pub returns-in_err-ended-2-clause-heard : goal.returns-in_err-ended-2-clause-heard
-returns-in_err-ended-2-clause-heard g c = λ side kept is. c.turn.ensures.heard side kept (heard_in_talk side kept _ _ c.turns.session _ _ (c.turns.invariant.5 side kept is))
+pub returns-then-is_over-clause-speaks : goal.returns-then-is_over-clause-speaks
+returns-then-is_over-clause-speaks g c = c.turns.invariant.6
+
+pub returns-in_err-ended-2-clause-part : goal.returns-in_err-ended-2-clause-part
+returns-in_err-ended-2-clause-part g c =
+    let p = err_from_is_err_and c.from_residual-in_err-ended-2.result c.from_residual-in_err-ended-2.ensures.1 in
+    rw p.1 (λ side kept is. c.in_err-ended-2.ensures.part side kept _ _ (c.turns.invariant.6 side kept is))

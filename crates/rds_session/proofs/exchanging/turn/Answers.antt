@@ -1,9 +1,25 @@
-use Rattle.std.proofs.Common.{◌<◌, length, rules}
-use Rattle.rds_session.proofs.Turns.{came_end, came_piece, heard_more_by, on_ok, turned}
+use Rattle.std.proofs.Common.{◌<◌, length, Some, None, rules}
+use Rattle.std.proofs.lemmas.Result.{err_from_is_err_and}
+use Rattle.rds_session.proofs.Spoken.{on_err, part_spoken, spoken, spoken_before}
+use Rattle.rds_session.proofs.Turns.{came_end, came_piece, on_ok, turned}
 use Rattle.rds_session.proofs.exchanging.turn.Goals as goal
 
-pub returns-then-count-eq0-clause-heard : goal.returns-then-count-eq0-clause-heard
-returns-then-count-eq0-clause-heard g c = λ side kept. heard_more_by side kept c.args.session.now c.say.new.session c.requires.going (c.say.ensures.heard side kept)
+pub returns-in_err-count-clause-part : goal.returns-in_err-count-clause-part
+returns-in_err-count-clause-part g c =
+    let p = err_from_is_err_and c.from_residual.result c.from_residual.ensures.1 in
+    rw p.1 (λ side kept first before. spoken_before side kept first _ _ before _ c.args.session.now c.requires.going c.in_err-count.ensures.bytes)
+
+pub returns-then-count-eq0-clause-speaks : goal.returns-then-count-eq0-clause-speaks
+returns-then-count-eq0-clause-speaks g c =
+    let room : 0 < length c.read.new.buf = search rules in
+    let came = came_end _ _ c.in_ok-count.count c.read.new.buf c.in_ok-count.ensures.bytes c.if-count-eq0.true room in
+    on_ok c.say.result _ _ c.say.ensures.sent (λ sent side kept first before. spoken side kept first _ _ before _ _ None c.args.session.now c.say.new.session c.requires.going came sent)
+
+pub returns-then-count-eq0-clause-part : goal.returns-then-count-eq0-clause-part
+returns-then-count-eq0-clause-part g c =
+    let room : 0 < length c.read.new.buf = search rules in
+    let came = came_end _ _ c.in_ok-count.count c.read.new.buf c.in_ok-count.ensures.bytes c.if-count-eq0.true room in
+    on_err c.say.result _ _ c.say.ensures.part (λ sent side kept first before. part_spoken side kept first _ _ before _ _ None c.args.session.now c.say.new.session c.requires.going came sent)
 
 pub returns-then-count-eq0-clause-talk : goal.returns-then-count-eq0-clause-talk
 returns-then-count-eq0-clause-talk g c =
@@ -11,8 +27,15 @@ returns-then-count-eq0-clause-talk g c =
     let came = came_end _ _ c.in_ok-count.count c.read.new.buf c.in_ok-count.ensures.bytes c.if-count-eq0.true room in
     on_ok c.say.result _ _ c.say.ensures.says (λ says. turned _ _ _ _ _ _ _ c.requires.going came says)
 
-pub returns-clause-heard : goal.returns-clause-heard
-returns-clause-heard g c = λ side kept. heard_more_by side kept c.args.session.now c.say-2.new.session c.requires.going (c.say-2.ensures.heard side kept)
+pub returns-clause-speaks : goal.returns-clause-speaks
+returns-clause-speaks g c =
+    let came = came_piece _ _ c.in_ok-count.count c.read.new.buf c.split_at.result.0.now c.in_ok-count.ensures.bytes c.split_at.ensures.front in
+    on_ok c.say-2.result _ _ c.say-2.ensures.sent (λ sent side kept first before. spoken side kept first _ _ before _ _ (Some c.split_at.result.0.now) c.args.session.now c.say-2.new.session c.requires.going came sent)
+
+pub returns-clause-part : goal.returns-clause-part
+returns-clause-part g c =
+    let came = came_piece _ _ c.in_ok-count.count c.read.new.buf c.split_at.result.0.now c.in_ok-count.ensures.bytes c.split_at.ensures.front in
+    on_err c.say-2.result _ _ c.say-2.ensures.part (λ sent side kept first before. part_spoken side kept first _ _ before _ _ (Some c.split_at.result.0.now) c.args.session.now c.say-2.new.session c.requires.going came sent)
 
 pub returns-clause-talk : goal.returns-clause-talk
 returns-clause-talk g c =
