@@ -9,7 +9,6 @@ use Rattle.rds_lines.specs.Answering.{WritesAnswer, WritesAnswers}
 use Rattle.rds_lines.specs.Output.{Writes}
 use Rattle.rds_lines.specs.Sim.{IsSimOutput}
 use Rattle.rds_lines.specs.declared.answer.Answer.{Answer}
-use Rattle.rds_files.specs.Files.{FileValue}
 use Rattle.rds_files.specs.Pairing.{WritesPair}
 use Rattle.rds_files.specs.Syncing.{WritesSync}
 use Rattle.rds_commands.specs.Commands.{node_app}
@@ -35,9 +34,9 @@ abbrev pub WritesSim : List ℕ → Option (List ℕ) → Option (List ℕ) → 
 WritesSim input before after status = Writes (Err Memory) before after status ⊎ WritesAnswers (IsSimOutput input) before after status
 
 -- an answer that came with such a file, or such a fault, was written, and nothing else, and its status is answered
-abbrev pub WritesOfFile : (FileValue → Answer → Type 0) → (Fault → Type 0) → Option (List ℕ) → Option (List ℕ) → ℕ → Type 0
-WritesOfFile comes refuses before after status =
-    ((file : FileValue) × (answer : Answer) × comes file answer × WritesAnswer (Ok answer) before after status)
+abbrev pub WritesOfFile : {F : Type 0} → (F → Answer → Type 0) → (Fault → Type 0) → Option (List ℕ) → Option (List ℕ) → ℕ → Type 0
+WritesOfFile {F} comes refuses before after status =
+    ((file : F) × (answer : Answer) × comes file answer × WritesAnswer (Ok answer) before after status)
     ⊎ ((fault : Fault) × refuses fault × WritesAnswer (Err fault) before after status)
 
 abbrev pub WritesInit : InitWords → Option (List ℕ) → Option (List ℕ) → ℕ → Type 0
