@@ -1,5 +1,5 @@
 -- What the program tells for its words.
-use Rattle.std.specs.Prelude.{◌≡◌, ◌⊎◌, ℕ, List, Option, Some, None, Result, Ok, Err, MatchResult}
+use Rattle.std.specs.Prelude.{◌≡◌, ◌⊎◌, ℕ, List, [], Option, Some, None, Result, Ok, Err, MatchResult}
 use Rattle.clap.specs.Words.{IsAmong, Kinds, Text, fault_of, subcommand_of}
 use Rattle.clap.specs.declared.error.kind.ErrorKind.{ErrorKind}
 use Rattle.rds_names.specs.declared.fault.Fault.{Fault}
@@ -28,6 +28,10 @@ named_in entered = words_in (subcommand_of node_app entered)
 -- the ways in which what was entered is none of the program's
 abbrev pub mistakes_in : List Text → Kinds
 mistakes_in entered = fault_of node_app entered
+
+-- what was entered names the task in words, and nothing else
+abbrev pub Names : List Text → List Text → Type 0
+Names entered words = (mistakes_in entered ≡ []) × (named_in entered ≡ Some words)
 
 -- the answers to the lines of the input were written, and nothing else; or there was no memory to read the words
 abbrev pub WritesSim : List ℕ → Option (List ℕ) → Option (List ℕ) → ℕ → Type 0
