@@ -22,6 +22,15 @@ pub join_is_entered : (name : List ℕ) → subcommand_of node_app (name ∷ joi
 unfolding node_app base_app with_entries with_removals with_counters with_show with_sessions clap_on_literals
 join_is_entered name = refl
 
+-- `--` says that no option follows
+pub dashes_are_taken : (name : List ℕ) → fault_of node_app (name ∷ codes "join" ∷ codes "--" ∷ []) ≡ []
+unfolding node_app base_app with_entries with_removals with_counters with_show with_sessions clap_on_literals
+dashes_are_taken name = refl
+
+pub dashes_are_entered : (name : List ℕ) → subcommand_of node_app (name ∷ codes "join" ∷ codes "--" ∷ []) ≡ Some (codes "join", [])
+unfolding node_app base_app with_entries with_removals with_counters with_show with_sessions clap_on_literals
+dashes_are_entered name = refl
+
 pub sim_is_taken : (name : List ℕ) → fault_of node_app (name ∷ sim_words) ≡ []
 unfolding node_app base_app with_entries with_removals with_counters with_show with_sessions clap_on_literals
 sim_is_taken name = refl

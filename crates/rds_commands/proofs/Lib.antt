@@ -4,5 +4,6 @@ pub mod Meaning
 pub mod NamedTasks
 pub mod Naming
 pub mod Refused
+pub mod Replaced
 pub mod SimTold
 pub mod Told

@@ -4,7 +4,8 @@ use Rattle.rds_names.specs.declared.fault.Fault.{Fault}
 use Rattle.rds_names.specs.declared.fault.Fault.TheVariants.{Memory}
 use Rattle.rds_state.specs.Fits.{ReplicaValue}
 use Rattle.rds_state.specs.declared.command.Command.{Command}
-use Rattle.rds_commands.specs.Edits.{IsUnread, RefusesEdit, RefusesEditIn}
+use Rattle.rds_files.specs.Files.{IsUnread}
+use Rattle.rds_commands.specs.Edits.{RefusesEdit, RefusesEditIn}
 use Rattle.rds_commands.specs.FileWords.{IsCommand}
 use Rattle.rds_commands.specs.declared.commands.EditWords.{EditWords}
 use Rattle.rds_commands.proofs.Told.{not_refused}

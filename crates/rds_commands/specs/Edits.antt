@@ -1,8 +1,8 @@
 -- What commands on the replica in a file come to, and why they are refused.
-use Rattle.std.specs.Prelude.{◌≡◌, ◌⊎◌, ℕ, List, Option, None, Ok, Err, IsOk, count_by}
+use Rattle.std.specs.Prelude.{◌≡◌, ◌⊎◌, ℕ, false, List, Option, None, Ok, Err, IsOk, count_by}
 use Rattle.std.specs.FinMap as map
 use Rattle.rds_names.specs.declared.fault.Fault.{Fault}
-use Rattle.rds_names.specs.declared.fault.Fault.TheVariants.{Memory, TooLong, Device, Usage}
+use Rattle.rds_names.specs.declared.fault.Fault.TheVariants.{Memory, Usage}
 use Rattle.rds_names.specs.Gives.{Refuses}
 use Rattle.rds_names.specs.Path.{path_of}
 use Rattle.rds_life.specs.Life.{live_rows}
@@ -10,37 +10,33 @@ use Rattle.rds_state.specs.Edit.{IsDue, JoinsEffect, covers, new_dot, refusal}
 use Rattle.rds_state.specs.Fits.{ReplicaValue}
 use Rattle.rds_state.specs.Value.{coordinates}
 use Rattle.rds_state.specs.declared.command.Command.{Command}
-use Rattle.rds_codec.specs.Decoding.{IsOtherFault}
 use Rattle.rds_lines.specs.Answer.{edit_answer}
 use Rattle.rds_lines.specs.Views.{ShowsView}
 use Rattle.rds_lines.specs.declared.answer.Answer.{Answer}
 use Rattle.rds_lines.specs.declared.answer.Answer.TheVariants.{Done}
-use Rattle.rds_files.specs.Files.{FileValue}
+use Rattle.rds_files.specs.Files.{FileValue, IsReadAt, IsUnkept, IsUnread, ReplacedValue}
 use Rattle.rds_commands.specs.FileWords.{IsCommand, roster_for}
 use Rattle.rds_commands.specs.declared.commands.EditWords.{EditWords}
 use Rattle.rds_commands.specs.declared.commands.InitWords.{InitWords}
 
--- why a file gives no replica
-abbrev pub IsUnread : Fault → Type 0
-IsUnread fault = (fault ≡ Device) ⊎ IsOtherFault fault
-
--- why a replica isn't kept in a file, but for want of memory
-abbrev pub IsUnkept : Fault → Type 0
-IsUnkept fault = (fault ≡ TooLong) ⊎ (fault ≡ Device)
-
 -- ---- init
 
--- the file of the words' path keeps the empty replica of the words' roster and own number, and that it was done is told
+-- the empty replica of the words' roster and own number
+pub record IsNamed (words : InitWords) (replica : ReplicaValue) : Type 0 where
+  pub named : roster_for words ≡ Ok (replica.roster, replica.own)
+  pub no_lives : replica.state.lives ≡ map.empty
+  pub no_counts : replica.state.counts ≡ map.empty
+
+-- the file of the words' path was written, and keeps that replica, and that it was done is told
 pub record InitsFile (words : InitWords) (file : FileValue) (answer : Answer) : Type 0 where
   pub at : file.path ≡ words.file.now
-  pub named : roster_for words ≡ Ok (file.kept.roster, file.kept.own)
-  pub no_lives : file.kept.state.lives ≡ map.empty
-  pub no_counts : file.kept.state.counts ≡ map.empty
+  pub written : file.is_read ≡ false
+  pub kept : IsNamed words file.kept
   pub told : answer ≡ Done
 
--- why no file is made: the words name no replica; else something is there, or the file can't be kept; or want of memory
+-- why no file is made: the words name no replica; else something is there, or that replica can't be kept; or want of memory
 abbrev pub RefusesInit : InitWords → Fault → Type 0
-RefusesInit words fault = (fault ≡ Memory) ⊎ ((roster_for words ≡ Err fault) ⊎ (IsOk (roster_for words) × ((fault ≡ Usage) ⊎ IsUnkept fault)))
+RefusesInit words fault = (fault ≡ Memory) ⊎ ((roster_for words ≡ Err fault) ⊎ ((replica : ReplicaValue) × IsNamed words replica × ((fault ≡ Usage) ⊎ IsUnkept replica fault)))
 
 -- ---- edits
 
@@ -55,18 +51,22 @@ pub record IsEdited (command : Command) (before after : ReplicaValue) (answer : 
 abbrev pub edit_refusal : ReplicaValue → Command → Option Fault
 edit_refusal before command = refusal (coordinates before.state) before.own command
 
+-- an edited replica can't be kept
+abbrev pub IsEditedUnkept : Command → ReplicaValue → Fault → Type 0
+IsEditedUnkept command before fault = (after : ReplicaValue) × (answer : Answer) × IsEdited command before after answer × IsUnkept after fault
+
 -- why a replica isn't edited and kept: what the edit itself is refused by, and only where that is nothing, that the new one
 -- can't be kept; want of memory comes only there too
 abbrev pub RefusesEditIn : Command → ReplicaValue → Fault → Type 0
-RefusesEditIn command before fault = IsDue (edit_refusal before command) fault ⊎ ((edit_refusal before command ≡ None) × IsUnkept fault)
+RefusesEditIn command before fault = IsDue (edit_refusal before command) fault ⊎ ((edit_refusal before command ≡ None) × IsEditedUnkept command before fault)
 
--- the file of this path keeps what it held before, edited as the words ask
-pub record EditsFile (path : List ℕ) (words : EditWords) (file : FileValue) (answer : Answer) : Type 0 where
-  pub at : file.path ≡ path
+-- the file at this path was read, and keeps what it held then, edited as the words ask by an edit that isn't refused
+pub record EditsFile (path : List ℕ) (words : EditWords) (file : ReplacedValue) (answer : Answer) : Type 0 where
+  pub read : IsReadAt path file.before
   pub command : Command
   pub asked : IsCommand words (Ok command)
-  pub before : ReplicaValue
-  pub edited : IsEdited command before file.kept answer
+  pub due : edit_refusal file.before.kept command ≡ None
+  pub edited : IsEdited command file.before.kept file.kept answer
 
 -- why a command isn't carried out on a file: there is no replica in it, or the one in it isn't edited
 abbrev pub RefusesCommand : Command → Fault → Type 0
@@ -78,9 +78,9 @@ RefusesEdit words fault = (fault ≡ Memory) ⊎ (IsCommand words (Err fault) �
 
 -- ---- show
 
--- the view, at the path of the text, of the replica that the file of this path holds
+-- the file at this path was read, and this is the view, at the path of the text, of what it held
 pub record ShowsFile (path text : List ℕ) (file : FileValue) (answer : Answer) : Type 0 where
-  pub at : file.path ≡ path
+  pub read : IsReadAt path file
   pub keys : List (List ℕ)
   pub asked : path_of text ≡ Ok keys
   pub shown : ShowsView file.kept.state keys answer

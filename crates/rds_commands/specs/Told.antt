@@ -1,5 +1,5 @@
 -- What the program tells for its words.
-use Rattle.std.specs.Prelude.{◌≡◌, ◌⊎◌, ℕ, List, Option, Some, None, Result, Ok, Err, MatchResult}
+use Rattle.std.specs.Prelude.{◌≡◌, ◌⊎◌, ℕ, List, [], Option, Some, None, Result, Ok, Err, MatchResult}
 use Rattle.clap.specs.Words.{IsAmong, Kinds, Text, fault_of, subcommand_of}
 use Rattle.clap.specs.declared.error.kind.ErrorKind.{ErrorKind}
 use Rattle.rds_names.specs.declared.fault.Fault.{Fault}
@@ -9,7 +9,6 @@ use Rattle.rds_lines.specs.Answering.{WritesAnswer, WritesAnswers}
 use Rattle.rds_lines.specs.Output.{Writes}
 use Rattle.rds_lines.specs.Sim.{IsSimOutput}
 use Rattle.rds_lines.specs.declared.answer.Answer.{Answer}
-use Rattle.rds_files.specs.Files.{FileValue}
 use Rattle.rds_files.specs.Pairing.{WritesPair}
 use Rattle.rds_files.specs.Syncing.{WritesSync}
 use Rattle.rds_commands.specs.Commands.{node_app}
@@ -30,14 +29,18 @@ named_in entered = words_in (subcommand_of node_app entered)
 abbrev pub mistakes_in : List Text → Kinds
 mistakes_in entered = fault_of node_app entered
 
+-- what was entered names the task in words, and nothing else
+abbrev pub Names : List Text → List Text → Type 0
+Names entered words = (mistakes_in entered ≡ []) × (named_in entered ≡ Some words)
+
 -- the answers to the lines of the input were written, and nothing else; or there was no memory to read the words
 abbrev pub WritesSim : List ℕ → Option (List ℕ) → Option (List ℕ) → ℕ → Type 0
 WritesSim input before after status = Writes (Err Memory) before after status ⊎ WritesAnswers (IsSimOutput input) before after status
 
 -- an answer that came with such a file, or such a fault, was written, and nothing else, and its status is answered
-abbrev pub WritesOfFile : (FileValue → Answer → Type 0) → (Fault → Type 0) → Option (List ℕ) → Option (List ℕ) → ℕ → Type 0
-WritesOfFile comes refuses before after status =
-    ((file : FileValue) × (answer : Answer) × comes file answer × WritesAnswer (Ok answer) before after status)
+abbrev pub WritesOfFile : {F : Type 0} → (F → Answer → Type 0) → (Fault → Type 0) → Option (List ℕ) → Option (List ℕ) → ℕ → Type 0
+WritesOfFile {F} comes refuses before after status =
+    ((file : F) × (answer : Answer) × comes file answer × WritesAnswer (Ok answer) before after status)
     ⊎ ((fault : Fault) × refuses fault × WritesAnswer (Err fault) before after status)
 
 abbrev pub WritesInit : InitWords → Option (List ℕ) → Option (List ℕ) → ℕ → Type 0

@@ -3,6 +3,7 @@ ghost use Rattle.std.specs.Prelude.{◌≡◌, ℕ, List, ◌∷◌, map, option
 ghost use Rattle.clap.specs.Words.{FailsBy, fault_of, kind_of, subcommand_of, subcommand_rows_of};
 ghost use Rattle.rds_commands.specs.Commands.{node_app, join_words, sim_words};
 ghost use Rattle.rds_commands.specs.Task.{words_of, words_in};
+ghost use Rattle.rds_commands.specs.Told.{Names};
 
 mod builders;
 mod help;
@@ -130,7 +131,7 @@ pub fn task_of<'a, S: AsStr>(alloc: Global, words: &'a [S]) -> Result<Option<Tas
     ensures task { IfOk result (λ task. option_map words_of task
         ≡ words_in (subcommand_of node_app (map S.text words.entry.now))) }
     ensures kinds { FailsBy (fault_of node_app (map S.text words.entry.now)) result }
-    ensures join { (name : List ℕ) → map S.text words.entry.now ≡ name ∷ join_words
+    ensures join { Names (map S.text words.entry.now) join_words
         → MatchResult result (λ task. task ≡ Some Task.Join)
         (λ e. kind_of e ≡ ErrorKind.OutOfMemory) }
     ensures sim { (name : List ℕ) → map S.text words.entry.now ≡ name ∷ sim_words

@@ -9,7 +9,7 @@ ghost use Rattle.rds_commands.specs.FileWords.{IsCommand, roster_for};
 use crate::commands::{EditWords, InitWords};
 use crate::file_words::{command_of, roster_in};
 use rds_dots::{DotSet, ListSet};
-use rds_files::{ReplicaFile, is_there};
+use rds_files::{ReplacedFile, ReplicaFile, is_there};
 use rds_lines::{Answer, shown};
 use rds_names::{Fault, Path};
 use rds_state::{Command, Replica};
@@ -17,17 +17,17 @@ use std::rt::Files;
 
 /// A file as a command left it, and what the command is answered.
 #[derive(Drop)]
-pub struct FileAnswer<'a> {
+pub struct FileAnswer<F> {
     /// The file.
-    pub file: ReplicaFile<'a, ListSet>,
+    pub file: F,
     /// The answer.
     pub answer: Answer,
 }
 
-impl<'a> FileAnswer<'a> {
+impl<F: Drop> FileAnswer<F> {
     /// The answer alone: the file is let go.
     pub fn into_answer(self) -> Answer
-        ensures { result ≡ self.entry.answer }
+        ensures { result ≡ self.answer }
     {
         self.answer
     }
@@ -38,7 +38,7 @@ impl<'a> FileAnswer<'a> {
 pub fn init_file<'a, H: Files + AllocGlobal>(
     rt: &H,
     words: &InitWords<'a>,
-) -> Result<FileAnswer<'a>, Fault>
+) -> Result<FileAnswer<ReplicaFile<'a, ListSet>>, Fault>
     ensures made { IfOk result (λ done. InitsFile words.now done.file done.answer) }
     ensures words { (fault : Fault) → roster_for words.now ≡ Err fault
         → (result ≡ Err Memory) ⊎ (result ≡ Err fault) }
@@ -63,35 +63,49 @@ pub fn edit_file<'a, H: Files + AllocGlobal>(
     rt: &H,
     path: &'a str,
     words: &EditWords<'_>,
-) -> Result<FileAnswer<'a>, Fault>
+) -> Result<FileAnswer<ReplacedFile<'a, ListSet>>, Fault>
     ensures edited { IfOk result (λ done. EditsFile path.now words.now done.file done.answer) }
     ensures words { (fault : Fault) → IsCommand words.now (Err fault)
         → (result ≡ Err Memory) ⊎ (result ≡ Err fault) }
     ensures fault { IfErr result (RefusesEdit words.now) }
 {
     let command = command_of(rt.alloc(), words)?;
-    let file = ReplicaFile::open(rt, path)?;
-    let done = edit_in(rt, file, command)?;
+    let opened = ReplicaFile::open(rt, path)?;
+    let done = edit_in(rt, opened, command)?;
     Ok(done)
 }
 
-/// Edits the replica in the file, and answers once the edited one is kept. Refuses as the edit
-/// does, and where that doesn't refuse, as keeping does.
+/// Edits a copy of the replica in the file, and answers once that is kept in its place. Refuses as the
+/// edit does, and where that doesn't refuse, for want of memory or as keeping does.
 pub fn edit_in<'a, H: Files + AllocGlobal>(
     rt: &H,
     file: ReplicaFile<'a, ListSet>,
     command: Command,
-) -> Result<FileAnswer<'a>, Fault>
+) -> Result<FileAnswer<ReplacedFile<'a, ListSet>>, Fault>
+    ensures before { IfOk result (λ done. done.file.before ≡ file.entry) }
     ensures edited { IfOk result (λ done. IsEdited command file.entry.kept done.file.kept done.answer) }
-    ensures path { IfOk result (λ done. done.file.path ≡ file.entry.path) }
     ensures due { IfOk result (λ _. edit_refusal file.entry.kept command ≡ None) }
     ensures fault { IfErr result (RefusesEditIn command file.entry.kept) }
 {
-    let path = file.path();
-    let mut replica = file.into_replica();
+    let mut replica = match file.kept().view_of().copy(rt.alloc()) {
+        Ok(replica) => replica,
+        Err(memory) => return Err(uncopied(file.into_replica(), command, memory)),
+    };
     let answer = edited(&mut replica, command)?;
-    let file = ReplicaFile::create(rt, path, &replica)?;
+    let file = file.replace(rt, &replica)?;
     Ok(FileAnswer { file, answer })
+}
+
+// Why an edit is refused for which a replica couldn't be copied: want of memory comes only where the edit itself isn't
+// refused.
+fn uncopied(mut replica: Replica<ListSet>, command: Command, memory: Fault) -> Fault
+    requires { memory ≡ Memory }
+    ensures { IsDue (edit_refusal replica command) result }
+{
+    match edited(&mut replica, command) {
+        Ok(_) => memory,
+        Err(fault) => fault,
+    }
 }
 
 /// Shows what the document of the replica in a file has at the path of a text. The path is judged
@@ -100,7 +114,7 @@ pub fn show_file<'a, H: Files + AllocGlobal>(
     rt: &H,
     path: &'a str,
     text: &str,
-) -> Result<FileAnswer<'a>, Fault>
+) -> Result<FileAnswer<ReplicaFile<'a, ListSet>>, Fault>
     ensures shown { IfOk result (λ done. ShowsFile path.now text.now done.file done.answer) }
     ensures path { (fault : Fault) → path_of text.now ≡ Err fault → result ≡ Err fault }
     ensures fault { IfErr result (RefusesShow text.now) }

@@ -4,9 +4,11 @@
 mod commands;
 mod file_commands;
 mod file_words;
+mod laws;
 mod program;
 mod serve_words;
 mod telling;
 mod unparsed;
 
+pub use laws::word_laws;
 pub use program::run;

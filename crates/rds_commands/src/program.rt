@@ -6,7 +6,7 @@ ghost use Rattle.rds_lines.specs.Output.{Writes, fault_line};
 ghost use Rattle.rds_lines.specs.Run.{WritesJoin};
 ghost use Rattle.rds_lines.specs.Sim.{MayBeSimulated};
 ghost use Rattle.rds_commands.specs.Commands.{join_words, sim_words};
-ghost use Rattle.rds_commands.specs.Told.{AnswersMistake, MayWriteNamed, WritesSim, mistakes_in, named_in};
+ghost use Rattle.rds_commands.specs.Told.{AnswersMistake, MayWriteNamed, Names, WritesSim, mistakes_in, named_in};
 
 use crate::commands::{Task, task_of};
 use crate::serve_words::run_serve;
@@ -34,11 +34,11 @@ pub fn run<H: Files + Net + AllocGlobal, R: Read, W: Write, S: AsStr>(
     reader: &mut Counted<R>,
     writer: &mut Counted<W>,
 ) -> u8
-    ensures join { (name : List ℕ) → map S.text words.entry.now ≡ name ∷ join_words
+    ensures join { Names (map S.text words.entry.now) join_words
         → IfSome (R.remaining reader.old.inner)
         (λ input. reader.new.failed ≡ 0 → writer.new.failed ≡ 0
         → WritesJoin input (W.contents writer.old.inner) (W.contents writer.new.inner) result) }
-    ensures unread { (name : List ℕ) → map S.text words.entry.now ≡ name ∷ join_words
+    ensures unread { Names (map S.text words.entry.now) join_words
         → reader.new.failed ≢ reader.old.failed → writer.new.failed ≡ 0
         → Writes (Err Device) (W.contents writer.old.inner) (W.contents writer.new.inner) result }
     ensures sim { (name : List ℕ) → map S.text words.entry.now ≡ name ∷ sim_words

@@ -7,7 +7,7 @@ use Rattle.rds_session.specs.declared.talk.Side.{Side}
 use Rattle.rds_files.specs.Files.{FileValue}
 use Rattle.rds_files.specs.Reports.{report_text, tells_fault, told_status}
 use Rattle.rds_files.specs.Settling.{is_unkept}
-use Rattle.rds_files.specs.Syncing.{IsSession, Served, unserved, served_more, Serves, none, more, WritesSessions}
+use Rattle.rds_files.specs.Syncing.{IsSession, Served, unserved, served_more, Serves, none, more, WritesSessionsOf}
 use Rattle.rds_files.specs.declared.settling.Settled.{Settled}
 use Rattle.rds_files.specs.declared.settling.Settled.TheVariants.{Nothing, Taken, Refused, Unkept}
 
@@ -60,24 +60,22 @@ or_unkept false (Refused fault) ended is = absurd cc
 
 -- the session after which the file isn't kept is the last
 pub last_served : (side : Side) (sessions : ℕ) (first kept new : FileValue) (count : ℕ) (told : Bool) (before now after : Option (List ℕ)) (settled : Settled) (ended : Ended) → HasServed side first kept count told before now → IsSession side kept new settled ended
-    → Appends now after (report_text settled ended) → is_unkept settled ≡ true → count < sessions → WritesSessions side first.path sessions before after 1
+    → Appends now after (report_text settled ended) → is_unkept settled ≡ true → count < sessions → WritesSessionsOf side first new sessions before after 1
 last_served side sessions first kept new count told before now after settled ended s session written stops less = record {
-  first = first;
-  at = refl;
   served = served_more s.served new settled ended;
   serves = served_then side first kept new count told before now after settled ended s session;
+  left = refl;
   most = let e = s.is_count in omega arith;
   whole = inr stops;
   written = Appends-trans before now after s.served.text (report_text settled ended) s.written written;
   told = sym (ap told_status (or_unkept s.served.told settled ended stops));
 }
 
-pub all_served : (side : Side) (sessions : ℕ) (first kept : FileValue) (told : Bool) (before after : Option (List ℕ)) (status : ℕ) → HasServed side first kept sessions told before after → status ≡ told_status told → WritesSessions side first.path sessions before after status
+pub all_served : (side : Side) (sessions : ℕ) (first kept : FileValue) (told : Bool) (before after : Option (List ℕ)) (status : ℕ) → HasServed side first kept sessions told before after → status ≡ told_status told → WritesSessionsOf side first kept sessions before after status
 all_served side sessions first kept told before after status s is = record {
-  first = first;
-  at = refl;
   served = s.served;
   serves = s.serves;
+  left = s.is_kept;
   most = let e = s.is_count in omega arith;
   whole = inl s.is_count;
   written = s.written;
@@ -86,12 +84,11 @@ all_served side sessions first kept told before after status s is = record {
 
 -- one session alone
 pub one_served : (side : Side) (first new : FileValue) (before after : Option (List ℕ)) (settled : Settled) (ended : Ended) (status : ℕ) → IsSession side first new settled ended → Appends before after (report_text settled ended) → status ≡ told_status (tells_fault settled ended)
-    → WritesSessions side first.path 1 before after status
+    → WritesSessionsOf side first new 1 before after status
 one_served side first new before after settled ended status session written is = record {
-  first = first;
-  at = refl;
   served = served_more (unserved first) new settled ended;
   serves = more (unserved first) new settled ended none refl session;
+  left = refl;
   most = omega arith;
   whole = inl refl;
   written = written;

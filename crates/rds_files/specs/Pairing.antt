@@ -8,7 +8,7 @@ use Rattle.rds_session.specs.declared.talk.Side.{Side}
 use Rattle.rds_session.specs.declared.talk.Side.TheVariants.{Client, Server}
 use Rattle.rds_session.specs.Leaving.{HasHeard, Leaves, StandsAs}
 use Rattle.rds_session.specs.Session.{Standing}
-use Rattle.rds_files.specs.Files.{FileValue}
+use Rattle.rds_files.specs.Files.{FileValue, IsReadAt}
 use Rattle.rds_files.specs.Reports.{WritesNone, report_text, tells_fault, told_status}
 use Rattle.rds_files.specs.Settling.{Settles}
 use Rattle.rds_files.specs.declared.settling.Settled.{Settled}
@@ -48,10 +48,12 @@ pub record WritesBoth (client client_new server server_new : ReplicaValue) (befo
 pub record WritesSessionOf (first second : List ℕ) (before after : Option (List ℕ)) (status : ℕ) : Type 0 where
   pub client : FileValue
   pub client_new : FileValue
-  pub client_at : (client.path ≡ first) × (client_new.path ≡ first)
+  pub client_read : IsReadAt first client
+  pub client_at : client_new.path ≡ first
   pub server : FileValue
   pub server_new : FileValue
-  pub server_at : (server.path ≡ second) × (server_new.path ≡ second)
+  pub server_read : IsReadAt second server
+  pub server_at : server_new.path ≡ second
   pub both : WritesBoth client.kept client_new.kept server.kept server_new.kept before after status
 
 -- why there is no session alone, or what two replicas came to

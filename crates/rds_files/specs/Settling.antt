@@ -1,11 +1,12 @@
 -- What becomes of the replica in a file after a session.
-use Rattle.std.specs.Prelude.{◌≡◌, ◌⊎◌, Bool, true, false, Option, Some, None}
+use Rattle.std.specs.Prelude.{◌≡◌, Bool, true, false, Option, Some, None}
 use Rattle.rds_names.specs.declared.fault.Fault.{Fault}
-use Rattle.rds_names.specs.declared.fault.Fault.TheVariants.{Memory, OwnAhead, TooLong, Device}
+use Rattle.rds_names.specs.declared.fault.Fault.TheVariants.{Memory, OwnAhead}
 use Rattle.rds_state.specs.Ahead.{Ahead}
 use Rattle.rds_state.specs.Coordinates.{join}
 use Rattle.rds_state.specs.Fits.{ReplicaValue}
 use Rattle.rds_state.specs.Value.{StateValue, coordinates, size}
+use Rattle.rds_files.specs.Files.{IsUnkept}
 use Rattle.rds_files.specs.declared.settling.Settled.{Settled}
 use Rattle.rds_files.specs.declared.settling.Settled.TheVariants.{Nothing, Taken, Refused, Unkept}
 
@@ -21,12 +22,16 @@ abbrev pub RefusesDelta : ReplicaValue → StateValue → Fault → Type 0
 RefusesDelta old delta (OwnAhead own) = Ahead old.state old.own delta (Some own)
 RefusesDelta old delta fault = fault ≡ Memory
 
+-- a replica that took a delta can't be kept
+abbrev pub IsJoinedUnkept : ReplicaValue → StateValue → Fault → Type 0
+IsJoinedUnkept old delta fault = (joined : ReplicaValue) × IsJoined old delta joined × IsUnkept joined fault
+
 -- what became of a delta: it was taken and the file kept, or it wasn't taken, or the file couldn't be kept
 abbrev pub SettlesDelta : ReplicaValue → StateValue → ReplicaValue → Settled → Type 0
 SettlesDelta old delta new Nothing = ⊥
 SettlesDelta old delta new (Taken components) = IsJoined old delta new × (components ≡ size delta)
 SettlesDelta old delta new (Refused fault) = RefusesDelta old delta fault × (new ≡ old)
-SettlesDelta old delta new (Unkept fault) = Ahead old.state old.own delta None × ((fault ≡ Memory) ⊎ ((fault ≡ TooLong) ⊎ (fault ≡ Device))) × (new ≡ old)
+SettlesDelta old delta new (Unkept fault) = IsJoinedUnkept old delta fault × (new ≡ old)
 
 -- what became of what was received
 abbrev pub Settles : ReplicaValue → Option StateValue → ReplicaValue → Settled → Type 0

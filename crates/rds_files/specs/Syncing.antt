@@ -5,7 +5,7 @@ use Rattle.rds_state.specs.Value.{StateValue}
 use Rattle.rds_session.specs.declared.talk.Side.{Side}
 use Rattle.rds_session.specs.Leaving.{Leaves}
 use Rattle.rds_session.specs.declared.step.Ended.{Ended}
-use Rattle.rds_files.specs.Files.{FileValue}
+use Rattle.rds_files.specs.Files.{FileValue, IsReadAt}
 use Rattle.rds_files.specs.Reports.{WritesNone, report_text, tells_fault, told_status}
 use Rattle.rds_files.specs.Settling.{Settles, is_unkept}
 use Rattle.rds_files.specs.declared.settling.Settled.{Settled}
@@ -38,17 +38,20 @@ pub data Serves (side : Side) (first : FileValue) : Served → Type 0 where
   none : Serves side first (unserved first)
   more : (s : Served) (new : FileValue) (settled : Settled) (ended : Ended) → Serves side first s → s.stopped ≡ false → IsSession side s.file new settled ended → Serves side first (served_more s new settled ended)
 
--- the reports of sessions of the file at this path were written, and nothing else, and their status is answered: of so many, or of those until it
--- couldn't be kept
-pub record WritesSessions (side : Side) (path : List ℕ) (sessions : ℕ) (before after : Option (List ℕ)) (status : ℕ) : Type 0 where
-  pub first : FileValue
-  pub at : first.path ≡ path
+-- the reports of sessions of a file that is so first and last were written, and nothing else, and their status is answered: of so many, or of
+-- those until it couldn't be kept
+pub record WritesSessionsOf (side : Side) (first last : FileValue) (sessions : ℕ) (before after : Option (List ℕ)) (status : ℕ) : Type 0 where
   pub served : Served
   pub serves : Serves side first served
+  pub left : served.file ≡ last
   pub most : served.count ≤ sessions
   pub whole : (served.count ≡ sessions) ⊎ (served.stopped ≡ true)
   pub written : Appends before after served.text
   pub told : status ≡ told_status served.told
+
+-- the same, of the file that was read at this path
+abbrev pub WritesSessions : Side → List ℕ → ℕ → Option (List ℕ) → Option (List ℕ) → ℕ → Type 0
+WritesSessions side path sessions before after status = (first : FileValue) × IsReadAt path first × (last : FileValue) × WritesSessionsOf side first last sessions before after status
 
 -- why there is no session alone, or the reports of sessions
 abbrev pub WritesSync : Side → List ℕ → ℕ → Option (List ℕ) → Option (List ℕ) → ℕ → Type 0

@@ -1,7 +1,7 @@
 //! Replicas in files.
-ghost use Rattle.std.specs.Prelude.{◌≡◌, ◌⊎◌, IfOk, IfErr, OnOk, OnErr};
-ghost use Rattle.rds_names.specs.declared.fault.Fault.TheVariants.{Memory, TooLong, Device};
-ghost use Rattle.rds_codec.specs.Decoding.{IsOtherFault};
+ghost use Rattle.std.specs.Prelude.{◌≡◌, true, false, IfOk, IfErr, OnOk, OnErr};
+ghost use Rattle.rds_names.specs.declared.fault.Fault.TheVariants.{Device};
+ghost use Rattle.rds_files.specs.Files.{IsReadAt, IsUnread, IsUnkept};
 
 use rds_dots::DotSet;
 use rds_keep::{Counted, Kept, Place, keep_in, read_snapshot};
@@ -19,6 +19,7 @@ use std::{fs, io};
 pub struct ReplicaFile<'a, S: DotSet> {
     path: &'a str,
     kept: Kept<S>,
+    is_read: bool,
 }
 
 impl<'a, S: DotSet> Model for ReplicaFile<'a, S> {
@@ -28,20 +29,24 @@ impl<'a, S: DotSet> Model for ReplicaFile<'a, S> {
 
     ghost coded = { coded_file };
 
-    ghost view = { λ f. record { path = f.path.now; kept = f.kept } };
+    ghost view = { λ f. record { path = f.path.now; kept = f.kept; is_read = f.is_read } };
 }
 
 impl<'a, S: DotSet> ReplicaFile<'a, S> {
     /// Reads the file of this path. Refuses `Device` where it can't be opened or read, and as decoding does where it holds
     /// no snapshot.
     pub fn open<H: Files + AllocGlobal>(rt: &H, path: &'a str) -> Result<ReplicaFile<'a, S>, Fault>
-        ensures path { IfOk result (λ file. file.path ≡ path.now) }
-        ensures fault { IfErr result (λ e. (e ≡ Device) ⊎ IsOtherFault e) }
+        ensures read { IfOk result (IsReadAt path.now) }
+        ensures fault { IfErr result IsUnread }
     {
         match fs::open(rt, path) {
             Ok(file) => {
                 let kept = read_snapshot(rt.alloc(), &mut Counted::new(file))?;
-                Ok(ReplicaFile { path, kept })
+                Ok(ReplicaFile {
+                    path,
+                    kept,
+                    is_read: true,
+                })
             }
             Err(_) => Err(Fault::Device),
         }
@@ -53,15 +58,20 @@ impl<'a, S: DotSet> ReplicaFile<'a, S> {
         path: &'a str,
         replica: &Replica<S>,
     ) -> Result<ReplicaFile<'a, S>, Fault>
-        ensures made { IfOk result (λ file. file ≡ record { path = path.now; kept = replica.now }) }
-        ensures fault { IfErr result (λ e. (e ≡ Memory) ⊎ ((e ≡ TooLong) ⊎ (e ≡ Device))) }
+        ensures made { IfOk result (λ file. file ≡ record { path = path.now; kept = replica.now; is_read = false }) }
+        ensures fault { IfErr result (IsUnkept replica.now) }
     {
         let kept = keep_file(rt, replica, path)?;
-        Ok(ReplicaFile { path, kept })
+        Ok(ReplicaFile {
+            path,
+            kept,
+            is_read: false,
+        })
     }
 
     /// Keeps this replica in the file in place of the one that it holds: FILE.new is written anew, synced and renamed to
-    /// FILE, and only then is the replica kept. A FILE.new that was left behind is overwritten.
+    /// FILE, and only then is the replica kept. A FILE.new that was left behind is overwritten. Last the folder is synced,
+    /// so that the rename outlasts a loss of power, where the file system lets it: whether that succeeds changes nothing.
     ///
     /// Refuses `TooLong` where the replica's text is above the limit, and `Device` where a file can't be made, written,
     /// synced or renamed.
@@ -70,12 +80,26 @@ impl<'a, S: DotSet> ReplicaFile<'a, S> {
         rt: &H,
         replica: &Replica<S>,
     ) -> Result<(), Fault>
-        ensures kept { OnOk result (self.new ≡ record self.old { kept = replica.now }) }
+        ensures kept { OnOk result (self.new ≡ record self.old { kept = replica.now; is_read = false }) }
         ensures err { OnErr result (self.new ≡ self.old) }
-        ensures fault { IfErr result (λ e. (e ≡ Memory) ⊎ ((e ≡ TooLong) ⊎ (e ≡ Device))) }
+        ensures fault { IfErr result (IsUnkept replica.now) }
     {
         self.kept = keep_file(rt, replica, self.path)?;
+        self.is_read = false;
         Ok(())
+    }
+
+    /// Keeps this replica in the file, as `keep` does, and tells beside it what the file was before.
+    pub fn replace<H: Files + AllocGlobal>(
+        self,
+        rt: &H,
+        replica: &Replica<S>,
+    ) -> Result<ReplacedFile<'a, S>, Fault>
+        ensures replaced { IfOk result (λ file. file ≡ record { before = self.entry; kept = replica.now }) }
+        ensures fault { IfErr result (IsUnkept replica.now) }
+    {
+        let kept = keep_file(rt, replica, self.path)?;
+        Ok(ReplacedFile { before: self, kept })
     }
 
     /// The file's path.
@@ -100,6 +124,40 @@ impl<'a, S: DotSet> ReplicaFile<'a, S> {
     }
 }
 
+/// A replica in a file in place of another: it was written whole to the path of the file that was there before. Only
+/// `replace` makes one, and nothing changes it.
+#[derive(Drop)]
+pub struct ReplacedFile<'a, S: DotSet> {
+    before: ReplicaFile<'a, S>,
+    kept: Kept<S>,
+}
+
+impl<'a, S: DotSet> Model for ReplacedFile<'a, S> {
+    ghost use Rattle.rds_files.specs.Files.{ReplacedValue, coded_replaced};
+
+    ghost Value = { ReplacedValue };
+
+    ghost coded = { coded_replaced };
+
+    ghost view = { λ f. record { before = f.before; kept = f.kept } };
+}
+
+impl<'a, S: DotSet> ReplacedFile<'a, S> {
+    /// The file as it was before.
+    pub fn before(&self) -> &ReplicaFile<'a, S>
+        ensures { result.now ≡ self.now.before }
+    {
+        &self.before
+    }
+
+    /// The replica.
+    pub fn kept(&self) -> &Kept<S>
+        ensures { result.now ≡ self.now.kept }
+    {
+        &self.kept
+    }
+}
+
 // Keeps the replica in the file of this path.
 fn keep_file<H: Files + AllocGlobal, S: DotSet>(
     rt: &H,
@@ -107,7 +165,7 @@ fn keep_file<H: Files + AllocGlobal, S: DotSet>(
     path: &str,
 ) -> Result<Kept<S>, Fault>
     ensures kept { IfOk result (λ kept. kept ≡ replica.now) }
-    ensures fault { IfErr result (λ e. (e ≡ Memory) ⊎ ((e ≡ TooLong) ⊎ (e ≡ Device))) }
+    ensures fault { IfErr result (IsUnkept replica.now) }
 {
     let alloc = rt.alloc();
     let name = format!(in alloc; "{path}.new")?;
@@ -175,6 +233,24 @@ impl<H: Files> Place for Beside<'_, H> {
     fn rename(&mut self) -> io::Result<()> {
         self.rt.rename(self.name, self.path)?;
         self.is_renamed = true;
+        sync_folder(self.rt, self.path);
         Ok(())
+    }
+}
+
+// Syncs the folder of a path, so that a rename there outlasts a loss of power. Nothing depends on whether that succeeds:
+// the file is renamed already, and some file systems refuse to sync a folder.
+fn sync_folder<H: Files>(rt: &H, path: &str) {
+    if let Ok(folder) = fs::open(rt, folder_of(path)) {
+        let _ = folder.sync_all();
+    }
+}
+
+// The folder of a path: what stands before its last '/'.
+fn folder_of(path: &str) -> &str {
+    match path.rsplit_once('/') {
+        Some(("", _)) => "/",
+        Some((folder, _)) => folder,
+        None => ".",
     }
 }

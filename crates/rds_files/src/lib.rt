@@ -7,7 +7,7 @@ mod reports;
 mod settling;
 mod syncing;
 
-pub use files::{ReplicaFile, is_there};
+pub use files::{ReplacedFile, ReplicaFile, is_there};
 pub use pairing::pair_files;
 pub use settling::{Settled, settle};
 pub use syncing::{meet, serve_file, sync_file};

@@ -2,7 +2,7 @@
 ghost use Rattle.std.specs.Prelude.{◌≡◌, ◌≤◌, ◌⊎◌};
 ghost use Rattle.rds_session.specs.declared.talk.Side.TheVariants.{Client, Server};
 ghost use Rattle.rds_session.specs.Leaving.{Leaves};
-ghost use Rattle.rds_files.specs.Syncing.{IsSession, WritesSessions, WritesSync};
+ghost use Rattle.rds_files.specs.Syncing.{IsSession, WritesSessionsOf, WritesSync};
 
 use crate::files::ReplicaFile;
 use crate::reports::{give_up, report, tells_fault, write_report};
@@ -82,7 +82,7 @@ fn serve<H: Files + Net + AllocGlobal, S: DotSet, W: Write>(
     writer: &mut Counted<W>,
 ) -> u8
     ensures written { writer.new.failed ≡ 0
-        → WritesSessions Server file.old.path sessions (W.contents writer.old.inner) (W.contents writer.new.inner) result }
+        → WritesSessionsOf Server file.old file.new sessions (W.contents writer.old.inner) (W.contents writer.new.inner) result }
     ensures status { result ≤ 1 }
     ensures broken { (writer.new.failed ≡ writer.old.failed) ⊎ (result ≡ 1) }
 {

@@ -1,7 +1,6 @@
-use Rattle.std.proofs.Common.{List, ℕ, inl, inr, refl, subst}
+use Rattle.std.proofs.Common.{inl, inr, refl}
 use Rattle.rds_names.specs.declared.fault.Fault.TheVariants.{Device}
 use Rattle.rds_session.specs.declared.talk.Side.TheVariants.{Client}
-use Rattle.rds_files.specs.Syncing.{WritesSessions}
 use Rattle.rds_files.proofs.Serving.{one_served}
 use Rattle.rds_files.proofs.syncing.sync_file.Goals as goal
 
@@ -11,7 +10,7 @@ returns-in-Ok-connect-clause-written g c = λ steady.
     let before = g.W.Write.contents c.args.writer.now.inner in
     let after = g.W.Write.contents c.report.new.writer.inner in
     let served = one_served Client c.in-Ok.file c.meet-settled.new.file before after c.meet-settled.result.0 c.meet-settled.result.1 c.report.result c.meet-settled.ensures told.0 told.1 in
-    inr (subst (λ (p : List ℕ). WritesSessions Client p 1 before after c.report.result) c.in-Ok.ensures.path served)
+    inr (c.in-Ok.file, c.in-Ok.ensures.read, c.meet-settled.new.file, served)
 
 pub returns-clause-written : goal.returns-clause-written
 returns-clause-written g c = λ steady. inl (record { fault = Device; due = inl refl; written = c.give_up-in-Err-connect.ensures.written steady })

@@ -1,0 +1,26 @@
+-- An edit of what a file held.
+use Rattle.std.proofs.Common.{◌≡◌, ℕ, List, None, Ok, inr}
+use Rattle.rds_names.specs.declared.fault.Fault.{Fault}
+use Rattle.rds_state.specs.Fits.{ReplicaValue}
+use Rattle.rds_state.specs.declared.command.Command.{Command}
+use Rattle.rds_lines.specs.declared.answer.Answer.{Answer}
+use Rattle.rds_files.specs.Files.{FileValue, IsReadAt, IsUnkept, ReplacedValue}
+use Rattle.rds_commands.specs.Edits.{EditsFile, IsEdited, RefusesEditIn, edit_refusal}
+use Rattle.rds_commands.specs.FileWords.{IsCommand}
+use Rattle.rds_commands.specs.declared.commands.EditWords.{EditWords}
+
+-- the file that was read is the one that was replaced
+pub edits_file : (path : List ℕ) (words : EditWords) (command : Command) (file : FileValue) (done : ReplacedValue) (answer : Answer) → IsReadAt path file → IsCommand words (Ok command)
+    → done.before ≡ file → edit_refusal file.kept command ≡ None → IsEdited command file.kept done.kept answer → EditsFile path words done answer
+edits_file path words command file done answer read asked is due edited = record {
+  read = rw is read;
+  command = command;
+  asked = asked;
+  due = rw is due;
+  edited = rw is edited;
+}
+
+-- an edit of a copy that can't be kept
+pub unkept_edit : (command : Command) (before old after : ReplicaValue) (answer : Answer) (fault : Fault) → old ≡ before → edit_refusal old command ≡ None → IsEdited command old after answer → IsUnkept after fault
+    → RefusesEditIn command before fault
+unkept_edit command before old after answer fault same due edited unkept = inr (rw (← same) due, (after, answer, rw (← same) edited, unkept))
