@@ -23,7 +23,7 @@ pub fn write_unparsed<W: Write>(writer: &mut Counted<W>, error: &Error) -> u8
 {
     match error.kind() {
         ErrorKind::OutOfMemory => write_fault(writer, Fault::Memory),
-        ErrorKind::DisplayHelp => status_of(writer.write_text(error), 0),
+        ErrorKind::DisplayHelp => status_of(writer.write_shown(error), 0),
         _ => status_of(write_usage(writer, error), 2),
     }
 }
@@ -33,5 +33,5 @@ fn write_usage<W: Write>(writer: &mut Counted<W>, error: &Error) -> Result<(), F
     ensures counted { OnErr result (writer.new.failed ≡ one_more writer.old.failed) }
 {
     write_fault_line(writer, Fault::Usage)?;
-    writer.write_text(error)
+    writer.write_shown(error)
 }

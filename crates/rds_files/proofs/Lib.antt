@@ -1,3 +1,4 @@
 pub mod Paired
+pub mod Reported
 pub mod Serving
 pub mod Takes

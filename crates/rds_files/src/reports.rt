@@ -2,11 +2,12 @@
 ghost use Rattle.std.specs.Prelude.{◌≡◌, ◌≤◌, ◌⊎◌, OnOk, OnErr};
 ghost use Rattle.std.specs.Io.KnownBytes.{Appends};
 ghost use Rattle.rds_keep.specs.Counted.{one_more};
+ghost use Rattle.rds_keep.specs.Parts.{AppendsPart};
 ghost use Rattle.rds_files.specs.Reports.{WritesFault, WritesReport, ended_text, report_text, settled_text, tells_fault};
 
 use crate::settling::Settled;
 use rds_keep::Counted;
-use rds_lines::{status_of, write_fault_line};
+use rds_lines::{Digits, status_of, write_fault_line};
 use rds_names::Fault;
 use rds_session::Ended;
 use std::io::Write;
@@ -34,6 +35,8 @@ pub fn write_report<W: Write>(
 ) -> Result<(), Fault>
     ensures bytes { OnOk result (Appends (W.contents writer.old.inner)
         (W.contents writer.new.inner) (report_text settled.now ended)) }
+    ensures part { OnErr result (AppendsPart (W.contents writer.old.inner)
+        (W.contents writer.new.inner) (report_text settled.now ended)) }
     ensures steady { OnOk result (writer.new.failed ≡ writer.old.failed) }
     ensures counted { OnErr result (writer.new.failed ≡ one_more writer.old.failed) }
 {
@@ -60,13 +63,16 @@ pub fn tells_fault(settled: &Settled, ended: Ended) -> bool
 fn write_settled<W: Write>(writer: &mut Counted<W>, settled: &Settled) -> Result<(), Fault>
     ensures bytes { OnOk result (Appends (W.contents writer.old.inner)
         (W.contents writer.new.inner) (settled_text settled.now)) }
+    ensures part { OnErr result (AppendsPart (W.contents writer.old.inner)
+        (W.contents writer.new.inner) (settled_text settled.now)) }
     ensures steady { OnOk result (writer.new.failed ≡ writer.old.failed) }
     ensures counted { OnErr result (writer.new.failed ≡ one_more writer.old.failed) }
 {
     match settled {
         Settled::Nothing => Ok(()),
         Settled::Taken(components) => {
-            writer.write_line(format_args!("{{\"taken\":{components}}}"))
+            let mut digits = Digits::new();
+            writer.write_pieces(&[b"{\"taken\":", digits.of(*components), b"}\n"])
         }
         Settled::Refused(fault) | Settled::Unkept(fault) => write_fault_line(writer, *fault),
     }
@@ -74,6 +80,8 @@ fn write_settled<W: Write>(writer: &mut Counted<W>, settled: &Settled) -> Result
 
 fn write_ended<W: Write>(writer: &mut Counted<W>, ended: Ended) -> Result<(), Fault>
     ensures bytes { OnOk result (Appends (W.contents writer.old.inner)
+        (W.contents writer.new.inner) (ended_text ended)) }
+    ensures part { OnErr result (AppendsPart (W.contents writer.old.inner)
         (W.contents writer.new.inner) (ended_text ended)) }
     ensures steady { OnOk result (writer.new.failed ≡ writer.old.failed) }
     ensures counted { OnErr result (writer.new.failed ≡ one_more writer.old.failed) }

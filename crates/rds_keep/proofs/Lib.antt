@@ -1,4 +1,5 @@
 mod FrontSoFar
+pub mod PiecesSoFar
 mod ReadWhole
 pub mod TextParts
 pub mod WrittenSoFar

@@ -1,5 +1,6 @@
 -- What a writer has got of bytes that were to be written.
-use Rattle.std.specs.Prelude.{ℕ, ◌<◌, ◌≤◌, List, length, take, Option}
+use Rattle.std.specs.Prelude.{ℕ, ◌<◌, ◌≤◌, List, flat_map, length, take, Option}
+use Rattle.std.specs.Borrow.{Bor}
 use Rattle.std.specs.Io.KnownBytes.{Appends}
 
 -- known bytes grow by a beginning of these, which may be all of them
@@ -9,3 +10,7 @@ AppendsFront old new bytes = (n : ℕ) × (n ≤ length bytes) × Appends old ne
 -- known bytes grow by a beginning of these, and never by all of them
 abbrev pub AppendsPart : Option (List ℕ) → Option (List ℕ) → List ℕ → Type 0
 AppendsPart old new bytes = (n : ℕ) × (n < length bytes) × Appends old new (take n bytes)
+
+-- pieces as one text
+abbrev pub pieces_text : List (Bor (List ℕ)) → List ℕ
+pieces_text pieces = flat_map (λ piece. piece.now) pieces

@@ -1,24 +1,19 @@
-//! A reader or a writer, with a count of the calls on it that failed.
-ghost use Rattle.std.specs.Prelude.{◌≡◌, ◌+◌, ◌-◌, ◌^◌, ◌<◌, ◌≤◌, ◌⊎◌, false, min, length, take, IfOk, IfErr, IfSome, OnOk, OnErr};
-ghost use Rattle.std.specs.Fmt.{with_newline};
-ghost use Rattle.std.specs.Io.KnownBytes.{Appends, Consumes, IsAtEnd, ReadConsumes, WriteAppends};
-ghost use Rattle.rds_names.specs.declared.fault.Fault.TheVariants.{Memory, Device};
-ghost use Rattle.rds_keep.specs.Counted.{one_more, HasFailed};
-ghost use Rattle.rds_keep.specs.Parts.{AppendsPart};
+//! A reader or a writer, with a count of the calls on it that failed. Only what stands here and in the modules
+//! below can raise the count; `reading` and `writing`, which make calls one after the other, can't.
+ghost use Rattle.std.specs.Prelude.{◌≡◌, ◌-◌, ◌<◌, ◌≤◌, false, length, IfOk, IfErr, OnOk, OnErr};
+ghost use Rattle.std.specs.Io.KnownBytes.{ReadConsumes, WriteAppends};
+ghost use Rattle.rds_names.specs.declared.fault.Fault.TheVariants.{Device};
+ghost use Rattle.rds_keep.specs.Counted.{one_more};
 
 mod places;
+mod shown;
 
 use rds_names::Fault;
-use std::alloc::Global;
-use std::fmt::Display;
 use std::io::{Read, Write};
 use std::marker::Model;
 
 /// How many reads a loop may make where nothing else is said.
 const TURNS: u64 = 2_147_483_648;
-
-/// How many bytes one call of a reader is asked for.
-const CHUNK: usize = 65_536;
 
 /// A reader, a writer or a place. It counts the calls on it that failed, and bounds how many reads a
 /// loop over it makes: one more counts as a call that failed. Nothing else makes the count rise. A full
@@ -126,38 +121,6 @@ impl<R: Read> Counted<R> {
             Err(_) => Err(self.fail()),
         }
     }
-
-    /// The first bytes of all that the reader holds, at most so many. It reads to the end or until
-    /// it has them, each byte into its place once, within the reader's bound of turns (`Device`
-    /// where that doesn't do, and where a read fails).
-    pub fn read_front(&mut self, alloc: Global, most: usize) -> Result<Vec<u8>, Fault>
-        ensures front { IfOk result (λ v. IfSome (R.remaining self.old.inner)
-            (λ input. v.items ≡ take most input)) }
-        ensures bytes { IfOk result (λ v. Consumes (R.remaining self.old.inner)
-            (R.remaining self.new.inner) v.items) }
-        ensures within { IfOk result (λ v. length v.items ≤ most) }
-        ensures end { IfOk result (λ v. length v.items < most → IsAtEnd (R.remaining self.new.inner)) }
-        ensures fault { IfErr result (λ e. ((e ≡ Memory) × (self.new.failed ≡ self.old.failed))
-            ⊎ ((e ≡ Device) × HasFailed self.old self.new)) }
-        ensures steady { OnOk result (self.new.failed ≡ self.old.failed) }
-        ensures turns { self.new.turns ≡ self.old.turns }
-        ensures renamed { self.new.renamed ≡ self.old.renamed }
-    {
-        let mut front = Vec::new(alloc);
-        let mut chunk = [0u8; CHUNK];
-        self.begin_turns();
-        'turns: loop {
-            let room = (most - front.len()).min(CHUNK);
-            if room == 0 {
-                return Ok(front);
-            }
-            let taken = self.read(&mut chunk[..room])?;
-            if taken == 0 {
-                return Ok(front);
-            }
-            front.extend_from_slice(&chunk[..taken])?;
-        }
-    }
 }
 
 impl<W: Write> Counted<W> {
@@ -178,63 +141,6 @@ impl<W: Write> Counted<W> {
         match self.inner.write(bytes) {
             Ok(0) if !bytes.is_empty() => Err(self.fail()),
             Ok(n) => Ok(n),
-            Err(_) => Err(self.fail()),
-        }
-    }
-
-    /// Writes the bytes, in as many calls as the writer wants. Where a call fails, a beginning of
-    /// them is written.
-    #[tactic(auto, using(crate::proofs::WrittenSoFar::more_written))]
-    pub fn write_all(&mut self, bytes: &[u8]) -> Result<(), Fault>
-        ensures bytes { OnOk result (Appends (W.contents self.old.inner)
-            (W.contents self.new.inner) bytes.now) }
-        ensures part { OnErr result (AppendsPart (W.contents self.old.inner)
-            (W.contents self.new.inner) bytes.now) }
-        ensures fault { IfErr result (λ e. e ≡ Device) }
-        ensures steady { OnOk result (self.new.failed ≡ self.old.failed) }
-        ensures counted { OnErr result (self.new.failed ≡ one_more self.old.failed) }
-        ensures turns { self.new.turns ≡ self.old.turns }
-        ensures left { self.new.left ≡ self.old.left }
-        ensures renamed { self.new.renamed ≡ self.old.renamed }
-    {
-        let mut at = 0;
-        'writing: while at < bytes.len() {
-            at += self.write(&bytes[at..])?;
-        }
-        Ok(())
-    }
-
-    /// Writes the text, taking no memory of its own. A write that takes no byte of those that it
-    /// is given counts as failed; then a beginning of the text may be written.
-    pub fn write_text<D: Display + Drop>(&mut self, text: D) -> Result<(), Fault>
-        ensures bytes { OnOk result (IfSome (D.output text)
-            (Appends (W.contents self.old.inner) (W.contents self.new.inner))) }
-        ensures fault { IfErr result (λ e. e ≡ Device) }
-        ensures steady { OnOk result (self.new.failed ≡ self.old.failed) }
-        ensures counted { OnErr result (self.new.failed ≡ one_more self.old.failed) }
-        ensures turns { self.new.turns ≡ self.old.turns }
-        ensures left { self.new.left ≡ self.old.left }
-        ensures renamed { self.new.renamed ≡ self.old.renamed }
-    {
-        match self.inner.write_fmt(text) {
-            Ok(()) => Ok(()),
-            Err(_) => Err(self.fail()),
-        }
-    }
-
-    /// Writes the text and a newline, as `write_text` does.
-    pub fn write_line<D: Display + Drop>(&mut self, text: D) -> Result<(), Fault>
-        ensures bytes { OnOk result (IfSome (with_newline (D.output text))
-            (Appends (W.contents self.old.inner) (W.contents self.new.inner))) }
-        ensures fault { IfErr result (λ e. e ≡ Device) }
-        ensures steady { OnOk result (self.new.failed ≡ self.old.failed) }
-        ensures counted { OnErr result (self.new.failed ≡ one_more self.old.failed) }
-        ensures turns { self.new.turns ≡ self.old.turns }
-        ensures left { self.new.left ≡ self.old.left }
-        ensures renamed { self.new.renamed ≡ self.old.renamed }
-    {
-        match self.inner.writeln(text) {
-            Ok(()) => Ok(()),
             Err(_) => Err(self.fail()),
         }
     }

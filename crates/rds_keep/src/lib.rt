@@ -6,7 +6,9 @@ mod counted;
 mod keeping;
 mod kept;
 mod place;
+mod reading;
 mod snapshots;
+mod writing;
 
 pub use counted::Counted;
 pub use keeping::keep_in;

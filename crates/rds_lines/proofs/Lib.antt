@@ -1,4 +1,6 @@
 pub mod Answered
+pub mod AnswerPieces
+pub mod DigitsSoFar
 pub mod Fronts
 pub mod JoinedOnce
 pub mod Joining

@@ -1,13 +1,20 @@
 //! What a line or a command on a file is answered.
-ghost use Rattle.std.specs.Prelude.{◌≡◌, Some, option_and_then};
-ghost use Rattle.rds_lines.specs.Answer.{answer_text, edit_answer, is_refusal, named_in};
+ghost use Rattle.std.specs.Prelude.{◌≡◌, OnOk, OnErr, IfErr, option_and_then};
+ghost use Rattle.std.specs.Io.KnownBytes.{Appends};
+ghost use Rattle.rds_names.specs.declared.fault.Fault.TheVariants.{Device};
+ghost use Rattle.rds_keep.specs.Counted.{one_more};
+ghost use Rattle.rds_keep.specs.Parts.{AppendsPart};
+ghost use Rattle.rds_lines.specs.Answer.{edit_answer, is_refusal, named_in};
+ghost use Rattle.rds_lines.specs.Answering.{answer_line};
 
+use crate::digits::Digits;
 use rds_dots::Dot;
+use rds_keep::Counted;
 use rds_names::{Fault, Name, Roster};
 use rds_state::Edited;
-use std::fmt::{self, Display, Formatter, Write};
+use std::io::Write;
 
-/// An answer. It is shown as one line of JSON, without the newline, and that takes no memory.
+/// An answer. It is written as one line of JSON, and that takes no memory.
 #[derive(Debug, Drop)]
 pub enum Answer {
     /// It was done.
@@ -51,6 +58,74 @@ impl Answer {
     {
         matches!(self, Answer::Refused(_))
     }
+
+    /// Writes its line, piece by piece.
+    pub fn write_to<W: Write>(&self, writer: &mut Counted<W>) -> Result<(), Fault>
+        ensures bytes { OnOk result (Appends (W.contents writer.old.inner)
+            (W.contents writer.new.inner) (answer_line self.now)) }
+        ensures part { OnErr result (AppendsPart (W.contents writer.old.inner)
+            (W.contents writer.new.inner) (answer_line self.now)) }
+        ensures fault { IfErr result (λ e. e ≡ Device) }
+        ensures steady { OnOk result (writer.new.failed ≡ writer.old.failed) }
+        ensures counted { OnErr result (writer.new.failed ≡ one_more writer.old.failed) }
+    {
+        let (mut first, mut second) = (Digits::new(), Digits::new());
+        match self {
+            Answer::Done => writer.write_all(b"{\"ok\":true}\n"),
+            Answer::Edited { dot, killed } => write_edited(writer, *dot, *killed),
+            Answer::Asked(number) => {
+                let number = first.of(u128::from(*number));
+                writer.write_pieces(&[b"{\"ask\":", number, b"}\n"])
+            }
+            Answer::Answered { number, components } => {
+                let number = first.of(u128::from(*number));
+                let components = second.of(*components);
+                writer.write_pieces(&[
+                    b"{\"delta\":",
+                    number,
+                    b",\"components\":",
+                    components,
+                    b"}\n",
+                ])
+            }
+            Answer::Shown(text) => writer.write_pieces(&[text.as_bytes(), b"\n"]),
+            Answer::Refused(fault) => {
+                let number = first.of(u128::from(fault.number()));
+                let name = fault.name().as_bytes();
+                writer.write_pieces(&[b"{\"fault\":", number, b",\"name\":\"", name, b"\"}\n"])
+            }
+        }
+    }
+}
+
+// Writes the line of an edit.
+fn write_edited<W: Write>(
+    writer: &mut Counted<W>,
+    dot: Option<(Name, u64)>,
+    killed: u64,
+) -> Result<(), Fault>
+    ensures bytes { OnOk result (Appends (W.contents writer.old.inner)
+        (W.contents writer.new.inner) (answer_line (Answer.Edited dot killed))) }
+    ensures part { OnErr result (AppendsPart (W.contents writer.old.inner)
+        (W.contents writer.new.inner) (answer_line (Answer.Edited dot killed))) }
+    ensures fault { IfErr result (λ e. e ≡ Device) }
+    ensures steady { OnOk result (writer.new.failed ≡ writer.old.failed) }
+    ensures counted { OnErr result (writer.new.failed ≡ one_more writer.old.failed) }
+{
+    let (mut first, mut second) = (Digits::new(), Digits::new());
+    let killed = first.of(u128::from(killed));
+    match dot {
+        Some((name, seq)) => writer.write_pieces(&[
+            b"{\"dot\":[\"",
+            name.as_str().as_bytes(),
+            b"\",",
+            second.of(u128::from(seq)),
+            b"],\"killed\":",
+            killed,
+            b"}\n",
+        ]),
+        None => writer.write_pieces(&[b"{\"dot\":null,\"killed\":", killed, b"}\n"]),
+    }
 }
 
 // The name of the dot's replica, and the dot's number there.
@@ -60,34 +135,4 @@ fn named_in(roster: &Roster, dot: Option<Dot>) -> Option<(Name, u64)>
     let dot = dot?;
     let name = roster.name_of(dot.replica)?;
     Some((name, dot.seq))
-}
-
-impl Display for Answer {
-    ghost output = { λ a. Some (answer_text a) };
-
-    fn fmt<W: Write>(&self, f: &mut Formatter<W>) -> fmt::Result {
-        match self {
-            Answer::Done => f.write_str("{\"ok\":true}"),
-            Answer::Edited {
-                dot: Some((name, seq)),
-                killed,
-            } => {
-                let name = name.as_str();
-                write!(f, "{{\"dot\":[\"{name}\",{seq}],\"killed\":{killed}}}")
-            }
-            Answer::Edited { dot: None, killed } => {
-                write!(f, "{{\"dot\":null,\"killed\":{killed}}}")
-            }
-            Answer::Asked(number) => write!(f, "{{\"ask\":{number}}}"),
-            Answer::Answered { number, components } => {
-                write!(f, "{{\"delta\":{number},\"components\":{components}}}")
-            }
-            Answer::Shown(text) => f.write_str(text.as_str()),
-            Answer::Refused(fault) => {
-                let number = fault.number();
-                let name = fault.name();
-                write!(f, "{{\"fault\":{number},\"name\":\"{name}\"}}")
-            }
-        }
-    }
 }

@@ -63,7 +63,7 @@ pub fn answer_lines<A: Answers, R: Read, W: Write>(
         };
         let answer = answers.answer(alloc, line);
         refused |= answer.is_refusal();
-        match writer.write_line(answer) {
+        match answer.write_to(writer) {
             Ok(()) => (),
             Err(_) => return 1,
         }

@@ -5,6 +5,7 @@
 mod ahead;
 mod answer;
 mod answering;
+mod digits;
 mod join;
 mod lines;
 mod output;
@@ -15,6 +16,7 @@ mod views;
 
 pub use answer::Answer;
 pub use answering::{Answers, answer_lines};
+pub use digits::Digits;
 pub use join::join_is_known;
 pub use output::{status_of, write_answer, write_fault, write_fault_line};
 pub use run::{run_join, run_sim};

@@ -1,12 +1,14 @@
 //! What is written.
-ghost use Rattle.std.specs.Prelude.{◌≡◌, ◌≤◌, ◌⊎◌, Err, OnOk, OnErr, MatchResult};
+ghost use Rattle.std.specs.Prelude.{◌≡◌, ◌≤◌, ◌⊎◌, Err, IfErr, OnOk, OnErr, MatchResult};
 ghost use Rattle.std.specs.Io.KnownBytes.{Appends};
-ghost use Rattle.rds_names.specs.declared.fault.Fault.TheVariants.{Memory};
+ghost use Rattle.rds_names.specs.declared.fault.Fault.TheVariants.{Device, Memory};
 ghost use Rattle.rds_keep.specs.Counted.{one_more};
+ghost use Rattle.rds_keep.specs.Parts.{AppendsPart};
 ghost use Rattle.rds_lines.specs.Answering.{WritesAnswer};
 ghost use Rattle.rds_lines.specs.Output.{AnswersStatus, Writes, fault_line, fault_status};
 
 use crate::answer::Answer;
+use crate::digits::Digits;
 use rds_keep::Counted;
 use rds_names::Fault;
 use std::io::Write;
@@ -29,7 +31,7 @@ pub fn write_answer<W: Write>(writer: &mut Counted<W>, answer: Result<Answer, Fa
     ensures broken { (writer.new.failed ≡ writer.old.failed) ⊎ (result ≡ 1) }
 {
     match answer {
-        Ok(answer) => status_of(writer.write_line(answer), 0),
+        Ok(answer) => status_of(answer.write_to(writer), 0),
         Err(fault) => write_fault(writer, fault),
     }
 }
@@ -44,16 +46,19 @@ pub fn status_of(written: Result<(), Fault>, due: u8) -> u8
     }
 }
 
-/// Writes a fault's line.
+/// Writes a fault's line, piece by piece.
 pub fn write_fault_line<W: Write>(writer: &mut Counted<W>, fault: Fault) -> Result<(), Fault>
     ensures bytes { OnOk result (Appends (W.contents writer.old.inner)
         (W.contents writer.new.inner) (fault_line fault)) }
+    ensures part { OnErr result (AppendsPart (W.contents writer.old.inner)
+        (W.contents writer.new.inner) (fault_line fault)) }
+    ensures fault { IfErr result (λ e. e ≡ Device) }
     ensures steady { OnOk result (writer.new.failed ≡ writer.old.failed) }
     ensures counted { OnErr result (writer.new.failed ≡ one_more writer.old.failed) }
 {
-    let number = fault.number();
-    let name = fault.name();
-    writer.write_line(format_args!("fault {number}: {name}"))
+    let mut digits = Digits::new();
+    let number = digits.of(u128::from(fault.number()));
+    writer.write_pieces(&[b"fault ", number, b": ", fault.name().as_bytes(), b"\n"])
 }
 
 fn fault_status(fault: Fault) -> u8

@@ -57,7 +57,7 @@ pub fn run_join<R: Read, W: Write>(
     ensures broken { (writer.new.failed ≡ writer.old.failed) ⊎ (result ≡ 1) }
 {
     match join_line(alloc, reader) {
-        Ok(line) => status_of(writer.write_line(line), 0),
+        Ok(line) => status_of(writer.write_pieces(&[line.as_bytes(), b"\n"]), 0),
         Err(refusal) => write_fault(writer, refusal.fault()),
     }
 }

@@ -53,14 +53,24 @@ pub fn keep(
     told_components(rt.alloc(), &made)
 }
 
+/// `replace NAME`: keeps the replica of another file in place of the one in the file, and answers how many components it
+/// had, and has.
+pub fn replace(rt: &HostRuntime, name: &str) -> Result<String, Fault> {
+    let other: ReplicaFile<'_, ListSet> = ReplicaFile::open(rt, name)?;
+    let replaced = read(rt)?.replace(rt, other.kept().view_of())?;
+    let before = components_of(replaced.before().kept());
+    let now = components_of(replaced.kept());
+    Ok(format!(in rt.alloc(); "{before} components, then {now}")?)
+}
+
 /// How many components the replica in a file has.
 pub fn told_components(alloc: Global, file: &ReplicaFile<'_, ListSet>) -> Result<String, Fault> {
-    let components = components_of(file);
+    let components = components_of(file.kept());
     Ok(format!(in alloc; "{components} components")?)
 }
 
-fn components_of(file: &ReplicaFile<'_, ListSet>) -> u128 {
-    file.kept().view_of().state().components()
+fn components_of(kept: &Kept<ListSet>) -> u128 {
+    kept.view_of().state().components()
 }
 
 /// `settle_nothing`: settles in the file a session that received nothing, and answers what came of it and how many
@@ -101,6 +111,6 @@ fn told_settled(
     settled: Settled,
     file: &ReplicaFile<'_, ListSet>,
 ) -> Result<String, Fault> {
-    let components = components_of(file);
+    let components = components_of(file.kept());
     Ok(format!(in alloc; "{settled:?}, {components} components")?)
 }

@@ -4,8 +4,9 @@ use crate::input::Input;
 use crate::lengths::answer_lengths;
 use crate::peers::{meet_peer, run_away, run_busy};
 use crate::runs::{run_barred, run_reading, run_renamed, run_spaced, run_writing, usual_turns};
-use crate::sessions::{keep, read, settle_nothing, settle_received, told_components};
+use crate::sessions::{keep, read, replace, settle_nothing, settle_received, told_components};
 use crate::simulated::Simulated;
+use rds_commands::word_laws;
 use rds_dots::ListSet;
 use rds_files::ReplicaFile;
 use rds_lines::join_is_known;
@@ -67,6 +68,7 @@ impl<'a> Transcript<'a> {
             "hold" => hold(self.rt, rest),
             "folder" => make_folder(self.rt, rest),
             "remove" => remove_file(self.rt, rest),
+            "replace" => replace(self.rt, rest),
             _ => remove_folder(self.rt, rest),
         }
     }
@@ -102,7 +104,9 @@ impl Table for Transcript<'_> {
             "turns" => usual_turns(alloc),
             "laws" => laws(alloc),
             "lengths" => answer_lengths(alloc, rest, self.input.as_slice()),
-            "put" | "hold" | "folder" | "remove" | "remove_folder" => self.answer_file(name, rest),
+            "put" | "hold" | "folder" | "remove" | "remove_folder" | "replace" => {
+                self.answer_file(name, rest)
+            }
             "read" => self.read(alloc),
             "keep" | "settle" | "settle_nothing" => self.answer_read(alloc, name, rest),
             "meet" => meet_peer(self.rt, rest),
@@ -111,8 +115,9 @@ impl Table for Transcript<'_> {
     }
 }
 
-// `laws`: the function whose contract is the law of joins is called.
+// `laws`: the functions whose contracts are the laws of joins and of words are called.
 fn laws(alloc: Global) -> Result<String, Fault> {
     join_is_known();
+    word_laws();
     said(alloc, "called")
 }

@@ -5,6 +5,7 @@ use rds_keep::Counted;
 use rds_names::Fault;
 use rds_rows::words::{cut, first, number};
 use std::alloc::Global;
+use std::fmt::{self, Display, Formatter};
 
 /// `calls CALL STEP,STEP,..`: what each step answers, what the place counted, and what it holds. The call of this
 /// number fails.
@@ -37,14 +38,25 @@ fn step_text(alloc: Global, place: &mut Counted<Shelf<'_>>, step: &str) -> Resul
     }
 }
 
+/// A text that is never shown.
+#[derive(Drop)]
+struct Mute;
+
+impl Display for Mute {
+    fn fmt<W: fmt::Write>(&self, _f: &mut Formatter<W>) -> fmt::Result {
+        Err(fmt::Error)
+    }
+}
+
 /// How many bytes of its text the step wrote, or its fault.
 fn take_step(place: &mut Counted<Shelf<'_>>, step: &str) -> Result<usize, Fault> {
     let (name, text) = first(step);
     match name {
         "write" => return place.write(text.as_bytes()),
         "all" => place.write_all(text.as_bytes())?,
-        "text" => place.write_text(text)?,
-        "line" => place.write_line(text)?,
+        "pieces" => place.write_pieces(&[text.as_bytes(), b"\n"])?,
+        "shown" => place.write_shown(text)?,
+        "mute" => place.write_shown(Mute)?,
         "settle" => settle(place)?,
         _ => return Err(Fault::Usage),
     }

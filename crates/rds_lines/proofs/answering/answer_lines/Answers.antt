@@ -27,6 +27,26 @@ returns-in-Err-clause-unread g c = λ read wrote.
     told_cut g.A.Answers.may_answer (g.W.Write.contents c.args.writer.now.inner) (g.W.Write.contents c.lines.writer.inner) (g.W.Write.contents c.write_fault.new.writer.inner) c.args.answers.now c.lines.answers c.lines.refused
     c.in-Err.fault c.write_fault.result c.lines.invariant.told g.met.A.Answers.ends c.in-Err.ensures.fault.0 (c.write_fault.ensures.written wrote)
 
+pub lines-preserved-in-Ok : goal.lines-preserved-in-Ok
+lines-preserved-in-Ok g c =
+    let first = g.R.Read.remaining c.begin_turns.new.self.inner in
+    let now = untaken c.lines.ahead (g.R.Read.remaining c.lines.reader.inner) in
+    let next = untaken c.next_line.new.self (g.R.Read.remaining c.next_line.new.reader.inner) in
+    let before = g.W.Write.contents c.args.writer.now.inner in
+    let after = g.W.Write.contents c.lines.writer.inner in
+    let later = g.W.Write.contents c.write_to.new.writer.inner in
+    let taken = subst (TakesLine now next) c.in-Ok-Some.field-0-is c.in-Ok-Some.ensures.taken in
+    let on = runs_on g.A.Answers.may_answer first now next before after later c.args.answers.now c.lines.answers c.answer-answer.new.self c.lines.refused _ c.in-Ok-Some.line _
+    c.lines.invariant.runs taken c.in-Ok.ensures.bytes c.answer-answer.ensures in
+    let told = told_on g.A.Answers.may_answer before after later c.args.answers.now c.lines.answers c.answer-answer.new.self c.lines.refused _ c.in-Ok-Some.line _
+    c.lines.invariant.told (subst (λ (l : Option (Result (String Global) Fault)). IfSome l IsOfSomeLine) c.in-Ok-Some.field-0-is c.in-Ok-Some.ensures.line) c.in-Ok.ensures.bytes c.answer-answer.ensures in
+    record {
+      runs = subst (λ (b : Bool). Runs g.A.Answers.may_answer first next before later c.args.answers.now c.answer-answer.new.self (c.lines.refused || b)) (sym c.is_refusal-refused.ensures) on;
+      told = subst (λ (b : Bool). Told g.A.Answers.may_answer before later c.args.answers.now c.answer-answer.new.self (c.lines.refused || b)) (sym c.is_refusal-refused.ensures) told;
+      read = c.in-Ok-Some.ensures.steady ∙ c.lines.invariant.read;
+      wrote = c.in-Ok.ensures.steady ∙ c.lines.invariant.wrote;
+    }
+
 pub lines-preserved : goal.lines-preserved
 lines-preserved g c =
     let first = g.R.Read.remaining c.begin_turns.new.self.inner in
@@ -34,7 +54,7 @@ lines-preserved g c =
     let next = untaken c.next_line.new.self (g.R.Read.remaining c.next_line.new.reader.inner) in
     let before = g.W.Write.contents c.args.writer.now.inner in
     let after = g.W.Write.contents c.lines.writer.inner in
-    let later = g.W.Write.contents c.write_line.new.self.inner in
+    let later = g.W.Write.contents c.write_to.new.writer.inner in
     let taken = subst (TakesLine now next) c.in-Ok-Some.field-0-is c.in-Ok-Some.ensures.taken in
     let on = runs_on g.A.Answers.may_answer first now next before after later c.args.answers.now c.lines.answers c.answer-answer.new.self c.lines.refused _ c.in-Ok-Some.line _
     c.lines.invariant.runs taken c.in-Ok.ensures.bytes c.answer-answer.ensures in

@@ -1,10 +1,15 @@
+use Rattle.std.proofs.Common.{◌≡◌, ◌∷◌, ◌++◌, [], ℕ, List, ap, rules, string_bytes}
+use Rattle.rds_lines.proofs.AnswerPieces.{same_bytes}
 use Rattle.rds_lines.proofs.Running.{line_written, fault_written}
 use Rattle.rds_lines.proofs.run.run_join.Goals as goal
 
 pub returns-in-Ok-clause-join : goal.returns-in-Ok-clause-join
 returns-in-Ok-clause-join g c =
-    line_written (g.R.Read.remaining c.args.reader.now.inner) (g.W.Write.contents c.args.writer.now.inner) (g.W.Write.contents c.write_line.new.self.inner) c.in-Ok.line _ _ _ _ c.write_line.result c.in-Ok.ensures.line
-    c.write_line.ensures.bytes c.write_line.ensures.counted c.status_of.ensures
+    let before = g.W.Write.contents c.args.writer.now.inner in
+    let after = g.W.Write.contents c.write_pieces.new.self.inner in
+    let line : c.as_bytes.result.now ≡ string_bytes c.in-Ok.line = search rules in
+    let written = same_bytes before after (c.as_bytes.result.now ++ 10 ∷ []) (string_bytes c.in-Ok.line ++ 10 ∷ []) c.write_pieces.result (ap (λ (l : List ℕ). l ++ 10 ∷ []) line) c.write_pieces.ensures.bytes in
+    line_written (g.R.Read.remaining c.args.reader.now.inner) before after c.in-Ok.line _ _ _ _ c.write_pieces.result c.in-Ok.ensures.line written c.write_pieces.ensures.counted c.status_of.ensures
 
 pub returns-in-Err-clause-join : goal.returns-in-Err-clause-join
 returns-in-Err-clause-join g c =

@@ -13,4 +13,4 @@ pub returns-clause-ok : goal.returns-clause-ok
 returns-clause-ok g c = λ n below fits.
     is_reply n c.args.digest.now c.args.asker c.args.kept.now c.in_ok-delta.delta c.in_ok-certificate.certificate c.in_ok-bytes.bytes.items c.components.result below fits
     (record { asked = refl; delta = c.in_ok-delta.ensures.ok; certificate = c.in_ok-certificate.ensures.ok }) c.in_ok-bytes.ensures.text.0 c.in_ok-bytes.ensures.text.1
-    c.in_ok-bytes.ensures.dots c.in_ok-bytes.ensures.value c.components.ensures
+    c.in_ok-bytes.ensures.dots c.in_ok-bytes.ensures.certified c.components.ensures

@@ -1,0 +1,47 @@
+//! Many calls of a reader, one after the other.
+ghost use Rattle.std.specs.Prelude.{◌≡◌, ◌<◌, ◌≤◌, ◌⊎◌, length, take, IfOk, IfErr, IfSome, OnOk};
+ghost use Rattle.std.specs.Io.KnownBytes.{Consumes, IsAtEnd};
+ghost use Rattle.rds_names.specs.declared.fault.Fault.TheVariants.{Memory, Device};
+ghost use Rattle.rds_keep.specs.Counted.{HasFailed};
+
+use crate::counted::Counted;
+use rds_names::Fault;
+use std::alloc::Global;
+use std::io::Read;
+
+/// How many bytes one call of a reader is asked for.
+const CHUNK: usize = 65_536;
+
+impl<R: Read> Counted<R> {
+    /// The first bytes of all that the reader holds, at most so many. It reads to the end or until
+    /// it has them, each byte into its place once, within the reader's bound of turns (`Device`
+    /// where that doesn't do, and where a read fails).
+    pub fn read_front(&mut self, alloc: Global, most: usize) -> Result<Vec<u8>, Fault>
+        ensures front { IfOk result (λ v. IfSome (R.remaining self.old.inner)
+            (λ input. v.items ≡ take most input)) }
+        ensures bytes { IfOk result (λ v. Consumes (R.remaining self.old.inner)
+            (R.remaining self.new.inner) v.items) }
+        ensures within { IfOk result (λ v. length v.items ≤ most) }
+        ensures end { IfOk result (λ v. length v.items < most → IsAtEnd (R.remaining self.new.inner)) }
+        ensures fault { IfErr result (λ e. ((e ≡ Memory) × (self.new.failed ≡ self.old.failed))
+            ⊎ ((e ≡ Device) × HasFailed self.old self.new)) }
+        ensures steady { OnOk result (self.new.failed ≡ self.old.failed) }
+        ensures turns { self.new.turns ≡ self.old.turns }
+        ensures renamed { self.new.renamed ≡ self.old.renamed }
+    {
+        let mut front = Vec::new(alloc);
+        let mut chunk = [0u8; CHUNK];
+        self.begin_turns();
+        'turns: loop {
+            let room = (most - front.len()).min(CHUNK);
+            if room == 0 {
+                return Ok(front);
+            }
+            let taken = self.read(&mut chunk[..room])?;
+            if taken == 0 {
+                return Ok(front);
+            }
+            front.extend_from_slice(&chunk[..taken])?;
+        }
+    }
+}
