@@ -1,8 +1,5 @@
-pub mod CommandWords
 pub mod Entered
-pub mod Meaning
-pub mod NamedTasks
-pub mod Naming
+pub mod Named
 pub mod Refused
 pub mod Replaced
 pub mod SimTold

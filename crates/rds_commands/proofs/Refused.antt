@@ -6,8 +6,8 @@ use Rattle.rds_state.specs.Fits.{ReplicaValue}
 use Rattle.rds_state.specs.declared.command.Command.{Command}
 use Rattle.rds_files.specs.Files.{IsUnread}
 use Rattle.rds_commands.specs.Edits.{RefusesEdit, RefusesEditIn}
-use Rattle.rds_commands.specs.FileWords.{IsCommand}
-use Rattle.rds_commands.specs.declared.commands.EditWords.{EditWords}
+use Rattle.rds_words.specs.Meaning.{IsCommand}
+use Rattle.rds_words.specs.declared.tasks.EditWords.{EditWords}
 use Rattle.rds_commands.proofs.Told.{not_refused}
 
 module _ (words : EditWords) (command : Command) (given : (◌≡◌ {A = Result Command Fault} (Ok command) (Err Memory)) ⊎ IsCommand words (Ok command)) (fault : Fault) where

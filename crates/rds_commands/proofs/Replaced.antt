@@ -1,13 +1,14 @@
 -- An edit of what a file held.
-use Rattle.std.proofs.Common.{◌≡◌, ℕ, List, None, Ok, inr}
+use Rattle.std.proofs.Common.{◌≡◌, ℕ, List, None, Ok, inl, inr}
 use Rattle.rds_names.specs.declared.fault.Fault.{Fault}
+use Rattle.rds_state.specs.Edit.{IsDue}
 use Rattle.rds_state.specs.Fits.{ReplicaValue}
 use Rattle.rds_state.specs.declared.command.Command.{Command}
 use Rattle.rds_lines.specs.declared.answer.Answer.{Answer}
 use Rattle.rds_files.specs.Files.{FileValue, IsReadAt, IsUnkept, ReplacedValue}
 use Rattle.rds_commands.specs.Edits.{EditsFile, IsEdited, RefusesEditIn, edit_refusal}
-use Rattle.rds_commands.specs.FileWords.{IsCommand}
-use Rattle.rds_commands.specs.declared.commands.EditWords.{EditWords}
+use Rattle.rds_words.specs.Meaning.{IsCommand}
+use Rattle.rds_words.specs.declared.tasks.EditWords.{EditWords}
 
 -- the file that was read is the one that was replaced
 pub edits_file : (path : List ℕ) (words : EditWords) (command : Command) (file : FileValue) (done : ReplacedValue) (answer : Answer) → IsReadAt path file → IsCommand words (Ok command)
@@ -24,3 +25,11 @@ edits_file path words command file done answer read asked is due edited = record
 pub unkept_edit : (command : Command) (before old after : ReplicaValue) (answer : Answer) (fault : Fault) → old ≡ before → edit_refusal old command ≡ None → IsEdited command old after answer → IsUnkept after fault
     → RefusesEditIn command before fault
 unkept_edit command before old after answer fault same due edited unkept = inr (rw (← same) due, (after, answer, rw (← same) edited, unkept))
+
+-- the edit of a copy is refused
+pub refused_edit : (command : Command) (before old : ReplicaValue) (fault : Fault) → old ≡ before → IsDue (edit_refusal old command) fault → RefusesEditIn command before fault
+refused_edit command before old fault same due = inl (rw (← same) due)
+
+-- the edit of a copy is kept
+pub kept_edit : (command : Command) (before old after kept : ReplicaValue) (answer : Answer) → old ≡ before → IsEdited command old after answer → kept ≡ after → IsEdited command before kept answer
+kept_edit command before old after kept answer same edited is = rw (is, ← same) edited

@@ -15,9 +15,9 @@ use Rattle.rds_lines.specs.Views.{ShowsView}
 use Rattle.rds_lines.specs.declared.answer.Answer.{Answer}
 use Rattle.rds_lines.specs.declared.answer.Answer.TheVariants.{Done}
 use Rattle.rds_files.specs.Files.{FileValue, IsReadAt, IsUnkept, IsUnread, ReplacedValue}
-use Rattle.rds_commands.specs.FileWords.{IsCommand, roster_for}
-use Rattle.rds_commands.specs.declared.commands.EditWords.{EditWords}
-use Rattle.rds_commands.specs.declared.commands.InitWords.{InitWords}
+use Rattle.rds_words.specs.Meaning.{IsCommand, roster_for}
+use Rattle.rds_words.specs.declared.tasks.EditWords.{EditWords}
+use Rattle.rds_words.specs.declared.tasks.InitWords.{InitWords}
 
 -- ---- init
 

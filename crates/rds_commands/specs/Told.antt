@@ -1,6 +1,6 @@
 -- What the program tells for its words.
-use Rattle.std.specs.Prelude.{◌≡◌, ◌⊎◌, ℕ, List, [], Option, Some, None, Result, Ok, Err, MatchResult}
-use Rattle.clap.specs.Words.{IsAmong, Kinds, Text, fault_of, subcommand_of}
+use Rattle.std.specs.Prelude.{◌≡◌, ◌⊎◌, ℕ, List, Option, Some, None, Result, Ok, Err, MatchResult}
+use Rattle.clap.specs.Words.{IsAmong, Kinds, Text}
 use Rattle.clap.specs.declared.error.kind.ErrorKind.{ErrorKind}
 use Rattle.rds_names.specs.declared.fault.Fault.{Fault}
 use Rattle.rds_names.specs.declared.fault.Fault.TheVariants.{Memory, Usage}
@@ -11,27 +11,14 @@ use Rattle.rds_lines.specs.Sim.{IsSimOutput}
 use Rattle.rds_lines.specs.declared.answer.Answer.{Answer}
 use Rattle.rds_files.specs.Pairing.{WritesPair}
 use Rattle.rds_files.specs.Syncing.{WritesSync}
-use Rattle.rds_commands.specs.Commands.{node_app}
 use Rattle.rds_commands.specs.Edits.{EditsFile, InitsFile, RefusesEdit, RefusesInit, RefusesShow, ShowsFile}
-use Rattle.rds_commands.specs.FileWords.{IsAmount}
-use Rattle.rds_commands.specs.Task.{words_in, words_of}
+use Rattle.rds_words.specs.Meaning.{IsAmount}
+use Rattle.rds_words.specs.Task.{words_of}
 use Rattle.rds_commands.specs.Unparsed.{unparsed_status}
-use Rattle.rds_commands.specs.declared.commands.EditWords.{EditWords}
-use Rattle.rds_commands.specs.declared.commands.InitWords.{InitWords}
-use Rattle.rds_commands.specs.declared.commands.Task.{Task}
-use Rattle.rds_commands.specs.declared.commands.Task.TheVariants.{Join, Sim, Init, Edit, Show, Serve, Sync, Pair}
-
--- the task in words that the command line finds in what was entered
-abbrev pub named_in : List Text → Option (List Text)
-named_in entered = words_in (subcommand_of node_app entered)
-
--- the ways in which what was entered is none of the program's
-abbrev pub mistakes_in : List Text → Kinds
-mistakes_in entered = fault_of node_app entered
-
--- what was entered names the task in words, and nothing else
-abbrev pub Names : List Text → List Text → Type 0
-Names entered words = (mistakes_in entered ≡ []) × (named_in entered ≡ Some words)
+use Rattle.rds_words.specs.declared.tasks.EditWords.{EditWords}
+use Rattle.rds_words.specs.declared.tasks.InitWords.{InitWords}
+use Rattle.rds_words.specs.declared.tasks.Task.{Task}
+use Rattle.rds_words.specs.declared.tasks.Task.TheVariants.{Join, Sim, Init, Edit, Show, Serve, Sync, Pair}
 
 -- the answers to the lines of the input were written, and nothing else; or there was no memory to read the words
 abbrev pub WritesSim : List ℕ → Option (List ℕ) → Option (List ℕ) → ℕ → Type 0

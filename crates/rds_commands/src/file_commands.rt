@@ -4,15 +4,14 @@ ghost use Rattle.rds_names.specs.declared.fault.Fault.TheVariants.{Memory};
 ghost use Rattle.rds_names.specs.Path.{path_of};
 ghost use Rattle.rds_state.specs.Edit.{IsDue};
 ghost use Rattle.rds_commands.specs.Edits.{edit_refusal, EditsFile, InitsFile, IsEdited, RefusesEdit, RefusesEditIn, RefusesInit, RefusesShow, ShowsFile};
-ghost use Rattle.rds_commands.specs.FileWords.{IsCommand, roster_for};
+ghost use Rattle.rds_words.specs.Meaning.{IsCommand, roster_for};
 
-use crate::commands::{EditWords, InitWords};
-use crate::file_words::{command_of, roster_in};
 use rds_dots::{DotSet, ListSet};
 use rds_files::{ReplacedFile, ReplicaFile, is_there};
 use rds_lines::{Answer, shown};
 use rds_names::{Fault, Path};
 use rds_state::{Command, Replica};
+use rds_words::{EditWords, InitWords, command_of, roster_in};
 use std::rt::Files;
 
 /// A file as a command left it, and what the command is answered.

@@ -5,10 +5,10 @@ ghost use Rattle.rds_lines.specs.Answering.{WritesCut};
 ghost use Rattle.rds_lines.specs.Output.{Writes, fault_line};
 ghost use Rattle.rds_lines.specs.Run.{WritesJoin};
 ghost use Rattle.rds_lines.specs.Sim.{MayBeSimulated};
-ghost use Rattle.rds_commands.specs.Commands.{join_words, sim_words};
-ghost use Rattle.rds_commands.specs.Told.{AnswersMistake, MayWriteNamed, Names, WritesSim, mistakes_in, named_in};
+ghost use Rattle.rds_words.specs.Commands.{join_words, sim_words};
+ghost use Rattle.rds_commands.specs.Told.{AnswersMistake, MayWriteNamed, WritesSim};
+ghost use Rattle.rds_words.specs.Entered.{Names, mistakes_in, named_in};
 
-use crate::commands::{Task, task_of};
 use crate::serve_words::run_serve;
 use crate::telling::{run_edit, run_init, run_show};
 use crate::unparsed::write_unparsed;
@@ -16,6 +16,7 @@ use rds_files::{pair_files, sync_file};
 use rds_keep::Counted;
 use rds_lines::{run_join, run_sim, write_fault};
 use rds_names::Fault;
+use rds_words::{Task, task_of};
 use std::convert::AsStr;
 use std::io::{Read, Write};
 use std::net::Net;
@@ -48,6 +49,7 @@ pub fn run<H: Files + Net + AllocGlobal, R: Read, W: Write, S: AsStr>(
     ensures cut { (name : List ℕ) → map S.text words.entry.now ≡ name ∷ sim_words
         → reader.new.failed ≢ reader.old.failed → writer.new.failed ≡ 0
         → WritesCut MayBeSimulated (fault_line Device)
+        (R.remaining reader.old.inner) (R.remaining reader.new.inner)
         (W.contents writer.old.inner) (W.contents writer.new.inner) × (result ≡ 1) }
     ensures task { mistakes_in (map S.text words.entry.now) ≡ [] → writer.new.failed ≡ 0
         → MayWriteNamed (named_in (map S.text words.entry.now))

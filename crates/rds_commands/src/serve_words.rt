@@ -1,14 +1,14 @@
 //! The words of `serve`.
 ghost use Rattle.std.specs.Prelude.{◌≡◌, ◌≤◌, ◌⊎◌, Err};
 ghost use Rattle.rds_names.specs.declared.fault.Fault.TheVariants.{Usage};
-ghost use Rattle.rds_commands.specs.FileWords.{IsAmount};
+ghost use Rattle.rds_words.specs.Meaning.{IsAmount};
 ghost use Rattle.rds_commands.specs.Told.{WritesServe};
 ghost use Rattle.rds_lines.specs.Output.{Writes};
 
-use crate::file_words::amount_of;
 use rds_files::serve_file;
 use rds_keep::Counted;
 use rds_lines::write_fault;
+use rds_words::amount_of;
 use std::io::Write;
 use std::net::Net;
 use std::rt::Files;

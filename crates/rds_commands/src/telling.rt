@@ -2,10 +2,10 @@
 ghost use Rattle.std.specs.Prelude.{◌≡◌, ◌≤◌, ◌⊎◌};
 ghost use Rattle.rds_commands.specs.Told.{WritesEdit, WritesInit, WritesShow};
 
-use crate::commands::{EditWords, InitWords};
 use crate::file_commands::{edit_file, init_file, show_file};
 use rds_keep::Counted;
 use rds_lines::write_answer;
+use rds_words::{EditWords, InitWords};
 use std::io::Write;
 use std::rt::Files;
 

@@ -1,31 +1,23 @@
 -- Answers that are written line by line are the answers to all lines.
-use Rattle.std.proofs.Common.{◌≡◌, ℕ, ◌<◌, Bool, true, false, cond, eqb, ◌||◌, List, [], ◌∷◌, ◌++◌, length, Option, Some, None, Result, Err, refl, sym, ap, append_assoc, arith, subst, String}
+use Rattle.std.proofs.Common.{◌≡◌, ℕ, Bool, true, false, cond, ◌||◌, List, [], ◌∷◌, ◌++◌, Option, Some, None, Result, refl, sym, append_assoc, subst, String}
 use Rattle.std.specs.Global.{Global}
 use Rattle.std.specs.Prelude.{IfSome}
 use Rattle.std.specs.Io.KnownBytes.{Appends, prepend_known}
 use Rattle.std.proofs.KnownBytes.{Appends-nil, Appends-trans}
 use Rattle.std.proofs.lemmas.List.{append-nil}
 use Rattle.rds_names.specs.declared.fault.Fault.{Fault}
-use Rattle.rds_names.specs.declared.fault.Fault.TheVariants.{Device}
-use Rattle.rds_lines.specs.Lines.{line_of, after_line, lines_in, with_byte, ReadsText}
-use Rattle.rds_lines.specs.Ahead.{IsOfSomeLine, TakesLine}
-use Rattle.rds_lines.specs.Answering.{WritesAnswers, WritesCut}
-use Rattle.rds_lines.specs.Output.{Writes, fault_line}
+use Rattle.rds_lines.specs.Lines.{line_of, after_line, lines_in, ReadsText}
+use Rattle.rds_lines.specs.Ahead.{TakesLine}
+use Rattle.rds_lines.specs.Answering.{WritesAnswers}
+use Rattle.rds_lines.proofs.EndedLines.{lines_first}
 
--- the first line, and the lines after it
-first_at : (t : Bool) (b : ℕ) (bytes : List ℕ) → (0 < length bytes → lines_in bytes ≡ line_of bytes ∷ lines_in (after_line bytes))
-    → cond t ([] ∷ lines_in bytes) (with_byte b (lines_in bytes)) ≡ cond t [] (b ∷ line_of bytes) ∷ lines_in (cond t bytes (after_line bytes))
-first_at true b bytes h = refl
-first_at false b [] h = refl
-first_at false b (c ∷ bytes) h = ap (with_byte b) (h (omega arith))
-
-lines_first : (bytes : List ℕ) → 0 < length bytes → lines_in bytes ≡ line_of bytes ∷ lines_in (after_line bytes)
-lines_first [] lt = absurd (omega (arith, lt))
-lines_first (b ∷ bytes) lt = first_at (eqb b 10) b bytes (lines_first bytes)
-
-or_assoc : (a b c : Bool) → ((a || b) || c) ≡ (a || (b || c))
+pub or_assoc : (a b c : Bool) → ((a || b) || c) ≡ (a || (b || c))
 or_assoc true b c = refl
 or_assoc false b c = refl
+
+or_false : (b : Bool) → (b || false) ≡ b
+or_false true = refl
+or_false false = refl
 
 module _ {A : Type 0} (may : A → List (List ℕ) → List ℕ → Bool → Type 0) where
   -- what was written, and what may still be: together the answers to all
@@ -59,10 +51,6 @@ module _ {A : Type 0} (may : A → List (List ℕ) → List ℕ → Bool → Typ
         (subst (λ (b : Bool). may opening (lines_in xs) (r.0 ++ (text ++ out)) b) (sym (or_assoc refused refusal more)) all),
   )
 
-  or_false : (b : Bool) → (b || false) ≡ b
-  or_false true = refl
-  or_false false = refl
-
   -- no line is left
   pub runs_last : (first now next before after : Option (List ℕ)) (opening state : A) (refused : Bool) (read wrote status : ℕ) → Runs first now before after opening state refused → TakesLine now next None
       → ((a : A) → may a [] [] false) → status ≡ cond refused 1 0 → IfSome first (λ xs. read ≡ 0 → wrote ≡ 0 → WritesAnswers (may opening (lines_in xs)) before after status)
@@ -74,38 +62,3 @@ module _ {A : Type 0} (may : A → List (List ℕ) → List ℕ → Bool → Typ
       let all : may opening (lines_in xs) r.0 refused =
       subst (λ (o : List ℕ). may opening (lines_in xs) o refused) (append-nil r.0) (subst (λ (b : Bool). may opening (lines_in xs) (r.0 ++ []) b) (or_false refused) (r.2 [] false none)) in
       (r.0, refused, all, r.1, s)
-
-  -- what was written answers some lines, and whatever may be answered from here on may follow it
-  pub record Told (before after : Option (List ℕ)) (opening state : A) (refused : Bool) : Type 0 where
-    pub lines : List (List ℕ)
-    pub out : List ℕ
-    pub written : Appends before after out
-    pub follows : (rest : List (List ℕ)) (more : List ℕ) (other : Bool) → may state rest more other → may opening (lines ++ rest) (out ++ more) (refused || other)
-
-  pub told_first : (before : Option (List ℕ)) (opening : A) → Told before before opening opening false
-  told_first before opening = record { lines = []; out = []; written = Appends-nil before; follows = λ rest more other h. h }
-
-  -- a line that was answered
-  pub told_on : (before after later : Option (List ℕ)) (opening state next_state : A) (refused refusal : Bool) (line : Result (String Global) Fault) (text : List ℕ)
-      → Told before after opening state refused → IsOfSomeLine line → Appends after later text
-      → ((bytes : List ℕ) (lines : List (List ℕ)) (out : List ℕ) (more : Bool) → ReadsText bytes line → may next_state lines out more → may state (bytes ∷ lines) (text ++ out) (refusal || more))
-      → Told before later opening next_state (refused || refusal)
-  told_on before after later opening state next_state refused refusal line text t is w step = record {
-    lines = t.lines ++ is.0 ∷ [];
-    out = t.out ++ text;
-    written = Appends-trans before after later t.out text t.written w;
-    follows = λ rest more other h.
-        let here = t.follows (is.0 ∷ rest) (text ++ more) (refusal || other) (step is.0 rest more other is.1 h) in
-        subst (λ (ls : List (List ℕ)). may opening ls ((t.out ++ text) ++ more) ((refused || refusal) || other)) (sym (append_assoc t.lines (is.0 ∷ []) rest))
-        (subst (λ (o : List ℕ). may opening (t.lines ++ is.0 ∷ rest) o ((refused || refusal) || other)) (sym (append_assoc t.out text more))
-        (subst (λ (b : Bool). may opening (t.lines ++ is.0 ∷ rest) (t.out ++ (text ++ more)) b) (sym (or_assoc refused refusal other)) here));
-  }
-
-  -- a fault's line after what was written
-  pub told_cut : (before after later : Option (List ℕ)) (opening state : A) (refused : Bool) (fault : Fault) (status : ℕ) → Told before after opening state refused → ((a : A) → may a [] [] false)
-      → fault ≡ Device → Writes (Err fault) after later status → WritesCut (may opening) (fault_line Device) before later × (status ≡ 1)
-  told_cut before after later opening state refused fault status t ends is w =
-      let given : Writes (Err Device) after later status = subst (λ (f : Fault). Writes (Err f) after later status) is w in
-      let written = Appends-trans before after later t.out (fault_line Device) t.written given.0 in
-      let out = subst (λ (o : List ℕ). may opening (t.lines ++ []) o (refused || false)) (append-nil t.out) (t.follows [] [] false (ends state)) in
-      ((t.lines ++ [], t.out, refused || false, out, written), given.1)

@@ -1,9 +1,11 @@
 pub mod Answered
 pub mod AnswerPieces
 pub mod DigitsSoFar
+pub mod EndedLines
 pub mod Fronts
 pub mod JoinedOnce
 pub mod Joining
 pub mod Pieces
 pub mod Running
 pub mod Simulating
+pub mod Told

@@ -8,8 +8,8 @@ use Rattle.std.specs.Io.KnownBytes.{Keeps, IsAtEnd, prepend_known}
 use Rattle.std.specs.Global.{Global, Vec}
 use Rattle.std.specs.Prelude.{String}
 use Rattle.rds_names.specs.declared.fault.Fault.{Fault}
-use Rattle.rds_lines.specs.Lines.{line_of, after_line, is_text_line, ReadsText}
-use Rattle.rds_lines.specs.Ahead.{IsHeld, TakesLine}
+use Rattle.rds_lines.specs.Lines.{IsOneLine, line_of, after_line, is_text_line, ReadsText}
+use Rattle.rds_lines.specs.Ahead.{IsHeld, LosesPiece, TakesLine}
 
 -- what stands before the rest
 before_rest : (xs : List ℕ) → (front : List ℕ) × (xs ≡ front ++ after_line xs)
@@ -89,6 +89,15 @@ piece_ended (b ∷ bytes) rest h = at_byte (eqb b 10) (piece_ended bytes rest) h
         let p = k (omega (arith, h)) in
         (ap (λ (l : List ℕ). b ∷ l) p.0, p.1)
 
+-- a line has no newline
+pub line_is_one : (bytes : List ℕ) → IsOneLine (line_of bytes)
+line_is_one [] = refl
+line_is_one (b ∷ bytes) = at_byte (eqb b 10) refl (line_is_one bytes)
+  where
+    at_byte : (t : Bool) → eqb b 10 ≡ t → IsOneLine (line_of bytes) → line_of (cond t [] (b ∷ line_of bytes)) ≡ cond t [] (b ∷ line_of bytes)
+    at_byte true e h = refl
+    at_byte false e h = ap (λ (t : Bool). cond t [] (b ∷ line_of (line_of bytes))) e ∙ ap (λ (l : List ℕ). b ∷ l) h
+
 -- one with no newline is all of the line so far
 piece_open : (bytes rest : List ℕ) → length bytes ≤ length (line_of bytes) → (line_of (bytes ++ rest) ≡ line_of bytes ++ line_of rest) × (after_line (bytes ++ rest) ≡ after_line rest) × (after_line bytes ≡ [])
 piece_open [] rest h = (refl, refl, refl)
@@ -102,6 +111,18 @@ piece_open (b ∷ bytes) rest h = at_byte (eqb b 10) (piece_open bytes rest) h
         let p = k (omega (arith, h)) in
         (ap (λ (l : List ℕ). b ∷ l) p.0, p.1, p.2)
 
+open_whole : (bytes : List ℕ) → length bytes ≤ length (line_of bytes) → line_of bytes ≡ bytes
+open_whole [] h = refl
+open_whole (b ∷ bytes) h = at_byte (eqb b 10) (open_whole bytes) h
+  where
+    at_byte : (t : Bool) → (length bytes ≤ length (line_of bytes) → line_of bytes ≡ bytes) → length (b ∷ bytes) ≤ length (cond t [] (b ∷ line_of bytes)) → cond t [] (b ∷ line_of bytes) ≡ b ∷ bytes
+    at_byte true k h = absurd (omega (arith, h))
+    at_byte false k h = ap (λ (l : List ℕ). b ∷ l) (k (omega (arith, h)))
+
+pub one_line_on : (taken bytes : List ℕ) → IsOneLine taken → IsOneLine (taken ++ line_of bytes)
+one_line_on taken bytes one =
+    (piece_open taken (line_of bytes) (omega (arith, ap length one))).0 ∙ ap (λ (l : List ℕ). l ++ line_of (line_of bytes)) one ∙ ap (λ (l : List ℕ). taken ++ l) (line_is_one bytes)
+
 pub rest_shorter : (xs : List ℕ) → 0 < length xs → length (after_line xs) < length xs
 rest_shorter [] h = absurd (omega (arith, h))
 rest_shorter (b ∷ xs) h = at_byte (eqb b 10)
@@ -110,14 +131,20 @@ rest_shorter (b ∷ xs) h = at_byte (eqb b 10)
     at_byte true = omega arith
     at_byte false = omega (arith, rest_within xs)
 
--- the bytes that were taken so far, and the line that they are
+-- the bytes that were taken so far, which have no newline, and the line that they are
 pub record Walked (first now : List ℕ) (line : Result (Vec ℕ) Fault) (begun : Bool) : Type 0 where
   pub taken : List ℕ
   pub held : IsHeld taken line
-  pub line_is : line_of first ≡ taken ++ line_of now
-  pub rest_is : after_line first ≡ after_line now
+  pub front : first ≡ taken ++ now
+  pub one : IsOneLine taken
   pub fresh : begun ≡ false → first ≡ now
   pub some : begun ≡ true → 0 < length first
+
+-- a line goes on in what is left
+walked_on : (first now taken : List ℕ) → first ≡ taken ++ now → IsOneLine taken → (line_of first ≡ taken ++ line_of now) × (after_line first ≡ after_line now)
+walked_on first now taken front one =
+    let p = piece_open taken now (omega (arith, ap length one)) in
+    (ap line_of front ∙ p.0 ∙ ap (λ (l : List ℕ). l ++ line_of now) one, ap after_line front ∙ p.1)
 
 abbrev pub Walks : Option (List ℕ) → Option (List ℕ) → Result (Vec ℕ) Fault → Bool → Type 0
 Walks None now line begun = Unit {0}
@@ -129,8 +156,8 @@ walks_first None v none = tt
 walks_first (Some xs) v none = record {
   taken = [];
   held = (none, omega arith);
-  line_is = refl;
-  rest_is = refl;
+  front = refl;
+  one = refl;
   fresh = λ e. refl;
   some = λ e. absurd cc;
 }
@@ -148,8 +175,9 @@ walks_end None b line text bytes w none e reads = tt
 walks_end (Some xs) None line text bytes w none e reads = absurd w
 walks_end (Some xs) (Some ys) line text bytes w none e reads =
     let nothing : bytes ++ ys ≡ [] = ap (λ (l : List ℕ). l ++ ys) none ∙ e in
-    let whole : line_of xs ≡ w.taken = w.line_is ∙ ap (λ (l : List ℕ). w.taken ++ line_of l) nothing ∙ append-nil w.taken in
-    ((w.some refl, subst (λ (l : List ℕ). ReadsText l text) (sym whole) (reads w.taken w.held)), nothing ∙ sym (w.rest_is ∙ ap after_line nothing))
+    let on = walked_on xs (bytes ++ ys) w.taken w.front w.one in
+    let whole : line_of xs ≡ w.taken = on.0 ∙ ap (λ (l : List ℕ). w.taken ++ line_of l) nothing ∙ append-nil w.taken in
+    ((w.some refl, subst (λ (l : List ℕ). ReadsText l text) (sym whole) (reads w.taken w.held)), nothing ∙ sym (on.1 ∙ ap after_line nothing))
 
 pub walks_nothing : (a b : Option (List ℕ)) (line : Result (Vec ℕ) Fault) (bytes : List ℕ) → Walks a (prepend_known bytes b) line false → bytes ≡ [] → IsAtEnd b → TakesLine a (prepend_known bytes b) None
 walks_nothing None b line bytes w none e = tt
@@ -158,6 +186,13 @@ walks_nothing (Some xs) (Some ys) line bytes w none e =
     let nothing : bytes ++ ys ≡ [] = ap (λ (l : List ℕ). l ++ ys) none ∙ e in
     let empty : xs ≡ [] = w.fresh refl ∙ nothing in
     (empty, nothing ∙ sym (ap after_line empty))
+
+-- a line of which a piece was taken when nothing more could be read
+pub walks_cut : (a b c : Option (List ℕ)) (line : Result (Vec ℕ) Fault) (begun : Bool) → Walks a b line begun → Keeps b c → LosesPiece a c
+walks_cut None b c line begun w k = ([], refl, tt)
+walks_cut (Some xs) None c line begun w k = absurd w
+walks_cut (Some xs) (Some ys) None line begun w k = absurd k
+walks_cut (Some xs) (Some ys) (Some zs) line begun w k = (w.taken, w.one, w.front ∙ ap (λ (l : List ℕ). w.taken ++ l) (sym k))
 
 some_before : (begun : Bool) (xs ys bytes : List ℕ) → 0 < length bytes → (begun ≡ false → xs ≡ bytes ++ ys) → (begun ≡ true → 0 < length xs) → 0 < length xs
 some_before true xs ys bytes lt fresh some = some refl
@@ -171,8 +206,9 @@ walks_out None b line longer text begun bytes w lt ended extends reads = tt
 walks_out (Some xs) None line longer text begun bytes w lt ended extends reads = absurd w
 walks_out (Some xs) (Some ys) line longer text begun bytes w lt ended extends reads =
     let p = piece_ended bytes ys ended in
-    let whole : line_of xs ≡ w.taken ++ line_of bytes = w.line_is ∙ ap (λ (l : List ℕ). w.taken ++ l) p.0 in
-    ((some_before begun xs ys bytes lt w.fresh w.some, subst (λ (l : List ℕ). ReadsText l text) (sym whole) (reads (w.taken ++ line_of bytes) (extends w.taken w.held))), sym (w.rest_is ∙ p.1))
+    let on = walked_on xs (bytes ++ ys) w.taken w.front w.one in
+    let whole : line_of xs ≡ w.taken ++ line_of bytes = on.0 ∙ ap (λ (l : List ℕ). w.taken ++ l) p.0 in
+    ((some_before begun xs ys bytes lt w.fresh w.some, subst (λ (l : List ℕ). ReadsText l text) (sym whole) (reads (w.taken ++ line_of bytes) (extends w.taken w.held))), sym (on.1 ∙ p.1))
 
 -- a piece that doesn't
 pub walks_on : (a b : Option (List ℕ)) (line longer : Result (Vec ℕ) Fault) (begun : Bool) (bytes : List ℕ) → Walks a (prepend_known bytes b) line begun
@@ -186,8 +222,8 @@ walks_on (Some xs) (Some ys) line longer begun bytes w lt going extends =
     record {
       taken = w.taken ++ line_of bytes;
       held = extends w.taken w.held;
-      line_is = w.line_is ∙ ap (λ (l : List ℕ). w.taken ++ l) p.0 ∙ sym (append_assoc w.taken (line_of bytes) (line_of ys)) ∙ ap (λ (l : List ℕ). (w.taken ++ line_of bytes) ++ line_of l) (sym left);
-      rest_is = w.rest_is ∙ p.1 ∙ ap after_line (sym left);
+      front = w.front ∙ ap (λ (l : List ℕ). w.taken ++ l) (ap (λ (l : List ℕ). l ++ ys) (sym (open_whole bytes going)) ∙ ap (λ (l : List ℕ). line_of bytes ++ l) (sym left)) ∙ sym (append_assoc w.taken (line_of bytes) (after_line bytes ++ ys));
+      one = one_line_on w.taken bytes w.one;
       fresh = λ e. absurd cc;
       some = λ e. some_before begun xs ys bytes lt w.fresh w.some;
     }

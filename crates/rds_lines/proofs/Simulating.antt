@@ -149,6 +149,16 @@ sim_written (Some input) a b world read wrote status none h = λ steady written.
     let p = h steady written in
     (p.0, p.1, p.2 None (subst (λ (w : Option WorldValue). IsGroup w None) (sym none) tt), p.3, p.4)
 
-pub sim_cut : (a b : Option (List ℕ)) (world : Option WorldValue) → world ≡ None → WritesCut (λ lines out refused. (now : Option Group) → IsGroup world now → MeetsLines lines now out refused) (fault_line Device) a b
-    → WritesCut MayBeSimulated (fault_line Device) a b
-sim_cut a b world none h = (h.0, h.1, h.2, h.3 None (subst (λ (w : Option WorldValue). IsGroup w None) (sym none) tt), h.4)
+pub sim_cut : (first last a b : Option (List ℕ)) (world : Option WorldValue) → world ≡ None
+    → WritesCut (λ lines out refused. (now : Option Group) → IsGroup world now → MeetsLines lines now out refused) (fault_line Device) first last a b
+    → WritesCut MayBeSimulated (fault_line Device) first last a b
+sim_cut first last a b world none h = record {
+  given = h.given;
+  is_given = h.is_given;
+  lines = h.lines;
+  are_lines = h.are_lines;
+  out = h.out;
+  refused = h.refused;
+  answered = h.answered None (subst (λ (w : Option WorldValue). IsGroup w None) (sym none) tt);
+  is_written = h.is_written;
+}

@@ -1,10 +1,10 @@
 -- Lines that are taken of the bytes that a reader holds.
 use Rattle.std.specs.Prelude.{◌≡◌, ℕ, ◌+◌, ◌*◌, ◌<◌, ◌≤◌, List, [], length, Option, Some, None, Result, Ok, Err, String}
 use Rattle.std.specs.Global.{Global, Vec}
-use Rattle.std.specs.Io.KnownBytes.{prepend_known}
+use Rattle.std.specs.Io.KnownBytes.{Consumes, prepend_known}
 use Rattle.rds_names.specs.declared.fault.Fault.{Fault}
 use Rattle.rds_names.specs.declared.fault.Fault.TheVariants.{Memory, BadLine}
-use Rattle.rds_lines.specs.Lines.{line_of, after_line, ReadsText}
+use Rattle.rds_lines.specs.Lines.{IsOneLine, line_of, after_line, ReadsText}
 
 -- what falls with each of the reads that are left, and with each byte that is taken
 abbrev pub left_of : List ℕ → ℕ → ℕ
@@ -28,7 +28,11 @@ IsFirstLine xs (Some line) = (0 < length xs) × ReadsText (line_of xs) line
 
 -- there is a line of which this is the text, or why there is none
 abbrev pub IsOfSomeLine : Result (String Global) Fault → Type 0
-IsOfSomeLine text = (line : List ℕ) × ReadsText line text
+IsOfSomeLine text = (line : List ℕ) × IsOneLine line × ReadsText line text
+
+-- known bytes lose a piece of a line, which has no newline
+abbrev pub LosesPiece : Option (List ℕ) → Option (List ℕ) → Type 0
+LosesPiece first now = (piece : List ℕ) × IsOneLine piece × Consumes first now piece
 
 -- known bytes lose the line that was taken, with its newline
 abbrev pub TakesLine : Option (List ℕ) → Option (List ℕ) → Option (Result (String Global) Fault) → Type 0

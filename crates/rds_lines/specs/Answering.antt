@@ -1,9 +1,10 @@
 -- What is written for the lines of an input.
-use Rattle.std.specs.Prelude.{◌≡◌, ℕ, Bool, List, [], ◌∷◌, ◌++◌, Option, Result, Ok, Err, if◌then◌else◌}
-use Rattle.std.specs.Io.KnownBytes.{Appends}
+use Rattle.std.specs.Prelude.{◌≡◌, ◌⊎◌, ℕ, Bool, List, [], ◌∷◌, ◌++◌, Option, Result, Ok, Err, if◌then◌else◌}
+use Rattle.std.specs.Io.KnownBytes.{Appends, Consumes}
 use Rattle.rds_names.specs.declared.fault.Fault.{Fault}
 use Rattle.rds_lines.specs.Output.{fault_line, fault_status}
 use Rattle.rds_lines.specs.Answer.{answer_text}
+use Rattle.rds_lines.specs.Lines.{ended_lines, lines_in}
 use Rattle.rds_lines.specs.declared.answer.Answer.{Answer}
 
 -- an answer and its newline
@@ -19,6 +20,17 @@ WritesAnswer (Err fault) before after status = Appends before after (fault_line 
 abbrev pub WritesAnswers : (List ℕ → Bool → Type 0) → Option (List ℕ) → Option (List ℕ) → ℕ → Type 0
 WritesAnswers may before after status = (out : List ℕ) × (refused : Bool) × may out refused × Appends before after out × (status ≡ (if refused then 1 else 0))
 
--- what some lines may be answered was written, then this line, and nothing else
-abbrev pub WritesCut : (List (List ℕ) → List ℕ → Bool → Type 0) → List ℕ → Option (List ℕ) → Option (List ℕ) → Type 0
-WritesCut may line before after = (lines : List (List ℕ)) × (out : List ℕ) × (refused : Bool) × may lines out refused × Appends before after (out ++ line)
+-- of an input that was cut short: its lines, the last of which may have no newline, or all that have one
+abbrev pub AreLinesOf : List ℕ → List (List ℕ) → Type 0
+AreLinesOf given lines = (lines ≡ lines_in given) ⊎ (lines ≡ ended_lines given)
+
+-- what the lines of all that the reader gave up may be answered was written, then this line, and nothing else
+pub record WritesCut (may : List (List ℕ) → List ℕ → Bool → Type 0) (line : List ℕ) (first now before after : Option (List ℕ)) : Type 0 where
+  pub given : List ℕ
+  pub is_given : Consumes first now given
+  pub lines : List (List ℕ)
+  pub are_lines : AreLinesOf given lines
+  pub out : List ℕ
+  pub refused : Bool
+  pub answered : may lines out refused
+  pub is_written : Appends before after (out ++ line)

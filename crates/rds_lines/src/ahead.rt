@@ -1,9 +1,9 @@
 //! The lines of a reader, one after the other.
-ghost use Rattle.std.specs.Prelude.{◌≡◌, ◌++◌, ◌<◌, ◌≤◌, List, ℕ, [], length, MatchBool, IfOk, IfErr, IfSome, OnOk, OnSome};
+ghost use Rattle.std.specs.Prelude.{◌≡◌, ◌++◌, ◌<◌, ◌≤◌, List, ℕ, [], length, MatchBool, IfOk, IfErr, IfSome, OnOk, OnErr, OnSome};
 ghost use Rattle.std.specs.Io.KnownBytes.{IsAtEnd, Keeps};
 ghost use Rattle.rds_names.specs.declared.fault.Fault.TheVariants.{Device};
 ghost use Rattle.rds_keep.specs.Counted.{HasFailed};
-ghost use Rattle.rds_lines.specs.Ahead.{IsHeld, IsOfSomeLine, TakesLine, left_of, untaken};
+ghost use Rattle.rds_lines.specs.Ahead.{IsHeld, IsOfSomeLine, LosesPiece, TakesLine, left_of, untaken};
 ghost use Rattle.rds_lines.specs.Lines.{ReadsText, after_line, line_of};
 
 use crate::lines::split_line;
@@ -65,6 +65,8 @@ impl Ahead {
             (untaken self.new (R.remaining reader.new.inner))) }
         ensures line { IfOk result (λ line. IfSome line IsOfSomeLine) }
         ensures fault { IfErr result (λ e. (e ≡ Device) × HasFailed reader.old reader.new) }
+        ensures piece { IfErr result (λ _. LosesPiece (untaken self.old (R.remaining reader.old.inner))
+            (R.remaining reader.new.inner)) }
         ensures steady { OnOk result (reader.new.failed ≡ reader.old.failed) }
         ensures falls { IfOk result (λ line. OnSome line (left_of self.new reader.new.left < left_of self.old reader.old.left)) }
     {
@@ -90,6 +92,8 @@ impl Ahead {
             (untaken self.new (R.remaining reader.new.inner))) }
         ensures end { OnOk result (self.new ≡ [] → IsAtEnd (R.remaining reader.new.inner)) }
         ensures fault { IfErr result (λ e. (e ≡ Device) × HasFailed reader.old reader.new) }
+        ensures unread { OnErr result (Keeps (untaken self.old (R.remaining reader.old.inner))
+            (R.remaining reader.new.inner)) }
         ensures steady { OnOk result (reader.new.failed ≡ reader.old.failed) }
         ensures falls { OnOk result (left_of self.new reader.new.left ≤ left_of self.old reader.old.left) }
     {

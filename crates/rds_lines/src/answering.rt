@@ -48,6 +48,7 @@ pub fn answer_lines<A: Answers, R: Read, W: Write>(
         (W.contents writer.old.inner) (W.contents writer.new.inner) result) }
     ensures unread { reader.new.failed ≢ reader.old.failed → writer.new.failed ≡ 0
         → WritesCut (A.may_answer answers.old) (fault_line Device)
+        (R.remaining reader.old.inner) (R.remaining reader.new.inner)
         (W.contents writer.old.inner) (W.contents writer.new.inner) × (result ≡ 1) }
     ensures status { result ≤ 1 }
     ensures broken { (writer.new.failed ≡ writer.old.failed) ⊎ (result ≡ 1) }

@@ -34,6 +34,7 @@ pub fn run_sim<R: Read, W: Write>(
         (W.contents writer.old.inner) (W.contents writer.new.inner) result) }
     ensures cut { reader.new.failed ≢ reader.old.failed → writer.new.failed ≡ 0
         → WritesCut MayBeSimulated (fault_line Device)
+        (R.remaining reader.old.inner) (R.remaining reader.new.inner)
         (W.contents writer.old.inner) (W.contents writer.new.inner) × (result ≡ 1) }
     ensures status { result ≤ 1 }
     ensures broken { (writer.new.failed ≡ writer.old.failed) ⊎ (result ≡ 1) }

@@ -6,13 +6,13 @@ use crate::peers::{meet_peer, run_away, run_busy};
 use crate::runs::{run_barred, run_reading, run_renamed, run_spaced, run_writing, usual_turns};
 use crate::sessions::{keep, read, replace, settle_nothing, settle_received, told_components};
 use crate::simulated::Simulated;
-use rds_commands::word_laws;
 use rds_dots::ListSet;
 use rds_files::ReplicaFile;
 use rds_lines::join_is_known;
 use rds_names::Fault;
 use rds_rows::Table;
 use rds_rows::told::said;
+use rds_words::word_laws;
 use std::alloc::Global;
 
 /// What rows have made so far.

@@ -1,6 +1,6 @@
 use Rattle.std.proofs.lemmas.Result.{err_from_is_err_and}
 use Rattle.rds_names.specs.declared.fault.Fault.TheVariants.{Memory}
-use Rattle.rds_commands.proofs.Meaning.{why_no_command}
+use Rattle.rds_words.proofs.OneMeaning.{why_no_command}
 use Rattle.rds_commands.proofs.Replaced.{edits_file}
 use Rattle.rds_commands.proofs.Refused.{no_edit, no_replica}
 use Rattle.rds_commands.proofs.Told.{not_refused}

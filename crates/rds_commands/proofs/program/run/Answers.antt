@@ -1,6 +1,6 @@
 use Rattle.std.proofs.Common.{inl}
 use Rattle.rds_lines.proofs.Running.{memory_written}
-use Rattle.rds_commands.proofs.CommandWords.{is_memory}
+use Rattle.rds_words.proofs.CommandWords.{is_memory}
 use Rattle.rds_commands.proofs.Entered.{mistaken}
 use Rattle.rds_commands.proofs.SimTold.{sim_answered, sim_unwritten}
 use Rattle.rds_commands.proofs.program.run.Goals as goal

@@ -1,6 +1,6 @@
 use Rattle.std.proofs.Common.{Ok, Err}
 use Rattle.rds_names.specs.declared.fault.Fault.TheVariants.{Usage}
-use Rattle.rds_commands.proofs.Meaning.{amount_once, ok_isnt_err}
+use Rattle.rds_words.proofs.OneMeaning.{amount_once, ok_isnt_err}
 use Rattle.rds_commands.proofs.serve_words.run_serve.Goals as goal
 
 pub returns-in-Ok-clause-refused : goal.returns-in-Ok-clause-refused

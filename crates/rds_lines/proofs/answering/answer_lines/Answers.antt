@@ -3,7 +3,8 @@ use Rattle.std.specs.Global.{Global}
 use Rattle.std.specs.Prelude.{IfSome}
 use Rattle.rds_names.specs.declared.fault.Fault.{Fault}
 use Rattle.rds_lines.specs.Ahead.{IsOfSomeLine, TakesLine, untaken}
-use Rattle.rds_lines.proofs.Answered.{Runs, Told, runs_first, runs_last, runs_on, told_cut, told_first, told_on}
+use Rattle.rds_lines.proofs.Answered.{Runs, runs_first, runs_last, runs_on}
+use Rattle.rds_lines.proofs.Told.{Told, told_cut, told_nothing, told_on}
 use Rattle.rds_lines.proofs.answering.answer_lines.Goals as goal
 
 pub returns-then-refused-clause-answered : goal.returns-then-refused-clause-answered
@@ -24,8 +25,10 @@ returns-else-refused-clause-answered g c =
 
 pub returns-in-Err-clause-unread : goal.returns-in-Err-clause-unread
 returns-in-Err-clause-unread g c = λ read wrote.
-    told_cut g.A.Answers.may_answer (g.W.Write.contents c.args.writer.now.inner) (g.W.Write.contents c.lines.writer.inner) (g.W.Write.contents c.write_fault.new.writer.inner) c.args.answers.now c.lines.answers c.lines.refused
-    c.in-Err.fault c.write_fault.result c.lines.invariant.told g.met.A.Answers.ends c.in-Err.ensures.fault.0 (c.write_fault.ensures.written wrote)
+    let told = rw c.begin_turns.ensures at c.lines.invariant.told in
+    told_cut g.A.Answers.may_answer (g.R.Read.remaining c.args.reader.now.inner) (untaken c.lines.ahead (g.R.Read.remaining c.lines.reader.inner)) (g.R.Read.remaining c.next_line.new.reader.inner)
+    (g.W.Write.contents c.args.writer.now.inner) (g.W.Write.contents c.lines.writer.inner) (g.W.Write.contents c.write_fault.new.writer.inner) c.args.answers.now c.lines.answers c.lines.refused
+    c.in-Err.fault c.write_fault.result told g.met.A.Answers.ends c.in-Err.ensures.piece c.in-Err.ensures.fault.0 (c.write_fault.ensures.written wrote)
 
 pub lines-preserved-in-Ok : goal.lines-preserved-in-Ok
 lines-preserved-in-Ok g c =
@@ -38,11 +41,11 @@ lines-preserved-in-Ok g c =
     let taken = subst (TakesLine now next) c.in-Ok-Some.field-0-is c.in-Ok-Some.ensures.taken in
     let on = runs_on g.A.Answers.may_answer first now next before after later c.args.answers.now c.lines.answers c.answer-answer.new.self c.lines.refused _ c.in-Ok-Some.line _
     c.lines.invariant.runs taken c.in-Ok.ensures.bytes c.answer-answer.ensures in
-    let told = told_on g.A.Answers.may_answer before after later c.args.answers.now c.lines.answers c.answer-answer.new.self c.lines.refused _ c.in-Ok-Some.line _
-    c.lines.invariant.told (subst (λ (l : Option (Result (String Global) Fault)). IfSome l IsOfSomeLine) c.in-Ok-Some.field-0-is c.in-Ok-Some.ensures.line) c.in-Ok.ensures.bytes c.answer-answer.ensures in
+    let told = told_on g.A.Answers.may_answer first now next before after later c.args.answers.now c.lines.answers c.answer-answer.new.self c.lines.refused _ c.in-Ok-Some.line _
+    c.lines.invariant.told taken (subst (λ (l : Option (Result (String Global) Fault)). IfSome l IsOfSomeLine) c.in-Ok-Some.field-0-is c.in-Ok-Some.ensures.line) c.in-Ok.ensures.bytes c.answer-answer.ensures in
     record {
       runs = subst (λ (b : Bool). Runs g.A.Answers.may_answer first next before later c.args.answers.now c.answer-answer.new.self (c.lines.refused || b)) (sym c.is_refusal-refused.ensures) on;
-      told = subst (λ (b : Bool). Told g.A.Answers.may_answer before later c.args.answers.now c.answer-answer.new.self (c.lines.refused || b)) (sym c.is_refusal-refused.ensures) told;
+      told = subst (λ (b : Bool). Told g.A.Answers.may_answer first next before later c.args.answers.now c.answer-answer.new.self (c.lines.refused || b)) (sym c.is_refusal-refused.ensures) told;
       read = c.in-Ok-Some.ensures.steady ∙ c.lines.invariant.read;
       wrote = c.in-Ok.ensures.steady ∙ c.lines.invariant.wrote;
     }
@@ -58,11 +61,11 @@ lines-preserved g c =
     let taken = subst (TakesLine now next) c.in-Ok-Some.field-0-is c.in-Ok-Some.ensures.taken in
     let on = runs_on g.A.Answers.may_answer first now next before after later c.args.answers.now c.lines.answers c.answer-answer.new.self c.lines.refused _ c.in-Ok-Some.line _
     c.lines.invariant.runs taken c.in-Ok.ensures.bytes c.answer-answer.ensures in
-    let told = told_on g.A.Answers.may_answer before after later c.args.answers.now c.lines.answers c.answer-answer.new.self c.lines.refused _ c.in-Ok-Some.line _
-    c.lines.invariant.told (subst (λ (l : Option (Result (String Global) Fault)). IfSome l IsOfSomeLine) c.in-Ok-Some.field-0-is c.in-Ok-Some.ensures.line) c.in-Ok.ensures.bytes c.answer-answer.ensures in
+    let told = told_on g.A.Answers.may_answer first now next before after later c.args.answers.now c.lines.answers c.answer-answer.new.self c.lines.refused _ c.in-Ok-Some.line _
+    c.lines.invariant.told taken (subst (λ (l : Option (Result (String Global) Fault)). IfSome l IsOfSomeLine) c.in-Ok-Some.field-0-is c.in-Ok-Some.ensures.line) c.in-Ok.ensures.bytes c.answer-answer.ensures in
     record {
       runs = subst (λ (b : Bool). Runs g.A.Answers.may_answer first next before later c.args.answers.now c.answer-answer.new.self (c.lines.refused || b)) (sym c.is_refusal-refused.ensures) on;
-      told = subst (λ (b : Bool). Told g.A.Answers.may_answer before later c.args.answers.now c.answer-answer.new.self (c.lines.refused || b)) (sym c.is_refusal-refused.ensures) told;
+      told = subst (λ (b : Bool). Told g.A.Answers.may_answer first next before later c.args.answers.now c.answer-answer.new.self (c.lines.refused || b)) (sym c.is_refusal-refused.ensures) told;
       read = c.in-Ok-Some.ensures.steady ∙ c.lines.invariant.read;
       wrote = c.in-Ok.ensures.steady ∙ c.lines.invariant.wrote;
     }
@@ -75,7 +78,7 @@ lines-init g c =
     let answers = c.args.answers.now in
     record {
       runs = subst (λ (a : List ℕ). Runs may first (untaken a first) before before answers answers false) (sym c.new-ahead.ensures) (runs_first may first before answers);
-      told = told_first may before answers;
+      told = subst (λ (a : List ℕ). Told may first (untaken a first) before before answers answers false) (sym c.new-ahead.ensures) (told_nothing may first before answers);
       read = refl;
       wrote = refl;
     }

@@ -8,4 +8,4 @@ returns-clause-sim g c =
 pub returns-clause-cut : goal.returns-clause-cut
 returns-clause-cut g c = λ read wrote.
     let cut = c.answer_lines.ensures.unread read wrote in
-    (sim_cut (g.W.Write.contents c.args.writer.now.inner) (g.W.Write.contents c.answer_lines.new.writer.inner) c.new.result.world c.new.ensures cut.0, cut.1)
+    (sim_cut (g.R.Read.remaining c.args.reader.now.inner) (g.R.Read.remaining c.answer_lines.new.reader.inner) (g.W.Write.contents c.args.writer.now.inner) (g.W.Write.contents c.answer_lines.new.writer.inner) c.new.result.world c.new.ensures cut.0, cut.1)

@@ -1,0 +1,4 @@
+pub mod CommandWords
+pub mod NamedTasks
+pub mod Naming
+pub mod OneMeaning

@@ -1,0 +1,38 @@
+-- The task whose words are known.
+use Rattle.std.proofs.Common.{◌≡◌, [], ◌∷◌, codes, Option, Some, None, option_map, refl}
+use Rattle.rds_words.specs.Task.{words_of}
+use Rattle.rds_words.specs.declared.tasks.Task.{Task}
+use Rattle.rds_words.specs.declared.tasks.Task.TheVariants.{Join, Sim, Init, Edit, Show, Serve, Sync, Pair}
+use Rattle.rds_words.specs.declared.tasks.EditWords.TheVariants.{Set, Add, Del, Clear, Inc, Dec}
+
+pub is_join : (task : Option Task) → option_map words_of task ≡ Some (codes "join" ∷ []) → task ≡ Some Join
+is_join None e = absurd cc
+is_join (Some Join) e = refl
+is_join (Some Sim) e = absurd cc
+is_join (Some (Init words)) e = absurd cc
+is_join (Some (Edit file (Set path value))) e = absurd cc
+is_join (Some (Edit file (Add path value))) e = absurd cc
+is_join (Some (Edit file (Del path value))) e = absurd cc
+is_join (Some (Edit file (Clear path))) e = absurd cc
+is_join (Some (Edit file (Inc key by))) e = absurd cc
+is_join (Some (Edit file (Dec key by))) e = absurd cc
+is_join (Some (Show file path)) e = absurd cc
+is_join (Some (Serve words)) e = absurd cc
+is_join (Some (Sync file addr)) e = absurd cc
+is_join (Some (Pair first second)) e = absurd cc
+
+pub is_sim : (task : Option Task) → option_map words_of task ≡ Some (codes "sim" ∷ []) → task ≡ Some Sim
+is_sim None e = absurd cc
+is_sim (Some Join) e = absurd cc
+is_sim (Some Sim) e = refl
+is_sim (Some (Init words)) e = absurd cc
+is_sim (Some (Edit file (Set path value))) e = absurd cc
+is_sim (Some (Edit file (Add path value))) e = absurd cc
+is_sim (Some (Edit file (Del path value))) e = absurd cc
+is_sim (Some (Edit file (Clear path))) e = absurd cc
+is_sim (Some (Edit file (Inc key by))) e = absurd cc
+is_sim (Some (Edit file (Dec key by))) e = absurd cc
+is_sim (Some (Show file path)) e = absurd cc
+is_sim (Some (Serve words)) e = absurd cc
+is_sim (Some (Sync file addr)) e = absurd cc
+is_sim (Some (Pair first second)) e = absurd cc

@@ -1,0 +1,4 @@
+pub mod Commands
+pub mod Entered
+pub mod Meaning
+pub mod Task

@@ -1,0 +1,67 @@
+-- What the words of commands on files mean.
+use Rattle.std.specs.Prelude.{◌≡◌, ℕ, List, [], ◌∷◌, Option, Some, None, Result, Ok, Err, IfErr, MatchResult, map}
+use Rattle.std.specs.List.{position}
+use Rattle.std.specs.Str.{bytes_eq}
+use Rattle.std.specs.Str.Parse.{ParsesUnsigned}
+use Rattle.serde_json.specs.Data.{Data}
+use Rattle.serde_json.specs.Read.{read}
+use Rattle.rds_names.specs.declared.fault.Fault.{Fault}
+use Rattle.rds_names.specs.declared.fault.Fault.TheVariants.{BadLine, NoSuch, Usage}
+use Rattle.rds_names.specs.declared.scalar.Scalar.{Scalar}
+use Rattle.rds_names.specs.Key.{key_of}
+use Rattle.rds_names.specs.Name.{name_of}
+use Rattle.rds_names.specs.Path.{path_of}
+use Rattle.rds_names.specs.Roster.{RosterValue, roster_of}
+use Rattle.rds_state.specs.declared.command.Command.{Command}
+use Rattle.rds_state.specs.declared.command.Command.TheVariants as commands
+use Rattle.rds_json.specs.MayGive.{and_then}
+use Rattle.rds_json.specs.Scalar.{scalar_of}
+use Rattle.rds_words.specs.declared.tasks.EditWords.{EditWords}
+use Rattle.rds_words.specs.declared.tasks.EditWords.TheVariants.{Set, Add, Del, Clear, Inc, Dec}
+use Rattle.rds_words.specs.declared.tasks.InitWords.{InitWords}
+
+abbrev pub value_from : Option Data → Result Scalar Fault
+value_from None = Err BadLine
+value_from (Some d) = scalar_of d
+
+-- the value that a text of JSON is
+abbrev pub value_of : List ℕ → Result Scalar Fault
+value_of text = value_from (read text)
+
+-- a whole number of 64 bits, before which a plus may stand
+abbrev pub IsAmount : List ℕ → Result ℕ Fault → Type 0
+IsAmount text amount = ParsesUnsigned 64 10 text amount × IfErr amount (λ e. e ≡ Usage)
+
+-- the command of a key and an amount
+abbrev pub IsCount : (List ℕ → ℕ → Command) → List ℕ → List ℕ → Result Command Fault → Type 0
+IsCount make key by r = MatchResult (key_of key) (λ k. (amount : Result ℕ Fault) × IsAmount by amount × (r ≡ and_then amount (λ n. Ok (make k n)))) (λ e. r ≡ Err e)
+
+-- the command, or the fault of the first word that is none
+abbrev pub IsCommand : EditWords → Result Command Fault → Type 0
+IsCommand (Set path value) r = r ≡ and_then (path_of path.now) (λ p. and_then (value_of value.now) (λ v. Ok (commands.Set p v)))
+IsCommand (Add path value) r = r ≡ and_then (path_of path.now) (λ p. and_then (value_of value.now) (λ v. Ok (commands.Add p v)))
+IsCommand (Del path value) r = r ≡ and_then (path_of path.now) (λ p. and_then (value_of value.now) (λ v. Ok (commands.Del p v)))
+IsCommand (Clear path) r = r ≡ and_then (path_of path.now) (λ p. Ok (commands.Clear p))
+IsCommand (Inc key by) r = IsCount commands.Inc key.now by.now r
+IsCommand (Dec key by) r = IsCount commands.Dec key.now by.now r
+
+-- the names, up to the first text that is none
+abbrev pub names_of : List (List ℕ) → Result (List (List ℕ)) Fault
+names_of [] = Ok []
+names_of (text ∷ texts) = and_then (name_of text) (λ name. and_then (names_of texts) (λ names. Ok (name ∷ names)))
+
+-- the number of a name in the roster
+abbrev pub place_in : RosterValue → List ℕ → Result (RosterValue × ℕ) Fault
+place_in roster own = placed (position (bytes_eq own) roster.names)
+  where
+    placed : Option ℕ → Result (RosterValue × ℕ) Fault
+    placed (Some number) = Ok (roster, number)
+    placed None = Err NoSuch
+
+-- a roster and an own number, or the fault of the first word that is none
+abbrev pub roster_in : List ℕ → List ℕ → List (List ℕ) → Result (RosterValue × ℕ) Fault
+roster_in group own names = and_then (key_of group) (λ g. and_then (name_of own) (λ o. and_then (names_of names) (λ ns. and_then (roster_of g ns) (λ r. place_in r o))))
+
+-- the same, of the words of `init`
+abbrev pub roster_for : InitWords → Result (RosterValue × ℕ) Fault
+roster_for words = roster_in words.group.now words.own.now (map (λ n. n.now) words.names.items)

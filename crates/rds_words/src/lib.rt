@@ -1,0 +1,13 @@
+//! The command line: words in, the task that they name and what it means out.
+#![tactic(auto)]
+
+mod builders;
+mod help;
+mod laws;
+mod meaning;
+mod reading;
+mod tasks;
+
+pub use laws::word_laws;
+pub use meaning::{amount_of, command_of, roster_in};
+pub use tasks::{EditWords, InitWords, ServeWords, Task, task_of};

@@ -1,0 +1,148 @@
+//! The tasks that the words of a command line name.
+ghost use Rattle.std.specs.Prelude.{◌≡◌, ℕ, List, ◌∷◌, map, option_map, IfOk, Some, MatchResult};
+ghost use Rattle.clap.specs.Words.{FailsBy, fault_of, kind_of, subcommand_of, subcommand_rows_of};
+ghost use Rattle.rds_words.specs.Commands.{node_app, join_words, sim_words};
+ghost use Rattle.rds_words.specs.Task.{words_of, words_in};
+ghost use Rattle.rds_words.specs.Entered.{Names};
+
+use crate::builders::node_command;
+use crate::reading::named_task;
+use clap::error::ErrorKind;
+use clap::{ArgMatches, Error};
+use std::alloc::Global;
+use std::convert::AsStr;
+
+/// What the words ask for. Each text is a word as it was given.
+#[derive(Debug, Drop)]
+pub enum Task<'a> {
+    /// Joins two snapshots.
+    Join,
+    /// Answers lines about a group of replicas in memory.
+    Sim,
+    /// Makes a file that holds an empty replica.
+    Init(InitWords<'a>),
+    /// Edits the replica in a file.
+    Edit {
+        /// The file.
+        file: &'a str,
+        /// How it is edited.
+        edit: EditWords<'a>,
+    },
+    /// Prints a part of the document of the replica in a file.
+    Show {
+        /// The file.
+        file: &'a str,
+        /// The path of the part, empty for the root.
+        path: &'a str,
+    },
+    /// Serves the replica in a file to peers, one session after the other.
+    Serve(ServeWords<'a>),
+    /// Has one session with a replica that is served.
+    Sync {
+        /// The file.
+        file: &'a str,
+        /// The address where it is served.
+        addr: &'a str,
+    },
+    /// Has one session between the replicas in two files.
+    Pair {
+        /// The client's file.
+        first: &'a str,
+        /// The server's file.
+        second: &'a str,
+    },
+}
+
+/// An empty replica in words.
+#[derive(Debug, Drop)]
+pub struct InitWords<'a> {
+    /// The file that is to hold it.
+    pub file: &'a str,
+    /// The group's name.
+    pub group: &'a str,
+    /// The replica's own name.
+    pub own: &'a str,
+    /// The names of all replicas, in their order.
+    pub names: Vec<&'a str>,
+}
+
+/// Sessions with peers, in words.
+#[derive(Clone, Copy, Debug)]
+pub struct ServeWords<'a> {
+    /// The file.
+    pub file: &'a str,
+    /// The address that peers connect to.
+    pub addr: &'a str,
+    /// How many sessions.
+    pub sessions: &'a str,
+}
+
+/// An edit in words: paths are keys with '/' between them, values are JSON.
+#[derive(Clone, Copy, Debug)]
+pub enum EditWords<'a> {
+    /// Writes a register.
+    Set {
+        /// Its path.
+        path: &'a str,
+        /// Its new value.
+        value: &'a str,
+    },
+    /// Adds an element to a set.
+    Add {
+        /// The set's path.
+        path: &'a str,
+        /// The element.
+        value: &'a str,
+    },
+    /// Deletes an element of a set.
+    Del {
+        /// The set's path.
+        path: &'a str,
+        /// The element.
+        value: &'a str,
+    },
+    /// Takes away all entries at a path and below it.
+    Clear {
+        /// The path, empty for the root.
+        path: &'a str,
+    },
+    /// Raises a counter.
+    Inc {
+        /// The counter's key.
+        key: &'a str,
+        /// By how much.
+        by: &'a str,
+    },
+    /// Lowers a counter.
+    Dec {
+        /// The counter's key.
+        key: &'a str,
+        /// By how much.
+        by: &'a str,
+    },
+}
+
+/// Reads the words, of which the first is the program's name.
+pub fn task_of<'a, S: AsStr>(alloc: Global, words: &'a [S]) -> Result<Option<Task<'a>>, Error>
+    ensures task { IfOk result (λ task. option_map words_of task
+        ≡ words_in (subcommand_of node_app (map S.text words.entry.now))) }
+    ensures kinds { FailsBy (fault_of node_app (map S.text words.entry.now)) result }
+    ensures join { Names (map S.text words.entry.now) join_words
+        → MatchResult result (λ task. task ≡ Some Task.Join)
+        (λ e. kind_of e ≡ ErrorKind.OutOfMemory) }
+    ensures sim { (name : List ℕ) → map S.text words.entry.now ≡ name ∷ sim_words
+        → MatchResult result (λ task. task ≡ Some Task.Sim)
+        (λ e. kind_of e ≡ ErrorKind.OutOfMemory) }
+{
+    let matches = matches_of(alloc, words)?;
+    Ok(named_task(alloc, &matches)?)
+}
+
+fn matches_of<'a, S: AsStr>(alloc: Global, words: &'a [S]) -> Result<ArgMatches<'a>, Error>
+    ensures rows { IfOk result (λ m.
+        subcommand_rows_of m ≡ subcommand_of node_app (map S.text words.entry.now)) }
+    ensures kinds { FailsBy (fault_of node_app (map S.text words.entry.now)) result }
+{
+    let command = node_command(alloc)?;
+    command.try_get_matches_from(words)
+}
