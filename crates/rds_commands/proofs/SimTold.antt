@@ -1,16 +1,9 @@
 -- What `sim` tells, whether its words were read or not.
-use Rattle.std.proofs.Common.{◌≡◌, ℕ, List, Option, Some, None, Err, inl, inr}
+use Rattle.std.proofs.Common.{◌≡◌, ℕ, List, Option, Some, None, Err, inl}
 use Rattle.std.specs.Prelude.{IfSome}
 use Rattle.rds_names.specs.declared.fault.Fault.TheVariants.{Memory}
-use Rattle.rds_lines.specs.Answering.{WritesAnswers}
 use Rattle.rds_lines.specs.Output.{Writes}
-use Rattle.rds_lines.specs.Sim.{IsSimOutput}
 use Rattle.rds_commands.specs.Told.{WritesSim}
-
-pub sim_answered : (o a b : Option (List ℕ)) (read wrote status : ℕ) → IfSome o (λ input. read ≡ 0 → wrote ≡ 0 → WritesAnswers (IsSimOutput input) a b status)
-    → IfSome o (λ input. read ≡ 0 → wrote ≡ 0 → WritesSim input a b status)
-sim_answered None a b read wrote status h = tt
-sim_answered (Some input) a b read wrote status h = λ steady written. inr (h steady written)
 
 pub sim_unwritten : (o a b : Option (List ℕ)) (read wrote status : ℕ) → (wrote ≡ 0 → Writes (Err Memory) a b status) → IfSome o (λ input. read ≡ 0 → wrote ≡ 0 → WritesSim input a b status)
 sim_unwritten None a b read wrote status h = tt

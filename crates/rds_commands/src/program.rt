@@ -1,12 +1,12 @@
 //! The program's commands.
 ghost use Rattle.std.specs.Prelude.{◌≡◌, ◌≢◌, [], ◌∷◌, ◌≤◌, ◌⊎◌, List, ℕ, Err, map, IfSome};
 ghost use Rattle.rds_names.specs.declared.fault.Fault.TheVariants.{Device};
-ghost use Rattle.rds_lines.specs.Answering.{WritesCut};
+ghost use Rattle.rds_lines.specs.Answering.{WritesAnswers, WritesCut};
 ghost use Rattle.rds_lines.specs.Output.{Writes, fault_line};
 ghost use Rattle.rds_lines.specs.Run.{WritesJoin};
-ghost use Rattle.rds_lines.specs.Sim.{MayBeSimulated};
+ghost use Rattle.rds_lines.specs.Sim.{IsSimOutput, MayBeSimulated};
 ghost use Rattle.rds_words.specs.Commands.{join_words, sim_words};
-ghost use Rattle.rds_commands.specs.Told.{AnswersMistake, MayWriteNamed, WritesSim};
+ghost use Rattle.rds_commands.specs.Told.{AnswersMistake, MayWriteNamed, WritesSim, WritesTask};
 ghost use Rattle.rds_words.specs.Entered.{Names, mistakes_in, named_in};
 
 use crate::serve_words::run_serve;
@@ -60,19 +60,48 @@ pub fn run<H: Files + Net + AllocGlobal, R: Read, W: Write, S: AsStr>(
     ensures status { result ≤ 2 }
     ensures broken { (writer.new.failed ≡ writer.old.failed) ⊎ (result ≡ 1) }
 {
-    let alloc = rt.alloc();
-    match task_of(alloc, words) {
-        Ok(Some(Task::Join)) => run_join(alloc, reader, writer),
-        Ok(Some(Task::Sim)) => run_sim(alloc, reader, writer),
-        Ok(Some(Task::Init(words))) => run_init(rt, &words, writer),
-        Ok(Some(Task::Edit { file, edit })) => run_edit(rt, file, &edit, writer),
-        Ok(Some(Task::Show { file, path })) => run_show(rt, file, path, writer),
-        Ok(Some(Task::Serve(words))) => {
-            run_serve(rt, words.file, words.addr, words.sessions, writer)
-        }
-        Ok(Some(Task::Sync { file, addr })) => sync_file(rt, file, addr, writer),
-        Ok(Some(Task::Pair { first, second })) => pair_files(rt, first, second, writer),
+    match task_of(rt.alloc(), words) {
+        Ok(Some(task)) => run_task(rt, task, reader, writer),
         Ok(None) => write_fault(writer, Fault::Usage),
         Err(error) => write_unparsed(writer, &error),
+    }
+}
+
+// Runs a task.
+fn run_task<H: Files + Net + AllocGlobal, R: Read, W: Write>(
+    rt: &H,
+    task: Task<'_>,
+    reader: &mut Counted<R>,
+    writer: &mut Counted<W>,
+) -> u8
+    ensures join { task.entry ≡ Task.Join → IfSome (R.remaining reader.old.inner)
+        (λ input. reader.new.failed ≡ 0 → writer.new.failed ≡ 0
+        → WritesJoin input (W.contents writer.old.inner) (W.contents writer.new.inner) result) }
+    ensures unread { task.entry ≡ Task.Join
+        → reader.new.failed ≢ reader.old.failed → writer.new.failed ≡ 0
+        → Writes (Err Device) (W.contents writer.old.inner) (W.contents writer.new.inner) result }
+    ensures sim { task.entry ≡ Task.Sim → IfSome (R.remaining reader.old.inner)
+        (λ input. reader.new.failed ≡ 0 → writer.new.failed ≡ 0
+        → WritesAnswers (IsSimOutput input)
+        (W.contents writer.old.inner) (W.contents writer.new.inner) result) }
+    ensures cut { task.entry ≡ Task.Sim
+        → reader.new.failed ≢ reader.old.failed → writer.new.failed ≡ 0
+        → WritesCut MayBeSimulated (fault_line Device)
+        (R.remaining reader.old.inner) (R.remaining reader.new.inner)
+        (W.contents writer.old.inner) (W.contents writer.new.inner) × (result ≡ 1) }
+    ensures written { writer.new.failed ≡ 0
+        → WritesTask task.entry (W.contents writer.old.inner) (W.contents writer.new.inner) result }
+    ensures status { result ≤ 2 }
+    ensures broken { (writer.new.failed ≡ writer.old.failed) ⊎ (result ≡ 1) }
+{
+    match task {
+        Task::Join => run_join(rt.alloc(), reader, writer),
+        Task::Sim => run_sim(rt.alloc(), reader, writer),
+        Task::Init(words) => run_init(rt, &words, writer),
+        Task::Edit { file, edit } => run_edit(rt, file, &edit, writer),
+        Task::Show { file, path } => run_show(rt, file, path, writer),
+        Task::Serve(words) => run_serve(rt, words.file, words.addr, words.sessions, writer),
+        Task::Sync { file, addr } => sync_file(rt, file, addr, writer),
+        Task::Pair { first, second } => pair_files(rt, first, second, writer),
     }
 }

@@ -2,7 +2,7 @@ use Rattle.std.proofs.Common.{inl}
 use Rattle.rds_lines.proofs.Running.{memory_written}
 use Rattle.rds_words.proofs.CommandWords.{is_memory}
 use Rattle.rds_commands.proofs.Entered.{mistaken}
-use Rattle.rds_commands.proofs.SimTold.{sim_answered, sim_unwritten}
+use Rattle.rds_commands.proofs.SimTold.{sim_unwritten}
 use Rattle.rds_commands.proofs.program.run.Goals as goal
 
 pub returns-in-Err-clause-join : goal.returns-in-Err-clause-join
@@ -22,7 +22,3 @@ pub returns-in-Err-clause-mistake : goal.returns-in-Err-clause-mistake
 returns-in-Err-clause-mistake g c = λ some wrote.
     mistaken _ c.in-Err.error (g.W.Write.contents c.args.writer.now.inner) (g.W.Write.contents c.write_unparsed.new.writer.inner) c.write_unparsed.result c.args.writer.now c.write_unparsed.new.writer
     c.in-Err.ensures.kinds c.write_unparsed.ensures.memory c.write_unparsed.ensures.status wrote
-
-pub returns-in-Ok-Some-Sim-clause-sim : goal.returns-in-Ok-Some-Sim-clause-sim
-returns-in-Ok-Some-Sim-clause-sim g c = λ name words.
-    sim_answered (g.R.Read.remaining c.args.reader.now.inner) (g.W.Write.contents c.args.writer.now.inner) (g.W.Write.contents c.run_sim.new.writer.inner) _ _ _ c.run_sim.ensures.sim

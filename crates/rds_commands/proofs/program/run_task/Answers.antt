@@ -1,0 +1,20 @@
+use Rattle.std.proofs.Common.{rules}
+use Rattle.rds_commands.proofs.program.run_task.Goals as goal
+
+pub returns-in-Init-clause-written : goal.returns-in-Init-clause-written
+returns-in-Init-clause-written g c = search rules steps 1000000
+
+pub returns-in-Edit-clause-written : goal.returns-in-Edit-clause-written
+returns-in-Edit-clause-written g c = search rules steps 1000000
+
+pub returns-in-Show-clause-written : goal.returns-in-Show-clause-written
+returns-in-Show-clause-written g c = search rules steps 1000000
+
+pub returns-in-Serve-clause-written : goal.returns-in-Serve-clause-written
+returns-in-Serve-clause-written g c = search rules steps 1000000
+
+pub returns-in-Sync-clause-written : goal.returns-in-Sync-clause-written
+returns-in-Sync-clause-written g c = search rules steps 1000000
+
+pub returns-in-Pair-clause-written : goal.returns-in-Pair-clause-written
+returns-in-Pair-clause-written g c = search rules steps 1000000
