@@ -1,8 +1,6 @@
 -- What is told of an answer that is there.
 use Rattle.std.proofs.Common.{◌≡◌, ◌⊎◌, Ok, Err, inl, inr}
-
-ok_isnt_err : {X E : Type 0} (x : X) (e : E) → Ok x ≡ Err e → ⊥
-ok_isnt_err x e is = absurd cc
+use Rattle.rds_words.proofs.OneMeaning.{ok_isnt_err}
 
 -- it isn't want of memory, so it is what was asked for
 pub not_refused : {X E : Type 0} {P : Type 0} (x : X) (e : E) → (Ok x ≡ Err e) ⊎ P → P

@@ -8,7 +8,7 @@ use Rattle.rds_keep.specs.Counted.{one_more}
 use Rattle.rds_state.specs.Fits.{ReplicaValue}
 use Rattle.rds_state.specs.Value.{StateValue}
 use Rattle.rds_session.specs.declared.step.Ended.{Ended}
-use Rattle.rds_session.specs.declared.step.Ended.TheVariants.{Done, Failed}
+use Rattle.rds_session.specs.declared.step.Ended.TheVariants.{Going, Done, Failed}
 use Rattle.rds_session.specs.declared.talk.Side.{Side}
 use Rattle.rds_session.specs.declared.talk.Side.TheVariants.{Client, Server}
 use Rattle.rds_session.specs.Leaving.{Leaves, StandsAs}
@@ -49,6 +49,12 @@ left_done s ended last received (inr (inr memory)) (inl e) done is = absurd (let
 left_stands : (s : Standing) (ended last : Ended) → StandsAs s ended → (last ≡ ended) ⊎ (last ≡ Failed Device) → StandsAs s last
 left_stands s ended last stands (inl e) = rw e stands
 left_stands s ended last stands (inr device) = inr (inl device)
+
+-- how an end stands at last: one that goes on has failed, and one that is over stands as it did
+pub at_last : (ended last : Ended) → (IsOver ended → last ≡ ended) → (ended ≡ Going → last ≡ Failed Device) → IsOver last × ((last ≡ ended) ⊎ (last ≡ Failed Device))
+at_last Going last over going = (subst IsOver (sym (going refl)) tt, inr (going refl))
+at_last Done last over going = (subst IsOver (sym (over tt)) tt, inl (over tt))
+at_last (Failed fault) last over going = (subst IsOver (sym (over tt)) tt, inl (over tt))
 
 -- an end that is left
 pub left : (side : Side) (kept : ReplicaValue) (s : Standing) (ended last : Ended) (received : Option StateValue)

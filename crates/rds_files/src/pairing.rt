@@ -1,6 +1,7 @@
 //! A session of the replicas in two files.
-ghost use Rattle.std.specs.Prelude.{◌≡◌, ◌≤◌, ◌⊎◌, ◌++◌, OnOk, OnErr};
+ghost use Rattle.std.specs.Prelude.{◌≡◌, ◌≤◌, ◌⊎◌, ◌++◌, IfErr, OnOk, OnErr};
 ghost use Rattle.std.specs.Io.KnownBytes.{Appends};
+ghost use Rattle.rds_names.specs.declared.fault.Fault.TheVariants.{Device};
 ghost use Rattle.rds_keep.specs.Counted.{one_more};
 ghost use Rattle.rds_files.specs.Pairing.{WritesBoth, WritesPair};
 ghost use Rattle.rds_files.specs.Reports.{report_text};
@@ -95,6 +96,7 @@ fn write_both<W: Write>(
     ensures bytes { OnOk result (Appends (W.contents writer.old.inner) (W.contents writer.new.inner)
         (report_text first.now first_ended ++ report_text second.now second_ended)) }
     ensures steady { OnOk result (writer.new.failed ≡ writer.old.failed) }
+    ensures fault { IfErr result (λ e. e ≡ Device) }
     ensures counted { OnErr result (writer.new.failed ≡ one_more writer.old.failed) }
 {
     write_report(writer, first, first_ended)?;

@@ -1,6 +1,7 @@
 //! What is told of a session.
-ghost use Rattle.std.specs.Prelude.{◌≡◌, ◌≤◌, ◌⊎◌, OnOk, OnErr};
+ghost use Rattle.std.specs.Prelude.{◌≡◌, ◌≤◌, ◌⊎◌, IfErr, OnOk, OnErr};
 ghost use Rattle.std.specs.Io.KnownBytes.{Appends};
+ghost use Rattle.rds_names.specs.declared.fault.Fault.TheVariants.{Device};
 ghost use Rattle.rds_keep.specs.Counted.{one_more};
 ghost use Rattle.rds_keep.specs.Parts.{AppendsPart};
 ghost use Rattle.rds_files.specs.Reports.{WritesFault, WritesReport, ended_text, report_text, settled_text, tells_fault};
@@ -37,6 +38,7 @@ pub fn write_report<W: Write>(
         (W.contents writer.new.inner) (report_text settled.now ended)) }
     ensures part { OnErr result (AppendsPart (W.contents writer.old.inner)
         (W.contents writer.new.inner) (report_text settled.now ended)) }
+    ensures fault { IfErr result (λ e. e ≡ Device) }
     ensures steady { OnOk result (writer.new.failed ≡ writer.old.failed) }
     ensures counted { OnErr result (writer.new.failed ≡ one_more writer.old.failed) }
 {
@@ -65,6 +67,7 @@ fn write_settled<W: Write>(writer: &mut Counted<W>, settled: &Settled) -> Result
         (W.contents writer.new.inner) (settled_text settled.now)) }
     ensures part { OnErr result (AppendsPart (W.contents writer.old.inner)
         (W.contents writer.new.inner) (settled_text settled.now)) }
+    ensures fault { IfErr result (λ e. e ≡ Device) }
     ensures steady { OnOk result (writer.new.failed ≡ writer.old.failed) }
     ensures counted { OnErr result (writer.new.failed ≡ one_more writer.old.failed) }
 {
@@ -83,6 +86,7 @@ fn write_ended<W: Write>(writer: &mut Counted<W>, ended: Ended) -> Result<(), Fa
         (W.contents writer.new.inner) (ended_text ended)) }
     ensures part { OnErr result (AppendsPart (W.contents writer.old.inner)
         (W.contents writer.new.inner) (ended_text ended)) }
+    ensures fault { IfErr result (λ e. e ≡ Device) }
     ensures steady { OnOk result (writer.new.failed ≡ writer.old.failed) }
     ensures counted { OnErr result (writer.new.failed ≡ one_more writer.old.failed) }
 {

@@ -2,7 +2,9 @@
 //! with peers whose bytes stand in rows.
 #![tactic(auto)]
 
+mod calls;
 mod devices;
+mod disk;
 mod files;
 mod input;
 mod lengths;
@@ -12,6 +14,7 @@ mod sessions;
 mod simulated;
 mod told;
 mod transcript;
+mod wire;
 
 use rds_rows::write_answers;
 use std::io;

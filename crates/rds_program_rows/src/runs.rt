@@ -24,8 +24,8 @@ pub fn run_renamed(rt: &HostRuntime, words: &str, input: &[u8]) -> Result<String
     run_words(rt, &words, input)
 }
 
-// The words behind the program's name.
-fn named<'a>(alloc: Global, words: &'a str) -> Result<Vec<&'a str>, AllocError> {
+/// The words behind the program's name.
+pub fn named<'a>(alloc: Global, words: &'a str) -> Result<Vec<&'a str>, AllocError> {
     let mut all = Vec::new(alloc);
     all.push("rds_node")?;
     for word in words.split_whitespace() {

@@ -1,4 +1,5 @@
 //! Which row does what.
+use crate::disk::answer_disk;
 use crate::files::{hold, make_folder, put, remove_file, remove_folder};
 use crate::input::Input;
 use crate::lengths::answer_lengths;
@@ -6,6 +7,7 @@ use crate::peers::{meet_peer, run_away, run_busy};
 use crate::runs::{run_barred, run_reading, run_renamed, run_spaced, run_writing, usual_turns};
 use crate::sessions::{keep, read, replace, settle_nothing, settle_received, told_components};
 use crate::simulated::Simulated;
+use crate::wire::{answer_over, answer_talk, answer_wire};
 use rds_dots::ListSet;
 use rds_files::ReplicaFile;
 use rds_lines::join_is_known;
@@ -104,6 +106,10 @@ impl Table for Transcript<'_> {
             "turns" => usual_turns(alloc),
             "laws" => laws(alloc),
             "lengths" => answer_lengths(alloc, rest, self.input.as_slice()),
+            "disk" => answer_disk(alloc, rest, self.input.as_slice()),
+            "wire" => answer_wire(self.rt, rest),
+            "over" => answer_over(self.rt, rest, self.input.as_slice()),
+            "talk" => answer_talk(self.rt, rest, self.input.as_slice()),
             "put" | "hold" | "folder" | "remove" | "remove_folder" | "replace" => {
                 self.answer_file(name, rest)
             }

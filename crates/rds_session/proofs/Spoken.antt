@@ -26,14 +26,14 @@ part_written a b c x y first part =
     (length x + n, omega (arith, part.1, length-append x y), subst (Appends a c) (sym whole) (appends_then a b c x (take n y) (x ++ take n y) first part.2 refl))
 
 -- a session that goes on hasn't run out of memory
-still_going : (side : Side) (kept : ReplicaValue) (heard : Heard) (s : Standing) (sent : List ℕ) → s.ended ≡ Going → HasSent side kept heard s sent → HasStanding side kept heard s × (sent ≡ (course side kept heard).1)
+pub still_going : (side : Side) (kept : ReplicaValue) (heard : Heard) (s : Standing) (sent : List ℕ) → s.ended ≡ Going → HasSent side kept heard s sent → HasStanding side kept heard s × (sent ≡ (course side kept heard).1)
 still_going side kept heard s sent going has = elim has [
   | inl is ↦ is
   | inr out ↦ absurd (let bad : Going ≡ Failed Memory = sym going ∙ out.ran_out.memory in cc)
 ]
 
 -- a step sends more
-sent_on : (side : Side) (kept : ReplicaValue) (heard : Heard) (i : Option (List ℕ)) (new : Standing) (sent more : List ℕ) → sent ≡ (course side kept heard).1
+pub sent_on : (side : Side) (kept : ReplicaValue) (heard : Heard) (i : Option (List ℕ)) (new : Standing) (sent more : List ℕ) → sent ≡ (course side kept heard).1
     → Continues side kept heard i new more → HasSent side kept (heard_more heard i) new (sent ++ more)
 sent_on side kept heard i new sent more is (inl on) = inl (on.standing, ap (λ (x : List ℕ). x ++ more) is ∙ sym on.beyond)
 sent_on side kept heard i new sent more is (inr out) = inr (record {

@@ -35,7 +35,7 @@ pub consumes_none : (a : Option (List ℕ)) → Consumes a a []
 consumes_none None = tt
 consumes_none (Some u) = refl
 
-consumes_kept : (a b c : Option (List ℕ)) (x : List ℕ) → Consumes a b x → Keeps b c → Consumes a c x
+pub consumes_kept : (a b c : Option (List ℕ)) (x : List ℕ) → Consumes a b x → Keeps b c → Consumes a c x
 consumes_kept None b c x p q = tt
 consumes_kept (Some u) None c x p q = absurd p
 consumes_kept (Some u) (Some v) None x p q = absurd q

@@ -1,8 +1,10 @@
 //! A session of two replicas over a connection of the program to itself.
-ghost use Rattle.std.specs.Prelude.{◌≡◌, IfErr};
+ghost use Rattle.std.specs.Prelude.{◌≡◌, ◌≤◌, ◌<◌, [], true, length, IfErr, OnOk};
 ghost use Rattle.rds_names.specs.declared.fault.Fault.TheVariants.{Device};
+ghost use Rattle.rds_session.specs.declared.step.Ended.TheVariants.{Going};
 ghost use Rattle.rds_session.specs.declared.talk.Side.TheVariants.{Client, Server};
 ghost use Rattle.rds_session.specs.Leaving.{Leaves};
+ghost use Rattle.rds_session.specs.Steps.{IsOver};
 ghost use Rattle.rds_files.specs.Pairing.{StaysEnd};
 
 use super::end::End;
@@ -100,6 +102,7 @@ fn take_turns<T: Read + Write + OpenStream + Drop, S: DotSet>(
 ) -> Result<(), Fault>
     ensures client { StaysEnd client.old.session client.old.ended client.new.session client.new.ended }
     ensures server { StaysEnd server.old.session server.old.ended server.new.session server.new.ended }
+    ensures fault { IfErr result (λ e. e ≡ Device) }
 {
     'turns: for _ in 0..turns {
         if client.is_shut() && server.is_shut() {
@@ -119,6 +122,10 @@ fn pass<T: Read + Write + OpenStream + Drop, S: DotSet>(
 ) -> Result<(), Fault>
     ensures from { StaysEnd from.old.session from.old.ended from.new.session from.new.ended }
     ensures to { StaysEnd to.old.session to.old.ended to.new.session to.new.ended }
+    ensures said { OnOk result (1 ≤ length from.old.pending → length from.new.pending < length from.old.pending) }
+    ensures shut { OnOk result (from.old.pending ≡ [] → IsOver from.old.ended → from.new.is_shut ≡ true) }
+    ensures open { OnOk result (from.old.ended ≡ Going → from.new.is_shut ≡ from.old.is_shut) }
+    ensures fault { IfErr result (λ e. e ≡ Device) }
 {
     if from.has_pending() {
         let count = from.say()?;
