@@ -22,11 +22,21 @@ use std::marker::Model;
 
 /// A replica: the roster of its group, its own number there, and its state. The numbers of all replicas that the
 /// state speaks of are below the roster's length.
-#[derive(Drop)]
 pub struct Replica<S: DotSet> {
     roster: Roster,
     own: u8,
     state: State<S>,
+}
+
+// Written out, so that where a replica is let go a caller's proof has one call, and not a step for each part of its parts.
+impl<S: DotSet> Drop for Replica<S> {
+    fn drop(self) {
+        let Replica {
+            roster: _roster,
+            own: _,
+            state: _state,
+        } = self;
+    }
 }
 
 impl<S: DotSet> Model for Replica<S> {
@@ -100,7 +110,8 @@ impl<S: DotSet> Replica<S> {
         ensures state { result.2 ≡ self.state }
         ensures fits { IsReplica self }
     {
-        (self.roster, self.own, self.state)
+        let Replica { roster, own, state } = self;
+        (roster, own, state)
     }
 
     /// Whether all replica numbers of a state are below the roster's length.
