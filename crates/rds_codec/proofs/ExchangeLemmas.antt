@@ -2,6 +2,7 @@
 use Rattle.std.proofs.Common.{◌≡◌, ℕ, ◌<◌, ◌≤◌, inl, inr, Bool, true, false, cond, nat_lt, List, length, Option, None, Result, Ok, Err, refl, sym, ap, subst, ◌∙◌, arith}
 use Rattle.std.specs.Prelude.{is_some, IfOk, IfErr, IsErrAnd}
 use Rattle.std.specs.FinMap as map
+use Rattle.std.specs.Global.{Vec}
 use mathlib.Core.Bool.{false≢true}
 use Rattle.rds_names.specs.Roster.{RosterValue}
 use Rattle.rds_names.specs.declared.fault.Fault.{Fault}
@@ -9,24 +10,26 @@ use Rattle.rds_life.specs.Life.{Life, seen_of}
 use Rattle.rds_life.proofs.Views.{contains-seen_of}
 use Rattle.rds_state.specs.Coordinates.{Coordinates, AtMost, join}
 use Rattle.rds_state.specs.Fits.{Fits, ReplicaValue}
-use Rattle.rds_state.specs.Value.{StateValue, coordinates}
+use Rattle.rds_state.specs.Value.{StateValue, coordinates, size}
 use Rattle.rds_state.specs.Ahead.{TakeGives}
 use Rattle.rds_state.specs.Friends.{AreFriends}
+use Rattle.rds_delta.specs.declared.row.Row.{Row}
+use Rattle.rds_delta.specs.Claims.{IsCertificate}
 use Rattle.rds_delta.specs.Digested.{DigestValue, IsInside, digest_of, ranks_in}
 use Rattle.rds_delta.specs.Least.{IsAbove, least}
 use Rattle.rds_delta.specs.Ranks.{Ranks, life_rank, ranks}
 use Rattle.rds_delta.proofs.Digests.{ranks_of_digest}
 use Rattle.rds_delta.proofs.Exchanges.{least_fits, least_is_taken}
 use Rattle.rds_delta.proofs.LeastLaws.{grown_delta, least_above}
-use Rattle.rds_codec.specs.AnswerTexts.{answer_kind}
+use Rattle.rds_codec.specs.AnswerTexts.{IsAnswerOf, answer, answer_kind, answer_text}
 use Rattle.rds_codec.specs.AnswerValues.{AnswerValue}
 use Rattle.rds_codec.specs.declared.limits.TheConstants.{LIMIT}
 use Rattle.rds_codec.specs.Decoding.{Answers, IsTextOf, Decodes}
-use Rattle.rds_codec.specs.DigestTexts.{DigestFits, digest_text, digest_kind}
-use Rattle.rds_codec.specs.Exchanged.{CanExchange, IsAnswerTo, IsLost}
+use Rattle.rds_codec.specs.DigestTexts.{DigestFits, IsDigestOf, digest_text, digest_kind}
+use Rattle.rds_codec.specs.Exchanged.{CanExchange, IsAnswerTo, IsAskOf, IsCertified, IsLongAnswer, IsLongDigest, IsLost, IsReplyTo, TakesCertified, Certified, Uncertified}
 use Rattle.rds_codec.specs.Kinds.{Kind}
-use Rattle.rds_bytes.specs.Values.{AreFew}
-use Rattle.rds_codec.specs.Writing.{IsUnwritten}
+use Rattle.rds_bytes.specs.Values.{AreDotsOf, AreFew}
+use Rattle.rds_codec.specs.Writing.{Encodes, IsUnwritten}
 use Rattle.rds_codec.proofs.Replicas.{state_fits}
 use Rattle.rds_codec.proofs.Subsets.{len_inside}
 
@@ -34,6 +37,10 @@ use Rattle.rds_codec.proofs.Subsets.{len_inside}
 
 pub is_read : {V : Type 0} (kind : Kind V) (v : V) (bytes : List ℕ) (result : Result V Fault) → Decodes kind bytes result → kind.is_value v → bytes ≡ kind.text v → length (kind.text v) ≤ LIMIT → Answers result (Ok v)
 is_read kind v bytes result decodes is e le = decodes.found v (subst (λ (t : List ℕ). length t ≤ LIMIT) (sym e) le) (record { is_value = is; spelled = e })
+
+-- the limit that bytes keep is kept by the text that they are
+pub within_text : (bytes text : List ℕ) → bytes ≡ text → length bytes ≤ LIMIT → length text ≤ LIMIT
+within_text bytes text e within = subst (λ (t : List ℕ). length t ≤ LIMIT) e within
 
 pub read_ok : {V : Type 0} (v : V) (result : Result V Fault) (Q : V → Type 0) → Answers result (Ok v) → Q v → IfOk result Q
 read_ok {V} v result Q h q = elim h [
@@ -66,6 +73,27 @@ unwritten n fault IsLong long h = elim h [ inl m ↦ inl m.0 | inr l ↦ inr (l.
 
 pub digest_fits : (replicas : ℕ) (v : StateValue) → Fits replicas (coordinates v) → DigestFits replicas (digest_of v)
 digest_fits replicas v fits = record { dots = λ d h. fits.dots d (sym (contains-seen_of v.lives d) ∙ h); numbers = fits.numbers }
+
+-- ---- the text of a digest
+
+module _ (v : StateValue) (digest : DigestValue) (is : digest ≡ digest_of v) where
+  asked_fits : (replicas : ℕ) → Fits replicas (coordinates v) → DigestFits replicas digest
+  asked_fits replicas fits = subst (DigestFits replicas) (sym is) (digest_fits replicas v fits)
+
+  pub is_ask : (r : Result (Vec ℕ) Fault) → Encodes (digest_text digest) r
+      → ((n : ℕ) → DigestFits n digest → AreDotsOf n digest.seen) → ((n : ℕ) → DigestFits n digest → AreFew digest.seen → IsDigestOf n digest)
+      → IfOk r (λ bytes. IsAskOf v bytes.items)
+  is_ask (Ok bytes) text dots value = record {
+    text = text.0 ∙ ap digest_text is;
+    within = subst (λ (t : List ℕ). length t ≤ LIMIT) (sym text.0) text.1;
+    dots = λ n fits. subst (λ (d : DigestValue). AreDotsOf n d.seen) is (dots n (asked_fits n fits));
+    again = λ n fits few. subst (IsDigestOf n) is (value n (asked_fits n fits) (subst (λ (d : DigestValue). AreFew d.seen) (sym is) few));
+  }
+  is_ask (Err e) text dots value = tt
+
+  pub no_ask : (r : Result (Vec ℕ) Fault) → Encodes (digest_text digest) r → IfErr r (IsLost (IsLongDigest v))
+  no_ask (Ok bytes) text = tt
+  no_ask (Err e) text = unwritten (length (digest_text digest)) e (IsLongDigest v) (λ long. subst (λ (d : DigestValue). LIMIT < length (digest_text d)) is long) text
 
 kept_some : (t : Bool) (a : Option Life) → is_some (cond t a None) ≡ true → is_some a ≡ true
 kept_some true a h = h
@@ -109,6 +137,33 @@ module _ (digest : DigestValue) (asker : ℕ) (held : StateValue) (a : AnswerVal
     | inl e ↦ subst (λ (r : Result (Unit {0}) Fault). IfErr r (IsLost IsLong)) (sym e) tt
     | inr e ↦ subst (λ (r : Result (Unit {0}) Fault). IfErr r (IsLost IsLong)) (sym e) (inl refl)
   ]
+
+-- ---- the text of an answer
+
+module _ (digest : DigestValue) (asker : ℕ) (held delta : StateValue) (rows : List Row) (is : IsAnswerTo digest asker held (answer asker delta rows)) where
+  pub is_reply : (bytes : List ℕ) (components : ℕ) → bytes ≡ answer_text (answer asker delta rows) → length (answer_text (answer asker delta rows)) ≤ LIMIT → components ≡ size delta
+      → ((n : ℕ) → Fits n (coordinates delta) → AreDotsOf n (seen_of delta.lives))
+      → ((n : ℕ) (peer : Ranks) → asker < n → Fits n (coordinates delta) → AreFew (seen_of delta.lives) → IsAbove (coordinates delta) peer → IsCertificate peer delta rows → IsAnswerOf n (answer asker delta rows))
+      → IsReplyTo digest asker held bytes components
+  is_reply bytes components text within sized dots again = record {
+    value = answer asker delta rows;
+    answers = is;
+    text = text;
+    within = subst (λ (t : List ℕ). length t ≤ LIMIT) (sym text) within;
+    sized = sized;
+    dots = λ n fits. dots n (answer_fits digest asker held (answer asker delta rows) is n fits);
+    again = λ n below fits few. again n (ranks_in digest) below (answer_fits digest asker held (answer asker delta rows) is n fits) few (answer_is_above digest asker held (answer asker delta rows) is) is.certificate;
+  }
+
+  pub no_reply : (e : Fault) → IsUnwritten (length (answer_text (answer asker delta rows))) e → IsLost (IsLongAnswer digest asker held) e
+  no_reply e text = unwritten (length (answer_text (answer asker delta rows))) e (IsLongAnswer digest asker held) (λ long. record { value = answer asker delta rows; answers = is; long = long }) text
+
+-- ---- a take
+
+-- what is said of a delta holds of what was taken
+pub taken_of : (digest : DigestValue) (a : AnswerValue) (own : ℕ) (old : StateValue) (r : Result (Unit {0}) Fault) → TakesCertified digest a own old r → IsCertified digest a → TakeGives old own a.state r
+taken_of digest a own old r (Certified is gives) h = gives
+taken_of digest a own old r (Uncertified is e) h = absurd (is.wrong h)
 
 -- the same fact of what equals them
 pub fits_here : (n : ℕ) (r s : RosterValue) (v w : StateValue) → n ≡ length s.names → r ≡ s → w ≡ v → Fits (length r.names) (coordinates v) → Fits n (coordinates w)

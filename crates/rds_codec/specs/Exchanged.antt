@@ -1,20 +1,21 @@
--- What goes from one replica to another, and when it is too long.
-use Rattle.std.specs.Prelude.{◌≡◌, ◌<◌, ◌⊎◌, ℕ, length}
+-- What goes from one replica to another, when it is too long, and what is taken of it.
+use Rattle.std.specs.Prelude.{◌≡◌, ◌<◌, ◌≤◌, ◌⊎◌, ℕ, List, length, Result, Err}
 use Rattle.rds_names.specs.declared.fault.Fault.{Fault}
-use Rattle.rds_names.specs.declared.fault.Fault.TheVariants.{Memory, TooLong}
+use Rattle.rds_names.specs.declared.fault.Fault.TheVariants.{Memory, TooLong, BadCertificate}
 use Rattle.rds_life.specs.Life.{seen_of}
+use Rattle.rds_state.specs.Ahead.{TakeGives}
 use Rattle.rds_state.specs.Coordinates.{AtMost}
-use Rattle.rds_state.specs.Fits.{ReplicaValue}
+use Rattle.rds_state.specs.Fits.{Fits, ReplicaValue}
 use Rattle.rds_state.specs.Friends.{AreFriends}
-use Rattle.rds_state.specs.Value.{StateValue, coordinates}
+use Rattle.rds_state.specs.Value.{StateValue, coordinates, size}
 use Rattle.rds_delta.specs.Claims.{IsCertificate}
 use Rattle.rds_delta.specs.Digested.{DigestValue, digest_of, ranks_in}
 use Rattle.rds_delta.specs.Least.{IsAbove, least}
-use Rattle.rds_codec.specs.AnswerTexts.{answer_text}
+use Rattle.rds_codec.specs.AnswerTexts.{IsAnswerOf, answer_text}
 use Rattle.rds_codec.specs.AnswerValues.{AnswerValue}
 use Rattle.rds_codec.specs.Decoding.{IsTextOf}
-use Rattle.rds_codec.specs.DigestTexts.{digest_text, digest_kind}
-use Rattle.rds_bytes.specs.Values.{AreFew}
+use Rattle.rds_codec.specs.DigestTexts.{IsDigestOf, digest_text, digest_kind}
+use Rattle.rds_bytes.specs.Values.{AreDotsOf, AreFew}
 use Rattle.rds_codec.specs.declared.limits.TheConstants.{LIMIT}
 
 -- it answers a digest for the one that asked: the least delta of a state, and its certificate
@@ -22,6 +23,23 @@ pub record IsAnswerTo (digest : DigestValue) (asker : ℕ) (held : StateValue) (
   pub asked : a.asker ≡ asker
   pub delta : coordinates a.state ≡ least (coordinates held) (ranks_in digest)
   pub certificate : IsCertificate (ranks_in digest) a.state a.certificate
+
+-- The bytes are the text of the state's digest. It is read again where its dots are few.
+pub record IsAskOf (asked : StateValue) (bytes : List ℕ) : Type 0 where
+  pub text : bytes ≡ digest_text (digest_of asked)
+  pub within : length bytes ≤ LIMIT
+  pub dots : (replicas : ℕ) → Fits replicas (coordinates asked) → AreDotsOf replicas (seen_of asked.lives)
+  pub again : (replicas : ℕ) → Fits replicas (coordinates asked) → AreFew (seen_of asked.lives) → IsDigestOf replicas (digest_of asked)
+
+-- The bytes are the text of the answer, of so many components. It is read again where its dots are few.
+pub record IsReplyTo (digest : DigestValue) (asker : ℕ) (held : StateValue) (bytes : List ℕ) (components : ℕ) : Type 0 where
+  pub value : AnswerValue
+  pub answers : IsAnswerTo digest asker held value
+  pub text : bytes ≡ answer_text value
+  pub within : length bytes ≤ LIMIT
+  pub sized : components ≡ size value.state
+  pub dots : (replicas : ℕ) → Fits replicas (coordinates held) → AreDotsOf replicas (seen_of value.state.lives)
+  pub again : (replicas : ℕ) → asker < replicas → Fits replicas (coordinates held) → AreFew (seen_of value.state.lives) → IsAnswerOf replicas value
 
 abbrev pub IsLongDigest : StateValue → Type 0
 IsLongDigest asked = LIMIT < length (digest_text (digest_of asked))
@@ -32,12 +50,24 @@ pub record IsLongAnswer (digest : DigestValue) (asker : ℕ) (held : StateValue)
   pub answers : IsAnswerTo digest asker held value
   pub long : LIMIT < length (answer_text value)
 
+-- the delta is above the digest, and the certificate is that of the delta against it
+abbrev pub IsCertified : DigestValue → AnswerValue → Type 0
+IsCertified digest a = IsAbove (coordinates a.state) (ranks_in digest) × IsCertificate (ranks_in digest) a.state a.certificate
+
+-- the certificate is not the right one
+pub record IsUncertified (digest : DigestValue) (a : AnswerValue) : Type 0 where
+  pub wrong : IsCertified digest a → ⊥
+
+-- the delta is taken exactly where its certificate is the right one
+pub data TakesCertified (digest : DigestValue) (a : AnswerValue) (own : ℕ) (old : StateValue) (result : Result (Unit {0}) Fault) : Type 0 where
+  Certified : IsCertified digest a → TakeGives old own a.state result → TakesCertified digest a own old result
+  Uncertified : IsUncertified digest a → result ≡ Err BadCertificate → TakesCertified digest a own old result
+
 -- It passes the check against what the text of the asked one's digest brings.
 pub record IsChecked (replicas : ℕ) (asked : StateValue) (a : AnswerValue) : Type 0 where
   pub digest : DigestValue
   pub brought : IsTextOf (digest_kind replicas) (digest_text (digest_of asked)) digest
-  pub above : IsAbove (coordinates a.state) (ranks_in digest)
-  pub certificate : IsCertificate (ranks_in digest) a.state a.certificate
+  pub certified : IsCertified digest a
 
 -- Two friends of one roster, what one of them was when it asked, and no more dots than are read.
 pub record CanExchange (answerer asked asker : ReplicaValue) : Type 0 where

@@ -5,12 +5,10 @@ ghost use Rattle.rds_state.specs.Coordinates.{join};
 ghost use Rattle.rds_state.specs.Fits.{Fits};
 ghost use Rattle.rds_state.specs.Value.{coordinates};
 ghost use Rattle.rds_life.specs.Life.{seen_of};
-ghost use Rattle.rds_delta.specs.Digested.{digest_of, ranks_in};
-ghost use Rattle.rds_delta.specs.Claims.{IsCertificate};
-ghost use Rattle.rds_delta.specs.Least.{IsAbove};
+ghost use Rattle.rds_delta.specs.Digested.{digest_of};
 ghost use Rattle.rds_codec.specs.Decoding.{IsTextOf};
 ghost use Rattle.rds_codec.specs.DigestTexts.{digest_text, digest_kind};
-ghost use Rattle.rds_codec.specs.Exchanged.{CanExchange, IsChecked, IsAnswerTo, IsLongDigest, IsLongAnswer, IsLost};
+ghost use Rattle.rds_codec.specs.Exchanged.{CanExchange, IsAnswerTo, IsAskOf, IsCertified, IsChecked, IsLongAnswer, IsLongDigest, IsLost, IsReplyTo, TakesCertified};
 ghost use Rattle.rds_bytes.specs.Values.{AreFew};
 
 use crate::answers::{Answer, decode_answer, encode_answer};
@@ -20,6 +18,53 @@ use rds_dots::DotSet;
 use rds_names::Fault;
 use rds_state::{Replica, State};
 use std::alloc::Global;
+
+/// The text of a state's digest, with which its replica asks another for what it lacks.
+pub fn ask<S: DotSet>(alloc: Global, asked: &State<S>) -> Result<Vec<u8>, Fault>
+    ensures ok { IfOk result (λ bytes. IsAskOf asked.now bytes.items) }
+    ensures fault { IfErr result (IsLost (IsLongDigest asked.now)) }
+{
+    let digest = Digest::of(alloc, asked)?;
+    encode_digest(alloc, &digest)
+}
+
+/// The text of the answer to a digest: the least delta of a state, and its certificate. Also how many components the
+/// delta has.
+pub fn answer<S: DotSet>(
+    alloc: Global,
+    asker: u8,
+    held: &State<S>,
+    digest: &Digest<S>,
+) -> Result<(Vec<u8>, u128), Fault>
+    ensures ok { IfOk result (λ p. IsReplyTo digest.now asker held.now p.0.items p.1) }
+    ensures fault { IfErr result (IsLost (IsLongAnswer digest.now asker held.now)) }
+{
+    let delta = delta(alloc, held, digest)?;
+    let certificate = certificate(alloc, digest, &delta)?;
+    let bytes = encode_answer(alloc, asker, &delta, &certificate)?;
+    Ok((bytes, delta.components()))
+}
+
+/// Joins the delta of an answer into a replica. Refused is an answer whose certificate isn't that of its delta against
+/// the digest (`BadCertificate`), and then what [`Replica::take`] refuses.
+pub fn take_certified<S: DotSet>(
+    replica: &mut Replica<S>,
+    digest: &Digest<S>,
+    answer: &Answer<S>,
+) -> Result<(), Fault>
+    requires { Fits (length replica.old.roster.names) (coordinates answer.now.state) }
+    ensures taken { TakesCertified digest.now answer.now replica.old.own replica.old.state result }
+    ensures checked { OnOk result (IsCertified digest.now answer.now) }
+    ensures ok { OnOk result (coordinates replica.new.state ≡ join (coordinates replica.old.state) (coordinates answer.now.state)) }
+    ensures roster { replica.new.roster ≡ replica.old.roster }
+    ensures own { replica.new.own ≡ replica.old.own }
+    ensures err { OnErr result (replica.new ≡ replica.old) }
+{
+    if !check(digest, &answer.state, &answer.certificate) {
+        return Err(Fault::BadCertificate);
+    }
+    replica.take(&answer.state)
+}
 
 /// The digest of a state, as its text brings it.
 fn send_digest<S: DotSet>(
@@ -31,8 +76,7 @@ fn send_digest<S: DotSet>(
     ensures ok { Fits replicas (coordinates asked.now) → AreFew (seen_of asked.now.lives) → IfOk result (λ digest. digest ≡ digest_of asked.now) }
     ensures fault { Fits replicas (coordinates asked.now) → AreFew (seen_of asked.now.lives) → IfErr result (IsLost (IsLongDigest asked.now)) }
 {
-    let digest = Digest::of(alloc, asked)?;
-    let bytes = encode_digest(alloc, &digest)?;
+    let bytes = ask(alloc, asked)?;
     decode_digest(alloc, replicas, &bytes)
 }
 
@@ -48,24 +92,21 @@ fn send_answer<S: DotSet>(
     ensures ok { asker < replicas → Fits replicas (coordinates held.now) → AreFew (seen_of held.now.lives) → IfOk result (IsAnswerTo digest.now asker held.now) }
     ensures fault { asker < replicas → Fits replicas (coordinates held.now) → AreFew (seen_of held.now.lives) → IfErr result (IsLost (IsLongAnswer digest.now asker held.now)) }
 {
-    let state = delta(alloc, held, digest)?;
-    let rows = certificate(alloc, digest, &state)?;
-    let bytes = encode_answer(alloc, asker, &state, &rows)?;
+    let (bytes, _) = answer(alloc, asker, held, digest)?;
     decode_answer(alloc, replicas, &bytes)
 }
 
-/// Joins the delta of an answer into the replica that asked with this digest. Refused are an answer for another one
-/// (`WrongAsker`), then one whose certificate isn't that of its delta against the digest (`BadCertificate`), and then
-/// what [`Replica::take`] refuses.
+/// Joins the delta of an answer into the replica that asked with this digest. Refused is an answer for another one
+/// (`WrongAsker`), and then what [`take_certified`] refuses.
 fn take_answer<S: DotSet>(
     replica: &mut Replica<S>,
     digest: &Digest<S>,
     answer: &Answer<S>,
 ) -> Result<(), Fault>
     requires { Fits (length replica.old.roster.names) (coordinates answer.now.state) }
-    ensures taken { answer.now.asker ≡ replica.old.own → IsAbove (coordinates answer.now.state) (ranks_in digest.now) → IsCertificate (ranks_in digest.now) answer.now.state answer.now.certificate → TakeGives replica.old.state replica.old.own answer.now.state result }
+    ensures taken { answer.now.asker ≡ replica.old.own → IsCertified digest.now answer.now → TakeGives replica.old.state replica.old.own answer.now.state result }
     ensures asked { OnOk result (answer.now.asker ≡ replica.old.own) }
-    ensures checked { OnOk result (IsAbove (coordinates answer.now.state) (ranks_in digest.now) × IsCertificate (ranks_in digest.now) answer.now.state answer.now.certificate) }
+    ensures checked { OnOk result (IsCertified digest.now answer.now) }
     ensures ok { OnOk result (coordinates replica.new.state ≡ join (coordinates replica.old.state) (coordinates answer.now.state)) }
     ensures roster { replica.new.roster ≡ replica.old.roster }
     ensures own { replica.new.own ≡ replica.old.own }
@@ -74,10 +115,7 @@ fn take_answer<S: DotSet>(
     if answer.asker != replica.own() {
         return Err(Fault::WrongAsker);
     }
-    if !check(digest, &answer.state, &answer.certificate) {
-        return Err(Fault::BadCertificate);
-    }
-    replica.take(&answer.state)
+    take_certified(replica, digest, answer)
 }
 
 /// One replica asks another for what it lacks, and takes what it is answered. The digest of what it was when it asked

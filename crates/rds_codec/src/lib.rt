@@ -15,7 +15,7 @@ mod states;
 pub use answers::{Answer, decode_answer, encode_answer};
 pub use certificates::{decode_certificate, encode_certificate};
 pub use digests::{decode_digest, encode_digest};
-pub use exchanges::exchange;
+pub use exchanges::{answer, ask, exchange, take_certified};
 pub use hellos::{Hello, VERSION, decode_hello, encode_hello};
 pub use laws::texts_stand_apart;
 pub use limits::LIMIT;

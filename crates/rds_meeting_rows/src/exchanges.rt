@@ -1,5 +1,4 @@
 //! Sessions over a reader and a writer.
-use crate::devices::{Drip, Manner, Shelf};
 use crate::named::Named;
 use crate::outcomes::Outcomes;
 use crate::showing::show_outcome;
@@ -7,6 +6,7 @@ use crate::steps::End;
 use rds_dots::ListSet;
 use rds_keep::Counted;
 use rds_names::Fault;
+use rds_rows::devices::{Drip, Manner, Shelf};
 use rds_rows::words::{first, number};
 use rds_session::{Exchanged, exchange};
 use std::alloc::Global;
@@ -22,19 +22,8 @@ struct Line {
 /// The session over this line, and how many reads and writes failed.
 fn exchange_over(alloc: Global, end: &End, heard: &[u8], line: Line) -> Result<String, Fault> {
     let mut sent = Vec::new(alloc);
-    let mut reader = Counted::with_turns(
-        Drip {
-            rest: heard,
-            calls: 0,
-            manner: line.reads,
-        },
-        line.turns,
-    );
-    let mut writer = Counted::new(Shelf {
-        bytes: &mut sent,
-        calls: 0,
-        manner: line.writes,
-    });
+    let mut reader = Counted::with_turns(Drip::new(heard, line.reads), line.turns);
+    let mut writer = Counted::new(Shelf::new(&mut sent, line.writes));
     let exchanged = exchange(alloc, end.side, &end.kept, &mut reader, &mut writer);
     let failed = (reader.failed(), writer.failed());
     drop(writer);
@@ -95,13 +84,9 @@ fn failing_line(failing: Failing, fails_at: u64) -> Line {
     };
     Line {
         turns: 1_000,
-        reads: byte_a_call(read),
-        writes: byte_a_call(write),
+        reads: Manner::byte_a_call(read),
+        writes: Manner::byte_a_call(write),
     }
-}
-
-fn byte_a_call(fails_at: u64) -> Manner {
-    Manner { most: 1, fails_at }
 }
 
 /// What comes of the session where each of its first calls fails in turn, up to one more than it hears bytes.

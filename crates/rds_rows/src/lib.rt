@@ -2,6 +2,7 @@
 //! are to be answered.
 #![tactic(auto)]
 
+pub mod devices;
 pub mod told;
 pub mod words;
 

@@ -1,11 +1,22 @@
 -- Messages that are sent one after the other.
-use Rattle.std.proofs.Common.{◌≡◌, ℕ, ◌<◌, ◌≤◌, Bool, true, false, ltb, List, [], ◌∷◌, ◌++◌, length, Result, Ok, Err, sym, ap, ◌∙◌, append_assoc}
+use Rattle.std.proofs.Common.{◌≡◌, ℕ, ◌<◌, ◌≤◌, inl, inr, Bool, true, false, ltb, List, [], ◌∷◌, ◌++◌, length, Result, Ok, Err, IfOk, IfErr, MatchResult, sym, subst, ap, ◌∙◌, append_assoc}
 use Rattle.std.proofs.lemmas.Bool.{lt-ltb, le-ltb}
 use Rattle.std.proofs.lemmas.List.{append-nil}
+use Rattle.std.specs.Global.{Vec}
 use Rattle.rds_names.specs.declared.fault.Fault.{Fault}
+use Rattle.rds_state.specs.Value.{StateValue}
+use Rattle.rds_delta.specs.Digested.{DigestValue, digest_of}
+use Rattle.rds_codec.specs.AnswerTexts.{answer, answer_text}
+use Rattle.rds_codec.specs.AnswerValues.{AnswerValue}
+use Rattle.rds_codec.specs.DigestTexts.{digest_text}
+use Rattle.rds_codec.specs.Exchanged.{IsAnswerTo, IsAskOf, IsLongAnswer, IsLongDigest, IsLost, IsReplyTo}
+use Rattle.rds_codec.specs.Writing.{Encodes}
+use Rattle.rds_codec.specs.declared.limits.TheConstants.{LIMIT}
+use Rattle.rds_session.specs.Checked.{certificate_of, least_state}
+use Rattle.rds_session.proofs.Checks.{delta_is}
 use Rattle.rds_session.specs.declared.chunks.TheConstants.{MESSAGE_LIMIT}
 use Rattle.rds_session.specs.Chunks.{spelled}
-use Rattle.rds_session.specs.Sending.{sending, then_sent, SendsOne, SendsAll}
+use Rattle.rds_session.specs.Sending.{sending, then_sent, Brings, SendsOne, SendsAll}
 
 pub none_sent : (old : List ℕ) → then_sent old (sending []) ≡ (old, true)
 unfolding sending
@@ -32,3 +43,30 @@ last_sent old new m (Err e) h = h
 pub more_sent : (old mid new m : List ℕ) (ms : List (List ℕ)) (r : Result Bool Fault) → length m ≤ MESSAGE_LIMIT → mid ≡ old ++ spelled m → SendsAll mid new ms r → SendsAll old new (m ∷ ms) r
 more_sent old mid new m ms (Ok all) fits e h = first_sent old mid m ms (new, all) fits e h
 more_sent old mid new m ms (Err f) fits e h = h
+
+-- ---- what a body is made of
+
+pub encoded : (text : List ℕ) (r : Result (Vec ℕ) Fault) → Encodes text r → Brings text r
+encoded text (Ok v) h = h
+encoded text (Err e) h = elim h [ inl m ↦ inl m.0 | inr l ↦ inr l ]
+
+pub asked : (v : StateValue) (r : Result (Vec ℕ) Fault) → IfOk r (λ b. IsAskOf v b.items) → IfErr r (IsLost (IsLongDigest v)) → Brings (digest_text (digest_of v)) r
+asked v (Ok b) is lost = (is.text, subst (λ (t : List ℕ). length t ≤ LIMIT) is.text is.within)
+asked v (Err e) is lost = lost
+
+module _ (peer : ℕ) (held : StateValue) (digest : DigestValue) where
+  abbrev due : List ℕ
+  due = answer_text (answer peer (least_state held digest) (certificate_of digest (least_state held digest)))
+
+  due_is : (a : AnswerValue) → IsAnswerTo digest peer held a → answer_text a ≡ due
+  due_is a is =
+      let whole : a ≡ answer peer a.state a.certificate = λ j. answer (is.asked j) a.state a.certificate in
+      ap answer_text (whole ∙ delta_is held digest peer a.state a.certificate is.delta is.certificate)
+
+  pub answered : (r : Result (Vec ℕ × ℕ) Fault) (body : Result (Vec ℕ) Fault) → MatchResult r (λ p. body ≡ Ok p.0) (λ e. body ≡ Err e)
+      → IfOk r (λ p. IsReplyTo digest peer held p.0.items p.1) → IfErr r (IsLost (IsLongAnswer digest peer held)) → Brings due body
+  answered (Ok p) body e is lost =
+      let same = is.text ∙ due_is is.value is.answers in
+      subst (Brings due) (sym e) (same, subst (λ (t : List ℕ). length t ≤ LIMIT) same is.within)
+  answered (Err f) body e is lost =
+      subst (Brings due) (sym e) (elim lost [ inl m ↦ inl m | inr l ↦ inr (l.0, subst (λ (t : List ℕ). LIMIT < length t) (due_is l.1.value l.1.answers) l.1.long) ])

@@ -4,7 +4,8 @@ use Rattle.rds_names.specs.declared.fault.Fault.{Fault}
 use Rattle.rds_names.specs.declared.fault.Fault.TheVariants.{Memory}
 use Rattle.rds_session.specs.declared.chunks.TheConstants.{MESSAGE_LIMIT}
 use Rattle.std.specs.Global.{Vec}
-use Rattle.rds_codec.specs.Writing.{Encodes}
+use Rattle.rds_codec.specs.Exchanged.{IsLost}
+use Rattle.rds_codec.specs.declared.limits.TheConstants.{LIMIT}
 use Rattle.rds_session.specs.declared.kinds.MessageKind.{MessageKind}
 use Rattle.rds_session.specs.Chunks.{spelled}
 use Rattle.rds_session.specs.Messages.{number_of}
@@ -23,9 +24,13 @@ SendsOne old new m result = MatchResult result
     (λ fits. MatchBool fits ((length m ≤ MESSAGE_LIMIT) × (new ≡ old ++ spelled m)) ((MESSAGE_LIMIT < length m) × (new ≡ old)))
     (λ e. e ≡ Memory)
 
--- the same of a message whose body was encoded, or is over the limit itself
+-- a text, or why it isn't there: memory ran out, or it is over its own limit
+abbrev pub Brings : List ℕ → Result (Vec ℕ) Fault → Type 0
+Brings text body = MatchResult body (λ v. (v.items ≡ text) × (length text ≤ LIMIT)) (IsLost (LIMIT < length text))
+
+-- the same of a message whose body was made, or is over the limit itself
 abbrev pub SendsBody : List ℕ → List ℕ → MessageKind → Result (Vec ℕ) Fault → Result Bool Fault → Type 0
-SendsBody old new kind body result = (text : List ℕ) → Encodes text body → SendsOne old new (number_of kind ∷ text) result
+SendsBody old new kind body result = (text : List ℕ) → Brings text body → SendsOne old new (number_of kind ∷ text) result
 
 -- messages were added, or those before the first that is over the limit
 abbrev pub SendsAll : List ℕ → List ℕ → List (List ℕ) → Result Bool Fault → Type 0

@@ -9,8 +9,8 @@ ghost use Rattle.rds_session.specs.Session.{opening};
 use crate::kinds::{ByeCode, MessageKind};
 use crate::talk::{Act, Side, Turn};
 use crate::writing::put_message;
-use rds_codec::{Hello, VERSION, encode_answer, encode_digest, encode_hello};
-use rds_delta::{Digest, certificate, delta};
+use rds_codec::{Hello, VERSION, answer, ask, encode_hello};
+use rds_delta::Digest;
 use rds_dots::DotSet;
 use rds_names::Fault;
 use rds_state::Replica;
@@ -53,8 +53,7 @@ fn send_digest<S: DotSet>(
 ) -> Result<bool, Fault>
     ensures { SendsOne send.old.items send.new.items (digest_message kept.now) result }
 {
-    let digest = Digest::of(alloc, kept.state())?;
-    send_body(send, MessageKind::Digest, encode_digest(alloc, &digest))
+    send_body(send, MessageKind::Digest, ask(alloc, kept.state()))
 }
 
 fn send_delta<S: DotSet>(
@@ -66,13 +65,8 @@ fn send_delta<S: DotSet>(
 ) -> Result<bool, Fault>
     ensures { SendsOne send.old.items send.new.items (delta_message kept.now peer digest.now) result }
 {
-    let delta = delta(alloc, kept.state(), digest)?;
-    let certificate = certificate(alloc, digest, &delta)?;
-    send_body(
-        send,
-        MessageKind::Delta,
-        encode_answer(alloc, peer, &delta, &certificate),
-    )
+    let answered = answer(alloc, peer, kept.state(), digest);
+    send_body(send, MessageKind::Delta, answered.map(|(body, _)| body))
 }
 
 /// Adds a BYE with this code.

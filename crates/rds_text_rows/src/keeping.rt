@@ -1,9 +1,10 @@
 //! Rows that write the replica's snapshot.
-use crate::devices::{Full, Shelf};
+use crate::devices::{Full, Sheet};
 use crate::values::snapshot_text;
 use rds_dots::ListSet;
 use rds_keep::{Counted, Kept, keep_in, write_snapshot};
 use rds_names::Fault;
+use rds_rows::devices::{Manner, Shelf};
 use rds_rows::told::{digits_of, fault_text};
 use rds_rows::words::{cut, number};
 use rds_state::Replica;
@@ -40,7 +41,7 @@ fn to_full(alloc: Global, replica: &Replica<ListSet>) -> Result<String, Fault> {
 
 fn to_shelf(alloc: Global, replica: &Replica<ListSet>, call: u64) -> Result<String, Fault> {
     let mut written = Vec::new(alloc);
-    let mut writer = Counted::new(Shelf::new(&mut written, call));
+    let mut writer = Counted::new(Shelf::new(&mut written, Manner::byte_a_call(call)));
     let answer = write_snapshot(alloc, replica, &mut writer);
     let (failed, renamed) = (writer.failed(), writer.renamed());
     told(alloc, outcome(alloc, answer), failed, renamed, &written)
@@ -48,7 +49,7 @@ fn to_shelf(alloc: Global, replica: &Replica<ListSet>, call: u64) -> Result<Stri
 
 fn to_place(alloc: Global, replica: &Replica<ListSet>, call: u64) -> Result<String, Fault> {
     let mut written = Vec::new(alloc);
-    let mut place = Counted::new(Shelf::new(&mut written, call));
+    let mut place = Counted::new(Sheet::new(&mut written, call));
     let answer = keep_in(alloc, replica, &mut place);
     let (failed, renamed) = (place.failed(), place.renamed());
     told(alloc, outcome(alloc, answer), failed, renamed, &written)

@@ -1,10 +1,10 @@
 //! Rows that read a snapshot.
-use crate::devices::Slow;
 use crate::values::snapshot_text;
 use rds_codec::encode_snapshot;
 use rds_dots::ListSet;
 use rds_keep::{Counted, Kept, read_snapshot};
 use rds_names::Fault;
+use rds_rows::devices::{Drip, Manner};
 use rds_rows::told::{digits_of, fault_text};
 use rds_rows::words::{bytes_of, cut, number};
 use rds_state::Replica;
@@ -30,11 +30,16 @@ fn read_bytes(alloc: Global, digits: &str) -> Result<String, Fault> {
 
 fn read_text(alloc: Global, text: &[u8], name: &str, count: u64) -> Result<String, Fault> {
     match name {
-        "slowly" => read_from(alloc, Counted::new(Slow::new(text, count))),
-        "turns" => read_from(alloc, Counted::with_turns(Slow::new(text, 0), count)),
+        "slowly" => read_from(alloc, Counted::new(slow(text, count))),
+        "turns" => read_from(alloc, Counted::with_turns(slow(text, 0), count)),
         "front" => read_front(alloc, Counted::with_turns(text, count)),
         _ => Err(Fault::Usage),
     }
+}
+
+/// Gives one byte a call, and the call of this number fails.
+fn slow(text: &[u8], fails_at: u64) -> Drip<'_> {
+    Drip::new(text, Manner::byte_a_call(fails_at))
 }
 
 /// What was read or why not, and what the reader counted.

@@ -1,5 +1,5 @@
 //! Rows that call a counted place step by step.
-use crate::devices::Shelf;
+use crate::devices::Sheet;
 use crate::keeping::told;
 use rds_keep::Counted;
 use rds_names::Fault;
@@ -13,13 +13,13 @@ pub fn answer(alloc: Global, rest: &str) -> Result<String, Fault> {
     let (call, words) = cut(rest)?;
     let call = number(call)?;
     let mut written = Vec::new(alloc);
-    let mut place = Counted::new(Shelf::new(&mut written, call));
+    let mut place = Counted::new(Sheet::new(&mut written, call));
     let answers = take_steps(alloc, &mut place, words);
     let (failed, renamed) = (place.failed(), place.renamed());
     told(alloc, answers, failed, renamed, &written)
 }
 
-fn take_steps(alloc: Global, place: &mut Counted<Shelf<'_>>, words: &str) -> Result<String, Fault> {
+fn take_steps(alloc: Global, place: &mut Counted<Sheet<'_>>, words: &str) -> Result<String, Fault> {
     let mut answers = String::new(alloc);
     for step in words.split(',') {
         let answer = step_text(alloc, place, step)?;
@@ -28,7 +28,7 @@ fn take_steps(alloc: Global, place: &mut Counted<Shelf<'_>>, words: &str) -> Res
     Ok(answers)
 }
 
-fn step_text(alloc: Global, place: &mut Counted<Shelf<'_>>, step: &str) -> Result<String, Fault> {
+fn step_text(alloc: Global, place: &mut Counted<Sheet<'_>>, step: &str) -> Result<String, Fault> {
     match take_step(place, step) {
         Ok(count) => Ok(format!(in alloc; "[{count}]")?),
         Err(fault) => {
@@ -49,7 +49,7 @@ impl Display for Mute {
 }
 
 /// How many bytes of its text the step wrote, or its fault.
-fn take_step(place: &mut Counted<Shelf<'_>>, step: &str) -> Result<usize, Fault> {
+fn take_step(place: &mut Counted<Sheet<'_>>, step: &str) -> Result<usize, Fault> {
     let (name, text) = first(step);
     match name {
         "write" => return place.write(text.as_bytes()),
@@ -64,7 +64,7 @@ fn take_step(place: &mut Counted<Shelf<'_>>, step: &str) -> Result<usize, Fault>
 }
 
 /// Syncs the place, and then renames it.
-fn settle(place: &mut Counted<Shelf<'_>>) -> Result<(), Fault> {
+fn settle(place: &mut Counted<Sheet<'_>>) -> Result<(), Fault> {
     place.sync()?;
     place.rename()
 }

@@ -156,8 +156,8 @@ module _ (v : WorldValue) (i : IsWorld v) (r k : ℕ) (m : ReplicaValue) (a : As
           certificate = subst (λ b. IsCertificate b y.value.state y.value.certificate) (told w s) y.answers.certificate;
           text = y.text ∙ ap answer_text whole;
           within = y.within;
-          dots = subst (λ j. AreDotsOf j (seen_of y.value.state.lives)) same_roster y.dots;
-          again = λ few. subst (IsAnswerOf n) whole (subst (λ j. IsAnswerOf j y.value) same_roster (y.again few));
+          dots = subst (λ j. AreDotsOf j (seen_of y.value.state.lives)) same_roster (y.dots (length m.roster.names) r'.fits);
+          again = λ few. subst (IsAnswerOf n) whole (subst (λ j. IsAnswerOf j y.value) same_roster (y.again (length m.roster.names) r'.replica.1 r'.fits few));
         }
 
     answered_so : (w : World) (s : Stands v w) → after w (Answer r k) ≡ record w { answers = w.answers ++ reply w r k (ask_of w s).it ∷ [] }

@@ -1,19 +1,17 @@
 //! What goes between replicas as bytes.
-ghost use Rattle.std.specs.Prelude.{◌≡◌, ◌<◌, ◌≤◌, ℕ, IfOk, IfErr, OnOk, OnErr, Err, length};
-ghost use Rattle.rds_state.specs.Fits.{Fits};
+ghost use Rattle.std.specs.Prelude.{◌≡◌, ◌<◌, ◌≤◌, IfOk, IfErr, OnOk, OnErr, Err, length};
 ghost use Rattle.rds_state.specs.Value.{coordinates};
 ghost use Rattle.rds_delta.specs.Digested.{digest_of};
 ghost use Rattle.rds_codec.specs.DigestTexts.{digest_text};
-ghost use Rattle.rds_codec.specs.Exchanged.{IsLongAnswer, IsLongDigest, IsLost};
+ghost use Rattle.rds_codec.specs.Exchanged.{IsLongDigest, IsLost};
 ghost use Rattle.rds_codec.specs.declared.limits.TheConstants.{LIMIT};
-ghost use Rattle.rds_world.specs.Replies.{IsReplyTo, IsReply, HasNoReply, IsTaken, IsNotTaken};
+ghost use Rattle.rds_world.specs.Replies.{IsReply, HasNoReply, IsTaken, IsNotTaken};
 ghost use Rattle.rds_world.specs.Stands.{HoldsAsk};
 
-use rds_codec::{decode_answer, decode_digest, encode_answer, encode_digest};
-use rds_delta::{Digest, certificate, check, delta};
+use rds_codec::{decode_answer, decode_digest, take_certified};
 use rds_dots::DotSet;
 use rds_names::Fault;
-use rds_state::{Replica, State};
+use rds_state::Replica;
 use std::alloc::Global;
 
 /// The text of the digest of what a replica has kept.
@@ -22,25 +20,7 @@ pub fn ask<S: DotSet>(alloc: Global, kept: &Replica<S>) -> Result<Vec<u8>, Fault
     ensures short { OnOk result (length (digest_text (digest_of kept.now.state)) ≤ LIMIT) }
     ensures fault { IfErr result (IsLost (IsLongDigest kept.now.state)) }
 {
-    let digest = Digest::of(alloc, kept.state())?;
-    encode_digest(alloc, &digest)
-}
-
-/// The text of the answer to a digest: the least delta of what a replica has kept, and its certificate. Also how many
-/// components the delta has.
-fn reply<S: DotSet>(
-    alloc: Global,
-    asker: u8,
-    kept: &State<S>,
-    digest: &Digest<S>,
-) -> Result<(Vec<u8>, u128), Fault>
-    ensures ok { IfOk result (λ p. (n : ℕ) → asker < n → Fits n (coordinates kept.now) → IsReplyTo n digest.now asker kept.now p.0.items p.1) }
-    ensures fault { IfErr result (IsLost (IsLongAnswer digest.now asker kept.now)) }
-{
-    let delta = delta(alloc, kept, digest)?;
-    let certificate = certificate(alloc, digest, &delta)?;
-    let bytes = encode_answer(alloc, asker, &delta, &certificate)?;
-    Ok((bytes, delta.components()))
+    rds_codec::ask(alloc, kept.state())
 }
 
 /// The text of the answer to an ask, and how many components its delta has.
@@ -55,8 +35,7 @@ pub fn answer<S: DotSet>(
     ensures fault { IfErr result (HasNoReply (length kept.now.roster.names) ask.now asker kept.now.state) }
 {
     let digest = decode_digest(alloc, kept.roster().len(), ask)?;
-    let made = reply(alloc, asker, kept.state(), &digest)?;
-    Ok(made)
+    rds_codec::answer(alloc, asker, kept.state(), &digest)
 }
 
 /// Joins the delta of an answer into the replica that asked, if its certificate is that of the delta against the ask.
@@ -75,8 +54,5 @@ pub fn take<S: DotSet>(
     let replicas = replica.roster().len();
     let digest = decode_digest::<S>(alloc, replicas, ask)?;
     let answer = decode_answer(alloc, replicas, answer)?;
-    if !check(&digest, &answer.state, &answer.certificate) {
-        return Err(Fault::BadCertificate);
-    }
-    replica.take(&answer.state)
+    take_certified(replica, &digest, &answer)
 }

@@ -25,8 +25,7 @@ returns g c =
       checked = record {
         digest = digest;
         brought = checked_text asked.state n mine.roster c.state.result.now digest many c.state.ensures.state c.in_ok-digest.ensures.brought;
-        above = c.in_ok-take_answer.ensures.checked.0;
-        certificate = c.in_ok-take_answer.ensures.checked.1;
+        certified = c.in_ok-take_answer.ensures.checked;
       };
       answer = λ can. subst (λ (d : DigestValue). IsAnswerTo d mine.own answerer.state a) (told can).same (told can).answers;
       joined = λ can. c.in_ok-take_answer.ensures.ok ∙ answer_joins digest mine.own answerer.state a (told can).answers asked.state mine.state (told can).same can.grown;
@@ -54,4 +53,4 @@ returns-in_err-take_answer-clause-fault g c =
     rw (p.1, p.2) (λ can.
     (let is = (told can).answers in
     answer_is_taken digest mine.own answerer.state a is answerer.own mine.state (Err c.in_err-take_answer.field-0.0) IsLong can.friends
-    (c.in_err-take_answer.ensures.taken is.asked (answer_is_above digest mine.own answerer.state a is) is.certificate)))
+    (c.in_err-take_answer.ensures.taken is.asked (answer_is_above digest mine.own answerer.state a is, is.certificate))))
