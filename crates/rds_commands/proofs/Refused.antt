@@ -8,6 +8,7 @@ use Rattle.rds_files.specs.Files.{IsUnread}
 use Rattle.rds_commands.specs.Edits.{RefusesEdit, RefusesEditIn}
 use Rattle.rds_words.specs.Meaning.{IsCommand}
 use Rattle.rds_words.specs.declared.tasks.EditWords.{EditWords}
+use Rattle.rds_words.proofs.OneMeaning.{command_once, ok_isnt_err}
 use Rattle.rds_commands.proofs.Told.{not_refused}
 
 module _ (words : EditWords) (command : Command) (given : (◌≡◌ {A = Result Command Fault} (Ok command) (Err Memory)) ⊎ IsCommand words (Ok command)) (fault : Fault) where
@@ -18,3 +19,7 @@ module _ (words : EditWords) (command : Command) (given : (◌≡◌ {A = Result
   -- the one in it isn't edited
   pub no_edit : (before : ReplicaValue) → RefusesEditIn command before fault → RefusesEdit words fault
   no_edit before refused = inr (inr (command, not_refused command Memory given, inr (before, refused)))
+
+  -- words that mean a command aren't refused
+  pub not_both : {P : Type 0} → IsCommand words (Err fault) → P
+  not_both {P} due = absurd (ok_isnt_err command fault (command_once words (Ok command) (Err fault) (not_refused command Memory given) due))

@@ -2,7 +2,7 @@ use Rattle.std.proofs.lemmas.Result.{err_from_is_err_and}
 use Rattle.rds_names.specs.declared.fault.Fault.TheVariants.{Memory}
 use Rattle.rds_words.proofs.OneMeaning.{why_no_command}
 use Rattle.rds_commands.proofs.Replaced.{edits_file}
-use Rattle.rds_commands.proofs.Refused.{no_edit, no_replica}
+use Rattle.rds_commands.proofs.Refused.{no_edit, no_replica, not_both}
 use Rattle.rds_commands.proofs.Told.{not_refused}
 use Rattle.rds_commands.proofs.file_commands.edit_file.Goals as goal
 
@@ -25,3 +25,12 @@ pub returns-clause-edited : goal.returns-clause-edited
 returns-clause-edited g c =
     edits_file c.args.path.now c.args.words.now c.in_ok-command.command c.in_ok-opened.opened c.in_ok-done.done.file c.in_ok-done.done.answer c.in_ok-opened.ensures.read (not_refused c.in_ok-command.command Memory c.in_ok-command.ensures)
     c.in_ok-done.ensures.before c.in_ok-done.ensures.due c.in_ok-done.ensures.edited
+
+pub returns-in_err-opened-clause-words : goal.returns-in_err-opened-clause-words
+returns-in_err-opened-clause-words g c = λ fault due. not_both c.args.words.now c.in_ok-command.command c.in_ok-command.ensures fault due
+
+pub returns-in_err-done-clause-words : goal.returns-in_err-done-clause-words
+returns-in_err-done-clause-words g c = λ fault due. not_both c.args.words.now c.in_ok-command.command c.in_ok-command.ensures fault due
+
+pub returns-clause-words : goal.returns-clause-words
+returns-clause-words g c = λ fault due. not_both c.args.words.now c.in_ok-command.command c.in_ok-command.ensures fault due

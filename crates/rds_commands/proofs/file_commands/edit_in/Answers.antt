@@ -1,4 +1,4 @@
-use Rattle.std.proofs.Common.{◌∙◌, ap}
+use Rattle.std.proofs.Common.{rules, ◌∙◌, ap}
 use Rattle.std.proofs.lemmas.Result.{err_from_is_err_and}
 use Rattle.rds_files.specs.Files.{ReplacedValue}
 use Rattle.rds_commands.proofs.Replaced.{kept_edit, refused_edit, unkept_edit}
@@ -19,3 +19,9 @@ pub returns-clause-edited : goal.returns-clause-edited
 returns-clause-edited g c =
     kept_edit c.args.command c.args.file.kept c.in-Ok.replica c.edited.new.replica c.in_ok-file.file.kept c.in_ok-answer.answer
     (c.in-Ok.ensures.ok ∙ c.view_of.ensures.replica ∙ c.kept.ensures) c.in_ok-answer.ensures.edited (ap (λ (f : ReplacedValue). f.kept) c.in_ok-file.ensures.replaced)
+
+pub returns-clause-before : goal.returns-clause-before
+returns-clause-before g c = ap (λ (f : ReplacedValue). f.before) c.in_ok-file.ensures.replaced
+
+pub returns-clause-due : goal.returns-clause-due
+returns-clause-due g c = search rules steps 1000000

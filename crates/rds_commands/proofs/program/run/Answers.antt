@@ -1,4 +1,4 @@
-use Rattle.std.proofs.Common.{inl}
+use Rattle.std.proofs.Common.{inl, rules}
 use Rattle.rds_lines.proofs.Running.{memory_written}
 use Rattle.rds_words.proofs.CommandWords.{is_memory}
 use Rattle.rds_commands.proofs.Entered.{mistaken}
@@ -22,3 +22,6 @@ pub returns-in-Err-clause-mistake : goal.returns-in-Err-clause-mistake
 returns-in-Err-clause-mistake g c = λ some wrote.
     mistaken _ c.in-Err.error (g.W.Write.contents c.args.writer.now.inner) (g.W.Write.contents c.write_unparsed.new.writer.inner) c.write_unparsed.result c.args.writer.now c.write_unparsed.new.writer
     c.in-Err.ensures.kinds c.write_unparsed.ensures.memory c.write_unparsed.ensures.status wrote
+
+pub returns-in-Ok-None-clause-task : goal.returns-in-Ok-None-clause-task
+returns-in-Ok-None-clause-task g c = search rules steps 1000000

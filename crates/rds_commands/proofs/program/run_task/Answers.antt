@@ -18,3 +18,15 @@ returns-in-Sync-clause-written g c = search rules steps 1000000
 
 pub returns-in-Pair-clause-written : goal.returns-in-Pair-clause-written
 returns-in-Pair-clause-written g c = search rules steps 1000000
+
+pub returns-in-Join-clause-join : goal.returns-in-Join-clause-join
+returns-in-Join-clause-join g c = λ is. c.run_join.ensures.join
+
+pub returns-in-Join-clause-unread : goal.returns-in-Join-clause-unread
+returns-in-Join-clause-unread g c = λ is. c.run_join.ensures.unread
+
+pub returns-in-Sim-clause-sim : goal.returns-in-Sim-clause-sim
+returns-in-Sim-clause-sim g c = λ is. c.run_sim.ensures.sim
+
+pub returns-in-Sim-clause-cut : goal.returns-in-Sim-clause-cut
+returns-in-Sim-clause-cut g c = λ is. c.run_sim.ensures.cut
