@@ -8,3 +8,9 @@ returns-in-Ok-clause-refused g c = λ none. absurd (ok_isnt_err c.in-Ok.sessions
 
 pub returns-in-Ok-clause-written : goal.returns-in-Ok-clause-written
 returns-in-Ok-clause-written g c = search rules steps 1000000
+
+pub returns-in-Err-clause-written : goal.returns-in-Err-clause-written
+returns-in-Err-clause-written g c = search rules steps 1000000
+
+pub returns-in-Err-clause-refused : goal.returns-in-Err-clause-refused
+returns-in-Err-clause-refused g c = search rules steps 1000000
