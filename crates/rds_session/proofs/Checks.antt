@@ -21,6 +21,7 @@ use Rattle.rds_counts.specs.PlaceOrder.{place_total, place_exact}
 use Rattle.rds_counts.specs.Place.{Place}
 use Rattle.rds_counts.specs.declared.row.Which.{Which}
 use Rattle.rds_counts.specs.declared.row.Which.TheVariants.{P, N}
+use Rattle.rds_state.specs.Chosen.{same_dot}
 use Rattle.rds_state.specs.Coordinates.{Coordinates}
 use Rattle.rds_state.specs.Value.{StateValue, coordinates}
 use Rattle.rds_state.proofs.JoinLaws.{same_value}
@@ -33,7 +34,7 @@ use Rattle.rds_delta.specs.declared.row.Row.TheVariants.{Live, Dead, Count}
 use Rattle.rds_delta.proofs.LeastLaws.{least_above}
 use Rattle.rds_delta.proofs.Grouping.{certificate_is, grouped_certificate}
 use Rattle.rds_codec.specs.AnswerTexts.{answer}
-use Rattle.rds_session.specs.Checked.{is_later, is_greater, is_all_above, same_dot, same_run, same_which, same_row, certificate_of, least_state, passes, IsLeastDelta, IsOwnCertificate, PassesExactly}
+use Rattle.rds_session.specs.Checked.{is_later, is_greater, is_all_above, same_run, same_which, same_row, certificate_of, least_state, passes, IsLeastDelta, IsOwnCertificate, PassesExactly}
 use Rattle.rds_session.specs.Judging.{same_names}
 
 -- ---- equal rows

@@ -10,6 +10,7 @@ use Rattle.rds_counts.specs.Counted.{number}
 use Rattle.rds_counts.specs.Place.{Place}
 use Rattle.rds_counts.specs.declared.row.Which.{Which}
 use Rattle.rds_counts.specs.declared.row.Which.TheVariants.{P, N}
+use Rattle.rds_state.specs.Chosen.{same_dot}
 use Rattle.rds_state.specs.Value.{StateValue, coordinates}
 use Rattle.rds_delta.specs.Claims.{IsCertificate, claims}
 use Rattle.rds_delta.specs.Digested.{DigestValue, rank_in, ranks_in}
@@ -38,9 +39,6 @@ certificate_of g v = grouped (claims (ranks_in g) v)
 -- whether all that it has is above the digest's
 abbrev pub is_all_above : DigestValue → StateValue → Bool
 is_all_above g v = list_all (is_later g v) (map.keys v.lives) && list_all (is_greater g v) (map.keys v.counts)
-
-abbrev pub same_dot : Dot → Dot → Bool
-same_dot d e = (d.replica == e.replica) && (d.seq == e.seq)
 
 abbrev pub same_run : Run → Run → Bool
 same_run r s = (r.replica == s.replica) && ((r.lo == s.lo) && (r.hi == s.hi))
