@@ -106,6 +106,13 @@ life_idempotent None = refl
 life_idempotent (Some (Live e)) = refl
 life_idempotent (Some Dead) = refl
 
+agree_joined : (l m k : Option Life) → Agree l k → Agree m k → Agree (join_life l m) k
+agree_joined None m k p q = q
+agree_joined (Some (Live e)) None k p q = p
+agree_joined (Some (Live e)) (Some (Live f)) k p q = p
+agree_joined (Some (Live e)) (Some Dead) k p q = q
+agree_joined (Some Dead) m k p q = p
+
 max_associates : (x y z : ℕ) → max (max x y) z ≡ max x (max y z)
 max_associates x y z = omega arith
 
@@ -129,6 +136,9 @@ least a b c p q = record { lives = λ d. life_least (a.life d) (b.life d) (c.lif
 
 pub commutative : (a b : Coordinates) → AreCompatible a b → join a b ≡ join b a
 commutative a b h = same_coordinates (join a b) (join b a) (λ d. life_commutes (a.life d) (b.life d) (h.each_dot d)) (λ q. omega arith)
+
+pub compatible_join : (a b c : Coordinates) → AreCompatible a c → AreCompatible b c → AreCompatible (join a b) c
+compatible_join a b c p q = record { each_dot = λ d. agree_joined (a.life d) (b.life d) (c.life d) (p.each_dot d) (q.each_dot d) }
 
 pub associative : (a b c : Coordinates) → join (join a b) c ≡ join a (join b c)
 associative a b c = same_coordinates (join (join a b) c) (join a (join b c)) (λ d. life_associates (a.life d) (b.life d) (c.life d)) (λ q. max_associates (a.number q) (b.number q) (c.number q))

@@ -13,7 +13,7 @@ use Rattle.rds_counts.specs.PlaceOrder.{place_total, place_exact}
 use Rattle.rds_counts.specs.Counted.{Counted, number}
 use Rattle.rds_names.specs.Conditions.{equal_of}
 use Rattle.rds_state.specs.Chosen.{AreRaised}
-use Rattle.rds_state.specs.Edit.{count_fault, makes_number, IsDue}
+use Rattle.rds_state.specs.Edit.{count_fault, makes_pair, IsDue}
 
 at_place : (a b : Counted) (at : Place) (by : ℕ) → number b at ≡ number a at + by → ((q : Place) → ¬ (q ≡ at) → number b q ≡ number a q) → (q : Place) (t : Bool) → eq_by_cmp place_cmp q at ≡ t → number b q ≡ cond t (number a q + by) (number a q)
 at_place a b at by raised others q true is =
@@ -49,11 +49,12 @@ pub raise_is_due : (sum : ℕ) (r : Result (Unit {0}) Fault) → (r ≡ Err Coun
 raise_is_due sum (Ok x) full faults = none_due sum (λ h. let c = full.1 h in cc c)
 raise_is_due sum (Err f) full faults = due sum f (Err f) refl full faults
 
--- a raise takes no memory, but where it makes a number
-pub raise_has_room : (n by : ℕ) (r : Result (Unit {0}) Fault) → (by ≡ 0 → IsOk r) → (0 < n → r ≢ Err Memory) → makes_number n by ≡ false → r ≢ Err Memory
-raise_has_room n zero r nothing there no_room is = let ok = subst (λ (x : Result (Unit {0}) Fault). IsOk x) is (nothing refl) in absurd (cc ok)
-raise_has_room zero (suc by) r nothing there no_room is = absurd (false≢true (sym no_room ∙ makes by))
+-- a raise takes no memory, but where it makes a pair
+pub raise_has_room : (p n by : ℕ) (r : Result (Unit {0}) Fault) → (by ≡ 0 → IsOk r) → (0 < p → r ≢ Err Memory) → (0 < n → r ≢ Err Memory) → makes_pair p n by ≡ false → r ≢ Err Memory
+raise_has_room p n zero r nothing there_p there_n no_room is = let ok = subst (λ (x : Result (Unit {0}) Fault). IsOk x) is (nothing refl) in absurd (cc ok)
+raise_has_room zero zero (suc by) r nothing there_p there_n no_room is = absurd (false≢true (sym no_room ∙ makes by))
   where
-    makes : (n : ℕ) → makes_number 0 (suc n) ≡ true
+    makes : (n : ℕ) → makes_pair 0 0 (suc n) ≡ true
     makes n = grind (arith, nat_tests)
-raise_has_room (suc n) (suc by) r nothing there no_room is = there (omega arith) is
+raise_has_room zero (suc n) (suc by) r nothing there_p there_n no_room is = there_n (omega arith) is
+raise_has_room (suc p) n (suc by) r nothing there_p there_n no_room is = there_p (omega arith) is

@@ -122,18 +122,18 @@ new_dot a own c = None
 
 -- ---- when it may want memory
 
--- an amount makes a number above 0 of one that is 0
-abbrev pub makes_number : ℕ → ℕ → Bool
-makes_number number by = (number == 0) && not (by == 0)
+-- an amount above 0 is added where both numbers are 0
+abbrev pub makes_pair : ℕ → ℕ → ℕ → Bool
+makes_pair p n by = (p + n == 0) && not (by == 0)
 
--- whether the command adds a live dot or a number to what is kept. No other command takes memory.
+-- whether the command adds a live dot or a pair of numbers to what is kept. No other command takes memory.
 abbrev pub needs_room : Coordinates → ℕ → Command → Bool
 needs_room a own (Set p v) = true
 needs_room a own (Add p v) = true
 needs_room a own (Del p v) = false
 needs_room a own (Clear p) = false
-needs_room a own (Inc k by) = makes_number (a.number (place k own P)) by
-needs_room a own (Dec k by) = makes_number (a.number (place k own N)) by
+needs_room a own (Inc k by) = makes_pair (a.number (place k own P)) (a.number (place k own N)) by
+needs_room a own (Dec k by) = makes_pair (a.number (place k own P)) (a.number (place k own N)) by
 
 -- ---- when it is refused
 

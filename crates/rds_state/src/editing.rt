@@ -2,6 +2,7 @@
 ghost use Rattle.std.specs.Prelude.{◌≡◌, ◌+◌, ◌≢◌, [], true, false, None, Some, Err, count_by, IfOk, IfErr, OnErr, MatchResult};
 ghost use Rattle.std.specs.FinMap as map;
 ghost use Rattle.rds_counts.specs.Counted.{number, place};
+ghost use Rattle.rds_counts.specs.declared.row.Which.TheVariants.{P, N};
 ghost use Rattle.rds_dots.specs.declared.dot.Dot.{Dot};
 ghost use Rattle.rds_dots.specs.Dots.{is_dot};
 ghost use Rattle.rds_life.specs.Killed.{killed_by};
@@ -9,7 +10,7 @@ ghost use Rattle.rds_life.specs.Life.{Live, live_rows};
 ghost use Rattle.rds_names.specs.declared.fault.Fault.TheVariants.{Memory};
 ghost use Rattle.rds_names.specs.Entry.{HasParts};
 ghost use Rattle.rds_state.specs.Chosen.{is_chosen, parts_of, Parts, AreRaised};
-ghost use Rattle.rds_state.specs.Edit.{covers, JoinsEffect, new_dot, makes_number, needs_room, refusal, count_fault, IsDue};
+ghost use Rattle.rds_state.specs.Edit.{covers, JoinsEffect, new_dot, makes_pair, needs_room, refusal, count_fault, IsDue};
 ghost use Rattle.rds_state.specs.Value.{coordinates};
 
 use crate::command::{Command, Edited};
@@ -153,7 +154,7 @@ fn raise<S: DotSet>(
     ensures lives { state.new.lives ≡ state.old.lives }
     ensures edited { IfOk result (λ edited. (edited.dot ≡ None) × (edited.killed ≡ 0)) }
     ensures refusal { let due = count_fault (number state.old.counts (place key.now own which) + by) in MatchResult result (λ _. due ≡ None) (IsDue due) }
-    ensures room { makes_number (number state.old.counts (place key.now own which)) by ≡ false → result ≢ Err Memory }
+    ensures room { makes_pair (number state.old.counts (place key.now own P)) (number state.old.counts (place key.now own N)) by ≡ false → result ≢ Err Memory }
     ensures err { OnErr result (state.new ≡ state.old) }
 {
     state.raise(key, own, which, by)?;

@@ -1,6 +1,8 @@
 //! The laws of the join.
 ghost use Rattle.std.specs.Prelude.{◌≡◌, ℕ, List};
 ghost use Rattle.rds_counts.specs.Value.{value_of};
+ghost use Rattle.rds_counts.specs.declared.row.TheConstants.{MAX_COUNT};
+ghost use Rattle.rds_dots.specs.declared.dot.TheConstants.{MAX_SEQ};
 ghost use Rattle.rds_state.specs.Coordinates.{Coordinates, AtMost, AreCompatible, join};
 ghost use Rattle.rds_state.specs.Document.{value_in};
 ghost use Rattle.rds_state.specs.Friends.{FriendsAreTaken};
@@ -8,7 +10,8 @@ ghost use Rattle.rds_state.specs.Value.{StateValue, coordinates};
 
 /// States are ordered coordinate by coordinate, and the join of compatible states is the least state above both
 /// (Shapiro, Preguiça, Baquero, Zawirski 2011). The join is associative and idempotent, and commutative on compatible
-/// states; equal coordinates are equal states. The function does nothing: its contract is these laws.
+/// states; what is compatible with both of two states is so with their join, so that states of which every two are compatible
+/// merge in any order; equal coordinates are equal states. The function does nothing: its contract is these laws.
 pub fn join_laws()
     ensures reflexive { (a : Coordinates) → AtMost a a }
     ensures transitive { (a b c : Coordinates) → AtMost a b → AtMost b c → AtMost a c }
@@ -17,6 +20,8 @@ pub fn join_laws()
     ensures above_right { (a b : Coordinates) → AreCompatible a b → AtMost b (join a b) }
     ensures least { (a b c : Coordinates) → AtMost a c → AtMost b c → AtMost (join a b) c }
     ensures commutative { (a b : Coordinates) → AreCompatible a b → join a b ≡ join b a }
+    ensures compatible { (a b c : Coordinates) → AreCompatible a c → AreCompatible b c
+        → AreCompatible (join a b) c }
     ensures associative { (a b c : Coordinates) → join (join a b) c ≡ join a (join b c) }
     ensures idempotent { (a : Coordinates) → join a a ≡ a }
     ensures same_value { (v w : StateValue) → coordinates v ≡ coordinates w → v ≡ w }
@@ -31,4 +36,11 @@ pub fn friends_take_each_other()
 /// The document of a state has the sums that its counters answer. The function does nothing: its contract is this law.
 pub fn documents_have_the_sums()
     ensures { (v : StateValue) (key : List ℕ) → value_in (coordinates v) key ≡ value_of v.counts key }
+{}
+
+/// The greatest number of a dot and the greatest number of a counter, for each replica: 48 bits. The function does nothing: its
+/// contract is these limits.
+pub fn limits_of_numbers()
+    ensures seq { MAX_SEQ ≡ 281474976710655 }
+    ensures count { MAX_COUNT ≡ 281474976710655 }
 {}

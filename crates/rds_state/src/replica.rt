@@ -127,7 +127,7 @@ impl<S: DotSet> Replica<S> {
     /// entry that this replica hasn't seen is not touched (Almeida, Shoker, Baquero 2018).
     ///
     /// Refuses `BadPath` where a value is meant for the root, then `SeqFull` where the last own dot is used, and
-    /// `CounterFull` where a number would pass its limit. Only `Set`, `Add` and the raise of a number that is 0 take
+    /// `CounterFull` where a number would pass its limit. Only `Set`, `Add` and the first raise of a counter here take
     /// memory.
     pub fn edit(&mut self, command: Command) -> Result<Edited, Fault>
         ensures joined { IfOk result (λ _. JoinsEffect (coordinates self.old.state) self.old.own command (coordinates self.new.state)) }

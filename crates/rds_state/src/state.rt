@@ -3,13 +3,14 @@ ghost use Rattle.std.specs.Prelude.{◌≡◌, ◌≢◌, ◌↔◌, ◌+◌, Is
 ghost use Rattle.std.specs.FinMap as map;
 ghost use Rattle.rds_names.specs.declared.fault.Fault.TheVariants.{Memory};
 ghost use Rattle.rds_counts.specs.Counted.{number, place};
+ghost use Rattle.rds_counts.specs.declared.row.Which.TheVariants.{P, N};
 ghost use Rattle.rds_dots.specs.declared.dot.Dot.{Dot};
 ghost use Rattle.rds_dots.specs.Dots.{is_dot};
 ghost use Rattle.rds_life.specs.Killed.{killed_by};
 ghost use Rattle.rds_life.specs.Life.{Live, MergeGives, live_rows};
 ghost use Rattle.rds_state.specs.Chosen.{AreRaised};
 ghost use Rattle.rds_state.specs.Coordinates.{join};
-ghost use Rattle.rds_state.specs.Edit.{count_fault, makes_number, IsDue};
+ghost use Rattle.rds_state.specs.Edit.{count_fault, makes_pair, IsDue};
 ghost use Rattle.rds_state.specs.Value.{coordinates, size};
 
 use crate::sameness::are_same_lives;
@@ -172,7 +173,7 @@ impl<S: DotSet> State<S> {
         ensures numbers { OnOk result (AreRaised self.old.counts (place key.now replica which) by self.new.counts) }
         ensures lives { self.new.lives ≡ self.old.lives }
         ensures refusal { let due = count_fault (number self.old.counts (place key.now replica which) + by) in MatchResult result (λ _. due ≡ None) (IsDue due) }
-        ensures room { makes_number (number self.old.counts (place key.now replica which)) by ≡ false → result ≢ Err Memory }
+        ensures room { makes_pair (number self.old.counts (place key.now replica P)) (number self.old.counts (place key.now replica N)) by ≡ false → result ≢ Err Memory }
         ensures err { OnErr result (self.new ≡ self.old) }
     {
         self.counts.raise(key, replica, which, by)

@@ -30,3 +30,6 @@ returns-clause-idempotent c = laws.idempotent
 
 pub returns-clause-same_value : goal.returns-clause-same_value
 returns-clause-same_value c = laws.same_value
+
+pub returns-clause-compatible : goal.returns-clause-compatible
+returns-clause-compatible c = laws.compatible_join
