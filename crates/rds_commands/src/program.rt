@@ -1,5 +1,5 @@
 //! The program's commands.
-ghost use Rattle.std.specs.Prelude.{◌≡◌, ◌≢◌, [], ◌∷◌, ◌≤◌, ◌⊎◌, List, ℕ, Err, map, IfSome};
+ghost use Rattle.std.specs.Prelude.{◌≡◌, ◌≢◌, [], ◌≤◌, ◌⊎◌, Err, map, IfSome};
 ghost use Rattle.rds_names.specs.declared.fault.Fault.TheVariants.{Device};
 ghost use Rattle.rds_lines.specs.Answering.{WritesAnswers, WritesCut};
 ghost use Rattle.rds_lines.specs.Output.{Writes, fault_line};
@@ -42,11 +42,11 @@ pub fn run<H: Files + Net + AllocGlobal, R: Read, W: Write, S: AsStr>(
     ensures unread { Names (map S.text words.entry.now) join_words
         → reader.new.failed ≢ reader.old.failed → writer.new.failed ≡ 0
         → Writes (Err Device) (W.contents writer.old.inner) (W.contents writer.new.inner) result }
-    ensures sim { (name : List ℕ) → map S.text words.entry.now ≡ name ∷ sim_words
+    ensures sim { Names (map S.text words.entry.now) sim_words
         → IfSome (R.remaining reader.old.inner)
         (λ input. reader.new.failed ≡ 0 → writer.new.failed ≡ 0
         → WritesSim input (W.contents writer.old.inner) (W.contents writer.new.inner) result) }
-    ensures cut { (name : List ℕ) → map S.text words.entry.now ≡ name ∷ sim_words
+    ensures cut { Names (map S.text words.entry.now) sim_words
         → reader.new.failed ≢ reader.old.failed → writer.new.failed ≡ 0
         → WritesCut MayBeSimulated (fault_line Device)
         (R.remaining reader.old.inner) (R.remaining reader.new.inner)

@@ -1,10 +1,17 @@
 -- Where the words that are written out lead.
-use Rattle.std.proofs.Common.{◌≡◌, ℕ, List, [], ◌∷◌, codes, true, Some, refl, inl, inr}
-use Rattle.clap.specs.Words.{HasKind, Kinds, fault_of, kind_of, is_simple, is_simple_and_free, subcommand_of}
+use Rattle.std.proofs.Common.{◌≡◌, List, [], ◌∷◌, true, Some, None, refl, inl, inr}
+use Rattle.std.specs.Prelude.{⊤, find, unwrap_or}
+use Rattle.clap.specs.Words.{HasKind, Kinds, Row, Shape, Text, built, kind_of, is_simple, is_simple_and_free}
+use Rattle.clap.specs.Facts.{parser_of_value}
+use Rattle.clap.specs.Simple.{label_of}
+use Rattle.clap.specs.Values.{reading_of}
+use Rattle.clap.specs.Walk.{answers_to}
+use Rattle.clap.specs.declared.builder.value_parser.ValueParser.TheVariants.{String}
+use Rattle.clap.specs.declared.parser.matches.ValueSource.TheVariants.{CommandLine}
 use Rattle.clap.specs.declared.error.Error.{Error}
 use Rattle.clap.specs.declared.error.kind.ErrorKind.TheVariants.{OutOfMemory}
 use Rattle.clap.proofs.OnLiterals.{clap_on_literals}
-use Rattle.rds_words.specs.Commands.{base_app, with_entries, with_removals, with_counters, with_show, with_sessions, node_app, join_words, sim_words}
+use Rattle.rds_words.specs.Commands.{base_app, with_entries, with_removals, with_counters, with_show, with_sessions, named_app, node_app}
 
 pub node_is_simple : is_simple node_app ≡ true
 unfolding node_app base_app with_entries with_removals with_counters with_show with_sessions clap_on_literals
@@ -14,30 +21,18 @@ pub node_is_free : is_simple_and_free node_app ≡ true
 unfolding node_app base_app with_entries with_removals with_counters with_show with_sessions clap_on_literals
 node_is_free = refl
 
-pub join_is_taken : (name : List ℕ) → fault_of node_app (name ∷ join_words) ≡ []
+-- what is unfolded to compute what words come to
+unfoldable pub node_on_words : ⊤
 unfolding node_app base_app with_entries with_removals with_counters with_show with_sessions clap_on_literals
-join_is_taken name = refl
+node_on_words = tt
 
-pub join_is_entered : (name : List ℕ) → subcommand_of node_app (name ∷ join_words) ≡ Some (codes "join", [])
-unfolding node_app base_app with_entries with_removals with_counters with_show with_sessions clap_on_literals
-join_is_entered name = refl
+-- a command as it is built
+abbrev pub shape_behind : Text → Shape
+shape_behind command = unwrap_or (find (λ s. answers_to command (label_of s)) (built node_app).subs) named_app.top
 
--- `--` says that no option follows
-pub dashes_are_taken : (name : List ℕ) → fault_of node_app (name ∷ codes "join" ∷ codes "--" ∷ []) ≡ []
-unfolding node_app base_app with_entries with_removals with_counters with_show with_sessions clap_on_literals
-dashes_are_taken name = refl
-
-pub dashes_are_entered : (name : List ℕ) → subcommand_of node_app (name ∷ codes "join" ∷ codes "--" ∷ []) ≡ Some (codes "join", [])
-unfolding node_app base_app with_entries with_removals with_counters with_show with_sessions clap_on_literals
-dashes_are_entered name = refl
-
-pub sim_is_taken : (name : List ℕ) → fault_of node_app (name ∷ sim_words) ≡ []
-unfolding node_app base_app with_entries with_removals with_counters with_show with_sessions clap_on_literals
-sim_is_taken name = refl
-
-pub sim_is_entered : (name : List ℕ) → subcommand_of node_app (name ∷ sim_words) ≡ Some (codes "sim", [])
-unfolding node_app base_app with_entries with_removals with_counters with_show with_sessions clap_on_literals
-sim_is_entered name = refl
+-- words that were entered for a place
+abbrev pub row : Text → List Text → Row
+row id values = record { id = id; values = values; count = None; source = Some CommandLine; reading = reading_of (parser_of_value (Some String)) }
 
 -- where no kind may come but want of memory, it is the kind
 pub is_memory : (kinds : Kinds) (e : Error) → kinds ≡ [] → HasKind kinds e → kind_of e ≡ OutOfMemory

@@ -1,4 +1,9 @@
 pub mod CommandWords
+pub mod Dashed
+pub mod DataWords
+pub mod EachNamed
+pub mod InitNamed
 pub mod NamedTasks
 pub mod Naming
 pub mod OneMeaning
+pub mod ServeNamed

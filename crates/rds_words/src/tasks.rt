@@ -1,5 +1,5 @@
 //! The tasks that the words of a command line name.
-ghost use Rattle.std.specs.Prelude.{◌≡◌, ℕ, List, ◌∷◌, map, option_map, IfOk, Some, MatchResult};
+ghost use Rattle.std.specs.Prelude.{◌≡◌, map, option_map, IfOk, Some, MatchResult};
 ghost use Rattle.clap.specs.Words.{FailsBy, fault_of, kind_of, subcommand_of, subcommand_rows_of};
 ghost use Rattle.rds_words.specs.Commands.{node_app, join_words, sim_words};
 ghost use Rattle.rds_words.specs.Task.{words_of, words_in};
@@ -130,7 +130,7 @@ pub fn task_of<'a, S: AsStr>(alloc: Global, words: &'a [S]) -> Result<Option<Tas
     ensures join { Names (map S.text words.entry.now) join_words
         → MatchResult result (λ task. task ≡ Some Task.Join)
         (λ e. kind_of e ≡ ErrorKind.OutOfMemory) }
-    ensures sim { (name : List ℕ) → map S.text words.entry.now ≡ name ∷ sim_words
+    ensures sim { Names (map S.text words.entry.now) sim_words
         → MatchResult result (λ task. task ≡ Some Task.Sim)
         (λ e. kind_of e ≡ ErrorKind.OutOfMemory) }
 {

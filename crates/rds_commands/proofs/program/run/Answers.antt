@@ -11,9 +11,9 @@ returns-in-Err-clause-join g c = λ names.
     (c.write_unparsed.ensures.memory (c.in-Err.ensures.join names))
 
 pub returns-in-Err-clause-sim : goal.returns-in-Err-clause-sim
-returns-in-Err-clause-sim g c = λ name words.
+returns-in-Err-clause-sim g c = λ names.
     sim_unwritten (g.R.Read.remaining c.args.reader.now.inner) (g.W.Write.contents c.args.writer.now.inner) (g.W.Write.contents c.write_unparsed.new.writer.inner) _ _ _
-    (c.write_unparsed.ensures.memory (c.in-Err.ensures.sim name words))
+    (c.write_unparsed.ensures.memory (c.in-Err.ensures.sim names))
 
 pub returns-in-Err-clause-task : goal.returns-in-Err-clause-task
 returns-in-Err-clause-task g c = λ none wrote. inl (c.write_unparsed.ensures.memory (is_memory _ c.in-Err.error none c.in-Err.ensures.kinds) wrote)

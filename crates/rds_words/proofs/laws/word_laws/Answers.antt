@@ -1,13 +1,17 @@
-use Rattle.std.proofs.Common.{ap}
-use Rattle.rds_words.specs.Task.{words_in}
-use Rattle.rds_words.proofs.CommandWords.{join_is_taken, join_is_entered, dashes_are_taken, dashes_are_entered, sim_is_taken, sim_is_entered}
+use Rattle.rds_words.proofs.EachNamed.{once_served, root_cleared, root_shown, task_dashed, task_written}
 use Rattle.rds_words.proofs.laws.word_laws.Goals as goal
 
-pub returns-clause-join : goal.returns-clause-join
-returns-clause-join c = λ name. (join_is_taken name, ap words_in (join_is_entered name))
+pub returns-clause-written : goal.returns-clause-written
+returns-clause-written c = task_written
 
-pub returns-clause-join_behind_dashes : goal.returns-clause-join_behind_dashes
-returns-clause-join_behind_dashes c = λ name. (dashes_are_taken name, ap words_in (dashes_are_entered name))
+pub returns-clause-dashed : goal.returns-clause-dashed
+returns-clause-dashed c = task_dashed
 
-pub returns-clause-sim : goal.returns-clause-sim
-returns-clause-sim c = λ name. (sim_is_taken name, ap words_in (sim_is_entered name))
+pub returns-clause-root_shown : goal.returns-clause-root_shown
+returns-clause-root_shown c = root_shown
+
+pub returns-clause-root_cleared : goal.returns-clause-root_cleared
+returns-clause-root_cleared c = root_cleared
+
+pub returns-clause-one_session : goal.returns-clause-one_session
+returns-clause-one_session c = once_served

@@ -1,9 +1,7 @@
 use Rattle.std.proofs.Common.{◌∙◌, ap}
 use Rattle.std.proofs.lemmas.Result.{err_from_is_err_and}
-use Rattle.clap.specs.Words.{fault_of, subcommand_of}
-use Rattle.rds_words.specs.Commands.{node_app}
 use Rattle.rds_words.specs.Task.{words_in}
-use Rattle.rds_words.proofs.CommandWords.{is_memory, sim_is_taken, sim_is_entered}
+use Rattle.rds_words.proofs.CommandWords.{is_memory}
 use Rattle.rds_words.proofs.NamedTasks.{is_join, is_sim}
 use Rattle.rds_words.proofs.tasks.task_of.Goals as goal
 
@@ -15,10 +13,10 @@ returns-in_err-matches-clause-join g c =
 pub returns-in_err-matches-clause-sim : goal.returns-in_err-matches-clause-sim
 returns-in_err-matches-clause-sim g c =
     let p = err_from_is_err_and c.from_residual.result c.from_residual.ensures.1 in
-    λ name e. rw (p.1, p.2) (is_memory _ c.in_err-matches.field-0.0 (ap (fault_of node_app) e ∙ sim_is_taken name) c.in_err-matches.ensures.kinds)
+    λ names. rw (p.1, p.2) (is_memory _ c.in_err-matches.field-0.0 names.0 c.in_err-matches.ensures.kinds)
 
 pub returns-clause-join : goal.returns-clause-join
 returns-clause-join g c = λ names. is_join c.in_ok-named_task.field-0 (c.in_ok-named_task.ensures ∙ ap words_in c.in_ok-matches.ensures.rows ∙ names.1)
 
 pub returns-clause-sim : goal.returns-clause-sim
-returns-clause-sim g c = λ name e. is_sim c.in_ok-named_task.field-0 (c.in_ok-named_task.ensures ∙ ap words_in (c.in_ok-matches.ensures.rows ∙ ap (subcommand_of node_app) e ∙ sim_is_entered name))
+returns-clause-sim g c = λ names. is_sim c.in_ok-named_task.field-0 (c.in_ok-named_task.ensures ∙ ap words_in c.in_ok-matches.ensures.rows ∙ names.1)

@@ -1,0 +1,182 @@
+-- The words of each task name it, where they are data or stand behind dashes.
+use Rattle.std.proofs.Common.{◌≡◌, ◌∙◌, List, [], ◌∷◌, ◌++◌, codes, refl, ap}
+use Rattle.std.specs.Prelude.{map}
+use Rattle.std.specs.Borrow.{Bor}
+use Rattle.clap.specs.Words.{Text, built}
+use Rattle.rds_names.specs.Conditions.{and_left, and_right}
+use Rattle.rds_words.specs.declared.tasks.Task.{Task}
+use Rattle.rds_words.specs.declared.tasks.Task.TheVariants.{Join, Sim, Init, Edit, Show, Serve, Sync, Pair}
+use Rattle.rds_words.specs.declared.tasks.EditWords.TheVariants.{Set, Add, Del, Clear, Inc, Dec}
+use Rattle.rds_words.specs.Commands.{node_app}
+use Rattle.rds_words.specs.Entered.{Names}
+use Rattle.rds_words.specs.Task.{words_in, words_of}
+use Rattle.rds_words.specs.Written.{AreData, HasNames, IsWritable, dashed, is_data, written}
+use Rattle.rds_words.proofs.CommandWords.{node_on_words}
+use Rattle.rds_words.proofs.Dashed.{Meets, undashed_fault, undashed_rows}
+use Rattle.rds_words.proofs.InitNamed.{init_dashed, init_met}
+use Rattle.rds_words.proofs.ServeNamed.{serve_met, serve_named}
+
+-- words that are data need no dashes
+undashed : (name command : Text) (words result : List Text) → Meets (built node_app) command → AreData words → Names (name ∷ command ∷ codes "--" ∷ words) result → Names (name ∷ command ∷ words) result
+unfolding node_on_words
+undashed name command words result meets are behind = (undashed_fault (built node_app) command words meets are ∙ behind.0, ap words_in (undashed_rows (built node_app) command words meets are) ∙ behind.1)
+
+-- ---- behind dashes
+
+join_dashed : (name : Text) → Names (name ∷ codes "join" ∷ codes "--" ∷ []) (codes "join" ∷ [])
+unfolding node_on_words
+join_dashed name = (refl, refl)
+
+sim_dashed : (name : Text) → Names (name ∷ codes "sim" ∷ codes "--" ∷ []) (codes "sim" ∷ [])
+unfolding node_on_words
+sim_dashed name = (refl, refl)
+
+show_dashed : (name file path : Text) → Names (name ∷ codes "show" ∷ codes "--" ∷ file ∷ path ∷ []) (codes "show" ∷ file ∷ path ∷ [])
+unfolding node_on_words
+show_dashed name file path = (refl, refl)
+
+sync_dashed : (name file addr : Text) → Names (name ∷ codes "sync" ∷ codes "--" ∷ file ∷ addr ∷ []) (codes "sync" ∷ file ∷ addr ∷ [])
+unfolding node_on_words
+sync_dashed name file addr = (refl, refl)
+
+pair_dashed : (name first second : Text) → Names (name ∷ codes "pair" ∷ codes "--" ∷ first ∷ second ∷ []) (codes "pair" ∷ first ∷ second ∷ [])
+unfolding node_on_words
+pair_dashed name first second = (refl, refl)
+
+set_dashed : (name file path value : Text) → Names (name ∷ codes "set" ∷ codes "--" ∷ file ∷ path ∷ value ∷ []) (codes "set" ∷ file ∷ path ∷ value ∷ [])
+unfolding node_on_words
+set_dashed name file path value = (refl, refl)
+
+add_dashed : (name file path value : Text) → Names (name ∷ codes "add" ∷ codes "--" ∷ file ∷ path ∷ value ∷ []) (codes "add" ∷ file ∷ path ∷ value ∷ [])
+unfolding node_on_words
+add_dashed name file path value = (refl, refl)
+
+del_dashed : (name file path value : Text) → Names (name ∷ codes "del" ∷ codes "--" ∷ file ∷ path ∷ value ∷ []) (codes "del" ∷ file ∷ path ∷ value ∷ [])
+unfolding node_on_words
+del_dashed name file path value = (refl, refl)
+
+clear_dashed : (name file path : Text) → Names (name ∷ codes "clear" ∷ codes "--" ∷ file ∷ path ∷ []) (codes "clear" ∷ file ∷ path ∷ [])
+unfolding node_on_words
+clear_dashed name file path = (refl, refl)
+
+inc_dashed : (name file key by : Text) → Names (name ∷ codes "inc" ∷ codes "--" ∷ file ∷ key ∷ by ∷ []) (codes "inc" ∷ file ∷ key ∷ by ∷ [])
+unfolding node_on_words
+inc_dashed name file key by = (refl, refl)
+
+dec_dashed : (name file key by : Text) → Names (name ∷ codes "dec" ∷ codes "--" ∷ file ∷ key ∷ by ∷ []) (codes "dec" ∷ file ∷ key ∷ by ∷ [])
+unfolding node_on_words
+dec_dashed name file key by = (refl, refl)
+
+serve_dashed : (name file addr sessions : Text) → Names (name ∷ codes "serve" ∷ (codes "--sessions=" ++ sessions) ∷ codes "--" ∷ file ∷ addr ∷ []) (codes "serve" ∷ file ∷ addr ∷ sessions ∷ [])
+unfolding node_on_words
+serve_dashed name file addr sessions = (refl, refl)
+
+once_dashed : (name file addr : Text) → Names (name ∷ codes "serve" ∷ codes "--" ∷ file ∷ addr ∷ []) (codes "serve" ∷ file ∷ addr ∷ codes "1" ∷ [])
+unfolding node_on_words
+once_dashed name file addr = (refl, refl)
+
+show_root_dashed : (name file : Text) → Names (name ∷ codes "show" ∷ codes "--" ∷ file ∷ []) (codes "show" ∷ file ∷ [] ∷ [])
+unfolding node_on_words
+show_root_dashed name file = (refl, refl)
+
+clear_root_dashed : (name file : Text) → Names (name ∷ codes "clear" ∷ codes "--" ∷ file ∷ []) (codes "clear" ∷ file ∷ [] ∷ [])
+unfolding node_on_words
+clear_root_dashed name file = (refl, refl)
+
+-- ---- where the walk over the words meets each command
+
+join_met : Meets (built node_app) (codes "join")
+unfolding node_on_words
+join_met = (refl, refl)
+
+sim_met : Meets (built node_app) (codes "sim")
+unfolding node_on_words
+sim_met = (refl, refl)
+
+show_met : Meets (built node_app) (codes "show")
+unfolding node_on_words
+show_met = (refl, refl)
+
+sync_met : Meets (built node_app) (codes "sync")
+unfolding node_on_words
+sync_met = (refl, refl)
+
+pair_met : Meets (built node_app) (codes "pair")
+unfolding node_on_words
+pair_met = (refl, refl)
+
+set_met : Meets (built node_app) (codes "set")
+unfolding node_on_words
+set_met = (refl, refl)
+
+add_met : Meets (built node_app) (codes "add")
+unfolding node_on_words
+add_met = (refl, refl)
+
+del_met : Meets (built node_app) (codes "del")
+unfolding node_on_words
+del_met = (refl, refl)
+
+clear_met : Meets (built node_app) (codes "clear")
+unfolding node_on_words
+clear_met = (refl, refl)
+
+inc_met : Meets (built node_app) (codes "inc")
+unfolding node_on_words
+inc_met = (refl, refl)
+
+dec_met : Meets (built node_app) (codes "dec")
+unfolding node_on_words
+dec_met = (refl, refl)
+
+-- ---- each task
+
+init_behind : (name file group own : Text) (names : List (Bor Text)) → (names ≡ [] → ⊥)
+    → Names (name ∷ codes "init" ∷ codes "--" ∷ file ∷ group ∷ own ∷ map (λ n. n.now) names) (codes "init" ∷ file ∷ group ∷ own ∷ map (λ n. n.now) names)
+init_behind name file group own [] has = absurd (has refl)
+init_behind name file group own (n ∷ names) has = init_dashed name file group own n.now (map (λ n. n.now) names)
+
+pub task_dashed : (name : Text) (task : Task) → HasNames task → Names (name ∷ dashed task) (words_of task)
+task_dashed name Join has = join_dashed name
+task_dashed name Sim has = sim_dashed name
+task_dashed name (Init words) has = init_behind name words.file.now words.group.now words.own.now words.names.items has
+task_dashed name (Edit file (Set path value)) has = set_dashed name file.now path.now value.now
+task_dashed name (Edit file (Add path value)) has = add_dashed name file.now path.now value.now
+task_dashed name (Edit file (Del path value)) has = del_dashed name file.now path.now value.now
+task_dashed name (Edit file (Clear path)) has = clear_dashed name file.now path.now
+task_dashed name (Edit file (Inc key by)) has = inc_dashed name file.now key.now by.now
+task_dashed name (Edit file (Dec key by)) has = dec_dashed name file.now key.now by.now
+task_dashed name (Show file path) has = show_dashed name file.now path.now
+task_dashed name (Sync file addr) has = sync_dashed name file.now addr.now
+task_dashed name (Pair first second) has = pair_dashed name first.now second.now
+task_dashed name (Serve words) has = serve_dashed name words.file.now words.addr.now words.sessions.now
+
+pub task_written : (name : Text) (task : Task) → IsWritable task → Names (name ∷ written task) (words_of task)
+task_written name Join is = undashed name (codes "join") [] _ join_met is.1 (join_dashed name)
+task_written name Sim is = undashed name (codes "sim") [] _ sim_met is.1 (sim_dashed name)
+task_written name (Init words) is = undashed name (codes "init") (words.file.now ∷ words.group.now ∷ words.own.now ∷ map (λ n. n.now) words.names.items) _ init_met is.1
+    (init_behind name words.file.now words.group.now words.own.now words.names.items is.0)
+task_written name (Edit file (Set path value)) is = undashed name (codes "set") (file.now ∷ path.now ∷ value.now ∷ []) _ set_met is.1 (set_dashed name file.now path.now value.now)
+task_written name (Edit file (Add path value)) is = undashed name (codes "add") (file.now ∷ path.now ∷ value.now ∷ []) _ add_met is.1 (add_dashed name file.now path.now value.now)
+task_written name (Edit file (Del path value)) is = undashed name (codes "del") (file.now ∷ path.now ∷ value.now ∷ []) _ del_met is.1 (del_dashed name file.now path.now value.now)
+task_written name (Edit file (Clear path)) is = undashed name (codes "clear") (file.now ∷ path.now ∷ []) _ clear_met is.1 (clear_dashed name file.now path.now)
+task_written name (Edit file (Inc key by)) is = undashed name (codes "inc") (file.now ∷ key.now ∷ by.now ∷ []) _ inc_met is.1 (inc_dashed name file.now key.now by.now)
+task_written name (Edit file (Dec key by)) is = undashed name (codes "dec") (file.now ∷ key.now ∷ by.now ∷ []) _ dec_met is.1 (dec_dashed name file.now key.now by.now)
+task_written name (Show file path) is = undashed name (codes "show") (file.now ∷ path.now ∷ []) _ show_met is.1 (show_dashed name file.now path.now)
+task_written name (Sync file addr) is = undashed name (codes "sync") (file.now ∷ addr.now ∷ []) _ sync_met is.1 (sync_dashed name file.now addr.now)
+task_written name (Pair first second) is = undashed name (codes "pair") (first.now ∷ second.now ∷ []) _ pair_met is.1 (pair_dashed name first.now second.now)
+task_written name (Serve words) is =
+    let behind = and_right (is_data words.file.now) _ is.1 in
+    serve_named name words.file.now words.addr.now words.sessions.now (and_left (is_data words.file.now) _ is.1) (and_left (is_data words.addr.now) _ behind)
+    (and_left (is_data words.sessions.now) _ (and_right (is_data words.addr.now) _ behind))
+
+-- ---- what may be left out
+
+pub root_shown : (name file : Text) → AreData (file ∷ []) → Names (name ∷ codes "show" ∷ file ∷ []) (codes "show" ∷ file ∷ [] ∷ [])
+root_shown name file are = undashed name (codes "show") (file ∷ []) _ show_met are (show_root_dashed name file)
+
+pub root_cleared : (name file : Text) → AreData (file ∷ []) → Names (name ∷ codes "clear" ∷ file ∷ []) (codes "clear" ∷ file ∷ [] ∷ [])
+root_cleared name file are = undashed name (codes "clear") (file ∷ []) _ clear_met are (clear_root_dashed name file)
+
+pub once_served : (name file addr : Text) → AreData (file ∷ addr ∷ []) → Names (name ∷ codes "serve" ∷ file ∷ addr ∷ []) (codes "serve" ∷ file ∷ addr ∷ codes "1" ∷ [])
+once_served name file addr are = undashed name (codes "serve") (file ∷ addr ∷ []) _ serve_met are (once_dashed name file addr)

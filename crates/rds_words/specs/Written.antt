@@ -1,0 +1,38 @@
+-- How a task is written on the command line.
+use Rattle.std.specs.Prelude.{◌≡◌, ⊤, Bool, true, not, ◌==◌, List, [], ◌∷◌, ◌++◌, codes, drop}
+use Rattle.std.specs.List.{list_all}
+use Rattle.clap.specs.Words.{Text}
+use Rattle.rds_words.specs.declared.tasks.Task.{Task}
+use Rattle.rds_words.specs.declared.tasks.Task.TheVariants.{Init, Serve}
+use Rattle.rds_words.specs.Task.{words_of}
+
+-- the word can't be taken for an option: it doesn't begin with a hyphen
+abbrev pub is_data : Text → Bool
+is_data [] = true
+is_data (b ∷ bs) = not (b == 45)
+
+abbrev pub AreData : List Text → Type 0
+AreData words = list_all is_data words ≡ true
+
+-- the command, then its words; how many sessions `serve` has is said by its option
+abbrev pub written : Task → List Text
+written (Serve words) = codes "serve" ∷ words.file.now ∷ words.addr.now ∷ codes "--sessions" ∷ words.sessions.now ∷ []
+written task = words_of task
+
+-- two dashes stand between the command, with its option, and its words
+abbrev pub dashes_in : List Text → List Text
+dashes_in [] = []
+dashes_in (command ∷ words) = command ∷ codes "--" ∷ words
+
+abbrev pub dashed : Task → List Text
+dashed (Serve words) = codes "serve" ∷ (codes "--sessions=" ++ words.sessions.now) ∷ codes "--" ∷ words.file.now ∷ words.addr.now ∷ []
+dashed task = dashes_in (words_of task)
+
+-- `init` has a name
+abbrev pub HasNames : Task → Type 0
+HasNames (Init words) = words.names.items ≡ [] → ⊥
+HasNames task = ⊤
+
+-- the words behind the command are data
+abbrev pub IsWritable : Task → Type 0
+IsWritable task = HasNames task × AreData (drop 1 (words_of task))
