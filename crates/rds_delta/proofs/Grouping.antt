@@ -114,9 +114,6 @@ record IsFront (c : Claim) (old new : List Row) : Type 0 where
   full : list_all is_full new ≡ true
   apart : are_apart new ≡ true
 
-apart_one : (x : Row) (rs : List Row) → stops_before x rs ≡ true → are_apart rs ≡ true → are_apart (x ∷ rs) ≡ true
-apart_one x rs a b = and_true _ _ a b
-
 dead_is_front : (d : Dot) (p : ℕ) (rs : List Row) → list_all is_full rs ≡ true → are_apart rs ≡ true → IsFront (OfDead d p) rs (dead_front d p rs)
 dead_is_front d p [] full apart = record { claimed = ap (λ cs. cs ++ []) (one_spread d p); full = and_true _ _ (one_full d.seq) refl; apart = refl }
 dead_is_front d p (rows.Live e ∷ rs) full apart = record { claimed = ap (λ cs. cs ++ spread_all (rows.Live e ∷ rs)) (one_spread d p); full = and_true _ _ (one_full d.seq) full; apart = apart }

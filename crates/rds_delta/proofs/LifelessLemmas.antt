@@ -46,9 +46,6 @@ same_dots a b n m e f = grind (arith, nat_tests)
 most : (a n : ℕ) → (leb a 255 && leb 1 n && leb n 281474976710655) ≡ true → n ≤ 281474976710655
 most a n h = grind (arith, nat_tests)
 
-one_up : (a n : ℕ) → (leb a 255 && leb 1 n && leb n 281474976710655) ≡ true → 1 ≤ n
-one_up a n h = grind (arith, nat_tests)
-
 module _ (v : Lived) (d : Dot) (one : is_dot d ≡ true) (rows : List (Dot × Entry)) (are : rows ≡ live_rows v) where
   rise : ascends (keys rows) ≡ true
   rise = ap (λ rs. ascends (keys rs)) are ∙ rise-live_rows v

@@ -164,7 +164,8 @@ fn act(disk: &Disk<'_>, action: &str, path: &str) -> Result<&'static str, Fault>
         "open" => opened(disk, path),
         "create" => created(disk, path),
         "keep" => kept(disk, path),
-        _ => replaced(disk, path),
+        "replace" => replaced(disk, path),
+        _ => Err(Fault::Usage),
     }
 }
 

@@ -76,7 +76,7 @@ impl<'a> Transcript<'a> {
     }
 
     // Rows about the file that the last row `read` has read.
-    fn answer_read(&mut self, alloc: Global, name: &str, rest: &str) -> Result<String, Fault> {
+    fn answer_read(&mut self, name: &str, rest: &str) -> Result<String, Fault> {
         let Some(file) = &mut self.file else {
             return Err(Fault::Usage);
         };
@@ -114,7 +114,7 @@ impl Table for Transcript<'_> {
                 self.answer_file(name, rest)
             }
             "read" => self.read(alloc),
-            "keep" | "settle" | "settle_nothing" => self.answer_read(alloc, name, rest),
+            "keep" | "settle" | "settle_nothing" => self.answer_read(name, rest),
             "meet" => meet_peer(self.rt, rest),
             _ => Err(Fault::Usage),
         }

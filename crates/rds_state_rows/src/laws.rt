@@ -2,13 +2,14 @@
 use rds_delta::{checked_delta_laws, friends_exchange_deltas, least_delta_laws};
 use rds_names::Fault;
 use rds_rows::told::said;
-use rds_state::{documents_have_the_sums, friends_take_each_other, join_laws};
+use rds_state::{documents_have_the_sums, friends_take_each_other, join_laws, limits_of_numbers};
 use rds_tree::{same_documents_show_the_same, views_show_what_is_live};
 use std::alloc::Global;
 
 /// `laws` calls the functions whose contracts are laws. They do nothing.
 pub fn laws(alloc: Global) -> Result<String, Fault> {
     join_laws();
+    limits_of_numbers();
     friends_take_each_other();
     documents_have_the_sums();
     least_delta_laws();
