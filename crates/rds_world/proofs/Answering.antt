@@ -1,6 +1,6 @@
 -- What an answer brings, whenever it is taken.
-use Rattle.std.proofs.Common.{◌≡◌, length, ℕ, List, [], ◌∷◌, refl, sym, ap, ◌∙◌, subst, Option, Some, None, slice_get}
-use Rattle.rds_state.specs.Coordinates.{AtMost}
+use Rattle.std.proofs.Common.{◌≡◌, length, ℕ, List, [], ◌∷◌, ◌++◌, refl, sym, ap, ◌∙◌, subst, Option, Some, None, slice_get}
+use Rattle.rds_state.specs.Coordinates.{AtMost, AreCompatible}
 use Rattle.rds_state.proofs.JoinLaws.{reflexive, transitive}
 use Rattle.rds_world.specs.declared.event.Event.{Event}
 use Rattle.rds_world.specs.declared.event.Event.TheVariants.{Edit, Save, Crash, Ask, Answer, Take}
@@ -10,6 +10,7 @@ use Rattle.rds_world.specs.Law.{world_after, BringsWhatWasKept, EachAnswerBrings
 use Rattle.rds_delta.proofs.LeastLaws.{grown_delta, least_delta}
 use Rattle.rds_world.proofs.Coherent.{kept_grows, event_coherent, coherent_start, run_coherent}
 use Rattle.rds_world.proofs.Runs.{run_on, accepted_on}
+use Rattle.rds_world.proofs.Steps.{kept_agrees}
 use Rattle.rds_world.proofs.Tables.{get_front, get_last}
 
 -- ---- what is kept only grows
@@ -56,8 +57,9 @@ stands_run : (es : List Event) (w : World) (k : ℕ) (m : Reply) → slice_get w
 stands_run [] w k m e = e
 stands_run (f ∷ es) w k m e = stands_run es (after w f) k m (stands_step w f k m e)
 
-answer_brings : (w : World) → IsCoherent w → (es : List Event) (s k : ℕ) (q : Question) → slice_get w.asks k ≡ Some q → Accepted (Answer s k ∷ es) w → BringsWhatWasKept w (run (Answer s k ∷ es) w) s k q
-answer_brings w i es s k q e a =
+answer_brings : (w : World) → IsCoherent w → (es : List Event) (s k : ℕ) (q : Question) → slice_get w.asks k ≡ Some q → Accepted (Answer s k ∷ es) w
+    → AreCompatible ((run (Answer s k ∷ es) w).memory q.asker) (w.kept s) → BringsWhatWasKept w (run (Answer s k ∷ es) w) s k q
+answer_brings w i es s k q e a agree =
     let next = event_coherent w i (Answer s k) a.0 in
     let last = run_coherent es (after w (Answer s k)) next a.1 in
     let up : AtMost q.state ((run es (after w (Answer s k))).memory q.asker) =
@@ -65,12 +67,16 @@ answer_brings w i es s k q e a =
     record {
       stands = stands_run es (after w (Answer s k)) (length w.answers) (reply w s k q)
           (subst (λ o. slice_get (answered w s k o).answers (length w.answers) ≡ Some (reply w s k q)) (sym e) (get_last w.answers (reply w s k q)));
+      compatible = agree;
       effect = grown_delta (w.kept s) q.state ((run es (after w (Answer s k))).memory q.asker) up;
       least = λ c h p. least_delta (w.kept s) q.state c p;
     }
 
 pub each_answer_brings : (n : ℕ) (es : List Event) → Accepted es (start n) → EachAnswerBringsWhatWasKept n es
 each_answer_brings n es a before later s k q is e =
-    let both = (accepted_on before (Answer s k ∷ later) (start n)).0 (subst (λ fs. Accepted fs (start n)) is a) in
+    let whole : Accepted (before ++ Answer s k ∷ later) (start n) = subst (λ fs. Accepted fs (start n)) is a in
+    let both = (accepted_on before (Answer s k ∷ later) (start n)).0 whole in
     let there : run (Answer s k ∷ later) (world_after n before) ≡ world_after n es = sym (run_on before (Answer s k ∷ later) (start n)) ∙ ap (λ fs. run fs (start n)) (sym is) in
-    subst (λ w. BringsWhatWasKept (world_after n before) w s k q) there (answer_brings (world_after n before) (run_coherent before (start n) (coherent_start n) both.0) later s k q e both.1)
+    let agree : AreCompatible ((run (Answer s k ∷ later) (world_after n before)).memory q.asker) ((world_after n before).kept s) =
+    subst (λ (w : World). AreCompatible (w.memory q.asker) ((world_after n before).kept s)) (run_on before (Answer s k ∷ later) (start n)) (kept_agrees n before (Answer s k ∷ later) whole q.asker s) in
+    subst (λ w. BringsWhatWasKept (world_after n before) w s k q) there (answer_brings (world_after n before) (run_coherent before (start n) (coherent_start n) both.0) later s k q e both.1 agree)

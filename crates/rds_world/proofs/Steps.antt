@@ -1,5 +1,5 @@
 -- Each event keeps the invariant.
-use Rattle.std.proofs.Common.{◌≡◌, ℕ, ◌<◌, suc, Bool, true, List, [], ◌∷◌, refl, sym, ap, ◌∙◌, subst, inl, inr, ◌⊎◌, arith, ◌==◌, ◌||◌, nat_lt, Option, Some, None, slice_get}
+use Rattle.std.proofs.Common.{◌≡◌, ℕ, ◌<◌, suc, Bool, true, List, [], ◌∷◌, ◌++◌, refl, sym, ap, ◌∙◌, subst, inl, inr, ◌⊎◌, arith, ◌==◌, ◌||◌, nat_lt, Option, Some, None, slice_get}
 use Rattle.std.proofs.lemmas.Bool.Decides.{nat_tests}
 use Rattle.rds_state.specs.Coordinates.{Coordinates, AtMost, AreCompatible, join}
 use Rattle.rds_state.specs.Edit.{effect, refusal}
@@ -343,6 +343,44 @@ run_keeps : (es : List Event) (base : ℕ → Coordinates) (h : Holdings) (w : W
 run_keeps [] base h w l a = l
 run_keeps (e ∷ es) base h w l a = run_keeps es (noted base h.size w e) (hold h e) (after w e)
     (event_keeps (held es (hold h e)).update (bases es (noted base h.size w e) (hold h e) (after w e)) h w e l a.0 (in_tables es base h w e)) a.1
+
+-- ---- what was kept once
+
+answered_holds : (h : Holdings) (s : ℕ) (o : Option ℕ) → (remembers h s o).kept ≡ h.kept
+answered_holds h s None = refl
+answered_holds h s (Some a) = refl
+
+taken_holds : (h : Holdings) (o : Option Remembered) → (takes h o).kept ≡ h.kept
+taken_holds h None = refl
+taken_holds h (Some a) = refl
+
+-- what was backed stays so
+stays_backed : (T : ℕ → Update) (B : ℕ → Coordinates) (h : Holdings) (w : World) (l : Lawful T B h w) (e : Event) (S : ℕ → Bool) → IsBacked T h.kept S → IsBacked T (hold h e).kept S
+stays_backed T B h w l (Edit r c) S b = b
+stays_backed T B h w l (Save r) S b = backed_grows T B h w l r S b
+stays_backed T B h w l (Crash r) S b = b
+stays_backed T B h w l (Ask r) S b = b
+stays_backed T B h w l (Answer s k) S b = subst (λ K. IsBacked T K S) (sym (answered_holds h s (slice_get h.asks k))) b
+stays_backed T B h w l (Take k) S b = subst (λ K. IsBacked T K S) (sym (taken_holds h (slice_get h.answers k))) b
+
+-- each later memory is compatible with a join of updates that were backed
+backed_agrees : (es : List Event) (base : ℕ → Coordinates) (h : Holdings) (w : World) → Lawful (held es h).update (bases es base h w) h w → Accepted es w
+    → (S : ℕ → Bool) (a : Coordinates) → IsBacked (held es h).update h.kept S → IsGathered (effect_of (held es h).update (bases es base h w)) S a → (r : ℕ) → AreCompatible ((run es w).memory r) a
+backed_agrees [] base h w l ok S a b j r = compatible h.update base h w l (h.memory r) S (w.memory r) a (l.memory r) j (own h.update base h w l r) (kept_own h.update base h w l S b)
+backed_agrees (e ∷ es) base h w l ok S a b j r =
+    let T = (held es (hold h e)).update in
+    let B = bases es (noted base h.size w e) (hold h e) (after w e) in
+    backed_agrees es (noted base h.size w e) (hold h e) (after w e) (event_keeps T B h w e l ok.0 (in_tables es base h w e)) ok.1 S a (stays_backed T B h w l e S b) j r
+
+kept_agrees_from : (es later : List Event) (base : ℕ → Coordinates) (h : Holdings) (w : World) → Lawful (held (es ++ later) h).update (bases (es ++ later) base h w) h w → Accepted (es ++ later) w
+    → (r s : ℕ) → AreCompatible ((run (es ++ later) w).memory r) ((run es w).kept s)
+kept_agrees_from [] later base h w l ok r s = backed_agrees later base h w l ok (h.kept s) (w.kept s) (l.kept_backed s) (l.kept s) r
+kept_agrees_from (e ∷ es) later base h w l ok r s = kept_agrees_from es later (noted base h.size w e) (hold h e) (after w e)
+    (event_keeps (held (es ++ later) (hold h e)).update (bases (es ++ later) (noted base h.size w e) (hold h e) (after w e)) h w e l ok.0 (in_tables (es ++ later) base h w e)) ok.1 r s
+
+-- each memory is compatible with all that was kept at an earlier moment
+pub kept_agrees : (n : ℕ) (es later : List Event) → Accepted (es ++ later) (start n) → (r s : ℕ) → AreCompatible ((run (es ++ later) (start n)).memory r) ((run es (start n)).kept s)
+kept_agrees n es later ok = kept_agrees_from es later (λ i. empty) nothing_held (start n) (lawful_start (held (es ++ later) nothing_held).update (bases (es ++ later) (λ i. empty) nothing_held (start n)) n) ok
 
 -- after any list of events none of which is refused
 pub lawful : (n : ℕ) (es : List Event) → Accepted es (start n) → Lawful (held es nothing_held).update (bases es (λ i. empty) nothing_held (start n)) (held es nothing_held) (run es (start n))

@@ -57,10 +57,11 @@ SameUpdatesSameState n es = (x y : Store) (r s : ℕ) → ((u : ℕ) → held_in
 
 -- ---- answers
 
--- An answer of s to ask k has its number for good. Joined with the asker's memory, at any later moment, its delta is the
--- join of that memory with what s had kept; and it lies below every state with this effect on the asked state.
+-- An answer of s to ask k has its number for good. The asker's memory, at any later moment, has a join with what s had kept,
+-- and that is its join with the delta, which lies below every state with this effect on the asked state.
 pub record BringsWhatWasKept (w later : World) (s k : ℕ) (q : Question) : Type 0 where
   pub stands : slice_get later.answers (length w.answers) ≡ Some (reply w s k q)
+  pub compatible : AreCompatible (later.memory q.asker) (w.kept s)
   pub effect : join (later.memory q.asker) (reply w s k q).state ≡ join (later.memory q.asker) (w.kept s)
   pub least : (c : Coordinates) → AreCompatible q.state c → join q.state c ≡ join q.state (w.kept s) → AtMost (reply w s k q).state c
 
