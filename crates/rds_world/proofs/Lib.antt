@@ -1,5 +1,6 @@
 pub mod Answering
 pub mod Answered
+pub mod Certified
 pub mod Coherent
 pub mod Counters
 pub mod Edits

@@ -1,5 +1,5 @@
 -- A run goes on by one event; and what holds of the model's run holds of the world that stands for it.
-use Rattle.std.proofs.Common.{◌≡◌, Result, Ok, Err, IfOk, ℕ, ◌<◌, ◌≤◌, ◌+◌, suc, zero, List, [], ◌∷◌, ◌++◌, length, take, drop, get_or, Some, refl, sym, ap, ◌∙◌, subst, arith, slice_get, inl}
+use Rattle.std.proofs.Common.{◌≡◌, Result, Ok, Err, IfOk, IfErr, MatchResult, ℕ, ◌<◌, ◌≤◌, ◌+◌, suc, zero, List, [], ◌∷◌, ◌++◌, length, take, drop, get_or, Option, Some, None, refl, sym, ap, ◌∙◌, subst, arith, slice_get, inl, inr}
 use Rattle.std.proofs.lemmas.List.{take_more}
 use Rattle.rds_names.specs.Roster.{RosterValue}
 use Rattle.rds_names.specs.declared.fault.Fault.{Fault}
@@ -11,11 +11,13 @@ use Rattle.rds_world.specs.World.{World, after, run, start, Accepted}
 use Rattle.rds_world.specs.Coherent.{Store, Memory, Kept, state_in}
 use Rattle.rds_world.specs.Events.{IsAccepted, Refuses}
 use Rattle.rds_world.specs.Law.{IsCoherentAfter, AreFriendsAfter, EachIsTheJoin, EachDotIsExplained, EachShowsItsUpdates, SameUpdatesSameState, EachAnswerBringsWhatWasKept, world_after, held_after, bases_after, effects_after, held_in}
+use Rattle.rds_world.specs.Replies.{EachAnswerIsCertified}
 use Rattle.rds_world.specs.Simulation.{AllHappen, Happens, Reaches, Stops, Throughout, replicas_in, ReplicasAreJoins, ReplicasShowTheirUpdates, SameUpdatesSameReplicas}
 use Rattle.rds_world.specs.Stands.{state_of, Stands}
-use Rattle.rds_world.specs.Stored.{WorldValue}
+use Rattle.rds_world.specs.Stored.{AnswerText, WorldValue}
 use Rattle.rds_world.specs.Updates.{IsJoinOf, ShowsUpdates}
 use Rattle.rds_world.proofs.Answering.{each_answer_brings}
+use Rattle.rds_world.proofs.Certified.{each_certified}
 use Rattle.rds_world.proofs.Coherent.{coherent_start, run_coherent}
 use Rattle.rds_world.proofs.Counters.{store_shows, run_replicas}
 use Rattle.rds_world.proofs.Friends.{friends}
@@ -121,3 +123,17 @@ module _ (roster : RosterValue) (es : List Event) (v : WorldValue) (r : Reaches 
 pub if_ok : {T E : Type 0} (P Q : T → Type 0) (r : Result T E) → ((x : T) → P x → Q x) → IfOk r P → IfOk r Q
 if_ok P Q (Ok x) f p = f x p
 if_ok P Q (Err e) f p = tt
+
+certified_where : (roster : RosterValue) (es : List Event) (v : WorldValue) → Reaches roster es v → EachAnswerIsCertified v
+certified_where roster es v r =
+    let n = length roster.names in
+    each_certified v (record { world = world_after n es; stands = r.stands; coherent = run_coherent es (start n) (coherent_start n) (accepted_by_model roster es (start n) r.happened) })
+
+no_answers : (v : WorldValue) → v.answers ≡ [] → EachAnswerIsCertified v
+no_answers v is k a e = let bad : None ≡ Some a = ap (λ (xs : List AnswerText). slice_get xs k) (sym is) ∙ e in cc
+
+-- in a world that was reached, to the end or not, the certificate of each answer is accepted
+pub certified : (roster : RosterValue) (es : List Event) (r : Result WorldValue (WorldValue × Fault)) → IfOk r (λ v. Reaches roster es v) → IfErr r (λ e. Stops roster es e.0 e.1)
+    → MatchResult r EachAnswerIsCertified (λ e. EachAnswerIsCertified e.0)
+certified roster es (Ok v) h s = certified_where roster es v h
+certified roster es (Err e) h s = elim s [ inl x ↦ certified_where roster x.before e.0 x.reached | inr x ↦ no_answers e.0 x.answers ]

@@ -29,10 +29,11 @@ use Rattle.rds_world.specs.Stands.{state_of, HasModel, HoldsAsk, HoldsAnswer, St
 use Rattle.rds_world.specs.Events.{Refuses, NoMemory, Due, Large}
 use Rattle.rds_world.specs.Replies.{IsTaken, IsNotTaken, NoDigest, NoAnswer, Uncertified, Untaken}
 use Rattle.rds_world.specs.Steps.{IsStopped}
-use Rattle.rds_world.proofs.Answered.{HasPartner, absent_at, partner, present_at}
+use Rattle.rds_world.proofs.Answered.{HasPartner, absent_at, present_at}
+use Rattle.rds_world.proofs.Certified as bytes
 use Rattle.rds_world.proofs.Friends.{may_take}
 use Rattle.rds_world.proofs.Performed.{IsDoneTo, read_at, set_same, stopped, world_memory}
-use Rattle.rds_world.proofs.Readings.{few_sent, read_again, read_answer, read_ranks, unread_answer}
+use Rattle.rds_world.proofs.Readings.{few_sent, unread_answer}
 use Rattle.rds_world.proofs.Standing.{model_after, stands_memory}
 
 abbrev is_memory : Fault → Bool
@@ -56,46 +57,11 @@ module _ (v : WorldValue) (i : IsWorld v) (k : ℕ) (t : AnswerText) (a : AskTex
   in_model : (w : World) → Stands v w → w.memory t.asker ≡ coordinates m.state
   in_model w s = s.memory t.asker ∙ ap state_of there
 
-  answer_of : (w : World) (s : Stands v w) → HasPartner (HoldsAnswer n w.asks v.asks) w.answers k t
-  answer_of w s = partner (HoldsAnswer n w.asks v.asks) w.answers v.answers k t s.answers answer_there
-
-  ask_of : (w : World) (s : Stands v w) → HasPartner (HoldsAsk n) w.asks t.question a
-  ask_of w s = partner (HoldsAsk n) w.asks v.asks t.question a s.asks ask_there
+  abbrev answer_of : (w : World) (s : Stands v w) → HasPartner (HoldsAnswer n w.asks v.asks) w.answers k t
+  answer_of w s = bytes.answer_of v k t a answer_there ask_there w s
 
   due : (w : World) → Stands v w → refused w (Take k) ≡ None
   due w s = present_at w.answers k (answer_of w s).it (answer_of w s).there
-
-  -- what was read is the answer's state
-  state_is : (w : World) (s : Stands v w) (x : AnswerValue) → Decodes (answer_kind n) t.bytes (Ok x) → coordinates x.state ≡ (answer_of w s).it.state
-  state_is w s x d =
-      let y = answer_of w s in
-      ap (λ (z : AnswerValue). coordinates z.state) (read_answer n w.asks v.asks y.it t y.related x d) ∙ y.related.state
-
-  -- what was asked from is that of the answer's ask
-  asked_is : (w : World) (s : Stands v w) → (answer_of w s).related.asked ≡ (ask_of w s).it
-  asked_is w s =
-      let y = answer_of w s in
-      read_at w.asks t.question (ask_of w s).it y.related.asked (ask_of w s).there (subst (λ j. slice_get w.asks j ≡ Some y.related.asked) (sym y.related.question) y.related.ask)
-
-  certified : (m : HasModel v) (g : DigestValue) (x : AnswerValue) → Decodes (digest_kind n) a.bytes (Ok g) → Decodes (answer_kind n) t.bytes (Ok x)
-      → IsAbove (coordinates x.state) (ranks_in g) × IsCertificate (ranks_in g) x.state x.certificate
-  certified m g x dg dx =
-      let w = m.world in
-      let s = m.stands in
-      let y = answer_of w s in
-      let q = ask_of w s in
-      let told : ranks_in g ≡ ranks q.it.state = read_ranks n q.it a q.related g dg in
-      let is = read_answer n w.asks v.asks y.it t y.related x dx in
-      let its = m.coherent.answers_its k y.it y.there in
-      let same : its.question ≡ q.it = read_at w.asks t.question q.it its.question q.there (subst (λ j. slice_get w.asks j ≡ Some its.question) (sym y.related.question) its.asked) in
-      let above : IsAbove (coordinates x.state) (ranks_in g) =
-      subst (λ b. IsAbove (coordinates x.state) b) (sym told)
-      (subst (λ (z : Question). IsAbove (coordinates x.state) (ranks z.state)) same (subst (λ b. IsAbove b (ranks its.question.state)) (sym (state_is w s x dx)) its.above)) in
-      let certificate : IsCertificate (ranks_in g) x.state x.certificate =
-      subst (λ b. IsCertificate b x.state x.certificate) (sym told)
-      (subst (λ (z : Question). IsCertificate (ranks z.state) x.state x.certificate) (asked_is w s)
-      (subst (λ (z : AnswerValue). IsCertificate (ranks y.related.asked.state) z.state z.certificate) (sym is) y.related.certificate)) in
-      (above, certificate)
 
   -- in the model the answer may be taken
   taken_there : (h : HasModel v) (x : AnswerValue) → Decodes (answer_kind n) t.bytes (Ok x) → MayTake m.own (coordinates m.state) (coordinates x.state)
@@ -107,7 +73,7 @@ module _ (v : WorldValue) (i : IsWorld v) (k : ℕ) (t : AnswerText) (a : AskTex
       let one : MayTake t.asker (w.memory t.asker) y.it.state = subst (λ o. MayTake o (w.memory o) y.it.state) (sym y.related.asker) may in
       let two : MayTake m.own (w.memory t.asker) y.it.state = subst (λ o. MayTake o (w.memory t.asker) y.it.state) (sym (i.memory t.asker m there).1) one in
       let three : MayTake m.own (coordinates m.state) y.it.state = subst (λ b. MayTake m.own b y.it.state) (in_model w s) two in
-      subst (λ b. MayTake m.own (coordinates m.state) b) (sym (state_is w s x dx)) three
+      subst (λ b. MayTake m.own (coordinates m.state) b) (sym (bytes.state_is v k t a answer_there ask_there w s x dx)) three
 
   only_memory : (f : Fault) (x : AnswerValue) → Decodes (answer_kind n) t.bytes (Ok x) → TakeGives {T = Unit {0}} m.state m.own x.state (Err f) → f ≡ Memory
   only_memory f x dx gives = elim (is_memory f) as (λ b. is_memory f ≡ b → f ≡ Memory) [
@@ -126,11 +92,7 @@ module _ (v : WorldValue) (i : IsWorld v) (k : ℕ) (t : AnswerText) (a : AskTex
 
   stopped_by : (f : Fault) → IsNotTaken (length m.roster.names) a.bytes t.bytes m.own m.state f → (w : World) (s : Stands v w) → Refuses v w (Take k) f
   stopped_by f (NoDigest d) w s =
-      let y = answer_of w s in
-      let read = y.related.read in
-      let same : read.ask ≡ a = read_at v.asks t.question a read.ask ask_there (subst (λ j. slice_get v.asks j ≡ Some read.ask) (sym y.related.question) read.there) in
-      let is_text = subst (λ (z : AskText). Rattle.rds_codec.specs.Decoding.IsTextOf (digest_kind n) z.bytes read.digest) same read.is_text in
-      let is : f ≡ Memory = read_again n a.bytes read.digest f is_text (ask_of w s).related.within (subst (λ j. Decodes (digest_kind j) a.bytes (Err f)) same_roster d) in
+      let is : f ≡ Memory = bytes.unread v k t a answer_there ask_there w s f (subst (λ j. Decodes (digest_kind j) a.bytes (Err f)) same_roster d) in
       subst (Refuses v w (Take k)) (sym is) (NoMemory (due w s) (λ z. z))
   stopped_by f (NoAnswer d) w s =
       let y = answer_of w s in
@@ -139,7 +101,7 @@ module _ (v : WorldValue) (i : IsWorld v) (k : ℕ) (t : AnswerText) (a : AskTex
         | inr large ↦ subst (Refuses v w (Take k)) (sym large.0) (Large (due w s) (record { reply = t; there = answer_there; large = large.1 }))
       ]
   stopped_by f (Uncertified g x dg dx is wrong) w s =
-      absurd (∥∥₁_elim i.model ⊥_prop (λ h. wrong.wrong (certified h g x (subst (λ j. Decodes (digest_kind j) a.bytes (Ok g)) same_roster dg) (subst (λ j. Decodes (answer_kind j) t.bytes (Ok x)) same_roster dx))))
+      absurd (∥∥₁_elim i.model ⊥_prop (λ h. wrong.wrong (bytes.certified v k t a answer_there ask_there h g x (subst (λ j. Decodes (digest_kind j) a.bytes (Ok g)) same_roster dg) (subst (λ j. Decodes (answer_kind j) t.bytes (Ok x)) same_roster dx))))
   stopped_by f (Untaken x dx gives) w s =
       subst (Refuses v w (Take k)) (sym (only_memory f x (subst (λ j. Decodes (answer_kind j) t.bytes (Ok x)) same_roster dx) gives)) (NoMemory (due w s) (λ z. z))
 
@@ -157,7 +119,7 @@ module _ (v : WorldValue) (i : IsWorld v) (k : ℕ) (t : AnswerText) (a : AskTex
       λ w s.
       (let y = answer_of w s in
       let mine = in_model w s in
-      let sent = state_is w s is.answer read in
+      let sent = bytes.state_is v k t a answer_there ask_there w s is.answer read in
       let joined : join (w.memory t.asker) y.it.state ≡ coordinates x.state = (λ j. join (mine j) y.it.state) ∙ ap (λ b. join (coordinates m.state) b) (sym sent) ∙ sym is.joined in
       let one = stands_memory v w t.asker x (join (w.memory t.asker) y.it.state) lt at s joined in
       let two : Stands (record v { memory = set v.memory t.asker x }) (record w { memory = put w.memory y.it.asker (join (w.memory y.it.asker) y.it.state) }) =

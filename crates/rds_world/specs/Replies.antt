@@ -1,18 +1,19 @@
 -- What the bytes of an answer hold, and why an answer isn't taken.
-use Rattle.std.specs.Prelude.{◌≡◌, ℕ, List, Ok, Err}
+use Rattle.std.specs.Prelude.{◌≡◌, ◌⊎◌, ℕ, List, Some, Ok, Err, length, slice_get}
 use Rattle.rds_names.specs.declared.fault.Fault.{Fault}
-use Rattle.rds_names.specs.declared.fault.Fault.TheVariants.{Memory, TooLong, BadCertificate}
+use Rattle.rds_names.specs.declared.fault.Fault.TheVariants.{Memory, TooLong, TooManyDots, BadCertificate}
 use Rattle.rds_state.specs.Ahead.{TakeGives}
 use Rattle.rds_state.specs.Coordinates.{join}
 use Rattle.rds_state.specs.Fits.{Fits}
 use Rattle.rds_state.specs.Value.{StateValue, coordinates}
 use Rattle.rds_delta.specs.Digested.{DigestValue}
-use Rattle.rds_codec.specs.AnswerTexts.{answer_kind}
+use Rattle.rds_codec.specs.AnswerTexts.{HasTooManySent, answer_kind}
 use Rattle.rds_codec.specs.AnswerValues.{AnswerValue}
 use Rattle.rds_codec.specs.CertificateTexts.{IsReplicaOf}
 use Rattle.rds_codec.specs.Decoding.{Decodes}
 use Rattle.rds_codec.specs.DigestTexts.{digest_kind}
 use Rattle.rds_codec.specs.Exchanged.{IsCertified, IsLongAnswer, IsReplyTo, IsUncertified}
+use Rattle.rds_world.specs.Stored.{AskText, AnswerText, WorldValue}
 
 -- the digest in the bytes was read, and the answer made
 pub record IsReply (n : ℕ) (ask : List ℕ) (asker : ℕ) (held : StateValue) (bytes : List ℕ) (components : ℕ) : Type 0 where
@@ -43,3 +44,18 @@ pub data IsNotTaken (n : ℕ) (ask bytes : List ℕ) (own : ℕ) (old : StateVal
   NoAnswer : Decodes (answer_kind n) bytes (Err fault) → IsNotTaken n ask bytes own old fault
   Uncertified : (digest : DigestValue) (a : AnswerValue) → Decodes (digest_kind n) ask (Ok digest) → Decodes (answer_kind n) bytes (Ok a) → fault ≡ BadCertificate → IsUncertified digest a → IsNotTaken n ask bytes own old fault
   Untaken : (a : AnswerValue) → Decodes (answer_kind n) bytes (Ok a) → TakeGives {T = Unit {0}} old own a.state (Err fault) → IsNotTaken n ask bytes own old fault
+
+-- ---- certificates
+
+-- The ask of an answer is there. It is read again, if there is memory, and so is the answer, unless a set of it has more dots
+-- than are read. What is read passes the check: all of the delta is above the digest, and the rows are its certificate.
+pub record PassesTheCheck (n : ℕ) (asks : List AskText) (a : AnswerText) : Type 0 where
+  pub ask : AskText
+  pub there : slice_get asks a.question ≡ Some ask
+  pub asked : (f : Fault) → Decodes (digest_kind n) ask.bytes (Err f) → f ≡ Memory
+  pub read : (f : Fault) → Decodes (answer_kind n) a.bytes (Err f) → (f ≡ Memory) ⊎ ((f ≡ TooManyDots) × HasTooManySent n a.bytes)
+  pub certified : (digest : DigestValue) (answer : AnswerValue) → Decodes (digest_kind n) ask.bytes (Ok digest) → Decodes (answer_kind n) a.bytes (Ok answer) → IsCertified digest answer
+
+-- the certificate of each answer is accepted against its ask
+abbrev pub EachAnswerIsCertified : WorldValue → Type 0
+EachAnswerIsCertified v = (k : ℕ) (a : AnswerText) → slice_get v.answers k ≡ Some a → PassesTheCheck (length v.roster.names) v.asks a

@@ -46,6 +46,8 @@ pub record HasNoReplicas (v : WorldValue) (fault : Fault) : Type 0 where
   pub fault_is : fault ≡ Memory
   pub memory : v.memory ≡ []
   pub kept : v.kept ≡ []
+  pub asks : v.asks ≡ []
+  pub answers : v.answers ≡ []
 
 -- why a list of events wasn't gone through
 abbrev pub Stops : RosterValue → List Event → WorldValue → Fault → Type 0

@@ -1,6 +1,7 @@
 //! Lists of events.
 ghost use Rattle.std.specs.Prelude.{◌≡◌, ◌≤◌, IfOk, IfErr, MatchResult, length};
 ghost use Rattle.rds_world.specs.Law.{IsCoherentAfter, AreFriendsAfter, EachIsTheJoin, EachDotIsExplained, EachShowsItsUpdates, SameUpdatesSameState, EachAnswerBringsWhatWasKept};
+ghost use Rattle.rds_world.specs.Replies.{EachAnswerIsCertified};
 ghost use Rattle.rds_world.specs.Simulation.{Reaches, Stops, Throughout, ReplicasAreJoins, ReplicasShowTheirUpdates, SameUpdatesSameReplicas};
 
 use crate::event::Event;
@@ -13,7 +14,8 @@ use std::alloc::Global;
 /// why. Where there is no memory for the replicas: a world without any, and `Memory`.
 ///
 /// Each state in memory and as kept is the join of the effects of exactly the updates that it holds, as these follow from
-/// the events alone, and its document is theirs, whatever was lost in crashes, came late, twice or never.
+/// the events alone, and its document is theirs, whatever was lost in crashes, came late, twice or never. The bytes of each
+/// answer bring a certificate that is accepted against what those of its ask bring.
 pub fn simulate<S: DotSet>(
     alloc: Global,
     roster: Roster,
@@ -25,6 +27,7 @@ pub fn simulate<S: DotSet>(
     ensures joins { IfOk result (λ world. ReplicasAreJoins (length roster.names) events.now world) }
     ensures documents { IfOk result (λ world. ReplicasShowTheirUpdates (length roster.names) events.now world) }
     ensures same { IfOk result (λ world. SameUpdatesSameReplicas (length roster.names) events.now world) }
+    ensures certified { MatchResult result EachAnswerIsCertified (λ e. EachAnswerIsCertified e.0) }
     ensures coherent_throughout { Throughout (length roster.names) events.now IsCoherentAfter }
     ensures friends_throughout { Throughout (length roster.names) events.now AreFriendsAfter }
     ensures joins_throughout { Throughout (length roster.names) events.now EachIsTheJoin }

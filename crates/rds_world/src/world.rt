@@ -1,5 +1,5 @@
 //! All replicas of a document, in memory and as kept.
-ghost use Rattle.std.specs.Prelude.{◌≡◌, ◌≤◌, ◌<◌, ◌⊎◌, Some, None, IfOk, IfErr, OnOk, MatchResult, length, slice_get};
+ghost use Rattle.std.specs.Prelude.{◌≡◌, ◌≤◌, ◌<◌, ◌⊎◌, [], Some, None, IfOk, IfErr, OnOk, MatchResult, length, slice_get};
 ghost use Rattle.std.specs.FinMap as map;
 ghost use Rattle.rds_codec.specs.StateTexts.{snapshot_text};
 ghost use Rattle.rds_codec.specs.declared.limits.TheConstants.{LIMIT};
@@ -82,6 +82,8 @@ impl<S: DotSet> World<S> {
         ensures roster { result.roster ≡ roster }
         ensures memory { result.memory ≡ memory.items }
         ensures kept { result.kept ≡ kept.items }
+        ensures asks { result.asks ≡ [] }
+        ensures answers { result.answers ≡ [] }
     {
         World {
             roster,

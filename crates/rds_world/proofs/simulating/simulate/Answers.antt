@@ -1,6 +1,6 @@
 use Rattle.std.proofs.Common.{length}
 use Rattle.rds_world.specs.Simulation.{Reaches, ReplicasAreJoins, ReplicasShowTheirUpdates, SameUpdatesSameReplicas}
-use Rattle.rds_world.proofs.Simulated.{if_ok, replicas_are_joins, replicas_show, same_replicas, coherent_throughout, friends_throughout, joins_throughout, dots_throughout, documents_throughout, same_throughout, answers_throughout}
+use Rattle.rds_world.proofs.Simulated.{if_ok, replicas_are_joins, replicas_show, same_replicas, certified, coherent_throughout, friends_throughout, joins_throughout, dots_throughout, documents_throughout, same_throughout, answers_throughout}
 use Rattle.rds_world.proofs.simulating.simulate.Goals as goal
 
 pub returns-clause-joins : goal.returns-clause-joins
@@ -23,6 +23,9 @@ returns-clause-same g c =
     let n = length roster.names in
     let es = c.args.events.now in
     if_ok (Reaches roster es) (SameUpdatesSameReplicas n es) c.go_through.result (same_replicas roster es) c.go_through.ensures.reached
+
+pub returns-clause-certified : goal.returns-clause-certified
+returns-clause-certified g c = certified c.args.roster c.args.events.now c.go_through.result c.go_through.ensures.reached c.go_through.ensures.stopped
 
 pub returns-clause-coherent_throughout : goal.returns-clause-coherent_throughout
 returns-clause-coherent_throughout g c = coherent_throughout (length c.args.roster.names) c.args.events.now
