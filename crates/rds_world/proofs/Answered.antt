@@ -101,12 +101,12 @@ module _ (v : WorldValue) (i : IsWorld v) (r k : ℕ) (m : ReplicaValue) (a : As
       h ∙ sym ((λ j. least (kept j) (ranks (is j).state)) ∙ ap (λ b. least (coordinates m.state) b) (sym e))
 
   pub answer_stopped : (f : Fault) → HasNoReply (length m.roster.names) a.bytes a.asker m.state f → IsStopped v (Answer r k) f v
-  answer_stopped f (Lacks is) = no_memory v (Answer r k) f is due (λ x. x)
+  answer_stopped f (Lacks is) = no_memory v (Answer r k) f is due (λ x. x) (λ w. tt)
   answer_stopped f (Unread read) = stopped v (Answer r k) f (λ w s.
       let q = ask_of w s in
       let why = unread_ask n q.it a q.related f (subst (λ j. Decodes (digest_kind j) a.bytes (Err f)) same_roster read) in
       elim why [
-        | inl is ↦ subst (Refuses v w (Answer r k)) (sym is) (NoMemory (due w s) (λ x. x))
+        | inl is ↦ subst (Refuses v w (Answer r k)) (sym is) (NoMemory (due w s) (λ x. x) tt)
         | inr large ↦ subst (Refuses v w (Answer r k)) (sym large.0) (Large (due w s) (record { ask = a; there = asked; large = large.1 }))
       ])
   answer_stopped f (TooBig g read is long) = stopped v (Answer r k) f (λ w s.

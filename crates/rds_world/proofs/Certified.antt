@@ -1,6 +1,5 @@
 -- What the bytes of an ask and its answer bring passes the check.
-use Rattle.std.proofs.Common.{◌≡◌, ℕ, [], length, Some, Ok, Err, Result, refl, sym, ap, ◌∙◌, subst, slice_get}
-use Rattle.std.specs.Prelude.{List, IfOk, IfErr, MatchResult}
+use Rattle.std.proofs.Common.{◌≡◌, ℕ, length, Some, Ok, Err, sym, ap, ◌∙◌, subst, slice_get}
 use Rattle.rds_names.specs.declared.fault.Fault.{Fault}
 use Rattle.rds_names.specs.declared.fault.Fault.TheVariants.{Memory}
 use Rattle.rds_state.specs.Value.{coordinates}
@@ -12,9 +11,8 @@ use Rattle.rds_codec.specs.AnswerTexts.{answer_kind}
 use Rattle.rds_codec.specs.AnswerValues.{AnswerValue}
 use Rattle.rds_codec.specs.Decoding.{Decodes, IsTextOf}
 use Rattle.rds_codec.specs.DigestTexts.{digest_kind}
-use Rattle.rds_codec.specs.Exchanged.{IsCertified}
 use Rattle.rds_world.specs.World.{World, Question}
-use Rattle.rds_world.specs.Replies.{PassesTheCheck, EachAnswerIsCertified}
+use Rattle.rds_world.specs.Replies.{EachAnswerIsCertified}
 use Rattle.rds_world.specs.Stored.{AskText, AnswerText, WorldValue}
 use Rattle.rds_world.specs.Stands.{HasModel, HoldsAsk, HoldsAnswer, Stands}
 use Rattle.rds_world.proofs.Answered.{HasPartner, partner}

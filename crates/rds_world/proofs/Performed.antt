@@ -1,5 +1,5 @@
 -- Each event does to the value of a world what it does to the model.
-use Rattle.std.proofs.Common.{◌≡◌, ◌+◌, suc, zero, ℕ, ◌<◌, ◌≤◌, List, [], ◌∷◌, ◌++◌, length, length-append, Option, Some, None, refl, sym, ap, ◌∙◌, subst, arith, slice_get, inl, inr, ◌⊎◌, count_by, nat_lt}
+use Rattle.std.proofs.Common.{◌≡◌, ◌≢◌, Bool, true, false, ◌+◌, suc, zero, ℕ, ◌<◌, ◌≤◌, List, [], ◌∷◌, ◌++◌, length, length-append, Option, Some, None, refl, sym, ap, ◌∙◌, subst, arith, slice_get, inl, inr, ◌⊎◌, count_by, nat_lt}
 use Rattle.std.proofs.Math.ListN.{set, length-set}
 use Rattle.std.proofs.lemmas.Bool.{lt-ltb, le-ltb}
 use Rattle.rds_names.specs.Roster.{RosterValue}
@@ -7,7 +7,7 @@ use Rattle.rds_names.specs.declared.fault.Fault.{Fault}
 use Rattle.rds_names.specs.declared.fault.Fault.TheVariants.{Memory, NoSuch, TooLong}
 use Rattle.rds_life.specs.Life.{live_rows}
 use Rattle.rds_state.specs.Coordinates.{Coordinates}
-use Rattle.rds_state.specs.Edit.{IsDue, JoinsEffect, covers, new_dot, refusal}
+use Rattle.rds_state.specs.Edit.{IsDue, JoinsEffect, covers, needs_room, new_dot, refusal}
 use Rattle.rds_state.specs.Fits.{ReplicaValue}
 use Rattle.rds_state.specs.Value.{coordinates}
 use Rattle.rds_state.specs.declared.command.Command.{Command}
@@ -22,7 +22,7 @@ use Rattle.rds_world.specs.declared.event.Done.TheVariants.{Edited, Plain, Asked
 use Rattle.rds_world.specs.World.{World, edited, refused, unless_there}
 use Rattle.rds_world.specs.Stored.{AskText, WorldValue}
 use Rattle.rds_world.specs.Stands.{state_of, HoldsAsk, Stands, HasModel, Matched, IsWorld}
-use Rattle.rds_world.specs.Events.{Refuses, NoMemory, Due, Long, SavesTooLong, IsLongSnapshot}
+use Rattle.rds_world.specs.Events.{Refuses, NoMemory, Due, Long, SavesTooLong, TakesMemory, IsLongSnapshot}
 use Rattle.rds_world.specs.Steps.{IsStep, IsStopped}
 use Rattle.rds_world.proofs.Edits.{edit_is}
 use Rattle.rds_world.proofs.Standing.{places_set, stands_memory, stands_kept, stands_asked, model_after}
@@ -59,8 +59,8 @@ pub stopped : (v : WorldValue) (e : Event) (f : Fault) → ((w : World) → Stan
 stopped v e f h = record { refused = h; same = refl }
 
 -- want of memory, where nothing is in the way that is found without memory
-pub no_memory : (v : WorldValue) (e : Event) (f : Fault) → f ≡ Memory → ((w : World) → Stands v w → refused w e ≡ None) → (SavesTooLong v e → ⊥) → IsStopped v e f v
-no_memory v e f is due short = subst (λ x. IsStopped v e x v) (sym is) (stopped v e Memory (λ w s. NoMemory (due w s) short))
+pub no_memory : (v : WorldValue) (e : Event) (f : Fault) → f ≡ Memory → ((w : World) → Stands v w → refused w e ≡ None) → (SavesTooLong v e → ⊥) → ((w : World) → TakesMemory w e) → IsStopped v e f v
+no_memory v e f is due short takes = subst (λ x. IsStopped v e x v) (sym is) (stopped v e Memory (λ w s. NoMemory (due w s) short (takes w)))
 
 -- a replica of the world is one of the model's
 pub of_roster : (v : WorldValue) (r : ℕ) → r < length v.memory → (w : World) → Stands v w → unless_there (nat_lt r w.replicas) None ≡ None
@@ -95,6 +95,10 @@ world_memory v i r x lt at model =
       model = model;
     }
 
+not_false : (b : Bool) → (b ≡ false → ⊥) → b ≡ true
+not_false true k = refl
+not_false false k = absurd (k refl)
+
 -- a replica in memory
 module _ (v : WorldValue) (i : IsWorld v) (r : ℕ) (m : ReplicaValue) (lt : r < length v.memory) (there : slice_get v.memory r ≡ Some m) where
   in_model : (w : World) → Stands v w → w.memory r ≡ coordinates m.state
@@ -112,14 +116,21 @@ module _ (v : WorldValue) (i : IsWorld v) (r : ℕ) (m : ReplicaValue) (lt : r <
         let same = in_model w s in
         is_there r w.replicas (refusal (w.memory r) r c) (below w s) ∙ (λ j. refusal (same j) (own j) c)
 
-    edit_stopped_by : (f : Fault) → IsDue (refusal (coordinates m.state) m.own c) f → (w : World) → Stands v w → Refuses v w (Edit r c) f
-    edit_stopped_by Memory h w s = NoMemory (edit_due w s ∙ h) (λ x. x)
-    edit_stopped_by f h w s = Due f (edit_due w s ∙ h)
+    edit_takes : (needs_room (coordinates m.state) m.own c ≡ false → ⊥) → (w : World) → Stands v w → needs_room (w.memory r) r c ≡ true
+    edit_takes room w s =
+        let own : r ≡ m.own = sym (i.memory r m there).1 in
+        let same = in_model w s in
+        (λ j. needs_room (same j) (own j) c) ∙ not_false (needs_room (coordinates m.state) m.own c) room
 
-    pub edit_stopped : (x : ReplicaValue) (f : Fault) → x ≡ m → IsDue (refusal (coordinates m.state) m.own c) f → IsStopped v (Edit r c) f (record v { memory = set v.memory r x })
-    edit_stopped x f is h =
+    edit_stopped_by : (f : Fault) → IsDue (refusal (coordinates m.state) m.own c) f → (needs_room (coordinates m.state) m.own c ≡ false → f ≢ Memory) → (w : World) → Stands v w → Refuses v w (Edit r c) f
+    edit_stopped_by Memory h room w s = NoMemory (edit_due w s ∙ h) (λ x. x) (edit_takes (λ e. room e refl) w s)
+    edit_stopped_by f h room w s = Due f (edit_due w s ∙ h)
+
+    pub edit_stopped : (x : ReplicaValue) (f : Fault) → x ≡ m → IsDue (refusal (coordinates m.state) m.own c) f → (needs_room (coordinates m.state) m.own c ≡ false → f ≢ Memory)
+        → IsStopped v (Edit r c) f (record v { memory = set v.memory r x })
+    edit_stopped x f is h room =
         let same : set v.memory r x ≡ v.memory = ap (λ y. set v.memory r y) is ∙ set_same v.memory r m there in
-        record { refused = edit_stopped_by f h; same = λ j. record v { memory = same j } }
+        record { refused = edit_stopped_by f h room; same = λ j. record v { memory = same j } }
 
     pub edit_done : (x : ReplicaValue) (e : Effected) → (x.roster ≡ m.roster) × (x.own ≡ m.own) → JoinsEffect (coordinates m.state) m.own c (coordinates x.state)
         → e.dot ≡ new_dot (coordinates m.state) m.own c → e.killed ≡ count_by (λ row. covers c row.1) (live_rows m.state.lives) → refusal (coordinates m.state) m.own c ≡ None
@@ -152,7 +163,7 @@ module _ (v : WorldValue) (i : IsWorld v) (r : ℕ) (m : ReplicaValue) (lt : r <
 
   pub save_stopped : (f : Fault) → ((f ≡ Memory) × (length (snapshot_text m) ≤ LIMIT)) ⊎ ((f ≡ TooLong) × (LIMIT < length (snapshot_text m))) → IsStopped v (Save r) f v
   save_stopped f h = elim h [
-    | inl is ↦ no_memory v (Save r) f is.0 (of_roster v r lt) (short_snapshot is.1)
+    | inl is ↦ no_memory v (Save r) f is.0 (of_roster v r lt) (short_snapshot is.1) (λ w. tt)
     | inr l ↦ subst (λ x. IsStopped v (Save r) x v) (sym l.0) (stopped v (Save r) TooLong (λ w s. Long (is_there r w.replicas None (below w s)) (λ x. x) (record { replica = m; there = there; long = l.1 })))
   ]
 
@@ -215,7 +226,7 @@ module _ (v : WorldValue) (i : IsWorld v) (r : ℕ) (m : ReplicaValue) (lt : r <
 
   pub ask_stopped : (f : Fault) → (f ≡ Memory) ⊎ ((f ≡ TooLong) × (LIMIT < length (digest_text (digest_of m.state)))) → IsStopped v (Ask r) f v
   ask_stopped f h = elim h [
-    | inl is ↦ no_memory v (Ask r) f is (of_roster v r lt) (λ x. x)
+    | inl is ↦ no_memory v (Ask r) f is (of_roster v r lt) (λ x. x) (λ w. tt)
     | inr l ↦ subst (λ x. IsStopped v (Ask r) x v) (sym l.0) (stopped v (Ask r) TooLong (λ w s. Long (is_there r w.replicas None (kept_below w s)) (λ x. x) (record { replica = m; there = there; long = l.1 })))
   ]
 

@@ -13,19 +13,15 @@ use Rattle.rds_state.specs.Fits.{ReplicaValue}
 use Rattle.rds_state.specs.Friends.{MayTake}
 use Rattle.rds_state.specs.Value.{coordinates}
 use Rattle.rds_state.proofs.FriendLemmas.{may_take_is_taken}
-use Rattle.rds_delta.specs.Claims.{IsCertificate}
-use Rattle.rds_delta.specs.Digested.{DigestValue, ranks_in}
-use Rattle.rds_delta.specs.Least.{IsAbove}
-use Rattle.rds_delta.specs.Ranks.{ranks}
 use Rattle.rds_codec.specs.AnswerTexts.{HasTooManySent, answer_kind}
 use Rattle.rds_codec.specs.AnswerValues.{AnswerValue}
 use Rattle.rds_codec.specs.Decoding.{Decodes}
 use Rattle.rds_codec.specs.DigestTexts.{digest_kind}
 use Rattle.rds_world.specs.declared.event.Event.TheVariants.{Take}
 use Rattle.rds_world.specs.declared.event.Done.TheVariants.{Plain}
-use Rattle.rds_world.specs.World.{World, Question, after, put, refused, taken}
+use Rattle.rds_world.specs.World.{World, after, put, refused, taken}
 use Rattle.rds_world.specs.Stored.{AskText, AnswerText, WorldValue}
-use Rattle.rds_world.specs.Stands.{state_of, HasModel, HoldsAsk, HoldsAnswer, Stands, IsWorld}
+use Rattle.rds_world.specs.Stands.{state_of, HasModel, HoldsAnswer, Stands, IsWorld}
 use Rattle.rds_world.specs.Events.{Refuses, NoMemory, Due, Large}
 use Rattle.rds_world.specs.Replies.{IsTaken, IsNotTaken, NoDigest, NoAnswer, Uncertified, Untaken}
 use Rattle.rds_world.specs.Steps.{IsStopped}
@@ -93,17 +89,17 @@ module _ (v : WorldValue) (i : IsWorld v) (k : ℕ) (t : AnswerText) (a : AskTex
   stopped_by : (f : Fault) → IsNotTaken (length m.roster.names) a.bytes t.bytes m.own m.state f → (w : World) (s : Stands v w) → Refuses v w (Take k) f
   stopped_by f (NoDigest d) w s =
       let is : f ≡ Memory = bytes.unread v k t a answer_there ask_there w s f (subst (λ j. Decodes (digest_kind j) a.bytes (Err f)) same_roster d) in
-      subst (Refuses v w (Take k)) (sym is) (NoMemory (due w s) (λ z. z))
+      subst (Refuses v w (Take k)) (sym is) (NoMemory (due w s) (λ z. z) tt)
   stopped_by f (NoAnswer d) w s =
       let y = answer_of w s in
       elim (unread_answer n w.asks v.asks y.it t y.related f (subst (λ j. Decodes (answer_kind j) t.bytes (Err f)) same_roster d)) [
-        | inl is ↦ subst (Refuses v w (Take k)) (sym is) (NoMemory (due w s) (λ z. z))
+        | inl is ↦ subst (Refuses v w (Take k)) (sym is) (NoMemory (due w s) (λ z. z) tt)
         | inr large ↦ subst (Refuses v w (Take k)) (sym large.0) (Large (due w s) (record { reply = t; there = answer_there; large = large.1 }))
       ]
   stopped_by f (Uncertified g x dg dx is wrong) w s =
       absurd (∥∥₁_elim i.model ⊥_prop (λ h. wrong.wrong (bytes.certified v k t a answer_there ask_there h g x (subst (λ j. Decodes (digest_kind j) a.bytes (Ok g)) same_roster dg) (subst (λ j. Decodes (answer_kind j) t.bytes (Ok x)) same_roster dx))))
   stopped_by f (Untaken x dx gives) w s =
-      subst (Refuses v w (Take k)) (sym (only_memory f x (subst (λ j. Decodes (answer_kind j) t.bytes (Ok x)) same_roster dx) gives)) (NoMemory (due w s) (λ z. z))
+      subst (Refuses v w (Take k)) (sym (only_memory f x (subst (λ j. Decodes (answer_kind j) t.bytes (Ok x)) same_roster dx) gives)) (NoMemory (due w s) (λ z. z) tt)
 
   pub take_stopped : (x : ReplicaValue) (f : Fault) → x ≡ m → IsNotTaken (length m.roster.names) a.bytes t.bytes m.own m.state f → IsStopped v (Take k) f (record v { memory = set v.memory t.asker x })
   take_stopped x f is h =

@@ -1,9 +1,9 @@
 -- When code refuses an event, and what it answers.
-use Rattle.std.specs.Prelude.{◌≡◌, ◌<◌, ℕ, List, Some, None, length, count_by, slice_get}
+use Rattle.std.specs.Prelude.{◌≡◌, ◌<◌, ℕ, true, List, Some, None, length, count_by, slice_get}
 use Rattle.rds_names.specs.declared.fault.Fault.{Fault}
 use Rattle.rds_names.specs.declared.fault.Fault.TheVariants.{Memory, TooLong, TooManyDots}
 use Rattle.rds_life.specs.Life.{live_rows}
-use Rattle.rds_state.specs.Edit.{covers, new_dot}
+use Rattle.rds_state.specs.Edit.{covers, needs_room, new_dot}
 use Rattle.rds_state.specs.Fits.{ReplicaValue}
 use Rattle.rds_state.specs.Value.{StateValue, coordinates, size}
 use Rattle.rds_state.specs.declared.command.Command.{Command}
@@ -88,10 +88,19 @@ SavesTooLong v (Ask r) = ⊥
 SavesTooLong v (Answer s k) = ⊥
 SavesTooLong v (Take k) = ⊥
 
+-- the event may take memory: an edit only where it adds a live dot or a number
+abbrev pub TakesMemory : World → Event → Type 0
+TakesMemory w (Edit r c) = needs_room (w.memory r) r c ≡ true
+TakesMemory w (Save r) = Unit {0}
+TakesMemory w (Crash r) = Unit {0}
+TakesMemory w (Ask r) = Unit {0}
+TakesMemory w (Answer s k) = Unit {0}
+TakesMemory w (Take k) = Unit {0}
+
 -- What the model refuses it for; else a text that is read of too many dots; else one that is made too long. Want of memory
 -- comes after what is found without memory: what the model refuses, and a snapshot that is too long.
 pub data Refuses (v : WorldValue) (w : World) (e : Event) : Fault → Type 0 where
-  NoMemory : refused w e ≡ None → (SavesTooLong v e → ⊥) → Refuses v w e Memory
+  NoMemory : refused w e ≡ None → (SavesTooLong v e → ⊥) → TakesMemory w e → Refuses v w e Memory
   Due : (f : Fault) → refused w e ≡ Some f → Refuses v w e f
   Large : refused w e ≡ None → ReadsTooMany v e → Refuses v w e TooManyDots
   Long : refused w e ≡ None → (ReadsTooMany v e → ⊥) → MakesTooLong v w e → Refuses v w e TooLong

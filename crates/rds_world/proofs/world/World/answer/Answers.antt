@@ -90,7 +90,7 @@ returns-in_err-push-clause-err g c =
     let answers : c.push.new.self.items ≡ v.answers = c.in_err-push.ensures.items in
     fault_is _ _ Memory is (subst (λ (u : WorldValue). IsStopped u (Answer n q) Memory (record v { answers = c.push.new.self.items })) c.self.view_is
     (stopped_same v (record v { answers = c.push.new.self.items }) (Answer n q) Memory (λ j. record v { answers = answers j })
-    (no_memory v (Answer n q) Memory refl (due v c.self.invariant n q m a lt there asked) (λ x. x))))
+    (no_memory v (Answer n q) Memory refl (due v c.self.invariant n q m a lt there asked) (λ x. x) (λ w. tt))))
 
 pub invariant_of-self-2 : goal.invariant_of-self-2
 invariant_of-self-2 g c =

@@ -35,7 +35,7 @@ returns-in_err-push-clause-err g c =
     let is : c.from_residual-in_err-push.result ≡ Err Memory = search rules in
     let asks : c.push.new.self.items ≡ v.asks = c.in_err-push.ensures.items in
     fault_is _ _ Memory is (subst (λ (u : WorldValue). IsStopped u (Ask n) Memory (record v { asks = c.push.new.self.items })) c.self.view_is
-    (stopped_same v (record v { asks = c.push.new.self.items }) (Ask n) Memory (λ j. record v { asks = asks j }) (no_memory v (Ask n) Memory refl (of_roster v n lt) (λ x. x))))
+    (stopped_same v (record v { asks = c.push.new.self.items }) (Ask n) Memory (λ j. record v { asks = asks j }) (no_memory v (Ask n) Memory refl (of_roster v n lt) (λ x. x) (λ w. tt))))
 
 pub invariant_of-self-2 : goal.invariant_of-self-2
 invariant_of-self-2 g c =

@@ -1,6 +1,9 @@
-use Rattle.std.proofs.Common.{rules, ◌≡◌, ◌≤◌, ◌<◌, refl, sym, subst, length, Some, Err, slice_get, slice_set}
+use Rattle.std.proofs.Common.{rules, ◌≡◌, ◌≤◌, ◌<◌, ◌≢◌, ap, false, refl, sym, subst, length, Some, Err, slice_get, slice_set}
 use Rattle.std.proofs.lemmas.Option.{slice_get_read}
-use Rattle.rds_names.specs.declared.fault.Fault.TheVariants.{NoSuch}
+use Rattle.rds_names.specs.declared.fault.Fault.{Fault}
+use Rattle.rds_names.specs.declared.fault.Fault.TheVariants.{Memory, NoSuch}
+use Rattle.rds_state.specs.Edit.{needs_room}
+use Rattle.rds_state.specs.Value.{coordinates}
 use Rattle.rds_world.specs.declared.event.Event.TheVariants.{Edit}
 use Rattle.rds_world.specs.declared.event.Done.TheVariants.{Edited}
 use Rattle.rds_world.specs.Stands.{IsWorld}
@@ -27,9 +30,10 @@ returns-in_err-edited-clause-err g c =
     let f = c.in_err-edited.field-0.0 in
     let is : c.from_residual.result ≡ Err f = search rules in
     let e = Edit n c.args.command.now in
+    let room : needs_room (coordinates m.state) m.own c.args.command.now ≡ false → f ≢ Memory = λ h k. c.in_err-edited.ensures.room h (ap (λ (x : Fault). Err x) k) in
     fault_is _ _ f is (subst (λ (u : WorldValue). IsStopped u e f (record v { memory = slice_set v.memory c.from-at.result c.edit_by.new.self })) c.self.view_is
     (subst (λ k. IsStopped v e f (record v { memory = slice_set v.memory k c.edit_by.new.self })) (sym c.from-at.ensures)
-    (edit_stopped v c.self.invariant n m lt there c.args.command.now c.edit_by.new.self f c.in_err-edited.ensures.err c.in_err-edited.ensures.refusal)))
+    (edit_stopped v c.self.invariant n m lt there c.args.command.now c.edit_by.new.self f c.in_err-edited.ensures.err c.in_err-edited.ensures.refusal room)))
 
 pub invariant_of-self-2 : goal.invariant_of-self-2
 invariant_of-self-2 g c =
