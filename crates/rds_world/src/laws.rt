@@ -29,7 +29,7 @@ ghost use Rattle.rds_world.specs.declared.event.Event.{Event};
 /// In a coherent world every two states are compatible, whether in memory, kept, asked from or answered; what is kept
 /// lies below memory, and what was sent below what its sender has kept; and what others have of a replica, it has kept.
 /// The world without events is coherent, and each event that isn't refused leaves it so, a crash included. So it is
-/// after all lists of events.
+/// after all lists of events. The function does nothing: its contract is these laws.
 pub fn worlds_stay_coherent()
     ensures start { StartsCoherent }
     ensures step { KeepsCoherence }
@@ -37,7 +37,8 @@ pub fn worlds_stay_coherent()
 {}
 
 /// In a coherent world every two replicas are friends, and no take of an answer is refused but for want of memory,
-/// whatever its asker did since, and however often it was taken before.
+/// whatever its asker did since, and however often it was taken before. The function does nothing: its contract is these
+/// laws.
 pub fn coherent_replicas_are_friends()
     ensures friends { (w : World) → IsCoherent w → ReplicasAreFriends w }
     ensures take { (w : World) → IsCoherent w → AnswersMayBeTaken w }
@@ -46,19 +47,21 @@ pub fn coherent_replicas_are_friends()
 
 /// A world of the model and a roster determine the replicas in memory and as kept, and the bytes of each ask and answer.
 /// So what is said of some value of a roster that stands for a world, as when a text of it is too long, is said of the
-/// one there is.
+/// one there is. The function does nothing: its contract is this law.
 pub fn worlds_have_one_value()
     ensures { WorldsHaveOneValue }
 {}
 
-/// What an edit does is determined by its command and the state on which it runs.
+/// What an edit does is determined by its command and the state on which it runs. The function does nothing: its
+/// contract is this law.
 pub fn edits_are_steps()
     ensures { EditsAreSteps }
 {}
 
 /// After all lists of events, each memory and each kept state is the join of the effects of the updates that it holds,
 /// as these follow from the events alone; each dot seen there is that of exactly one update held; and the document
-/// is that of the updates. So states that hold the same updates are equal.
+/// is that of the updates. So states that hold the same updates are equal. The function does nothing: its contract is
+/// these laws.
 pub fn states_are_joins_of_updates()
     ensures join { Afterwards EachIsTheJoin }
     ensures dots { Afterwards EachDotIsExplained }
@@ -66,19 +69,21 @@ pub fn states_are_joins_of_updates()
     ensures same { Afterwards SameUpdatesSameState }
 {}
 
-/// An answer brings what its maker had kept, whenever it is taken, and is the least that does.
+/// An answer brings what its maker had kept, whenever it is taken: its asker's memory always has a join with that, which
+/// is what it becomes; and the answer is the least that does so. The function does nothing: its contract is this law.
 pub fn answers_bring_what_was_kept()
     ensures { Afterwards EachAnswerBringsWhatWasKept }
 {}
 
 /// A run of two lists is the run of the first, and then of the second; so each beginning of an accepted list is accepted.
+/// The function does nothing: its contract is these laws.
 pub fn runs_go_on()
     ensures run { (es fs : List Event) (w : World) → run (es ++ fs) w ≡ run fs (run es w) }
     ensures accepted { (es fs : List Event) (w : World) → Accepted (es ++ fs) w ↔ (Accepted es w × Accepted fs (run es w)) }
 {}
 
 /// A worked run: a crash loses an edit that another replica had asked for, its dot is used again with another entry,
-/// and each answer is taken.
+/// and each answer is taken. The function does nothing: its contract is what holds of this run.
 pub fn lost_dots_are_used_again()
     ensures accepted { Accepted lost_and_again (start 3) }
     ensures again { entry_of (((run lost_and_again (start 3)).memory 1).life (dot_of 0 1)) ≡ entry_made (add_to_s 2) }

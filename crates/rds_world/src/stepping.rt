@@ -1,6 +1,5 @@
 //! One event of all replicas.
-ghost use Rattle.std.specs.Prelude.{◌≡◌, ◌⊎◌, IfOk, IfErr, OnOk, OnErr, Some, None, Ok, Err, count_by, slice_get};
-ghost use Rattle.rds_names.specs.declared.fault.Fault.TheVariants.{Memory};
+ghost use Rattle.std.specs.Prelude.{◌≡◌, IfOk, IfErr, OnOk, OnErr};
 ghost use Rattle.rds_world.specs.declared.event.Event.TheVariants.{Edit, Save, Crash, Ask, Answer, Take};
 ghost use Rattle.rds_world.specs.Events.{IsAccepted, Refuses, IsDone};
 ghost use Rattle.rds_world.specs.Stands.{Stands};
