@@ -14,14 +14,14 @@ use Rattle.rds_state.specs.Fits.{Fits}
 use Rattle.rds_state.specs.Friends.{KnowsItsOwn}
 use Rattle.rds_state.specs.Made.{entry_made}
 use Rattle.rds_state.specs.declared.command.Command.{Command}
-use Rattle.rds_state.proofs.JoinLaws.{reflexive, transitive, above_left}
+use Rattle.rds_state.proofs.JoinLaws.{reflexive, transitive, above_left, compatible_join}
 use Rattle.rds_delta.specs.Ranks.{ranks}
 use Rattle.rds_world.specs.declared.event.Event.{Event}
 use Rattle.rds_world.specs.declared.event.Event.TheVariants.{Edit, Save, Crash, Ask, Answer, Take}
 use Rattle.rds_world.specs.World.{World, Question, Reply, empty, put, start, edited, reply, answered, taken, after, refused, run, Accepted}
 use Rattle.rds_world.specs.Coherent.{Position, AtMemory, AtKept, AtAsk, AtAnswer, state_asked, state_answered, state_at, AnswersIts, IsCoherent}
 use Rattle.rds_delta.proofs.LeastLaws.{compatible_sym, compatible_least, least_part, least_above}
-use Rattle.rds_world.proofs.States.{by_life, agree_if, compatible_same, compatible_join, knows_same, knows_grown, knows_join, knows_less, fits_join, fits_below}
+use Rattle.rds_world.proofs.States.{by_life, agree_if, compatible_same, knows_same, knows_grown, knows_join, knows_less, fits_join, fits_below}
 use Rattle.rds_world.proofs.Effects.{next_dot, next_unseen, effect_live, effect_dead, effect_number_own}
 use Rattle.rds_world.proofs.Tables.{put_one, same_some, last_get, get_front, same_or_not}
 

@@ -21,13 +21,6 @@ agree_if (Some (Live e)) (Some (Live f)) h = h e f refl refl
 agree_if (Some (Live e)) (Some Dead) h = tt
 agree_if (Some Dead) m h = tt
 
-agree_joined : (a b c : Option Life) → Agree a c → Agree b c → Agree (join_life a b) c
-agree_joined None b c p q = q
-agree_joined (Some (Live e)) None c p q = p
-agree_joined (Some (Live e)) (Some (Live f)) c p q = p
-agree_joined (Some (Live e)) (Some Dead) c p q = q
-agree_joined (Some Dead) b c p q = p
-
 agree_same : (a : Option Life) → Agree a a
 agree_same None = tt
 agree_same (Some (Live e)) = refl
@@ -35,9 +28,6 @@ agree_same (Some Dead) = tt
 
 pub compatible_same : (a : Coordinates) → AreCompatible a a
 compatible_same a = record { each_dot = λ d. agree_same (a.life d) }
-
-pub compatible_join : (a b c : Coordinates) → AreCompatible a c → AreCompatible b c → AreCompatible (join a b) c
-compatible_join a b c p q = record { each_dot = λ d. agree_joined (a.life d) (b.life d) (c.life d) (p.each_dot d) (q.each_dot d) }
 
 -- ---- what is seen
 
