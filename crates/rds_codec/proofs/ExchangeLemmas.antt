@@ -26,7 +26,7 @@ use Rattle.rds_codec.specs.AnswerValues.{AnswerValue}
 use Rattle.rds_codec.specs.declared.limits.TheConstants.{LIMIT}
 use Rattle.rds_codec.specs.Decoding.{Answers, IsTextOf, Decodes}
 use Rattle.rds_codec.specs.DigestTexts.{DigestFits, IsDigestOf, digest_text, digest_kind}
-use Rattle.rds_codec.specs.Exchanged.{CanExchange, IsAnswerTo, IsAskOf, IsCertified, IsLongAnswer, IsLongDigest, IsLost, IsReplyTo, TakesCertified, Certified, Uncertified}
+use Rattle.rds_codec.specs.Exchanged.{CanExchange, CanRead, IsAnswerTo, IsAskOf, IsCertified, IsLongAnswer, IsLongDigest, IsLost, IsRefusal, IsReplyTo, TakesCertified, Certified, Uncertified, Untaken}
 use Rattle.rds_codec.specs.Kinds.{Kind}
 use Rattle.rds_bytes.specs.Values.{AreDotsOf, AreFew}
 use Rattle.rds_codec.specs.Writing.{Encodes, IsUnwritten}
@@ -58,6 +58,15 @@ read_err {V} v result IsLong h = elim h [
 pub brought : {V : Type 0} (kind : Kind V) (text bytes : List ℕ) (result : Result V Fault) → bytes ≡ text → Decodes kind bytes result → IfOk result (IsTextOf kind text)
 brought kind text bytes (Ok v) e decodes = subst (λ (t : List ℕ). IsTextOf kind t v) e decodes.value.1
 brought kind text bytes (Err f) e decodes = tt
+
+-- and is within the limit
+pub brought_within : {V : Type 0} (kind : Kind V) (text bytes : List ℕ) (result : Result V Fault) → bytes ≡ text → Decodes kind bytes result → IfOk result (λ _. length text ≤ LIMIT)
+brought_within kind text bytes (Ok v) e decodes = subst (λ (t : List ℕ). length t ≤ LIMIT) e decodes.value.0
+brought_within kind text bytes (Err f) e decodes = tt
+
+pub read_within : {V : Type 0} (kind : Kind V) (bytes : List ℕ) (result : Result V Fault) → Decodes kind bytes result → IfOk result (λ v. length (kind.text v) ≤ LIMIT)
+read_within kind bytes (Ok v) decodes = within_text bytes (kind.text v) decodes.value.1.spelled decodes.value.0
+read_within kind bytes (Err f) decodes = tt
 
 -- an answer that was read fits
 pub read_fits : (replicas : ℕ) (bytes : List ℕ) (result : Result AnswerValue Fault) → Decodes (answer_kind replicas) bytes result → IfOk result (λ a. Fits replicas (coordinates a.state))
@@ -166,8 +175,8 @@ taken_of digest a own old r (Certified is gives) h = gives
 taken_of digest a own old r (Uncertified is e) h = absurd (is.wrong h)
 
 -- the same fact of what equals them
-pub fits_here : (n : ℕ) (r s : RosterValue) (v w : StateValue) → n ≡ length s.names → r ≡ s → w ≡ v → Fits (length r.names) (coordinates v) → Fits n (coordinates w)
-fits_here n r s v w e f k fits = subst (λ (m : ℕ). Fits m (coordinates w)) (sym e) (subst (λ (x : RosterValue). Fits (length x.names) (coordinates w)) f (subst (λ (x : StateValue). Fits (length r.names) (coordinates x)) (sym k) fits))
+pub fits_here : (n m : ℕ) (v w : StateValue) → n ≡ m → w ≡ v → Fits m (coordinates v) → Fits n (coordinates w)
+fits_here n m v w e k fits = subst (λ (x : ℕ). Fits x (coordinates w)) (sym e) (subst (λ (x : StateValue). Fits m (coordinates x)) (sym k) fits)
 
 pub few_here : (v w : StateValue) → w ≡ v → AreFew (seen_of v.lives) → AreFew (seen_of w.lives)
 few_here v w k few = subst (λ (x : StateValue). AreFew (seen_of x.lives)) (sym k) few
@@ -178,17 +187,35 @@ pub record IsAsked (answerer asked mine : ReplicaValue) (digest : DigestValue) (
   pub answers : IsAnswerTo digest mine.own answerer.state a
 
 pub asked_of : (n own : ℕ) (answerer asked mine : ReplicaValue) (told held : StateValue) (digest : DigestValue) (a : AnswerValue) → n ≡ length mine.roster.names → own ≡ mine.own → own < n
-    → told ≡ asked.state → Fits (length asked.roster.names) (coordinates asked.state) → held ≡ answerer.state → Fits (length answerer.roster.names) (coordinates answerer.state)
+    → told ≡ asked.state → held ≡ answerer.state
     → (Fits n (coordinates told) → AreFew (seen_of told.lives) → digest ≡ digest_of told)
     → (own < n → Fits n (coordinates held) → AreFew (seen_of held.lives) → IsAnswerTo digest own held a)
-    → CanExchange answerer asked mine → IsAsked answerer asked mine digest a
-asked_of n own answerer asked mine told held digest a many is_own below told_is told_fits held_is held_fits asks answers can =
-    let fits = fits_here n answerer.roster mine.roster answerer.state held many can.answerer_roster held_is held_fits in
-    let here : IsAnswerTo digest own held a = answers below fits (few_here answerer.state held held_is can.few_held) in
+    → CanRead answerer asked mine → IsAsked answerer asked mine digest a
+asked_of n own answerer asked mine told held digest a many is_own below told_is held_is asks answers can =
+    let here : IsAnswerTo digest own held a = answers below (fits_here n (length mine.roster.names) answerer.state held many held_is can.held_fits) (few_here answerer.state held held_is can.few_held) in
     record {
-      same = asks (fits_here n asked.roster mine.roster asked.state told many can.asked_roster told_is told_fits) (few_here asked.state told told_is can.few_asked) ∙ ap digest_of told_is;
+      same = asks (fits_here n (length mine.roster.names) asked.state told many told_is can.asked_fits) (few_here asked.state told told_is can.few_asked) ∙ ap digest_of told_is;
       answers = subst (λ (k : ℕ). IsAnswerTo digest k answerer.state a) is_own (subst (λ (s : StateValue). IsAnswerTo digest own s a) held_is here);
     }
+
+-- what the take of the answer refuses is a refusal of the exchange
+pub untaken : (answerer asked mine : ReplicaValue) (digest : DigestValue) (a : AnswerValue) (fault : Fault) → IsAsked answerer asked mine digest a
+    → (a.asker ≡ mine.own → IsCertified digest a → TakeGives {T = Unit {0}} mine.state mine.own a.state (Err fault)) → IsRefusal answerer asked mine fault
+untaken answerer asked mine digest a fault told gives =
+    let is = told.answers in
+    Untaken a (subst (λ (d : DigestValue). IsAnswerTo d mine.own answerer.state a) told.same is) (gives is.asked (answer_is_above digest mine.own answerer.state a is, is.certificate))
+
+-- friends of one roster read each other
+pub can_read : (answerer asked mine : ReplicaValue) → Fits (length asked.roster.names) (coordinates asked.state) → Fits (length answerer.roster.names) (coordinates answerer.state) → CanExchange answerer asked mine → CanRead answerer asked mine
+can_read answerer asked mine asked_fits held_fits can = record {
+  asked_fits = subst (λ (r : RosterValue). Fits (length r.names) (coordinates asked.state)) can.asked_roster asked_fits;
+  held_fits = subst (λ (r : RosterValue). Fits (length r.names) (coordinates answerer.state)) can.answerer_roster held_fits;
+  few_asked = can.few_asked;
+  few_held = can.few_held;
+}
+
+pub told_within : (asked told : StateValue) → told ≡ asked → length (digest_text (digest_of told)) ≤ LIMIT → length (digest_text (digest_of asked)) ≤ LIMIT
+told_within asked told is within = subst (λ (s : StateValue). length (digest_text (digest_of s)) ≤ LIMIT) is within
 
 -- the same text of the same replicas
 pub checked_text : (asked : StateValue) (n : ℕ) (r : RosterValue) (told : StateValue) (digest : DigestValue) → n ≡ length r.names → told ≡ asked

@@ -78,6 +78,26 @@ pub record CanExchange (answerer asked asker : ReplicaValue) : Type 0 where
   pub few_asked : AreFew (seen_of asked.state.lives)
   pub few_held : AreFew (seen_of answerer.state.lives)
 
+-- What was asked and what answers fit the roster of the one that asks, and have no more dots than are read.
+pub record CanRead (answerer asked asker : ReplicaValue) : Type 0 where
+  pub asked_fits : Fits (length asker.roster.names) (coordinates asked.state)
+  pub held_fits : Fits (length asker.roster.names) (coordinates answerer.state)
+  pub few_asked : AreFew (seen_of asked.state.lives)
+  pub few_held : AreFew (seen_of answerer.state.lives)
+
 -- why a text didn't come: memory ran out, or it is too long
 abbrev pub IsLost : Type 0 → Fault → Type 0
 IsLost IsLong fault = (fault ≡ Memory) ⊎ ((fault ≡ TooLong) × IsLong)
+
+-- neither the ask nor the answer is too long
+abbrev pub IsWithin : StateValue → AnswerValue → Type 0
+IsWithin asked a = (length (digest_text (digest_of asked)) ≤ LIMIT) × (length (answer_text a) ≤ LIMIT)
+
+-- the ask or the answer is too long
+abbrev pub IsLongExchange : ReplicaValue → ReplicaValue → ReplicaValue → Type 0
+IsLongExchange answerer asked asker = IsLongDigest asked.state ⊎ IsLongAnswer (digest_of asked.state) asker.own answerer.state
+
+-- why nothing was exchanged: a text didn't come, or the delta of the answer to this ask isn't taken
+pub data IsRefusal (answerer asked asker : ReplicaValue) (fault : Fault) : Type 0 where
+  Lost : IsLost (IsLongExchange answerer asked asker) fault → IsRefusal answerer asked asker fault
+  Untaken : (a : AnswerValue) → IsAnswerTo (digest_of asked.state) asker.own answerer.state a → TakeGives {T = Unit {0}} asker.state asker.own a.state (Err fault) → IsRefusal answerer asked asker fault

@@ -1,14 +1,16 @@
 //! An exchange over bytes: what a replica asks, what another answers, and what the first one takes.
-ghost use Rattle.std.specs.Prelude.{◌≡◌, ◌<◌, ◌⊎◌, ℕ, length, IfOk, IfErr, OnOk, OnErr};
+ghost use Rattle.std.specs.Prelude.{◌≡◌, ◌<◌, ◌≤◌, ◌⊎◌, ℕ, length, IfOk, IfErr, OnOk, OnErr};
 ghost use Rattle.rds_state.specs.Ahead.{TakeGives};
 ghost use Rattle.rds_state.specs.Coordinates.{join};
 ghost use Rattle.rds_state.specs.Fits.{Fits};
 ghost use Rattle.rds_state.specs.Value.{coordinates};
 ghost use Rattle.rds_life.specs.Life.{seen_of};
 ghost use Rattle.rds_delta.specs.Digested.{digest_of};
+ghost use Rattle.rds_codec.specs.AnswerTexts.{answer_text};
 ghost use Rattle.rds_codec.specs.Decoding.{IsTextOf};
 ghost use Rattle.rds_codec.specs.DigestTexts.{digest_text, digest_kind};
-ghost use Rattle.rds_codec.specs.Exchanged.{CanExchange, IsAnswerTo, IsAskOf, IsCertified, IsChecked, IsLongAnswer, IsLongDigest, IsLost, IsReplyTo, TakesCertified};
+ghost use Rattle.rds_codec.specs.Exchanged.{CanExchange, CanRead, IsAnswerTo, IsAskOf, IsCertified, IsChecked, IsLongAnswer, IsLongDigest, IsLost, IsRefusal, IsReplyTo, IsWithin, TakesCertified};
+ghost use Rattle.rds_codec.specs.declared.limits.TheConstants.{LIMIT};
 ghost use Rattle.rds_bytes.specs.Values.{AreFew};
 
 use crate::answers::{Answer, decode_answer, encode_answer};
@@ -73,6 +75,7 @@ fn send_digest<S: DotSet>(
     asked: &State<S>,
 ) -> Result<Digest<S>, Fault>
     ensures brought { IfOk result (IsTextOf (digest_kind replicas) (digest_text (digest_of asked.now))) }
+    ensures within { IfOk result (λ _. length (digest_text (digest_of asked.now)) ≤ LIMIT) }
     ensures ok { Fits replicas (coordinates asked.now) → AreFew (seen_of asked.now.lives) → IfOk result (λ digest. digest ≡ digest_of asked.now) }
     ensures fault { Fits replicas (coordinates asked.now) → AreFew (seen_of asked.now.lives) → IfErr result (IsLost (IsLongDigest asked.now)) }
 {
@@ -89,6 +92,7 @@ fn send_answer<S: DotSet>(
     digest: &Digest<S>,
 ) -> Result<Answer<S>, Fault>
     ensures fits { IfOk result (λ answer. Fits replicas (coordinates answer.state)) }
+    ensures within { IfOk result (λ answer. length (answer_text answer) ≤ LIMIT) }
     ensures ok { asker < replicas → Fits replicas (coordinates held.now) → AreFew (seen_of held.now.lives) → IfOk result (IsAnswerTo digest.now asker held.now) }
     ensures fault { asker < replicas → Fits replicas (coordinates held.now) → AreFew (seen_of held.now.lives) → IfErr result (IsLost (IsLongAnswer digest.now asker held.now)) }
 {
@@ -122,10 +126,11 @@ fn take_answer<S: DotSet>(
 /// goes to the other as bytes. The other sends back, as bytes, the least delta against that digest and its certificate.
 /// The one that asked checks the two and joins the delta into its state. The answer that it took is handed back.
 ///
-/// Where the two are friends of one roster, and neither the one that asked, when it asked, nor the other has seen more
-/// than 65,536 dots, it ends with all that both knew, whatever it has become since. Then nothing but want of memory or
-/// too long a text is a hindrance: no text is refused by the one that reads it, no check says no, and no take finds a
-/// conflict or a loss. Elsewhere any of these may refuse it, and then nothing has changed.
+/// Where both fit the roster of the one that asked, and neither it, when it asked, nor the other has seen more than
+/// 65,536 dots, no text is refused by the one that reads it, and no check says no. Only want of memory, too long a text
+/// or what [`Replica::take`] refuses of the answer's delta (`OwnAhead`, `Conflict`) is a hindrance. Where the two are
+/// friends of one roster besides, no take finds a conflict or a loss either, and the one that asked ends with all that
+/// both knew, whatever it has become since. Elsewhere any of these may refuse it. What is refused has changed nothing.
 pub fn exchange<S: DotSet>(
     alloc: Global,
     answerer: &Replica<S>,
@@ -135,7 +140,10 @@ pub fn exchange<S: DotSet>(
     ensures taken { IfOk result (λ answer. coordinates asker.new.state ≡ join (coordinates asker.old.state) (coordinates answer.state)) }
     ensures asked { IfOk result (λ answer. answer.asker ≡ asker.old.own) }
     ensures checked { IfOk result (IsChecked (length asker.old.roster.names) asked.now.state) }
-    ensures answer { CanExchange answerer.now asked.now asker.old → IfOk result (IsAnswerTo (digest_of asked.now.state) asker.old.own answerer.now.state) }
+    ensures within { IfOk result (IsWithin asked.now.state) }
+    ensures takes { IfOk result (λ answer. TakeGives asker.old.state asker.old.own answer.state result) }
+    ensures answer { CanRead answerer.now asked.now asker.old → IfOk result (IsAnswerTo (digest_of asked.now.state) asker.old.own answerer.now.state) }
+    ensures refusal { CanRead answerer.now asked.now asker.old → IfErr result (IsRefusal answerer.now asked.now asker.old) }
     ensures joined { CanExchange answerer.now asked.now asker.old → OnOk result (coordinates asker.new.state ≡ join (coordinates asker.old.state) (coordinates answerer.now.state)) }
     ensures fault { CanExchange answerer.now asked.now asker.old → IfErr result (IsLost (IsLongDigest asked.now.state ⊎ IsLongAnswer (digest_of asked.now.state) asker.old.own answerer.now.state)) }
     ensures roster { asker.new.roster ≡ asker.old.roster }

@@ -2,8 +2,8 @@ use Rattle.std.proofs.Common.{◌≡◌, ◌<◌, ◌⊎◌, Err, length, subst,
 use Rattle.std.proofs.lemmas.Result.{err_from_is_err_and}
 use Rattle.rds_names.specs.Roster.{RosterValue}
 use Rattle.rds_delta.specs.Digested.{DigestValue, digest_of}
-use Rattle.rds_codec.specs.Exchanged.{CanExchange, IsAnswerTo, IsLongDigest, IsLongAnswer}
-use Rattle.rds_codec.proofs.ExchangeLemmas.{IsAsked, checked_text, answer_is_above, answer_is_taken, answer_joins, asked_of}
+use Rattle.rds_codec.specs.Exchanged.{CanExchange, CanRead, IsAnswerTo, IsLongDigest, IsLongAnswer}
+use Rattle.rds_codec.proofs.ExchangeLemmas.{IsAsked, checked_text, answer_is_above, answer_is_taken, answer_joins, asked_of, can_read, told_within, untaken}
 use Rattle.rds_codec.proofs.exchanges.exchange.Goals as goal
 
 pub returns : goal.returns
@@ -16,9 +16,10 @@ returns g c =
     let a = c.in_ok-answer.answer in
     let many : n ≡ length mine.roster.names = c.len-replicas.ensures.names ∙ ap (λ (r : RosterValue). length r.names) c.roster.ensures in
     let below : c.own.result < n = omega (arith, many, c.own.ensures.own, c.own.ensures.within) in
-    let told : CanExchange answerer asked mine → IsAsked answerer asked mine digest a =
-    asked_of n c.own.result answerer asked mine c.state.result.now c.state-2.result.now digest a many c.own.ensures.own below c.state.ensures.state c.state.ensures.fits c.state-2.ensures.state c.state-2.ensures.fits
+    let told : CanRead answerer asked mine → IsAsked answerer asked mine digest a =
+    asked_of n c.own.result answerer asked mine c.state.result.now c.state-2.result.now digest a many c.own.ensures.own below c.state.ensures.state c.state-2.ensures.state
     c.in_ok-digest.ensures.ok c.in_ok-answer.ensures.ok in
+    let reads : CanExchange answerer asked mine → CanRead answerer asked mine = can_read answerer asked mine c.state.ensures.fits c.state-2.ensures.fits in
     record {
       taken = c.in_ok-take_answer.ensures.ok;
       asked = c.in_ok-take_answer.ensures.asked;
@@ -27,8 +28,11 @@ returns g c =
         brought = checked_text asked.state n mine.roster c.state.result.now digest many c.state.ensures.state c.in_ok-digest.ensures.brought;
         certified = c.in_ok-take_answer.ensures.checked;
       };
+      within = (told_within asked.state c.state.result.now c.state.ensures.state c.in_ok-digest.ensures.within, c.in_ok-answer.ensures.within);
+      takes = c.in_ok-take_answer.ensures.taken c.in_ok-take_answer.ensures.asked c.in_ok-take_answer.ensures.checked;
       answer = λ can. subst (λ (d : DigestValue). IsAnswerTo d mine.own answerer.state a) (told can).same (told can).answers;
-      joined = λ can. c.in_ok-take_answer.ensures.ok ∙ answer_joins digest mine.own answerer.state a (told can).answers asked.state mine.state (told can).same can.grown;
+      joined = λ can. (let is = told (reads can) in c.in_ok-take_answer.ensures.ok ∙ answer_joins digest mine.own answerer.state a is.answers asked.state mine.state is.same can.grown);
+      refusal = λ can. tt;
       fault = λ can. tt;
       roster = c.take_answer.ensures.roster;
       own = c.take_answer.ensures.own;
@@ -45,12 +49,29 @@ returns-in_err-take_answer-clause-fault g c =
     let a = c.in_ok-answer.answer in
     let many : n ≡ length mine.roster.names = c.len-replicas.ensures.names ∙ ap (λ (r : RosterValue). length r.names) c.roster.ensures in
     let below : c.own.result < n = omega (arith, many, c.own.ensures.own, c.own.ensures.within) in
-    let told : CanExchange answerer asked mine → IsAsked answerer asked mine digest a =
-    asked_of n c.own.result answerer asked mine c.state.result.now c.state-2.result.now digest a many c.own.ensures.own below c.state.ensures.state c.state.ensures.fits c.state-2.ensures.state c.state-2.ensures.fits
+    let told : CanRead answerer asked mine → IsAsked answerer asked mine digest a =
+    asked_of n c.own.result answerer asked mine c.state.result.now c.state-2.result.now digest a many c.own.ensures.own below c.state.ensures.state c.state-2.ensures.state
     c.in_ok-digest.ensures.ok c.in_ok-answer.ensures.ok in
+    let reads : CanExchange answerer asked mine → CanRead answerer asked mine = can_read answerer asked mine c.state.ensures.fits c.state-2.ensures.fits in
     let IsLong = IsLongDigest asked.state ⊎ IsLongAnswer (digest_of asked.state) mine.own answerer.state in
     let p = err_from_is_err_and c.from_residual-in_err-take_answer.result c.from_residual-in_err-take_answer.ensures.1 in
     rw (p.1, p.2) (λ can.
-    (let is = (told can).answers in
+    (let is = (told (reads can)).answers in
     answer_is_taken digest mine.own answerer.state a is answerer.own mine.state (Err c.in_err-take_answer.field-0.0) IsLong can.friends
     (c.in_err-take_answer.ensures.taken is.asked (answer_is_above digest mine.own answerer.state a is, is.certificate))))
+
+pub returns-in_err-take_answer-clause-refusal : goal.returns-in_err-take_answer-clause-refusal
+returns-in_err-take_answer-clause-refusal g c =
+    let answerer = c.args.answerer.now in
+    let asked = c.args.asked.now in
+    let mine = c.args.asker.now in
+    let n = c.len-replicas.result in
+    let digest = c.in_ok-digest.digest in
+    let a = c.in_ok-answer.answer in
+    let many : n ≡ length mine.roster.names = c.len-replicas.ensures.names ∙ ap (λ (r : RosterValue). length r.names) c.roster.ensures in
+    let below : c.own.result < n = omega (arith, many, c.own.ensures.own, c.own.ensures.within) in
+    let told : CanRead answerer asked mine → IsAsked answerer asked mine digest a =
+    asked_of n c.own.result answerer asked mine c.state.result.now c.state-2.result.now digest a many c.own.ensures.own below c.state.ensures.state c.state-2.ensures.state
+    c.in_ok-digest.ensures.ok c.in_ok-answer.ensures.ok in
+    let p = err_from_is_err_and c.from_residual-in_err-take_answer.result c.from_residual-in_err-take_answer.ensures.1 in
+    rw (p.1, p.2) (λ can. untaken answerer asked mine digest a c.in_err-take_answer.field-0.0 (told can) c.in_err-take_answer.ensures.taken)

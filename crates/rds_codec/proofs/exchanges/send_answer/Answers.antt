@@ -7,7 +7,7 @@ use Rattle.rds_codec.specs.AnswerTexts.{answer_kind}
 use Rattle.rds_codec.specs.Decoding.{Answers}
 use Rattle.rds_codec.specs.Exchanged.{IsAnswerTo, IsLongAnswer}
 use Rattle.rds_bytes.specs.Values.{AreFew}
-use Rattle.rds_codec.proofs.ExchangeLemmas.{is_read, read_ok, read_err, read_fits, delta_is_few, within_text}
+use Rattle.rds_codec.proofs.ExchangeLemmas.{is_read, read_ok, read_err, read_fits, read_within, delta_is_few, within_text}
 use Rattle.rds_codec.proofs.exchanges.send_answer.Goals as goal
 
 pub returns : goal.returns
@@ -22,6 +22,7 @@ returns g c =
     (c.deref.ensures.value ∙ sent.text) (within_text _ _ sent.text sent.within) in
     record {
       fits = read_fits n c.deref.result.now c.decode_answer.result c.decode_answer.ensures.text;
+      within = read_within (answer_kind n) c.deref.result.now c.decode_answer.result c.decode_answer.ensures.text;
       ok = λ below fits few. read_ok v c.decode_answer.result (IsAnswerTo c.args.digest.now c.args.asker held) (read below fits few) sent.answers;
       fault = λ below fits few. read_err v c.decode_answer.result (IsLongAnswer c.args.digest.now c.args.asker held) (read below fits few);
     }

@@ -7,7 +7,7 @@ use Rattle.rds_codec.specs.Decoding.{Answers}
 use Rattle.rds_codec.specs.DigestTexts.{digest_text, digest_kind}
 use Rattle.rds_codec.specs.Exchanged.{IsLongDigest}
 use Rattle.rds_bytes.specs.Values.{AreFew}
-use Rattle.rds_codec.proofs.ExchangeLemmas.{is_read, brought, read_ok, read_err, within_text}
+use Rattle.rds_codec.proofs.ExchangeLemmas.{is_read, brought, brought_within, read_ok, read_err, within_text}
 use Rattle.rds_codec.proofs.exchanges.send_digest.Goals as goal
 
 pub returns : goal.returns
@@ -19,6 +19,7 @@ returns g c =
     is_read (digest_kind n) (digest_of asked) c.deref.result.now c.decode_digest.result c.decode_digest.ensures.text (sent.again n fits few) (c.deref.ensures.value ∙ sent.text) (within_text _ _ sent.text sent.within) in
     record {
       brought = brought (digest_kind n) (digest_text (digest_of asked)) c.deref.result.now c.decode_digest.result (c.deref.ensures.value ∙ sent.text) c.decode_digest.ensures.text;
+      within = brought_within (digest_kind n) (digest_text (digest_of asked)) c.deref.result.now c.decode_digest.result (c.deref.ensures.value ∙ sent.text) c.decode_digest.ensures.text;
       ok = λ fits few. read_ok (digest_of asked) c.decode_digest.result (λ (d : DigestValue). d ≡ digest_of asked) (read fits few) refl;
       fault = λ fits few. read_err (digest_of asked) c.decode_digest.result (IsLongDigest asked) (read fits few);
     }
