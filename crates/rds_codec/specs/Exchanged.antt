@@ -58,7 +58,8 @@ IsCertified digest a = IsAbove (coordinates a.state) (ranks_in digest) × IsCert
 pub record IsUncertified (digest : DigestValue) (a : AnswerValue) : Type 0 where
   pub wrong : IsCertified digest a → ⊥
 
--- the delta is taken exactly where its certificate is the right one
+-- It is refused as BadCertificate exactly where its certificate is not the right one. Any other is taken or refused as
+-- a take does its delta.
 pub data TakesCertified (digest : DigestValue) (a : AnswerValue) (own : ℕ) (old : StateValue) (result : Result (Unit {0}) Fault) : Type 0 where
   Certified : IsCertified digest a → TakeGives old own a.state result → TakesCertified digest a own old result
   Uncertified : IsUncertified digest a → result ≡ Err BadCertificate → TakesCertified digest a own old result

@@ -21,7 +21,8 @@ use rds_names::Fault;
 use rds_state::{Replica, State};
 use std::alloc::Global;
 
-/// The text of a state's digest, with which its replica asks another for what it lacks.
+/// The text of a state's digest, with which its replica asks another for what it lacks. Refused is a text above the
+/// limit (`TooLong`); else memory may run out (`Memory`).
 pub fn ask<S: DotSet>(alloc: Global, asked: &State<S>) -> Result<Vec<u8>, Fault>
     ensures ok { IfOk result (λ bytes. IsAskOf asked.now bytes.items) }
     ensures fault { IfErr result (IsLost (IsLongDigest asked.now)) }
@@ -31,7 +32,7 @@ pub fn ask<S: DotSet>(alloc: Global, asked: &State<S>) -> Result<Vec<u8>, Fault>
 }
 
 /// The text of the answer to a digest: the least delta of a state, and its certificate. Also how many components the
-/// delta has.
+/// delta has. Refused is a text above the limit (`TooLong`); else memory may run out (`Memory`).
 pub fn answer<S: DotSet>(
     alloc: Global,
     asker: u8,
@@ -47,8 +48,9 @@ pub fn answer<S: DotSet>(
     Ok((bytes, delta.components()))
 }
 
-/// Joins the delta of an answer into a replica. Refused is an answer whose certificate isn't that of its delta against
-/// the digest (`BadCertificate`), and then what [`Replica::take`] refuses.
+/// Joins the delta of an answer into a replica. Refused as `BadCertificate` is exactly an answer that the check says no
+/// to: one whose delta isn't above the digest, or whose certificate isn't that of its delta against it. Any other is
+/// taken or refused as [`Replica::take`] does its delta (`OwnAhead`, `Conflict`, `Memory`).
 pub fn take_certified<S: DotSet>(
     replica: &mut Replica<S>,
     digest: &Digest<S>,

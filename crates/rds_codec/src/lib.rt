@@ -1,5 +1,5 @@
-//! The texts of values, format 1. All numbers are big-endian, a value has one text, and no text of a kind
-//! begins another.
+//! The texts of values, format 1, and what is asked, answered and taken by them. All numbers are big-endian, a
+//! value has one text, and no text of a kind begins another.
 #![tactic(auto)]
 
 mod answers;
