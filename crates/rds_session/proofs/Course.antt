@@ -1,4 +1,5 @@
 -- A session's course, step by step.
+use Rattle.std.specs.Prelude.{IsSome}
 use Rattle.std.proofs.Common.{◌≡◌, ℕ, Bool, true, false, cond, List, [], ◌∷◌, ◌++◌, Option, Some, None, Result, Ok, Err, refl, sym, ap, ◌∙◌, append_assoc, subst, ◌⊎◌, inl, inr}
 use Rattle.std.proofs.lemmas.List.{append-nil}
 use Rattle.rds_names.specs.declared.fault.Fault.{Fault}
@@ -15,7 +16,7 @@ use Rattle.rds_session.specs.Judging.{Awaited, ForHello, ForDigest, ForDelta, Fo
 use Rattle.rds_session.specs.Sending.{sending}
 use Rattle.rds_session.specs.Session.{Standing, Sent, fresh, failed, then_more, when_going, after_sending, performed, answered, message_comes, scanned, stay, byte_comes, run, opening, opened, cut_off, Heard, Nothing, So_far, All_of, heard_more, course, taken, stepped}
 use Rattle.rds_session.specs.Steps as steps
-use Rattle.rds_session.specs.Steps.{piece_of, ReceivedOnTheWay, RunsOut, Steps, Continues, IsOver}
+use Rattle.rds_session.specs.Steps.{piece_of, ReceivedOnTheWay, TakesMemory, RunsOut, Steps, Continues, IsOver}
 use Rattle.rds_session.proofs.Accepting.{IsActFor, IsFor, accepted_suits}
 use Rattle.rds_session.proofs.Runs.{run_over, run-append}
 
@@ -317,13 +318,27 @@ took old new i before sent going none done =
 
 -- memory ran out in it
 pub gave_up : (old mid new : Standing) (i : Option (List ℕ)) (sent : List ℕ) → old.ended ≡ Going → ReceivedOnTheWay (opened old).0 (piece_of i) mid.received
-    → new ≡ failed mid Memory → steps.IsLastWord sent → Steps old i new sent
-gave_up old mid new i sent going way is word =
-    inr (going, ap (λ (s : Standing). s.ended) is, (way.0, way.1, way.2, ap (λ (s : Standing). s.received) is ∙ way.3), word)
+    → new ≡ failed mid Memory → steps.IsLastWord sent → TakesMemory old i → Steps old i new sent
+gave_up old mid new i sent going way is word takes =
+    inr (going, ap (λ (s : Standing). s.ended) is, (way.0, way.1, way.2, ap (λ (s : Standing). s.received) is ∙ way.3), word, takes)
 
 -- nothing is done after the end
 pub rests : (s : Standing) (i : Option (List ℕ)) (sent : List ℕ) → IsOver s.ended → sent ≡ [] → Steps s i s sent
 rests s i sent over none = let e = stepped_over s i over in inl (ap (λ (p : Sent). p.0) (sym e), none ∙ ap (λ (p : Sent). p.1) (sym e))
+
+cut_by_silent : (e : Ended) (s : Standing) → (when_going {A = Sent} e (failed s PeerEnded, []) (s, [])).1 ≡ []
+cut_by_silent Going s = refl
+cut_by_silent Done s = refl
+cut_by_silent (Failed f) s = refl
+
+-- the end comes to a session that has begun
+pub ends : (old new : Standing) (i : Option (List ℕ)) (sent : List ℕ) → Steps old i new sent → old.begun ≡ true → i ≡ None → (new ≡ (cut_off old).0) × (sent ≡ [])
+ends old new i sent steps begun none = elim steps [
+  | inl done ↦
+      let e : stepped old i ≡ cut_off old = stepped_begun old i begun ∙ ap (λ (j : Option (List ℕ)). taken j old) none in
+      (done.0 ∙ ap (λ (p : Sent). p.0) e, done.1 ∙ ap (λ (p : Sent). p.1) e ∙ cut_by_silent old.ended old)
+  | inr out ↦ absurd (let bad : false ≡ true = subst IsSome none (out.4 begun) in cc)
+]
 
 -- nothing was taken yet, so what was received stayed
 pub at_first : (old : Standing) (i : Option (List ℕ)) (received : Option StateValue) → received ≡ old.received → ReceivedOnTheWay (opened old).0 (piece_of i) received

@@ -1,5 +1,5 @@
 -- What a step of a session does.
-use Rattle.std.specs.Prelude.{◌≡◌, ◌⊎◌, ◌≤◌, ℕ, length, List, [], ◌++◌, Option, Some, None, Result, MatchResult}
+use Rattle.std.specs.Prelude.{◌≡◌, ◌⊎◌, ◌≤◌, ℕ, length, true, List, [], ◌++◌, Option, Some, None, IsSome, Result, MatchResult}
 use Rattle.rds_names.specs.declared.fault.Fault.{Fault}
 use Rattle.rds_names.specs.declared.fault.Fault.TheVariants.{Memory}
 use Rattle.rds_state.specs.Fits.{ReplicaValue}
@@ -103,15 +103,19 @@ abbrev pub piece_of : Option (List ℕ) → List ℕ
 piece_of None = []
 piece_of (Some piece) = piece
 
+-- a step takes memory where the session begins, or bytes come; the end of one that has begun takes none
+abbrev pub TakesMemory : Standing → Option (List ℕ) → Type 0
+TakesMemory old input = old.begun ≡ true → IsSome input
+
 -- bytes or the end came, after the opening; or memory ran out with what was received after a front of them
 abbrev pub Works : {T : Type 0} → Standing → List ℕ → Option (List ℕ) → Standing → List ℕ → Result T Fault → Type 0
 Works old sent input new more result = MatchResult result
     (λ _. (new ≡ (then_more (opened old) (taken input)).0) × (more ≡ sent ++ (then_more (opened old) (taken input)).1))
-    (λ e. (e ≡ Memory) × ReceivedOnTheWay (opened old).0 (piece_of input) new.received)
+    (λ e. (e ≡ Memory) × ReceivedOnTheWay (opened old).0 (piece_of input) new.received × TakesMemory old input)
 
 abbrev pub RunsOut : Standing → Option (List ℕ) → Standing → List ℕ → Type 0
 RunsOut old input new sent =
-    (old.ended ≡ Going) × (new.ended ≡ Failed Memory) × ReceivedOnTheWay (opened old).0 (piece_of input) new.received × IsLastWord sent
+    (old.ended ≡ Going) × (new.ended ≡ Failed Memory) × ReceivedOnTheWay (opened old).0 (piece_of input) new.received × IsLastWord sent × TakesMemory old input
 
 -- the step was taken; or memory ran out in it
 abbrev pub Steps : Standing → Option (List ℕ) → Standing → List ℕ → Type 0

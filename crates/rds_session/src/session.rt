@@ -1,6 +1,6 @@
 //! One end of a session.
 ghost use Rattle.rds_session.specs.declared.chunks.TheConstants.{MESSAGE_LIMIT};
-ghost use Rattle.std.specs.Prelude.{◌≡◌, ◌<◌, ◌≤◌, [], Ok, OnOk, IfOk, IfErr, length};
+ghost use Rattle.std.specs.Prelude.{◌≡◌, ◌<◌, ◌≤◌, [], true, false, None, Ok, OnOk, OnErr, IfOk, IfErr, length};
 ghost use Rattle.std.specs.Option.{option_copied};
 ghost use Rattle.rds_names.specs.declared.fault.Fault.TheVariants.{Memory};
 
@@ -104,12 +104,14 @@ impl<'a, S: DotSet> Session<'a, S> {
     /// What it sends in all, how it ends and what it receives doesn't depend on how the stream is cut into steps.
     ///
     /// The first step of a client sends what it begins with, whatever comes in it. After the end each step answers
-    /// that end and sends nothing. Where memory runs out the session fails (`Memory`), and what it received stays.
+    /// that end and sends nothing. Where memory runs out the session fails (`Memory`), and what it received stays. The
+    /// end of the stream takes no memory once the session has begun.
     pub fn step(&mut self, alloc: Global, input: Input<'_>) -> Output
         ensures course { (side : Side) (kept : ReplicaValue) (heard : Heard) → HasStanding side kept heard self.old
             → Continues side kept heard (came input.entry) self.new result.send.items }
         ensures ended { result.ended ≡ self.new.ended }
         ensures over { IsOver self.old.ended → (self.new ≡ self.old) × (result.send.items ≡ []) }
+        ensures end { self.old.begun ≡ true → came input.entry ≡ None → (self.new ≡ (cut_off self.old).0) × (result.send.items ≡ []) }
         ensures device { IsNoDevice self.old.ended → IsNoDevice self.new.ended }
         ensures kept { self.new.kept ≡ self.old.kept }
     {
@@ -172,6 +174,7 @@ impl<'a, S: DotSet> Session<'a, S> {
     #[tactic(auto, unfolding(crate::specs::Session::opened), using(crate::proofs::Moves::all_sent, crate::proofs::Moves::some_sent))]
     fn open(&mut self, alloc: Global, send: &mut Vec<u8>) -> Result<(), Fault>
         ensures does { Does self.old send.old.items self.new send.new.items result opened }
+        ensures begins { OnErr result (self.old.begun ≡ false) }
         ensures known { OnOk result (IsNoDevice self.old.ended → IsNoDevice self.new.ended) }
         ensures kept { self.new.kept ≡ self.old.kept }
     {
