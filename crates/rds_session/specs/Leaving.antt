@@ -10,7 +10,7 @@ use Rattle.rds_session.specs.declared.step.Ended.TheVariants.{Failed}
 use Rattle.rds_session.specs.declared.talk.Side.{Side}
 use Rattle.rds_session.specs.Exchange.{HasRunOut, IsHeard}
 use Rattle.rds_session.specs.Received.{HasChecked, IsDoneBy}
-use Rattle.rds_session.specs.Session.{Heard, Standing, heard_more, course}
+use Rattle.rds_session.specs.Session.{Heard, Nothing, Standing, heard_more, course}
 use Rattle.rds_session.specs.Steps.{HasStanding, IsLastWord, IsOver}
 
 -- a session has the standing of some stream that it heard, or memory ran out on the way
@@ -31,9 +31,18 @@ pub record RanOutAfter (side : Side) (kept : ReplicaValue) (heard : Heard) (s : 
 abbrev pub HasSent : Side → ReplicaValue → Heard → Standing → List ℕ → Type 0
 HasSent side kept heard s sent = (HasStanding side kept heard s × (sent ≡ (course side kept heard).1)) ⊎ RanOutAfter side kept heard s sent
 
+-- a step was taken
+abbrev pub HasBegun : Heard → Type 0
+HasBegun Nothing = ⊥
+HasBegun _ = Unit {0}
+
 -- it does so for what its reader held at first and doesn't hold now: each byte once, in order; and this was written of what it sent
 abbrev pub Speaks : Side → ReplicaValue → Option (List ℕ) → Option (List ℕ) → Standing → (List ℕ → Type 0) → Type 0
-Speaks side kept first now s IsWritten = (heard : Heard) × IsHeard first now heard × (sent : List ℕ) × HasSent side kept heard s sent × IsWritten sent
+Speaks side kept first now s IsWritten = (heard : Heard) × IsHeard first now heard × (sent : List ℕ) × HasSent side kept heard s sent × IsWritten sent × HasBegun heard
+
+-- all of it was written; or a write failed, and a beginning of it was written
+abbrev pub IsWrittenUnless : Type 0 → Option (List ℕ) → Option (List ℕ) → List ℕ → Type 0
+IsWrittenUnless WriteFailed before after sent = Appends before after sent ⊎ (WriteFailed × AppendsFront before after sent)
 
 -- an end stands as its session does, or a call on its stream failed, or there was no memory for what it had to say
 abbrev pub StandsAs : Standing → Ended → Type 0
@@ -46,17 +55,18 @@ pub record IsOfSession (side : Side) (kept : ReplicaValue) (received : Option St
   pub is_received : received ≡ session.received
   pub stands : StandsAs session ended
 
--- what a session came to over a reader and a writer: it heard the bytes that the reader held at first and doesn't hold now, each
--- once and in order, this is what it received, and all that it sent was written and it ended so; or a call failed, and a beginning
--- of what it sent was written
-pub record IsOfCalls (side : Side) (kept : ReplicaValue) (first now before after : Option (List ℕ)) (received : Option StateValue) (ended : Ended) : Type 0 where
+-- what a session came to over a reader and a writer: it took a step, it heard the bytes that the reader held at first and doesn't
+-- hold now, each once and in order, this is what it received, and all that it sent was written and it ended so; or a call failed,
+-- and all that it sent was written, or where that call was a write a beginning of it
+pub record IsOfCalls (side : Side) (kept : ReplicaValue) (first now before after : Option (List ℕ)) (WriteFailed : Type 0) (received : Option StateValue) (ended : Ended) : Type 0 where
   pub session : Standing
   pub heard : Heard
+  pub begun : HasBegun heard
   pub is_heard : IsHeard first now heard
   pub sent : List ℕ
   pub is_sent : HasSent side kept heard session sent
   pub is_received : received ≡ session.received
-  pub stands : ((ended ≡ session.ended) × Appends before after sent) ⊎ ((ended ≡ Failed Device) × AppendsFront before after sent)
+  pub stands : ((ended ≡ session.ended) × Appends before after sent) ⊎ ((ended ≡ Failed Device) × IsWrittenUnless WriteFailed before after sent)
 
 -- what an end came to: it is over, has received nothing or what it checked, and that where it is done, as a session does for some stream
 pub record Leaves (side : Side) (kept : ReplicaValue) (received : Option StateValue) (ended : Ended) : Type 0 where

@@ -1,14 +1,14 @@
 //! A session over a reader and a writer.
 ghost use Rattle.std.specs.Prelude.{◌≡◌, ◌⊎◌, ◌<◌, ℕ, List, Option, true, false, length, OnOk, OnErr, IfOk, IfErr, IfSome};
 ghost use Rattle.rds_keep.specs.Counted.{HasFailed};
-ghost use Rattle.rds_keep.specs.Parts.{AppendsFront, AppendsPart};
+ghost use Rattle.rds_keep.specs.Parts.{AppendsPart};
 ghost use Rattle.std.specs.Io.KnownBytes.{Appends};
 ghost use Rattle.rds_names.specs.declared.fault.Fault.TheVariants.{Device};
 ghost use Rattle.rds_session.specs.declared.step.Ended.TheVariants.{Going, Failed};
 ghost use Rattle.rds_session.specs.declared.talk.Side.{Side};
 ghost use Rattle.rds_session.specs.Exchange.{Exchanges, Says, Talks, TalksOn};
 ghost use Rattle.rds_session.specs.Received.{HasChecked, IsDoneBy};
-ghost use Rattle.rds_session.specs.Leaving.{IsOfCalls, IsOfSession, Speaks};
+ghost use Rattle.rds_session.specs.Leaving.{IsOfCalls, IsOfSession, IsWrittenUnless, Speaks};
 ghost use Rattle.rds_session.specs.Session.{Heard, Nothing};
 ghost use Rattle.rds_session.specs.Steps.{came, Continues, HasStanding, IsNoDevice, IsOver};
 ghost use Rattle.rds_state.specs.Fits.{ReplicaValue};
@@ -76,7 +76,7 @@ fn turn<S: DotSet, R: Read, W: Write>(
         → Speaks side kept first (R.remaining reader.new.inner) session.new (Appends before (W.contents writer.new.inner))) }
     ensures part { OnErr result ((side : Side) (kept : ReplicaValue) (first before : Option (List ℕ))
         → Speaks side kept first (R.remaining reader.old.inner) session.old (Appends before (W.contents writer.old.inner))
-        → Speaks side kept first (R.remaining reader.new.inner) session.new (AppendsFront before (W.contents writer.new.inner))) }
+        → Speaks side kept first (R.remaining reader.new.inner) session.new (IsWrittenUnless (HasFailed writer.old writer.new) before (W.contents writer.new.inner))) }
     ensures talk { OnOk result (TalksOn (R.remaining reader.old.inner) (R.remaining reader.new.inner) session.old session.new (W.contents writer.old.inner) (W.contents writer.new.inner)) }
     ensures fault { IfErr result (λ e. (e ≡ Device) × (HasFailed reader.old reader.new ⊎ HasFailed writer.old writer.new)) }
     ensures steady_reader { OnOk result (reader.new.failed ≡ reader.old.failed) }
@@ -104,7 +104,7 @@ fn talk<S: DotSet, R: Read, W: Write>(
     ensures speaks { OnOk result ((side : Side) (kept : ReplicaValue) → HasStanding side kept Nothing session.old
         → Speaks side kept (R.remaining reader.old.inner) (R.remaining reader.new.inner) session.new (Appends (W.contents writer.old.inner) (W.contents writer.new.inner))) }
     ensures part { OnErr result ((side : Side) (kept : ReplicaValue) → HasStanding side kept Nothing session.old
-        → Speaks side kept (R.remaining reader.old.inner) (R.remaining reader.new.inner) session.new (AppendsFront (W.contents writer.old.inner) (W.contents writer.new.inner))) }
+        → Speaks side kept (R.remaining reader.old.inner) (R.remaining reader.new.inner) session.new (IsWrittenUnless (HasFailed writer.old writer.new) (W.contents writer.old.inner) (W.contents writer.new.inner))) }
     ensures talk { OnOk result ((side : Side) (kept : ReplicaValue) → HasStanding side kept Nothing session.old
         → Talks side kept (R.remaining reader.old.inner) (R.remaining reader.new.inner) session.new (W.contents writer.old.inner) (W.contents writer.new.inner)) }
     ensures fault { IfErr result (λ e. (e ≡ Device) × (HasFailed reader.old reader.new ⊎ HasFailed writer.old writer.new)) }
@@ -125,7 +125,7 @@ fn talk<S: DotSet, R: Read, W: Write>(
 /// One session to its end, over all that the reader gives: a step with no bytes, then by turns a read, a step with
 /// what was read, and a write of what the step sends. The reader's end is the stream's. Where a call on the reader or
 /// the writer fails, or the reader's bound of turns is reached, the session has failed with `Device`; what it received
-/// before stays.
+/// before stays, and all that it sends for what it heard has been written where no write failed.
 pub fn exchange<S: DotSet, R: Read, W: Write>(
     alloc: Global,
     side: Side,
@@ -138,7 +138,7 @@ pub fn exchange<S: DotSet, R: Read, W: Write>(
     ensures done { IsDoneBy result.ended result.received }
     ensures session { IsOfSession side kept.now result.received result.ended }
     ensures heard { IsOfCalls side kept.now (R.remaining reader.old.inner) (R.remaining reader.new.inner)
-        (W.contents writer.old.inner) (W.contents writer.new.inner) result.received result.ended }
+        (W.contents writer.old.inner) (W.contents writer.new.inner) (HasFailed writer.old writer.new) result.received result.ended }
     ensures told { ((reader.new.failed ≡ reader.old.failed) × (writer.new.failed ≡ writer.old.failed)) ⊎ (result.ended ≡ Failed Device) }
     ensures device { result.ended ≡ Failed Device → HasFailed reader.old reader.new ⊎ HasFailed writer.old writer.new }
     ensures exchange { reader.new.failed ≡ 0 → writer.new.failed ≡ 0 → IfSome (R.remaining reader.old.inner) (λ input.

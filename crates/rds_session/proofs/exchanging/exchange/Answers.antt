@@ -54,6 +54,7 @@ returns-in-Ok-clause-heard g c =
     record {
       session = c.talk.new.session;
       heard = spoken.0;
+      begun = spoken.5;
       is_heard = spoken.1;
       sent = spoken.2;
       is_sent = spoken.3;
@@ -67,6 +68,7 @@ returns-in-Err-clause-heard g c =
     record {
       session = c.talk.new.session;
       heard = spoken.0;
+      begun = spoken.5;
       is_heard = spoken.1;
       sent = spoken.2;
       is_sent = spoken.3;

@@ -1,6 +1,6 @@
 use Rattle.std.proofs.Common.{refl}
 use Rattle.std.proofs.lemmas.Result.{err_from_is_err_and}
-use Rattle.rds_session.proofs.Spoken.{first_part, first_spoken}
+use Rattle.rds_session.proofs.Spoken.{failed_since, first_part, first_spoken, spoken_since}
 use Rattle.rds_session.proofs.Turns.{talk_begins}
 use Rattle.rds_session.proofs.exchanging.talk.Goals as goal
 
@@ -18,7 +18,7 @@ turns-init g c = rw c.begin_turns.ensures (
 pub returns-in_err-ended-clause-part : goal.returns-in_err-ended-clause-part
 returns-in_err-ended-clause-part g c =
     let p = err_from_is_err_and c.from_residual.result c.from_residual.ensures.1 in
-    rw p.1 (λ side kept is. first_part side kept _ _ _ _ c.args.session.now c.say.new.session refl is c.in_err-ended.ensures.part)
+    rw p.1 (λ side kept is. first_part _ side kept _ _ _ _ c.args.session.now c.say.new.session refl is c.in_err-ended.ensures.part c.in_err-ended.ensures.fault.1)
 
 pub returns-then-is_over-clause-speaks : goal.returns-then-is_over-clause-speaks
 returns-then-is_over-clause-speaks g c = c.turns.invariant.6
@@ -26,4 +26,4 @@ returns-then-is_over-clause-speaks g c = c.turns.invariant.6
 pub returns-in_err-ended-2-clause-part : goal.returns-in_err-ended-2-clause-part
 returns-in_err-ended-2-clause-part g c =
     let p = err_from_is_err_and c.from_residual-in_err-ended-2.result c.from_residual-in_err-ended-2.ensures.1 in
-    rw p.1 (λ side kept is. c.in_err-ended-2.ensures.part side kept _ _ (c.turns.invariant.6 side kept is))
+    rw p.1 (λ side kept is. spoken_since _ _ side kept _ _ _ _ _ (failed_since c.args.writer.now c.turns.writer c.turn.new.writer c.turns.invariant.4) (c.in_err-ended-2.ensures.part side kept _ _ (c.turns.invariant.6 side kept is)))
