@@ -27,7 +27,7 @@ fn send_body(
     match body {
         Ok(body) => put_message(send, kind, &body),
         Err(Fault::TooLong) => Ok(false),
-        Err(_) => Err(Fault::Memory),
+        Err(fault) => Err(fault),
     }
 }
 
