@@ -1,5 +1,5 @@
 -- What was heard and said, turn by turn.
-use Rattle.std.proofs.Common.{◌≡◌, ℕ, ◌<◌, List, [], ◌++◌, length, Option, Some, None, refl, sym, ap, ◌∙◌, append_assoc, subst, inl, inr, take}
+use Rattle.std.proofs.Common.{◌≡◌, ℕ, ◌<◌, ◌⊎◌, List, [], ◌++◌, length, Option, Some, None, refl, sym, ap, ◌∙◌, append_assoc, subst, inl, inr, take}
 use Rattle.std.specs.Prelude.{IfSome, OnOk, Result, Ok, Err}
 use Rattle.std.specs.Io.KnownBytes.{Consumes, Appends, Keeps, IsAtEnd}
 use Rattle.std.proofs.lemmas.List.{append-nil}
@@ -11,9 +11,10 @@ use Rattle.rds_session.specs.declared.talk.Side.{Side}
 use Rattle.rds_session.specs.declared.step.Ended.{Ended}
 use Rattle.rds_session.specs.declared.step.Ended.TheVariants.{Going, Failed}
 use Rattle.rds_session.specs.Session.{Standing, Sent, Heard, Nothing, So_far, All_of, heard_more, course}
-use Rattle.rds_session.specs.Steps.{HasStanding, IsOver, Continues}
+use Rattle.rds_session.specs.Steps.{HasStanding, IsOver}
 use Rattle.rds_session.proofs.Course.{over_all, received_stays, all_over}
-use Rattle.rds_session.specs.Exchange.{HasCourse, Says, IsHeard, Exchanges, Talks, TalksOn}
+use Rattle.rds_session.specs.Exchange.{IsHeard, Exchanges, HasRunOut}
+use Rattle.rds_session.specs.Leaving.{HasSent, Speaks}
 
 pub appends_then : (a b c : Option (List ℕ)) (x y z : List ℕ) → Appends a b x → Appends b c y → z ≡ x ++ y → Appends a c z
 appends_then None b c x y z p q e = tt
@@ -41,16 +42,6 @@ consumes_kept (Some u) None c x p q = absurd p
 consumes_kept (Some u) (Some v) None x p q = absurd q
 consumes_kept (Some u) (Some v) (Some w) x p q = p ∙ ap (λ (t : List ℕ). x ++ t) (sym q)
 
--- a step's course and what was written for it
-pub says_by : (old new : Standing) (i : Option (List ℕ)) (sent : List ℕ) (before after : Option (List ℕ))
-    → ((side : Side) (kept : ReplicaValue) (heard : Heard) → old ≡ (course side kept heard).0 → Continues side kept heard i new sent)
-    → Appends before after sent → Says old i new before after
-says_by old new i sent before after steps written side kept heard first is so_far =
-    elim (steps side kept heard is) [
-      | inl done ↦ inl (done.standing, appends_then first before after (course side kept heard).1 sent (course side kept (heard_more heard i)).1 so_far written done.beyond)
-      | inr out ↦ inr (record { memory = out.ended; at_most = out.received })
-    ]
-
 -- a step's bytes, or the end, came from the reader
 abbrev pub Came : Option (List ℕ) → Option (List ℕ) → Option (List ℕ) → Type 0
 Came now later None = Consumes now later [] × IsAtEnd later
@@ -70,27 +61,13 @@ heard_kept first now later side kept Nothing going h same = consumes_kept first 
 heard_kept first now later side kept (So_far x) going h same = consumes_kept first now later x h same
 heard_kept first now later side kept (All_of x) going h same = absurd (subst IsOver going (all_over side kept x))
 
--- the talk goes on by a step
-pub talks_on : (side : Side) (kept : ReplicaValue) (first now later : Option (List ℕ)) (s t : Standing) (before said after : Option (List ℕ)) (i : Option (List ℕ))
-    → s.ended ≡ Going → Talks side kept first now s before said → Says s i t said after → Came now later i → Talks side kept first later t before after
-talks_on side kept first now later s t before said after i going talks says came = elim talks.2 [
-  | inl done ↦ (
-    heard_more talks.0 i,
-    heard_on first now later side kept talks.0 i (ap (λ (x : Standing). x.ended) (sym done.0) ∙ going) talks.1 came,
-    says side kept talks.0 before done.0 done.1,
-  )
-  | inr out ↦ absurd (let bad : Going ≡ Failed Memory = sym going ∙ out.memory in cc)
-]
+-- a session has the standing of what was heard, and all that is sent for it was written; or memory ran out
+abbrev pub HasCourse : Side → ReplicaValue → Heard → Standing → Option (List ℕ) → Option (List ℕ) → Type 0
+HasCourse side kept heard s first now = (HasStanding side kept heard s × Appends first now (course side kept heard).1) ⊎ HasRunOut side kept heard s.received s.ended
 
-ap-heard : (first : Option (List ℕ)) (i : Option (List ℕ)) → i ≡ Some [] → IsHeard first first (heard_more Nothing i)
-ap-heard first i e = subst (λ (o : Option (List ℕ)). IsHeard first first (heard_more Nothing o)) (sym e) (consumes_none first)
-
--- the first step
-pub talk_begins : (side : Side) (kept : ReplicaValue) (first : Option (List ℕ)) (s t : Standing) (before after : Option (List ℕ)) (i : Option (List ℕ))
-    → i ≡ Some [] → HasStanding side kept Nothing s → Says s i t before after → Talks side kept first first t before after
-unfolding course
-talk_begins side kept first s t before after i i-is is says =
-    (heard_more Nothing i, ap-heard first i i-is, says side kept Nothing before is (appends_none before))
+course_of : (side : Side) (kept : ReplicaValue) (heard : Heard) (s : Standing) (sent : List ℕ) (before after : Option (List ℕ)) → HasSent side kept heard s sent → Appends before after sent → HasCourse side kept heard s before after
+course_of side kept heard s sent before after (inl is) written = inl (is.0, subst (Appends before after) is.1 written)
+course_of side kept heard s sent before after (inr out) written = inr out.ran_out
 
 abbrev pub Ends : Side → ReplicaValue → Heard → List ℕ → Option (List ℕ) → Option (List ℕ) → Standing → Type 0
 Ends side kept heard input before after s = IsOver s.ended → HasCourse side kept heard s before after → Exchanges side kept input before after s.received s.ended
@@ -161,16 +138,12 @@ pub came_piece : (now later : Option (List ℕ)) (n : ℕ) (buf piece : List ℕ
 came_piece now later n buf piece h is = subst (Consumes now later) (sym is) h.0
 
 pub exchanged : (side : Side) (kept : ReplicaValue) (first now : Option (List ℕ)) (s : Standing) (before after : Option (List ℕ)) (received : Option StateValue) (ended : Ended)
-    → Talks side kept first now s before after → (ended ≡ s.ended) × IsOver ended → received ≡ s.received → IfSome first (λ input. Exchanges side kept input before after received ended)
-exchanged side kept first now s before after received ended talks over got =
+    → Speaks side kept first now s (Appends before after) → (ended ≡ s.ended) × IsOver ended → received ≡ s.received → IfSome first (λ input. Exchanges side kept input before after received ended)
+exchanged side kept first now s before after received ended spoken over got =
     let over-now : IsOver s.ended = subst IsOver over.0 over.1 in
-    let done = talk_ends side kept first now s before after talks.0 over-now talks.1 talks.2 in
+    let done = talk_ends side kept first now s before after spoken.0 over-now spoken.1 (course_of side kept spoken.0 s spoken.2 before after spoken.3 spoken.4) in
     subst (λ (e : Ended). IfSome first (λ input. Exchanges side kept input before after received e)) (sym over.0)
     (subst (λ (r : Option StateValue). IfSome first (λ input. Exchanges side kept input before after r s.ended)) (sym got) done)
-
--- a turn, in the words of the code
-pub turned : (now later : Option (List ℕ)) (old new : Standing) (i : Option (List ℕ)) (said after : Option (List ℕ)) → old.ended ≡ Going → Came now later i → Says old i new said after → TalksOn now later old new said after
-turned now later old new i said after going came says side kept first before talks = talks_on side kept first now later old new before said after i going talks says came
 
 pub on_ok : {T : Type 0} (r : Result T Fault) (A B : Type 0) → OnOk r A → (A → B) → OnOk r B
 on_ok (Ok x) A B h f = f h

@@ -6,7 +6,7 @@ ghost use Rattle.std.specs.Io.KnownBytes.{Appends};
 ghost use Rattle.rds_names.specs.declared.fault.Fault.TheVariants.{Device};
 ghost use Rattle.rds_session.specs.declared.step.Ended.TheVariants.{Going, Failed};
 ghost use Rattle.rds_session.specs.declared.talk.Side.{Side};
-ghost use Rattle.rds_session.specs.Exchange.{Exchanges, Says, Talks, TalksOn};
+ghost use Rattle.rds_session.specs.Exchange.{Exchanges};
 ghost use Rattle.rds_session.specs.Received.{HasChecked, IsDoneBy};
 ghost use Rattle.rds_session.specs.Leaving.{IsOfCalls, IsOfSession, IsWrittenUnless, Speaks};
 ghost use Rattle.rds_session.specs.Session.{Heard, Nothing};
@@ -49,7 +49,6 @@ fn say<S: DotSet, W: Write>(
         → (sent : List ℕ) × Continues side kept heard (came input.entry) session.new sent × Appends (W.contents writer.old.inner) (W.contents writer.new.inner) sent) }
     ensures part { OnErr result ((side : Side) (kept : ReplicaValue) (heard : Heard) → HasStanding side kept heard session.old
         → (sent : List ℕ) × Continues side kept heard (came input.entry) session.new sent × AppendsPart (W.contents writer.old.inner) (W.contents writer.new.inner) sent) }
-    ensures says { OnOk result (Says session.old (came input.entry) session.new (W.contents writer.old.inner) (W.contents writer.new.inner)) }
     ensures fault { IfErr result (λ e. (e ≡ Device) × HasFailed writer.old writer.new) }
     ensures steady { OnOk result (writer.new.failed ≡ writer.old.failed) }
 {
@@ -77,7 +76,6 @@ fn turn<S: DotSet, R: Read, W: Write>(
     ensures part { OnErr result ((side : Side) (kept : ReplicaValue) (first before : Option (List ℕ))
         → Speaks side kept first (R.remaining reader.old.inner) session.old (Appends before (W.contents writer.old.inner))
         → Speaks side kept first (R.remaining reader.new.inner) session.new (IsWrittenUnless (HasFailed writer.old writer.new) before (W.contents writer.new.inner))) }
-    ensures talk { OnOk result (TalksOn (R.remaining reader.old.inner) (R.remaining reader.new.inner) session.old session.new (W.contents writer.old.inner) (W.contents writer.new.inner)) }
     ensures fault { IfErr result (λ e. (e ≡ Device) × (HasFailed reader.old reader.new ⊎ HasFailed writer.old writer.new)) }
     ensures steady_reader { OnOk result (reader.new.failed ≡ reader.old.failed) }
     ensures steady_writer { OnOk result (writer.new.failed ≡ writer.old.failed) }
@@ -105,8 +103,6 @@ fn talk<S: DotSet, R: Read, W: Write>(
         → Speaks side kept (R.remaining reader.old.inner) (R.remaining reader.new.inner) session.new (Appends (W.contents writer.old.inner) (W.contents writer.new.inner))) }
     ensures part { OnErr result ((side : Side) (kept : ReplicaValue) → HasStanding side kept Nothing session.old
         → Speaks side kept (R.remaining reader.old.inner) (R.remaining reader.new.inner) session.new (IsWrittenUnless (HasFailed writer.old writer.new) (W.contents writer.old.inner) (W.contents writer.new.inner))) }
-    ensures talk { OnOk result ((side : Side) (kept : ReplicaValue) → HasStanding side kept Nothing session.old
-        → Talks side kept (R.remaining reader.old.inner) (R.remaining reader.new.inner) session.new (W.contents writer.old.inner) (W.contents writer.new.inner)) }
     ensures fault { IfErr result (λ e. (e ≡ Device) × (HasFailed reader.old reader.new ⊎ HasFailed writer.old writer.new)) }
     ensures steady_reader { OnOk result (reader.new.failed ≡ reader.old.failed) }
     ensures steady_writer { OnOk result (writer.new.failed ≡ writer.old.failed) }

@@ -27,7 +27,7 @@ returns-in-Err-clause-checked g c =
 pub returns-in-Ok-clause-exchange : goal.returns-in-Ok-clause-exchange
 returns-in-Ok-clause-exchange g c =
     λ reader writer. exchanged c.args.side c.args.kept.now (g.R.Read.remaining c.args.reader.now.inner) _ c.talk.new.session _ _ c.into_received.result c.in-Ok.ended
-    (c.in-Ok.ensures.talk c.args.side c.args.kept.now c.new-session.ensures.standing) c.in-Ok.ensures.ended c.into_received.ensures.received
+    (c.in-Ok.ensures.speaks c.args.side c.args.kept.now c.new-session.ensures.standing) c.in-Ok.ensures.ended c.into_received.ensures.received
 
 pub returns-in-Ok-clause-done : goal.returns-in-Ok-clause-done
 returns-in-Ok-clause-done g c = λ is_done. c.into_received.ensures.done (sym c.in-Ok.ensures.ended.0 ∙ is_done)

@@ -1,7 +1,6 @@
 use Rattle.std.proofs.Common.{refl}
 use Rattle.std.proofs.lemmas.Result.{err_from_is_err_and}
 use Rattle.rds_session.proofs.Spoken.{failed_since, first_part, first_spoken, spoken_since}
-use Rattle.rds_session.proofs.Turns.{talk_begins}
 use Rattle.rds_session.proofs.exchanging.talk.Goals as goal
 
 pub turns-init : goal.turns-init
@@ -11,7 +10,6 @@ turns-init g c = rw c.begin_turns.ensures (
   c.say.ensures.kept,
   refl,
   c.in_ok-ended.ensures.steady,
-  λ side kept is. talk_begins side kept (g.R.Read.remaining c.args.reader.now.inner) c.args.session.now c.say.new.session _ _ _ refl is c.in_ok-ended.ensures.says,
   λ side kept is. first_spoken side kept (g.R.Read.remaining c.args.reader.now.inner) _ _ _ c.args.session.now c.say.new.session refl is c.in_ok-ended.ensures.sent,
 )
 
@@ -21,9 +19,9 @@ returns-in_err-ended-clause-part g c =
     rw p.1 (λ side kept is. first_part _ side kept _ _ _ _ c.args.session.now c.say.new.session refl is c.in_err-ended.ensures.part c.in_err-ended.ensures.fault.1)
 
 pub returns-then-is_over-clause-speaks : goal.returns-then-is_over-clause-speaks
-returns-then-is_over-clause-speaks g c = c.turns.invariant.6
+returns-then-is_over-clause-speaks g c = c.turns.invariant.5
 
 pub returns-in_err-ended-2-clause-part : goal.returns-in_err-ended-2-clause-part
 returns-in_err-ended-2-clause-part g c =
     let p = err_from_is_err_and c.from_residual-in_err-ended-2.result c.from_residual-in_err-ended-2.ensures.1 in
-    rw p.1 (λ side kept is. spoken_since _ _ side kept _ _ _ _ _ (failed_since c.args.writer.now c.turns.writer c.turn.new.writer c.turns.invariant.4) (c.in_err-ended-2.ensures.part side kept _ _ (c.turns.invariant.6 side kept is)))
+    rw p.1 (λ side kept is. spoken_since _ _ side kept _ _ _ _ _ (failed_since c.args.writer.now c.turns.writer c.turn.new.writer c.turns.invariant.4) (c.in_err-ended-2.ensures.part side kept _ _ (c.turns.invariant.5 side kept is)))

@@ -2,7 +2,6 @@ use Rattle.std.proofs.Common.{◌≡◌}
 use Rattle.std.specs.Io.KnownBytes.{Appends}
 use Rattle.rds_state.specs.Fits.{ReplicaValue}
 use Rattle.rds_session.specs.declared.talk.Side.{Side}
-use Rattle.rds_session.specs.Exchange.{Talks}
 use Rattle.rds_session.specs.Leaving.{Speaks}
 use Rattle.rds_session.specs.Session.{Nothing}
 use Rattle.rds_session.specs.Steps.{HasStanding, IsNoDevice}
@@ -10,8 +9,6 @@ use Rattle.rds_session.proofs.exchanging.talk.Given as goal
 
 abbrev pub invariant-turns : goal.invariant-turns
 invariant-turns g l = (IsNoDevice l.fn.session.ended → IsNoDevice l.session.ended) × (l.ended ≡ l.session.ended) × (l.session.kept ≡ l.fn.session.kept) × (l.reader.failed ≡ l.fn.reader.failed) × (l.writer.failed ≡ l.fn.writer.failed)
-    × ((side : Side) (kept : ReplicaValue) → HasStanding side kept Nothing l.fn.session
-    → Talks side kept (g.R.Read.remaining l.fn.reader.inner) (g.R.Read.remaining l.reader.inner) l.session (g.W.Write.contents l.fn.writer.inner) (g.W.Write.contents l.writer.inner))
     × ((side : Side) (kept : ReplicaValue) → HasStanding side kept Nothing l.fn.session
     → Speaks side kept (g.R.Read.remaining l.fn.reader.inner) (g.R.Read.remaining l.reader.inner) l.session (Appends (g.W.Write.contents l.fn.writer.inner) (g.W.Write.contents l.writer.inner)))
 

@@ -1,7 +1,7 @@
 use Rattle.std.proofs.Common.{◌<◌, length, Some, None, rules}
 use Rattle.std.proofs.lemmas.Result.{err_from_is_err_and}
 use Rattle.rds_session.proofs.Spoken.{on_failed, part_spoken, spoken, spoken_before}
-use Rattle.rds_session.proofs.Turns.{came_end, came_piece, on_ok, turned}
+use Rattle.rds_session.proofs.Turns.{came_end, came_piece, on_ok}
 use Rattle.rds_session.proofs.exchanging.turn.Goals as goal
 
 pub returns-in_err-count-clause-part : goal.returns-in_err-count-clause-part
@@ -21,12 +21,6 @@ returns-then-count-eq0-clause-part g c =
     let came = came_end _ _ c.in_ok-count.count c.read.new.buf c.in_ok-count.ensures.bytes c.if-count-eq0.true room in
     on_failed c.say.result _ _ _ c.say.ensures.part c.say.ensures.fault (λ sent failed side kept first before. part_spoken _ side kept first _ _ before _ _ None c.args.session.now c.say.new.session c.requires.going came sent failed)
 
-pub returns-then-count-eq0-clause-talk : goal.returns-then-count-eq0-clause-talk
-returns-then-count-eq0-clause-talk g c =
-    let room : 0 < length c.read.new.buf = search rules in
-    let came = came_end _ _ c.in_ok-count.count c.read.new.buf c.in_ok-count.ensures.bytes c.if-count-eq0.true room in
-    on_ok c.say.result _ _ c.say.ensures.says (λ says. turned _ _ _ _ _ _ _ c.requires.going came says)
-
 pub returns-clause-speaks : goal.returns-clause-speaks
 returns-clause-speaks g c =
     let came = came_piece _ _ c.in_ok-count.count c.read.new.buf c.split_at.result.0.now c.in_ok-count.ensures.bytes c.split_at.ensures.front in
@@ -36,8 +30,3 @@ pub returns-clause-part : goal.returns-clause-part
 returns-clause-part g c =
     let came = came_piece _ _ c.in_ok-count.count c.read.new.buf c.split_at.result.0.now c.in_ok-count.ensures.bytes c.split_at.ensures.front in
     on_failed c.say-2.result _ _ _ c.say-2.ensures.part c.say-2.ensures.fault (λ sent failed side kept first before. part_spoken _ side kept first _ _ before _ _ (Some c.split_at.result.0.now) c.args.session.now c.say-2.new.session c.requires.going came sent failed)
-
-pub returns-clause-talk : goal.returns-clause-talk
-returns-clause-talk g c =
-    let came = came_piece _ _ c.in_ok-count.count c.read.new.buf c.split_at.result.0.now c.in_ok-count.ensures.bytes c.split_at.ensures.front in
-    on_ok c.say-2.result _ _ c.say-2.ensures.says (λ says. turned _ _ _ _ _ _ _ c.requires.going came says)
