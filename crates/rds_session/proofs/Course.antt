@@ -18,7 +18,7 @@ use Rattle.rds_session.specs.Session.{Standing, Sent, fresh, failed, then_more, 
 use Rattle.rds_session.specs.Steps as steps
 use Rattle.rds_session.specs.Steps.{piece_of, ReceivedOnTheWay, TakesMemory, RunsOut, Steps, Continues, IsOver}
 use Rattle.rds_session.proofs.Accepting.{IsActFor, IsFor, accepted_suits}
-use Rattle.rds_session.proofs.Runs.{run_over, run-append}
+use Rattle.rds_session.proofs.Runs.{going_goes, over_stays, run_over, run-append, then_same}
 
 -- ---- what stays
 
@@ -154,14 +154,9 @@ over_cut Going s is = tt
 over_cut Done s is = subst IsOver (sym is) tt
 over_cut (Failed f) s is = subst IsOver (sym is) tt
 
-step_over : (e : Ended) (x y : Sent) → IsOver e → when_going e x y ≡ y
-step_over Going x y h = absurd h
-step_over Done x y h = refl
-step_over (Failed f) x y h = refl
-
 pub stepped_over : (s : Standing) (i : Option (List ℕ)) → IsOver s.ended → stepped s i ≡ (s, [])
 unfolding stepped
-stepped_over s i h = step_over s.ended (then_more (opened s) (taken i)) (s, []) h
+stepped_over s i h = over_stays s.ended (then_more (opened s) (taken i)) (s, []) h
 
 taken_over : (e : Ended) (s : Standing) (i : Option (List ℕ)) → s.ended ≡ e → IsOver e → taken i s ≡ (s, [])
 taken_over e s (Some piece) is h = run_over piece s (subst IsOver (sym is) h)
@@ -185,9 +180,6 @@ course_begun side kept x =
     let o = opened (fresh side kept) in
     (run_follows x o.0).begun ∙ (opened_fresh side kept).begun
 
-then_same_end : (p : Sent) (go to : Standing → Sent) → go p.0 ≡ to p.0 → then_more p go ≡ then_more p to
-then_same_end p go to e = ap (λ (q : Sent). (q.0, p.1 ++ q.1)) e
-
 pub nothing_more : (p : Sent) → then_more p (λ s. (s, [])) ≡ p
 nothing_more p = ap (λ (x : List ℕ). (p.0, x)) (append-nil p.1)
 
@@ -204,15 +196,15 @@ course_steps side kept Nothing None =
 course_steps side kept (So_far x) (Some piece) =
     let o = opened (fresh side kept) in
     let p = then_more o (run x) in
-    let one : then_more o (run (x ++ piece)) ≡ then_more p (run piece) = then_same_end o (run (x ++ piece)) (λ s. then_more (run x s) (run piece)) (run-append x piece o.0) ∙ ap (λ (t : List ℕ). ((run piece (run x o.0).0).0, t)) (sym (append_assoc o.1 (run x o.0).1 (run piece (run x o.0).0).1)) in
-    one ∙ sym (then_same_end p (step_on (Some piece)) (run piece) (stepped_begun p.0 (Some piece) (course_begun side kept x)))
+    let one : then_more o (run (x ++ piece)) ≡ then_more p (run piece) = then_same o (run (x ++ piece)) (λ s. then_more (run x s) (run piece)) (run-append x piece o.0) ∙ ap (λ (t : List ℕ). ((run piece (run x o.0).0).0, t)) (sym (append_assoc o.1 (run x o.0).1 (run piece (run x o.0).0).1)) in
+    one ∙ sym (then_same p (step_on (Some piece)) (run piece) (stepped_begun p.0 (Some piece) (course_begun side kept x)))
 course_steps side kept (So_far x) None =
     let p = then_more (opened (fresh side kept)) (run x) in
-    sym (then_same_end p (step_on None) cut_off (stepped_begun p.0 None (course_begun side kept x)))
+    sym (then_same p (step_on None) cut_off (stepped_begun p.0 None (course_begun side kept x)))
 course_steps side kept (All_of x) i =
     let r = then_more (opened (fresh side kept)) (run x) in
     let p = then_more r cut_off in
-    sym (then_same_end p (step_on i) (λ s. (s, [])) (stepped_over p.0 i (over_cut r.0.ended r.0 refl)) ∙ nothing_more p)
+    sym (then_same p (step_on i) (λ s. (s, [])) (stepped_over p.0 i (over_cut r.0.ended r.0 refl)) ∙ nothing_more p)
 
 started_orderly : (side : Side) (kept : ReplicaValue) → IsOrderly (started side kept)
 unfolding started
@@ -271,11 +263,6 @@ by_input o None received orderly w = elim (on_the_way o [] received orderly w) [
   | inr same ↦ inr (same ∙ sym (cut_keeps o))
 ]
 
-when_going_is : {A : Type 0} (e : Ended) (x y : A) → e ≡ Going → when_going e x y ≡ x
-when_going_is Going x y h = refl
-when_going_is Done x y h = absurd cc
-when_going_is (Failed f) x y h = absurd cc
-
 -- what a step's contract says of a session that has the standing of a stream
 pub continues : (side : Side) (kept : ReplicaValue) (h : Heard) (i : Option (List ℕ)) (old new : Standing) (sent : List ℕ) → Steps old i new sent → old ≡ (course side kept h).0 → Continues side kept h i new sent
 unfolding stepped
@@ -292,7 +279,7 @@ continues side kept h i old new sent steps is =
           let o = (opened old).0 in
           let keeps = opening_keeps old in
           let orderly-now : IsOrderly o = elim orderly [ inl none ↦ inl (keeps.0 ∙ none) | inr bye ↦ inr (keeps.1 ∙ bye) ] in
-          let end : (stepped old i).0 ≡ (taken i o).0 = ap (λ (p : Sent). p.0) (when_going_is old.ended (then_more (opened old) (taken i)) (old, []) out.0) in
+          let end : (stepped old i).0 ≡ (taken i o).0 = ap (λ (p : Sent). p.0) (going_goes old.ended (then_more (opened old) (taken i)) (old, []) out.0) in
           let end-course : (taken i o).0.received ≡ (course side kept (heard_more h i)).0.received =
           ap (λ (s : Standing). s.received) (sym end) ∙ ap (λ (s : Standing). (stepped s i).0.received) is ∙ ap (λ (p : Sent). p.0.received) (sym more) in
           inr (record {
@@ -313,7 +300,7 @@ pub took : (old new : Standing) (i : Option (List ℕ)) (before sent : List ℕ)
     → (new ≡ (then_more (opened old) (taken i)).0) × (sent ≡ before ++ (then_more (opened old) (taken i)).1) → Steps old i new sent
 unfolding stepped
 took old new i before sent going none done =
-    let go = when_going_is old.ended (then_more (opened old) (taken i)) (old, []) going in
+    let go = going_goes old.ended (then_more (opened old) (taken i)) (old, []) going in
     inl (done.0 ∙ ap (λ (p : Sent). p.0) (sym go), done.1 ∙ ap (λ (x : List ℕ). x ++ (then_more (opened old) (taken i)).1) none ∙ ap (λ (p : Sent). p.1) (sym go))
 
 -- memory ran out in it
@@ -351,7 +338,7 @@ at_first old i received e = ([], piece_of i, refl, e ∙ sym (opening_keeps old)
 pub over_more : (side : Side) (kept : ReplicaValue) (h : Heard) (i : Option (List ℕ)) → IsOver (course side kept h).0.ended → course side kept (heard_more h i) ≡ course side kept h
 over_more side kept h i over =
     let c = course side kept h in
-    course_steps side kept h i ∙ then_same_end c (step_on i) (λ s. (s, [])) (stepped_over c.0 i over) ∙ nothing_more c
+    course_steps side kept h i ∙ then_same c (step_on i) (λ s. (s, [])) (stepped_over c.0 i over) ∙ nothing_more c
 
 pub over_all : (side : Side) (kept : ReplicaValue) (x y : List ℕ) → IsOver (course side kept (So_far x)).0.ended → course side kept (All_of (x ++ y)) ≡ course side kept (So_far x)
 over_all side kept x y over =

@@ -10,7 +10,7 @@ use Rattle.rds_session.specs.Messages.{bye_message, code_of}
 use Rattle.rds_session.specs.Session.{Standing, Sent, then_more, when_going, failed, refuses, message_comes, scanned, stay, byte_comes, run}
 use Rattle.rds_session.specs.Steps.{Ran, IsOver}
 
-over_stays : {A : Type 0} (e : Ended) (x y : A) → IsOver e → when_going e x y ≡ y
+pub over_stays : {A : Type 0} (e : Ended) (x y : A) → IsOver e → when_going e x y ≡ y
 over_stays Going x y h = absurd h
 over_stays Done x y h = refl
 over_stays (Failed f) x y h = refl
@@ -21,7 +21,7 @@ unfolding run
 run_over [] s h = refl
 run_over (b ∷ bs) s h = over_stays s.ended (then_more (byte_comes s b) (run bs)) (s, []) h
 
-then_same : (p : Sent) (go to : Standing → Sent) → go p.0 ≡ to p.0 → then_more p go ≡ then_more p to
+pub then_same : (p : Sent) (go to : Standing → Sent) → go p.0 ≡ to p.0 → then_more p go ≡ then_more p to
 then_same p go to e = ap (λ (q : Sent). (q.0, p.1 ++ q.1)) e
 
 then_assoc : (p : Sent) (go to : Standing → Sent) → then_more (then_more p go) to ≡ then_more p (λ s. then_more (go s) to)
@@ -39,7 +39,7 @@ unfolding run
 run-append [] y s = refl
 run-append (b ∷ x) y s = append_by s.ended (byte_comes s b) x y s refl (run-append x y (byte_comes s b).0)
 
-going_goes : {A : Type 0} (e : Ended) (x y : A) → e ≡ Going → when_going e x y ≡ x
+pub going_goes : {A : Type 0} (e : Ended) (x y : A) → e ≡ Going → when_going e x y ≡ x
 going_goes Going x y h = refl
 going_goes Done x y h = absurd cc
 going_goes (Failed f) x y h = absurd cc

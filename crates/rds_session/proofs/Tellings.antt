@@ -39,7 +39,7 @@ use Rattle.rds_delta.specs.Rest.{after_of, rows_after}
 use Rattle.rds_delta.specs.declared.row.Row.{Row}
 use Rattle.rds_delta.specs.declared.row.Row.TheVariants as rows
 use Rattle.rds_delta.proofs.DeltaLemmas.{higher_are, number_above}
-use Rattle.rds_delta.proofs.Digests.{live_inside, ranks_of_digest}
+use Rattle.rds_delta.proofs.Digests.{live_inside}
 use Rattle.rds_delta.proofs.Whole.{certificate_rows}
 use Rattle.rds_codec.specs.AnswerTexts.{IsAnswerOf, answer}
 use Rattle.rds_codec.specs.CertificateTexts.{IsCertificateOf, IsReplicaOf}
@@ -54,9 +54,6 @@ use Rattle.rds_session.proofs.Checks.{kept_lives, kept_numbers}
 
 pub digest_is : (n : ℕ) (v : StateValue) → IsStateOf n v → IsDigestOf n (digest_of v)
 digest_is n v h = record { dots = h.dots; few = h.few; inside = live_inside v.lives; counts = h.counts }
-
-pub digest_ranks : (v : StateValue) → ranks_in (digest_of v) ≡ ranks (coordinates v)
-digest_ranks v = ranks_of_digest v
 
 -- ---- rows that are found
 

@@ -1,15 +1,12 @@
 -- What one replica tells another is accepted, message by message.
-use Rattle.std.proofs.Common.{◌≡◌, ℕ, ◌≤◌, true, false, cond, eqb, ◌&&◌, List, [], length, Option, Some, Result, Ok, Err, refl, sym, ap, ◌∙◌, arith}
+use Rattle.std.proofs.Common.{◌≡◌, ℕ, ◌≤◌, true, false, cond, eqb, List, [], length, Option, Some, Result, Ok, Err, refl, sym, ap, ◌∙◌, arith}
 use Rattle.std.specs.Str.{bytes_eq}
 use Rattle.std.proofs.lemmas.Bool.{ne_eqb, eq-eqb}
-use Rattle.std.proofs.lemmas.Bool.Decides.{nat_tests}
 use Rattle.std.proofs.lemmas.List.{append-nil}
 use Rattle.std.proofs.lemmas.Slice.Eq.{bytes_eq-Decides, slice_eq-Decides}
 use Rattle.rds_names.specs.declared.fault.Fault.{Fault}
 use Rattle.rds_names.specs.declared.fault.Fault.TheVariants.{Extra}
-use Rattle.std.specs.Prelude.{nat_le}
-use Rattle.rds_names.specs.Roster.{RosterValue, all_differ, are_names}
-use Rattle.rds_names.specs.Conditions.{and_left, and_right}
+use Rattle.rds_names.specs.Roster.{RosterValue}
 use Rattle.rds_delta.specs.Least.{least}
 use Rattle.rds_codec.specs.CertificateTexts.{IsReplicaOf}
 use Rattle.rds_state.specs.Fits.{ReplicaValue}
@@ -26,6 +23,8 @@ use Rattle.rds_codec.specs.StateTexts.{IsSnapshot}
 use Rattle.rds_codec.specs.declared.hellos.Hello.{Hello}
 use Rattle.rds_codec.specs.declared.hellos.TheConstants.{VERSION}
 use Rattle.rds_codec.specs.declared.limits.TheConstants.{LIMIT}
+use Rattle.rds_bytes.proofs.PartFormats.{few_of_names}
+use Rattle.rds_delta.proofs.Digests.{ranks_of_digest}
 use Rattle.rds_codec.proofs.AnswerFormats.{answer_reader}
 use Rattle.rds_codec.proofs.DigestFormats.{digest_reader}
 use Rattle.rds_codec.proofs.HelloFormats.{hello_reader}
@@ -37,7 +36,7 @@ use Rattle.rds_session.specs.Judging.{ForHello, ForDigest, ForDelta, ForBye, Gre
 use Rattle.rds_session.specs.Meeting.{HasRoom, IsItsLeast}
 use Rattle.rds_session.specs.Messages.{hello_message, digest_message, delta_message, bye_message}
 use Rattle.rds_session.proofs.Checks.{least_coordinates, least_passes}
-use Rattle.rds_session.proofs.Tellings.{digest_is, answer_is, digest_ranks}
+use Rattle.rds_session.proofs.Tellings.{digest_is, answer_is}
 
 -- one hears what the other tells
 pub record IsTold (k from : ReplicaValue) : Type 0 where
@@ -47,18 +46,11 @@ pub record IsTold (k from : ReplicaValue) : Type 0 where
   pub own_text : IsSnapshot k
   pub room : HasRoom from k
 
-le_true : (a b : ℕ) → nat_le a b ≡ true → a ≤ b
-le_true a b h = grind (arith, nat_tests)
-
 -- a text is read whole
 read_whole : {V : Type 0} (kind : Kind V) (read : Reader V) → IsReaderOf kind read → (v : V) → kind.is_value v → length (kind.text v) ≤ LIMIT → all_of read (kind.text v) ≡ Ok v
 read_whole {V} kind read is v h le =
     let e : read (kind.text v) ≡ Ok (v, []) = ap read (sym (append-nil (kind.text v))) ∙ is.again v [] h le in
     ap (λ (r : Result (V × List ℕ) Fault). r >>= λ x. cond (eqb (length x.1) 0) (Ok x.0) (Err Extra)) e
-
--- a roster has at most 256 names
-names_few : (names : List (List ℕ)) → are_names names ≡ true → length names ≤ 256
-names_few names h = le_true (length names) 256 (and_right (nat_le 1 (length names)) (nat_le (length names) 256) (and_left (nat_le 1 (length names) && nat_le (length names) 256) (all_differ names) h))
 
 -- ---- HELLO
 
@@ -97,7 +89,7 @@ digest_accepted k from peer t =
 
 -- the own number is a byte, below the roster's length
 own_is : (k : ReplicaValue) → IsSnapshot k → IsReplicaOf (length k.roster.names) k.own
-own_is k h = let few = names_few k.roster.names h.member.names in (omega (arith, few, h.member.own_number), h.member.own_number)
+own_is k h = let few = few_of_names k.roster.names h.member.names in (omega (arith, few, h.member.own_number), h.member.own_number)
 
 pub delta_accepted : (k from : ReplicaValue) (peer : ℕ) (digest : DigestValue) → IsTold k from
     → accepted k (ForDelta peer digest) (delta_message from k.own (digest_of k.state)) ≡ Ok (Receives (least_state from.state (digest_of k.state)))
@@ -123,5 +115,5 @@ pub its_least : (peer own : ReplicaValue) (received : Option StateValue) → rec
 its_least peer own received is = record {
   delta = least_state peer.state (digest_of own.state);
   is_received = is;
-  is_least = least_coordinates peer.state (digest_of own.state) ∙ ap (least (coordinates peer.state)) (digest_ranks own.state);
+  is_least = least_coordinates peer.state (digest_of own.state) ∙ ap (least (coordinates peer.state)) (ranks_of_digest own.state);
 }
