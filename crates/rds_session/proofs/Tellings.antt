@@ -34,7 +34,7 @@ use Rattle.rds_delta.specs.CounterRows.{counter_rows, number_rows}
 use Rattle.rds_delta.specs.Digested.{DigestValue, IsInside, digest_of, rank_in, ranks_in}
 use Rattle.rds_delta.specs.Grouped.{dead_front, front, grouped_onto, run_of}
 use Rattle.rds_delta.specs.Higher.{higher_row, higher_rows}
-use Rattle.rds_delta.specs.Ranks.{life_rank, ranks}
+use Rattle.rds_delta.specs.Ranks.{life_rank}
 use Rattle.rds_delta.specs.Rest.{after_of, rows_after}
 use Rattle.rds_delta.specs.declared.row.Row.{Row}
 use Rattle.rds_delta.specs.declared.row.Row.TheVariants as rows

@@ -4,12 +4,11 @@ use Rattle.std.specs.Prelude.{IfSome, OnOk, Result, Ok, Err}
 use Rattle.std.specs.Io.KnownBytes.{Consumes, Appends, Keeps, IsAtEnd}
 use Rattle.std.proofs.lemmas.List.{append-nil}
 use Rattle.rds_names.specs.declared.fault.Fault.{Fault}
-use Rattle.rds_names.specs.declared.fault.Fault.TheVariants.{Memory}
 use Rattle.rds_state.specs.Fits.{ReplicaValue}
 use Rattle.rds_state.specs.Value.{StateValue}
 use Rattle.rds_session.specs.declared.talk.Side.{Side}
 use Rattle.rds_session.specs.declared.step.Ended.{Ended}
-use Rattle.rds_session.specs.declared.step.Ended.TheVariants.{Going, Failed}
+use Rattle.rds_session.specs.declared.step.Ended.TheVariants.{Going}
 use Rattle.rds_session.specs.Session.{Standing, Sent, Heard, Nothing, So_far, All_of, heard_more, course}
 use Rattle.rds_session.specs.Steps.{HasStanding, IsOver}
 use Rattle.rds_session.proofs.Course.{over_all, received_stays, all_over}
