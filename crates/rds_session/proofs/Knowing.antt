@@ -5,10 +5,10 @@ use Rattle.rds_names.specs.declared.fault.Fault.{Fault}
 use Rattle.rds_names.specs.declared.fault.Fault.TheVariants.{Memory, Cut, Bad, Extra, TooLong, TooManyDots}
 use Rattle.rds_codec.specs.Decoding.{IsOtherFault}
 use Rattle.rds_session.specs.declared.talk.Stop.TheVariants.{Refused}
-use Rattle.rds_session.specs.Judging.{IsKnown}
+use Rattle.rds_session.specs.Judging.{StopsByNoDevice}
 
 abbrev IsKnownFault : Fault → Type 0
-IsKnownFault e = IsKnown (Refused e)
+IsKnownFault e = StopsByNoDevice (Refused e)
 
 known_by : (e f : Fault) → e ≡ f → IsKnownFault f → IsKnownFault e
 known_by e f is h = subst IsKnownFault (sym is) h
@@ -28,6 +28,6 @@ known_fault e h = elim h [
   ]
 ]
 
-pub known_other : {T : Type 0} (r : Result T Fault) → IfErr r IsOtherFault → IfErr r (λ e. IsKnown (Refused e))
+pub known_other : {T : Type 0} (r : Result T Fault) → IfErr r IsOtherFault → IfErr r (λ e. StopsByNoDevice (Refused e))
 known_other (Ok x) h = h
 known_other (Err e) h = known_fault e h

@@ -16,7 +16,7 @@ use Rattle.rds_session.specs.Checked.{certificate_of, least_state}
 use Rattle.rds_session.proofs.Checks.{delta_is}
 use Rattle.rds_session.specs.declared.chunks.TheConstants.{MESSAGE_LIMIT}
 use Rattle.rds_session.specs.Chunks.{spelled}
-use Rattle.rds_session.specs.Sending.{sending, then_sent, Brings, SendsOne, SendsAll}
+use Rattle.rds_session.specs.Sending.{sending, then_sent, IsTextOrLost, SendsOne, SendsAll}
 
 pub none_sent : (old : List ℕ) → then_sent old (sending []) ≡ (old, true)
 unfolding sending
@@ -46,11 +46,11 @@ more_sent old mid new m ms (Err f) fits e h = h
 
 -- ---- what a body is made of
 
-pub encoded : (text : List ℕ) (r : Result (Vec ℕ) Fault) → Encodes text r → Brings text r
+pub encoded : (text : List ℕ) (r : Result (Vec ℕ) Fault) → Encodes text r → IsTextOrLost text r
 encoded text (Ok v) h = h
 encoded text (Err e) h = elim h [ inl m ↦ inl m.0 | inr l ↦ inr l ]
 
-pub asked : (v : StateValue) (r : Result (Vec ℕ) Fault) → IfOk r (λ b. IsAskOf v b.items) → IfErr r (IsLost (IsLongDigest v)) → Brings (digest_text (digest_of v)) r
+pub asked : (v : StateValue) (r : Result (Vec ℕ) Fault) → IfOk r (λ b. IsAskOf v b.items) → IfErr r (IsLost (IsLongDigest v)) → IsTextOrLost (digest_text (digest_of v)) r
 asked v (Ok b) is lost = (is.text, subst (λ (t : List ℕ). length t ≤ LIMIT) is.text is.within)
 asked v (Err e) is lost = lost
 
@@ -64,9 +64,9 @@ module _ (peer : ℕ) (held : StateValue) (digest : DigestValue) where
       ap answer_text (whole ∙ delta_is held digest peer a.state a.certificate is.delta is.certificate)
 
   pub answered : (r : Result (Vec ℕ × ℕ) Fault) (body : Result (Vec ℕ) Fault) → MatchResult r (λ p. body ≡ Ok p.0) (λ e. body ≡ Err e)
-      → IfOk r (λ p. IsReplyTo digest peer held p.0.items p.1) → IfErr r (IsLost (IsLongAnswer digest peer held)) → Brings due body
+      → IfOk r (λ p. IsReplyTo digest peer held p.0.items p.1) → IfErr r (IsLost (IsLongAnswer digest peer held)) → IsTextOrLost due body
   answered (Ok p) body e is lost =
       let same = is.text ∙ due_is is.value is.answers in
-      subst (Brings due) (sym e) (same, subst (λ (t : List ℕ). length t ≤ LIMIT) same is.within)
+      subst (IsTextOrLost due) (sym e) (same, subst (λ (t : List ℕ). length t ≤ LIMIT) same is.within)
   answered (Err f) body e is lost =
-      subst (Brings due) (sym e) (elim lost [ inl m ↦ inl m | inr l ↦ inr (l.0, subst (λ (t : List ℕ). LIMIT < length t) (due_is l.1.value l.1.answers) l.1.long) ])
+      subst (IsTextOrLost due) (sym e) (elim lost [ inl m ↦ inl m | inr l ↦ inr (l.0, subst (λ (t : List ℕ). LIMIT < length t) (due_is l.1.value l.1.answers) l.1.long) ])

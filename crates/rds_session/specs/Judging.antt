@@ -155,11 +155,11 @@ abbrev pub StopsAs : Stop → Result Said Stop → Type 0
 StopsAs (Refused Memory) wanted = Unit {0}
 StopsAs e wanted = wanted ≡ Err e
 
--- no call of the system failed
-abbrev pub IsKnown : Stop → Type 0
-IsKnown (Refused Device) = ⊥
-IsKnown (Left Device) = ⊥
-IsKnown e = Unit {0}
+-- it isn't that a call of the system failed
+abbrev pub StopsByNoDevice : Stop → Type 0
+StopsByNoDevice (Refused Device) = ⊥
+StopsByNoDevice (Left Device) = ⊥
+StopsByNoDevice e = Unit {0}
 
 abbrev pub Judges : {S : Type 0} → Result (Act S) Stop → Result Said Stop → Type 0
 Judges (Ok act) wanted = wanted ≡ Ok (said act)

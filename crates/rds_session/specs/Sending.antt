@@ -25,12 +25,12 @@ SendsOne old new m result = MatchResult result
     (λ e. e ≡ Memory)
 
 -- a text, or why it isn't there: memory ran out, or it is over its own limit
-abbrev pub Brings : List ℕ → Result (Vec ℕ) Fault → Type 0
-Brings text body = MatchResult body (λ v. (v.items ≡ text) × (length text ≤ LIMIT)) (IsLost (LIMIT < length text))
+abbrev pub IsTextOrLost : List ℕ → Result (Vec ℕ) Fault → Type 0
+IsTextOrLost text body = MatchResult body (λ v. (v.items ≡ text) × (length text ≤ LIMIT)) (IsLost (LIMIT < length text))
 
 -- the same of a message whose body was made, or is over the limit itself
 abbrev pub SendsBody : List ℕ → List ℕ → MessageKind → Result (Vec ℕ) Fault → Result Bool Fault → Type 0
-SendsBody old new kind body result = (text : List ℕ) → Brings text body → SendsOne old new (number_of kind ∷ text) result
+SendsBody old new kind body result = (text : List ℕ) → IsTextOrLost text body → SendsOne old new (number_of kind ∷ text) result
 
 -- messages were added, or those before the first that is over the limit
 abbrev pub SendsAll : List ℕ → List ℕ → List (List ℕ) → Result Bool Fault → Type 0

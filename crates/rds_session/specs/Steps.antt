@@ -15,7 +15,7 @@ use Rattle.rds_session.specs.declared.chunks.Scanned.{Scanned}
 use Rattle.rds_session.specs.declared.chunks.Scanned.TheVariants as code
 use Rattle.rds_session.specs.Chunks.{Under, start, spelled, Scan, More, Whole, Long}
 use Rattle.rds_session.specs.declared.talk.Stop.TheVariants.{Refused}
-use Rattle.rds_session.specs.Judging.{IsKnown}
+use Rattle.rds_session.specs.Judging.{StopsByNoDevice}
 use Rattle.rds_session.specs.Messages.{bye_message}
 use Rattle.rds_session.specs.Session.{Standing, Sent, then_more, run, opened, taken, stepped, Heard, heard_more, course}
 
@@ -65,7 +65,7 @@ IsOver _ = Unit {0}
 
 -- it hasn't failed by a call of the system
 abbrev pub IsNoDevice : Ended → Type 0
-IsNoDevice (Failed f) = IsKnown (Refused f)
+IsNoDevice (Failed f) = StopsByNoDevice (Refused f)
 IsNoDevice _ = Unit {0}
 
 -- ---- the parts of a step

@@ -5,7 +5,7 @@ ghost use Rattle.rds_bytes.specs.Reading.{Reads};
 ghost use Rattle.rds_session.specs.Bodies.{hello_in, digest_in, answer_in};
 ghost use Rattle.rds_delta.specs.Digested.{digest_of};
 ghost use Rattle.rds_names.specs.declared.fault.Fault.TheVariants.{Memory};
-ghost use Rattle.rds_session.specs.Judging.{Awaited, IsKnown, Judges, awaited, bye_came, bye_judged, hello_came, digest_came, delta_came, body_came, accepted, other_version, same_names};
+ghost use Rattle.rds_session.specs.Judging.{Awaited, StopsByNoDevice, Judges, awaited, bye_came, bye_judged, hello_came, digest_came, delta_came, body_came, accepted, other_version, same_names};
 ghost use Rattle.rds_session.specs.Checked.{passes};
 ghost use Rattle.rds_session.specs.Received.{Brings};
 ghost use Rattle.rds_codec.specs.AnswerTexts.{IsAnswerOf};
@@ -30,7 +30,7 @@ use std::alloc::Global;
 // What a BYE that isn't the last message ends the session with.
 fn fault_of(code: ByeCode) -> Fault
     ensures value { result ≡ fault_of code }
-    ensures known { IsKnown (Left result) }
+    ensures known { StopsByNoDevice (Left result) }
 {
     match code {
         ByeCode::WrongVersion => Fault::WrongVersion,
@@ -42,7 +42,7 @@ fn fault_of(code: ByeCode) -> Fault
 }
 
 fn judge_code<S: DotSet>(turn: &Turn<S>, code: ByeCode) -> Result<Act<S>, Stop>
-    ensures known { IfErr result IsKnown }
+    ensures known { IfErr result StopsByNoDevice }
     ensures judges { Judges result (bye_judged code (awaited turn.now)) }
     ensures brings { (kept : ReplicaValue) → IfOk result (Brings kept (awaited turn.now)) }
 {
@@ -56,7 +56,7 @@ fn judge_code<S: DotSet>(turn: &Turn<S>, code: ByeCode) -> Result<Act<S>, Stop>
 }
 
 fn judge_bye<S: DotSet>(turn: &Turn<S>, body: &[u8]) -> Result<Act<S>, Stop>
-    ensures known { IfErr result IsKnown }
+    ensures known { IfErr result StopsByNoDevice }
     ensures judges { Judges result (bye_came (awaited turn.now) body.now) }
     ensures brings { (kept : ReplicaValue) → IfOk result (Brings kept (awaited turn.now)) }
 {
@@ -82,7 +82,7 @@ fn is_other_version(body: &[u8]) -> bool
 #[tactic(auto, unfolding(crate::specs::Bodies::hello_in))]
 fn read_hello(alloc: Global, body: &[u8]) -> Result<Hello, Fault>
     requires { length body.now ≤ LIMIT }
-    ensures known { IfErr result (λ fault. IsKnown (Refused fault)) }
+    ensures known { IfErr result (λ fault. StopsByNoDevice (Refused fault)) }
     ensures read { Reads (λ hello. hello) result (hello_in body.now) }
 {
     decode_hello(alloc, body)
@@ -91,7 +91,7 @@ fn read_hello(alloc: Global, body: &[u8]) -> Result<Hello, Fault>
 #[tactic(auto, unfolding(crate::specs::Bodies::digest_in))]
 fn read_digest<S: DotSet>(alloc: Global, replicas: u16, body: &[u8]) -> Result<Digest<S>, Fault>
     requires { length body.now ≤ LIMIT }
-    ensures known { IfErr result (λ fault. IsKnown (Refused fault)) }
+    ensures known { IfErr result (λ fault. StopsByNoDevice (Refused fault)) }
     ensures read { Reads (λ digest. digest) result (digest_in replicas body.now) }
 {
     decode_digest(alloc, replicas, body)
@@ -100,7 +100,7 @@ fn read_digest<S: DotSet>(alloc: Global, replicas: u16, body: &[u8]) -> Result<D
 #[tactic(auto, unfolding(crate::specs::Bodies::answer_in))]
 fn read_answer<S: DotSet>(alloc: Global, replicas: u16, body: &[u8]) -> Result<Answer<S>, Fault>
     requires { length body.now ≤ LIMIT }
-    ensures known { IfErr result (λ fault. IsKnown (Refused fault)) }
+    ensures known { IfErr result (λ fault. StopsByNoDevice (Refused fault)) }
     ensures read { Reads (λ answer. answer) result (answer_in replicas body.now) }
     ensures value { IfOk result (IsAnswerOf replicas) }
 {
@@ -117,7 +117,7 @@ fn has_same_names(hello: &Roster, kept: &Roster) -> bool
 
 fn judge_hello<S: DotSet>(alloc: Global, kept: &Replica<S>, body: &[u8]) -> Result<Act<S>, Stop>
     requires { length body.now ≤ LIMIT }
-    ensures known { IfErr result IsKnown }
+    ensures known { IfErr result StopsByNoDevice }
     ensures judges { Judges result (hello_came kept.now body.now) }
 {
     if is_other_version(body) {
@@ -143,7 +143,7 @@ fn judge_digest<S: DotSet>(
     body: &[u8],
 ) -> Result<Act<S>, Stop>
     requires { length body.now ≤ LIMIT }
-    ensures known { IfErr result IsKnown }
+    ensures known { IfErr result StopsByNoDevice }
     ensures judges { Judges result (digest_came kept.now peer body.now) }
 {
     let digest = read_digest(alloc, kept.roster().len(), body)?;
@@ -168,7 +168,7 @@ fn passes<S: DotSet>(
 
 fn judge_delta<S: DotSet>(alloc: Global, kept: &Replica<S>, body: &[u8]) -> Result<Act<S>, Stop>
     requires { length body.now ≤ LIMIT }
-    ensures known { IfErr result IsKnown }
+    ensures known { IfErr result StopsByNoDevice }
     ensures judges { Judges result (delta_came kept.now body.now) }
     ensures brings { (turn : Awaited) → IfOk result (Brings kept.now turn) }
 {
@@ -191,7 +191,7 @@ fn judge_body<S: DotSet>(
     body: &[u8],
 ) -> Result<Act<S>, Stop>
     requires { length body.now ≤ LIMIT }
-    ensures known { IfErr result IsKnown }
+    ensures known { IfErr result StopsByNoDevice }
     ensures judges { Judges result (body_came kept.now kind (awaited turn.now) body.now) }
     ensures brings { IfOk result (Brings kept.now (awaited turn.now)) }
 {
@@ -213,7 +213,7 @@ pub fn accept<S: DotSet>(
     message: &[u8],
 ) -> Result<Act<S>, Stop>
     requires { length message.now ≤ LIMIT }
-    ensures known { IfErr result IsKnown }
+    ensures known { IfErr result StopsByNoDevice }
     ensures judges { Judges result (accepted kept.now (awaited turn.now) message.now) }
     ensures brings { IfOk result (Brings kept.now (awaited turn.now)) }
 {

@@ -59,7 +59,7 @@ impl<'a, S: DotSet> Session<'a, S> {
     ghost use Rattle.rds_session.specs.declared.step.Ended.TheVariants.{Going};
     ghost use Rattle.rds_session.specs.declared.talk.Side.{Side};
     ghost use Rattle.rds_session.specs.Chunks.{scan};
-    ghost use Rattle.rds_session.specs.Judging.{IsKnown, said};
+    ghost use Rattle.rds_session.specs.Judging.{StopsByNoDevice, said};
     ghost use Rattle.rds_session.specs.Received.{Brings, HasChecked, IsDoneBy};
     ghost use Rattle.rds_session.specs.declared.talk.Stop.TheVariants.{Refused};
     ghost use Rattle.rds_session.specs.Session.{failed, performed, refuses, answered, message_comes, opened, cut_off, Heard, Nothing};
@@ -323,7 +323,7 @@ impl<'a, S: DotSet> Session<'a, S> {
     // Refuses with a BYE.
     fn refuse(&mut self, fault: Fault, send: &mut Vec<u8>) -> Result<(), Fault>
         ensures does { Does self.old send.old.items self.new send.new.items result (λ s. refuses s fault) }
-        ensures known { OnOk result (IsKnown (Refused fault) → IsNoDevice self.new.ended) }
+        ensures known { OnOk result (StopsByNoDevice (Refused fault) → IsNoDevice self.new.ended) }
         ensures kept { self.new.kept ≡ self.old.kept }
     {
         send_bye(send, code_of(fault))?;
