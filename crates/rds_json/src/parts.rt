@@ -2,7 +2,7 @@
 //! then the members from left to right.
 ghost use Rattle.std.specs.Prelude.{◌≡◌};
 ghost use Rattle.rds_json.specs.MayGive.{MayGive};
-ghost use Rattle.rds_json.specs.Parts.{answer_at, counter_at, named, named_answer, named_counter, named_place, named_value, number_alone, place_at, replica_at, value_at};
+ghost use Rattle.rds_json.specs.Parts.{answer_at, counter_at, named_answer, named_counter, named_place, named_value, number_alone, place_at, replica_at, value_at};
 ghost use Rattle.serde_json.specs.View.{view};
 
 use crate::members::{member_count, number_at, text_at};

@@ -124,8 +124,8 @@ fn view_value(alloc: Global, shape: &View) -> Result<Value, Fault>
 }
 
 /// The view as compact JSON: an object with the members "counters" (at the root of the document alone), "maps", "regs"
-/// and "sets". In each of these the keys stand in the view's order, with a view, an array of values, or a sum; `view` of
-/// `rds_tree` makes views in which all are ascending.
+/// and "sets". The keys ascend by their bytes, each with a view, an array of values in the view's order, or a sum; `view` of
+/// `rds_tree` makes views in which these ascend too.
 pub fn show(alloc: Global, view: &View) -> Result<String, Fault>
     ensures ok { IfOk result (λ text. string_bytes text ≡ compact_text (data_of (shown view.now))) }
     ensures memory { IfErr result (λ fault. fault ≡ Memory) }
