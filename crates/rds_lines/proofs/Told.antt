@@ -1,7 +1,7 @@
 -- What was written by when a reader fails.
 use Rattle.std.proofs.Common.{◌≡◌, ◌⊎◌, ℕ, Bool, false, ◌||◌, List, [], ◌∷◌, ◌++◌, Option, Some, None, Result, Err, refl, sym, ap, ◌∙◌, append_assoc, subst, inl, inr, arith, String}
 use Rattle.std.specs.Global.{Global}
-use Rattle.std.specs.Io.KnownBytes.{Appends, Consumes, prepend_known}
+use Rattle.std.specs.Io.KnownBytes.{Appends, Consumes, IsAtEnd, prepend_known}
 use Rattle.std.proofs.KnownBytes.{Appends-nil, Appends-trans, Consumes-nil, Consumes-trans}
 use Rattle.std.proofs.lemmas.List.{append-nil}
 use Rattle.rds_names.specs.declared.fault.Fault.{Fault}
@@ -84,11 +84,27 @@ no_piece (Some ys) (Some zs) (b ∷ piece) over lost = absurd (none_begins ys (p
     none_begins [] rest b over begins = absurd cc
     none_begins (y ∷ ys) rest b over begins = absurd cc
 
+-- and the reader is at its end
+still_over : (now next : Option (List ℕ)) (piece : List ℕ) → now ≡ Some [] → Consumes now next piece → IsAtEnd next
+still_over None next piece over lost = absurd cc
+still_over (Some ys) None piece over lost = absurd lost
+still_over (Some ys) (Some zs) piece over lost =
+    none_over ys zs over (none_left ys zs piece over lost)
+  where
+    none_left : (ys zs piece : List ℕ) → Some ys ≡ Some [] → ys ≡ piece ++ zs → ys ≡ zs
+    none_left ys zs piece over lost = lost ∙ ap (λ (p : List ℕ). p ++ zs) (no_piece (Some ys) (Some zs) piece over lost)
+
+    none_over : (ys zs : List ℕ) → Some ys ≡ Some [] → ys ≡ zs → zs ≡ []
+    none_over ys zs over is = cc
+
 -- with the piece that was lost
-lines_of : (now next : Option (List ℕ)) (lines : List (List ℕ)) (given piece : List ℕ) → AreTaken now lines given → IsOneLine piece → Consumes now next piece → AreLinesOf (given ++ piece) lines
+lines_of : (now next : Option (List ℕ)) (lines : List (List ℕ)) (given piece : List ℕ) → AreTaken now lines given → IsOneLine piece → Consumes now next piece → AreLinesOf next (given ++ piece) lines
 lines_of now next lines given piece taken one lost = elim taken [
   | inl e ↦ inr (sym (e.ended piece ∙ ap (λ (ls : List (List ℕ)). lines ++ ls) (ended_none piece one) ∙ append-nil lines))
-  | inr over ↦ inl (over.0 ∙ ap lines_in (sym (append-nil given)) ∙ ap (λ (l : List ℕ). lines_in (given ++ l)) (sym (no_piece now next piece over.1 lost)))
+  | inr over ↦ inl (
+    over.0 ∙ ap lines_in (sym (append-nil given)) ∙ ap (λ (l : List ℕ). lines_in (given ++ l)) (sym (no_piece now next piece over.1 lost)),
+    still_over now next piece over.1 lost,
+  )
 ]
 
 module _ {A : Type 0} (may : A → List (List ℕ) → List ℕ → Bool → Type 0) where

@@ -1,6 +1,6 @@
 -- What is written for the lines of an input.
 use Rattle.std.specs.Prelude.{◌≡◌, ◌⊎◌, ℕ, Bool, List, [], ◌∷◌, ◌++◌, Option, Result, Ok, Err, if◌then◌else◌}
-use Rattle.std.specs.Io.KnownBytes.{Appends, Consumes}
+use Rattle.std.specs.Io.KnownBytes.{Appends, Consumes, IsAtEnd}
 use Rattle.rds_names.specs.declared.fault.Fault.{Fault}
 use Rattle.rds_lines.specs.Output.{fault_line, fault_status}
 use Rattle.rds_lines.specs.Answer.{answer_text}
@@ -20,16 +20,16 @@ WritesAnswer (Err fault) before after status = Appends before after (fault_line 
 abbrev pub WritesAnswers : (List ℕ → Bool → Type 0) → Option (List ℕ) → Option (List ℕ) → ℕ → Type 0
 WritesAnswers may before after status = (out : List ℕ) × (refused : Bool) × may out refused × Appends before after out × (status ≡ (if refused then 1 else 0))
 
--- of an input that was cut short: its lines, the last of which may have no newline, or all that have one
-abbrev pub AreLinesOf : List ℕ → List (List ℕ) → Type 0
-AreLinesOf given lines = (lines ≡ lines_in given) ⊎ (lines ≡ ended_lines given)
+-- of what a reader gave that now holds this: all lines that have their newline; or all, where it was at its end
+abbrev pub AreLinesOf : Option (List ℕ) → List ℕ → List (List ℕ) → Type 0
+AreLinesOf now given lines = ((lines ≡ lines_in given) × IsAtEnd now) ⊎ (lines ≡ ended_lines given)
 
 -- what the lines of all that the reader gave up may be answered was written, then this line, and nothing else
 pub record WritesCut (may : List (List ℕ) → List ℕ → Bool → Type 0) (line : List ℕ) (first now before after : Option (List ℕ)) : Type 0 where
   pub given : List ℕ
   pub is_given : Consumes first now given
   pub lines : List (List ℕ)
-  pub are_lines : AreLinesOf given lines
+  pub are_lines : AreLinesOf now given lines
   pub out : List ℕ
   pub refused : Bool
   pub answered : may lines out refused
