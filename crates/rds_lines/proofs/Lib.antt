@@ -1,5 +1,6 @@
 pub mod Answered
 pub mod AnswerPieces
+pub mod Beginnings
 pub mod DigitsSoFar
 pub mod EndedLines
 pub mod Fronts

@@ -16,7 +16,7 @@ use Rattle.rds_world.specs.declared.event.Event.{Event}
 use Rattle.rds_world.specs.declared.event.Event.TheVariants.{Edit, Save, Crash, Ask, Answer as Answering, Take}
 use Rattle.rds_world.specs.declared.event.Done.{Done as Outcome}
 use Rattle.rds_lines.specs.Answer.{is_refusal}
-use Rattle.rds_lines.specs.Answering.{WritesAnswers, WritesCut, answer_line}
+use Rattle.rds_lines.specs.Answering.{WritesAnswers, WritesCut, WritesFront, answer_line}
 use Rattle.rds_lines.specs.Views.{ShowsView}
 use Rattle.rds_lines.specs.Lines.{lines_in}
 use Rattle.rds_lines.specs.Output.{fault_line}
@@ -156,6 +156,21 @@ sim_cut first last a b world none h = record {
   given = h.given;
   is_given = h.is_given;
   lines = h.lines;
+  are_lines = h.are_lines;
+  out = h.out;
+  refused = h.refused;
+  answered = h.answered None (subst (λ (w : Option WorldValue). IsGroup w None) (sym none) tt);
+  is_written = h.is_written;
+}
+
+pub sim_front : (first last a b : Option (List ℕ)) (world : Option WorldValue) (IsCut : Type 0) → world ≡ None
+    → WritesFront (λ lines out refused. (now : Option Group) → IsGroup world now → MeetsLines lines now out refused) (fault_line Device) IsCut first last a b
+    → WritesFront MayBeSimulated (fault_line Device) IsCut first last a b
+sim_front first last a b world IsCut none h = record {
+  given = h.given;
+  is_given = h.is_given;
+  lines = h.lines;
+  later = h.later;
   are_lines = h.are_lines;
   out = h.out;
   refused = h.refused;

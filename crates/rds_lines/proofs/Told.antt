@@ -1,15 +1,18 @@
--- What was written by when a reader fails.
-use Rattle.std.proofs.Common.{◌≡◌, ◌⊎◌, ℕ, Bool, false, ◌||◌, List, [], ◌∷◌, ◌++◌, Option, Some, None, Result, Err, refl, sym, ap, ◌∙◌, append_assoc, subst, inl, inr, arith, String}
+-- What was written by when a reader or a writer fails.
+use Rattle.std.proofs.Common.{◌≡◌, ◌⊎◌, ℕ, ◌-◌, ◌^◌, ◌<◌, Bool, false, ◌||◌, List, [], ◌∷◌, ◌++◌, Option, Some, None, Result, Err, refl, sym, ap, ◌∙◌, append_assoc, subst, inl, inr, arith, String}
 use Rattle.std.specs.Global.{Global}
 use Rattle.std.specs.Io.KnownBytes.{Appends, Consumes, IsAtEnd, prepend_known}
 use Rattle.std.proofs.KnownBytes.{Appends-nil, Appends-trans, Consumes-nil, Consumes-trans}
 use Rattle.std.proofs.lemmas.List.{append-nil}
 use Rattle.rds_names.specs.declared.fault.Fault.{Fault}
 use Rattle.rds_names.specs.declared.fault.Fault.TheVariants.{Device}
-use Rattle.rds_lines.specs.Lines.{IsOneLine, ReadsText, line_of, lines_in}
+use Rattle.rds_keep.specs.Counted.{CountedValue, HasFailed}
+use Rattle.rds_keep.specs.Parts.{AppendsFront, AppendsPart}
+use Rattle.rds_lines.specs.Lines.{IsOneLine, ReadsText, ended_lines, line_of, lines_in}
 use Rattle.rds_lines.specs.Ahead.{IsOfSomeLine, LosesPiece, TakesLine}
-use Rattle.rds_lines.specs.Answering.{AreLinesOf, WritesCut}
+use Rattle.rds_lines.specs.Answering.{AreLinesOf, WritesCut, WritesFront}
 use Rattle.rds_lines.specs.Output.{Writes, fault_line}
+use Rattle.rds_lines.proofs.Beginnings.{front_after}
 use Rattle.rds_lines.proofs.EndedLines.{AreEnded, ended_none, halves, last_line, none_ended, one_more_ended}
 use Rattle.rds_lines.proofs.Answered.{or_assoc}
 use Rattle.rds_lines.proofs.Pieces.{line_is_one}
@@ -107,6 +110,33 @@ lines_of now next lines given piece taken one lost = elim taken [
   )
 ]
 
+-- a count that stood still so far
+pub failed_since : {T : Type 0} (first now next : CountedValue T) → now.failed ≡ first.failed → HasFailed now next → HasFailed first next
+failed_since first now next same h = subst (λ (n : ℕ). (n < next.failed) ⊎ (next.failed ≡ 2 ^ 64 - 1)) same h
+
+-- the bytes that were read ahead are given too
+given_ahead : (first held : Option (List ℕ)) (given ahead : List ℕ) → Consumes first (prepend_known ahead held) given → Consumes first held (given ++ ahead)
+given_ahead None held given ahead is = tt
+given_ahead (Some xs) None given ahead is = absurd is
+given_ahead (Some xs) (Some ys) given ahead is = is ∙ sym (append_assoc given ahead ys)
+
+nothing_ahead : (held : Option (List ℕ)) (ahead : List ℕ) → prepend_known ahead held ≡ Some [] → (ahead ≡ []) × IsAtEnd held
+nothing_ahead None ahead over = absurd cc
+nothing_ahead (Some []) [] over = (refl, refl)
+nothing_ahead (Some (y ∷ ys)) [] over = absurd cc
+nothing_ahead (Some ys) (b ∷ ahead) over = absurd cc
+
+-- the lines that were taken are the first of those that were given
+first_lines : (held : Option (List ℕ)) (ahead given : List ℕ) (lines : List (List ℕ)) → AreTaken (prepend_known ahead held) lines given → (later : List (List ℕ)) × AreLinesOf held (given ++ ahead) (lines ++ later)
+first_lines held ahead given lines taken = elim taken [
+  | inl e ↦ (ended_lines ahead, inr (sym (e.ended ahead)))
+  | inr over ↦ (
+    [],
+    let none = nothing_ahead held ahead over.1 in
+        inl (append-nil lines ∙ over.0 ∙ ap lines_in (sym (append-nil given)) ∙ ap (λ (l : List ℕ). lines_in (given ++ l)) (sym none.0), none.1),
+  )
+]
+
 module _ {A : Type 0} (may : A → List (List ℕ) → List ℕ → Bool → Type 0) where
   -- what was written answers the lines that were taken, and whatever may be answered from here on may follow it
   pub record Told (first now before after : Option (List ℕ)) (opening state : A) (refused : Bool) : Type 0 where
@@ -173,3 +203,42 @@ module _ {A : Type 0} (may : A → List (List ℕ) → List ℕ → Bool → Typ
         },
         given.1,
       )
+
+  -- a beginning of the fault's line after what was written
+  pub told_cut_front : (first now next before after later : Option (List ℕ)) (opening state : A) (refused : Bool) (fault : Fault) (IsCut : Type 0) → Told first now before after opening state refused → ((a : A) → may a [] [] false)
+      → LosesPiece now next → fault ≡ Device → IsCut → AppendsFront after later (fault_line fault) → WritesFront (may opening) (fault_line Device) IsCut first next before later
+  told_cut_front first now next before after later opening state refused fault IsCut t ends lost is cut front =
+      let begun : AppendsFront after later (fault_line Device) = subst (λ (f : Fault). AppendsFront after later (fault_line f)) is front in
+      let out = subst (λ (o : List ℕ). may opening (t.lines ++ []) o (refused || false)) (append-nil t.out) (t.follows [] [] false (ends state)) in
+      record {
+        given = t.given ++ lost.0;
+        is_given = Consumes-trans first now next t.given lost.0 t.is_given lost.2;
+        lines = t.lines;
+        later = [];
+        are_lines = subst (AreLinesOf next (t.given ++ lost.0)) (sym (append-nil t.lines)) (lines_of now next t.lines t.given lost.0 t.taken lost.1 lost.2);
+        out = t.out;
+        refused = refused || false;
+        answered = subst (λ (ls : List (List ℕ)). may opening ls t.out (refused || false)) (append-nil t.lines) out;
+        is_written = inr (cut, refl, front_after before after later t.out (fault_line Device) t.written begun);
+      }
+
+  -- a beginning of one answer more
+  pub told_front : (first now held before after later : Option (List ℕ)) (ahead : List ℕ) (opening state next_state : A) (refused refusal : Bool) (line : Result (String Global) Fault) (text cut : List ℕ) (IsCut : Type 0)
+      → Told first now before after opening state refused → ((a : A) → may a [] [] false) → TakesLine now (prepend_known ahead held) (Some line) → IsOfSomeLine line → AppendsPart after later text
+      → ((bytes : List ℕ) (lines : List (List ℕ)) (out : List ℕ) (more : Bool) → ReadsText bytes line → may next_state lines out more → may state (bytes ∷ lines) (text ++ out) (refusal || more))
+      → WritesFront (may opening) cut IsCut first held before later
+  told_front first now held before after later ahead opening state next_state refused refusal line text cut IsCut t ends takes is part step =
+      let one = taken_more first now (prepend_known ahead held) t.given t.lines line t.is_given t.taken takes is in
+      let lines = first_lines held ahead one.given (t.lines ++ one.bytes ∷ []) one.taken in
+      let here = t.follows (one.bytes ∷ []) (text ++ []) (refusal || false) (step one.bytes [] [] false one.reads (ends next_state)) in
+      record {
+        given = one.given ++ ahead;
+        is_given = given_ahead first held one.given ahead one.is_given;
+        lines = t.lines ++ one.bytes ∷ [];
+        later = lines.0;
+        are_lines = lines.1;
+        out = t.out ++ text;
+        refused = refused || (refusal || false);
+        answered = subst (λ (o : List ℕ). may opening (t.lines ++ one.bytes ∷ []) (t.out ++ o) (refused || (refusal || false))) (append-nil text) here;
+        is_written = inl (front_after before after later t.out text t.written (part.0, omega (arith, part.1), part.2));
+      }

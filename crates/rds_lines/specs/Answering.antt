@@ -2,6 +2,7 @@
 use Rattle.std.specs.Prelude.{◌≡◌, ◌⊎◌, ℕ, Bool, List, [], ◌∷◌, ◌++◌, Option, Result, Ok, Err, if◌then◌else◌}
 use Rattle.std.specs.Io.KnownBytes.{Appends, Consumes, IsAtEnd}
 use Rattle.rds_names.specs.declared.fault.Fault.{Fault}
+use Rattle.rds_keep.specs.Parts.{AppendsFront}
 use Rattle.rds_lines.specs.Output.{fault_line, fault_status}
 use Rattle.rds_lines.specs.Answer.{answer_text}
 use Rattle.rds_lines.specs.Lines.{ended_lines, lines_in}
@@ -10,6 +11,11 @@ use Rattle.rds_lines.specs.declared.answer.Answer.{Answer}
 -- an answer and its newline
 abbrev pub answer_line : Answer → List ℕ
 answer_line answer = answer_text answer ++ 10 ∷ []
+
+-- the line of an answer, or of a fault
+abbrev pub line_for : Result Answer Fault → List ℕ
+line_for (Ok answer) = answer_line answer
+line_for (Err fault) = fault_line fault
 
 -- an answer's line was written, or a fault's, and nothing else, and its status is answered
 abbrev pub WritesAnswer : Result Answer Fault → Option (List ℕ) → Option (List ℕ) → ℕ → Type 0
@@ -34,3 +40,16 @@ pub record WritesCut (may : List (List ℕ) → List ℕ → Bool → Type 0) (l
   pub refused : Bool
   pub answered : may lines out refused
   pub is_written : Appends before after (out ++ line)
+
+-- a beginning of what the first lines that the reader gave may be answered was written, and nothing else; or, where the reader
+-- failed, of what all its lines may be answered, and of this line
+pub record WritesFront (may : List (List ℕ) → List ℕ → Bool → Type 0) (line : List ℕ) (IsCut : Type 0) (first now before after : Option (List ℕ)) : Type 0 where
+  pub given : List ℕ
+  pub is_given : Consumes first now given
+  pub lines : List (List ℕ)
+  pub later : List (List ℕ)
+  pub are_lines : AreLinesOf now given (lines ++ later)
+  pub out : List ℕ
+  pub refused : Bool
+  pub answered : may lines out refused
+  pub is_written : AppendsFront before after out ⊎ (IsCut × (later ≡ []) × AppendsFront before after (out ++ line))

@@ -1,7 +1,8 @@
 //! Lines that are answered one after the other.
 ghost use Rattle.std.specs.Prelude.{◌≡◌, ◌≢◌, ◌≤◌, ◌++◌, ◌∷◌, ◌||◌, ◌⊎◌, IfSome};
 ghost use Rattle.rds_names.specs.declared.fault.Fault.TheVariants.{Device};
-ghost use Rattle.rds_lines.specs.Answering.{WritesAnswers, WritesCut};
+ghost use Rattle.rds_keep.specs.Counted.{HasFailed};
+ghost use Rattle.rds_lines.specs.Answering.{WritesAnswers, WritesCut, WritesFront};
 ghost use Rattle.rds_lines.specs.Lines.{lines_in};
 ghost use Rattle.rds_lines.specs.Output.{fault_line};
 
@@ -35,7 +36,7 @@ pub trait Answers {
 
 /// Answers each line that the reader holds, and answers the status: 0, or 1 where one was refused.
 /// Where the reader fails, the line of `Device` follows the answers so far, with 1; where the
-/// output fails it is 1.
+/// output fails it is 1, and a beginning of all that is written.
 pub fn answer_lines<A: Answers, R: Read, W: Write>(
     alloc: Global,
     answers: &mut A,
@@ -50,6 +51,10 @@ pub fn answer_lines<A: Answers, R: Read, W: Write>(
         → WritesCut (A.may_answer answers.old) (fault_line Device)
         (R.remaining reader.old.inner) (R.remaining reader.new.inner)
         (W.contents writer.old.inner) (W.contents writer.new.inner) × (result ≡ 1) }
+    ensures part { writer.new.failed ≢ writer.old.failed
+        → WritesFront (A.may_answer answers.old) (fault_line Device) (HasFailed reader.old reader.new)
+        (R.remaining reader.old.inner) (R.remaining reader.new.inner)
+        (W.contents writer.old.inner) (W.contents writer.new.inner) }
     ensures status { result ≤ 1 }
     ensures broken { (writer.new.failed ≡ writer.old.failed) ⊎ (result ≡ 1) }
 {

@@ -1,10 +1,10 @@
 //! What is written.
 ghost use Rattle.std.specs.Prelude.{◌≡◌, ◌≤◌, ◌⊎◌, Err, IfErr, OnOk, OnErr, MatchResult};
 ghost use Rattle.std.specs.Io.KnownBytes.{Appends};
-ghost use Rattle.rds_names.specs.declared.fault.Fault.TheVariants.{Device, Memory};
+ghost use Rattle.rds_names.specs.declared.fault.Fault.TheVariants.{Device};
 ghost use Rattle.rds_keep.specs.Counted.{one_more};
-ghost use Rattle.rds_keep.specs.Parts.{AppendsPart};
-ghost use Rattle.rds_lines.specs.Answering.{WritesAnswer};
+ghost use Rattle.rds_keep.specs.Parts.{AppendsFront, AppendsPart};
+ghost use Rattle.rds_lines.specs.Answering.{WritesAnswer, line_for};
 ghost use Rattle.rds_lines.specs.Output.{AnswersStatus, Writes, fault_line, fault_status};
 
 use crate::answer::Answer;
@@ -13,20 +13,24 @@ use rds_keep::Counted;
 use rds_names::Fault;
 use std::io::Write;
 
-/// Writes a fault's line, and answers its status: 2 for `Usage`, else 1.
+/// Writes a fault's line, and answers its status: 2 for `Usage`, else 1. Where a call fails, a beginning of the line
+/// is written.
+#[tactic(auto, using(crate::proofs::Beginnings::front_written))]
 pub fn write_fault<W: Write>(writer: &mut Counted<W>, fault: Fault) -> u8
     ensures written { writer.new.failed ≡ 0
         → Writes (Err fault) (W.contents writer.old.inner) (W.contents writer.new.inner) result }
+    ensures part { AppendsFront (W.contents writer.old.inner) (W.contents writer.new.inner) (fault_line fault) }
     ensures status { AnswersStatus writer.old writer.new (fault_status fault) result }
     ensures within { result ≤ 2 }
 {
     status_of(write_fault_line(writer, fault), fault_status(fault))
 }
 
-/// Writes an answer's line, with 0, or a fault's line.
+/// Writes an answer's line, with 0, or a fault's line. Where a call fails, a beginning of the line is written.
 pub fn write_answer<W: Write>(writer: &mut Counted<W>, answer: Result<Answer, Fault>) -> u8
     ensures written { writer.new.failed ≡ 0
         → WritesAnswer answer (W.contents writer.old.inner) (W.contents writer.new.inner) result }
+    ensures part { AppendsFront (W.contents writer.old.inner) (W.contents writer.new.inner) (line_for answer) }
     ensures within { result ≤ 2 }
     ensures broken { (writer.new.failed ≡ writer.old.failed) ⊎ (result ≡ 1) }
 {

@@ -1,10 +1,12 @@
 //! Commands that read their input alone.
 ghost use Rattle.std.specs.Prelude.{◌≡◌, ◌≢◌, ◌≤◌, ◌⊎◌, Err, IfSome, IsErrAnd};
 ghost use Rattle.rds_names.specs.declared.fault.Fault.TheVariants.{Device};
-ghost use Rattle.rds_lines.specs.Answering.{WritesAnswers, WritesCut};
+ghost use Rattle.rds_keep.specs.Counted.{HasFailed};
+ghost use Rattle.rds_keep.specs.Parts.{AppendsFront};
+ghost use Rattle.rds_lines.specs.Answering.{WritesAnswers, WritesCut, WritesFront};
 ghost use Rattle.rds_lines.specs.Output.{Writes, fault_line};
 ghost use Rattle.rds_lines.specs.Refusal.{fault_of};
-ghost use Rattle.rds_lines.specs.Run.{WritesJoin, IsJoinLine};
+ghost use Rattle.rds_lines.specs.Run.{WritesJoin, WritesJoinFront, IsJoinLine};
 ghost use Rattle.rds_lines.specs.Sim.{IsSimOutput, MayBeSimulated};
 
 use crate::answering::answer_lines;
@@ -22,7 +24,7 @@ const MOST: usize = 1_073_741_827;
 
 /// Answers the lines that the reader holds, about a group of replicas in memory, and answers the status: 0, or 1
 /// where one was refused. Where the reader fails, the line of `Device` follows the answers so far, with 1; where
-/// the output fails it is 1.
+/// the output fails it is 1, and a beginning of all that is written.
 pub fn run_sim<R: Read, W: Write>(
     alloc: Global,
     reader: &mut Counted<R>,
@@ -36,6 +38,10 @@ pub fn run_sim<R: Read, W: Write>(
         → WritesCut MayBeSimulated (fault_line Device)
         (R.remaining reader.old.inner) (R.remaining reader.new.inner)
         (W.contents writer.old.inner) (W.contents writer.new.inner) × (result ≡ 1) }
+    ensures part { writer.new.failed ≢ writer.old.failed
+        → WritesFront MayBeSimulated (fault_line Device) (HasFailed reader.old reader.new)
+        (R.remaining reader.old.inner) (R.remaining reader.new.inner)
+        (W.contents writer.old.inner) (W.contents writer.new.inner) }
     ensures status { result ≤ 1 }
     ensures broken { (writer.new.failed ≡ writer.old.failed) ⊎ (result ≡ 1) }
 {
@@ -43,7 +49,8 @@ pub fn run_sim<R: Read, W: Write>(
 }
 
 /// Writes the hex digits of what the two snapshots are joined to whose digits the reader holds as two lines, or the
-/// line of a fault, and answers the status. A reader that fails is `Device`.
+/// line of a fault, and answers the status. A reader that fails is `Device`. Where a call of the writer fails, a
+/// beginning of that is written.
 pub fn run_join<R: Read, W: Write>(
     alloc: Global,
     reader: &mut Counted<R>,
@@ -52,8 +59,12 @@ pub fn run_join<R: Read, W: Write>(
     ensures join { IfSome (R.remaining reader.old.inner)
         (λ input. reader.new.failed ≡ 0 → writer.new.failed ≡ 0
         → WritesJoin input (W.contents writer.old.inner) (W.contents writer.new.inner) result) }
+    ensures part { IfSome (R.remaining reader.old.inner) (λ input. reader.new.failed ≡ 0
+        → WritesJoinFront input (W.contents writer.old.inner) (W.contents writer.new.inner)) }
     ensures unread { reader.new.failed ≢ reader.old.failed → writer.new.failed ≡ 0
         → Writes (Err Device) (W.contents writer.old.inner) (W.contents writer.new.inner) result }
+    ensures unread_part { reader.new.failed ≢ reader.old.failed
+        → AppendsFront (W.contents writer.old.inner) (W.contents writer.new.inner) (fault_line Device) }
     ensures status { result ≤ 2 }
     ensures broken { (writer.new.failed ≡ writer.old.failed) ⊎ (result ≡ 1) }
 {

@@ -4,7 +4,7 @@ use Rattle.std.specs.Prelude.{IfSome}
 use Rattle.rds_names.specs.declared.fault.Fault.{Fault}
 use Rattle.rds_lines.specs.Ahead.{IsOfSomeLine, TakesLine, untaken}
 use Rattle.rds_lines.proofs.Answered.{Runs, runs_first, runs_last, runs_on}
-use Rattle.rds_lines.proofs.Told.{Told, told_cut, told_nothing, told_on}
+use Rattle.rds_lines.proofs.Told.{Told, failed_since, told_cut, told_cut_front, told_front, told_nothing, told_on}
 use Rattle.rds_lines.proofs.answering.answer_lines.Goals as goal
 
 pub returns-then-refused-clause-answered : goal.returns-then-refused-clause-answered
@@ -29,6 +29,25 @@ returns-in-Err-clause-unread g c = λ read wrote.
     told_cut g.A.Answers.may_answer (g.R.Read.remaining c.args.reader.now.inner) (untaken c.lines.ahead (g.R.Read.remaining c.lines.reader.inner)) (g.R.Read.remaining c.next_line.new.reader.inner)
     (g.W.Write.contents c.args.writer.now.inner) (g.W.Write.contents c.lines.writer.inner) (g.W.Write.contents c.write_fault.new.writer.inner) c.args.answers.now c.lines.answers c.lines.refused
     c.in-Err.fault c.write_fault.result told g.met.A.Answers.ends c.in-Err.ensures.piece c.in-Err.ensures.fault.0 (c.write_fault.ensures.written wrote)
+
+pub returns-in-Err-clause-part : goal.returns-in-Err-clause-part
+returns-in-Err-clause-part g c = λ wrote.
+    let told = rw c.begin_turns.ensures at c.lines.invariant.told in
+    let read = rw c.begin_turns.ensures at c.lines.invariant.read in
+    told_cut_front g.A.Answers.may_answer (g.R.Read.remaining c.args.reader.now.inner) (untaken c.lines.ahead (g.R.Read.remaining c.lines.reader.inner)) (g.R.Read.remaining c.next_line.new.reader.inner)
+    (g.W.Write.contents c.args.writer.now.inner) (g.W.Write.contents c.lines.writer.inner) (g.W.Write.contents c.write_fault.new.writer.inner) c.args.answers.now c.lines.answers c.lines.refused
+    c.in-Err.fault _ told g.met.A.Answers.ends c.in-Err.ensures.piece c.in-Err.ensures.fault.0
+    (failed_since c.args.reader.now c.lines.reader c.next_line.new.reader read c.in-Err.ensures.fault.1) c.write_fault.ensures.part
+
+pub returns-in-Err-write_to-clause-part : goal.returns-in-Err-write_to-clause-part
+returns-in-Err-write_to-clause-part g c = λ wrote.
+    let told = rw c.begin_turns.ensures at c.lines.invariant.told in
+    let held = g.R.Read.remaining c.next_line.new.reader.inner in
+    let now = untaken c.lines.ahead (g.R.Read.remaining c.lines.reader.inner) in
+    let taken = subst (TakesLine now (untaken c.next_line.new.self held)) c.in-Ok-Some.field-0-is c.in-Ok-Some.ensures.taken in
+    let some = subst (λ (l : Option (Result (String Global) Fault)). IfSome l IsOfSomeLine) c.in-Ok-Some.field-0-is c.in-Ok-Some.ensures.line in
+    told_front g.A.Answers.may_answer (g.R.Read.remaining c.args.reader.now.inner) now held (g.W.Write.contents c.args.writer.now.inner) (g.W.Write.contents c.lines.writer.inner) (g.W.Write.contents c.write_to.new.writer.inner)
+    c.next_line.new.self c.args.answers.now c.lines.answers c.answer-answer.new.self c.lines.refused _ c.in-Ok-Some.line _ _ _ told g.met.A.Answers.ends taken some c.in-Err-write_to.ensures.part c.answer-answer.ensures
 
 pub lines-preserved-in-Ok : goal.lines-preserved-in-Ok
 lines-preserved-in-Ok g c =

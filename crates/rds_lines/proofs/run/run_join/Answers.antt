@@ -1,5 +1,6 @@
 use Rattle.std.proofs.Common.{◌≡◌, ◌∷◌, ◌++◌, [], ℕ, List, ap, rules, string_bytes}
-use Rattle.rds_lines.proofs.AnswerPieces.{same_bytes}
+use Rattle.rds_lines.proofs.AnswerPieces.{same_bytes, same_part}
+use Rattle.rds_lines.proofs.Beginnings.{fault_begun, front_written, line_begun}
 use Rattle.rds_lines.proofs.Running.{line_written, fault_written}
 use Rattle.rds_lines.proofs.run.run_join.Goals as goal
 
@@ -15,3 +16,18 @@ pub returns-in-Err-clause-join : goal.returns-in-Err-clause-join
 returns-in-Err-clause-join g c =
     fault_written (g.R.Read.remaining c.args.reader.now.inner) (g.W.Write.contents c.args.writer.now.inner) (g.W.Write.contents c.write_fault.new.writer.inner) c.in-Err.refusal c.fault.result _ _ _ c.fault.ensures c.in-Err.ensures.line
     c.write_fault.ensures.written
+
+pub returns-in-Ok-clause-part : goal.returns-in-Ok-clause-part
+returns-in-Ok-clause-part g c =
+    let before = g.W.Write.contents c.args.writer.now.inner in
+    let after = g.W.Write.contents c.write_pieces.new.self.inner in
+    let line : c.as_bytes.result.now ≡ string_bytes c.in-Ok.line = search rules in
+    let same = ap (λ (l : List ℕ). l ++ 10 ∷ []) line in
+    let whole = same_bytes before after (c.as_bytes.result.now ++ 10 ∷ []) (string_bytes c.in-Ok.line ++ 10 ∷ []) c.write_pieces.result same c.write_pieces.ensures.bytes in
+    let part = same_part before after (c.as_bytes.result.now ++ 10 ∷ []) (string_bytes c.in-Ok.line ++ 10 ∷ []) c.write_pieces.result same c.write_pieces.ensures.part in
+    line_begun (g.R.Read.remaining c.args.reader.now.inner) before after c.in-Ok.line _ c.in-Ok.ensures.line (front_written before after (string_bytes c.in-Ok.line ++ 10 ∷ []) c.write_pieces.result whole part)
+
+pub returns-in-Err-clause-part : goal.returns-in-Err-clause-part
+returns-in-Err-clause-part g c =
+    fault_begun (g.R.Read.remaining c.args.reader.now.inner) (g.W.Write.contents c.args.writer.now.inner) (g.W.Write.contents c.write_fault.new.writer.inner) c.in-Err.refusal c.fault.result _ c.fault.ensures c.in-Err.ensures.line
+    c.write_fault.ensures.part
