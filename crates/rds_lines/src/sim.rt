@@ -1,7 +1,6 @@
 //! All replicas of a group in memory, which lines edit and ask.
-ghost use Rattle.std.specs.Prelude.{◌≡◌, ◌⊎◌, List, ℕ, Ok, Err, Some, None, Option, IfOk, IfErr, MatchResult, slice_get};
+ghost use Rattle.std.specs.Prelude.{◌≡◌, ◌⊎◌, List, ℕ, Ok, Err, Some, None, Option, IfOk, IfErr, slice_get};
 ghost use Rattle.rds_names.specs.declared.fault.Fault.TheVariants.{Memory, NoSuch};
-ghost use Rattle.rds_lines.specs.Answer.{is_refusal};
 ghost use Rattle.rds_lines.specs.Views.{ShowsView};
 ghost use Rattle.rds_lines.specs.Lines.{ReadsText};
 ghost use Rattle.rds_lines.specs.Sim.{Group, MeetsBytes, done_answer, number_of, request_of};
