@@ -79,8 +79,8 @@ how many entries were taken away.
 Exit status: 0 where the file was written, 2 for words that are none of these, else 1
 with the line 'fault N: Name': 4 for a bad path, 3 for a bad key in it, 25 for a VALUE
 that is no JSON, 5 for one that is no such value, 7 where there are no more names for
-entries, 12 to 16 for a file that is no snapshot, 24 where FILE can't be read or
-written, 1 where there is no memory.
+entries, 12 to 16 for a file that is no snapshot, 15 too where the new one would be too
+long, 24 where FILE can't be read or written, 1 where there is no memory.
 
 Example: rds_node add notes.a shopping/fruit '\"apple\"'";
 
@@ -112,8 +112,8 @@ Output: the line {\"dot\":null,\"killed\":0}.
 Exit status: 0 where the file was written, 2 with the line 'fault 27: Usage' where BY is
 no such number, 2 for words that are none of these, else 1 with the line
 'fault N: Name': 3 for a bad key, 8 where the counter would pass its limit, 12 to 16
-for a file that is no snapshot, 24 where FILE can't be read or written, 1 where there
-is no memory.
+for a file that is no snapshot, 15 too where the new one would be too long, 24 where
+FILE can't be read or written, 1 where there is no memory.
 
 Example: rds_node inc notes.a visits 1";
 
