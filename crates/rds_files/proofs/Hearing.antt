@@ -1,6 +1,7 @@
 -- What an end of a pair hears and says.
-use Rattle.std.proofs.Common.{◌≡◌, ◌∙◌, ◌⊎◌, ◌≤◌, ◌+◌, ◌-◌, ◌++◌, ℕ, List, [], length, take, drop, Option, Some, None, inl, inr, refl, sym, ap, subst, append_assoc, arith, length-append}
-use Rattle.std.proofs.lemmas.List.{append-nil, take-append-drop, take-append-le}
+use Rattle.std.proofs.Common.{◌≡◌, ◌∙◌, ◌⊎◌, ◌≤◌, ◌+◌, ◌-◌, ◌++◌, ℕ, List, [], length, take, drop, min, Option, Some, None, inl, inr, refl, sym, ap, subst, append_assoc, arith, length-append}
+use Rattle.std.proofs.Math.Nat.{min-le_left}
+use Rattle.std.proofs.lemmas.List.{append-nil, length-take, take-append-drop, take-append-le}
 use Rattle.std.specs.Io.KnownBytes.{Appends, Consumes, IsAtEnd, Keeps}
 use Rattle.rds_names.specs.declared.fault.Fault.TheVariants.{Device, Memory}
 use Rattle.rds_state.specs.Fits.{ReplicaValue}
@@ -179,6 +180,13 @@ front_said before after count most pending front is within said =
     let whole : take count front ≡ take count pending =
     sym (take-append-le count front (drop most pending) within) ∙ ap (λ (f : List ℕ). take count (f ++ drop most pending)) is ∙ ap (take count) (take-append-drop most pending) in
     subst (Appends before after) whole said
+
+-- what was written of the front is no longer than the front
+pub front_most : (count most : ℕ) (pending front : List ℕ) → front ≡ take most pending → count ≤ length front → count ≤ most
+front_most count most pending front is within =
+    let size : length front ≡ min most (length pending) = ap length is ∙ length-take most pending in
+    let most_is = min-le_left most (length pending) in
+    omega (arith, size, within, most_is)
 
 -- so many bytes came of those that are wanted, and so many are left
 abbrev pub HasCome : ℕ → ℕ → Option (List ℕ) → Option (List ℕ) → Type 0

@@ -86,10 +86,12 @@ impl<'a, T: Read + Write + OpenStream + Drop, S: DotSet> End<'a, T, S> {
         self.is_shut
     }
 
-    /// Writes the next of the pending bytes, and answers how many.
+    /// Writes the next of the pending bytes, and answers how many: at most 1,024, so that a write never
+    /// waits for the other end, which reads only after it.
     pub fn say(&mut self) -> Result<usize, Fault>
         ensures end { StaysEnd self.old.session self.old.ended self.new.session self.new.ended }
         ensures said { IfOk result (HasSaid self.old self.new (T.contents self.old.stream) (T.contents self.new.stream)) }
+        ensures piece { IfOk result (λ count. count ≤ 1024) }
         ensures unsaid { OnErr result (Appends (T.contents self.old.stream) (T.contents self.new.stream) []) }
         ensures failed { OnErr result (self.new ≡ record self.old { stream = self.new.stream; ended = Failed Device }) }
         ensures fault { IfErr result (λ e. e ≡ Device) }
