@@ -1,5 +1,5 @@
 -- The ends of a pair.
-use Rattle.std.proofs.Common.{◌≡◌, ◌∙◌, ◌⊎◌, ◌||◌, ◌++◌, ℕ, Bool, List, Option, inl, inr, None, refl, sym, ap, subst, arith}
+use Rattle.std.proofs.Common.{◌≡◌, ◌∙◌, ◌⊎◌, ◌||◌, ◌++◌, ℕ, Bool, List, Option, inl, inr, refl, sym, ap, subst, arith}
 use Rattle.std.specs.Prelude.{Result, Ok, Err, OnOk, OnErr, MatchResult}
 use Rattle.std.specs.Io.KnownBytes.{Appends}
 use Rattle.rds_names.specs.declared.fault.Fault.{Fault}
@@ -64,19 +64,6 @@ left side kept s ended last received is same checked done over e = record {
   done = left_done s ended last received is.stands e done;
   over = over;
   session = record { session = s; heard = is.heard; is_received = same; stands = left_stands s ended last is.stands e };
-}
-
-nothing_yet : (side : Side) (kept : ReplicaValue) → None ≡ (course side kept Nothing).0.received
-unfolding course
-nothing_yet side kept = refl
-
--- a session that never began has received nothing, and failed by a call on its stream
-pub unheard : (side : Side) (kept : ReplicaValue) → Leaves side kept None (Failed Device)
-unheard side kept = record {
-  checked = tt;
-  done = λ is. absurd (let bad : Done ≡ Failed Device = sym is in cc);
-  over = tt;
-  session = record { session = (course side kept Nothing).0; heard = (Nothing, inl refl); is_received = nothing_yet side kept; stands = inr (inl refl) };
 }
 
 -- an end was settled, and is told of

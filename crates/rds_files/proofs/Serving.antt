@@ -7,7 +7,7 @@ use Rattle.rds_session.specs.declared.talk.Side.{Side}
 use Rattle.rds_files.specs.Files.{FileValue}
 use Rattle.rds_files.specs.Reports.{report_text, tells_fault, told_status}
 use Rattle.rds_files.specs.Settling.{is_unkept}
-use Rattle.rds_files.specs.Syncing.{IsSession, Served, unserved, served_more, Serves, none, more, WritesSessionsOf}
+use Rattle.rds_files.specs.Syncing.{MeetsPeer, Served, unserved, served_more, Serves, none, more, WritesSessionsOf}
 use Rattle.rds_files.specs.declared.settling.Settled.{Settled}
 use Rattle.rds_files.specs.declared.settling.Settled.TheVariants.{Nothing, Taken, Refused, Unkept}
 
@@ -33,12 +33,12 @@ none_served side first before = record {
 }
 
 -- one session more
-served_then : (side : Side) (first kept new : FileValue) (count : ℕ) (told : Bool) (before now after : Option (List ℕ)) (settled : Settled) (ended : Ended) (s : HasServed side first kept count told before now) → IsSession side kept new settled ended
+served_then : (side : Side) (first kept new : FileValue) (count : ℕ) (told : Bool) (before now after : Option (List ℕ)) (settled : Settled) (ended : Ended) (s : HasServed side first kept count told before now) → MeetsPeer side kept new settled ended
     → Serves side first (served_more s.served new settled ended)
 served_then side first kept new count told before now after settled ended s session =
-    more s.served new settled ended s.serves s.going (subst (λ (k : FileValue). IsSession side k new settled ended) (sym s.is_kept) session)
+    more s.served new settled ended s.serves s.going (subst (λ (k : FileValue). MeetsPeer side k new settled ended) (sym s.is_kept) session)
 
-pub more_served : (side : Side) (first kept new : FileValue) (count : ℕ) (told : Bool) (before now after : Option (List ℕ)) (settled : Settled) (ended : Ended) → HasServed side first kept count told before now → IsSession side kept new settled ended
+pub more_served : (side : Side) (first kept new : FileValue) (count : ℕ) (told : Bool) (before now after : Option (List ℕ)) (settled : Settled) (ended : Ended) → HasServed side first kept count told before now → MeetsPeer side kept new settled ended
     → Appends now after (report_text settled ended) → is_unkept settled ≡ false → HasServed side first new (count + 1) (told || tells_fault settled ended) before after
 more_served side first kept new count told before now after settled ended s session written goes = record {
   served = served_more s.served new settled ended;
@@ -59,7 +59,7 @@ or_unkept false (Taken n) ended is = absurd cc
 or_unkept false (Refused fault) ended is = absurd cc
 
 -- the session after which the file isn't kept is the last
-pub last_served : (side : Side) (sessions : ℕ) (first kept new : FileValue) (count : ℕ) (told : Bool) (before now after : Option (List ℕ)) (settled : Settled) (ended : Ended) → HasServed side first kept count told before now → IsSession side kept new settled ended
+pub last_served : (side : Side) (sessions : ℕ) (first kept new : FileValue) (count : ℕ) (told : Bool) (before now after : Option (List ℕ)) (settled : Settled) (ended : Ended) → HasServed side first kept count told before now → MeetsPeer side kept new settled ended
     → Appends now after (report_text settled ended) → is_unkept settled ≡ true → count < sessions → WritesSessionsOf side first new sessions before after 1
 last_served side sessions first kept new count told before now after settled ended s session written stops less = record {
   served = served_more s.served new settled ended;
@@ -83,7 +83,7 @@ all_served side sessions first kept told before after status s is = record {
 }
 
 -- one session alone
-pub one_served : (side : Side) (first new : FileValue) (before after : Option (List ℕ)) (settled : Settled) (ended : Ended) (status : ℕ) → IsSession side first new settled ended → Appends before after (report_text settled ended) → status ≡ told_status (tells_fault settled ended)
+pub one_served : (side : Side) (first new : FileValue) (before after : Option (List ℕ)) (settled : Settled) (ended : Ended) (status : ℕ) → MeetsPeer side first new settled ended → Appends before after (report_text settled ended) → status ≡ told_status (tells_fault settled ended)
     → WritesSessionsOf side first new 1 before after status
 one_served side first new before after settled ended status session written is = record {
   served = served_more (unserved first) new settled ended;

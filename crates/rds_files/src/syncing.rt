@@ -1,17 +1,18 @@
 //! Sessions of the replica in a file, over the network.
 ghost use Rattle.std.specs.Prelude.{◌≡◌, ◌≤◌, ◌⊎◌};
+ghost use Rattle.rds_keep.specs.Counted.{HasFailed};
+ghost use Rattle.rds_names.specs.declared.fault.Fault.TheVariants.{Device};
+ghost use Rattle.rds_session.specs.declared.step.Ended.TheVariants.{Failed};
 ghost use Rattle.rds_session.specs.declared.talk.Side.TheVariants.{Client, Server};
-ghost use Rattle.rds_session.specs.Leaving.{Leaves};
-ghost use Rattle.rds_files.specs.Syncing.{IsSession, WritesSessionsOf, WritesSync};
+ghost use Rattle.rds_files.specs.Syncing.{IsSession, Meets, MeetsPeer, WritesSessionsOf, WritesSync};
 
 use crate::files::ReplicaFile;
 use crate::reports::{give_up, report, tells_fault, write_report};
 use crate::settling::{Settled, settle};
 use rds_dots::{DotSet, ListSet};
-use rds_keep::{Counted, Kept};
+use rds_keep::Counted;
 use rds_names::Fault;
-use rds_session::{Ended, Exchanged, Side, exchange};
-use std::alloc::Global;
+use rds_session::{Ended, Side, exchange};
 use std::io::{Read, Write};
 use std::net::{Net, OpenListener, OpenStream, Shutdown, TcpListener, TcpStream};
 use std::rt::Files;
@@ -107,7 +108,7 @@ fn meet_next<H: Files + Net + AllocGlobal, S: DotSet>(
     file: &mut ReplicaFile<'_, S>,
     listener: &H::Listener,
 ) -> (Settled, Ended)
-    ensures { IsSession Server file.old file.new result.0 result.1 }
+    ensures { MeetsPeer Server file.old file.new result.0 result.1 }
 {
     match listener.accept() {
         Ok((stream, _)) => meet(rt, Side::Server, file, stream),
@@ -115,49 +116,48 @@ fn meet_next<H: Files + Net + AllocGlobal, S: DotSet>(
     }
 }
 
-/// A session over the stream to its end. What it received is in the file before the peer is let go.
+/// A session over the stream to its end. It is read by one handle and written by another; where there is no other, that
+/// is a session that failed. What it received is in the file before the peer is let go: nothing more is sent, and what the
+/// peer still sends is dropped. Nothing depends on whether that succeeds.
 pub fn meet<H: Files + AllocGlobal, S: DotSet, T: Read + Write + OpenStream + Drop>(
     rt: &H,
     side: Side,
     file: &mut ReplicaFile<'_, S>,
-    mut stream: T,
+    stream: T,
 ) -> (Settled, Ended)
-    ensures { IsSession side file.old file.new result.0 result.1 }
-{
-    let exchanged = exchange_over(rt.alloc(), side, file.kept(), &mut stream);
-    let settled = settle(rt, file, exchanged.received);
-    hang_up(stream);
-    (settled, exchanged.ended)
-}
-
-// A session over the stream, which is read by one handle and written by another.
-fn exchange_over<S: DotSet, T: Read + Write + OpenStream + Drop>(
-    alloc: Global,
-    side: Side,
-    kept: &Kept<S>,
-    stream: &mut T,
-) -> Exchanged<S>
-    ensures { Leaves side kept.now result.received result.ended }
+    ensures { Meets side (T.remaining stream) file.old file.new result.0 result.1 }
 {
     match stream.try_clone() {
-        Ok(mut sending) => exchange(
-            alloc,
-            side,
-            kept,
-            &mut Counted::new(stream),
-            &mut Counted::new(&mut sending),
-        ),
-        Err(_) => Exchanged {
-            received: None,
-            ended: Ended::Failed(Fault::Device),
-        },
+        Ok(mut sending) => {
+            let mut reader = Counted::new(stream);
+            let met = exchange_over(rt, side, file, &mut reader, &mut Counted::new(&mut sending));
+            let _ = sending.shutdown(Shutdown::Write);
+            drop_rest(&mut reader);
+            met
+        }
+        Err(_) => {
+            let _ = stream.shutdown(Shutdown::Write);
+            drop_rest(&mut Counted::new(stream));
+            (Settled::Nothing, Ended::Failed(Fault::Device))
+        }
     }
 }
 
-// Says that nothing more is sent, and drops what the peer still sends. Nothing depends on whether that succeeds.
-fn hang_up<T: Read + OpenStream + Drop>(mut stream: T) {
-    let _ = stream.shutdown(Shutdown::Write);
-    drop_rest(&mut Counted::new(&mut stream));
+// A session over the two handles of a stream, and what it received settled.
+fn exchange_over<H: Files + AllocGlobal, S: DotSet, R: Read, W: Write>(
+    rt: &H,
+    side: Side,
+    file: &mut ReplicaFile<'_, S>,
+    reader: &mut Counted<R>,
+    writer: &mut Counted<W>,
+) -> (Settled, Ended)
+    ensures session { IsSession side (R.remaining reader.old.inner) (R.remaining reader.new.inner)
+        (W.contents writer.old.inner) (W.contents writer.new.inner) file.old file.new result.0 result.1 }
+    ensures device { result.1 ≡ Failed Device → HasFailed reader.old reader.new ⊎ HasFailed writer.old writer.new }
+{
+    let exchanged = exchange(rt.alloc(), side, file.kept(), reader, writer);
+    let settled = settle(rt, file, exchanged.received);
+    (settled, exchanged.ended)
 }
 
 // Reads to the end, within the reader's bound of turns.

@@ -1,7 +1,8 @@
-use Rattle.std.proofs.Common.{None, refl}
-use Rattle.rds_session.specs.declared.talk.Side.TheVariants.{Server}
-use Rattle.rds_files.proofs.Paired.{unheard}
+use Rattle.std.proofs.Common.{None, inl, refl}
 use Rattle.rds_files.proofs.syncing.meet_next.Goals as goal
 
+pub returns-in-Ok : goal.returns-in-Ok
+returns-in-Ok g c = (_, c.meet.ensures)
+
 pub returns-in-Err : goal.returns-in-Err
-returns-in-Err g c = record { path = refl; received = None; leaves = unheard Server c.args.file.now.kept; settles = (refl, refl) }
+returns-in-Err g c = (None, inl (record { same = refl; nothing = refl; device = refl }))
