@@ -7,7 +7,7 @@ use Rattle.rds_session.specs.declared.talk.Side.{Side}
 use Rattle.rds_files.specs.Files.{FileValue}
 use Rattle.rds_files.specs.Reports.{report_text, tells_fault, told_status}
 use Rattle.rds_files.specs.Settling.{is_unkept}
-use Rattle.rds_files.specs.Syncing.{MeetsPeer, Served, unserved, served_more, Serves, none, more, WritesSessionsOf}
+use Rattle.rds_files.specs.Syncing.{MeetsPeer, Served, unserved, served_more, Serves, none, more, WritesSession, WritesSessionsOf}
 use Rattle.rds_files.specs.declared.settling.Settled.{Settled}
 use Rattle.rds_files.specs.declared.settling.Settled.TheVariants.{Nothing, Taken, Refused, Unkept}
 
@@ -83,14 +83,13 @@ all_served side sessions first kept told before after status s is = record {
 }
 
 -- one session alone
-pub one_served : (side : Side) (first new : FileValue) (before after : Option (List ℕ)) (settled : Settled) (ended : Ended) (status : ℕ) → MeetsPeer side first new settled ended → Appends before after (report_text settled ended) → status ≡ told_status (tells_fault settled ended)
-    → WritesSessionsOf side first new 1 before after status
-one_served side first new before after settled ended status session written is = record {
-  served = served_more (unserved first) new settled ended;
-  serves = more (unserved first) new settled ended none refl session;
+pub one_served : (side : Side) (held : Option (List ℕ)) (first new : FileValue) (before after : Option (List ℕ)) (status : ℕ) → WritesSession side held first new before after status → WritesSessionsOf side first new 1 before after status
+one_served side held first new before after status session = record {
+  served = served_more (unserved first) new session.settled session.ended;
+  serves = more (unserved first) new session.settled session.ended none refl (held, session.meets);
   left = refl;
   most = omega arith;
   whole = inl refl;
-  written = written;
-  told = is;
+  written = session.written.0;
+  told = session.written.1;
 }

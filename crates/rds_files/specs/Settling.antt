@@ -46,3 +46,7 @@ is_fault _ = false
 abbrev pub is_unkept : Settled → Bool
 is_unkept (Unkept fault) = true
 is_unkept _ = false
+
+abbrev pub is_taken : Settled → Bool
+is_taken (Taken components) = true
+is_taken _ = false

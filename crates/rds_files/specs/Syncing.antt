@@ -8,8 +8,8 @@ use Rattle.rds_session.specs.Leaving.{IsOfCalls, Leaves}
 use Rattle.rds_session.specs.declared.step.Ended.{Ended}
 use Rattle.rds_session.specs.declared.step.Ended.TheVariants.{Failed}
 use Rattle.rds_files.specs.Files.{FileValue, IsReadAt}
-use Rattle.rds_files.specs.Reports.{WritesNone, report_text, tells_fault, told_status}
-use Rattle.rds_files.specs.Settling.{Settles, is_unkept}
+use Rattle.rds_files.specs.Reports.{WritesNone, WritesReport, report_text, tells_fault, told_status}
+use Rattle.rds_files.specs.Settling.{Settles, is_taken, is_unkept}
 use Rattle.rds_files.specs.declared.settling.Settled.{Settled}
 use Rattle.rds_files.specs.declared.settling.Settled.TheVariants.{Nothing}
 
@@ -21,6 +21,7 @@ pub record IsSession (side : Side) (first now before after : Option (List ℕ)) 
   pub leaves : Leaves side old.kept received ended
   pub heard : IsOfCalls side old.kept first now before after received ended
   pub settles : Settles old.kept received new.kept settled
+  pub untouched : is_taken settled ≡ false → new ≡ old
 
 -- a call failed before there was a session, and the file is as it was
 pub record IsUnmet (old new : FileValue) (settled : Settled) (ended : Ended) : Type 0 where
@@ -34,7 +35,14 @@ Meets side first old new settled ended =
     IsUnmet old new settled ended
     ⊎ ((now : Option (List ℕ)) × (before : Option (List ℕ)) × (after : Option (List ℕ)) × IsSession side first now before after old new settled ended)
 
--- the same, whatever its peer told
+-- a session over a stream that held this at first, or none, was told of, and nothing else
+pub record WritesSession (side : Side) (held : Option (List ℕ)) (old new : FileValue) (before after : Option (List ℕ)) (status : ℕ) : Type 0 where
+  pub settled : Settled
+  pub ended : Ended
+  pub meets : Meets side held old new settled ended
+  pub written : WritesReport settled ended before after status
+
+-- a session, or none, whatever its peer told
 abbrev pub MeetsPeer : Side → FileValue → FileValue → Settled → Ended → Type 0
 MeetsPeer side old new settled ended = (first : Option (List ℕ)) × Meets side first old new settled ended
 

@@ -8,6 +8,6 @@ mod settling;
 mod syncing;
 
 pub use files::{ReplacedFile, ReplicaFile, is_there};
-pub use pairing::pair_files;
+pub use pairing::{Link, pair, pair_files};
 pub use settling::{Settled, settle};
-pub use syncing::{meet, serve_file, sync_file};
+pub use syncing::{meet, serve, serve_file, sync, sync_file};

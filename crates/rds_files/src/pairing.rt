@@ -13,7 +13,8 @@ mod pending;
 use crate::files::ReplicaFile;
 use crate::reports::{give_up, tells_fault, write_report};
 use crate::settling::{Settled, settle};
-use meeting::{Link, connect, meet};
+pub use meeting::Link;
+use meeting::{connect, meet};
 use rds_dots::{DotSet, ListSet};
 use rds_keep::Counted;
 use rds_lines::status_of;
@@ -23,10 +24,10 @@ use std::io::Write;
 use std::net::Net;
 use std::rt::Files;
 
-/// One session of the replicas in two files, over a connection of the program to itself; the first
-/// is its client. Then what the first received is settled and told, and after that the second's.
-/// Where a file can't be read, that fault is told alone, and so is `Device` where the program can't
-/// connect. The session has at most as many turns as the writer says.
+/// Reads the two files, connects the program to itself, and has a session as `pair` does, of which the
+/// first is the client. Where a file can't be read, that fault is told alone, and so is `Device` where
+/// the program can't connect. Which files are opened is settled here alone: no clause ties a path to
+/// what a file holds.
 pub fn pair_files<H: Files + Net + AllocGlobal, W: Write>(
     rt: &H,
     first: &str,
@@ -52,9 +53,11 @@ pub fn pair_files<H: Files + Net + AllocGlobal, W: Write>(
     }
 }
 
-// A session over the connection, what it left in each file, and then what is told of both. Where the
-// output fails at the first, nothing of the second is told, but its delta is taken all the same.
-fn pair<H: Files + Net + AllocGlobal, S: DotSet, W: Write>(
+/// One session of the replicas in two files over the connection, and what it left in each file. Then
+/// what the first received is told, and after that the second's. Where the output fails at the first,
+/// nothing of the second is told, but its delta is taken all the same. The session has at most as many
+/// turns as the writer says.
+pub fn pair<H: Files + Net + AllocGlobal, S: DotSet, W: Write>(
     rt: &H,
     client: &mut ReplicaFile<'_, S>,
     server: &mut ReplicaFile<'_, S>,
@@ -62,7 +65,7 @@ fn pair<H: Files + Net + AllocGlobal, S: DotSet, W: Write>(
     writer: &mut Counted<W>,
 ) -> u8
     ensures written { writer.new.failed ≡ 0
-        → WritesBoth client.old.kept client.new.kept server.old.kept server.new.kept
+        → WritesBoth client.old client.new server.old server.new
         (W.contents writer.old.inner) (W.contents writer.new.inner) result }
     ensures client { client.new.path ≡ client.old.path }
     ensures server { server.new.path ≡ server.old.path }

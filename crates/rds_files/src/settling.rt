@@ -1,7 +1,7 @@
 //! What a session leaves of the replica in its file.
-ghost use Rattle.std.specs.Prelude.{◌≡◌, IfOk, IfErr};
+ghost use Rattle.std.specs.Prelude.{◌≡◌, false, IfOk, IfErr};
 ghost use Rattle.rds_session.specs.Received.{HasChecked, IsChecked};
-ghost use Rattle.rds_files.specs.Settling.{IsJoined, RefusesDelta, Settles, SettlesDelta};
+ghost use Rattle.rds_files.specs.Settling.{IsJoined, RefusesDelta, Settles, SettlesDelta, is_taken};
 
 use crate::files::ReplicaFile;
 use rds_dots::DotSet;
@@ -52,6 +52,7 @@ pub fn settle<H: Files + AllocGlobal, S: DotSet>(
     requires checked { HasChecked file.old.kept received }
     ensures settles { Settles file.old.kept received file.new.kept result }
     ensures path { file.new.path ≡ file.old.path }
+    ensures untouched { is_taken result ≡ false → file.new ≡ file.old }
 {
     match received {
         Some(delta) => settle_delta(rt, file, &delta),
@@ -68,6 +69,7 @@ fn settle_delta<H: Files + AllocGlobal, S: DotSet>(
     requires { IsChecked file.old.kept delta.now }
     ensures settles { SettlesDelta file.old.kept delta.now file.new.kept result }
     ensures path { file.new.path ≡ file.old.path }
+    ensures untouched { is_taken result ≡ false → file.new ≡ file.old }
 {
     let replica = match joined(rt.alloc(), file.kept(), delta) {
         Ok(replica) => replica,

@@ -4,7 +4,7 @@ ghost use Rattle.rds_keep.specs.Counted.{HasFailed};
 ghost use Rattle.rds_names.specs.declared.fault.Fault.TheVariants.{Device};
 ghost use Rattle.rds_session.specs.declared.step.Ended.TheVariants.{Failed};
 ghost use Rattle.rds_session.specs.declared.talk.Side.TheVariants.{Client, Server};
-ghost use Rattle.rds_files.specs.Syncing.{IsSession, Meets, MeetsPeer, WritesSessionsOf, WritesSync};
+ghost use Rattle.rds_files.specs.Syncing.{IsSession, Meets, MeetsPeer, WritesSession, WritesSessionsOf, WritesSync};
 
 use crate::files::ReplicaFile;
 use crate::reports::{give_up, report, tells_fault, write_report};
@@ -20,9 +20,10 @@ use std::rt::Files;
 /// How many bytes are dropped at once.
 const PIECE: usize = 16_384;
 
-/// One session of the replica in the file, as the client of the peer at this address. The file is
+/// Reads the file, connects to the peer at this address, and has a session as `sync` does. The file is
 /// read before the address is used; a fault there, or a peer that can't be reached (`Device`), is
-/// told alone. Else the session is told as `report` does.
+/// told alone. Which file is opened and which address is meant is settled here alone: no clause ties a
+/// path to what a file holds.
 pub fn sync_file<H: Files + Net + AllocGlobal, W: Write>(
     rt: &H,
     path: &str,
@@ -39,19 +40,15 @@ pub fn sync_file<H: Files + Net + AllocGlobal, W: Write>(
         Err(fault) => return give_up(writer, fault),
     };
     match TcpStream::connect(rt, addr) {
-        Ok(stream) => {
-            let (settled, ended) = meet(rt, Side::Client, &mut file, stream);
-            report(writer, &settled, ended)
-        }
+        Ok(stream) => sync(rt, &mut file, stream, writer),
         Err(_) => give_up(writer, Fault::Device),
     }
 }
 
-/// So many sessions of the replica in the file, one after the other, as the server at this address.
-/// Each is told as `report` does, and the next one tells the peer what the file holds by then; a
-/// peer that can't be accepted is a session that failed. They end early where the file can't be kept
-/// or the output fails. The file is read before the address is used; a fault there, or an address
-/// that can't be had (`Device`), is told alone.
+/// Reads the file, listens at this address, and has sessions as `serve` does. The file is read before
+/// the address is used; a fault there, or an address that can't be had (`Device`), is told alone.
+/// Which file is opened and which address is meant is settled here alone: no clause ties a path to what
+/// a file holds.
 pub fn serve_file<H: Files + Net + AllocGlobal, W: Write>(
     rt: &H,
     path: &str,
@@ -74,8 +71,27 @@ pub fn serve_file<H: Files + Net + AllocGlobal, W: Write>(
     }
 }
 
-// So many sessions with peers that the listener accepts.
-fn serve<H: Files + Net + AllocGlobal, S: DotSet, W: Write>(
+/// One session of the replica in the file over the stream, as the client. It is told as `report` does.
+pub fn sync<H: Files + AllocGlobal, S: DotSet, T: Read + Write + OpenStream + Drop, W: Write>(
+    rt: &H,
+    file: &mut ReplicaFile<'_, S>,
+    stream: T,
+    writer: &mut Counted<W>,
+) -> u8
+    ensures written { writer.new.failed ≡ 0
+        → WritesSession Client (T.remaining stream) file.old file.new (W.contents writer.old.inner) (W.contents writer.new.inner) result }
+    ensures status { result ≤ 1 }
+    ensures broken { (writer.new.failed ≡ writer.old.failed) ⊎ (result ≡ 1) }
+{
+    let (settled, ended) = meet(rt, Side::Client, file, stream);
+    report(writer, &settled, ended)
+}
+
+/// So many sessions of the replica in the file, one after the other, as the server of peers that the
+/// listener accepts. Each is told as `report` does, and the next one tells the peer what the file holds
+/// by then; a peer that can't be accepted is a session that failed. They end early where the file can't
+/// be kept or the output fails.
+pub fn serve<H: Files + Net + AllocGlobal, S: DotSet, W: Write>(
     rt: &H,
     file: &mut ReplicaFile<'_, S>,
     listener: &H::Listener,
