@@ -1,3 +1,4 @@
+pub mod Heard
 pub mod Hearing
 pub mod Paired
 pub mod Reported

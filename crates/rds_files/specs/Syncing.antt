@@ -14,12 +14,13 @@ use Rattle.rds_files.specs.declared.settling.Settled.{Settled}
 use Rattle.rds_files.specs.declared.settling.Settled.TheVariants.{Nothing}
 
 -- a session of this side and the replica in a file, over a reader that held this at first and holds this now, and a writer: it heard what
--- the reader gave up, each byte once and in order; what it received became of the replica so, and it ended so
+-- the reader gave up, each byte once and in order, and where a call failed a beginning of what it had to say may be written; what
+-- it received became of the replica so, and it ended so
 pub record IsSession (side : Side) (first now before after : Option (List ℕ)) (old new : FileValue) (settled : Settled) (ended : Ended) : Type 0 where
   pub path : new.path ≡ old.path
   pub received : Option StateValue
   pub leaves : Leaves side old.kept received ended
-  pub heard : IsOfCalls side old.kept first now before after received ended
+  pub heard : IsOfCalls side old.kept first now before after (Unit {0}) received ended
   pub settles : Settles old.kept received new.kept settled
   pub untouched : is_taken settled ≡ false → new ≡ old
 
