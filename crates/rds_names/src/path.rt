@@ -1,5 +1,5 @@
 //! Where a leaf stands.
-ghost use Rattle.std.specs.Prelude.{◌≡◌, ◌≤◌, ◌↔◌, ◌++◌, ℕ, List, length, [], true, IsTrue, IfOk, IfErr, slice_get};
+ghost use Rattle.std.specs.Prelude.{◌≡◌, ◌≤◌, ◌↔◌, ◌++◌, ℕ, List, length, [], true, IsTrue, IsOk, IfOk, IfErr, slice_get};
 ghost use Rattle.std.specs.List.{list_all, starts_with};
 ghost use Rattle.std.specs.Str.{bytes_eq};
 ghost use Rattle.rds_names.specs.Key.{is_key};
@@ -44,9 +44,10 @@ impl Path {
     }
 
     /// The path whose keys stand between '/' in the text; the empty text is the root. More than 8
-    /// pieces are refused first (`BadPath`), then a piece that is no key (`BadKey`).
+    /// pieces are refused first (`BadPath`), then a piece that is no key (`BadKey`). The root takes no memory.
     pub fn new(alloc: Global, text: &str) -> Result<Path, Fault>
-        ensures { Gives result (path_of text.now) }
+        ensures value { Gives result (path_of text.now) }
+        ensures root { text.now ≡ [] → IsOk result }
     {
         if text.is_empty() {
             return Ok(Path {
@@ -102,10 +103,11 @@ impl Path {
         self.keys.starts_with(&other.keys)
     }
 
-    /// An equal path with memory of its own.
+    /// An equal path with memory of its own. The root takes none.
     pub fn copy(&self, alloc: Global) -> Result<Path, Fault>
         ensures ok { IfOk result (λ path. path ≡ self.now) }
         ensures memory { IfErr result (λ fault. fault ≡ Memory) }
+        ensures root { self.now ≡ [] → IsOk result }
     {
         let mut keys = Vec::new(alloc);
         for key in &self.keys {

@@ -125,7 +125,7 @@ pub enum Scalar {
 }
 
 impl Scalar {
-    ghost use Rattle.rds_names.specs.Scalar.{scalar_of_text};
+    ghost use Rattle.rds_names.specs.Scalar.{IsText, scalar_of_text};
 
     /// The scalar that is this text; one of more than 1,024 bytes is refused (`BadScalar`).
     pub fn text(alloc: Global, text: &str) -> Result<Scalar, Fault>
@@ -134,10 +134,11 @@ impl Scalar {
         Ok(Scalar::Text(Text::new(alloc, text)?))
     }
 
-    /// An equal scalar with memory of its own.
+    /// An equal scalar with memory of its own. Only a text takes any.
     pub fn copy(&self, alloc: Global) -> Result<Scalar, Fault>
         ensures ok { IfOk result (λ scalar. scalar ≡ self.now) }
         ensures memory { IfErr result (λ fault. fault ≡ Memory) }
+        ensures room { IfErr result (λ _. IsText self.now) }
     {
         Ok(match self {
             Scalar::Null => Scalar::Null,

@@ -1,6 +1,7 @@
 pub mod Ahead
 pub mod Chosen
 pub mod Coordinates
+pub mod Copied
 pub mod Document
 pub mod Edit
 pub mod Fits

@@ -1,6 +1,7 @@
 //! Edits of a replica.
 ghost use Rattle.std.specs.Prelude.{◌≡◌, IfOk, IfErr};
 ghost use Rattle.rds_names.specs.declared.fault.Fault.TheVariants.{Memory};
+ghost use Rattle.rds_state.specs.Copied.{HasKeysOrText};
 
 use rds_dots::Dot;
 use rds_names::{Fault, Key, Path, Scalar};
@@ -31,10 +32,11 @@ pub struct Edited {
 }
 
 impl Command {
-    /// An equal command with memory of its own.
+    /// An equal command with memory of its own. Keys and texts take some.
     pub fn copy(&self, alloc: Global) -> Result<Command, Fault>
         ensures ok { IfOk result (λ command. command ≡ self.now) }
         ensures memory { IfErr result (λ fault. fault ≡ Memory) }
+        ensures room { IfErr result (λ _. HasKeysOrText self.now) }
     {
         Ok(match self {
             Command::Set(path, value) => Command::Set(path.copy(alloc)?, value.copy(alloc)?),
