@@ -34,6 +34,7 @@ MOVES(recv, "recv", (int file, void *to, size_t size, int flags), (file, to, siz
 MOVES(send, "send", (int file, const void *from, size_t size, int flags), (file, from, size, flags))
 DOES(open, (const char *path, int flags, unsigned mode), (path, flags, mode))
 DOES(fcntl, (int file, int command, long rest), (file, command, rest))
+DOES(fchmod, (int file, unsigned mode), (file, mode))
 DOES(fsync, (int file), (file))
 DOES(fdatasync, (int file), (file))
 DOES(rename, (const char *from, const char *to), (from, to))

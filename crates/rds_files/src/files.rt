@@ -69,12 +69,13 @@ impl<'a, S: DotSet> ReplicaFile<'a, S> {
         })
     }
 
-    /// Keeps this replica in the file in place of the one that it holds: FILE.new is written anew, synced and renamed to
-    /// FILE, and only then is the replica kept. A FILE.new that was left behind is overwritten. Last the folder is synced,
-    /// so that the rename outlasts a loss of power, where the file system lets it: whether that succeeds changes nothing.
+    /// Keeps this replica in the file in place of the one that it holds: FILE.new is written anew, with the mode of FILE,
+    /// synced and renamed to FILE, and only then is the replica kept. A FILE.new that was left behind is overwritten. Last the
+    /// folder is synced, so that the rename outlasts a loss of power, where the file system lets it: whether that succeeds
+    /// changes nothing.
     ///
-    /// Refuses `TooLong` where the replica's text is above the limit, and `Device` where a file can't be made, written,
-    /// synced or renamed.
+    /// Refuses `TooLong` where the replica's text is above the limit, and `Device` where a file can't be made, given its mode,
+    /// written, synced or renamed.
     pub fn keep<H: Files + AllocGlobal>(
         &mut self,
         rt: &H,
@@ -169,7 +170,7 @@ fn keep_file<H: Files + AllocGlobal, S: DotSet>(
 {
     let alloc = rt.alloc();
     let name = format!(in alloc; "{path}.new")?;
-    let file = match fs::create(rt, name.as_str()) {
+    let file = match create_beside(rt, name.as_str(), path) {
         Ok(file) => file,
         Err(_) => return Err(Fault::Device),
     };
@@ -182,6 +183,16 @@ fn keep_file<H: Files + AllocGlobal, S: DotSet>(
         is_renamed: false,
     });
     keep_in(alloc, replica, &mut place)
+}
+
+// A new file of this name, with the mode of the one whose place it is to take, if there is one: what only its owner could read
+// stays so.
+fn create_beside<H: Files>(rt: &H, name: &str, path: &str) -> io::Result<H::File> {
+    let file = fs::create(rt, name)?;
+    if let Ok(old) = rt.metadata(path) {
+        file.set_permissions(old.permissions())?;
+    }
+    Ok(file)
 }
 
 /// Whether something of this path can be opened. `Device` where it can't be, but not since it isn't
