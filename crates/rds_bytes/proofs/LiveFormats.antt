@@ -6,6 +6,7 @@ use Rattle.std.proofs.lemmas.Bool.Decides.{nat_tests}
 use Rattle.rds_names.specs.declared.entry.Entry.{Entry}
 use Rattle.rds_dots.specs.declared.dot.Dot.{Dot}
 use Rattle.rds_dots.specs.Dots.{Dots, is_dot, comes_after}
+use Rattle.rds_dots.specs.Sets.{dot_limits}
 use Rattle.rds_names.specs.Conditions.{and_true, and_left, and_right}
 use Rattle.rds_life.specs.Fits.{fits, before_next}
 use Rattle.rds_life.specs.Life.{AreRows}
@@ -22,14 +23,12 @@ use Rattle.rds_bytes.proofs.EntryFormats.{entry_format}
 abbrev AreNumbers : Dot → Type 0
 AreNumbers d = (d.replica < 256) × (d.seq < 2 ^ 64)
 
-dot_bounds : (a s : ℕ) → (leb a 255 && leb 1 s && leb s 281474976710655) ≡ true → (a < 256) × (s < 2 ^ 64)
-dot_bounds a s h = (small a s h, most a s h)
-  where
-    small : (a s : ℕ) → (leb a 255 && leb 1 s && leb s 281474976710655) ≡ true → a < 256
-    small a s h = grind (arith, nat_tests)
-
-    most : (a s : ℕ) → (leb a 255 && leb 1 s && leb s 281474976710655) ≡ true → s < 2 ^ 64
-    most a s h = grind (arith, nat_tests)
+has_numbers : (d : Dot) → is_dot d ≡ true → AreNumbers d
+has_numbers d is =
+    let limits = dot_limits d is in
+    let small = limits.small in
+    let within = limits.within in
+    (omega arith, omega arith)
 
 -- each dot of the set is one
 abbrev pub AreOnlyDots : Dots → Type 0
@@ -38,7 +37,7 @@ AreOnlyDots s = (d : Dot) → set.contains s d ≡ true → is_dot d ≡ true
 dot_format : (s : Dots) → AreOnlyDots s → (before : List (Dot × Entry)) → IsPlain (read.dot_at s before) dot_text (λ d. is_next_dot s before d ≡ true)
 unfolding read.dot_at
 dot_format s dots before =
-    refit _ _ _ (λ d. is_next_dot s before d ≡ true) _ (λ d h. h.1) (λ d h. (dot_bounds d.replica d.seq (dots d (and_right (comes_after (dot_of_row (last before)) d) _ h)), h))
+    refit _ _ _ (λ d. is_next_dot s before d ≡ true) _ (λ d h. h.1) (λ d h. (has_numbers d (dots d (and_right (comes_after (dot_of_row (last before)) d) _ h)), h))
     (when_format (is_next_dot s before) _ _ _ (made_format read.dot_by (λ d. (d.replica, d.seq)) _ _ _ AreNumbers _ (λ d h. (h, refl)) (λ p h. (h, refl)) (plain_pair _ _ _ _ _ _ byte_format number64)))
 
 abbrev IsRowAfter : Dots → List (Dot × Entry) → Dot × Entry → Type 0

@@ -21,7 +21,7 @@ use Rattle.rds_dots.specs.Order.{dots_total, dots_exact}
 use Rattle.rds_dots.specs.RunFacts.{Bounds, parts_of, has, covers_is, has_past}
 use Rattle.rds_dots.specs.Runs.{covers, place, stop, are_maximal, runs_of}
 use Rattle.rds_dots.specs.RunsOf.{are_runs, runs_are, covered_is_dot}
-use Rattle.rds_dots.specs.Sets.{contains_list, lists-run, ascends-run, len-list}
+use Rattle.rds_dots.specs.Sets.{contains_list, dot_limits, lists-run, ascends-run, len-list}
 use Rattle.rds_bytes.specs.declared.rows.Gap.{Gap}
 use Rattle.rds_bytes.specs.declared.rows.DotRow.{DotRow}
 use Rattle.rds_bytes.specs.Values.{AreDotsOf}
@@ -82,9 +82,6 @@ in_run_place a s ρ lo hi h = grind (arith, nat_tests)
 in_run_seq : (a s ρ lo hi : ℕ) → (eqb a ρ && leb lo s && leb s hi) ≡ true → s ≤ hi
 in_run_seq a s ρ lo hi h = grind (arith, nat_tests)
 
-dot_seq : (a s : ℕ) → (leb a 255 && leb 1 s && leb s 281474976710655) ≡ true → s ≤ 281474976710655
-dot_seq a s h = grind (arith, nat_tests)
-
 ascends-runs : (rs : List Run) → are_maximal rs ≡ true → ascends (flat_map dots_of rs) ≡ true
 ascends-runs [] max = refl
 ascends-runs (r ∷ rs) max =
@@ -100,7 +97,7 @@ ascends-runs (r ∷ rs) max =
     let past = has_past rs p.rest (stop r + 1) (place e.replica e.seq) p.apart there in
     let before = in_run_place d.replica d.seq r.replica r.lo r.hi inside in
     let low = in_run_seq d.replica d.seq r.replica r.lo r.hi inside in
-    above_by d.replica d.seq e.replica e.seq (omega arith) (dot_seq e.replica e.seq (covered_is_dot rs p.rest e covered)) (omega arith)))
+    above_by d.replica d.seq e.replica e.seq (omega arith) (dot_limits e (covered_is_dot rs p.rest e covered)).within (omega arith)))
 
 length-dots_from : (replica lo n : ℕ) → length (dots_from replica lo n) ≡ n
 length-dots_from replica lo zero = refl
@@ -166,11 +163,8 @@ numbers_below replicas n lt = omega (arith, min-le_left replicas 256, lt)
 pub numbers_of : (replicas n : ℕ) → n < 256 → n < replicas → n < numbers replicas
 numbers_of replicas n small lt = omega arith
 
-dot_below : (a s : ℕ) → (leb a 255 && leb 1 s && leb s 281474976710655) ≡ true → a < 256
-dot_below a s h = grind (arith, nat_tests)
-
 number_small : (replicas : ℕ) (d : Dot) → (is_dot d ≡ true) × (d.replica < replicas) → d.replica < numbers replicas
-number_small replicas d h = numbers_of replicas d.replica (dot_below d.replica d.seq h.0) h.1
+number_small replicas d h = let small = (dot_limits d h.0).small in numbers_of replicas d.replica (omega arith) h.1
 
 pub dots_there : (replicas : ℕ) (s : Dots) → AreDotsOf replicas s → RowsStand (numbers replicas) 0 (rows_from 0 (runs_of s)) × (dots_of_rows (rows_from 0 (runs_of s)) ≡ s)
 dots_there replicas s are =

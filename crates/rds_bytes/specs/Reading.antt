@@ -6,6 +6,7 @@ use Rattle.std.specs.Int.{Width, w16, w32, w64, byte_len, from_be_bytes, cast_si
 use Rattle.std.specs.FinSet as set
 use Rattle.rds_names.specs.declared.fault.Fault.{Fault}
 use Rattle.rds_names.specs.declared.fault.Fault.TheVariants.{Memory, Cut, Bad, TooManyDots}
+pub use Rattle.rds_names.specs.AndThen.{◌>>=◌}
 use Rattle.rds_names.specs.Name.{is_name}
 use Rattle.rds_names.specs.Key.{is_key}
 use Rattle.rds_names.specs.Roster.{RosterValue, are_names}
@@ -28,11 +29,6 @@ use Rattle.rds_bytes.specs.declared.rows.TheConstants.{MOST_DOTS}
 use Rattle.rds_bytes.specs.Entries.{entry_of}
 use Rattle.rds_bytes.specs.RowDots.{dots_of_rows}
 use Rattle.rds_bytes.specs.Spelling.{magic}
-
-infixl 10 ◌>>=◌
-abbrev pub ◌>>=◌ : {A B : Type 0} → Result A Fault → (A → Result B Fault) → Result B Fault
-(Ok x) >>= f = f x
-(Err e) >>= f = Err e
 
 -- a fault is the one that reading gives, unless memory ran out
 abbrev pub Fails : {Y : Type 0} → Fault → Result Y Fault → Type 0

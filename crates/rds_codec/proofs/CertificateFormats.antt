@@ -1,5 +1,5 @@
 -- A certificate is a format.
-use Rattle.std.proofs.Common.{◌≡◌, ℕ, ◌^◌, ◌<◌, ◌≤◌, ◌⊎◌, inl, inr, Bool, true, false, cond, eqb, leb, ◌&&◌, List, [], ◌∷◌, ◌++◌, length, Result, Ok, Err, refl, sym, ap, subst, arith}
+use Rattle.std.proofs.Common.{◌≡◌, ℕ, ◌^◌, ◌<◌, ◌≤◌, ◌⊎◌, inl, inr, Bool, true, false, cond, eqb, leb, List, [], ◌∷◌, ◌++◌, length, Result, Ok, Err, refl, sym, ap, subst, arith}
 use Rattle.std.specs.Int.{w64, to_be_bytes}
 use Rattle.std.proofs.lemmas.Bool.{eqb-true, leb-true, le-leb}
 use Rattle.std.proofs.lemmas.Bool.Decides.{nat_tests}
@@ -7,7 +7,9 @@ use Rattle.rds_names.specs.declared.fault.Fault.{Fault}
 use Rattle.rds_names.specs.declared.fault.Fault.TheVariants.{Bad, TooManyDots}
 use Rattle.rds_dots.specs.declared.dot.Dot.{Dot}
 use Rattle.rds_dots.specs.declared.dot.Run.{Run}
+use Rattle.rds_dots.specs.declared.dot.TheConstants.{MAX_SEQ}
 use Rattle.rds_dots.specs.Dots.{is_dot, IsRun}
+use Rattle.rds_dots.specs.Sets.{dot_limits}
 use Rattle.rds_names.specs.Conditions.{and_true, and_left, and_right}
 use Rattle.rds_counts.specs.declared.row.Which.{Which}
 use Rattle.rds_counts.specs.declared.row.Which.TheVariants.{P, N}
@@ -46,12 +48,10 @@ IsDotOf replicas d = (is_dot d ≡ true) × (d.replica < replicas)
 
 dot_there : (replicas : ℕ) (d : Dot) → IsDotOf replicas d → AreDotParts replicas (d.replica, d.seq) × (d ≡ d)
 dot_there replicas d h =
-    let front = and_left (leb d.replica 255 && leb 1 d.seq) (leb d.seq 281474976710655) h.0 in
-    let small = leb-true d.replica 255 (and_left (leb d.replica 255) (leb 1 d.seq) front) in
-    let some = and_right (leb d.replica 255) (leb 1 d.seq) front in
-    let few = and_right (leb d.replica 255 && leb 1 d.seq) (leb d.seq 281474976710655) h.0 in
-    let most = leb-true d.seq 281474976710655 few in
-    (((omega arith, h.1), (omega arith, and_true _ _ some few)), refl)
+    let limits = dot_limits d h.0 in
+    let small = limits.small in
+    let within = limits.within in
+    (((omega arith, h.1), (omega arith, between 1 MAX_SEQ d.seq limits.from_one within)), refl)
 
 dot_back : (replicas : ℕ) (p : ℕ × ℕ) → AreDotParts replicas p → IsDotOf replicas (dot_by p) × (p ≡ p)
 dot_back replicas p h =
@@ -199,10 +199,10 @@ module _ (replicas : ℕ) where
   from_two t rest = cond (eqb t 2) (made_at dead_by (read.dead_at replicas) rest) (from_three t rest)
 
   dead_is : (p : Run × ℕ) → IsDead replicas p → IsRowOf replicas (dead_by p)
-  dead_is p h = (h.0.0, (h.0.1, between_high 0 1 p.1 h.1.1))
+  dead_is p h = (h.0.1.0, (h.0.0, (h.0.1.1, between_high 0 1 p.1 h.1.1)))
 
   count_is : (p : CountParts) → IsNumberClaim replicas p → IsRowOf replicas (count_by p)
-  count_is p h = (h.0.0, (h.0.1, (leb-true p.1.1.0 281474976710655 h.1.1.0.1, leb-true p.1.1.1 281474976710655 h.1.1.1.1)))
+  count_is p h = ((h.0.0, h.0.1.0), (h.0.1.1, (leb-true p.1.1.0 281474976710655 h.1.1.0.1, leb-true p.1.1.1 281474976710655 h.1.1.1.1)))
 
   row_takes : (bytes : List ℕ) (x : Row × List ℕ) → IsBytes bytes → read.row_at replicas bytes ≡ Ok x → Spelled bytes x
   unfolding read.row_at
@@ -212,7 +212,7 @@ module _ (replicas : ℕ) where
       let rest = a.0.1 in
       let tag = (byte_format.takes bytes a.0 fits a.1).0 in
       elim (chosen (eqb t 1) (made_at live_by (read.claimed_dot_at replicas) rest) (from_two t rest) (Ok x) a.2) [
-        | inl h ↦ (let got = tag_takes live_by _ _ _ (dot_format replicas) bytes rest t 1 x tag h.0 h.1 in subst (λ (r : Row). Takes bytes (row_text r) x.1 × IsRowOf replicas r) got.made (got.taken, got.fits))
+        | inl h ↦ (let got = tag_takes live_by _ _ _ (dot_format replicas) bytes rest t 1 x tag h.0 h.1 in subst (λ (r : Row). Takes bytes (row_text r) x.1 × IsRowOf replicas r) got.made (got.taken, (tt, got.fits)))
         | inr n1 ↦ elim (chosen (eqb t 2) (made_at dead_by (read.dead_at replicas) rest) (from_three t rest) (Ok x) n1.1) [
           | inl h ↦ (let got = tag_takes dead_by _ _ _ (dead_format replicas) bytes rest t 2 x tag h.0 h.1 in subst (λ (r : Row). Takes bytes (row_text r) x.1 × IsRowOf replicas r) got.made (got.taken, dead_is got.value got.fits))
           | inr n2 ↦ elim (chosen (eqb t 3) (made_at count_by (read.number_claim_at replicas) rest) (Err Bad) (Ok x) n2.1) [
@@ -223,17 +223,17 @@ module _ (replicas : ℕ) where
       ]
 
   dead_fits : (r : Run) (peer : ℕ) → IsRowOf replicas (Dead r peer) → IsDead replicas (r, peer)
-  dead_fits r peer h = let one = h.1.1 in ((h.0, h.1.0), (omega arith, between 0 1 peer (omega arith) one))
+  dead_fits r peer h = let one = h.1.1.1 in ((h.1.0, (h.0, h.1.1.0)), (omega arith, between 0 1 peer (omega arith) one))
 
   amount : (n : ℕ) → n ≤ 281474976710655 → IsAmount n
   amount n le = (omega arith, le-leb n 281474976710655 le)
 
   count_fits : (key : List ℕ) (replica : ℕ) (which : Which) (sent peer : ℕ) → IsRowOf replicas (Count key replica which sent peer) → IsNumberClaim replicas ((key, replica), (which, (sent, peer)))
-  count_fits key replica which sent peer h = ((h.0, h.1.0), (tt, (amount sent h.1.1.0, amount peer h.1.1.1)))
+  count_fits key replica which sent peer h = ((h.0.0, (h.0.1, h.1.0)), (tt, (amount sent h.1.1.0, amount peer h.1.1.1)))
 
   row_again : (r : Row) (rest : List ℕ) → IsRowOf replicas r → read.row_at replicas (row_text r ++ rest) ≡ Ok (r, rest)
   unfolding read.row_at
-  row_again (Live d) rest h = rw ((dot_format replicas).again d rest h) refl
+  row_again (Live d) rest h = rw ((dot_format replicas).again d rest h.1) refl
   row_again (Dead r peer) rest h = rw ((dead_format replicas).again (r, peer) rest (dead_fits r peer h)) refl
   row_again (Count key replica which sent peer) rest h = rw ((number_claim_format replicas).again ((key, replica), (which, (sent, peer))) rest (count_fits key replica which sent peer h)) refl
 

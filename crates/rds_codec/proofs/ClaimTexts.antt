@@ -16,6 +16,7 @@ use Rattle.rds_dots.specs.declared.dot.Dot.{Dot}
 use Rattle.rds_dots.specs.Dots.{dot_cmp, is_dot}
 use Rattle.rds_dots.specs.Listed.{dots_from}
 use Rattle.rds_dots.specs.Order.{dots_total}
+use Rattle.rds_dots.specs.Sets.{dot_limits}
 use Rattle.rds_counts.specs.declared.row.CountRow.{CountRow}
 use Rattle.rds_counts.specs.declared.row.Which.{Which}
 use Rattle.rds_counts.specs.declared.row.Which.TheVariants.{P, N}
@@ -96,12 +97,6 @@ module _ (replicas : ℕ) where
       let same : (lo + 1) + i ≡ lo + suc i = omega arith in
       subst (λ (s : ℕ). let d : Dot = record { replica = replica; seq = s } in IsDotOf d × (peer ≤ 1)) same again
 
-  low_of : (a s : ℕ) → (leb a 255 && leb 1 s && leb s 281474976710655) ≡ true → 1 ≤ s
-  low_of a s h = leb-true 1 s (and_right (leb a 255) _ (and_left (leb a 255 && leb 1 s) _ h))
-
-  high_of : (a s : ℕ) → (leb a 255 && leb 1 s && leb s 281474976710655) ≡ true → s ≤ 281474976710655
-  high_of a s h = leb-true s 281474976710655 (and_right (leb a 255 && leb 1 s) _ h)
-
   row_fits : (r : Row) → is_full r ≡ true → AllByRecursion ClaimFits (spread r) → RowFits replicas r
   row_fits (rows.Live d) full h = h.0
   row_fits (rows.Dead r peer) full h =
@@ -109,8 +104,8 @@ module _ (replicas : ℕ) where
       let at = from_dots r.replica r.lo (r.hi + 1 - r.lo) peer h in
       let first = at 0 (omega arith) in
       let last = at (r.hi - r.lo) (omega arith) in
-      let low = low_of r.replica (r.lo + 0) first.0.0 in
-      let high = high_of r.replica (r.lo + (r.hi - r.lo)) last.0.0 in
+      let low : 1 ≤ r.lo + 0 = (dot_limits (record { replica = r.replica; seq = r.lo + 0 }) first.0.0).from_one in
+      let high : r.lo + (r.hi - r.lo) ≤ 281474976710655 = (dot_limits (record { replica = r.replica; seq = r.lo + (r.hi - r.lo) }) last.0.0).within in
       (record { from_one = omega arith; rises = rises; within = omega arith }, (first.0.1, first.1))
   row_fits (rows.Count key replica which sent peer) full h = h.0
 
@@ -171,13 +166,8 @@ module _ (replicas : ℕ) where
 
   -- ---- rows that code holds
 
-  row_is : (r : Row) → IsHeldRow r → RowFits replicas r → IsRowOf replicas r
-  row_is (rows.Live d) held fits = fits
-  row_is (rows.Dead r peer) held fits = (fits.0, ((held, fits.1.0), fits.1.1))
-  row_is (rows.Count key replica which sent peer) held fits = (held.0, ((held.1, fits.0), fits.1))
-
   pub are_rows_of : (rs : List Row) → AllByRecursion IsHeldRow rs → AllByRecursion (RowFits replicas) rs → IsCertificateOf replicas rs
-  are_rows_of rs held fits = all_both IsHeldRow (RowFits replicas) (IsRowOf replicas) row_is rs held fits
+  are_rows_of rs held fits = all_both IsHeldRow (RowFits replicas) (IsRowOf replicas) (λ r holds lies. (holds, lies)) rs held fits
 
   pub is_certificate_of : (b : Ranks) (v : StateValue) (rs : List Row) → IsStateOf replicas v → IsAbove (coordinates v) b → IsCertificate b v rs → AllByRecursion IsHeldRow rs → IsCertificateOf replicas rs
   is_certificate_of b v rs is above_all certificate held = are_rows_of rs held (certificate_fits b v rs is above_all certificate)

@@ -109,11 +109,6 @@ certificate_at replicas = list_at (number_at w32) (λ _. row_at replicas)
 abbrev pub IsReplicaOf : ℕ → ℕ → Type 0
 IsReplicaOf replicas n = (n < 256) × (n < replicas)
 
-abbrev pub IsRowOf : ℕ → Row → Type 0
-IsRowOf replicas (Live d) = (is_dot d ≡ true) × (d.replica < replicas)
-IsRowOf replicas (Dead r peer) = IsRun r × (IsReplicaOf replicas r.replica × (peer ≤ 1))
-IsRowOf replicas (Count key replica which sent peer) = (is_key_text key ≡ true) × (IsReplicaOf replicas replica × ((sent ≤ MAX_COUNT) × (peer ≤ MAX_COUNT)))
-
 -- what code holds as a row: a replica's number is a byte, and a key is text
 abbrev pub IsHeldRow : Row → Type 0
 IsHeldRow (Live d) = Unit {0}
@@ -125,6 +120,9 @@ abbrev pub RowFits : ℕ → Row → Type 0
 RowFits replicas (Live d) = (is_dot d ≡ true) × (d.replica < replicas)
 RowFits replicas (Dead r peer) = IsRun r × ((r.replica < replicas) × (peer ≤ 1))
 RowFits replicas (Count key replica which sent peer) = (replica < replicas) × ((sent ≤ MAX_COUNT) × (peer ≤ MAX_COUNT))
+
+abbrev pub IsRowOf : ℕ → Row → Type 0
+IsRowOf replicas row = IsHeldRow row × RowFits replicas row
 
 abbrev pub IsCertificateOf : ℕ → List Row → Type 0
 IsCertificateOf replicas rows = AllByRecursion (IsRowOf replicas) rows

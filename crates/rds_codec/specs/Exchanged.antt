@@ -65,7 +65,7 @@ pub data TakesCertified (digest : DigestValue) (a : AnswerValue) (own : ℕ) (ol
   Uncertified : IsUncertified digest a → result ≡ Err BadCertificate → TakesCertified digest a own old result
 
 -- It passes the check against what the text of the asked one's digest brings.
-pub record IsChecked (replicas : ℕ) (asked : StateValue) (a : AnswerValue) : Type 0 where
+pub record PassesCheck (replicas : ℕ) (asked : StateValue) (a : AnswerValue) : Type 0 where
   pub digest : DigestValue
   pub brought : IsTextOf (digest_kind replicas) (digest_text (digest_of asked)) digest
   pub certified : IsCertified digest a

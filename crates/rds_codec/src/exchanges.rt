@@ -9,7 +9,7 @@ ghost use Rattle.rds_delta.specs.Digested.{digest_of};
 ghost use Rattle.rds_codec.specs.AnswerTexts.{answer_text};
 ghost use Rattle.rds_codec.specs.Decoding.{IsTextOf};
 ghost use Rattle.rds_codec.specs.DigestTexts.{digest_text, digest_kind};
-ghost use Rattle.rds_codec.specs.Exchanged.{CanExchange, CanRead, IsAnswerTo, IsAskOf, IsCertified, IsChecked, IsLongAnswer, IsLongDigest, IsLost, IsRefusal, IsReplyTo, IsWithin, TakesCertified};
+ghost use Rattle.rds_codec.specs.Exchanged.{CanExchange, CanRead, IsAnswerTo, IsAskOf, IsCertified, IsLongAnswer, IsLongDigest, IsLost, IsRefusal, IsReplyTo, IsWithin, PassesCheck, TakesCertified};
 ghost use Rattle.rds_codec.specs.declared.limits.TheConstants.{LIMIT};
 ghost use Rattle.rds_bytes.specs.Values.{AreFew};
 
@@ -141,7 +141,7 @@ pub fn exchange<S: DotSet>(
 ) -> Result<Answer<S>, Fault>
     ensures taken { IfOk result (λ answer. coordinates asker.new.state ≡ join (coordinates asker.old.state) (coordinates answer.state)) }
     ensures asked { IfOk result (λ answer. answer.asker ≡ asker.old.own) }
-    ensures checked { IfOk result (IsChecked (length asker.old.roster.names) asked.now.state) }
+    ensures checked { IfOk result (PassesCheck (length asker.old.roster.names) asked.now.state) }
     ensures within { IfOk result (IsWithin asked.now.state) }
     ensures takes { IfOk result (λ answer. TakeGives asker.old.state asker.old.own answer.state result) }
     ensures answer { CanRead answerer.now asked.now asker.old → IfOk result (IsAnswerTo (digest_of asked.now.state) asker.old.own answerer.now.state) }

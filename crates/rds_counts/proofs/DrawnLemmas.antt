@@ -8,6 +8,7 @@ use Rattle.std.specs.Cmp.{nat_cmp_total, tied_itself}
 use Rattle.std.specs.Cmp.Lexicographic.{slice_cmp, nat_list_cmp_total}
 use Rattle.std.specs.Ordering.{nat_cmp, ordering_then, is_lt, eq_by_cmp, ordering_reverse}
 use Rattle.std.specs.declared.cmp.Ordering.TheVariants.{Less, Equal, Greater}
+use Rattle.std.specs.FinMap.Entries.{by_order}
 use Rattle.std.proofs.lemmas.Map.Lookups.{exact_pairs, exact_unsigned, exact_bytes}
 use Rattle.rds_counts.specs.declared.row.Which.TheVariants.{P, N}
 use Rattle.rds_counts.specs.declared.row.CountRow.{CountRow}
@@ -17,7 +18,7 @@ use Rattle.rds_counts.specs.PlaceOrder.{place_exact}
 use Rattle.rds_counts.specs.Counted.{Counted, number, place, counted, row_cmp, is_row, rows_rise, AreCountRows}
 use Rattle.rds_counts.specs.CountedLemmas.{some, number_in, number_past, number-row, get-counted, row_total}
 use Rattle.rds_names.specs.Conditions.{and_true, and_left, and_right, less_of, equal_of}
-use Rattle.rds_counts.specs.Drawn.{choose, greater, drawn_onto, drawn}
+use Rattle.rds_counts.specs.Drawn.{greater, drawn_onto, drawn}
 
 -- a row's own number at a place
 abbrev at : Place → CountRow → ℕ → ℕ
@@ -71,7 +72,7 @@ module _ (t : CountRow → Bool) (alike : (x y : CountRow) → t x ≡ true → 
   all-onto : (x : CountRow) (rest : List CountRow → List CountRow) → t x ≡ true → ((ys : List CountRow) → list_all t ys ≡ true → list_all t (rest ys) ≡ true) → (ys : List CountRow) → list_all t ys ≡ true → list_all t (drawn_onto x rest ys) ≡ true
   all-onto x rest tx h [] all = and_true _ _ tx (h [] refl)
   all-onto x rest tx h (y ∷ ys) all =
-      elim (row_cmp x y) as (λ o. list_all t (choose o (x ∷ rest (y ∷ ys)) (greater x y ∷ rest ys) (y ∷ drawn_onto x rest ys)) ≡ true) [
+      elim (row_cmp x y) as (λ o. list_all t (by_order o (x ∷ rest (y ∷ ys)) (greater x y ∷ rest ys) (y ∷ drawn_onto x rest ys)) ≡ true) [
         | Less ↦ and_true _ _ tx (h (y ∷ ys) all)
         | Equal ↦ and_true _ _ (alike x y tx (and_left (t y) _ all)) (h ys (and_right (t y) _ all))
         | Greater ↦ and_true _ _ (and_left (t y) _ all) (all-onto x rest tx h ys (and_right (t y) _ all))
@@ -96,7 +97,7 @@ rise-onto x xs rest front all asc (y ∷ ys) rise =
     let first = and_left (list_all (λ t. is_lt (row_cmp y t)) ys) _ rise in
     let later = and_right (list_all (λ t. is_lt (row_cmp y t)) ys) _ rise in
     let again = rise-onto x xs rest front all asc ys later in
-    elim (row_cmp x y) as (λ o. row_cmp x y ≡ o → rows_rise (choose o (x ∷ rest (y ∷ ys)) (greater x y ∷ rest ys) (y ∷ drawn_onto x rest ys)) ≡ true) [
+    elim (row_cmp x y) as (λ o. row_cmp x y ≡ o → rows_rise (by_order o (x ∷ rest (y ∷ ys)) (greater x y ∷ rest ys) (y ∷ drawn_onto x rest ys)) ≡ true) [
       | Less ↦ λ is. and_true _ _ (all x (y ∷ ys) front (and_true _ _ (ap is_lt is) (all_after x y is ys first))) (asc (y ∷ ys) rise)
       | Equal ↦ λ is. and_true _ _ (all x ys front (tied_after x y is ys first)) (asc ys later)
       | Greater ↦ λ is. and_true _ _ (all-onto (λ t. is_lt (row_cmp y t)) (after_greater y) x rest (ap is_lt (before x y is)) (λ zs h. all y zs (all_after y x (before x y is) xs front) h) ys first) again
@@ -129,7 +130,7 @@ number-onto q x xs rest front all h (y ∷ ys) rise =
     let again = number-onto q x xs rest front all h ys later in
     let t = number-max q x xs front in
     let u = number-max q y ys first in
-    elim (row_cmp x y) as (λ o. row_cmp x y ≡ o → number_in (choose o (x ∷ rest (y ∷ ys)) (greater x y ∷ rest ys) (y ∷ drawn_onto x rest ys)) q ≡ max (number_in (x ∷ xs) q) (number_in (y ∷ ys) q)) [
+    elim (row_cmp x y) as (λ o. row_cmp x y ≡ o → number_in (by_order o (x ∷ rest (y ∷ ys)) (greater x y ∷ rest ys) (y ∷ drawn_onto x rest ys)) q ≡ max (number_in (x ∷ xs) q) (number_in (y ∷ ys) q)) [
       | Less ↦ λ is.
           let e = number-max q x (rest (y ∷ ys)) (all x (y ∷ ys) front (and_true _ _ (ap is_lt is) (all_after x y is ys first))) in
           let f = h (y ∷ ys) rise in

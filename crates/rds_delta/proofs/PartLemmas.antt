@@ -13,38 +13,27 @@ use Rattle.rds_dots.specs.Lacking.{dot_of, IsNextRun}
 use Rattle.rds_dots.specs.Runs.{place, runs_of, first_after, AreRuns}
 use Rattle.rds_dots.specs.RunFacts.{has, covers_is}
 use Rattle.rds_dots.specs.RunsOf.{are_runs}
+use Rattle.rds_dots.specs.Sets.{dot_limits}
 use Rattle.rds_dots.proofs.NextRuns.{IsFirst, is_first, none_after}
 use Rattle.rds_delta.specs.Parts.{IsStretch, IsPartAfter, seq_after}
-
-dot_bounds : (a n : ℕ) → (leb a 255 && leb 1 n && leb n 281474976710655) ≡ true → (a ≤ 255) × (1 ≤ n) × (n ≤ 281474976710655)
-dot_bounds a n h = (small a n h, one a n h, most a n h)
-  where
-    small : (a n : ℕ) → (leb a 255 && leb 1 n && leb n 281474976710655) ≡ true → a ≤ 255
-    small a n h = grind (arith, nat_tests)
-
-    one : (a n : ℕ) → (leb a 255 && leb 1 n && leb n 281474976710655) ≡ true → 1 ≤ n
-    one a n h = grind (arith, nat_tests)
-
-    most : (a n : ℕ) → (leb a 255 && leb 1 n && leb n 281474976710655) ≡ true → n ≤ 281474976710655
-    most a n h = grind (arith, nat_tests)
 
 module _ (s : Dots) (d : Dot) (one : is_dot d ≡ true) where
   pub empty_stretch : ((n : ℕ) → d.seq - 1 < n → set.contains s (dot_of d.replica n) ≡ false) → IsStretch s d false MAX_SEQ
   empty_stretch none =
-      let b = dot_bounds d.replica d.seq one in
-      let low = b.1 in
-      let high = b.2 in
+      let b = dot_limits d one in
+      let low = b.from_one in
+      let high = b.within in
       record { from = high; within = omega arith; alike = λ n p q. none n (omega arith); ends = λ lt. absurd (omega arith) }
 
   pub in_stretch : (r : Run) → IsNextRun s d.replica (d.seq - 1) r → r.lo ≤ d.seq → IsStretch s d true r.hi
   in_stretch r is le =
-      let low = (dot_bounds d.replica d.seq one).1 in
+      let low = (dot_limits d one).from_one in
       let ends = is.ends in
       record { from = omega arith; within = is.within; alike = λ n p q. is.inside n (omega arith) q; ends = λ _. is.next }
 
   pub out_stretch : (r : Run) → IsNextRun s d.replica (d.seq - 1) r → d.seq < r.lo → IsStretch s d false (r.lo - 1)
   out_stretch r is lt =
-      let low = (dot_bounds d.replica d.seq one).1 in
+      let low = (dot_limits d one).from_one in
       let rises = is.rises in
       let within = is.within in
       let e : r.lo - 1 + 1 ≡ r.lo = omega arith in
@@ -146,7 +135,7 @@ module _ (s : Dots) (dots : (d : Dot) → set.contains s d ≡ true → is_dot d
           ends = sym (runs.same (dot_of r.replica (r.hi + 1))) ∙ covers_is (runs_of s) runs.maximal (dot_of r.replica (r.hi + 1)) ∙ and_false (is_dot (dot_of r.replica (r.hi + 1))) _ (ap (has (runs_of s)) (place_is r.replica r.hi) ∙ one.gap);
           first = λ d comes lt. from_true _ (λ h.
               let from = one.first d (runs.same d ∙ h) comes in
-              let most = (dot_bounds d.replica d.seq (dots d h)).2 in
+              let most = (dot_limits d (dots d h)).within in
               let same = same_replica d.replica d.seq r.replica r.lo n most from lt in
               let in_it = in_front d.replica d.seq r.replica r.lo n same from lt in
               false≢true (sym (q.before d.seq in_it.0 in_it.1) ∙ ap (λ x. comes_after after (dot_of x d.seq)) (sym same) ∙ comes));

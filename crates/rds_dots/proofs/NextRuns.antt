@@ -13,6 +13,7 @@ use Rattle.rds_names.specs.Conditions.{and_right}
 use Rattle.rds_dots.specs.Runs.{covers, place, start, stop, are_maximal, first_after, runs_of, AreRuns}
 use Rattle.rds_dots.specs.RunFacts.{Bounds, parts_of, has, has_past, has_none, start_stop, spans, covers_is}
 use Rattle.rds_dots.specs.RunsOf.{are_runs}
+use Rattle.rds_dots.specs.Sets.{dot_limits}
 
 -- the first of the runs that ends after a dot: what it has, what lies before it, and the gap behind it
 pub record IsFirst (rs : List Run) (after : Option Dot) (f : Run) : Type 0 where
@@ -130,9 +131,6 @@ after_is a ρ n hi e h = grind (arith, nat_tests)
 other_is : (a ρ n hi : ℕ) → (ρ ≡ a → ⊥) → is_lt (ordering_then (nat_cmp a ρ) (nat_cmp n hi)) ≡ true → a < ρ
 other_is a ρ n hi e h = grind (arith, nat_tests)
 
-most_is : (a n : ℕ) → (leb a 255 && leb 1 n && leb n 281474976710655) ≡ true → n ≤ 281474976710655
-most_is a n h = grind (arith, nat_tests)
-
 past_is : (a ρ n : ℕ) → a < ρ → is_lt (ordering_then (nat_cmp a ρ) (nat_cmp 281474976710655 n)) ≡ true
 past_is a ρ n h = grind (arith, nat_tests)
 
@@ -159,7 +157,7 @@ module _ (s : Dots) (dots : (d : Dot) → set.contains s d ≡ true → is_dot d
     other_run other n lt = from_true _ (λ h.
         let from = one.first (dot_of replica n) (covered (dot_of replica n) h) (later_is replica after n lt) in
         let later = other_is replica r.replica after r.hi other one.ends in
-        let most = most_is replica n (dots (dot_of replica n) h) in
+        let most = (dot_limits (dot_of replica n) (dots (dot_of replica n) h)).within in
         absurd (omega arith))
 
     pub next_run : r.replica ≡ replica → IsNextRun s replica after r

@@ -1,5 +1,5 @@
 -- The greatest dot of a replica, by where its dots end.
-use Rattle.std.proofs.Common.{◌≡◌, ℕ, suc, zero, ◌+◌, ◌-◌, ◌≤◌, Bool, true, false, not, ◌&&◌, ◌||◌, ◌⊎◌, List, [], ◌∷◌, ◌++◌, length, Some, None, slice_get, refl, sym, ◌∙◌, ap, arith, leb, inl, inr}
+use Rattle.std.proofs.Common.{◌≡◌, ℕ, suc, zero, ◌+◌, ◌-◌, ◌≤◌, Bool, true, false, not, ◌||◌, ◌⊎◌, List, [], ◌∷◌, ◌++◌, length, Some, None, slice_get, refl, sym, ◌∙◌, ap, arith, inl, inr}
 use mathlib.Core.Bool.{false≢true}
 use Rattle.std.proofs.lemmas.Bool.{or_right}
 use Rattle.std.specs.List.{list_all}
@@ -17,13 +17,10 @@ use Rattle.rds_dots.specs.Listed.{lists}
 use Rattle.rds_dots.specs.Order.{dots_total}
 use Rattle.rds_names.specs.Conditions.{and_left, and_right, and_true}
 use Rattle.rds_dots.proofs.Parts.{all_back}
-use Rattle.rds_dots.specs.Sets.{all_listed, contains_list, same_dot}
+use Rattle.rds_dots.specs.Sets.{all_listed, contains_list, dot_limits, same_dot}
 
 abbrev dot : ℕ → ℕ → Dot
 dot replica seq = record { replica = replica; seq = seq }
-
-most_of : (a s : ℕ) → (leb a 255 && leb 1 s && leb s 281474976710655) ≡ true → s ≤ 281474976710655
-most_of a s h = grind (arith, nat_tests)
 
 not_past : (a s : ℕ) → s ≤ 281474976710655 → is_lt (ordering_then (nat_cmp a a) (nat_cmp 281474976710655 s)) ≡ false
 not_past a s le = grind (arith, nat_tests)
@@ -44,7 +41,7 @@ below_last (d ∷ ds) last rise =
 module _ (ds front back : List Dot) (replica : ℕ) (is : front ++ back ≡ ds) (all : list_all is_dot ds ≡ true) (past : list_all (is_above (dot replica MAX_SEQ)) back ≡ true) where
   in_front : (n : ℕ) → lists ds (dot replica n) ≡ true → lists front (dot replica n) ≡ true
   in_front n there =
-      let le = most_of replica n (all_listed is_dot ds all (dot replica n) there) in
+      let le = (dot_limits (dot replica n) (all_listed is_dot ds all (dot replica n) there)).within in
       let split : (lists front (dot replica n) || lists back (dot replica n)) ≡ true = sym (list_any-append (eq_by_cmp dot_cmp (dot replica n)) front back) ∙ ap (λ es. lists es (dot replica n)) is ∙ there in
       or_true _ _ split (λ h. false≢true (sym (not_past replica n le) ∙ all_listed (is_above (dot replica MAX_SEQ)) back past (dot replica n) h))
 

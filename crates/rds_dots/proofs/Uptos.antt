@@ -1,25 +1,23 @@
 -- What one set has of a replica up to a number, the other has.
-use Rattle.std.proofs.Common.{◌≡◌, ℕ, ◌+◌, ◌-◌, ◌<◌, ◌≤◌, true, false, ◌&&◌, sym, ◌∙◌, None, arith, leb, max, inl, inr}
+use Rattle.std.proofs.Common.{◌≡◌, ℕ, ◌+◌, ◌-◌, ◌<◌, ◌≤◌, true, false, sym, ◌∙◌, None, arith, max, inl, inr}
 use mathlib.Core.Bool.{false≢true}
 use Rattle.std.specs.FinSet as set
-use Rattle.std.proofs.lemmas.Bool.Decides.{nat_tests, leb_tells}
+use Rattle.std.proofs.lemmas.Bool.Decides.{leb_tells}
 use Rattle.rds_dots.specs.declared.dot.Dot.{Dot}
 use Rattle.rds_dots.specs.declared.dot.Run.{Run}
 use Rattle.rds_dots.specs.declared.dot.TheConstants.{MAX_SEQ}
 use Rattle.rds_dots.specs.Dots.{Dots, is_dot}
 use Rattle.rds_dots.specs.Lacking.{dot_of, HasAll, IsFirstLacking, NextRun, IsNextRun}
+use Rattle.rds_dots.specs.Sets.{dot_limits}
 
 pub record HasUpTo (s t : Dots) (replica from : ℕ) : Type 0 where
   pub small : from ≤ MAX_SEQ
   pub has : (n : ℕ) → n ≤ from → set.contains t (dot_of replica n) ≡ true → set.contains s (dot_of replica n) ≡ true
 
-from_one : (a n : ℕ) → (leb a 255 && leb 1 n && leb n 281474976710655) ≡ true → 1 ≤ n
-from_one a n h = grind (arith, nat_tests)
-
 pub up_to_none : (s t : Dots) → ((d : Dot) → set.contains t d ≡ true → is_dot d ≡ true) → (replica : ℕ) → HasUpTo s t replica 0
 up_to_none s t dots replica = record {
   small = omega arith;
-  has = λ n le h. (let one = from_one replica n (dots (dot_of replica n) h) in absurd (omega arith));
+  has = λ n le h. (let one = (dot_limits (dot_of replica n) (dots (dot_of replica n) h)).from_one in absurd (omega arith));
 }
 
 module _ (s t : Dots) (replica from : ℕ) (so_far : HasUpTo s t replica from) where

@@ -16,7 +16,7 @@ use Rattle.rds_dots.specs.Listed.{lists}
 use Rattle.rds_dots.specs.Merges.{any-merged, ascends-merged}
 use Rattle.rds_names.specs.Conditions.{and_left, and_right, and_true}
 use Rattle.rds_dots.specs.Order.{dots_total}
-use Rattle.rds_dots.specs.Sets.{contains_list, tied_is}
+use Rattle.rds_dots.specs.Sets.{contains_list, dot_limits, tied_is}
 use Rattle.rds_dots.specs.Runs.{covers, place, start, stop, begins_past, are_maximal, put_dot, grouped, arranged, runs_of}
 pub use Rattle.rds_dots.specs.Runs.{AreRuns}
 use Rattle.rds_dots.specs.RunFacts.{Bounds, Parts, parts_of, maximal_by, spans, has, lt_by, begins_later, has_past, has_none, covers_is}
@@ -103,18 +103,6 @@ runs_unique (r ∷ rs) (t ∷ ts) mr mt same =
           | false ↦ λ is h. h ∙ ap (λ b. b || covers ts d) (sym (ap (λ x. in_run x d) e) ∙ is)
         ] refl same
 
-dot_limits : (a s : ℕ) → (leb a 255 && leb 1 s && leb s 281474976710655) ≡ true → (a ≤ 255) × (1 ≤ s) × (s ≤ 281474976710655)
-dot_limits a s h = (small a s h, one a s h, most a s h)
-  where
-    small : (a s : ℕ) → (leb a 255 && leb 1 s && leb s 281474976710655) ≡ true → a ≤ 255
-    small a s h = grind (arith, nat_tests)
-
-    one : (a s : ℕ) → (leb a 255 && leb 1 s && leb s 281474976710655) ≡ true → 1 ≤ s
-    one a s h = grind (arith, nat_tests)
-
-    most : (a s : ℕ) → (leb a 255 && leb 1 s && leb s 281474976710655) ≡ true → s ≤ 281474976710655
-    most a s h = grind (arith, nat_tests)
-
 next_is : (a s ρ lo : ℕ) → (eqb a ρ && eqb (s + 1) lo) ≡ true → (a ≡ ρ) × (s + 1 ≡ lo)
 next_is a s ρ lo h = (first a s ρ lo h, second a s ρ lo h)
   where
@@ -129,11 +117,12 @@ apart_is a s ρ lo p q r other h = grind (arith, nat_tests)
 
 -- a dot before all runs, put in front of them
 maximal-put : (d : Dot) (rs : List Run) → is_dot d ≡ true → are_maximal rs ≡ true → begins_past (place d.replica d.seq) rs ≡ true → are_maximal (put_dot d rs) ≡ true
-maximal-put d [] is max begins = let l = dot_limits d.replica d.seq is in maximal_by (record { replica = d.replica; lo = d.seq; hi = d.seq }) [] (record { small = l.0; one = l.1; rises = omega arith; most = l.2 }) refl refl
+maximal-put d [] is max begins = let l = dot_limits d is in maximal_by (record { replica = d.replica; lo = d.seq; hi = d.seq }) [] (record { small = l.small; one = l.from_one; rises = omega arith; most = l.within }) refl refl
 maximal-put d (r ∷ rs) is max begins =
     let p = parts_of r rs max in
-    let l = dot_limits d.replica d.seq is in
-    let l0 = l.0 in let l1 = l.1 in let l2 = l.2 in
+    let l = dot_limits d is in
+    let one = l.from_one in
+    let within = l.within in
     let b = p.bounds in
     let rises = b.rises in
     let most = b.most in
@@ -141,9 +130,9 @@ maximal-put d (r ∷ rs) is max begins =
       | true ↦ λ t.
           let n = next_is d.replica d.seq r.replica r.lo t in
           let same = n.0 in let follows = n.1 in
-          maximal_by (record { replica = d.replica; lo = d.seq; hi = r.hi }) rs (record { small = l0; one = l1; rises = omega arith; most = most }) (begins_later rs (place d.replica r.hi + 1) (stop r + 1) (omega arith) p.apart) p.rest
+          maximal_by (record { replica = d.replica; lo = d.seq; hi = r.hi }) rs (record { small = l.small; one = one; rises = omega arith; most = most }) (begins_later rs (place d.replica r.hi + 1) (stop r + 1) (omega arith) p.apart) p.rest
       | false ↦ λ t.
-          maximal_by (record { replica = d.replica; lo = d.seq; hi = d.seq }) (r ∷ rs) (record { small = l0; one = l1; rises = omega arith; most = l2 }) (apart_is d.replica d.seq r.replica r.lo l2 b.one (omega arith) t begins) max
+          maximal_by (record { replica = d.replica; lo = d.seq; hi = d.seq }) (r ∷ rs) (record { small = l.small; one = one; rises = omega arith; most = within }) (apart_is d.replica d.seq r.replica r.lo within b.one (omega arith) t begins) max
     ] refl
 
 begins-put : (n : ℕ) (d : Dot) (rs : List Run) → n < place d.replica d.seq → begins_past n (put_dot d rs) ≡ true
@@ -179,9 +168,9 @@ pub record IsGrouped (ds : List Dot) : Type 0 where
 begins-grouped : (d : Dot) (ds : List Dot) → is_dot d ≡ true → list_all is_dot ds ≡ true → list_all (is_above d) ds ≡ true → begins_past (place d.replica d.seq) (grouped ds) ≡ true
 begins-grouped d [] is all above = refl
 begins-grouped d (e ∷ ds) is all above =
-    let l = dot_limits d.replica d.seq is in
-    let m = dot_limits e.replica e.seq (and_left (is_dot e) _ all) in
-    begins-put (place d.replica d.seq) e (grouped ds) (place_below d.replica d.seq e.replica e.seq l.2 m.1 (and_left (is_above d e) _ above))
+    let l = dot_limits d is in
+    let m = dot_limits e (and_left (is_dot e) _ all) in
+    begins-put (place d.replica d.seq) e (grouped ds) (place_below d.replica d.seq e.replica e.seq l.within m.from_one (and_left (is_above d e) _ above))
 
 pub are_grouped : (ds : List Dot) → ascends ds ≡ true → list_all is_dot ds ≡ true → IsGrouped ds
 are_grouped [] rise all = record { maximal = refl; same = λ q. refl }

@@ -4,6 +4,7 @@ use mathlib.Core.Bool.{false≢true}
 use Rattle.std.specs.List.{list_all, filter}
 use Rattle.std.specs.Ordering.{eq_by_cmp, is_eq, is_lt, ordering_then, nat_cmp}
 use Rattle.std.specs.FinSet as set
+use Rattle.std.proofs.lemmas.Bool.{leb-true}
 use Rattle.std.proofs.lemmas.Bool.Decides.{nat_tests}
 use Rattle.rds_names.specs.Conditions.{equal_of, and_left, and_right, and_true, less_of}
 use Rattle.rds_dots.specs.declared.dot.Dot.{Dot}
@@ -134,6 +135,21 @@ ascends-run run is = ascends-from run.replica run.lo (run.hi + 1 - run.lo)
 
 within_is : (r s : ℕ) → r ≤ 255 → 1 ≤ s → s ≤ MAX_SEQ → (leb r 255 && leb 1 s && leb s MAX_SEQ) ≡ true
 within_is r s a b c = grind (arith, nat_tests)
+
+-- the limits of a dot's numbers
+pub record HasLimits (d : Dot) : Type 0 where
+  pub small : d.replica ≤ 255
+  pub from_one : 1 ≤ d.seq
+  pub within : d.seq ≤ MAX_SEQ
+
+pub dot_limits : (d : Dot) → is_dot d ≡ true → HasLimits d
+dot_limits d is =
+    let front = and_left (leb d.replica 255 && leb 1 d.seq) (leb d.seq MAX_SEQ) is in
+    record {
+      small = leb-true d.replica 255 (and_left (leb d.replica 255) (leb 1 d.seq) front);
+      from_one = leb-true 1 d.seq (and_right (leb d.replica 255) (leb 1 d.seq) front);
+      within = leb-true d.seq MAX_SEQ (and_right (leb d.replica 255 && leb 1 d.seq) (leb d.seq MAX_SEQ) is);
+    }
 
 all-from : (replica lo n : ℕ) → replica ≤ 255 → 1 ≤ lo → lo + n ≤ MAX_SEQ + 1 → list_all is_dot (dots_from replica lo n) ≡ true
 all-from replica lo zero r one most = refl

@@ -4,7 +4,7 @@ use Rattle.serde_json.specs.Data.{Data}
 use Rattle.serde_json.specs.Find.{as_str}
 use Rattle.serde_json.specs.View.{items_of}
 use Rattle.rds_names.specs.declared.fault.Fault.{Fault}
-use Rattle.rds_json.specs.MayGive.{and_then}
+use Rattle.rds_names.specs.AndThen.{◌>>=◌}
 use Rattle.rds_json.specs.Members.{items_in}
 use Rattle.rds_json.specs.Parts.{named}
 use Rattle.rds_json.specs.RosterLine.{names_of}
@@ -15,17 +15,17 @@ items_back (d ∷ ds) = ap (λ es. d ∷ es) (items_back ds)
 
 -- the names, with those that members are
 abbrev pub names_with : List (List ℕ) → List Data → Result (List (List ℕ)) Fault
-names_with names ds = and_then (names_of ds) (λ ns. Ok (names ++ ns))
+names_with names ds = names_of ds >>= λ ns. Ok (names ++ ns)
 
 pub with_none : (names : List (List ℕ)) → names_with names [] ≡ Ok names
 with_none names = ap Ok (append-nil names)
 
-moved : (names : List (List ℕ)) (n : List ℕ) (r : Result (List (List ℕ)) Fault) → and_then r (λ ns. Ok ((names ++ n ∷ []) ++ ns)) ≡ and_then (and_then r (λ ns. Ok (n ∷ ns))) (λ ns. Ok (names ++ ns))
+moved : (names : List (List ℕ)) (n : List ℕ) (r : Result (List (List ℕ)) Fault) → (r >>= λ ns. Ok ((names ++ n ∷ []) ++ ns)) ≡ ((r >>= λ ns. Ok (n ∷ ns)) >>= λ ns. Ok (names ++ ns))
 moved names n (Ok ns) = ap Ok (append_assoc names (n ∷ []) ns)
 moved names n (Err e) = refl
 
 pub with_name : (names : List (List ℕ)) (n : List ℕ) (d : Data) (ds : List Data) → named (as_str d) ≡ Ok n → names_with (names ++ n ∷ []) ds ≡ names_with names (d ∷ ds)
-with_name names n d ds is = moved names n (names_of ds) ∙ ap (λ r. and_then (and_then r (λ name. and_then (names_of ds) (λ ns. Ok (name ∷ ns)))) (λ ns. Ok (names ++ ns))) (sym is)
+with_name names n d ds is = moved names n (names_of ds) ∙ ap (λ r. (r >>= λ name. names_of ds >>= λ ns. Ok (name ∷ ns)) >>= λ ns. Ok (names ++ ns)) (sym is)
 
 pub with_fault : (names : List (List ℕ)) (e : Fault) (d : Data) (ds : List Data) → named (as_str d) ≡ Err e → names_with names (d ∷ ds) ≡ Err e
-with_fault names e d ds is = ap (λ r. and_then (and_then r (λ name. and_then (names_of ds) (λ ns. Ok (name ∷ ns)))) (λ ns. Ok (names ++ ns))) is
+with_fault names e d ds is = ap (λ r. (r >>= λ name. names_of ds >>= λ ns. Ok (name ∷ ns)) >>= λ ns. Ok (names ++ ns)) is

@@ -11,29 +11,29 @@ use Rattle.rds_json.specs.declared.verb.Verb.{Verb}
 use Rattle.rds_json.specs.declared.verb.Verb.TheVariants as verbs
 use Rattle.rds_json.specs.declared.verb.EditVerb.{EditVerb}
 use Rattle.rds_json.specs.declared.verb.EditVerb.TheVariants as edits
-use Rattle.rds_json.specs.MayGive.{and_then}
+use Rattle.rds_names.specs.AndThen.{◌>>=◌}
 use Rattle.rds_json.specs.Members.{text_at}
 use Rattle.rds_json.specs.Parts.{answer_at, counter_at, number_alone, place_at, replica_at, value_at}
 use Rattle.rds_json.specs.RosterLine.{roster_at}
 use Rattle.rds_json.specs.Verb.{verb_of}
 
 abbrev pub edit_line : EditVerb → Data → Result Line Fault
-edit_line edits.Set d = and_then (value_at d) (λ at. Ok (Edit at.name (commands.Set at.path at.value)))
-edit_line edits.Add d = and_then (value_at d) (λ at. Ok (Edit at.name (commands.Add at.path at.value)))
-edit_line edits.Del d = and_then (value_at d) (λ at. Ok (Edit at.name (commands.Del at.path at.value)))
-edit_line edits.Clear d = and_then (place_at d) (λ at. Ok (Edit at.name (commands.Clear at.path)))
-edit_line edits.Inc d = and_then (counter_at d) (λ at. Ok (Edit at.name (commands.Inc at.key at.by)))
-edit_line edits.Dec d = and_then (counter_at d) (λ at. Ok (Edit at.name (commands.Dec at.key at.by)))
+edit_line edits.Set d = value_at d >>= λ at. Ok (Edit at.name (commands.Set at.path at.value))
+edit_line edits.Add d = value_at d >>= λ at. Ok (Edit at.name (commands.Add at.path at.value))
+edit_line edits.Del d = value_at d >>= λ at. Ok (Edit at.name (commands.Del at.path at.value))
+edit_line edits.Clear d = place_at d >>= λ at. Ok (Edit at.name (commands.Clear at.path))
+edit_line edits.Inc d = counter_at d >>= λ at. Ok (Edit at.name (commands.Inc at.key at.by))
+edit_line edits.Dec d = counter_at d >>= λ at. Ok (Edit at.name (commands.Dec at.key at.by))
 
 abbrev pub line_by : Verb → Data → Result Line Fault
-line_by verbs.Roster d = and_then (roster_at d) (λ roster. Ok (Roster roster))
+line_by verbs.Roster d = roster_at d >>= λ roster. Ok (Roster roster)
 line_by (verbs.Edit edit) d = edit_line edit d
-line_by verbs.Save d = and_then (replica_at d) (λ name. Ok (Save name))
-line_by verbs.Crash d = and_then (replica_at d) (λ name. Ok (Crash name))
-line_by verbs.Ask d = and_then (replica_at d) (λ name. Ok (Ask name))
-line_by verbs.Answer d = and_then (answer_at d) (λ at. Ok (Answer at.name at.ask))
-line_by verbs.Take d = and_then (number_alone d) (λ answer. Ok (Take answer))
-line_by verbs.Show d = and_then (place_at d) (λ at. Ok (Show at.name at.path))
+line_by verbs.Save d = replica_at d >>= λ name. Ok (Save name)
+line_by verbs.Crash d = replica_at d >>= λ name. Ok (Crash name)
+line_by verbs.Ask d = replica_at d >>= λ name. Ok (Ask name)
+line_by verbs.Answer d = answer_at d >>= λ at. Ok (Answer at.name at.ask)
+line_by verbs.Take d = number_alone d >>= λ answer. Ok (Take answer)
+line_by verbs.Show d = place_at d >>= λ at. Ok (Show at.name at.path)
 
 abbrev pub line_with : Option Verb → Data → Result Line Fault
 line_with None d = Err BadLine

@@ -11,7 +11,7 @@ use Rattle.rds_json.specs.declared.parts.AnswerAt.{AnswerAt}
 use Rattle.rds_json.specs.declared.parts.CounterAt.{CounterAt}
 use Rattle.rds_json.specs.declared.parts.PlaceAt.{PlaceAt}
 use Rattle.rds_json.specs.declared.parts.ValueAt.{ValueAt}
-use Rattle.rds_json.specs.MayGive.{and_then}
+use Rattle.rds_names.specs.AndThen.{◌>>=◌}
 use Rattle.rds_json.specs.Members.{member_count, number_at, text_at}
 use Rattle.rds_json.specs.Scalar.{scalar_of}
 
@@ -40,7 +40,7 @@ number_alone d = of_count 2 d (numbered (number_at 1 d))
 -- ---- [WORD, W, K]
 
 abbrev pub named_answer : List ℕ → ℕ → Result AnswerAt Fault
-named_answer name ask = and_then (name_of name) (λ n. Ok (record { name = n; ask = ask }))
+named_answer name ask = name_of name >>= λ n. Ok (record { name = n; ask = ask })
 
 abbrev pub answer_from : Option (List ℕ) → Option ℕ → Result AnswerAt Fault
 answer_from (Some name) (Some ask) = named_answer name ask
@@ -52,7 +52,7 @@ answer_at d = of_count 3 d (answer_from (text_at 1 d) (number_at 2 d))
 -- ---- [WORD, W, PATH]
 
 abbrev pub named_place : List ℕ → List ℕ → Result PlaceAt Fault
-named_place name path = and_then (name_of name) (λ n. and_then (path_of path) (λ p. Ok (record { name = n; path = p })))
+named_place name path = name_of name >>= λ n. path_of path >>= λ p. Ok (record { name = n; path = p })
 
 abbrev pub place_from : Option (List ℕ) → Option (List ℕ) → Result PlaceAt Fault
 place_from (Some name) (Some path) = named_place name path
@@ -64,7 +64,7 @@ place_at d = of_count 3 d (place_from (text_at 1 d) (text_at 2 d))
 -- ---- [WORD, W, PATH, VALUE]
 
 abbrev pub named_value : List ℕ → List ℕ → Data → Result ValueAt Fault
-named_value name path value = and_then (name_of name) (λ n. and_then (path_of path) (λ p. and_then (scalar_of value) (λ v. Ok (record { name = n; path = p; value = v }))))
+named_value name path value = name_of name >>= λ n. path_of path >>= λ p. scalar_of value >>= λ v. Ok (record { name = n; path = p; value = v })
 
 abbrev pub value_from : Option (List ℕ) → Option (List ℕ) → Option Data → Result ValueAt Fault
 value_from (Some name) (Some path) (Some value) = named_value name path value
@@ -76,7 +76,7 @@ value_at d = of_count 4 d (value_from (text_at 1 d) (text_at 2 d) (at 3 d))
 -- ---- [WORD, W, KEY, BY]
 
 abbrev pub named_counter : List ℕ → List ℕ → ℕ → Result CounterAt Fault
-named_counter name key by = and_then (name_of name) (λ n. and_then (key_of key) (λ k. Ok (record { name = n; key = k; by = by })))
+named_counter name key by = name_of name >>= λ n. key_of key >>= λ k. Ok (record { name = n; key = k; by = by })
 
 abbrev pub counter_from : Option (List ℕ) → Option (List ℕ) → Option ℕ → Result CounterAt Fault
 counter_from (Some name) (Some key) (Some by) = named_counter name key by

@@ -4,6 +4,7 @@ use mathlib.Core.Bool.{false≢true}
 use Rattle.std.specs.List.{list_all}
 use Rattle.std.specs.Ordering.{eq_by_cmp}
 use Rattle.std.specs.declared.cmp.Ordering.TheVariants.{Less, Equal, Greater}
+use Rattle.std.specs.FinMap.Entries.{by_order}
 use Rattle.std.specs.FinMap.{find}
 use Rattle.rds_dots.specs.declared.dot.Dot.{Dot}
 use Rattle.rds_dots.specs.Dots.{dot_cmp}
@@ -13,7 +14,7 @@ use Rattle.rds_dots.specs.Merges.{above, above_trans}
 use Rattle.rds_names.specs.Conditions.{and_true, and_left, and_right}
 use Rattle.rds_dots.specs.Sets.{same_dot}
 use Rattle.rds_life.specs.Life.{keys}
-use Rattle.rds_life.specs.Joined.{kept, choose, right_only, joined_onto, joined}
+use Rattle.rds_life.specs.Joined.{kept, right_only, joined_onto, joined}
 use Rattle.rds_life.proofs.RowLemmas.{find_above, find-kept, all-kept, ascends-kept}
 
 -- what stays of the two sides' rows at one dot
@@ -69,7 +70,7 @@ module _ {X : Type 0} (sl sr : Dot → Bool) (d : Dot) where
       let first = and_left (list_all (is_above y.0) (keys ys)) _ rise in
       let later = and_right (list_all (is_above y.0) (keys ys)) _ rise in
       let again = find-joined_onto x xs rest front h ys later in
-      elim (dot_cmp x.0 y.0) as (λ o. dot_cmp x.0 y.0 ≡ o → find dot_cmp d (choose o (kept (not (sr x.0)) x (rest (y ∷ ys))) (x ∷ rest ys) (kept (not (sl y.0)) y (joined_onto sl sr x rest ys))) ≡ pick (sl d) (sr d) (find dot_cmp d (x ∷ xs)) (find dot_cmp d (y ∷ ys))) [
+      elim (dot_cmp x.0 y.0) as (λ o. dot_cmp x.0 y.0 ≡ o → find dot_cmp d (by_order o (kept (not (sr x.0)) x (rest (y ∷ ys))) (x ∷ rest ys) (kept (not (sl y.0)) y (joined_onto sl sr x rest ys))) ≡ pick (sl d) (sr d) (find dot_cmp d (x ∷ xs)) (find dot_cmp d (y ∷ ys))) [
         | Less ↦ λ is.
             find-kept d (not (sr x.0)) x (rest (y ∷ ys))
             ∙ ap (λ o. cond (not (sr x.0)) (cond (eq_by_cmp dot_cmp d x.0) (Some x.1) o) o) (h (y ∷ ys) rise)
@@ -110,7 +111,7 @@ module _ {X : Type 0} (sl sr : Dot → Bool) where
   all-joined_onto p x rest px h [] all = all-kept p (not (sr x.0)) x _ px (h [] refl)
   all-joined_onto p x rest px h (y ∷ ys) all =
       let again = all-joined_onto p x rest px h ys (and_right (p y.0) _ all) in
-      elim (dot_cmp x.0 y.0) as (λ o. list_all p (keys (choose o (kept (not (sr x.0)) x (rest (y ∷ ys))) (x ∷ rest ys) (kept (not (sl y.0)) y (joined_onto sl sr x rest ys)))) ≡ true) [
+      elim (dot_cmp x.0 y.0) as (λ o. list_all p (keys (by_order o (kept (not (sr x.0)) x (rest (y ∷ ys))) (x ∷ rest ys) (kept (not (sl y.0)) y (joined_onto sl sr x rest ys)))) ≡ true) [
         | Less ↦ all-kept p (not (sr x.0)) x _ px (h (y ∷ ys) all)
         | Equal ↦ and_true _ _ px (h ys (and_right (p y.0) _ all))
         | Greater ↦ all-kept p (not (sl y.0)) y _ (and_left (p y.0) _ all) again
@@ -126,7 +127,7 @@ module _ {X : Type 0} (sl sr : Dot → Bool) where
       let first = and_left (list_all (is_above y.0) (keys ys)) _ rise in
       let later = and_right (list_all (is_above y.0) (keys ys)) _ rise in
       let again = ascends-joined_onto x xs rest front all asc ys later in
-      elim (dot_cmp x.0 y.0) as (λ o. dot_cmp x.0 y.0 ≡ o → ascends (keys (choose o (kept (not (sr x.0)) x (rest (y ∷ ys))) (x ∷ rest ys) (kept (not (sl y.0)) y (joined_onto sl sr x rest ys)))) ≡ true) [
+      elim (dot_cmp x.0 y.0) as (λ o. dot_cmp x.0 y.0 ≡ o → ascends (keys (by_order o (kept (not (sr x.0)) x (rest (y ∷ ys))) (x ∷ rest ys) (kept (not (sl y.0)) y (joined_onto sl sr x rest ys)))) ≡ true) [
         | Less ↦ λ is. ascends-kept (not (sr x.0)) x _ (all (is_above x.0) (y ∷ ys) front (and_true _ _ (above x.0 y.0 is) (above_trans x.0 y.0 is (keys ys) first))) (asc (y ∷ ys) rise)
         | Equal ↦ λ is. and_true _ _ (all (is_above x.0) ys front (ap (λ q. list_all (is_above q) (keys ys)) (dots_exact x.0 y.0 is) ∙ first)) (asc ys later)
         | Greater ↦ λ is. ascends-kept (not (sl y.0)) y _ (all-joined_onto (is_above y.0) x rest (above y.0 x.0 (after_before x.0 y.0 is)) (λ zs h. all (is_above y.0) zs (above_trans y.0 x.0 (after_before x.0 y.0 is) (keys xs) front) h) ys first) again

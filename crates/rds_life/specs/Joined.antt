@@ -1,14 +1,8 @@
 -- The rows of two lives, drawn into those of their join.
 use Rattle.std.specs.Prelude.{Bool, not, cond, List, [], ◌∷◌}
-use Rattle.std.specs.declared.cmp.Ordering.{Ordering}
-use Rattle.std.specs.declared.cmp.Ordering.TheVariants.{Less, Equal, Greater}
+use Rattle.std.specs.FinMap.Entries.{by_order}
 use Rattle.rds_dots.specs.declared.dot.Dot.{Dot}
 use Rattle.rds_dots.specs.Dots.{dot_cmp}
-
-abbrev pub choose : {A : Type 0} → Ordering → A → A → A → A
-choose Less a b c = a
-choose Equal a b c = b
-choose Greater a b c = c
 
 module _ {X : Type 0} where
   -- the row, if it stays, and the rest
@@ -24,7 +18,7 @@ module _ {X : Type 0} (left_has right_has : Dot → Bool) where
   abbrev pub joined_onto : Dot × X → (List (Dot × X) → List (Dot × X)) → List (Dot × X) → List (Dot × X)
   joined_onto x rest [] = kept (not (right_has x.0)) x (rest [])
   joined_onto x rest (y ∷ ys) =
-      choose (dot_cmp x.0 y.0) (kept (not (right_has x.0)) x (rest (y ∷ ys))) (x ∷ rest ys) (kept (not (left_has y.0)) y (joined_onto x rest ys))
+      by_order (dot_cmp x.0 y.0) (kept (not (right_has x.0)) x (rest (y ∷ ys))) (x ∷ rest ys) (kept (not (left_has y.0)) y (joined_onto x rest ys))
 
   -- a row that both have stays; any other stays where the other side hasn't seen its dot
   abbrev pub joined : List (Dot × X) → List (Dot × X) → List (Dot × X)

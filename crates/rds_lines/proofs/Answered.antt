@@ -6,7 +6,7 @@ use Rattle.std.specs.Io.KnownBytes.{Appends, prepend_known}
 use Rattle.std.proofs.KnownBytes.{Appends-nil, Appends-trans}
 use Rattle.std.proofs.lemmas.List.{append-nil}
 use Rattle.rds_names.specs.declared.fault.Fault.{Fault}
-use Rattle.rds_lines.specs.Lines.{line_of, after_line, lines_in, ReadsText}
+use Rattle.rds_lines.specs.Lines.{until_newline, after_line, lines_in, ReadsText}
 use Rattle.rds_lines.specs.Ahead.{TakesLine}
 use Rattle.rds_lines.specs.Answering.{WritesAnswers}
 use Rattle.rds_lines.proofs.EndedLines.{lines_first}
@@ -44,7 +44,7 @@ module _ {A : Type 0} (may : A → List (List ℕ) → List ℕ → Bool → Typ
     Appends-trans before after later r.0 text r.1 w,
     λ out more h.
         let rest : may next_state (lines_in (after_line ys)) out more = subst (λ (l : List ℕ). may next_state (lines_in l) out more) t.1 h in
-        let stepped = step (line_of ys) (lines_in (after_line ys)) out more t.0.1 rest in
+        let stepped = step (until_newline ys) (lines_in (after_line ys)) out more t.0.1 rest in
         let here : may state (lines_in ys) (text ++ out) (refusal || more) = subst (λ (ls : List (List ℕ)). may state ls (text ++ out) (refusal || more)) (sym (lines_first ys t.0.0)) stepped in
         let all = r.2 (text ++ out) (refusal || more) here in
         subst (λ (o : List ℕ). may opening (lines_in xs) o ((refused || refusal) || more)) (sym (append_assoc r.0 text out))

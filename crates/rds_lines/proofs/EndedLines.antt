@@ -1,26 +1,26 @@
 -- The lines of bytes that have their newline.
 use Rattle.std.proofs.Common.{◌≡◌, ◌⊎◌, ℕ, ◌<◌, Bool, true, false, cond, eqb, List, [], ◌∷◌, ◌++◌, length, refl, sym, ap, ◌∙◌, append_assoc, arith, inl, inr}
 use Rattle.std.proofs.lemmas.Bool.{eqb-true}
-use Rattle.rds_lines.specs.Lines.{IsOneLine, after_line, ended_lines, line_of, lines_in, with_byte, with_byte_in}
+use Rattle.rds_lines.specs.Lines.{IsOneLine, after_line, ended_lines, until_newline, lines_in, with_byte, with_byte_in}
 
 -- the first line, and the lines after it
-first_at : (t : Bool) (b : ℕ) (bytes : List ℕ) → (0 < length bytes → lines_in bytes ≡ line_of bytes ∷ lines_in (after_line bytes))
-    → cond t ([] ∷ lines_in bytes) (with_byte b (lines_in bytes)) ≡ cond t [] (b ∷ line_of bytes) ∷ lines_in (cond t bytes (after_line bytes))
+first_at : (t : Bool) (b : ℕ) (bytes : List ℕ) → (0 < length bytes → lines_in bytes ≡ until_newline bytes ∷ lines_in (after_line bytes))
+    → cond t ([] ∷ lines_in bytes) (with_byte b (lines_in bytes)) ≡ cond t [] (b ∷ until_newline bytes) ∷ lines_in (cond t bytes (after_line bytes))
 first_at true b bytes h = refl
 first_at false b [] h = refl
 first_at false b (c ∷ bytes) h = ap (with_byte b) (h (omega arith))
 
-pub lines_first : (bytes : List ℕ) → 0 < length bytes → lines_in bytes ≡ line_of bytes ∷ lines_in (after_line bytes)
+pub lines_first : (bytes : List ℕ) → 0 < length bytes → lines_in bytes ≡ until_newline bytes ∷ lines_in (after_line bytes)
 lines_first [] lt = absurd (omega (arith, lt))
 lines_first (b ∷ bytes) lt = first_at (eqb b 10) b bytes (lines_first bytes)
 
 -- bytes have a newline after their first line, or are one line
-pub halves : (bytes : List ℕ) → (bytes ≡ line_of bytes ++ 10 ∷ after_line bytes) ⊎ ((line_of bytes ≡ bytes) × (after_line bytes ≡ []))
+pub halves : (bytes : List ℕ) → (bytes ≡ until_newline bytes ++ 10 ∷ after_line bytes) ⊎ ((until_newline bytes ≡ bytes) × (after_line bytes ≡ []))
 halves [] = inr (refl, refl)
 halves (b ∷ bytes) = at_byte (eqb b 10) refl (halves bytes)
   where
-    at_byte : (t : Bool) → eqb b 10 ≡ t → (bytes ≡ line_of bytes ++ 10 ∷ after_line bytes) ⊎ ((line_of bytes ≡ bytes) × (after_line bytes ≡ []))
-        → (b ∷ bytes ≡ cond t [] (b ∷ line_of bytes) ++ 10 ∷ cond t bytes (after_line bytes)) ⊎ ((cond t [] (b ∷ line_of bytes) ≡ b ∷ bytes) × (cond t bytes (after_line bytes) ≡ []))
+    at_byte : (t : Bool) → eqb b 10 ≡ t → (bytes ≡ until_newline bytes ++ 10 ∷ after_line bytes) ⊎ ((until_newline bytes ≡ bytes) × (after_line bytes ≡ []))
+        → (b ∷ bytes ≡ cond t [] (b ∷ until_newline bytes) ++ 10 ∷ cond t bytes (after_line bytes)) ⊎ ((cond t [] (b ∷ until_newline bytes) ≡ b ∷ bytes) × (cond t bytes (after_line bytes) ≡ []))
     at_byte true e h = inl (ap (λ (n : ℕ). n ∷ bytes) (eqb-true b 10 e))
     at_byte false e h = elim h [
       | inl split ↦ inl (ap (λ (l : List ℕ). b ∷ l) split)
@@ -32,28 +32,28 @@ pub line_before : (line rest : List ℕ) → IsOneLine line → lines_in (line +
 line_before [] rest one = refl
 line_before (b ∷ line) rest one = at_byte (eqb b 10) one (line_before line rest)
   where
-    at_byte : (t : Bool) → cond t [] (b ∷ line_of line) ≡ b ∷ line → (IsOneLine line → lines_in (line ++ 10 ∷ rest) ≡ line ∷ lines_in rest)
+    at_byte : (t : Bool) → cond t [] (b ∷ until_newline line) ≡ b ∷ line → (IsOneLine line → lines_in (line ++ 10 ∷ rest) ≡ line ∷ lines_in rest)
         → cond t ([] ∷ lines_in (line ++ 10 ∷ rest)) (with_byte b (lines_in (line ++ 10 ∷ rest))) ≡ (b ∷ line) ∷ lines_in rest
     at_byte true one h = absurd cc
-    at_byte false one h = let tail : line_of line ≡ line = cc in ap (with_byte b) (h tail)
+    at_byte false one h = let tail : until_newline line ≡ line = cc in ap (with_byte b) (h tail)
 
 pub ended_before : (line rest : List ℕ) → IsOneLine line → ended_lines (line ++ 10 ∷ rest) ≡ line ∷ ended_lines rest
 ended_before [] rest one = refl
 ended_before (b ∷ line) rest one = at_byte (eqb b 10) one (ended_before line rest)
   where
-    at_byte : (t : Bool) → cond t [] (b ∷ line_of line) ≡ b ∷ line → (IsOneLine line → ended_lines (line ++ 10 ∷ rest) ≡ line ∷ ended_lines rest)
+    at_byte : (t : Bool) → cond t [] (b ∷ until_newline line) ≡ b ∷ line → (IsOneLine line → ended_lines (line ++ 10 ∷ rest) ≡ line ∷ ended_lines rest)
         → cond t ([] ∷ ended_lines (line ++ 10 ∷ rest)) (with_byte_in b (ended_lines (line ++ 10 ∷ rest))) ≡ (b ∷ line) ∷ ended_lines rest
     at_byte true one h = absurd cc
-    at_byte false one h = let tail : line_of line ≡ line = cc in ap (with_byte_in b) (h tail)
+    at_byte false one h = let tail : until_newline line ≡ line = cc in ap (with_byte_in b) (h tail)
 
 -- a piece has none
 pub ended_none : (piece : List ℕ) → IsOneLine piece → ended_lines piece ≡ []
 ended_none [] one = refl
 ended_none (b ∷ piece) one = at_byte (eqb b 10) one (ended_none piece)
   where
-    at_byte : (t : Bool) → cond t [] (b ∷ line_of piece) ≡ b ∷ piece → (IsOneLine piece → ended_lines piece ≡ []) → cond t ([] ∷ ended_lines piece) (with_byte_in b (ended_lines piece)) ≡ []
+    at_byte : (t : Bool) → cond t [] (b ∷ until_newline piece) ≡ b ∷ piece → (IsOneLine piece → ended_lines piece ≡ []) → cond t ([] ∷ ended_lines piece) (with_byte_in b (ended_lines piece)) ≡ []
     at_byte true one h = absurd cc
-    at_byte false one h = let tail : line_of piece ≡ piece = cc in ap (with_byte_in b) (h tail)
+    at_byte false one h = let tail : until_newline piece ≡ piece = cc in ap (with_byte_in b) (h tail)
 
 -- these bytes are these lines, each with its newline
 pub record AreEnded (lines : List (List ℕ)) (bytes : List ℕ) : Type 0 where

@@ -16,7 +16,7 @@ use Rattle.rds_state.specs.Value.{StateValue}
 use Rattle.rds_state.proofs.JoinLaws.{same_value}
 use Rattle.rds_lines.specs.Join.{line_limit, ReadsLine, IsJoined, JoinedTo, TextOfJoined, AfterBoth, AfterSecond, AfterFirst, JoinsTo}
 use Rattle.rds_lines.specs.JoinLaws.{SpellsLine, SpellsBoth, IsJoinedOnce, AnswersSpelled}
-use Rattle.rds_lines.specs.Lines.{line_of, after_line}
+use Rattle.rds_lines.specs.Lines.{until_newline, after_line}
 use Rattle.rds_state.specs.Fits.{ReplicaValue}
 use Rattle.rds_codec.specs.StateTexts.{snapshot_text}
 
@@ -118,8 +118,8 @@ read_spelled line v r spells reads =
 spelled : (input : List ℕ) (v w : ReplicaValue) (joined : Result ReplicaValue Fault) (r : Result (List ℕ) Fault) → SpellsBoth input v w → JoinedTo v w joined → JoinsTo input r → TextOfJoined joined r
 spelled input v w joined r both is h =
     let rest = after_line input in
-    let first = subst (λ (x : Result ReplicaValue Fault). AfterFirst rest x r) (read_spelled (line_of input) v h.0 both.first h.1) h.2 in
-    let second = subst (λ (x : Result ReplicaValue Fault). AfterSecond (after_line rest) v x r) (read_spelled (line_of rest) w first.0 both.second first.1) first.2 in
+    let first = subst (λ (x : Result ReplicaValue Fault). AfterFirst rest x r) (read_spelled (until_newline input) v h.0 both.first h.1) h.2 in
+    let second = subst (λ (x : Result ReplicaValue Fault). AfterSecond (after_line rest) v x r) (read_spelled (until_newline rest) w first.0 both.second first.1) first.2 in
     let answer = subst (λ (x : List ℕ). AfterBoth x v w r) both.ended second in
     subst (λ (x : Result ReplicaValue Fault). TextOfJoined x r) (joined_once v w answer.0 joined answer.1 is) answer.2
 

@@ -8,7 +8,7 @@ use Rattle.std.specs.Io.KnownBytes.{Keeps, IsAtEnd, prepend_known}
 use Rattle.std.specs.Global.{Global, Vec}
 use Rattle.std.specs.Prelude.{String}
 use Rattle.rds_names.specs.declared.fault.Fault.{Fault}
-use Rattle.rds_lines.specs.Lines.{IsOneLine, line_of, after_line, is_text_line, ReadsText}
+use Rattle.rds_lines.specs.Lines.{IsOneLine, until_newline, after_line, is_text_line, ReadsText}
 use Rattle.rds_lines.specs.Ahead.{IsHeld, LosesPiece, TakesLine}
 
 -- what stands before the rest
@@ -77,51 +77,51 @@ pub other_is_none : (taken items : List ℕ) → (items ≡ taken) × (length ta
 other_is_none taken items h none = rw (within_line (length taken) 65536 h.1, ap is_utf8 (sym h.0) ∙ not_utf8 items none) refl
 
 -- a piece with a newline in it ends the line
-piece_ended : (bytes rest : List ℕ) → length (line_of bytes) < length bytes → (line_of (bytes ++ rest) ≡ line_of bytes) × (after_line (bytes ++ rest) ≡ after_line bytes ++ rest)
+piece_ended : (bytes rest : List ℕ) → length (until_newline bytes) < length bytes → (until_newline (bytes ++ rest) ≡ until_newline bytes) × (after_line (bytes ++ rest) ≡ after_line bytes ++ rest)
 piece_ended [] rest h = absurd (omega (arith, h))
 piece_ended (b ∷ bytes) rest h = at_byte (eqb b 10) (piece_ended bytes rest) h
   where
-    at_byte : (t : Bool) → (length (line_of bytes) < length bytes → (line_of (bytes ++ rest) ≡ line_of bytes) × (after_line (bytes ++ rest) ≡ after_line bytes ++ rest))
-        → length (cond t [] (b ∷ line_of bytes)) < length (b ∷ bytes)
-        → (cond t [] (b ∷ line_of (bytes ++ rest)) ≡ cond t [] (b ∷ line_of bytes)) × (cond t (bytes ++ rest) (after_line (bytes ++ rest)) ≡ cond t bytes (after_line bytes) ++ rest)
+    at_byte : (t : Bool) → (length (until_newline bytes) < length bytes → (until_newline (bytes ++ rest) ≡ until_newline bytes) × (after_line (bytes ++ rest) ≡ after_line bytes ++ rest))
+        → length (cond t [] (b ∷ until_newline bytes)) < length (b ∷ bytes)
+        → (cond t [] (b ∷ until_newline (bytes ++ rest)) ≡ cond t [] (b ∷ until_newline bytes)) × (cond t (bytes ++ rest) (after_line (bytes ++ rest)) ≡ cond t bytes (after_line bytes) ++ rest)
     at_byte true k h = (refl, refl)
     at_byte false k h =
         let p = k (omega (arith, h)) in
         (ap (λ (l : List ℕ). b ∷ l) p.0, p.1)
 
 -- a line has no newline
-pub line_is_one : (bytes : List ℕ) → IsOneLine (line_of bytes)
+pub line_is_one : (bytes : List ℕ) → IsOneLine (until_newline bytes)
 line_is_one [] = refl
 line_is_one (b ∷ bytes) = at_byte (eqb b 10) refl (line_is_one bytes)
   where
-    at_byte : (t : Bool) → eqb b 10 ≡ t → IsOneLine (line_of bytes) → line_of (cond t [] (b ∷ line_of bytes)) ≡ cond t [] (b ∷ line_of bytes)
+    at_byte : (t : Bool) → eqb b 10 ≡ t → IsOneLine (until_newline bytes) → until_newline (cond t [] (b ∷ until_newline bytes)) ≡ cond t [] (b ∷ until_newline bytes)
     at_byte true e h = refl
-    at_byte false e h = ap (λ (t : Bool). cond t [] (b ∷ line_of (line_of bytes))) e ∙ ap (λ (l : List ℕ). b ∷ l) h
+    at_byte false e h = ap (λ (t : Bool). cond t [] (b ∷ until_newline (until_newline bytes))) e ∙ ap (λ (l : List ℕ). b ∷ l) h
 
 -- one with no newline is all of the line so far
-piece_open : (bytes rest : List ℕ) → length bytes ≤ length (line_of bytes) → (line_of (bytes ++ rest) ≡ line_of bytes ++ line_of rest) × (after_line (bytes ++ rest) ≡ after_line rest) × (after_line bytes ≡ [])
+piece_open : (bytes rest : List ℕ) → length bytes ≤ length (until_newline bytes) → (until_newline (bytes ++ rest) ≡ until_newline bytes ++ until_newline rest) × (after_line (bytes ++ rest) ≡ after_line rest) × (after_line bytes ≡ [])
 piece_open [] rest h = (refl, refl, refl)
 piece_open (b ∷ bytes) rest h = at_byte (eqb b 10) (piece_open bytes rest) h
   where
-    at_byte : (t : Bool) → (length bytes ≤ length (line_of bytes) → (line_of (bytes ++ rest) ≡ line_of bytes ++ line_of rest) × (after_line (bytes ++ rest) ≡ after_line rest) × (after_line bytes ≡ []))
-        → length (b ∷ bytes) ≤ length (cond t [] (b ∷ line_of bytes))
-        → (cond t [] (b ∷ line_of (bytes ++ rest)) ≡ cond t [] (b ∷ line_of bytes) ++ line_of rest) × (cond t (bytes ++ rest) (after_line (bytes ++ rest)) ≡ after_line rest) × (cond t bytes (after_line bytes) ≡ [])
+    at_byte : (t : Bool) → (length bytes ≤ length (until_newline bytes) → (until_newline (bytes ++ rest) ≡ until_newline bytes ++ until_newline rest) × (after_line (bytes ++ rest) ≡ after_line rest) × (after_line bytes ≡ []))
+        → length (b ∷ bytes) ≤ length (cond t [] (b ∷ until_newline bytes))
+        → (cond t [] (b ∷ until_newline (bytes ++ rest)) ≡ cond t [] (b ∷ until_newline bytes) ++ until_newline rest) × (cond t (bytes ++ rest) (after_line (bytes ++ rest)) ≡ after_line rest) × (cond t bytes (after_line bytes) ≡ [])
     at_byte true k h = absurd (omega (arith, h))
     at_byte false k h =
         let p = k (omega (arith, h)) in
         (ap (λ (l : List ℕ). b ∷ l) p.0, p.1, p.2)
 
-open_whole : (bytes : List ℕ) → length bytes ≤ length (line_of bytes) → line_of bytes ≡ bytes
+open_whole : (bytes : List ℕ) → length bytes ≤ length (until_newline bytes) → until_newline bytes ≡ bytes
 open_whole [] h = refl
 open_whole (b ∷ bytes) h = at_byte (eqb b 10) (open_whole bytes) h
   where
-    at_byte : (t : Bool) → (length bytes ≤ length (line_of bytes) → line_of bytes ≡ bytes) → length (b ∷ bytes) ≤ length (cond t [] (b ∷ line_of bytes)) → cond t [] (b ∷ line_of bytes) ≡ b ∷ bytes
+    at_byte : (t : Bool) → (length bytes ≤ length (until_newline bytes) → until_newline bytes ≡ bytes) → length (b ∷ bytes) ≤ length (cond t [] (b ∷ until_newline bytes)) → cond t [] (b ∷ until_newline bytes) ≡ b ∷ bytes
     at_byte true k h = absurd (omega (arith, h))
     at_byte false k h = ap (λ (l : List ℕ). b ∷ l) (k (omega (arith, h)))
 
-pub one_line_on : (taken bytes : List ℕ) → IsOneLine taken → IsOneLine (taken ++ line_of bytes)
+pub one_line_on : (taken bytes : List ℕ) → IsOneLine taken → IsOneLine (taken ++ until_newline bytes)
 one_line_on taken bytes one =
-    (piece_open taken (line_of bytes) (omega (arith, ap length one))).0 ∙ ap (λ (l : List ℕ). l ++ line_of (line_of bytes)) one ∙ ap (λ (l : List ℕ). taken ++ l) (line_is_one bytes)
+    (piece_open taken (until_newline bytes) (omega (arith, ap length one))).0 ∙ ap (λ (l : List ℕ). l ++ until_newline (until_newline bytes)) one ∙ ap (λ (l : List ℕ). taken ++ l) (line_is_one bytes)
 
 pub rest_shorter : (xs : List ℕ) → 0 < length xs → length (after_line xs) < length xs
 rest_shorter [] h = absurd (omega (arith, h))
@@ -141,10 +141,10 @@ pub record Walked (first now : List ℕ) (line : Result (Vec ℕ) Fault) (begun 
   pub some : begun ≡ true → 0 < length first
 
 -- a line goes on in what is left
-walked_on : (first now taken : List ℕ) → first ≡ taken ++ now → IsOneLine taken → (line_of first ≡ taken ++ line_of now) × (after_line first ≡ after_line now)
+walked_on : (first now taken : List ℕ) → first ≡ taken ++ now → IsOneLine taken → (until_newline first ≡ taken ++ until_newline now) × (after_line first ≡ after_line now)
 walked_on first now taken front one =
     let p = piece_open taken now (omega (arith, ap length one)) in
-    (ap line_of front ∙ p.0 ∙ ap (λ (l : List ℕ). l ++ line_of now) one, ap after_line front ∙ p.1)
+    (ap until_newline front ∙ p.0 ∙ ap (λ (l : List ℕ). l ++ until_newline now) one, ap after_line front ∙ p.1)
 
 abbrev pub Walks : Option (List ℕ) → Option (List ℕ) → Result (Vec ℕ) Fault → Bool → Type 0
 Walks None now line begun = Unit {0}
@@ -176,7 +176,7 @@ walks_end (Some xs) None line text bytes w none e reads = absurd w
 walks_end (Some xs) (Some ys) line text bytes w none e reads =
     let nothing : bytes ++ ys ≡ [] = ap (λ (l : List ℕ). l ++ ys) none ∙ e in
     let on = walked_on xs (bytes ++ ys) w.taken w.front w.one in
-    let whole : line_of xs ≡ w.taken = on.0 ∙ ap (λ (l : List ℕ). w.taken ++ line_of l) nothing ∙ append-nil w.taken in
+    let whole : until_newline xs ≡ w.taken = on.0 ∙ ap (λ (l : List ℕ). w.taken ++ until_newline l) nothing ∙ append-nil w.taken in
     ((w.some refl, subst (λ (l : List ℕ). ReadsText l text) (sym whole) (reads w.taken w.held)), nothing ∙ sym (on.1 ∙ ap after_line nothing))
 
 pub walks_nothing : (a b : Option (List ℕ)) (line : Result (Vec ℕ) Fault) (bytes : List ℕ) → Walks a (prepend_known bytes b) line false → bytes ≡ [] → IsAtEnd b → TakesLine a (prepend_known bytes b) None
@@ -200,19 +200,19 @@ some_before false xs ys bytes lt fresh some = omega (arith, ap length (fresh ref
 
 -- a piece that ends the line
 pub walks_out : (a b : Option (List ℕ)) (line longer : Result (Vec ℕ) Fault) (text : Result (String Global) Fault) (begun : Bool) (bytes : List ℕ) → Walks a (prepend_known bytes b) line begun
-    → 0 < length bytes → length (line_of bytes) < length bytes → ((taken : List ℕ) → IsHeld taken line → IsHeld (taken ++ line_of bytes) longer)
+    → 0 < length bytes → length (until_newline bytes) < length bytes → ((taken : List ℕ) → IsHeld taken line → IsHeld (taken ++ until_newline bytes) longer)
     → ((taken : List ℕ) → IsHeld taken longer → ReadsText taken text) → TakesLine a (prepend_known (after_line bytes) b) (Some text)
 walks_out None b line longer text begun bytes w lt ended extends reads = tt
 walks_out (Some xs) None line longer text begun bytes w lt ended extends reads = absurd w
 walks_out (Some xs) (Some ys) line longer text begun bytes w lt ended extends reads =
     let p = piece_ended bytes ys ended in
     let on = walked_on xs (bytes ++ ys) w.taken w.front w.one in
-    let whole : line_of xs ≡ w.taken ++ line_of bytes = on.0 ∙ ap (λ (l : List ℕ). w.taken ++ l) p.0 in
-    ((some_before begun xs ys bytes lt w.fresh w.some, subst (λ (l : List ℕ). ReadsText l text) (sym whole) (reads (w.taken ++ line_of bytes) (extends w.taken w.held))), sym (on.1 ∙ p.1))
+    let whole : until_newline xs ≡ w.taken ++ until_newline bytes = on.0 ∙ ap (λ (l : List ℕ). w.taken ++ l) p.0 in
+    ((some_before begun xs ys bytes lt w.fresh w.some, subst (λ (l : List ℕ). ReadsText l text) (sym whole) (reads (w.taken ++ until_newline bytes) (extends w.taken w.held))), sym (on.1 ∙ p.1))
 
 -- a piece that doesn't
 pub walks_on : (a b : Option (List ℕ)) (line longer : Result (Vec ℕ) Fault) (begun : Bool) (bytes : List ℕ) → Walks a (prepend_known bytes b) line begun
-    → 0 < length bytes → length bytes ≤ length (line_of bytes) → ((taken : List ℕ) → IsHeld taken line → IsHeld (taken ++ line_of bytes) longer)
+    → 0 < length bytes → length bytes ≤ length (until_newline bytes) → ((taken : List ℕ) → IsHeld taken line → IsHeld (taken ++ until_newline bytes) longer)
     → Walks a (prepend_known (after_line bytes) b) longer true
 walks_on None b line longer begun bytes w lt going extends = tt
 walks_on (Some xs) None line longer begun bytes w lt going extends = absurd w
@@ -220,9 +220,9 @@ walks_on (Some xs) (Some ys) line longer begun bytes w lt going extends =
     let p = piece_open bytes ys going in
     let left : after_line bytes ++ ys ≡ ys = ap (λ (l : List ℕ). l ++ ys) p.2 in
     record {
-      taken = w.taken ++ line_of bytes;
+      taken = w.taken ++ until_newline bytes;
       held = extends w.taken w.held;
-      front = w.front ∙ ap (λ (l : List ℕ). w.taken ++ l) (ap (λ (l : List ℕ). l ++ ys) (sym (open_whole bytes going)) ∙ ap (λ (l : List ℕ). line_of bytes ++ l) (sym left)) ∙ sym (append_assoc w.taken (line_of bytes) (after_line bytes ++ ys));
+      front = w.front ∙ ap (λ (l : List ℕ). w.taken ++ l) (ap (λ (l : List ℕ). l ++ ys) (sym (open_whole bytes going)) ∙ ap (λ (l : List ℕ). until_newline bytes ++ l) (sym left)) ∙ sym (append_assoc w.taken (until_newline bytes) (after_line bytes ++ ys));
       one = one_line_on w.taken bytes w.one;
       fresh = λ e. absurd cc;
       some = λ e. some_before begun xs ys bytes lt w.fresh w.some;

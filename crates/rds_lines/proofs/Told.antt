@@ -8,7 +8,7 @@ use Rattle.rds_names.specs.declared.fault.Fault.{Fault}
 use Rattle.rds_names.specs.declared.fault.Fault.TheVariants.{Device}
 use Rattle.rds_keep.specs.Counted.{CountedValue, HasFailed}
 use Rattle.rds_keep.specs.Parts.{AppendsFront, AppendsPart}
-use Rattle.rds_lines.specs.Lines.{IsOneLine, ReadsText, ended_lines, line_of, lines_in}
+use Rattle.rds_lines.specs.Lines.{IsOneLine, ReadsText, ended_lines, until_newline, lines_in}
 use Rattle.rds_lines.specs.Ahead.{IsOfSomeLine, LosesPiece, TakesLine}
 use Rattle.rds_lines.specs.Answering.{AreLinesOf, WritesCut, WritesFront}
 use Rattle.rds_lines.specs.Output.{Writes, fault_line}
@@ -40,11 +40,11 @@ over_line (Some (y ∷ ys)) (Some zs) line over t = absurd cc
 line_more : (xs ys zs given : List ℕ) (lines : List (List ℕ)) (line : Result (String Global) Fault) → xs ≡ given ++ ys → AreEnded lines given → TakesLine (Some ys) (Some zs) (Some line) → OneMore (Some xs) (Some zs) lines line
 line_more xs ys zs given lines line is ended t = elim (halves ys) [
   | inl split ↦ record {
-    bytes = line_of ys;
+    bytes = until_newline ys;
     reads = t.0.1;
-    given = given ++ (line_of ys ++ 10 ∷ []);
-    is_given = is ∙ ap (λ (l : List ℕ). given ++ l) (split ∙ ap (λ (l : List ℕ). line_of ys ++ 10 ∷ l) (sym t.1) ∙ sym (append_assoc (line_of ys) (10 ∷ []) zs)) ∙ sym (append_assoc given (line_of ys ++ 10 ∷ []) zs);
-    taken = inl (one_more_ended lines given (line_of ys) ended (line_is_one ys));
+    given = given ++ (until_newline ys ++ 10 ∷ []);
+    is_given = is ∙ ap (λ (l : List ℕ). given ++ l) (split ∙ ap (λ (l : List ℕ). until_newline ys ++ 10 ∷ l) (sym t.1) ∙ sym (append_assoc (until_newline ys) (10 ∷ []) zs)) ∙ sym (append_assoc given (until_newline ys ++ 10 ∷ []) zs);
+    taken = inl (one_more_ended lines given (until_newline ys) ended (line_is_one ys));
   }
   | inr whole ↦ record {
     bytes = ys;

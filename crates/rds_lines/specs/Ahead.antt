@@ -4,7 +4,7 @@ use Rattle.std.specs.Global.{Global, Vec}
 use Rattle.std.specs.Io.KnownBytes.{Consumes, prepend_known}
 use Rattle.rds_names.specs.declared.fault.Fault.{Fault}
 use Rattle.rds_names.specs.declared.fault.Fault.TheVariants.{Memory, BadLine}
-use Rattle.rds_lines.specs.Lines.{IsOneLine, line_of, after_line, ReadsText}
+use Rattle.rds_lines.specs.Lines.{IsOneLine, until_newline, after_line, ReadsText}
 
 -- what falls with each of the reads that are left, and with each byte that is taken
 abbrev pub left_of : List ℕ → ℕ → ℕ
@@ -24,7 +24,7 @@ IsHeld taken (Err e) = ⊥
 -- the line that the bytes begin with, where there are any
 abbrev pub IsFirstLine : List ℕ → Option (Result (String Global) Fault) → Type 0
 IsFirstLine xs None = xs ≡ []
-IsFirstLine xs (Some line) = (0 < length xs) × ReadsText (line_of xs) line
+IsFirstLine xs (Some line) = (0 < length xs) × ReadsText (until_newline xs) line
 
 -- there is a line of which this is the text, or why there is none
 abbrev pub IsOfSomeLine : Result (String Global) Fault → Type 0

@@ -9,7 +9,7 @@ use Rattle.rds_state.specs.Value.{coordinates}
 use Rattle.rds_codec.specs.Decoding.{Decodes, ReadsAll}
 use Rattle.rds_codec.specs.Kinds.{snapshot_kind}
 use Rattle.rds_codec.specs.StateTexts.{snapshot_at, snapshot_text}
-use Rattle.rds_lines.specs.Lines.{line_of, after_line}
+use Rattle.rds_lines.specs.Lines.{until_newline, after_line}
 use Rattle.rds_state.specs.Fits.{ReplicaValue}
 use Rattle.rds_codec.specs.declared.limits.TheConstants.{LIMIT}
 
@@ -60,12 +60,12 @@ AfterSecond rest v (Ok w) r = AfterBoth rest v w r
 AfterSecond rest v (Err e) r = r ≡ Err e
 
 abbrev pub AfterFirst : List ℕ → Result ReplicaValue Fault → Result (List ℕ) Fault → Type 0
-AfterFirst rest (Ok v) r = (second : Result ReplicaValue Fault) × ReadsLine (line_of rest) second × AfterSecond (after_line rest) v second r
+AfterFirst rest (Ok v) r = (second : Result ReplicaValue Fault) × ReadsLine (until_newline rest) second × AfterSecond (after_line rest) v second r
 AfterFirst rest (Err e) r = r ≡ Err e
 
 -- the first line is read first; a fault of it is the answer
 abbrev pub JoinsTo : List ℕ → Result (List ℕ) Fault → Type 0
-JoinsTo input r = (first : Result ReplicaValue Fault) × ReadsLine (line_of input) first × AfterFirst (after_line input) first r
+JoinsTo input r = (first : Result ReplicaValue Fault) × ReadsLine (until_newline input) first × AfterFirst (after_line input) first r
 
 -- the same, or memory ran out
 abbrev pub MayJoinTo : List ℕ → Result (List ℕ) Fault → Type 0

@@ -5,7 +5,7 @@ use Rattle.rds_names.specs.declared.fault.Fault.{Fault}
 use Rattle.rds_names.specs.declared.fault.Fault.TheVariants.{Memory}
 use Rattle.rds_codec.specs.StateTexts.{IsSnapshot, snapshot_text}
 use Rattle.rds_lines.specs.Join.{JoinedTo, MayJoinTo, TextOfJoined}
-use Rattle.rds_lines.specs.Lines.{line_of, after_line}
+use Rattle.rds_lines.specs.Lines.{until_newline, after_line}
 use Rattle.rds_state.specs.Fits.{ReplicaValue}
 use Rattle.rds_codec.specs.declared.limits.TheConstants.{LIMIT}
 
@@ -17,8 +17,8 @@ pub record SpellsLine (line : List ℕ) (v : ReplicaValue) : Type 0 where
 
 -- the input is the lines of two snapshots, and nothing more
 pub record SpellsBoth (input : List ℕ) (v w : ReplicaValue) : Type 0 where
-  pub first : SpellsLine (line_of input) v
-  pub second : SpellsLine (line_of (after_line input)) w
+  pub first : SpellsLine (until_newline input) v
+  pub second : SpellsLine (until_newline (after_line input)) w
   pub ended : after_line (after_line input) ≡ []
 
 -- two snapshots are joined to one thing alone

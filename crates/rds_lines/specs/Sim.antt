@@ -7,7 +7,7 @@ use Rattle.rds_names.specs.declared.fault.Fault.TheVariants.{Memory, BadLine, Ba
 use Rattle.rds_names.specs.Roster.{RosterValue}
 use Rattle.rds_state.specs.Value.{StateValue, coordinates}
 use Rattle.rds_json.specs.Line.{line_of}
-use Rattle.rds_json.specs.MayGive.{and_then}
+use Rattle.rds_names.specs.AndThen.{◌>>=◌}
 use Rattle.rds_lines.specs.declared.sim.Request.{Request}
 use Rattle.rds_lines.specs.declared.sim.Request.TheVariants as requests
 use Rattle.rds_json.specs.declared.line.Line.{Line}
@@ -85,7 +85,7 @@ abbrev pub number_of : RosterValue → List ℕ → Result ℕ Fault
 number_of roster name = placed (position (bytes_eq name) roster.names)
 
 abbrev pub event_of : RosterValue → List ℕ → (ℕ → Event) → Result Request Fault
-event_of roster name event = and_then (number_of roster name) (λ number. Ok (requests.Event (event number)))
+event_of roster name event = number_of roster name >>= λ number. Ok (requests.Event (event number))
 
 -- what a line asks of replicas that are there: no other roster, and names of theirs alone
 abbrev pub request_of : RosterValue → Line → Result Request Fault
@@ -96,7 +96,7 @@ request_of roster (lines.Crash name) = event_of roster name events.Crash
 request_of roster (lines.Ask name) = event_of roster name events.Ask
 request_of roster (lines.Answer name k) = event_of roster name (λ number. events.Answer number k)
 request_of roster (lines.Take k) = Ok (requests.Event (events.Take k))
-request_of roster (lines.Show name path) = and_then (number_of roster name) (λ number. Ok (requests.Show number path))
+request_of roster (lines.Show name path) = number_of roster name >>= λ number. Ok (requests.Show number path)
 
 abbrev pub MeetsRequest : Group → Result Request Fault → Answer → Option Group → Type 0
 MeetsRequest g (Ok (requests.Event event)) answer next = MeetsEvent g event answer next
@@ -114,12 +114,12 @@ MeetsRead now (Ok line) answer next = MeetsLine now line answer next
 MeetsRead now (Err fault) answer next = IsRefused now fault answer next
 
 -- what the bytes of a line ask for, or their fault
-abbrev pub line_in : List ℕ → Result Line Fault
-line_in bytes = if is_text_line bytes then line_of bytes else Err BadLine
+abbrev pub line_of_bytes : List ℕ → Result Line Fault
+line_of_bytes bytes = if is_text_line bytes then line_of bytes else Err BadLine
 
 -- the answer that is due, or want of memory, which changes nothing
 abbrev pub MeetsBytes : Option Group → List ℕ → Answer → Option Group → Type 0
-MeetsBytes now bytes answer next = IsRefused now Memory answer next ⊎ MeetsRead now (line_in bytes) answer next
+MeetsBytes now bytes answer next = IsRefused now Memory answer next ⊎ MeetsRead now (line_of_bytes bytes) answer next
 
 -- one line's answer, and what is written for the lines after it
 pub record MeetsFirst (now : Option Group) (bytes : List ℕ) (After : Option Group → List ℕ → Bool → Type 0) (out : List ℕ) (refused : Bool) : Type 0 where

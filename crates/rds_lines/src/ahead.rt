@@ -4,7 +4,7 @@ ghost use Rattle.std.specs.Io.KnownBytes.{IsAtEnd, Keeps};
 ghost use Rattle.rds_names.specs.declared.fault.Fault.TheVariants.{Device};
 ghost use Rattle.rds_keep.specs.Counted.{HasFailed};
 ghost use Rattle.rds_lines.specs.Ahead.{IsHeld, IsOfSomeLine, LosesPiece, TakesLine, left_of, untaken};
-ghost use Rattle.rds_lines.specs.Lines.{ReadsText, after_line, line_of};
+ghost use Rattle.rds_lines.specs.Lines.{ReadsText, after_line, until_newline};
 
 use crate::lines::split_line;
 use rds_keep::Counted;
@@ -117,9 +117,9 @@ impl Ahead {
     // ended is answered too.
     fn take_piece(&mut self, line: Result<Vec<u8>, Fault>) -> (Result<Vec<u8>, Fault>, bool)
         ensures line { (taken : List ℕ) → IsHeld taken line
-            → IsHeld (taken ++ line_of self.old) result.0 }
-        ensures ended { MatchBool result.1 (length (line_of self.old) < length self.old)
-            (length self.old ≤ length (line_of self.old)) }
+            → IsHeld (taken ++ until_newline self.old) result.0 }
+        ensures ended { MatchBool result.1 (length (until_newline self.old) < length self.old)
+            (length self.old ≤ length (until_newline self.old)) }
         ensures rest { self.new ≡ after_line self.old }
     {
         let (piece, rest) = split_line(&self.chunk[self.at..self.end]);

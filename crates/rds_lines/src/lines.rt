@@ -1,11 +1,11 @@
 //! Lines of bytes.
 ghost use Rattle.std.specs.Prelude.{◌≡◌};
-ghost use Rattle.rds_lines.specs.Lines.{line_of, after_line};
+ghost use Rattle.rds_lines.specs.Lines.{after_line, until_newline};
 
 /// The first line of the bytes, without its newline, and what follows it. Where there is no
 /// newline all of them are the line.
 pub fn split_line(bytes: &[u8]) -> (&[u8], &[u8])
-    ensures line { result.0.now ≡ line_of bytes.now }
+    ensures line { result.0.now ≡ until_newline bytes.now }
     ensures rest { result.1.now ≡ after_line bytes.now }
 {
     for (i, byte) in bytes.iter().enumerate() {

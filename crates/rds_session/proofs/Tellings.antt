@@ -18,6 +18,7 @@ use Rattle.rds_dots.specs.Sets.{same_dot}
 use Rattle.rds_dots.specs.declared.dot.Dot.{Dot}
 use Rattle.rds_dots.specs.declared.dot.Run.{Run}
 use Rattle.rds_dots.specs.declared.dot.TheConstants.{MAX_SEQ}
+use Rattle.rds_dots.specs.Sets.{dot_limits}
 use Rattle.rds_counts.specs.Counted.{Counted, counted, is_row, number, place}
 use Rattle.rds_counts.specs.CountedLemmas.{get-counted, number-row, number_in}
 use Rattle.rds_counts.specs.Place.{Place}
@@ -150,8 +151,8 @@ run_from replica lo hi one rise within = record { from_one = one; rises = rise; 
 goes_from : (a b p q lo hi : ℕ) → ((a == b) && (p == q) && (lo == hi + 1)) ≡ true → lo ≡ hi + 1
 goes_from a b p q lo hi h = grind (arith, nat_tests)
 
-dot_range : (r s : ℕ) → (nat_le r 255 && nat_le 1 s && nat_le s MAX_SEQ) ≡ true → (r < 256) × (1 ≤ s) × (s ≤ MAX_SEQ)
-dot_range r s h = grind (arith, nat_tests)
+is_byte : (n : ℕ) → n ≤ 255 → n < 256
+is_byte n le = omega arith
 
 module _ (n : ℕ) where
   abbrev IsClaimed : Claim → Type 0
@@ -160,15 +161,18 @@ module _ (n : ℕ) where
   IsClaimed (OfCount q sent peer) = Unit {0}
 
   alone : (d : Dot) (p : ℕ) (rs : List Row) → is_dot d ≡ true → d.replica < n → p ≤ 1 → IsCertificateOf n rs → IsCertificateOf n (rows.Dead (run_of d.replica d.seq d.seq) p ∷ rs)
-  alone d p rs is below least all = let r = dot_range d.replica d.seq is in ((run_from d.replica d.seq d.seq r.1 (omega arith) r.2, ((r.0, below), least)), all)
+  alone d p rs is below least all =
+      let limits = dot_limits d is in
+      ((is_byte d.replica limits.small, (run_from d.replica d.seq d.seq limits.from_one (omega arith) limits.within, (below, least))), all)
 
   joined_or_not : (d : Dot) (p : ℕ) (r : Run) (q : ℕ) (rs : List Row) (b : Bool) → goes_on (rows.Dead (run_of d.replica d.seq d.seq) p) (rows.Dead r q) ≡ b
       → is_dot d ≡ true → d.replica < n → p ≤ 1 → IsCertificateOf n (rows.Dead r q ∷ rs)
       → IsCertificateOf n (cond b (rows.Dead (run_of d.replica d.seq r.hi) p ∷ rs) (rows.Dead (run_of d.replica d.seq d.seq) p ∷ rows.Dead r q ∷ rs))
   joined_or_not d p r q rs true goes is below least all =
-      let range = dot_range d.replica d.seq is in
+      let limits = dot_limits d is in
       let next = goes_from d.replica r.replica p q r.lo d.seq goes in
-      ((run_from d.replica d.seq r.hi range.1 (omega (arith, next, all.0.0.rises)) all.0.0.within, ((range.0, below), least)), all.1)
+      let run = all.0.1.0 in
+      ((is_byte d.replica limits.small, (run_from d.replica d.seq r.hi limits.from_one (omega (arith, next, run.rises)) run.within, (below, least))), all.1)
   joined_or_not d p r q rs false goes is below least all = alone d p (rows.Dead r q ∷ rs) is below least all
 
   dead_claimed : (d : Dot) (p : ℕ) (rs : List Row) → is_dot d ≡ true → d.replica < n → p ≤ 1 → IsCertificateOf n rs → IsCertificateOf n (dead_front d p rs)
@@ -181,7 +185,7 @@ module _ (n : ℕ) where
   IsOfLife peer d l = (is_dot d ≡ true) × ((d.replica < n) × (peer d < life_rank (Some l)))
 
   life_claimed : (peer : Dot → ℕ) (d : Dot) (l : Life) (rs : List Row) → IsOfLife peer d l → IsCertificateOf n rs → IsCertificateOf n (front (claim_at d (peer d) l) rs)
-  life_claimed peer d (Live e) rs h all = ((h.0, h.1.0), all)
+  life_claimed peer d (Live e) rs h all = ((tt, (h.0, h.1.0)), all)
   life_claimed peer d Dead rs h all = dead_claimed d (peer d) rs h.0 h.1.0 (omega (arith, h.1.1)) all
 
   lives_claimed : (peer : Dot → ℕ) (es : List (Dot × Life)) (rs : List Row) → AllByRecursion (λ (e : Dot × Life). IsOfLife peer e.0 e.1) es → IsCertificateOf n rs
@@ -195,7 +199,7 @@ module _ (n : ℕ) where
   number_claimed : (peer : Place → ℕ) (q : Place) (m : ℕ) (rs : List Row) → ArePeers peer → (is_key_text q.key ≡ true) × IsReplicaOf n q.replica → m ≤ MAX_COUNT → IsCertificateOf n rs
       → IsCertificateOf n (number_rows q m (peer q) ++ rs)
   number_claimed peer q zero rs peers is most all = all
-  number_claimed peer q (suc m) rs peers is most all = ((is.0, (is.1, (most, peers q))), all)
+  number_claimed peer q (suc m) rs peers is most all = (((is.0, is.1.0), (is.1.1, (most, peers q))), all)
 
   row_range : (p m r : ℕ) → ((nat_lt 0 p || nat_lt 0 m) && nat_le p MAX_COUNT && nat_le m MAX_COUNT && nat_lt r 256) ≡ true → (p ≤ MAX_COUNT) × ((m ≤ MAX_COUNT) × (r < 256))
   row_range p m r h = grind (arith, nat_tests)

@@ -1,24 +1,21 @@
 -- Rows that are ahead are numbers that are.
 use Rattle.std.proofs.Common.{◌≡◌, ℕ, zero, suc, ◌+◌, Bool, true, false, ◌&&◌, ◌==◌, nat_lt, cond, List, [], ◌∷◌, ◌++◌, Option, Some, None, refl, sym, ◌∙◌, ap, subst, arith}
-use Rattle.std.specs.Prelude.{is_some}
 use Rattle.std.proofs.Math.Path.{fun_ext}
 use Rattle.std.specs.FinMap as map
-use Rattle.std.specs.FinSet as set
 use Rattle.std.proofs.lemmas.Bool.Decides.{nat_tests}
 use Rattle.rds_names.specs.Conditions.{true_of}
 use Rattle.rds_names.specs.declared.fault.Own.{Own}
 use Rattle.rds_names.specs.declared.fault.Own.TheVariants.{Seq, Plus, Minus}
 use Rattle.rds_dots.specs.Dots.{Dots}
-use Rattle.rds_dots.specs.Lacking.{dot_of, IsLacking}
+use Rattle.rds_dots.specs.Lacking.{IsLacking}
 use Rattle.rds_life.specs.Life.{Lived, seen_of}
-use Rattle.rds_life.proofs.Views.{contains-seen_of}
 use Rattle.rds_counts.specs.declared.row.Which.TheVariants.{P, N}
 use Rattle.rds_counts.specs.declared.row.CountRow.{CountRow}
 use Rattle.rds_counts.specs.Place.{Place}
 use Rattle.rds_counts.specs.Counted.{Above, Counted, number, number_from, place, above, components, counted, AreCountRows}
 use Rattle.rds_counts.specs.Entries.{entries-counted}
 use Rattle.rds_state.specs.Value.{StateValue}
-use Rattle.rds_state.specs.Ahead.{KnowsDots, Ahead, SeqAhead, NumberAhead}
+use Rattle.rds_state.specs.Ahead.{Ahead, SeqAhead, NumberAhead}
 use Rattle.rds_state.specs.RowsAhead.{rows_ahead}
 use Rattle.rds_state.proofs.FirstAbove.{own_number, first_ahead, listed, first_ahead_is}
 
@@ -54,20 +51,12 @@ rows_ahead_is here own d rs are is =
     subst (NumberAhead here own (number d)) (rows_are_entries here own d rs are is)
     (subst (λ (sent : Place → ℕ). NumberAhead here own sent (first_ahead here own es)) listed_is (first_ahead_is here own es (true_of _ (map.entries_sorted d))))
 
-pub ahead_of_numbers : (a : StateValue) (own : ℕ) (d : StateValue) → KnowsDots a.lives own d.lives → (o : Option Own) → NumberAhead (number a.counts) own (number d.counts) o → Ahead a own d o
+pub ahead_of_numbers : (a : StateValue) (own : ℕ) (d : StateValue) → SeqAhead a.lives own d.lives None → (o : Option Own) → NumberAhead (number a.counts) own (number d.counts) o → Ahead a own d o
 ahead_of_numbers a own d knows None h = (knows, h)
 ahead_of_numbers a own d knows (Some (Seq n)) h = absurd h
 ahead_of_numbers a own d knows (Some (Plus n)) h = (knows, h)
 ahead_of_numbers a own d knows (Some (Minus n)) h = (knows, h)
 
-seen_at : (v : Lived) (x : Dots) (own : ℕ) → x ≡ seen_of v → (n : ℕ) → set.contains x (dot_of own n) ≡ is_some (map.get v (dot_of own n))
-seen_at v x own e n = ap (λ y. set.contains y (dot_of own n)) e ∙ contains-seen_of v (dot_of own n)
-
 -- what the sets of seen dots say of lives
 pub lacking_ahead : (a d : Lived) (s t : Dots) (own : ℕ) → s ≡ seen_of a → t ≡ seen_of d → (o : Option ℕ) → IsLacking s t own o → SeqAhead a own d o
-lacking_ahead a d s t own p q None h = λ n e. sym (seen_at a s own p n) ∙ h n (seen_at d t own q n ∙ e)
-lacking_ahead a d s t own p q (Some n) h = record {
-  there = sym (seen_at d t own q n) ∙ h.there;
-  lacking = sym (seen_at a s own p n) ∙ h.lacking;
-  first = λ m lt e. sym (seen_at a s own p m) ∙ h.first m lt (seen_at d t own q m ∙ e);
-}
+lacking_ahead a d s t own p q o h = subst (λ (x : Dots). IsLacking x (seen_of d) own o) p (subst (λ (x : Dots). IsLacking s x own o) q h)

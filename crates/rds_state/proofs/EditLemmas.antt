@@ -1,5 +1,5 @@
 -- What the steps of an edit come to: the join with the command's effect.
-use Rattle.std.proofs.Common.{◌≡◌, ℕ, zero, suc, ◌+◌, ◌<◌, ◌≤◌, Bool, true, false, not, ◌&&◌, cond, max, List, [], ◌∷◌, Option, Some, None, Result, Ok, Err, refl, sym, ◌∙◌, ap, subst, arith, ◌⊎◌, inl, inr, eqb, leb, nat_lt}
+use Rattle.std.proofs.Common.{◌≡◌, ℕ, zero, suc, ◌+◌, ◌<◌, ◌≤◌, Bool, true, false, not, ◌&&◌, cond, max, List, [], ◌∷◌, Option, Some, None, Result, Ok, Err, refl, sym, ◌∙◌, ap, subst, arith, ◌⊎◌, inl, inr, eqb, nat_lt}
 use mathlib.Core.Bool.{false≢true}
 use Rattle.std.specs.Prelude.{is_some, ◌≢◌, IfOk, MatchResult}
 use Rattle.std.specs.Result.{IsErrAnd}
@@ -17,7 +17,7 @@ use Rattle.rds_dots.specs.declared.dot.TheConstants.{MAX_SEQ}
 use Rattle.rds_dots.specs.Dots.{Dots, dot_cmp, is_dot, IsTop}
 use Rattle.rds_dots.specs.Lacking.{dot_of}
 use Rattle.rds_dots.specs.Order.{dots_total}
-use Rattle.rds_dots.specs.Sets.{same_dot as dot_is}
+use Rattle.rds_dots.specs.Sets.{dot_limits, same_dot as dot_is}
 use Rattle.rds_counts.specs.declared.row.Which.TheVariants.{P, N}
 use Rattle.rds_counts.specs.Place.{Place, place_cmp}
 use Rattle.rds_counts.specs.Counted.{number, place}
@@ -60,9 +60,6 @@ none_of : (o : Option Life) → is_some o ≡ false → o ≡ None
 none_of None h = refl
 none_of (Some l) h = absurd (false≢true (sym h))
 
-most : (a n : ℕ) → (leb a 255 && leb 1 n && leb n 281474976710655) ≡ true → n ≤ 281474976710655
-most a n h = grind (arith, nat_tests)
-
 above_zero : (t : ℕ) → (t ≡ 0) ⊎ (1 ≤ t)
 above_zero zero = inl refl
 above_zero (suc t) = inr (omega arith)
@@ -75,7 +72,7 @@ module _ (v : StateValue) (own t : ℕ) (s : Dots) (seen : s ≡ seen_of v.lives
   past n lt = from_true _ (λ h. let le = is.at_most n (sym (seen_at n) ∙ h) in omega (arith, le, lt))
 
   within : t ≤ MAX_SEQ
-  within = elim (above_zero t) [ inl z ↦ omega (arith, z) | inr one ↦ most own t (dots (dot_of own t) (is.there one)) ]
+  within = elim (above_zero t) [ inl z ↦ omega (arith, z) | inr one ↦ (dot_limits (dot_of own t) (dots (dot_of own t) (is.there one))).within ]
 
   at_top : (t ≡ 0) ⊎ (is_some (map.get v.lives (dot_of own t)) ≡ true)
   at_top = elim (above_zero t) [ inl z ↦ inl z | inr one ↦ inr (seen_at t ∙ is.there one) ]

@@ -8,6 +8,8 @@ use Rattle.rds_names.specs.declared.fault.Fault.TheVariants.{Memory, Conflict, O
 use Rattle.rds_counts.specs.declared.row.Which.{Which}
 use Rattle.rds_counts.specs.declared.row.Which.TheVariants.{P, N}
 use Rattle.rds_counts.specs.Counted.{number}
+use Rattle.rds_dots.specs.Lacking.{dot_of}
+use Rattle.rds_life.proofs.Views.{contains-seen_of}
 use Rattle.rds_state.specs.Value.{StateValue, coordinates}
 use Rattle.rds_state.specs.Ahead.{Ahead, IsNumberAhead, TakeGives}
 use Rattle.rds_state.specs.Friends.{AreFriends, KnowsItsOwn, MayTake}
@@ -19,7 +21,8 @@ not_above own a d knows w n ahead =
     omega (arith, above, known)
 
 never_ahead : (own : ℕ) (a d : StateValue) → KnowsItsOwn own (coordinates a) (coordinates d) → (o : Own) → Ahead a own d (Some o) → ⊥
-never_ahead own a d knows (Seq n) ahead = false≢true (sym ahead.lacking ∙ knows.dots n ahead.there)
+never_ahead own a d knows (Seq n) ahead =
+    false≢true (sym ahead.lacking ∙ contains-seen_of a.lives (dot_of own n) ∙ knows.dots n (sym (contains-seen_of d.lives (dot_of own n)) ∙ ahead.there))
 never_ahead own a d knows (Plus n) ahead = not_above own a d knows P n ahead.1
 never_ahead own a d knows (Minus n) ahead = not_above own a d knows N n ahead.1
 

@@ -1,32 +1,21 @@
 -- What a delta has of a replica's own that the replica lacks.
-use Rattle.std.specs.Prelude.{◌≡◌, ℕ, ◌≤◌, ◌<◌, true, false, is_some, Option, Some, None, Result, Ok, Err}
-use Rattle.std.specs.FinMap as map
+use Rattle.std.specs.Prelude.{◌≡◌, ℕ, ◌≤◌, ◌<◌, Option, Some, None, Result, Ok, Err}
 use Rattle.std.specs.declared.cmp.Ordering.TheVariants.{Less}
 use Rattle.rds_names.specs.declared.fault.Own.{Own}
 use Rattle.rds_names.specs.declared.fault.Own.TheVariants.{Seq, Plus, Minus}
 use Rattle.rds_names.specs.declared.fault.Fault.{Fault}
 use Rattle.rds_names.specs.declared.fault.Fault.TheVariants.{OwnAhead}
-use Rattle.rds_dots.specs.Lacking.{dot_of}
+use Rattle.rds_dots.specs.Lacking.{IsLacking}
 use Rattle.rds_counts.specs.declared.row.Which.{Which}
 use Rattle.rds_counts.specs.declared.row.Which.TheVariants.{P, N}
 use Rattle.rds_counts.specs.Place.{Place, place_cmp}
 use Rattle.rds_counts.specs.Counted.{number}
-use Rattle.rds_life.specs.Life.{Lived, MergeGives}
+use Rattle.rds_life.specs.Life.{Lived, MergeGives, seen_of}
 use Rattle.rds_state.specs.Value.{StateValue}
 
--- every own dot that the delta has is seen
-abbrev pub KnowsDots : Lived → ℕ → Lived → Type 0
-KnowsDots a own d = (n : ℕ) → is_some (map.get d (dot_of own n)) ≡ true → is_some (map.get a (dot_of own n)) ≡ true
-
--- the least own number that the delta has and the replica lacks
-pub record IsLeastAhead (a : Lived) (own : ℕ) (d : Lived) (n : ℕ) : Type 0 where
-  pub there : is_some (map.get d (dot_of own n)) ≡ true
-  pub lacking : is_some (map.get a (dot_of own n)) ≡ false
-  pub first : (m : ℕ) → m < n → is_some (map.get d (dot_of own m)) ≡ true → is_some (map.get a (dot_of own m)) ≡ true
-
+-- the least own number that the delta has and the replica lacks, or none
 abbrev pub SeqAhead : Lived → ℕ → Lived → Option ℕ → Type 0
-SeqAhead a own d None = KnowsDots a own d
-SeqAhead a own d (Some n) = IsLeastAhead a own d n
+SeqAhead a own d = IsLacking (seen_of a) (seen_of d) own
 
 -- no own number that was sent is above the one here
 abbrev pub KnowsNumbers : (Place → ℕ) → ℕ → (Place → ℕ) → Type 0
@@ -53,10 +42,10 @@ NumberAhead here own sent (Some (Minus n)) = IsNumberAhead here own sent N n
 
 -- a dot that is ahead, else a number, else nothing
 abbrev pub Ahead : StateValue → ℕ → StateValue → Option Own → Type 0
-Ahead a own d None = KnowsDots a.lives own d.lives × KnowsNumbers (number a.counts) own (number d.counts)
-Ahead a own d (Some (Seq n)) = IsLeastAhead a.lives own d.lives n
-Ahead a own d (Some (Plus n)) = KnowsDots a.lives own d.lives × IsNumberAhead (number a.counts) own (number d.counts) P n
-Ahead a own d (Some (Minus n)) = KnowsDots a.lives own d.lives × IsNumberAhead (number a.counts) own (number d.counts) N n
+Ahead a own d None = SeqAhead a.lives own d.lives None × KnowsNumbers (number a.counts) own (number d.counts)
+Ahead a own d (Some (Seq n)) = SeqAhead a.lives own d.lives (Some n)
+Ahead a own d (Some (Plus n)) = SeqAhead a.lives own d.lives None × IsNumberAhead (number a.counts) own (number d.counts) P n
+Ahead a own d (Some (Minus n)) = SeqAhead a.lives own d.lives None × IsNumberAhead (number a.counts) own (number d.counts) N n
 
 -- when a take succeeds, and which fault it gives: first what is ahead, then what a merge gives
 abbrev pub TakeGives : {T : Type 0} → StateValue → ℕ → StateValue → Result T Fault → Type 0

@@ -2,15 +2,14 @@
 use Rattle.std.proofs.Common.{◌≡◌, ℕ, Bool, true, false, cond, List, [], ◌∷◌, ◌++◌, refl, sym, ◌∙◌, ap}
 use Rattle.std.specs.Prelude.{Some, None}
 use Rattle.std.specs.List.{list_any}
-use Rattle.std.specs.Ordering.{is_eq}
+use Rattle.std.specs.Ordering.{eq_by_cmp, is_eq}
 use Rattle.std.specs.Cmp.{tied_itself}
 use Rattle.std.specs.FinMap.{nat_cmp-IsAntisymmetric, slice_cmp-IsAntisymmetric}
 use Rattle.rds_names.specs.declared.scalar.Scalar.{Scalar}
 use Rattle.rds_names.specs.declared.entry.Kind.{Kind}
 use Rattle.rds_names.specs.declared.entry.Kind.TheVariants.{Reg, Elem}
 use Rattle.rds_tree.specs.Document.{Placed}
-use Rattle.rds_tree.specs.ScalarOrder.{scalars_total, scalars_exact}
-use Rattle.rds_tree.specs.Shows.{same_scalar}
+use Rattle.rds_tree.specs.ScalarOrder.{scalar_cmp, scalars_total, scalars_exact}
 use Rattle.rds_tree.specs.View.{below, below_path, is_kind, same_key, step_into, value_here}
 use Rattle.rds_names.specs.Conditions.{equal_of}
 use Rattle.rds_tree.proofs.Kids.{itself}
@@ -56,7 +55,7 @@ is_reached t (k ∷ path) kind value rest h = ap (λ b. passes (reaches t path) 
 
 -- whether an entry is the value right here
 abbrev pub is_here : Kind → Scalar → Placed → Bool
-is_here kind value e = passes (same_scalar value) (value_here kind e.kind e.value e.path)
+is_here kind value e = passes (eq_by_cmp scalar_cmp value) (value_here kind e.kind e.value e.path)
 
 -- the path right here
 abbrev no_keys : List (List ℕ)
@@ -75,10 +74,10 @@ kind_itself Elem = refl
 pub here_is : (kind : Kind) (value : Scalar) (k : Kind) (v : Scalar) (path : List (List ℕ)) → is_here kind value (placed_at path k v) ≡ true → (path ≡ []) × ((k ≡ kind) × (v ≡ value))
 here_is kind value k v (x ∷ path) h = absurd (cc)
 here_is kind value k v [] h =
-    elim (is_kind kind k) as (λ b. is_kind kind k ≡ b → passes (same_scalar value) (cond b (Some v) None) ≡ true → (no_keys ≡ []) × ((k ≡ kind) × (v ≡ value))) [
+    elim (is_kind kind k) as (λ b. is_kind kind k ≡ b → passes (eq_by_cmp scalar_cmp value) (cond b (Some v) None) ≡ true → (no_keys ≡ []) × ((k ≡ kind) × (v ≡ value))) [
       | true ↦ λ is g. (refl, (same_kind kind k is, sym (scalars_exact value v (equal_of _ g))))
       | false ↦ λ _ g. absurd (cc)
     ] refl h
 
 pub here_itself : (kind : Kind) (value : Scalar) → is_here kind value (placed_at [] kind value) ≡ true
-here_itself kind value = ap (λ b. passes (same_scalar value) (cond b (Some value) None)) (kind_itself kind) ∙ ap is_eq (tied_itself scalars_total value)
+here_itself kind value = ap (λ b. passes (eq_by_cmp scalar_cmp value) (cond b (Some value) None)) (kind_itself kind) ∙ ap is_eq (tied_itself scalars_total value)

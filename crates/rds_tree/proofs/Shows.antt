@@ -2,6 +2,7 @@
 use Rattle.std.proofs.Common.{◌≡◌, ℕ, Bool, true, false, cond, ◌&&◌, ◌||◌, List, [], ◌∷◌, ◌++◌, map, refl, sym, ◌∙◌, ap, subst}
 use Rattle.std.specs.Prelude.{◌↔◌, ℤ, Some, None}
 use Rattle.std.specs.List.{list_any, filter_map}
+use Rattle.std.specs.Ordering.{eq_by_cmp}
 use Rattle.std.specs.FinMap as map_of
 use Rattle.std.specs.FinMap.{nat_cmp-IsAntisymmetric, slice_cmp-IsAntisymmetric}
 use Rattle.std.specs.Cmp.Lexicographic.{nat_list_cmp_total}
@@ -14,8 +15,8 @@ use Rattle.rds_counts.specs.Value.{value_of}
 use Rattle.rds_state.specs.Document.{IsCounted, value_in}
 use Rattle.rds_state.specs.Value.{StateValue, coordinates}
 use Rattle.rds_tree.specs.Document.{Placed, entries_in, keys_once, counted_keys, sums_of, document}
-use Rattle.rds_tree.specs.ScalarOrder.{scalars_total, scalars_exact}
-use Rattle.rds_tree.specs.Shows.{IsLiveAt, has_value, regs_in, same_scalar, sets_in, sum_at}
+use Rattle.rds_tree.specs.ScalarOrder.{scalar_cmp, scalars_total, scalars_exact}
+use Rattle.rds_tree.specs.Shows.{IsLiveAt, has_value, regs_in, sets_in, sum_at}
 use Rattle.rds_tree.specs.View.{below, below_path, children, entries_view, first_key, keys_in, same_key, value_here, values_by_key, values_here, view_of, with_key}
 use Rattle.rds_tree.proofs.Kids.{itself}
 use Rattle.rds_tree.proofs.Members.{any-once, any_wider, some_passes}
@@ -33,19 +34,19 @@ any_key-once t ks = any-once nat_list_cmp_total (slice_cmp-IsAntisymmetric nat_c
 abbrev is_under : Kind → List ℕ → Scalar → Placed → Bool
 is_under kind key value = reaches (is_here kind value) (key ∷ [])
 
-any-values : (kind : Kind) (key : List ℕ) (value : Scalar) (es : List Placed) → list_any (same_scalar value) (values_here kind (below key es)) ≡ list_any (is_under kind key value) es
+any-values : (kind : Kind) (key : List ℕ) (value : Scalar) (es : List Placed) → list_any (eq_by_cmp scalar_cmp value) (values_here kind (below key es)) ≡ list_any (is_under kind key value) es
 any-values kind key value es =
-    any-once scalars_total scalars_exact (same_scalar value) (filter_map (λ e. value_here kind e.kind e.value e.path) (below key es))
-    ∙ any-filter_map (same_scalar value) (λ e. value_here kind e.kind e.value e.path) (below key es) ∙ any-below (is_here kind value) key es
+    any-once scalars_total scalars_exact (eq_by_cmp scalar_cmp value) (filter_map (λ e. value_here kind e.kind e.value e.path) (below key es))
+    ∙ any-filter_map (eq_by_cmp scalar_cmp value) (λ e. value_here kind e.kind e.value e.path) (below key es) ∙ any-below (is_here kind value) key es
 
 abbrev row_test : List ℕ → Scalar → List ℕ × List Scalar → Bool
-row_test key value r = same_key key r.0 && list_any (same_scalar value) r.1
+row_test key value r = same_key key r.0 && list_any (eq_by_cmp scalar_cmp value) r.1
 
 and_false : (a : Bool) → false ≡ (a && false)
 and_false true = refl
 and_false false = refl
 
-passes-with_key : (key : List ℕ) (value : Scalar) (k : List ℕ) (vs : List Scalar) → passes (row_test key value) (with_key k vs) ≡ (same_key key k && list_any (same_scalar value) vs)
+passes-with_key : (key : List ℕ) (value : Scalar) (k : List ℕ) (vs : List Scalar) → passes (row_test key value) (with_key k vs) ≡ (same_key key k && list_any (eq_by_cmp scalar_cmp value) vs)
 passes-with_key key value k [] = and_false (same_key key k)
 passes-with_key key value k (v ∷ vs) = refl
 

@@ -26,12 +26,9 @@ sets_in (shows maps regs sets counters) = sets
 abbrev pub counters_in : Shown → Option (List (List ℕ × ℤ))
 counters_in (shows maps regs sets counters) = counters
 
-abbrev pub same_scalar : Scalar → Scalar → Bool
-same_scalar = eq_by_cmp scalar_cmp
-
 -- whether the value stands under the key
 abbrev pub has_value : List (List ℕ × List Scalar) → List ℕ → Scalar → Bool
-has_value rows key value = list_any (λ r. same_key key r.0 && list_any (same_scalar value) r.1) rows
+has_value rows key value = list_any (λ r. same_key key r.0 && list_any (eq_by_cmp scalar_cmp value) r.1) rows
 
 -- what the maps have under a key
 abbrev pub map_at : ShownMaps → List ℕ → Option Shown

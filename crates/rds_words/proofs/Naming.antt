@@ -1,9 +1,9 @@
 -- Names one after the other.
 use Rattle.std.proofs.Common.{ℕ, List, ◌++◌, Result, Ok}
 use Rattle.rds_names.specs.declared.fault.Fault.{Fault}
-use Rattle.rds_json.specs.MayGive.{and_then}
+use Rattle.rds_names.specs.AndThen.{◌>>=◌}
 use Rattle.rds_words.specs.Meaning.{names_of}
 
 -- the names, with those that texts are
 abbrev pub names_with : List (List ℕ) → List (List ℕ) → Result (List (List ℕ)) Fault
-names_with names texts = and_then (names_of texts) (λ ns. Ok (names ++ ns))
+names_with names texts = names_of texts >>= λ ns. Ok (names ++ ns)

@@ -6,7 +6,7 @@ use Rattle.rds_names.specs.declared.fault.Fault.{Fault}
 use Rattle.rds_names.specs.declared.fault.Fault.TheVariants.{Memory}
 use Rattle.rds_state.specs.declared.command.Command.{Command}
 use Rattle.rds_state.specs.declared.command.Command.TheVariants as commands
-use Rattle.rds_json.specs.MayGive.{and_then}
+use Rattle.rds_names.specs.AndThen.{◌>>=◌}
 use Rattle.rds_words.specs.Meaning.{IsAmount, IsCommand}
 use Rattle.rds_words.specs.declared.tasks.EditWords.{EditWords}
 use Rattle.rds_words.specs.declared.tasks.EditWords.TheVariants.{Set, Add, Del, Clear, Inc, Dec}
@@ -18,10 +18,10 @@ amount_once text (Err e) (Ok n) h k = absurd (h.0 k.0.0)
 amount_once text (Err e) (Err f) h k = ap Err (h.1 ∙ sym k.1)
 
 abbrev Counts : (List ℕ → ℕ → Command) → List ℕ → Result Command Fault → Result (List ℕ) Fault → Type 0
-Counts make by r key = MatchResult key (λ k. (amount : Result ℕ Fault) × IsAmount by amount × (r ≡ and_then amount (λ n. Ok (make k n)))) (λ e. r ≡ Err e)
+Counts make by r key = MatchResult key (λ k. (amount : Result ℕ Fault) × IsAmount by amount × (r ≡ (amount >>= λ n. Ok (make k n)))) (λ e. r ≡ Err e)
 
 count_once : (make : List ℕ → ℕ → Command) (by : List ℕ) (r s : Result Command Fault) (key : Result (List ℕ) Fault) → Counts make by r key → Counts make by s key → r ≡ s
-count_once make by r s (Ok k) h i = h.2 ∙ ap (λ (a : Result ℕ Fault). and_then a (λ n. Ok (make k n))) (amount_once by h.0 i.0 h.1 i.1) ∙ sym i.2
+count_once make by r s (Ok k) h i = h.2 ∙ ap (λ (a : Result ℕ Fault). a >>= λ n. Ok (make k n)) (amount_once by h.0 i.0 h.1 i.1) ∙ sym i.2
 count_once make by r s (Err e) h i = h ∙ sym i
 
 pub command_once : (words : EditWords) (r s : Result Command Fault) → IsCommand words r → IsCommand words s → r ≡ s

@@ -14,7 +14,7 @@ use Rattle.rds_names.specs.Path.{path_of}
 use Rattle.rds_names.specs.Roster.{RosterValue, roster_of}
 use Rattle.rds_state.specs.declared.command.Command.{Command}
 use Rattle.rds_state.specs.declared.command.Command.TheVariants as commands
-use Rattle.rds_json.specs.MayGive.{and_then}
+use Rattle.rds_names.specs.AndThen.{◌>>=◌}
 use Rattle.rds_json.specs.Scalar.{scalar_of}
 use Rattle.rds_words.specs.declared.tasks.EditWords.{EditWords}
 use Rattle.rds_words.specs.declared.tasks.EditWords.TheVariants.{Set, Add, Del, Clear, Inc, Dec}
@@ -34,21 +34,21 @@ IsAmount text amount = ParsesUnsigned 64 10 text amount × IfErr amount (λ e. e
 
 -- the command of a key and an amount
 abbrev pub IsCount : (List ℕ → ℕ → Command) → List ℕ → List ℕ → Result Command Fault → Type 0
-IsCount make key by r = MatchResult (key_of key) (λ k. (amount : Result ℕ Fault) × IsAmount by amount × (r ≡ and_then amount (λ n. Ok (make k n)))) (λ e. r ≡ Err e)
+IsCount make key by r = MatchResult (key_of key) (λ k. (amount : Result ℕ Fault) × IsAmount by amount × (r ≡ (amount >>= λ n. Ok (make k n)))) (λ e. r ≡ Err e)
 
 -- the command, or the fault of the first word that is none
 abbrev pub IsCommand : EditWords → Result Command Fault → Type 0
-IsCommand (Set path value) r = r ≡ and_then (path_of path.now) (λ p. and_then (value_of value.now) (λ v. Ok (commands.Set p v)))
-IsCommand (Add path value) r = r ≡ and_then (path_of path.now) (λ p. and_then (value_of value.now) (λ v. Ok (commands.Add p v)))
-IsCommand (Del path value) r = r ≡ and_then (path_of path.now) (λ p. and_then (value_of value.now) (λ v. Ok (commands.Del p v)))
-IsCommand (Clear path) r = r ≡ and_then (path_of path.now) (λ p. Ok (commands.Clear p))
+IsCommand (Set path value) r = r ≡ (path_of path.now >>= λ p. value_of value.now >>= λ v. Ok (commands.Set p v))
+IsCommand (Add path value) r = r ≡ (path_of path.now >>= λ p. value_of value.now >>= λ v. Ok (commands.Add p v))
+IsCommand (Del path value) r = r ≡ (path_of path.now >>= λ p. value_of value.now >>= λ v. Ok (commands.Del p v))
+IsCommand (Clear path) r = r ≡ (path_of path.now >>= λ p. Ok (commands.Clear p))
 IsCommand (Inc key by) r = IsCount commands.Inc key.now by.now r
 IsCommand (Dec key by) r = IsCount commands.Dec key.now by.now r
 
 -- the names, up to the first text that is none
 abbrev pub names_of : List (List ℕ) → Result (List (List ℕ)) Fault
 names_of [] = Ok []
-names_of (text ∷ texts) = and_then (name_of text) (λ name. and_then (names_of texts) (λ names. Ok (name ∷ names)))
+names_of (text ∷ texts) = name_of text >>= λ name. names_of texts >>= λ names. Ok (name ∷ names)
 
 -- the number of a name in the roster
 abbrev pub place_in : RosterValue → List ℕ → Result (RosterValue × ℕ) Fault
@@ -60,7 +60,7 @@ place_in roster own = placed (position (bytes_eq own) roster.names)
 
 -- a roster and an own number, or the fault of the first word that is none
 abbrev pub roster_in : List ℕ → List ℕ → List (List ℕ) → Result (RosterValue × ℕ) Fault
-roster_in group own names = and_then (key_of group) (λ g. and_then (name_of own) (λ o. and_then (names_of names) (λ ns. and_then (roster_of g ns) (λ r. place_in r o))))
+roster_in group own names = key_of group >>= λ g. name_of own >>= λ o. names_of names >>= λ ns. roster_of g ns >>= λ r. place_in r o
 
 -- the same, of the words of `init`
 abbrev pub roster_for : InitWords → Result (RosterValue × ℕ) Fault

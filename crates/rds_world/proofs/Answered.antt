@@ -1,5 +1,6 @@
 -- Answers do to the value of a world what they do to the model.
 use Rattle.std.proofs.Common.{◌≡◌, ℕ, ◌<◌, ◌≤◌, suc, zero, inl, inr, Bool, true, false, Ok, Err, List, [], ◌∷◌, ◌++◌, length, Option, Some, None, refl, sym, ap, ◌∙◌, subst, arith, slice_get, nat_lt}
+use Rattle.std.specs.List.{AllZip}
 use Rattle.std.specs.Prelude.{is_some}
 use Rattle.rds_names.specs.Roster.{RosterValue}
 use Rattle.rds_names.specs.declared.fault.Fault.{Fault}
@@ -23,7 +24,7 @@ use Rattle.rds_world.specs.declared.event.Event.TheVariants.{Answer}
 use Rattle.rds_world.specs.declared.event.Done.TheVariants.{Answered}
 use Rattle.rds_world.specs.World.{World, Question, answered, after, refused, reply, unless_there}
 use Rattle.rds_world.specs.Stored.{AskText, AnswerText, WorldValue}
-use Rattle.rds_world.specs.Stands.{state_of, HoldsAsk, HoldsAnswer, Matched, Stands, IsWorld}
+use Rattle.rds_world.specs.Stands.{state_of, HoldsAsk, HoldsAnswer, Stands, IsWorld}
 use Rattle.rds_world.specs.Events.{IsLongAnswer, Refuses, NoMemory, Due, Large, Long}
 use Rattle.rds_world.specs.Replies.{IsReply, HasNoReply, Lacks, Unread, TooBig}
 use Rattle.rds_world.specs.Steps.{IsStopped}
@@ -44,17 +45,17 @@ partner_of P None (Some n) y t e = absurd t
 partner_of P (Some a) None y t e = absurd t
 partner_of P (Some a) (Some n) y t e = (a, refl, subst (P a) (same_some n y e) t)
 
-pub partner : {A C : Type 0} (P : A → C → Type 0) (xs : List A) (ys : List C) (k : ℕ) (y : C) → Matched P xs ys → slice_get ys k ≡ Some y → HasPartner P xs k y
+pub partner : {A C : Type 0} (P : A → C → Type 0) (xs : List A) (ys : List C) (k : ℕ) (y : C) → AllZip P xs ys → slice_get ys k ≡ Some y → HasPartner P xs k y
 partner P xs ys k y m e = (let p = partner_of P (slice_get xs k) (slice_get ys k) y (matched_at P xs ys k m) e in record { it = p.0; there = p.1; related = p.2 })
 
-none_there : {A C : Type 0} (P : A → C → Type 0) (xs : List A) (ys : List C) (k : ℕ) → Matched P xs ys → length ys ≤ k → slice_get xs k ≡ None
+none_there : {A C : Type 0} (P : A → C → Type 0) (xs : List A) (ys : List C) (k : ℕ) → AllZip P xs ys → length ys ≤ k → slice_get xs k ≡ None
 none_there P [] [] k m h = refl
 none_there P [] (y ∷ ys) k m h = absurd m
 none_there P (x ∷ xs) [] k m h = absurd m
 none_there P (x ∷ xs) (y ∷ ys) zero m h = absurd (omega (arith, h))
 none_there P (x ∷ xs) (y ∷ ys) (suc k) m h = none_there P xs ys k m.1 (omega (arith, h))
 
-pub absent_at : {A C : Type 0} (P : A → C → Type 0) (xs : List A) (ys : List C) (k : ℕ) → Matched P xs ys → length ys ≤ k → unless_there (is_some (slice_get xs k)) None ≡ Some NoSuch
+pub absent_at : {A C : Type 0} (P : A → C → Type 0) (xs : List A) (ys : List C) (k : ℕ) → AllZip P xs ys → length ys ≤ k → unless_there (is_some (slice_get xs k)) None ≡ Some NoSuch
 absent_at P xs ys k m h = ap (λ o. unless_there (is_some o) None) (none_there P xs ys k m h)
 
 pub present_at : {A : Type 0} (xs : List A) (k : ℕ) (x : A) → slice_get xs k ≡ Some x → unless_there (is_some (slice_get xs k)) None ≡ None

@@ -1,5 +1,6 @@
 -- What holds after each event, for fixed tables of all updates of the run and of the states on which they ran.
 use Rattle.std.proofs.Common.{◌≡◌, ℕ, ◌<◌, Bool, true, refl, sym, ◌∙◌, subst, inl, inr, ◌⊎◌, arith, Some, None}
+use Rattle.std.specs.List.{AllZip}
 use Rattle.rds_names.specs.declared.entry.Entry.{Entry}
 use Rattle.rds_dots.specs.declared.dot.Dot.{Dot}
 use Rattle.rds_life.specs.Life.{Live, IsNoLater}
@@ -13,7 +14,6 @@ use Rattle.rds_world.specs.Updates.{effect_of}
 use Rattle.rds_world.proofs.States.{agree_if}
 use Rattle.rds_world.proofs.Effects.{next_dot, next_unseen, effect_live}
 use Rattle.rds_world.proofs.Joins.{IsGathered}
-use Rattle.rds_world.specs.Stands.{Matched}
 
 -- An update ran on the join of what its memory held, which held all that its members held.
 pub record IsRecorded (T : ℕ → Update) (B : ℕ → Coordinates) (i : ℕ) : Type 0 where
@@ -58,8 +58,8 @@ pub record Lawful (T : ℕ → Update) (B : ℕ → Coordinates) (h : Holdings) 
   pub line : (r i j : ℕ) → h.memory r i ≡ true → h.memory r j ≡ true → (T i).replica ≡ r → (T j).replica ≡ r → i < j → (T j).past i ≡ true
   pub memory : (r : ℕ) → IsGathered (effect_of T B) (h.memory r) (w.memory r)
   pub kept : (r : ℕ) → IsGathered (effect_of T B) (h.kept r) (w.kept r)
-  pub asks : Matched (IsAsk T B h w) w.asks h.asks
-  pub answers : Matched (IsAnswer T B h w) w.answers h.answers
+  pub asks : AllZip (IsAsk T B h w) w.asks h.asks
+  pub answers : AllZip (IsAnswer T B h w) w.answers h.answers
 
 module _ (T : ℕ → Update) (B : ℕ → Coordinates) (h : Holdings) (w : World) (l : Lawful T B h w) where
   -- what a member's own replica has of it

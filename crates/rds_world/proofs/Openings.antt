@@ -1,5 +1,6 @@
 -- Worlds without events.
 use Rattle.std.proofs.Common.{◌≡◌, ℕ, ◌≤◌, zero, suc, ◌+◌, ◌&&◌, List, [], ◌∷◌, ◌++◌, length, length-append, Some, None, refl, sym, ap, ◌∙◌, subst, slice_get, inl, inr, ◌⊎◌, IsTrue}
+use Rattle.std.specs.List.{AllZip}
 use mathlib.Core.Path.{fun_ext}
 use Rattle.std.specs.Prelude.{nat_le}
 use Rattle.std.specs.FinMap as map
@@ -15,7 +16,7 @@ use Rattle.rds_state.specs.Fits.{ReplicaValue}
 use Rattle.rds_state.specs.Value.{coordinates}
 use Rattle.rds_world.specs.World.{empty, start}
 use Rattle.rds_world.specs.Stored.{WorldValue}
-use Rattle.rds_world.specs.Stands.{Matched, HoldsAsk, HoldsAnswer, state_of, AreAtTheirPlaces, Stands, IsNew, AreNew, IsWorld}
+use Rattle.rds_world.specs.Stands.{HoldsAsk, HoldsAnswer, state_of, AreAtTheirPlaces, Stands, IsNew, AreNew, IsWorld}
 use Rattle.rds_world.proofs.Coherent.{coherent_start}
 use Rattle.rds_world.proofs.Tables.{same_some}
 
@@ -49,8 +50,8 @@ module _ (v : WorldValue) (memory : AreNew v.roster v.memory (length v.memory)) 
     kept_places = new_places v.kept kept;
     memory = λ r. new_states v.roster v.memory (length v.memory) r memory;
     kept = λ r. new_states v.roster v.kept (length v.memory) r kept;
-    asks = subst (λ l. Matched (HoldsAsk (length v.roster.names)) [] l) (sym asks) tt;
-    answers = subst (λ l. Matched (HoldsAnswer (length v.roster.names) [] v.asks) [] l) (sym answers) tt;
+    asks = subst (λ l. AllZip (HoldsAsk (length v.roster.names)) [] l) (sym asks) tt;
+    answers = subst (λ l. AllZip (HoldsAnswer (length v.roster.names) [] v.asks) [] l) (sym answers) tt;
   }
 
   pub start_world : length v.memory ≤ length v.roster.names → IsWorld v

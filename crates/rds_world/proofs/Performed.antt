@@ -1,5 +1,6 @@
 -- Each event does to the value of a world what it does to the model.
 use Rattle.std.proofs.Common.{◌≡◌, ◌≢◌, Bool, true, false, ◌+◌, suc, zero, ℕ, ◌<◌, ◌≤◌, List, [], ◌∷◌, ◌++◌, length, length-append, Option, Some, None, refl, sym, ap, ◌∙◌, subst, arith, slice_get, inl, inr, ◌⊎◌, count_by, nat_lt}
+use Rattle.std.specs.List.{AllZip}
 use Rattle.std.proofs.Math.ListN.{set, length-set}
 use Rattle.std.proofs.lemmas.Bool.{lt-ltb, le-ltb}
 use Rattle.rds_names.specs.Roster.{RosterValue}
@@ -21,7 +22,7 @@ use Rattle.rds_world.specs.declared.event.Event.TheVariants.{Edit, Save, Crash, 
 use Rattle.rds_world.specs.declared.event.Done.TheVariants.{Edited, Plain, Asked}
 use Rattle.rds_world.specs.World.{World, edited, refused, unless_there}
 use Rattle.rds_world.specs.Stored.{AskText, WorldValue}
-use Rattle.rds_world.specs.Stands.{state_of, HoldsAsk, Stands, HasModel, Matched, IsWorld}
+use Rattle.rds_world.specs.Stands.{state_of, HoldsAsk, Stands, HasModel, IsWorld}
 use Rattle.rds_world.specs.Events.{Refuses, NoMemory, Due, Long, SavesTooLong, TakesMemory, IsLongSnapshot}
 use Rattle.rds_world.specs.Steps.{IsStep, IsStopped}
 use Rattle.rds_world.proofs.Edits.{edit_is}
@@ -36,7 +37,7 @@ pub record IsDoneTo (v : WorldValue) (e : Event) (answer : Rattle.rds_world.spec
 pub read_at : {A : Type 0} (xs : List A) (i : ℕ) (x y : A) → slice_get xs i ≡ Some x → slice_get xs i ≡ Some y → y ≡ x
 read_at xs i x y p q = same_some y x (sym q ∙ p)
 
-pub matched_length : {A C : Type 0} (P : A → C → Type 0) (xs : List A) (ys : List C) → Matched P xs ys → length xs ≡ length ys
+pub matched_length : {A C : Type 0} (P : A → C → Type 0) (xs : List A) (ys : List C) → AllZip P xs ys → length xs ≡ length ys
 matched_length P [] [] m = refl
 matched_length P [] (y ∷ ys) m = absurd m
 matched_length P (x ∷ xs) [] m = absurd m

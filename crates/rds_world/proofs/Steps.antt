@@ -1,5 +1,6 @@
 -- Each event keeps the invariant.
 use Rattle.std.proofs.Common.{◌≡◌, ℕ, ◌<◌, suc, Bool, true, List, [], ◌∷◌, ◌++◌, refl, sym, ap, ◌∙◌, subst, inl, inr, ◌⊎◌, arith, ◌==◌, ◌||◌, nat_lt, Option, Some, None, slice_get}
+use Rattle.std.specs.List.{AllZip}
 use Rattle.std.proofs.lemmas.Bool.Decides.{nat_tests}
 use Rattle.rds_state.specs.Coordinates.{Coordinates, AtMost, AreCompatible, join}
 use Rattle.rds_state.specs.Edit.{effect, refusal}
@@ -15,7 +16,6 @@ use Rattle.rds_delta.proofs.LeastLaws.{grown_delta}
 use Rattle.rds_world.proofs.Effects.{effect_agrees}
 use Rattle.rds_world.proofs.Coherent.{there, is_there}
 use Rattle.rds_world.proofs.Joins.{IsGathered, gathered_smaller, gathered_none, gathered_single, gathered_both, in_either, in_left, in_right}
-use Rattle.rds_world.specs.Stands.{Matched}
 use Rattle.rds_world.proofs.Tables.{Together, matched_last, matched_weaker, matched_at, put_one, put_two, put_here, put_there}
 use Rattle.rds_world.proofs.Invariant.{IsRecorded, IsBacked, IsAsk, IsAnswer, Lawful, own, compatible, kept_own}
 
@@ -100,7 +100,7 @@ module _ (T : ℕ → Update) (B : ℕ → Coordinates) (h : Holdings) (w : Worl
   }
 
   -- asks and answers do not depend on memory
-  asks_stay : (h' : Holdings) (w' : World) → h'.kept ≡ h.kept → w'.kept ≡ w.kept → Matched (IsAsk T B h' w') w.asks h.asks
+  asks_stay : (h' : Holdings) (w' : World) → h'.kept ≡ h.kept → w'.kept ≡ w.kept → AllZip (IsAsk T B h' w') w.asks h.asks
   asks_stay h' w' p q = matched_weaker (IsAsk T B h w) (IsAsk T B h' w') w.asks h.asks (λ m a x. record {
     same = x.same;
     below = subst (λ f. AtMost m.state (f m.asker)) (sym q) x.below;
@@ -109,7 +109,7 @@ module _ (T : ℕ → Update) (B : ℕ → Coordinates) (h : Holdings) (w : Worl
     join = x.join;
   }) l.asks
 
-  answers_stay : (h' : Holdings) (w' : World) → h'.kept ≡ h.kept → w'.kept ≡ w.kept → Matched (IsAnswer T B h' w') w.answers h.answers
+  answers_stay : (h' : Holdings) (w' : World) → h'.kept ≡ h.kept → w'.kept ≡ w.kept → AllZip (IsAnswer T B h' w') w.answers h.answers
   answers_stay h' w' p q = matched_weaker (IsAnswer T B h w) (IsAnswer T B h' w') w.answers h.answers (λ m a x. record {
     same = x.same;
     full = x.full;

@@ -1,8 +1,8 @@
 -- A function with another value at one place, and lists that go side by side.
 use Rattle.std.proofs.Common.{◌≡◌, ℕ, suc, zero, Bool, true, false, cond, List, [], ◌∷◌, ◌++◌, refl, sym, subst, inl, inr, ◌⊎◌, arith, ◌==◌, length, Option, Some, None, slice_get}
+use Rattle.std.specs.List.{AllZip}
 use Rattle.std.proofs.lemmas.Bool.Decides.{nat_tests}
 use Rattle.rds_world.specs.World.{put}
-use Rattle.rds_world.specs.Stands.{Matched}
 
 is_same : (i n : ℕ) → (i == n) ≡ true → i ≡ n
 is_same i n h = grind (arith, nat_tests)
@@ -33,19 +33,19 @@ Together P None (Some y) = ⊥
 Together P (Some x) None = ⊥
 Together P (Some x) (Some y) = P x y
 
-pub matched_last : {A C : Type 0} (P : A → C → Type 0) (xs : List A) (ys : List C) (x : A) (y : C) → Matched P xs ys → P x y → Matched P (xs ++ x ∷ []) (ys ++ y ∷ [])
+pub matched_last : {A C : Type 0} (P : A → C → Type 0) (xs : List A) (ys : List C) (x : A) (y : C) → AllZip P xs ys → P x y → AllZip P (xs ++ x ∷ []) (ys ++ y ∷ [])
 matched_last P [] [] x y m h = (h, tt)
 matched_last P [] (b ∷ ys) x y m h = absurd m
 matched_last P (a ∷ xs) [] x y m h = absurd m
 matched_last P (a ∷ xs) (b ∷ ys) x y m h = (m.0, matched_last P xs ys x y m.1 h)
 
-pub matched_weaker : {A C : Type 0} (P Q : A → C → Type 0) (xs : List A) (ys : List C) → ((x : A) (y : C) → P x y → Q x y) → Matched P xs ys → Matched Q xs ys
+pub matched_weaker : {A C : Type 0} (P Q : A → C → Type 0) (xs : List A) (ys : List C) → ((x : A) (y : C) → P x y → Q x y) → AllZip P xs ys → AllZip Q xs ys
 matched_weaker P Q [] [] f m = tt
 matched_weaker P Q [] (b ∷ ys) f m = m
 matched_weaker P Q (a ∷ xs) [] f m = m
 matched_weaker P Q (a ∷ xs) (b ∷ ys) f m = (f a b m.0, matched_weaker P Q xs ys f m.1)
 
-pub matched_at : {A C : Type 0} (P : A → C → Type 0) (xs : List A) (ys : List C) (k : ℕ) → Matched P xs ys → Together P (slice_get xs k) (slice_get ys k)
+pub matched_at : {A C : Type 0} (P : A → C → Type 0) (xs : List A) (ys : List C) (k : ℕ) → AllZip P xs ys → Together P (slice_get xs k) (slice_get ys k)
 matched_at P [] [] k m = tt
 matched_at P [] (b ∷ ys) k m = absurd m
 matched_at P (a ∷ xs) [] k m = absurd m

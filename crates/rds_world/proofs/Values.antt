@@ -1,5 +1,6 @@
 -- Of one roster, one value stands for a world of the model.
 use Rattle.std.proofs.Common.{◌≡◌, ℕ, suc, Bool, true, false, cond, List, [], ◌∷◌, length, Some, refl, sym, ap, ◌∙◌, subst, slice_get, arith}
+use Rattle.std.specs.List.{AllZip}
 use Rattle.std.specs.FinMap as map
 use Rattle.std.specs.FinSet as set
 use Rattle.rds_names.specs.Roster.{RosterValue}
@@ -17,7 +18,7 @@ use Rattle.rds_codec.specs.AnswerTexts.{answer, answer_text}
 use Rattle.rds_codec.specs.DigestTexts.{digest_text}
 use Rattle.rds_world.specs.World.{Question, Reply}
 use Rattle.rds_world.specs.Stored.{AskText, AnswerText}
-use Rattle.rds_world.specs.Stands.{AreAtTheirPlaces, HoldsAnswer, HoldsAsk, Matched, WorldsHaveOneValue, state_of}
+use Rattle.rds_world.specs.Stands.{AreAtTheirPlaces, HoldsAnswer, HoldsAsk, WorldsHaveOneValue, state_of}
 use Rattle.rds_world.proofs.Tables.{same_some}
 
 -- ---- lists
@@ -30,7 +31,7 @@ same_list (x ∷ xs) [] len at = absurd (omega (arith, len))
 same_list (x ∷ xs) (y ∷ ys) len at = let first = at 0 x y refl refl in let more = same_list xs ys (omega (arith, len)) (λ k. at (suc k)) in λ i. first i ∷ more i
 
 -- lists that go beside one list, each by a relation, where these leave one choice
-same_matched : {A C : Type 0} (P Q : A → C → Type 0) (xs : List A) (ys zs : List C) → ((x : A) (y z : C) → P x y → Q x z → y ≡ z) → Matched P xs ys → Matched Q xs zs → ys ≡ zs
+same_matched : {A C : Type 0} (P Q : A → C → Type 0) (xs : List A) (ys zs : List C) → ((x : A) (y z : C) → P x y → Q x z → y ≡ z) → AllZip P xs ys → AllZip Q xs zs → ys ≡ zs
 same_matched P Q [] [] [] one m n = refl
 same_matched P Q [] [] (z ∷ zs) one m n = absurd n
 same_matched P Q [] (y ∷ ys) zs one m n = absurd m

@@ -1,5 +1,6 @@
 -- Which world of the model the replicas, asks and answers that code holds stand for.
 use Rattle.std.specs.Prelude.{◌≡◌, ◌≤◌, ◌<◌, ℕ, List, [], ◌∷◌, Option, Some, None, length, slice_get}
+use Rattle.std.specs.List.{AllZip}
 use Rattle.std.specs.FinMap as map
 use Rattle.rds_names.specs.Roster.{RosterValue}
 use Rattle.rds_life.specs.Life.{seen_of}
@@ -19,13 +20,6 @@ use Rattle.rds_codec.specs.declared.limits.TheConstants.{LIMIT}
 use Rattle.rds_world.specs.World.{World, Question, Reply, empty}
 use Rattle.rds_world.specs.Coherent.{IsCoherent}
 use Rattle.rds_world.specs.Stored.{AskText, AnswerText, WorldValue}
-
--- two lists of one length, each pair related
-abbrev pub Matched : {A C : Type 0} → (A → C → Type 0) → List A → List C → Type 0
-Matched P [] [] = Unit {0}
-Matched P [] (y ∷ ys) = ⊥
-Matched P (x ∷ xs) [] = ⊥
-Matched P (x ∷ xs) (y ∷ ys) = P x y × Matched P xs ys
 
 -- a replica's state, and the empty one where no replica is
 abbrev pub state_of : Option ReplicaValue → Coordinates
@@ -81,8 +75,8 @@ pub record Stands (v : WorldValue) (w : World) : Type 0 where
   pub kept_places : AreAtTheirPlaces v.roster v.kept
   pub memory : (r : ℕ) → w.memory r ≡ state_of (slice_get v.memory r)
   pub kept : (r : ℕ) → w.kept r ≡ state_of (slice_get v.kept r)
-  pub asks : Matched (HoldsAsk (length v.roster.names)) w.asks v.asks
-  pub answers : Matched (HoldsAnswer (length v.roster.names) w.asks v.asks) w.answers v.answers
+  pub asks : AllZip (HoldsAsk (length v.roster.names)) w.asks v.asks
+  pub answers : AllZip (HoldsAnswer (length v.roster.names) w.asks v.asks) w.answers v.answers
 
 -- of one roster, one value alone stands for a world of the model
 abbrev pub WorldsHaveOneValue : Type 0

@@ -2,7 +2,7 @@ use Rattle.std.proofs.Common.{◌∙◌, ◌<◌, ◌++◌, [], ap, sym, subst, 
 use Rattle.std.specs.Global.{Global}
 use Rattle.std.specs.Prelude.{IfSome}
 use Rattle.rds_names.specs.declared.fault.Fault.{Fault}
-use Rattle.rds_lines.specs.Lines.{line_of}
+use Rattle.rds_lines.specs.Lines.{until_newline}
 use Rattle.rds_lines.specs.Ahead.{IsOfSomeLine, TakesLine, left_of, untaken}
 use Rattle.rds_lines.proofs.Pieces.{Walks, one_line_on, rest_shorter, walks_end, walks_first, walks_kept, walks_nothing, walks_on, walks_out}
 use Rattle.rds_lines.proofs.ahead.Ahead.next_line.Goals.{then-begun, else-begun+in-Ok-1, else-begun+in-Err-1}
@@ -45,7 +45,7 @@ returns-then-ended-clause-taken g c =
 pub returns-then-ended-clause-line : goal.returns-then-ended-clause-line
 returns-then-ended-clause-line g c =
     let held = c.pieces.invariant.held in
-    (held.0 ++ line_of c.fill.new.self, one_line_on held.0 c.fill.new.self held.1, c.text_of-then-ended.ensures (held.0 ++ line_of c.fill.new.self) (c.take_piece-longer.ensures.line held.0 held.2))
+    (held.0 ++ until_newline c.fill.new.self, one_line_on held.0 c.fill.new.self held.1, c.text_of-then-ended.ensures (held.0 ++ until_newline c.fill.new.self) (c.take_piece-longer.ensures.line held.0 held.2))
 
 pub returns-then-is_empty-clause-line : goal.returns-then-is_empty-clause-line
 returns-then-is_empty-clause-line g c =
@@ -73,7 +73,7 @@ pieces-preserved g c =
     let less : left_of c.take_piece-longer.new.self c.fill.new.reader.left < left_of c.args.self.now c.args.reader.now.left = omega (arith, ap length c.take_piece-longer.ensures.rest, rest_shorter c.fill.new.self c.if-is_empty.ensures, c.in_ok-fill.ensures.falls, c.pieces.invariant.within) in
     record {
       walks = subst (λ (a : List ℕ). Walks first (untaken a held) c.take_piece-longer.result.0 true) (sym c.take_piece-longer.ensures.rest) on;
-      held = (c.pieces.invariant.held.0 ++ line_of c.fill.new.self, one_line_on c.pieces.invariant.held.0 c.fill.new.self c.pieces.invariant.held.1, c.take_piece-longer.ensures.line c.pieces.invariant.held.0 c.pieces.invariant.held.2);
+      held = (c.pieces.invariant.held.0 ++ until_newline c.fill.new.self, one_line_on c.pieces.invariant.held.0 c.fill.new.self c.pieces.invariant.held.1, c.take_piece-longer.ensures.line c.pieces.invariant.held.0 c.pieces.invariant.held.2);
       steady = c.in_ok-fill.ensures.steady ∙ c.pieces.invariant.steady;
       within = omega (arith, less);
       less = λ e. less;
