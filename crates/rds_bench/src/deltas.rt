@@ -5,7 +5,7 @@ use crate::report;
 use crate::samples::{Living, state};
 use rds_codec::{encode_certificate, encode_digest, encode_state};
 use rds_delta::{Certificate, Digest, certificate, check, delta};
-use rds_dots::ListSet;
+use rds_gaps::GapSet;
 use rds_names::{Fault, Key, Name, Roster};
 use rds_state::{Replica, State};
 use std::alloc::Global;
@@ -27,8 +27,8 @@ pub enum Asker {
 /// What goes from one replica to another.
 #[derive(Drop)]
 struct Sent {
-    digest: Digest<ListSet>,
-    delta: State<ListSet>,
+    digest: Digest<GapSet>,
+    delta: State<GapSet>,
     certificate: Certificate,
 }
 
@@ -54,7 +54,7 @@ pub fn time(rt: &HostRuntime, dots: u64, asker: Asker) -> io::Result<()>
 }
 
 /// The replica that asks one with so many live dots.
-fn replica(alloc: Global, dots: u64, asker: Asker) -> Result<Replica<ListSet>, Fault>
+fn replica(alloc: Global, dots: u64, asker: Asker) -> Result<Replica<GapSet>, Fault>
     requires least { 10 < dots }
     requires most { dots ≤ 1000000 }
 {
@@ -64,7 +64,7 @@ fn replica(alloc: Global, dots: u64, asker: Asker) -> Result<Replica<ListSet>, F
 }
 
 /// What the replica that asks has of so many live dots.
-fn asking(alloc: Global, dots: u64, asker: Asker) -> Result<State<ListSet>, Fault>
+fn asking(alloc: Global, dots: u64, asker: Asker) -> Result<State<GapSet>, Fault>
     requires least { 10 < dots }
     requires most { dots ≤ 1000000 }
 {
@@ -78,8 +78,8 @@ fn asking(alloc: Global, dots: u64, asker: Asker) -> Result<State<ListSet>, Faul
 fn time_sending(
     rt: &HostRuntime,
     dots: u64,
-    whole: &State<ListSet>,
-    asked: &State<ListSet>,
+    whole: &State<GapSet>,
+    asked: &State<GapSet>,
 ) -> io::Result<Result<Sent, Fault>> {
     let alloc = rt.alloc();
     let start = Instant::now(rt)?;
@@ -123,7 +123,7 @@ fn sizes(alloc: Global, sent: &Sent) -> Result<(usize, usize, usize), Fault> {
 }
 
 /// Prints the last figures.
-fn time_taking(rt: &HostRuntime, asker: &mut Replica<ListSet>, sent: &Sent) -> io::Result<()> {
+fn time_taking(rt: &HostRuntime, asker: &mut Replica<GapSet>, sent: &Sent) -> io::Result<()> {
     let start = Instant::now(rt)?;
     let holds = check(&sent.digest, &sent.delta, &sent.certificate);
     let checked = start.elapsed(rt)?.as_micros();

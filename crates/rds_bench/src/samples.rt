@@ -2,7 +2,8 @@
 ghost use Rattle.std.specs.Prelude.{◌≤◌};
 
 use rds_counts::Counts;
-use rds_dots::{Dot, DotSet, ListSet, Run};
+use rds_dots::{Dot, DotSet, Run};
+use rds_gaps::GapSet;
 use rds_life::Lives;
 use rds_names::{Entry, Fault, Key, Kind, Path, Scalar};
 use rds_state::State;
@@ -41,11 +42,11 @@ fn rows(alloc: Global, dots: u64, living: Living) -> Result<Vec<(Dot, Entry)>, F
 }
 
 /// A state that has seen so many dots of replica 0.
-pub fn state(alloc: Global, dots: u64, living: Living) -> Result<State<ListSet>, Fault>
+pub fn state(alloc: Global, dots: u64, living: Living) -> Result<State<GapSet>, Fault>
     requires least { 1 ≤ dots }
     requires most { dots ≤ 1000000 }
 {
-    let mut seen = ListSet::empty(alloc);
+    let mut seen = GapSet::empty(alloc);
     seen.insert_run(Run {
         replica: 0,
         lo: 1,

@@ -4,7 +4,7 @@ ghost use Rattle.std.specs.Prelude.{◌≤◌};
 use crate::report;
 use crate::samples::{Living, state};
 use rds_codec::{decode_state, encode_state};
-use rds_dots::ListSet;
+use rds_gaps::GapSet;
 use rds_names::Fault;
 use rds_state::State;
 use std::io;
@@ -22,7 +22,7 @@ pub fn time(rt: &HostRuntime, dots: u64) -> io::Result<()>
     }
 }
 
-fn time_state(rt: &HostRuntime, dots: u64, state: &State<ListSet>) -> io::Result<()> {
+fn time_state(rt: &HostRuntime, dots: u64, state: &State<GapSet>) -> io::Result<()> {
     let alloc = rt.alloc();
     let start = Instant::now(rt)?;
     match encode_state(alloc, state) {
@@ -38,7 +38,7 @@ fn time_text(rt: &HostRuntime, dots: u64, text: &[u8], encoded: u128) -> io::Res
     let alloc = rt.alloc();
     let bytes = text.len();
     let start = Instant::now(rt)?;
-    let read: Result<State<ListSet>, Fault> = decode_state(alloc, 1, text);
+    let read: Result<State<GapSet>, Fault> = decode_state(alloc, 1, text);
     match read {
         Ok(_) => {
             let decoded = start.elapsed(rt)?.as_micros();

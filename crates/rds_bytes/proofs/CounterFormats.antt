@@ -13,7 +13,7 @@ use Rattle.rds_bytes.specs.Values.{is_key_text, IsCountRowOf, AreCountsOf}
 use Rattle.rds_bytes.specs.Spelling.{place_text, count_row_text, count_rows_text, counters_text}
 use Rattle.rds_bytes.specs.Reading as read
 use Rattle.rds_bytes.specs.Reading.{number_at, rows_after, last, comes_after_row, is_next_place, is_count, is_second}
-use Rattle.rds_bytes.proofs.Format.{IsPlain, IsBytes, byte_format, number32, number64, plain_then, plain_pair, made_format, when_format, refit}
+use Rattle.rds_bytes.proofs.Format.{IsFormat, IsBytes, byte_format, number32, number64, then_format, pair_format, made_format, when_format, refit}
 use Rattle.rds_bytes.proofs.Lists.{AllAfter, list_format}
 use Rattle.rds_bytes.proofs.PartFormats.{key_format, last-push}
 use Rattle.rds_bytes.proofs.RowsRead.{list_found}
@@ -23,17 +23,17 @@ use Rattle.rds_bytes.proofs.RowsRead.{list_found}
 abbrev ArePlaced : ℕ → List CountRow → List ℕ × ℕ → Type 0
 ArePlaced replicas before p = ((is_key_text p.0 ≡ true) × (p.1 < 256)) × (is_next_place replicas before p ≡ true)
 
-place_format : (replicas : ℕ) (before : List CountRow) → IsPlain (read.place_at replicas before) (λ p. place_text p.0 p.1) (ArePlaced replicas before)
+place_format : (replicas : ℕ) (before : List CountRow) → IsFormat (read.place_at replicas before) (λ p. place_text p.0 p.1) (ArePlaced replicas before)
 unfolding read.place_at
-place_format replicas before = when_format (is_next_place replicas before) _ _ _ (plain_pair _ _ _ _ _ _ key_format byte_format)
+place_format replicas before = when_format (is_next_place replicas before) _ _ _ (pair_format _ _ _ _ _ _ key_format byte_format)
 
 abbrev ArePair : ℕ × ℕ → Type 0
 ArePair x = ((x.0 < 2 ^ 64) × (is_count x.0 ≡ true)) × ((x.1 < 2 ^ 64) × (is_second x.0 x.1 ≡ true))
 
-counts_format : IsPlain read.counts_at (λ x. to_be_bytes w64 x.0 ++ to_be_bytes w64 x.1) ArePair
+counts_format : IsFormat read.counts_at (λ x. to_be_bytes w64 x.0 ++ to_be_bytes w64 x.1) ArePair
 unfolding read.counts_at
 counts_format =
-    plain_then _ _ _ (λ p. to_be_bytes w64) _ (λ p n. (n < 2 ^ 64) × (is_second p n ≡ true)) (when_format is_count _ _ _ number64) (λ p fits. when_format (is_second p) _ _ _ number64)
+    then_format _ _ _ (λ p. to_be_bytes w64) _ (λ p n. (n < 2 ^ 64) × (is_second p n ≡ true)) (when_format is_count _ _ _ number64) (λ p fits. when_format (is_second p) _ _ _ number64)
 
 -- it comes next, and its key and replica and numbers are within their limits
 record IsRowAfter (replicas : ℕ) (before : List CountRow) (r : CountRow) : Type 0 where
@@ -65,11 +65,11 @@ row_back replicas before x h =
     let some = and_right (is_count x.1.1) _ h.1.1.1 in
     (record { next = h.0.1; key = h.0.0.0; is = and_true _ _ (and_true _ _ (and_true _ _ some h.1.0.1) n) (lt-ltb x.0.1 256 h.0.0.1) }, refl)
 
-row_format : (replicas : ℕ) (before : List CountRow) → IsPlain (read.count_row_at replicas before) count_row_text (IsRowAfter replicas before)
+row_format : (replicas : ℕ) (before : List CountRow) → IsFormat (read.count_row_at replicas before) count_row_text (IsRowAfter replicas before)
 unfolding read.count_row_at
 row_format replicas before =
-    made_format read.count_row_by row_parts _ _ _ (IsRowAfter replicas before) _ (row_there replicas before) (row_back replicas before)
-    (plain_pair _ _ _ _ _ _ (place_format replicas before) counts_format)
+    made_format read.count_row_by row_parts _ _ _ (IsRowAfter replicas before) (row_there replicas before) (row_back replicas before)
+    (pair_format _ _ _ _ _ _ (place_format replicas before) counts_format)
 
 -- ---- rows
 
@@ -120,10 +120,10 @@ module _ (replicas : ℕ) where
   abbrev AreRead : List CountRow → Type 0
   AreRead rows = CanCountRows rows × (AreCountRows rows × AreOf rows)
 
-  rows_format : IsPlain (read.count_rows_at replicas) count_rows_text AreRead
+  rows_format : IsFormat (read.count_rows_at replicas) count_rows_text AreRead
   unfolding read.count_rows_at
   rows_format =
-      refit _ _ _ AreRead _
+      refit _ _ _ AreRead
       (λ rows h. (let is = rows_of rows [] h.1 in (h.0, (fits_rows rows is.0.1, is.1))))
       (λ rows h. (h.0, of_rows rows [] (follows_none rows) (rows_fit_of rows h.1.0) h.1.1))
       (list_format _ _ _ (row_format replicas) _ _ _ number32)
@@ -146,9 +146,9 @@ module _ (replicas : ℕ) where
       let same = count_rows-counted rows h.1.0 in
       ((record { rows = rows; are_rows = h.1.0; each_row = h.1.1; value = refl }, subst CanCountRows (sym same) h.0), same)
 
-  pub counters_format : IsPlain (read.counters_at replicas) counters_text AreCounts
+  pub counters_format : IsFormat (read.counters_at replicas) counters_text AreCounts
   unfolding read.counters_at counters_text
-  counters_format = made_format counted count_rows _ count_rows_text AreRead AreCounts _ there back rows_format
+  counters_format = made_format counted count_rows _ count_rows_text AreRead AreCounts there back rows_format
 
   -- rows that were read are rows
   pub count_rows_read : (bytes : List ℕ) (n : ℕ) (middle : List ℕ) (rows : List CountRow) (rest : List ℕ) → IsBytes bytes

@@ -1,5 +1,5 @@
 -- A set of dots is a format.
-use Rattle.std.proofs.Common.{◌≡◌, ℕ, ◌+◌, ◌^◌, ◌<◌, ◌≤◌, true, false, leb, List, [], ◌∷◌, ◌++◌, length, Option, refl, sym, subst, arith}
+use Rattle.std.proofs.Common.{◌≡◌, ℕ, ◌+◌, ◌^◌, ◌<◌, ◌≤◌, true, leb, List, [], ◌∷◌, ◌++◌, length, Option, refl, sym, subst, arith}
 use Rattle.std.specs.Int.{w64, to_be_bytes}
 use Rattle.std.proofs.lemmas.Bool.{leb-true, ltb-true, le-leb, lt-ltb}
 use Rattle.rds_dots.specs.Dots.{Dots}
@@ -13,7 +13,7 @@ use Rattle.rds_bytes.specs.RowDots.{dots_of_rows}
 use Rattle.rds_bytes.specs.Spelling.{gap_text, gaps_text, dot_row_text, dot_rows_text, dots_text}
 use Rattle.rds_bytes.specs.Reading as read
 use Rattle.rds_bytes.specs.Reading.{byte_at, number_at, then_at, when_at, is_between, is_end, last, least_lo, least_replica}
-use Rattle.rds_bytes.proofs.Format.{IsFormat, IsPlain, byte_format, number16, number32, number64, plain_then, plain_pair, made_format, when_format, capped_format, refit}
+use Rattle.rds_bytes.proofs.Format.{IsFormat, byte_format, number16, number32, number64, then_format, pair_format, made_format, when_format, refit}
 use Rattle.rds_bytes.proofs.Lists.{AllAfter, list_format}
 use Rattle.rds_bytes.proofs.PartFormats.{last-push}
 use Rattle.rds_bytes.proofs.RowAlgebra.{GapsStand, RowStands, RowsStand}
@@ -37,11 +37,11 @@ gap_back : (top : ℕ) (before : List Gap) (p : ℕ × ℕ) → AreEnds top befo
 gap_back top before p h =
     ((leb-true (least_lo (last before)) p.0 h.0.1, (leb-true p.0 p.1 (and_left (leb p.0 p.1) _ h.1.1), ltb-true p.1 top (and_right (leb p.0 p.1) _ h.1.1))), refl)
 
-gap_format : (top : ℕ) → top ≤ 281474976710655 → (before : List Gap) → IsPlain (read.gap_at top before) gap_text (IsGapAfter top before)
+gap_format : (top : ℕ) → top ≤ 281474976710655 → (before : List Gap) → IsFormat (read.gap_at top (last before)) gap_text (IsGapAfter top before)
 unfolding read.gap_at
 gap_format top most before =
-    made_format read.gap_by (λ g. (g.lo, g.hi)) _ _ _ (IsGapAfter top before) _ (gap_there top most before) (gap_back top before)
-    (plain_then _ _ _ (λ lo. to_be_bytes w64) _ (λ lo hi. (hi < 2 ^ 64) × (is_end top lo hi ≡ true)) (when_format (leb (least_lo (last before))) _ _ _ number64) (λ lo fits. when_format (is_end top lo) _ _ _ number64))
+    made_format read.gap_by (λ g. (g.lo, g.hi)) _ _ _ (IsGapAfter top before) (gap_there top most before) (gap_back top before)
+    (then_format _ _ _ (λ lo. to_be_bytes w64) _ (λ lo hi. (hi < 2 ^ 64) × (is_end top lo hi ≡ true)) (when_format (leb (least_lo (last before))) _ _ _ number64) (λ lo fits. when_format (is_end top lo) _ _ _ number64))
 
 gaps_of : (top : ℕ) (gs before : List Gap) → AllAfter (IsGapAfter top) before gs → GapsStand (least_lo (last before)) top gs
 gaps_of top [] before h = tt
@@ -55,10 +55,10 @@ of_gaps top (g ∷ gs) before h = (h.0, of_gaps top gs (before ++ g ∷ []) (sub
 abbrev pub CanCount : List Gap → Type 0
 CanCount gs = length gs < 2 ^ 32
 
-gaps_format : (top : ℕ) → top ≤ 281474976710655 → IsPlain (read.gaps_at top) gaps_text (λ gs. CanCount gs × GapsStand 1 top gs)
+gaps_format : (top : ℕ) → top ≤ 281474976710655 → IsFormat (read.gaps_at top) gaps_text (λ gs. CanCount gs × GapsStand 1 top gs)
 unfolding read.gaps_at
 gaps_format top most =
-    refit _ _ _ (λ gs. CanCount gs × GapsStand 1 top gs) _ (λ gs h. (h.0, gaps_of top gs [] h.1)) (λ gs h. (h.0, of_gaps top gs [] h.1))
+    refit _ _ _ (λ gs. CanCount gs × GapsStand 1 top gs) (λ gs h. (h.0, gaps_of top gs [] h.1)) (λ gs h. (h.0, of_gaps top gs [] h.1))
     (list_format _ _ _ (gap_format top most) _ _ _ number32)
 
 -- ---- rows
@@ -66,17 +66,17 @@ gaps_format top most =
 abbrev AreNumbers : ℕ × List Gap → Type 0
 AreNumbers p = ((p.0 < 2 ^ 64) × (is_between 1 281474976710655 p.0 ≡ true)) × (CanCount p.1 × GapsStand 1 p.0 p.1)
 
-numbers_format : IsPlain read.numbers_at (λ p. to_be_bytes w64 p.0 ++ gaps_text p.1) AreNumbers
+numbers_format : IsFormat read.numbers_at (λ p. to_be_bytes w64 p.0 ++ gaps_text p.1) AreNumbers
 unfolding read.numbers_at
 numbers_format =
-    plain_then _ _ _ (λ top. gaps_text) _ (λ top gs. CanCount gs × GapsStand 1 top gs) (when_format (is_between 1 281474976710655) _ _ _ number64)
+    then_format _ _ _ (λ top. gaps_text) _ (λ top gs. CanCount gs × GapsStand 1 top gs) (when_format (is_between 1 281474976710655) _ _ _ number64)
     (λ top fits. gaps_format top (leb-true top 281474976710655 (and_right (leb 1 top) _ fits.1)))
 
 abbrev IsRowAfter : ℕ → List DotRow → DotRow → Type 0
 IsRowAfter replicas before r = ((least_replica (last before) ≤ r.replica) × RowStands (numbers replicas) r) × CanCount r.gaps
 
 abbrev AreRowParts : ℕ → List DotRow → ℕ × (ℕ × List Gap) → Type 0
-AreRowParts replicas before p = ((p.0 < 256) × (read.is_next_replica replicas before p.0 ≡ true)) × AreNumbers p.1
+AreRowParts replicas before p = ((p.0 < 256) × (read.is_next_replica replicas (least_replica (last before)) p.0 ≡ true)) × AreNumbers p.1
 
 row_there : (replicas : ℕ) → (before : List DotRow) (r : DotRow) → IsRowAfter replicas before r → AreRowParts replicas before (r.replica, (r.top, r.gaps)) × (r ≡ r)
 row_there replicas before r h =
@@ -109,11 +109,11 @@ row_back replicas before p h =
       refl,
     )
 
-row_format : (replicas : ℕ) → (before : List DotRow) → IsPlain (read.dot_row_at replicas before) dot_row_text (IsRowAfter replicas before)
+row_format : (replicas : ℕ) → (before : List DotRow) → IsFormat (read.dot_row_at replicas before) dot_row_text (IsRowAfter replicas before)
 unfolding read.dot_row_at
 row_format replicas before =
-    made_format read.dot_row_by (λ r. (r.replica, (r.top, r.gaps))) _ _ _ (IsRowAfter replicas before) _ (row_there replicas before) (row_back replicas before)
-    (plain_pair _ _ _ _ _ _ (when_format (read.is_next_replica replicas before) _ _ _ byte_format) numbers_format)
+    made_format read.dot_row_by (λ r. (r.replica, (r.top, r.gaps))) _ _ _ (IsRowAfter replicas before) (row_there replicas before) (row_back replicas before)
+    (pair_format _ _ _ _ _ _ (when_format (read.is_next_replica replicas (least_replica (last before))) _ _ _ byte_format) numbers_format)
 
 rows_of : (replicas : ℕ) (rows before : List DotRow) → AllAfter (IsRowAfter replicas) before rows → RowsStand (numbers replicas) (least_replica (last before)) rows × CanCountAll rows
 rows_of replicas [] before h = (tt, tt)
@@ -136,10 +136,10 @@ few_rows n (r ∷ rows) least le stand =
 abbrev pub AreRows : ℕ → List DotRow → Type 0
 AreRows replicas rows = RowsStand (numbers replicas) 0 rows × CanCountAll rows
 
-pub rows_format : (replicas : ℕ) → IsPlain (read.dot_rows_at replicas) dot_rows_text (AreRows replicas)
+pub rows_format : (replicas : ℕ) → IsFormat (read.dot_rows_at replicas) dot_rows_text (AreRows replicas)
 unfolding read.dot_rows_at
 rows_format replicas =
-    refit _ _ _ (AreRows replicas) _ (λ rows h. rows_of replicas rows [] h.1)
+    refit _ _ _ (AreRows replicas) (λ rows h. rows_of replicas rows [] h.1)
     (λ rows h. (let len = few_rows (numbers replicas) rows 0 (omega arith) h.0 in let small = few replicas in (omega arith, of_rows replicas rows [] h)))
     (list_format _ _ _ (row_format replicas) _ _ _ number16)
 
@@ -157,11 +157,7 @@ set_there replicas s h = let is = dots_there replicas s h.0 in ((is.0, h.1), is.
 set_back : (replicas : ℕ) → (rows : List DotRow) → AreRows replicas rows → AreDots replicas (dots_of_rows rows) × (rows_from 0 (runs_of (dots_of_rows rows)) ≡ rows)
 set_back replicas rows h = let is = dots_back replicas rows h.0 in ((is.0, subst CanCountAll (sym is.1) h.1), is.1)
 
-abbrev pub TooMany : ℕ → List ℕ → Type 0
-TooMany replicas bytes = (s : Dots) × (rest : List ℕ) × AreDots replicas s × (bytes ≡ dots_text s ++ rest) × (read.is_over s ≡ true)
-
-pub dots_format : (replicas : ℕ) → IsFormat (read.dots_at replicas) dots_text (λ s. AreDots replicas s × (read.is_over s ≡ false)) (TooMany replicas)
+pub dots_format : (replicas : ℕ) → IsFormat (read.dots_at replicas) dots_text (AreDots replicas)
 unfolding read.dots_at dots_text
 dots_format replicas =
-    capped_format read.is_over _ dots_text (AreDots replicas)
-    (made_format dots_of_rows (λ s. rows_from 0 (runs_of s)) _ dot_rows_text (AreRows replicas) (AreDots replicas) _ (set_there replicas) (set_back replicas) (rows_format replicas))
+    made_format dots_of_rows (λ s. rows_from 0 (runs_of s)) _ dot_rows_text (AreRows replicas) (AreDots replicas) (set_there replicas) (set_back replicas) (rows_format replicas)

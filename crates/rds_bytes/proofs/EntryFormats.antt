@@ -7,7 +7,7 @@ use Rattle.std.specs.Int.{w64, to_be_bytes, cast_signed, cast_unsigned}
 use Rattle.std.proofs.lemmas.Bool.{eqb-true, leb-true, le-leb}
 use Rattle.std.proofs.lemmas.Int.{to_z-of_z, of_z-to_z}
 use Rattle.rds_names.specs.declared.fault.Fault.{Fault}
-use Rattle.rds_names.specs.declared.fault.Fault.TheVariants.{Bad, TooManyDots}
+use Rattle.rds_names.specs.declared.fault.Fault.TheVariants.{Bad}
 use Rattle.rds_names.specs.declared.entry.Entry.{Entry}
 use Rattle.rds_names.specs.declared.entry.Kind.{Kind}
 use Rattle.rds_names.specs.declared.entry.Kind.TheVariants.{Reg, Elem}
@@ -19,7 +19,7 @@ use Rattle.rds_bytes.specs.Spelling.{byte_text, kind_byte, text_text, scalar_tex
 use Rattle.rds_bytes.specs.Reading as read
 use Rattle.rds_bytes.specs.Reading.{byte_at, made_at, when_at, pair_at, is_between, tagged_at, int_scalar, text_scalar}
 use Rattle.rds_bytes.specs.Values.{is_key_text, IsScalar, IsEntry}
-use Rattle.rds_bytes.proofs.Format.{IsPlain, IsBytes, Takes, Takes-then, CutOrBad, Never, bind_ok, bind_err, chosen, err_is, ok_is, done, failed, byte_format, number16, number64, plain_pair, made_format, drawn_format, when_format, refit}
+use Rattle.rds_bytes.proofs.Format.{IsFormat, IsBytes, Takes, Takes-then, CutOrBad, bind_ok, bind_err, chosen, err_is, ok_is, done, failed, byte_format, number16, number64, pair_format, made_format, drawn_format, when_format, refit}
 use Rattle.rds_bytes.proofs.Lists.{AllAfter, list_format, string_format}
 use Rattle.rds_bytes.proofs.PartFormats.{key_format}
 use Rattle.rds_bytes.proofs.EntryParts.{entry_of_parts}
@@ -42,9 +42,9 @@ or_true false b h = inr h
 kind_back : (b : ℕ) → (b < 256) × (read.is_kind b ≡ true) → Unit {0} × (kind_byte (read.kind_by b) ≡ b)
 kind_back b h = (tt, kind_by b (eqb b 1) (eqb b 2) refl refl (or_true (eqb b 1) (eqb b 2) h.1))
 
-kind_format : IsPlain read.kind_at (λ k. byte_text (kind_byte k)) (λ _. Unit {0})
+kind_format : IsFormat read.kind_at (λ k. byte_text (kind_byte k)) (λ _. Unit {0})
 unfolding read.kind_at
-kind_format = made_format read.kind_by kind_byte _ _ _ _ _ kind_there kind_back (when_format read.is_kind _ _ _ byte_format)
+kind_format = made_format read.kind_by kind_byte _ _ _ _ kind_there kind_back (when_format read.is_kind _ _ _ byte_format)
 
 -- ---- numbers and texts
 
@@ -57,17 +57,17 @@ int_back n h = (search rules, of_z-to_z w64 n h)
 abbrev int_text : ℤ → List ℕ
 int_text z = to_be_bytes w64 (cast_unsigned w64 z)
 
-int_format : IsPlain read.int_at int_text (FitsSigned w64)
+int_format : IsFormat read.int_at int_text (FitsSigned w64)
 unfolding read.int_at
-int_format = made_format (cast_signed w64) (cast_unsigned w64) _ _ _ _ _ int_there int_back number64
+int_format = made_format (cast_signed w64) (cast_unsigned w64) _ _ _ _ int_there int_back number64
 
 abbrev IsText : List ℕ → Type 0
 IsText t = (length t ≤ 1024) × (is_utf8 t ≡ true)
 
-text_format : IsPlain (when_at (λ t. leb (length t) 1024) read.text_at) text_text IsText
+text_format : IsFormat (when_at (λ t. leb (length t) 1024) read.text_at) text_text IsText
 unfolding read.text_at
 text_format =
-    refit _ _ _ IsText _
+    refit _ _ _ IsText
     (λ t h. (leb-true (length t) 1024 h.1, h.0.1))
     (λ t h. (let le = h.0 in (((omega arith, and_true _ _ (le-leb 0 (length t) (omega arith)) (le-leb (length t) 1024 le)), h.1), le-leb (length t) 1024 le)))
     (when_format (λ t. leb (length t) 1024) _ _ _ (when_format is_utf8 _ _ _ (string_format _ _ _ (when_format (is_between 0 1024) _ _ _ number16))))
@@ -145,7 +145,7 @@ scalar_again (Truth true) rest fits = refl
 scalar_again (Int z) rest fits = rw (int_format.again z rest fits) refl
 scalar_again (Text t) rest fits = let e = text_format.again t rest fits in ap (λ r. read.◌>>=◌ r (λ z. Ok (text_scalar z.0, z.1))) e
 
-scalar_faults : (bytes : List ℕ) (e : Fault) → IsBytes bytes → read.scalar_at bytes ≡ Err e → CutOrBad e ⊎ ((e ≡ TooManyDots) × Never bytes)
+scalar_faults : (bytes : List ℕ) (e : Fault) → IsBytes bytes → read.scalar_at bytes ≡ Err e → CutOrBad e
 unfolding read.scalar_at read.text_scalar_at
 scalar_faults bytes e fits h =
     elim (bind_err (byte_at bytes) (λ t. tagged_at t.0 t.1) e h) [
@@ -162,15 +162,15 @@ scalar_faults bytes e fits h =
                 | inl h2 ↦ absurd (let bad : done (Truth true, rest) ≡ Err e = h2.1 in cc)
                 | inr n2 ↦ elim (chosen (eqb t 3) (made_at int_scalar read.int_at rest) (from_four t rest) (Err e) n2.1) [
                   | inl h3 ↦ elim (bind_err (read.int_at rest) (λ z. Ok (int_scalar z.0, z.1)) e h3.1) [
-                    | inl f ↦ elim (int_format.faults rest e rest_fits f) [ inl x ↦ inl x | inr y ↦ absurd y.1 ]
+                    | inl f ↦ int_format.faults rest e rest_fits f
                     | inr z ↦ absurd (let bad : done (int_scalar z.0.0, z.0.1) ≡ Err e = z.2 in cc)
                   ]
                   | inr n3 ↦ elim (chosen (eqb t 4) (read.text_scalar_at rest) (Err Bad) (Err e) n3.1) [
                     | inl h4 ↦ elim (bind_err (when_at (λ t. leb (length t) 1024) read.text_at rest) (λ z. Ok (text_scalar z.0, z.1)) e h4.1) [
-                      | inl f ↦ elim (text_format.faults rest e rest_fits f) [ inl x ↦ inl x | inr y ↦ absurd y.1 ]
+                      | inl f ↦ text_format.faults rest e rest_fits f
                       | inr z ↦ absurd (let bad : done (text_scalar z.0.0, z.0.1) ≡ Err e = z.2 in cc)
                     ]
-                    | inr n4 ↦ inl (inr (sym (err_is {A = Scalar × List ℕ} Bad e n4.1)))
+                    | inr n4 ↦ inr (sym (err_is {A = Scalar × List ℕ} Bad e n4.1))
                   ]
                 ]
               ]
@@ -178,8 +178,8 @@ scalar_faults bytes e fits h =
           ]
     ]
 
-scalar_format : IsPlain read.scalar_at scalar_text IsScalar
-scalar_format = record { takes = scalar_takes; again = scalar_again; large = λ bytes h. absurd h; faults = scalar_faults }
+scalar_format : IsFormat read.scalar_at scalar_text IsScalar
+scalar_format = record { takes = scalar_takes; again = scalar_again; faults = scalar_faults }
 
 -- ---- paths and entries
 
@@ -197,10 +197,10 @@ keys_all (k ∷ keys) before h = (and_left (is_key_text k) _ h, keys_all keys (b
 abbrev IsPath : List (List ℕ) → Type 0
 IsPath keys = (is_between 1 8 (length keys) ≡ true) × (list_all is_key_text keys ≡ true)
 
-path_format : IsPlain read.path_at path_text IsPath
+path_format : IsFormat read.path_at path_text IsPath
 unfolding read.path_at
 path_format =
-    refit _ _ _ IsPath _
+    refit _ _ _ IsPath
     (λ keys h. (h.0.0.1, all_keys keys [] h.0.1))
     (λ keys h. (let few = and_right (leb 1 (length keys)) _ h.0 in let le = leb-true (length keys) 8 few in (((omega arith, h.0), keys_all keys [] h.1), few)))
     (when_format (λ keys. leb (length keys) 8) _ _ _ (list_format _ _ IsKeyAfter (λ _. key_format) _ _ _ (when_format (is_between 1 8) _ _ _ byte_format)))
@@ -229,6 +229,6 @@ entry_back p e h is =
     let same = parts_where p _ _ refl refl e is in
     ((ap (λ (q : Parts). list_all is_key_text q.0) same ∙ h.0.1, subst (λ (q : Parts). IsScalar q.1.1) (sym same) h.1.1), same)
 
-pub entry_format : IsPlain read.entry_at entry_text IsEntry
+pub entry_format : IsFormat read.entry_at entry_text IsEntry
 unfolding read.entry_at
-entry_format = drawn_format entry_of parts_of _ _ _ IsEntry entry_there entry_back (plain_pair _ _ _ _ _ _ path_format (plain_pair _ _ _ _ _ _ kind_format scalar_format))
+entry_format = drawn_format entry_of parts_of _ _ _ IsEntry entry_there entry_back (pair_format _ _ _ _ _ _ path_format (pair_format _ _ _ _ _ _ kind_format scalar_format))

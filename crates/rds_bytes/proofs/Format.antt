@@ -5,8 +5,8 @@ use Rattle.std.proofs.lemmas.Bool.{cases_lt, ltb-false, le-ltb}
 use Rattle.std.proofs.lemmas.List.{take_at, drop_at, take-append-drop, length-append, length-take, get_or-drop, get_or-take, get_or_past}
 use Rattle.std.proofs.lemmas.Nat.{be_bytes_2, be_bytes_4, be_bytes_8, from_be_bytes-to_be_bytes_2, from_be_bytes-to_be_bytes_4, from_be_bytes-to_be_bytes_8}
 use Rattle.rds_names.specs.declared.fault.Fault.{Fault}
-use Rattle.rds_names.specs.declared.fault.Fault.TheVariants.{Cut, Bad, TooManyDots}
-use Rattle.rds_bytes.specs.Reading.{◌>>=◌, Reader, then_at, pair_at, made_at, or_bad, drawn_at, when_at, capped_at, byte_at, number_at, bytes_at}
+use Rattle.rds_names.specs.declared.fault.Fault.TheVariants.{Cut, Bad}
+use Rattle.rds_bytes.specs.Reading.{◌>>=◌, Reader, then_at, pair_at, made_at, or_bad, drawn_at, when_at, byte_at, number_at, bytes_at}
 
 abbrev pub IsBytes : List ℕ → Type 0
 IsBytes bytes = (i : ℕ) → get_or bytes i 0 < 256
@@ -78,36 +78,17 @@ Takes-then a x b y c p q = record { parts = p.parts ∙ ap (λ (t : List ℕ). x
 abbrev pub CutOrBad : Fault → Type 0
 CutOrBad e = (e ≡ Cut) ⊎ (e ≡ Bad)
 
--- a part of it may be a set of too many dots, and then what follows that isn't read
-pub record IsFormat {A : Type 0} (read : Reader A) (text : A → List ℕ) (Fits : A → Type 0) (Large : List ℕ → Type 0) : Type 0 where
+pub record IsFormat {A : Type 0} (read : Reader A) (text : A → List ℕ) (Fits : A → Type 0) : Type 0 where
   pub takes : (bytes : List ℕ) (x : A × List ℕ) → IsBytes bytes → read bytes ≡ Ok x → Takes bytes (text x.0) x.1 × Fits x.0
   pub again : (a : A) (rest : List ℕ) → Fits a → read (text a ++ rest) ≡ Ok (a, rest)
-  pub large : (bytes : List ℕ) → Large bytes → read bytes ≡ Err TooManyDots
-  pub faults : (bytes : List ℕ) (e : Fault) → IsBytes bytes → read bytes ≡ Err e → CutOrBad e ⊎ ((e ≡ TooManyDots) × Large bytes)
-
--- no part is a set of dots
-abbrev pub Never : List ℕ → Type 0
-Never bytes = ⊥
-
-abbrev pub IsPlain : {A : Type 0} → Reader A → (A → List ℕ) → (A → Type 0) → Type 0
-IsPlain read text Fits = IsFormat read text Fits Never
+  pub faults : (bytes : List ℕ) (e : Fault) → IsBytes bytes → read bytes ≡ Err e → CutOrBad e
 
 -- the same values, said in other words
-pub refit : {A : Type 0} (f : Reader A) (s : A → List ℕ) (F G : A → Type 0) (L : List ℕ → Type 0) → ((a : A) → F a → G a) → ((a : A) → G a → F a) → IsFormat f s F L → IsFormat f s G L
-refit f s F G L there back p = record {
+pub refit : {A : Type 0} (f : Reader A) (s : A → List ℕ) (F G : A → Type 0) → ((a : A) → F a → G a) → ((a : A) → G a → F a) → IsFormat f s F → IsFormat f s G
+refit f s F G there back p = record {
   takes = λ bytes x fits e. (let t = p.takes bytes x fits e in (t.0, there x.0 t.1));
   again = λ a rest g. p.again a rest (back a g);
-  large = p.large;
   faults = p.faults;
-}
-
--- the same large bytes, said in other words
-pub relarge : {A : Type 0} (f : Reader A) (s : A → List ℕ) (F : A → Type 0) (L M : List ℕ → Type 0) → ((b : List ℕ) → L b → M b) → ((b : List ℕ) → M b → L b) → IsFormat f s F L → IsFormat f s F M
-relarge f s F L M there back p = record {
-  takes = p.takes;
-  again = p.again;
-  large = λ bytes m. p.large bytes (back bytes m);
-  faults = λ bytes e fits h. elim (p.faults bytes e fits h) [ inl x ↦ inl x | inr y ↦ inr (y.0, there bytes y.1) ];
 }
 
 -- ---- a byte
@@ -121,8 +102,8 @@ byte_faults : (bytes : List ℕ) (e : Fault) → byte_at bytes ≡ Err e → Cut
 byte_faults [] e h = inl (sym (err_is {A = ℕ × List ℕ} Cut e h))
 byte_faults (b ∷ rest) e h = absurd cc
 
-pub byte_format : IsPlain byte_at (λ b. b ∷ []) (λ b. b < 256)
-byte_format = record { takes = byte_takes; again = λ b rest h. refl; large = λ bytes h. absurd h; faults = λ bytes e fits h. inl (byte_faults bytes e h) }
+pub byte_format : IsFormat byte_at (λ b. b ∷ []) (λ b. b < 256)
+byte_format = record { takes = byte_takes; again = λ b rest h. refl; faults = λ bytes e fits h. byte_faults bytes e h }
 
 -- ---- numbers
 
@@ -172,21 +153,20 @@ module _ (w : Width) (limit : ℕ) (wide : IsWide w limit) where
       let long : ltb (length (to_be_bytes w n ++ rest)) (byte_len w) ≡ false = le-ltb _ _ (omega (arith, length-append (to_be_bytes w n) rest)) in
       rw (long, take_at (to_be_bytes w n) rest (byte_len w) len, drop_at (to_be_bytes w n) rest (byte_len w) len, wide.again n lt) refl
 
-  number_format : IsPlain (number_at w) (to_be_bytes w) (λ n. n < limit)
+  number_format : IsFormat (number_at w) (to_be_bytes w) (λ n. n < limit)
   number_format = record {
     takes = number_takes;
     again = number_again;
-    large = λ bytes h. absurd h;
-    faults = λ bytes e fits h. inl (inl (sym (guard_err (ltb (length bytes) (byte_len w)) Cut (from_be_bytes w (take (byte_len w) bytes), drop (byte_len w) bytes) e h).1));
+    faults = λ bytes e fits h. inl (sym (guard_err (ltb (length bytes) (byte_len w)) Cut (from_be_bytes w (take (byte_len w) bytes), drop (byte_len w) bytes) e h).1);
   }
 
-pub number16 : IsPlain (number_at w16) (to_be_bytes w16) (λ n. n < 2 ^ 16)
+pub number16 : IsFormat (number_at w16) (to_be_bytes w16) (λ n. n < 2 ^ 16)
 number16 = number_format w16 (2 ^ 16) wide16
 
-pub number32 : IsPlain (number_at w32) (to_be_bytes w32) (λ n. n < 2 ^ 32)
+pub number32 : IsFormat (number_at w32) (to_be_bytes w32) (λ n. n < 2 ^ 32)
 number32 = number_format w32 (2 ^ 32) wide32
 
-pub number64 : IsPlain (number_at w64) (to_be_bytes w64) (λ n. n < 2 ^ 64)
+pub number64 : IsFormat (number_at w64) (to_be_bytes w64) (λ n. n < 2 ^ 64)
 number64 = number_format w64 (2 ^ 64) wide64
 
 -- ---- bytes of a length that is known
@@ -203,22 +183,18 @@ known_again n t rest e =
     let long : ltb (length (t ++ rest)) n ≡ false = le-ltb _ _ (omega (arith, length-append t rest)) in
     rw (long, take_at t rest n e, drop_at t rest n e) refl
 
-pub known_format : (n : ℕ) → IsPlain (bytes_at n) (λ t. t) (λ t. length t ≡ n)
+pub known_format : (n : ℕ) → IsFormat (bytes_at n) (λ t. t) (λ t. length t ≡ n)
 known_format n = record {
   takes = known_takes n;
   again = known_again n;
-  large = λ bytes h. absurd h;
-  faults = λ bytes e fits h. inl (inl (sym (guard_err (ltb (length bytes) n) Cut (take n bytes, drop n bytes) e h).1));
+  faults = λ bytes e fits h. inl (sym (guard_err (ltb (length bytes) n) Cut (take n bytes, drop n bytes) e h).1);
 }
 
 -- ---- a part, and then one that may depend on it
 
-module _ {A B : Type 0} (f : Reader A) (g : A → Reader B) (s : A → List ℕ) (t : A → B → List ℕ) (F : A → Type 0) (G : A → B → Type 0) (L : List ℕ → Type 0) (M : A → List ℕ → Type 0) (p : IsFormat f s F L) (q : (a : A) → F a → IsFormat (g a) (t a) (G a) (M a)) where
+module _ {A B : Type 0} (f : Reader A) (g : A → Reader B) (s : A → List ℕ) (t : A → B → List ℕ) (F : A → Type 0) (G : A → B → Type 0) (p : IsFormat f s F) (q : (a : A) → F a → IsFormat (g a) (t a) (G a)) where
   abbrev after : A × List ℕ → Result ((A × B) × List ℕ) Fault
   after a = g a.0 a.1 >>= λ b. Ok ((a.0, b.0), b.1)
-
-  abbrev pub LargeThen : List ℕ → Type 0
-  LargeThen bytes = L bytes ⊎ ((a : A) × (rest : List ℕ) × F a × (bytes ≡ s a ++ rest) × M a rest)
 
   abbrev Taken : List ℕ → (A × B) × List ℕ → Type 0
   Taken bytes y = Takes bytes (s y.0.0 ++ t y.0.0 y.0.1) y.1 × (F y.0.0 × G y.0.0 y.0.1)
@@ -237,41 +213,27 @@ module _ {A B : Type 0} (f : Reader A) (g : A → Reader B) (s : A → List ℕ)
       let second = (q v.0 fits.0).again v.1 rest fits.1 in
       ap (then_at f g) (append_assoc (s v.0) (t v.0 v.1) rest) ∙ rw (p.again v.0 (t v.0 v.1 ++ rest) fits.0, second) refl
 
-  then_large : (bytes : List ℕ) → LargeThen bytes → then_at f g bytes ≡ Err TooManyDots
-  then_large bytes h = elim h [
-    | inl first ↦ let e = p.large bytes first in rw e refl
-    | inr a ↦
-        let got : f bytes ≡ Ok (a.0, a.1) = ap f a.3 ∙ p.again a.0 a.1 a.2 in
-        let much = (q a.0 a.2).large a.1 a.4 in
-        rw (got, much) refl
-  ]
-
-  then_faults : (bytes : List ℕ) (e : Fault) → IsBytes bytes → then_at f g bytes ≡ Err e → CutOrBad e ⊎ ((e ≡ TooManyDots) × LargeThen bytes)
+  then_faults : (bytes : List ℕ) (e : Fault) → IsBytes bytes → then_at f g bytes ≡ Err e → CutOrBad e
   then_faults bytes e fits h =
       elim (bind_err (f bytes) after e h) [
-        | inl first ↦ elim (p.faults bytes e fits first) [ inl x ↦ inl x | inr y ↦ inr (y.0, inl y.1) ]
+        | inl first ↦ p.faults bytes e fits first
         | inr a ↦
             let read = p.takes bytes a.0 fits a.1 in
             elim (bind_err (g a.0.0 a.0.1) (λ b. Ok ((a.0.0, b.0), b.1)) e a.2) [
-              | inl second ↦ elim ((q a.0.0 read.1).faults a.0.1 e read.0.rest_fits second) [ inl x ↦ inl x | inr y ↦ inr (y.0, inr (a.0.0, a.0.1, read.1, read.0.parts, y.1)) ]
+              | inl second ↦ (q a.0.0 read.1).faults a.0.1 e read.0.rest_fits second
               | inr b ↦ absurd (let bad : done ((a.0.0, b.0.0), b.0.1) ≡ Err e = b.2 in cc)
             ]
       ]
 
-  pub then_format : IsFormat (then_at f g) (λ v. s v.0 ++ t v.0 v.1) (λ v. F v.0 × G v.0 v.1) LargeThen
-  then_format = record { takes = then_takes; again = then_again; large = then_large; faults = then_faults }
+  pub then_format : IsFormat (then_at f g) (λ v. s v.0 ++ t v.0 v.1) (λ v. F v.0 × G v.0 v.1)
+  then_format = record { takes = then_takes; again = then_again; faults = then_faults }
 
--- the same where neither may be large
-pub plain_then : {A B : Type 0} (f : Reader A) (g : A → Reader B) (s : A → List ℕ) (t : A → B → List ℕ) (F : A → Type 0) (G : A → B → Type 0) → IsPlain f s F → ((a : A) → F a → IsPlain (g a) (t a) (G a)) → IsPlain (then_at f g) (λ v. s v.0 ++ t v.0 v.1) (λ v. F v.0 × G v.0 v.1)
-plain_then f g s t F G p q =
-    relarge (then_at f g) (λ v. s v.0 ++ t v.0 v.1) (λ v. F v.0 × G v.0 v.1) (LargeThen f g s t F G Never (λ _. Never) p q) Never (λ b h. elim h [ inl x ↦ x | inr y ↦ y.4 ]) (λ b h. absurd h) (then_format f g s t F G Never (λ _. Never) p q)
-
-pub plain_pair : {A B : Type 0} (f : Reader A) (g : Reader B) (s : A → List ℕ) (t : B → List ℕ) (F : A → Type 0) (G : B → Type 0) → IsPlain f s F → IsPlain g t G → IsPlain (pair_at f g) (λ v. s v.0 ++ t v.1) (λ v. F v.0 × G v.1)
-plain_pair f g s t F G p q = plain_then f (λ _. g) s (λ _. t) F (λ _. G) p (λ _ _. q)
+pub pair_format : {A B : Type 0} (f : Reader A) (g : Reader B) (s : A → List ℕ) (t : B → List ℕ) (F : A → Type 0) (G : B → Type 0) → IsFormat f s F → IsFormat g t G → IsFormat (pair_at f g) (λ v. s v.0 ++ t v.1) (λ v. F v.0 × G v.1)
+pair_format f g s t F G p q = then_format f (λ _. g) s (λ _. t) F (λ _. G) p (λ _ _. q)
 
 -- ---- a part as another value
 
-module _ {A B : Type 0} (make : A → B) (unmake : B → A) (f : Reader A) (s : A → List ℕ) (F : A → Type 0) (G : B → Type 0) (L : List ℕ → Type 0) (there : (b : B) → G b → F (unmake b) × (make (unmake b) ≡ b)) (back : (a : A) → F a → G (make a) × (unmake (make a) ≡ a)) (p : IsFormat f s F L) where
+module _ {A B : Type 0} (make : A → B) (unmake : B → A) (f : Reader A) (s : A → List ℕ) (F : A → Type 0) (G : B → Type 0) (there : (b : B) → G b → F (unmake b) × (make (unmake b) ≡ b)) (back : (a : A) → F a → G (make a) × (unmake (make a) ≡ a)) (p : IsFormat f s F) where
   made_takes : (bytes : List ℕ) (x : B × List ℕ) → IsBytes bytes → made_at make f bytes ≡ Ok x → Takes bytes (s (unmake x.0)) x.1 × G x.0
   made_takes bytes x fits e =
       let a = bind_ok (f bytes) (λ a. Ok (make a.0, a.1)) x e in
@@ -283,15 +245,15 @@ module _ {A B : Type 0} (make : A → B) (unmake : B → A) (f : Reader A) (s : 
   made_again : (b : B) (rest : List ℕ) → G b → made_at make f (s (unmake b) ++ rest) ≡ Ok (b, rest)
   made_again b rest fits = let is = there b fits in rw (p.again (unmake b) rest is.0) (ap (λ (v : B). Ok (v, rest)) is.1)
 
-  made_faults : (bytes : List ℕ) (e : Fault) → IsBytes bytes → made_at make f bytes ≡ Err e → CutOrBad e ⊎ ((e ≡ TooManyDots) × L bytes)
+  made_faults : (bytes : List ℕ) (e : Fault) → IsBytes bytes → made_at make f bytes ≡ Err e → CutOrBad e
   made_faults bytes e fits h =
       elim (bind_err (f bytes) (λ a. Ok (make a.0, a.1)) e h) [
         | inl first ↦ p.faults bytes e fits first
         | inr a ↦ absurd (let bad : done (make a.0.0, a.0.1) ≡ Err e = a.2 in cc)
       ]
 
-  pub made_format : IsFormat (made_at make f) (λ b. s (unmake b)) G L
-  made_format = record { takes = made_takes; again = made_again; large = λ bytes h. (let e = p.large bytes h in rw e refl); faults = made_faults }
+  pub made_format : IsFormat (made_at make f) (λ b. s (unmake b)) G
+  made_format = record { takes = made_takes; again = made_again; faults = made_faults }
 
 -- ---- a part as another value, where it is one
 
@@ -303,7 +265,7 @@ or_bad_err : {B : Type 0} (o : Option B) (rest : List ℕ) (e : Fault) → or_ba
 or_bad_err {B} None rest e h = inr (sym (err_is {A = B × List ℕ} Bad e h))
 or_bad_err (Some b) rest e h = absurd cc
 
-module _ {A B : Type 0} (make : A → Option B) (unmake : B → A) (f : Reader A) (s : A → List ℕ) (F : A → Type 0) (G : B → Type 0) (there : (b : B) → G b → F (unmake b) × (make (unmake b) ≡ Some b)) (back : (a : A) (b : B) → F a → make a ≡ Some b → G b × (unmake b ≡ a)) {L : List ℕ → Type 0} (p : IsFormat f s F L) where
+module _ {A B : Type 0} (make : A → Option B) (unmake : B → A) (f : Reader A) (s : A → List ℕ) (F : A → Type 0) (G : B → Type 0) (there : (b : B) → G b → F (unmake b) × (make (unmake b) ≡ Some b)) (back : (a : A) (b : B) → F a → make a ≡ Some b → G b × (unmake b ≡ a)) (p : IsFormat f s F) where
   drawn_takes : (bytes : List ℕ) (x : B × List ℕ) → IsBytes bytes → drawn_at make f bytes ≡ Ok x → Takes bytes (s (unmake x.0)) x.1 × G x.0
   drawn_takes bytes x fits e =
       let a = bind_ok (f bytes) (λ a. or_bad (make a.0) a.1) x e in
@@ -315,19 +277,19 @@ module _ {A B : Type 0} (make : A → Option B) (unmake : B → A) (f : Reader A
   drawn_again : (b : B) (rest : List ℕ) → G b → drawn_at make f (s (unmake b) ++ rest) ≡ Ok (b, rest)
   drawn_again b rest fits = let is = there b fits in let some = is.1 in rw (p.again (unmake b) rest is.0, some) refl
 
-  drawn_faults : (bytes : List ℕ) (e : Fault) → IsBytes bytes → drawn_at make f bytes ≡ Err e → CutOrBad e ⊎ ((e ≡ TooManyDots) × L bytes)
+  drawn_faults : (bytes : List ℕ) (e : Fault) → IsBytes bytes → drawn_at make f bytes ≡ Err e → CutOrBad e
   drawn_faults bytes e fits h =
       elim (bind_err (f bytes) (λ a. or_bad (make a.0) a.1) e h) [
         | inl first ↦ p.faults bytes e fits first
-        | inr a ↦ inl (or_bad_err (make a.0.0) a.0.1 e a.2)
+        | inr a ↦ or_bad_err (make a.0.0) a.0.1 e a.2
       ]
 
-  pub drawn_format : IsFormat (drawn_at make f) (λ b. s (unmake b)) G L
-  drawn_format = record { takes = drawn_takes; again = drawn_again; large = λ bytes h. (let e = p.large bytes h in rw e refl); faults = drawn_faults }
+  pub drawn_format : IsFormat (drawn_at make f) (λ b. s (unmake b)) G
+  drawn_format = record { takes = drawn_takes; again = drawn_again; faults = drawn_faults }
 
 -- ---- a part that passes a test
 
-module _ {A : Type 0} (test : A → Bool) (f : Reader A) (s : A → List ℕ) (F : A → Type 0) {L : List ℕ → Type 0} (p : IsFormat f s F L) where
+module _ {A : Type 0} (test : A → Bool) (f : Reader A) (s : A → List ℕ) (F : A → Type 0) (p : IsFormat f s F) where
   when_takes : (bytes : List ℕ) (x : A × List ℕ) → IsBytes bytes → when_at test f bytes ≡ Ok x → Takes bytes (s x.0) x.1 × (F x.0 × (test x.0 ≡ true))
   when_takes bytes x fits e =
       let a = bind_ok (f bytes) (λ a. cond (test a.0) (Ok a) (Err Bad)) x e in
@@ -338,48 +300,12 @@ module _ {A : Type 0} (test : A → Bool) (f : Reader A) (s : A → List ℕ) (F
   when_again : (v : A) (rest : List ℕ) → F v × (test v ≡ true) → when_at test f (s v ++ rest) ≡ Ok (v, rest)
   when_again v rest fits = let passes : test v ≡ true = fits.1 in rw (p.again v rest fits.0, passes) refl
 
-  when_faults : (bytes : List ℕ) (e : Fault) → IsBytes bytes → when_at test f bytes ≡ Err e → CutOrBad e ⊎ ((e ≡ TooManyDots) × L bytes)
+  when_faults : (bytes : List ℕ) (e : Fault) → IsBytes bytes → when_at test f bytes ≡ Err e → CutOrBad e
   when_faults bytes e fits h =
       elim (bind_err (f bytes) (λ a. cond (test a.0) (Ok a) (Err Bad)) e h) [
         | inl first ↦ p.faults bytes e fits first
-        | inr a ↦ inl (inr (sym (passed_err (test a.0.0) Bad a.0 e a.2)))
+        | inr a ↦ inr (sym (passed_err (test a.0.0) Bad a.0 e a.2))
       ]
 
-  pub when_format : IsFormat (when_at test f) s (λ v. F v × (test v ≡ true)) L
-  when_format = record { takes = when_takes; again = when_again; large = λ bytes h. (let e = p.large bytes h in rw e refl); faults = when_faults }
-
--- ---- a part that isn't over the cap
-
-module _ {A : Type 0} (over : A → Bool) (f : Reader A) (s : A → List ℕ) (F : A → Type 0) (p : IsPlain f s F) where
-  -- what stands at the front is a text, and its value is over the cap
-  abbrev pub IsOver : List ℕ → Type 0
-  IsOver bytes = (v : A) × (rest : List ℕ) × F v × (bytes ≡ s v ++ rest) × (over v ≡ true)
-
-  capped_takes : (bytes : List ℕ) (x : A × List ℕ) → IsBytes bytes → capped_at over f bytes ≡ Ok x → Takes bytes (s x.0) x.1 × (F x.0 × (over x.0 ≡ false))
-  capped_takes bytes x fits e =
-      let a = bind_ok (f bytes) (λ a. cond (over a.0) (Err TooManyDots) (Ok a)) x e in
-      let t = guard_ok (over a.0.0) TooManyDots a.0 x a.2 in
-      let read = p.takes bytes a.0 fits a.1 in
-      subst (λ (y : A × List ℕ). Takes bytes (s y.0) y.1 × (F y.0 × (over y.0 ≡ false))) t.1 (read.0, (read.1, t.0))
-
-  capped_again : (v : A) (rest : List ℕ) → F v × (over v ≡ false) → capped_at over f (s v ++ rest) ≡ Ok (v, rest)
-  capped_again v rest fits = let small : over v ≡ false = fits.1 in rw (p.again v rest fits.0, small) refl
-
-  capped_large : (bytes : List ℕ) → IsOver bytes → capped_at over f bytes ≡ Err TooManyDots
-  capped_large bytes h =
-      let got : f bytes ≡ Ok (h.0, h.1) = ap f h.3 ∙ p.again h.0 h.1 h.2 in
-      let much : over h.0 ≡ true = h.4 in
-      rw (got, much) refl
-
-  capped_faults : (bytes : List ℕ) (e : Fault) → IsBytes bytes → capped_at over f bytes ≡ Err e → CutOrBad e ⊎ ((e ≡ TooManyDots) × IsOver bytes)
-  capped_faults bytes e fits h =
-      elim (bind_err (f bytes) (λ a. cond (over a.0) (Err TooManyDots) (Ok a)) e h) [
-        | inl first ↦ elim (p.faults bytes e fits first) [ inl x ↦ inl x | inr y ↦ absurd y.1 ]
-        | inr a ↦
-            let t = guard_err (over a.0.0) TooManyDots a.0 e a.2 in
-            let read = p.takes bytes a.0 fits a.1 in
-            inr (sym t.1, (a.0.0, a.0.1, read.1, read.0.parts, t.0))
-      ]
-
-  pub capped_format : IsFormat (capped_at over f) s (λ v. F v × (over v ≡ false)) IsOver
-  capped_format = record { takes = capped_takes; again = capped_again; large = capped_large; faults = capped_faults }
+  pub when_format : IsFormat (when_at test f) s (λ v. F v × (test v ≡ true))
+  when_format = record { takes = when_takes; again = when_again; faults = when_faults }

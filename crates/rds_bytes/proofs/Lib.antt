@@ -5,7 +5,6 @@ mod EntryFormats
 mod EntryParts
 pub mod Format
 mod HaveTexts
-pub mod LargeParts
 pub mod Lengths
 pub mod Lists
 pub mod LiveFormats

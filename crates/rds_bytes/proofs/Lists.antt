@@ -1,12 +1,11 @@
 -- Lists of parts are formats.
-use Rattle.std.proofs.Common.{◌≡◌, ℕ, zero, suc, List, [], ◌∷◌, ◌++◌, length, Result, Ok, Err, refl, sym, ap, subst, ◌∙◌, ◌⊎◌, append_assoc, inl, inr}
+use Rattle.std.proofs.Common.{◌≡◌, ℕ, zero, suc, List, [], ◌∷◌, ◌++◌, length, Result, Ok, Err, refl, sym, ap, subst, ◌∙◌, append_assoc, inl, inr}
 use Rattle.std.specs.List.{flat_map}
 use Rattle.std.proofs.lemmas.List.{append-nil}
 use Rattle.std.proofs.lemmas.List.Concat.{flat_map-cons}
 use Rattle.rds_names.specs.declared.fault.Fault.{Fault}
-use Rattle.rds_names.specs.declared.fault.Fault.TheVariants.{TooManyDots}
 use Rattle.rds_bytes.specs.Reading.{Reader, rows_after, list_at, bytes_at, string_at}
-use Rattle.rds_bytes.proofs.Format.{IsPlain, IsBytes, Takes, Takes-then, CutOrBad, Never, bind_ok, bind_err, done, ok_is, known_format}
+use Rattle.rds_bytes.proofs.Format.{IsFormat, IsBytes, Takes, Takes-then, CutOrBad, bind_ok, bind_err, done, ok_is, known_format}
 
 -- each part fits, in the light of those before it
 abbrev pub AllAfter : {A : Type 0} → (List A → A → Type 0) → List A → List A → Type 0
@@ -16,7 +15,7 @@ AllAfter F before (a ∷ es) = F before a × AllAfter F (before ++ a ∷ []) es
 push_onto : {A : Type 0} (before : List A) (a : A) (es : List A) → (before ++ a ∷ []) ++ es ≡ before ++ a ∷ es
 push_onto before a es = append_assoc before (a ∷ []) es
 
-module _ {A : Type 0} (f : List A → Reader A) (s : A → List ℕ) (F : List A → A → Type 0) (p : (before : List A) → IsPlain (f before) s (F before)) where
+module _ {A : Type 0} (f : List A → Reader A) (s : A → List ℕ) (F : List A → A → Type 0) (p : (before : List A) → IsFormat (f before) s (F before)) where
   -- what was read after those before
   record Rows (before : List A) (n : ℕ) (bytes : List ℕ) (x : List A × List ℕ) : Type 0 where
     rows : List A
@@ -54,7 +53,7 @@ module _ {A : Type 0} (f : List A → Reader A) (s : A → List ℕ) (F : List A
       ap (rows_after f before (suc (length vs))) regrouped
       ∙ rw ((p before).again v (flat_map s vs ++ rest) fits.0) (rows_again vs (before ++ v ∷ []) rest fits.1 ∙ ap (λ (b : List A). Ok (b, rest)) (push_onto before v vs))
 
-  rows_faults : (n : ℕ) (before : List A) (bytes : List ℕ) (e : Fault) → IsBytes bytes → rows_after f before n bytes ≡ Err e → CutOrBad e ⊎ ((e ≡ TooManyDots) × Never bytes)
+  rows_faults : (n : ℕ) (before : List A) (bytes : List ℕ) (e : Fault) → IsBytes bytes → rows_after f before n bytes ≡ Err e → CutOrBad e
   unfolding rows_after
   rows_faults zero before bytes e fits h = absurd (let bad : done {A = List A × List ℕ} (before, bytes) ≡ Err e = h in cc)
   rows_faults (suc n) before bytes e fits h =
@@ -63,7 +62,7 @@ module _ {A : Type 0} (f : List A → Reader A) (s : A → List ℕ) (F : List A
         | inr a ↦ (let first = (p before).takes bytes a.0 fits a.1 in rows_faults n (before ++ a.0.0 ∷ []) a.0.1 e first.0.rest_fits a.2)
       ]
 
-  module _ (c : Reader ℕ) (w : ℕ → List ℕ) (C : ℕ → Type 0) (count : IsPlain c w C) where
+  module _ (c : Reader ℕ) (w : ℕ → List ℕ) (C : ℕ → Type 0) (count : IsFormat c w C) where
     list_takes : (bytes : List ℕ) (x : List A × List ℕ) → IsBytes bytes → list_at c f bytes ≡ Ok x → Takes bytes (w (length x.0) ++ flat_map s x.0) x.1 × (C (length x.0) × AllAfter F [] x.0)
     list_takes bytes x fits e =
         let a = bind_ok (c bytes) (λ n. rows_after f [] n.0 n.1) x e in
@@ -79,19 +78,19 @@ module _ {A : Type 0} (f : List A → Reader A) (s : A → List ℕ) (F : List A
     list_again vs rest fits =
         ap (list_at c f) (append_assoc (w (length vs)) (flat_map s vs) rest) ∙ rw (count.again (length vs) (flat_map s vs ++ rest) fits.0) (rows_again vs [] rest fits.1)
 
-    list_faults : (bytes : List ℕ) (e : Fault) → IsBytes bytes → list_at c f bytes ≡ Err e → CutOrBad e ⊎ ((e ≡ TooManyDots) × Never bytes)
+    list_faults : (bytes : List ℕ) (e : Fault) → IsBytes bytes → list_at c f bytes ≡ Err e → CutOrBad e
     list_faults bytes e fits h =
         elim (bind_err (c bytes) (λ n. rows_after f [] n.0 n.1) e h) [
           | inl first ↦ count.faults bytes e fits first
           | inr a ↦ (let first = count.takes bytes a.0 fits a.1 in rows_faults a.0.0 [] a.0.1 e first.0.rest_fits a.2)
         ]
 
-    pub list_format : IsPlain (list_at c f) (λ vs. w (length vs) ++ flat_map s vs) (λ vs. C (length vs) × AllAfter F [] vs)
-    list_format = record { takes = list_takes; again = list_again; large = λ bytes h. absurd h; faults = list_faults }
+    pub list_format : IsFormat (list_at c f) (λ vs. w (length vs) ++ flat_map s vs) (λ vs. C (length vs) × AllAfter F [] vs)
+    list_format = record { takes = list_takes; again = list_again; faults = list_faults }
 
 -- ---- a length and that many bytes
 
-module _ (c : Reader ℕ) (w : ℕ → List ℕ) (C : ℕ → Type 0) (count : IsPlain c w C) where
+module _ (c : Reader ℕ) (w : ℕ → List ℕ) (C : ℕ → Type 0) (count : IsFormat c w C) where
   string_takes : (bytes : List ℕ) (x : List ℕ × List ℕ) → IsBytes bytes → string_at c bytes ≡ Ok x → Takes bytes (w (length x.0) ++ x.0) x.1 × C (length x.0)
   string_takes bytes x fits e =
       let a = bind_ok (c bytes) (λ n. bytes_at n.0 n.1) x e in
@@ -105,12 +104,12 @@ module _ (c : Reader ℕ) (w : ℕ → List ℕ) (C : ℕ → Type 0) (count : I
   string_again text rest fits =
       ap (string_at c) (append_assoc (w (length text)) text rest) ∙ rw (count.again (length text) (text ++ rest) fits) ((known_format (length text)).again text rest refl)
 
-  string_faults : (bytes : List ℕ) (e : Fault) → IsBytes bytes → string_at c bytes ≡ Err e → CutOrBad e ⊎ ((e ≡ TooManyDots) × Never bytes)
+  string_faults : (bytes : List ℕ) (e : Fault) → IsBytes bytes → string_at c bytes ≡ Err e → CutOrBad e
   string_faults bytes e fits h =
       elim (bind_err (c bytes) (λ n. bytes_at n.0 n.1) e h) [
         | inl first ↦ count.faults bytes e fits first
         | inr a ↦ (let first = count.takes bytes a.0 fits a.1 in (known_format a.0.0).faults a.0.1 e first.0.rest_fits a.2)
       ]
 
-  pub string_format : IsPlain (string_at c) (λ t. w (length t) ++ t) (λ t. C (length t))
-  string_format = record { takes = string_takes; again = string_again; large = λ bytes h. absurd h; faults = string_faults }
+  pub string_format : IsFormat (string_at c) (λ t. w (length t) ++ t) (λ t. C (length t))
+  string_format = record { takes = string_takes; again = string_again; faults = string_faults }

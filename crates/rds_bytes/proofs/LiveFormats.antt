@@ -1,8 +1,7 @@
 -- The rows of live dots are a format.
-use Rattle.std.proofs.Common.{◌≡◌, ℕ, ◌^◌, ◌<◌, Bool, true, leb, ◌&&◌, List, [], ◌∷◌, ◌++◌, length, Option, Some, None, refl, sym, ap, ◌∙◌, arith}
+use Rattle.std.proofs.Common.{◌≡◌, ◌^◌, ◌<◌, Bool, true, ◌&&◌, List, [], ◌∷◌, ◌++◌, length, Option, Some, None, refl, sym, ap, ◌∙◌, arith}
 use Rattle.std.specs.List.{AllByRecursion}
 use Rattle.std.specs.FinSet as set
-use Rattle.std.proofs.lemmas.Bool.Decides.{nat_tests}
 use Rattle.rds_names.specs.declared.entry.Entry.{Entry}
 use Rattle.rds_dots.specs.declared.dot.Dot.{Dot}
 use Rattle.rds_dots.specs.Dots.{Dots, is_dot, comes_after}
@@ -15,7 +14,7 @@ use Rattle.rds_bytes.specs.Values.{IsEntry, IsLiveRow}
 use Rattle.rds_bytes.specs.Spelling.{dot_text, live_row_text, live_rows_text}
 use Rattle.rds_bytes.specs.Reading as read
 use Rattle.rds_bytes.specs.Reading.{byte_at, number_at, pair_at, when_at, last, dot_of_row, is_next_dot}
-use Rattle.rds_bytes.proofs.Format.{IsPlain, byte_format, number32, number64, plain_pair, made_format, when_format, refit}
+use Rattle.rds_bytes.proofs.Format.{IsFormat, byte_format, number32, number64, pair_format, made_format, when_format, refit}
 use Rattle.rds_bytes.proofs.Lists.{AllAfter, list_format}
 use Rattle.rds_bytes.proofs.PartFormats.{last-push}
 use Rattle.rds_bytes.proofs.EntryFormats.{entry_format}
@@ -34,18 +33,18 @@ has_numbers d is =
 abbrev pub AreOnlyDots : Dots → Type 0
 AreOnlyDots s = (d : Dot) → set.contains s d ≡ true → is_dot d ≡ true
 
-dot_format : (s : Dots) → AreOnlyDots s → (before : List (Dot × Entry)) → IsPlain (read.dot_at s before) dot_text (λ d. is_next_dot s before d ≡ true)
+dot_format : (s : Dots) → AreOnlyDots s → (before : List (Dot × Entry)) → IsFormat (read.dot_at s before) dot_text (λ d. is_next_dot s before d ≡ true)
 unfolding read.dot_at
 dot_format s dots before =
-    refit _ _ _ (λ d. is_next_dot s before d ≡ true) _ (λ d h. h.1) (λ d h. (has_numbers d (dots d (and_right (comes_after (dot_of_row (last before)) d) _ h)), h))
-    (when_format (is_next_dot s before) _ _ _ (made_format read.dot_by (λ d. (d.replica, d.seq)) _ _ _ AreNumbers _ (λ d h. (h, refl)) (λ p h. (h, refl)) (plain_pair _ _ _ _ _ _ byte_format number64)))
+    refit _ _ _ (λ d. is_next_dot s before d ≡ true) (λ d h. h.1) (λ d h. (has_numbers d (dots d (and_right (comes_after (dot_of_row (last before)) d) _ h)), h))
+    (when_format (is_next_dot s before) _ _ _ (made_format read.dot_by (λ d. (d.replica, d.seq)) _ _ _ AreNumbers (λ d h. (h, refl)) (λ p h. (h, refl)) (pair_format _ _ _ _ _ _ byte_format number64)))
 
 abbrev IsRowAfter : Dots → List (Dot × Entry) → Dot × Entry → Type 0
 IsRowAfter s before row = (is_next_dot s before row.0 ≡ true) × IsEntry row.1
 
-row_format : (s : Dots) → AreOnlyDots s → (before : List (Dot × Entry)) → IsPlain (read.live_row_at s before) live_row_text (IsRowAfter s before)
+row_format : (s : Dots) → AreOnlyDots s → (before : List (Dot × Entry)) → IsFormat (read.live_row_at s before) live_row_text (IsRowAfter s before)
 unfolding read.live_row_at
-row_format s dots before = plain_pair _ _ _ _ _ _ (dot_format s dots before) entry_format
+row_format s dots before = pair_format _ _ _ _ _ _ (dot_format s dots before) entry_format
 
 -- the first of the rows comes after a dot
 abbrev follows : Option Dot → List (Dot × Entry) → Bool
@@ -85,10 +84,10 @@ follows_none (row ∷ rows) = refl
 abbrev pub CanCountRows : List (Dot × Entry) → Type 0
 CanCountRows rows = length rows < 2 ^ 32
 
-pub live_format : (s : Dots) → AreOnlyDots s → IsPlain (read.live_rows_at s) live_rows_text (λ rows. CanCountRows rows × AreLive s rows)
+pub live_format : (s : Dots) → AreOnlyDots s → IsFormat (read.live_rows_at s) live_rows_text (λ rows. CanCountRows rows × AreLive s rows)
 unfolding read.live_rows_at
 live_format s dots =
-    refit _ _ _ (λ rows. CanCountRows rows × AreLive s rows) _
+    refit _ _ _ (λ rows. CanCountRows rows × AreLive s rows)
     (λ rows h. (let is = rows_of s rows [] h.1 in (h.0, (fits_rows s rows is.0.1, is.1))))
     (λ rows h. (h.0, of_rows s rows [] (follows_none rows) (rows_fit s rows h.1.0) h.1.1))
     (list_format _ _ _ (row_format s dots) _ _ _ number32)

@@ -19,7 +19,7 @@ use Rattle.rds_bytes.specs.Spelling.{byte_text, short_text, names_text, roster_t
 use Rattle.rds_bytes.specs.Reading as read
 use Rattle.rds_bytes.specs.Reading.{byte_at, number_at, bytes_at, string_at, pair_at, then_at, made_at, drawn_at, when_at, list_at, is_between, last}
 use Rattle.rds_bytes.specs.Values.{is_key_text}
-use Rattle.rds_bytes.proofs.Format.{IsPlain, byte_format, number16, known_format, plain_then, plain_pair, made_format, drawn_format, when_format, refit}
+use Rattle.rds_bytes.proofs.Format.{IsFormat, byte_format, number16, known_format, then_format, pair_format, made_format, drawn_format, when_format, refit}
 use Rattle.rds_bytes.proofs.Lists.{AllAfter, list_format, string_format}
 
 -- ---- short texts
@@ -27,20 +27,20 @@ use Rattle.rds_bytes.proofs.Lists.{AllAfter, list_format, string_format}
 abbrev IsLength : ℕ → ℕ → ℕ → Type 0
 IsLength least most n = (n < 256) × (is_between least most n ≡ true)
 
-length_format : (least most : ℕ) → IsPlain (when_at (is_between least most) byte_at) byte_text (IsLength least most)
+length_format : (least most : ℕ) → IsFormat (when_at (is_between least most) byte_at) byte_text (IsLength least most)
 length_format least most = when_format (is_between least most) byte_at byte_text (λ b. b < 256) byte_format
 
-short_format : (least most : ℕ) → IsPlain (read.short_at least most) short_text (λ t. IsLength least most (length t) × (is_utf8 t ≡ true))
+short_format : (least most : ℕ) → IsFormat (read.short_at least most) short_text (λ t. IsLength least most (length t) × (is_utf8 t ≡ true))
 unfolding read.short_at
 short_format least most = when_format is_utf8 _ _ _ (string_format _ _ _ (length_format least most))
 
 below_byte : (least most n : ℕ) → most < 256 → is_between least most n ≡ true → n < 256
 below_byte least most n small h = let le = leb-true n most (and_right (leb least n) _ h) in omega arith
 
-pub key_format : IsPlain read.key_at short_text (λ t. is_key_text t ≡ true)
+pub key_format : IsFormat read.key_at short_text (λ t. is_key_text t ≡ true)
 unfolding read.key_at
 key_format =
-    refit _ _ _ (λ t. is_key_text t ≡ true) _
+    refit _ _ _ (λ t. is_key_text t ≡ true)
     (λ t h. and_true (is_utf8 t) (is_key t) h.0.1 h.1)
     (λ t h. (let key = and_right (is_utf8 t) (is_key t) h in
     let len : is_between 1 64 (length t) ≡ true = and_left (is_between 1 64 (length t)) (not (list_any (λ b. eqb b 47) t)) key in
@@ -75,10 +75,10 @@ name_parts n h =
 pub name_most : (n : List ℕ) → is_name n ≡ true → length n ≤ 16
 name_most n h = leb-true (length n) 16 (and_right (leb 1 (length n)) _ (name_parts n h).0.1)
 
-new_name_format : (before : List (List ℕ)) → IsPlain (read.new_name_at before) short_text (IsNew before)
+new_name_format : (before : List (List ℕ)) → IsFormat (read.new_name_at before) short_text (IsNew before)
 unfolding read.new_name_at read.name_at
 new_name_format before =
-    refit _ _ _ (IsNew before) _ (λ n h. (h.0.1, h.1)) (λ n h. ((name_parts n h.0, h.0), h.1))
+    refit _ _ _ (IsNew before) (λ n h. (h.0.1, h.1)) (λ n h. ((name_parts n h.0, h.0), h.1))
     (when_format (read.is_new before) _ _ _ (when_format is_name _ _ _ (short_format 1 16)))
 
 -- ---- names, no two of which are equal
@@ -145,10 +145,10 @@ names_back names h =
     let few = leb-true (length names) 256 (and_right (leb 1 (length names)) _ len) in
     ((omega arith, len), new_of names [] (and_right (is_between 1 256 (length names)) _ h.1) h.0)
 
-names_format : IsPlain read.names_at names_text AreNames
+names_format : IsFormat read.names_at names_text AreNames
 unfolding read.names_at
 names_format =
-    refit _ _ _ AreNames _ names_there names_back
+    refit _ _ _ AreNames names_there names_back
     (list_format _ _ _ new_name_format _ _ _ (when_format (is_between 1 256) _ _ _ number16))
 
 -- ---- the roster and the own number
@@ -180,26 +180,26 @@ roster_back p r h is =
     let same : made ≡ r = cc in
     (subst IsRoster same (record { group = h.0; each_name = h.1.0; names = h.1.1 }), ap roster_parts (sym same))
 
-roster_format : IsPlain read.roster_at roster_text IsRoster
+roster_format : IsFormat read.roster_at roster_text IsRoster
 unfolding read.roster_at
-roster_format = drawn_format read.roster_by roster_parts _ _ _ IsRoster roster_there roster_back (plain_pair _ _ _ _ _ _ key_format names_format)
+roster_format = drawn_format read.roster_by roster_parts _ _ _ IsRoster roster_there roster_back (pair_format _ _ _ _ _ _ key_format names_format)
 
 -- a byte below so many
-pub replica_format : (replicas : ℕ) → IsPlain (read.replica_at replicas) byte_text (λ n. (n < 256) × (n < replicas))
+pub replica_format : (replicas : ℕ) → IsFormat (read.replica_at replicas) byte_text (λ n. (n < 256) × (n < replicas))
 unfolding read.replica_at
 replica_format replicas =
-    refit _ _ _ (λ n. (n < 256) × (n < replicas)) _
+    refit _ _ _ (λ n. (n < 256) × (n < replicas))
     (λ n h. (h.0, ltb-true n replicas h.1)) (λ n h. (h.0, lt-ltb n replicas h.1))
     (when_format (read.is_number replicas) _ _ _ byte_format)
 
-own_format : (r : RosterValue) → IsRoster r → IsPlain (read.replica_at (length r.names)) byte_text (λ own. own < length r.names)
+own_format : (r : RosterValue) → IsRoster r → IsFormat (read.replica_at (length r.names)) byte_text (λ own. own < length r.names)
 own_format r is =
-    refit _ _ _ (λ own. own < length r.names) _ (λ own h. h.1) (λ own h. (let few = few_names r is in (omega arith, h))) (replica_format (length r.names))
+    refit _ _ _ (λ own. own < length r.names) (λ own h. h.1) (λ own h. (let few = few_names r is in (omega arith, h))) (replica_format (length r.names))
 
 abbrev IsMagic : List ℕ → Type 0
 IsMagic t = (length t ≡ 4) × (bytes_eq magic t ≡ true)
 
-magic_format : IsPlain read.magic_at (λ t. t) IsMagic
+magic_format : IsFormat read.magic_at (λ t. t) IsMagic
 unfolding read.magic_at
 magic_format = when_format (bytes_eq magic) _ _ _ (known_format 4)
 
@@ -218,13 +218,13 @@ front_there f is = (((refl, refl), is), refl)
 front_back : (p : List ℕ × Member) → IsMagic p.0 × IsMemberPair p.1 → IsMemberPair p.1 × (front_parts p.1 ≡ p)
 front_back p h = (h.1, ap (λ (m : List ℕ). let q : List ℕ × Member = (m, p.1) in q) ((bytes_eq-Decides magic p.0).0 h.0.1))
 
-pub member_format : IsPlain read.member_at (λ f. spell.member_text f.0 f.1) IsMemberPair
+pub member_format : IsFormat read.member_at (λ f. spell.member_text f.0 f.1) IsMemberPair
 unfolding read.member_at
-member_format = plain_then _ _ _ _ _ _ roster_format own_format
+member_format = then_format _ _ _ _ _ _ roster_format own_format
 
-pub front_format : IsPlain read.front_at (λ f. spell.front_text f.0 f.1) IsMemberPair
+pub front_format : IsFormat read.front_at (λ f. spell.front_text f.0 f.1) IsMemberPair
 unfolding read.front_at
-front_format = made_format (λ p. p.1) front_parts _ _ _ IsMemberPair _ front_there front_back (plain_pair _ _ _ _ _ _ magic_format member_format)
+front_format = made_format (λ p. p.1) front_parts _ _ _ IsMemberPair front_there front_back (pair_format _ _ _ _ _ _ magic_format member_format)
 
 -- ---- the last of the parts before
 

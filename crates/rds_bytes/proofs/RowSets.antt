@@ -1,32 +1,27 @@
--- The set that rows stand for: its dots, its runs, its size.
-use Rattle.std.proofs.Common.{min, ◌≡◌, ℕ, zero, suc, ◌+◌, ◌-◌, ◌*◌, ◌<◌, ◌≤◌, Bool, true, false, ◌&&◌, ◌||◌, eqb, leb, List, [], ◌∷◌, ◌++◌, length, refl, sym, ap, ◌∙◌, arith, ◌⊎◌, inl, inr, length-append}
-use Rattle.std.specs.List.{flat_map, list_all, AllByRecursion}
+-- The set that rows stand for: its dots and its runs.
+use Rattle.std.proofs.Common.{min, ◌≡◌, ℕ, ◌+◌, ◌-◌, ◌<◌, ◌≤◌, Bool, true, false, ◌&&◌, ◌||◌, eqb, leb, List, [], ◌∷◌, refl, sym, ap, ◌∙◌, arith, ◌⊎◌, inl, inr}
+use Rattle.std.specs.List.{flat_map, AllByRecursion}
 use Rattle.std.specs.FinSet as set
-use Rattle.std.specs.Ordering.{is_lt, is_eq, ordering_then, nat_cmp, eq_by_cmp}
+use Rattle.std.specs.Ordering.{eq_by_cmp}
 use Rattle.std.proofs.Math.Nat.{min-le_left, min-le_right}
-use Rattle.std.proofs.lemmas.Bool.{cases_lt, false≢true}
+use Rattle.std.proofs.lemmas.Bool.{cases_lt, false≢true, or_left, or_right}
 use Rattle.std.proofs.lemmas.Bool.Decides.{nat_tests}
-use Rattle.std.proofs.lemmas.Cmp.{tied_itself}
-use Rattle.std.proofs.lemmas.List.{append-nil}
-use Rattle.std.proofs.lemmas.List.Folds.{list_any-append, list_all-append}
+use Rattle.std.proofs.lemmas.List.Folds.{list_any-append}
 use Rattle.std.proofs.lemmas.List.Concat.{flat_map-cons}
-use Rattle.std.proofs.lemmas.Grind.{flat_map-append}
 use Rattle.rds_dots.specs.declared.dot.Dot.{Dot}
 use Rattle.rds_dots.specs.declared.dot.Run.{Run}
-use Rattle.rds_dots.specs.Ascending.{ascends, is_above}
 use Rattle.rds_dots.specs.Dots.{Dots, IsRun, dot_cmp, in_run, is_dot, last_of}
-use Rattle.rds_dots.specs.Listed.{lists, dots_from, dots_of}
-use Rattle.rds_names.specs.Conditions.{and_true, and_left, and_right}
+use Rattle.rds_dots.specs.Listed.{lists, dots_of}
 use Rattle.rds_dots.specs.Order.{dots_total, dots_exact}
-use Rattle.rds_dots.specs.RunFacts.{Bounds, parts_of, has, covers_is, has_past}
-use Rattle.rds_dots.specs.Runs.{covers, place, stop, are_maximal, runs_of}
+use Rattle.rds_dots.specs.RunFacts.{Bounds, parts_of}
+use Rattle.rds_dots.specs.Runs.{covers, are_maximal, runs_of}
 use Rattle.rds_dots.specs.RunsOf.{are_runs, runs_are, covered_is_dot}
-use Rattle.rds_dots.specs.Sets.{contains_list, dot_limits, lists-run, ascends-run, len-list}
+use Rattle.rds_dots.specs.Sets.{contains_list, dot_limits, lists-run}
 use Rattle.rds_bytes.specs.declared.rows.Gap.{Gap}
 use Rattle.rds_bytes.specs.declared.rows.DotRow.{DotRow}
 use Rattle.rds_bytes.specs.Values.{AreDotsOf}
 use Rattle.rds_bytes.specs.DotRows.{rows_from}
-use Rattle.rds_bytes.specs.RowDots.{runs_between, row_runs, dots_of_runs, dots_of_rows, counted_between, counted}
+use Rattle.rds_bytes.specs.RowDots.{runs_between, row_runs, dots_of_runs, dots_of_rows}
 use Rattle.rds_bytes.proofs.RowAlgebra.{RowsStand, rows_opens, rows_back, runs_back, rows_stand, before_some, before_none}
 
 is_run_of : (r : Run) → Bounds r → IsRun r
@@ -49,93 +44,6 @@ contains-runs rs max d = contains_list (flat_map dots_of rs) d ∙ lists-runs rs
 -- so these are its maximal runs
 pub runs_of-runs : (rs : List Run) → are_maximal rs ≡ true → runs_of (dots_of_runs rs) ≡ rs
 runs_of-runs rs max = runs_are (dots_of_runs rs) rs (record { maximal = max; same = λ d. sym (contains-runs rs max d) })
-
--- ---- how many
-
-or_left : (a b : Bool) → a ≡ true → (a || b) ≡ true
-or_left true b h = refl
-or_left false b h = absurd (false≢true h)
-
-or_right : (a b : Bool) → b ≡ true → (a || b) ≡ true
-or_right true b h = refl
-or_right false b h = h
-
-each_listed : (p : Dot → Bool) (ds : List Dot) → ((d : Dot) → lists ds d ≡ true → p d ≡ true) → list_all p ds ≡ true
-each_listed p [] each = refl
-each_listed p (d ∷ ds) each =
-    and_true (p d) _ (each d (or_left _ _ (ap is_eq (tied_itself dots_total d)))) (each_listed p ds (λ q h. each q (or_right (eq_by_cmp dot_cmp q d) _ h)))
-
-ascends-append : (ds es : List Dot) → ascends ds ≡ true → ascends es ≡ true → ((d : Dot) → lists ds d ≡ true → list_all (is_above d) es ≡ true) → ascends (ds ++ es) ≡ true
-ascends-append [] es p q above = q
-ascends-append (d ∷ ds) es p q above =
-    let first = and_left (list_all (is_above d) ds) _ p in
-    let rest = and_right (list_all (is_above d) ds) _ p in
-    let all : list_all (is_above d) (ds ++ es) ≡ true = list_all-append (is_above d) ds es ∙ and_true _ _ first (above d (or_left _ _ (ap is_eq (tied_itself dots_total d)))) in
-    and_true _ _ all (ascends-append ds es rest q (λ x h. above x (or_right (eq_by_cmp dot_cmp x d) _ h)))
-
-above_by : (a s b t : ℕ) → s ≤ 281474976710655 → t ≤ 281474976710655 → a * 281474976710656 + s < b * 281474976710656 + t → is_lt (ordering_then (nat_cmp a b) (nat_cmp s t)) ≡ true
-above_by a s b t p q h = grind (arith, nat_tests)
-
-in_run_place : (a s ρ lo hi : ℕ) → (eqb a ρ && leb lo s && leb s hi) ≡ true → a * 281474976710656 + s ≤ ρ * 281474976710656 + hi
-in_run_place a s ρ lo hi h = grind (arith, nat_tests)
-
-in_run_seq : (a s ρ lo hi : ℕ) → (eqb a ρ && leb lo s && leb s hi) ≡ true → s ≤ hi
-in_run_seq a s ρ lo hi h = grind (arith, nat_tests)
-
-ascends-runs : (rs : List Run) → are_maximal rs ≡ true → ascends (flat_map dots_of rs) ≡ true
-ascends-runs [] max = refl
-ascends-runs (r ∷ rs) max =
-    let p = parts_of r rs max in
-    let is = is_run_of r p.bounds in
-    let most = p.bounds.most in
-    let later : List Dot = flat_map dots_of rs in
-    ap ascends (flat_map-cons dots_of r rs) ∙ ascends-append (dots_of r) later (ascends-run r is) (ascends-runs rs p.rest)
-    (λ d h. each_listed (is_above d) later (λ e k.
-    let inside : in_run r d ≡ true = sym (lists-run r is d) ∙ h in
-    let covered : covers rs e ≡ true = sym (lists-runs rs p.rest e) ∙ k in
-    let there : has rs (place e.replica e.seq) ≡ true = and_right (is_dot e) _ (sym (covers_is rs p.rest e) ∙ covered) in
-    let past = has_past rs p.rest (stop r + 1) (place e.replica e.seq) p.apart there in
-    let before = in_run_place d.replica d.seq r.replica r.lo r.hi inside in
-    let low = in_run_seq d.replica d.seq r.replica r.lo r.hi inside in
-    above_by d.replica d.seq e.replica e.seq (omega arith) (dot_limits e (covered_is_dot rs p.rest e covered)).within (omega arith)))
-
-length-dots_from : (replica lo n : ℕ) → length (dots_from replica lo n) ≡ n
-length-dots_from replica lo zero = refl
-length-dots_from replica lo (suc n) = ap suc (length-dots_from replica (lo + 1) n)
-
--- the dots of the runs between gaps
-between_count : (ρ top : ℕ) (gs : List Gap) (from : ℕ) → length (flat_map dots_of (runs_between ρ from top gs)) ≡ counted_between from top gs
-between_count ρ top [] from =
-    let one : List Dot = dots_from ρ from (top + 1 - from) in
-    ap length (append-nil one) ∙ length-dots_from ρ from (top + 1 - from)
-between_count ρ top (g ∷ gs) from =
-    let rest : List Run = runs_between ρ (g.hi + 1) top gs in
-    let again = between_count ρ top gs (g.hi + 1) in
-    elim (cases_lt from g.lo) [
-      | inl lt ↦ (
-          let r : Run = record { replica = ρ; lo = from; hi = g.lo - 1 } in
-          let len = length-dots_from ρ from (g.lo - 1 + 1 - from) in
-          let n : g.lo - 1 + 1 - from ≡ g.lo - from = omega arith in
-          ap (λ (rs : List Run). length (flat_map dots_of rs)) (before_some ρ from g.lo rest lt)
-          ∙ ap length (flat_map-cons dots_of r rest) ∙ length-append (dots_of r) (flat_map dots_of rest)
-          ∙ (λ i. (len ∙ n) i + again i))
-      | inr ge ↦ (
-          let none : 0 ≡ g.lo - from = omega arith in
-          let zeros : length (flat_map dots_of rest) ≡ 0 + length (flat_map dots_of rest) = omega arith in
-          ap (λ (rs : List Run). length (flat_map dots_of rs)) (before_none ρ from g.lo rest ge) ∙ zeros ∙ (λ i. none i + again i))
-    ]
-
-rows_count : (rows : List DotRow) → length (flat_map dots_of (flat_map row_runs rows)) ≡ counted rows
-rows_count [] = refl
-rows_count (r ∷ rows) =
-    ap (λ (rs : List Run). length (flat_map dots_of rs)) (flat_map-cons row_runs r rows)
-    ∙ ap length (flat_map-append dots_of (row_runs r) (flat_map row_runs rows))
-    ∙ length-append (flat_map dots_of (row_runs r)) (flat_map dots_of (flat_map row_runs rows))
-    ∙ (λ i. between_count r.replica r.top r.gaps 1 i + rows_count rows i)
-
-pub len-rows : (rows : List DotRow) → are_maximal (flat_map row_runs rows) ≡ true → set.len (dots_of_rows rows) ≡ counted rows
-unfolding dots_of_runs
-len-rows rows max = len-list (flat_map dots_of (flat_map row_runs rows)) (ascends-runs (flat_map row_runs rows) max) ∙ rows_count rows
 
 -- ---- rows that stand, and sets of dots
 

@@ -17,7 +17,7 @@ use Rattle.rds_dots.specs.RunsOf.{are_runs}
 use Rattle.rds_dots.proofs.RunWalks.{all_left, none_left, one_left}
 use Rattle.rds_bytes.specs.declared.rows.Gap.{Gap}
 use Rattle.rds_bytes.specs.declared.rows.DotRow.{DotRow}
-use Rattle.rds_bytes.specs.DotRows.{gap_before, gaps_in, top_in, rows_from, row_of_run, CanCountAll, next_of, IsNext}
+use Rattle.rds_bytes.specs.DotRows.{gap_before, gaps_in, top_in, rows_from, row_of_run, row_end, CanCountAll, next_of, IsNext}
 use Rattle.rds_bytes.specs.Spelling.{gap_text, dot_row_text}
 use Rattle.rds_bytes.proofs.RowAlgebra.{ne_eqb, rows_skip, rows_open, gaps_same, gaps_other, top_same, top_other}
 
@@ -198,104 +198,163 @@ length-gaps (g ∷ gs) = let e = ap length (flat_map-cons gap_text g gs) ∙ len
 pub row_length : (r : DotRow) → length (dot_row_text r) ≡ 13 + 16 * length r.gaps
 row_length r = let e = length-gaps r.gaps in omega arith
 
--- the rows that are left from a replica on
-abbrev pub rows_left : Dots → ℕ → Option Dot → List DotRow
-rows_left s least after = rows_from least (left s after)
+-- ---- from the last dot of a row on
 
-pub rows_at_none : (s : Dots) → rows_left s 0 None ≡ rows_from 0 (runs_of s)
+-- which replica's row may begin after a dot
+abbrev pub next_replica : Option Dot → ℕ
+next_replica None = 0
+next_replica (Some d) = d.replica + 1
+
+-- no run of the dot's own replica comes after it
+abbrev pub IsAtEnd : Dots → Option Dot → Type 0
+IsAtEnd s None = Unit {0}
+IsAtEnd s (Some d) = next_of d.replica (left s (Some d)) ≡ None
+
+-- the rows that are left after a dot
+abbrev pub rows_left : Dots → Option Dot → List DotRow
+rows_left s after = rows_from (next_replica after) (left s after)
+
+abbrev pub a_dot : ℕ → ℕ → Dot
+a_dot replica seq = record { replica = replica; seq = seq }
+
+-- past the runs of a replica: what comes after the last of its dots is what comes after the others
+pub record Leaps (s : Dots) (ρ top : ℕ) (rs : List Run) : Type 0 where
+  pub ended : IsAtEnd s (Some (a_dot ρ top))
+  pub same : rows_left s (Some (a_dot ρ top)) ≡ rows_from (ρ + 1) rs
+  pub fewer : length (left s (Some (a_dot ρ top))) ≤ length rs
+
+not_before : (a s b t : ℕ) → is_lt (ordering_then (nat_cmp a b) (nat_cmp s t)) ≡ true → a ≤ b
+not_before a s b t h = grind (arith, nat_tests)
+
+module _ (s : Dots) (dots : AreOnlyDots s) where
+  -- the first that is left is the first that is found
+  found_first : (after : Option Dot) (t : Run) (ts : List Run) → left s after ≡ t ∷ ts → first_after after (runs_of s) ≡ Some t
+  found_first after t ts is =
+      elim (first_after after (runs_of s)) as (λ (o : Option Run). first_after after (runs_of s) ≡ o → o ≡ Some t) [
+        | None ↦ λ h. absurd (let none : ◌≡◌ {A = List Run} [] (t ∷ ts) = sym (stop_at s dots after h) ∙ is in cc)
+        | Some r ↦ λ h. (let one : ◌≡◌ {A = List Run} (r ∷ left s (Some (last_of r))) (t ∷ ts) = sym (step s dots after r h) ∙ is in cc)
+      ] refl
+
+  leaps : (rs : List Run) (q : Run) → left s (Some (last_of q)) ≡ rs → Leaps s q.replica (top_in q.replica q.hi rs) rs
+  leaps [] q is = record {
+    ended = ap (next_of q.replica) is;
+    same = ap (rows_from (q.replica + 1)) is;
+    fewer = (let e = ap length is in omega arith);
+  }
+  leaps (t ∷ ts) q is =
+      let found = found_first (Some (last_of q)) t ts is in
+      let later : left s (Some (last_of t)) ≡ ts = (let one : ◌≡◌ {A = List Run} (t ∷ left s (Some (last_of t))) (t ∷ ts) = sym (step s dots (Some (last_of q)) t found) ∙ is in cc) in
+      elim (eqb_tells t.replica q.replica) [
+        | inl e ↦ (
+            let l = leaps ts t later in
+            let fewer = l.fewer in
+            let made : Leaps s t.replica (top_in t.replica t.hi ts) (t ∷ ts) =
+            record { ended = l.ended; same = l.same ∙ sym (rows_skip (t.replica + 1) t ts (omega arith)); fewer = omega arith } in
+            let top-is : top_in t.replica t.hi ts ≡ top_in q.replica q.hi (t ∷ ts) = ap (λ n. top_in n t.hi ts) e.1 ∙ sym (top_same q.replica q.hi t ts e.1) in
+            subst (λ n. Leaps s q.replica n (t ∷ ts)) top-is (subst (λ n. Leaps s n (top_in t.replica t.hi ts) (t ∷ ts)) e.1 made))
+        | inr other ↦ (
+            let made : Leaps s q.replica q.hi (t ∷ ts) = record {
+              ended = ap (next_of q.replica) is ∙ ap (λ b. cond b (Some t) None) other.0;
+              same = ap (rows_from (q.replica + 1)) is;
+              fewer = (let e = ap length is in omega arith);
+            } in
+            subst (λ n. Leaps s q.replica n (t ∷ ts)) (sym (top_other q.replica q.hi t ts other.1)) made)
+      ]
+
+  -- a run that is found at the end of a replica's runs is of a later one
+  found_later : (after : Option Dot) (r : Run) → IsAtEnd s after → first_after after (runs_of s) ≡ Some r → next_replica after ≤ r.replica
+  found_later None r ended is = omega arith
+  found_later (Some d) r ended is =
+      let le = not_before d.replica d.seq r.replica r.hi (found_passes (Some d) (runs_of s) r is) in
+      elim (eqb_tells r.replica d.replica) [
+        | inl e ↦ absurd (let bad : ◌≡◌ {A = Option Run} (Some r) None = sym (ap (next_of d.replica) (step s dots (Some d) r is) ∙ ap (λ b. cond b (Some r) None) e.0) ∙ ended in cc)
+        | inr ne ↦ omega (arith, ne.1, le)
+      ]
+
+  -- one row, from the first of its runs to the last of its dots
+  pub record IsOneRow (after : Option Dot) (r : Run) (last : Dot) : Type 0 where
+    pub ended : IsAtEnd s (Some last)
+    pub later : next_replica after ≤ r.replica
+    pub opened : rows_left s after ≡ row_of_run s r ∷ rows_left s (Some last)
+    pub fewer : length (left s (Some last)) < length (left s after)
+
+  pub one_row : (after : Option Dot) (r : Run) (last : Dot) → IsAtEnd s after → first_after after (runs_of s) ≡ Some r → last ≡ row_end (row_of_run s r) → IsOneRow after r last
+  one_row after r last ended is end =
+      let rs : List Run = left s (Some (last_of r)) in
+      let one = step s dots after r is in
+      let later = found_later after r ended is in
+      let l = leaps rs r refl in
+      let fewer = l.fewer in
+      let e = ap length one in
+      let made : IsOneRow after r (row_end (row_of_run s r)) = record {
+        ended = l.ended;
+        later = later;
+        opened = ap (rows_from (next_replica after)) one ∙ rows_open (next_replica after) r rs later ∙ ap (λ (rows : List DotRow). row_of_run s r ∷ rows) (sym l.same);
+        fewer = omega arith;
+      } in
+      subst (λ (d : Dot). IsOneRow after r d) (sym end) made
+
+  pub rows_ended : (after : Option Dot) → first_after after (runs_of s) ≡ None → rows_left s after ≡ []
+  rows_ended after is = ap (rows_from (next_replica after)) (stop_at s dots after is)
+
+pub rows_at_none : (s : Dots) → rows_left s None ≡ rows_from 0 (runs_of s)
 rows_at_none s = ap (rows_from 0) (all_left (runs_of s))
 
-module _ (s : Dots) (dots : AreOnlyDots s) (least : ℕ) (after : Option Dot) where
-  pub rows_opened : (r : Run) → first_after after (runs_of s) ≡ Some r → least ≤ r.replica → rows_left s least after ≡ row_of_run s r ∷ rows_left s (r.replica + 1) (Some (last_of r))
-  rows_opened r is le = ap (rows_from least) (step s dots after r is) ∙ rows_open least r (left s (Some (last_of r))) le
+pub record IsMeasuring (s : Dots) (after : Option Dot) (rows len : ℕ) : Type 0 where
+  pub ended : IsAtEnd s after
+  pub counted : rows + length (rows_left s after) ≡ length (rows_from 0 (runs_of s))
+  pub measured : len + length (flat_map dot_row_text (rows_left s after)) ≡ length (flat_map dot_row_text (rows_from 0 (runs_of s)))
+  pub few : rows ≤ next_replica after
+  pub byte : next_replica after ≤ 256
+  pub small : len ≤ 2 ^ 60 * next_replica after
 
-  pub rows_skipped : (r : Run) → first_after after (runs_of s) ≡ Some r → r.replica < least → rows_left s least after ≡ rows_left s least (Some (last_of r))
-  rows_skipped r is lt = ap (rows_from least) (step s dots after r is) ∙ rows_skip least r (left s (Some (last_of r))) lt
-
-  pub rows_ended : first_after after (runs_of s) ≡ None → rows_left s least after ≡ []
-  rows_ended is = ap (rows_from least) (stop_at s dots after is)
-
-  pub walked : (r : Run) → first_after after (runs_of s) ≡ Some r → length (left s (Some (last_of r))) < length (left s after)
-  walked r is = let e = ap length (step s dots after r is) in omega arith
-
-pub record IsMeasuring (s : Dots) (least : ℕ) (after : Option Dot) (rows len : ℕ) : Type 0 where
-  pub counted : rows + length (rows_left s least after) ≡ length (rows_from 0 (runs_of s))
-  pub measured : len + length (flat_map dot_row_text (rows_left s least after)) ≡ length (flat_map dot_row_text (rows_from 0 (runs_of s)))
-  pub few : rows ≤ least
-  pub least_small : least ≤ 256
-  pub small : len ≤ 2 ^ 60 * least
-
-pub measuring_is : (s : Dots) (least least' : ℕ) (after : Option Dot) (rows rows' len len' : ℕ) → least ≡ least' → rows ≡ rows' → len ≡ len' → IsMeasuring s least' after rows' len' → IsMeasuring s least after rows len
-measuring_is s least least' after rows rows' len len' p q r i =
-    subst (λ n. IsMeasuring s n after rows len) (sym p) (subst (λ n. IsMeasuring s least' after n len) (sym q) (subst (λ n. IsMeasuring s least' after rows' n) (sym r) i))
-
-pub measuring_begins : (s : Dots) → IsMeasuring s 0 None 0 0
+pub measuring_begins : (s : Dots) → IsMeasuring s None 0 0
 measuring_begins s =
     let e = ap length (rows_at_none s) in
     let f = ap (λ (rows : List DotRow). length (flat_map dot_row_text rows)) (rows_at_none s) in
-    record { counted = omega arith; measured = omega arith; few = omega arith; least_small = omega arith; small = omega arith }
+    record { ended = tt; counted = omega arith; measured = omega arith; few = omega arith; byte = omega arith; small = omega arith }
 
-pub measuring_opens : (s : Dots) → AreOnlyDots s → (least : ℕ) (after : Option Dot) (rows len gaps : ℕ) (r : Run) → IsMeasuring s least after rows len → first_after after (runs_of s) ≡ Some r → least ≤ r.replica → r.replica < 256
-    → gaps ≡ length (row_of_run s r).gaps → gaps < 2 ^ 48 → IsMeasuring s (r.replica + 1) (Some (last_of r)) (rows + 1) (len + (13 + 16 * gaps))
-measuring_opens s dots least after rows len gaps r i is le byte e lt =
+pub measuring_goes_on : (s : Dots) (after : Option Dot) (rows len gaps : ℕ) (r : Run) (top : ℕ) → (dots : AreOnlyDots s) → IsMeasuring s after rows len → IsOneRow s dots after r (a_dot r.replica top) → r.replica < 256
+    → gaps ≡ length (row_of_run s r).gaps → gaps < 2 ^ 48 → IsMeasuring s (Some (a_dot r.replica top)) (rows + 1) (len + (13 + 16 * gaps))
+measuring_goes_on s after rows len gaps r top dots i o byte e lt =
     let row = row_of_run s r in
-    let later = rows_left s (r.replica + 1) (Some (last_of r)) in
-    let opened = rows_opened s dots least after r is le in
-    let a = ap length opened in
-    let b = ap (λ (x : List DotRow). length (flat_map dot_row_text x)) opened ∙ ap length (flat_map-cons dot_row_text row later) ∙ length-append (dot_row_text row) (flat_map dot_row_text later) in
+    let more = rows_left s (Some (a_dot r.replica top)) in
+    let a = ap length o.opened in
+    let b = ap (λ (x : List DotRow). length (flat_map dot_row_text x)) o.opened ∙ ap length (flat_map-cons dot_row_text row more) ∙ length-append (dot_row_text row) (flat_map dot_row_text more) in
     let c = row_length row in
+    let later = o.later in
     let counted = i.counted in
     let measured = i.measured in
     let few = i.few in
     let small = i.small in
-    record { counted = omega arith; measured = omega arith; few = omega arith; least_small = omega arith; small = omega arith }
+    record { ended = o.ended; counted = omega arith; measured = omega arith; few = omega arith; byte = omega arith; small = omega arith }
 
-pub measuring_skips : (s : Dots) → AreOnlyDots s → (least : ℕ) (after : Option Dot) (rows len : ℕ) (r : Run) → IsMeasuring s least after rows len → first_after after (runs_of s) ≡ Some r → r.replica < least → IsMeasuring s least (Some (last_of r)) rows len
-measuring_skips s dots least after rows len r i is lt =
-    let skipped = rows_skipped s dots least after r is lt in
-    record {
-      counted = ap (λ (x : List DotRow). rows + length x) (sym skipped) ∙ i.counted;
-      measured = ap (λ (x : List DotRow). len + length (flat_map dot_row_text x)) (sym skipped) ∙ i.measured;
-      few = i.few;
-      least_small = i.least_small;
-      small = i.small;
-    }
+pub record IsWritingRows (s : Dots) (after : Option Dot) (out all : List ℕ) : Type 0 where
+  pub ended : IsAtEnd s after
+  pub can_count : CanCountAll (rows_left s after)
+  pub written : out ++ flat_map dot_row_text (rows_left s after) ≡ all
 
-pub record IsWritingRows (s : Dots) (least : ℕ) (after : Option Dot) (out all : List ℕ) : Type 0 where
-  pub can_count : CanCountAll (rows_left s least after)
-  pub written : out ++ flat_map dot_row_text (rows_left s least after) ≡ all
-
-pub rows_writing_is : (s : Dots) (least least' : ℕ) (after : Option Dot) (out out' all : List ℕ) → least ≡ least' → out ≡ out' → IsWritingRows s least' after out' all → IsWritingRows s least after out all
-rows_writing_is s least least' after out out' all p q i = subst (λ n. IsWritingRows s n after out all) (sym p) (subst (λ (o : List ℕ). IsWritingRows s least' after o all) (sym q) i)
-
-pub rows_writing_begins : (s : Dots) (out : List ℕ) → CanCountAll (rows_from 0 (runs_of s)) → IsWritingRows s 0 None out (out ++ flat_map dot_row_text (rows_from 0 (runs_of s)))
+pub rows_writing_begins : (s : Dots) (out : List ℕ) → CanCountAll (rows_from 0 (runs_of s)) → IsWritingRows s None out (out ++ flat_map dot_row_text (rows_from 0 (runs_of s)))
 rows_writing_begins s out can = record {
+  ended = tt;
   can_count = subst CanCountAll (sym (rows_at_none s)) can;
   written = ap (λ (x : List DotRow). out ++ flat_map dot_row_text x) (rows_at_none s);
 }
 
-module _ (s : Dots) (dots : AreOnlyDots s) (least : ℕ) (after : Option Dot) (out all : List ℕ) (i : IsWritingRows s least after out all) where
-  pub row_can_count : (r : Run) → first_after after (runs_of s) ≡ Some r → least ≤ r.replica → length (row_of_run s r).gaps < 2 ^ 32
-  row_can_count r is le = (subst CanCountAll (rows_opened s dots least after r is le) i.can_count).0
+module _ (s : Dots) (dots : AreOnlyDots s) (after : Option Dot) (out all : List ℕ) (i : IsWritingRows s after out all) where
+  pub row_can_count : (r : Run) → first_after after (runs_of s) ≡ Some r → length (row_of_run s r).gaps < 2 ^ 32
+  row_can_count r is = (subst CanCountAll (one_row s dots after r (row_end (row_of_run s r)) i.ended is refl).opened i.can_count).0
 
-  pub rows_writing_opens : (r : Run) (next_out : List ℕ) → first_after after (runs_of s) ≡ Some r → least ≤ r.replica → next_out ≡ out ++ dot_row_text (row_of_run s r) → IsWritingRows s (r.replica + 1) (Some (last_of r)) next_out all
-  rows_writing_opens r next_out is le more =
+  pub rows_writing_goes_on : (r : Run) (last : Dot) (next_out : List ℕ) → IsOneRow s dots after r last → next_out ≡ out ++ dot_row_text (row_of_run s r) → IsWritingRows s (Some last) next_out all
+  rows_writing_goes_on r last next_out o more =
       let row = row_of_run s r in
-      let later = rows_left s (r.replica + 1) (Some (last_of r)) in
-      let opened = rows_opened s dots least after r is le in
+      let later = rows_left s (Some last) in
       record {
-        can_count = (subst CanCountAll opened i.can_count).1;
+        ended = o.ended;
+        can_count = (subst CanCountAll o.opened i.can_count).1;
         written = ap (λ (t : List ℕ). t ++ flat_map dot_row_text later) more ∙ append_assoc out (dot_row_text row) (flat_map dot_row_text later)
-            ∙ ap (λ (t : List ℕ). out ++ t) (sym (flat_map-cons dot_row_text row later)) ∙ ap (λ (x : List DotRow). out ++ flat_map dot_row_text x) (sym opened) ∙ i.written;
-      }
-
-  pub rows_writing_skips : (r : Run) → first_after after (runs_of s) ≡ Some r → r.replica < least → IsWritingRows s least (Some (last_of r)) out all
-  rows_writing_skips r is lt =
-      let skipped = rows_skipped s dots least after r is lt in
-      record {
-        can_count = subst CanCountAll skipped i.can_count;
-        written = ap (λ (x : List DotRow). out ++ flat_map dot_row_text x) (sym skipped) ∙ i.written;
+            ∙ ap (λ (t : List ℕ). out ++ t) (sym (flat_map-cons dot_row_text row later)) ∙ ap (λ (x : List DotRow). out ++ flat_map dot_row_text x) (sym o.opened) ∙ i.written;
       }
 
   pub rows_writing_ends : first_after after (runs_of s) ≡ None → out ≡ all
-  rows_writing_ends is = sym (append-nil out) ∙ ap (λ (x : List DotRow). out ++ flat_map dot_row_text x) (sym (rows_ended s dots least after is)) ∙ i.written
+  rows_writing_ends is = sym (append-nil out) ∙ ap (λ (x : List DotRow). out ++ flat_map dot_row_text x) (sym (rows_ended s dots after is)) ∙ i.written

@@ -1,6 +1,7 @@
 -- A set of dots as rows: for each replica that has dots the greatest number, and the gaps below it.
 use Rattle.std.specs.Prelude.{◌≡◌, ℕ, ◌+◌, ◌-◌, ◌<◌, ◌^◌, ◌==◌, nat_lt, if◌then◌else◌, List, [], ◌∷◌, length, Option, Some, None}
 use Rattle.std.specs.List.{AllByRecursion}
+use Rattle.rds_dots.specs.declared.dot.Dot.{Dot}
 use Rattle.rds_dots.specs.declared.dot.Run.{Run}
 use Rattle.rds_dots.specs.Dots.{Dots, IsRun, last_of}
 use Rattle.rds_dots.specs.Runs.{runs_of}
@@ -37,6 +38,10 @@ rows_from least (r ∷ rs) = if nat_lt r.replica least then rows_from least rs e
 -- the row that begins with a run of a set
 abbrev pub row_of_run : Dots → Run → DotRow
 row_of_run s r = row_in r (runs_left (Some (last_of r)) (runs_of s))
+
+-- the last dot of a row
+abbrev pub row_end : DotRow → Dot
+row_end row = record { replica = row.replica; seq = row.top }
 
 -- the gaps of each row can be counted in four bytes
 abbrev pub CanCountAll : List DotRow → Type 0

@@ -1,5 +1,6 @@
 pub mod DotRows
 pub mod Entries
+pub mod Inserting
 pub mod Reading
 pub mod RowDots
 pub mod Spelling

@@ -5,7 +5,7 @@ use Rattle.std.specs.Str.{bytes_eq, is_utf8}
 use Rattle.std.specs.Int.{Width, w16, w32, w64, byte_len, from_be_bytes, cast_signed}
 use Rattle.std.specs.FinSet as set
 use Rattle.rds_names.specs.declared.fault.Fault.{Fault}
-use Rattle.rds_names.specs.declared.fault.Fault.TheVariants.{Memory, Cut, Bad, TooManyDots}
+use Rattle.rds_names.specs.declared.fault.Fault.TheVariants.{Memory, Cut, Bad}
 pub use Rattle.rds_names.specs.AndThen.{◌>>=◌}
 use Rattle.rds_names.specs.Name.{is_name}
 use Rattle.rds_names.specs.Key.{is_key}
@@ -25,7 +25,6 @@ use Rattle.rds_counts.specs.declared.row.TheConstants.{MAX_COUNT}
 use Rattle.rds_counts.specs.Counted.{Counted, counted}
 use Rattle.rds_bytes.specs.declared.rows.Gap.{Gap}
 use Rattle.rds_bytes.specs.declared.rows.DotRow.{DotRow}
-use Rattle.rds_bytes.specs.declared.rows.TheConstants.{MOST_DOTS}
 use Rattle.rds_bytes.specs.Entries.{entry_of}
 use Rattle.rds_bytes.specs.RowDots.{dots_of_rows}
 use Rattle.rds_bytes.specs.Spelling.{magic}
@@ -72,10 +71,6 @@ drawn_at make f bytes = f bytes >>= λ a. or_bad (make a.0) a.1
 -- a part that passes a test
 abbrev pub when_at : {A : Type 0} → (A → Bool) → Reader A → Reader A
 when_at test f bytes = f bytes >>= λ a. if test a.0 then Ok a else Err Bad
-
--- a part that isn't over the cap
-abbrev pub capped_at : {A : Type 0} → (A → Bool) → Reader A → Reader A
-capped_at over f bytes = f bytes >>= λ a. if over a.0 then Err TooManyDots else Ok a
 
 -- a number of parts, each read in the light of those before it
 unfoldable pub rows_after : {A : Type 0} → (List A → Reader A) → List A → ℕ → Reader (List A)
@@ -174,11 +169,12 @@ gap_by p = record { lo = p.0; hi = p.1 }
 abbrev pub is_end : ℕ → ℕ → ℕ → Bool
 is_end top lo hi = nat_le lo hi && nat_lt hi top
 
-unfoldable pub gap_at : ℕ → List Gap → Reader Gap
-gap_at top before = made_at gap_by (then_at (when_at (nat_le (least_lo (last before))) (number_at w64)) (λ lo. when_at (is_end top lo) (number_at w64)))
+-- the gap that comes next below a top
+unfoldable pub gap_at : ℕ → Option Gap → Reader Gap
+gap_at top before = made_at gap_by (then_at (when_at (nat_le (least_lo before)) (number_at w64)) (λ lo. when_at (is_end top lo) (number_at w64)))
 
 unfoldable pub gaps_at : ℕ → Reader (List Gap)
-gaps_at top = list_at (number_at w32) (gap_at top)
+gaps_at top = list_at (number_at w32) (λ before. gap_at top (last before))
 
 -- the top of a replica and the gaps below it
 unfoldable pub numbers_at : Reader (ℕ × List Gap)
@@ -187,22 +183,19 @@ numbers_at = then_at (when_at (is_between 1 MAX_SEQ) (number_at w64)) gaps_at
 abbrev pub dot_row_by : ℕ × (ℕ × List Gap) → DotRow
 dot_row_by p = record { replica = p.0; top = p.1.0; gaps = p.1.1 }
 
--- a replica of so many that comes after the one before it
-abbrev pub is_next_replica : ℕ → List DotRow → ℕ → Bool
-is_next_replica replicas before n = nat_le (least_replica (last before)) n && nat_lt n replicas
+-- a replica of so many, from a least one on
+abbrev pub is_next_replica : ℕ → ℕ → ℕ → Bool
+is_next_replica replicas least n = nat_le least n && nat_lt n replicas
 
 unfoldable pub dot_row_at : ℕ → List DotRow → Reader DotRow
-dot_row_at replicas before = made_at dot_row_by (pair_at (when_at (is_next_replica replicas before) byte_at) numbers_at)
+dot_row_at replicas before = made_at dot_row_by (pair_at (when_at (is_next_replica replicas (least_replica (last before))) byte_at) numbers_at)
 
 unfoldable pub dot_rows_at : ℕ → Reader (List DotRow)
 dot_rows_at replicas = list_at (number_at w16) (dot_row_at replicas)
 
-abbrev pub is_over : Dots → Bool
-is_over s = nat_lt MOST_DOTS (set.len s)
-
--- a set of dots is read to its end, and then counted
+-- a set of dots, by its rows
 unfoldable pub dots_at : ℕ → Reader Dots
-dots_at replicas = capped_at is_over (made_at dots_of_rows (dot_rows_at replicas))
+dots_at replicas = made_at dots_of_rows (dot_rows_at replicas)
 
 -- ---- live rows
 

@@ -14,15 +14,10 @@ use Rattle.rds_dots.specs.declared.dot.Dot.{Dot}
 use Rattle.rds_dots.specs.Dots.{Dots, is_dot}
 use Rattle.rds_counts.specs.declared.row.CountRow.{CountRow}
 use Rattle.rds_counts.specs.Counted.{Counted, counted, AreCountRows}
-use Rattle.rds_bytes.specs.declared.rows.TheConstants.{MOST_DOTS}
 
 -- a key is text
 abbrev pub is_key_text : List ℕ → Bool
 is_key_text t = is_utf8 t && is_key t
-
--- no more dots than are read
-abbrev pub AreFew : Dots → Type 0
-AreFew s = set.len s ≤ MOST_DOTS
 
 -- the roster holds a key and different names, and the replica is one of it
 pub record IsMember (roster : RosterValue) (own : ℕ) : Type 0 where

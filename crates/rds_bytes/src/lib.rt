@@ -21,5 +21,5 @@ pub use numbers::{read_byte, read_length, read_u32, read_u64};
 pub use putting::{
     put_byte, put_counters, put_front, put_live_rows, put_member, put_place, put_u32, put_u64,
 };
-pub use rows::{MOST_DOTS, read_dots};
+pub use rows::read_dots;
 pub use walking::{measure_dots, put_dots};

@@ -1,9 +1,9 @@
 //! Writing a set of dots by its maximal runs, which are walked and not kept.
-ghost use Rattle.std.specs.Prelude.{◌≡◌, ◌+◌, [], ◌≤◌, ◌<◌, ◌^◌, length};
+ghost use Rattle.std.specs.Prelude.{◌≡◌, ◌+◌, [], ◌≤◌, ◌<◌, ◌^◌, length, IfOk};
 ghost use Rattle.std.specs.List.{flat_map};
 ghost use Rattle.rds_dots.specs.Dots.{IsRun, last_of as last_dot};
 ghost use Rattle.rds_dots.specs.Runs.{runs_of};
-ghost use Rattle.rds_bytes.specs.DotRows.{a_gap, gap_before, rows_from, row_of_run, CanCountAll, Follows};
+ghost use Rattle.rds_bytes.specs.DotRows.{a_gap, gap_before, rows_from, row_of_run, row_end, CanCountAll, Follows};
 ghost use Rattle.rds_bytes.specs.Spelling.{gap_text, dot_row_text, dots_text};
 ghost use Rattle.rds_bytes.specs.Writing.{Adds};
 
@@ -98,17 +98,22 @@ fn put_gaps<S: DotSet>(out: &mut Vec<u8>, seen: &S, first: Run) -> Result<(), Al
     }
 }
 
-/// The row that begins with a run.
-fn put_row<S: DotSet>(out: &mut Vec<u8>, seen: &S, first: Run) -> Result<(), AllocError>
+/// The row that begins with a run. The answer is its last dot.
+fn put_row<S: DotSet>(out: &mut Vec<u8>, seen: &S, first: Run) -> Result<Dot, AllocError>
     requires run { IsRun first }
     requires few { length (row_of_run (S.contents seen.now) first).gaps < 2 ^ 32 }
-    ensures { Adds out.old.items out.new.items (dot_row_text (row_of_run (S.contents seen.now) first)) result }
+    ensures text { Adds out.old.items out.new.items (dot_row_text (row_of_run (S.contents seen.now) first)) result }
+    ensures last { IfOk result (λ d. d ≡ row_end (row_of_run (S.contents seen.now) first)) }
 {
     let (top, gaps) = numbers_of(seen, first);
     put_byte(out, first.replica)?;
     put_u64(out, top)?;
     put_u32(out, gaps as u32)?;
-    put_gaps(out, seen, first)
+    put_gaps(out, seen, first)?;
+    Ok(Dot {
+        replica: first.replica,
+        seq: top,
+    })
 }
 
 /// How many rows a set has, and the length of their text.
@@ -119,20 +124,19 @@ fn measure_rows<S: DotSet>(seen: &S) -> (u16, u128)
 {
     let mut rows = 0;
     let mut length = 0;
-    let mut least = 0;
     let mut after = None;
     'walking: loop {
         let run = match seen.run_after(after) {
             Some(run) => run,
             None => return (rows, length),
         };
-        if least <= u16::from(run.replica) {
-            let (_top, gaps) = numbers_of(seen, run);
-            rows += 1;
-            length += 13 + 16 * u128::from(gaps);
-            least = u16::from(run.replica) + 1;
-        }
-        after = Some(last_of(run));
+        let (top, gaps) = numbers_of(seen, run);
+        rows += 1;
+        length += 13 + 16 * u128::from(gaps);
+        after = Some(Dot {
+            replica: run.replica,
+            seq: top,
+        });
     }
 }
 
@@ -151,18 +155,14 @@ fn put_rows<S: DotSet>(out: &mut Vec<u8>, seen: &S) -> Result<(), AllocError>
     requires { CanCountAll (rows_from 0 (runs_of (S.contents seen.now))) }
     ensures { Adds out.old.items out.new.items (flat_map dot_row_text (rows_from 0 (runs_of (S.contents seen.now)))) result }
 {
-    let mut least = 0;
     let mut after = None;
     'walking: loop {
         let run = match seen.run_after(after) {
             Some(run) => run,
             None => return Ok(()),
         };
-        if least <= u16::from(run.replica) {
-            put_row(out, seen, run)?;
-            least = u16::from(run.replica) + 1;
-        }
-        after = Some(last_of(run));
+        let last = put_row(out, seen, run)?;
+        after = Some(last);
     }
 }
 

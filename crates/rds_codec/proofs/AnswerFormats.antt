@@ -1,19 +1,16 @@
 -- An answer is a format.
-use Rattle.std.proofs.Common.{◌≡◌, ℕ, ◌+◌, ◌^◌, ◌<◌, ◌≤◌, List, ◌++◌, length, refl, ap, ◌∙◌, arith, length-append}
+use Rattle.std.proofs.Common.{◌≡◌, ℕ, ◌+◌, ◌^◌, ◌<◌, ◌≤◌, List, ◌++◌, length, refl, arith, length-append}
 use Rattle.rds_state.specs.Value.{StateValue}
 use Rattle.rds_delta.specs.declared.row.Row.{Row}
 use Rattle.rds_codec.specs.declared.limits.TheConstants.{LIMIT}
-use Rattle.rds_codec.specs.AnswerTexts.{AnswerParts, IsAnswerOf, HasTooManySent, answer_by, answer_text, answer_at, answer_kind}
+use Rattle.rds_codec.specs.AnswerTexts.{AnswerParts, IsAnswerOf, answer_by, answer_text, answer_at, answer_kind}
 use Rattle.rds_codec.specs.AnswerValues.{AnswerValue}
 use Rattle.rds_codec.specs.CertificateTexts.{IsReplicaOf, certificate_text, certificate_at}
 use Rattle.rds_bytes.specs.Reading.{Reader, pair_at, replica_at}
 use Rattle.rds_codec.specs.StateTexts.{state_at, state_text}
 use Rattle.rds_bytes.specs.Spelling.{byte_text}
-use Rattle.rds_bytes.proofs.Format.{IsFormat, made_format}
+use Rattle.rds_bytes.proofs.Format.{IsFormat, pair_format, made_format}
 use Rattle.rds_codec.proofs.CertificateFormats.{FitsCertificate, certificate_format, certificate_within}
-use Rattle.rds_bytes.proofs.DotFormats.{TooMany}
-use Rattle.rds_bytes.proofs.LargeParts.{large_first, large_second, LargeAfter}
-use Rattle.rds_codec.proofs.ManyDots.{many_of, of_many}
 use Rattle.rds_bytes.proofs.PartFormats.{replica_format}
 use Rattle.rds_bytes.proofs.Sequences.{three_lengths, three_added}
 use Rattle.rds_codec.proofs.StateFormats.{CanCountState, FitsState, state_format, state_within}
@@ -32,10 +29,8 @@ module _ (replicas : ℕ) where
   abbrev IsSent : Sent → Type 0
   IsSent p = FitsState replicas p.0 × FitsCertificate replicas p.1
 
-  sent_format : IsFormat sent_at sent_text IsSent (TooMany replicas)
-  sent_format =
-      large_first (state_at replicas) (λ _. certificate_at replicas) state_text (λ _. certificate_text) (FitsState replicas) (λ _. FitsCertificate replicas) (TooMany replicas) (state_format replicas)
-      (λ _ _. certificate_format replicas)
+  sent_format : IsFormat sent_at sent_text IsSent
+  sent_format = pair_format (state_at replicas) (certificate_at replicas) state_text certificate_text (FitsState replicas) (FitsCertificate replicas) (state_format replicas) (certificate_format replicas)
 
   abbrev parts_text : AnswerParts → List ℕ
   parts_text p = byte_text p.0 ++ sent_text p.1
@@ -43,13 +38,8 @@ module _ (replicas : ℕ) where
   abbrev AreParts : AnswerParts → Type 0
   AreParts p = IsReplicaOf replicas p.0 × IsSent p.1
 
-  -- after the asker stand too many dots
-  abbrev Large : List ℕ → Type 0
-  Large = LargeAfter (replica_at replicas) (λ _. sent_at) byte_text (λ _. sent_text) (IsReplicaOf replicas) (λ _. IsSent) (λ _. TooMany replicas)
-
-  parts_format : IsFormat (pair_at (replica_at replicas) sent_at) parts_text AreParts Large
-  parts_format =
-      large_second (replica_at replicas) (λ _. sent_at) byte_text (λ _. sent_text) (IsReplicaOf replicas) (λ _. IsSent) (λ _. TooMany replicas) (replica_format replicas) (λ _ _. sent_format)
+  parts_format : IsFormat (pair_at (replica_at replicas) sent_at) parts_text AreParts
+  parts_format = pair_format (replica_at replicas) sent_at byte_text sent_text (IsReplicaOf replicas) IsSent (replica_format replicas) sent_format
 
   abbrev parts_of : AnswerValue → AnswerParts
   parts_of a = (a.asker, (a.state, a.certificate))
@@ -63,17 +53,9 @@ module _ (replicas : ℕ) where
   back : (p : AnswerParts) → AreParts p → FitsAnswer (answer_by p) × (parts_of (answer_by p) ≡ p)
   back p h = ((record { asker = h.0; state = h.1.0.0; certificate = h.1.1.1 }, (h.1.0.1, h.1.1.0)), refl)
 
-  answer_format : IsFormat (answer_at replicas) answer_text FitsAnswer Large
+  answer_format : IsFormat (answer_at replicas) answer_text FitsAnswer
   unfolding answer_at answer_text
-  answer_format = made_format answer_by parts_of _ parts_text AreParts FitsAnswer Large there back parts_format
-
-  many : (bytes : List ℕ) → Large bytes → HasTooManySent replicas bytes
-  many bytes h = record { asker = h.0; after = h.1; is_replica = h.2; many = many_of replicas h.1 h.4; spelled = h.3 }
-
-  large : (bytes : List ℕ) → length bytes ≤ LIMIT → HasTooManySent replicas bytes → Large bytes
-  large bytes le h =
-      let len = ap length h.spelled ∙ length-append (byte_text h.asker) h.after in
-      (h.asker, h.after, h.is_replica, h.spelled, of_many replicas h.after (omega arith) h.many)
+  answer_format = made_format answer_by parts_of _ parts_text AreParts FitsAnswer there back parts_format
 
 -- its rows can be counted in their fields
 pub answer_within : (a : AnswerValue) → length (answer_text a) ≤ LIMIT → CanCountState a.state × (length a.certificate < 2 ^ 32)
@@ -85,7 +67,7 @@ answer_within a le =
 
 pub answer_reader : (replicas : ℕ) → IsReaderOf (answer_kind replicas) (answer_at replicas)
 answer_reader replicas =
-    reader_of (answer_kind replicas) (answer_at replicas) (FitsAnswer replicas) (Large replicas) (answer_format replicas) (λ a h. h.0) (λ a is le. (is, answer_within a le)) (many replicas) (large replicas)
+    reader_of (answer_kind replicas) (answer_at replicas) (FitsAnswer replicas) (answer_format replicas) (λ a h. h.0) (λ a is le. (is, answer_within a le))
 
 -- ---- its text, part after part
 

@@ -1,10 +1,10 @@
 -- A certificate is a format.
-use Rattle.std.proofs.Common.{◌≡◌, ℕ, ◌^◌, ◌<◌, ◌≤◌, ◌⊎◌, inl, inr, Bool, true, false, cond, eqb, leb, List, [], ◌∷◌, ◌++◌, length, Result, Ok, Err, refl, sym, ap, subst, arith}
+use Rattle.std.proofs.Common.{◌≡◌, ℕ, ◌^◌, ◌<◌, ◌≤◌, inl, inr, Bool, true, false, cond, eqb, leb, List, [], ◌∷◌, ◌++◌, length, Result, Ok, Err, refl, sym, ap, subst, arith}
 use Rattle.std.specs.Int.{w64, to_be_bytes}
 use Rattle.std.proofs.lemmas.Bool.{eqb-true, leb-true, le-leb}
 use Rattle.std.proofs.lemmas.Bool.Decides.{nat_tests}
 use Rattle.rds_names.specs.declared.fault.Fault.{Fault}
-use Rattle.rds_names.specs.declared.fault.Fault.TheVariants.{Bad, TooManyDots}
+use Rattle.rds_names.specs.declared.fault.Fault.TheVariants.{Bad}
 use Rattle.rds_dots.specs.declared.dot.Dot.{Dot}
 use Rattle.rds_dots.specs.declared.dot.Run.{Run}
 use Rattle.rds_dots.specs.declared.dot.TheConstants.{MAX_SEQ}
@@ -21,7 +21,7 @@ use Rattle.rds_codec.specs.CertificateTexts.{CountParts, IsReplicaOf, IsRowOf, I
 use Rattle.rds_bytes.specs.Reading.{Reader, byte_at, made_at, is_between, is_count, dot_by}
 use Rattle.rds_bytes.specs.Spelling.{byte_text, dot_text, place_text}
 use Rattle.rds_bytes.specs.Values.{is_key_text}
-use Rattle.rds_bytes.proofs.Format.{IsPlain, IsBytes, Takes, Takes-then, CutOrBad, Never, bind_ok, bind_err, chosen, err_is, ok_is, done, failed, byte_format, number32, number64, plain_then, plain_pair, made_format, when_format, refit}
+use Rattle.rds_bytes.proofs.Format.{IsFormat, IsBytes, Takes, Takes-then, CutOrBad, bind_ok, bind_err, chosen, err_is, ok_is, done, failed, byte_format, number32, number64, then_format, pair_format, made_format, when_format, refit}
 use Rattle.rds_bytes.proofs.Lists.{AllAfter, list_format}
 use Rattle.rds_bytes.proofs.PartFormats.{key_format, replica_format}
 use Rattle.rds_codec.proofs.Whole.{IsReaderOf, reader_of}
@@ -60,21 +60,21 @@ dot_back replicas p h =
     let few = and_right (leb 1 p.1) (leb p.1 281474976710655) h.1.1 in
     ((and_true _ _ (and_true _ _ (le-leb p.0 255 (omega arith)) some) few, h.0.1), refl)
 
-dot_format : (replicas : ℕ) → IsPlain (read.claimed_dot_at replicas) dot_text (IsDotOf replicas)
+dot_format : (replicas : ℕ) → IsFormat (read.claimed_dot_at replicas) dot_text (IsDotOf replicas)
 unfolding read.claimed_dot_at
 dot_format replicas =
-    made_format dot_by (λ d. (d.replica, d.seq)) _ _ (AreDotParts replicas) (IsDotOf replicas) _ (dot_there replicas) (dot_back replicas)
-    (plain_pair _ _ _ _ _ _ (replica_format replicas) (when_format (is_between 1 281474976710655) _ _ _ number64))
+    made_format dot_by (λ d. (d.replica, d.seq)) _ _ (AreDotParts replicas) (IsDotOf replicas) (dot_there replicas) (dot_back replicas)
+    (pair_format _ _ _ _ _ _ (replica_format replicas) (when_format (is_between 1 281474976710655) _ _ _ number64))
 
 -- ---- runs of dead dots
 
 abbrev AreEnds : ℕ × ℕ → Type 0
 AreEnds p = ((p.0 < 2 ^ 64) × (is_between 1 281474976710655 p.0 ≡ true)) × ((p.1 < 2 ^ 64) × (is_between p.0 281474976710655 p.1 ≡ true))
 
-ends_format : IsPlain read.ends_at (λ p. to_be_bytes w64 p.0 ++ to_be_bytes w64 p.1) AreEnds
+ends_format : IsFormat read.ends_at (λ p. to_be_bytes w64 p.0 ++ to_be_bytes w64 p.1) AreEnds
 unfolding read.ends_at
 ends_format =
-    plain_then _ _ _ (λ lo. to_be_bytes w64) _ (λ lo hi. (hi < 2 ^ 64) × (is_between lo 281474976710655 hi ≡ true)) (when_format (is_between 1 281474976710655) _ _ _ number64)
+    then_format _ _ _ (λ lo. to_be_bytes w64) _ (λ lo hi. (hi < 2 ^ 64) × (is_between lo 281474976710655 hi ≡ true)) (when_format (is_between 1 281474976710655) _ _ _ number64)
     (λ lo fits. when_format (is_between lo 281474976710655) _ _ _ number64)
 
 abbrev AreRunParts : ℕ → ℕ × (ℕ × ℕ) → Type 0
@@ -96,18 +96,18 @@ run_back replicas p h =
     let hi = h.1.1.1 in
     ((record { from_one = between_low 1 281474976710655 p.1.0 lo; rises = between_low p.1.0 281474976710655 p.1.1 hi; within = between_high p.1.0 281474976710655 p.1.1 hi }, h.0), refl)
 
-run_format : (replicas : ℕ) → IsPlain (read.run_at replicas) run_text (IsRunOf replicas)
+run_format : (replicas : ℕ) → IsFormat (read.run_at replicas) run_text (IsRunOf replicas)
 unfolding read.run_at
 run_format replicas =
-    made_format run_by (λ r. (r.replica, (r.lo, r.hi))) _ _ (AreRunParts replicas) (IsRunOf replicas) _ (run_there replicas) (run_back replicas)
-    (plain_pair _ _ _ _ _ _ (replica_format replicas) ends_format)
+    made_format run_by (λ r. (r.replica, (r.lo, r.hi))) _ _ (AreRunParts replicas) (IsRunOf replicas) (run_there replicas) (run_back replicas)
+    (pair_format _ _ _ _ _ _ (replica_format replicas) ends_format)
 
 abbrev IsDead : ℕ → Run × ℕ → Type 0
 IsDead replicas p = IsRunOf replicas p.0 × ((p.1 < 256) × (is_between 0 1 p.1 ≡ true))
 
-dead_format : (replicas : ℕ) → IsPlain (read.dead_at replicas) (λ p. run_text p.0 ++ byte_text p.1) (IsDead replicas)
+dead_format : (replicas : ℕ) → IsFormat (read.dead_at replicas) (λ p. run_text p.0 ++ byte_text p.1) (IsDead replicas)
 unfolding read.dead_at
-dead_format replicas = plain_pair _ _ _ _ _ _ (run_format replicas) (when_format (is_between 0 1) _ _ _ byte_format)
+dead_format replicas = pair_format _ _ _ _ _ _ (run_format replicas) (when_format (is_between 0 1) _ _ _ byte_format)
 
 -- ---- numbers of counters
 
@@ -125,30 +125,30 @@ which_is b false e low high = two b e low high
 which_back : (b : ℕ) → (b < 256) × (is_between 1 2 b ≡ true) → Unit {0} × (which_byte (which_by b) ≡ b)
 which_back b h = (tt, which_is b (eqb b 1) refl (between_low 1 2 b h.1) (between_high 1 2 b h.1))
 
-which_format : IsPlain read.which_at (λ w. byte_text (which_byte w)) (λ _. Unit {0})
+which_format : IsFormat read.which_at (λ w. byte_text (which_byte w)) (λ _. Unit {0})
 unfolding read.which_at
-which_format = made_format which_by which_byte _ _ _ _ _ which_there which_back (when_format (is_between 1 2) _ _ _ byte_format)
+which_format = made_format which_by which_byte _ _ _ _ which_there which_back (when_format (is_between 1 2) _ _ _ byte_format)
 
 abbrev IsAmount : ℕ → Type 0
 IsAmount n = (n < 2 ^ 64) × (is_count n ≡ true)
 
-amount_format : IsPlain read.amount_at (to_be_bytes w64) IsAmount
+amount_format : IsFormat read.amount_at (to_be_bytes w64) IsAmount
 unfolding read.amount_at
 amount_format = when_format is_count _ _ _ number64
 
 abbrev IsClaim : Which × (ℕ × ℕ) → Type 0
 IsClaim c = Unit {0} × (IsAmount c.1.0 × IsAmount c.1.1)
 
-claim_format : IsPlain read.claim_at (λ c. claim_text c.0 c.1.0 c.1.1) IsClaim
+claim_format : IsFormat read.claim_at (λ c. claim_text c.0 c.1.0 c.1.1) IsClaim
 unfolding read.claim_at
-claim_format = plain_pair _ _ _ _ _ _ which_format (plain_pair _ _ _ _ _ _ amount_format amount_format)
+claim_format = pair_format _ _ _ _ _ _ which_format (pair_format _ _ _ _ _ _ amount_format amount_format)
 
 abbrev IsCounter : ℕ → List ℕ × ℕ → Type 0
 IsCounter replicas p = (is_key_text p.0 ≡ true) × IsReplicaOf replicas p.1
 
-counter_format : (replicas : ℕ) → IsPlain (read.counter_at replicas) (λ p. place_text p.0 p.1) (IsCounter replicas)
+counter_format : (replicas : ℕ) → IsFormat (read.counter_at replicas) (λ p. place_text p.0 p.1) (IsCounter replicas)
 unfolding read.counter_at
-counter_format replicas = plain_pair _ _ _ _ _ _ key_format (replica_format replicas)
+counter_format replicas = pair_format _ _ _ _ _ _ key_format (replica_format replicas)
 
 abbrev count_text : CountParts → List ℕ
 count_text p = place_text p.0.0 p.0.1 ++ claim_text p.1.0 p.1.1.0 p.1.1.1
@@ -156,13 +156,13 @@ count_text p = place_text p.0.0 p.0.1 ++ claim_text p.1.0 p.1.1.0 p.1.1.1
 abbrev IsNumberClaim : ℕ → CountParts → Type 0
 IsNumberClaim replicas p = IsCounter replicas p.0 × IsClaim p.1
 
-number_claim_format : (replicas : ℕ) → IsPlain (read.number_claim_at replicas) count_text (IsNumberClaim replicas)
+number_claim_format : (replicas : ℕ) → IsFormat (read.number_claim_at replicas) count_text (IsNumberClaim replicas)
 unfolding read.number_claim_at
-number_claim_format replicas = plain_pair _ _ _ _ _ _ (counter_format replicas) claim_format
+number_claim_format replicas = pair_format _ _ _ _ _ _ (counter_format replicas) claim_format
 
 -- ---- a tag, and what follows it
 
-module _ {A : Type 0} (make : A → Row) (f : Reader A) (s : A → List ℕ) (F : A → Type 0) (p : IsPlain f s F) where
+module _ {A : Type 0} (make : A → Row) (f : Reader A) (s : A → List ℕ) (F : A → Type 0) (p : IsFormat f s F) where
   -- what was read after a tag
   record Tagged (bytes : List ℕ) (k : ℕ) (x : Row × List ℕ) : Type 0 where
     value : A
@@ -179,7 +179,7 @@ module _ {A : Type 0} (make : A → Row) (f : Reader A) (s : A → List ℕ) (F 
       let all = Takes-then bytes (k ∷ []) rest (s a.0.0) a.0.1 this got.0 in
       record { value = a.0.0; made = ap (λ (y : Row × List ℕ). y.0) same; fits = got.1; taken = subst (λ (r : List ℕ). Takes bytes (k ∷ s a.0.0) r) (ap (λ (y : Row × List ℕ). y.1) same) all }
 
-  tag_faults : (rest : List ℕ) (e : Fault) → IsBytes rest → made_at make f rest ≡ Err e → CutOrBad e ⊎ ((e ≡ TooManyDots) × Never rest)
+  tag_faults : (rest : List ℕ) (e : Fault) → IsBytes rest → made_at make f rest ≡ Err e → CutOrBad e
   tag_faults rest e fits h =
       elim (bind_err (f rest) (λ a. Ok (make a.0, a.1)) e h) [
         | inl first ↦ p.faults rest e fits first
@@ -237,7 +237,7 @@ module _ (replicas : ℕ) where
   row_again (Dead r peer) rest h = rw ((dead_format replicas).again (r, peer) rest (dead_fits r peer h)) refl
   row_again (Count key replica which sent peer) rest h = rw ((number_claim_format replicas).again ((key, replica), (which, (sent, peer))) rest (count_fits key replica which sent peer h)) refl
 
-  row_faults : (bytes : List ℕ) (e : Fault) → IsBytes bytes → read.row_at replicas bytes ≡ Err e → CutOrBad e ⊎ ((e ≡ TooManyDots) × Never bytes)
+  row_faults : (bytes : List ℕ) (e : Fault) → IsBytes bytes → read.row_at replicas bytes ≡ Err e → CutOrBad e
   unfolding read.row_at
   row_faults bytes e fits h =
       elim (bind_err (byte_at bytes) (λ t. tagged_row_at replicas t.0 t.1) e h) [
@@ -252,14 +252,14 @@ module _ (replicas : ℕ) where
                 | inl h2 ↦ tag_faults dead_by _ _ _ (dead_format replicas) rest e rest_fits h2.1
                 | inr n2 ↦ elim (chosen (eqb t 3) (made_at count_by (read.number_claim_at replicas) rest) (Err Bad) (Err e) n2.1) [
                   | inl h3 ↦ tag_faults count_by _ _ _ (number_claim_format replicas) rest e rest_fits h3.1
-                  | inr n3 ↦ inl (inr (sym (err_is {A = Row × List ℕ} Bad e n3.1)))
+                  | inr n3 ↦ inr (sym (err_is {A = Row × List ℕ} Bad e n3.1))
                 ]
               ]
             ]
       ]
 
-  row_format : IsPlain (read.row_at replicas) row_text (IsRowOf replicas)
-  row_format = record { takes = row_takes; again = row_again; large = λ bytes h. absurd h; faults = row_faults }
+  row_format : IsFormat (read.row_at replicas) row_text (IsRowOf replicas)
+  row_format = record { takes = row_takes; again = row_again; faults = row_faults }
 
   -- ---- certificates
 
@@ -277,10 +277,10 @@ module _ (replicas : ℕ) where
   abbrev pub FitsCertificate : List Row → Type 0
   FitsCertificate rows = (length rows < 2 ^ 32) × IsCertificateOf replicas rows
 
-  pub certificate_format : IsPlain (certificate_at replicas) certificate_text FitsCertificate
+  pub certificate_format : IsFormat (certificate_at replicas) certificate_text FitsCertificate
   unfolding certificate_at certificate_text
   certificate_format =
-      refit _ _ _ FitsCertificate _ (λ rows h. (h.0, rows_of rows [] h.1)) (λ rows h. (h.0, of_rows rows [] h.1))
+      refit _ _ _ FitsCertificate (λ rows h. (h.0, rows_of rows [] h.1)) (λ rows h. (h.0, of_rows rows [] h.1))
       (list_format _ _ IsRowAfter (λ _. row_format) _ _ _ number32)
 
 some_bytes : (r : Row) → 1 ≤ length (row_text r)
@@ -294,5 +294,4 @@ certificate_within rows le = let e = longer row_text some_bytes rows in omega ar
 
 pub certificate_reader : (replicas : ℕ) → IsReaderOf (certificate_kind replicas) (certificate_at replicas)
 certificate_reader replicas =
-    reader_of (certificate_kind replicas) (certificate_at replicas) (FitsCertificate replicas) Never (certificate_format replicas) (λ rows h. h.1) (λ rows is le. (certificate_within rows le, is))
-    (λ bytes h. absurd h) (λ bytes le h. absurd h)
+    reader_of (certificate_kind replicas) (certificate_at replicas) (FitsCertificate replicas) (certificate_format replicas) (λ rows h. h.1) (λ rows is le. (certificate_within rows le, is))

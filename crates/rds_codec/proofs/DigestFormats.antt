@@ -1,7 +1,6 @@
 -- A digest is a format.
-use Rattle.std.proofs.Common.{◌≡◌, ℕ, ◌+◌, ◌^◌, ◌<◌, ◌≤◌, inl, inr, Bool, true, false, cond, List, ◌++◌, length, Ok, Err, refl, ap, subst, ◌∙◌, arith, length-append}
+use Rattle.std.proofs.Common.{◌≡◌, ℕ, ◌+◌, ◌^◌, ◌<◌, ◌≤◌, inl, inr, Bool, true, false, cond, List, ◌++◌, length, Ok, Err, refl, ap, subst, arith}
 use Rattle.std.specs.FinSet as set
-use Rattle.std.proofs.lemmas.Bool.{ltb-false, le-ltb}
 use Rattle.rds_dots.specs.Dots.{Dots}
 use Rattle.rds_dots.specs.Order.{dots_total}
 use Rattle.rds_counts.specs.Counted.{Counted}
@@ -9,17 +8,14 @@ use Rattle.rds_counts.specs.RowsOf.{count_rows}
 use Rattle.rds_delta.specs.Digested.{DigestValue, IsInside}
 use Rattle.rds_names.specs.declared.fault.Fault.TheVariants.{Bad}
 use Rattle.rds_codec.specs.declared.limits.TheConstants.{LIMIT}
-use Rattle.rds_codec.specs.DigestTexts.{DigestParts, IsDigestOf, HasTooManyLive, HasTooManyInDigest, are_seen, digest_by, digest_text, live_dots_at, digest_at, digest_kind}
+use Rattle.rds_codec.specs.DigestTexts.{DigestParts, IsDigestOf, are_seen, digest_by, digest_text, live_dots_at, digest_at, digest_kind}
 use Rattle.rds_bytes.specs.Reading as read
 use Rattle.rds_bytes.specs.Reading.{then_at, pair_at, when_at, dots_at, counters_at}
 use Rattle.rds_bytes.specs.Spelling.{dots_text, counters_text}
-use Rattle.rds_bytes.proofs.Format.{IsFormat, LargeThen, bind_ok, chosen, ok_is, failed, then_format, made_format, when_format}
+use Rattle.rds_bytes.proofs.Format.{IsFormat, bind_ok, chosen, ok_is, failed, then_format, pair_format, made_format, when_format}
 use Rattle.rds_bytes.proofs.CounterFormats.{AreCounts, counters_format}
-use Rattle.rds_bytes.proofs.DotFormats.{CanCountDots, AreDots, TooMany, dots_format}
-use Rattle.rds_bytes.proofs.LargeParts.{large_first}
-use Rattle.rds_codec.proofs.ManyDots.{many_of, of_many}
+use Rattle.rds_bytes.proofs.DotFormats.{CanCountDots, AreDots, dots_format}
 use Rattle.rds_bytes.proofs.Sequences.{three_lengths, three_added}
-use Rattle.rds_codec.proofs.Subsets.{len_inside}
 use Rattle.rds_codec.proofs.Whole.{IsReaderOf, reader_of}
 use Rattle.rds_codec.proofs.Within.{dots_within, counts_within}
 
@@ -36,13 +32,10 @@ digest_within g le =
     record { seen = dots_within g.seen (omega (arith, all)); live = dots_within g.live (omega (arith, all)); counts = counts_within g.counts (omega (arith, all)) }
 
 module _ (replicas : ℕ) where
-  abbrev IsRead : Dots → Type 0
-  IsRead s = AreDots replicas s × (read.is_over s ≡ false)
-
   abbrev IsLive : Dots → Dots → Type 0
-  IsLive seen live = IsRead live × (are_seen seen live ≡ true)
+  IsLive seen live = AreDots replicas live × (are_seen seen live ≡ true)
 
-  live_format : (seen : Dots) → IsFormat (live_dots_at replicas seen) dots_text (IsLive seen) (TooMany replicas)
+  live_format : (seen : Dots) → IsFormat (live_dots_at replicas seen) dots_text (IsLive seen)
   unfolding live_dots_at
   live_format seen = when_format (are_seen seen) _ _ _ (dots_format replicas)
 
@@ -55,25 +48,21 @@ module _ (replicas : ℕ) where
   abbrev IsTail : Dots → Tail → Type 0
   IsTail seen p = IsLive seen p.0 × AreCounts replicas p.1
 
-  tail_format : (seen : Dots) → IsFormat (pair_at (live_dots_at replicas seen) (counters_at replicas)) tail_text (IsTail seen) (TooMany replicas)
+  tail_format : (seen : Dots) → IsFormat (pair_at (live_dots_at replicas seen) (counters_at replicas)) tail_text (IsTail seen)
   tail_format seen =
-      large_first (live_dots_at replicas seen) (λ _. counters_at replicas) dots_text (λ _. counters_text) (IsLive seen) (λ _. AreCounts replicas) (TooMany replicas) (live_format seen) (λ _ _. counters_format replicas)
+      pair_format (live_dots_at replicas seen) (counters_at replicas) dots_text counters_text (IsLive seen) (AreCounts replicas) (live_format seen) (counters_format replicas)
 
   abbrev parts_text : DigestParts → List ℕ
   parts_text p = dots_text p.0 ++ tail_text p.1
 
   abbrev AreParts : DigestParts → Type 0
-  AreParts p = IsRead p.0 × IsTail p.0 p.1
+  AreParts p = AreDots replicas p.0 × IsTail p.0 p.1
 
   abbrev tail_at : Dots → read.Reader Tail
   tail_at seen = pair_at (live_dots_at replicas seen) (counters_at replicas)
 
-  -- the first set is too large, or the second after it
-  abbrev Large : List ℕ → Type 0
-  Large = LargeThen (dots_at replicas) tail_at dots_text (λ _. tail_text) IsRead IsTail (TooMany replicas) (λ _. TooMany replicas) (dots_format replicas) (λ seen _. tail_format seen)
-
-  parts_format : IsFormat (then_at (dots_at replicas) tail_at) parts_text AreParts Large
-  parts_format = then_format (dots_at replicas) tail_at dots_text (λ _. tail_text) IsRead IsTail (TooMany replicas) (λ _. TooMany replicas) (dots_format replicas) (λ seen _. tail_format seen)
+  parts_format : IsFormat (then_at (dots_at replicas) tail_at) parts_text AreParts
+  parts_format = then_format (dots_at replicas) tail_at dots_text (λ _. tail_text) (AreDots replicas) IsTail (dots_format replicas) (λ seen _. tail_format seen)
 
   abbrev parts_of : DigestValue → DigestParts
   parts_of g = (g.seen, (g.live, g.counts))
@@ -84,13 +73,11 @@ module _ (replicas : ℕ) where
   there : (g : DigestValue) → FitsDigest g → AreParts (parts_of g) × (digest_by (parts_of g) ≡ g)
   there g h =
       let is = h.0 in
-      let can = h.1 in
-      let fewer = len_inside g.live g.seen is.inside in
-      let few = is.few in (
+      let can = h.1 in (
         (
-          ((is.dots, can.seen), le-ltb 65536 (set.len g.seen) few),
+          (is.dots, can.seen),
           (
-            (((λ d in_live. is.dots d (is.inside.each_dot d in_live), can.live), le-ltb 65536 (set.len g.live) (omega arith)), set.contains-is_subset dots_total g.live g.seen is.inside.each_dot),
+            ((λ d in_live. is.dots d (is.inside.each_dot d in_live), can.live), set.contains-is_subset dots_total g.live g.seen is.inside.each_dot),
             (is.counts, can.counts),
           ),
         ),
@@ -103,33 +90,18 @@ module _ (replicas : ℕ) where
       let live = h.1.0 in
       let counts = h.1.1 in (
         (
-          record { dots = seen.0.0; few = ltb-false 65536 (set.len p.0) seen.1; inside = record { each_dot = set.is_subset-contains dots_total p.1.0 p.0 live.1 }; counts = counts.0 },
-          record { seen = seen.0.1; live = live.0.0.1; counts = counts.1 },
+          record { dots = seen.0; inside = record { each_dot = set.is_subset-contains dots_total p.1.0 p.0 live.1 }; counts = counts.0 },
+          record { seen = seen.1; live = live.0.1; counts = counts.1 },
         ),
         refl,
       )
 
-  digest_format : IsFormat (digest_at replicas) digest_text FitsDigest Large
+  digest_format : IsFormat (digest_at replicas) digest_text FitsDigest
   unfolding digest_at digest_text
-  digest_format = made_format digest_by parts_of _ parts_text AreParts FitsDigest Large there back parts_format
-
-  many : (bytes : List ℕ) → Large bytes → HasTooManyInDigest replicas bytes
-  many bytes h = elim h [
-    | inl x ↦ inl (many_of replicas bytes x)
-    | inr y ↦ inr (record { seen = y.0; after = y.1; are_dots = y.2.0.0; few = ltb-false 65536 (set.len y.0) y.2.1; many = many_of replicas y.1 y.4; spelled = y.3 })
-  ]
-
-  large_live : (bytes : List ℕ) → length bytes ≤ LIMIT → HasTooManyLive replicas bytes → Large bytes
-  large_live bytes le h =
-      let len = ap length h.spelled ∙ length-append (dots_text h.seen) h.after in
-      let few = h.few in
-      inr (h.seen, h.after, ((h.are_dots, dots_within h.seen (omega arith)), le-ltb 65536 (set.len h.seen) few), h.spelled, of_many replicas h.after (omega arith) h.many)
-
-  large : (bytes : List ℕ) → length bytes ≤ LIMIT → HasTooManyInDigest replicas bytes → Large bytes
-  large bytes le h = elim h [ inl x ↦ inl (of_many replicas bytes le x) | inr y ↦ large_live bytes le y ]
+  digest_format = made_format digest_by parts_of _ parts_text AreParts FitsDigest there back parts_format
 
   pub digest_reader : IsReaderOf (digest_kind replicas) (digest_at replicas)
-  digest_reader = reader_of (digest_kind replicas) (digest_at replicas) FitsDigest Large digest_format (λ g h. h.0) (λ g is le. (is, digest_within g le)) many large
+  digest_reader = reader_of (digest_kind replicas) (digest_at replicas) FitsDigest digest_format (λ g h. h.0) (λ g is le. (is, digest_within g le))
 
 -- ---- what was read as live dots is inside
 

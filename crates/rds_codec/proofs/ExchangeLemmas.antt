@@ -1,12 +1,10 @@
 -- What goes by bytes between friends comes as it was sent.
-use Rattle.std.proofs.Common.{◌≡◌, ℕ, ◌<◌, ◌≤◌, inl, inr, Bool, true, false, cond, nat_lt, List, length, Option, None, Result, Ok, Err, refl, sym, ap, subst, ◌∙◌, arith}
-use Rattle.std.specs.Prelude.{is_some, IfOk, IfErr, IsErrAnd}
-use Rattle.std.specs.FinMap as map
+use Rattle.std.proofs.Common.{◌≡◌, ℕ, ◌<◌, ◌≤◌, inl, inr, List, length, Result, Ok, Err, refl, sym, ap, subst, ◌∙◌}
+use Rattle.std.specs.Prelude.{IfOk, IfErr, IsErrAnd}
 use Rattle.std.specs.Global.{Vec}
-use mathlib.Core.Bool.{false≢true}
 use Rattle.rds_names.specs.Roster.{RosterValue}
 use Rattle.rds_names.specs.declared.fault.Fault.{Fault}
-use Rattle.rds_life.specs.Life.{Life, seen_of}
+use Rattle.rds_life.specs.Life.{seen_of}
 use Rattle.rds_life.proofs.Views.{contains-seen_of}
 use Rattle.rds_state.specs.Coordinates.{Coordinates, AtMost, join}
 use Rattle.rds_state.specs.Fits.{Fits, ReplicaValue}
@@ -15,9 +13,9 @@ use Rattle.rds_state.specs.Ahead.{TakeGives}
 use Rattle.rds_state.specs.Friends.{AreFriends}
 use Rattle.rds_delta.specs.declared.row.Row.{Row}
 use Rattle.rds_delta.specs.Claims.{IsCertificate}
-use Rattle.rds_delta.specs.Digested.{DigestValue, IsInside, digest_of, ranks_in}
+use Rattle.rds_delta.specs.Digested.{DigestValue, digest_of, ranks_in}
 use Rattle.rds_delta.specs.Least.{IsAbove, least}
-use Rattle.rds_delta.specs.Ranks.{Ranks, life_rank, ranks}
+use Rattle.rds_delta.specs.Ranks.{Ranks, ranks}
 use Rattle.rds_delta.proofs.Digests.{ranks_of_digest}
 use Rattle.rds_delta.proofs.Exchanges.{least_fits, least_is_taken}
 use Rattle.rds_delta.proofs.LeastLaws.{grown_delta, least_above}
@@ -28,10 +26,9 @@ use Rattle.rds_codec.specs.Decoding.{Answers, IsTextOf, Decodes}
 use Rattle.rds_codec.specs.DigestTexts.{DigestFits, IsDigestOf, digest_text, digest_kind}
 use Rattle.rds_codec.specs.Exchanged.{CanExchange, CanRead, IsAnswerTo, IsAskOf, IsCertified, IsLongAnswer, IsLongDigest, IsLost, IsRefusal, IsReplyTo, TakesCertified, Certified, Uncertified, Untaken}
 use Rattle.rds_codec.specs.Kinds.{Kind}
-use Rattle.rds_bytes.specs.Values.{AreDotsOf, AreFew}
+use Rattle.rds_bytes.specs.Values.{AreDotsOf}
 use Rattle.rds_codec.specs.Writing.{Encodes, IsUnwritten}
 use Rattle.rds_codec.proofs.Replicas.{state_fits}
-use Rattle.rds_codec.proofs.Subsets.{len_inside}
 
 -- ---- a text of a value is read as it, unless memory runs out
 
@@ -90,34 +87,19 @@ module _ (v : StateValue) (digest : DigestValue) (is : digest ≡ digest_of v) w
   asked_fits replicas fits = subst (DigestFits replicas) (sym is) (digest_fits replicas v fits)
 
   pub is_ask : (r : Result (Vec ℕ) Fault) → Encodes (digest_text digest) r
-      → ((n : ℕ) → DigestFits n digest → AreDotsOf n digest.seen) → ((n : ℕ) → DigestFits n digest → AreFew digest.seen → IsDigestOf n digest)
+      → ((n : ℕ) → DigestFits n digest → AreDotsOf n digest.seen) → ((n : ℕ) → DigestFits n digest → IsDigestOf n digest)
       → IfOk r (λ bytes. IsAskOf v bytes.items)
   is_ask (Ok bytes) text dots value = record {
     text = text.0 ∙ ap digest_text is;
     within = subst (λ (t : List ℕ). length t ≤ LIMIT) (sym text.0) text.1;
     dots = λ n fits. subst (λ (d : DigestValue). AreDotsOf n d.seen) is (dots n (asked_fits n fits));
-    again = λ n fits few. subst (IsDigestOf n) is (value n (asked_fits n fits) (subst (λ (d : DigestValue). AreFew d.seen) (sym is) few));
+    again = λ n fits. subst (IsDigestOf n) is (value n (asked_fits n fits));
   }
   is_ask (Err e) text dots value = tt
 
   pub no_ask : (r : Result (Vec ℕ) Fault) → Encodes (digest_text digest) r → IfErr r (IsLost (IsLongDigest v))
   no_ask (Ok bytes) text = tt
   no_ask (Err e) text = unwritten (length (digest_text digest)) e (IsLongDigest v) (λ long. subst (λ (d : DigestValue). LIMIT < length (digest_text d)) is long) text
-
-kept_some : (t : Bool) (a : Option Life) → is_some (cond t a None) ≡ true → is_some a ≡ true
-kept_some true a h = h
-kept_some false a h = absurd (false≢true h)
-
--- a least delta has no more dots than the state
-pub delta_is_few : (d held : StateValue) (b : Ranks) → coordinates d ≡ least (coordinates held) b → AreFew (seen_of held.lives) → AreFew (seen_of d.lives)
-delta_is_few d held b is few =
-    let inside : IsInside (seen_of d.lives) (seen_of held.lives) = record {
-      each_dot = λ q h.
-          let here : is_some (map.get d.lives q) ≡ true = sym (contains-seen_of d.lives q) ∙ h in
-          contains-seen_of held.lives q ∙ kept_some (nat_lt (b.rank q) (life_rank (map.get held.lives q))) (map.get held.lives q) (sym (ap (λ (c : Coordinates). is_some (c.life q)) is) ∙ here);
-    } in
-    let fewer = len_inside (seen_of d.lives) (seen_of held.lives) inside in
-    omega (arith, fewer, few)
 
 -- ---- a fault that is handed on
 
@@ -152,7 +134,7 @@ module _ (digest : DigestValue) (asker : ℕ) (held : StateValue) (a : AnswerVal
 module _ (digest : DigestValue) (asker : ℕ) (held delta : StateValue) (rows : List Row) (is : IsAnswerTo digest asker held (answer asker delta rows)) where
   pub is_reply : (bytes : List ℕ) (components : ℕ) → bytes ≡ answer_text (answer asker delta rows) → length (answer_text (answer asker delta rows)) ≤ LIMIT → components ≡ size delta
       → ((n : ℕ) → Fits n (coordinates delta) → AreDotsOf n (seen_of delta.lives))
-      → ((n : ℕ) (peer : Ranks) → asker < n → Fits n (coordinates delta) → AreFew (seen_of delta.lives) → IsAbove (coordinates delta) peer → IsCertificate peer delta rows → IsAnswerOf n (answer asker delta rows))
+      → ((n : ℕ) (peer : Ranks) → asker < n → Fits n (coordinates delta) → IsAbove (coordinates delta) peer → IsCertificate peer delta rows → IsAnswerOf n (answer asker delta rows))
       → IsReplyTo digest asker held bytes components
   is_reply bytes components text within sized dots again = record {
     value = answer asker delta rows;
@@ -161,7 +143,7 @@ module _ (digest : DigestValue) (asker : ℕ) (held delta : StateValue) (rows : 
     within = subst (λ (t : List ℕ). length t ≤ LIMIT) (sym text) within;
     sized = sized;
     dots = λ n fits. dots n (answer_fits digest asker held (answer asker delta rows) is n fits);
-    again = λ n below fits few. again n (ranks_in digest) below (answer_fits digest asker held (answer asker delta rows) is n fits) few (answer_is_above digest asker held (answer asker delta rows) is) is.certificate;
+    again = λ n below fits. again n (ranks_in digest) below (answer_fits digest asker held (answer asker delta rows) is n fits) (answer_is_above digest asker held (answer asker delta rows) is) is.certificate;
   }
 
   pub no_reply : (e : Fault) → IsUnwritten (length (answer_text (answer asker delta rows))) e → IsLost (IsLongAnswer digest asker held) e
@@ -178,9 +160,6 @@ taken_of digest a own old r (Uncertified is e) h = absurd (is.wrong h)
 pub fits_here : (n m : ℕ) (v w : StateValue) → n ≡ m → w ≡ v → Fits m (coordinates v) → Fits n (coordinates w)
 fits_here n m v w e k fits = subst (λ (x : ℕ). Fits x (coordinates w)) (sym e) (subst (λ (x : StateValue). Fits m (coordinates x)) (sym k) fits)
 
-pub few_here : (v w : StateValue) → w ≡ v → AreFew (seen_of v.lives) → AreFew (seen_of w.lives)
-few_here v w k few = subst (λ (x : StateValue). AreFew (seen_of x.lives)) (sym k) few
-
 -- what was asked, and what was answered to it, of the replicas themselves
 pub record IsAsked (answerer asked mine : ReplicaValue) (digest : DigestValue) (a : AnswerValue) : Type 0 where
   pub same : digest ≡ digest_of asked.state
@@ -188,13 +167,13 @@ pub record IsAsked (answerer asked mine : ReplicaValue) (digest : DigestValue) (
 
 pub asked_of : (n own : ℕ) (answerer asked mine : ReplicaValue) (told held : StateValue) (digest : DigestValue) (a : AnswerValue) → n ≡ length mine.roster.names → own ≡ mine.own → own < n
     → told ≡ asked.state → held ≡ answerer.state
-    → (Fits n (coordinates told) → AreFew (seen_of told.lives) → digest ≡ digest_of told)
-    → (own < n → Fits n (coordinates held) → AreFew (seen_of held.lives) → IsAnswerTo digest own held a)
+    → (Fits n (coordinates told) → digest ≡ digest_of told)
+    → (own < n → Fits n (coordinates held) → IsAnswerTo digest own held a)
     → CanRead answerer asked mine → IsAsked answerer asked mine digest a
 asked_of n own answerer asked mine told held digest a many is_own below told_is held_is asks answers can =
-    let here : IsAnswerTo digest own held a = answers below (fits_here n (length mine.roster.names) answerer.state held many held_is can.held_fits) (few_here answerer.state held held_is can.few_held) in
+    let here : IsAnswerTo digest own held a = answers below (fits_here n (length mine.roster.names) answerer.state held many held_is can.held_fits) in
     record {
-      same = asks (fits_here n (length mine.roster.names) asked.state told many told_is can.asked_fits) (few_here asked.state told told_is can.few_asked) ∙ ap digest_of told_is;
+      same = asks (fits_here n (length mine.roster.names) asked.state told many told_is can.asked_fits) ∙ ap digest_of told_is;
       answers = subst (λ (k : ℕ). IsAnswerTo digest k answerer.state a) is_own (subst (λ (s : StateValue). IsAnswerTo digest own s a) held_is here);
     }
 
@@ -210,8 +189,6 @@ pub can_read : (answerer asked mine : ReplicaValue) → Fits (length asked.roste
 can_read answerer asked mine asked_fits held_fits can = record {
   asked_fits = subst (λ (r : RosterValue). Fits (length r.names) (coordinates asked.state)) can.asked_roster asked_fits;
   held_fits = subst (λ (r : RosterValue). Fits (length r.names) (coordinates answerer.state)) can.answerer_roster held_fits;
-  few_asked = can.few_asked;
-  few_held = can.few_held;
 }
 
 pub told_within : (asked told : StateValue) → told ≡ asked → length (digest_text (digest_of told)) ≤ LIMIT → length (digest_text (digest_of asked)) ≤ LIMIT

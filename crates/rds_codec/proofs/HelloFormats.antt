@@ -4,7 +4,7 @@ use Rattle.std.proofs.lemmas.Bool.{eqb-true}
 use Rattle.rds_codec.specs.declared.hellos.Hello.{Hello}
 use Rattle.rds_codec.specs.HelloTexts.{HelloParts, IsHello, is_version, hello_by, hello_text, version_at, hello_at, hello_kind}
 use Rattle.rds_bytes.specs.Spelling.{byte_text, member_text}
-use Rattle.rds_bytes.proofs.Format.{IsPlain, Never, byte_format, plain_pair, made_format, when_format}
+use Rattle.rds_bytes.proofs.Format.{IsFormat, byte_format, pair_format, made_format, when_format}
 use Rattle.rds_bytes.proofs.PartFormats.{IsMemberPair, member_format}
 use Rattle.rds_bytes.proofs.Sequences.{two_lengths, two_added}
 use Rattle.rds_codec.proofs.Whole.{IsReaderOf, reader_of}
@@ -12,7 +12,7 @@ use Rattle.rds_codec.proofs.Whole.{IsReaderOf, reader_of}
 abbrev IsVersion : ℕ → Type 0
 IsVersion b = (b < 256) × (is_version b ≡ true)
 
-version_format : IsPlain version_at byte_text IsVersion
+version_format : IsFormat version_at byte_text IsVersion
 unfolding version_at
 version_format = when_format is_version _ _ _ byte_format
 
@@ -35,12 +35,12 @@ back p h =
     let roster = h.1.0 in
     (record { version = eqb-true p.0 1 h.0.1; member = record { group = roster.group; each_name = roster.each_name; names = roster.names; own_number = h.1.1 } }, refl)
 
-hello_format : IsPlain hello_at hello_text IsHello
+hello_format : IsFormat hello_at hello_text IsHello
 unfolding hello_at hello_text
-hello_format = made_format hello_by parts_of _ (λ p. byte_text p.0 ++ member_text p.1.0 p.1.1) AreParts IsHello Never there back (plain_pair _ _ _ _ _ _ version_format member_format)
+hello_format = made_format hello_by parts_of _ (λ p. byte_text p.0 ++ member_text p.1.0 p.1.1) AreParts IsHello there back (pair_format _ _ _ _ _ _ version_format member_format)
 
 pub hello_reader : IsReaderOf hello_kind hello_at
-hello_reader = reader_of hello_kind hello_at IsHello Never hello_format (λ h is. is) (λ h is le. is) (λ bytes h. absurd h) (λ bytes le h. absurd h)
+hello_reader = reader_of hello_kind hello_at IsHello hello_format (λ h is. is) (λ h is le. is)
 
 -- ---- its text, part after part
 

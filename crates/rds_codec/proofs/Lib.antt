@@ -5,12 +5,10 @@ pub mod DigestFormats
 pub mod ExchangeLemmas
 mod HaveTexts
 pub mod HelloFormats
-mod ManyDots
 pub mod Replicas
 mod SmallTexts
 mod SnapshotFormats
 mod StateFormats
-pub mod Subsets
 mod Texts
 pub mod Whole
 mod Within

@@ -1,17 +1,13 @@
 -- A state is a format.
 use Rattle.rds_codec.proofs.Within.{dots_within, live_within, counts_within}
-use Rattle.rds_codec.proofs.ManyDots.{many_of, of_many}
-use Rattle.std.proofs.Common.{◌≡◌, ℕ, ◌^◌, ◌<◌, ◌≤◌, inl, inr, false, List, ◌++◌, length, sym, subst, arith, length-append}
+use Rattle.std.proofs.Common.{◌≡◌, ℕ, ◌^◌, ◌<◌, ◌≤◌, List, ◌++◌, length, sym, subst, arith, length-append}
 use Rattle.std.specs.List.{AllByRecursion}
-use Rattle.std.specs.FinSet as set
-use Rattle.std.proofs.lemmas.Bool.{ltb-false, le-ltb}
 use Rattle.rds_names.specs.declared.entry.Entry.{Entry}
 use Rattle.rds_dots.specs.declared.dot.Dot.{Dot}
 use Rattle.rds_dots.specs.Dots.{Dots}
 use Rattle.rds_life.specs.Life.{Lived, lived, seen_of, live_rows}
 use Rattle.rds_life.proofs.Views.{rows_of_lives, lived_of_parts, seen_of-lived, live_rows-lived}
 use Rattle.rds_codec.specs.declared.limits.TheConstants.{LIMIT}
-use Rattle.rds_bytes.specs.declared.rows.TheConstants.{MOST_DOTS}
 use Rattle.rds_counts.specs.Counted.{Counted}
 use Rattle.rds_counts.specs.RowsOf.{count_rows}
 use Rattle.rds_state.specs.Value.{StateValue}
@@ -22,14 +18,11 @@ use Rattle.rds_bytes.specs.Spelling.{dots_text, live_rows_text, counters_text}
 use Rattle.rds_bytes.specs.Reading as read
 use Rattle.rds_codec.specs.StateTexts as texts
 use Rattle.rds_bytes.specs.Reading.{then_at, pair_at}
-use Rattle.rds_bytes.proofs.Format.{IsFormat, IsPlain, Never, plain_pair, then_format, LargeThen, made_format, relarge}
+use Rattle.rds_bytes.proofs.Format.{IsFormat, pair_format, then_format, made_format}
 use Rattle.rds_codec.proofs.Whole.{IsReaderOf, reader_of}
-use Rattle.rds_bytes.proofs.DotFormats.{CanCountDots, AreDots, TooMany, dots_format}
+use Rattle.rds_bytes.proofs.DotFormats.{CanCountDots, AreDots, dots_format}
 use Rattle.rds_bytes.proofs.CounterFormats.{AreCounts, counters_format}
 use Rattle.rds_bytes.proofs.LiveFormats.{AreLive, CanCountRows, live_format}
-
-abbrev IsRead : ℕ → Dots → Type 0
-IsRead replicas s = AreDots replicas s × (read.is_over s ≡ false)
 
 abbrev Tail : Type 0
 Tail = List (Dot × Entry) × Counted
@@ -40,23 +33,18 @@ tail_text s p = live_rows_text p.0 ++ counters_text p.1
 abbrev IsTail : ℕ → Dots → Tail → Type 0
 IsTail replicas s p = (CanCountRows p.0 × AreLive s p.0) × AreCounts replicas p.1
 
-tail_format : (replicas : ℕ) (s : Dots) → IsRead replicas s → IsPlain (pair_at (read.live_rows_at s) (read.counters_at replicas)) (tail_text s) (IsTail replicas s)
-tail_format replicas s fits = plain_pair _ _ _ _ _ _ (live_format s (λ d h. (fits.0.0 d h).0)) (counters_format replicas)
+tail_format : (replicas : ℕ) (s : Dots) → AreDots replicas s → IsFormat (pair_at (read.live_rows_at s) (read.counters_at replicas)) (tail_text s) (IsTail replicas s)
+tail_format replicas s fits = pair_format _ _ _ _ _ _ (live_format s (λ d h. (fits.0 d h).0)) (counters_format replicas)
 
 abbrev parts_text : StateParts → List ℕ
 parts_text b = dots_text b.0 ++ tail_text b.0 b.1
 
 abbrev AreParts : ℕ → StateParts → Type 0
-AreParts replicas b = IsRead replicas b.0 × IsTail replicas b.0 b.1
+AreParts replicas b = AreDots replicas b.0 × IsTail replicas b.0 b.1
 
-parts_format : (replicas : ℕ) → IsFormat (then_at (read.dots_at replicas) (λ seen. pair_at (read.live_rows_at seen) (read.counters_at replicas))) parts_text (AreParts replicas) (TooMany replicas)
+parts_format : (replicas : ℕ) → IsFormat (then_at (read.dots_at replicas) (λ seen. pair_at (read.live_rows_at seen) (read.counters_at replicas))) parts_text (AreParts replicas)
 parts_format replicas =
-    let f = read.dots_at replicas in
-    let g = λ (s : Dots). pair_at (read.live_rows_at s) (read.counters_at replicas) in
-    let p = dots_format replicas in
-    relarge (then_at f g) parts_text (AreParts replicas) (LargeThen f g dots_text tail_text (IsRead replicas) (IsTail replicas) (TooMany replicas) (λ _. Never) p (tail_format replicas)) (TooMany replicas)
-    (λ bytes h. elim h [ inl x ↦ x | inr y ↦ absurd y.4 ]) (λ bytes h. inl h)
-    (then_format f g dots_text tail_text (IsRead replicas) (IsTail replicas) (TooMany replicas) (λ _. Never) p (tail_format replicas))
+    then_format (read.dots_at replicas) (λ (s : Dots). pair_at (read.live_rows_at s) (read.counters_at replicas)) dots_text tail_text (AreDots replicas) (IsTail replicas) (dots_format replicas) (tail_format replicas)
 
 abbrev parts_of : StateValue → StateParts
 parts_of v = (seen_of v.lives, (live_rows v.lives, v.counts))
@@ -77,7 +65,7 @@ state_there : (replicas : ℕ) (v : StateValue) → FitsState replicas v → Are
 state_there replicas v h =
     let is = h.0 in
     let can = h.1 in (
-      (((is.dots, can.dots), le-ltb 65536 (set.len (seen_of v.lives)) is.few), ((can.rows, (rows_of_lives v.lives, is.entries)), (is.counts, can.counts))),
+      ((is.dots, can.dots), ((can.rows, (rows_of_lives v.lives, is.entries)), (is.counts, can.counts))),
       same_state v (lived (seen_of v.lives) (live_rows v.lives)) (lived_of_parts v.lives),
     )
 
@@ -89,17 +77,16 @@ state_back replicas p h =
     let live = live_rows-lived s rows h.1.0.1.0 in
     let dots = h.0 in
     let is : IsStateOf replicas (texts.state_by p) = record {
-      dots = subst (AreDotsOf replicas) (sym seen) dots.0.0;
-      few = subst (λ (x : Dots). set.len x ≤ MOST_DOTS) (sym seen) (ltb-false 65536 (set.len s) dots.1);
+      dots = subst (AreDotsOf replicas) (sym seen) dots.0;
       entries = subst (AllByRecursion IsLiveRow) (sym live) h.1.0.1.1;
       counts = h.1.1.0;
     } in
-    let can : CanCountState (texts.state_by p) = record { dots = subst CanCountDots (sym seen) dots.0.1; rows = subst CanCountRows (sym live) h.1.0.0; counts = h.1.1.1 } in
+    let can : CanCountState (texts.state_by p) = record { dots = subst CanCountDots (sym seen) dots.1; rows = subst CanCountRows (sym live) h.1.0.0; counts = h.1.1.1 } in
     ((is, can), (λ i. (seen i, (live i, p.1.1))))
 
-pub state_format : (replicas : ℕ) → IsFormat (texts.state_at replicas) state_text (FitsState replicas) (TooMany replicas)
+pub state_format : (replicas : ℕ) → IsFormat (texts.state_at replicas) state_text (FitsState replicas)
 unfolding texts.state_at state_text
-state_format replicas = made_format texts.state_by parts_of _ parts_text (AreParts replicas) (FitsState replicas) (TooMany replicas) (state_there replicas) (state_back replicas) (parts_format replicas)
+state_format replicas = made_format texts.state_by parts_of _ parts_text (AreParts replicas) (FitsState replicas) (state_there replicas) (state_back replicas) (parts_format replicas)
 
 pub state_within : (v : StateValue) → length (state_text v) ≤ LIMIT → CanCountState v
 unfolding state_text
@@ -113,5 +100,4 @@ state_within v le =
 
 pub state_reader : (replicas : ℕ) → IsReaderOf (state_kind replicas) (texts.state_at replicas)
 state_reader replicas =
-    reader_of (state_kind replicas) (texts.state_at replicas) (FitsState replicas) (TooMany replicas) (state_format replicas) (λ v h. h.0) (λ v is le. (is, state_within v le))
-    (many_of replicas) (of_many replicas)
+    reader_of (state_kind replicas) (texts.state_at replicas) (FitsState replicas) (state_format replicas) (λ v h. h.0) (λ v is le. (is, state_within v le))

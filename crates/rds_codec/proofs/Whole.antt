@@ -3,7 +3,7 @@ use Rattle.std.proofs.Common.{rules, ◌≡◌, ◌≢◌, ℕ, ◌<◌, ◌≤�
 use Rattle.std.proofs.lemmas.Bool.{eqb-true}
 use Rattle.std.proofs.lemmas.List.{append-nil, nil_from_length}
 use Rattle.rds_names.specs.declared.fault.Fault.{Fault}
-use Rattle.rds_names.specs.declared.fault.Fault.TheVariants.{Memory, Cut, Bad, Extra, TooLong, TooManyDots}
+use Rattle.rds_names.specs.declared.fault.Fault.TheVariants.{Memory, Cut, Bad, Extra, TooLong}
 use Rattle.rds_codec.specs.declared.limits.TheConstants.{LIMIT}
 use Rattle.rds_codec.specs.Decoding.{IsTextOf, BeginsWithText, IsOtherFault, Decodes, all_of}
 use Rattle.rds_codec.specs.Kinds.{Kind}
@@ -12,23 +12,20 @@ use Rattle.rds_bytes.specs.Reading.{Reader, Fails, Reads}
 use Rattle.rds_bytes.proofs.Format.{IsBytes, IsFormat, Takes, CutOrBad, bind_ok, bind_err, chosen, err_is, ok_is, done, failed}
 
 -- The reader of a kind of text: what it reads is spelled so, what is spelled so within the limit is read,
--- whatever follows, and it refuses sets of too many dots exactly where the kind says so.
+-- whatever follows.
 pub record IsReaderOf {V : Type 0} (kind : Kind V) (read : Reader V) : Type 0 where
   pub takes : (bytes : List ℕ) (x : V × List ℕ) → IsBytes bytes → read bytes ≡ Ok x → Takes bytes (kind.text x.0) x.1 × kind.is_value x.0
   pub again : (v : V) (rest : List ℕ) → kind.is_value v → length (kind.text v) ≤ LIMIT → read (kind.text v ++ rest) ≡ Ok (v, rest)
-  pub large : (bytes : List ℕ) → length bytes ≤ LIMIT → kind.has_too_many bytes → read bytes ≡ Err TooManyDots
-  pub faults : (bytes : List ℕ) (e : Fault) → IsBytes bytes → read bytes ≡ Err e → CutOrBad e ⊎ ((e ≡ TooManyDots) × kind.has_too_many bytes)
+  pub faults : (bytes : List ℕ) (e : Fault) → IsBytes bytes → read bytes ≡ Err e → CutOrBad e
 
 -- A format is a kind's reader, where its values are the kind's and, within the limit, the other way round.
-pub reader_of : {V : Type 0} (kind : Kind V) (read : Reader V) (F : V → Type 0) (L : List ℕ → Type 0) → IsFormat read kind.text F L
+pub reader_of : {V : Type 0} (kind : Kind V) (read : Reader V) (F : V → Type 0) → IsFormat read kind.text F
     → ((v : V) → F v → kind.is_value v) → ((v : V) → kind.is_value v → length (kind.text v) ≤ LIMIT → F v)
-    → ((bytes : List ℕ) → L bytes → kind.has_too_many bytes) → ((bytes : List ℕ) → length bytes ≤ LIMIT → kind.has_too_many bytes → L bytes)
     → IsReaderOf kind read
-reader_of kind read F L format is fits many large = record {
+reader_of kind read F format is fits = record {
   takes = λ bytes x b e. (let t = format.takes bytes x b e in (t.0, is x.0 t.1));
   again = λ v rest h le. format.again v rest (fits v h le);
-  large = λ bytes le h. format.large bytes (large bytes le h);
-  faults = λ bytes e b h. elim (format.faults bytes e b h) [ inl x ↦ inl x | inr y ↦ inr (y.0, many bytes y.1) ];
+  faults = format.faults;
 }
 
 -- a failure is that of reading, or of memory
@@ -67,9 +64,6 @@ module _ {V : Type 0} (kind : Kind V) (reader : Reader V) (laws : IsReaderOf kin
       let more : eqb (length h.rest) 0 ≡ false = some_rest h.rest h.more in
       rw (got, more) refl
 
-  read_many : kind.has_too_many bytes → read ≡ Err TooManyDots
-  read_many h = let e = laws.large bytes within h in rw e refl
-
   read_value : (v : V) → read ≡ Ok v → IsTextOf kind bytes v
   read_value v e =
       let a = bind_ok (reader bytes) ended v e in
@@ -83,34 +77,31 @@ module _ {V : Type 0} (kind : Kind V) (reader : Reader V) (laws : IsReaderOf kin
       ]
 
   abbrev Refused : Fault → Type 0
-  Refused e = ((e ≡ TooManyDots) × kind.has_too_many bytes) ⊎ (((e ≡ Extra) × BeginsWithText kind bytes) ⊎ CutOrBad e)
+  Refused e = ((e ≡ Extra) × BeginsWithText kind bytes) ⊎ CutOrBad e
 
   read_refused : (e : Fault) → read ≡ Err e → Refused e
   read_refused e h =
       elim (bind_err (reader bytes) ended e h) [
-        | inl f ↦ elim (laws.faults bytes e fits f) [ inl x ↦ inr (inr x) | inr y ↦ inl y ]
+        | inl f ↦ inr (laws.faults bytes e fits f)
         | inr a ↦ elim (chosen (eqb (length a.0.1) 0) (Ok a.0.0) (Err Extra) (Err e) a.2) [
           | inl j ↦ absurd (let bad : done a.0.0 ≡ Err e = j.1 in cc)
           | inr j ↦
               let got = laws.takes bytes a.0 fits a.1 in
-              inr (inl (sym (err_is {A = V} Extra e j.1), record { value = a.0.0; rest = a.0.1; is_value = got.1; more = not_empty a.0.1 j.0; spelled = got.0.parts }))
+              inl (sym (err_is {A = V} Extra e j.1), record { value = a.0.0; rest = a.0.1; is_value = got.1; more = not_empty a.0.1 j.0; spelled = got.0.parts })
         ]
       ]
 
   known : (e : Fault) → Refused e → IsOtherFault e
-  known e h = elim h [ inl a ↦ inr (inr (inl a.0)) | inr b ↦ elim b [ inl c ↦ inr (inr (inr (inl c.0))) | inr d ↦ inr (inr (inr (inr d))) ] ]
+  known e h = elim h [ inl a ↦ inr (inr (inl a.0)) | inr b ↦ inr (inr (inr b)) ]
 
   not_long : {A : Type 0} → LIMIT < length bytes → A
   not_long lt = absurd (let none : ⊥ = omega arith in none)
 
   never_long : (e : Fault) → Refused e → e ≡ TooLong → ⊥
-  never_long e h is = elim h [ inl a ↦ (let bad : TooManyDots ≡ TooLong = sym a.0 ∙ is in cc) | inr b ↦ elim b [ inl c ↦ (let bad : Extra ≡ TooLong = sym c.0 ∙ is in cc) | inr d ↦ elim d [ inl x ↦ (let bad : Cut ≡ TooLong = sym x ∙ is in cc) | inr y ↦ (let bad : Bad ≡ TooLong = sym y ∙ is in cc) ] ] ]
-
-  is_many : (e : Fault) → Refused e → e ≡ TooManyDots → kind.has_too_many bytes
-  is_many e h is = elim h [ inl a ↦ a.1 | inr b ↦ elim b [ inl c ↦ absurd (let bad : Extra ≡ TooManyDots = sym c.0 ∙ is in cc) | inr d ↦ elim d [ inl x ↦ absurd (let bad : Cut ≡ TooManyDots = sym x ∙ is in cc) | inr y ↦ absurd (let bad : Bad ≡ TooManyDots = sym y ∙ is in cc) ] ] ]
+  never_long e h is = elim h [ inl c ↦ (let bad : Extra ≡ TooLong = sym c.0 ∙ is in cc) | inr d ↦ elim d [ inl x ↦ (let bad : Cut ≡ TooLong = sym x ∙ is in cc) | inr y ↦ (let bad : Bad ≡ TooLong = sym y ∙ is in cc) ] ]
 
   is_extra : (e : Fault) → Refused e → e ≡ Extra → BeginsWithText kind bytes
-  is_extra e h is = elim h [ inl a ↦ absurd (let bad : TooManyDots ≡ Extra = sym a.0 ∙ is in cc) | inr b ↦ elim b [ inl c ↦ c.1 | inr d ↦ elim d [ inl x ↦ absurd (let bad : Cut ≡ Extra = sym x ∙ is in cc) | inr y ↦ absurd (let bad : Bad ≡ Extra = sym y ∙ is in cc) ] ] ]
+  is_extra e h is = elim h [ inl c ↦ c.1 | inr d ↦ elim d [ inl x ↦ absurd (let bad : Cut ≡ Extra = sym x ∙ is in cc) | inr y ↦ absurd (let bad : Bad ≡ Extra = sym y ∙ is in cc) ] ]
 
   pub decodes : (r : Result V Fault) → Reads (λ x. x) r read → Decodes kind bytes r
   decodes (Ok v) g = record {
@@ -118,8 +109,6 @@ module _ {V : Type 0} (kind : Kind V) (reader : Reader V) (laws : IsReaderOf kin
     found = λ w le h. inl (sym g ∙ read_found w h);
     long = λ lt. not_long lt;
     long_only = λ e. absurd cc;
-    many = λ le h. inl (sym g ∙ read_many h);
-    many_only = λ e. absurd cc;
     extra = λ le h. inl (sym g ∙ read_extra h);
     extra_only = λ e. absurd cc;
     other = tt;
@@ -130,8 +119,6 @@ module _ {V : Type 0} (kind : Kind V) (reader : Reader V) (laws : IsReaderOf kin
       found = λ w le h. inr is;
       long = λ lt. not_long lt;
       long_only = λ h. absurd (let bad : Memory ≡ TooLong = sym m ∙ err_is {A = V} e TooLong h in cc);
-      many = λ le h. inr is;
-      many_only = λ h. absurd (let bad : Memory ≡ TooManyDots = sym m ∙ err_is {A = V} e TooManyDots h in cc);
       extra = λ le h. inr is;
       extra_only = λ h. absurd (let bad : Memory ≡ Extra = sym m ∙ err_is {A = V} e Extra h in cc);
       other = inl m;
@@ -141,8 +128,6 @@ module _ {V : Type 0} (kind : Kind V) (reader : Reader V) (laws : IsReaderOf kin
       found = λ w le h. inl (sym is ∙ read_found w h);
       long = λ lt. not_long lt;
       long_only = λ h. absurd (never_long e cases (err_is {A = V} e TooLong h));
-      many = λ le h. inl (sym is ∙ read_many h);
-      many_only = λ h. (within, is_many e cases (err_is {A = V} e TooManyDots h));
       extra = λ le h. inl (sym is ∙ read_extra h);
       extra_only = λ h. (within, is_extra e cases (err_is {A = V} e Extra h));
       other = known e cases;

@@ -1,10 +1,10 @@
 -- The text of an answer, how it is read, and which answers have one.
-use Rattle.std.specs.Prelude.{◌≡◌, ℕ, List, ◌++◌}
+use Rattle.std.specs.Prelude.{ℕ, List, ◌++◌}
 use Rattle.rds_state.specs.Value.{StateValue}
 use Rattle.rds_delta.specs.declared.row.Row.{Row}
 use Rattle.rds_codec.specs.AnswerValues.{AnswerValue}
 use Rattle.rds_codec.specs.CertificateTexts.{IsReplicaOf, IsCertificateOf, certificate_text, certificate_at}
-use Rattle.rds_codec.specs.Kinds.{Kind, BeginsWithTooManyDots}
+use Rattle.rds_codec.specs.Kinds.{Kind}
 use Rattle.rds_bytes.specs.Reading.{Reader, pair_at, made_at, replica_at}
 use Rattle.rds_codec.specs.StateTexts.{state_at, state_text, IsStateOf}
 use Rattle.rds_bytes.specs.Spelling.{byte_text}
@@ -31,13 +31,5 @@ pub record IsAnswerOf (replicas : ℕ) (a : AnswerValue) : Type 0 where
   pub state : IsStateOf replicas a.state
   pub certificate : IsCertificateOf replicas a.certificate
 
--- after the asker stands, to its end, a set of more dots than the cap
-pub record HasTooManySent (replicas : ℕ) (bytes : List ℕ) : Type 0 where
-  pub asker : ℕ
-  pub after : List ℕ
-  pub is_replica : IsReplicaOf replicas asker
-  pub many : BeginsWithTooManyDots replicas after
-  pub spelled : bytes ≡ byte_text asker ++ after
-
 abbrev pub answer_kind : ℕ → Kind AnswerValue
-answer_kind replicas = record { is_value = IsAnswerOf replicas; text = answer_text; has_too_many = HasTooManySent replicas }
+answer_kind replicas = record { is_value = IsAnswerOf replicas; text = answer_text }

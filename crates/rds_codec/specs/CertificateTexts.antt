@@ -12,7 +12,7 @@ use Rattle.rds_counts.specs.declared.row.Which.TheVariants.{P, N}
 use Rattle.rds_counts.specs.declared.row.TheConstants.{MAX_COUNT}
 use Rattle.rds_delta.specs.declared.row.Row.{Row}
 use Rattle.rds_delta.specs.declared.row.Row.TheVariants.{Live, Dead, Count}
-use Rattle.rds_codec.specs.Kinds.{Kind, HasNoDots}
+use Rattle.rds_codec.specs.Kinds.{Kind}
 use Rattle.rds_bytes.specs.Reading.{◌>>=◌, Reader, then_at, pair_at, made_at, when_at, list_at, byte_at, number_at, is_between, is_count, key_at, replica_at, dot_by}
 use Rattle.rds_bytes.specs.Spelling.{byte_text, dot_text, place_text}
 use Rattle.rds_bytes.specs.Values.{is_key_text}
@@ -129,4 +129,4 @@ IsCertificateOf replicas rows = AllByRecursion (IsRowOf replicas) rows
 
 -- a certificate of so many replicas
 abbrev pub certificate_kind : ℕ → Kind (List Row)
-certificate_kind replicas = record { is_value = IsCertificateOf replicas; text = certificate_text; has_too_many = HasNoDots }
+certificate_kind replicas = record { is_value = IsCertificateOf replicas; text = certificate_text }

@@ -1,7 +1,7 @@
 -- What decoding answers for all of its input, in terms of the texts alone.
 use Rattle.std.specs.Prelude.{◌≡◌, ◌≢◌, ◌==◌, if◌then◌else◌, ℕ, ◌<◌, ◌≤◌, ◌⊎◌, List, [], ◌++◌, length, Result, Ok, Err, IfOk, IfErr}
 use Rattle.rds_names.specs.declared.fault.Fault.{Fault}
-use Rattle.rds_names.specs.declared.fault.Fault.TheVariants.{Memory, Cut, Bad, Extra, TooLong, TooManyDots}
+use Rattle.rds_names.specs.declared.fault.Fault.TheVariants.{Memory, Cut, Bad, Extra, TooLong}
 use Rattle.rds_codec.specs.declared.limits.TheConstants.{LIMIT}
 use Rattle.rds_codec.specs.Kinds.{Kind}
 use Rattle.rds_bytes.specs.Reading.{◌>>=◌, Reader, Reads}
@@ -33,17 +33,15 @@ ReadsAll reader bytes result = length bytes ≤ LIMIT → Reads (λ v. v) result
 
 -- each refusal of decoding
 abbrev pub IsOtherFault : Fault → Type 0
-IsOtherFault e = (e ≡ Memory) ⊎ ((e ≡ TooLong) ⊎ ((e ≡ TooManyDots) ⊎ ((e ≡ Extra) ⊎ ((e ≡ Cut) ⊎ (e ≡ Bad)))))
+IsOtherFault e = (e ≡ Memory) ⊎ ((e ≡ TooLong) ⊎ ((e ≡ Extra) ⊎ ((e ≡ Cut) ⊎ (e ≡ Bad))))
 
--- Ok exactly at a text within the limit, TooLong exactly above it, TooManyDots exactly where a set is read
--- that is over the cap, Extra exactly where a proper beginning is a text; else Cut or Bad, or memory ran out.
+-- Ok exactly at a text within the limit, TooLong exactly above it, Extra exactly where a proper beginning is a
+-- text; else Cut or Bad, or memory ran out.
 pub record Decodes {V : Type 0} (kind : Kind V) (bytes : List ℕ) (result : Result V Fault) : Type 0 where
   pub value : IfOk result (λ v. (length bytes ≤ LIMIT) × IsTextOf kind bytes v)
   pub found : (v : V) → length bytes ≤ LIMIT → IsTextOf kind bytes v → Answers result (Ok v)
   pub long : LIMIT < length bytes → result ≡ Err TooLong
   pub long_only : result ≡ Err TooLong → LIMIT < length bytes
-  pub many : length bytes ≤ LIMIT → kind.has_too_many bytes → Answers result (Err TooManyDots)
-  pub many_only : result ≡ Err TooManyDots → (length bytes ≤ LIMIT) × kind.has_too_many bytes
   pub extra : length bytes ≤ LIMIT → BeginsWithText kind bytes → Answers result (Err Extra)
   pub extra_only : result ≡ Err Extra → (length bytes ≤ LIMIT) × BeginsWithText kind bytes
   pub other : IfErr result IsOtherFault

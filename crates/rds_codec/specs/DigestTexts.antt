@@ -1,15 +1,15 @@
 -- The text of a digest, how it is read, and which digests have one.
-use Rattle.std.specs.Prelude.{◌≡◌, ◌<◌, ◌⊎◌, ℕ, Bool, true, List, ◌++◌}
+use Rattle.std.specs.Prelude.{◌≡◌, ◌<◌, ℕ, Bool, true, List, ◌++◌}
 use Rattle.std.specs.FinSet as set
 use Rattle.rds_dots.specs.declared.dot.Dot.{Dot}
 use Rattle.rds_dots.specs.Dots.{Dots}
 use Rattle.rds_counts.specs.Counted.{Counted, number}
 use Rattle.rds_counts.specs.Place.{Place}
 use Rattle.rds_delta.specs.Digested.{DigestValue, IsInside}
-use Rattle.rds_codec.specs.Kinds.{Kind, BeginsWithTooManyDots}
+use Rattle.rds_codec.specs.Kinds.{Kind}
 use Rattle.rds_bytes.specs.Reading.{Reader, then_at, pair_at, made_at, when_at, dots_at, counters_at}
 use Rattle.rds_bytes.specs.Spelling.{dots_text, counters_text}
-use Rattle.rds_bytes.specs.Values.{AreFew, AreDotsOf, AreCountsOf}
+use Rattle.rds_bytes.specs.Values.{AreDotsOf, AreCountsOf}
 
 -- the seen dots, the live ones of them, and the counters
 unfoldable pub digest_text : DigestValue → List ℕ
@@ -37,26 +37,12 @@ pub record DigestFits (replicas : ℕ) (g : DigestValue) : Type 0 where
   pub dots : (d : Dot) → set.contains g.seen d ≡ true → d.replica < replicas
   pub numbers : (q : Place) → 0 < number g.counts q → q.replica < replicas
 
--- the parts are within their limits, the live dots are seen, and the seen ones not above the cap
+-- the parts are within their limits, and the live dots are seen
 pub record IsDigestOf (replicas : ℕ) (g : DigestValue) : Type 0 where
   pub dots : AreDotsOf replicas g.seen
-  pub few : AreFew g.seen
   pub inside : IsInside g.live g.seen
   pub counts : AreCountsOf replicas g.counts
 
--- the seen dots aren't above the cap, and after them the live dots stand to their end and are above it
-pub record HasTooManyLive (replicas : ℕ) (bytes : List ℕ) : Type 0 where
-  pub seen : Dots
-  pub after : List ℕ
-  pub are_dots : AreDotsOf replicas seen
-  pub few : AreFew seen
-  pub many : BeginsWithTooManyDots replicas after
-  pub spelled : bytes ≡ dots_text seen ++ after
-
--- one of the two sets stands to its end and is above the cap
-abbrev pub HasTooManyInDigest : ℕ → List ℕ → Type 0
-HasTooManyInDigest replicas bytes = BeginsWithTooManyDots replicas bytes ⊎ HasTooManyLive replicas bytes
-
 -- a digest of so many replicas
 abbrev pub digest_kind : ℕ → Kind DigestValue
-digest_kind replicas = record { is_value = IsDigestOf replicas; text = digest_text; has_too_many = HasTooManyInDigest replicas }
+digest_kind replicas = record { is_value = IsDigestOf replicas; text = digest_text }

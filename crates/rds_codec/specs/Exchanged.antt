@@ -15,7 +15,7 @@ use Rattle.rds_codec.specs.AnswerTexts.{IsAnswerOf, answer_text}
 use Rattle.rds_codec.specs.AnswerValues.{AnswerValue}
 use Rattle.rds_codec.specs.Decoding.{IsTextOf}
 use Rattle.rds_codec.specs.DigestTexts.{IsDigestOf, digest_text, digest_kind}
-use Rattle.rds_bytes.specs.Values.{AreDotsOf, AreFew}
+use Rattle.rds_bytes.specs.Values.{AreDotsOf}
 use Rattle.rds_codec.specs.declared.limits.TheConstants.{LIMIT}
 
 -- it answers a digest for the one that asked: the least delta of a state, and its certificate
@@ -24,14 +24,14 @@ pub record IsAnswerTo (digest : DigestValue) (asker : ℕ) (held : StateValue) (
   pub delta : coordinates a.state ≡ least (coordinates held) (ranks_in digest)
   pub certificate : IsCertificate (ranks_in digest) a.state a.certificate
 
--- The bytes are the text of the state's digest. It is read again where its dots are few.
+-- The bytes are the text of the state's digest, which is read again.
 pub record IsAskOf (asked : StateValue) (bytes : List ℕ) : Type 0 where
   pub text : bytes ≡ digest_text (digest_of asked)
   pub within : length bytes ≤ LIMIT
   pub dots : (replicas : ℕ) → Fits replicas (coordinates asked) → AreDotsOf replicas (seen_of asked.lives)
-  pub again : (replicas : ℕ) → Fits replicas (coordinates asked) → AreFew (seen_of asked.lives) → IsDigestOf replicas (digest_of asked)
+  pub again : (replicas : ℕ) → Fits replicas (coordinates asked) → IsDigestOf replicas (digest_of asked)
 
--- The bytes are the text of the answer, of so many components. It is read again where its dots are few.
+-- The bytes are the text of the answer, of so many components, which is read again.
 pub record IsReplyTo (digest : DigestValue) (asker : ℕ) (held : StateValue) (bytes : List ℕ) (components : ℕ) : Type 0 where
   pub value : AnswerValue
   pub answers : IsAnswerTo digest asker held value
@@ -39,7 +39,7 @@ pub record IsReplyTo (digest : DigestValue) (asker : ℕ) (held : StateValue) (b
   pub within : length bytes ≤ LIMIT
   pub sized : components ≡ size value.state
   pub dots : (replicas : ℕ) → Fits replicas (coordinates held) → AreDotsOf replicas (seen_of value.state.lives)
-  pub again : (replicas : ℕ) → asker < replicas → Fits replicas (coordinates held) → AreFew (seen_of value.state.lives) → IsAnswerOf replicas value
+  pub again : (replicas : ℕ) → asker < replicas → Fits replicas (coordinates held) → IsAnswerOf replicas value
 
 abbrev pub IsLongDigest : StateValue → Type 0
 IsLongDigest asked = LIMIT < length (digest_text (digest_of asked))
@@ -70,21 +70,17 @@ pub record PassesCheck (replicas : ℕ) (asked : StateValue) (a : AnswerValue) :
   pub brought : IsTextOf (digest_kind replicas) (digest_text (digest_of asked)) digest
   pub certified : IsCertified digest a
 
--- Two friends of one roster, what one of them was when it asked, and no more dots than are read.
+-- Two friends of one roster, and what one of them was when it asked.
 pub record CanExchange (answerer asked asker : ReplicaValue) : Type 0 where
   pub answerer_roster : answerer.roster ≡ asker.roster
   pub asked_roster : asked.roster ≡ asker.roster
   pub friends : AreFriends answerer.own (coordinates answerer.state) asker.own (coordinates asker.state)
   pub grown : AtMost (coordinates asked.state) (coordinates asker.state)
-  pub few_asked : AreFew (seen_of asked.state.lives)
-  pub few_held : AreFew (seen_of answerer.state.lives)
 
--- What was asked and what answers fit the roster of the one that asks, and have no more dots than are read.
+-- What was asked and what answers fit the roster of the one that asks.
 pub record CanRead (answerer asked asker : ReplicaValue) : Type 0 where
   pub asked_fits : Fits (length asker.roster.names) (coordinates asked.state)
   pub held_fits : Fits (length asker.roster.names) (coordinates answerer.state)
-  pub few_asked : AreFew (seen_of asked.state.lives)
-  pub few_held : AreFew (seen_of answerer.state.lives)
 
 -- why a text didn't come: memory ran out, or it is too long
 abbrev pub IsLost : Type 0 → Fault → Type 0

@@ -3,7 +3,7 @@ use Rattle.std.specs.Prelude.{◌≡◌, ℕ, Bool, ◌==◌, List, ◌++◌}
 use Rattle.rds_names.specs.Roster.{RosterValue}
 use Rattle.rds_codec.specs.declared.hellos.Hello.{Hello}
 use Rattle.rds_codec.specs.declared.hellos.TheConstants.{VERSION}
-use Rattle.rds_codec.specs.Kinds.{Kind, HasNoDots}
+use Rattle.rds_codec.specs.Kinds.{Kind}
 use Rattle.rds_bytes.specs.Reading.{Reader, pair_at, made_at, when_at, byte_at, member_at}
 use Rattle.rds_bytes.specs.Spelling.{byte_text, member_text}
 use Rattle.rds_bytes.specs.Values.{IsMember}
@@ -33,4 +33,4 @@ pub record IsHello (h : Hello) : Type 0 where
   pub member : IsMember h.roster h.own
 
 abbrev pub hello_kind : Kind Hello
-hello_kind = record { is_value = IsHello; text = hello_text; has_too_many = HasNoDots }
+hello_kind = record { is_value = IsHello; text = hello_text }

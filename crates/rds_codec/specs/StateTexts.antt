@@ -11,7 +11,7 @@ use Rattle.rds_state.specs.Value.{StateValue}
 use Rattle.rds_state.specs.Fits.{ReplicaValue}
 use Rattle.rds_bytes.specs.Reading.{Reader, then_at, pair_at, made_at, front_at, dots_at, live_rows_at, counters_at}
 use Rattle.rds_bytes.specs.Spelling.{front_text, dots_text, live_rows_text, counters_text}
-use Rattle.rds_bytes.specs.Values.{AreFew, AreDotsOf, AreCountsOf, IsLiveRow, IsMember}
+use Rattle.rds_bytes.specs.Values.{AreDotsOf, AreCountsOf, IsLiveRow, IsMember}
 
 -- ---- spelling
 
@@ -41,10 +41,9 @@ snapshot_at = made_at snapshot_by (then_at front_at (λ front. state_at (length 
 
 -- ---- which have a text
 
--- the parts are within their limits, and the dots not above the cap
+-- the parts are within their limits
 pub record IsStateOf (replicas : ℕ) (v : StateValue) : Type 0 where
   pub dots : AreDotsOf replicas (seen_of v.lives)
-  pub few : AreFew (seen_of v.lives)
   pub entries : AllByRecursion IsLiveRow (live_rows v.lives)
   pub counts : AreCountsOf replicas v.counts
 

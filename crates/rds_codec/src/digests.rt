@@ -5,7 +5,7 @@ ghost use Rattle.rds_codec.specs.Decoding.{Decodes, ReadsAll, all_of};
 ghost use Rattle.rds_codec.specs.DigestTexts.{DigestFits, IsDigestOf, digest_text, live_dots_at, digest_at, digest_kind};
 ghost use Rattle.rds_bytes.specs.DotRows.{rows_from};
 ghost use Rattle.rds_bytes.specs.Reading.{Reads};
-ghost use Rattle.rds_bytes.specs.Values.{AreDotsOf, AreFew};
+ghost use Rattle.rds_bytes.specs.Values.{AreDotsOf};
 ghost use Rattle.rds_codec.specs.Writing.{Encodes};
 ghost use Rattle.rds_bytes.specs.Writing.{Adds};
 
@@ -64,8 +64,7 @@ fn read_all<S: DotSet>(alloc: Global, replicas: u16, bytes: &[u8]) -> Result<Dig
 /// The digest whose text the bytes are, of a roster of so many replicas.
 ///
 /// They are read from the left, and each part is judged as soon as it is there. Refused are bytes above the
-/// limit (`TooLong`, before anything is read); a set of more dots than are read (`TooManyDots`, before what
-/// follows it is read); bytes that go on after a text (`Extra`); and other bytes that are no text: `Cut` where
+/// limit (`TooLong`, before anything is read); bytes that go on after a text (`Extra`); and other bytes that are no text: `Cut` where
 /// they end inside a part, `Bad` where a part that is there is none, as a set of live dots that aren't all seen.
 pub fn decode_digest<S: DotSet>(
     alloc: Global,
@@ -87,7 +86,7 @@ fn measure<S: DotSet>(digest: &Digest<S>) -> ((u16, u16), u128)
     ensures live { result.0.1 ≡ length (rows_from 0 (runs_of digest.now.live)) }
     ensures length { result.1 ≡ length (digest_text digest.now) }
     ensures dots { (replicas : ℕ) → DigestFits replicas digest.now → AreDotsOf replicas digest.now.seen }
-    ensures value { (replicas : ℕ) → DigestFits replicas digest.now → AreFew digest.now.seen → IsDigestOf replicas digest.now }
+    ensures value { (replicas : ℕ) → DigestFits replicas digest.now → IsDigestOf replicas digest.now }
 {
     let (seen_rows, seen_length) = measure_dots(digest.seen());
     let (live_rows, live_length) = measure_dots(digest.live());
@@ -118,7 +117,7 @@ fn put_digest<S: DotSet>(
 pub fn encode_digest<S: DotSet>(alloc: Global, digest: &Digest<S>) -> Result<Vec<u8>, Fault>
     ensures text { Encodes (digest_text digest.now) result }
     ensures dots { (replicas : ℕ) → DigestFits replicas digest.now → AreDotsOf replicas digest.now.seen }
-    ensures value { (replicas : ℕ) → DigestFits replicas digest.now → AreFew digest.now.seen → IsDigestOf replicas digest.now }
+    ensures value { (replicas : ℕ) → DigestFits replicas digest.now → IsDigestOf replicas digest.now }
 {
     let ((seen_rows, live_rows), length) = measure(digest);
     let mut out = room_for(alloc, length)?;

@@ -11,7 +11,6 @@ ghost use Rattle.rds_codec.specs.Decoding.{IsTextOf};
 ghost use Rattle.rds_codec.specs.DigestTexts.{digest_text, digest_kind};
 ghost use Rattle.rds_codec.specs.Exchanged.{CanExchange, CanRead, IsAnswerTo, IsAskOf, IsCertified, IsLongAnswer, IsLongDigest, IsLost, IsRefusal, IsReplyTo, IsWithin, PassesCheck, TakesCertified};
 ghost use Rattle.rds_codec.specs.declared.limits.TheConstants.{LIMIT};
-ghost use Rattle.rds_bytes.specs.Values.{AreFew};
 
 use crate::answers::{Answer, decode_answer, encode_answer};
 use crate::digests::{decode_digest, encode_digest};
@@ -78,8 +77,8 @@ fn send_digest<S: DotSet>(
 ) -> Result<Digest<S>, Fault>
     ensures brought { IfOk result (IsTextOf (digest_kind replicas) (digest_text (digest_of asked.now))) }
     ensures within { IfOk result (λ _. length (digest_text (digest_of asked.now)) ≤ LIMIT) }
-    ensures ok { Fits replicas (coordinates asked.now) → AreFew (seen_of asked.now.lives) → IfOk result (λ digest. digest ≡ digest_of asked.now) }
-    ensures fault { Fits replicas (coordinates asked.now) → AreFew (seen_of asked.now.lives) → IfErr result (IsLost (IsLongDigest asked.now)) }
+    ensures ok { Fits replicas (coordinates asked.now) → IfOk result (λ digest. digest ≡ digest_of asked.now) }
+    ensures fault { Fits replicas (coordinates asked.now) → IfErr result (IsLost (IsLongDigest asked.now)) }
 {
     let bytes = ask(alloc, asked)?;
     decode_digest(alloc, replicas, &bytes)
@@ -95,8 +94,8 @@ fn send_answer<S: DotSet>(
 ) -> Result<Answer<S>, Fault>
     ensures fits { IfOk result (λ answer. Fits replicas (coordinates answer.state)) }
     ensures within { IfOk result (λ answer. length (answer_text answer) ≤ LIMIT) }
-    ensures ok { asker < replicas → Fits replicas (coordinates held.now) → AreFew (seen_of held.now.lives) → IfOk result (IsAnswerTo digest.now asker held.now) }
-    ensures fault { asker < replicas → Fits replicas (coordinates held.now) → AreFew (seen_of held.now.lives) → IfErr result (IsLost (IsLongAnswer digest.now asker held.now)) }
+    ensures ok { asker < replicas → Fits replicas (coordinates held.now) → IfOk result (IsAnswerTo digest.now asker held.now) }
+    ensures fault { asker < replicas → Fits replicas (coordinates held.now) → IfErr result (IsLost (IsLongAnswer digest.now asker held.now)) }
 {
     let (bytes, _) = answer(alloc, asker, held, digest)?;
     decode_answer(alloc, replicas, &bytes)
@@ -128,8 +127,8 @@ fn take_answer<S: DotSet>(
 /// goes to the other as bytes. The other sends back, as bytes, the least delta against that digest and its certificate.
 /// The one that asked checks the two and joins the delta into its state. The answer that it took is handed back.
 ///
-/// Where both fit the roster of the one that asked, and neither it, when it asked, nor the other has seen more than
-/// 65,536 dots, no text is refused by the one that reads it, and no check says no. Only want of memory, too long a text
+/// Where both fit the roster of the one that asked, no text is refused by the one that reads it, and no check says no.
+/// Only want of memory, too long a text
 /// or what [`Replica::take`] refuses of the answer's delta (`OwnAhead`, `Conflict`) is a hindrance. Where the two are
 /// friends of one roster besides, no take finds a conflict or a loss either, and the one that asked ends with all that
 /// both knew, whatever it has become since. Elsewhere any of these may refuse it. What is refused has changed nothing.

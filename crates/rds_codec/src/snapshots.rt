@@ -6,7 +6,6 @@ ghost use Rattle.rds_bytes.specs.DotRows.{rows_from};
 ghost use Rattle.rds_codec.specs.Kinds.{snapshot_kind};
 ghost use Rattle.rds_bytes.specs.Reading.{Reads};
 ghost use Rattle.rds_codec.specs.StateTexts.{snapshot_at, snapshot_text, IsSnapshot};
-ghost use Rattle.rds_bytes.specs.Values.{AreFew};
 ghost use Rattle.rds_codec.specs.Writing.{Encodes};
 ghost use Rattle.rds_bytes.specs.Writing.{Adds};
 ghost use Rattle.rds_dots.specs.Runs.{runs_of};
@@ -45,8 +44,7 @@ fn read_all<S: DotSet>(alloc: Global, bytes: &[u8]) -> Result<Replica<S>, Fault>
 /// The replica whose snapshot the bytes are.
 ///
 /// They are read from the left, and each part is judged as soon as it is there. Refused are bytes above the
-/// limit (`TooLong`, before anything is read); a set of more dots than are read (`TooManyDots`, before what
-/// follows it is read); bytes that go on after a text (`Extra`); and other bytes that are no text: `Cut` where
+/// limit (`TooLong`, before anything is read); bytes that go on after a text (`Extra`); and other bytes that are no text: `Cut` where
 /// they end inside a part, `Bad` where a part that is there is none.
 pub fn decode_snapshot<S: DotSet>(alloc: Global, bytes: &[u8]) -> Result<Replica<S>, Fault>
     ensures text { Decodes snapshot_kind bytes.now result }
@@ -63,7 +61,7 @@ fn measure<S: DotSet>(replica: &Replica<S>) -> (u16, u128)
     ensures rows { result.0 ≡ length (rows_from 0 (runs_of (seen_of replica.now.state.lives))) }
     ensures length { result.1 ≡ length (snapshot_text replica.now) }
     ensures small { replica.now.state.lives ≡ map.empty → replica.now.state.counts ≡ map.empty → length (snapshot_text replica.now) ≤ LIMIT }
-    ensures value { AreFew (seen_of replica.now.state.lives) → IsSnapshot replica.now }
+    ensures value { IsSnapshot replica.now }
 {
     let (rows, state_length) = measure_state(replica.state());
     (
@@ -90,7 +88,7 @@ fn put_snapshot<S: DotSet>(
 pub fn encode_snapshot<S: DotSet>(alloc: Global, replica: &Replica<S>) -> Result<Vec<u8>, Fault>
     ensures text { Encodes (snapshot_text replica.now) result }
     ensures small { replica.now.state.lives ≡ map.empty → replica.now.state.counts ≡ map.empty → length (snapshot_text replica.now) ≤ LIMIT }
-    ensures value { AreFew (seen_of replica.now.state.lives) → IsSnapshot replica.now }
+    ensures value { IsSnapshot replica.now }
 {
     let (rows, length) = measure(replica);
     let mut out = room_for(alloc, length)?;

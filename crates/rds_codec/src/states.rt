@@ -7,7 +7,7 @@ ghost use Rattle.rds_codec.specs.Kinds.{state_kind};
 ghost use Rattle.rds_bytes.specs.DotRows.{rows_from};
 ghost use Rattle.rds_bytes.specs.Reading.{Reads};
 ghost use Rattle.rds_codec.specs.StateTexts.{state_at, state_text, IsStateOf};
-ghost use Rattle.rds_bytes.specs.Values.{AreDotsOf, AreFew};
+ghost use Rattle.rds_bytes.specs.Values.{AreDotsOf};
 ghost use Rattle.rds_state.specs.Fits.{Fits};
 ghost use Rattle.rds_state.specs.Value.{coordinates};
 ghost use Rattle.rds_codec.specs.Writing.{Encodes};
@@ -48,7 +48,7 @@ pub fn measure_state<S: DotSet>(state: &State<S>) -> (u16, u128)
     ensures length { result.1 ≡ length (state_text state.now) }
     ensures few { result.1 ≤ 2 ^ 101 }
     ensures dots { (replicas : ℕ) → Fits replicas (coordinates state.now) → AreDotsOf replicas (seen_of state.now.lives) }
-    ensures value { (replicas : ℕ) → Fits replicas (coordinates state.now) → AreFew (seen_of state.now.lives) → IsStateOf replicas state.now }
+    ensures value { (replicas : ℕ) → Fits replicas (coordinates state.now) → IsStateOf replicas state.now }
 {
     let lives = state.lives();
     let (rows, dots_length) = measure_dots(lives.seen());
@@ -107,7 +107,7 @@ pub fn decode_state<S: DotSet>(
 pub fn encode_state<S: DotSet>(alloc: Global, state: &State<S>) -> Result<Vec<u8>, Fault>
     ensures text { Encodes (state_text state.now) result }
     ensures dots { (replicas : ℕ) → Fits replicas (coordinates state.now) → AreDotsOf replicas (seen_of state.now.lives) }
-    ensures value { (replicas : ℕ) → Fits replicas (coordinates state.now) → AreFew (seen_of state.now.lives) → IsStateOf replicas state.now }
+    ensures value { (replicas : ℕ) → Fits replicas (coordinates state.now) → IsStateOf replicas state.now }
 {
     let (rows, length) = measure_state(state);
     let mut out = room_for(alloc, length)?;

@@ -6,8 +6,9 @@ ghost use Rattle.rds_state.specs.Edit.{IsDue};
 ghost use Rattle.rds_commands.specs.Edits.{edit_refusal, EditsFile, InitsFile, IsEdited, RefusesEdit, RefusesEditIn, RefusesInit, RefusesShow, ShowsFile};
 ghost use Rattle.rds_words.specs.Meaning.{IsCommand, roster_for};
 
-use rds_dots::{DotSet, ListSet};
+use rds_dots::DotSet;
 use rds_files::{ReplacedFile, ReplicaFile, is_there};
+use rds_gaps::GapSet;
 use rds_lines::{Answer, shown};
 use rds_names::{Fault, Path};
 use rds_state::{Command, Replica};
@@ -37,7 +38,7 @@ impl<F: Drop> FileAnswer<F> {
 pub fn init_file<'a, H: Files + AllocGlobal>(
     rt: &H,
     words: &InitWords<'a>,
-) -> Result<FileAnswer<ReplicaFile<'a, ListSet>>, Fault>
+) -> Result<FileAnswer<ReplicaFile<'a, GapSet>>, Fault>
     ensures made { IfOk result (λ done. InitsFile words.now done.file done.answer) }
     ensures words { (fault : Fault) → roster_for words.now ≡ Err fault
         → (result ≡ Err Memory) ⊎ (result ≡ Err fault) }
@@ -62,7 +63,7 @@ pub fn edit_file<'a, H: Files + AllocGlobal>(
     rt: &H,
     path: &'a str,
     words: &EditWords<'_>,
-) -> Result<FileAnswer<ReplacedFile<'a, ListSet>>, Fault>
+) -> Result<FileAnswer<ReplacedFile<'a, GapSet>>, Fault>
     ensures edited { IfOk result (λ done. EditsFile path.now words.now done.file done.answer) }
     ensures words { (fault : Fault) → IsCommand words.now (Err fault)
         → (result ≡ Err Memory) ⊎ (result ≡ Err fault) }
@@ -78,9 +79,9 @@ pub fn edit_file<'a, H: Files + AllocGlobal>(
 /// edit does, and where that doesn't refuse, for want of memory or as keeping does.
 pub fn edit_in<'a, H: Files + AllocGlobal>(
     rt: &H,
-    file: ReplicaFile<'a, ListSet>,
+    file: ReplicaFile<'a, GapSet>,
     command: Command,
-) -> Result<FileAnswer<ReplacedFile<'a, ListSet>>, Fault>
+) -> Result<FileAnswer<ReplacedFile<'a, GapSet>>, Fault>
     ensures before { IfOk result (λ done. done.file.before ≡ file.entry) }
     ensures edited { IfOk result (λ done. IsEdited command file.entry.kept done.file.kept done.answer) }
     ensures due { IfOk result (λ _. edit_refusal file.entry.kept command ≡ None) }
@@ -97,7 +98,7 @@ pub fn edit_in<'a, H: Files + AllocGlobal>(
 
 // Why an edit is refused for which a replica couldn't be copied: want of memory comes only where the edit itself isn't
 // refused.
-fn uncopied(mut replica: Replica<ListSet>, command: Command, memory: Fault) -> Fault
+fn uncopied(mut replica: Replica<GapSet>, command: Command, memory: Fault) -> Fault
     requires { memory ≡ Memory }
     ensures { IsDue (edit_refusal replica command) result }
 {
@@ -113,7 +114,7 @@ pub fn show_file<'a, H: Files + AllocGlobal>(
     rt: &H,
     path: &'a str,
     text: &str,
-) -> Result<FileAnswer<ReplicaFile<'a, ListSet>>, Fault>
+) -> Result<FileAnswer<ReplicaFile<'a, GapSet>>, Fault>
     ensures shown { IfOk result (λ done. ShowsFile path.now text.now done.file done.answer) }
     ensures path { (fault : Fault) → path_of text.now ≡ Err fault → result ≡ Err fault }
     ensures fault { IfErr result (RefusesShow text.now) }

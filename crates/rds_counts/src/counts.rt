@@ -19,9 +19,14 @@ use std::alloc::Global;
 use std::marker::Model;
 
 /// The numbers of all keys and replicas. One that was never raised is 0.
-#[derive(Drop)]
 pub struct Counts {
     rows: Vec<CountRow>,
+}
+
+impl Drop for Counts {
+    fn drop(self) {
+        let Counts { rows: _rows } = self;
+    }
 }
 
 impl Model for Counts {

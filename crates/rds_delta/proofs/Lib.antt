@@ -3,13 +3,17 @@ pub mod Appends
 pub mod Bounds
 pub mod Counting
 pub mod ClaimedLemmas
+pub mod DeadLemmas
 pub mod DeltaLemmas
 pub mod Digests
 pub mod Exchanges
 pub mod Grouping
 pub mod InsideLemmas
+pub mod KilledLemmas
+pub mod LeapLemmas
 pub mod LeastLaws
 pub mod LifelessLemmas
+pub mod LineLemmas
 pub mod NextLemmas
 pub mod PartLemmas
 pub mod Sent

@@ -1,6 +1,7 @@
 pub mod Claimed
 pub mod Claims
 pub mod CounterRows
+pub mod DeadParts
 pub mod Digested
 pub mod Grouped
 pub mod Higher

@@ -1,10 +1,11 @@
 //! The least delta.
-ghost use Rattle.std.specs.Prelude.{◌≡◌, ◌&&◌, nat_lt, cond, None, IfOk, IfErr};
+ghost use Rattle.std.specs.Prelude.{◌≡◌, ◌≤◌, ◌∷◌, true, length, nat_lt, cond, None, IfOk, IfErr};
 ghost use Rattle.std.specs.FinMap as map;
 ghost use Rattle.std.specs.FinSet as set;
 ghost use Rattle.rds_names.specs.declared.fault.Fault.TheVariants.{Memory};
 ghost use Rattle.rds_dots.specs.declared.dot.Dot.{Dot};
-ghost use Rattle.rds_life.specs.Life.{is_dead};
+ghost use Rattle.rds_dots.specs.Ascending.{ascends};
+ghost use Rattle.rds_life.specs.Life.{keys, live_rows};
 ghost use Rattle.rds_counts.specs.Place.{Place};
 ghost use Rattle.rds_counts.specs.Counted.{number};
 ghost use Rattle.rds_state.specs.Value.{coordinates};
@@ -14,6 +15,8 @@ ghost use Rattle.rds_delta.specs.Least.{least};
 ghost use Rattle.rds_delta.specs.Ranks.{life_rank};
 
 use crate::digest::Digest;
+use crate::killed::dots_killed;
+use crate::stretches::stretch_from;
 use rds_counts::{CountRow, Counts};
 use rds_dots::{Dot, DotSet};
 use rds_life::Lives;
@@ -46,7 +49,7 @@ fn lives_above<S: DotSet>(
     ensures ok { IfOk result (λ above. (d : Dot) → map.get above d ≡ cond (nat_lt (rank_in digest.now d) (life_rank (map.get lives.now d))) (map.get lives.now d) None) }
     ensures memory { IfErr result (λ fault. fault ≡ Memory) }
 {
-    let rows = rows_unseen(alloc, digest.seen(), lives.live().as_slice())?;
+    let rows = rows_unseen(alloc, digest.seen(), lives)?;
     let seen = dots_above(alloc, lives, digest)?;
     let above = Lives::from_parts(seen, rows).unwrap();
     Ok(above)
@@ -64,39 +67,45 @@ fn dots_above<S: DotSet>(alloc: Global, lives: &Lives<S>, digest: &Digest<S>) ->
     Ok(sent)
 }
 
-/// The dots of a set that are dead here.
-#[tactic(auto, using(crate::proofs::Sent::sets))]
-fn dots_killed<S: DotSet>(alloc: Global, lives: &Lives<S>, live: &S) -> Result<S, Fault>
-    ensures ok { IfOk result (λ dots. (d : Dot) → set.contains (S.contents dots) d ≡ (is_dead (map.get lives.now d) && set.contains (S.contents live.now) d)) }
-    ensures memory { IfErr result (λ fault. fault ≡ Memory) }
-{
-    let dead = lives.dead(alloc)?;
-    let other = live.minus(alloc, &dead)?;
-    let killed = live.minus(alloc, &other)?;
-    Ok(killed)
-}
-
-/// Copies of the rows whose dots aren't in the set.
+/// Copies of the live rows whose dots aren't in the set.
 fn rows_unseen<S: DotSet>(
     alloc: Global,
     seen: &S,
-    rows: &[(Dot, Entry)],
+    lives: &Lives<S>,
 ) -> Result<Vec<(Dot, Entry)>, Fault>
-    ensures ok { IfOk result (λ unseen. unseen.items ≡ unseen_rows (set.contains (S.contents seen.now)) rows.now) }
+    ensures ok { IfOk result
+        (λ unseen. unseen.items ≡ unseen_rows (set.contains (S.contents seen.now)) (live_rows lives.now)) }
     ensures memory { IfErr result (λ fault. fault ≡ Memory) }
 {
     let mut unseen = Vec::new(alloc);
-    let mut rest = rows;
+    let mut rest = lives.live().as_slice();
     'copying: loop {
         let (row, later) = match rest.split_first() {
             Some(parts) => parts,
             None => return Ok(unseen),
         };
-        if !seen.contains(row.0) {
+        if seen.contains(row.0) {
+            rest = past_run(seen, row.0, later);
+        } else {
             unseen.push((row.0, row.1.copy(alloc)?))?;
+            rest = later;
         }
-        rest = later;
     }
+}
+
+/// Of the rows behind a dot of the set, those past the set's run of that dot.
+fn past_run<'a, S: DotSet>(seen: &S, dot: Dot, rows: &'a [(Dot, Entry)]) -> &'a [(Dot, Entry)]
+    requires seen { set.contains (S.contents seen.now) dot ≡ true }
+    requires rise { ascends (dot ∷ keys rows.now) ≡ true }
+    ensures unseen { let has = set.contains (S.contents seen.now) in unseen_rows has result.now ≡ unseen_rows has rows.now }
+    ensures rise { ascends (keys result.now) ≡ true }
+    ensures fewer { length result.now ≤ length rows.now }
+{
+    let last = Dot {
+        replica: dot.replica,
+        seq: stretch_from(seen, dot).until,
+    };
+    rows.split_at(rows.partition_point(|row| row.0 <= last)).1
 }
 
 /// The numbers that are above the peer's.

@@ -19,11 +19,20 @@ use std::marker::Model;
 
 /// What a replica tells of its state when it asks for what it lacks: the dots that it has seen, those of them that
 /// are live, and its counters. It has no entries. (Digest-driven synchronization: Enes, Almeida, Baquero, Leitão 2019.)
-#[derive(Drop)]
 pub struct Digest<S: DotSet> {
     seen: S,
     live: S,
     counts: Counts,
+}
+
+impl<S: DotSet> Drop for Digest<S> {
+    fn drop(self) {
+        let Digest {
+            seen: _seen,
+            live: _live,
+            counts: _counts,
+        } = self;
+    }
 }
 
 impl<S: DotSet> Model for Digest<S> {

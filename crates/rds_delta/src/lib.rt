@@ -7,6 +7,7 @@ mod checking;
 mod deltas;
 mod digest;
 mod inside;
+mod killed;
 mod laws;
 mod row;
 mod step;

@@ -32,9 +32,14 @@ pub enum Row {
 
 /// The rows that say for each component of a delta what the digested side has in its place, and so that each is
 /// needed: the dots in their order, then the numbers by key, replica, increments before decrements.
-#[derive(Drop)]
 pub struct Certificate {
     rows: Vec<Row>,
+}
+
+impl Drop for Certificate {
+    fn drop(self) {
+        let Certificate { rows: _rows } = self;
+    }
 }
 
 impl Model for Certificate {

@@ -15,7 +15,8 @@ use crate::reports::{give_up, tells_fault, write_report};
 use crate::settling::{Settled, settle};
 pub use meeting::Link;
 use meeting::{connect, meet};
-use rds_dots::{DotSet, ListSet};
+use rds_dots::DotSet;
+use rds_gaps::GapSet;
 use rds_keep::Counted;
 use rds_lines::status_of;
 use rds_names::Fault;
@@ -39,11 +40,11 @@ pub fn pair_files<H: Files + Net + AllocGlobal, W: Write>(
     ensures status { result ≤ 1 }
     ensures broken { (writer.new.failed ≡ writer.old.failed) ⊎ (result ≡ 1) }
 {
-    let mut client: ReplicaFile<'_, ListSet> = match ReplicaFile::open(rt, first) {
+    let mut client: ReplicaFile<'_, GapSet> = match ReplicaFile::open(rt, first) {
         Ok(file) => file,
         Err(fault) => return give_up(writer, fault),
     };
-    let mut server: ReplicaFile<'_, ListSet> = match ReplicaFile::open(rt, second) {
+    let mut server: ReplicaFile<'_, GapSet> = match ReplicaFile::open(rt, second) {
         Ok(file) => file,
         Err(fault) => return give_up(writer, fault),
     };

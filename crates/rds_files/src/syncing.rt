@@ -9,7 +9,8 @@ ghost use Rattle.rds_files.specs.Syncing.{IsSession, Meets, MeetsPeer, WritesSes
 use crate::files::ReplicaFile;
 use crate::reports::{give_up, report, tells_fault, write_report};
 use crate::settling::{Settled, settle};
-use rds_dots::{DotSet, ListSet};
+use rds_dots::DotSet;
+use rds_gaps::GapSet;
 use rds_keep::Counted;
 use rds_names::Fault;
 use rds_session::{Ended, Side, exchange};
@@ -35,7 +36,7 @@ pub fn sync_file<H: Files + Net + AllocGlobal, W: Write>(
     ensures status { result ≤ 1 }
     ensures broken { (writer.new.failed ≡ writer.old.failed) ⊎ (result ≡ 1) }
 {
-    let mut file: ReplicaFile<'_, ListSet> = match ReplicaFile::open(rt, path) {
+    let mut file: ReplicaFile<'_, GapSet> = match ReplicaFile::open(rt, path) {
         Ok(file) => file,
         Err(fault) => return give_up(writer, fault),
     };
@@ -61,7 +62,7 @@ pub fn serve_file<H: Files + Net + AllocGlobal, W: Write>(
     ensures status { result ≤ 1 }
     ensures broken { (writer.new.failed ≡ writer.old.failed) ⊎ (result ≡ 1) }
 {
-    let mut file: ReplicaFile<'_, ListSet> = match ReplicaFile::open(rt, path) {
+    let mut file: ReplicaFile<'_, GapSet> = match ReplicaFile::open(rt, path) {
         Ok(file) => file,
         Err(fault) => return give_up(writer, fault),
     };

@@ -3,6 +3,7 @@ mod Changes
 mod Clashes
 mod Deaths
 pub mod Finds
+mod Gathers
 mod Joins
 pub mod Kills
 pub mod LivedLemmas

@@ -1,10 +1,10 @@
--- A set with one more dot, and the set of the dots of rows.
-use Rattle.std.proofs.Common.{◌≡◌, ℕ, zero, suc, ◌+◌, ◌<◌, Bool, true, ◌&&◌, ◌||◌, List, [], ◌∷◌, ◌++◌, length, get_or, take, sym, ◌∙◌, ap, arith, eqb, leb}
+-- A set with one more dot, and the dots of rows.
+use Rattle.std.proofs.Common.{◌≡◌, ℕ, zero, suc, ◌<◌, Bool, true, ◌&&◌, ◌||◌, List, [], ◌∷◌, ◌++◌, length, get_or, take, sym, ◌∙◌, ap, arith, eqb, leb}
 use Rattle.std.specs.List.{list_all}
 use Rattle.std.specs.FinSet as set
 use Rattle.std.proofs.lemmas.Bool.Decides.{nat_tests}
 use Rattle.rds_dots.specs.declared.dot.Dot.{Dot}
-use Rattle.rds_dots.specs.Dots.{dot_cmp, Dots, in_run}
+use Rattle.rds_dots.specs.Dots.{Dots, in_run}
 use Rattle.rds_dots.specs.Order.{dots_total, dots_exact}
 use Rattle.rds_names.specs.Conditions.{and_left, and_right}
 use Rattle.rds_dots.specs.Sets.{tied_is}
@@ -27,14 +27,7 @@ module _ {X : Type 0} where
   all_dots-at p (x ∷ rows) all zero r lt is = ap (λ y. p y.0) is ∙ and_left (p x.0) _ all
   all_dots-at p (x ∷ rows) all (suc i) r lt is = all_dots-at p rows (and_right (p x.0) _ all) i r (omega arith) is
 
-  keys-more : (rows : List (Dot × X)) (i : ℕ) (r : Dot × X) → i < length rows → r ≡ get_or rows i r → keys (take (suc i) rows) ≡ keys (take i rows) ++ r.0 ∷ []
+  pub keys-more : (rows : List (Dot × X)) (i : ℕ) (r : Dot × X) → i < length rows → r ≡ get_or rows i r → keys (take (suc i) rows) ≡ keys (take i rows) ++ r.0 ∷ []
   keys-more [] i r lt is = absurd (omega arith)
   keys-more (x ∷ rows) zero r lt is = ap (λ y. y.0 ∷ []) (sym is)
   keys-more (x ∷ rows) (suc i) r lt is = ap (λ ds. x.0 ∷ ds) (keys-more rows i r (omega arith) is)
-
-  -- one more row, one more dot
-  pub dots-more : (rows : List (Dot × X)) (i : ℕ) (r : Dot × X) → i < length rows → r ≡ get_or rows i r → (s t : Dots) → s ≡ set.from_list (keys (take i rows)) → t ≡ set.insert s r.0 → t ≡ set.from_list (keys (take (i + 1) rows))
-  dots-more rows i r lt is s t so_far more =
-      let next : i + 1 ≡ suc i = omega arith in
-      more ∙ ap (λ u. set.insert u r.0) so_far
-      ∙ sym (ap (λ n. set.from_list {R = dot_cmp} (keys (take n rows))) next ∙ ap set.from_list (keys-more rows i r lt is) ∙ set.from_list_push dots_total dots_exact (keys (take i rows)) r.0)

@@ -1,6 +1,7 @@
 pub mod Clash
 pub mod Code
 pub mod Fits
+pub mod Gathered
 pub mod Joined
 pub mod Killed
 pub mod Life

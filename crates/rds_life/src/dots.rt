@@ -1,12 +1,13 @@
-//! Sets of dots, one dot at a time.
-ghost use Rattle.std.specs.Prelude.{◌≡◌, true, IfOk, IfErr, OnOk, OnErr};
+//! Sets of dots, from one dot or from those of rows.
+ghost use Rattle.std.specs.Prelude.{◌≡◌, ◌≤◌, true, IfOk, IfErr, OnOk, OnErr};
 ghost use Rattle.std.specs.FinSet as set;
 ghost use Rattle.std.specs.List.{list_all};
 ghost use Rattle.rds_names.specs.declared.fault.Fault.TheVariants.{Memory};
-ghost use Rattle.rds_dots.specs.Dots.{is_dot};
+ghost use Rattle.rds_dots.specs.Dots.{is_dot, last_of, leads_to};
+ghost use Rattle.rds_life.specs.Gathered.{single};
 ghost use Rattle.rds_life.specs.Life.{keys};
 
-use rds_dots::{Dot, DotSet, Run};
+use rds_dots::{Dot, DotSet, MAX_SEQ, Run};
 use rds_names::{Entry, Fault};
 use std::alloc::Global;
 
@@ -17,23 +18,50 @@ pub fn insert_dot<S: DotSet>(dots: &mut S, dot: Dot) -> Result<(), Fault>
     ensures err { OnErr result (S.contents dots.new ≡ S.contents dots.old) }
     ensures memory { IfErr result (λ fault. fault ≡ Memory) }
 {
-    dots.insert_run(Run {
-        replica: dot.replica,
-        lo: dot.seq,
-        hi: dot.seq,
-    })?;
+    dots.insert_run(run_of(dot))?;
     Ok(())
 }
 
-/// The dots of rows, as a set. Rows that ascend only ever insert at its end.
+/// The dots of rows, as a set, into which dots that follow each other go as one run. Rows that ascend only ever insert
+/// at its end.
 pub fn dots_of<S: DotSet>(alloc: Global, rows: &[(Dot, Entry)]) -> Result<S, Fault>
     requires { list_all is_dot (keys rows.now) ≡ true }
     ensures ok { IfOk result (λ dots. S.contents dots ≡ set.from_list (keys rows.now)) }
     ensures memory { IfErr result (λ fault. fault ≡ Memory) }
 {
     let mut dots = S::empty(alloc);
-    for row in rows {
-        insert_dot(&mut dots, row.0)?;
+    let (first, later) = match rows.split_first() {
+        Some(parts) => parts,
+        None => return Ok(dots),
+    };
+    let mut run = run_of(first.0);
+    for row in later {
+        if goes_on(run, row.0) {
+            run.hi = row.0.seq;
+        } else {
+            dots.insert_run(run)?;
+            run = run_of(row.0);
+        }
     }
+    dots.insert_run(run)?;
     Ok(dots)
+}
+
+/// The run of one dot.
+fn run_of(dot: Dot) -> Run
+    ensures { result ≡ single dot }
+{
+    Run {
+        replica: dot.replica,
+        lo: dot.seq,
+        hi: dot.seq,
+    }
+}
+
+/// Whether the dot is the next after a run.
+fn goes_on(run: Run, dot: Dot) -> bool
+    requires { run.hi ≤ MAX_SEQ }
+    ensures { result ≡ leads_to (last_of run) dot }
+{
+    run.replica == dot.replica && run.hi + 1 == dot.seq
 }

@@ -27,10 +27,18 @@ use std::slice::Iter;
 ///
 /// It keeps the set of seen dots and, in the order of the dots, the entries of those that are live:
 /// the dot store and causal context of Almeida, Shoker, Baquero 2018.
-#[derive(Drop)]
 pub struct Lives<S: DotSet> {
     seen: S,
     rows: Vec<(Dot, Entry)>,
+}
+
+impl<S: DotSet> Drop for Lives<S> {
+    fn drop(self) {
+        let Lives {
+            seen: _seen,
+            rows: _rows,
+        } = self;
+    }
 }
 
 impl<S: DotSet> Model for Lives<S> {

@@ -8,7 +8,8 @@ ghost use Rattle.rds_lines.specs.Refusal.{fault_of};
 use crate::lines::split_line;
 use crate::refusal::Refusal;
 use rds_codec::{decode_snapshot, encode_snapshot};
-use rds_dots::{DotSet, ListSet};
+use rds_dots::DotSet;
+use rds_gaps::GapSet;
 use rds_names::Fault;
 use rds_state::Replica;
 use std::alloc::Global;
@@ -29,7 +30,7 @@ pub fn join(alloc: Global, input: &[u8]) -> Result<Vec<u8>, Refusal>
         (λ e. MayJoinTo input.now (Err (fault_of e))) }
 {
     let (line, rest) = split_line(input);
-    let first: Replica<ListSet> = read_line(alloc, line)?;
+    let first: Replica<GapSet> = read_line(alloc, line)?;
     let (line, rest) = split_line(rest);
     let second = read_line(alloc, line)?;
     Ok(join_read(alloc, rest, first, &second)?)

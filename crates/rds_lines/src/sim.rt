@@ -10,7 +10,8 @@ ghost use Rattle.rds_state.specs.Fits.{ReplicaValue};
 use crate::answer::Answer;
 use crate::answering::Answers;
 use crate::views::shown;
-use rds_dots::{DotSet, ListSet};
+use rds_dots::DotSet;
+use rds_gaps::GapSet;
 use rds_json::{Line, command};
 use rds_names::{Fault, Name, Path, Roster};
 use rds_world::{Done, Event, World};
@@ -19,7 +20,7 @@ use std::alloc::Global;
 /// All replicas of a group, once a line has named them.
 #[derive(Drop)]
 pub struct Simulation {
-    world: Option<World<ListSet>>,
+    world: Option<World<GapSet>>,
 }
 
 // What a line asks of replicas that are there.

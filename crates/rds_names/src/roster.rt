@@ -17,10 +17,18 @@ const MOST_NAMES: usize = 256;
 
 /// The name of a group and those of its replicas: 1 to 256, all different. A replica's number is
 /// the place of its name, from 0.
-#[derive(Drop)]
 pub struct Roster {
     group: Key,
     names: IndexSet<Name>,
+}
+
+impl Drop for Roster {
+    fn drop(self) {
+        let Roster {
+            group: _group,
+            names: _names,
+        } = self;
+    }
 }
 
 impl Model for Roster {

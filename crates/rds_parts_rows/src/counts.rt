@@ -3,7 +3,7 @@ use crate::words::push;
 use rds_counts::{CountRow, Counts, Which};
 use rds_names::{Fault, Key};
 use rds_rows::told::{said, said_if};
-use rds_rows::words::{number, parted, small};
+use rds_rows::words::{cut, number, parted, small};
 use std::alloc::Global;
 use std::mem;
 
@@ -63,9 +63,9 @@ impl Counters {
 
     /// Raises a number by an amount, as `a:0 up 5`.
     fn raise(&mut self, alloc: Global, rest: &str) -> Result<String, Fault> {
-        let (place, amount) = parted(rest, " ")?;
-        let (which_word, by) = parted(amount, " ")?;
-        let which = which(which_word)?;
+        let (place, amount) = cut(rest)?;
+        let (up_or_down, by) = cut(amount)?;
+        let which = which(up_or_down)?;
         let by = number(by)?;
         self.raise_at(alloc, place, which, by)
     }

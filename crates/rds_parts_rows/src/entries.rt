@@ -3,7 +3,7 @@ use crate::paths::{self, path};
 use crate::scalars::{self, scalar};
 use rds_names::{Entry, Fault, Kind};
 use rds_rows::told::said_if;
-use rds_rows::words::parted;
+use rds_rows::words::{cut, parted};
 use std::alloc::Global;
 
 /// Answers a row on entries.
@@ -18,8 +18,8 @@ pub fn answer(alloc: Global, asked: &str, rest: &str) -> Result<String, Fault> {
 
 /// The entry that is written, as `"a/b" elem 7`.
 fn entry(alloc: Global, written: &str) -> Result<Entry, Fault> {
-    let (at, rest) = parted(written, " ")?;
-    let (kind_word, value) = parted(rest, " ")?;
+    let (at, rest) = cut(written)?;
+    let (kind_word, value) = cut(rest)?;
     let kind = kind(kind_word)?;
     let value = scalar(alloc, value)?;
     Entry::new(path(alloc, at)?, kind, value)

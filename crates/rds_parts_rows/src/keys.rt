@@ -2,7 +2,7 @@
 use crate::words::text;
 use rds_names::{Fault, Key, Name};
 use rds_rows::told::{said, said_if};
-use rds_rows::words::parted;
+use rds_rows::words::cut;
 use std::alloc::Global;
 
 /// Answers a row on a name.
@@ -44,7 +44,7 @@ fn is_key(alloc: Global, rest: &str) -> Result<String, Fault> {
 }
 
 fn least(alloc: Global, rest: &str) -> Result<String, Fault> {
-    let (left, right) = parted(rest, " ")?;
+    let (left, right) = cut(rest)?;
     let least = lesser(key(alloc, left)?, key(alloc, right)?);
     said(alloc, least.as_str())
 }

@@ -5,7 +5,7 @@ ghost use Rattle.rds_dots.specs.Dots.{is_dot as dot_test};
 use crate::dots::{self, insert};
 use crate::scalars::integer;
 use crate::words::{self, push, run};
-use rds_dots::{Dot, DotSet, ListSet, MAX_SEQ};
+use rds_dots::{Dot, DotSet, MAX_SEQ};
 use rds_life::{Choice, Lives, Rank};
 use rds_names::{Entry, Fault, Kind, Path, Scalar};
 use rds_rows::told::said;
@@ -15,14 +15,14 @@ use std::mem;
 
 /// The lives that rows are on, and others.
 #[derive(Drop)]
-pub struct Histories {
-    lives: Lives<ListSet>,
-    other: Lives<ListSet>,
+pub struct Histories<S: DotSet> {
+    lives: Lives<S>,
+    other: Lives<S>,
 }
 
-impl Histories {
+impl<S: DotSet> Histories<S> {
     /// Every dot is unseen in both.
-    pub fn empty(alloc: Global) -> Histories {
+    pub fn empty(alloc: Global) -> Histories<S> {
         Histories {
             lives: Lives::empty(alloc),
             other: Lives::empty(alloc),
@@ -153,8 +153,8 @@ fn is_dot(dot: Dot) -> bool
     1 <= dot.seq && dot.seq <= MAX_SEQ
 }
 
-fn set_of(alloc: Global, written: &str) -> Result<ListSet, Fault> {
-    let mut set = ListSet::empty(alloc);
+fn set_of<S: DotSet>(alloc: Global, written: &str) -> Result<S, Fault> {
+    let mut set = S::empty(alloc);
     for word in written.split_whitespace() {
         insert(&mut set, run(word)?)?;
     }
@@ -185,7 +185,7 @@ fn element(alloc: Global, value: &str) -> Result<Entry, Fault> {
 }
 
 /// What is live, as `0:2=20`.
-fn live(alloc: Global, lives: &Lives<ListSet>) -> Result<String, Fault> {
+fn live<S: DotSet>(alloc: Global, lives: &Lives<S>) -> Result<String, Fault> {
     let mut line = String::new(alloc);
     for (dot, entry) in lives.live() {
         push(&mut line, row(alloc, *dot, entry)?.as_str())?;
@@ -205,7 +205,7 @@ fn row(alloc: Global, dot: Dot, entry: &Entry) -> Result<String, Fault> {
 }
 
 /// How far each dot of a run has come.
-fn ranks(alloc: Global, lives: &Lives<ListSet>, rest: &str) -> Result<String, Fault> {
+fn ranks<S: DotSet>(alloc: Global, lives: &Lives<S>, rest: &str) -> Result<String, Fault> {
     let run = run(rest)?;
     let mut line = String::new(alloc);
     for seq in run.lo..run.hi.saturating_add(1) {
@@ -223,7 +223,7 @@ fn rank(rank: Rank) -> &'static str {
     }
 }
 
-fn entry(alloc: Global, lives: &Lives<ListSet>, rest: &str) -> Result<String, Fault> {
+fn entry<S: DotSet>(alloc: Global, lives: &Lives<S>, rest: &str) -> Result<String, Fault> {
     let dot = words::dot(rest)?;
     match lives.entry(dot) {
         Some(entry) => row(alloc, dot, entry),

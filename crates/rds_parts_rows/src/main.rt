@@ -1,5 +1,7 @@
 //! Rows on the parts of a document: names, keys, paths, values, entries, rosters, faults, sets of dots, lives and
 //! counters. Each row's first word says which part it is on; the sets, the lives and the counters stay from row to row.
+//!
+//! Each row is answered twice: where sets are kept as runs, and where they are kept as lists.
 #![tactic(auto)]
 
 mod counts;
@@ -16,22 +18,23 @@ mod words;
 use counts::Counters;
 use dots::Sets;
 use life::Histories;
-use rds_dots::ListSet;
+use rds_dots::{DotSet, ListSet};
+use rds_gaps::GapSet;
 use rds_names::Fault;
 use rds_rows::words::first;
-use rds_rows::{Table, write_answers};
+use rds_rows::{Both, Table, write_answers};
 use std::alloc::Global;
 use std::io;
 
 /// What stays from row to row.
 #[derive(Drop)]
-struct Parts {
-    sets: Sets<ListSet>,
-    histories: Histories,
+struct Parts<S: DotSet> {
+    sets: Sets<S>,
+    histories: Histories<S>,
     counters: Counters,
 }
 
-impl Table for Parts {
+impl<S: DotSet> Table for Parts<S> {
     fn answer(&mut self, alloc: Global, name: &str, rest: &str) -> Result<String, Fault> {
         let (asked, words) = first(rest);
         match name {
@@ -50,11 +53,22 @@ impl Table for Parts {
     }
 }
 
+impl<S: DotSet> Parts<S> {
+    fn empty(alloc: Global) -> Parts<S> {
+        Parts {
+            sets: Sets::empty(alloc),
+            histories: Histories::empty(alloc),
+            counters: Counters::empty(alloc),
+        }
+    }
+}
+
 fn main(rt: HostRuntime) -> io::Result<()> {
-    let mut parts = Parts {
-        sets: Sets::empty(rt.alloc()),
-        histories: Histories::empty(rt.alloc()),
-        counters: Counters::empty(rt.alloc()),
+    let gaps: Parts<GapSet> = Parts::empty(rt.alloc());
+    let lists: Parts<ListSet> = Parts::empty(rt.alloc());
+    let mut both = Both {
+        first: gaps,
+        second: lists,
     };
-    write_answers(&rt, &mut parts)
+    write_answers(&rt, &mut both)
 }

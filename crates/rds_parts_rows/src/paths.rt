@@ -3,7 +3,7 @@ use crate::keys::key;
 use crate::words::{push, text};
 use rds_names::{Fault, Key, Path};
 use rds_rows::told::{said, said_if};
-use rds_rows::words::{number, parted};
+use rds_rows::words::{cut, number};
 use std::alloc::Global;
 
 /// Answers a row on paths.
@@ -38,7 +38,7 @@ pub fn shown(alloc: Global, path: &Path) -> Result<String, Fault> {
 
 /// The key at a place of a path, as `1 "m/k/r"`.
 fn key_at(alloc: Global, rest: &str) -> Result<String, Fault> {
-    let (place, written) = parted(rest, " ")?;
+    let (place, written) = cut(rest)?;
     let place = number(place)? as usize;
     match path(alloc, written)?.key(place) {
         Some(key) => said(alloc, key.as_str()),
@@ -47,14 +47,14 @@ fn key_at(alloc: Global, rest: &str) -> Result<String, Fault> {
 }
 
 fn same(alloc: Global, rest: &str) -> Result<String, Fault> {
-    let (left, right) = parted(rest, " ")?;
+    let (left, right) = cut(rest)?;
     let left = path(alloc, left)?;
     let right = path(alloc, right)?;
     said_if(alloc, left == right)
 }
 
 fn begins(alloc: Global, rest: &str) -> Result<String, Fault> {
-    let (whole, first) = parted(rest, " ")?;
+    let (whole, first) = cut(rest)?;
     let whole = path(alloc, whole)?;
     let first = path(alloc, first)?;
     said_if(alloc, whole.begins_with(&first))
@@ -62,7 +62,7 @@ fn begins(alloc: Global, rest: &str) -> Result<String, Fault> {
 
 /// The path that has a key a number of times, as `8 "k"`.
 fn of_keys(alloc: Global, rest: &str) -> Result<String, Fault> {
-    let (count, written) = parted(rest, " ")?;
+    let (count, written) = cut(rest)?;
     let keys = keys(alloc, number(count)?, written)?;
     shown(alloc, &Path::from_keys(keys)?)
 }

@@ -1,14 +1,26 @@
 //! Calls on devices in memory: which were made, and which one fails.
-use std::alloc::{AllocError, Global};
+use crate::told::{joined, lines_told};
+use rds_names::Fault;
+use std::alloc::Global;
 use std::cell::Cell;
 use std::io::{self, ErrorKind};
 
 /// The calls so far, a line each, with those that are made again and again told once; and the call that fails.
-#[derive(Drop)]
 pub struct Calls<'a> {
     pub alloc: Global,
     told: Cell<String>,
     fails: &'a str,
+}
+
+// Written out, so that where calls are let go a caller's proof has one call.
+impl<'a> Drop for Calls<'a> {
+    fn drop(self) {
+        let Calls {
+            alloc: _,
+            told: _told,
+            fails: _,
+        } = self;
+    }
 }
 
 impl<'a> Calls<'a> {
@@ -23,7 +35,7 @@ impl<'a> Calls<'a> {
 
     /// A call of this name on this thing. It fails where it is the one that does.
     pub fn call(&self, name: &str, on: &str) -> io::Result<()> {
-        let line = format!(in self.alloc; "{name} {on}\n")?;
+        let line = joined(self.alloc, &[name, " ", on, "\n"])?;
         let mut told = self.told.replace(String::new(self.alloc));
         if !told.ends_with(line.as_str()) {
             told.push_str(line.as_str())?;
@@ -36,10 +48,9 @@ impl<'a> Calls<'a> {
     }
 
     /// The calls, and behind them what came of them. Each line but the first stands behind two spaces.
-    pub fn told_with(&self, end: &str) -> Result<String, AllocError> {
+    pub fn told_with(&self, end: &str) -> Result<String, Fault> {
         let told = self.told.replace(String::new(self.alloc));
-        let all = format!(in self.alloc; "{told}{end}")?;
-        all.as_str().replace(self.alloc, "\n", "\n  ")
+        lines_told(self.alloc, &[told.as_str(), end])
     }
 }
 

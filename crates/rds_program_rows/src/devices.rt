@@ -1,54 +1,33 @@
 //! Readers and writers that give and take little, and fail.
 use rds_keep::Counted;
 use rds_names::Fault;
+use rds_rows::devices::{Drip, Manner};
 use rds_rows::words::{cut, first, number};
 use std::alloc::Global;
-use std::io::{self, ErrorKind, Read, Write};
-
-/// Gives at most so many bytes a call, and fails or ends behind them.
-#[derive(Drop)]
-pub struct Pieces<'a> {
-    bytes: &'a [u8],
-    step: usize,
-    fails: bool,
-}
-
-impl Read for Pieces<'_> {
-    fn read(&mut self, buf: &mut [u8]) -> io::Result<usize> {
-        if self.fails && self.bytes.is_empty() {
-            return Err(io::Error::from(ErrorKind::Other));
-        }
-        let count = self.step.min(self.bytes.len()).min(buf.len());
-        let (piece, rest) = self.bytes.split_at(count);
-        buf[..count].copy_from_slice(piece);
-        self.bytes = rest;
-        Ok(count)
-    }
-}
+use std::io::{self, Write};
 
 /// `STEP TURNS END ..`: a reader of the bytes that gives at most so many a call, has such a bound of turns, and `fails`
 /// or `ends` behind them; and what else the row says.
-pub fn reader_of<'a>(
-    row: &'a str,
-    bytes: &'a [u8],
-) -> Result<(Counted<Pieces<'a>>, &'a str), Fault> {
+pub fn reader_of<'a>(row: &'a str, bytes: &'a [u8]) -> Result<(Counted<Drip<'a>>, &'a str), Fault> {
     let (step, row) = cut(row)?;
     let (turns, row) = cut(row)?;
     let (end, row) = first(row);
-    let step = number(step)? as usize;
-    let turns = number(turns)?;
-    let fails = fails(end)?;
-    let pieces = Pieces { bytes, step, fails };
-    Ok((Counted::with_turns(pieces, turns), row))
+    let manner = manner_of(number(step)?, end, bytes.len() as u64)?;
+    let drip = Drip::new(bytes, manner);
+    Ok((Counted::with_turns(drip, number(turns)?), row))
 }
 
-// Whether a reader fails behind its bytes.
-fn fails(end: &str) -> Result<bool, Fault> {
-    match end {
-        "fails" => Ok(true),
-        "ends" => Ok(false),
-        _ => Err(Fault::Usage),
-    }
+// Of the calls that give so many bytes each, the one behind a number of bytes fails, or none does.
+fn manner_of(step: u64, end: &str, count: u64) -> Result<Manner, Fault> {
+    let fails_at = match end {
+        "fails" => count.div_ceil(step.max(1)).saturating_add(1),
+        "ends" => 0,
+        _ => return Err(Fault::Usage),
+    };
+    Ok(Manner {
+        most: step as usize,
+        fails_at,
+    })
 }
 
 /// Takes so many bytes in all, and no more.
@@ -68,8 +47,8 @@ impl Narrow {
     }
 
     /// What it took.
-    pub fn into_taken(self) -> Vec<u8> {
-        self.taken
+    pub fn taken(&self) -> &[u8] {
+        &self.taken
     }
 }
 

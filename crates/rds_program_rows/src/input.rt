@@ -1,4 +1,5 @@
 //! The input that rows make for the program.
+use crate::told::count_told;
 use rds_names::Fault;
 use rds_rows::words::{bytes_of, cut, number};
 use std::alloc::{AllocError, Global};
@@ -55,7 +56,6 @@ impl Input {
 
     /// How many bytes they are.
     pub fn told(&self, alloc: Global) -> Result<String, Fault> {
-        let count = self.bytes.len();
-        Ok(format!(in alloc; "{count} bytes")?)
+        count_told(alloc, self.bytes.len(), "bytes")
     }
 }

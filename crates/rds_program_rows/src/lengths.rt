@@ -1,6 +1,6 @@
 //! Lines that are answered by how long they are.
 use crate::devices::reader_of;
-use crate::told::told_output;
+use crate::runs::status_told;
 use rds_keep::Counted;
 use rds_lines::{Answer, Answers, answer_lines};
 use rds_names::Fault;
@@ -30,6 +30,5 @@ pub fn answer_lengths(alloc: Global, rest: &str, input: &[u8]) -> Result<String,
     let mut written = Vec::new(alloc);
     let mut writer = Counted::new(&mut written);
     let status = answer_lines(alloc, &mut Lengths, &mut reader, &mut writer);
-    let end = format!(in alloc; "status {status}")?;
-    told_output(alloc, written, end.as_str())
+    status_told(alloc, &written, status)
 }

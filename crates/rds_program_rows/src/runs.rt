@@ -1,6 +1,6 @@
 //! Runs of the program.
 use crate::devices::{Narrow, reader_of, room_of};
-use crate::told::told_output;
+use crate::told::output_told;
 use rds_commands::run;
 use rds_keep::Counted;
 use rds_names::Fault;
@@ -39,8 +39,13 @@ fn run_words(rt: &HostRuntime, words: &[&str], input: &[u8]) -> Result<String, F
     let mut written = Vec::new(rt.alloc());
     let mut reader = Counted::new(input);
     let status = run(rt, words, &mut reader, &mut Counted::new(&mut written));
-    let end = format!(in rt.alloc(); "status {status}")?;
-    told_output(rt.alloc(), written, end.as_str())
+    status_told(rt.alloc(), &written, status)
+}
+
+/// All that was written, and the status.
+pub fn status_told(alloc: Global, written: &[u8], status: u8) -> Result<String, Fault> {
+    let end = format!(in alloc; "status {status}")?;
+    output_told(alloc, written, end.as_str())
 }
 
 /// `reads STEP TURNS END WORDS`: the same with a reader that gives at most so many bytes a call, has such a bound of
@@ -50,8 +55,8 @@ pub fn run_reading(rt: &HostRuntime, rest: &str, input: &[u8]) -> Result<String,
     let words = named(rt.alloc(), words)?;
     let mut written = Vec::new(rt.alloc());
     let status = run(rt, &words, &mut reader, &mut Counted::new(&mut written));
-    let end = counted_end(rt.alloc(), status, reader.failed(), reader.turns())?;
-    told_output(rt.alloc(), written, end.as_str())
+    let (failed, turns) = (reader.failed(), reader.turns());
+    counted_told(rt.alloc(), &written, status, failed, turns)
 }
 
 /// `writes ROOM TURNS WORDS`: the same with a writer that takes so many bytes in all, and has such a bound of turns.
@@ -62,13 +67,20 @@ pub fn run_writing(rt: &HostRuntime, rest: &str, input: &[u8]) -> Result<String,
     let mut narrow = Narrow::new(rt.alloc(), room);
     let mut writer = Counted::with_turns(&mut narrow, turns);
     let status = run(rt, &words, &mut Counted::new(input), &mut writer);
-    let end = counted_end(rt.alloc(), status, writer.failed(), writer.turns())?;
-    told_output(rt.alloc(), narrow.into_taken(), end.as_str())
+    let (failed, turns) = (writer.failed(), writer.turns());
+    counted_told(rt.alloc(), narrow.taken(), status, failed, turns)
 }
 
-// How a run ended, and what was counted of its reader or its writer.
-fn counted_end(alloc: Global, status: u8, failed: u64, turns: u64) -> Result<String, AllocError> {
-    format!(in alloc; "status {status}, failed {failed}, turns {turns}")
+// All that was written, the status, and what was counted of the reader or the writer.
+fn counted_told(
+    alloc: Global,
+    written: &[u8],
+    status: u8,
+    failed: u64,
+    turns: u64,
+) -> Result<String, Fault> {
+    let end = format!(in alloc; "status {status}, failed {failed}, turns {turns}")?;
+    output_told(alloc, written, end.as_str())
 }
 
 /// `turns`: the usual bound of turns.

@@ -1,36 +1,125 @@
-//! What sessions leave of the replica in a file.
-ghost use Rattle.rds_session.specs.Received.{HasChecked};
+//! Rows of sessions. Each is of one end: which side it is, what it has kept, and what it hears of its peer.
+mod exchanges;
+mod named;
+mod outcomes;
+mod showing;
+mod steps;
+mod ways;
 
-use rds_dots::ListSet;
-use rds_files::{ReplicaFile, Settled, settle};
-use rds_keep::{Counted, Kept};
+use exchanges::exchange_once;
+use named::{Named, repeated};
+use outcomes::Outcomes;
+use rds_gaps::GapSet;
+use rds_keep::{Counted, Kept, read_snapshot};
 use rds_names::Fault;
-use rds_rows::words::{bytes_of, cut};
-use rds_session::{Side, exchange};
-use rds_state::State;
+use rds_rows::told::said;
+use rds_rows::words::first;
+use rds_session::{
+    Input, Side, a_course_is_by_messages, streams_are_split_once, two_sessions, values_are_least,
+};
+use showing::chunks_told;
 use std::alloc::Global;
+use steps::{Course, hear_in_pieces};
+use ways::{each_outcome, way_of};
 
-/// The file whose replica has the sessions.
-pub const FILE: &str = "f";
-
-/// A session in a row, `SIDE HEX`: with a peer that tells these bytes.
+/// One end of a session.
 #[derive(Drop)]
-pub struct Meeting {
-    /// Which end of the stream the replica is.
+pub struct End {
     pub side: Side,
-    /// What the peer tells.
-    pub heard: Vec<u8>,
+    pub kept: Kept<GapSet>,
 }
 
-/// The session that a row says.
-pub fn meeting_of(alloc: Global, row: &str) -> Result<Meeting, Fault> {
-    let (side, digits) = cut(row)?;
-    let side = side_of(side)?;
-    let heard = bytes_of(alloc, digits)?;
-    Ok(Meeting { side, heard })
+/// What rows of sessions have named.
+#[derive(Drop)]
+pub struct Sessions {
+    named: Named,
 }
 
-fn side_of(word: &str) -> Result<Side, Fault> {
+impl Sessions {
+    /// Nothing is named.
+    pub fn new(alloc: Global) -> Sessions {
+        Sessions {
+            named: Named::new(alloc),
+        }
+    }
+
+    /// What a row is answered.
+    pub fn answer(&mut self, alloc: Global, row: &str) -> Result<String, Fault> {
+        let (word, rest) = first(row);
+        match word {
+            "bytes" => {
+                let (name, words) = first(rest);
+                self.named.name(alloc, name, words)
+            }
+            "laws" => laws(alloc),
+            _ => self.meet(alloc, word, rest),
+        }
+    }
+
+    // A row whose words are the side, what it has kept, and what it hears.
+    fn meet(&self, alloc: Global, word: &str, rest: &str) -> Result<String, Fault> {
+        let (side, rest) = first(rest);
+        let (kept, words) = first(rest);
+        let end = self.end(alloc, side, kept)?;
+        match word {
+            "steps" => self.step_by_step(alloc, &end, words),
+            "exchange" => exchange_once(alloc, &end, &self.named, words),
+            _ => self.listen(alloc, &end, word, words),
+        }
+    }
+
+    fn end(&self, alloc: Global, side: &str, kept: &str) -> Result<End, Fault> {
+        let side = side_of(side)?;
+        let snapshot = self.named.bytes_of(alloc, kept)?;
+        let kept = read_snapshot(alloc, &mut Counted::new(snapshot.as_slice()))?;
+        Ok(End { side, kept })
+    }
+
+    // A row behind whose kept replica stands all that is heard.
+    fn listen(&self, alloc: Global, end: &End, word: &str, words: &str) -> Result<String, Fault> {
+        let heard = self.named.bytes_of(alloc, words)?;
+        match word {
+            "chunks" => chunks_sent(alloc, end, &heard),
+            _ => each_outcome(alloc, end, &heard, way_of(word)?),
+        }
+    }
+
+    // A step for each word, and what has come of the session after it.
+    fn step_by_step(&self, alloc: Global, end: &End, words: &str) -> Result<String, Fault> {
+        let mut course = Course::new(alloc, end);
+        let mut outcomes = Outcomes::new(alloc);
+        let mut steps = 0u64;
+        for word in words.split_whitespace() {
+            steps = steps.saturating_add(1);
+            let outcome = self.outcome_of(alloc, &mut course, word)?;
+            outcomes.note(steps, outcome)?;
+        }
+        Ok(outcomes.into_lines())
+    }
+
+    // What has come of the session after the steps of a word.
+    fn outcome_of(
+        &self,
+        alloc: Global,
+        course: &mut Course<'_>,
+        word: &str,
+    ) -> Result<String, Fault> {
+        self.take_steps(alloc, course, word)?;
+        course.told(alloc)
+    }
+
+    fn take_steps(&self, alloc: Global, course: &mut Course<'_>, word: &str) -> Result<(), Fault> {
+        if word == "end" {
+            return course.step(alloc, Input::End);
+        }
+        let (word, count) = repeated(word)?;
+        let piece = self.named.part(alloc, word)?;
+        course.hear_often(alloc, &piece, count)
+    }
+}
+
+/// The side that a word names.
+pub fn side_of(word: &str) -> Result<Side, Fault> {
     match word {
         "client" => Ok(Side::Client),
         "server" => Ok(Side::Server),
@@ -38,79 +127,18 @@ fn side_of(word: &str) -> Result<Side, Fault> {
     }
 }
 
-/// `read`: reads the replica in the file.
-pub fn read(rt: &HostRuntime) -> Result<ReplicaFile<'static, ListSet>, Fault> {
-    ReplicaFile::open(rt, FILE)
+// The lengths of the chunks that the session sends where it hears all at once.
+fn chunks_sent(alloc: Global, end: &End, heard: &[u8]) -> Result<String, Fault> {
+    let course = hear_in_pieces(alloc, end, heard, heard.len())?;
+    let sent = course.into_sent();
+    chunks_told(alloc, &sent)
 }
 
-/// `keep NAME`: keeps the replica in another file.
-pub fn keep(
-    rt: &HostRuntime,
-    name: &str,
-    file: &ReplicaFile<'_, ListSet>,
-) -> Result<String, Fault> {
-    let made = ReplicaFile::create(rt, name, file.kept().view_of())?;
-    told_components(rt.alloc(), &made)
-}
-
-/// `replace NAME`: keeps the replica of another file in place of the one in the file, and answers how many components it
-/// had, and has.
-pub fn replace(rt: &HostRuntime, name: &str) -> Result<String, Fault> {
-    let other: ReplicaFile<'_, ListSet> = ReplicaFile::open(rt, name)?;
-    let replaced = read(rt)?.replace(rt, other.kept().view_of())?;
-    let before = components_of(replaced.before().kept());
-    let now = components_of(replaced.kept());
-    Ok(format!(in rt.alloc(); "{before} components, then {now}")?)
-}
-
-/// How many components the replica in a file has.
-pub fn told_components(alloc: Global, file: &ReplicaFile<'_, ListSet>) -> Result<String, Fault> {
-    let components = components_of(file.kept());
-    Ok(format!(in alloc; "{components} components")?)
-}
-
-fn components_of(kept: &Kept<ListSet>) -> u128 {
-    kept.view_of().state().components()
-}
-
-/// `settle_nothing`: settles in the file a session that received nothing, and answers what came of it and how many
-/// components the replica has then.
-pub fn settle_nothing(
-    rt: &HostRuntime,
-    file: &mut ReplicaFile<'_, ListSet>,
-) -> Result<String, Fault> {
-    let settled = settle(rt, file, None);
-    told_settled(rt.alloc(), settled, file)
-}
-
-/// `settle SIDE HEX`: has a session of the replica that was read, and settles in its file what it received.
-pub fn settle_received(
-    rt: &HostRuntime,
-    row: &str,
-    file: &mut ReplicaFile<'_, ListSet>,
-) -> Result<String, Fault> {
-    let meeting = meeting_of(rt.alloc(), row)?;
-    let received = received(rt.alloc(), &meeting, file.kept());
-    let settled = settle(rt, file, received);
-    told_settled(rt.alloc(), settled, file)
-}
-
-// What a session receives.
-fn received(alloc: Global, meeting: &Meeting, kept: &Kept<ListSet>) -> Option<State<ListSet>>
-    ensures { HasChecked kept.now result }
-{
-    let mut sent = Vec::new(alloc);
-    let mut reader = Counted::new(meeting.heard.as_slice());
-    let mut writer = Counted::new(&mut sent);
-    let exchanged = exchange(alloc, meeting.side, kept, &mut reader, &mut writer);
-    exchanged.received
-}
-
-fn told_settled(
-    alloc: Global,
-    settled: Settled,
-    file: &ReplicaFile<'_, ListSet>,
-) -> Result<String, Fault> {
-    let components = components_of(file.kept());
-    Ok(format!(in alloc; "{settled:?}, {components} components")?)
+// The laws have no answer: their contracts are proved.
+fn laws(alloc: Global) -> Result<String, Fault> {
+    streams_are_split_once();
+    a_course_is_by_messages();
+    two_sessions();
+    values_are_least();
+    said(alloc, "called")
 }

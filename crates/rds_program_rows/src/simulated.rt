@@ -35,12 +35,9 @@ impl Simulated {
         self.lines.add_line(line)?;
         let mut written = Vec::new(rt.alloc());
         let status = run_sim(rt, self.lines.as_slice(), &mut written);
-        let answer = match written.as_slice().strip_prefix(self.answers.as_slice()) {
-            Some(line) => told_line(rt.alloc(), status, line)?,
-            None => return said(rt.alloc(), "other than before"),
-        };
+        let answer = told_behind(rt.alloc(), status, &self.answers, &written);
         self.answers = written;
-        Ok(answer)
+        answer
     }
 }
 
@@ -52,6 +49,14 @@ fn run_sim(rt: &HostRuntime, input: &[u8], written: &mut Vec<u8>) -> u8 {
         &mut Counted::new(input),
         &mut Counted::new(written),
     )
+}
+
+// A status, and the line that was written behind what was written before.
+fn told_behind(alloc: Global, status: u8, before: &[u8], written: &[u8]) -> Result<String, Fault> {
+    match written.strip_prefix(before) {
+        Some(line) => told_line(alloc, status, line),
+        None => said(alloc, "other than before"),
+    }
 }
 
 // A status, and a line without its newline.

@@ -1,15 +1,17 @@
 //! Which row does what.
+use crate::addresses::{run_away, run_busy};
 use crate::disk::answer_disk;
 use crate::files::{hold, make_folder, put, remove_file, remove_folder};
 use crate::input::Input;
 use crate::lengths::answer_lengths;
-use crate::peers::{meet_peer, run_away, run_busy};
+use crate::replicas::{components_told, keep, read, replace, settle_nothing, settle_received};
 use crate::runs::{run_barred, run_reading, run_renamed, run_spaced, run_writing, usual_turns};
-use crate::sessions::{keep, read, replace, settle_nothing, settle_received, told_components};
+use crate::sessions::Sessions;
 use crate::simulated::Simulated;
 use crate::wire::{answer_over, answer_talk, answer_wire};
-use rds_dots::ListSet;
+use crate::worlds::Worlds;
 use rds_files::ReplicaFile;
+use rds_gaps::GapSet;
 use rds_lines::join_is_known;
 use rds_names::Fault;
 use rds_rows::Table;
@@ -21,9 +23,11 @@ use std::alloc::Global;
 #[derive(Drop)]
 pub struct Transcript<'a> {
     rt: &'a HostRuntime,
+    sessions: Sessions,
+    worlds: Worlds,
     input: Input,
     simulated: Simulated,
-    file: Option<ReplicaFile<'static, ListSet>>,
+    file: Option<ReplicaFile<'static, GapSet>>,
 }
 
 impl<'a> Transcript<'a> {
@@ -31,6 +35,8 @@ impl<'a> Transcript<'a> {
     pub fn new(rt: &'a HostRuntime) -> Transcript<'a> {
         Transcript {
             rt,
+            sessions: Sessions::new(rt.alloc()),
+            worlds: Worlds::new(rt.alloc()),
             input: Input::new(rt.alloc()),
             simulated: Simulated::new(rt.alloc()),
             file: None,
@@ -81,7 +87,7 @@ impl<'a> Transcript<'a> {
             return Err(Fault::Usage);
         };
         match name {
-            "keep" => keep(self.rt, rest, file),
+            "keep" => keep(self.rt, rest, file.kept()),
             "settle" => settle_received(self.rt, rest, file),
             _ => settle_nothing(self.rt, file),
         }
@@ -90,15 +96,17 @@ impl<'a> Transcript<'a> {
     // `read`: reads the replica in the file, and answers how many components it has.
     fn read(&mut self, alloc: Global) -> Result<String, Fault> {
         let file = read(self.rt)?;
-        let answer = told_components(alloc, &file)?;
+        let answer = components_told(alloc, file.kept());
         self.file = Some(file);
-        Ok(answer)
+        answer
     }
 }
 
 impl Table for Transcript<'_> {
     fn answer(&mut self, alloc: Global, name: &str, rest: &str) -> Result<String, Fault> {
         match name {
+            "session" => self.sessions.answer(alloc, rest),
+            "world" => self.worlds.answer(alloc, rest),
             "empty" | "<" | "<-" | "<x" | "<n" => self.answer_input(alloc, name, rest),
             "$" | "$|" | "$$" | "reads" | "writes" | "busy" | "away" => self.answer_run(name, rest),
             "group" => self.simulated.begin(self.rt, rest),
@@ -115,7 +123,6 @@ impl Table for Transcript<'_> {
             }
             "read" => self.read(alloc),
             "keep" | "settle" | "settle_nothing" => self.answer_read(name, rest),
-            "meet" => meet_peer(self.rt, rest),
             _ => Err(Fault::Usage),
         }
     }

@@ -2,10 +2,12 @@
 //! are to be answered.
 #![tactic(auto)]
 
+mod both;
 pub mod devices;
 pub mod told;
 pub mod words;
 
+pub use both::Both;
 use rds_names::Fault;
 use std::alloc::Global;
 use std::io;
@@ -33,11 +35,6 @@ pub fn write_answers<T: Table>(rt: &HostRuntime, table: &mut T) -> io::Result<()
 
 fn write_answer<T: Table>(rt: &HostRuntime, table: &mut T, row: &str) -> io::Result<()> {
     let (name, rest) = words::first(row);
-    match table.answer(rt.alloc(), name, rest) {
-        Ok(answer) => println!(rt; "  {answer}"),
-        Err(fault) => {
-            let fault = told::fault_text(rt.alloc(), fault)?;
-            println!(rt; "  {fault}")
-        }
-    }
+    let answer = told::answer_text(rt.alloc(), table.answer(rt.alloc(), name, rest))?;
+    println!(rt; "  {answer}")
 }

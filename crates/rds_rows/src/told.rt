@@ -29,3 +29,11 @@ pub fn fault_text(alloc: Global, fault: Fault) -> Result<String, AllocError> {
     let named = named(alloc, fault)?;
     format!(in alloc; "fault {named}")
 }
+
+/// The answer; of a row that was refused, the fault.
+pub fn answer_text(alloc: Global, answer: Result<String, Fault>) -> Result<String, AllocError> {
+    match answer {
+        Ok(text) => Ok(text),
+        Err(fault) => fault_text(alloc, fault),
+    }
+}

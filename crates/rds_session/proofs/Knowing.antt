@@ -2,7 +2,7 @@
 use Rattle.std.proofs.Common.{◌≡◌, inl, inr, sym, subst, Result, Ok, Err}
 use Rattle.std.specs.Prelude.{IfErr}
 use Rattle.rds_names.specs.declared.fault.Fault.{Fault}
-use Rattle.rds_names.specs.declared.fault.Fault.TheVariants.{Memory, Cut, Bad, Extra, TooLong, TooManyDots}
+use Rattle.rds_names.specs.declared.fault.Fault.TheVariants.{Memory, Cut, Bad, Extra, TooLong}
 use Rattle.rds_codec.specs.Decoding.{IsOtherFault}
 use Rattle.rds_session.specs.declared.talk.Stop.TheVariants.{Refused}
 use Rattle.rds_session.specs.Judging.{StopsByNoDevice}
@@ -18,12 +18,9 @@ known_fault e h = elim h [
   | inl m ↦ known_by e Memory m tt
   | inr a ↦ elim a [
     | inl l ↦ known_by e TooLong l tt
-    | inr b ↦ elim b [
-      | inl d ↦ known_by e TooManyDots d tt
-      | inr c ↦ elim c [
-        | inl x ↦ known_by e Extra x tt
-        | inr r ↦ elim r [ inl s ↦ known_by e Cut s tt | inr t ↦ known_by e Bad t tt ]
-      ]
+    | inr c ↦ elim c [
+      | inl x ↦ known_by e Extra x tt
+      | inr r ↦ elim r [ inl s ↦ known_by e Cut s tt | inr t ↦ known_by e Bad t tt ]
     ]
   ]
 ]

@@ -47,14 +47,13 @@ use Rattle.rds_codec.specs.CertificateTexts.{IsCertificateOf, IsReplicaOf}
 use Rattle.rds_codec.specs.DigestTexts.{IsDigestOf}
 use Rattle.rds_bytes.specs.Values.{is_key_text, AreCountsOf, AreDotsOf, IsCountRowOf, IsLiveRow}
 use Rattle.rds_codec.specs.StateTexts.{IsStateOf}
-use Rattle.rds_codec.proofs.Subsets.{len_inside}
 use Rattle.rds_session.specs.Checked.{certificate_of, is_later, least_state}
 use Rattle.rds_session.proofs.Checks.{kept_lives, kept_numbers}
 
 -- ---- the digest
 
 pub digest_is : (n : ℕ) (v : StateValue) → IsStateOf n v → IsDigestOf n (digest_of v)
-digest_is n v h = record { dots = h.dots; few = h.few; inside = live_inside v.lives; counts = h.counts }
+digest_is n v h = record { dots = h.dots; inside = live_inside v.lives; counts = h.counts }
 
 -- ---- rows that are found
 
@@ -140,7 +139,7 @@ module _ (n : ℕ) (v : StateValue) (g : DigestValue) (h : IsStateOf n v) where
   delta_counts = record { rows = higher_counts; are_rows = higher_are (number g.counts) h.counts.rows h.counts.are_rows; each_row = each_higher h.counts.rows h.counts.each_row; value = counts_are }
 
   pub delta_is : IsStateOf n (least_state v g)
-  delta_is = record { dots = delta_dots; few = let less = len_inside (seen_of kept.lives) (seen_of v.lives) delta_inside in omega (arith, less, h.few); entries = delta_entries; counts = delta_counts }
+  delta_is = record { dots = delta_dots; entries = delta_entries; counts = delta_counts }
 
 -- ---- the certificate
 

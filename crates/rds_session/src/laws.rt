@@ -19,7 +19,7 @@ pub fn a_course_is_by_messages()
     ensures quiet { IsQuiet }
 {}
 
-/// Two sessions of replicas with one roster and different numbers, whose dots are few enough for a text and whose
+/// Two sessions of replicas with one roster and different numbers, whose
 /// messages are all within the limit. Where each hears a beginning of what the other sent, wherever it was cut, each has
 /// received nothing, or exactly what the other has and it lacks. Where each hears all that the other sent, both have
 /// received that and both are done. And of any session: the end of a stream takes nothing from what was received. The

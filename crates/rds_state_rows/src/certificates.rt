@@ -8,15 +8,15 @@ use crate::listing::Listing;
 use crate::words::Words;
 use rds_counts::Which;
 use rds_delta::{Certificate, Row};
-use rds_dots::{Dot, Run};
+use rds_dots::{Dot, DotSet, Run};
 use rds_names::{Fault, Key};
 use rds_rows::told::said_if;
-use rds_rows::words::first;
+use rds_rows::words::{cut, first};
 use std::alloc::Global;
 
 /// Keeps a certificate under a name, and writes its rows.
-fn keep(
-    documents: &mut Documents,
+fn keep<S: DotSet>(
+    documents: &mut Documents<S>,
     alloc: Global,
     name: &str,
     certificate: Certificate,
@@ -27,24 +27,43 @@ fn keep(
 }
 
 /// `certificate NAME DIGEST DELTA` makes the certificate of a delta.
-pub fn certificate(documents: &mut Documents, alloc: Global, rest: &str) -> Result<String, Fault> {
-    let mut words = Words::new(rest);
-    let name = words.word()?;
-    let digest = documents.digests.get(words.word()?)?;
-    let delta = documents.state(words.word()?)?;
-    let certificate = rds_delta::certificate(alloc, digest, delta)?;
+pub fn certificate<S: DotSet>(
+    documents: &mut Documents<S>,
+    alloc: Global,
+    rest: &str,
+) -> Result<String, Fault> {
+    let (name, asked) = cut(rest)?;
+    let certificate = certificate_of(documents, alloc, asked)?;
     keep(documents, alloc, name, certificate)
 }
 
+fn certificate_of<S: DotSet>(
+    documents: &Documents<S>,
+    alloc: Global,
+    asked: &str,
+) -> Result<Certificate, Fault> {
+    let (digest, delta) = cut(asked)?;
+    let digest = documents.digests.get(digest)?;
+    rds_delta::certificate(alloc, digest, documents.state(delta)?)
+}
+
 /// `given NAME ROWS` makes the certificate of these rows.
-pub fn given(documents: &mut Documents, alloc: Global, rest: &str) -> Result<String, Fault> {
+pub fn given<S: DotSet>(
+    documents: &mut Documents<S>,
+    alloc: Global,
+    rest: &str,
+) -> Result<String, Fault> {
     let (name, rows) = first(rest);
     let certificate = Certificate::new(read_rows(alloc, rows)?);
     keep(documents, alloc, name, certificate)
 }
 
 /// `check DIGEST DELTA CERTIFICATE` checks a delta.
-pub fn check(documents: &Documents, alloc: Global, rest: &str) -> Result<String, Fault> {
+pub fn check<S: DotSet>(
+    documents: &Documents<S>,
+    alloc: Global,
+    rest: &str,
+) -> Result<String, Fault> {
     let mut words = Words::new(rest);
     let digest = documents.digests.get(words.word()?)?;
     let delta = documents.state(words.word()?)?;

@@ -1,6 +1,6 @@
 //! What rows make and later rows name.
 use rds_delta::{Certificate, Digest};
-use rds_dots::ListSet;
+use rds_dots::DotSet;
 use rds_names::Fault;
 use rds_state::{Replica, State};
 use std::alloc::Global;
@@ -39,16 +39,16 @@ impl<T: Drop> Shelf<T> {
 
 /// All that rows have made.
 #[derive(Drop)]
-pub struct Documents {
-    pub replicas: Shelf<Replica<ListSet>>,
-    pub states: Shelf<State<ListSet>>,
-    pub digests: Shelf<Digest<ListSet>>,
+pub struct Documents<S: DotSet> {
+    pub replicas: Shelf<Replica<S>>,
+    pub states: Shelf<State<S>>,
+    pub digests: Shelf<Digest<S>>,
     pub certificates: Shelf<Certificate>,
 }
 
-impl Documents {
+impl<S: DotSet> Documents<S> {
     /// Nothing yet.
-    pub fn new(alloc: Global) -> Documents {
+    pub fn new(alloc: Global) -> Documents<S> {
         Documents {
             replicas: Shelf::new(alloc),
             states: Shelf::new(alloc),
@@ -58,7 +58,7 @@ impl Documents {
     }
 
     /// The state of the replica of this name, or else the state of this name.
-    pub fn state(&self, name: &str) -> Result<&State<ListSet>, Fault> {
+    pub fn state(&self, name: &str) -> Result<&State<S>, Fault> {
         match self.replicas.get(name) {
             Ok(replica) => Ok(replica.state()),
             Err(_) => self.states.get(name),

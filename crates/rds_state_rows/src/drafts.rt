@@ -7,7 +7,7 @@ use crate::listing::Listing;
 use crate::scalars::{scalar, scalar_word};
 use crate::words::Words;
 use rds_counts::{CountRow, Counts};
-use rds_dots::{Dot, DotSet, ListSet, MAX_SEQ, Run, runs};
+use rds_dots::{Dot, DotSet, MAX_SEQ, Run, runs};
 use rds_life::Lives;
 use rds_names::{Entry, Fault, Kind};
 use rds_state::State;
@@ -15,17 +15,17 @@ use std::alloc::Global;
 
 /// The parts of a state, as they were read.
 #[derive(Drop)]
-pub struct Draft {
-    seen: ListSet,
+pub struct Draft<S: DotSet> {
+    seen: S,
     live: Vec<(Dot, Entry)>,
     counts: Vec<CountRow>,
 }
 
-impl Draft {
+impl<S: DotSet> Draft<S> {
     /// The parts that stand in a text.
-    pub fn read(alloc: Global, text: &str) -> Result<Draft, Fault> {
+    pub fn read(alloc: Global, text: &str) -> Result<Draft<S>, Fault> {
         let mut draft = Draft {
-            seen: ListSet::empty(alloc),
+            seen: S::empty(alloc),
             live: Vec::new(alloc),
             counts: Vec::new(alloc),
         };
@@ -45,7 +45,7 @@ impl Draft {
     }
 
     /// The lives and the counters; `Bad` where the parts are none of a state.
-    pub fn into_parts(self) -> Result<(Lives<ListSet>, Counts), Fault> {
+    pub fn into_parts(self) -> Result<(Lives<S>, Counts), Fault> {
         let lives = Lives::from_parts(self.seen, self.live).ok_or(Fault::Bad)?;
         let counts = Counts::from_rows(self.counts).ok_or(Fault::Bad)?;
         Ok((lives, counts))
@@ -53,7 +53,7 @@ impl Draft {
 }
 
 /// Puts a run into a set; what is no run is `Bad`.
-pub fn insert(dots: &mut ListSet, run: Run) -> Result<(), Fault> {
+pub fn insert<S: DotSet>(dots: &mut S, run: Run) -> Result<(), Fault> {
     if run.lo < 1 || run.hi < run.lo || run.hi > MAX_SEQ {
         return Err(Fault::Bad);
     }
@@ -91,7 +91,7 @@ fn push_count(
 }
 
 /// The state as a text.
-pub fn state_text(alloc: Global, state: &State<ListSet>) -> Result<String, Fault> {
+pub fn state_text<S: DotSet>(alloc: Global, state: &State<S>) -> Result<String, Fault> {
     let mut listing = Listing::new(alloc);
     list_seen(alloc, &mut listing, state.lives().seen())?;
     list_live(alloc, &mut listing, state.lives())?;
@@ -99,7 +99,7 @@ pub fn state_text(alloc: Global, state: &State<ListSet>) -> Result<String, Fault
     listing.into_text(alloc)
 }
 
-fn list_seen(alloc: Global, listing: &mut Listing, seen: &ListSet) -> Result<(), Fault> {
+fn list_seen<S: DotSet>(alloc: Global, listing: &mut Listing, seen: &S) -> Result<(), Fault> {
     for run in runs(seen) {
         listing.push(run_text(alloc, run)?.as_str())?;
     }
@@ -111,7 +111,11 @@ fn run_text(alloc: Global, run: Run) -> Result<String, Fault> {
     Ok(format!(in alloc; "seen {replica} {lo} {hi}")?)
 }
 
-fn list_live(alloc: Global, listing: &mut Listing, lives: &Lives<ListSet>) -> Result<(), Fault> {
+fn list_live<S: DotSet>(
+    alloc: Global,
+    listing: &mut Listing,
+    lives: &Lives<S>,
+) -> Result<(), Fault> {
     for (dot, entry) in lives.live() {
         listing.push(live_text(alloc, *dot, entry)?.as_str())?;
     }

@@ -1,4 +1,6 @@
 //! Rows that call replicas, states, digests, deltas with their certificates, and views.
+//!
+//! Each row is answered twice: where sets are kept as runs, and where they are kept as lists.
 #![tactic(auto)]
 
 mod certificates;
@@ -17,10 +19,17 @@ mod views;
 mod words;
 
 use documents::Documents;
-use rds_rows::write_answers;
+use rds_dots::ListSet;
+use rds_gaps::GapSet;
+use rds_rows::{Both, write_answers};
 use std::io;
 
 fn main(rt: HostRuntime) -> io::Result<()> {
-    let mut documents = Documents::new(rt.alloc());
-    write_answers(&rt, &mut documents)
+    let gaps: Documents<GapSet> = Documents::new(rt.alloc());
+    let lists: Documents<ListSet> = Documents::new(rt.alloc());
+    let mut both = Both {
+        first: gaps,
+        second: lists,
+    };
+    write_answers(&rt, &mut both)
 }

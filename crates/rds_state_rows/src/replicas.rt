@@ -3,7 +3,7 @@ use crate::commands::{command, edited_text};
 use crate::documents::Documents;
 use crate::listing::refused;
 use crate::words::Words;
-use rds_dots::ListSet;
+use rds_dots::DotSet;
 use rds_names::{Fault, Roster};
 use rds_rows::told::{said, said_if};
 use rds_rows::words;
@@ -16,11 +16,11 @@ fn roster(alloc: Global) -> Result<Roster, Fault> {
 }
 
 /// Keeps a replica under a name, and says its number and how many there are.
-fn keep(
-    documents: &mut Documents,
+fn keep<S: DotSet>(
+    documents: &mut Documents<S>,
     alloc: Global,
     name: &str,
-    replica: Replica<ListSet>,
+    replica: Replica<S>,
 ) -> Result<String, Fault> {
     let own = replica.own();
     let replicas = replica.roster().len();
@@ -29,7 +29,11 @@ fn keep(
 }
 
 /// `new NAME NUMBER` makes a replica that has done nothing.
-pub fn make(documents: &mut Documents, alloc: Global, rest: &str) -> Result<String, Fault> {
+pub fn make<S: DotSet>(
+    documents: &mut Documents<S>,
+    alloc: Global,
+    rest: &str,
+) -> Result<String, Fault> {
     let mut words = Words::new(rest);
     let name = words.word()?;
     let own = words.small()?;
@@ -38,7 +42,11 @@ pub fn make(documents: &mut Documents, alloc: Global, rest: &str) -> Result<Stri
 }
 
 /// `hold NAME NUMBER STATE` makes a replica that has this state.
-pub fn hold(documents: &mut Documents, alloc: Global, rest: &str) -> Result<String, Fault> {
+pub fn hold<S: DotSet>(
+    documents: &mut Documents<S>,
+    alloc: Global,
+    rest: &str,
+) -> Result<String, Fault> {
     let mut words = Words::new(rest);
     let name = words.word()?;
     let own = words.small()?;
@@ -48,7 +56,11 @@ pub fn hold(documents: &mut Documents, alloc: Global, rest: &str) -> Result<Stri
 }
 
 /// `edit NAME COMMAND` edits by a copy of the command.
-pub fn edit(documents: &mut Documents, alloc: Global, rest: &str) -> Result<String, Fault> {
+pub fn edit<S: DotSet>(
+    documents: &mut Documents<S>,
+    alloc: Global,
+    rest: &str,
+) -> Result<String, Fault> {
     let mut words = Words::new(rest);
     let name = words.word()?;
     let command = command(alloc, &mut words)?.copy(alloc)?;
@@ -57,17 +69,21 @@ pub fn edit(documents: &mut Documents, alloc: Global, rest: &str) -> Result<Stri
 }
 
 /// `take NAME STATE` has a replica take a state.
-pub fn take(documents: &mut Documents, alloc: Global, rest: &str) -> Result<String, Fault> {
+pub fn take<S: DotSet>(
+    documents: &mut Documents<S>,
+    alloc: Global,
+    rest: &str,
+) -> Result<String, Fault> {
     let mut words = Words::new(rest);
     let name = words.word()?;
     let state = documents.state(words.word()?)?.copy(alloc)?;
     take_state(alloc, documents.replicas.get_mut(name)?, &state)
 }
 
-fn take_state(
+fn take_state<S: DotSet>(
     alloc: Global,
-    replica: &mut Replica<ListSet>,
-    state: &State<ListSet>,
+    replica: &mut Replica<S>,
+    state: &State<S>,
 ) -> Result<String, Fault> {
     if !replica.fits(state) {
         return said(alloc, "unfit");
@@ -79,7 +95,11 @@ fn take_state(
 }
 
 /// `copy NAME REPLICA` copies a replica.
-pub fn copy(documents: &mut Documents, alloc: Global, rest: &str) -> Result<String, Fault> {
+pub fn copy<S: DotSet>(
+    documents: &mut Documents<S>,
+    alloc: Global,
+    rest: &str,
+) -> Result<String, Fault> {
     let mut words = Words::new(rest);
     let name = words.word()?;
     let replica = documents.replicas.get(words.word()?)?.copy(alloc)?;
@@ -87,7 +107,11 @@ pub fn copy(documents: &mut Documents, alloc: Global, rest: &str) -> Result<Stri
 }
 
 /// `rejoin NAME REPLICA` takes a copy of a replica apart, and makes one of the parts.
-pub fn rejoin(documents: &mut Documents, alloc: Global, rest: &str) -> Result<String, Fault> {
+pub fn rejoin<S: DotSet>(
+    documents: &mut Documents<S>,
+    alloc: Global,
+    rest: &str,
+) -> Result<String, Fault> {
     let mut words = Words::new(rest);
     let name = words.word()?;
     let whole = documents.replicas.get(words.word()?)?.copy(alloc)?;
@@ -97,7 +121,11 @@ pub fn rejoin(documents: &mut Documents, alloc: Global, rest: &str) -> Result<St
 }
 
 /// `fits REPLICA STATE` asks whether the state's replicas are all in the roster.
-pub fn fits(documents: &Documents, alloc: Global, rest: &str) -> Result<String, Fault> {
+pub fn fits<S: DotSet>(
+    documents: &Documents<S>,
+    alloc: Global,
+    rest: &str,
+) -> Result<String, Fault> {
     let mut words = Words::new(rest);
     let replica = documents.replicas.get(words.word()?)?;
     let state = documents.state(words.word()?)?;

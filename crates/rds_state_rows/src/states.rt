@@ -3,7 +3,7 @@ use crate::documents::Documents;
 use crate::drafts::{Draft, state_text};
 use crate::listing::refused;
 use crate::words::Words;
-use rds_dots::ListSet;
+use rds_dots::DotSet;
 use rds_names::Fault;
 use rds_rows::told::{said, said_if};
 use rds_rows::words::cut;
@@ -11,11 +11,11 @@ use rds_state::State;
 use std::alloc::Global;
 
 /// Keeps a state under a name, and says how many components it has.
-pub fn keep(
-    documents: &mut Documents,
+pub fn keep<S: DotSet>(
+    documents: &mut Documents<S>,
     alloc: Global,
     name: &str,
-    state: State<ListSet>,
+    state: State<S>,
 ) -> Result<String, Fault> {
     let components = state.components();
     documents.states.put(alloc, name, state)?;
@@ -23,26 +23,42 @@ pub fn keep(
 }
 
 /// `state NAME PARTS` makes the state of these parts.
-pub fn state(documents: &mut Documents, alloc: Global, rest: &str) -> Result<String, Fault> {
+pub fn state<S: DotSet>(
+    documents: &mut Documents<S>,
+    alloc: Global,
+    rest: &str,
+) -> Result<String, Fault> {
     let (name, parts) = cut(rest)?;
     let (lives, counts) = Draft::read(alloc, parts)?.into_parts()?;
     keep(documents, alloc, name, State::from_parts(lives, counts))
 }
 
 /// `lives NAME PARTS` makes the state of the lives alone.
-pub fn lives(documents: &mut Documents, alloc: Global, rest: &str) -> Result<String, Fault> {
+pub fn lives<S: DotSet>(
+    documents: &mut Documents<S>,
+    alloc: Global,
+    rest: &str,
+) -> Result<String, Fault> {
     let (name, parts) = cut(rest)?;
     let (lives, _) = Draft::read(alloc, parts)?.into_parts()?;
     keep(documents, alloc, name, State::from_lives(alloc, lives))
 }
 
 /// `empty NAME` makes the empty state.
-pub fn empty(documents: &mut Documents, alloc: Global, rest: &str) -> Result<String, Fault> {
+pub fn empty<S: DotSet>(
+    documents: &mut Documents<S>,
+    alloc: Global,
+    rest: &str,
+) -> Result<String, Fault> {
     keep(documents, alloc, rest, State::empty(alloc))
 }
 
 /// `copy_of NAME STATE` copies a state.
-pub fn copy_of(documents: &mut Documents, alloc: Global, rest: &str) -> Result<String, Fault> {
+pub fn copy_of<S: DotSet>(
+    documents: &mut Documents<S>,
+    alloc: Global,
+    rest: &str,
+) -> Result<String, Fault> {
     let mut words = Words::new(rest);
     let name = words.word()?;
     let copy = documents.state(words.word()?)?.copy(alloc)?;
@@ -50,7 +66,11 @@ pub fn copy_of(documents: &mut Documents, alloc: Global, rest: &str) -> Result<S
 }
 
 /// `merge NAME STATE` joins a state into the one of this name.
-pub fn merge(documents: &mut Documents, alloc: Global, rest: &str) -> Result<String, Fault> {
+pub fn merge<S: DotSet>(
+    documents: &mut Documents<S>,
+    alloc: Global,
+    rest: &str,
+) -> Result<String, Fault> {
     let mut words = Words::new(rest);
     let name = words.word()?;
     let other = documents.state(words.word()?)?.copy(alloc)?;
@@ -61,12 +81,20 @@ pub fn merge(documents: &mut Documents, alloc: Global, rest: &str) -> Result<Str
 }
 
 /// `show STATE` writes the whole state.
-pub fn show(documents: &Documents, alloc: Global, rest: &str) -> Result<String, Fault> {
+pub fn show<S: DotSet>(
+    documents: &Documents<S>,
+    alloc: Global,
+    rest: &str,
+) -> Result<String, Fault> {
     state_text(alloc, documents.state(rest)?)
 }
 
 /// `same STATE STATE` asks whether two states are equal.
-pub fn same(documents: &Documents, alloc: Global, rest: &str) -> Result<String, Fault> {
+pub fn same<S: DotSet>(
+    documents: &Documents<S>,
+    alloc: Global,
+    rest: &str,
+) -> Result<String, Fault> {
     let mut words = Words::new(rest);
     let left = documents.state(words.word()?)?;
     let right = documents.state(words.word()?)?;
@@ -74,7 +102,11 @@ pub fn same(documents: &Documents, alloc: Global, rest: &str) -> Result<String, 
 }
 
 /// `rank STATE REPLICA NUMBER` asks how far a dot has come.
-pub fn rank(documents: &Documents, alloc: Global, rest: &str) -> Result<String, Fault> {
+pub fn rank<S: DotSet>(
+    documents: &Documents<S>,
+    alloc: Global,
+    rest: &str,
+) -> Result<String, Fault> {
     let mut words = Words::new(rest);
     let state = documents.state(words.word()?)?;
     let rank = state.lives().rank(words.dot()?);
@@ -82,7 +114,11 @@ pub fn rank(documents: &Documents, alloc: Global, rest: &str) -> Result<String, 
 }
 
 /// `value STATE KEY` asks what a counter stands at.
-pub fn value(documents: &Documents, alloc: Global, rest: &str) -> Result<String, Fault> {
+pub fn value<S: DotSet>(
+    documents: &Documents<S>,
+    alloc: Global,
+    rest: &str,
+) -> Result<String, Fault> {
     let mut words = Words::new(rest);
     let state = documents.state(words.word()?)?;
     let value = state.counts().value(&words.key(alloc)?);
@@ -90,7 +126,11 @@ pub fn value(documents: &Documents, alloc: Global, rest: &str) -> Result<String,
 }
 
 /// `components STATE` asks how many components a state has.
-pub fn components(documents: &Documents, alloc: Global, rest: &str) -> Result<String, Fault> {
+pub fn components<S: DotSet>(
+    documents: &Documents<S>,
+    alloc: Global,
+    rest: &str,
+) -> Result<String, Fault> {
     let components = documents.state(rest)?.components();
     Ok(components.to_string(alloc)?)
 }

@@ -7,11 +7,12 @@ use crate::laws::laws;
 use crate::replicas::{copy, edit, fits, hold, make, rejoin, take};
 use crate::states::{components, copy_of, empty, lives, merge, rank, same, show, state, value};
 use crate::views::show_view;
+use rds_dots::DotSet;
 use rds_names::Fault;
 use rds_rows::Table;
 use std::alloc::Global;
 
-impl Table for Documents {
+impl<S: DotSet> Table for Documents<S> {
     fn answer(&mut self, alloc: Global, name: &str, rest: &str) -> Result<String, Fault> {
         match name {
             "new" | "hold" | "edit" | "take" | "copy" | "rejoin" | "fits" => {
@@ -31,8 +32,8 @@ impl Table for Documents {
     }
 }
 
-fn replica_answer(
-    documents: &mut Documents,
+fn replica_answer<S: DotSet>(
+    documents: &mut Documents<S>,
     alloc: Global,
     name: &str,
     rest: &str,
@@ -49,8 +50,8 @@ fn replica_answer(
     }
 }
 
-fn state_answer(
-    documents: &mut Documents,
+fn state_answer<S: DotSet>(
+    documents: &mut Documents<S>,
     alloc: Global,
     name: &str,
     rest: &str,
@@ -70,16 +71,16 @@ fn state_answer(
     }
 }
 
-fn digest_answer(
-    documents: &mut Documents,
+fn digest_answer<S: DotSet>(
+    documents: &mut Documents<S>,
     alloc: Global,
     name: &str,
     rest: &str,
 ) -> Result<String, Fault> {
     match name {
         "digest" => digest(documents, alloc, rest),
-        "digest_of_sets" => digest_of_sets(alloc, rest),
-        "inside" => inside(alloc, rest),
+        "digest_of_sets" => digest_of_sets::<S>(alloc, rest),
+        "inside" => inside::<S>(alloc, rest),
         "rank_in" => rank_in(documents, alloc, rest),
         "pair_in" => pair_in(documents, alloc, rest),
         _ => Err(Fault::Usage),

@@ -7,6 +7,7 @@ use crate::documents::Documents;
 use crate::listing::Listing;
 use crate::scalars::scalar_word;
 use crate::words::Words;
+use rds_dots::DotSet;
 use rds_names::{Fault, Key, Scalar};
 use rds_tree::{Scalars, View, view};
 use std::alloc::Global;
@@ -15,7 +16,11 @@ use std::alloc::Global;
 const MOST_KEYS: u8 = 8;
 
 /// `view STATE PATH` shows what a document has at a path.
-pub fn show_view(documents: &Documents, alloc: Global, rest: &str) -> Result<String, Fault> {
+pub fn show_view<S: DotSet>(
+    documents: &Documents<S>,
+    alloc: Global,
+    rest: &str,
+) -> Result<String, Fault> {
     let mut words = Words::new(rest);
     let state = documents.state(words.word()?)?;
     let path = words.path(alloc)?;

@@ -1,10 +1,10 @@
-//! A writer that is full, and a place in memory that fails at a call.
+//! A place in memory.
 use rds_keep::Place;
 use rds_rows::devices::{Manner, Shelf};
 use std::io;
 use std::io::Write;
 
-/// A text in memory that takes one byte a call.
+/// A text in memory whose writes, syncs and renames are calls of one manner.
 #[derive(Drop)]
 pub struct Sheet<'a> {
     shelf: Shelf<'a>,
@@ -13,10 +13,10 @@ pub struct Sheet<'a> {
 }
 
 impl<'a> Sheet<'a> {
-    /// Writes behind these bytes. The call of this number fails, if there is one: a write, a sync or a rename.
-    pub fn new(bytes: &'a mut Vec<u8>, fails_at: u64) -> Sheet<'a> {
+    /// Writes behind these bytes.
+    pub fn new(bytes: &'a mut Vec<u8>, manner: Manner) -> Sheet<'a> {
         Sheet {
-            shelf: Shelf::new(bytes, Manner::byte_a_call(fails_at)),
+            shelf: Shelf::new(bytes, manner),
             is_synced: false,
             is_renamed: false,
         }
@@ -49,20 +49,6 @@ impl Place for Sheet<'_> {
     fn rename(&mut self) -> io::Result<()> {
         self.shelf.call()?;
         self.is_renamed = true;
-        Ok(())
-    }
-}
-
-/// Takes no byte.
-#[derive(Drop)]
-pub struct Full;
-
-impl Write for Full {
-    fn write(&mut self, _buf: &[u8]) -> io::Result<usize> {
-        Ok(0)
-    }
-
-    fn flush(&mut self) -> io::Result<()> {
         Ok(())
     }
 }

@@ -1,28 +1,27 @@
-//! The replica that is held from row to row.
-use crate::values::{snapshot_of, snapshot_text};
-use crate::{certificates, keeping, reading, steps, texts, values};
+//! The snapshot that is held from row to row.
+use crate::{exchanges, places, reading, texts};
 use rds_codec::texts_stand_apart;
-use rds_dots::ListSet;
 use rds_names::Fault;
 use rds_rows::Table;
 use rds_rows::told::said;
-use rds_rows::words::cut;
-use rds_state::Replica;
+use rds_rows::words::bytes_of;
 use std::alloc::Global;
 
-/// The replica that rows speak of, once one has named it.
+/// The text that later rows are on.
 #[derive(Drop)]
 pub struct Held {
-    replica: Option<Replica<ListSet>>,
+    text: Vec<u8>,
 }
 
 impl Table for Held {
     fn answer(&mut self, alloc: Global, name: &str, rest: &str) -> Result<String, Fault> {
         match name {
             "hold" => self.hold(alloc, rest),
-            "replica" => self.answer_replica(alloc, rest),
-            "calls" => steps::answer(alloc, rest),
-            "rows" => certificates::answer(alloc, rest),
+            "ask" => exchanges::ask(alloc, &self.text),
+            "answer" => exchanges::answer(alloc, &self.text, rest),
+            "exchange" => exchanges::exchanged(alloc, &self.text, rest),
+            "place" => places::answer(alloc, &self.text, rest),
+            "read" => reading::answer(alloc, &self.text, rest),
             "laws" => laws(alloc),
             _ => texts::answer(alloc, name, rest),
         }
@@ -30,30 +29,17 @@ impl Table for Held {
 }
 
 impl Held {
-    /// No replica yet.
-    pub fn new() -> Held {
-        Held { replica: None }
-    }
-
-    /// `hold DIGITS`: the replica of this snapshot is the one that rows speak of from here on.
-    fn hold(&mut self, alloc: Global, digits: &str) -> Result<String, Fault> {
-        let replica = snapshot_of(alloc, digits)?;
-        let text = snapshot_text(alloc, &replica)?;
-        self.replica = Some(replica);
-        Ok(text)
-    }
-
-    /// `replica NAME ..`: a row on the replica.
-    fn answer_replica(&mut self, alloc: Global, words: &str) -> Result<String, Fault> {
-        let (name, rest) = cut(words)?;
-        let Some(replica) = &mut self.replica else {
-            return Err(Fault::NoSuch);
-        };
-        match name {
-            "write" => keeping::answer(alloc, replica, rest),
-            "read" => reading::answer(alloc, replica, rest),
-            _ => values::answer(alloc, replica, name, rest),
+    /// No byte yet.
+    pub fn new(alloc: Global) -> Held {
+        Held {
+            text: Vec::new(alloc),
         }
+    }
+
+    /// `hold DIGITS`: rows on what is held are on this text from here on, a snapshot or not.
+    fn hold(&mut self, alloc: Global, digits: &str) -> Result<String, Fault> {
+        self.text = bytes_of(alloc, digits)?;
+        said(alloc, "held")
     }
 }
 

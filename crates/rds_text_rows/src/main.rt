@@ -5,22 +5,19 @@
 //! replicas have the numbers 0 to 2.
 #![tactic(auto)]
 
-mod certificates;
 mod devices;
-mod edits;
+mod exchanges;
 mod forms;
 mod held;
-mod keeping;
+mod places;
 mod reading;
-mod steps;
 mod texts;
-mod values;
 
 use held::Held;
 use rds_rows::write_answers;
 use std::io;
 
 fn main(rt: HostRuntime) -> io::Result<()> {
-    let mut held = Held::new();
+    let mut held = Held::new(rt.alloc());
     write_answers(&rt, &mut held)
 }

@@ -1,71 +1,48 @@
-//! Rows that read a snapshot.
-use crate::values::snapshot_text;
+//! Rows that read what is held, byte by byte.
 use rds_codec::encode_snapshot;
-use rds_dots::ListSet;
+use rds_gaps::GapSet;
 use rds_keep::{Counted, Kept, read_snapshot};
 use rds_names::Fault;
 use rds_rows::devices::{Drip, Manner};
-use rds_rows::told::{digits_of, fault_text};
-use rds_rows::words::{bytes_of, cut, number};
-use rds_state::Replica;
+use rds_rows::told::{answer_text, digits_of};
+use rds_rows::words::{cut, number};
 use std::alloc::Global;
-use std::io::Read;
 
-/// `read bytes DIGITS` reads these bytes. `read slowly CALL` and `read turns TURNS` read the replica's snapshot byte by
-/// byte: the call of this number fails, or so many turns are made. `read front TURNS` reads four of its bytes, and two.
-pub fn answer(alloc: Global, replica: &Replica<ListSet>, rest: &str) -> Result<String, Fault> {
-    let (name, words) = cut(rest)?;
-    if name == "bytes" {
-        return read_bytes(alloc, words);
-    }
-    let count = number(words)?;
-    let text = encode_snapshot(alloc, replica)?;
-    read_text(alloc, &text, name, count)
-}
-
-fn read_bytes(alloc: Global, digits: &str) -> Result<String, Fault> {
-    let bytes = bytes_of(alloc, digits)?;
-    read_from(alloc, Counted::new(bytes.as_slice()))
-}
-
-fn read_text(alloc: Global, text: &[u8], name: &str, count: u64) -> Result<String, Fault> {
+/// `read whole CALL` and `read turns TURNS`: the snapshot that is read. The call of this number fails, if there is one,
+/// or so many turns are made. `read front TURNS`: one byte that is read, and then two.
+pub fn answer(alloc: Global, held: &[u8], rest: &str) -> Result<String, Fault> {
+    let (name, count) = cut(rest)?;
+    let count = number(count)?;
     match name {
-        "slowly" => read_from(alloc, Counted::new(slow(text, count))),
-        "turns" => read_from(alloc, Counted::with_turns(slow(text, 0), count)),
-        "front" => read_front(alloc, Counted::with_turns(text, count)),
+        "whole" => read_whole(alloc, Counted::new(drip(held, count))),
+        "turns" => read_whole(alloc, Counted::with_turns(drip(held, 0), count)),
+        "front" => read_front(alloc, Counted::with_turns(drip(held, 0), count)),
         _ => Err(Fault::Usage),
     }
 }
 
-/// Gives one byte a call, and the call of this number fails.
-fn slow(text: &[u8], fails_at: u64) -> Drip<'_> {
-    Drip::new(text, Manner::byte_a_call(fails_at))
+fn drip(held: &[u8], fails_at: u64) -> Drip<'_> {
+    Drip::new(held, Manner::byte_a_call(fails_at))
 }
 
 /// What was read or why not, and what the reader counted.
-fn read_from<R: Read + Drop>(alloc: Global, mut reader: Counted<R>) -> Result<String, Fault> {
-    let answer = read_snapshot(alloc, &mut reader);
+fn read_whole(alloc: Global, mut reader: Counted<Drip<'_>>) -> Result<String, Fault> {
+    let read = answer_text(alloc, snapshot_in(alloc, &mut reader))?;
     let (failed, turns) = (reader.failed(), reader.turns());
-    let outcome = outcome(alloc, answer)?;
-    Ok(format!(in alloc; "{outcome}; {failed} failed, {turns} turns")?)
+    Ok(format!(in alloc; "{read}; {failed} failed, {turns} turns")?)
 }
 
-fn outcome(alloc: Global, answer: Result<Kept<ListSet>, Fault>) -> Result<String, Fault> {
-    match answer {
-        Ok(kept) => snapshot_text(alloc, kept.view_of()),
-        Err(fault) => Ok(fault_text(alloc, fault)?),
-    }
+fn snapshot_in(alloc: Global, reader: &mut Counted<Drip<'_>>) -> Result<String, Fault> {
+    let kept: Kept<GapSet> = read_snapshot(alloc, reader)?;
+    let text = encode_snapshot(alloc, kept.view_of())?;
+    digits_of(alloc, &text)
 }
 
-fn read_front(alloc: Global, mut reader: Counted<&[u8]>) -> Result<String, Fault> {
-    let mut four = [0u8; 4];
-    let count = reader.read(&mut four)?;
+fn read_front(alloc: Global, mut reader: Counted<Drip<'_>>) -> Result<String, Fault> {
+    let mut byte = [0u8; 1];
+    reader.read(&mut byte)?;
     let two = reader.read_front(alloc, 2)?;
-    both(alloc, &four[..count], &two)
-}
-
-fn both(alloc: Global, first: &[u8], then: &[u8]) -> Result<String, Fault> {
-    let first = digits_of(alloc, first)?;
-    let then = digits_of(alloc, then)?;
-    Ok(format!(in alloc; "{first}, {then}")?)
+    let byte = digits_of(alloc, &byte)?;
+    let two = digits_of(alloc, &two)?;
+    Ok(format!(in alloc; "{byte}, {two}")?)
 }

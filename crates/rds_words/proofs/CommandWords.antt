@@ -11,19 +11,19 @@ use Rattle.clap.specs.declared.parser.matches.ValueSource.TheVariants.{CommandLi
 use Rattle.clap.specs.declared.error.Error.{Error}
 use Rattle.clap.specs.declared.error.kind.ErrorKind.TheVariants.{OutOfMemory}
 use Rattle.clap.proofs.OnLiterals.{clap_on_literals}
-use Rattle.rds_words.specs.Commands.{base_app, with_entries, with_removals, with_counters, with_show, with_sessions, named_app, node_app}
+use Rattle.rds_words.specs.Commands.{named_app, node_app}
 
 pub node_is_simple : is_simple node_app ≡ true
-unfolding node_app base_app with_entries with_removals with_counters with_show with_sessions clap_on_literals
+unfolding node_app clap_on_literals
 node_is_simple = refl
 
 pub node_is_free : is_simple_and_free node_app ≡ true
-unfolding node_app base_app with_entries with_removals with_counters with_show with_sessions clap_on_literals
+unfolding node_app clap_on_literals
 node_is_free = refl
 
 -- what is unfolded to compute what words come to
 unfoldable pub node_on_words : ⊤
-unfolding node_app base_app with_entries with_removals with_counters with_show with_sessions clap_on_literals
+unfolding node_app clap_on_literals
 node_on_words = tt
 
 -- a command as it is built

@@ -1,5 +1,5 @@
 -- The command line as data.
-use Rattle.std.specs.Prelude.{codes, true, Some, List, [], ◌∷◌}
+use Rattle.std.specs.Prelude.{codes, true, fold, Some, List, [], ◌∷◌}
 use Rattle.clap.specs.declared.builder.action.ArgAction.TheVariants.{Append}
 use Rattle.clap.specs.Words.{App, Rule, Text, new_app, new_rule, with_rule, with_subcommand}
 
@@ -8,72 +8,76 @@ abbrev pub required_rule : Text → Rule
 required_rule id = record (new_rule id) { required = true }
 
 -- one word or more
-abbrev pub names_rule : Rule
-names_rule = record (required_rule (codes "NAMES")) { action = Some Append }
+abbrev pub repeated_rule : Text → Rule
+repeated_rule id = record (required_rule id) { action = Some Append }
 
-abbrev pub join_app : App
-join_app = new_app (codes "join")
+-- a word behind an option, with the value that it has where it isn't given
+abbrev pub defaulted_rule : Text → Text → Text → Rule
+defaulted_rule id long default = record (new_rule id) { long = Some long; value_names = 1; defaults = default ∷ [] }
 
-abbrev pub sim_app : App
-sim_app = new_app (codes "sim")
+-- the file of a replica
+abbrev pub file_rule : Rule
+file_rule = required_rule (codes "FILE")
 
--- a command whose first word is a file
-abbrev pub file_app : Text → App
-file_app name = with_rule (new_app name) (required_rule (codes "FILE"))
+-- a path of the document
+abbrev pub path_rule : Rule
+path_rule = required_rule (codes "PATH")
 
-abbrev pub init_app : App
-init_app = with_rule (with_rule (with_rule (file_app (codes "init")) (required_rule (codes "GROUP"))) (required_rule (codes "OWN"))) names_rule
+-- a path, or none, which is the root
+abbrev pub part_rule : Rule
+part_rule = new_rule (codes "PATH")
 
--- an entry of a file's replica is edited
-abbrev pub entry_app : Text → App
-entry_app name = with_rule (with_rule (file_app name) (required_rule (codes "PATH"))) (required_rule (codes "VALUE"))
+abbrev pub value_rule : Rule
+value_rule = required_rule (codes "VALUE")
 
--- a counter of a file's replica is changed
-abbrev pub counter_app : Text → App
-counter_app name = with_rule (with_rule (file_app name) (required_rule (codes "KEY"))) (required_rule (codes "BY"))
+-- a counter's key
+abbrev pub key_rule : Rule
+key_rule = required_rule (codes "KEY")
 
--- a part of a file's replica, or all of it
-abbrev pub path_app : Text → App
-path_app name = with_rule (file_app name) (new_rule (codes "PATH"))
+-- by how much it is raised or lowered
+abbrev pub by_rule : Rule
+by_rule = required_rule (codes "BY")
 
--- a file's replica meets another at an address
-abbrev pub address_app : Text → App
-address_app name = with_rule (file_app name) (required_rule (codes "ADDR"))
+-- where a replica is served
+abbrev pub address_rule : Rule
+address_rule = required_rule (codes "ADDR")
 
 -- how many sessions, as an option, 1 where it isn't given
 abbrev pub sessions_rule : Rule
-sessions_rule = record (new_rule (codes "SESSIONS")) { long = Some (codes "sessions"); value_names = 1; defaults = codes "1" ∷ [] }
+sessions_rule = defaulted_rule (codes "SESSIONS") (codes "sessions") (codes "1")
 
-abbrev pub serve_app : App
-serve_app = with_rule (address_app (codes "serve")) sessions_rule
-
-abbrev pub pair_app : App
-pair_app = with_rule (file_app (codes "pair")) (required_rule (codes "PEER"))
+-- a command with its words in their order
+abbrev pub command_app : Text → List Rule → App
+command_app name words = fold with_rule (new_app name) words
 
 -- one of the subcommands has to be named
 abbrev pub named_app : App
 named_app = let a = new_app (codes "rds_node") in record a { top = record a.top { subcommand_required = true } }
 
-unfoldable pub base_app : App
-base_app = with_subcommand (with_subcommand (with_subcommand named_app join_app.top) sim_app.top) init_app.top
+abbrev pub with_command : App → App → App
+with_command program command = with_subcommand program command.top
 
-unfoldable pub with_entries : App → App
-with_entries a = with_subcommand (with_subcommand a (entry_app (codes "set")).top) (entry_app (codes "add")).top
+-- the commands, in the order in which help lists them
+abbrev pub commands : List App
+commands =
+    command_app (codes "join") []
+    ∷ command_app (codes "sim") []
+    ∷ command_app (codes "init") (file_rule ∷ required_rule (codes "GROUP") ∷ required_rule (codes "OWN") ∷ repeated_rule (codes "NAMES") ∷ [])
+    ∷ command_app (codes "set") (file_rule ∷ path_rule ∷ value_rule ∷ [])
+    ∷ command_app (codes "add") (file_rule ∷ path_rule ∷ value_rule ∷ [])
+    ∷ command_app (codes "del") (file_rule ∷ path_rule ∷ value_rule ∷ [])
+    ∷ command_app (codes "clear") (file_rule ∷ part_rule ∷ [])
+    ∷ command_app (codes "inc") (file_rule ∷ key_rule ∷ by_rule ∷ [])
+    ∷ command_app (codes "dec") (file_rule ∷ key_rule ∷ by_rule ∷ [])
+    ∷ command_app (codes "show") (file_rule ∷ part_rule ∷ [])
+    ∷ command_app (codes "serve") (file_rule ∷ address_rule ∷ sessions_rule ∷ [])
+    ∷ command_app (codes "sync") (file_rule ∷ address_rule ∷ [])
+    ∷ command_app (codes "pair") (file_rule ∷ required_rule (codes "PEER") ∷ [])
+    ∷ []
 
-unfoldable pub with_removals : App → App
-with_removals a = with_subcommand (with_subcommand a (entry_app (codes "del")).top) (path_app (codes "clear")).top
-
-unfoldable pub with_counters : App → App
-with_counters a = with_subcommand (with_subcommand a (counter_app (codes "inc")).top) (counter_app (codes "dec")).top
-
-unfoldable pub with_show : App → App
-with_show a = with_subcommand a (path_app (codes "show")).top
-
-unfoldable pub with_sessions : App → App
-with_sessions a = with_subcommand (with_subcommand (with_subcommand a serve_app.top) (address_app (codes "sync")).top) pair_app.top
-
+-- the program with its commands
 unfoldable pub node_app : App
-node_app = with_sessions (with_show (with_counters (with_removals (with_entries base_app))))
+node_app = fold with_command named_app commands
 
 -- the words of `join`, behind the name that the program was called by
 abbrev pub join_words : List Text

@@ -1,4 +1,5 @@
 pub mod Commands
+pub mod Described
 pub mod Entered
 pub mod Meaning
 pub mod Task

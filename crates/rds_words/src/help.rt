@@ -21,9 +21,8 @@ roster and the own number of the first.
 Exit status: 0 where the two were joined, 2 for words that are none of these, else 1
 with the line 'fault N: Name': 12 or 13 for a line that is no snapshot, 14 where
 something follows a snapshot or the second line, 15 for a line or an answer that is
-too long, 16 for too many dots, 19 for another group, 20 for other names, 9 where the
-two have different entries for one dot, 24 where the input can't be read, 1 where
-there is no memory.
+too long, 19 for another group, 20 for other names, 9 where the two have different
+entries for one dot, 24 where the input can't be read, 1 where there is no memory.
 
 Example: rds_node join < two_snapshots";
 
@@ -79,7 +78,7 @@ how many entries were taken away.
 Exit status: 0 where the file was written, 2 for words that are none of these, else 1
 with the line 'fault N: Name': 4 for a bad path, 3 for a bad key in it, 25 for a VALUE
 that is no JSON, 5 for one that is no such value, 7 where there are no more names for
-entries, 12 to 16 for a file that is no snapshot, 15 too where the new one would be too
+entries, 12 to 15 for a file that is no snapshot, 15 too where the new one would be too
 long, 24 where FILE can't be read or written, 1 where there is no memory.
 
 Example: rds_node add notes.a shopping/fruit '\"apple\"'";
@@ -93,7 +92,7 @@ renamed to FILE.
 Output: the line {\"dot\":null,\"killed\":0}, with the number of entries taken away.
 
 Exit status: 0 where the file was written, 2 for words that are none of these, else 1
-with the line 'fault N: Name': 4 for a bad path, 3 for a bad key in it, 12 to 16 for a
+with the line 'fault N: Name': 4 for a bad path, 3 for a bad key in it, 12 to 15 for a
 file that is no snapshot, 24 where FILE can't be read or written, 1 where there is no
 memory.
 
@@ -111,7 +110,7 @@ Output: the line {\"dot\":null,\"killed\":0}.
 
 Exit status: 0 where the file was written, 2 with the line 'fault 27: Usage' where BY is
 no such number, 2 for words that are none of these, else 1 with the line
-'fault N: Name': 3 for a bad key, 8 where the counter would pass its limit, 12 to 16
+'fault N: Name': 3 for a bad key, 8 where the counter would pass its limit, 12 to 15
 for a file that is no snapshot, 15 too where the new one would be too long, 24 where
 FILE can't be read or written, 1 where there is no memory.
 
@@ -125,7 +124,7 @@ Output: one line of JSON, the document below PATH, or all of it: {\"maps\":..,
 \"regs\":..,\"sets\":..}, each by key, with \"counters\" before them where there is no PATH.
 
 Exit status: 0 where the document was printed, 2 for words that are none of these, else
-1 with the line 'fault N: Name': 4 for a bad path, 3 for a bad key in it, 12 to 16 for
+1 with the line 'fault N: Name': 4 for a bad path, 3 for a bad key in it, 12 to 15 for
 a file that is no snapshot, 24 where FILE can't be read, 1 where there is no memory.
 
 Example: rds_node show notes.a shopping";
@@ -144,11 +143,11 @@ components, where one was taken and kept; then the session's fault, if there was
 
 Exit status: 0 where no fault was written, 2 with the line 'fault 27: Usage' where N is no
 whole number, 2 for words that are none of these, else 1 with the line 'fault N: Name' of
-each fault: 12 to 16 for a file that is no snapshot, 10 where FILE is older than what its
-replica has sent, 11 to 17 for a message that is broken or isn't meant for it, 18 for
-another version, 19 for another group, 20 for other names, 21 for the same replica at both
-ends, 22 for a message out of turn, 23 where the peer ended early, 24 where FILE can't be
-read or written or a connection fails, 1 where there is no memory.
+each fault: 12 to 15 for a file that is no snapshot, 10 where FILE is older than what its
+replica has sent, 11 to 15 or 17 for a message that is broken or isn't meant for it, 18
+for another version, 19 for another group, 20 for other names, 21 for the same replica at
+both ends, 22 for a message out of turn, 23 where the peer ended early, 24 where FILE
+can't be read or written or a connection fails, 1 where there is no memory.
 
 Example: rds_node serve notes.a 127.0.0.1:4000 --sessions 3";
 
@@ -165,12 +164,12 @@ Output: the line {\"taken\":1}, with the number of the delta's components, where
 taken and kept; then the session's fault, if there was one.
 
 Exit status: 0 where no fault was written, 2 for words that are none of these, else 1 with
-the line 'fault N: Name' of each fault: 12 to 16 for a file that is no snapshot, 10 where
-FILE is older than what its replica has sent, 11 to 17 for a message that is broken or
-isn't meant for it, 18 for another version, 19 for another group, 20 for other names, 21
-for the same replica at both ends, 22 for a message out of turn, 23 where the peer ended
-early, 24 where FILE can't be read or written or a connection fails, 1 where there is no
-memory.
+the line 'fault N: Name' of each fault: 12 to 15 for a file that is no snapshot, 10 where
+FILE is older than what its replica has sent, 11 to 15 or 17 for a message that is broken
+or isn't meant for it, 18 for another version, 19 for another group, 20 for other names,
+21 for the same replica at both ends, 22 for a message out of turn, 23 where the peer
+ended early, 24 where FILE can't be read or written or a connection fails, 1 where there
+is no memory.
 
 Example: rds_node sync notes.b 127.0.0.1:4000";
 
@@ -187,8 +186,8 @@ where one was taken and kept; then the fault of its session, if there was one. T
 same for PEER.
 
 Exit status: 0 where no fault was written, 2 for words that are none of these, else 1 with
-the line 'fault N: Name' of each fault: 12 to 16 for a file that is no snapshot, 10 where a
-file is older than what its replica has sent, 11 to 17 for a message that is broken or
+the line 'fault N: Name' of each fault: 12 to 15 for a file that is no snapshot, 10 where a
+file is older than what its replica has sent, 11 to 15 or 17 for a message that is broken or
 isn't meant for the one that got it, 18 for another version, 19 for two groups, 20 for
 other names, 21 for the same replica twice, 22 for a message out of turn, 23 where the
 other ended early, 24 where a file can't be read or written or the connection fails, 1

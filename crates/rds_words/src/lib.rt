@@ -6,6 +6,7 @@ mod help;
 mod laws;
 mod meaning;
 mod reading;
+mod table;
 mod tasks;
 
 pub use laws::word_laws;

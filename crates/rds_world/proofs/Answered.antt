@@ -17,7 +17,7 @@ use Rattle.rds_delta.proofs.Grouping.{one_certificate}
 use Rattle.rds_codec.specs.AnswerTexts.{IsAnswerOf, answer, answer_text}
 use Rattle.rds_codec.specs.CertificateTexts.{IsReplicaOf}
 use Rattle.rds_codec.specs.Decoding.{Decodes}
-use Rattle.rds_codec.specs.DigestTexts.{HasTooManyInDigest, digest_kind}
+use Rattle.rds_codec.specs.DigestTexts.{digest_kind}
 use Rattle.rds_bytes.specs.Values.{AreDotsOf}
 use Rattle.rds_codec.specs.declared.limits.TheConstants.{LIMIT}
 use Rattle.rds_world.specs.declared.event.Event.TheVariants.{Answer}
@@ -25,11 +25,11 @@ use Rattle.rds_world.specs.declared.event.Done.TheVariants.{Answered}
 use Rattle.rds_world.specs.World.{World, Question, answered, after, refused, reply, unless_there}
 use Rattle.rds_world.specs.Stored.{AskText, AnswerText, WorldValue}
 use Rattle.rds_world.specs.Stands.{state_of, HoldsAsk, HoldsAnswer, Stands, IsWorld}
-use Rattle.rds_world.specs.Events.{IsLongAnswer, Refuses, NoMemory, Due, Large, Long}
+use Rattle.rds_world.specs.Events.{IsLongAnswer, Refuses, NoMemory, Due, Long}
 use Rattle.rds_world.specs.Replies.{IsReply, HasNoReply, Lacks, Unread, TooBig}
 use Rattle.rds_world.specs.Steps.{IsStopped}
 use Rattle.rds_world.proofs.Performed.{IsDoneTo, is_there, not_there, matched_length, no_memory, read_at, stopped}
-use Rattle.rds_world.proofs.Readings.{few_read, read_ranks, unread_ask}
+use Rattle.rds_world.proofs.Readings.{read_ranks, unread_ask}
 use Rattle.rds_world.proofs.Standing.{stands_answered, model_after}
 use Rattle.rds_world.proofs.Tables.{Together, matched_at, last_get, same_some}
 
@@ -105,16 +105,13 @@ module _ (v : WorldValue) (i : IsWorld v) (r k : ℕ) (m : ReplicaValue) (a : As
   answer_stopped f (Lacks is) = no_memory v (Answer r k) f is due (λ x. x) (λ w. tt)
   answer_stopped f (Unread read) = stopped v (Answer r k) f (λ w s.
       let q = ask_of w s in
-      let why = unread_ask n q.it a q.related f (subst (λ j. Decodes (digest_kind j) a.bytes (Err f)) same_roster read) in
-      elim why [
-        | inl is ↦ subst (Refuses v w (Answer r k)) (sym is) (NoMemory (due w s) (λ x. x) tt)
-        | inr large ↦ subst (Refuses v w (Answer r k)) (sym large.0) (Large (due w s) (record { ask = a; there = asked; large = large.1 }))
-      ])
+      let is = unread_ask n q.it a q.related f (subst (λ j. Decodes (digest_kind j) a.bytes (Err f)) same_roster read) in
+      subst (Refuses v w (Answer r k)) (sym is) (NoMemory (due w s) (λ x. x) tt))
   answer_stopped f (TooBig g read is long) = stopped v (Answer r k) f (λ w s.
       let q = ask_of w s in
       let read' = subst (λ j. Decodes (digest_kind j) a.bytes (Ok g)) same_roster read in
       let e = read_ranks n q.it a q.related g read' in
-      subst (Refuses v w (Answer r k)) (sym is) (Long (due w s) (λ x. few_read n a.bytes g read' (subst (λ (z : AskText). HasTooManyInDigest n z.bytes) (sym (read_at v.asks k x.ask a x.there asked)) x.large))
+      subst (Refuses v w (Answer r k)) (sym is) (Long (due w s)
       (record {
         asked = q.it;
         there = q.there;
@@ -158,7 +155,7 @@ module _ (v : WorldValue) (i : IsWorld v) (r k : ℕ) (m : ReplicaValue) (a : As
           text = y.text ∙ ap answer_text whole;
           within = y.within;
           dots = subst (λ j. AreDotsOf j (seen_of y.value.state.lives)) same_roster (y.dots (length m.roster.names) r'.fits);
-          again = λ few. subst (IsAnswerOf n) whole (subst (λ j. IsAnswerOf j y.value) same_roster (y.again (length m.roster.names) r'.replica.1 r'.fits few));
+          again = subst (IsAnswerOf n) whole (subst (λ j. IsAnswerOf j y.value) same_roster (y.again (length m.roster.names) r'.replica.1 r'.fits));
         }
 
     answered_so : (w : World) (s : Stands v w) → after w (Answer r k) ≡ record w { answers = w.answers ++ reply w r k (ask_of w s).it ∷ [] }
@@ -202,7 +199,6 @@ module _ (v : WorldValue) (i : IsWorld v) (r k : ℕ) (m : ReplicaValue) (a : As
           step = record {
             accepted = λ w s. record {
               due = due w s;
-              few = λ x. few_read n a.bytes r'.digest read (subst (λ (z : AskText). HasTooManyInDigest n z.bytes) (sym (read_at v.asks k x.ask a x.there asked)) x.large);
               short = not_long w s;
             };
             stands = stands';

@@ -146,7 +146,7 @@ module _ (v : WorldValue) (i : IsWorld v) (r : ℕ) (m : ReplicaValue) (lt : r <
         record {
           world = world_memory v i r x lt at (model_after v (record v { memory = set v.memory r x }) (Edit r c) (λ w s. (accepted w s, stands w s)) i.model);
           step = record {
-            accepted = λ w s. record { due = accepted w s; few = λ h. h; short = λ h. h };
+            accepted = λ w s. record { due = accepted w s; short = λ h. h };
             stands = stands;
             done = λ w s. record { dot = (let same = in_model w s in dot ∙ sym (λ j. new_dot (same j) (own j) c)); killed = λ n is. killed ∙ ap (λ (z : ReplicaValue). count_by (λ row. covers c row.1) (live_rows z.state.lives)) (read_at v.memory r n m is there) };
             roster = refl;
@@ -165,7 +165,7 @@ module _ (v : WorldValue) (i : IsWorld v) (r : ℕ) (m : ReplicaValue) (lt : r <
   pub save_stopped : (f : Fault) → ((f ≡ Memory) × (length (snapshot_text m) ≤ LIMIT)) ⊎ ((f ≡ TooLong) × (LIMIT < length (snapshot_text m))) → IsStopped v (Save r) f v
   save_stopped f h = elim h [
     | inl is ↦ no_memory v (Save r) f is.0 (of_roster v r lt) (short_snapshot is.1) (λ w. tt)
-    | inr l ↦ subst (λ x. IsStopped v (Save r) x v) (sym l.0) (stopped v (Save r) TooLong (λ w s. Long (is_there r w.replicas None (below w s)) (λ x. x) (record { replica = m; there = there; long = l.1 })))
+    | inr l ↦ subst (λ x. IsStopped v (Save r) x v) (sym l.0) (stopped v (Save r) TooLong (λ w s. Long (is_there r w.replicas None (below w s)) (record { replica = m; there = there; long = l.1 })))
   ]
 
   pub save_done : (x : ReplicaValue) → x ≡ m → length (snapshot_text m) ≤ LIMIT → IsDoneTo v (Save r) Plain (record v { kept = set v.kept r x })
@@ -188,7 +188,6 @@ module _ (v : WorldValue) (i : IsWorld v) (r : ℕ) (m : ReplicaValue) (lt : r <
         step = record {
           accepted = λ w s. record {
             due = accepted w s;
-            few = λ h. h;
             short = short_snapshot short;
           };
           stands = stands;
@@ -216,7 +215,7 @@ module _ (v : WorldValue) (i : IsWorld v) (r : ℕ) (m : ReplicaValue) (lt : r <
       record {
         world = world_memory v i r x lt at (model_after v (record v { memory = set v.memory r x }) (Crash r) (λ w s. (accepted w s, stands w s)) i.model);
         step = record {
-          accepted = λ w s. record { due = accepted w s; few = λ h. h; short = λ h. h };
+          accepted = λ w s. record { due = accepted w s; short = λ h. h };
           stands = stands;
           done = λ w s. tt;
           roster = refl;
@@ -228,7 +227,7 @@ module _ (v : WorldValue) (i : IsWorld v) (r : ℕ) (m : ReplicaValue) (lt : r <
   pub ask_stopped : (f : Fault) → (f ≡ Memory) ⊎ ((f ≡ TooLong) × (LIMIT < length (digest_text (digest_of m.state)))) → IsStopped v (Ask r) f v
   ask_stopped f h = elim h [
     | inl is ↦ no_memory v (Ask r) f is (of_roster v r lt) (λ x. x) (λ w. tt)
-    | inr l ↦ subst (λ x. IsStopped v (Ask r) x v) (sym l.0) (stopped v (Ask r) TooLong (λ w s. Long (is_there r w.replicas None (kept_below w s)) (λ x. x) (record { replica = m; there = there; long = l.1 })))
+    | inr l ↦ subst (λ x. IsStopped v (Ask r) x v) (sym l.0) (stopped v (Ask r) TooLong (λ w s. Long (is_there r w.replicas None (kept_below w s)) (record { replica = m; there = there; long = l.1 })))
   ]
 
   pub ask_done : (bytes : List ℕ) (asks : List AskText) (question : ℕ) → asks ≡ v.asks ++ record { asker = r; bytes = bytes } ∷ [] → question ≡ length v.asks
@@ -257,7 +256,6 @@ module _ (v : WorldValue) (i : IsWorld v) (r : ℕ) (m : ReplicaValue) (lt : r <
         step = record {
           accepted = λ w s. record {
             due = accepted w s;
-            few = λ h. h;
             short = λ h. (let same = read_at v.kept r h.replica m h.there there in let long : LIMIT < length (digest_text (digest_of m.state)) = subst (λ (z : ReplicaValue). LIMIT < length (digest_text (digest_of z.state))) (sym same) h.long in omega (arith, short, long));
           };
           stands = stands;

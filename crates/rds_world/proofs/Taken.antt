@@ -13,7 +13,7 @@ use Rattle.rds_state.specs.Fits.{ReplicaValue}
 use Rattle.rds_state.specs.Friends.{MayTake}
 use Rattle.rds_state.specs.Value.{coordinates}
 use Rattle.rds_state.proofs.FriendLemmas.{may_take_is_taken}
-use Rattle.rds_codec.specs.AnswerTexts.{HasTooManySent, answer_kind}
+use Rattle.rds_codec.specs.AnswerTexts.{answer_kind}
 use Rattle.rds_codec.specs.AnswerValues.{AnswerValue}
 use Rattle.rds_codec.specs.Decoding.{Decodes}
 use Rattle.rds_codec.specs.DigestTexts.{digest_kind}
@@ -22,14 +22,14 @@ use Rattle.rds_world.specs.declared.event.Done.TheVariants.{Plain}
 use Rattle.rds_world.specs.World.{World, after, put, refused, taken}
 use Rattle.rds_world.specs.Stored.{AskText, AnswerText, WorldValue}
 use Rattle.rds_world.specs.Stands.{state_of, HasModel, HoldsAnswer, Stands, IsWorld}
-use Rattle.rds_world.specs.Events.{Refuses, NoMemory, Due, Large}
+use Rattle.rds_world.specs.Events.{Refuses, NoMemory, Due}
 use Rattle.rds_world.specs.Replies.{IsTaken, IsNotTaken, NoDigest, NoAnswer, Uncertified, Untaken}
 use Rattle.rds_world.specs.Steps.{IsStopped}
 use Rattle.rds_world.proofs.Answered.{HasPartner, absent_at, present_at}
 use Rattle.rds_world.proofs.Certified as bytes
 use Rattle.rds_world.proofs.Friends.{may_take}
-use Rattle.rds_world.proofs.Performed.{IsDoneTo, read_at, set_same, stopped, world_memory}
-use Rattle.rds_world.proofs.Readings.{few_sent, unread_answer}
+use Rattle.rds_world.proofs.Performed.{IsDoneTo, set_same, stopped, world_memory}
+use Rattle.rds_world.proofs.Readings.{unread_answer}
 use Rattle.rds_world.proofs.Standing.{model_after, stands_memory}
 
 abbrev is_memory : Fault → Bool
@@ -92,10 +92,8 @@ module _ (v : WorldValue) (i : IsWorld v) (k : ℕ) (t : AnswerText) (a : AskTex
       subst (Refuses v w (Take k)) (sym is) (NoMemory (due w s) (λ z. z) tt)
   stopped_by f (NoAnswer d) w s =
       let y = answer_of w s in
-      elim (unread_answer n w.asks v.asks y.it t y.related f (subst (λ j. Decodes (answer_kind j) t.bytes (Err f)) same_roster d)) [
-        | inl is ↦ subst (Refuses v w (Take k)) (sym is) (NoMemory (due w s) (λ z. z) tt)
-        | inr large ↦ subst (Refuses v w (Take k)) (sym large.0) (Large (due w s) (record { reply = t; there = answer_there; large = large.1 }))
-      ]
+      let is = unread_answer n w.asks v.asks y.it t y.related f (subst (λ j. Decodes (answer_kind j) t.bytes (Err f)) same_roster d) in
+      subst (Refuses v w (Take k)) (sym is) (NoMemory (due w s) (λ z. z) tt)
   stopped_by f (Uncertified g x dg dx is wrong) w s =
       absurd (∥∥₁_elim i.model ⊥_prop (λ h. wrong.wrong (bytes.certified v k t a answer_there ask_there h g x (subst (λ j. Decodes (digest_kind j) a.bytes (Ok g)) same_roster dg) (subst (λ j. Decodes (answer_kind j) t.bytes (Ok x)) same_roster dx))))
   stopped_by f (Untaken x dx gives) w s =
@@ -126,7 +124,6 @@ module _ (v : WorldValue) (i : IsWorld v) (k : ℕ) (t : AnswerText) (a : AskTex
         step = record {
           accepted = λ w s. record {
             due = due w s;
-            few = λ z. few_sent n t.bytes is.answer read (subst (λ (y : AnswerText). HasTooManySent n y.bytes) (sym (read_at v.answers k z.reply t z.there answer_there)) z.large);
             short = λ z. z;
           };
           stands = stands;

@@ -1,7 +1,7 @@
 -- When code refuses an event, and what it answers.
 use Rattle.std.specs.Prelude.{◌≡◌, ◌<◌, ℕ, true, List, Some, None, length, count_by, slice_get}
 use Rattle.rds_names.specs.declared.fault.Fault.{Fault}
-use Rattle.rds_names.specs.declared.fault.Fault.TheVariants.{Memory, TooLong, TooManyDots}
+use Rattle.rds_names.specs.declared.fault.Fault.TheVariants.{Memory, TooLong}
 use Rattle.rds_life.specs.Life.{live_rows}
 use Rattle.rds_state.specs.Edit.{covers, needs_room, new_dot}
 use Rattle.rds_state.specs.Fits.{ReplicaValue}
@@ -11,8 +11,7 @@ use Rattle.rds_state.specs.declared.command.Edited.{Edited as Effected}
 use Rattle.rds_delta.specs.declared.row.Row.{Row}
 use Rattle.rds_delta.specs.Claims.{IsCertificate}
 use Rattle.rds_delta.specs.Ranks.{ranks}
-use Rattle.rds_codec.specs.AnswerTexts.{HasTooManySent, answer, answer_text}
-use Rattle.rds_codec.specs.DigestTexts.{HasTooManyInDigest}
+use Rattle.rds_codec.specs.AnswerTexts.{answer, answer_text}
 use Rattle.rds_codec.specs.Exchanged as exchanged
 use Rattle.rds_codec.specs.StateTexts.{snapshot_text}
 use Rattle.rds_codec.specs.declared.limits.TheConstants.{LIMIT}
@@ -21,7 +20,7 @@ use Rattle.rds_world.specs.declared.event.Event.TheVariants.{Edit, Save, Crash, 
 use Rattle.rds_world.specs.declared.event.Done.{Done}
 use Rattle.rds_world.specs.declared.event.Done.TheVariants.{Edited, Plain, Asked, Answered}
 use Rattle.rds_world.specs.World.{World, Question, reply, refused}
-use Rattle.rds_world.specs.Stored.{AskText, AnswerText, WorldValue}
+use Rattle.rds_world.specs.Stored.{WorldValue}
 
 -- the snapshot of a replica in memory is above the limit
 pub record IsLongSnapshot (v : WorldValue) (r : ℕ) : Type 0 where
@@ -54,29 +53,9 @@ MakesTooLong v w (Ask r) = IsLongDigest v r
 MakesTooLong v w (Answer s k) = IsLongAnswer w s k
 MakesTooLong v w (Take k) = ⊥
 
-pub record IsLargeAsk (v : WorldValue) (k : ℕ) : Type 0 where
-  pub ask : AskText
-  pub there : slice_get v.asks k ≡ Some ask
-  pub large : HasTooManyInDigest (length v.roster.names) ask.bytes
-
-pub record IsLargeAnswer (v : WorldValue) (k : ℕ) : Type 0 where
-  pub reply : AnswerText
-  pub there : slice_get v.answers k ≡ Some reply
-  pub large : HasTooManySent (length v.roster.names) reply.bytes
-
--- the text that the event reads holds a set of more dots than are read
-abbrev pub ReadsTooMany : WorldValue → Event → Type 0
-ReadsTooMany v (Edit r c) = ⊥
-ReadsTooMany v (Save r) = ⊥
-ReadsTooMany v (Crash r) = ⊥
-ReadsTooMany v (Ask r) = ⊥
-ReadsTooMany v (Answer s k) = IsLargeAsk v k
-ReadsTooMany v (Take k) = IsLargeAnswer v k
-
 -- the model doesn't refuse the event, and its texts are within their limits
 pub record IsAccepted (v : WorldValue) (w : World) (e : Event) : Type 0 where
   pub due : refused w e ≡ None
-  pub few : ReadsTooMany v e → ⊥
   pub short : MakesTooLong v w e → ⊥
 
 -- the snapshot that a save makes is above the limit
@@ -97,13 +76,12 @@ TakesMemory w (Ask r) = Unit {0}
 TakesMemory w (Answer s k) = Unit {0}
 TakesMemory w (Take k) = Unit {0}
 
--- What the model refuses it for; else a text that is read of too many dots; else one that is made too long. Want of memory
+-- What the model refuses it for; else a text that is made too long. Want of memory
 -- comes after what is found without memory: what the model refuses, and a snapshot that is too long.
 pub data Refuses (v : WorldValue) (w : World) (e : Event) : Fault → Type 0 where
   NoMemory : refused w e ≡ None → (SavesTooLong v e → ⊥) → TakesMemory w e → Refuses v w e Memory
   Due : (f : Fault) → refused w e ≡ Some f → Refuses v w e f
-  Large : refused w e ≡ None → ReadsTooMany v e → Refuses v w e TooManyDots
-  Long : refused w e ≡ None → (ReadsTooMany v e → ⊥) → MakesTooLong v w e → Refuses v w e TooLong
+  Long : refused w e ≡ None → MakesTooLong v w e → Refuses v w e TooLong
 
 -- what an edit did: the dot that it made, and how many live dots it covers
 pub record IsEdited (v : WorldValue) (w : World) (r : ℕ) (c : Command) (e : Effected) : Type 0 where

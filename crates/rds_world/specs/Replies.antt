@@ -1,13 +1,13 @@
 -- What the bytes of an answer hold, and why an answer isn't taken.
-use Rattle.std.specs.Prelude.{◌≡◌, ◌⊎◌, ℕ, List, Some, Ok, Err, length, slice_get}
+use Rattle.std.specs.Prelude.{◌≡◌, ℕ, List, Some, Ok, Err, length, slice_get}
 use Rattle.rds_names.specs.declared.fault.Fault.{Fault}
-use Rattle.rds_names.specs.declared.fault.Fault.TheVariants.{Memory, TooLong, TooManyDots, BadCertificate}
+use Rattle.rds_names.specs.declared.fault.Fault.TheVariants.{Memory, TooLong, BadCertificate}
 use Rattle.rds_state.specs.Ahead.{TakeGives}
 use Rattle.rds_state.specs.Coordinates.{join}
 use Rattle.rds_state.specs.Fits.{Fits}
 use Rattle.rds_state.specs.Value.{StateValue, coordinates}
 use Rattle.rds_delta.specs.Digested.{DigestValue}
-use Rattle.rds_codec.specs.AnswerTexts.{HasTooManySent, answer_kind}
+use Rattle.rds_codec.specs.AnswerTexts.{answer_kind}
 use Rattle.rds_codec.specs.AnswerValues.{AnswerValue}
 use Rattle.rds_codec.specs.CertificateTexts.{IsReplicaOf}
 use Rattle.rds_codec.specs.Decoding.{Decodes}
@@ -47,13 +47,12 @@ pub data IsNotTaken (n : ℕ) (ask bytes : List ℕ) (own : ℕ) (old : StateVal
 
 -- ---- certificates
 
--- The ask of an answer is there. It is read again, if there is memory, and so is the answer, unless a set of it has more dots
--- than are read. What is read passes the check: all of the delta is above the digest, and the rows are its certificate.
+-- The ask of an answer is there. It is read again, if there is memory, and so is the answer. What is read passes the check: all of the delta is above the digest, and the rows are its certificate.
 pub record PassesTheCheck (n : ℕ) (asks : List AskText) (a : AnswerText) : Type 0 where
   pub ask : AskText
   pub there : slice_get asks a.question ≡ Some ask
   pub asked : (f : Fault) → Decodes (digest_kind n) ask.bytes (Err f) → f ≡ Memory
-  pub read : (f : Fault) → Decodes (answer_kind n) a.bytes (Err f) → (f ≡ Memory) ⊎ ((f ≡ TooManyDots) × HasTooManySent n a.bytes)
+  pub read : (f : Fault) → Decodes (answer_kind n) a.bytes (Err f) → f ≡ Memory
   pub certified : (digest : DigestValue) (answer : AnswerValue) → Decodes (digest_kind n) ask.bytes (Ok digest) → Decodes (answer_kind n) a.bytes (Ok answer) → IsCertified digest answer
 
 -- the certificate of each answer is accepted against its ask

@@ -14,8 +14,7 @@ use Rattle.rds_world.specs.Coherent.{Store, Memory as InMemory, Kept as AsKept}
 use Rattle.rds_world.specs.Law.{world_after, held_after, held_in, effects_after}
 use Rattle.rds_world.specs.Updates.{IsJoinOf, ShowsUpdates}
 
--- what stands for the model's world, of this roster, accepts the event: nothing that it reads is too large, and nothing that
--- it makes is too long
+-- what stands for the model's world, of this roster, accepts the event: nothing that it makes is too long
 pub record Happens (roster : RosterValue) (w : World) (e : Event) : Type 0 where
   pub value : WorldValue
   pub of_roster : value.roster ≡ roster

@@ -1,5 +1,5 @@
 -- Which world of the model the replicas, asks and answers that code holds stand for.
-use Rattle.std.specs.Prelude.{◌≡◌, ◌≤◌, ◌<◌, ℕ, List, [], ◌∷◌, Option, Some, None, length, slice_get}
+use Rattle.std.specs.Prelude.{◌≡◌, ◌≤◌, ◌<◌, ℕ, List, Option, Some, None, length, slice_get}
 use Rattle.std.specs.List.{AllZip}
 use Rattle.std.specs.FinMap as map
 use Rattle.rds_names.specs.Roster.{RosterValue}
@@ -15,7 +15,7 @@ use Rattle.rds_codec.specs.AnswerTexts.{IsAnswerOf, answer, answer_text}
 use Rattle.rds_codec.specs.CertificateTexts.{IsReplicaOf}
 use Rattle.rds_codec.specs.Decoding.{IsTextOf}
 use Rattle.rds_codec.specs.DigestTexts.{IsDigestOf, digest_kind, digest_text}
-use Rattle.rds_bytes.specs.Values.{AreDotsOf, AreFew}
+use Rattle.rds_bytes.specs.Values.{AreDotsOf}
 use Rattle.rds_codec.specs.declared.limits.TheConstants.{LIMIT}
 use Rattle.rds_world.specs.World.{World, Question, Reply, empty}
 use Rattle.rds_world.specs.Coherent.{IsCoherent}
@@ -26,7 +26,7 @@ abbrev pub state_of : Option ReplicaValue → Coordinates
 state_of None = empty
 state_of (Some m) = coordinates m.state
 
--- The bytes are the text of a digest with the ranks of the asked state. It is read again where its dots are few.
+-- The bytes are the text of a digest with the ranks of the asked state, which is read again.
 pub record HoldsAsk (n : ℕ) (q : Question) (a : AskText) : Type 0 where
   pub asker : a.asker ≡ q.asker
   pub digest : DigestValue
@@ -35,7 +35,7 @@ pub record HoldsAsk (n : ℕ) (q : Question) (a : AskText) : Type 0 where
   pub text : a.bytes ≡ digest_text digest
   pub within : length a.bytes ≤ LIMIT
   pub dots : AreDotsOf n digest.seen
-  pub again : AreFew digest.seen → IsDigestOf n digest
+  pub again : IsDigestOf n digest
 
 -- The ask's bytes are a text, which was read.
 pub record WasRead (n : ℕ) (asks : List AskText) (k : ℕ) : Type 0 where
@@ -45,7 +45,7 @@ pub record WasRead (n : ℕ) (asks : List AskText) (k : ℕ) : Type 0 where
   pub is_text : IsTextOf (digest_kind n) ask.bytes digest
 
 -- The bytes are the text of the asker, the answer's state and the certificate of that against what was asked from.
--- It is read again where its dots are few.
+-- It is read again.
 pub record HoldsAnswer (n : ℕ) (asks : List Question) (texts : List AskText) (m : Reply) (a : AnswerText) : Type 0 where
   pub question : a.question ≡ m.question
   pub asker : a.asker ≡ m.asker
@@ -60,7 +60,7 @@ pub record HoldsAnswer (n : ℕ) (asks : List Question) (texts : List AskText) (
   pub text : a.bytes ≡ answer_text (answer a.asker value rows)
   pub within : length a.bytes ≤ LIMIT
   pub dots : AreDotsOf n (seen_of value.lives)
-  pub again : AreFew (seen_of value.lives) → IsAnswerOf n (answer a.asker value rows)
+  pub again : IsAnswerOf n (answer a.asker value rows)
 
 -- each replica is of the roster, and its number is its place
 abbrev pub AreAtTheirPlaces : RosterValue → List ReplicaValue → Type 0

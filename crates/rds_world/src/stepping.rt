@@ -18,9 +18,8 @@ use std::alloc::Global;
 impl<S: DotSet> World<S> {
     /// Makes the event happen, if nothing is in its way, and says what it did.
     ///
-    /// Refuses `NoSuch` where there is no such replica, ask or answer; what an edit refuses; `TooManyDots` where an ask
-    /// that is to be answered, or an answer that is to be taken, has a set of more dots than are read; and `TooLong` where
-    /// the text of a snapshot, an ask or an answer would be above the limit. No other fault comes but `Memory`, and that one
+    /// Refuses `NoSuch` where there is no such replica, ask or answer; what an edit refuses; and `TooLong` where the text of
+    /// a snapshot, an ask or an answer would be above the limit. No other fault comes but `Memory`, and that one
     /// only where no fault is due that is found without memory, and where the event may take memory, as an edit does only if it
     /// adds a live dot or a number: every answer is taken, whenever and however often it comes.
     pub fn step(&mut self, alloc: Global, event: &Event) -> Result<Done, Fault>

@@ -9,9 +9,9 @@ returns-clause-length g c =
     (λ i. 1 + c.measure_state-rows.ensures.length i + c.certificate_length.ensures.length i) ∙ sym (answer_length (answer c.args.asker c.args.state.now c.args.certificate.now))
 
 pub returns-clause-certified : goal.returns-clause-certified
-returns-clause-certified g c = λ replicas peer below fits few above certificate.
+returns-clause-certified g c = λ replicas peer below fits above certificate.
     let v = c.args.state.now in
-    let is = c.measure_state-rows.ensures.value replicas fits few in
+    let is = c.measure_state-rows.ensures.value replicas fits in
     record {
       asker = (omega (arith, c.ranges.asker.fits), below);
       state = is;
@@ -19,8 +19,8 @@ returns-clause-certified g c = λ replicas peer below fits few above certificate
     }
 
 pub returns-clause-value : goal.returns-clause-value
-returns-clause-value g c = λ replicas below fits few rows. record {
+returns-clause-value g c = λ replicas below fits rows. record {
   asker = (omega (arith, c.ranges.asker.fits), below);
-  state = c.measure_state-rows.ensures.value replicas fits few;
+  state = c.measure_state-rows.ensures.value replicas fits;
   certificate = c.certificate_length.ensures.value replicas rows;
 }

@@ -19,11 +19,10 @@ pub returns-clause-dots : goal.returns-clause-dots
 returns-clause-dots g c = λ replicas fits d h. (g.met.S.DotSet.within c.seen.result.now d (ap (λ (s : Dots). set.contains s d) c.seen.ensures.dots ∙ h), fits.dots d h)
 
 pub returns-clause-value : goal.returns-clause-value
-returns-clause-value g c = λ replicas fits few.
+returns-clause-value g c = λ replicas fits.
     let v = c.args.digest.now in
     record {
       dots = λ d h. (g.met.S.DotSet.within c.seen.result.now d (ap (λ (s : Dots). set.contains s d) c.seen.ensures.dots ∙ h), fits.dots d h);
-      few = few;
       inside = c.seen.ensures.inside;
       counts = subst (λ (m : Counted). (replicas : ℕ) → ((q : Place) → 0 < number m q → q.replica < replicas) → AreCountsOf replicas m) c.counts.ensures c.counters_length.ensures.are_counts replicas fits.numbers;
     }

@@ -1,9 +1,8 @@
 use Rattle.std.proofs.Common.{arith, ◌<◌, ℕ, subst, ap, sym, ◌∙◌, ◌+◌, length}
 use Rattle.rds_names.specs.Roster.{RosterValue}
-use Rattle.rds_life.specs.Life.{seen_of}
 use Rattle.rds_state.specs.Fits.{Fits}
 use Rattle.rds_state.specs.Value.{StateValue, coordinates}
-use Rattle.rds_bytes.specs.Values.{AreFew, IsMember}
+use Rattle.rds_bytes.specs.Values.{IsMember}
 use Rattle.rds_codec.specs.StateTexts.{IsStateOf, state_text}
 use Rattle.rds_bytes.specs.Spelling.{member_text}
 use Rattle.rds_codec.proofs.SmallTexts.{small_snapshot}
@@ -25,11 +24,10 @@ returns-clause-small g c = λ lives counts.
     small_snapshot v (omega (arith, front, most)) lives counts
 
 pub returns-clause-value : goal.returns-clause-value
-returns-clause-value g c = λ few.
+returns-clause-value g c =
     let v = c.args.replica.now in
     let own = subst (λ (r : RosterValue). c.own.result < length r.names) (sym c.roster.ensures) (subst (λ (n : ℕ). n < length v.roster.names) (sym c.own.ensures.own) c.own.ensures.within) in
     let member = subst (λ (r : RosterValue). IsMember r v.own) c.roster.ensures (subst (λ (n : ℕ). IsMember c.roster.result.now n) c.own.ensures.own (c.member_length.ensures.is_member own)) in
     let state = c.state.ensures.state in
-    let few_here = subst (λ (s : StateValue). AreFew (seen_of s.lives)) (sym state) few in
     let fits = subst (λ (s : StateValue). Fits (length v.roster.names) (coordinates s)) (sym state) c.state.ensures.fits in
-    record { member = member; state = subst (IsStateOf (length v.roster.names)) state (c.measure_state-rows.ensures.value (length v.roster.names) fits few_here) }
+    record { member = member; state = subst (IsStateOf (length v.roster.names)) state (c.measure_state-rows.ensures.value (length v.roster.names) fits) }

@@ -14,7 +14,7 @@ unwrap-above-requires g c =
     let v = c.args.lives.now in
     let s = g.S.DotSet.contents c.in_ok-seen.seen in
     let rows = c.in_ok-rows.rows.items in
-    let sent : rows ≡ unseen_rows (set.contains digest.seen) (live_rows v) = c.in_ok-rows.ensures.ok ∙ ap (λ (t : Dots). unseen_rows (set.contains t) c.as_slice.result.now) c.seen.ensures.dots ∙ ap (unseen_rows (set.contains digest.seen)) (c.as_slice.ensures.value ∙ c.live.ensures.rows) in
+    let sent : rows ≡ unseen_rows (set.contains digest.seen) (live_rows v) = c.in_ok-rows.ensures.ok ∙ ap (λ (t : Dots). unseen_rows (set.contains t) (live_rows v)) c.seen.ensures.dots in
     there c.from_parts.result (AreRows s rows) (λ _. AreRows s rows)
     (subst (AreRows s) (sym sent) (sent_rows digest c.seen.ensures.inside v s c.in_ok-seen.ensures.ok (live_rows v) (rise-live_rows v) (find-live_rows v)))
     c.from_parts.ensures.exact
@@ -25,7 +25,7 @@ returns-clause-ok g c = λ d.
     let v = c.args.lives.now in
     let s = g.S.DotSet.contents c.in_ok-seen.seen in
     let rows = c.in_ok-rows.rows.items in
-    let sent : rows ≡ unseen_rows (set.contains digest.seen) (live_rows v) = c.in_ok-rows.ensures.ok ∙ ap (λ (t : Dots). unseen_rows (set.contains t) c.as_slice.result.now) c.seen.ensures.dots ∙ ap (unseen_rows (set.contains digest.seen)) (c.as_slice.ensures.value ∙ c.live.ensures.rows) in
+    let sent : rows ≡ unseen_rows (set.contains digest.seen) (live_rows v) = c.in_ok-rows.ensures.ok ∙ ap (λ (t : Dots). unseen_rows (set.contains t) (live_rows v)) c.seen.ensures.dots in
     let is = given c.from_parts.result c.unwrap-above.result (λ lives. lives ≡ lived s rows) c.unwrap-above.ensures c.from_parts.ensures.lives in
     ap (λ (l : Lived). map.get l d) (is ∙ ap (lived s) sent)
     ∙ sent_lives digest c.seen.ensures.inside v s c.in_ok-seen.ensures.ok (live_rows v) (rise-live_rows v) (find-live_rows v) d

@@ -1,0 +1,12 @@
+mod Adds
+mod Counts
+mod Cuts
+mod Facts
+mod Inserts
+mod Lasts
+mod Members
+mod Places
+mod Searches
+mod Sets
+mod Tops
+mod Unions

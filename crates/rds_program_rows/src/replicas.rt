@@ -1,0 +1,108 @@
+//! Rows about the replica in a file.
+ghost use Rattle.std.specs.Prelude.{IfOk};
+ghost use Rattle.rds_session.specs.Received.{HasChecked};
+
+use crate::sessions::side_of;
+use rds_files::{ReplacedFile, ReplicaFile, Settled, settle};
+use rds_gaps::GapSet;
+use rds_keep::{Counted, Kept};
+use rds_names::Fault;
+use rds_rows::words::{bytes_of, cut};
+use rds_session::{Side, exchange};
+use rds_state::State;
+use std::alloc::Global;
+
+/// The file whose replica has the sessions.
+pub const FILE: &str = "f";
+
+/// `read`: reads the replica in the file.
+pub fn read(rt: &HostRuntime) -> Result<ReplicaFile<'static, GapSet>, Fault> {
+    ReplicaFile::open(rt, FILE)
+}
+
+/// `keep NAME`: keeps the replica in another file.
+pub fn keep(rt: &HostRuntime, name: &str, kept: &Kept<GapSet>) -> Result<String, Fault> {
+    let made = ReplicaFile::create(rt, name, kept.view_of())?;
+    components_told(rt.alloc(), made.kept())
+}
+
+/// `replace NAME`: keeps the replica of another file in place of the one in the file, and answers how many components it
+/// had, and has.
+pub fn replace(rt: &HostRuntime, name: &str) -> Result<String, Fault> {
+    let other: ReplicaFile<'_, GapSet> = ReplicaFile::open(rt, name)?;
+    replace_by(rt, other.kept())
+}
+
+fn replace_by(rt: &HostRuntime, kept: &Kept<GapSet>) -> Result<String, Fault> {
+    let replaced = read(rt)?.replace(rt, kept.view_of())?;
+    replaced_told(rt.alloc(), &replaced)
+}
+
+fn replaced_told(alloc: Global, replaced: &ReplacedFile<'_, GapSet>) -> Result<String, Fault> {
+    let before = components_of(replaced.before().kept());
+    let now = components_of(replaced.kept());
+    Ok(format!(in alloc; "{before} components, then {now}")?)
+}
+
+/// How many components a replica has.
+pub fn components_told(alloc: Global, kept: &Kept<GapSet>) -> Result<String, Fault> {
+    let components = components_of(kept);
+    Ok(format!(in alloc; "{components} components")?)
+}
+
+fn components_of(kept: &Kept<GapSet>) -> u128 {
+    kept.view_of().state().components()
+}
+
+/// `settle_nothing`: settles in the file a session that received nothing, and answers what came of it and how many
+/// components the replica has then.
+pub fn settle_nothing(
+    rt: &HostRuntime,
+    file: &mut ReplicaFile<'_, GapSet>,
+) -> Result<String, Fault> {
+    let settled = settle(rt, file, None);
+    settled_told(rt.alloc(), settled, file.kept())
+}
+
+/// `settle SIDE HEX`: has a session of the replica that was read, with a peer that tells these bytes, and settles in its
+/// file what it received.
+pub fn settle_received(
+    rt: &HostRuntime,
+    row: &str,
+    file: &mut ReplicaFile<'_, GapSet>,
+) -> Result<String, Fault> {
+    let received = received(rt.alloc(), row, file.kept())?;
+    let settled = settle(rt, file, received);
+    settled_told(rt.alloc(), settled, file.kept())
+}
+
+// What the session of a row receives.
+fn received(alloc: Global, row: &str, kept: &Kept<GapSet>) -> Result<Option<State<GapSet>>, Fault>
+    ensures { IfOk result (HasChecked kept.now) }
+{
+    let (side, digits) = cut(row)?;
+    let side = side_of(side)?;
+    let heard = bytes_of(alloc, digits)?;
+    Ok(received_by(alloc, side, kept, &heard))
+}
+
+// What a session of this replica receives, with a peer that tells these bytes.
+fn received_by(
+    alloc: Global,
+    side: Side,
+    kept: &Kept<GapSet>,
+    heard: &[u8],
+) -> Option<State<GapSet>>
+    ensures { HasChecked kept.now result }
+{
+    let mut sent = Vec::new(alloc);
+    let mut reader = Counted::new(heard);
+    let mut writer = Counted::new(&mut sent);
+    let exchanged = exchange(alloc, side, kept, &mut reader, &mut writer);
+    exchanged.received
+}
+
+fn settled_told(alloc: Global, settled: Settled, kept: &Kept<GapSet>) -> Result<String, Fault> {
+    let components = components_of(kept);
+    Ok(format!(in alloc; "{settled:?}, {components} components")?)
+}

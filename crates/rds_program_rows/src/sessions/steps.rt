@@ -1,0 +1,99 @@
+//! Sessions, step by step.
+use super::End;
+use super::showing::outcome_told;
+use rds_gaps::GapSet;
+use rds_names::Fault;
+use rds_session::{Ended, Input, Session};
+use std::alloc::Global;
+
+/// A session, what it has sent, and how it stands.
+pub struct Course<'a> {
+    session: Session<'a, GapSet>,
+    sent: Vec<u8>,
+    ended: Ended,
+}
+
+// Written out, so that where a course is let go a caller's proof has one call, and not a step for each part of its parts.
+impl<'a> Drop for Course<'a> {
+    fn drop(self) {
+        let Course {
+            session: _session,
+            sent: _sent,
+            ended: _,
+        } = self;
+    }
+}
+
+impl<'a> Course<'a> {
+    /// A session that hasn't begun.
+    pub fn new(alloc: Global, end: &'a End) -> Course<'a> {
+        Course {
+            session: Session::new(end.side, &end.kept),
+            sent: Vec::new(alloc),
+            ended: Ended::Going,
+        }
+    }
+
+    /// Takes a step.
+    pub fn step(&mut self, alloc: Global, input: Input<'_>) -> Result<(), Fault> {
+        let output = self.session.step(alloc, input);
+        self.sent.extend_from_slice(&output.send)?;
+        self.ended = output.ended;
+        Ok(())
+    }
+
+    /// Hears the same bytes so often.
+    pub fn hear_often(&mut self, alloc: Global, bytes: &[u8], count: u64) -> Result<(), Fault> {
+        for _ in 0..count {
+            self.step(alloc, Input::Bytes(bytes))?;
+        }
+        Ok(())
+    }
+
+    // Begins, and hears the bytes in pieces of this length.
+    fn hear(&mut self, alloc: Global, bytes: &[u8], length: usize) -> Result<(), Fault> {
+        self.step(alloc, Input::Bytes(&[]))?;
+        for piece in bytes.chunks(length.max(1)) {
+            self.step(alloc, Input::Bytes(piece))?;
+        }
+        Ok(())
+    }
+
+    /// What has come of it by now.
+    pub fn told(&self, alloc: Global) -> Result<String, Fault> {
+        outcome_told(alloc, &self.sent, self.ended, self.session.received())
+    }
+
+    /// What has come of it.
+    pub fn into_told(self, alloc: Global) -> Result<String, Fault> {
+        let Course {
+            session,
+            sent,
+            ended,
+        } = self;
+        let received = session.into_received();
+        outcome_told(alloc, &sent, ended, received.as_ref())
+    }
+
+    /// What it has sent.
+    pub fn into_sent(self) -> Vec<u8> {
+        let Course {
+            session: _session,
+            sent,
+            ended: _,
+        } = self;
+        sent
+    }
+}
+
+/// The session that has begun, and has heard the bytes in pieces of this length.
+pub fn hear_in_pieces<'a>(
+    alloc: Global,
+    end: &'a End,
+    bytes: &[u8],
+    length: usize,
+) -> Result<Course<'a>, Fault> {
+    let mut course = Course::new(alloc, end);
+    course.hear(alloc, bytes, length)?;
+    Ok(course)
+}
