@@ -1,5 +1,5 @@
 //! The parts of texts as bytes: numbers, names, sets of dots, the entries of live dots, and counters. What reads a part
-//! and what writes it stand beside one another, and meet in its spelling.
+//! (`numbers`, `front`, `rows`, `entries`, `counters`) and what writes it (`putting`, `walking`) meet in its spelling.
 #![tactic(auto)]
 
 mod counters;
@@ -14,7 +14,7 @@ mod walking;
 
 pub use counters::read_counters;
 pub use entries::read_live_rows;
-pub use front::{read_front, read_key, read_member, read_replica};
+pub use front::{MAGIC, read_front, read_key, read_member, read_replica};
 pub use list::{PartReader, read_parts};
 pub use measuring::{counters_length, key_length, live_rows_length, member_length};
 pub use numbers::{read_byte, read_length, read_u32, read_u64};
