@@ -1,3 +1,4 @@
+mod Foreign
 mod FrontSoFar
 pub mod PiecesSoFar
 mod ReadWhole

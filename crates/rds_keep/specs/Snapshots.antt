@@ -1,8 +1,9 @@
 -- What writing and reading a snapshot answer.
-use Rattle.std.specs.Prelude.{◌≡◌, ℕ, ◌<◌, ◌≤◌, ◌⊎◌, List, length, Result, Err}
+use Rattle.std.specs.Prelude.{◌≡◌, ◌≢◌, ℕ, ◌<◌, ◌≤◌, ◌⊎◌, List, length, take, Result, Err}
 use Rattle.rds_names.specs.declared.fault.Fault.{Fault}
-use Rattle.rds_names.specs.declared.fault.Fault.TheVariants.{Memory, TooLong, Device}
+use Rattle.rds_names.specs.declared.fault.Fault.TheVariants.{Memory, Bad, TooLong, Device}
 use Rattle.rds_state.specs.Fits.{ReplicaValue}
+use Rattle.rds_bytes.specs.Spelling.{magic}
 use Rattle.rds_codec.specs.Decoding.{Decodes, ReadsAll}
 use Rattle.rds_codec.specs.Kinds.{snapshot_kind}
 use Rattle.rds_codec.specs.StateTexts.{snapshot_at}
@@ -17,6 +18,21 @@ RefusesText text old new Memory = (length text ≤ LIMIT) × (new ≡ old)
 RefusesText text old new Device = (length text ≤ LIMIT) × HasFailed old new
 RefusesText text old new e = ⊥
 
--- what decoding the whole input answers, or why the input wasn't read whole
+-- its first four bytes are there, and aren't those that every snapshot begins with
+abbrev pub IsForeign : List ℕ → Type 0
+IsForeign input = (4 ≤ length input) × (take 4 input ≢ magic)
+
+-- what decoding the whole input answers
+abbrev pub IsDecoded : List ℕ → Result ReplicaValue Fault → Type 0
+IsDecoded input result = Decodes snapshot_kind input result × ReadsAll snapshot_at input result
+
+-- A foreign input is Bad, however long it is. Of one that isn't, and of each within the limit, it is what decoding
+-- the whole input answers.
+pub record IsAnswerTo (input : List ℕ) (result : Result ReplicaValue Fault) : Type 0 where
+  pub foreign : IsForeign input → result ≡ Err Bad
+  pub own : (IsForeign input → ⊥) → IsDecoded input result
+  pub within : length input ≤ LIMIT → IsDecoded input result
+
+-- the answer to the input, or why it wasn't read
 abbrev pub ReadsWhole : List ℕ → Result ReplicaValue Fault → Type 0
-ReadsWhole input result = (Decodes snapshot_kind input result × ReadsAll snapshot_at input result) ⊎ ((result ≡ Err Memory) ⊎ (result ≡ Err Device))
+ReadsWhole input result = IsAnswerTo input result ⊎ ((result ≡ Err Memory) ⊎ (result ≡ Err Device))

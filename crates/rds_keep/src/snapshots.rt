@@ -1,17 +1,18 @@
 //! Snapshots, written and read whole.
-ghost use Rattle.std.specs.Prelude.{◌≡◌, ◌≢◌, ◌≤◌, ◌⊎◌, length, Err, IfOk, IfErr, IfSome, OnOk, OnErr};
+ghost use Rattle.std.specs.Prelude.{◌≡◌, ◌≢◌, ◌+◌, ◌<◌, ◌≤◌, ◌⊎◌, length, Err, IfOk, IfErr, IfSome, OnOk, OnErr};
 ghost use Rattle.std.specs.FinMap as map;
-ghost use Rattle.std.specs.Io.KnownBytes.{Appends, IsAtEnd};
-ghost use Rattle.rds_names.specs.declared.fault.Fault.TheVariants.{Device};
+ghost use Rattle.std.specs.Io.KnownBytes.{Appends, Consumes, IsAtEnd};
+ghost use Rattle.rds_names.specs.declared.fault.Fault.TheVariants.{Memory, Bad, Device};
 ghost use Rattle.rds_codec.specs.Decoding.{IsOtherFault};
 ghost use Rattle.rds_codec.specs.StateTexts.{snapshot_text, IsSnapshot};
 ghost use Rattle.rds_codec.specs.declared.limits.TheConstants.{LIMIT};
 ghost use Rattle.rds_keep.specs.Counted.{HasFailed};
-ghost use Rattle.rds_keep.specs.Parts.{AppendsPart};
-ghost use Rattle.rds_keep.specs.Snapshots.{ReadsWhole, RefusesText};
+ghost use Rattle.rds_keep.specs.Parts.{AppendsPart, ConsumesAtMost};
+ghost use Rattle.rds_keep.specs.Snapshots.{IsForeign, ReadsWhole, RefusesText};
 
 use crate::counted::Counted;
 use crate::kept::Kept;
+use rds_bytes::MAGIC;
 use rds_codec::{LIMIT, decode_snapshot, encode_snapshot};
 use rds_dots::DotSet;
 use rds_names::Fault;
@@ -48,10 +49,41 @@ pub fn write_snapshot<S: DotSet, W: Write>(
     Ok(kept)
 }
 
+/// All that the reader holds, or one byte more of it than a text may have.
+///
+/// Refuses `Bad` where the first four bytes are those of no snapshot, and reads no more than these.
+fn read_input<R: Read>(alloc: Global, reader: &mut Counted<R>) -> Result<Vec<u8>, Fault>
+    ensures bytes { IfOk result (λ v. Consumes (R.remaining reader.old.inner)
+        (R.remaining reader.new.inner) v.items) }
+    ensures end { IfOk result (λ v. length v.items < LIMIT + 1
+        → IsAtEnd (R.remaining reader.new.inner)) }
+    ensures own { IfOk result (λ v. IsForeign v.items → ⊥) }
+    ensures bad { IfErr result (λ e. e ≡ Bad → IfSome (R.remaining reader.old.inner) IsForeign) }
+    ensures foreign { IfSome (R.remaining reader.old.inner) (λ input. IsForeign input
+        → ConsumesAtMost (R.remaining reader.old.inner) (R.remaining reader.new.inner) 4) }
+    ensures fault { IfErr result (λ e. (e ≡ Bad) ⊎ ((e ≡ Memory) ⊎ (e ≡ Device))) }
+    ensures counted { result ≡ Err Device → HasFailed reader.old reader.new }
+    ensures steady { result ≢ Err Device → reader.new.failed ≡ reader.old.failed }
+    ensures turns { reader.new.turns ≡ reader.old.turns }
+    ensures renamed { reader.new.renamed ≡ reader.old.renamed }
+{
+    let mut input = reader.read_front(alloc, MAGIC.len())?;
+    if input.len() < MAGIC.len() {
+        return Ok(input);
+    }
+    if input.as_slice() != MAGIC.as_slice() {
+        return Err(Fault::Bad);
+    }
+    reader.read_on(&mut input, LIMIT + 1)?;
+    Ok(input)
+}
+
 /// Reads all that the reader holds: the replica whose snapshot it is.
 ///
-/// Refuses as decoding does for the whole input, of which it holds no more than a text may have. A
-/// read that fails, and more reads than the reader's bound of turns, are `Device`.
+/// Refuses as decoding does for the whole input, of which it holds no more than a text may have. But
+/// an input whose first four bytes are those of no snapshot is `Bad` however long it is, and no more
+/// than these are read of it. A read that fails, and more reads than the reader's bound of turns, are
+/// `Device`.
 pub fn read_snapshot<S: DotSet, R: Read>(
     alloc: Global,
     reader: &mut Counted<R>,
@@ -60,6 +92,8 @@ pub fn read_snapshot<S: DotSet, R: Read>(
         (λ input. input ≡ snapshot_text kept)) }
     ensures value { IfOk result (λ kept. IsSnapshot kept) }
     ensures whole { IfSome (R.remaining reader.old.inner) (λ input. ReadsWhole input result) }
+    ensures foreign { IfSome (R.remaining reader.old.inner) (λ input. IsForeign input
+        → ConsumesAtMost (R.remaining reader.old.inner) (R.remaining reader.new.inner) 4) }
     ensures end { OnOk result (IsAtEnd (R.remaining reader.new.inner)) }
     ensures fault { IfErr result (λ e. (e ≡ Device) ⊎ IsOtherFault e) }
     ensures counted { result ≡ Err Device → HasFailed reader.old reader.new }
@@ -67,7 +101,7 @@ pub fn read_snapshot<S: DotSet, R: Read>(
     ensures turns { reader.new.turns ≡ reader.old.turns }
     ensures renamed { reader.new.renamed ≡ reader.old.renamed }
 {
-    let input = reader.read_front(alloc, LIMIT + 1)?;
+    let input = read_input(alloc, reader)?;
     let replica = decode_snapshot(alloc, input.as_slice())?;
     Ok(Kept::new(replica))
 }
