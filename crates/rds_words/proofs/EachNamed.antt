@@ -14,7 +14,8 @@ use Rattle.rds_words.specs.Written.{AreData, HasNames, IsWritable, dashed, is_da
 use Rattle.rds_words.proofs.CommandWords.{node_on_words}
 use Rattle.rds_words.proofs.Dashed.{Meets, undashed_fault, undashed_rows}
 use Rattle.rds_words.proofs.InitNamed.{init_dashed, init_met}
-use Rattle.rds_words.proofs.ServeNamed.{serve_met, serve_named}
+use Rattle.rds_words.proofs.ServeNamed.{serve_met, serve_named, sessions_named, timeout_named}
+use Rattle.rds_words.proofs.SyncNamed.{sync_met, sync_named}
 
 -- words that are data need no dashes
 undashed : (name command : Text) (words result : List Text) → Meets (built node_app) command → AreData words → Names (name ∷ command ∷ codes "--" ∷ words) result → Names (name ∷ command ∷ words) result
@@ -35,9 +36,13 @@ show_dashed : (name file path : Text) → Names (name ∷ codes "show" ∷ codes
 unfolding node_on_words
 show_dashed name file path = (refl, refl)
 
-sync_dashed : (name file addr : Text) → Names (name ∷ codes "sync" ∷ codes "--" ∷ file ∷ addr ∷ []) (codes "sync" ∷ file ∷ addr ∷ [])
+sync_dashed : (name file addr timeout : Text) → Names (name ∷ codes "sync" ∷ (codes "--timeout=" ++ timeout) ∷ codes "--" ∷ file ∷ addr ∷ []) (codes "sync" ∷ file ∷ addr ∷ timeout ∷ [])
 unfolding node_on_words
-sync_dashed name file addr = (refl, refl)
+sync_dashed name file addr timeout = (refl, refl)
+
+pub sync_alone_dashed : (name file addr : Text) → Names (name ∷ codes "sync" ∷ codes "--" ∷ file ∷ addr ∷ []) (codes "sync" ∷ file ∷ addr ∷ codes "60" ∷ [])
+unfolding node_on_words
+sync_alone_dashed name file addr = (refl, refl)
 
 pair_dashed : (name first second : Text) → Names (name ∷ codes "pair" ∷ codes "--" ∷ first ∷ second ∷ []) (codes "pair" ∷ first ∷ second ∷ [])
 unfolding node_on_words
@@ -67,11 +72,20 @@ dec_dashed : (name file key by : Text) → Names (name ∷ codes "dec" ∷ codes
 unfolding node_on_words
 dec_dashed name file key by = (refl, refl)
 
-serve_dashed : (name file addr sessions : Text) → Names (name ∷ codes "serve" ∷ (codes "--sessions=" ++ sessions) ∷ codes "--" ∷ file ∷ addr ∷ []) (codes "serve" ∷ file ∷ addr ∷ sessions ∷ [])
+serve_dashed : (name file addr sessions timeout : Text) → Names (name ∷ codes "serve" ∷ (codes "--sessions=" ++ sessions) ∷ (codes "--timeout=" ++ timeout) ∷ codes "--" ∷ file ∷ addr ∷ [])
+    (codes "serve" ∷ file ∷ addr ∷ sessions ∷ timeout ∷ [])
 unfolding node_on_words
-serve_dashed name file addr sessions = (refl, refl)
+serve_dashed name file addr sessions timeout = (refl, refl)
 
-once_dashed : (name file addr : Text) → Names (name ∷ codes "serve" ∷ codes "--" ∷ file ∷ addr ∷ []) (codes "serve" ∷ file ∷ addr ∷ codes "1" ∷ [])
+pub sessions_alone_dashed : (name file addr sessions : Text) → Names (name ∷ codes "serve" ∷ (codes "--sessions=" ++ sessions) ∷ codes "--" ∷ file ∷ addr ∷ []) (codes "serve" ∷ file ∷ addr ∷ sessions ∷ codes "60" ∷ [])
+unfolding node_on_words
+sessions_alone_dashed name file addr sessions = (refl, refl)
+
+pub timeout_alone_dashed : (name file addr timeout : Text) → Names (name ∷ codes "serve" ∷ (codes "--timeout=" ++ timeout) ∷ codes "--" ∷ file ∷ addr ∷ []) (codes "serve" ∷ file ∷ addr ∷ codes "1" ∷ timeout ∷ [])
+unfolding node_on_words
+timeout_alone_dashed name file addr timeout = (refl, refl)
+
+once_dashed : (name file addr : Text) → Names (name ∷ codes "serve" ∷ codes "--" ∷ file ∷ addr ∷ []) (codes "serve" ∷ file ∷ addr ∷ codes "1" ∷ codes "60" ∷ [])
 unfolding node_on_words
 once_dashed name file addr = (refl, refl)
 
@@ -96,10 +110,6 @@ sim_met = (refl, refl)
 show_met : Meets (built node_app) (codes "show")
 unfolding node_on_words
 show_met = (refl, refl)
-
-sync_met : Meets (built node_app) (codes "sync")
-unfolding node_on_words
-sync_met = (refl, refl)
 
 pair_met : Meets (built node_app) (codes "pair")
 unfolding node_on_words
@@ -147,9 +157,9 @@ task_dashed name (Edit file (Clear path)) has = clear_dashed name file.now path.
 task_dashed name (Edit file (Inc key by)) has = inc_dashed name file.now key.now by.now
 task_dashed name (Edit file (Dec key by)) has = dec_dashed name file.now key.now by.now
 task_dashed name (Show file path) has = show_dashed name file.now path.now
-task_dashed name (Sync file addr) has = sync_dashed name file.now addr.now
+task_dashed name (Sync words) has = sync_dashed name words.file.now words.addr.now words.timeout.now
 task_dashed name (Pair first second) has = pair_dashed name first.now second.now
-task_dashed name (Serve words) has = serve_dashed name words.file.now words.addr.now words.sessions.now
+task_dashed name (Serve words) has = serve_dashed name words.file.now words.addr.now words.sessions.now words.timeout.now
 
 pub task_written : (name : Text) (task : Task) → IsWritable task → Names (name ∷ written task) (words_of task)
 task_written name Join is = undashed name (codes "join") [] _ join_met is.1 (join_dashed name)
@@ -163,12 +173,16 @@ task_written name (Edit file (Clear path)) is = undashed name (codes "clear") (f
 task_written name (Edit file (Inc key by)) is = undashed name (codes "inc") (file.now ∷ key.now ∷ by.now ∷ []) _ inc_met is.1 (inc_dashed name file.now key.now by.now)
 task_written name (Edit file (Dec key by)) is = undashed name (codes "dec") (file.now ∷ key.now ∷ by.now ∷ []) _ dec_met is.1 (dec_dashed name file.now key.now by.now)
 task_written name (Show file path) is = undashed name (codes "show") (file.now ∷ path.now ∷ []) _ show_met is.1 (show_dashed name file.now path.now)
-task_written name (Sync file addr) is = undashed name (codes "sync") (file.now ∷ addr.now ∷ []) _ sync_met is.1 (sync_dashed name file.now addr.now)
+task_written name (Sync words) is =
+    let behind = and_right (is_data words.file.now) _ is.1 in
+    sync_named name words.file.now words.addr.now words.timeout.now (and_left (is_data words.file.now) _ is.1) (and_left (is_data words.addr.now) _ behind)
+    (and_left (is_data words.timeout.now) _ (and_right (is_data words.addr.now) _ behind))
 task_written name (Pair first second) is = undashed name (codes "pair") (first.now ∷ second.now ∷ []) _ pair_met is.1 (pair_dashed name first.now second.now)
 task_written name (Serve words) is =
     let behind = and_right (is_data words.file.now) _ is.1 in
-    serve_named name words.file.now words.addr.now words.sessions.now (and_left (is_data words.file.now) _ is.1) (and_left (is_data words.addr.now) _ behind)
-    (and_left (is_data words.sessions.now) _ (and_right (is_data words.addr.now) _ behind))
+    let options = and_right (is_data words.addr.now) _ behind in
+    serve_named name words.file.now words.addr.now words.sessions.now words.timeout.now (and_left (is_data words.file.now) _ is.1) (and_left (is_data words.addr.now) _ behind)
+    (and_left (is_data words.sessions.now) _ options) (and_left (is_data words.timeout.now) _ (and_right (is_data words.sessions.now) _ options))
 
 -- ---- what may be left out
 
@@ -178,5 +192,20 @@ root_shown name file are = undashed name (codes "show") (file ∷ []) _ show_met
 pub root_cleared : (name file : Text) → AreData (file ∷ []) → Names (name ∷ codes "clear" ∷ file ∷ []) (codes "clear" ∷ file ∷ [] ∷ [])
 root_cleared name file are = undashed name (codes "clear") (file ∷ []) _ clear_met are (clear_root_dashed name file)
 
-pub once_served : (name file addr : Text) → AreData (file ∷ addr ∷ []) → Names (name ∷ codes "serve" ∷ file ∷ addr ∷ []) (codes "serve" ∷ file ∷ addr ∷ codes "1" ∷ [])
+pub once_served : (name file addr : Text) → AreData (file ∷ addr ∷ []) → Names (name ∷ codes "serve" ∷ file ∷ addr ∷ []) (codes "serve" ∷ file ∷ addr ∷ codes "1" ∷ codes "60" ∷ [])
 once_served name file addr are = undashed name (codes "serve") (file ∷ addr ∷ []) _ serve_met are (once_dashed name file addr)
+
+pub sessions_alone : (name file addr sessions : Text) → AreData (file ∷ addr ∷ sessions ∷ [])
+    → Names (name ∷ codes "serve" ∷ file ∷ addr ∷ codes "--sessions" ∷ sessions ∷ []) (codes "serve" ∷ file ∷ addr ∷ sessions ∷ codes "60" ∷ [])
+sessions_alone name file addr sessions are =
+    let behind = and_right (is_data file) _ are in
+    sessions_named name file addr sessions (and_left (is_data file) _ are) (and_left (is_data addr) _ behind) (and_left (is_data sessions) _ (and_right (is_data addr) _ behind))
+
+pub timeout_alone : (name file addr timeout : Text) → AreData (file ∷ addr ∷ timeout ∷ [])
+    → Names (name ∷ codes "serve" ∷ file ∷ addr ∷ codes "--timeout" ∷ timeout ∷ []) (codes "serve" ∷ file ∷ addr ∷ codes "1" ∷ timeout ∷ [])
+timeout_alone name file addr timeout are =
+    let behind = and_right (is_data file) _ are in
+    timeout_named name file addr timeout (and_left (is_data file) _ are) (and_left (is_data addr) _ behind) (and_left (is_data timeout) _ (and_right (is_data addr) _ behind))
+
+pub sync_alone : (name file addr : Text) → AreData (file ∷ addr ∷ []) → Names (name ∷ codes "sync" ∷ file ∷ addr ∷ []) (codes "sync" ∷ file ∷ addr ∷ codes "60" ∷ [])
+sync_alone name file addr are = undashed name (codes "sync") (file ∷ addr ∷ []) _ sync_met are (sync_alone_dashed name file addr)

@@ -6,4 +6,6 @@ pub mod InitNamed
 pub mod NamedTasks
 pub mod Naming
 pub mod OneMeaning
+pub mod Passing
 pub mod ServeNamed
+pub mod SyncNamed

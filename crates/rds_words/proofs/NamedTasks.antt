@@ -18,7 +18,7 @@ is_join (Some (Edit file (Inc key by))) e = absurd cc
 is_join (Some (Edit file (Dec key by))) e = absurd cc
 is_join (Some (Show file path)) e = absurd cc
 is_join (Some (Serve words)) e = absurd cc
-is_join (Some (Sync file addr)) e = absurd cc
+is_join (Some (Sync words)) e = absurd cc
 is_join (Some (Pair first second)) e = absurd cc
 
 pub is_sim : (task : Option Task) → option_map words_of task ≡ Some (codes "sim" ∷ []) → task ≡ Some Sim
@@ -34,5 +34,5 @@ is_sim (Some (Edit file (Inc key by))) e = absurd cc
 is_sim (Some (Edit file (Dec key by))) e = absurd cc
 is_sim (Some (Show file path)) e = absurd cc
 is_sim (Some (Serve words)) e = absurd cc
-is_sim (Some (Sync file addr)) e = absurd cc
+is_sim (Some (Sync words)) e = absurd cc
 is_sim (Some (Pair first second)) e = absurd cc

@@ -46,6 +46,10 @@ address_rule = required_rule (codes "ADDR")
 abbrev pub sessions_rule : Rule
 sessions_rule = defaulted_rule (codes "SESSIONS") (codes "sessions") (codes "1")
 
+-- after how many seconds a silent peer is given up, as an option, 60 where it isn't given
+abbrev pub timeout_rule : Rule
+timeout_rule = defaulted_rule (codes "TIMEOUT") (codes "timeout") (codes "60")
+
 -- a command with its words in their order
 abbrev pub command_app : Text → List Rule → App
 command_app name words = fold with_rule (new_app name) words
@@ -70,8 +74,8 @@ commands =
     ∷ command_app (codes "inc") (file_rule ∷ key_rule ∷ by_rule ∷ [])
     ∷ command_app (codes "dec") (file_rule ∷ key_rule ∷ by_rule ∷ [])
     ∷ command_app (codes "show") (file_rule ∷ part_rule ∷ [])
-    ∷ command_app (codes "serve") (file_rule ∷ address_rule ∷ sessions_rule ∷ [])
-    ∷ command_app (codes "sync") (file_rule ∷ address_rule ∷ [])
+    ∷ command_app (codes "serve") (file_rule ∷ address_rule ∷ sessions_rule ∷ timeout_rule ∷ [])
+    ∷ command_app (codes "sync") (file_rule ∷ address_rule ∷ timeout_rule ∷ [])
     ∷ command_app (codes "pair") (file_rule ∷ required_rule (codes "PEER") ∷ [])
     ∷ []
 

@@ -23,8 +23,8 @@ words_of Sim = codes "sim" ∷ []
 words_of (Init words) = codes "init" ∷ words.file.now ∷ words.group.now ∷ words.own.now ∷ map (λ n. n.now) words.names.items
 words_of (Edit file edit) = edit_words file.now edit
 words_of (Show file path) = codes "show" ∷ file.now ∷ path.now ∷ []
-words_of (Serve words) = codes "serve" ∷ words.file.now ∷ words.addr.now ∷ words.sessions.now ∷ []
-words_of (Sync file addr) = codes "sync" ∷ file.now ∷ addr.now ∷ []
+words_of (Serve words) = codes "serve" ∷ words.file.now ∷ words.addr.now ∷ words.sessions.now ∷ words.timeout.now ∷ []
+words_of (Sync words) = codes "sync" ∷ words.file.now ∷ words.addr.now ∷ words.timeout.now ∷ []
 words_of (Pair first second) = codes "pair" ∷ first.now ∷ second.now ∷ []
 
 -- the words under these ids, where each has one
@@ -59,8 +59,8 @@ edit_words_behind name rows =
 -- the words behind the name of a command that makes sessions, or that edits a file's replica
 abbrev pub session_words_behind : Text → List Row → Option (List Text)
 session_words_behind name rows =
-    if bytes_eq name (codes "serve") then words_under (codes "FILE" ∷ codes "ADDR" ∷ codes "SESSIONS" ∷ []) rows
-    else (if bytes_eq name (codes "sync") then words_under (codes "FILE" ∷ codes "ADDR" ∷ []) rows
+    if bytes_eq name (codes "serve") then words_under (codes "FILE" ∷ codes "ADDR" ∷ codes "SESSIONS" ∷ codes "TIMEOUT" ∷ []) rows
+    else (if bytes_eq name (codes "sync") then words_under (codes "FILE" ∷ codes "ADDR" ∷ codes "TIMEOUT" ∷ []) rows
     else (if bytes_eq name (codes "pair") then words_under (codes "FILE" ∷ codes "PEER" ∷ []) rows
     else edit_words_behind name rows))
 

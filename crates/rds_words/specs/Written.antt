@@ -3,7 +3,7 @@ use Rattle.std.specs.Prelude.{◌≡◌, ⊤, Bool, true, not, ◌==◌, List, [
 use Rattle.std.specs.List.{list_all}
 use Rattle.clap.specs.Words.{Text}
 use Rattle.rds_words.specs.declared.tasks.Task.{Task}
-use Rattle.rds_words.specs.declared.tasks.Task.TheVariants.{Init, Serve}
+use Rattle.rds_words.specs.declared.tasks.Task.TheVariants.{Init, Serve, Sync}
 use Rattle.rds_words.specs.Task.{words_of}
 
 -- the word can't be taken for an option: it doesn't begin with a hyphen
@@ -14,18 +14,20 @@ is_data (b ∷ bs) = not (b == 45)
 abbrev pub AreData : List Text → Type 0
 AreData words = list_all is_data words ≡ true
 
--- the command, then its words; how many sessions `serve` has is said by its option
+-- the command, then its words; `serve` and `sync` have some of theirs behind options
 abbrev pub written : Task → List Text
-written (Serve words) = codes "serve" ∷ words.file.now ∷ words.addr.now ∷ codes "--sessions" ∷ words.sessions.now ∷ []
+written (Serve words) = codes "serve" ∷ words.file.now ∷ words.addr.now ∷ codes "--sessions" ∷ words.sessions.now ∷ codes "--timeout" ∷ words.timeout.now ∷ []
+written (Sync words) = codes "sync" ∷ words.file.now ∷ words.addr.now ∷ codes "--timeout" ∷ words.timeout.now ∷ []
 written task = words_of task
 
--- two dashes stand between the command, with its option, and its words
+-- two dashes stand between the command, with its options, and its words
 abbrev pub dashes_in : List Text → List Text
 dashes_in [] = []
 dashes_in (command ∷ words) = command ∷ codes "--" ∷ words
 
 abbrev pub dashed : Task → List Text
-dashed (Serve words) = codes "serve" ∷ (codes "--sessions=" ++ words.sessions.now) ∷ codes "--" ∷ words.file.now ∷ words.addr.now ∷ []
+dashed (Serve words) = codes "serve" ∷ (codes "--sessions=" ++ words.sessions.now) ∷ (codes "--timeout=" ++ words.timeout.now) ∷ codes "--" ∷ words.file.now ∷ words.addr.now ∷ []
+dashed (Sync words) = codes "sync" ∷ (codes "--timeout=" ++ words.timeout.now) ∷ codes "--" ∷ words.file.now ∷ words.addr.now ∷ []
 dashed task = dashes_in (words_of task)
 
 -- `init` has a name

@@ -39,7 +39,7 @@ fn described_command<'a>(alloc: Global, described: &Described) -> Result<Command
 {
     let mut command = Command::new(alloc, described.name)
         .about(described.about)
-        .after_help(described.after_help);
+        .after_help(described.page.text());
     for word in described.words {
         command = command.arg(described_arg(alloc, word))?;
     }

@@ -1,5 +1,5 @@
 //! Which words name a task.
-ghost use Rattle.std.specs.Prelude.{[], ◌∷◌, codes};
+ghost use Rattle.std.specs.Prelude.{[], ◌∷◌, ◌++◌, codes};
 ghost use Rattle.clap.specs.Words.{Text};
 ghost use Rattle.rds_words.specs.declared.tasks.Task.{Task};
 ghost use Rattle.rds_words.specs.Entered.{Names};
@@ -7,8 +7,9 @@ ghost use Rattle.rds_words.specs.Task.{words_of};
 ghost use Rattle.rds_words.specs.Written.{AreData, HasNames, IsWritable, dashed, written};
 
 /// Which words name a task, whatever the program is called: its command and its words in their order, where none of these
-/// begins with a hyphen, and, whatever they begin with, behind two dashes. A path that is left out is the root, and `serve`
-/// has one session where it isn't told how many. The function does nothing: its contract is these laws.
+/// begins with a hyphen, and, whatever they begin with, behind two dashes. A path that is left out is the root. `serve` has
+/// one session where it isn't told how many, and `serve` and `sync` give a silent peer 60 seconds where they aren't told how
+/// long. The function does nothing: its contract is these laws.
 pub fn word_laws()
     ensures written { (name : Text) (task : Task) → IsWritable task
         → Names (name ∷ written task) (words_of task) }
@@ -20,5 +21,24 @@ pub fn word_laws()
         → Names (name ∷ codes "clear" ∷ file ∷ []) (codes "clear" ∷ file ∷ [] ∷ []) }
     ensures one_session { (name : Text) (file : Text) (addr : Text) → AreData (file ∷ addr ∷ [])
         → Names (name ∷ codes "serve" ∷ file ∷ addr ∷ [])
-        (codes "serve" ∷ file ∷ addr ∷ codes "1" ∷ []) }
+        (codes "serve" ∷ file ∷ addr ∷ codes "1" ∷ codes "60" ∷ []) }
+    ensures sessions_alone { (name : Text) (file : Text) (addr : Text) (sessions : Text)
+        → AreData (file ∷ addr ∷ sessions ∷ [])
+        → Names (name ∷ codes "serve" ∷ file ∷ addr ∷ codes "--sessions" ∷ sessions ∷ [])
+        (codes "serve" ∷ file ∷ addr ∷ sessions ∷ codes "60" ∷ []) }
+    ensures sessions_alone_dashed { (name : Text) (file : Text) (addr : Text) (sessions : Text)
+        → Names (name ∷ codes "serve" ∷ (codes "--sessions=" ++ sessions) ∷ codes "--" ∷ file ∷ addr ∷ [])
+        (codes "serve" ∷ file ∷ addr ∷ sessions ∷ codes "60" ∷ []) }
+    ensures timeout_alone { (name : Text) (file : Text) (addr : Text) (timeout : Text)
+        → AreData (file ∷ addr ∷ timeout ∷ [])
+        → Names (name ∷ codes "serve" ∷ file ∷ addr ∷ codes "--timeout" ∷ timeout ∷ [])
+        (codes "serve" ∷ file ∷ addr ∷ codes "1" ∷ timeout ∷ []) }
+    ensures timeout_alone_dashed { (name : Text) (file : Text) (addr : Text) (timeout : Text)
+        → Names (name ∷ codes "serve" ∷ (codes "--timeout=" ++ timeout) ∷ codes "--" ∷ file ∷ addr ∷ [])
+        (codes "serve" ∷ file ∷ addr ∷ codes "1" ∷ timeout ∷ []) }
+    ensures sync_alone { (name : Text) (file : Text) (addr : Text) → AreData (file ∷ addr ∷ [])
+        → Names (name ∷ codes "sync" ∷ file ∷ addr ∷ []) (codes "sync" ∷ file ∷ addr ∷ codes "60" ∷ []) }
+    ensures sync_alone_dashed { (name : Text) (file : Text) (addr : Text)
+        → Names (name ∷ codes "sync" ∷ codes "--" ∷ file ∷ addr ∷ [])
+        (codes "sync" ∷ file ∷ addr ∷ codes "60" ∷ []) }
 {}

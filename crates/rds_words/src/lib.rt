@@ -11,4 +11,4 @@ mod tasks;
 
 pub use laws::word_laws;
 pub use meaning::{amount_of, command_of, roster_in};
-pub use tasks::{EditWords, InitWords, ServeWords, Task, task_of};
+pub use tasks::{EditWords, InitWords, ServeWords, SyncWords, Task, task_of};

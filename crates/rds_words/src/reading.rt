@@ -3,7 +3,7 @@ ghost use Rattle.std.specs.Prelude.{◌≡◌, [], ◌∷◌, codes, map, option
 ghost use Rattle.clap.specs.Words.{all_of, first_of, found_of, rows_of, subcommand_rows_of};
 ghost use Rattle.rds_words.specs.Task.{edit_words_behind, file_and_path, init_words_in, named_words, plain_words_behind, session_words_behind, words_in, words_of, words_under};
 
-use crate::tasks::{EditWords, InitWords, ServeWords, Task};
+use crate::tasks::{EditWords, InitWords, ServeWords, SyncWords, Task};
 use clap::ArgMatches;
 use std::alloc::{AllocError, Global};
 
@@ -53,16 +53,23 @@ fn session_task<'a>(name: &str, inner: &ArgMatches<'a>) -> Option<Task<'a>>
 {
     match name {
         "serve" => {
-            let (file, addr, sessions) = file_and_two(inner, "ADDR", "SESSIONS")?;
+            let (file, addr, sessions, timeout) = file_and_three(
+                inner, "ADDR", "SESSIONS", "TIMEOUT",
+            )?;
             Some(Task::Serve(ServeWords {
                 file,
                 addr,
                 sessions,
+                timeout,
             }))
         }
         "sync" => {
-            let (file, addr) = file_and_one(inner, "ADDR")?;
-            Some(Task::Sync { file, addr })
+            let (file, addr, timeout) = file_and_two(inner, "ADDR", "TIMEOUT")?;
+            Some(Task::Sync(SyncWords {
+                file,
+                addr,
+                timeout,
+            }))
         }
         "pair" => {
             let (first, second) = file_and_one(inner, "PEER")?;
@@ -149,6 +156,24 @@ fn file_and_two<'a>(
     let second = word_under(inner, second)?;
     let third = word_under(inner, third)?;
     Some((file, second, third))
+}
+
+// The file, and the words under these three ids.
+fn file_and_three<'a>(
+    inner: &ArgMatches<'a>,
+    second: &str,
+    third: &str,
+    fourth: &str,
+) -> Option<(&'a str, &'a str, &'a str, &'a str)>
+    ensures { option_map (λ w. w.0.now ∷ w.1.now ∷ w.2.now ∷ w.3.now ∷ []) result
+        ≡ words_under (codes "FILE" ∷ second.now ∷ third.now ∷ fourth.now ∷ [])
+        (rows_of (found_of inner.now)) }
+{
+    let file = word_under(inner, "FILE")?;
+    let second = word_under(inner, second)?;
+    let third = word_under(inner, third)?;
+    let fourth = word_under(inner, fourth)?;
+    Some((file, second, third, fourth))
 }
 
 // The file, and the path, which is the root where there is none.

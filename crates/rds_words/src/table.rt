@@ -1,11 +1,11 @@
 //! The commands and their words, as a table.
-use crate::help;
+use crate::help::{self, Page};
 
 /// A command as the table has it.
 pub struct Described {
     pub name: &'static str,
     pub about: &'static str,
-    pub after_help: &'static str,
+    pub page: Page,
     pub words: &'static [Word],
 }
 
@@ -106,6 +106,16 @@ const SESSIONS: Word = Word {
     },
 };
 
+const TIMEOUT: Word = Word {
+    id: "TIMEOUT",
+    help: help::TIMEOUT_HELP,
+    kind: Kind::Defaulted {
+        long: "timeout",
+        value_name: "SECONDS",
+        default: "60",
+    },
+};
+
 const PEER: Word = Word {
     id: "PEER",
     help: help::PEER_HELP,
@@ -117,79 +127,79 @@ pub static COMMANDS: [Described; 13] = [
     Described {
         name: "join",
         about: help::JOIN_ABOUT,
-        after_help: help::JOIN_AFTER_HELP,
+        page: Page::Join,
         words: &[],
     },
     Described {
         name: "sim",
         about: help::SIM_ABOUT,
-        after_help: help::SIM_AFTER_HELP,
+        page: Page::Sim,
         words: &[],
     },
     Described {
         name: "init",
         about: help::INIT_ABOUT,
-        after_help: help::INIT_AFTER_HELP,
+        page: Page::Init,
         words: &[FILE, GROUP, OWN, NAMES],
     },
     Described {
         name: "set",
         about: help::SET_ABOUT,
-        after_help: help::ENTRY_AFTER_HELP,
+        page: Page::Entry,
         words: &[FILE, PATH, VALUE],
     },
     Described {
         name: "add",
         about: help::ADD_ABOUT,
-        after_help: help::ENTRY_AFTER_HELP,
+        page: Page::Entry,
         words: &[FILE, PATH, VALUE],
     },
     Described {
         name: "del",
         about: help::DEL_ABOUT,
-        after_help: help::ENTRY_AFTER_HELP,
+        page: Page::Entry,
         words: &[FILE, PATH, VALUE],
     },
     Described {
         name: "clear",
         about: help::CLEAR_ABOUT,
-        after_help: help::CLEAR_AFTER_HELP,
+        page: Page::Clear,
         words: &[FILE, PATH_OR_ROOT],
     },
     Described {
         name: "inc",
         about: help::INC_ABOUT,
-        after_help: help::COUNTER_AFTER_HELP,
+        page: Page::Counter,
         words: &[FILE, KEY, BY],
     },
     Described {
         name: "dec",
         about: help::DEC_ABOUT,
-        after_help: help::COUNTER_AFTER_HELP,
+        page: Page::Counter,
         words: &[FILE, KEY, BY],
     },
     Described {
         name: "show",
         about: help::SHOW_ABOUT,
-        after_help: help::SHOW_AFTER_HELP,
+        page: Page::Show,
         words: &[FILE, PATH_OR_ROOT],
     },
     Described {
         name: "serve",
         about: help::SERVE_ABOUT,
-        after_help: help::SERVE_AFTER_HELP,
-        words: &[FILE, ADDR, SESSIONS],
+        page: Page::Serve,
+        words: &[FILE, ADDR, SESSIONS, TIMEOUT],
     },
     Described {
         name: "sync",
         about: help::SYNC_ABOUT,
-        after_help: help::SYNC_AFTER_HELP,
-        words: &[FILE, ADDR],
+        page: Page::Sync,
+        words: &[FILE, ADDR, TIMEOUT],
     },
     Described {
         name: "pair",
         about: help::PAIR_ABOUT,
-        after_help: help::PAIR_AFTER_HELP,
+        page: Page::Pair,
         words: &[FILE, PEER],
     },
 ];

@@ -38,12 +38,7 @@ pub enum Task<'a> {
     /// Serves the replica in a file to peers, one session after the other.
     Serve(ServeWords<'a>),
     /// Has one session with a replica that is served.
-    Sync {
-        /// The file.
-        file: &'a str,
-        /// The address where it is served.
-        addr: &'a str,
-    },
+    Sync(SyncWords<'a>),
     /// Has one session between the replicas in two files.
     Pair {
         /// The client's file.
@@ -73,8 +68,21 @@ pub struct ServeWords<'a> {
     pub file: &'a str,
     /// The address that peers connect to.
     pub addr: &'a str,
-    /// How many sessions.
+    /// How many sessions, 0 for no end.
     pub sessions: &'a str,
+    /// After how many seconds a silent peer is given up, 0 for never.
+    pub timeout: &'a str,
+}
+
+/// A session with a replica that is served, in words.
+#[derive(Clone, Copy, Debug)]
+pub struct SyncWords<'a> {
+    /// The file.
+    pub file: &'a str,
+    /// The address where the other replica is served.
+    pub addr: &'a str,
+    /// After how many seconds a silent peer is given up, 0 for never.
+    pub timeout: &'a str,
 }
 
 /// An edit in words: paths are keys with '/' between them, values are JSON.

@@ -1,4 +1,4 @@
-use Rattle.rds_words.proofs.EachNamed.{once_served, root_cleared, root_shown, task_dashed, task_written}
+use Rattle.rds_words.proofs.EachNamed.{once_served, root_cleared, root_shown, sessions_alone, sessions_alone_dashed, sync_alone, sync_alone_dashed, task_dashed, task_written, timeout_alone, timeout_alone_dashed}
 use Rattle.rds_words.proofs.laws.word_laws.Goals as goal
 
 pub returns-clause-written : goal.returns-clause-written
@@ -15,3 +15,21 @@ returns-clause-root_cleared c = root_cleared
 
 pub returns-clause-one_session : goal.returns-clause-one_session
 returns-clause-one_session c = once_served
+
+pub returns-clause-sessions_alone : goal.returns-clause-sessions_alone
+returns-clause-sessions_alone c = sessions_alone
+
+pub returns-clause-sessions_alone_dashed : goal.returns-clause-sessions_alone_dashed
+returns-clause-sessions_alone_dashed c = sessions_alone_dashed
+
+pub returns-clause-timeout_alone : goal.returns-clause-timeout_alone
+returns-clause-timeout_alone c = timeout_alone
+
+pub returns-clause-timeout_alone_dashed : goal.returns-clause-timeout_alone_dashed
+returns-clause-timeout_alone_dashed c = timeout_alone_dashed
+
+pub returns-clause-sync_alone : goal.returns-clause-sync_alone
+returns-clause-sync_alone c = sync_alone
+
+pub returns-clause-sync_alone_dashed : goal.returns-clause-sync_alone_dashed
+returns-clause-sync_alone_dashed c = sync_alone_dashed
