@@ -1,23 +1,23 @@
 -- Why an edit in words isn't carried out.
-use Rattle.std.proofs.Common.{◌≡◌, ◌⊎◌, Result, Ok, Err, inl, inr}
+use Rattle.std.proofs.Common.{◌≡◌, ◌⊎◌, ℕ, List, Result, Ok, Err, inl, inr}
 use Rattle.rds_names.specs.declared.fault.Fault.{Fault}
 use Rattle.rds_names.specs.declared.fault.Fault.TheVariants.{Memory}
 use Rattle.rds_state.specs.Fits.{ReplicaValue}
 use Rattle.rds_state.specs.declared.command.Command.{Command}
-use Rattle.rds_files.specs.Files.{IsUnread}
+use Rattle.rds_files.specs.Files.{RefusesLock}
 use Rattle.rds_commands.specs.Edits.{RefusesEdit, RefusesEditIn}
 use Rattle.rds_words.specs.Meaning.{IsCommand}
 use Rattle.rds_words.specs.declared.tasks.EditWords.{EditWords}
 use Rattle.rds_words.proofs.OneMeaning.{command_once, ok_isnt_err}
 use Rattle.rds_commands.proofs.Told.{not_refused}
 
-module _ (words : EditWords) (command : Command) (given : (◌≡◌ {A = Result Command Fault} (Ok command) (Err Memory)) ⊎ IsCommand words (Ok command)) (fault : Fault) where
-  -- there is no replica in the file
-  pub no_replica : IsUnread fault → RefusesEdit words fault
-  no_replica unread = inr (inr (command, not_refused command Memory given, inl unread))
+module _ (path : List ℕ) (words : EditWords) (command : Command) (given : (◌≡◌ {A = Result Command Fault} (Ok command) (Err Memory)) ⊎ IsCommand words (Ok command)) (fault : Fault) where
+  -- the file can't be locked and read
+  pub no_replica : RefusesLock path fault → RefusesEdit path words fault
+  no_replica refused = inr (inr (command, not_refused command Memory given, inl refused))
 
   -- the one in it isn't edited
-  pub no_edit : (before : ReplicaValue) → RefusesEditIn command before fault → RefusesEdit words fault
+  pub no_edit : (before : ReplicaValue) → RefusesEditIn command before fault → RefusesEdit path words fault
   no_edit before refused = inr (inr (command, not_refused command Memory given, inr (before, refused)))
 
   -- words that mean a command aren't refused

@@ -1,20 +1,20 @@
 -- An edit of what a file held.
-use Rattle.std.proofs.Common.{◌≡◌, ℕ, List, None, Ok, inl, inr}
+use Rattle.std.proofs.Common.{◌≡◌, ◌∙◌, ℕ, List, None, Ok, inl, inr}
 use Rattle.rds_names.specs.declared.fault.Fault.{Fault}
 use Rattle.rds_state.specs.Edit.{IsDue}
 use Rattle.rds_state.specs.Fits.{ReplicaValue}
 use Rattle.rds_state.specs.declared.command.Command.{Command}
 use Rattle.rds_lines.specs.declared.answer.Answer.{Answer}
-use Rattle.rds_files.specs.Files.{FileValue, IsReadAt, IsUnkept, ReplacedValue}
+use Rattle.rds_files.specs.Files.{IsHeldAt, IsUnkept, KeptFile, ReplacedValue}
 use Rattle.rds_commands.specs.Edits.{EditsFile, IsEdited, RefusesEditIn, edit_refusal}
 use Rattle.rds_words.specs.Meaning.{IsCommand}
 use Rattle.rds_words.specs.declared.tasks.EditWords.{EditWords}
 
--- the file that was read is the one that was replaced
-pub edits_file : (path : List ℕ) (words : EditWords) (command : Command) (file : FileValue) (done : ReplacedValue) (answer : Answer) → IsReadAt path file → IsCommand words (Ok command)
-    → done.before ≡ file → edit_refusal file.kept command ≡ None → IsEdited command file.kept done.kept answer → EditsFile path words done answer
-edits_file path words command file done answer read asked is due edited = record {
-  read = rw is read;
+-- the file that was read under its lock is the one that was replaced
+pub edits_file : (path : List ℕ) (words : EditWords) (command : Command) (file : KeptFile) (done : ReplacedValue) (answer : Answer) → IsHeldAt path file → IsCommand words (Ok command)
+    → done.path ≡ file.path → done.before ≡ file.kept → edit_refusal file.kept command ≡ None → IsEdited command file.kept done.kept answer → EditsFile path words done answer
+edits_file path words command file done answer held asked at is due edited = record {
+  read = record { at = at ∙ held.at; value = rw is held.value; place = held.place };
   command = command;
   asked = asked;
   due = rw is due;

@@ -2,7 +2,7 @@
 use Rattle.std.specs.Prelude.{◌≡◌, ◌⊎◌, ℕ, false, List, Option, None, Ok, Err, IsOk, count_by}
 use Rattle.std.specs.FinMap as map
 use Rattle.rds_names.specs.declared.fault.Fault.{Fault}
-use Rattle.rds_names.specs.declared.fault.Fault.TheVariants.{Memory, Usage}
+use Rattle.rds_names.specs.declared.fault.Fault.TheVariants.{Memory}
 use Rattle.rds_names.specs.Gives.{Refuses}
 use Rattle.rds_names.specs.Path.{path_of}
 use Rattle.rds_life.specs.Life.{live_rows}
@@ -14,7 +14,7 @@ use Rattle.rds_lines.specs.Answer.{edit_answer}
 use Rattle.rds_lines.specs.Views.{ShowsView}
 use Rattle.rds_lines.specs.declared.answer.Answer.{Answer}
 use Rattle.rds_lines.specs.declared.answer.Answer.TheVariants.{Done}
-use Rattle.rds_files.specs.Files.{FileValue, IsReadAt, IsUnkept, IsUnread, ReplacedValue}
+use Rattle.rds_files.specs.Files.{FileValue, IsReadAt, IsReplacedAt, IsUnkept, IsUnread, KeptFile, RefusesFile, RefusesLock, ReplacedValue, is_beside}
 use Rattle.rds_words.specs.Meaning.{IsCommand, roster_for}
 use Rattle.rds_words.specs.declared.tasks.EditWords.{EditWords}
 use Rattle.rds_words.specs.declared.tasks.InitWords.{InitWords}
@@ -27,16 +27,17 @@ pub record IsNamed (words : InitWords) (replica : ReplicaValue) : Type 0 where
   pub no_lives : replica.state.lives ≡ map.empty
   pub no_counts : replica.state.counts ≡ map.empty
 
--- the file of the words' path was written, and keeps that replica, and that it was done is told
-pub record InitsFile (words : InitWords) (file : FileValue) (answer : Answer) : Type 0 where
+-- the file of the words' path was made, and keeps that replica, and that it was done is told
+pub record InitsFile (words : InitWords) (file : KeptFile) (answer : Answer) : Type 0 where
   pub at : file.path ≡ words.file.now
-  pub written : file.is_read ≡ false
+  pub place : is_beside words.file.now ≡ false
   pub kept : IsNamed words file.kept
   pub told : answer ≡ Done
 
--- why no file is made: the words name no replica; else something is there, or that replica can't be kept; or want of memory
+-- why no file is made: the words name no replica; else something is there, or the path is none for it, or that replica can't be kept; or
+-- want of memory
 abbrev pub RefusesInit : InitWords → Fault → Type 0
-RefusesInit words fault = (fault ≡ Memory) ⊎ ((roster_for words ≡ Err fault) ⊎ ((replica : ReplicaValue) × IsNamed words replica × ((fault ≡ Usage) ⊎ IsUnkept replica fault)))
+RefusesInit words fault = (fault ≡ Memory) ⊎ ((roster_for words ≡ Err fault) ⊎ ((replica : ReplicaValue) × IsNamed words replica × RefusesFile replica fault))
 
 -- ---- edits
 
@@ -60,21 +61,21 @@ IsEditedUnkept command before fault = (after : ReplicaValue) × (answer : Answer
 abbrev pub RefusesEditIn : Command → ReplicaValue → Fault → Type 0
 RefusesEditIn command before fault = IsDue (edit_refusal before command) fault ⊎ ((edit_refusal before command ≡ None) × IsEditedUnkept command before fault)
 
--- the file at this path was read, and keeps what it held then, edited as the words ask by an edit that isn't refused
+-- the file at this path was read under its lock, and keeps what it held then, edited as the words ask by an edit that isn't refused
 pub record EditsFile (path : List ℕ) (words : EditWords) (file : ReplacedValue) (answer : Answer) : Type 0 where
-  pub read : IsReadAt path file.before
+  pub read : IsReplacedAt path file
   pub command : Command
   pub asked : IsCommand words (Ok command)
-  pub due : edit_refusal file.before.kept command ≡ None
-  pub edited : IsEdited command file.before.kept file.kept answer
+  pub due : edit_refusal file.before command ≡ None
+  pub edited : IsEdited command file.before file.kept answer
 
--- why a command isn't carried out on a file: there is no replica in it, or the one in it isn't edited
-abbrev pub RefusesCommand : Command → Fault → Type 0
-RefusesCommand command fault = IsUnread fault ⊎ ((before : ReplicaValue) × RefusesEditIn command before fault)
+-- why a command isn't carried out on the file at a path: it can't be locked and read, or the replica in it isn't edited
+abbrev pub RefusesCommand : List ℕ → Command → Fault → Type 0
+RefusesCommand path command fault = RefusesLock path fault ⊎ ((before : ReplicaValue) × RefusesEditIn command before fault)
 
 -- why words edit no file: they are no command, or it isn't carried out; or want of memory
-abbrev pub RefusesEdit : EditWords → Fault → Type 0
-RefusesEdit words fault = (fault ≡ Memory) ⊎ (IsCommand words (Err fault) ⊎ ((command : Command) × IsCommand words (Ok command) × RefusesCommand command fault))
+abbrev pub RefusesEdit : List ℕ → EditWords → Fault → Type 0
+RefusesEdit path words fault = (fault ≡ Memory) ⊎ (IsCommand words (Err fault) ⊎ ((command : Command) × IsCommand words (Ok command) × RefusesCommand path command fault))
 
 -- ---- show
 

@@ -1,22 +1,24 @@
 -- What the program tells for its words.
-use Rattle.std.specs.Prelude.{◌≡◌, ◌⊎◌, ℕ, List, Option, Some, None, Result, Ok, Err, MatchResult}
+use Rattle.std.specs.Prelude.{◌≡◌, ◌⊎◌, ◌==◌, ◌-◌, ◌^◌, ◌||◌, if◌then◌else◌, ℕ, true, false, List, Option, Some, None, Ok, Err}
 use Rattle.clap.specs.Words.{IsAmong, Kinds, Text}
 use Rattle.clap.specs.declared.error.kind.ErrorKind.{ErrorKind}
 use Rattle.rds_names.specs.declared.fault.Fault.{Fault}
 use Rattle.rds_names.specs.declared.fault.Fault.TheVariants.{Memory, Usage}
-use Rattle.rds_session.specs.declared.talk.Side.TheVariants.{Client, Server}
 use Rattle.rds_lines.specs.Answering.{WritesAnswer, WritesAnswers}
 use Rattle.rds_lines.specs.Output.{Writes}
 use Rattle.rds_lines.specs.Sim.{IsSimOutput}
 use Rattle.rds_lines.specs.declared.answer.Answer.{Answer}
+use Rattle.rds_files.specs.Files.{is_beside}
 use Rattle.rds_files.specs.Pairing.{WritesPair}
-use Rattle.rds_files.specs.Syncing.{WritesSync}
+use Rattle.rds_files.specs.Syncing.{WritesServing, WritesSync}
 use Rattle.rds_commands.specs.Edits.{EditsFile, InitsFile, RefusesEdit, RefusesInit, RefusesShow, ShowsFile}
 use Rattle.rds_words.specs.Meaning.{IsAmount}
 use Rattle.rds_words.specs.Task.{words_of}
 use Rattle.rds_commands.specs.Unparsed.{unparsed_status}
 use Rattle.rds_words.specs.declared.tasks.EditWords.{EditWords}
 use Rattle.rds_words.specs.declared.tasks.InitWords.{InitWords}
+use Rattle.rds_words.specs.declared.tasks.ServeWords.{ServeWords}
+use Rattle.rds_words.specs.declared.tasks.SyncWords.{SyncWords}
 use Rattle.rds_words.specs.declared.tasks.Task.{Task}
 use Rattle.rds_words.specs.declared.tasks.Task.TheVariants.{Join, Sim, Init, Edit, Show, Serve, Sync, Pair}
 
@@ -34,16 +36,40 @@ abbrev pub WritesInit : InitWords → Option (List ℕ) → Option (List ℕ) �
 WritesInit words = WritesOfFile (InitsFile words) (RefusesInit words)
 
 abbrev pub WritesEdit : List ℕ → EditWords → Option (List ℕ) → Option (List ℕ) → ℕ → Type 0
-WritesEdit path words = WritesOfFile (EditsFile path words) (RefusesEdit words)
+WritesEdit path words = WritesOfFile (EditsFile path words) (RefusesEdit path words)
 
 abbrev pub WritesShow : List ℕ → List ℕ → Option (List ℕ) → Option (List ℕ) → ℕ → Type 0
 WritesShow path text = WritesOfFile (ShowsFile path text) (RefusesShow text)
 
--- so many sessions of the file as the text is a number, or that it is none
-abbrev pub WritesServe : List ℕ → List ℕ → Option (List ℕ) → Option (List ℕ) → ℕ → Type 0
-WritesServe path text before after status =
-    (sessions : Result ℕ Fault) × IsAmount text sessions
-    × MatchResult sessions (λ n. WritesSync Server path n before after status) (λ fault. Writes (Err fault) before after status)
+-- how many sessions a number asks for: none is no end, and there are never more than a number of 64 bits says
+abbrev pub sessions_asked : ℕ → ℕ
+sessions_asked n = if n == 0 then 2 ^ 64 - 1 else n
+
+-- the words of `serve` are refused: a number is none, or the path is that of a file beside another
+abbrev pub RefusesServe : ServeWords → Type 0
+RefusesServe words = IsAmount words.sessions.now (Err Usage) ⊎ (IsAmount words.timeout.now (Err Usage) ⊎ (is_beside words.file.now ≡ true))
+
+-- so many sessions as the words ask for; or they are refused
+abbrev pub WritesServe : ServeWords → Option (List ℕ) → Option (List ℕ) → ℕ → Type 0
+WritesServe words before after status =
+    ((n : ℕ) × IsAmount words.sessions.now (Ok n) × (is_beside words.file.now ≡ false) × WritesServing words.file.now (sessions_asked n) before after status)
+    ⊎ (RefusesServe words × Writes (Err Usage) before after status)
+
+-- the words of `sync` are refused, as those of `serve` are
+abbrev pub RefusesSync : SyncWords → Type 0
+RefusesSync words = IsAmount words.timeout.now (Err Usage) ⊎ (is_beside words.file.now ≡ true)
+
+-- one session; or the words are refused
+abbrev pub WritesSyncing : SyncWords → Option (List ℕ) → Option (List ℕ) → ℕ → Type 0
+WritesSyncing words before after status =
+    ((is_beside words.file.now ≡ false) × WritesSync words.file.now before after status)
+    ⊎ (RefusesSync words × Writes (Err Usage) before after status)
+
+-- one session of the files at two paths; or one of them is that of a file beside another
+abbrev pub WritesPairing : List ℕ → List ℕ → Option (List ℕ) → Option (List ℕ) → ℕ → Type 0
+WritesPairing first second before after status =
+    ((is_beside first ≡ false) × (is_beside second ≡ false) × WritesPair first second before after status)
+    ⊎ (((is_beside first || is_beside second) ≡ true) × Writes (Err Usage) before after status)
 
 -- what is written for a task; of `join` and `sim` that hangs on what is read, and is said apart
 abbrev pub WritesTask : Task → Option (List ℕ) → Option (List ℕ) → ℕ → Type 0
@@ -52,9 +78,9 @@ WritesTask Sim before after status = Unit {0}
 WritesTask (Init words) before after status = WritesInit words before after status
 WritesTask (Edit file edit) before after status = WritesEdit file.now edit before after status
 WritesTask (Show file path) before after status = WritesShow file.now path.now before after status
-WritesTask (Serve words) before after status = WritesServe words.file.now words.sessions.now before after status
-WritesTask (Sync file addr) before after status = WritesSync Client file.now 1 before after status
-WritesTask (Pair first second) before after status = WritesPair first.now second.now before after status
+WritesTask (Serve words) before after status = WritesServe words before after status
+WritesTask (Sync words) before after status = WritesSyncing words before after status
+WritesTask (Pair first second) before after status = WritesPairing first.now second.now before after status
 
 -- what is written for a task in words, and `Usage` for none
 abbrev pub WritesNamed : Option (List Text) → Option (List ℕ) → Option (List ℕ) → ℕ → Type 0

@@ -7,13 +7,12 @@ ghost use Rattle.rds_commands.specs.Edits.{edit_refusal, EditsFile, InitsFile, I
 ghost use Rattle.rds_words.specs.Meaning.{IsCommand, roster_for};
 
 use rds_dots::DotSet;
-use rds_files::{ReplacedFile, ReplicaFile, is_there};
+use rds_files::{CreatedFile, Disk, LockFile, LockedFile, ReplacedFile, ReplicaFile};
 use rds_gaps::GapSet;
 use rds_lines::{Answer, shown};
 use rds_names::{Fault, Path};
 use rds_state::{Command, Replica};
 use rds_words::{EditWords, InitWords, command_of, roster_in};
-use std::rt::Files;
 
 /// A file as a command left it, and what the command is answered.
 #[derive(Drop)]
@@ -34,11 +33,13 @@ impl<F: Drop> FileAnswer<F> {
 }
 
 /// Makes a file that holds an empty replica of a group. The words are judged first, as `roster_in`
-/// does; then a file that is there already is `Usage`, and one that can't be made is `Device`.
-pub fn init_file<'a, H: Files + AllocGlobal>(
+/// does; then a file that is there already, or whose name ends in `.new`, is `Usage`, and one that can't be made is `Device`.
+pub fn init_file<'a, H: Disk>(
     rt: &H,
     words: &InitWords<'a>,
-) -> Result<FileAnswer<ReplicaFile<'a, GapSet>>, Fault>
+) -> Result<FileAnswer<CreatedFile<'a, GapSet>>, Fault>
+where
+    H::File: LockFile,
     ensures made { IfOk result (λ done. InitsFile words.now done.file done.answer) }
     ensures words { (fault : Fault) → roster_for words.now ≡ Err fault
         → (result ≡ Err Memory) ⊎ (result ≡ Err fault) }
@@ -47,10 +48,7 @@ pub fn init_file<'a, H: Files + AllocGlobal>(
     let alloc = rt.alloc();
     let (roster, own) = roster_in(alloc, words.group, words.own, &words.names)?;
     let replica = Replica::new(alloc, roster, own)?;
-    if is_there(rt, words.file)? {
-        return Err(Fault::Usage);
-    }
-    let file = ReplicaFile::create(rt, words.file, &replica)?;
+    let file = CreatedFile::create(rt, words.file, &replica)?;
     Ok(FileAnswer {
         file,
         answer: Answer::Done,
@@ -58,31 +56,36 @@ pub fn init_file<'a, H: Files + AllocGlobal>(
 }
 
 /// Edits the replica in a file. The words are judged first, as `command_of` does; then the file is
-/// read, its replica edited and kept, and only then is the edit answered.
-pub fn edit_file<'a, H: Files + AllocGlobal>(
+/// locked and read, its replica edited and kept, and only then is the edit answered.
+pub fn edit_file<'a, H: Disk>(
     rt: &H,
     path: &'a str,
     words: &EditWords<'_>,
 ) -> Result<FileAnswer<ReplacedFile<'a, GapSet>>, Fault>
+where
+    H::File: LockFile,
     ensures edited { IfOk result (λ done. EditsFile path.now words.now done.file done.answer) }
     ensures words { (fault : Fault) → IsCommand words.now (Err fault)
         → (result ≡ Err Memory) ⊎ (result ≡ Err fault) }
-    ensures fault { IfErr result (RefusesEdit words.now) }
+    ensures fault { IfErr result (RefusesEdit path.now words.now) }
 {
     let command = command_of(rt.alloc(), words)?;
-    let opened = ReplicaFile::open(rt, path)?;
+    let opened = LockedFile::open(rt, path)?;
     let done = edit_in(rt, opened, command)?;
     Ok(done)
 }
 
 /// Edits a copy of the replica in the file, and answers once that is kept in its place. Refuses as the
 /// edit does, and where that doesn't refuse, for want of memory or as keeping does.
-pub fn edit_in<'a, H: Files + AllocGlobal>(
+pub fn edit_in<'a, H: Disk>(
     rt: &H,
-    file: ReplicaFile<'a, GapSet>,
+    file: LockedFile<'a, H, GapSet>,
     command: Command,
 ) -> Result<FileAnswer<ReplacedFile<'a, GapSet>>, Fault>
-    ensures before { IfOk result (λ done. done.file.before ≡ file.entry) }
+where
+    H::File: LockFile,
+    ensures path { IfOk result (λ done. done.file.path ≡ file.entry.path) }
+    ensures before { IfOk result (λ done. done.file.before ≡ file.entry.kept) }
     ensures edited { IfOk result (λ done. IsEdited command file.entry.kept done.file.kept done.answer) }
     ensures due { IfOk result (λ _. edit_refusal file.entry.kept command ≡ None) }
     ensures fault { IfErr result (RefusesEditIn command file.entry.kept) }
@@ -110,7 +113,7 @@ fn uncopied(mut replica: Replica<GapSet>, command: Command, memory: Fault) -> Fa
 
 /// Shows what the document of the replica in a file has at the path of a text. The path is judged
 /// first: `BadPath`, then `BadKey`.
-pub fn show_file<'a, H: Files + AllocGlobal>(
+pub fn show_file<'a, H: Disk>(
     rt: &H,
     path: &'a str,
     text: &str,

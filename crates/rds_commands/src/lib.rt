@@ -2,8 +2,9 @@
 #![tactic(auto)]
 
 mod file_commands;
+mod notes;
 mod program;
-mod serve_words;
+mod session_words;
 mod telling;
 mod unparsed;
 

@@ -9,10 +9,10 @@ ghost use Rattle.rds_words.specs.Commands.{join_words, sim_words};
 ghost use Rattle.rds_commands.specs.Told.{AnswersMistake, MayWriteNamed, WritesSim, WritesTask};
 ghost use Rattle.rds_words.specs.Entered.{Names, mistakes_in, named_in};
 
-use crate::serve_words::run_serve;
+use crate::session_words::{run_pair, run_serve, run_sync};
 use crate::telling::{run_edit, run_init, run_show};
 use crate::unparsed::write_unparsed;
-use rds_files::{pair_files, sync_file};
+use rds_files::{Disk, LockFile};
 use rds_keep::Counted;
 use rds_lines::{run_join, run_sim, write_fault};
 use rds_names::Fault;
@@ -20,7 +20,6 @@ use rds_words::{Task, task_of};
 use std::convert::AsStr;
 use std::io::{Read, Write};
 use std::net::Net;
-use std::rt::Files;
 
 /// Runs the command that the words name, and answers the exit status. The first word is the
 /// program's name, whatever it is.
@@ -29,12 +28,14 @@ use std::rt::Files;
 /// doesn't have are `Usage`: that line, then the library's text, and 2. Help is written and answered
 /// by 0. A reader that fails, or that gives more reads than its bound of turns, is `Device`. Where
 /// the output itself fails the answer is 1.
-pub fn run<H: Files + Net + AllocGlobal, R: Read, W: Write, S: AsStr>(
+pub fn run<H: Disk + Net, R: Read, W: Write, S: AsStr>(
     rt: &H,
     words: &[S],
     reader: &mut Counted<R>,
     writer: &mut Counted<W>,
 ) -> u8
+where
+    H::File: LockFile,
     ensures join { Names (map S.text words.entry.now) join_words
         → IfSome (R.remaining reader.old.inner)
         (λ input. reader.new.failed ≡ 0 → writer.new.failed ≡ 0
@@ -68,12 +69,14 @@ pub fn run<H: Files + Net + AllocGlobal, R: Read, W: Write, S: AsStr>(
 }
 
 // Runs a task.
-fn run_task<H: Files + Net + AllocGlobal, R: Read, W: Write>(
+fn run_task<H: Disk + Net, R: Read, W: Write>(
     rt: &H,
     task: Task<'_>,
     reader: &mut Counted<R>,
     writer: &mut Counted<W>,
 ) -> u8
+where
+    H::File: LockFile,
     ensures join { task.entry ≡ Task.Join → IfSome (R.remaining reader.old.inner)
         (λ input. reader.new.failed ≡ 0 → writer.new.failed ≡ 0
         → WritesJoin input (W.contents writer.old.inner) (W.contents writer.new.inner) result) }
@@ -100,8 +103,8 @@ fn run_task<H: Files + Net + AllocGlobal, R: Read, W: Write>(
         Task::Init(words) => run_init(rt, &words, writer),
         Task::Edit { file, edit } => run_edit(rt, file, &edit, writer),
         Task::Show { file, path } => run_show(rt, file, path, writer),
-        Task::Serve(words) => run_serve(rt, words.file, words.addr, words.sessions, writer),
-        Task::Sync { file, addr } => sync_file(rt, file, addr, writer),
-        Task::Pair { first, second } => pair_files(rt, first, second, writer),
+        Task::Serve(words) => run_serve(rt, words, writer),
+        Task::Sync(words) => run_sync(rt, words, writer),
+        Task::Pair { first, second } => run_pair(rt, first, second, writer),
     }
 }

@@ -3,18 +3,17 @@ ghost use Rattle.std.specs.Prelude.{◌≡◌, ◌≤◌, ◌⊎◌};
 ghost use Rattle.rds_commands.specs.Told.{WritesEdit, WritesInit, WritesShow};
 
 use crate::file_commands::{edit_file, init_file, show_file};
+use crate::notes::{note_edit, note_file};
+use rds_files::{Disk, LockFile};
 use rds_keep::Counted;
 use rds_lines::write_answer;
 use rds_words::{EditWords, InitWords};
 use std::io::Write;
-use std::rt::Files;
 
 /// Makes a file as `init_file` does, and writes the answer.
-pub fn run_init<H: Files + AllocGlobal, W: Write>(
-    rt: &H,
-    words: &InitWords<'_>,
-    writer: &mut Counted<W>,
-) -> u8
+pub fn run_init<H: Disk, W: Write>(rt: &H, words: &InitWords<'_>, writer: &mut Counted<W>) -> u8
+where
+    H::File: LockFile,
     ensures written { writer.new.failed ≡ 0
         → WritesInit words.now (W.contents writer.old.inner) (W.contents writer.new.inner) result }
     ensures status { result ≤ 2 }
@@ -22,17 +21,22 @@ pub fn run_init<H: Files + AllocGlobal, W: Write>(
 {
     match init_file(rt, words) {
         Ok(done) => write_answer(writer, Ok(done.into_answer())),
-        Err(fault) => write_answer(writer, Err(fault)),
+        Err(fault) => {
+            note_file(rt, words.file, fault);
+            write_answer(writer, Err(fault))
+        }
     }
 }
 
 /// Edits the replica in a file as `edit_file` does, and writes the answer.
-pub fn run_edit<H: Files + AllocGlobal, W: Write>(
+pub fn run_edit<H: Disk, W: Write>(
     rt: &H,
     path: &str,
     words: &EditWords<'_>,
     writer: &mut Counted<W>,
 ) -> u8
+where
+    H::File: LockFile,
     ensures written { writer.new.failed ≡ 0
         → WritesEdit path.now words.now (W.contents writer.old.inner) (W.contents writer.new.inner) result }
     ensures status { result ≤ 2 }
@@ -40,17 +44,15 @@ pub fn run_edit<H: Files + AllocGlobal, W: Write>(
 {
     match edit_file(rt, path, words) {
         Ok(done) => write_answer(writer, Ok(done.into_answer())),
-        Err(fault) => write_answer(writer, Err(fault)),
+        Err(fault) => {
+            note_edit(rt, path, words, fault);
+            write_answer(writer, Err(fault))
+        }
     }
 }
 
 /// Shows a part of the replica in a file as `show_file` does, and writes the answer.
-pub fn run_show<H: Files + AllocGlobal, W: Write>(
-    rt: &H,
-    path: &str,
-    text: &str,
-    writer: &mut Counted<W>,
-) -> u8
+pub fn run_show<H: Disk, W: Write>(rt: &H, path: &str, text: &str, writer: &mut Counted<W>) -> u8
     ensures written { writer.new.failed ≡ 0
         → WritesShow path.now text.now (W.contents writer.old.inner) (W.contents writer.new.inner) result }
     ensures status { result ≤ 2 }
@@ -58,6 +60,9 @@ pub fn run_show<H: Files + AllocGlobal, W: Write>(
 {
     match show_file(rt, path, text) {
         Ok(done) => write_answer(writer, Ok(done.into_answer())),
-        Err(fault) => write_answer(writer, Err(fault)),
+        Err(fault) => {
+            note_file(rt, path, fault);
+            write_answer(writer, Err(fault))
+        }
     }
 }

@@ -1,42 +1,100 @@
 -- Replicas in files.
-use Rattle.std.specs.Prelude.{◌≡◌, ◌⊎◌, ◌<◌, ℕ, Bool, true, List, length, refl}
-use Rattle.std.specs.Coded.{Coded, code_by, coded×, coded_bool, coded_list, coded_ℕ}
+use Rattle.std.specs.Prelude.{◌≡◌, ◌==◌, ◌⊎◌, ◌<◌, ℕ, Bool, true, false, List, length, codes, refl}
+use Rattle.std.specs.List.{ends_with}
+use Rattle.std.specs.Coded.{Coded, code_by, coded×, coded_list, coded_ℕ}
 use Rattle.rds_names.specs.declared.fault.Fault.{Fault}
-use Rattle.rds_names.specs.declared.fault.Fault.TheVariants.{Memory, TooLong, Device}
+use Rattle.rds_names.specs.declared.fault.Fault.TheVariants.{Memory, Device, TooLong, Usage}
 use Rattle.rds_state.specs.Fits.{ReplicaValue, coded_replica}
 use Rattle.rds_codec.specs.Decoding.{IsOtherFault}
-use Rattle.rds_codec.specs.StateTexts.{snapshot_text, IsSnapshot}
+use Rattle.rds_codec.specs.StateTexts.{IsSnapshot, snapshot_text}
 use Rattle.rds_codec.specs.declared.limits.TheConstants.{LIMIT}
+use Rattle.rds_keep.specs.Counted.{one_more}
 
--- the file's path, the replica that it was last seen to hold, and whether that was read from it, and not written to it
+-- ---- values
+
+-- a file's path, and how many times the file was read by it
+pub record PathValue : Type 0 where
+  pub path : List ℕ
+  pub reads : ℕ
+
+abbrev pub coded_path : Coded PathValue
+coded_path = code_by (List ℕ × ℕ) (coded× (coded_list coded_ℕ) coded_ℕ) (λ p. (p.path, p.reads)) (λ p. record { path = p.0; reads = p.1 }) (λ _. refl)
+
+abbrev pub read_more : PathValue → PathValue
+read_more at = record at { reads = one_more at.reads }
+
+-- a replica that was read from a file, and how many readings by that path came before
 pub record FileValue : Type 0 where
   pub path : List ℕ
   pub kept : ReplicaValue
-  pub is_read : Bool
+  pub nth : ℕ
 
 abbrev pub coded_file : Coded FileValue
 coded_file =
-    code_by (List ℕ × (ReplicaValue × Bool)) (coded× (coded_list coded_ℕ) (coded× coded_replica coded_bool)) (λ f. (f.path, (f.kept, f.is_read)))
-    (λ p. record { path = p.0; kept = p.1.0; is_read = p.1.1 }) (λ _. refl)
+    code_by (List ℕ × (ReplicaValue × ℕ)) (coded× (coded_list coded_ℕ) (coded× coded_replica coded_ℕ)) (λ f. (f.path, (f.kept, f.nth)))
+    (λ p. record { path = p.0; kept = p.1.0; nth = p.1.1 }) (λ _. refl)
 
--- a file as it was before its replica was replaced, and the replica that it keeps since
+-- a replica that a file holds
+pub record KeptFile : Type 0 where
+  pub path : List ℕ
+  pub kept : ReplicaValue
+
+abbrev pub coded_kept_file : Coded KeptFile
+coded_kept_file = code_by (List ℕ × ReplicaValue) (coded× (coded_list coded_ℕ) coded_replica) (λ f. (f.path, f.kept)) (λ p. record { path = p.0; kept = p.1 }) (λ _. refl)
+
+-- a replica in the place of another
 pub record ReplacedValue : Type 0 where
-  pub before : FileValue
+  pub path : List ℕ
+  pub before : ReplicaValue
   pub kept : ReplicaValue
 
 abbrev pub coded_replaced : Coded ReplacedValue
-coded_replaced = code_by (FileValue × ReplicaValue) (coded× coded_file coded_replica) (λ f. (f.before, f.kept)) (λ p. record { before = p.0; kept = p.1 }) (λ _. refl)
+coded_replaced =
+    code_by (List ℕ × (ReplicaValue × ReplicaValue)) (coded× (coded_list coded_ℕ) (coded× coded_replica coded_replica)) (λ f. (f.path, (f.before, f.kept)))
+    (λ p. record { path = p.0; before = p.1.0; kept = p.1.1 }) (λ _. refl)
+
+-- ---- what they hold
 
 -- the file at this path was read, and what it held is the text of its replica
 pub record IsReadAt (path : List ℕ) (file : FileValue) : Type 0 where
   pub at : file.path ≡ path
-  pub read : file.is_read ≡ true
   pub value : IsSnapshot file.kept
+
+-- it was read by this path, after so many readings
+pub record IsReadBy (at : PathValue) (file : FileValue) : Type 0 where
+  pub read : IsReadAt at.path file
+  pub nth : file.nth ≡ at.reads
+
+-- the path ends as that of a file that is written beside another
+abbrev pub is_beside : List ℕ → Bool
+is_beside path = ends_with (λ a b. a == b) path (codes ".new")
+
+-- the file at this path was read under its lock
+pub record IsHeldAt (path : List ℕ) (file : KeptFile) : Type 0 where
+  pub at : file.path ≡ path
+  pub value : IsSnapshot file.kept
+  pub place : is_beside path ≡ false
+
+-- the file at this path was read under its lock, and replaced
+pub record IsReplacedAt (path : List ℕ) (file : ReplacedValue) : Type 0 where
+  pub at : file.path ≡ path
+  pub value : IsSnapshot file.before
+  pub place : is_beside path ≡ false
+
+-- ---- refusals
 
 -- why a file gives no replica: it can't be had, or holds no snapshot; or want of memory
 abbrev pub IsUnread : Fault → Type 0
 IsUnread fault = (fault ≡ Device) ⊎ IsOtherFault fault
 
+-- why a file can't be locked and read: by its path; or it gives no replica
+abbrev pub RefusesLock : List ℕ → Fault → Type 0
+RefusesLock path fault = ((fault ≡ Usage) × (is_beside path ≡ true)) ⊎ IsUnread fault
+
 -- why a replica can't be kept in a file: a call on a file failed, or its text is above the limit; or want of memory
 abbrev pub IsUnkept : ReplicaValue → Fault → Type 0
 IsUnkept replica fault = (fault ≡ Memory) ⊎ ((fault ≡ Device) ⊎ ((fault ≡ TooLong) × (LIMIT < length (snapshot_text replica))))
+
+-- why no file is made for a replica: by its path, or since something is there; or the replica can't be kept
+abbrev pub RefusesFile : ReplicaValue → Fault → Type 0
+RefusesFile replica fault = (fault ≡ Usage) ⊎ IsUnkept replica fault

@@ -1,5 +1,5 @@
 -- What becomes of the replicas in two files that have a session, and what is told of them.
-use Rattle.std.specs.Prelude.{◌≡◌, ◌⊎◌, ℕ, Bool, false, ◌||◌, List, ◌++◌, Option}
+use Rattle.std.specs.Prelude.{◌≡◌, ◌⊎◌, ℕ, Bool, ◌||◌, List, ◌++◌, Option}
 use Rattle.std.specs.Io.KnownBytes.{Appends}
 use Rattle.rds_state.specs.Fits.{ReplicaValue}
 use Rattle.rds_state.specs.Value.{StateValue}
@@ -8,9 +8,9 @@ use Rattle.rds_session.specs.declared.talk.Side.{Side}
 use Rattle.rds_session.specs.declared.talk.Side.TheVariants.{Client, Server}
 use Rattle.rds_session.specs.Leaving.{HasHeard, Leaves, StandsAs}
 use Rattle.rds_session.specs.Session.{Standing}
-use Rattle.rds_files.specs.Files.{FileValue, IsReadAt}
+use Rattle.rds_files.specs.Files.{FileValue, IsReadAt, ReplacedValue}
 use Rattle.rds_files.specs.Reports.{WritesNone, report_text, tells_fault, told_status}
-use Rattle.rds_files.specs.Settling.{Settles, is_taken}
+use Rattle.rds_files.specs.Settling.{Settles}
 use Rattle.rds_files.specs.declared.settling.Settled.{Settled}
 
 -- an end of a session of this replica, on the way
@@ -23,39 +23,36 @@ pub record IsEnd (side : Side) (kept : ReplicaValue) (s : Standing) (ended : End
 abbrev pub StaysEnd : Standing → Ended → Standing → Ended → Type 0
 StaysEnd old was new is = (side : Side) (kept : ReplicaValue) → IsEnd side kept old was → IsEnd side kept new is
 
--- what is told of an end, whose replica's file became so, and whether a fault is told
-pub record Tells (side : Side) (old new : FileValue) (text : List ℕ) (told : Bool) : Type 0 where
+-- what is told of an end, whose replica was read from this file, and whether a fault is told: what it received was settled in what
+-- the file held then
+pub record Tells (side : Side) (file : FileValue) (text : List ℕ) (told : Bool) : Type 0 where
   pub received : Option StateValue
   pub ended : Ended
-  pub leaves : Leaves side old.kept received ended
+  pub leaves : Leaves side file.kept received ended
   pub settled : Settled
-  pub settles : Settles old.kept received new.kept settled
-  pub untouched : is_taken settled ≡ false → new ≡ old
+  pub replaced : Option ReplacedValue
+  pub settles : Settles file.path file.kept received settled replaced
   pub text_is : text ≡ report_text settled ended
   pub told_is : told ≡ tells_fault settled ended
 
 -- what is told of the client and then of the server was written, and nothing else; the status is 1 where a fault is told
-pub record WritesBoth (client client_new server server_new : FileValue) (before after : Option (List ℕ)) (status : ℕ) : Type 0 where
+pub record WritesBoth (client server : FileValue) (before after : Option (List ℕ)) (status : ℕ) : Type 0 where
   pub first : List ℕ
   pub first_told : Bool
-  pub tells_first : Tells Client client client_new first first_told
+  pub tells_first : Tells Client client first first_told
   pub second : List ℕ
   pub second_told : Bool
-  pub tells_second : Tells Server server server_new second second_told
+  pub tells_second : Tells Server server second second_told
   pub written : Appends before after (first ++ second)
   pub status_is : status ≡ told_status (first_told || second_told)
 
 -- a session of the files at these paths, the first of which is the client, was told of, and nothing else
 pub record WritesSessionOf (first second : List ℕ) (before after : Option (List ℕ)) (status : ℕ) : Type 0 where
   pub client : FileValue
-  pub client_new : FileValue
   pub client_read : IsReadAt first client
-  pub client_at : client_new.path ≡ first
   pub server : FileValue
-  pub server_new : FileValue
   pub server_read : IsReadAt second server
-  pub server_at : server_new.path ≡ second
-  pub both : WritesBoth client client_new server server_new before after status
+  pub both : WritesBoth client server before after status
 
 -- why there is no session alone, or what two replicas came to
 abbrev pub WritesPair : List ℕ → List ℕ → Option (List ℕ) → Option (List ℕ) → ℕ → Type 0

@@ -1,25 +1,78 @@
 //! Replicas in files.
-ghost use Rattle.std.specs.Prelude.{◌≡◌, true, false, IfOk, IfErr, OnOk, OnErr};
-ghost use Rattle.rds_names.specs.declared.fault.Fault.TheVariants.{Device};
-ghost use Rattle.rds_files.specs.Files.{IsReadAt, IsUnread, IsUnkept};
+ghost use Rattle.std.specs.Prelude.{◌≡◌, true, false, Err, IfOk, IfErr};
+ghost use Rattle.rds_names.specs.declared.fault.Fault.TheVariants.{Device, Usage};
+ghost use Rattle.rds_codec.specs.StateTexts.{IsSnapshot};
+ghost use Rattle.rds_files.specs.Files.{IsHeldAt, IsReadAt, IsReadBy, IsUnkept, IsUnread, RefusesFile, RefusesLock, is_beside, read_more};
 
+use crate::beside::{folder_of, keep_new, keep_over};
+use crate::disk::{Disk, note};
+use crate::locks::{LockFile, lock};
 use rds_dots::DotSet;
-use rds_keep::{Counted, Kept, Place, keep_in, read_snapshot};
+use rds_keep::{Counted, Kept, read_snapshot};
 use rds_names::Fault;
 use rds_state::Replica;
-use std::fs::OpenFile;
-use std::io::{ErrorKind, Write};
+use std::fs;
+use std::io::{ErrorKind, Read};
 use std::marker::Model;
 use std::rt::Files;
-use std::{fs, io};
 
-/// A replica in a file: it was read whole from the file of this path, or written whole to it. Nothing else makes one, and
-/// only `keep` changes it.
+/// The path of a file, and how many times the file was read by it.
+#[derive(Debug, Drop)]
+pub struct FilePath<'a> {
+    path: &'a str,
+    reads: u64,
+}
+
+impl<'a> Model for FilePath<'a> {
+    ghost use Rattle.rds_files.specs.Files.{PathValue, coded_path};
+
+    ghost Value = { PathValue };
+
+    ghost coded = { coded_path };
+
+    ghost view = { λ p. record { path = p.path.now; reads = p.reads } };
+}
+
+impl<'a> FilePath<'a> {
+    /// The path of a file that wasn't read yet.
+    pub fn new(path: &'a str) -> FilePath<'a>
+        ensures { result ≡ record { path = path.now; reads = 0 } }
+    {
+        FilePath { path, reads: 0 }
+    }
+
+    /// The path.
+    pub fn path(&self) -> &'a str
+        ensures { result.now ≡ self.now.path }
+    {
+        self.path
+    }
+
+    /// Reads the file as it is now, and counts that. A file is always whole, so this takes no lock. Refuses `Device` where it
+    /// can't be opened or read, and as decoding does where it holds no snapshot. A full count stays.
+    pub fn read<H: Disk, S: DotSet>(&mut self, rt: &H) -> Result<ReplicaFile<'a, S>, Fault>
+        ensures read { IfOk result (IsReadBy self.old) }
+        ensures counted { self.new ≡ read_more self.old }
+        ensures fault { IfErr result IsUnread }
+    {
+        let nth = self.reads;
+        self.reads = self.reads.saturating_add(1);
+        let mut file = open_file(rt, self.path)?;
+        let kept = read_kept(rt, self.path, &mut file)?;
+        Ok(ReplicaFile {
+            path: self.path,
+            kept,
+            nth,
+        })
+    }
+}
+
+/// A replica that was read whole from the file of a path. Nothing else makes one, and nothing changes it.
 #[derive(Drop)]
 pub struct ReplicaFile<'a, S: DotSet> {
     path: &'a str,
     kept: Kept<S>,
-    is_read: bool,
+    nth: u64,
 }
 
 impl<'a, S: DotSet> Model for ReplicaFile<'a, S> {
@@ -29,78 +82,16 @@ impl<'a, S: DotSet> Model for ReplicaFile<'a, S> {
 
     ghost coded = { coded_file };
 
-    ghost view = { λ f. record { path = f.path.now; kept = f.kept; is_read = f.is_read } };
+    ghost view = { λ f. record { path = f.path.now; kept = f.kept; nth = f.nth } };
 }
 
 impl<'a, S: DotSet> ReplicaFile<'a, S> {
-    /// Reads the file of this path. Refuses `Device` where it can't be opened or read, and as decoding does where it holds
-    /// no snapshot.
-    pub fn open<H: Files + AllocGlobal>(rt: &H, path: &'a str) -> Result<ReplicaFile<'a, S>, Fault>
+    /// Reads the file of this path as it is now, as `FilePath::read` does.
+    pub fn open<H: Disk>(rt: &H, path: &'a str) -> Result<ReplicaFile<'a, S>, Fault>
         ensures read { IfOk result (IsReadAt path.now) }
         ensures fault { IfErr result IsUnread }
     {
-        match fs::open(rt, path) {
-            Ok(file) => {
-                let kept = read_snapshot(rt.alloc(), &mut Counted::new(file))?;
-                Ok(ReplicaFile {
-                    path,
-                    kept,
-                    is_read: true,
-                })
-            }
-            Err(_) => Err(Fault::Device),
-        }
-    }
-
-    /// Makes the file of this path, or replaces it, as `keep` does.
-    pub fn create<H: Files + AllocGlobal>(
-        rt: &H,
-        path: &'a str,
-        replica: &Replica<S>,
-    ) -> Result<ReplicaFile<'a, S>, Fault>
-        ensures made { IfOk result (λ file. file ≡ record { path = path.now; kept = replica.now; is_read = false }) }
-        ensures fault { IfErr result (IsUnkept replica.now) }
-    {
-        let kept = keep_file(rt, replica, path)?;
-        Ok(ReplicaFile {
-            path,
-            kept,
-            is_read: false,
-        })
-    }
-
-    /// Keeps this replica in the file in place of the one that it holds: FILE.new is written anew, with the mode of FILE,
-    /// synced and renamed to FILE, and only then is the replica kept. A FILE.new that was left behind is overwritten. Last the
-    /// folder is synced, so that the rename outlasts a loss of power, where the file system lets it: whether that succeeds
-    /// changes nothing.
-    ///
-    /// Refuses `TooLong` where the replica's text is above the limit, and `Device` where a file can't be made, given its mode,
-    /// written, synced or renamed.
-    pub fn keep<H: Files + AllocGlobal>(
-        &mut self,
-        rt: &H,
-        replica: &Replica<S>,
-    ) -> Result<(), Fault>
-        ensures kept { OnOk result (self.new ≡ record self.old { kept = replica.now; is_read = false }) }
-        ensures err { OnErr result (self.new ≡ self.old) }
-        ensures fault { IfErr result (IsUnkept replica.now) }
-    {
-        self.kept = keep_file(rt, replica, self.path)?;
-        self.is_read = false;
-        Ok(())
-    }
-
-    /// Keeps this replica in the file, as `keep` does, and tells beside it what the file was before.
-    pub fn replace<H: Files + AllocGlobal>(
-        self,
-        rt: &H,
-        replica: &Replica<S>,
-    ) -> Result<ReplacedFile<'a, S>, Fault>
-        ensures replaced { IfOk result (λ file. file ≡ record { before = self.entry; kept = replica.now }) }
-        ensures fault { IfErr result (IsUnkept replica.now) }
-    {
-        let kept = keep_file(rt, replica, self.path)?;
-        Ok(ReplacedFile { before: self, kept })
+        FilePath::new(path).read(rt)
     }
 
     /// The file's path.
@@ -116,20 +107,86 @@ impl<'a, S: DotSet> ReplicaFile<'a, S> {
     {
         &self.kept
     }
+}
 
-    /// The replica, to be edited.
+/// A replica that was read whole from the file of a path, whose lock is held as long as this is: no other command that takes
+/// the lock changes the file. Only `open` makes one.
+#[derive(Drop)]
+pub struct LockedFile<'a, H: Disk, S: DotSet> {
+    path: &'a str,
+    kept: Kept<S>,
+    file: H::File,
+}
+
+impl<'a, H: Disk, S: DotSet> Model for LockedFile<'a, H, S> {
+    ghost use Rattle.rds_files.specs.Files.{KeptFile, coded_kept_file};
+
+    ghost Value = { KeptFile };
+
+    ghost coded = { coded_kept_file };
+
+    ghost view = { λ f. record { path = f.path.now; kept = f.kept } };
+}
+
+impl<'a, H: Disk, S: DotSet> LockedFile<'a, H, S>
+where
+    H::File: LockFile,
+{
+    /// Locks the file of this path, and reads it. Refuses `Usage` where the path ends in `.new`, as the files do that are written
+    /// beside others; then `Device` where the file can't be opened or read, where its mode lets nobody write it, or where
+    /// another has its lock for more than ten seconds; and as decoding does where it holds no snapshot.
+    pub fn open(rt: &H, path: &'a str) -> Result<LockedFile<'a, H, S>, Fault>
+        ensures held { IfOk result (IsHeldAt path.now) }
+        ensures beside { is_beside path.now ≡ true → result ≡ Err Usage }
+        ensures fault { IfErr result (RefusesLock path.now) }
+    {
+        if is_beside(path) {
+            return Err(Fault::Usage);
+        }
+        let mut file = lock(rt, path)?;
+        check_writable(rt, path, &file)?;
+        let kept = read_kept(rt, path, &mut file)?;
+        Ok(LockedFile { path, kept, file })
+    }
+
+    /// The replica.
+    pub fn kept(&self) -> &Kept<S>
+        ensures { result.now ≡ self.now.kept }
+    {
+        &self.kept
+    }
+
+    /// The replica, to be edited. The lock is let go.
     pub fn into_replica(self) -> Replica<S>
         ensures { result ≡ self.entry.kept }
     {
         self.kept.replica()
     }
+
+    /// Keeps this replica in the file in place of the one that it holds, and then lets the lock go: FILE.new is written anew, with
+    /// the mode of FILE, synced and renamed to FILE, and the folder is synced. A FILE.new that was left behind is removed first.
+    ///
+    /// Refuses `TooLong` where the replica's text is above the limit, and `Device` where a file can't be removed, made, given its
+    /// mode, written, synced or renamed. FILE is then as it was, but where only the folder couldn't be synced.
+    pub fn replace(self, rt: &H, replica: &Replica<S>) -> Result<ReplacedFile<'a, S>, Fault>
+        ensures replaced { IfOk result (λ file. file ≡ record { path = self.entry.path; before = self.entry.kept; kept = replica.now }) }
+        ensures fault { IfErr result (IsUnkept replica.now) }
+    {
+        let kept = keep_over(rt, replica, self.path, &self.file)?;
+        Ok(ReplacedFile {
+            path: self.path,
+            before: self.kept,
+            kept,
+        })
+    }
 }
 
-/// A replica in a file in place of another: it was written whole to the path of the file that was there before. Only
-/// `replace` makes one, and nothing changes it.
+/// A replica that was written whole to the file of a path in place of another, which was read there under the file's lock. Only
+/// `LockedFile::replace` makes one, and nothing changes it.
 #[derive(Drop)]
 pub struct ReplacedFile<'a, S: DotSet> {
-    before: ReplicaFile<'a, S>,
+    path: &'a str,
+    before: Kept<S>,
     kept: Kept<S>,
 }
 
@@ -140,12 +197,12 @@ impl<'a, S: DotSet> Model for ReplacedFile<'a, S> {
 
     ghost coded = { coded_replaced };
 
-    ghost view = { λ f. record { before = f.before; kept = f.kept } };
+    ghost view = { λ f. record { path = f.path.now; before = f.before; kept = f.kept } };
 }
 
 impl<'a, S: DotSet> ReplacedFile<'a, S> {
-    /// The file as it was before.
-    pub fn before(&self) -> &ReplicaFile<'a, S>
+    /// What the file held before.
+    pub fn before(&self) -> &Kept<S>
         ensures { result.now ≡ self.now.before }
     {
         &self.before
@@ -159,109 +216,125 @@ impl<'a, S: DotSet> ReplacedFile<'a, S> {
     }
 }
 
-// Keeps the replica in the file of this path.
-fn keep_file<H: Files + AllocGlobal, S: DotSet>(
-    rt: &H,
-    replica: &Replica<S>,
-    path: &str,
-) -> Result<Kept<S>, Fault>
-    ensures kept { IfOk result (λ kept. kept ≡ replica.now) }
-    ensures fault { IfErr result (IsUnkept replica.now) }
-{
-    let alloc = rt.alloc();
-    let name = format!(in alloc; "{path}.new")?;
-    let file = match create_beside(rt, name.as_str(), path) {
-        Ok(file) => file,
-        Err(_) => return Err(Fault::Device),
-    };
-    let mut place = Counted::new(Beside {
-        rt,
-        file,
-        name: name.as_str(),
-        path,
-        is_synced: false,
-        is_renamed: false,
-    });
-    keep_in(alloc, replica, &mut place)
+/// A replica that was written whole to a new file of a path. Only `create` makes one, and nothing changes it.
+#[derive(Drop)]
+pub struct CreatedFile<'a, S: DotSet> {
+    path: &'a str,
+    kept: Kept<S>,
 }
 
-// A new file of this name, with the mode of the one whose place it is to take, if there is one: what only its owner could read
-// stays so.
-fn create_beside<H: Files>(rt: &H, name: &str, path: &str) -> io::Result<H::File> {
-    let file = fs::create(rt, name)?;
-    if let Ok(old) = rt.metadata(path) {
-        file.set_permissions(old.permissions())?;
+impl<'a, S: DotSet> Model for CreatedFile<'a, S> {
+    ghost use Rattle.rds_files.specs.Files.{KeptFile, coded_kept_file};
+
+    ghost Value = { KeptFile };
+
+    ghost coded = { coded_kept_file };
+
+    ghost view = { λ f. record { path = f.path.now; kept = f.kept } };
+}
+
+impl<'a, S: DotSet> CreatedFile<'a, S> {
+    /// Makes the file of this path. It holds the lock of the folder while it does, so that of two at once one is refused. Refuses
+    /// `Usage` where the path ends in `.new` or something is there, and else as `LockedFile::replace` does.
+    pub fn create<H: Disk>(
+        rt: &H,
+        path: &'a str,
+        replica: &Replica<S>,
+    ) -> Result<CreatedFile<'a, S>, Fault>
+    where
+        H::File: LockFile,
+        ensures made { IfOk result (λ file. file ≡ record { path = path.now; kept = replica.now }) }
+        ensures place { IfOk result (λ _. is_beside path.now ≡ false) }
+        ensures beside { is_beside path.now ≡ true → result ≡ Err Usage }
+        ensures fault { IfErr result (RefusesFile replica.now) }
+    {
+        if is_beside(path) {
+            return Err(Fault::Usage);
+        }
+        let _folder = lock(rt, folder_of(path))?;
+        if is_there(rt, path)? {
+            let _ = eprintln!(rt; "{path}: is there already");
+            return Err(Fault::Usage);
+        }
+        let kept = keep_new(rt, replica, path)?;
+        Ok(CreatedFile { path, kept })
     }
-    Ok(file)
+
+    /// The replica.
+    pub fn kept(&self) -> &Kept<S>
+        ensures { result.now ≡ self.now.kept }
+    {
+        &self.kept
+    }
+}
+
+/// Whether a path ends in `.new`, as that of a file does that is written beside another.
+pub fn is_beside(path: &str) -> bool
+    ensures { result ≡ is_beside path.now }
+{
+    path.as_bytes().ends_with(b".new")
 }
 
 /// Whether something of this path can be opened. `Device` where it can't be, but not since it isn't
 /// there.
-pub fn is_there<H: Files>(rt: &H, path: &str) -> Result<bool, Fault>
+pub fn is_there<H: Disk>(rt: &H, path: &str) -> Result<bool, Fault>
     ensures fault { IfErr result (λ e. e ≡ Device) }
 {
     match fs::open(rt, path) {
         Ok(_) => Ok(true),
         Err(error) if error.kind() == ErrorKind::NotFound => Ok(false),
-        Err(_) => Err(Fault::Device),
+        Err(error) => {
+            note(rt, "cannot open", path, &error);
+            Err(Fault::Device)
+        }
     }
 }
 
-// A file that is written beside the one whose place it is to take.
-#[derive(Drop)]
-struct Beside<'a, H: Files> {
-    rt: &'a H,
-    file: H::File,
-    name: &'a str,
-    path: &'a str,
-    is_synced: bool,
-    is_renamed: bool,
-}
-
-impl<H: Files> Write for Beside<'_, H> {
-    fn write(&mut self, buf: &[u8]) -> io::Result<usize> {
-        self.is_synced = false;
-        self.is_renamed = false;
-        self.file.write(buf)
-    }
-
-    fn flush(&mut self) -> io::Result<()> {
-        self.file.flush()
+fn open_file<H: Disk>(rt: &H, path: &str) -> Result<H::File, Fault>
+    ensures fault { IfErr result (λ e. e ≡ Device) }
+{
+    match fs::open(rt, path) {
+        Ok(file) => Ok(file),
+        Err(error) => {
+            note(rt, "cannot open", path, &error);
+            Err(Fault::Device)
+        }
     }
 }
 
-impl<H: Files> Place for Beside<'_, H> {
-    ghost synced = { λ p. p.is_synced };
-
-    ghost renamed = { λ p. p.is_renamed };
-
-    fn sync(&mut self) -> io::Result<()> {
-        self.file.sync_all()?;
-        self.is_synced = true;
-        Ok(())
-    }
-
-    fn rename(&mut self) -> io::Result<()> {
-        self.rt.rename(self.name, self.path)?;
-        self.is_renamed = true;
-        sync_folder(self.rt, self.path);
-        Ok(())
-    }
-}
-
-// Syncs the folder of a path, so that a rename there outlasts a loss of power. Nothing depends on whether that succeeds:
-// the file is renamed already, and some file systems refuse to sync a folder.
-fn sync_folder<H: Files>(rt: &H, path: &str) {
-    if let Ok(folder) = fs::open(rt, folder_of(path)) {
-        let _ = folder.sync_all();
+// A file that nobody may write isn't replaced either.
+fn check_writable<H: Disk>(rt: &H, path: &str, file: &H::File) -> Result<(), Fault>
+where
+    H::File: LockFile,
+    ensures fault { IfErr result (λ e. e ≡ Device) }
+{
+    match file.is_read_only() {
+        Ok(false) => Ok(()),
+        Ok(true) => {
+            let _ = eprintln!(rt; "{path}: its mode lets nobody write it");
+            Err(Fault::Device)
+        }
+        Err(error) => {
+            note(rt, "cannot read the mode of", path, &error);
+            Err(Fault::Device)
+        }
     }
 }
 
-// The folder of a path: what stands before its last '/'.
-fn folder_of(path: &str) -> &str {
-    match path.rsplit_once('/') {
-        Some(("", _)) => "/",
-        Some((folder, _)) => folder,
-        None => ".",
+// Reads the replica that a file holds.
+fn read_kept<H: Disk, S: DotSet, R: Read>(
+    rt: &H,
+    path: &str,
+    file: &mut R,
+) -> Result<Kept<S>, Fault>
+    ensures value { IfOk result (λ kept. IsSnapshot kept) }
+    ensures fault { IfErr result IsUnread }
+{
+    match read_snapshot(rt.alloc(), &mut Counted::new(file)) {
+        Ok(kept) => Ok(kept),
+        Err(fault) => {
+            let _ = eprintln!(rt; "{path}: holds no replica that can be read: {fault:?}");
+            Err(fault)
+        }
     }
 }

@@ -1,13 +1,23 @@
-//! Replicas in files, and their sessions: over a stream with a peer, or of two files with one another.
+//! Replicas in files, and their sessions: over a stream with a peer, or of two files with one another. Read `disk`, `locks`,
+//! `beside` and `files` first, then `settling`, `meeting` and `syncing`; `pairing` stands on `files` and `settling` alone.
 #![tactic(auto)]
 
+mod beside;
+mod disk;
 mod files;
+mod locks;
+mod meeting;
 mod pairing;
 mod reports;
 mod settling;
 mod syncing;
 
-pub use files::{ReplacedFile, ReplicaFile, is_there};
+pub use disk::Disk;
+pub use files::{
+    CreatedFile, FilePath, LockedFile, ReplacedFile, ReplicaFile, is_beside, is_there,
+};
+pub use locks::LockFile;
+pub use meeting::{Met, meet};
 pub use pairing::{Link, pair, pair_files};
-pub use settling::{Settled, settle};
-pub use syncing::{meet, serve, serve_file, sync, sync_file};
+pub use settling::{Settled, Settlement, settle};
+pub use syncing::{serve, serve_file, sync, sync_file};

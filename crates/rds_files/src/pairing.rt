@@ -10,8 +10,10 @@ mod end;
 mod meeting;
 mod pending;
 
+use crate::disk::Disk;
 use crate::files::ReplicaFile;
-use crate::reports::{give_up, tells_fault, write_report};
+use crate::locks::LockFile;
+use crate::reports::{give_up, note_report, tells_fault, write_report};
 use crate::settling::{Settled, settle};
 pub use meeting::Link;
 use meeting::{connect, meet};
@@ -23,53 +25,53 @@ use rds_names::Fault;
 use rds_session::Ended;
 use std::io::Write;
 use std::net::Net;
-use std::rt::Files;
 
 /// Reads the two files, connects the program to itself, and has a session as `pair` does, of which the
 /// first is the client. Where a file can't be read, that fault is told alone, and so is `Device` where
 /// the program can't connect. Which files are opened is settled here alone: no clause ties a path to
 /// what a file holds.
-pub fn pair_files<H: Files + Net + AllocGlobal, W: Write>(
+pub fn pair_files<H: Disk + Net, W: Write>(
     rt: &H,
     first: &str,
     second: &str,
     writer: &mut Counted<W>,
 ) -> u8
+where
+    H::File: LockFile,
     ensures written { writer.new.failed ≡ 0
         → WritesPair first.now second.now (W.contents writer.old.inner) (W.contents writer.new.inner) result }
     ensures status { result ≤ 1 }
     ensures broken { (writer.new.failed ≡ writer.old.failed) ⊎ (result ≡ 1) }
 {
-    let mut client: ReplicaFile<'_, GapSet> = match ReplicaFile::open(rt, first) {
+    let client: ReplicaFile<'_, GapSet> = match ReplicaFile::open(rt, first) {
         Ok(file) => file,
         Err(fault) => return give_up(writer, fault),
     };
-    let mut server: ReplicaFile<'_, GapSet> = match ReplicaFile::open(rt, second) {
+    let server: ReplicaFile<'_, GapSet> = match ReplicaFile::open(rt, second) {
         Ok(file) => file,
         Err(fault) => return give_up(writer, fault),
     };
     match connect(rt) {
-        Ok(link) => pair(rt, &mut client, &mut server, link, writer),
+        Ok(link) => pair(rt, &client, &server, link, writer),
         Err(fault) => give_up(writer, fault),
     }
 }
 
-/// One session of the replicas in two files over the connection, and what it left in each file. Then
-/// what the first received is told, and after that the second's. Where the output fails at the first,
-/// nothing of the second is told, but its delta is taken all the same. The session has at most as many
-/// turns as the writer says.
-pub fn pair<H: Files + Net + AllocGlobal, S: DotSet, W: Write>(
+/// One session of the replicas that were read from two files over the connection. What each received is settled in what its file
+/// holds then, the first's first. Then what the first received is told, and after that the second's. Where the output fails at
+/// the first, nothing of the second is told, but its delta is taken all the same. The session has at most as many turns as the
+/// writer says.
+pub fn pair<H: Disk + Net, S: DotSet, W: Write>(
     rt: &H,
-    client: &mut ReplicaFile<'_, S>,
-    server: &mut ReplicaFile<'_, S>,
+    client: &ReplicaFile<'_, S>,
+    server: &ReplicaFile<'_, S>,
     link: Link<H::Stream>,
     writer: &mut Counted<W>,
 ) -> u8
+where
+    H::File: LockFile,
     ensures written { writer.new.failed ≡ 0
-        → WritesBoth client.old client.new server.old server.new
-        (W.contents writer.old.inner) (W.contents writer.new.inner) result }
-    ensures client { client.new.path ≡ client.old.path }
-    ensures server { server.new.path ≡ server.old.path }
+        → WritesBoth client.now server.now (W.contents writer.old.inner) (W.contents writer.new.inner) result }
     ensures status { result ≤ 1 }
     ensures broken { (writer.new.failed ≡ writer.old.failed) ⊎ (result ≡ 1) }
 {
@@ -80,8 +82,10 @@ pub fn pair<H: Files + Net + AllocGlobal, S: DotSet, W: Write>(
         server.kept(),
         link,
     );
-    let first = settle(rt, client, left.received);
-    let second = settle(rt, server, right.received);
+    let first = settle(rt, client, left.received).settled;
+    let second = settle(rt, server, right.received).settled;
+    note_report(rt, client.path(), &first, left.ended);
+    note_report(rt, server.path(), &second, right.ended);
     let told = tells_fault(&first, left.ended) | tells_fault(&second, right.ended);
     status_of(
         write_both(writer, &first, left.ended, &second, right.ended),

@@ -55,6 +55,16 @@ pub fn give_up<W: Write>(writer: &mut Counted<W>, fault: Fault) -> u8
     status_of(write_fault_line(writer, fault), 1)
 }
 
+/// Tells on standard error what came between, a line for each of the report's faults: which file, and which fault.
+pub fn note_report<H: Eprint>(rt: &H, path: &str, settled: &Settled, ended: Ended) {
+    if let Settled::Refused(fault) | Settled::Unkept(fault) = settled {
+        let _ = eprintln!(rt; "{path}: what was received isn't kept: {fault:?}");
+    }
+    if let Ended::Failed(fault) = ended {
+        let _ = eprintln!(rt; "{path}: the session failed: {fault:?}");
+    }
+}
+
 /// Whether a fault's line is among them.
 pub fn tells_fault(settled: &Settled, ended: Ended) -> bool
     ensures { result ≡ tells_fault settled.now ended }

@@ -1,15 +1,16 @@
 //! What a session leaves of the replica in its file.
-ghost use Rattle.std.specs.Prelude.{◌≡◌, false, IfOk, IfErr};
+ghost use Rattle.std.specs.Prelude.{◌≡◌, ◌↔◌, None, IfOk, IfErr, IsTrue, OnOk};
 ghost use Rattle.rds_session.specs.Received.{HasChecked, IsChecked};
-ghost use Rattle.rds_files.specs.Settling.{IsJoined, RefusesDelta, Settles, SettlesDelta, is_taken};
+ghost use Rattle.rds_files.specs.Settling.{IsJoined, IsSameReplica, RefusesJoin, Settles, SettlesDelta};
 
-use crate::files::ReplicaFile;
+use crate::disk::Disk;
+use crate::files::{LockedFile, ReplacedFile, ReplicaFile};
+use crate::locks::LockFile;
 use rds_dots::DotSet;
 use rds_keep::Kept;
 use rds_names::Fault;
 use rds_state::{Replica, State};
 use std::alloc::Global;
-use std::rt::Files;
 
 /// What a session left of the replica in its file.
 #[derive(Clone, Copy, Debug, PartialEq, Eq)]
@@ -42,52 +43,100 @@ impl Settled {
     }
 }
 
-/// Takes what a session received into the replica in the file. The replica is the new one only where the file is kept; a
-/// delta that isn't taken leaves the file as it is, and a delta without components is taken and kept as any other.
-pub fn settle<H: Files + AllocGlobal, S: DotSet>(
+/// What a session left, with the file that was replaced for it.
+#[derive(Drop)]
+pub struct Settlement<'a, S: DotSet> {
+    /// What it left.
+    pub settled: Settled,
+    /// The file, where a delta was taken.
+    pub file: Option<ReplacedFile<'a, S>>,
+}
+
+impl<S: DotSet> Settlement<'_, S> {
+    // No file was replaced.
+    fn without_file(settled: Settled) -> Self
+        ensures settled { result.settled ≡ settled }
+        ensures file { result.file ≡ None }
+    {
+        Settlement {
+            settled,
+            file: None,
+        }
+    }
+}
+
+/// Takes what a session of the replica in the file received into what the file holds now: others may have changed it since the
+/// session began, and what they did stays. The file is locked, read, joined with the delta, replaced and unlocked. A delta
+/// without components is taken and kept as any other; where nothing was received the file isn't touched.
+///
+/// Refuses `WrongAsker` where the file holds another replica by now.
+pub fn settle<'a, H: Disk, S: DotSet>(
     rt: &H,
-    file: &mut ReplicaFile<'_, S>,
+    file: &ReplicaFile<'a, S>,
     received: Option<State<S>>,
-) -> Settled
-    requires checked { HasChecked file.old.kept received }
-    ensures settles { Settles file.old.kept received file.new.kept result }
-    ensures path { file.new.path ≡ file.old.path }
-    ensures untouched { is_taken result ≡ false → file.new ≡ file.old }
+) -> Settlement<'a, S>
+where
+    H::File: LockFile,
+    requires checked { HasChecked file.now.kept received }
+    ensures settles { Settles file.now.path file.now.kept received result.settled result.file }
 {
     match received {
         Some(delta) => settle_delta(rt, file, &delta),
-        None => Settled::Nothing,
+        None => Settlement::without_file(Settled::Nothing),
     }
 }
 
-// Takes the delta and keeps the file.
-fn settle_delta<H: Files + AllocGlobal, S: DotSet>(
+// Takes the delta into what the file holds now.
+fn settle_delta<'a, H: Disk, S: DotSet>(
     rt: &H,
-    file: &mut ReplicaFile<'_, S>,
+    asked: &ReplicaFile<'a, S>,
     delta: &State<S>,
-) -> Settled
-    requires { IsChecked file.old.kept delta.now }
-    ensures settles { SettlesDelta file.old.kept delta.now file.new.kept result }
-    ensures path { file.new.path ≡ file.old.path }
-    ensures untouched { is_taken result ≡ false → file.new ≡ file.old }
+) -> Settlement<'a, S>
+where
+    H::File: LockFile,
+    requires checked { IsChecked asked.now.kept delta.now }
+    ensures settles { SettlesDelta asked.now.path asked.now.kept delta.now result.settled result.file }
 {
-    let replica = match joined(rt.alloc(), file.kept(), delta) {
-        Ok(replica) => replica,
-        Err(fault) => return Settled::Refused(fault),
+    let locked: LockedFile<'a, H, S> = match LockedFile::open(rt, asked.path()) {
+        Ok(locked) => locked,
+        Err(fault) => return Settlement::without_file(Settled::Refused(fault)),
     };
-    match file.keep(rt, &replica) {
-        Ok(()) => Settled::Taken(delta.components()),
-        Err(fault) => Settled::Unkept(fault),
+    let replica = match joined(rt.alloc(), asked.kept(), locked.kept(), delta) {
+        Ok(replica) => replica,
+        Err(fault) => return Settlement::without_file(Settled::Refused(fault)),
+    };
+    match locked.replace(rt, &replica) {
+        Ok(file) => Settlement {
+            settled: Settled::Taken(delta.components()),
+            file: Some(file),
+        },
+        Err(fault) => Settlement::without_file(Settled::Unkept(fault)),
     }
 }
 
-// The kept replica with the delta taken, in memory of its own.
-fn joined<S: DotSet>(alloc: Global, kept: &Kept<S>, delta: &State<S>) -> Result<Replica<S>, Fault>
-    requires { IsChecked kept.now delta.now }
-    ensures ok { IfOk result (IsJoined kept.now delta.now) }
-    ensures err { IfErr result (RefusesDelta kept.now delta.now) }
+// What a file holds with the delta taken, in memory of its own.
+fn joined<S: DotSet>(
+    alloc: Global,
+    asked: &Kept<S>,
+    held: &Kept<S>,
+    delta: &State<S>,
+) -> Result<Replica<S>, Fault>
+    requires { IsChecked asked.now delta.now }
+    ensures same { OnOk result (IsSameReplica asked.now held.now) }
+    ensures ok { IfOk result (IsJoined held.now delta.now) }
+    ensures err { IfErr result (RefusesJoin asked.now held.now delta.now) }
 {
-    let mut replica = kept.view_of().copy(alloc)?;
+    if !is_same_replica(asked.view_of(), held.view_of()) {
+        return Err(Fault::WrongAsker);
+    }
+    let mut replica = held.view_of().copy(alloc)?;
     replica.take(delta)?;
     Ok(replica)
+}
+
+// Whether the two are one replica of one group, whatever they hold.
+fn is_same_replica<S: DotSet>(asked: &Replica<S>, held: &Replica<S>) -> bool
+    ensures { IsTrue result ↔ IsSameReplica asked.now held.now }
+{
+    asked.own() == held.own() && asked.roster().same(held.roster())
 }

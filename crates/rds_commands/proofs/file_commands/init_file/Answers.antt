@@ -4,22 +4,11 @@ use Rattle.rds_commands.specs.Edits.{IsNamed}
 use Rattle.rds_commands.proofs.Named.{is_named, not_unnamed}
 use Rattle.rds_commands.proofs.file_commands.init_file.Goals as goal
 
-pub returns-in_err-is_there-clause-fault : goal.returns-in_err-is_there-clause-fault
-returns-in_err-is_there-clause-fault g c =
-    let p = err_from_is_err_and c.from_residual-in_err-is_there.result c.from_residual-in_err-is_there.ensures.1 in
-    let named : IsNamed c.args.words.now c.in_ok-replica.replica = is_named c.args.words.now _ _ c.in_ok-replica.replica c.deref.result.now c.deref.ensures.value c.in_ok-roster.ensures.given c.in_ok-replica.ensures.ok in
-    rw (p.1, p.2) (inr (inr (c.in_ok-replica.replica, named, inr (inr (inl c.in_err-is_there.ensures.fault)))))
-
-pub returns-then-branch-clause-fault : goal.returns-then-branch-clause-fault
-returns-then-branch-clause-fault g c =
-    let named : IsNamed c.args.words.now c.in_ok-replica.replica = is_named c.args.words.now _ _ c.in_ok-replica.replica c.deref.result.now c.deref.ensures.value c.in_ok-roster.ensures.given c.in_ok-replica.ensures.ok in
-    inr (inr (c.in_ok-replica.replica, named, inl refl))
-
 pub returns-in_err-file-clause-fault : goal.returns-in_err-file-clause-fault
 returns-in_err-file-clause-fault g c =
     let p = err_from_is_err_and c.from_residual-in_err-file.result c.from_residual-in_err-file.ensures.1 in
     let named : IsNamed c.args.words.now c.in_ok-replica.replica = is_named c.args.words.now _ _ c.in_ok-replica.replica c.deref.result.now c.deref.ensures.value c.in_ok-roster.ensures.given c.in_ok-replica.ensures.ok in
-    rw (p.1, p.2) (inr (inr (c.in_ok-replica.replica, named, inr c.in_err-file.ensures.fault)))
+    rw (p.1, p.2) (inr (inr (c.in_ok-replica.replica, named, c.in_err-file.ensures.fault)))
 
 pub returns-clause-made : goal.returns-clause-made
 returns-clause-made g c = search rules steps 2000000
@@ -32,14 +21,8 @@ returns-clause-words g c =
 pub returns-in_err-file-clause-words : goal.returns-in_err-file-clause-words
 returns-in_err-file-clause-words g c = search rules steps 1000000
 
-pub returns-in_err-is_there-clause-words : goal.returns-in_err-is_there-clause-words
-returns-in_err-is_there-clause-words g c = search rules steps 1000000
-
 pub returns-in_err-roster-clause-fault : goal.returns-in_err-roster-clause-fault
 returns-in_err-roster-clause-fault g c = search rules steps 1000000
 
 pub returns-in_err-roster-clause-words : goal.returns-in_err-roster-clause-words
 returns-in_err-roster-clause-words g c = search rules steps 1000000
-
-pub returns-then-branch-clause-words : goal.returns-then-branch-clause-words
-returns-then-branch-clause-words g c = search rules steps 1000000

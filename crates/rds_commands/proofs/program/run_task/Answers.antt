@@ -11,13 +11,13 @@ pub returns-in-Show-clause-written : goal.returns-in-Show-clause-written
 returns-in-Show-clause-written g c = search rules steps 1000000
 
 pub returns-in-Serve-clause-written : goal.returns-in-Serve-clause-written
-returns-in-Serve-clause-written g c = search rules steps 1000000
+returns-in-Serve-clause-written g c = rw c.in-Serve.is c.run_serve.ensures.written
 
 pub returns-in-Sync-clause-written : goal.returns-in-Sync-clause-written
-returns-in-Sync-clause-written g c = search rules steps 1000000
+returns-in-Sync-clause-written g c = rw c.in-Sync.is c.run_sync.ensures.written
 
 pub returns-in-Pair-clause-written : goal.returns-in-Pair-clause-written
-returns-in-Pair-clause-written g c = search rules steps 1000000
+returns-in-Pair-clause-written g c = rw c.in-Pair.is c.run_pair.ensures.written
 
 pub returns-in-Join-clause-join : goal.returns-in-Join-clause-join
 returns-in-Join-clause-join g c = λ is. c.run_join.ensures.join

@@ -1,8 +1,13 @@
-use Rattle.std.proofs.Common.{None, inl, refl}
+use Rattle.std.proofs.Common.{inr}
 use Rattle.rds_files.proofs.syncing.meet_next.Goals as goal
 
-pub returns-in-Ok : goal.returns-in-Ok
-returns-in-Ok g c = (_, c.meet.ensures)
-
-pub returns-in-Err : goal.returns-in-Err
-returns-in-Err g c = (None, inl (record { same = refl; nothing = refl; device = refl }))
+pub returns-in-Ok-read : goal.returns-in-Ok-read
+returns-in-Ok-read g c = inr (
+  c.in-Ok-read.ensures.counted,
+  inr (record {
+    file = c.in-Ok-read.file;
+    read = c.in-Ok-read.ensures.read;
+    held = _;
+    meets = c.meet.ensures;
+  }),
+)

@@ -5,19 +5,19 @@ use Rattle.rds_files.proofs.syncing.serve.Goals as goal
 
 pub sessions-init : goal.sessions-init
 sessions-init g c = record {
-  served = none_served Server c.args.file.now (g.W.Write.contents c.args.writer.now.inner);
+  served = none_served Server c.args.path.now (g.W.Write.contents c.args.writer.now.inner);
   steady = refl;
 }
 
 pub returns-then-is_unkept-clause-written : goal.returns-then-is_unkept-clause-written
 returns-then-is_unkept-clause-written g c = λ _.
-    last_served Server c.args.sessions c.args.file.now c.sessions.file c.meet_next-settled.new.file c.sessions.counter c.sessions.told _ _ _ c.meet_next-settled.result.0 c.meet_next-settled.result.1
-    c.sessions.invariant.served c.meet_next-settled.ensures c.in-Ok.ensures.bytes (sym c.is_unkept.ensures ∙ c.if-is_unkept.true) c.sessions-test.true
+    last_served Server c.args.sessions c.args.path.now c.sessions.path c.meet_next-met.new.path c.sessions.counter c.sessions.told _ _ _ c.meet_next-met.result.settled c.meet_next-met.result.ended
+    c.sessions.invariant.served c.meet_next-met.ensures c.in-Ok.ensures.bytes (sym c.is_unkept.ensures ∙ c.if-is_unkept.true) c.sessions-test.true
 
 pub sessions-preserved : goal.sessions-preserved
 sessions-preserved g c =
-    let more = more_served Server c.args.file.now c.sessions.file c.meet_next-settled.new.file c.sessions.counter c.sessions.told _ _ _ c.meet_next-settled.result.0 c.meet_next-settled.result.1
-    c.sessions.invariant.served c.meet_next-settled.ensures c.in-Ok.ensures.bytes (sym c.is_unkept.ensures ∙ c.if-is_unkept.false) in
+    let more = more_served Server c.args.path.now c.sessions.path c.meet_next-met.new.path c.sessions.counter c.sessions.told _ _ _ c.meet_next-met.result.settled c.meet_next-met.result.ended
+    c.sessions.invariant.served c.meet_next-met.ensures c.in-Ok.ensures.bytes (sym c.is_unkept.ensures ∙ c.if-is_unkept.false) in
     record {
       served = rw c.tells_fault-told.ensures more;
       steady = c.in-Ok.ensures.steady ∙ c.sessions.invariant.steady;
@@ -26,4 +26,4 @@ sessions-preserved g c =
 pub returns-clause-written : goal.returns-clause-written
 returns-clause-written g c = λ _.
     let count : c.sessions.counter ≡ c.args.sessions = omega arith in
-    all_served Server c.args.sessions c.args.file.now c.sessions.file c.sessions.told (g.W.Write.contents c.args.writer.now.inner) (g.W.Write.contents c.sessions.writer.inner) c.from.result (rw (← count) c.sessions.invariant.served) (search rules)
+    all_served Server c.args.sessions c.args.path.now c.sessions.path c.sessions.told (g.W.Write.contents c.args.writer.now.inner) (g.W.Write.contents c.sessions.writer.inner) c.from.result (rw (← count) c.sessions.invariant.served) (search rules)

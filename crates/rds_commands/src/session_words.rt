@@ -1,0 +1,111 @@
+//! The words of commands that make sessions.
+ghost use Rattle.std.specs.Prelude.{◌≡◌, ◌≤◌, ◌⊎◌, ◌||◌, true, Err};
+ghost use Rattle.rds_names.specs.declared.fault.Fault.TheVariants.{Usage};
+ghost use Rattle.rds_commands.specs.Told.{RefusesServe, RefusesSync, WritesPairing, WritesServe, WritesSyncing, sessions_asked};
+ghost use Rattle.rds_files.specs.Files.{is_beside};
+ghost use Rattle.rds_lines.specs.Output.{Writes};
+
+use crate::notes::note_words;
+use rds_files::{Disk, LockFile, is_beside, pair_files, serve_file, sync_file};
+use rds_keep::Counted;
+use rds_lines::write_fault;
+use rds_names::Fault;
+use rds_words::{ServeWords, SyncWords, amount_of};
+use std::io::Write;
+use std::net::Net;
+use std::time::Duration;
+
+/// Serves the replica in a file at an address, in so many sessions. The words are judged first: a number that is none, and a path
+/// that ends in `.new`, are `Usage`, and neither the file nor the address is used.
+pub fn run_serve<H: Disk + Net, W: Write>(
+    rt: &H,
+    words: ServeWords<'_>,
+    writer: &mut Counted<W>,
+) -> u8
+where
+    H::File: LockFile,
+    ensures written { writer.new.failed ≡ 0
+        → WritesServe words.entry (W.contents writer.old.inner) (W.contents writer.new.inner) result }
+    ensures refused { RefusesServe words.entry → writer.new.failed ≡ 0
+        → Writes (Err Usage) (W.contents writer.old.inner) (W.contents writer.new.inner) result }
+    ensures status { result ≤ 2 }
+    ensures broken { (writer.new.failed ≡ writer.old.failed) ⊎ (result ≡ 1) }
+{
+    match (amount_of(words.sessions), amount_of(words.timeout)) {
+        (Ok(sessions), Ok(seconds)) if !is_beside(words.file) => serve_file(
+            rt,
+            words.file,
+            words.addr,
+            asked(sessions),
+            timeout_of(seconds),
+            writer,
+        ),
+        _ => {
+            note_words(rt, words.file);
+            write_fault(writer, Fault::Usage)
+        }
+    }
+}
+
+/// One session of the replica in a file with the peer at an address. The words are judged first, as those of `serve` are.
+pub fn run_sync<H: Disk + Net, W: Write>(
+    rt: &H,
+    words: SyncWords<'_>,
+    writer: &mut Counted<W>,
+) -> u8
+where
+    H::File: LockFile,
+    ensures written { writer.new.failed ≡ 0
+        → WritesSyncing words.entry (W.contents writer.old.inner) (W.contents writer.new.inner) result }
+    ensures refused { RefusesSync words.entry → writer.new.failed ≡ 0
+        → Writes (Err Usage) (W.contents writer.old.inner) (W.contents writer.new.inner) result }
+    ensures status { result ≤ 2 }
+    ensures broken { (writer.new.failed ≡ writer.old.failed) ⊎ (result ≡ 1) }
+{
+    match amount_of(words.timeout) {
+        Ok(seconds) if !is_beside(words.file) => {
+            sync_file(rt, words.file, words.addr, timeout_of(seconds), writer)
+        }
+        _ => {
+            note_words(rt, words.file);
+            write_fault(writer, Fault::Usage)
+        }
+    }
+}
+
+/// One session of the replicas in two files. A path that ends in `.new` is `Usage`, and neither file is used.
+pub fn run_pair<H: Disk + Net, W: Write>(
+    rt: &H,
+    first: &str,
+    second: &str,
+    writer: &mut Counted<W>,
+) -> u8
+where
+    H::File: LockFile,
+    ensures written { writer.new.failed ≡ 0
+        → WritesPairing first.now second.now (W.contents writer.old.inner) (W.contents writer.new.inner) result }
+    ensures status { result ≤ 2 }
+    ensures broken { (writer.new.failed ≡ writer.old.failed) ⊎ (result ≡ 1) }
+{
+    if is_beside(first) || is_beside(second) {
+        note_words(rt, if is_beside(first) { first } else { second });
+        return write_fault(writer, Fault::Usage);
+    }
+    pair_files(rt, first, second, writer)
+}
+
+// How many sessions a number asks for: none is no end.
+fn asked(sessions: u64) -> u64
+    ensures { result ≡ sessions_asked sessions }
+{
+    if sessions == 0 { u64::MAX } else { sessions }
+}
+
+// How long a call on a socket may take: none is for ever.
+fn timeout_of(seconds: u64) -> Option<Duration> {
+    if seconds == 0 {
+        None
+    } else {
+        Some(Duration::from_secs(seconds))
+    }
+}

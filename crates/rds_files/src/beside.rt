@@ -1,0 +1,227 @@
+//! A new file that is written beside the one whose place it takes.
+ghost use Rattle.std.specs.Prelude.{◌≡◌, IfErr, IfOk};
+ghost use Rattle.rds_files.specs.Files.{IsUnkept};
+
+use crate::disk::{Disk, note};
+use crate::locks::LockFile;
+use rds_dots::DotSet;
+use rds_keep::{Counted, Kept, Place, keep_in};
+use rds_names::Fault;
+use rds_state::Replica;
+use std::fs::{OpenFile, OpenOptions};
+use std::io::{ErrorKind, Write};
+use std::os::unix::fs::OpenOptionsExt;
+use std::rt::Files;
+use std::{fs, io};
+
+/// The mode of a new file that takes the place of none, less what the process masks.
+const NEW_MODE: u32 = 0o666;
+
+/// The mode of a new file until it has that of the file whose place it takes: its owner alone may open it.
+const OWNER_MODE: u32 = 0o600;
+
+/// Keeps the replica in a new file of this path. FILE.new is made anew; then it is written, synced and renamed to FILE, and last
+/// the folder is synced. A FILE.new that was left behind is removed first, be it a file or a link, and so is this one where it
+/// doesn't take FILE's place. The caller has the folder's lock.
+pub fn keep_new<H: Disk, S: DotSet>(
+    rt: &H,
+    replica: &Replica<S>,
+    path: &str,
+) -> Result<Kept<S>, Fault>
+where
+    H::File: LockFile,
+    ensures kept { IfOk result (λ kept. kept ≡ replica.now) }
+    ensures fault { IfErr result (IsUnkept replica.now) }
+{
+    let alloc = rt.alloc();
+    let name = format!(in alloc; "{path}.new")?;
+    let made = Beside::create(rt, name.as_str(), path, NEW_MODE);
+    keep_made(rt, replica, name.as_str(), made)
+}
+
+/// Keeps the replica in the file of this path in place of what it holds, as `keep_new` does; FILE.new gets the mode of the old
+/// file before anything is written. The caller has the old file's lock.
+pub fn keep_over<H: Disk, S: DotSet>(
+    rt: &H,
+    replica: &Replica<S>,
+    path: &str,
+    old: &H::File,
+) -> Result<Kept<S>, Fault>
+where
+    H::File: LockFile,
+    ensures kept { IfOk result (λ kept. kept ≡ replica.now) }
+    ensures fault { IfErr result (IsUnkept replica.now) }
+{
+    let alloc = rt.alloc();
+    let name = format!(in alloc; "{path}.new")?;
+    let made = Beside::create_like(rt, name.as_str(), path, old);
+    keep_made(rt, replica, name.as_str(), made)
+}
+
+// Keeps the replica in a file beside another, which takes its place.
+fn keep_made<H: Disk, S: DotSet>(
+    rt: &H,
+    replica: &Replica<S>,
+    name: &str,
+    made: io::Result<Beside<'_, H>>,
+) -> Result<Kept<S>, Fault>
+    ensures kept { IfOk result (λ kept. kept ≡ replica.now) }
+    ensures fault { IfErr result (IsUnkept replica.now) }
+{
+    match made {
+        Ok(beside) => keep_in(rt.alloc(), replica, &mut Counted::new(beside)),
+        Err(error) => {
+            note(rt, "cannot make", name, &error);
+            Err(Fault::Device)
+        }
+    }
+}
+
+// A file beside another. It is removed when it is let go, unless it took the other's place.
+struct Beside<'a, H: Disk> {
+    rt: &'a H,
+    file: H::File,
+    folder: H::File,
+    name: &'a str,
+    path: &'a str,
+    is_synced: bool,
+    is_renamed: bool,
+}
+
+impl<H: Disk> Drop for Beside<'_, H> {
+    fn drop(self) {
+        let Beside {
+            rt,
+            file: _file,
+            folder: _folder,
+            name,
+            path: _,
+            is_synced: _,
+            is_renamed,
+        } = self;
+        if !is_renamed {
+            let _ = rt.remove_file(name);
+        }
+    }
+}
+
+impl<'a, H: Disk> Beside<'a, H> {
+    // The folder is opened first: what can't be synced at the end isn't begun.
+    fn create(rt: &'a H, name: &'a str, path: &'a str, mode: u32) -> io::Result<Beside<'a, H>> {
+        let folder = fs::open(rt, folder_of(path))?;
+        remove_left(rt, name)?;
+        let file = OpenOptions::new()
+            .write(true)
+            .create_new(true)
+            .mode(mode)
+            .open(rt, name)?;
+        Ok(Beside {
+            rt,
+            file,
+            folder,
+            name,
+            path,
+            is_synced: false,
+            is_renamed: false,
+        })
+    }
+}
+
+impl<'a, H: Disk> Beside<'a, H>
+where
+    H::File: LockFile,
+{
+    // With the mode of the old file. Until it has that, its owner alone may open it.
+    fn create_like(
+        rt: &'a H,
+        name: &'a str,
+        path: &'a str,
+        old: &H::File,
+    ) -> io::Result<Beside<'a, H>> {
+        let beside = Beside::create(rt, name, path, OWNER_MODE)?;
+        beside.file.take_mode(old)?;
+        Ok(beside)
+    }
+}
+
+// Removes what was left behind under this name, if anything was.
+fn remove_left<H: Files>(rt: &H, name: &str) -> io::Result<()> {
+    match rt.remove_file(name) {
+        Err(error) if error.kind() == ErrorKind::NotFound => Ok(()),
+        removed => removed,
+    }
+}
+
+impl<H: Disk> Write for Beside<'_, H> {
+    fn write(&mut self, buf: &[u8]) -> io::Result<usize> {
+        self.is_synced = false;
+        self.is_renamed = false;
+        match self.file.write(buf) {
+            Ok(count) => Ok(count),
+            Err(error) => Err(self.told("cannot write", error)),
+        }
+    }
+
+    fn flush(&mut self) -> io::Result<()> {
+        self.file.flush()
+    }
+}
+
+impl<H: Disk> Place for Beside<'_, H> {
+    ghost synced = { λ p. p.is_synced };
+
+    ghost renamed = { λ p. p.is_renamed };
+
+    fn sync(&mut self) -> io::Result<()> {
+        match self.file.sync_all() {
+            Ok(()) => {
+                self.is_synced = true;
+                Ok(())
+            }
+            Err(error) => Err(self.told("cannot sync", error)),
+        }
+    }
+
+    fn rename(&mut self) -> io::Result<()> {
+        match self.rt.rename(self.name, self.path) {
+            Ok(()) => {
+                self.is_renamed = true;
+                self.sync_folder()
+            }
+            Err(error) => Err(self.told("cannot rename", error)),
+        }
+    }
+}
+
+impl<H: Disk> Beside<'_, H> {
+    // Syncs the folder, so that the rename outlasts a loss of power. Some file systems can't, and that isn't told.
+    fn sync_folder(&self) -> io::Result<()> {
+        match self.folder.sync_all() {
+            Err(error) if !is_unsupported(error.kind()) => Err(self.told(
+                "renamed, but cannot sync the folder of",
+                error,
+            )),
+            _ => Ok(()),
+        }
+    }
+
+    // What failed, which is told.
+    fn told(&self, what: &str, error: io::Error) -> io::Error {
+        note(self.rt, what, self.name, &error);
+        error
+    }
+}
+
+// What a file system answers that doesn't sync folders.
+fn is_unsupported(kind: ErrorKind) -> bool {
+    matches!(kind, ErrorKind::Unsupported | ErrorKind::InvalidInput)
+}
+
+// The folder of a path: what stands before its last '/'.
+pub fn folder_of(path: &str) -> &str {
+    match path.rsplit_once('/') {
+        Some(("", _)) => "/",
+        Some((folder, _)) => folder,
+        None => ".",
+    }
+}

@@ -1,0 +1,94 @@
+//! The lock that a command takes before it changes a file.
+ghost use Rattle.std.specs.Prelude.{◌≡◌, IfErr};
+ghost use Rattle.rds_names.specs.declared.fault.Fault.TheVariants.{Device};
+
+use crate::disk::{Disk, note};
+use rds_names::Fault;
+use std::fs::{File, OpenFile, TryLockError};
+use std::os::unix::fs::MetadataExt;
+use std::time::Duration;
+use std::{fs, io, thread};
+
+/// How many times a lock is tried for.
+const TRIES: u32 = 1_000;
+
+/// How many milliseconds a command waits between two tries.
+const PAUSE: u64 = 10;
+
+/// What a file does beside the calls of `OpenFile`, so that one command at a time changes it.
+pub trait LockFile {
+    /// Takes the file's exclusive advisory lock, and tells whether it was free. The lock is let go with the file.
+    fn try_lock_exclusive(&self) -> io::Result<bool>;
+
+    /// Whether the two are one file, opened twice.
+    fn is_same(&self, other: &Self) -> io::Result<bool>;
+
+    /// Whether its mode lets nobody write it.
+    fn is_read_only(&self) -> io::Result<bool>;
+
+    /// Gives it the mode of another file.
+    fn take_mode(&self, other: &Self) -> io::Result<()>;
+}
+
+impl LockFile for File {
+    fn try_lock_exclusive(&self) -> io::Result<bool> {
+        match self.try_lock() {
+            Ok(()) => Ok(true),
+            Err(TryLockError::WouldBlock) => Ok(false),
+            Err(TryLockError::Error(error)) => Err(error),
+        }
+    }
+
+    fn is_same(&self, other: &File) -> io::Result<bool> {
+        let own = self.metadata()?;
+        let others = other.metadata()?;
+        Ok(own.dev() == others.dev() && own.ino() == others.ino())
+    }
+
+    fn is_read_only(&self) -> io::Result<bool> {
+        Ok(self.metadata()?.permissions().readonly())
+    }
+
+    fn take_mode(&self, other: &File) -> io::Result<()> {
+        self.set_permissions(other.metadata()?.permissions())
+    }
+}
+
+/// Opens what is at this path, and locks it. Another that has the lock is waited for some ten seconds; then it is
+/// `Device`, as where it can't be opened or locked.
+pub fn lock<H: Disk>(rt: &H, path: &str) -> Result<H::File, Fault>
+where
+    H::File: LockFile,
+    ensures fault { IfErr result (λ e. e ≡ Device) }
+{
+    'tries: for _ in 0..TRIES {
+        match try_lock(rt, path) {
+            Ok(Some(file)) => return Ok(file),
+            Ok(None) => thread::sleep(rt, Duration::from_millis(PAUSE)),
+            Err(error) => {
+                note(rt, "cannot open", path, &error);
+                return Err(Fault::Device);
+            }
+        }
+    }
+    let _ = eprintln!(rt; "{path}: in use by another command");
+    Err(Fault::Device)
+}
+
+// The locked file at this path. There is none where another has the lock, or where another file has taken its place, since
+// a file that is replaced keeps the lock of whoever replaced it.
+fn try_lock<H: Disk>(rt: &H, path: &str) -> io::Result<Option<H::File>>
+where
+    H::File: LockFile,
+{
+    let file = fs::open(rt, path)?;
+    if !file.try_lock_exclusive()? {
+        return Ok(None);
+    }
+    let there = fs::open(rt, path)?;
+    Ok(if file.is_same(&there)? {
+        Some(file)
+    } else {
+        None
+    })
+}

@@ -1,0 +1,140 @@
+//! A session of the replica in a file over a stream.
+ghost use Rattle.std.specs.Prelude.{◌≡◌, ◌⊎◌, Option};
+ghost use Rattle.rds_keep.specs.Counted.{HasFailed};
+ghost use Rattle.rds_names.specs.declared.fault.Fault.TheVariants.{Device};
+ghost use Rattle.rds_session.specs.declared.step.Ended.TheVariants.{Failed};
+ghost use Rattle.rds_files.specs.Settling.{Settles};
+ghost use Rattle.rds_files.specs.Syncing.{IsSession, Meets};
+ghost use Rattle.rds_files.specs.declared.settling.Settled.TheVariants.{Nothing};
+
+use crate::disk::Disk;
+use crate::files::ReplicaFile;
+use crate::locks::LockFile;
+use crate::settling::{Settled, settle};
+use rds_dots::DotSet;
+use rds_keep::Counted;
+use rds_names::Fault;
+use rds_session::{Ended, Side, exchange};
+use std::io;
+use std::io::{Read, Write};
+use std::net::{OpenStream, Shutdown};
+use std::time::Duration;
+
+/// How many bytes are dropped at once.
+const PIECE: usize = 16_384;
+
+/// What a session came to, and the stream that it was over.
+#[derive(Drop)]
+pub struct Met<T> {
+    /// What it left in the file.
+    pub settled: Settled,
+    /// How it ended.
+    pub ended: Ended,
+    rest: Option<T>,
+}
+
+impl<T> Met<T> {
+    /// A session that failed before it began: there is no peer to let go.
+    pub fn failed(fault: Fault) -> Met<T>
+        ensures settled { result.settled ≡ Nothing }
+        ensures ended { result.ended ≡ Failed fault }
+    {
+        Met {
+            settled: Settled::Nothing,
+            ended: Ended::Failed(fault),
+            rest: None,
+        }
+    }
+}
+
+impl<T: Read + OpenStream + Drop> Met<T> {
+    /// Lets the peer go: what it still sends is read and dropped, so that it gets all that was said to it. Nothing depends on
+    /// whether that succeeds.
+    pub fn let_go(self) {
+        if let Some(stream) = self.rest {
+            drop_rest(&mut Counted::new(stream));
+        }
+    }
+}
+
+/// A session over the stream to its end. It is read by one handle and written by another; where there is no other, or the
+/// time that a call may take can't be set, that is a session that failed. What it received is in the file before the peer is
+/// let go, and nothing more is sent.
+pub fn meet<H: Disk, S: DotSet, T: Read + Write + OpenStream + Drop>(
+    rt: &H,
+    side: Side,
+    file: &ReplicaFile<'_, S>,
+    mut stream: T,
+    timeout: Option<Duration>,
+) -> Met<T>
+where
+    H::File: LockFile,
+    ensures { Meets side (T.remaining stream) file.now result.settled result.ended }
+{
+    match bounded_clone(&stream, timeout) {
+        Ok(mut sending) => {
+            let mut reader = Counted::new(&mut stream);
+            let (settled, ended) = exchange_over(
+                rt,
+                side,
+                file,
+                &mut reader,
+                &mut Counted::new(&mut sending),
+            );
+            let _ = sending.shutdown(Shutdown::Write);
+            Met {
+                settled,
+                ended,
+                rest: Some(stream),
+            }
+        }
+        Err(_) => turn_away(&stream, Fault::Device),
+    }
+}
+
+/// Ends the connection with a peer with whom there is no session, and waits for nothing.
+pub fn turn_away<T: OpenStream>(stream: &T, fault: Fault) -> Met<T>
+    ensures settled { result.settled ≡ Nothing }
+    ensures ended { result.ended ≡ Failed fault }
+{
+    let _ = stream.shutdown(Shutdown::Both);
+    Met::failed(fault)
+}
+
+// Another handle on the stream. A read or a write of either that takes longer fails.
+fn bounded_clone<T: OpenStream>(stream: &T, timeout: Option<Duration>) -> io::Result<T> {
+    stream.set_read_timeout(timeout)?;
+    stream.set_write_timeout(timeout)?;
+    stream.try_clone()
+}
+
+// A session over the two handles of a stream, and what it received settled.
+fn exchange_over<H: Disk, S: DotSet, R: Read, W: Write>(
+    rt: &H,
+    side: Side,
+    file: &ReplicaFile<'_, S>,
+    reader: &mut Counted<R>,
+    writer: &mut Counted<W>,
+) -> (Settled, Ended)
+where
+    H::File: LockFile,
+    ensures session { IsSession side (R.remaining reader.old.inner) (R.remaining reader.new.inner)
+        (W.contents writer.old.inner) (W.contents writer.new.inner) file.now result.0 result.1 }
+    ensures device { result.1 ≡ Failed Device → HasFailed reader.old reader.new ⊎ HasFailed writer.old writer.new }
+{
+    let exchanged = exchange(rt.alloc(), side, file.kept(), reader, writer);
+    let settlement = settle(rt, file, exchanged.received);
+    (settlement.settled, exchanged.ended)
+}
+
+// Reads to the end, within the reader's bound of turns.
+fn drop_rest<R: Read>(reader: &mut Counted<R>) {
+    let mut dropped = [0u8; PIECE];
+    reader.begin_turns();
+    'turns: loop {
+        match reader.read(&mut dropped) {
+            Ok(0) | Err(_) => return,
+            Ok(_) => (),
+        }
+    }
+}
