@@ -3,7 +3,7 @@ mod files;
 
 use crate::calls::Calls;
 use files::Disk;
-use rds_files::{ReplicaFile, is_there};
+use rds_files::{CreatedFile, LockedFile, ReplicaFile, is_there};
 use rds_gaps::GapSet;
 use rds_keep::{Counted, read_snapshot};
 use rds_names::Fault;
@@ -12,9 +12,9 @@ use rds_rows::words::first;
 use rds_state::Replica;
 use std::alloc::{Alloc, Global};
 
-/// `disk ACTION FILE CALL`: opens, makes, keeps or replaces a replica in a file of a disk on which this call fails, or asks
-/// whether the file is there. The input is what files hold, and where it is empty there are none. Answers the calls that
-/// were made, and what came of it.
+/// `disk ACTION FILE CALL`: opens, makes or replaces a replica in a file of a disk on which this call fails, or asks whether
+/// the file is there. The input is what files hold, and where it is empty there are none; one that is made isn't there
+/// unless the call is `there FILE`. Answers the calls that were made, and what came of it.
 pub fn answer_disk(alloc: Global, row: &str, input: &[u8]) -> Result<String, Fault> {
     let (action, row) = first(row);
     let (path, fails) = first(row);
@@ -24,8 +24,13 @@ pub fn answer_disk(alloc: Global, row: &str, input: &[u8]) -> Result<String, Fau
 }
 
 // What came of an action.
-fn came_of(calls: &Calls<'_>, held: &[u8], action: &str, path: &str) -> Result<String, Fault> {
-    let disk = Disk { calls, held };
+fn came_of(calls: &Calls<'_>, input: &[u8], action: &str, path: &str) -> Result<String, Fault> {
+    let disk = Disk {
+        calls,
+        path,
+        is_there: action != "create" && !input.is_empty(),
+        bytes: input,
+    };
     match act(&disk, action, path) {
         Ok(word) => said(calls.alloc, word),
         Err(fault) => Ok(fault_text(calls.alloc, fault)?),
@@ -36,7 +41,7 @@ fn act(disk: &Disk<'_>, action: &str, path: &str) -> Result<&'static str, Fault>
     match action {
         "there" => there(disk, path),
         "open" => opened(disk, path),
-        "create" | "keep" | "replace" => changed(disk, action, path),
+        "create" | "replace" => changed(disk, action, path),
         _ => Err(Fault::Usage),
     }
 }
@@ -54,29 +59,26 @@ fn opened(disk: &Disk<'_>, path: &str) -> Result<&'static str, Fault> {
     Ok("opened")
 }
 
-// Writes the replica that files hold.
+// Writes the replica of the input.
 fn changed(disk: &Disk<'_>, action: &str, path: &str) -> Result<&'static str, Fault> {
-    let held = read_snapshot(disk.alloc(), &mut Counted::new(disk.held))?;
+    let held = read_snapshot(disk.alloc(), &mut Counted::new(disk.bytes))?;
     match action {
         "create" => created(disk, path, held.view_of()),
-        "keep" => kept(disk, path, held.view_of()),
         _ => replaced(disk, path, held.view_of()),
     }
 }
 
 fn created(disk: &Disk<'_>, path: &str, held: &Replica<GapSet>) -> Result<&'static str, Fault> {
-    let _file = ReplicaFile::create(disk, path, held)?;
+    let _file = CreatedFile::create(disk, path, held)?;
     Ok("made")
 }
 
-fn kept(disk: &Disk<'_>, path: &str, held: &Replica<GapSet>) -> Result<&'static str, Fault> {
-    let mut file: ReplicaFile<'_, GapSet> = ReplicaFile::open(disk, path)?;
-    file.keep(disk, held)?;
-    Ok("kept")
-}
-
-fn replaced(disk: &Disk<'_>, path: &str, held: &Replica<GapSet>) -> Result<&'static str, Fault> {
-    let file: ReplicaFile<'_, GapSet> = ReplicaFile::open(disk, path)?;
+fn replaced<'a>(
+    disk: &Disk<'a>,
+    path: &str,
+    held: &Replica<GapSet>,
+) -> Result<&'static str, Fault> {
+    let file: LockedFile<'_, Disk<'a>, GapSet> = LockedFile::open(disk, path)?;
     let _file = file.replace(disk, held)?;
     Ok("replaced")
 }

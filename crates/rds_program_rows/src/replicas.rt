@@ -3,7 +3,7 @@ ghost use Rattle.std.specs.Prelude.{IfOk};
 ghost use Rattle.rds_session.specs.Received.{HasChecked};
 
 use crate::sessions::side_of;
-use rds_files::{ReplacedFile, ReplicaFile, Settled, settle};
+use rds_files::{CreatedFile, LockedFile, ReplacedFile, ReplicaFile, Settlement, settle};
 use rds_gaps::GapSet;
 use rds_keep::{Counted, Kept};
 use rds_names::Fault;
@@ -22,7 +22,7 @@ pub fn read(rt: &HostRuntime) -> Result<ReplicaFile<'static, GapSet>, Fault> {
 
 /// `keep NAME`: keeps the replica in another file.
 pub fn keep(rt: &HostRuntime, name: &str, kept: &Kept<GapSet>) -> Result<String, Fault> {
-    let made = ReplicaFile::create(rt, name, kept.view_of())?;
+    let made = CreatedFile::create(rt, name, kept.view_of())?;
     components_told(rt.alloc(), made.kept())
 }
 
@@ -34,12 +34,13 @@ pub fn replace(rt: &HostRuntime, name: &str) -> Result<String, Fault> {
 }
 
 fn replace_by(rt: &HostRuntime, kept: &Kept<GapSet>) -> Result<String, Fault> {
-    let replaced = read(rt)?.replace(rt, kept.view_of())?;
+    let locked: LockedFile<'_, HostRuntime, GapSet> = LockedFile::open(rt, FILE)?;
+    let replaced = locked.replace(rt, kept.view_of())?;
     replaced_told(rt.alloc(), &replaced)
 }
 
 fn replaced_told(alloc: Global, replaced: &ReplacedFile<'_, GapSet>) -> Result<String, Fault> {
-    let before = components_of(replaced.before().kept());
+    let before = components_of(replaced.before());
     let now = components_of(replaced.kept());
     Ok(format!(in alloc; "{before} components, then {now}")?)
 }
@@ -56,12 +57,9 @@ fn components_of(kept: &Kept<GapSet>) -> u128 {
 
 /// `settle_nothing`: settles in the file a session that received nothing, and answers what came of it and how many
 /// components the replica has then.
-pub fn settle_nothing(
-    rt: &HostRuntime,
-    file: &mut ReplicaFile<'_, GapSet>,
-) -> Result<String, Fault> {
-    let settled = settle(rt, file, None);
-    settled_told(rt.alloc(), settled, file.kept())
+pub fn settle_nothing(rt: &HostRuntime, file: &ReplicaFile<'_, GapSet>) -> Result<String, Fault> {
+    let settlement = settle(rt, file, None);
+    settlement_told(rt.alloc(), &settlement, file.kept())
 }
 
 /// `settle SIDE HEX`: has a session of the replica that was read, with a peer that tells these bytes, and settles in its
@@ -69,11 +67,11 @@ pub fn settle_nothing(
 pub fn settle_received(
     rt: &HostRuntime,
     row: &str,
-    file: &mut ReplicaFile<'_, GapSet>,
+    file: &ReplicaFile<'_, GapSet>,
 ) -> Result<String, Fault> {
     let received = received(rt.alloc(), row, file.kept())?;
-    let settled = settle(rt, file, received);
-    settled_told(rt.alloc(), settled, file.kept())
+    let settlement = settle(rt, file, received);
+    settlement_told(rt.alloc(), &settlement, file.kept())
 }
 
 // What the session of a row receives.
@@ -102,7 +100,16 @@ fn received_by(
     exchanged.received
 }
 
-fn settled_told(alloc: Global, settled: Settled, kept: &Kept<GapSet>) -> Result<String, Fault> {
-    let components = components_of(kept);
+// What was settled, and how many components the file has then, or had where it wasn't replaced.
+fn settlement_told(
+    alloc: Global,
+    settlement: &Settlement<'_, GapSet>,
+    read: &Kept<GapSet>,
+) -> Result<String, Fault> {
+    let components = match &settlement.file {
+        Some(file) => components_of(file.kept()),
+        None => components_of(read),
+    };
+    let settled = settlement.settled;
     Ok(format!(in alloc; "{settled:?}, {components} components")?)
 }

@@ -8,7 +8,7 @@ use crate::replicas::{components_told, keep, read, replace, settle_nothing, sett
 use crate::runs::{run_barred, run_reading, run_renamed, run_spaced, run_writing, usual_turns};
 use crate::sessions::Sessions;
 use crate::simulated::Simulated;
-use crate::wire::{answer_over, answer_talk, answer_wire};
+use crate::wire::{answer_over, answer_serving, answer_talk, answer_wire};
 use crate::worlds::Worlds;
 use rds_files::ReplicaFile;
 use rds_gaps::GapSet;
@@ -82,8 +82,8 @@ impl<'a> Transcript<'a> {
     }
 
     // Rows about the file that the last row `read` has read.
-    fn answer_read(&mut self, name: &str, rest: &str) -> Result<String, Fault> {
-        let Some(file) = &mut self.file else {
+    fn answer_read(&self, name: &str, rest: &str) -> Result<String, Fault> {
+        let Some(file) = &self.file else {
             return Err(Fault::Usage);
         };
         match name {
@@ -117,6 +117,7 @@ impl Table for Transcript<'_> {
             "disk" => answer_disk(alloc, rest, self.input.as_slice()),
             "wire" => answer_wire(self.rt, rest),
             "over" => answer_over(self.rt, rest, self.input.as_slice()),
+            "serving" => answer_serving(self.rt, rest, self.input.as_slice()),
             "talk" => answer_talk(self.rt, rest, self.input.as_slice()),
             "put" | "hold" | "folder" | "remove" | "remove_folder" | "replace" => {
                 self.answer_file(name, rest)

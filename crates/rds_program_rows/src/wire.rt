@@ -1,20 +1,26 @@
 //! Rows about a connection in memory.
 mod host;
 mod line;
+mod output;
 
 use crate::calls::Calls;
 use crate::replicas::read;
 use crate::runs::named;
 use host::Wired;
 use line::Wire;
+use output::Output;
 use rds_commands::run;
 use rds_files::{Settled, meet, pair_files};
 use rds_keep::Counted;
 use rds_names::Fault;
 use rds_session::{Ended, Side};
+use std::time::Duration;
 
 // How many turns a session has.
 const TURNS: u64 = 100;
+
+// How many seconds a call on the connection of `talk` may take.
+const SECONDS: u64 = 7;
 
 /// `talk CALL`: a session, as the client, of the replica in the file over a connection on which this call fails, with a peer that
 /// says what the input is. Answers the calls that were made, what became of what it received, and how it ended.
@@ -26,35 +32,49 @@ pub fn answer_talk(rt: &HostRuntime, fails: &str, input: &[u8]) -> Result<String
 }
 
 fn talk<'a>(rt: &HostRuntime, wire: &'a Wire<'a>) -> Result<(Settled, Ended), Fault> {
-    let mut file = read(rt)?;
-    Ok(meet(rt, Side::Client, &mut file, wire.client()))
+    let file = read(rt)?;
+    let limit = Some(Duration::from_secs(SECONDS));
+    let met = meet(
+        &Wired { rt, wire },
+        Side::Client,
+        &file,
+        wire.client(),
+        limit,
+    );
+    let came = (met.settled, met.ended);
+    met.let_go();
+    Ok(came)
 }
 
 /// `over WORDS`: runs the program on these words behind its name, over a connection with a peer that says what the input is.
 /// Answers the calls that were made, what was written, and the status.
 pub fn answer_over(rt: &HostRuntime, words: &str, input: &[u8]) -> Result<String, Fault> {
+    run_over(rt, words, "", input)
+}
+
+/// `serving CALL`: the same on the words of two sessions as the server, over a connection on which this call fails.
+pub fn answer_serving(rt: &HostRuntime, fails: &str, input: &[u8]) -> Result<String, Fault> {
+    run_over(rt, "serve f 127.0.0.1:8 --sessions 2", fails, input)
+}
+
+fn run_over(rt: &HostRuntime, words: &str, fails: &str, input: &[u8]) -> Result<String, Fault> {
     let words = named(rt.alloc(), words)?;
-    let wire = Wire::with_peer(rt.alloc(), "", input)?;
-    let mut written = Vec::new(rt.alloc());
+    let wire = Wire::with_peer(rt.alloc(), fails, input)?;
+    let mut output = Output::new(&wire.calls);
     let mut nothing = Counted::new(&b""[..]);
     let wired = Wired { rt, wire: &wire };
-    let status = run(
-        &wired,
-        &words,
-        &mut nothing,
-        &mut Counted::new(&mut written),
-    );
-    run_told(&wire.calls, &written, status)
+    let status = run(&wired, &words, &mut nothing, &mut Counted::new(&mut output));
+    run_told(&wire.calls, &output.written, status)
 }
 
 /// `wire CALL`: a session of the replicas in the files a and b, over a connection on which this call fails; `wire stranger`
 /// over one that a stranger made. Answers the calls that were made, what was written, and the status.
 pub fn answer_wire(rt: &HostRuntime, fails: &str) -> Result<String, Fault> {
     let wire = Wire::new(rt.alloc(), fails);
-    let mut written = Vec::new(rt.alloc());
-    let mut writer = Counted::with_turns(&mut written, TURNS);
+    let mut output = Output::new(&wire.calls);
+    let mut writer = Counted::with_turns(&mut output, TURNS);
     let status = pair_files(&Wired { rt, wire: &wire }, "a", "b", &mut writer);
-    run_told(&wire.calls, &written, status)
+    run_told(&wire.calls, &output.written, status)
 }
 
 // The calls that were made, what was written, and the status.

@@ -1,19 +1,24 @@
 //! A disk in memory: it tells which calls were made on it, and one of them fails.
 use crate::calls::{Calls, failure};
 use crate::told::joined;
+use rds_files::LockFile;
 use std::alloc::{Alloc, Allocator, Global};
+use std::fmt::Display;
 use std::fs::{Metadata, OpenFile, OpenOptions, Permissions};
 use std::io::{self, ErrorKind, PipeReader, PipeWriter, Read, Seek, SeekFrom, Write};
 use std::os::fd::BorrowedFd;
 use std::os::unix::net::SocketAddr;
 use std::path::PathBuf;
 use std::rt::Files;
+use std::time::{Clock, Duration};
 
-/// Every file that is read holds the same bytes, and is there where they are some. What is written is forgotten.
+/// A file that holds some bytes, where it is there, and folders. What is written is forgotten.
 #[derive(Drop)]
 pub struct Disk<'a> {
     pub calls: &'a Calls<'a>,
-    pub held: &'a [u8],
+    pub path: &'a str,
+    pub is_there: bool,
+    pub bytes: &'a [u8],
 }
 
 impl Alloc for Disk<'_> {
@@ -24,6 +29,31 @@ impl Alloc for Disk<'_> {
     }
 }
 
+impl Clock for Disk<'_> {
+    fn monotonic(&self) -> io::Result<Duration> {
+        Err(failure())
+    }
+
+    fn since_1970(&self) -> io::Result<Duration> {
+        Err(failure())
+    }
+
+    fn sleep(&self, duration: Duration) {
+        let _ = self.calls.pause(duration);
+    }
+}
+
+// What people are told isn't kept.
+impl Eprint for Disk<'_> {
+    fn eprint<D: Display + Drop>(&self, _value: D) -> io::Result<()> {
+        Ok(())
+    }
+
+    fn eprintln<D: Display + Drop>(&self, _value: D) -> io::Result<()> {
+        Ok(())
+    }
+}
+
 // What the program has no use for fails.
 impl<'a> Files for Disk<'a> {
     type File = DiskFile<'a>;
@@ -31,15 +61,15 @@ impl<'a> Files for Disk<'a> {
     type Dir = DiskFile<'a>;
 
     fn open_file(&self, how: &OpenOptions, path: &str) -> io::Result<DiskFile<'a>> {
-        let verb = if how.asks_create() { "create" } else { "open" };
-        self.calls.call(verb, path)?;
-        if self.held.is_empty() && !how.asks_create() {
+        let makes = how.asks_create_new();
+        self.calls.call(if makes { "make" } else { "open" }, path)?;
+        if !makes && path == self.path && !self.is_there && !self.calls.is("there", path)? {
             return Err(io::Error::from(ErrorKind::NotFound));
         }
         Ok(DiskFile {
             calls: self.calls,
             path: String::from_str(self.calls.alloc, path)?,
-            rest: self.held,
+            rest: self.bytes,
         })
     }
 
@@ -64,8 +94,13 @@ impl<'a> Files for Disk<'a> {
         self.calls.call("rename", paths.as_str())
     }
 
-    fn remove_file(&self, _path: &str) -> io::Result<()> {
-        Err(failure())
+    // Nothing is there to be removed, unless the row says that something was left.
+    fn remove_file(&self, path: &str) -> io::Result<()> {
+        self.calls.call("remove", path)?;
+        if self.calls.is("left", path)? {
+            return Ok(());
+        }
+        Err(io::Error::from(ErrorKind::NotFound))
     }
 
     fn create_dir(&self, _path: &str) -> io::Result<()> {
@@ -167,10 +202,36 @@ impl OpenFile for DiskFile<'_> {
     }
 
     fn sync_all(&self) -> io::Result<()> {
-        self.calls.call("sync", self.path.as_str())
+        self.calls.call("sync", self.path.as_str())?;
+        if self.calls.is("unsyncable", self.path.as_str())? {
+            return Err(io::Error::from(ErrorKind::Unsupported));
+        }
+        Ok(())
     }
 
     fn sync_data(&self) -> io::Result<()> {
         Err(failure())
+    }
+}
+
+// The lock is free, the file is the one at its path, and it can be written, unless the row says something else.
+impl LockFile for DiskFile<'_> {
+    fn try_lock_exclusive(&self) -> io::Result<bool> {
+        self.calls.call("lock", self.path.as_str())?;
+        Ok(!self.calls.is("busy", self.path.as_str())?)
+    }
+
+    fn is_same(&self, _other: &Self) -> io::Result<bool> {
+        self.calls.call("same", self.path.as_str())?;
+        Ok(!self.calls.is("moved", self.path.as_str())?)
+    }
+
+    fn is_read_only(&self) -> io::Result<bool> {
+        self.calls.call("writable", self.path.as_str())?;
+        Ok(self.calls.is("unwritable", self.path.as_str())?)
+    }
+
+    fn take_mode(&self, _other: &Self) -> io::Result<()> {
+        self.calls.call("mode", self.path.as_str())
     }
 }

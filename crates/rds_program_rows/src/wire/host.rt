@@ -1,7 +1,9 @@
 //! The host, with a connection in memory in place of its network.
 use super::line::{End, Listener, Wire};
 use crate::calls::failure;
+use crate::told::joined;
 use std::alloc::{Alloc, Allocator, Global};
+use std::fmt::Display;
 use std::fs::{Metadata, OpenOptions, Permissions};
 use std::io::{self, PipeReader, PipeWriter};
 use std::net::{Net, SocketAddr, UdpSocket};
@@ -9,9 +11,9 @@ use std::os::fd::{BorrowedFd, OwnedFd};
 use std::os::unix::net::{self as unix, UnixStream};
 use std::path::PathBuf;
 use std::rt::Files;
-use std::time::Duration;
+use std::time::{Clock, Duration};
 
-/// The files of the host, and the connection.
+/// The files of the host, of which it is told which are opened, made, renamed and removed, and the connection.
 #[derive(Drop)]
 pub struct Wired<'a> {
     pub rt: &'a HostRuntime,
@@ -23,6 +25,32 @@ impl Alloc for Wired<'_> {
 
     fn alloc(&self) -> Global {
         self.rt.alloc()
+    }
+}
+
+// The clock of the host, but nothing waits.
+impl Clock for Wired<'_> {
+    fn monotonic(&self) -> io::Result<Duration> {
+        self.rt.monotonic()
+    }
+
+    fn since_1970(&self) -> io::Result<Duration> {
+        self.rt.since_1970()
+    }
+
+    fn sleep(&self, duration: Duration) {
+        let _ = self.wire.calls.pause(duration);
+    }
+}
+
+// What people are told isn't kept.
+impl Eprint for Wired<'_> {
+    fn eprint<D: Display + Drop>(&self, _value: D) -> io::Result<()> {
+        Ok(())
+    }
+
+    fn eprintln<D: Display + Drop>(&self, _value: D) -> io::Result<()> {
+        Ok(())
     }
 }
 
@@ -71,6 +99,12 @@ impl Files for Wired<'_> {
     type Dir = <HostRuntime as Files>::Dir;
 
     fn open_file(&self, how: &OpenOptions, path: &str) -> io::Result<Self::File> {
+        let verb = if how.asks_create_new() {
+            "make"
+        } else {
+            "open"
+        };
+        self.wire.calls.call(verb, path)?;
         self.rt.open_file(how, path)
     }
 
@@ -91,10 +125,13 @@ impl Files for Wired<'_> {
     }
 
     fn rename(&self, from: &str, to: &str) -> io::Result<()> {
+        let paths = joined(self.rt.alloc(), &[from, " ", to])?;
+        self.wire.calls.call("rename", paths.as_str())?;
         self.rt.rename(from, to)
     }
 
     fn remove_file(&self, path: &str) -> io::Result<()> {
+        self.wire.calls.call("remove", path)?;
         self.rt.remove_file(path)
     }
 

@@ -2,12 +2,14 @@
 ghost use Rattle.std.specs.Prelude.{◌≤◌, length, IfOk};
 
 use crate::calls::{Calls, failure};
+use crate::told::joined;
 use rds_names::Fault;
 use std::alloc::Global;
 use std::cell::Cell;
 use std::io::{self, Read, Write};
 use std::net::{IpAddr, Ipv4Addr, OpenListener, OpenStream, Shutdown, SocketAddr};
 use std::os::fd::{AsRawFd, RawFd};
+use std::time::Duration;
 
 // What goes one way and hasn't been read, and whether more may come.
 #[derive(Drop)]
@@ -161,6 +163,18 @@ impl Write for End<'_> {
     }
 }
 
+impl End<'_> {
+    // How many seconds a call may take, or `none`.
+    fn set_limit(&self, name: &str, limit: Option<Duration>) -> io::Result<()> {
+        let alloc = self.calls.alloc;
+        let on = match limit {
+            Some(limit) => format!(in alloc; "{} {}", self.name, limit.as_secs())?,
+            None => joined(alloc, &[self.name, " none"])?,
+        };
+        self.calls.call(name, on.as_str())
+    }
+}
+
 impl OpenStream for End<'_> {
     fn local_addr(&self) -> io::Result<SocketAddr> {
         self.calls.call("address", self.name)?;
@@ -175,6 +189,14 @@ impl OpenStream for End<'_> {
 
     fn set_nodelay(&self, _nodelay: bool) -> io::Result<()> {
         self.calls.call("hurry", self.name)
+    }
+
+    fn set_read_timeout(&self, limit: Option<Duration>) -> io::Result<()> {
+        self.set_limit("limit_reads", limit)
+    }
+
+    fn set_write_timeout(&self, limit: Option<Duration>) -> io::Result<()> {
+        self.set_limit("limit_writes", limit)
     }
 
     fn try_clone(&self) -> io::Result<Self> {
