@@ -5,6 +5,7 @@
 #include <errno.h>
 #include <stdlib.h>
 #include <string.h>
+#include <sys/stat.h>
 #include <sys/syscall.h>
 #include <unistd.h>
 
@@ -14,6 +15,11 @@ static int fails(const char *kind, const char *name, int error) {
     syscall(SYS_write, atoi(getenv("FAIL_TOLD")), name, strlen(name));
     errno = error;
     return 1;
+}
+
+static const char *sync_of(int file) {
+    struct stat about;
+    return fstat(file, &about) == 0 && S_ISDIR(about.st_mode) ? "fsync of the folder" : "fsync";
 }
 
 #define CALL(result, name, told, kind, error, none, takes, given) \
@@ -29,13 +35,16 @@ GROWS(malloc, (size_t size), (size))
 GROWS(calloc, (size_t count, size_t size), (count, size))
 GROWS(realloc, (void *old, size_t size), (old, size))
 MOVES(read, "read", (int file, void *to, size_t size), (file, to, size))
-MOVES(write, file == 1 ? "output" : "write", (int file, const void *from, size_t size), (file, from, size))
+MOVES(write, file == 1 ? "output" : file == 2 ? "standard error" : "write", (int file, const void *from, size_t size), (file, from, size))
 MOVES(recv, "recv", (int file, void *to, size_t size, int flags), (file, to, size, flags))
 MOVES(send, "send", (int file, const void *from, size_t size, int flags), (file, from, size, flags))
 DOES(open, (const char *path, int flags, unsigned mode), (path, flags, mode))
 DOES(fcntl, (int file, int command, long rest), (file, command, rest))
+DOES(flock, (int file, int operation), (file, operation))
+DOES(statx, (int folder, const char *path, int flags, unsigned mask, struct statx *to), (folder, path, flags, mask, to))
+DOES(unlink, (const char *path), (path))
 DOES(fchmod, (int file, unsigned mode), (file, mode))
-DOES(fsync, (int file), (file))
+CALL(int, fsync, sync_of(file), "device", EIO, -1, (int file), (file))
 DOES(fdatasync, (int file), (file))
 DOES(rename, (const char *from, const char *to), (from, to))
 DOES(socket, (int family, int kind, int protocol), (family, kind, protocol))
