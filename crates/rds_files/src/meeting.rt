@@ -7,9 +7,10 @@ ghost use Rattle.rds_files.specs.Settling.{Settles};
 ghost use Rattle.rds_files.specs.Syncing.{IsSession, Meets};
 ghost use Rattle.rds_files.specs.declared.settling.Settled.TheVariants.{Nothing};
 
-use crate::disk::Disk;
+use crate::disk::{Disk, note};
 use crate::files::ReplicaFile;
 use crate::locks::LockFile;
+use crate::reports::note_peer;
 use crate::settling::{Settled, settle};
 use rds_dots::DotSet;
 use rds_keep::Counted;
@@ -82,13 +83,17 @@ where
                 &mut Counted::new(&mut sending),
             );
             let _ = sending.shutdown(Shutdown::Write);
+            note_peer(rt, &stream, ended);
             Met {
                 settled,
                 ended,
                 rest: Some(stream),
             }
         }
-        Err(_) => turn_away(&stream, Fault::Device),
+        Err(error) => {
+            note(rt, "cannot use", "the connection of a peer", &error);
+            turn_away(&stream, Fault::Device)
+        }
     }
 }
 

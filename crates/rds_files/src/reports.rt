@@ -12,6 +12,7 @@ use rds_lines::{Digits, status_of, write_fault_line};
 use rds_names::Fault;
 use rds_session::Ended;
 use std::io::Write;
+use std::net::OpenStream;
 
 /// Writes what a session came to, and answers the status: first what was taken into the replica in
 /// its file, or why it wasn't, then why the session failed, if it did. The status is 1 where a fault
@@ -55,13 +56,29 @@ pub fn give_up<W: Write>(writer: &mut Counted<W>, fault: Fault) -> u8
     status_of(write_fault_line(writer, fault), 1)
 }
 
-/// Tells on standard error what came between, a line for each of the report's faults: which file, and which fault.
-pub fn note_report<H: Eprint>(rt: &H, path: &str, settled: &Settled, ended: Ended) {
+/// Tells on standard error why what was received isn't in the file, if it isn't.
+pub fn note_settled<H: Eprint>(rt: &H, path: &str, settled: &Settled) {
     if let Settled::Refused(fault) | Settled::Unkept(fault) = settled {
         let _ = eprintln!(rt; "{path}: what was received isn't kept: {fault:?}");
     }
+}
+
+/// Tells on standard error what came between in a session of a file, be it why what was received isn't in the file or why the
+/// session failed.
+pub fn note_report<H: Eprint>(rt: &H, path: &str, settled: &Settled, ended: Ended) {
+    note_settled(rt, path, settled);
     if let Ended::Failed(fault) = ended {
         let _ = eprintln!(rt; "{path}: the session failed: {fault:?}");
+    }
+}
+
+/// Tells on standard error by which peer's address a session failed, if it did.
+pub fn note_peer<H: Eprint, T: OpenStream>(rt: &H, stream: &T, ended: Ended) {
+    if let Ended::Failed(fault) = ended {
+        let _ = match stream.peer_addr() {
+            Ok(addr) => eprintln!(rt; "peer {addr}: {fault:?}"),
+            Err(_) => eprintln!(rt; "peer: {fault:?}"),
+        };
     }
 }
 

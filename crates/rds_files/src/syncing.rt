@@ -7,7 +7,7 @@ use crate::disk::{Disk, note};
 use crate::files::{FilePath, ReplicaFile};
 use crate::locks::LockFile;
 use crate::meeting::{Met, meet, turn_away};
-use crate::reports::{give_up, note_report, report, tells_fault, write_report};
+use crate::reports::{give_up, note_settled, report, tells_fault, write_report};
 use rds_dots::DotSet;
 use rds_gaps::GapSet;
 use rds_keep::Counted;
@@ -118,7 +118,7 @@ where
     ensures broken { (writer.new.failed ≡ writer.old.failed) ⊎ (result ≡ 1) }
 {
     let met = meet(rt, Side::Client, file, stream, timeout);
-    note_report(rt, file.path(), &met.settled, met.ended);
+    note_settled(rt, file.path(), &met.settled);
     let status = report(writer, &met.settled, met.ended);
     met.let_go();
     status
@@ -147,7 +147,7 @@ where
     let mut told = false;
     'sessions: for _ in 0..sessions {
         let met = meet_next(rt, path, listener, timeout);
-        note_report(rt, path.path(), &met.settled, met.ended);
+        note_settled(rt, path.path(), &met.settled);
         match write_report(writer, &met.settled, met.ended) {
             Ok(()) => (),
             Err(_) => return 1,
