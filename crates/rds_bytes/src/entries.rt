@@ -93,6 +93,7 @@ fn read_path(alloc: Global, bytes: &[u8]) -> Result<(Path, &[u8]), Fault>
     let (keys, rest) = read_parts(alloc, &KeyReader, u32::from(count), rest)?;
     match Path::from_keys(keys) {
         Ok(path) => Ok((path, rest)),
+        Err(Fault::Memory) => Err(Fault::Memory),
         Err(_) => Err(Fault::Bad),
     }
 }

@@ -17,13 +17,23 @@ pub enum Kind {
 }
 
 /// A value at a path of 1 to 8 keys.
-#[derive(Debug, PartialEq, Eq, Drop)]
+#[derive(Debug, PartialEq, Eq)]
 pub struct Entry {
     pub path: Path,
     pub kind: Kind,
     pub value: Scalar,
     pub ghost below_root: { 1 ≤ length path },
     pub ghost within: { length path ≤ 8 },
+}
+
+impl Drop for Entry {
+    fn drop(self) {
+        let Entry {
+            path: _path,
+            kind: _kind,
+            value: _value,
+        } = self;
+    }
 }
 
 impl Entry {
@@ -67,7 +77,7 @@ impl Entry {
         self.path == other.path && self.kind == other.kind && self.value.same(&other.value)
     }
 
-    /// An equal entry with memory of its own.
+    /// An equal entry, which shares the path and the text of the value.
     pub fn copy(&self, alloc: Global) -> Result<Entry, Fault>
         ensures ok { IfOk result (λ entry. entry ≡ self.now) }
         ensures memory { IfErr result (λ fault. fault ≡ Memory) }

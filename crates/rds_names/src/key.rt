@@ -8,26 +8,33 @@ use crate::fault::Fault;
 use std::alloc::Global;
 use std::cmp::Ordering;
 use std::marker::Model;
+use std::rc::RcStr;
 
 /// The most bytes of a key.
 const MOST_BYTES: usize = 64;
 
 /// A text of 1 to 64 bytes without '/'. Keys are ordered by their bytes.
-#[derive(Debug, Drop)]
+#[derive(Debug)]
 pub struct Key {
-    text: String,
+    text: RcStr,
+}
+
+impl Drop for Key {
+    fn drop(self) {
+        let Key { text: _text } = self;
+    }
 }
 
 impl Model for Key {
     ghost use Rattle.std.specs.Prelude.{ℕ, List, IsTrue};
-    ghost use Rattle.std.specs.String.{string_bytes};
+    ghost use Rattle.std.specs.Rc.{rc_str_bytes};
     ghost use Rattle.rds_names.specs.Key.{is_key};
 
     ghost Value = { List ℕ };
 
-    ghost view = { λ k. string_bytes k.text };
+    ghost view = { λ k. rc_str_bytes k.text };
 
-    ghost invariant = { λ k. IsTrue (is_key (string_bytes k.text)) };
+    ghost invariant = { λ k. IsTrue (is_key (rc_str_bytes k.text)) };
 }
 
 impl Key {
@@ -39,7 +46,7 @@ impl Key {
             return Err(Fault::BadKey);
         }
         Ok(Key {
-            text: String::from_str(alloc, text)?,
+            text: RcStr::from_str(alloc, text)?,
         })
     }
 
@@ -58,13 +65,13 @@ impl Key {
         self.text.as_str()
     }
 
-    /// An equal key with memory of its own.
-    pub fn copy(&self, alloc: Global) -> Result<Key, Fault>
+    /// An equal key, which shares the text.
+    pub fn copy(&self, _alloc: Global) -> Result<Key, Fault>
         ensures ok { IfOk result (λ key. key ≡ self.now) }
         ensures memory { IfErr result (λ fault. fault ≡ Memory) }
     {
         Ok(Key {
-            text: String::from_str(alloc, self.text.as_str())?,
+            text: self.text.clone()?,
         })
     }
 }

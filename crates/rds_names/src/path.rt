@@ -12,35 +12,60 @@ use crate::fault::Fault;
 use crate::key::Key;
 use std::alloc::Global;
 use std::marker::Model;
+use std::rc::RcSlice;
 
 /// The most keys of a path.
 const MOST_KEYS: usize = 8;
 
 /// At most 8 keys, from the root of the document down; the root itself has none.
-#[derive(Debug, Drop)]
+#[derive(Debug)]
 pub struct Path {
-    keys: Vec<Key>,
+    keys: Option<RcSlice<Key>>,
+}
+
+impl Drop for Path {
+    fn drop(self) {
+        let Path { keys: _keys } = self;
+    }
 }
 
 impl Model for Path {
-    ghost use Rattle.std.specs.Prelude.{ℕ, List, length, ◌≤◌};
+    ghost use Rattle.std.specs.Prelude.{ℕ, List, length, ◌≤◌, IfSome};
+    ghost use Rattle.std.specs.Rc.{rc_slice_items};
 
     ghost Value = { List (List ℕ) };
 
-    ghost view = { λ p. p.keys.items };
+    ghost use Rattle.rds_names.specs.Shared.{shared_items};
 
-    ghost invariant = { λ p. length p.keys.items ≤ 8 };
+    ghost view = { λ p. shared_items p.keys };
+
+    ghost invariant = { λ p. (length (shared_items p.keys) ≤ 8) × IfSome p.keys (λ keys. 1 ≤ length (rc_slice_items keys)) };
 }
 
 impl Path {
-    /// The path of these keys; more than 8 are refused (`BadPath`).
+    /// The path of these keys; more than 8 are refused (`BadPath`). The root takes no memory.
     pub fn from_keys(keys: Vec<Key>) -> Result<Path, Fault>
-        ensures { result ≡ path_of_keys keys.items }
+        ensures value { Gives result (path_of_keys keys.items) }
+        ensures root { keys.items ≡ [] → IsOk result }
     {
         if keys.len() > MOST_KEYS {
             return Err(Fault::BadPath);
         }
-        Ok(Path { keys })
+        Path::sharing(keys)
+    }
+
+    fn sharing(keys: Vec<Key>) -> Result<Path, Fault>
+        requires { length keys.items ≤ 8 }
+        ensures ok { IfOk result (λ path. path ≡ keys.items) }
+        ensures memory { IfErr result (λ fault. fault ≡ Memory) }
+        ensures root { keys.items ≡ [] → IsOk result }
+    {
+        if keys.is_empty() {
+            return Ok(Path { keys: None });
+        }
+        Ok(Path {
+            keys: Some(RcSlice::from_vec(keys)?),
+        })
     }
 
     /// The path whose keys stand between '/' in the text; the empty text is the root. More than 8
@@ -50,9 +75,7 @@ impl Path {
         ensures root { text.now ≡ [] → IsOk result }
     {
         if text.is_empty() {
-            return Ok(Path {
-                keys: Vec::new(alloc),
-            });
+            return Ok(Path { keys: None });
         }
         if count_pieces(text) > MOST_KEYS {
             return Err(Fault::BadPath);
@@ -60,9 +83,7 @@ impl Path {
         if !are_keys(text) {
             return Err(Fault::BadKey);
         }
-        Ok(Path {
-            keys: keys_of(alloc, text)?,
-        })
+        Path::sharing(keys_of(alloc, text)?)
     }
 
     /// How many keys the path has.
@@ -70,14 +91,14 @@ impl Path {
         ensures keys { result ≡ length self.now }
         ensures within { length self.now ≤ 8 }
     {
-        self.keys.len()
+        self.keys().len()
     }
 
     /// Whether this is the root.
     pub fn is_empty(&self) -> bool
         ensures { IsTrue result ↔ (self.now ≡ []) }
     {
-        self.keys.is_empty()
+        self.keys().is_empty()
     }
 
     /// The keys, from the root down.
@@ -85,14 +106,17 @@ impl Path {
         ensures keys { result.now ≡ self.now }
         ensures within { length self.now ≤ 8 }
     {
-        &self.keys
+        match &self.keys {
+            Some(keys) => keys.as_slice(),
+            None => &[],
+        }
     }
 
     /// The key at a place, of which the first is 0.
     pub fn key(&self, place: usize) -> Option<&Key>
         ensures { option_copied result ≡ slice_get self.now place }
     {
-        self.keys.get(place)
+        self.keys().get(place)
     }
 
     /// Whether the other path's keys are the first of this one's, as the root's always are.
@@ -100,19 +124,19 @@ impl Path {
         ensures value { result ≡ starts_with bytes_eq self.now other.now }
         ensures rest { IsTrue result ↔ ((rest : List (List ℕ)) × (self.now ≡ other.now ++ rest)) }
     {
-        self.keys.starts_with(&other.keys)
+        self.keys().starts_with(other.keys())
     }
 
-    /// An equal path with memory of its own. The root takes none.
-    pub fn copy(&self, alloc: Global) -> Result<Path, Fault>
+    /// An equal path, which shares the keys. The root can't fail.
+    pub fn copy(&self, _alloc: Global) -> Result<Path, Fault>
         ensures ok { IfOk result (λ path. path ≡ self.now) }
         ensures memory { IfErr result (λ fault. fault ≡ Memory) }
         ensures root { self.now ≡ [] → IsOk result }
     {
-        let mut keys = Vec::new(alloc);
-        for key in &self.keys {
-            keys.push(key.copy(alloc)?)?;
-        }
+        let keys = match &self.keys {
+            Some(keys) => Some(keys.clone()?),
+            None => None,
+        };
         Ok(Path { keys })
     }
 }
@@ -130,7 +154,7 @@ impl PartialEq for Path {
         ensures value { result ≡ pointwise bytes_eq self.now other.now }
         ensures same { IsTrue result ↔ (self.now ≡ other.now) }
     {
-        self.keys == other.keys
+        self.keys() == other.keys()
     }
 }
 
@@ -157,7 +181,7 @@ fn keys_of(alloc: Global, text: &str) -> Result<Vec<Key>, Fault>
     ensures ok { IfOk result (λ keys. keys.items ≡ cut text.now) }
     ensures memory { IfErr result (λ fault. fault ≡ Memory) }
 {
-    let mut keys = Vec::new(alloc);
+    let mut keys = Vec::with_capacity(alloc, count_pieces(text))?;
     for piece in text.split('/') {
         keys.push(key_of_piece(alloc, piece)?)?;
     }

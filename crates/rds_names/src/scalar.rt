@@ -8,25 +8,32 @@ use crate::fault::Fault;
 use std::alloc::Global;
 use std::cmp::Ordering;
 use std::marker::Model;
+use std::rc::RcStr;
 
 /// The most bytes of a text.
 const MOST_BYTES: usize = 1024;
 
 /// A text of at most 1,024 bytes. Texts are ordered by their bytes.
-#[derive(Debug, Drop)]
+#[derive(Debug)]
 pub struct Text {
-    text: String,
+    text: RcStr,
+}
+
+impl Drop for Text {
+    fn drop(self) {
+        let Text { text: _text } = self;
+    }
 }
 
 impl Model for Text {
     ghost use Rattle.std.specs.Prelude.{ℕ, List, length, ◌≤◌};
-    ghost use Rattle.std.specs.String.{string_bytes};
+    ghost use Rattle.std.specs.Rc.{rc_str_bytes};
 
     ghost Value = { List ℕ };
 
-    ghost view = { λ t. string_bytes t.text };
+    ghost view = { λ t. rc_str_bytes t.text };
 
-    ghost invariant = { λ t. length (string_bytes t.text) ≤ 1024 };
+    ghost invariant = { λ t. length (rc_str_bytes t.text) ≤ 1024 };
 }
 
 impl Text {
@@ -37,7 +44,7 @@ impl Text {
             return Err(Fault::BadScalar);
         }
         Ok(Text {
-            text: String::from_str(alloc, text)?,
+            text: RcStr::from_str(alloc, text)?,
         })
     }
 
@@ -49,13 +56,13 @@ impl Text {
         self.text.as_str()
     }
 
-    /// An equal text with memory of its own.
-    pub fn copy(&self, alloc: Global) -> Result<Text, Fault>
+    /// An equal text, which shares the bytes.
+    pub fn copy(&self, _alloc: Global) -> Result<Text, Fault>
         ensures ok { IfOk result (λ text. text ≡ self.now) }
         ensures memory { IfErr result (λ fault. fault ≡ Memory) }
     {
         Ok(Text {
-            text: String::from_str(alloc, self.text.as_str())?,
+            text: self.text.clone()?,
         })
     }
 }
@@ -134,7 +141,7 @@ impl Scalar {
         Ok(Scalar::Text(Text::new(alloc, text)?))
     }
 
-    /// An equal scalar with memory of its own. Only a text takes any.
+    /// An equal scalar, which shares the text if it is one. Only then can it fail.
     pub fn copy(&self, alloc: Global) -> Result<Scalar, Fault>
         ensures ok { IfOk result (λ scalar. scalar ≡ self.now) }
         ensures memory { IfErr result (λ fault. fault ≡ Memory) }

@@ -1,0 +1,9 @@
+-- Items that several values may share.
+use Rattle.std.specs.Prelude.{List, [], Option, Some, None}
+use Rattle.std.specs.Rc.{rc_slice_items}
+use Rattle.std.specs.declared.rc.RcSlice.{RcSlice}
+
+-- none are kept apart, in no memory
+abbrev pub shared_items : {X Z : Type 0} → Option (RcSlice X Z) → List X
+shared_items None = []
+shared_items (Some items) = rc_slice_items items
