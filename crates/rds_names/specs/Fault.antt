@@ -1,5 +1,7 @@
--- The number and the printed name of each fault.
-use Rattle.std.specs.Prelude.{ℕ, List, codes}
+-- The number, the printed name and the words of each fault.
+use Rattle.std.specs.Prelude.{ℕ, List, ◌++◌, codes, decimal}
+use Rattle.rds_names.specs.declared.fault.Own.{Own}
+use Rattle.rds_names.specs.declared.fault.Own.TheVariants.{Seq, Plus, Minus}
 use Rattle.rds_names.specs.declared.fault.Fault.{Fault}
 use Rattle.rds_names.specs.declared.fault.Fault.TheVariants.{Memory, BadName, BadKey, BadPath, BadScalar, BadRoster, SeqFull, CounterFull, Conflict, OwnAhead, WrongAsker, Cut, Bad, Extra, TooLong, TooManyDots, BadCertificate, WrongVersion, WrongGroup, WrongRoster, SameReplica, OutOfTurn, PeerEnded, Device, BadLine, NoSuch, Usage}
 
@@ -60,3 +62,42 @@ name_of Device = codes "Device"
 name_of BadLine = codes "BadLine"
 name_of NoSuch = codes "NoSuch"
 name_of Usage = codes "Usage"
+
+-- what of a replica's own the replica lacks
+abbrev pub words_of_own : Own → List ℕ
+words_of_own (Seq seq) = codes "dot " ++ (decimal seq ++ codes " of the replica's own isn't known to it")
+words_of_own (Plus sum) = codes "own increments stand at " ++ (decimal sum ++ codes " elsewhere")
+words_of_own (Minus sum) = codes "own decrements stand at " ++ (decimal sum ++ codes " elsewhere")
+
+abbrev pub words_of : Fault → List ℕ
+words_of Memory = codes "there was no memory left"
+words_of BadName = codes "the text is no name of a replica"
+words_of BadKey = codes "the text is no key"
+words_of BadPath = codes "the path has more than 8 keys, or none where one is needed"
+words_of BadScalar = codes "the value is none that a leaf may hold"
+words_of BadRoster = codes "the roster has no name, more than 256 or one twice, or lacks a number"
+words_of SeqFull = codes "the replica has used its last dot"
+words_of CounterFull = codes "the counter's number would pass its limit"
+words_of (Conflict replica seq) = codes "the dot " ++ (decimal seq ++ (codes " of replica " ++ (decimal replica ++ codes " has two entries")))
+words_of (OwnAhead own) = words_of_own own
+words_of WrongAsker = codes "the answer was made for another replica"
+words_of Cut = codes "the bytes end too early"
+words_of Bad = codes "the bytes are no text"
+words_of Extra = codes "more bytes follow a whole text"
+words_of TooLong = codes "the text or the line is longer than its limit"
+words_of TooManyDots = codes "the set of dots is larger than its limit"
+words_of BadCertificate = codes "the certificate of the delta doesn't hold"
+words_of WrongVersion = codes "the peer speaks another version"
+words_of WrongGroup = codes "the replicas are of different groups"
+words_of WrongRoster = codes "the replicas have different rosters"
+words_of SameReplica = codes "both ends are the same replica"
+words_of OutOfTurn = codes "the peer sent another message than the one awaited"
+words_of PeerEnded = codes "the peer ended before the exchange was done"
+words_of Device = codes "reading, writing or another call of the system failed"
+words_of BadLine = codes "the line is no command"
+words_of NoSuch = codes "there is no such replica, ask or answer"
+words_of Usage = codes "the words of the command line are none that the program takes"
+
+-- what is printed of a fault
+abbrev pub text_of_fault : Fault → List ℕ
+text_of_fault fault = name_of fault ++ (codes ": " ++ words_of fault)

@@ -4,6 +4,8 @@ ghost use Rattle.rds_names.specs.Fault.{number_of, name_of};
 ghost use Rattle.rds_names.specs.declared.fault.Fault.TheVariants.{Memory};
 
 use std::alloc::{AllocError, AllocFailed};
+use std::error::Error;
+use std::fmt;
 
 /// What a delta holds of a replica's own that the replica itself lacks: a sign that its file is
 /// older than what it has already sent.
@@ -165,3 +167,85 @@ impl<T: Drop> From<AllocFailed<T>> for Fault {
         Fault::Memory
     }
 }
+
+impl fmt::Display for Own {
+    ghost use Rattle.std.specs.Prelude.{Some};
+    ghost use Rattle.rds_names.specs.Fault.{words_of_own};
+
+    ghost output = { λ own. Some (words_of_own own) };
+
+    fn fmt<W: fmt::Write>(&self, f: &mut fmt::Formatter<W>) -> fmt::Result {
+        match *self {
+            Own::Seq(seq) => write!(f, "dot {seq} of the replica's own isn't known to it"),
+            Own::Plus(sum) => write!(f, "own increments stand at {sum} elsewhere"),
+            Own::Minus(sum) => write!(f, "own decrements stand at {sum} elsewhere"),
+        }
+    }
+}
+
+/// What a fault is, in words.
+#[derive(Clone, Copy)]
+struct Words(Fault);
+
+impl fmt::Display for Words {
+    ghost use Rattle.std.specs.Prelude.{Some};
+    ghost use Rattle.rds_names.specs.Fault.{words_of};
+
+    ghost output = { λ words. Some (words_of words.0) };
+
+    fn fmt<W: fmt::Write>(&self, f: &mut fmt::Formatter<W>) -> fmt::Result {
+        match self.0 {
+            Fault::Memory => f.write_str("there was no memory left"),
+            Fault::BadName => f.write_str("the text is no name of a replica"),
+            Fault::BadKey => f.write_str("the text is no key"),
+            Fault::BadPath => f.write_str(
+                "the path has more than 8 keys, or none where one is needed",
+            ),
+            Fault::BadScalar => f.write_str("the value is none that a leaf may hold"),
+            Fault::BadRoster => f.write_str(
+                "the roster has no name, more than 256 or one twice, or lacks a number",
+            ),
+            Fault::SeqFull => f.write_str("the replica has used its last dot"),
+            Fault::CounterFull => f.write_str("the counter's number would pass its limit"),
+            Fault::Conflict { replica, seq } => {
+                write!(f, "the dot {seq} of replica {replica} has two entries")
+            }
+            Fault::OwnAhead(own) => write!(f, "{own}"),
+            Fault::WrongAsker => f.write_str("the answer was made for another replica"),
+            Fault::Cut => f.write_str("the bytes end too early"),
+            Fault::Bad => f.write_str("the bytes are no text"),
+            Fault::Extra => f.write_str("more bytes follow a whole text"),
+            Fault::TooLong => f.write_str("the text or the line is longer than its limit"),
+            Fault::TooManyDots => f.write_str("the set of dots is larger than its limit"),
+            Fault::BadCertificate => f.write_str("the certificate of the delta doesn't hold"),
+            Fault::WrongVersion => f.write_str("the peer speaks another version"),
+            Fault::WrongGroup => f.write_str("the replicas are of different groups"),
+            Fault::WrongRoster => f.write_str("the replicas have different rosters"),
+            Fault::SameReplica => f.write_str("both ends are the same replica"),
+            Fault::OutOfTurn => f.write_str("the peer sent another message than the one awaited"),
+            Fault::PeerEnded => f.write_str("the peer ended before the exchange was done"),
+            Fault::Device => f.write_str("reading, writing or another call of the system failed"),
+            Fault::BadLine => f.write_str("the line is no command"),
+            Fault::NoSuch => f.write_str("there is no such replica, ask or answer"),
+            Fault::Usage => f.write_str(
+                "the words of the command line are none that the program takes",
+            ),
+        }
+    }
+}
+
+/// The fault's name, and behind ": " what it is in words. Replicas are numbered from 0, by their places in the roster.
+impl fmt::Display for Fault {
+    ghost use Rattle.std.specs.Prelude.{Some};
+    ghost use Rattle.rds_names.specs.Fault.{text_of_fault};
+
+    ghost output = { λ fault. Some (text_of_fault fault) };
+
+    fn fmt<W: fmt::Write>(&self, f: &mut fmt::Formatter<W>) -> fmt::Result {
+        let name = self.name();
+        let words = Words(*self);
+        write!(f, "{name}: {words}")
+    }
+}
+
+impl Error for Fault {}
