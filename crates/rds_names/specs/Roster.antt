@@ -1,5 +1,5 @@
 -- The replicas of a group.
-use Rattle.std.specs.Prelude.{ℕ, Bool, true, not, ◌&&◌, nat_le, List, [], ◌∷◌, length, Result, Ok, Err, if◌then◌else◌}
+use Rattle.std.specs.Prelude.{◌≡◌, ◌++◌, ℕ, Bool, true, not, ◌&&◌, nat_le, List, [], ◌∷◌, length, Result, Ok, Err, if◌then◌else◌}
 use Rattle.std.specs.List.{list_any}
 use Rattle.std.specs.Str.{bytes_eq}
 use Rattle.rds_names.specs.declared.fault.Fault.{Fault}
@@ -21,3 +21,15 @@ are_names names = nat_le 1 (length names) && nat_le (length names) 256 && all_di
 
 abbrev pub roster_of : List ℕ → List (List ℕ) → Result RosterValue Fault
 roster_of group names = if are_names names then Ok (record { group = group; names = names }) else Err BadRoster
+
+-- the roster with names after its own, at least one
+abbrev pub grown_of : RosterValue → List (List ℕ) → Result RosterValue Fault
+grown_of r names = if nat_le 1 (length names) then roster_of r.group (r.names ++ names) else Err BadRoster
+
+-- the names are the others' first ones
+abbrev pub AreFirst : List (List ℕ) → List (List ℕ) → Type 0
+AreFirst names others = (more : List (List ℕ)) × (others ≡ names ++ more)
+
+-- the same group, and the names are the other's first ones
+abbrev pub Begins : RosterValue → RosterValue → Type 0
+Begins r s = (r.group ≡ s.group) × AreFirst r.names s.names

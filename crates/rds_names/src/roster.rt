@@ -1,9 +1,9 @@
 //! The replicas of a group.
-ghost use Rattle.std.specs.Prelude.{◌≡◌, ◌↔◌, true, IsTrue, IfOk, IfErr, length, position, slice_get};
+ghost use Rattle.std.specs.Prelude.{◌≡◌, ◌↔◌, ◌++◌, true, IsTrue, IfOk, IfErr, length, position, slice_get};
 ghost use Rattle.std.specs.Str.{bytes_eq};
 ghost use Rattle.rds_names.specs.declared.fault.Fault.TheVariants.{Memory};
 ghost use Rattle.rds_names.specs.Gives.{Gives};
-ghost use Rattle.rds_names.specs.Roster.{roster_of, are_names, all_differ as names_differ};
+ghost use Rattle.rds_names.specs.Roster.{roster_of, grown_of, Begins, AreFirst, are_names, all_differ as names_differ};
 
 use crate::fault::Fault;
 use crate::key::Key;
@@ -69,7 +69,15 @@ impl Roster {
         ensures names { result ≡ length self.now.names }
         ensures within { IsTrue (are_names self.now.names) }
     {
-        self.names.as_slice().len() as u16
+        self.names().len() as u16
+    }
+
+    /// The names, in the order of their numbers.
+    pub fn names(&self) -> &[Name]
+        ensures names { result.now ≡ self.now.names }
+        ensures within { IsTrue (are_names self.now.names) }
+    {
+        self.names.as_slice()
     }
 
     /// The number of the replica with this name.
@@ -91,17 +99,42 @@ impl Roster {
     pub fn same(&self, other: &Roster) -> bool
         ensures { IsTrue result ↔ (self.now ≡ other.now) }
     {
-        self.group == other.group && same_names(self.names.as_slice(), other.names.as_slice())
+        self.group == other.group && same_names(self.names(), other.names())
     }
 
-    /// An equal roster with memory of its own.
+    /// Whether the two have the same group, and the names here are the other's first names, in the same order.
+    pub fn begins(&self, other: &Roster) -> bool
+        ensures { IsTrue result ↔ Begins self.now other.now }
+    {
+        self.group == other.group && are_first(self.names(), other.names())
+    }
+
+    /// The roster with these names after its own. No name, more than 256 in all and a name that stands twice are
+    /// refused (`BadRoster`).
+    pub fn grown(&self, alloc: Global, names: &[Name]) -> Result<Roster, Fault>
+        ensures { Gives result (grown_of self.now names.now) }
+    {
+        let own = self.names();
+        if names.is_empty()
+            || MOST_NAMES - own.len() < names.len()
+            || !all_differ_after(own, names)
+        {
+            return Err(Fault::BadRoster);
+        }
+        Ok(Roster {
+            group: self.group.copy(alloc)?,
+            names: set_of_both(alloc, own, names)?,
+        })
+    }
+
+    /// An equal roster, which shares the text of the group's name.
     pub fn copy(&self, alloc: Global) -> Result<Roster, Fault>
         ensures ok { IfOk result (λ roster. roster ≡ self.now) }
         ensures memory { IfErr result (λ fault. fault ≡ Memory) }
     {
         Ok(Roster {
             group: self.group.copy(alloc)?,
-            names: set_of(alloc, self.names.as_slice())?,
+            names: set_of(alloc, self.names())?,
         })
     }
 }
@@ -110,6 +143,33 @@ fn same_names(left: &[Name], right: &[Name]) -> bool
     ensures { IsTrue result ↔ (left.now ≡ right.now) }
 {
     left == right
+}
+
+/// Whether the names are the other's first ones.
+fn are_first(names: &[Name], others: &[Name]) -> bool
+    ensures { IsTrue result ↔ AreFirst names.now others.now }
+{
+    match others.get(..names.len()) {
+        Some(first) => same_names(names, first),
+        None => false,
+    }
+}
+
+/// Whether its own names and those behind them all differ.
+fn all_differ_after(own: &[Name], names: &[Name]) -> bool
+    ensures { result ≡ names_differ (own.now ++ names.now) }
+{
+    let mut rest = own;
+    'testing: loop {
+        let (name, others) = match rest.split_first() {
+            Some(parts) => parts,
+            None => return all_differ(names),
+        };
+        if others.contains(name) || names.contains(name) {
+            return false;
+        }
+        rest = others;
+    }
 }
 
 fn all_differ(names: &[Name]) -> bool
@@ -138,4 +198,15 @@ fn set_of(alloc: Global, names: &[Name]) -> Result<IndexSet<Name>, Fault>
         set.insert(*name)?;
     }
     Ok(set)
+}
+
+fn set_of_both(alloc: Global, own: &[Name], names: &[Name]) -> Result<IndexSet<Name>, Fault>
+    requires { names_differ (own.now ++ names.now) ≡ true }
+    ensures ok { IfOk result (λ set. set.keys ≡ own.now ++ names.now) }
+    ensures memory { IfErr result (λ fault. fault ≡ Memory) }
+{
+    let mut both = Vec::with_capacity(alloc, own.len() + names.len())?;
+    both.extend_from_slice(own)?;
+    both.extend_from_slice(names)?;
+    set_of(alloc, both.as_slice())
 }
