@@ -1,4 +1,5 @@
 mod Differ
 mod Made
+mod Orders
 mod Padding
 mod Ascii

@@ -7,6 +7,7 @@ ghost use Rattle.rds_names.specs.Key.{is_key, key_of};
 use crate::fault::Fault;
 use std::alloc::Global;
 use std::cmp::Ordering;
+use std::hash::{Hash, Hasher};
 use std::marker::Model;
 use std::rc::RcStr;
 
@@ -128,5 +129,19 @@ impl Ord for Key {
 
     fn cmp(&self, other: &Key) -> Ordering {
         self.text.cmp(&other.text)
+    }
+}
+
+impl Hash for Key {
+    ghost use Rattle.std.specs.Hash as fed;
+    ghost use Rattle.std.specs.Cmp.Rules.{hashing};
+    ghost use Rattle.std.proofs.Common.{rules};
+
+    ghost hash_input = { λ k. fed.str k };
+
+    ghost respects_eq = { Prim.search (hashing, rules) };
+
+    fn hash<H: Hasher>(&self, state: &mut H) {
+        self.as_str().hash(state);
     }
 }

@@ -5,6 +5,7 @@
 mod entry;
 mod fault;
 mod key;
+mod laws;
 mod name;
 mod path;
 mod roster;
@@ -13,6 +14,7 @@ mod scalar;
 pub use entry::{Entry, Kind};
 pub use fault::{Fault, Own};
 pub use key::Key;
+pub use laws::orders_of_values;
 pub use name::Name;
 pub use path::Path;
 pub use roster::Roster;
