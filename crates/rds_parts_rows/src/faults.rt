@@ -1,18 +1,27 @@
-//! Rows on faults: one that is named is answered as what it is.
+//! Rows on faults: one that is named is answered as what it is, or said in words.
 use rds_names::{Fault, Own};
 use rds_rows::words::{first, number, small};
+use std::alloc::Global;
 
 /// Refuses as the row says.
 pub fn answer(name: &str, rest: &str) -> Result<String, Fault> {
+    Err(fault(name, rest)?)
+}
+
+/// The text of the row's fault.
+pub fn shown(alloc: Global, name: &str, rest: &str) -> Result<String, Fault> {
+    let fault = fault(name, rest)?;
+    Ok(format!(in alloc; "{fault}")?)
+}
+
+fn fault(name: &str, rest: &str) -> Result<Fault, Fault> {
     match name {
-        "Conflict" => Err(conflict(rest)?),
-        "OwnAhead" => Err(own_ahead(rest)?),
-        _ => Err(
-            of_document(name)
-                .or(of_text(name))
-                .or(of_program(name))
-                .unwrap_or(Fault::Usage),
-        ),
+        "Conflict" => conflict(rest),
+        "OwnAhead" => own_ahead(rest),
+        _ => of_document(name)
+            .or(of_text(name))
+            .or(of_program(name))
+            .ok_or(Fault::Usage),
     }
 }
 

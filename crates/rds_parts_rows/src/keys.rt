@@ -4,6 +4,7 @@ use rds_names::{Fault, Key, Name};
 use rds_rows::told::{said, said_if};
 use rds_rows::words::cut;
 use std::alloc::Global;
+use std::hash::{DefaultHasher, Hash, Hasher};
 
 /// Answers a row on a name.
 pub fn answer_name(alloc: Global, written: &str) -> Result<String, Fault> {
@@ -19,6 +20,7 @@ pub fn answer(alloc: Global, asked: &str, rest: &str) -> Result<String, Fault> {
         "copy" => copied(alloc, rest),
         "is" => is_key(alloc, rest),
         "least" => least(alloc, rest),
+        "hash" => hashed_alike(alloc, rest),
         _ => Err(Fault::Usage),
     }
 }
@@ -52,4 +54,18 @@ fn least(alloc: Global, rest: &str) -> Result<String, Fault> {
 /// The lesser of the two, as an order says.
 fn lesser<K: Ord + Drop>(left: K, right: K) -> K {
     if right < left { right } else { left }
+}
+
+/// Whether two keys have one hash.
+fn hashed_alike(alloc: Global, rest: &str) -> Result<String, Fault> {
+    let (left, right) = cut(rest)?;
+    let left = hash_of(&key(alloc, left)?);
+    let right = hash_of(&key(alloc, right)?);
+    said_if(alloc, left == right)
+}
+
+fn hash_of(key: &Key) -> u64 {
+    let mut state = DefaultHasher::new();
+    key.hash(&mut state);
+    state.finish()
 }

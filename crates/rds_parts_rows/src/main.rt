@@ -39,6 +39,7 @@ impl<S: DotSet> Table for Parts<S> {
         let (asked, words) = first(rest);
         match name {
             "fault" => faults::answer(asked, words),
+            "words" => faults::shown(alloc, asked, words),
             "name" => keys::answer_name(alloc, rest),
             "key" => keys::answer(alloc, asked, words),
             "path" => paths::answer(alloc, asked, words),

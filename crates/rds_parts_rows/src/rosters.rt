@@ -1,8 +1,8 @@
 //! Rows on rosters.
-use crate::words::said_number;
+use crate::words::{push, said_number};
 use rds_names::{Fault, Key, Name, Roster};
 use rds_rows::told::{said, said_if};
-use rds_rows::words::{number, parted, roster, small};
+use rds_rows::words::{names, number, parted, roster, small};
 use std::alloc::Global;
 
 /// Answers a row on rosters.
@@ -13,6 +13,10 @@ pub fn answer(alloc: Global, asked: &str, rest: &str) -> Result<String, Fault> {
         "name" => name_of(alloc, rest),
         "copy" => copied(alloc, rest),
         "same" => same(alloc, rest),
+        "names" => named(alloc, &roster(alloc, rest)?),
+        "begins" => begins(alloc, rest),
+        "grown" => grown(alloc, rest),
+        "grown_many" => grown_many(alloc, rest),
         "many" => shown(alloc, &many(alloc, rest)?),
         "number_of_many" => number_of_many(alloc, rest),
         _ => Err(Fault::Usage),
@@ -54,6 +58,38 @@ fn same(alloc: Global, rest: &str) -> Result<String, Fault> {
     let left = roster(alloc, left)?;
     let right = roster(alloc, right)?;
     said_if(alloc, left.same(&right))
+}
+
+/// The names in the order of their numbers.
+fn named(alloc: Global, roster: &Roster) -> Result<String, Fault> {
+    let mut line = String::new(alloc);
+    for name in roster.names() {
+        push(&mut line, name.as_str())?;
+    }
+    Ok(line)
+}
+
+fn begins(alloc: Global, rest: &str) -> Result<String, Fault> {
+    let (first, whole) = parted(rest, " | ")?;
+    let first = roster(alloc, first)?;
+    let whole = roster(alloc, whole)?;
+    said_if(alloc, first.begins(&whole))
+}
+
+/// The names of the roster that has grown, as `g a b | c d`.
+fn grown(alloc: Global, rest: &str) -> Result<String, Fault> {
+    let (first, others) = parted(rest, " |")?;
+    let roster = roster(alloc, first)?;
+    let others = names(alloc, others)?;
+    named(alloc, &roster.grown(alloc, &others)?)
+}
+
+/// The roster of so many that has grown by a name, as `255 | z`.
+fn grown_many(alloc: Global, rest: &str) -> Result<String, Fault> {
+    let (count, others) = parted(rest, " | ")?;
+    let roster = many(alloc, count)?;
+    let others = names(alloc, others)?;
+    shown(alloc, &roster.grown(alloc, &others)?)
 }
 
 /// The number of a name in the roster of so many, as `n255 in 256`.

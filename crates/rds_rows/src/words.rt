@@ -36,7 +36,8 @@ pub fn roster(alloc: Global, words: &str) -> Result<Roster, Fault> {
     Roster::new(alloc, group, &names)
 }
 
-fn names(alloc: Global, words: &str) -> Result<Vec<Name>, Fault> {
+/// The names that are written, as `a b c`.
+pub fn names(alloc: Global, words: &str) -> Result<Vec<Name>, Fault> {
     let mut names = Vec::new(alloc);
     for word in words.split_whitespace() {
         names.push(Name::new(word)?)?;
