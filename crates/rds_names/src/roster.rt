@@ -11,6 +11,7 @@ use crate::name::Name;
 use indexmap::IndexSet;
 use std::alloc::Global;
 use std::marker::Model;
+use std::rc::Rc;
 
 /// The most replicas that a group has.
 const MOST_NAMES: usize = 256;
@@ -19,7 +20,7 @@ const MOST_NAMES: usize = 256;
 /// the place of its name, from 0.
 pub struct Roster {
     group: Key,
-    names: IndexSet<Name>,
+    names: Rc<IndexSet<Name>>,
 }
 
 impl Drop for Roster {
@@ -37,9 +38,9 @@ impl Model for Roster {
 
     ghost Value = { RosterValue };
 
-    ghost view = { λ r. record { group = r.group; names = r.names.keys } };
+    ghost view = { λ r. record { group = r.group; names = r.names.value.keys } };
 
-    ghost invariant = { λ r. IsTrue (are_names r.names.keys) };
+    ghost invariant = { λ r. IsTrue (are_names r.names.value.keys) };
 }
 
 impl Roster {
@@ -53,7 +54,7 @@ impl Roster {
         }
         Ok(Roster {
             group,
-            names: set_of(alloc, names)?,
+            names: Rc::new(alloc, set_of(alloc, names)?)?,
         })
     }
 
@@ -123,18 +124,18 @@ impl Roster {
         }
         Ok(Roster {
             group: self.group.copy(alloc)?,
-            names: set_of_both(alloc, own, names)?,
+            names: Rc::new(alloc, set_of_both(alloc, own, names)?)?,
         })
     }
 
-    /// An equal roster, which shares the text of the group's name.
+    /// An equal roster, which shares the names and the text of the group's.
     pub fn copy(&self, alloc: Global) -> Result<Roster, Fault>
         ensures ok { IfOk result (λ roster. roster ≡ self.now) }
         ensures memory { IfErr result (λ fault. fault ≡ Memory) }
     {
         Ok(Roster {
             group: self.group.copy(alloc)?,
-            names: set_of(alloc, self.names())?,
+            names: self.names.clone()?,
         })
     }
 }
