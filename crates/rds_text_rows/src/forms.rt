@@ -5,7 +5,7 @@ use rds_codec::{
     encode_state,
 };
 use rds_delta::Digest;
-use rds_gaps::GapSet;
+use rds_dots::DotSet;
 use rds_names::Fault;
 use rds_state::{Replica, State};
 use std::alloc::Global;
@@ -14,31 +14,35 @@ use std::alloc::Global;
 pub const REPLICAS: u16 = 3;
 
 /// What the bytes are read as, written again.
-pub fn again(alloc: Global, form: &str, bytes: &[u8]) -> Result<Vec<u8>, Fault> {
+pub fn again<S: DotSet>(alloc: Global, form: &str, bytes: &[u8]) -> Result<Vec<u8>, Fault> {
     match form {
-        "snapshot" => snapshot_again(alloc, bytes),
-        "state" => state_again(alloc, REPLICAS, bytes),
-        "digest" => digest_again(alloc, bytes),
+        "snapshot" => snapshot_again::<S>(alloc, bytes),
+        "state" => state_again::<S>(alloc, REPLICAS, bytes),
+        "digest" => digest_again::<S>(alloc, bytes),
         "certificate" => certificate_again(alloc, bytes),
-        "answer" => answer_again(alloc, bytes),
+        "answer" => answer_again::<S>(alloc, bytes),
         "hello" => hello_again(alloc, bytes),
         _ => Err(Fault::Usage),
     }
 }
 
 /// The same, of a state in a group of so many replicas.
-pub fn state_again(alloc: Global, replicas: u16, bytes: &[u8]) -> Result<Vec<u8>, Fault> {
-    let state: State<GapSet> = decode_state(alloc, replicas, bytes)?;
+pub fn state_again<S: DotSet>(
+    alloc: Global,
+    replicas: u16,
+    bytes: &[u8],
+) -> Result<Vec<u8>, Fault> {
+    let state: State<S> = decode_state(alloc, replicas, bytes)?;
     encode_state(alloc, &state)
 }
 
-fn snapshot_again(alloc: Global, bytes: &[u8]) -> Result<Vec<u8>, Fault> {
-    let replica: Replica<GapSet> = decode_snapshot(alloc, bytes)?;
+fn snapshot_again<S: DotSet>(alloc: Global, bytes: &[u8]) -> Result<Vec<u8>, Fault> {
+    let replica: Replica<S> = decode_snapshot(alloc, bytes)?;
     encode_snapshot(alloc, &replica)
 }
 
-fn digest_again(alloc: Global, bytes: &[u8]) -> Result<Vec<u8>, Fault> {
-    let digest: Digest<GapSet> = decode_digest(alloc, REPLICAS, bytes)?;
+fn digest_again<S: DotSet>(alloc: Global, bytes: &[u8]) -> Result<Vec<u8>, Fault> {
+    let digest: Digest<S> = decode_digest(alloc, REPLICAS, bytes)?;
     encode_digest(alloc, &digest)
 }
 
@@ -47,8 +51,8 @@ fn certificate_again(alloc: Global, bytes: &[u8]) -> Result<Vec<u8>, Fault> {
     encode_certificate(alloc, &certificate)
 }
 
-fn answer_again(alloc: Global, bytes: &[u8]) -> Result<Vec<u8>, Fault> {
-    let answer: Answer<GapSet> = decode_answer(alloc, REPLICAS, bytes)?;
+fn answer_again<S: DotSet>(alloc: Global, bytes: &[u8]) -> Result<Vec<u8>, Fault> {
+    let answer: Answer<S> = decode_answer(alloc, REPLICAS, bytes)?;
     encode_answer(alloc, answer.asker, &answer.state, &answer.certificate)
 }
 

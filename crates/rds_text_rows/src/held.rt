@@ -1,38 +1,42 @@
 //! The snapshot that is held from row to row.
 use crate::{exchanges, places, reading, texts};
 use rds_codec::texts_stand_apart;
+use rds_dots::DotSet;
 use rds_names::Fault;
 use rds_rows::Table;
 use rds_rows::told::said;
 use rds_rows::words::bytes_of;
 use std::alloc::Global;
+use std::marker::PhantomData;
 
-/// The text that later rows are on.
+/// The text that later rows are on. What it says is read over sets of this kind.
 #[derive(Drop)]
-pub struct Held {
+pub struct Held<S: DotSet> {
     text: Vec<u8>,
+    set: PhantomData<S>,
 }
 
-impl Table for Held {
+impl<S: DotSet> Table for Held<S> {
     fn answer(&mut self, alloc: Global, name: &str, rest: &str) -> Result<String, Fault> {
         match name {
             "hold" => self.hold(alloc, rest),
-            "ask" => exchanges::ask(alloc, &self.text),
-            "answer" => exchanges::answer(alloc, &self.text, rest),
-            "exchange" => exchanges::exchanged(alloc, &self.text, rest),
-            "place" => places::answer(alloc, &self.text, rest),
-            "read" => reading::answer(alloc, &self.text, rest),
+            "ask" => exchanges::ask::<S>(alloc, &self.text),
+            "answer" => exchanges::answer::<S>(alloc, &self.text, rest),
+            "exchange" => exchanges::exchanged::<S>(alloc, &self.text, rest),
+            "place" => places::answer::<S>(alloc, &self.text, rest),
+            "read" => reading::answer::<S>(alloc, &self.text, rest),
             "laws" => laws(alloc),
-            _ => texts::answer(alloc, name, rest),
+            _ => texts::answer::<S>(alloc, name, rest),
         }
     }
 }
 
-impl Held {
+impl<S: DotSet> Held<S> {
     /// No byte yet.
-    pub fn new(alloc: Global) -> Held {
+    pub fn new(alloc: Global) -> Held<S> {
         Held {
             text: Vec::new(alloc),
+            set: PhantomData,
         }
     }
 

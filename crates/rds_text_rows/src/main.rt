@@ -14,10 +14,17 @@ mod reading;
 mod texts;
 
 use held::Held;
-use rds_rows::write_answers;
+use rds_dots::ListSet;
+use rds_gaps::GapSet;
+use rds_rows::{Both, write_answers};
 use std::io;
 
 fn main(rt: HostRuntime) -> io::Result<()> {
-    let mut held = Held::new(rt.alloc());
-    write_answers(&rt, &mut held)
+    let gaps: Held<GapSet> = Held::new(rt.alloc());
+    let lists: Held<ListSet> = Held::new(rt.alloc());
+    let mut both = Both {
+        first: gaps,
+        second: lists,
+    };
+    write_answers(&rt, &mut both)
 }

@@ -1,7 +1,7 @@
 //! Rows that call a counted place step by step.
 use crate::devices::Sheet;
 use rds_codec::{decode_snapshot, encode_snapshot};
-use rds_gaps::GapSet;
+use rds_dots::DotSet;
 use rds_keep::{Counted, keep_in, write_snapshot};
 use rds_names::Fault;
 use rds_rows::devices::Manner;
@@ -13,21 +13,21 @@ use std::fmt::{self, Display, Formatter};
 
 /// `place MOST CALL STEP,STEP,..`: what each step answers, what the place counted, and what it holds. The place takes so
 /// many bytes a call at most, and the call of this number fails, if there is one.
-pub fn answer(alloc: Global, held: &[u8], rest: &str) -> Result<String, Fault> {
+pub fn answer<S: DotSet>(alloc: Global, held: &[u8], rest: &str) -> Result<String, Fault> {
     let (most, words) = cut(rest)?;
     let (call, steps) = cut(words)?;
     let most = number(most)? as usize;
     let fails_at = number(call)?;
     let mut written = Vec::new(alloc);
     let mut place = Counted::new(Sheet::new(&mut written, Manner { most, fails_at }));
-    let answers = take_steps(alloc, held, &mut place, steps);
+    let answers = take_steps::<S>(alloc, held, &mut place, steps);
     let (failed, renamed) = (place.failed(), place.renamed());
     let digits = digits_of(alloc, &written)?;
     let answers = answers?;
     Ok(format!(in alloc; "{answers}; {failed} failed, renamed: {renamed}; holds \"{digits}\"")?)
 }
 
-fn take_steps(
+fn take_steps<S: DotSet>(
     alloc: Global,
     held: &[u8],
     place: &mut Counted<Sheet<'_>>,
@@ -35,7 +35,7 @@ fn take_steps(
 ) -> Result<String, Fault> {
     let mut answers = String::new(alloc);
     for step in steps.split(',') {
-        let answer = step_text(alloc, take_step(alloc, held, place, step))?;
+        let answer = step_text(alloc, take_step::<S>(alloc, held, place, step))?;
         answers.push_str(answer.as_str())?;
     }
     Ok(answers)
@@ -53,7 +53,7 @@ fn step_text(alloc: Global, answer: Result<usize, Fault>) -> Result<String, Faul
 
 /// How many bytes of its text the step wrote, or its fault. `snapshot` writes the replica of the held snapshot, and
 /// `keep` keeps it; `settle` syncs the place, and then renames it.
-fn take_step(
+fn take_step<S: DotSet>(
     alloc: Global,
     held: &[u8],
     place: &mut Counted<Sheet<'_>>,
@@ -61,8 +61,8 @@ fn take_step(
 ) -> Result<usize, Fault> {
     let (name, text) = first(step);
     match name {
-        "snapshot" => return snapshot(alloc, held, place),
-        "keep" => return keep(alloc, held, place),
+        "snapshot" => return snapshot::<S>(alloc, held, place),
+        "keep" => return keep::<S>(alloc, held, place),
         "write" => return place.write(text.as_bytes()),
         "all" => place.write_all(text.as_bytes())?,
         "pieces" => place.write_pieces(&[text.as_bytes(), b"\n"])?,
@@ -74,17 +74,25 @@ fn take_step(
     Ok(text.len())
 }
 
-fn snapshot(alloc: Global, held: &[u8], place: &mut Counted<Sheet<'_>>) -> Result<usize, Fault> {
-    let replica: Replica<GapSet> = decode_snapshot(alloc, held)?;
+fn snapshot<S: DotSet>(
+    alloc: Global,
+    held: &[u8],
+    place: &mut Counted<Sheet<'_>>,
+) -> Result<usize, Fault> {
+    let replica: Replica<S> = decode_snapshot(alloc, held)?;
     let kept = write_snapshot(alloc, &replica, place)?;
     Ok(encode_snapshot(alloc, kept.view_of())?.len())
 }
 
-fn keep(alloc: Global, held: &[u8], place: &mut Counted<Sheet<'_>>) -> Result<usize, Fault> {
+fn keep<S: DotSet>(
+    alloc: Global,
+    held: &[u8],
+    place: &mut Counted<Sheet<'_>>,
+) -> Result<usize, Fault> {
     if place.renamed() {
         return Err(Fault::OutOfTurn);
     }
-    let replica: Replica<GapSet> = decode_snapshot(alloc, held)?;
+    let replica: Replica<S> = decode_snapshot(alloc, held)?;
     let kept = keep_in(alloc, &replica, place)?.replica();
     Ok(encode_snapshot(alloc, &kept)?.len())
 }

@@ -1,6 +1,6 @@
 //! Rows that read what is held, byte by byte.
 use rds_codec::encode_snapshot;
-use rds_gaps::GapSet;
+use rds_dots::DotSet;
 use rds_keep::{Counted, Kept, read_snapshot};
 use rds_names::Fault;
 use rds_rows::devices::{Drip, Manner};
@@ -10,12 +10,12 @@ use std::alloc::Global;
 
 /// `read whole CALL` and `read turns TURNS`: the snapshot that is read. The call of this number fails, if there is one,
 /// or so many turns are made. `read front TURNS`: one byte that is read, and then two.
-pub fn answer(alloc: Global, held: &[u8], rest: &str) -> Result<String, Fault> {
+pub fn answer<S: DotSet>(alloc: Global, held: &[u8], rest: &str) -> Result<String, Fault> {
     let (name, count) = cut(rest)?;
     let count = number(count)?;
     match name {
-        "whole" => read_whole(alloc, Counted::new(drip(held, count))),
-        "turns" => read_whole(alloc, Counted::with_turns(drip(held, 0), count)),
+        "whole" => read_whole::<S>(alloc, Counted::new(drip(held, count))),
+        "turns" => read_whole::<S>(alloc, Counted::with_turns(drip(held, 0), count)),
         "front" => read_front(alloc, Counted::with_turns(drip(held, 0), count)),
         _ => Err(Fault::Usage),
     }
@@ -26,14 +26,14 @@ fn drip(held: &[u8], fails_at: u64) -> Drip<'_> {
 }
 
 /// What was read or why not, and what the reader counted.
-fn read_whole(alloc: Global, mut reader: Counted<Drip<'_>>) -> Result<String, Fault> {
-    let read = answer_text(alloc, snapshot_in(alloc, &mut reader))?;
+fn read_whole<S: DotSet>(alloc: Global, mut reader: Counted<Drip<'_>>) -> Result<String, Fault> {
+    let read = answer_text(alloc, snapshot_in::<S>(alloc, &mut reader))?;
     let (failed, turns) = (reader.failed(), reader.turns());
     Ok(format!(in alloc; "{read}; {failed} failed, {turns} turns")?)
 }
 
-fn snapshot_in(alloc: Global, reader: &mut Counted<Drip<'_>>) -> Result<String, Fault> {
-    let kept: Kept<GapSet> = read_snapshot(alloc, reader)?;
+fn snapshot_in<S: DotSet>(alloc: Global, reader: &mut Counted<Drip<'_>>) -> Result<String, Fault> {
+    let kept: Kept<S> = read_snapshot(alloc, reader)?;
     let text = encode_snapshot(alloc, kept.view_of())?;
     digits_of(alloc, &text)
 }

@@ -1,37 +1,38 @@
 //! Rows that try texts.
 use crate::forms::{again, state_again};
+use rds_dots::DotSet;
 use rds_names::Fault;
 use rds_rows::told::digits_of;
 use rds_rows::words::{bytes_of, cut, first, number};
 use std::alloc::Global;
 
 /// What a row that tries a text is answered.
-pub fn answer(alloc: Global, name: &str, rest: &str) -> Result<String, Fault> {
+pub fn answer<S: DotSet>(alloc: Global, name: &str, rest: &str) -> Result<String, Fault> {
     match name {
-        "again" => read_and_written(alloc, rest),
-        "beginnings" => beginnings(alloc, rest),
-        "bytes" => bytes(alloc, rest),
-        "state-of" => state_of(alloc, rest),
-        "zeros" => zeros(alloc, rest),
+        "again" => read_and_written::<S>(alloc, rest),
+        "beginnings" => beginnings::<S>(alloc, rest),
+        "bytes" => bytes::<S>(alloc, rest),
+        "state-of" => state_of::<S>(alloc, rest),
+        "zeros" => zeros::<S>(alloc, rest),
         _ => Err(Fault::Usage),
     }
 }
 
 /// `again FORM DIGITS`: the text, read and written again.
-fn read_and_written(alloc: Global, rest: &str) -> Result<String, Fault> {
+fn read_and_written<S: DotSet>(alloc: Global, rest: &str) -> Result<String, Fault> {
     let (form, digits) = first(rest);
     let text = bytes_of(alloc, digits)?;
-    let written = again(alloc, form, &text)?;
+    let written = again::<S>(alloc, form, &text)?;
     digits_of(alloc, &written)
 }
 
 /// `beginnings FORM DIGITS`: how many proper beginnings of the text are refused as cut or bad, and of how many.
-fn beginnings(alloc: Global, rest: &str) -> Result<String, Fault> {
+fn beginnings<S: DotSet>(alloc: Global, rest: &str) -> Result<String, Fault> {
     let (form, digits) = cut(rest)?;
     let text = bytes_of(alloc, digits)?;
     let mut refused = 0u64;
     for end in 0..text.len() {
-        if is_refused(alloc, form, &text[..end]) {
+        if is_refused::<S>(alloc, form, &text[..end]) {
             refused = refused.saturating_add(1);
         }
     }
@@ -39,13 +40,13 @@ fn beginnings(alloc: Global, rest: &str) -> Result<String, Fault> {
     Ok(format!(in alloc; "{refused} of {all} are cut or bad")?)
 }
 
-fn is_refused(alloc: Global, form: &str, text: &[u8]) -> bool {
-    matches!(again(alloc, form, text), Err(Fault::Cut | Fault::Bad))
+fn is_refused<S: DotSet>(alloc: Global, form: &str, text: &[u8]) -> bool {
+    matches!(again::<S>(alloc, form, text), Err(Fault::Cut | Fault::Bad))
 }
 
 /// `bytes FORM DIGITS`: with each value of a byte in each place of the text, how many texts are read, and how many of
 /// those are written otherwise.
-fn bytes(alloc: Global, rest: &str) -> Result<String, Fault> {
+fn bytes<S: DotSet>(alloc: Global, rest: &str) -> Result<String, Fault> {
     let (form, digits) = cut(rest)?;
     let text = bytes_of(alloc, digits)?;
     let mut tally = Tally {
@@ -54,7 +55,7 @@ fn bytes(alloc: Global, rest: &str) -> Result<String, Fault> {
     };
     for place in 0..text.len() {
         let changed = Vec::from_slice(alloc, &text)?;
-        tally.count_changed(alloc, form, changed, place);
+        tally.count_changed::<S>(alloc, form, changed, place);
     }
     let Tally { read, otherwise } = tally;
     Ok(format!(in alloc; "{read} are read, {otherwise} are written otherwise")?)
@@ -69,17 +70,23 @@ struct Tally {
 
 impl Tally {
     /// Counts the texts with each value of a byte in this place.
-    fn count_changed(&mut self, alloc: Global, form: &str, mut text: Vec<u8>, place: usize) {
+    fn count_changed<S: DotSet>(
+        &mut self,
+        alloc: Global,
+        form: &str,
+        mut text: Vec<u8>,
+        place: usize,
+    ) {
         for value in 0..=255u8 {
             if let Some(byte) = text.get_mut(place) {
                 *byte = value;
             }
-            self.count(alloc, form, text.as_slice());
+            self.count::<S>(alloc, form, text.as_slice());
         }
     }
 
-    fn count(&mut self, alloc: Global, form: &str, text: &[u8]) {
-        if let Ok(written) = again(alloc, form, text) {
+    fn count<S: DotSet>(&mut self, alloc: Global, form: &str, text: &[u8]) {
+        if let Ok(written) = again::<S>(alloc, form, text) {
             self.read = self.read.saturating_add(1);
             if written.as_slice() != text {
                 self.otherwise = self.otherwise.saturating_add(1);
@@ -89,20 +96,20 @@ impl Tally {
 }
 
 /// `state-of REPLICAS DIGITS`: the state of a group of so many replicas, read and written again.
-fn state_of(alloc: Global, rest: &str) -> Result<String, Fault> {
+fn state_of<S: DotSet>(alloc: Global, rest: &str) -> Result<String, Fault> {
     let (replicas, digits) = cut(rest)?;
     let Ok(replicas) = replicas.parse::<u16>() else {
         return Err(Fault::Usage);
     };
     let text = bytes_of(alloc, digits)?;
-    let written = state_again(alloc, replicas, &text)?;
+    let written = state_again::<S>(alloc, replicas, &text)?;
     digits_of(alloc, &written)
 }
 
 /// `zeros COUNT`: so many bytes 0, as a state.
-fn zeros(alloc: Global, rest: &str) -> Result<String, Fault> {
+fn zeros<S: DotSet>(alloc: Global, rest: &str) -> Result<String, Fault> {
     let count = number(rest)?;
     let text = vec![in alloc; 0u8; count as usize]?;
-    let written = again(alloc, "state", &text)?;
+    let written = again::<S>(alloc, "state", &text)?;
     digits_of(alloc, &written)
 }
