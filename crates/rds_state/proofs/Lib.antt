@@ -1,3 +1,4 @@
+mod FoundLemmas
 pub mod AheadLemmas
 pub mod CountLemmas
 pub mod EditFits
