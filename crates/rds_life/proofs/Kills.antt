@@ -20,11 +20,11 @@ use Rattle.rds_life.proofs.Views.{find-live_rows, rise-live_rows}
 use Rattle.rds_life.proofs.LivedLemmas.{get-lived, find_unseen, are_rows_of}
 
 module _ (test : Dot → Entry → Bool) where
-  abbrev left : List (Dot × Entry) → List (Dot × Entry)
+  abbrev pub left : List (Dot × Entry) → List (Dot × Entry)
   left rows = filter (λ r. not (test r.0 r.1)) rows
 
   -- an entry that isn't chosen
-  abbrev spared : Dot → Option Entry → Option Entry
+  abbrev pub spared : Dot → Option Entry → Option Entry
   spared d None = None
   spared d (Some e) = cond (not (test d e)) (Some e) None
 
@@ -34,7 +34,7 @@ module _ (test : Dot → Entry → Bool) where
       let again = all-left p rows (and_right (p x.0) _ all) in
       elim (not (test x.0 x.1)) as (λ b. list_all p (keys (cond b (x ∷ left rows) (left rows))) ≡ true) [ true ↦ and_true _ _ (and_left (p x.0) _ all) again | false ↦ again ]
 
-  rise-left : (rows : List (Dot × Entry)) → ascends (keys rows) ≡ true → ascends (keys (left rows)) ≡ true
+  pub rise-left : (rows : List (Dot × Entry)) → ascends (keys rows) ≡ true → ascends (keys (left rows)) ≡ true
   rise-left [] rise = refl
   rise-left (x ∷ rows) rise =
       let again = rise-left rows (and_right (list_all (is_above x.0) (keys rows)) _ rise) in
@@ -48,7 +48,7 @@ module _ (test : Dot → Entry → Bool) where
   find_one false true e o d is none = refl
   find_one false false e o d is none = refl
 
-  find-left : (rows : List (Dot × Entry)) → ascends (keys rows) ≡ true → (d : Dot) → map.find dot_cmp d (left rows) ≡ spared d (map.find dot_cmp d rows)
+  pub find-left : (rows : List (Dot × Entry)) → ascends (keys rows) ≡ true → (d : Dot) → map.find dot_cmp d (left rows) ≡ spared d (map.find dot_cmp d rows)
   find-left [] rise d = refl
   find-left (x ∷ rows) rise d =
       let again = find-left rows (and_right (list_all (is_above x.0) (keys rows)) _ rise) d in

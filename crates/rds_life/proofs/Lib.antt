@@ -2,13 +2,16 @@ mod Bounds
 mod Changes
 mod Clashes
 mod Deaths
-pub mod Finds
 mod Gathers
 mod Joins
+mod Puts
+mod Singles
+pub mod Additions
+pub mod Counting
+pub mod Finds
 pub mod Kills
 pub mod LivedLemmas
-mod Puts
-mod RowLemmas
-mod Singles
+pub mod MappedRows
+pub mod RowLemmas
 pub mod Steps
 pub mod Views

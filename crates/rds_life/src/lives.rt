@@ -1,5 +1,5 @@
 //! The life of each dot.
-ghost use Rattle.std.specs.Prelude.{◌≡◌, true, None, IfOk, IfErr, IfSome, IsOk, count_by, OnOk, OnErr, MatchOption};
+ghost use Rattle.std.specs.Prelude.{◌≡◌, true, None, IfOk, IfErr, IfSome, IsOk, count_by, OnOk, OnErr, MatchOption, length};
 ghost use Rattle.std.specs.FinMap as map;
 ghost use Rattle.std.specs.FinSet as set;
 ghost use Rattle.std.specs.Option.{option_copied};
@@ -8,12 +8,13 @@ ghost use Rattle.rds_names.specs.declared.fault.Fault.TheVariants.{Memory};
 ghost use Rattle.rds_dots.specs.declared.dot.Dot.{Dot};
 ghost use Rattle.rds_dots.specs.Ascending.{ascends};
 ghost use Rattle.rds_dots.specs.Dots.{is_dot};
-ghost use Rattle.rds_life.specs.Killed.{killed_by};
+ghost use Rattle.rds_life.specs.Killed.{killed_by, but_for, is_the};
 ghost use Rattle.rds_life.specs.Life.{Live, Dead, AreRows, keys, lived, seen_of, live_of, live_rows, entry_of, is_dead, Conflicts, IsJoin, IsLeastAbove, MergeGives};
 ghost use Rattle.rds_life.specs.Rank.{rank_of};
 
 use crate::chosen::{Choice, remove_chosen};
 use crate::dots::{dots_of, insert_dot};
+use crate::found::Found;
 use crate::joining::{clash, join_rows};
 use crate::rank::Rank;
 use crate::rows::{are_rows, copy_rows, find_row, insert_row, remove_row};
@@ -115,6 +116,13 @@ impl<S: DotSet> Lives<S> {
         self.rows.iter()
     }
 
+    /// How many dots are live.
+    pub fn live_len(&self) -> usize
+        ensures { result ≡ length (live_rows self.now) }
+    {
+        self.rows.as_slice().len()
+    }
+
     /// The dots that are live.
     pub fn live_dots(&self, alloc: Global) -> Result<S, Fault>
         ensures dots { IfOk result (λ live. S.contents live ≡ live_of self.now) }
@@ -187,6 +195,24 @@ impl<S: DotSet> Lives<S> {
         ensures killed { result ≡ count_by (λ r. C.chosen choice.now r.0 r.1) (live_rows self.old) }
     {
         remove_chosen(&mut self.rows, choice)
+    }
+
+    /// Makes a dot dead if it is live. Takes no memory.
+    pub fn kill_live(&mut self, dot: Dot)
+        ensures { (d : Dot) → map.get self.new d ≡ killed_by (is_the dot) d (map.get self.old d) }
+    {
+        remove_row(&mut self.rows, dot);
+    }
+
+    /// Makes the live dots dead that were found, but the one that is to stay, and says how many there
+    /// were. Takes no memory.
+    pub fn kill_found<F: Found>(&mut self, found: &F, but: Option<Dot>) -> u64
+        ensures lives { (d : Dot) → map.get self.new d ≡ killed_by (but_for but (F.found found.now)) d (map.get self.old d) }
+        ensures killed { result ≡ count_by (λ r. but_for but (F.found found.now) r.0 r.1) (live_rows self.old) }
+    {
+        let before = self.live_len();
+        found.kill_in(self, but);
+        (before - self.live_len()) as u64
     }
 
     /// The least dot that is live in both with different entries: where there is one, the two don't

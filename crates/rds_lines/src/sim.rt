@@ -9,7 +9,7 @@ ghost use Rattle.rds_state.specs.Fits.{ReplicaValue};
 
 use crate::answer::Answer;
 use crate::answering::Answers;
-use crate::views::shown;
+use crate::views::printed;
 use rds_dots::DotSet;
 use rds_gaps::GapSet;
 use rds_json::{Line, command};
@@ -160,6 +160,6 @@ fn show<S: DotSet>(
     ensures shown { IfOk result (λ answer. (replica : ReplicaValue) × (slice_get world.now.memory number ≡ Some replica) × ShowsView replica.state path.now answer) }
     ensures refused { IfErr result (λ fault. (fault ≡ Memory) ⊎ ((fault ≡ NoSuch) × (slice_get world.now.memory number ≡ None))) }
 {
-    let replica = world.memory(number)?;
-    shown(alloc, replica.state(), path)
+    let view = world.view(number, path)?;
+    printed(alloc, &view)
 }

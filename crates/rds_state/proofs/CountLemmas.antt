@@ -26,7 +26,7 @@ abbrev pub counted_one : Bool → ℕ
 counted_one b = cond b 1 0
 
 module _ {X : Type 0} where
-  count-cons : (p : X → Bool) (x : X) (xs : List X) → count_by p (x ∷ xs) ≡ counted_one (p x) + count_by p xs
+  pub count-cons : (p : X → Bool) (x : X) (xs : List X) → count_by p (x ∷ xs) ≡ counted_one (p x) + count_by p xs
   count-cons p x xs = sum_by-cons (λ y. cond (p y) 1 0) x xs
 
   pub count_none : (p : X → Bool) → ((x : X) → p x ≡ false) → (xs : List X) → count_by p xs ≡ 0

@@ -2,6 +2,7 @@ pub mod Ahead
 pub mod Chosen
 pub mod Coordinates
 pub mod Copied
+pub mod CoveredDots
 pub mod Document
 pub mod Edit
 pub mod Fits

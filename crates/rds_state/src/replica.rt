@@ -1,22 +1,28 @@
 //! One replica of a document.
-ghost use Rattle.std.specs.Prelude.{◌≡◌, ◌≢◌, ◌≤◌, ◌<◌, ◌↔◌, IsTrue, false, None, Err, count_by, IfOk, IfErr, OnOk, OnErr, MatchResult, length};
+ghost use Rattle.std.specs.Prelude.{◌≡◌, ◌+◌, ◌≢◌, ◌≤◌, ◌<◌, ◌↔◌, IsTrue, false, None, Some, Err, count_by, IfOk, IfErr, IsOk, OnOk, OnErr, MatchResult, length};
 ghost use Rattle.std.specs.FinMap as map;
 ghost use Rattle.rds_names.specs.declared.fault.Fault.TheVariants.{Memory, BadRoster};
-ghost use Rattle.rds_life.specs.Life.{live_rows};
+ghost use Rattle.rds_life.specs.Life.{Live, live_rows};
+ghost use Rattle.rds_dots.specs.declared.dot.Dot.{Dot};
+ghost use Rattle.rds_names.specs.declared.entry.Entry.{Entry};
 ghost use Rattle.rds_state.specs.Ahead.{TakeGives};
 ghost use Rattle.rds_state.specs.Coordinates.{join};
-ghost use Rattle.rds_state.specs.Edit.{covers, JoinsEffect, new_dot, needs_room, refusal, IsDue};
+ghost use Rattle.rds_state.specs.CoveredDots.{covered_dots};
+ghost use Rattle.rds_state.specs.Edit.{covers, JoinsEffect, new_dot, needs_room, own_top, path_fault, refusal, seq_fault, IsDue};
+ghost use Rattle.rds_dots.specs.Lacking.{dot_of};
 ghost use Rattle.rds_state.specs.Fits.{Fits, ReplicaValue, IsReplica};
 ghost use Rattle.rds_counts.specs.Below.{rows_below};
-ghost use Rattle.rds_state.specs.Value.{coordinates};
+ghost use Rattle.rds_state.specs.Value.{coordinates, size};
 
 use crate::ahead::own_ahead;
 use crate::command::{Command, Edited};
-use crate::editing::edit;
+use crate::covering::covered_in;
+use crate::editing::{Searched, edit, next_dot};
 use crate::state::State;
 use rds_counts::CountRow;
-use rds_dots::{DotSet, are_below};
-use rds_names::{Fault, Roster};
+use rds_dots::{Dot, DotSet, are_below};
+use rds_life::Found;
+use rds_names::{Fault, Path, Roster};
 use std::alloc::Global;
 use std::marker::Model;
 
@@ -153,20 +159,75 @@ impl<S: DotSet> Replica<S> {
         ensures own { self.new.own ≡ self.old.own }
         ensures err { OnErr result (self.new ≡ self.old) }
     {
-        edit(&mut self.state, self.own, command)
+        edit(&mut self.state, self.own, command, &Searched { command })
+    }
+
+    /// Edits the document as [`edit`](Replica::edit) does, where the live dots that the command covers were found before: only
+    /// these are looked at.
+    pub fn edit_found<F: Found>(&mut self, command: &Command, found: &F) -> Result<Edited, Fault>
+        requires found { (d : Dot) (e : Entry) → map.get self.old.state.lives d ≡ Some (Live e) → F.found found.now d e ≡ covers command.now e }
+        ensures joined { IfOk result (λ _. JoinsEffect (coordinates self.old.state) self.old.own command.now (coordinates self.new.state)) }
+        ensures dot { IfOk result (λ edited. edited.dot ≡ new_dot (coordinates self.old.state) self.old.own command.now) }
+        ensures killed { IfOk result (λ edited. edited.killed ≡ count_by (λ r. covers command.now r.1) (live_rows self.old.state.lives)) }
+        ensures refusal { let due = refusal (coordinates self.old.state) self.old.own command.now in MatchResult result (λ _. due ≡ None) (IsDue due) }
+        ensures room { needs_room (coordinates self.old.state) self.old.own command.now ≡ false → result ≢ Err Memory }
+        ensures roster { self.new.roster ≡ self.old.roster }
+        ensures own { self.new.own ≡ self.old.own }
+        ensures err { OnErr result (self.new ≡ self.old) }
+    {
+        edit(&mut self.state, self.own, command, found)
+    }
+
+    /// The own dot that a `Set` or an `Add` at the path would make live, or the fault that would refuse it: `BadPath` for the
+    /// root, else `SeqFull`. Takes no memory.
+    pub fn next_dot(&self, path: &Path) -> Result<Dot, Fault>
+        ensures exact { let top = own_top (coordinates self.now.state) self.now.own in MatchResult result (λ dot. (path_fault path.now (seq_fault top) ≡ None) × (dot ≡ dot_of self.now.own (top + 1))) (λ fault. path_fault path.now (seq_fault top) ≡ Some fault) }
+        ensures unseen { IfOk result (λ dot. map.get self.now.state.lives dot ≡ None) }
+    {
+        next_dot(&self.state, self.own, path)
+    }
+
+    /// The live dots that a command covers, in the order of the dots.
+    pub fn covered(&self, alloc: Global, command: &Command) -> Result<Vec<Dot>, Fault>
+        ensures ok { IfOk result (λ dots. dots.items ≡ covered_dots command.now (live_rows self.now.state.lives)) }
+        ensures memory { IfErr result (λ fault. fault ≡ Memory) }
+    {
+        let dots = covered_in(alloc, self.state.lives().live().as_slice(), command)?;
+        Ok(dots)
+    }
+
+    /// Whether [`take`](Replica::take) would take the delta, if there is memory; else the fault that it would give. Takes no
+    /// memory.
+    pub fn may_take(&self, delta: &State<S>) -> Result<(), Fault>
+        ensures { TakeGives self.now.state self.now.own delta.now result }
+    {
+        if let Some(ahead) = own_ahead(&self.state, self.own, delta) {
+            return Err(Fault::OwnAhead(ahead));
+        }
+        if let Some(dot) = self.state.lives().conflict(delta.lives()) {
+            return Err(Fault::Conflict {
+                replica: dot.replica,
+                seq: dot.seq,
+            });
+        }
+        Ok(())
     }
 
     /// Joins a delta into the state. Refuses `OwnAhead` first, where the delta has an own dot that is unseen here,
     /// which the fault names, or an own number that is above the one here: both show that this replica has lost
-    /// edits that it had sent. Then it refuses a `Conflict`, as a merge does.
+    /// edits that it had sent. Then it refuses a `Conflict`, as a merge does. A delta without components takes no memory.
     pub fn take(&mut self, delta: &State<S>) -> Result<(), Fault>
         requires { Fits (length self.old.roster.names) (coordinates delta.now) }
         ensures ok { OnOk result (coordinates self.new.state ≡ join (coordinates self.old.state) (coordinates delta.now)) }
         ensures roster { self.new.roster ≡ self.old.roster }
         ensures own { self.new.own ≡ self.old.own }
         ensures gives { TakeGives self.old.state self.old.own delta.now result }
+        ensures nothing { size delta.now ≡ 0 → IsOk result }
         ensures err { OnErr result (self.new ≡ self.old) }
     {
+        if delta.components() == 0 {
+            return Ok(());
+        }
         if let Some(ahead) = own_ahead(&self.state, self.own, delta) {
             return Err(Fault::OwnAhead(ahead));
         }

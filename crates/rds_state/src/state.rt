@@ -6,7 +6,7 @@ ghost use Rattle.rds_counts.specs.Counted.{number, place};
 ghost use Rattle.rds_counts.specs.declared.row.Which.TheVariants.{P, N};
 ghost use Rattle.rds_dots.specs.declared.dot.Dot.{Dot};
 ghost use Rattle.rds_dots.specs.Dots.{is_dot};
-ghost use Rattle.rds_life.specs.Killed.{killed_by};
+ghost use Rattle.rds_life.specs.Killed.{but_for, killed_by};
 ghost use Rattle.rds_life.specs.Life.{Live, MergeGives, live_rows};
 ghost use Rattle.rds_state.specs.Chosen.{AreRaised};
 ghost use Rattle.rds_state.specs.Coordinates.{join};
@@ -16,7 +16,7 @@ ghost use Rattle.rds_state.specs.Value.{coordinates, size};
 use crate::sameness::are_same_lives;
 use rds_counts::{Counts, Which};
 use rds_dots::{Dot, DotSet};
-use rds_life::{Choice, Lives};
+use rds_life::{Found, Lives};
 use rds_names::{Entry, Fault, Key};
 use std::alloc::Global;
 use std::marker::Model;
@@ -153,13 +153,13 @@ impl<S: DotSet> State<S> {
         self.lives.put_live(dot, entry)
     }
 
-    /// Makes the live dots that are chosen dead, and says how many there were.
-    pub(crate) fn kill_chosen<C: Choice>(&mut self, choice: &C) -> u64
-        ensures lives { (d : Dot) → map.get self.new.lives d ≡ killed_by (C.chosen choice.now) d (map.get self.old.lives d) }
+    /// Makes the live dots dead that were found, but the one that is to stay, and says how many there were.
+    pub(crate) fn kill_found<F: Found>(&mut self, found: &F, but: Option<Dot>) -> u64
+        ensures lives { (d : Dot) → map.get self.new.lives d ≡ killed_by (but_for but (F.found found.now)) d (map.get self.old.lives d) }
         ensures counts { self.new.counts ≡ self.old.counts }
-        ensures killed { result ≡ count_by (λ r. C.chosen choice.now r.0 r.1) (live_rows self.old.lives) }
+        ensures killed { result ≡ count_by (λ r. but_for but (F.found found.now) r.0 r.1) (live_rows self.old.lives) }
     {
-        self.lives.kill_chosen(choice)
+        self.lives.kill_found(found, but)
     }
 
     /// Adds an amount to one of a replica's numbers.

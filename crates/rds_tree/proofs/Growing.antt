@@ -53,7 +53,7 @@ any-map t f [] = refl
 any-map t f (x ∷ xs) = ap (λ b. t (f x) || b) (any-map t f xs)
 
 -- the tree's entries are those of the rows
-same_members : (rows : List (Dot × Entry)) (tree : List Row) → Holds rows tree → SameMembers (placed_all tree) (entries_in rows)
+pub same_members : (rows : List (Dot × Entry)) (tree : List Row) → Holds rows tree → SameMembers (placed_all tree) (entries_in rows)
 same_members rows tree holds = record { any = λ t. any-map t placed tree ∙ holds.any (λ r. t (placed r)) ∙ sym (any-map t entry_placed rows) }
 
 not_any : {X : Type 0} (p : X → Bool) (xs : List X) → list_all p xs ≡ not (list_any (λ x. not (p x)) xs)
@@ -83,7 +83,7 @@ entries-under path (r ∷ rows) = elim (is_under path r) as (λ b. entries_in (c
   | false ↦ entries-under path rows
 ]
 
-same_test : (k x : List ℕ) → bytes_eq k x ≡ same_key x k
+pub same_test : (k x : List ℕ) → bytes_eq k x ≡ same_key x k
 same_test k x = sym (is_eq-slice_cmp k x) ∙ flip_eq k x
 
 stepped_into : (k : List ℕ) (ks path : List (List ℕ)) (kind : Kind) (value : Scalar) (rest seen : List Placed) → below k rest ≡ under_all ks seen

@@ -1,10 +1,14 @@
 pub mod Adding
 pub mod CountedKeys
+pub mod Cutting
 pub mod Distinct
+pub mod Effects
 pub mod Growing
 pub mod HereValues
+pub mod Holding
 pub mod InOrder
 pub mod Kids
+pub mod Killing
 pub mod MapsShown
 pub mod Members
 pub mod Reached
@@ -13,4 +17,5 @@ pub mod SameDocument
 pub mod SameView
 pub mod Shows
 pub mod Walked
+pub mod Whole
 pub mod Witness

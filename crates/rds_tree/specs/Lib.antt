@@ -1,3 +1,4 @@
+pub mod Cuts
 pub mod Distinct
 pub mod Document
 pub mod Gathered

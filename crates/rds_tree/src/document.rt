@@ -31,7 +31,7 @@ pub fn view<S: DotSet>(alloc: Global, state: &State<S>, path: &Path) -> Result<V
 }
 
 /// What the counters stand at, if the path is the root.
-fn counters_at(alloc: Global, counts: &Counts, path: &Path) -> Result<Option<Sums>, Fault>
+pub fn counters_at(alloc: Global, counts: &Counts, path: &Path) -> Result<Option<Sums>, Fault>
     ensures ok { IfOk result (λ counters. counters ≡ counters_at path.now (sums_of counts.now)) }
     ensures memory { IfErr result (λ fault. fault ≡ Memory) }
 {
@@ -42,7 +42,7 @@ fn counters_at(alloc: Global, counts: &Counts, path: &Path) -> Result<Option<Sum
 }
 
 /// The tree of the live dots at the path or below it.
-fn tree_of(alloc: Global, rows: &[(Dot, Entry)], path: &Path) -> Result<Node, Fault>
+pub fn tree_of(alloc: Global, rows: &[(Dot, Entry)], path: &Path) -> Result<Node, Fault>
     ensures ok { IfOk result (λ node. Holds (rows_under path.now rows.now) node) }
     ensures memory { IfErr result (λ fault. fault ≡ Memory) }
 {

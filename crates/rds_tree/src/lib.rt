@@ -3,12 +3,17 @@
 
 mod counting;
 mod document;
+mod found;
+mod index;
+mod indexing;
 mod laws;
 mod leaf;
 mod node;
+mod pick;
 mod repeats;
 mod views;
 
 pub use document::view;
+pub use index::Index;
 pub use laws::{same_documents_show_the_same, views_show_what_is_live};
 pub use views::{Maps, Scalars, Sums, Values, View};

@@ -1,5 +1,12 @@
 //! A tree of live dots by path.
-ghost use Rattle.std.specs.Prelude.{◌≡◌, ◌++◌, ◌∷◌, [], ℕ, ℤ, List, None, Option, true, IfOk, IfErr, OnOk, OnErr, MatchOption};
+ghost use Rattle.std.specs.Prelude.{◌≡◌, ◌++◌, ◌∷◌, [], ℕ, ℤ, List, None, Option, not, true, filter, IfOk, IfErr, OnOk, OnErr, MatchOption};
+ghost use Rattle.std.specs.FinMap as map;
+ghost use Rattle.std.specs.Map.{remove_entry};
+ghost use Rattle.std.specs.Ordering.{is_eq};
+ghost use Rattle.rds_dots.specs.declared.dot.Dot.{Dot};
+ghost use Rattle.rds_life.specs.Killed.{but_for, is_the, killed_by};
+ghost use Rattle.rds_tree.specs.Cuts.{among, among_leaves, found_at, is_but, IsCut};
+ghost use Rattle.rds_tree.specs.Document.{key_cmp};
 ghost use Rattle.std.specs.BTreeSet.{IsOrdered};
 ghost use Rattle.std.specs.Option.{option_to_list};
 ghost use Rattle.rds_names.specs.declared.fault.Fault.TheVariants.{Memory};
@@ -10,8 +17,11 @@ ghost use Rattle.rds_tree.specs.ScalarOrder.{scalar_cmp};
 ghost use Rattle.rds_tree.specs.View.{below_path, entries_view, goes_on, shown_to, values_here, with_key};
 
 use crate::leaf::Leaf;
+use crate::pick::{Everything, Pick};
 use crate::repeats::is_last;
 use crate::views::{Maps, Scalars, Sums, Values, View};
+use rds_dots::{Dot, DotSet};
+use rds_life::Lives;
 use rds_names::{Fault, Key, Kind, Scalar};
 use std::alloc::Global;
 use std::collections::{BTreeMap, BTreeSet};
@@ -99,6 +109,78 @@ impl Node {
                 self.children.insert(key.copy(alloc)?, child)?;
                 Ok(())
             }
+        }
+    }
+
+    /// Whether there is no leaf.
+    pub fn is_empty(&self) -> bool
+        ensures { result ≡ not (is_full self.now) }
+    {
+        self.leaves.is_empty() && self.children.is_empty()
+    }
+
+    /// Takes out what is picked at the end of the path, and what stands below where all goes. Takes no memory.
+    pub fn cut<P: Pick>(&mut self, path: &[Key], pick: &P)
+        ensures { IsCut (P.picks pick.now) (P.deep pick.now) path.now self.old self.new }
+    {
+        match path.split_first() {
+            None => {
+                if pick.goes_deep() {
+                    self.leaves.clear();
+                    self.children.clear();
+                    return;
+                }
+                keep_leaves(&mut self.leaves, pick);
+            }
+            Some((key, rest)) => {
+                let child = match self.children.get_mut(key) {
+                    Some(child) => child,
+                    None => return,
+                };
+                child.cut(rest, pick);
+                if child.is_empty() {
+                    remove_child(&mut self.children, key);
+                }
+            }
+        }
+    }
+
+    /// Makes the dots dead that are picked at the end of the path, and those that stand below where all goes, but the
+    /// one that is to stay. Takes no memory.
+    pub fn kill_in<P: Pick, S: DotSet>(
+        &self,
+        path: &[Key],
+        pick: &P,
+        lives: &mut Lives<S>,
+        but: Option<Dot>,
+    )
+        ensures { (d : Dot) → map.get lives.new d ≡ killed_by (but_for but (found_at (P.picks pick.now) (P.deep pick.now) path.now self.now)) d (map.get lives.old d) }
+    {
+        match path.split_first() {
+            None => {
+                if pick.goes_deep() {
+                    self.kill_all(lives, but);
+                    return;
+                }
+                kill_leaves(&self.leaves, pick, lives, but);
+            }
+            Some((key, rest)) => {
+                let _in_order = self.children.len();
+                match self.children.get(key) {
+                    None => {}
+                    Some(child) => child.kill_in(rest, pick, lives, but),
+                }
+            }
+        }
+    }
+
+    /// Makes all dots dead, but the one that is to stay.
+    fn kill_all<S: DotSet>(&self, lives: &mut Lives<S>, but: Option<Dot>)
+        ensures { (d : Dot) → map.get lives.new d ≡ killed_by (but_for but (among self.now)) d (map.get lives.old d) }
+    {
+        kill_leaves(&self.leaves, &Everything {}, lives, but);
+        for child in self.children.values() {
+            child.kill_all(lives, but);
         }
     }
 
@@ -226,4 +308,53 @@ fn child_map(alloc: Global, key: &Key, child: Node) -> Result<BTreeMap<Key, Node
     let mut children = BTreeMap::new(alloc);
     children.insert(key.copy(alloc)?, child)?;
     Ok(children)
+}
+
+/// Leaves out what is picked.
+fn keep_leaves<P: Pick>(leaves: &mut BTreeSet<Leaf>, pick: &P)
+    ensures { leaves.new.keys ≡ filter (λ l. not (P.picks pick.now l)) leaves.old.keys }
+{
+    leaves.retain(|leaf| !pick.picks_leaf(leaf));
+}
+
+fn remove_child(children: &mut BTreeMap<Key, Node>, key: &Key)
+    ensures { children.new.entries ≡ remove_entry (λ x. is_eq (key_cmp key.now x)) children.old.entries }
+{
+    let _child = children.remove(key);
+}
+
+/// Makes the dots of picked leaves dead, but the one that is to stay.
+fn kill_leaves<P: Pick, S: DotSet>(
+    leaves: &BTreeSet<Leaf>,
+    pick: &P,
+    lives: &mut Lives<S>,
+    but: Option<Dot>,
+)
+    ensures { (d : Dot) → map.get lives.new d ≡ killed_by (but_for but (among_leaves (P.picks pick.now) leaves.now.keys)) d (map.get lives.old d) }
+{
+    for leaf in leaves.iter() {
+        if pick.picks_leaf(leaf) {
+            kill_dot(lives, leaf.dot, but);
+        }
+    }
+}
+
+/// Makes a dot dead, unless it is the one that is to stay.
+fn kill_dot<S: DotSet>(lives: &mut Lives<S>, dot: Dot, but: Option<Dot>)
+    ensures { (d : Dot) → map.get lives.new d ≡ killed_by (but_for but (is_the dot)) d (map.get lives.old d) }
+{
+    if is_but(but, dot) {
+        return;
+    }
+    lives.kill_live(dot);
+}
+
+/// Whether the dot is the one that is to stay.
+fn is_but(but: Option<Dot>, dot: Dot) -> bool
+    ensures { result ≡ is_but but dot }
+{
+    match but {
+        None => false,
+        Some(stays) => stays == dot,
+    }
 }

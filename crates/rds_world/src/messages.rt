@@ -1,5 +1,8 @@
 //! What goes between replicas as bytes.
 ghost use Rattle.std.specs.Prelude.{◌≡◌, ◌<◌, ◌≤◌, IfOk, IfErr, OnOk, OnErr, length};
+ghost use Rattle.rds_codec.specs.Exchanged.{IsCertified, TakesCertified};
+ghost use Rattle.rds_state.specs.Coordinates.{join};
+ghost use Rattle.rds_state.specs.Fits.{Fits};
 ghost use Rattle.rds_state.specs.Value.{coordinates};
 ghost use Rattle.rds_delta.specs.Digested.{digest_of};
 ghost use Rattle.rds_codec.specs.DigestTexts.{digest_text};
@@ -8,10 +11,12 @@ ghost use Rattle.rds_codec.specs.declared.limits.TheConstants.{LIMIT};
 ghost use Rattle.rds_world.specs.Replies.{IsReply, HasNoReply, IsTaken, IsNotTaken};
 ghost use Rattle.rds_world.specs.Stands.{HoldsAsk};
 
-use rds_codec::{decode_answer, decode_digest, take_certified};
+use rds_codec::{Answer, decode_answer, decode_digest};
+use rds_delta::{Digest, check};
 use rds_dots::DotSet;
 use rds_names::Fault;
 use rds_state::Replica;
+use rds_tree::Index;
 use std::alloc::Global;
 
 /// The text of the digest of what a replica has kept.
@@ -41,7 +46,7 @@ pub fn answer<S: DotSet>(
 /// Joins the delta of an answer into the replica that asked, if its certificate is that of the delta against the ask.
 pub fn take<S: DotSet>(
     alloc: Global,
-    replica: &mut Replica<S>,
+    replica: &mut Index<S>,
     ask: &[u8],
     answer: &[u8],
 ) -> Result<(), Fault>
@@ -51,8 +56,35 @@ pub fn take<S: DotSet>(
     ensures own { replica.new.own ≡ replica.old.own }
     ensures err { OnErr result (replica.new ≡ replica.old) }
 {
-    let replicas = replica.roster().len();
+    let replicas = replicas_of(replica);
     let digest = decode_digest::<S>(alloc, replicas, ask)?;
     let answer = decode_answer(alloc, replicas, answer)?;
     take_certified(replica, &digest, &answer)
+}
+
+/// How many replicas the roster of a replica names.
+fn replicas_of<S: DotSet>(index: &Index<S>) -> u16
+    ensures { result ≡ length index.now.roster.names }
+{
+    index.replica().roster().len()
+}
+
+/// Joins the delta of an answer into a replica, where the check says yes to it.
+fn take_certified<S: DotSet>(
+    replica: &mut Index<S>,
+    digest: &Digest<S>,
+    answer: &Answer<S>,
+) -> Result<(), Fault>
+    requires { Fits (length replica.old.roster.names) (coordinates answer.now.state) }
+    ensures taken { TakesCertified digest.now answer.now replica.old.own replica.old.state result }
+    ensures checked { OnOk result (IsCertified digest.now answer.now) }
+    ensures ok { OnOk result (coordinates replica.new.state ≡ join (coordinates replica.old.state) (coordinates answer.now.state)) }
+    ensures roster { replica.new.roster ≡ replica.old.roster }
+    ensures own { replica.new.own ≡ replica.old.own }
+    ensures err { OnErr result (replica.new ≡ replica.old) }
+{
+    if !check(digest, &answer.state, &answer.certificate) {
+        return Err(Fault::BadCertificate);
+    }
+    replica.take(&answer.state)
 }

@@ -9,7 +9,7 @@ ghost use Rattle.rds_world.specs.World.{World as Model, after};
 use crate::event::{Done, Event};
 use crate::messages;
 use crate::texts::{Answering, Asking};
-use crate::world::{World, keep};
+use crate::world::{World, indexed, keep};
 use rds_dots::DotSet;
 use rds_names::Fault;
 use rds_state::Command;
@@ -67,7 +67,7 @@ impl<S: DotSet> World<S> {
         if at >= self.memory.len() {
             return Err(Fault::NoSuch);
         }
-        let kept = keep(alloc, &self.memory[at])?;
+        let kept = keep(alloc, self.memory[at].replica())?;
         self.kept[at] = kept;
         Ok(Done::Plain)
     }
@@ -80,7 +80,7 @@ impl<S: DotSet> World<S> {
         if at >= self.memory.len() {
             return Err(Fault::NoSuch);
         }
-        let replica = self.kept[at].view_of().copy(alloc)?;
+        let replica = indexed(alloc, self.kept[at].view_of())?;
         self.memory[at] = replica;
         Ok(Done::Plain)
     }

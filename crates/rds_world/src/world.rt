@@ -4,6 +4,10 @@ ghost use Rattle.std.specs.FinMap as map;
 ghost use Rattle.rds_codec.specs.StateTexts.{snapshot_text};
 ghost use Rattle.rds_codec.specs.declared.limits.TheConstants.{LIMIT};
 ghost use Rattle.rds_names.specs.declared.fault.Fault.TheVariants.{Memory, NoSuch, TooLong};
+ghost use Rattle.rds_state.specs.Fits.{ReplicaValue};
+ghost use Rattle.rds_tree.specs.Document.{document};
+ghost use Rattle.rds_tree.specs.Shown.{shown};
+ghost use Rattle.rds_tree.specs.View.{view_of};
 ghost use Rattle.rds_world.specs.Simulation.{HasNoReplicas};
 ghost use Rattle.rds_world.specs.Stands.{Stands, IsNew, AreNew};
 ghost use Rattle.rds_world.specs.Stored.{ask_bytes_at, answer_bytes_at};
@@ -12,8 +16,9 @@ ghost use Rattle.rds_world.specs.World.{start};
 use crate::texts::{Answering, Asking};
 use rds_dots::DotSet;
 use rds_keep::{Counted, Kept, write_snapshot};
-use rds_names::{Fault, Roster};
+use rds_names::{Fault, Path, Roster};
 use rds_state::Replica;
+use rds_tree::{Index, View};
 use std::alloc::Global;
 use std::marker::Model;
 
@@ -22,7 +27,7 @@ use std::marker::Model;
 #[derive(Drop)]
 pub struct World<S: DotSet> {
     roster: Roster,
-    pub(crate) memory: Vec<Replica<S>>,
+    pub(crate) memory: Vec<Index<S>>,
     pub(crate) kept: Vec<Kept<S>>,
     pub(crate) asks: Vec<Asking>,
     pub(crate) answers: Vec<Answering>,
@@ -69,12 +74,7 @@ impl<S: DotSet> World<S> {
     }
 
     /// A world of these replicas, which have no components.
-    fn opened(
-        alloc: Global,
-        roster: Roster,
-        memory: Vec<Replica<S>>,
-        kept: Vec<Kept<S>>,
-    ) -> World<S>
+    fn opened(alloc: Global, roster: Roster, memory: Vec<Index<S>>, kept: Vec<Kept<S>>) -> World<S>
         requires memory { AreNew roster memory.items (length memory.items) }
         requires kept { AreNew roster kept.items (length memory.items) }
         requires within { length memory.items ≤ length roster.names }
@@ -108,10 +108,33 @@ impl<S: DotSet> World<S> {
         ensures roster { IfOk result (λ replica. replica.now.roster ≡ self.now.roster) }
         ensures absent { IfErr result (λ fault. (fault ≡ NoSuch) × (slice_get self.now.memory number ≡ None)) }
     {
+        match self.index_at(number) {
+            Ok(index) => Ok(index.replica()),
+            Err(fault) => Err(fault),
+        }
+    }
+
+    /// The index of the replica with this number.
+    fn index_at(&self, number: u8) -> Result<&Index<S>, Fault>
+        ensures there { IfOk result (λ index. slice_get self.now.memory number ≡ Some index.now) }
+        ensures own { IfOk result (λ index. index.now.own ≡ number) }
+        ensures roster { IfOk result (λ index. index.now.roster ≡ self.now.roster) }
+        ensures absent { IfErr result (λ fault. (fault ≡ NoSuch) × (slice_get self.now.memory number ≡ None)) }
+    {
         match self.memory.get(usize::from(number)) {
-            Some(replica) => Ok(replica),
+            Some(index) => Ok(index),
             None => Err(Fault::NoSuch),
         }
+    }
+
+    /// What the document of the replica with this number, as it is in memory, shows at a path.
+    pub fn view(&self, number: u8, path: &Path) -> Result<View, Fault>
+        ensures shown { IfOk result (λ view. (replica : ReplicaValue) × (slice_get self.now.memory number ≡ Some replica) × (shown view ≡ view_of (document replica.state) path.now)) }
+        ensures refused { IfErr result (λ fault. (fault ≡ Memory) ⊎ ((fault ≡ NoSuch) × (slice_get self.now.memory number ≡ None))) }
+    {
+        let index = self.index_at(number)?;
+        let view = index.view(path)?;
+        Ok(view)
     }
 
     /// What the replica with this number has kept.
@@ -154,7 +177,7 @@ impl<S: DotSet> World<S> {
 fn empty_replicas<S: DotSet>(
     alloc: Global,
     roster: &Roster,
-) -> Result<(Vec<Replica<S>>, Vec<Kept<S>>), Fault>
+) -> Result<(Vec<Index<S>>, Vec<Kept<S>>), Fault>
     ensures memory { IfOk result (λ p. AreNew roster.now p.0.items (length roster.now.names)) }
     ensures kept { IfOk result (λ p. AreNew roster.now p.1.items (length roster.now.names)) }
     ensures few { length roster.now.names ≤ 256 }
@@ -166,7 +189,7 @@ fn empty_replicas<S: DotSet>(
     'making: for number in 0..replicas {
         let replica = empty_replica(alloc, roster, number as u8)?;
         kept.push(keep_empty(alloc, &replica)?)?;
-        memory.push(replica)?;
+        memory.push(Index::of(alloc, replica)?)?;
     }
     Ok((memory, kept))
 }
@@ -212,4 +235,14 @@ pub fn keep<S: DotSet>(alloc: Global, replica: &Replica<S>) -> Result<Kept<S>, F
         Err(Fault::Device) => Err(Fault::Memory),
         Err(fault) => Err(fault),
     }
+}
+
+/// The index of a copy of a replica.
+pub fn indexed<S: DotSet>(alloc: Global, replica: &Replica<S>) -> Result<Index<S>, Fault>
+    ensures ok { IfOk result (λ index. index ≡ replica.now) }
+    ensures memory { IfErr result (λ fault. fault ≡ Memory) }
+{
+    let copy = replica.copy(alloc)?;
+    let index = Index::of(alloc, copy)?;
+    Ok(index)
 }

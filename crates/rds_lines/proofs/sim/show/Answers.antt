@@ -1,10 +1,10 @@
-use Rattle.std.proofs.Common.{subst}
-use Rattle.std.proofs.lemmas.Result.{IfOk-weaker}
-use Rattle.rds_state.specs.Value.{StateValue}
-use Rattle.rds_lines.specs.Views.{ShowsView}
+use Rattle.std.proofs.Common.{◌∙◌, ap}
+use Rattle.serde_json.specs.Written.{compact_text}
+use Rattle.rds_json.specs.Show.{data_of}
+use Rattle.rds_lines.proofs.Viewed.{both_ok}
 use Rattle.rds_lines.proofs.sim.show.Goals as goal
 
 pub returns-clause-shown : goal.returns-clause-shown
 returns-clause-shown g c =
-    IfOk-weaker c.shown.result _ _
-    (λ answer h. (c.in_ok-replica.replica.now, c.in_ok-replica.ensures.there, subst (λ (s : StateValue). ShowsView s c.args.path.now answer) c.state.ensures.state h)) c.shown.ensures.shown
+    let view = c.in_ok-view.ensures.shown in
+    both_ok c.printed.result (λ answer text told. (view.0, view.1, (text ∙ ap (λ v. compact_text (data_of v)) view.2, told))) c.printed.ensures.text c.printed.ensures.answer

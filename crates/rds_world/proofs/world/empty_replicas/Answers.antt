@@ -10,7 +10,7 @@ pub making-preserved : goal.making-preserved
 making-preserved g c =
     let new : IsNew c.args.roster.now c.making.number c.in_ok-replica.replica = c.in_ok-replica.ensures.ok in
     let kept : IsNew c.args.roster.now c.making.number c.in_ok-keep_empty.field-0 = subst (IsNew c.args.roster.now c.making.number) (sym c.in_ok-keep_empty.ensures.ok) new in (
-      more_new c.args.roster.now c.making.memory.items c.push-in-making.new.self.items c.in_ok-replica.replica c.making.number c.making.invariant.0 new c.in_ok-push-2.ensures.items,
+      more_new c.args.roster.now c.making.memory.items c.push-in-making.new.self.items c.in_ok-of.field-0 c.making.number c.making.invariant.0 (subst (IsNew c.args.roster.now c.making.number) (sym c.in_ok-of.ensures.ok) new) c.in_ok-push-2.ensures.items,
       more_new c.args.roster.now c.making.kept.items c.push.new.self.items c.in_ok-keep_empty.field-0 c.making.number c.making.invariant.1 kept c.in_ok-push.ensures.items,
     )
 

@@ -1,23 +1,23 @@
 use Rattle.std.proofs.Common.{◌≡◌, ◌∙◌, None, Some, ap, length, refl, slice_get, sym}
 use Rattle.std.proofs.lemmas.Option.{slice_get_past, slice_get_read}
 use Rattle.rds_world.specs.Stored.{WorldValue}
-use Rattle.rds_world.proofs.world.World.memory.Goals as goal
+use Rattle.rds_world.proofs.world.World.index_at.Goals as goal
 
 pub returns-in-Some-clause-own : goal.returns-in-Some-clause-own
 returns-in-Some-clause-own g c =
     let xs = c.deref.result.now in
     let look = c.in-Some.ensures.lookup in
-    let there : slice_get c.self.inside.memory.items c.args.number ≡ Some c.in-Some.replica.now =
-    sym (λ j. slice_get (c.deref.ensures.value j) (c.from.ensures j)) ∙ slice_get_read xs (length xs) c.from.result c.in-Some.replica.now refl look.3.0 look.1 in
-    (c.self.invariant.memory c.args.number c.in-Some.replica.now there).1
+    let there : slice_get c.self.inside.memory.items c.args.number ≡ Some c.in-Some.index.now =
+    sym (λ j. slice_get (c.deref.ensures.value j) (c.from.ensures j)) ∙ slice_get_read xs (length xs) c.from.result c.in-Some.index.now refl look.3.0 look.1 in
+    (c.self.invariant.memory c.args.number c.in-Some.index.now there).1
 
 pub returns-in-Some-clause-roster : goal.returns-in-Some-clause-roster
 returns-in-Some-clause-roster g c =
     let xs = c.deref.result.now in
     let look = c.in-Some.ensures.lookup in
-    let there : slice_get c.self.inside.memory.items c.args.number ≡ Some c.in-Some.replica.now =
-    sym (λ j. slice_get (c.deref.ensures.value j) (c.from.ensures j)) ∙ slice_get_read xs (length xs) c.from.result c.in-Some.replica.now refl look.3.0 look.1 in
-    (c.self.invariant.memory c.args.number c.in-Some.replica.now there).0 ∙ ap (λ (v : WorldValue). v.roster) c.self.view_is
+    let there : slice_get c.self.inside.memory.items c.args.number ≡ Some c.in-Some.index.now =
+    sym (λ j. slice_get (c.deref.ensures.value j) (c.from.ensures j)) ∙ slice_get_read xs (length xs) c.from.result c.in-Some.index.now refl look.3.0 look.1 in
+    (c.self.invariant.memory c.args.number c.in-Some.index.now there).0 ∙ ap (λ (v : WorldValue). v.roster) c.self.view_is
 
 pub returns-in-None-clause-absent : goal.returns-in-None-clause-absent
 returns-in-None-clause-absent g c =

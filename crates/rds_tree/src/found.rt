@@ -1,0 +1,29 @@
+//! What a command covers, found in a tree.
+ghost use Rattle.rds_tree.specs.Cuts.{covered_leaf, found_at, is_deep};
+
+use crate::node::Node;
+use crate::pick::Covering;
+use rds_dots::{Dot, DotSet};
+use rds_life::{Found, Lives};
+use rds_names::Path;
+use rds_state::Command;
+
+/// The live dots that a command covers, found in the tree of live dots at the command's path.
+#[derive(Drop)]
+pub struct FoundInTree<'a> {
+    pub tree: &'a Node,
+    pub path: &'a Path,
+    pub command: &'a Command,
+}
+
+impl<'a> Found for FoundInTree<'a> {
+    ghost found = { λ f. found_at (covered_leaf f.command.now) (is_deep f.command.now) f.path.now f.tree.now };
+
+    fn kill_in<S: DotSet>(&self, lives: &mut Lives<S>, but: Option<Dot>) {
+        let covering = Covering {
+            command: self.command,
+            but: None,
+        };
+        self.tree.kill_in(self.path.keys(), &covering, lives, but);
+    }
+}

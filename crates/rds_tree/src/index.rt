@@ -1,0 +1,143 @@
+//! A replica with the tree of its live dots.
+ghost use Rattle.std.specs.Prelude.{◌≡◌, ◌≢◌, false, None, Err, count_by, IfOk, IfErr, OnOk, OnErr, MatchResult, length};
+ghost use Rattle.rds_life.specs.Life.{live_rows};
+ghost use Rattle.rds_names.specs.declared.fault.Fault.TheVariants.{Memory};
+ghost use Rattle.rds_state.specs.Ahead.{TakeGives};
+ghost use Rattle.rds_state.specs.Coordinates.{join};
+ghost use Rattle.rds_state.specs.Edit.{covers, JoinsEffect, new_dot, needs_room, refusal, IsDue};
+ghost use Rattle.rds_state.specs.Fits.{Fits};
+ghost use Rattle.rds_state.specs.Value.{coordinates};
+ghost use Rattle.rds_tree.specs.Document.{document};
+ghost use Rattle.rds_tree.specs.Growing.{Holds};
+ghost use Rattle.rds_tree.specs.Shown.{shown};
+ghost use Rattle.rds_tree.specs.View.{view_of};
+
+use crate::document::{counters_at, tree_of};
+use crate::indexing::edit;
+use crate::node::Node;
+use crate::views::View;
+use rds_dots::DotSet;
+use rds_names::{Fault, Path};
+use rds_state::{Command, Edited, Replica, State};
+use std::alloc::Global;
+use std::marker::Model;
+
+/// A replica, seen as such, that keeps the tree of its live dots by path beside it: an edit costs what it covers, and a
+/// view what it shows.
+pub struct Index<S: DotSet> {
+    alloc: Global,
+    replica: Replica<S>,
+    tree: Node,
+}
+
+// Written out, so that where an index is let go a caller's proof has one call.
+impl<S: DotSet> Drop for Index<S> {
+    fn drop(self) {
+        let Index {
+            alloc: _,
+            replica: _replica,
+            tree: _tree,
+        } = self;
+    }
+}
+
+impl<S: DotSet> Model for Index<S> {
+    ghost use Rattle.rds_life.specs.Life.{live_rows};
+    ghost use Rattle.rds_state.specs.Fits.{ReplicaValue, coded_replica};
+    ghost use Rattle.rds_tree.specs.Growing.{Holds};
+
+    ghost Value = { ReplicaValue };
+
+    ghost coded = { coded_replica };
+
+    ghost view = { λ i. i.replica };
+
+    ghost invariant = { λ i. Holds (live_rows i.replica.state.lives) i.tree };
+}
+
+impl<S: DotSet> Index<S> {
+    /// The index of a replica.
+    pub fn of(alloc: Global, replica: Replica<S>) -> Result<Index<S>, Fault>
+        ensures ok { IfOk result (λ index. index ≡ replica) }
+        ensures memory { IfErr result (λ fault. fault ≡ Memory) }
+    {
+        let tree = whole_tree(alloc, &replica)?;
+        Ok(Index {
+            alloc,
+            replica,
+            tree,
+        })
+    }
+
+    /// The replica. Takes no memory.
+    pub fn replica(&self) -> &Replica<S>
+        ensures { result.now ≡ self.now }
+    {
+        &self.replica
+    }
+
+    /// What the replica's document shows at the path, as [`view`](crate::view) says.
+    pub fn view(&self, path: &Path) -> Result<View, Fault>
+        ensures shown { IfOk result (λ view. shown view ≡ view_of (document self.now.state) path.now) }
+        ensures memory { IfErr result (λ fault. fault ≡ Memory) }
+    {
+        let counters = counters_at(self.alloc, self.replica.state().counts(), path)?;
+        let view = self.tree.view_at(self.alloc, path.keys(), counters)?;
+        Ok(view)
+    }
+
+    /// Edits the replica, as [`Replica::edit`] does, and refuses as it does. It looks only at what the command covers.
+    pub fn edit(&mut self, command: Command) -> Result<Edited, Fault>
+        ensures joined { IfOk result (λ _. JoinsEffect (coordinates self.old.state) self.old.own command (coordinates self.new.state)) }
+        ensures dot { IfOk result (λ edited. edited.dot ≡ new_dot (coordinates self.old.state) self.old.own command) }
+        ensures killed { IfOk result (λ edited. edited.killed ≡ count_by (λ r. covers command r.1) (live_rows self.old.state.lives)) }
+        ensures refusal { let due = refusal (coordinates self.old.state) self.old.own command in MatchResult result (λ _. due ≡ None) (IsDue due) }
+        ensures room { needs_room (coordinates self.old.state) self.old.own command ≡ false → result ≢ Err Memory }
+        ensures roster { self.new.roster ≡ self.old.roster }
+        ensures own { self.new.own ≡ self.old.own }
+        ensures err { OnErr result (self.new ≡ self.old) }
+    {
+        self.edit_by(&command)
+    }
+
+    /// Edits the replica as [`edit`](Index::edit) does, by a command that the caller keeps.
+    pub fn edit_by(&mut self, command: &Command) -> Result<Edited, Fault>
+        ensures joined { IfOk result (λ _. JoinsEffect (coordinates self.old.state) self.old.own command.now (coordinates self.new.state)) }
+        ensures dot { IfOk result (λ edited. edited.dot ≡ new_dot (coordinates self.old.state) self.old.own command.now) }
+        ensures killed { IfOk result (λ edited. edited.killed ≡ count_by (λ r. covers command.now r.1) (live_rows self.old.state.lives)) }
+        ensures refusal { let due = refusal (coordinates self.old.state) self.old.own command.now in MatchResult result (λ _. due ≡ None) (IsDue due) }
+        ensures room { needs_room (coordinates self.old.state) self.old.own command.now ≡ false → result ≢ Err Memory }
+        ensures roster { self.new.roster ≡ self.old.roster }
+        ensures own { self.new.own ≡ self.old.own }
+        ensures err { OnErr result (self.new ≡ self.old) }
+    {
+        edit(self.alloc, &mut self.replica, &mut self.tree, command)
+    }
+
+    /// Joins a delta into the replica, as [`Replica::take`] does, and refuses as it does.
+    pub fn take(&mut self, delta: &State<S>) -> Result<(), Fault>
+        requires { Fits (length self.old.roster.names) (coordinates delta.now) }
+        ensures ok { OnOk result (coordinates self.new.state ≡ join (coordinates self.old.state) (coordinates delta.now)) }
+        ensures roster { self.new.roster ≡ self.old.roster }
+        ensures own { self.new.own ≡ self.old.own }
+        ensures gives { TakeGives self.old.state self.old.own delta.now result }
+        ensures err { OnErr result (self.new ≡ self.old) }
+    {
+        self.replica.may_take(delta)?;
+        let mut replica = self.replica.copy(self.alloc)?;
+        replica.take(delta)?;
+        let index = Index::of(self.alloc, replica)?;
+        *self = index;
+        Ok(())
+    }
+}
+
+/// The tree of all live dots of a replica.
+fn whole_tree<S: DotSet>(alloc: Global, replica: &Replica<S>) -> Result<Node, Fault>
+    ensures ok { IfOk result (λ node. Holds (live_rows replica.now.state.lives) node) }
+    ensures memory { IfErr result (λ fault. fault ≡ Memory) }
+{
+    let root = Path::new(alloc, "")?;
+    let tree = tree_of(alloc, replica.state().lives().live().as_slice(), &root)?;
+    Ok(tree)
+}

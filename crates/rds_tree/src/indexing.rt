@@ -1,0 +1,166 @@
+//! Edits of a replica and of the tree of its live dots, which find in the tree what they cover.
+ghost use Rattle.std.specs.Prelude.{◌≡◌, ◌≢◌, false, None, Some, Err, count_by, IfOk, IfErr, OnOk, OnErr, MatchResult};
+ghost use Rattle.rds_life.specs.Life.{live_rows};
+ghost use Rattle.rds_names.specs.declared.fault.Fault.TheVariants.{Memory};
+ghost use Rattle.rds_state.specs.Chosen.{parts_of, Parts};
+ghost use Rattle.rds_state.specs.Edit.{covers, JoinsEffect, new_dot, needs_room, refusal, IsDue};
+ghost use Rattle.rds_state.specs.Value.{coordinates};
+ghost use Rattle.rds_tree.specs.Cuts.{path_in, IsRaise};
+ghost use Rattle.rds_tree.specs.Growing.{Holds};
+ghost use Rattle.rds_tree.specs.Row.{row_at, Adds};
+ghost use Rattle.rds_tree.specs.declared.leaf.Leaf.{Leaf};
+
+use crate::found::FoundInTree;
+use crate::leaf::Leaf;
+use crate::node::Node;
+use crate::pick::{Covering, OneDot};
+use rds_dots::{Dot, DotSet};
+use rds_names::{Fault, Kind, Path, Scalar};
+use rds_state::{Command, Edited, Replica};
+use std::alloc::Global;
+
+/// Edits the replica and its tree.
+pub fn edit<S: DotSet>(
+    alloc: Global,
+    replica: &mut Replica<S>,
+    tree: &mut Node,
+    command: &Command,
+) -> Result<Edited, Fault>
+    requires holds { Holds (live_rows replica.old.state.lives) tree.old }
+    ensures holds { Holds (live_rows replica.new.state.lives) tree.new }
+    ensures joined { IfOk result (λ _. JoinsEffect (coordinates replica.old.state) replica.old.own command.now (coordinates replica.new.state)) }
+    ensures dot { IfOk result (λ edited. edited.dot ≡ new_dot (coordinates replica.old.state) replica.old.own command.now) }
+    ensures killed { IfOk result (λ edited. edited.killed ≡ count_by (λ r. covers command.now r.1) (live_rows replica.old.state.lives)) }
+    ensures refusal { let due = refusal (coordinates replica.old.state) replica.old.own command.now in MatchResult result (λ _. due ≡ None) (IsDue due) }
+    ensures room { needs_room (coordinates replica.old.state) replica.old.own command.now ≡ false → result ≢ Err Memory }
+    ensures roster { replica.new.roster ≡ replica.old.roster }
+    ensures own { replica.new.own ≡ replica.old.own }
+    ensures err { OnErr result (replica.new ≡ replica.old) }
+{
+    match command {
+        Command::Set(path, value) => put(alloc, replica, tree, command, path, Kind::Reg, value),
+        Command::Add(path, value) => put(alloc, replica, tree, command, path, Kind::Elem, value),
+        Command::Del(path, _) => kill(replica, tree, command, path),
+        Command::Clear(path) => kill(replica, tree, command, path),
+        Command::Inc(_, _) => raise(replica, tree, command),
+        Command::Dec(_, _) => raise(replica, tree, command),
+    }
+}
+
+/// Makes an entry live, and the dots dead that the command covers.
+fn put<S: DotSet>(
+    alloc: Global,
+    replica: &mut Replica<S>,
+    tree: &mut Node,
+    command: &Command,
+    path: &Path,
+    kind: Kind,
+    value: &Scalar,
+) -> Result<Edited, Fault>
+    requires parts { let parts : Parts = record { path = path.now; kind = kind; value = value.now } in parts_of command.now ≡ Some parts }
+    requires holds { Holds (live_rows replica.old.state.lives) tree.old }
+    ensures holds { Holds (live_rows replica.new.state.lives) tree.new }
+    ensures joined { IfOk result (λ _. JoinsEffect (coordinates replica.old.state) replica.old.own command.now (coordinates replica.new.state)) }
+    ensures dot { IfOk result (λ edited. edited.dot ≡ new_dot (coordinates replica.old.state) replica.old.own command.now) }
+    ensures killed { IfOk result (λ edited. edited.killed ≡ count_by (λ r. covers command.now r.1) (live_rows replica.old.state.lives)) }
+    ensures refusal { let due = refusal (coordinates replica.old.state) replica.old.own command.now in MatchResult result (λ _. due ≡ None) (IsDue due) }
+    ensures room { needs_room (coordinates replica.old.state) replica.old.own command.now ≡ false → result ≢ Err Memory }
+    ensures roster { replica.new.roster ≡ replica.old.roster }
+    ensures own { replica.new.own ≡ replica.old.own }
+    ensures err { OnErr result (replica.new ≡ replica.old) }
+{
+    let dot = replica.next_dot(path)?;
+    add_leaf(alloc, tree, path, kind, value, dot)?;
+    let found = FoundInTree {
+        tree,
+        path,
+        command,
+    };
+    match replica.edit_found(command, &found) {
+        Ok(edited) => {
+            let covering = Covering {
+                command,
+                but: Some(dot),
+            };
+            tree.cut(path.keys(), &covering);
+            Ok(edited)
+        }
+        Err(fault) => {
+            tree.cut(path.keys(), &OneDot { dot });
+            Err(fault)
+        }
+    }
+}
+
+/// Adds the leaf of a dot to the tree.
+fn add_leaf(
+    alloc: Global,
+    tree: &mut Node,
+    path: &Path,
+    kind: Kind,
+    value: &Scalar,
+    dot: Dot,
+) -> Result<(), Fault>
+    ensures ok { OnOk result (let leaf : Leaf = record { kind = kind; value = value.now; dot = dot } in Adds tree.old (row_at path.now leaf) tree.new) }
+    ensures err { OnErr result (tree.new ≡ tree.old) }
+    ensures memory { IfErr result (λ fault. fault ≡ Memory) }
+{
+    let leaf = Leaf {
+        kind,
+        value: value.copy(alloc)?,
+        dot,
+    };
+    tree.insert(alloc, path.keys(), leaf)
+}
+
+/// Makes the dots dead that the command covers.
+fn kill<S: DotSet>(
+    replica: &mut Replica<S>,
+    tree: &mut Node,
+    command: &Command,
+    path: &Path,
+) -> Result<Edited, Fault>
+    requires path { path.now ≡ path_in command.now }
+    requires parts { parts_of command.now ≡ None }
+    requires holds { Holds (live_rows replica.old.state.lives) tree.old }
+    ensures holds { Holds (live_rows replica.new.state.lives) tree.new }
+    ensures joined { IfOk result (λ _. JoinsEffect (coordinates replica.old.state) replica.old.own command.now (coordinates replica.new.state)) }
+    ensures dot { IfOk result (λ edited. edited.dot ≡ new_dot (coordinates replica.old.state) replica.old.own command.now) }
+    ensures killed { IfOk result (λ edited. edited.killed ≡ count_by (λ r. covers command.now r.1) (live_rows replica.old.state.lives)) }
+    ensures refusal { let due = refusal (coordinates replica.old.state) replica.old.own command.now in MatchResult result (λ _. due ≡ None) (IsDue due) }
+    ensures room { needs_room (coordinates replica.old.state) replica.old.own command.now ≡ false → result ≢ Err Memory }
+    ensures roster { replica.new.roster ≡ replica.old.roster }
+    ensures own { replica.new.own ≡ replica.old.own }
+    ensures err { OnErr result (replica.new ≡ replica.old) }
+{
+    let found = FoundInTree {
+        tree,
+        path,
+        command,
+    };
+    let edited = replica.edit_found(command, &found)?;
+    let covering = Covering { command, but: None };
+    tree.cut(path.keys(), &covering);
+    Ok(edited)
+}
+
+/// Raises a number, which covers nothing.
+fn raise<S: DotSet>(
+    replica: &mut Replica<S>,
+    tree: &mut Node,
+    command: &Command,
+) -> Result<Edited, Fault>
+    requires raise { IsRaise command.now }
+    requires holds { Holds (live_rows replica.old.state.lives) tree.old }
+    ensures holds { Holds (live_rows replica.new.state.lives) tree.new }
+    ensures joined { IfOk result (λ _. JoinsEffect (coordinates replica.old.state) replica.old.own command.now (coordinates replica.new.state)) }
+    ensures dot { IfOk result (λ edited. edited.dot ≡ new_dot (coordinates replica.old.state) replica.old.own command.now) }
+    ensures killed { IfOk result (λ edited. edited.killed ≡ count_by (λ r. covers command.now r.1) (live_rows replica.old.state.lives)) }
+    ensures refusal { let due = refusal (coordinates replica.old.state) replica.old.own command.now in MatchResult result (λ _. due ≡ None) (IsDue due) }
+    ensures room { needs_room (coordinates replica.old.state) replica.old.own command.now ≡ false → result ≢ Err Memory }
+    ensures roster { replica.new.roster ≡ replica.old.roster }
+    ensures own { replica.new.own ≡ replica.old.own }
+    ensures err { OnErr result (replica.new ≡ replica.old) }
+{
+    replica.edit_by(command)
+}
