@@ -1,5 +1,7 @@
 -- What the document of a replica in a list shows.
-use Rattle.std.specs.Prelude.{◌≡◌, ℕ, List, Some, slice_get}
+use Rattle.std.specs.Prelude.{◌≡◌, ℕ, List, None, Some, slice_get}
+use Rattle.rds_names.specs.declared.fault.Fault.{Fault}
+use Rattle.rds_names.specs.declared.fault.Fault.TheVariants.{NoSuch}
 use Rattle.rds_state.specs.Fits.{ReplicaValue}
 use Rattle.rds_tree.specs.Document.{document}
 use Rattle.rds_tree.specs.Shown.{Shown}
@@ -10,3 +12,7 @@ pub record ShowsAt (replicas : List ReplicaValue) (number : ℕ) (path : List (L
   pub replica : ReplicaValue
   pub there : slice_get replicas number ≡ Some replica
   pub shown : view ≡ view_of (document replica.state) path
+
+-- there is none with this number
+abbrev pub IsNoSuch : List ReplicaValue → ℕ → Fault → Type 0
+IsNoSuch replicas number fault = (fault ≡ NoSuch) × (slice_get replicas number ≡ None)

@@ -61,7 +61,7 @@ pub fn take<S: DotSet>(
     take_certified(asker, &digest, &answer)
 }
 
-/// Joins the delta of an answer into an index, as `rds_codec::take_certified` does into a replica, and refuses as it does.
+/// Joins the delta of an answer into an index, as `rds_codec::take_certified` does into a replica.
 fn take_certified<S: DotSet>(
     asker: &mut Index<S>,
     digest: &Digest<S>,
