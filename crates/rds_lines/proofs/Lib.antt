@@ -1,5 +1,5 @@
-pub mod AnswerPieces
 pub mod Answered
+pub mod AnswerPieces
 pub mod Beginnings
 pub mod DigitsSoFar
 pub mod EndedLines
@@ -10,4 +10,3 @@ pub mod Pieces
 pub mod Running
 pub mod Simulating
 pub mod Told
-pub mod Viewed

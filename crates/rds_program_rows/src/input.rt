@@ -54,6 +54,19 @@ impl Input {
         self.told(alloc)
     }
 
+    /// `<# FROM TO TEXT`: adds a text for each number from the first up to the second, which is left out. The number stands
+    /// in the place of each `#`, and a newline in that of each `|` and at the end.
+    pub fn add_numbered(&mut self, alloc: Global, rest: &str) -> Result<String, Fault> {
+        let (from, rest) = cut(rest)?;
+        let (to, text) = cut(rest)?;
+        let lines = text.replace(alloc, "|", "\n")?;
+        for each in number(from)?..number(to)? {
+            let digits = format!(in alloc; "{each}")?;
+            self.add_line(lines.as_str().replace(alloc, "#", digits.as_str())?.as_str())?;
+        }
+        self.told(alloc)
+    }
+
     /// How many bytes they are.
     pub fn told(&self, alloc: Global) -> Result<String, Fault> {
         count_told(alloc, self.bytes.len(), "bytes")

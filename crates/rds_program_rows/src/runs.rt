@@ -4,6 +4,8 @@ use crate::told::output_told;
 use rds_commands::run;
 use rds_keep::Counted;
 use rds_names::Fault;
+use rds_rows::told::said;
+use rds_rows::words::{cut, number};
 use std::alloc::{AllocError, Global};
 
 /// `$ WORDS`: runs the program on these words behind its name, with spaces between them.
@@ -34,12 +36,40 @@ pub fn named<'a>(alloc: Global, words: &'a str) -> Result<Vec<&'a str>, AllocErr
     Ok(all)
 }
 
+/// `last COUNT WORDS`: the same as `$`, but answers only how many lines are written, the last so many of them, and the
+/// status.
+pub fn run_long(rt: &HostRuntime, rest: &str, input: &[u8]) -> Result<String, Fault> {
+    let (count, words) = cut(rest)?;
+    let words = named(rt.alloc(), words)?;
+    let (written, status) = run_on(rt, &words, input);
+    last_told(rt.alloc(), &written, number(count)? as usize, status)
+}
+
 // What the program writes, and its status.
 fn run_words(rt: &HostRuntime, words: &[&str], input: &[u8]) -> Result<String, Fault> {
+    let (written, status) = run_on(rt, words, input);
+    status_told(rt.alloc(), &written, status)
+}
+
+fn run_on(rt: &HostRuntime, words: &[&str], input: &[u8]) -> (Vec<u8>, u8) {
     let mut written = Vec::new(rt.alloc());
     let mut reader = Counted::new(input);
     let status = run(rt, words, &mut reader, &mut Counted::new(&mut written));
-    status_told(rt.alloc(), &written, status)
+    (written, status)
+}
+
+// How many lines were written, the last of them, and the status.
+fn last_told(alloc: Global, written: &[u8], count: usize, status: u8) -> Result<String, Fault> {
+    let Ok(text) = str::from_utf8(written) else {
+        return said(alloc, "no text");
+    };
+    let lines: Vec<&str> = text.lines().collect(alloc)?;
+    let mut told = format!(in alloc; "{} lines", lines.len())?;
+    for line in lines.iter().skip(lines.len().saturating_sub(count)) {
+        told.push_str("\n  ")?;
+        told.push_str(line)?;
+    }
+    Ok(format!(in alloc; "{told}\n  status {status}")?)
 }
 
 /// All that was written, and the status.

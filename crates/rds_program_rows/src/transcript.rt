@@ -5,7 +5,7 @@ use crate::files::{hold, make_folder, put, remove_file, remove_folder};
 use crate::input::Input;
 use crate::lengths::answer_lengths;
 use crate::replicas::{components_told, keep, read, replace, settle_nothing, settle_received};
-use crate::runs::{run_barred, run_reading, run_renamed, run_spaced, run_writing, usual_turns};
+use crate::runs::{run_barred, run_long, run_reading, run_renamed, run_spaced, run_writing, usual_turns};
 use crate::sessions::Sessions;
 use crate::simulated::Simulated;
 use crate::wire::{answer_over, answer_serving, answer_talk, answer_wire};
@@ -50,7 +50,8 @@ impl<'a> Transcript<'a> {
             "<" => self.input.add_line(rest)?,
             "<-" => self.input.add(rest.as_bytes())?,
             "<x" => return self.input.add_digits(alloc, rest),
-            _ => return self.input.add_repeated(alloc, rest),
+            "<n" => return self.input.add_repeated(alloc, rest),
+            _ => return self.input.add_numbered(alloc, rest),
         }
         self.input.told(alloc)
     }
@@ -62,6 +63,7 @@ impl<'a> Transcript<'a> {
             "$" => run_spaced(self.rt, rest, input),
             "$|" => run_barred(self.rt, rest, input),
             "$$" => run_renamed(self.rt, rest, input),
+            "last" => run_long(self.rt, rest, input),
             "reads" => run_reading(self.rt, rest, input),
             "writes" => run_writing(self.rt, rest, input),
             "busy" => run_busy(self.rt, rest),
@@ -107,8 +109,10 @@ impl Table for Transcript<'_> {
         match name {
             "session" => self.sessions.answer(alloc, rest),
             "world" => self.worlds.answer(alloc, rest),
-            "empty" | "<" | "<-" | "<x" | "<n" => self.answer_input(alloc, name, rest),
-            "$" | "$|" | "$$" | "reads" | "writes" | "busy" | "away" => self.answer_run(name, rest),
+            "empty" | "<" | "<-" | "<x" | "<n" | "<#" => self.answer_input(alloc, name, rest),
+            "$" | "$|" | "$$" | "last" | "reads" | "writes" | "busy" | "away" => {
+                self.answer_run(name, rest)
+            }
             "group" => self.simulated.begin(self.rt, rest),
             "sim" => self.simulated.go_on(self.rt, rest),
             "turns" => usual_turns(alloc),

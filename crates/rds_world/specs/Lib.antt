@@ -4,6 +4,7 @@ pub mod Example
 pub mod Held
 pub mod Law
 pub mod Replies
+pub mod Shows
 pub mod Simulation
 pub mod Stands
 pub mod Steps

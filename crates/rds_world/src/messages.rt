@@ -1,12 +1,11 @@
 //! What goes between replicas as bytes.
 ghost use Rattle.std.specs.Prelude.{◌≡◌, ◌<◌, ◌≤◌, IfOk, IfErr, OnOk, OnErr, length};
-ghost use Rattle.rds_codec.specs.Exchanged.{IsCertified, TakesCertified};
 ghost use Rattle.rds_state.specs.Coordinates.{join};
 ghost use Rattle.rds_state.specs.Fits.{Fits};
 ghost use Rattle.rds_state.specs.Value.{coordinates};
 ghost use Rattle.rds_delta.specs.Digested.{digest_of};
 ghost use Rattle.rds_codec.specs.DigestTexts.{digest_text};
-ghost use Rattle.rds_codec.specs.Exchanged.{IsLongDigest, IsLost};
+ghost use Rattle.rds_codec.specs.Exchanged.{IsCertified, IsLongDigest, IsLost, TakesCertified};
 ghost use Rattle.rds_codec.specs.declared.limits.TheConstants.{LIMIT};
 ghost use Rattle.rds_world.specs.Replies.{IsReply, HasNoReply, IsTaken, IsNotTaken};
 ghost use Rattle.rds_world.specs.Stands.{HoldsAsk};
@@ -46,45 +45,38 @@ pub fn answer<S: DotSet>(
 /// Joins the delta of an answer into the replica that asked, if its certificate is that of the delta against the ask.
 pub fn take<S: DotSet>(
     alloc: Global,
-    replica: &mut Index<S>,
+    asker: &mut Index<S>,
     ask: &[u8],
     answer: &[u8],
 ) -> Result<(), Fault>
-    ensures ok { OnOk result (IsTaken (length replica.old.roster.names) ask.now answer.now replica.old.state replica.new.state) }
-    ensures fault { IfErr result (IsNotTaken (length replica.old.roster.names) ask.now answer.now replica.old.own replica.old.state) }
-    ensures roster { replica.new.roster ≡ replica.old.roster }
-    ensures own { replica.new.own ≡ replica.old.own }
-    ensures err { OnErr result (replica.new ≡ replica.old) }
+    ensures ok { OnOk result (IsTaken (length asker.old.roster.names) ask.now answer.now asker.old.state asker.new.state) }
+    ensures fault { IfErr result (IsNotTaken (length asker.old.roster.names) ask.now answer.now asker.old.own asker.old.state) }
+    ensures roster { asker.new.roster ≡ asker.old.roster }
+    ensures own { asker.new.own ≡ asker.old.own }
+    ensures err { OnErr result (asker.new ≡ asker.old) }
 {
-    let replicas = replicas_of(replica);
+    let replicas = asker.replica().roster().len();
     let digest = decode_digest::<S>(alloc, replicas, ask)?;
     let answer = decode_answer(alloc, replicas, answer)?;
-    take_certified(replica, &digest, &answer)
+    take_certified(asker, &digest, &answer)
 }
 
-/// How many replicas the roster of a replica names.
-fn replicas_of<S: DotSet>(index: &Index<S>) -> u16
-    ensures { result ≡ length index.now.roster.names }
-{
-    index.replica().roster().len()
-}
-
-/// Joins the delta of an answer into a replica, where the check says yes to it.
+/// Joins the delta of an answer into an index, as `rds_codec::take_certified` does into a replica.
 fn take_certified<S: DotSet>(
-    replica: &mut Index<S>,
+    asker: &mut Index<S>,
     digest: &Digest<S>,
     answer: &Answer<S>,
 ) -> Result<(), Fault>
-    requires { Fits (length replica.old.roster.names) (coordinates answer.now.state) }
-    ensures taken { TakesCertified digest.now answer.now replica.old.own replica.old.state result }
+    requires { Fits (length asker.old.roster.names) (coordinates answer.now.state) }
+    ensures taken { TakesCertified digest.now answer.now asker.old.own asker.old.state result }
     ensures checked { OnOk result (IsCertified digest.now answer.now) }
-    ensures ok { OnOk result (coordinates replica.new.state ≡ join (coordinates replica.old.state) (coordinates answer.now.state)) }
-    ensures roster { replica.new.roster ≡ replica.old.roster }
-    ensures own { replica.new.own ≡ replica.old.own }
-    ensures err { OnErr result (replica.new ≡ replica.old) }
+    ensures ok { OnOk result (coordinates asker.new.state ≡ join (coordinates asker.old.state) (coordinates answer.now.state)) }
+    ensures roster { asker.new.roster ≡ asker.old.roster }
+    ensures own { asker.new.own ≡ asker.old.own }
+    ensures err { OnErr result (asker.new ≡ asker.old) }
 {
     if !check(digest, &answer.state, &answer.certificate) {
         return Err(Fault::BadCertificate);
     }
-    replica.take(&answer.state)
+    asker.take(&answer.state)
 }

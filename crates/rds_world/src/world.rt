@@ -1,13 +1,11 @@
 //! All replicas of a document, in memory and as kept.
-ghost use Rattle.std.specs.Prelude.{◌≡◌, ◌≤◌, ◌<◌, ◌⊎◌, [], Some, None, IfOk, IfErr, OnOk, MatchResult, length, slice_get};
+ghost use Rattle.std.specs.Prelude.{◌≡◌, ◌≤◌, ◌<◌, ◌⊎◌, [], Some, None, Err, IfOk, IfErr, OnOk, MatchResult, length, slice_get};
 ghost use Rattle.std.specs.FinMap as map;
 ghost use Rattle.rds_codec.specs.StateTexts.{snapshot_text};
 ghost use Rattle.rds_codec.specs.declared.limits.TheConstants.{LIMIT};
 ghost use Rattle.rds_names.specs.declared.fault.Fault.TheVariants.{Memory, NoSuch, TooLong};
-ghost use Rattle.rds_state.specs.Fits.{ReplicaValue};
-ghost use Rattle.rds_tree.specs.Document.{document};
 ghost use Rattle.rds_tree.specs.Shown.{shown};
-ghost use Rattle.rds_tree.specs.View.{view_of};
+ghost use Rattle.rds_world.specs.Shows.{IsNoSuch, ShowsAt};
 ghost use Rattle.rds_world.specs.Simulation.{HasNoReplicas};
 ghost use Rattle.rds_world.specs.Stands.{Stands, IsNew, AreNew};
 ghost use Rattle.rds_world.specs.Stored.{ask_bytes_at, answer_bytes_at};
@@ -23,7 +21,7 @@ use std::alloc::Global;
 use std::marker::Model;
 
 /// All replicas of a document: what each has in memory and what it has kept, and every ask and answer that was made, as
-/// bytes.
+/// bytes. In memory an [`Index`] holds each.
 #[derive(Drop)]
 pub struct World<S: DotSet> {
     roster: Roster,
@@ -108,13 +106,10 @@ impl<S: DotSet> World<S> {
         ensures roster { IfOk result (λ replica. replica.now.roster ≡ self.now.roster) }
         ensures absent { IfErr result (λ fault. (fault ≡ NoSuch) × (slice_get self.now.memory number ≡ None)) }
     {
-        match self.index_at(number) {
-            Ok(index) => Ok(index.replica()),
-            Err(fault) => Err(fault),
-        }
+        Ok(self.index_at(number)?.replica())
     }
 
-    /// The index of the replica with this number.
+    /// The index that holds the replica with this number in memory.
     fn index_at(&self, number: u8) -> Result<&Index<S>, Fault>
         ensures there { IfOk result (λ index. slice_get self.now.memory number ≡ Some index.now) }
         ensures own { IfOk result (λ index. index.now.own ≡ number) }
@@ -127,10 +122,11 @@ impl<S: DotSet> World<S> {
         }
     }
 
-    /// What the document of the replica with this number, as it is in memory, shows at a path.
+    /// What the document of the replica with this number has in memory at a path. It costs what it shows.
     pub fn view(&self, number: u8, path: &Path) -> Result<View, Fault>
-        ensures shown { IfOk result (λ view. (replica : ReplicaValue) × (slice_get self.now.memory number ≡ Some replica) × (shown view ≡ view_of (document replica.state) path.now)) }
-        ensures refused { IfErr result (λ fault. (fault ≡ Memory) ⊎ ((fault ≡ NoSuch) × (slice_get self.now.memory number ≡ None))) }
+        ensures shown { IfOk result (λ view. ShowsAt self.now.memory number path.now (shown view)) }
+        ensures absent { slice_get self.now.memory number ≡ None → result ≡ Err NoSuch }
+        ensures refused { IfErr result (λ fault. (fault ≡ Memory) ⊎ IsNoSuch self.now.memory number fault) }
     {
         let index = self.index_at(number)?;
         let view = index.view(path)?;
@@ -237,7 +233,7 @@ pub fn keep<S: DotSet>(alloc: Global, replica: &Replica<S>) -> Result<Kept<S>, F
     }
 }
 
-/// The index of a copy of a replica.
+/// An index that holds a copy of a replica.
 pub fn indexed<S: DotSet>(alloc: Global, replica: &Replica<S>) -> Result<Index<S>, Fault>
     ensures ok { IfOk result (λ index. index ≡ replica.now) }
     ensures memory { IfErr result (λ fault. fault ≡ Memory) }

@@ -1,6 +1,6 @@
 use Rattle.std.proofs.Common.{rules, ◌≡◌, ◌∙◌, ap, subst, length, Ok, Err}
 use Rattle.rds_names.specs.Roster.{RosterValue}
-use Rattle.rds_state.specs.Fits.{Fits}
+use Rattle.rds_state.specs.Fits.{Fits, ReplicaValue}
 use Rattle.rds_state.specs.Value.{coordinates}
 use Rattle.rds_codec.specs.AnswerTexts.{answer_kind}
 use Rattle.rds_codec.specs.Decoding.{Decodes}
@@ -13,34 +13,34 @@ use Rattle.rds_world.proofs.messages.take.Goals as goal
 pub returns-in_err-digest-clause-fault : goal.returns-in_err-digest-clause-fault
 returns-in_err-digest-clause-fault g c =
     let f = c.in_err-digest.field-0.0 in
-    let n : c.replicas_of-replicas.result ≡ length c.args.replica.now.roster.names = c.replicas_of-replicas.ensures in
+    let n : c.len-replicas.result ≡ length c.args.asker.now.roster.names = c.len-replicas.ensures.names ∙ ap (λ (r : RosterValue). length r.names) (c.roster.ensures ∙ ap (λ (r : ReplicaValue). r.roster) c.replica.ensures) in
     let is : c.from_residual.result ≡ Err f = search rules in
     fault_is _ _ f is (NoDigest (subst (λ m. Decodes (digest_kind m) c.args.ask.now (Err f)) n c.in_err-digest.ensures.text))
 
 pub returns-in_err-answer-clause-fault : goal.returns-in_err-answer-clause-fault
 returns-in_err-answer-clause-fault g c =
     let f = c.in_err-answer.field-0.0 in
-    let n : c.replicas_of-replicas.result ≡ length c.args.replica.now.roster.names = c.replicas_of-replicas.ensures in
+    let n : c.len-replicas.result ≡ length c.args.asker.now.roster.names = c.len-replicas.ensures.names ∙ ap (λ (r : RosterValue). length r.names) (c.roster.ensures ∙ ap (λ (r : ReplicaValue). r.roster) c.replica.ensures) in
     let is : c.from_residual-in_err-answer.result ≡ Err f = search rules in
     fault_is _ _ f is (NoAnswer (subst (λ m. Decodes (answer_kind m) c.args.answer.now (Err f)) n c.in_err-answer.ensures.text))
 
 pub take_certified-requires : goal.take_certified-requires
 take_certified-requires g c =
-    let n : c.replicas_of-replicas.result ≡ length c.args.replica.now.roster.names = c.replicas_of-replicas.ensures in
-    subst (λ m. Fits m (coordinates c.in_ok-answer.answer.state)) n (state_fits c.replicas_of-replicas.result c.in_ok-answer.answer.state c.in_ok-answer.ensures.text.value.1.is_value.state)
+    let n : c.len-replicas.result ≡ length c.args.asker.now.roster.names = c.len-replicas.ensures.names ∙ ap (λ (r : RosterValue). length r.names) (c.roster.ensures ∙ ap (λ (r : ReplicaValue). r.roster) c.replica.ensures) in
+    subst (λ m. Fits m (coordinates c.in_ok-answer.answer.state)) n (state_fits c.len-replicas.result c.in_ok-answer.answer.state c.in_ok-answer.ensures.text.value.1.is_value.state)
 
 pub returns-clause-ok : goal.returns-clause-ok
 returns-clause-ok g c =
-    let n : c.replicas_of-replicas.result ≡ length c.args.replica.now.roster.names = c.replicas_of-replicas.ensures in
-    is_taken (length c.args.replica.now.roster.names) c.args.ask.now c.args.answer.now c.args.replica.now.own c.args.replica.now.state c.in_ok-digest.digest c.in_ok-answer.answer
+    let n : c.len-replicas.result ≡ length c.args.asker.now.roster.names = c.len-replicas.ensures.names ∙ ap (λ (r : RosterValue). length r.names) (c.roster.ensures ∙ ap (λ (r : ReplicaValue). r.roster) c.replica.ensures) in
+    is_taken (length c.args.asker.now.roster.names) c.args.ask.now c.args.answer.now c.args.asker.now.own c.args.asker.now.state c.in_ok-digest.digest c.in_ok-answer.answer
     (subst (λ m. Decodes (digest_kind m) c.args.ask.now (Ok c.in_ok-digest.digest)) n c.in_ok-digest.ensures.text)
     (subst (λ m. Decodes (answer_kind m) c.args.answer.now (Ok c.in_ok-answer.answer)) n c.in_ok-answer.ensures.text)
-    c.take_certified.new.replica.state c.take_certified.result c.take_certified.ensures.checked c.take_certified.ensures.ok
+    c.take_certified.new.asker.state c.take_certified.result c.take_certified.ensures.checked c.take_certified.ensures.ok
 
 pub returns-clause-fault : goal.returns-clause-fault
 returns-clause-fault g c =
-    let n : c.replicas_of-replicas.result ≡ length c.args.replica.now.roster.names = c.replicas_of-replicas.ensures in
-    not_taken (length c.args.replica.now.roster.names) c.args.ask.now c.args.answer.now c.args.replica.now.own c.args.replica.now.state c.in_ok-digest.digest c.in_ok-answer.answer
+    let n : c.len-replicas.result ≡ length c.args.asker.now.roster.names = c.len-replicas.ensures.names ∙ ap (λ (r : RosterValue). length r.names) (c.roster.ensures ∙ ap (λ (r : ReplicaValue). r.roster) c.replica.ensures) in
+    not_taken (length c.args.asker.now.roster.names) c.args.ask.now c.args.answer.now c.args.asker.now.own c.args.asker.now.state c.in_ok-digest.digest c.in_ok-answer.answer
     (subst (λ m. Decodes (digest_kind m) c.args.ask.now (Ok c.in_ok-digest.digest)) n c.in_ok-digest.ensures.text)
     (subst (λ m. Decodes (answer_kind m) c.args.answer.now (Ok c.in_ok-answer.answer)) n c.in_ok-answer.ensures.text)
     c.take_certified.result c.take_certified.ensures.taken

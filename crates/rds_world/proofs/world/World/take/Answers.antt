@@ -70,9 +70,9 @@ returns-in_err-take-clause-err g c =
     let why : IsNotTaken (length m.roster.names) a.bytes t.bytes m.own m.state f =
     subst (λ (b : List ℕ). IsNotTaken (length m.roster.names) a.bytes b m.own m.state f) bytes
     (subst (λ (b : List ℕ). IsNotTaken (length m.roster.names) b c.deref-2.result.now m.own m.state f) ask_bytes c.in_err-take.ensures.fault) in
-    fault_is _ _ f is (subst (λ (u : WorldValue). IsStopped u (Take n) f (record v { memory = slice_set v.memory c.from.result c.take.new.replica })) c.self.view_is
-    (subst (λ k. IsStopped v (Take n) f (record v { memory = slice_set v.memory k c.take.new.replica })) (sym place)
-    (take_stopped v c.self.invariant n t a m t_there a_there there c.take.new.replica f c.in_err-take.ensures.err why)))
+    fault_is _ _ f is (subst (λ (u : WorldValue). IsStopped u (Take n) f (record v { memory = slice_set v.memory c.from.result c.take.new.asker })) c.self.view_is
+    (subst (λ k. IsStopped v (Take n) f (record v { memory = slice_set v.memory k c.take.new.asker })) (sym place)
+    (take_stopped v c.self.invariant n t a m t_there a_there there c.take.new.asker f c.in_err-take.ensures.err why)))
 
 pub invariant_of-self-2 : goal.invariant_of-self-2
 invariant_of-self-2 g c =
@@ -93,7 +93,7 @@ invariant_of-self-2 g c =
     let m = c.index_mut-replica.result.now in
     let place : c.from.result ≡ t.asker = c.from.ensures ∙ asker in
     let there : slice_get v.memory t.asker ≡ Some m = slice_get_read v.memory (length v.memory) t.asker m refl below.0 (subst (λ k. m ≡ slice_index_or v.memory k m) place c.index_mut-replica.ensures.value) in
-    let x = c.take.new.replica in
+    let x = c.take.new.asker in
     let is : IsTaken (length m.roster.names) a.bytes t.bytes m.state x.state =
     subst (λ (b : List ℕ). IsTaken (length m.roster.names) b t.bytes m.state x.state) ask_bytes
     (subst (λ (b : List ℕ). IsTaken (length m.roster.names) c.deref.result.now b m.state x.state) bytes c.in_ok-take.ensures.ok) in
@@ -119,7 +119,7 @@ returns-clause-ok g c =
     let m = c.index_mut-replica.result.now in
     let place : c.from.result ≡ t.asker = c.from.ensures ∙ asker in
     let there : slice_get v.memory t.asker ≡ Some m = slice_get_read v.memory (length v.memory) t.asker m refl below.0 (subst (λ k. m ≡ slice_index_or v.memory k m) place c.index_mut-replica.ensures.value) in
-    let x = c.take.new.replica in
+    let x = c.take.new.asker in
     let is : IsTaken (length m.roster.names) a.bytes t.bytes m.state x.state =
     subst (λ (b : List ℕ). IsTaken (length m.roster.names) b t.bytes m.state x.state) ask_bytes
     (subst (λ (b : List ℕ). IsTaken (length m.roster.names) c.deref.result.now b m.state x.state) bytes c.in_ok-take.ensures.ok) in
