@@ -8,13 +8,14 @@ use Rattle.std.proofs.Transfers.{starts_with_length}
 use Rattle.std.proofs.lemmas.Bool.{cases_lt}
 use Rattle.std.proofs.Math.Seq.{take-append_seam, drop-append_seam}
 use Rattle.std.proofs.lemmas.List.{append-nil, length-append, length-drop, take-append-le, take_all, take_at}
-use Rattle.rds_keep.specs.Counted.{CountedValue}
+use Rattle.rds_keep.specs.Counted.{CountedValue, most_read}
 use Rattle.rds_keep.specs.Parts.{ConsumesAtMost}
 
 pub record IsFrontSoFar {R : Type 0} (remaining : R → Option (List ℕ)) (first now : CountedValue R) (before front : List ℕ) (most : ℕ) : Type 0 where
   pub kept : StartsWith front before
   pub consumed : Consumes (remaining first.inner) (remaining now.inner) (appended_bytes before front)
   pub room : length front ≤ most
+  pub spent : length front ≤ length before + most_read (first.left - now.left)
   pub steady : now.failed ≡ first.failed
   pub left : now.left ≤ first.left
   pub turns : now.turns ≡ first.turns

@@ -1,5 +1,5 @@
 -- A front of an input, one byte longer than a text may be, is decoded as the whole input is.
-use Rattle.std.proofs.Common.{◌≡◌, ℕ, ◌+◌, ◌<◌, inl, inr, ◌⊎◌, List, [], ◌++◌, length, Option, Some, None, Result, Err, refl, sym, ap, ◌∙◌, subst, arith}
+use Rattle.std.proofs.Common.{◌≡◌, ℕ, ◌+◌, ◌<◌, ◌≤◌, inl, inr, ◌⊎◌, List, [], ◌++◌, length, Option, Some, None, Result, Err, refl, sym, ap, ◌∙◌, subst, arith}
 use Rattle.std.specs.Prelude.{IfSome}
 use Rattle.std.specs.Io.KnownBytes.{Consumes, IsAtEnd}
 use Rattle.std.proofs.lemmas.Bool.{cases_lt}
@@ -10,7 +10,8 @@ use Rattle.rds_state.specs.Fits.{ReplicaValue}
 use Rattle.rds_codec.specs.Decoding.{Decodes}
 use Rattle.rds_codec.specs.Kinds.{snapshot_kind}
 use Rattle.rds_codec.specs.declared.limits.TheConstants.{LIMIT}
-use Rattle.rds_keep.specs.Snapshots.{IsForeign, IsDecoded, IsAnswerTo, ReadsWhole}
+use Rattle.rds_keep.specs.Counted.{most_read}
+use Rattle.rds_keep.specs.Snapshots.{IsForeign, IsDecoded, IsAnswerTo, IsUnread, ReadsWhole, WantsMoreReads}
 use Rattle.rds_keep.proofs.Foreign.{foreign_is_bad, whole_is_own}
 
 -- bytes above the limit are refused, whatever they hold
@@ -53,3 +54,25 @@ refused input e foreign (inr other) = inr (elim other [ inl memory ↦ inl (ap E
 pub input_refused : (known : Option (List ℕ)) (e : Fault) → (e ≡ Bad → IfSome known IsForeign) → (e ≡ Bad) ⊎ ((e ≡ Memory) ⊎ (e ≡ Device)) → IfSome known (λ input. ReadsWhole input (Err e))
 input_refused None e foreign why = tt
 input_refused (Some input) e foreign why = refused input e foreign why
+
+-- what was read of an input took no more reads than there were
+read_within : (input front rest : List ℕ) (reads : ℕ) → input ≡ front ++ rest → (length front < LIMIT + 1 → rest ≡ []) → length front ≤ most_read reads → WantsMoreReads reads input → ⊥
+read_within input front rest reads same end le more = elim (cases_lt (length front) (LIMIT + 1)) [
+  | inl short ↦ (
+      let whole : input ≡ front = same ∙ ap (λ (l : List ℕ). front ++ l) (end short) ∙ append-nil front in
+      let all = more.all in omega (arith, le, all, ap length whole))
+  | inr long ↦ let within = more.within in omega (arith, le, within, long)
+]
+
+pub front_within : (first now : Option (List ℕ)) (front : List ℕ) (reads : ℕ) (result : Result ReplicaValue Fault) → Consumes first now front → (length front < LIMIT + 1 → IsAtEnd now)
+    → length front ≤ most_read reads → IfSome first (λ input. WantsMoreReads reads input → IsUnread result)
+front_within None now front reads result p end le = tt
+front_within (Some xs) None front reads result p end le = absurd p
+front_within (Some xs) (Some ys) front reads result p end le = λ more. absurd (read_within xs front ys reads p end le more)
+
+-- an input that isn't foreign wasn't read since memory ran out or a call failed
+pub own_refused : (known : Option (List ℕ)) (e : Fault) (reads : ℕ) → (e ≡ Bad → IfSome known IsForeign) → (e ≡ Bad) ⊎ ((e ≡ Memory) ⊎ (e ≡ Device))
+    → IfSome known (λ input. WantsMoreReads reads input → IsUnread (Err e))
+own_refused None e reads foreign why = tt
+own_refused (Some input) e reads foreign (inl bad) = λ more. absurd (more.own (foreign bad))
+own_refused (Some input) e reads foreign (inr other) = λ _. elim other [ inl memory ↦ inl (ap Err memory) | inr device ↦ inr (ap Err device) ]

@@ -1,6 +1,6 @@
 -- A reader or a writer, how many calls on it failed, how many reads a loop may make and the one at hand still may, and
 -- whether it was renamed.
-use Rattle.std.specs.Prelude.{◌≡◌, ◌+◌, ◌-◌, ◌^◌, ◌<◌, ◌⊎◌, ℕ, Bool, min, refl}
+use Rattle.std.specs.Prelude.{◌≡◌, ◌+◌, ◌-◌, ◌*◌, ◌^◌, ◌<◌, ◌⊎◌, ℕ, Bool, min, refl}
 use Rattle.std.specs.Coded.{Coded, code_by, coded×, coded_bool, coded_ℕ}
 
 pub record CountedValue (T : Type 0) : Type 0 where
@@ -23,3 +23,7 @@ one_more n = min (n + 1) (2 ^ 64 - 1)
 -- a call has failed, or a loop had no turn left; a full count is taken as risen
 abbrev pub HasFailed : {T : Type 0} → CountedValue T → CountedValue T → Type 0
 HasFailed old new = (old.failed < new.failed) ⊎ (new.failed ≡ 2 ^ 64 - 1)
+
+-- how many bytes so many reads of a loop give at most
+abbrev pub most_read : ℕ → ℕ
+most_read reads = 65536 * reads

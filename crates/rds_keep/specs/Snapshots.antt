@@ -8,7 +8,7 @@ use Rattle.rds_codec.specs.Decoding.{Decodes, ReadsAll}
 use Rattle.rds_codec.specs.Kinds.{snapshot_kind}
 use Rattle.rds_codec.specs.StateTexts.{snapshot_at}
 use Rattle.rds_codec.specs.declared.limits.TheConstants.{LIMIT}
-use Rattle.rds_keep.specs.Counted.{CountedValue, HasFailed}
+use Rattle.rds_keep.specs.Counted.{CountedValue, HasFailed, most_read}
 
 -- why a text wasn't written: TooLong exactly where it is above the limit, and Memory, both with the writer
 -- untouched; Device only where a call failed
@@ -33,6 +33,16 @@ pub record IsAnswerTo (input : List ℕ) (result : Result ReplicaValue Fault) : 
   pub own : (IsForeign input → ⊥) → IsDecoded input result
   pub within : length input ≤ LIMIT → IsDecoded input result
 
+-- why an input wasn't read: memory ran out, or a call failed
+abbrev pub IsUnread : Result ReplicaValue Fault → Type 0
+IsUnread result = (result ≡ Err Memory) ⊎ (result ≡ Err Device)
+
 -- the answer to the input, or why it wasn't read
 abbrev pub ReadsWhole : List ℕ → Result ReplicaValue Fault → Type 0
-ReadsWhole input result = IsAnswerTo input result ⊎ ((result ≡ Err Memory) ⊎ (result ≡ Err Device))
+ReadsWhole input result = IsAnswerTo input result ⊎ IsUnread result
+
+-- so many reads give neither all of an input that isn't foreign, nor more of it than a text may have
+pub record WantsMoreReads (reads : ℕ) (input : List ℕ) : Type 0 where
+  pub own : IsForeign input → ⊥
+  pub all : most_read reads < length input
+  pub within : most_read reads ≤ LIMIT

@@ -1,9 +1,9 @@
 //! Many calls of a reader, one after the other.
-ghost use Rattle.std.specs.Prelude.{◌≡◌, ◌-◌, ◌<◌, ◌≤◌, ◌⊎◌, length, take, IfOk, IfErr, IfSome, OnOk};
+ghost use Rattle.std.specs.Prelude.{◌≡◌, ◌+◌, ◌-◌, ◌<◌, ◌≤◌, ◌⊎◌, length, take, IfOk, IfErr, IfSome, OnOk};
 ghost use Rattle.std.specs.Io.{StartsWith, appended_bytes};
 ghost use Rattle.std.specs.Io.KnownBytes.{Consumes, IsAtEnd};
 ghost use Rattle.rds_names.specs.declared.fault.Fault.TheVariants.{Memory, Device};
-ghost use Rattle.rds_keep.specs.Counted.{HasFailed};
+ghost use Rattle.rds_keep.specs.Counted.{HasFailed, most_read};
 ghost use Rattle.rds_keep.specs.Parts.{ConsumesAtMost};
 
 use crate::counted::Counted;
@@ -25,11 +25,13 @@ impl<R: Read> Counted<R> {
         ensures bytes { IfOk result (λ v. Consumes (R.remaining self.old.inner)
             (R.remaining self.new.inner) v.items) }
         ensures within { IfOk result (λ v. length v.items ≤ most) }
+        ensures bound { IfOk result (λ v. length v.items ≤ most_read (self.old.turns - self.new.left)) }
         ensures end { IfOk result (λ v. length v.items < most → IsAtEnd (R.remaining self.new.inner)) }
         ensures most { ConsumesAtMost (R.remaining self.old.inner) (R.remaining self.new.inner) most }
         ensures fault { IfErr result (λ e. ((e ≡ Memory) × (self.new.failed ≡ self.old.failed))
             ⊎ ((e ≡ Device) × HasFailed self.old self.new)) }
         ensures steady { OnOk result (self.new.failed ≡ self.old.failed) }
+        ensures left { self.new.left ≤ self.old.turns }
         ensures turns { self.new.turns ≡ self.old.turns }
         ensures renamed { self.new.renamed ≡ self.old.renamed }
     {
@@ -48,6 +50,8 @@ impl<R: Read> Counted<R> {
         ensures bytes { OnOk result (Consumes (R.remaining self.old.inner) (R.remaining self.new.inner)
             (appended_bytes front.old.items front.new.items)) }
         ensures within { OnOk result (length front.new.items ≤ most) }
+        ensures bound { OnOk result (length front.new.items
+            ≤ length front.old.items + most_read (self.old.left - self.new.left)) }
         ensures end { OnOk result (length front.new.items < most
             → IsAtEnd (R.remaining self.new.inner)) }
         ensures most { ConsumesAtMost (R.remaining self.old.inner) (R.remaining self.new.inner)

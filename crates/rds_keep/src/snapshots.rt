@@ -6,9 +6,9 @@ ghost use Rattle.rds_names.specs.declared.fault.Fault.TheVariants.{Memory, Bad, 
 ghost use Rattle.rds_codec.specs.Decoding.{IsOtherFault};
 ghost use Rattle.rds_codec.specs.StateTexts.{snapshot_text, IsSnapshot};
 ghost use Rattle.rds_codec.specs.declared.limits.TheConstants.{LIMIT};
-ghost use Rattle.rds_keep.specs.Counted.{HasFailed};
+ghost use Rattle.rds_keep.specs.Counted.{HasFailed, most_read};
 ghost use Rattle.rds_keep.specs.Parts.{AppendsPart, ConsumesAtMost};
-ghost use Rattle.rds_keep.specs.Snapshots.{IsForeign, ReadsWhole, RefusesText};
+ghost use Rattle.rds_keep.specs.Snapshots.{IsForeign, IsUnread, ReadsWhole, RefusesText, WantsMoreReads};
 
 use crate::counted::Counted;
 use crate::kept::Kept;
@@ -57,6 +57,7 @@ fn read_input<R: Read>(alloc: Global, reader: &mut Counted<R>) -> Result<Vec<u8>
         (R.remaining reader.new.inner) v.items) }
     ensures end { IfOk result (λ v. length v.items < LIMIT + 1
         → IsAtEnd (R.remaining reader.new.inner)) }
+    ensures bound { IfOk result (λ v. length v.items ≤ most_read reader.old.turns) }
     ensures own { IfOk result (λ v. IsForeign v.items → ⊥) }
     ensures bad { IfErr result (λ e. e ≡ Bad → IfSome (R.remaining reader.old.inner) IsForeign) }
     ensures foreign { IfSome (R.remaining reader.old.inner) (λ input. IsForeign input
@@ -92,6 +93,8 @@ pub fn read_snapshot<S: DotSet, R: Read>(
         (λ input. input ≡ snapshot_text kept)) }
     ensures value { IfOk result (λ kept. IsSnapshot kept) }
     ensures whole { IfSome (R.remaining reader.old.inner) (λ input. ReadsWhole input result) }
+    ensures bound { IfSome (R.remaining reader.old.inner) (λ input. WantsMoreReads reader.old.turns input
+        → IsUnread result) }
     ensures foreign { IfSome (R.remaining reader.old.inner) (λ input. IsForeign input
         → ConsumesAtMost (R.remaining reader.old.inner) (R.remaining reader.new.inner) 4) }
     ensures end { OnOk result (IsAtEnd (R.remaining reader.new.inner)) }

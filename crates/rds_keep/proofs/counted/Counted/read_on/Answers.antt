@@ -11,6 +11,7 @@ turns-preserved g c =
       kept = grown.0;
       consumed = grown.1;
       room = grind (arith, common_steps);
+      spent = grind (arith, common_steps);
       steady = search rules;
       left = grind (arith, common_steps);
       turns = search rules;
