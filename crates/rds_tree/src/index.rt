@@ -23,8 +23,8 @@ use rds_state::{Command, Edited, Replica, State};
 use std::alloc::Global;
 use std::marker::Model;
 
-/// A replica, seen as such, that keeps the tree of its live dots by path beside it: an edit costs what it covers, and a
-/// view what it shows.
+/// A replica, seen as such, that keeps the tree of its live dots by path beside it. In the tree an edit looks at its
+/// path and, for a clear, below it; a view at what it shows; a take at the leaves of the dots that come or die.
 pub struct Index<S: DotSet> {
     alloc: Global,
     replica: Replica<S>,
@@ -87,7 +87,7 @@ impl<S: DotSet> Index<S> {
         Ok(view)
     }
 
-    /// Edits the replica, as [`Replica::edit`] does, and refuses as it does. It looks only at what the command covers.
+    /// Edits the replica, as [`Replica::edit`] does, and refuses as it does. The tree finds what the command covers.
     pub fn edit(&mut self, command: Command) -> Result<Edited, Fault>
         ensures joined { IfOk result (λ _. JoinsEffect (coordinates self.old.state) self.old.own command (coordinates self.new.state)) }
         ensures dot { IfOk result (λ edited. edited.dot ≡ new_dot (coordinates self.old.state) self.old.own command) }
@@ -115,7 +115,7 @@ impl<S: DotSet> Index<S> {
         edit(self.alloc, &mut self.replica, &mut self.tree, command)
     }
 
-    /// Joins a delta into the replica, as [`Replica::take`] does, and refuses as it does.
+    /// Joins a delta into the replica, as [`Replica::take`] does, and refuses as it does. The tree isn't built anew.
     pub fn take(&mut self, delta: &State<S>) -> Result<(), Fault>
         requires { Fits (length self.old.roster.names) (coordinates delta.now) }
         ensures ok { OnOk result (coordinates self.new.state ≡ join (coordinates self.old.state) (coordinates delta.now)) }

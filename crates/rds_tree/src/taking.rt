@@ -19,8 +19,8 @@ use rds_names::{Entry, Fault};
 use rds_state::{Replica, State};
 use std::alloc::Global;
 
-/// Joins a delta into the replica and its tree. In the tree only the leaves of dots are touched that come or die. What may fail is
-/// done first, and undone without memory.
+/// Joins a delta into the replica and its tree. In the tree only the leaves of dots are touched that come or die. What
+/// may fail is done first, and undone without memory.
 pub fn take<S: DotSet>(
     alloc: Global,
     replica: &mut Replica<S>,
