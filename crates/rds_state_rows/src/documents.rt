@@ -3,6 +3,7 @@ use rds_delta::{Certificate, Digest};
 use rds_dots::DotSet;
 use rds_names::Fault;
 use rds_state::{Replica, State};
+use rds_tree::Index;
 use std::alloc::Global;
 use std::collections::BTreeMap;
 
@@ -41,6 +42,7 @@ impl<T: Drop> Shelf<T> {
 #[derive(Drop)]
 pub struct Documents<S: DotSet> {
     pub replicas: Shelf<Replica<S>>,
+    pub indexes: Shelf<Index<S>>,
     pub states: Shelf<State<S>>,
     pub digests: Shelf<Digest<S>>,
     pub certificates: Shelf<Certificate>,
@@ -51,17 +53,25 @@ impl<S: DotSet> Documents<S> {
     pub fn new(alloc: Global) -> Documents<S> {
         Documents {
             replicas: Shelf::new(alloc),
+            indexes: Shelf::new(alloc),
             states: Shelf::new(alloc),
             digests: Shelf::new(alloc),
             certificates: Shelf::new(alloc),
         }
     }
 
-    /// The state of the replica of this name, or else the state of this name.
+    /// The state of the replica of this name, or else of the index, or else the state of this name.
     pub fn state(&self, name: &str) -> Result<&State<S>, Fault> {
-        match self.replicas.get(name) {
+        match self.replica(name) {
             Ok(replica) => Ok(replica.state()),
             Err(_) => self.states.get(name),
+        }
+    }
+
+    fn replica(&self, name: &str) -> Result<&Replica<S>, Fault> {
+        match self.replicas.get(name) {
+            Ok(replica) => Ok(replica),
+            Err(_) => Ok(self.indexes.get(name)?.replica()),
         }
     }
 }

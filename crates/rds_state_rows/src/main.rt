@@ -9,6 +9,7 @@ mod deltas;
 mod digests;
 mod documents;
 mod drafts;
+mod indexes;
 mod laws;
 mod listing;
 mod replicas;

@@ -3,6 +3,7 @@ use crate::certificates::{certificate, check, given};
 use crate::deltas::delta;
 use crate::digests::{digest, digest_of_sets, inside, pair_in, rank_in};
 use crate::documents::Documents;
+use crate::indexes::{covered, index, index_edit, index_take, index_view, step, step_take};
 use crate::laws::laws;
 use crate::replicas::{copy, edit, fits, hold, make, rejoin, take};
 use crate::states::{components, copy_of, empty, lives, merge, rank, same, show, state, value};
@@ -21,6 +22,13 @@ impl<S: DotSet> Table for Documents<S> {
             "digest" | "digest_of_sets" | "inside" | "rank_in" | "pair_in" => {
                 digest_answer(self, alloc, name, rest)
             }
+            "index"
+            | "index_edit"
+            | "index_take"
+            | "index_view"
+            | "step"
+            | "step_take"
+            | "covered" => { index_answer(self, alloc, name, rest) }
             "delta" => delta(self, alloc, rest),
             "certificate" => certificate(self, alloc, rest),
             "given" => given(self, alloc, rest),
@@ -46,6 +54,24 @@ fn replica_answer<S: DotSet>(
         "copy" => copy(documents, alloc, rest),
         "rejoin" => rejoin(documents, alloc, rest),
         "fits" => fits(documents, alloc, rest),
+        _ => Err(Fault::Usage),
+    }
+}
+
+fn index_answer<S: DotSet>(
+    documents: &mut Documents<S>,
+    alloc: Global,
+    name: &str,
+    rest: &str,
+) -> Result<String, Fault> {
+    match name {
+        "index" => index(documents, alloc, rest),
+        "index_edit" => index_edit(documents, alloc, rest),
+        "index_take" => index_take(documents, alloc, rest),
+        "index_view" => index_view(documents, alloc, rest),
+        "step" => step(documents, alloc, rest),
+        "step_take" => step_take(documents, alloc, rest),
+        "covered" => covered(documents, alloc, rest),
         _ => Err(Fault::Usage),
     }
 }

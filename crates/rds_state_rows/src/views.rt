@@ -24,7 +24,12 @@ pub fn show_view<S: DotSet>(
     let mut words = Words::new(rest);
     let state = documents.state(words.word()?)?;
     let path = words.path(alloc)?;
-    view_text(alloc, &view(alloc, state, &path)?, MOST_KEYS)
+    whole_text(alloc, &view(alloc, state, &path)?)
+}
+
+/// The items of a view, with all its maps.
+pub fn whole_text(alloc: Global, view: &View) -> Result<String, Fault> {
+    view_text(alloc, view, MOST_KEYS)
 }
 
 /// The items of a view, with maps down to a depth.

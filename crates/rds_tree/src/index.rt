@@ -1,12 +1,12 @@
 //! A replica with the tree of its live dots.
-ghost use Rattle.std.specs.Prelude.{◌≡◌, ◌≢◌, false, None, Err, count_by, IfOk, IfErr, OnOk, OnErr, MatchResult, length};
+ghost use Rattle.std.specs.Prelude.{◌≡◌, ◌≢◌, false, None, Err, count_by, IfOk, IfErr, IsOk, OnOk, OnErr, MatchResult, length};
 ghost use Rattle.rds_life.specs.Life.{live_rows};
 ghost use Rattle.rds_names.specs.declared.fault.Fault.TheVariants.{Memory};
 ghost use Rattle.rds_state.specs.Ahead.{TakeGives};
 ghost use Rattle.rds_state.specs.Coordinates.{join};
 ghost use Rattle.rds_state.specs.Edit.{covers, JoinsEffect, new_dot, needs_room, refusal, IsDue};
 ghost use Rattle.rds_state.specs.Fits.{Fits};
-ghost use Rattle.rds_state.specs.Value.{coordinates};
+ghost use Rattle.rds_state.specs.Value.{coordinates, size};
 ghost use Rattle.rds_tree.specs.Document.{document};
 ghost use Rattle.rds_tree.specs.Growing.{Holds};
 ghost use Rattle.rds_tree.specs.Shown.{shown};
@@ -15,6 +15,7 @@ ghost use Rattle.rds_tree.specs.View.{view_of};
 use crate::document::{counters_at, tree_of};
 use crate::indexing::edit;
 use crate::node::Node;
+use crate::taking::take;
 use crate::views::View;
 use rds_dots::DotSet;
 use rds_names::{Fault, Path};
@@ -22,8 +23,8 @@ use rds_state::{Command, Edited, Replica, State};
 use std::alloc::Global;
 use std::marker::Model;
 
-/// A replica, seen as such, that keeps the tree of its live dots by path beside it: an edit costs what it covers, and a
-/// view what it shows.
+/// A replica, seen as such, that keeps the tree of its live dots by path beside it. In the tree an edit looks at its
+/// path and, for a clear, below it; a view at what it shows; a take at the leaves of the dots that come or die.
 pub struct Index<S: DotSet> {
     alloc: Global,
     replica: Replica<S>,
@@ -86,7 +87,7 @@ impl<S: DotSet> Index<S> {
         Ok(view)
     }
 
-    /// Edits the replica, as [`Replica::edit`] does, and refuses as it does. It looks only at what the command covers.
+    /// Edits the replica, as [`Replica::edit`] does, and refuses as it does. The tree finds what the command covers.
     pub fn edit(&mut self, command: Command) -> Result<Edited, Fault>
         ensures joined { IfOk result (λ _. JoinsEffect (coordinates self.old.state) self.old.own command (coordinates self.new.state)) }
         ensures dot { IfOk result (λ edited. edited.dot ≡ new_dot (coordinates self.old.state) self.old.own command) }
@@ -114,21 +115,17 @@ impl<S: DotSet> Index<S> {
         edit(self.alloc, &mut self.replica, &mut self.tree, command)
     }
 
-    /// Joins a delta into the replica, as [`Replica::take`] does, and refuses as it does.
+    /// Joins a delta into the replica, as [`Replica::take`] does, and refuses as it does. The tree isn't built anew.
     pub fn take(&mut self, delta: &State<S>) -> Result<(), Fault>
         requires { Fits (length self.old.roster.names) (coordinates delta.now) }
         ensures ok { OnOk result (coordinates self.new.state ≡ join (coordinates self.old.state) (coordinates delta.now)) }
         ensures roster { self.new.roster ≡ self.old.roster }
         ensures own { self.new.own ≡ self.old.own }
         ensures gives { TakeGives self.old.state self.old.own delta.now result }
+        ensures nothing { size delta.now ≡ 0 → IsOk result }
         ensures err { OnErr result (self.new ≡ self.old) }
     {
-        self.replica.may_take(delta)?;
-        let mut replica = self.replica.copy(self.alloc)?;
-        replica.take(delta)?;
-        let index = Index::of(self.alloc, replica)?;
-        *self = index;
-        Ok(())
+        take(self.alloc, &mut self.replica, &mut self.tree, delta)
     }
 }
 
