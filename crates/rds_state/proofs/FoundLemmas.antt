@@ -2,7 +2,6 @@
 use Rattle.std.proofs.Common.{◌≡◌, ℕ, Bool, true, false, not, ◌&&◌, cond, List, [], ◌∷◌, Option, Some, None, refl, sym, ◌∙◌, ap, eqb, ◌+◌, arith}
 use Rattle.std.proofs.lemmas.Bool.Decides.{nat_tests}
 use Rattle.std.specs.Prelude.{count_by}
-use Rattle.std.proofs.lemmas.List.Sums.{sum_by-cons}
 use Rattle.std.specs.Ordering.{eq_by_cmp}
 use Rattle.std.specs.List.{list_all}
 use Rattle.std.specs.FinMap as map
@@ -13,7 +12,7 @@ use Rattle.rds_dots.specs.Ascending.{is_above, ascends}
 use Rattle.rds_dots.specs.Dots.{dot_cmp}
 use Rattle.rds_dots.specs.Order.{dots_total}
 use Rattle.rds_dots.specs.Sets.{same_dot as dot_is}
-use Rattle.rds_life.specs.Killed.{but_for, is_same, killed_by}
+use Rattle.rds_life.specs.Killed.{but_for, killed_by}
 use Rattle.rds_life.specs.Life.{Life, Live, Dead, Lived, keys, entry_of, live_rows}
 use Rattle.rds_life.proofs.Views.{find-live_rows, rise-live_rows}
 use Rattle.rds_life.proofs.RowLemmas.{find_above}

@@ -7,5 +7,6 @@ pub mod FirstAbove
 pub mod FitsLemmas
 pub mod FriendLemmas
 pub mod JoinLaws
+pub mod Nothing
 pub mod RaiseLemmas
 pub mod Sizes

@@ -107,17 +107,7 @@ fn put<S: DotSet, F: Found>(
     ensures refusal { let due = refusal (coordinates state.old) own command.now in MatchResult result (λ _. due ≡ None) (IsDue due) }
     ensures err { OnErr result (state.new ≡ state.old) }
 {
-    if path.is_empty() {
-        return Err(Fault::BadPath);
-    }
-    let top = state.lives().seen().top(own);
-    if top >= MAX_SEQ {
-        return Err(Fault::SeqFull);
-    }
-    let dot = Dot {
-        replica: own,
-        seq: top + 1,
-    };
+    let dot = next_dot(state, own, path)?;
     let entry = entry_of(state.alloc(), path, kind, value)?;
     let killed = replace(state, dot, entry, command, found)?;
     Ok(Edited {

@@ -1,5 +1,5 @@
 //! One replica of a document.
-ghost use Rattle.std.specs.Prelude.{◌≡◌, ◌+◌, ◌≢◌, ◌≤◌, ◌<◌, ◌↔◌, IsTrue, false, None, Some, Err, count_by, IfOk, IfErr, OnOk, OnErr, MatchResult, length};
+ghost use Rattle.std.specs.Prelude.{◌≡◌, ◌+◌, ◌≢◌, ◌≤◌, ◌<◌, ◌↔◌, IsTrue, false, None, Some, Err, count_by, IfOk, IfErr, IsOk, OnOk, OnErr, MatchResult, length};
 ghost use Rattle.std.specs.FinMap as map;
 ghost use Rattle.rds_names.specs.declared.fault.Fault.TheVariants.{Memory, BadRoster};
 ghost use Rattle.rds_life.specs.Life.{Live, live_rows};
@@ -12,7 +12,7 @@ ghost use Rattle.rds_state.specs.Edit.{covers, JoinsEffect, new_dot, needs_room,
 ghost use Rattle.rds_dots.specs.Lacking.{dot_of};
 ghost use Rattle.rds_state.specs.Fits.{Fits, ReplicaValue, IsReplica};
 ghost use Rattle.rds_counts.specs.Below.{rows_below};
-ghost use Rattle.rds_state.specs.Value.{coordinates};
+ghost use Rattle.rds_state.specs.Value.{coordinates, size};
 
 use crate::ahead::own_ahead;
 use crate::command::{Command, Edited};
@@ -162,8 +162,8 @@ impl<S: DotSet> Replica<S> {
         edit(&mut self.state, self.own, command, &Searched { command })
     }
 
-    /// Edits the document as [`edit`](Replica::edit) does, where the live dots that the command covers were found: only these are
-    /// looked at.
+    /// Edits the document as [`edit`](Replica::edit) does, where the live dots that the command covers were found before: only
+    /// these are looked at.
     pub fn edit_found<F: Found>(&mut self, command: &Command, found: &F) -> Result<Edited, Fault>
         requires found { (d : Dot) (e : Entry) → map.get self.old.state.lives d ≡ Some (Live e) → F.found found.now d e ≡ covers command.now e }
         ensures joined { IfOk result (λ _. JoinsEffect (coordinates self.old.state) self.old.own command.now (coordinates self.new.state)) }
@@ -178,7 +178,8 @@ impl<S: DotSet> Replica<S> {
         edit(&mut self.state, self.own, command, found)
     }
 
-    /// The own dot that a `Set` or `Add` at the path would make live; `BadPath` or `SeqFull` where it would be refused so.
+    /// The own dot that a `Set` or an `Add` at the path would make live, or the fault that would refuse it: `BadPath` for the
+    /// root, else `SeqFull`. Takes no memory.
     pub fn next_dot(&self, path: &Path) -> Result<Dot, Fault>
         ensures exact { let top = own_top (coordinates self.now.state) self.now.own in MatchResult result (λ dot. (path_fault path.now (seq_fault top) ≡ None) × (dot ≡ dot_of self.now.own (top + 1))) (λ fault. path_fault path.now (seq_fault top) ≡ Some fault) }
         ensures unseen { IfOk result (λ dot. map.get self.now.state.lives dot ≡ None) }
@@ -195,7 +196,8 @@ impl<S: DotSet> Replica<S> {
         Ok(dots)
     }
 
-    /// Whether a delta may be taken, or the fault that `take` would give for another cause than memory. Takes no memory.
+    /// Whether [`take`](Replica::take) would take the delta, if there is memory; else the fault that it would give. Takes no
+    /// memory.
     pub fn may_take(&self, delta: &State<S>) -> Result<(), Fault>
         ensures { TakeGives self.now.state self.now.own delta.now result }
     {
@@ -213,15 +215,19 @@ impl<S: DotSet> Replica<S> {
 
     /// Joins a delta into the state. Refuses `OwnAhead` first, where the delta has an own dot that is unseen here,
     /// which the fault names, or an own number that is above the one here: both show that this replica has lost
-    /// edits that it had sent. Then it refuses a `Conflict`, as a merge does.
+    /// edits that it had sent. Then it refuses a `Conflict`, as a merge does. A delta without components takes no memory.
     pub fn take(&mut self, delta: &State<S>) -> Result<(), Fault>
         requires { Fits (length self.old.roster.names) (coordinates delta.now) }
         ensures ok { OnOk result (coordinates self.new.state ≡ join (coordinates self.old.state) (coordinates delta.now)) }
         ensures roster { self.new.roster ≡ self.old.roster }
         ensures own { self.new.own ≡ self.old.own }
         ensures gives { TakeGives self.old.state self.old.own delta.now result }
+        ensures nothing { size delta.now ≡ 0 → IsOk result }
         ensures err { OnErr result (self.new ≡ self.old) }
     {
+        if delta.components() == 0 {
+            return Ok(());
+        }
         if let Some(ahead) = own_ahead(&self.state, self.own, delta) {
             return Err(Fault::OwnAhead(ahead));
         }

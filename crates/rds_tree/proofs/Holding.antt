@@ -35,7 +35,7 @@ use Rattle.rds_tree.proofs.Growing.{same_test}
 use Rattle.rds_tree.proofs.Kids.{flip_eq, itself as key_itself}
 use Rattle.rds_tree.proofs.Witness.{both_ways}
 
-abbrev leaf_at : Dot × Entry → Leaf
+abbrev pub leaf_at : Dot × Entry → Leaf
 leaf_at r = record { kind = r.1.kind; value = r.1.value; dot = r.0 }
 
 -- ---- what goes from a tree is what a command covers
@@ -138,7 +138,7 @@ holds_raised c a b own tree none covers_none holds joins = record {
     yes_and true = refl
     yes_and false = refl
 
-itself : (d : Dot) → is_same d d ≡ true
+pub itself : (d : Dot) → is_same d d ≡ true
 itself d = sym (same_dot-tied d d) ∙ tied d
 
 apart : (v : Lived) (new d : Dot) (e : Entry) → map.get v new ≡ None → map.get v d ≡ Some (Live e) → is_same new d ≡ false
@@ -199,7 +199,7 @@ module _ (c : Command) (p : Parts) (is : parts_of c ≡ Some p) (a : StateValue)
         ∙ sym (rows_made c a b own test e (joins.joined ∙ ap (λ m. join (coordinates a) (effect (coordinates a) own c m)) made.1.0) (ap (map.get a.lives) (sym at) ∙ unseen));
   }
 
-same_itself : (p : List (List ℕ)) → pointwise bytes_eq p p ≡ true
+pub same_itself : (p : List (List ℕ)) → pointwise bytes_eq p p ≡ true
 same_itself [] = refl
 same_itself (k ∷ p) = and_true _ _ (sym (key_test k k) ∙ key_itself k) (same_itself p)
 

@@ -134,7 +134,7 @@ none_pass : {X : Type 0} (t : X → Bool) (xs : List X) → ((x : X) → t x ≡
 none_pass t [] none = refl
 none_pass t (x ∷ xs) none = ap (λ b. b || list_any t xs) (none x) ∙ none_pass t xs none
 
-same_pass : {X : Type 0} (t u : X → Bool) (xs : List X) → ((x : X) → t x ≡ u x) → list_any t xs ≡ list_any u xs
+pub same_pass : {X : Type 0} (t u : X → Bool) (xs : List X) → ((x : X) → t x ≡ u x) → list_any t xs ≡ list_any u xs
 same_pass t u [] same = refl
 same_pass t u (x ∷ xs) same = ap (λ b. b || list_any t xs) (same x) ∙ ap (λ b. u x || b) (same_pass t u xs same)
 

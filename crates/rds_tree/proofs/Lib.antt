@@ -1,6 +1,7 @@
 pub mod Adding
 pub mod CountedKeys
 pub mod Cutting
+pub mod Deltas
 pub mod Distinct
 pub mod Effects
 pub mod Growing

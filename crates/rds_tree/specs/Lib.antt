@@ -11,4 +11,5 @@ pub mod SameDocument
 pub mod ScalarOrder
 pub mod Shown
 pub mod Shows
+pub mod Taken
 pub mod View

@@ -1,5 +1,5 @@
 //! What a state's document shows.
-ghost use Rattle.std.specs.Prelude.{◌≡◌, IfOk, IfErr, OnOk};
+ghost use Rattle.std.specs.Prelude.{◌≡◌, IfOk, IfErr, OnOk, OnErr};
 ghost use Rattle.rds_names.specs.declared.fault.Fault.TheVariants.{Memory};
 ghost use Rattle.rds_tree.specs.Document.{document, sums_of};
 ghost use Rattle.rds_tree.specs.Growing.{Holds, row_of, rows_under};
@@ -61,8 +61,9 @@ pub fn tree_of(alloc: Global, rows: &[(Dot, Entry)], path: &Path) -> Result<Node
 }
 
 /// Adds a live dot to the tree.
-fn add(alloc: Global, node: &mut Node, row: &(Dot, Entry)) -> Result<(), Fault>
+pub fn add(alloc: Global, node: &mut Node, row: &(Dot, Entry)) -> Result<(), Fault>
     ensures ok { OnOk result (Adds node.old (row_of row.now) node.new) }
+    ensures err { OnErr result (node.new ≡ node.old) }
     ensures memory { IfErr result (λ fault. fault ≡ Memory) }
 {
     let leaf = Leaf {

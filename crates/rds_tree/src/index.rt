@@ -1,12 +1,12 @@
 //! A replica with the tree of its live dots.
-ghost use Rattle.std.specs.Prelude.{◌≡◌, ◌≢◌, false, None, Err, count_by, IfOk, IfErr, OnOk, OnErr, MatchResult, length};
+ghost use Rattle.std.specs.Prelude.{◌≡◌, ◌≢◌, false, None, Err, count_by, IfOk, IfErr, IsOk, OnOk, OnErr, MatchResult, length};
 ghost use Rattle.rds_life.specs.Life.{live_rows};
 ghost use Rattle.rds_names.specs.declared.fault.Fault.TheVariants.{Memory};
 ghost use Rattle.rds_state.specs.Ahead.{TakeGives};
 ghost use Rattle.rds_state.specs.Coordinates.{join};
 ghost use Rattle.rds_state.specs.Edit.{covers, JoinsEffect, new_dot, needs_room, refusal, IsDue};
 ghost use Rattle.rds_state.specs.Fits.{Fits};
-ghost use Rattle.rds_state.specs.Value.{coordinates};
+ghost use Rattle.rds_state.specs.Value.{coordinates, size};
 ghost use Rattle.rds_tree.specs.Document.{document};
 ghost use Rattle.rds_tree.specs.Growing.{Holds};
 ghost use Rattle.rds_tree.specs.Shown.{shown};
@@ -15,6 +15,7 @@ ghost use Rattle.rds_tree.specs.View.{view_of};
 use crate::document::{counters_at, tree_of};
 use crate::indexing::edit;
 use crate::node::Node;
+use crate::taking::take;
 use crate::views::View;
 use rds_dots::DotSet;
 use rds_names::{Fault, Path};
@@ -121,14 +122,10 @@ impl<S: DotSet> Index<S> {
         ensures roster { self.new.roster ≡ self.old.roster }
         ensures own { self.new.own ≡ self.old.own }
         ensures gives { TakeGives self.old.state self.old.own delta.now result }
+        ensures nothing { size delta.now ≡ 0 → IsOk result }
         ensures err { OnErr result (self.new ≡ self.old) }
     {
-        self.replica.may_take(delta)?;
-        let mut replica = self.replica.copy(self.alloc)?;
-        replica.take(delta)?;
-        let index = Index::of(self.alloc, replica)?;
-        *self = index;
-        Ok(())
+        take(self.alloc, &mut self.replica, &mut self.tree, delta)
     }
 }
 

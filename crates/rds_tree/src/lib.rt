@@ -11,6 +11,7 @@ mod leaf;
 mod node;
 mod pick;
 mod repeats;
+mod taking;
 mod views;
 
 pub use document::view;

@@ -1,5 +1,4 @@
-use Rattle.std.proofs.Common.{◌≡◌, ◌∙◌, ◌+◌, sym, ap, refl, rules}
-use Rattle.std.specs.Prelude.{◌≢◌, []}
+use Rattle.std.proofs.Common.{◌∙◌, ◌+◌, sym, ap, refl, rules}
 use Rattle.rds_dots.specs.Lacking.{dot_of}
 use Rattle.rds_life.specs.Life.{seen_of}
 use Rattle.rds_names.specs.declared.entry.Kind.TheVariants.{Reg}

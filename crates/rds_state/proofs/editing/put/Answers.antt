@@ -1,51 +1,21 @@
-use Rattle.std.proofs.Common.{◌∙◌, ap, rules}
-use Rattle.rds_life.specs.Life.{seen_of}
+use Rattle.std.proofs.Common.{◌≡◌, refl, sym, ◌∙◌, ap, subst}
+use Rattle.std.specs.Prelude.{Some}
+use Rattle.std.specs.FinMap as map
+use Rattle.rds_dots.specs.declared.dot.Dot.{Dot}
+use Rattle.rds_life.specs.Killed.{killed_by}
+use Rattle.rds_life.specs.Life.{Live}
+use Rattle.rds_state.specs.Chosen.{is_chosen}
+use Rattle.rds_state.specs.Edit.{own_top}
 use Rattle.rds_state.specs.Value.{coordinates}
-use Rattle.rds_state.proofs.EditLemmas.{top_is, next_unseen, full_is_due, none_is_due, dot_of_parts, put_joins, memory_is_due}
+use Rattle.rds_state.proofs.EditLemmas.{put_joins}
 use Rattle.rds_state.proofs.editing.put.Goals as goal
-
-pub returns-then-top-ge-MAX_SEQ-clause-refusal : goal.returns-then-top-ge-MAX_SEQ-clause-refusal
-returns-then-top-ge-MAX_SEQ-clause-refusal g c =
-    let v = c.args.state.now in
-    let top = top_is v c.args.own c.top-top.result (g.S.DotSet.contents c.seen.result.now) (c.seen.ensures ∙ ap seen_of c.lives.ensures) (g.met.S.DotSet.within c.seen.result.now) c.top-top.ensures in
-    full_is_due (coordinates v) c.args.own c.args.command.now (record { path = c.args.path.now; kind = c.args.kind; value = c.args.value.now }) c.requires.parts c.top-top.result top (search rules) c.if-top-ge-MAX_SEQ.true
-
-pub returns-in_err-entry-clause-refusal : goal.returns-in_err-entry-clause-refusal
-returns-in_err-entry-clause-refusal g c =
-    let v = c.args.state.now in
-    let top = top_is v c.args.own c.top-top.result (g.S.DotSet.contents c.seen.result.now) (c.seen.ensures ∙ ap seen_of c.lives.ensures) (g.met.S.DotSet.within c.seen.result.now) c.top-top.ensures in
-    let none = none_is_due (coordinates v) c.args.own c.args.command.now (record { path = c.args.path.now; kind = c.args.kind; value = c.args.value.now }) c.requires.parts c.top-top.result top (search rules) c.if-top-ge-MAX_SEQ.false in
-    memory_is_due c.from_residual.result _ none c.in_err-entry.field-0.0 c.from_residual.ensures.1 c.in_err-entry.ensures.memory
-
-pub replace-requires-clause-unseen : goal.replace-requires-clause-unseen
-replace-requires-clause-unseen g c =
-    next_unseen c.args.state.now c.args.own c.top-top.result (g.S.DotSet.contents c.seen.result.now) (c.seen.ensures ∙ ap seen_of c.lives.ensures) (g.met.S.DotSet.within c.seen.result.now) c.top-top.ensures
-
-pub returns-in_err-killed-clause-refusal : goal.returns-in_err-killed-clause-refusal
-returns-in_err-killed-clause-refusal g c =
-    let v = c.args.state.now in
-    let top = top_is v c.args.own c.top-top.result (g.S.DotSet.contents c.seen.result.now) (c.seen.ensures ∙ ap seen_of c.lives.ensures) (g.met.S.DotSet.within c.seen.result.now) c.top-top.ensures in
-    let none = none_is_due (coordinates v) c.args.own c.args.command.now (record { path = c.args.path.now; kind = c.args.kind; value = c.args.value.now }) c.requires.parts c.top-top.result top (search rules) c.if-top-ge-MAX_SEQ.false in
-    memory_is_due c.from_residual-in_err-killed.result _ none c.in_err-killed.field-0.0 c.from_residual-in_err-killed.ensures.1 c.in_err-killed.ensures.memory
 
 pub returns-clause-joined : goal.returns-clause-joined
 returns-clause-joined g c =
     let v = c.args.state.now in
-    let s = g.S.DotSet.contents c.seen.result.now in
-    let seen = c.seen.ensures ∙ ap seen_of c.lives.ensures in
-    let within = g.met.S.DotSet.within c.seen.result.now in
-    let top = top_is v c.args.own c.top-top.result s seen within c.top-top.ensures in
-    let unseen = next_unseen v c.args.own c.top-top.result s seen within c.top-top.ensures in
-    put_joins v c.replace.new.state c.args.own c.args.command.now (record { path = c.args.path.now; kind = c.args.kind; value = c.args.value.now }) c.requires.parts c.top-top.result top c.in_ok-entry.entry unseen c.in_ok-entry.ensures.ok c.replace.ensures.counts c.in_ok-killed.ensures.lives
-
-pub returns-clause-dot : goal.returns-clause-dot
-returns-clause-dot g c =
-    let v = c.args.state.now in
-    let top = top_is v c.args.own c.top-top.result (g.S.DotSet.contents c.seen.result.now) (c.seen.ensures ∙ ap seen_of c.lives.ensures) (g.met.S.DotSet.within c.seen.result.now) c.top-top.ensures in
-    dot_of_parts (coordinates v) c.args.own c.args.command.now (record { path = c.args.path.now; kind = c.args.kind; value = c.args.value.now }) c.requires.parts c.top-top.result top
-
-pub returns-clause-refusal : goal.returns-clause-refusal
-returns-clause-refusal g c =
-    let v = c.args.state.now in
-    let top = top_is v c.args.own c.top-top.result (g.S.DotSet.contents c.seen.result.now) (c.seen.ensures ∙ ap seen_of c.lives.ensures) (g.met.S.DotSet.within c.seen.result.now) c.top-top.ensures in
-    none_is_due (coordinates v) c.args.own c.args.command.now (record { path = c.args.path.now; kind = c.args.kind; value = c.args.value.now }) c.requires.parts c.top-top.result top (search rules) c.if-top-ge-MAX_SEQ.false
+    let new = c.replace.new.state in
+    let command = c.args.command.now in
+    let entry = c.in_ok-entry.entry in
+    let is = c.in_ok-dot.ensures.exact.1 in
+    put_joins v new c.args.own command (record { path = c.args.path.now; kind = c.args.kind; value = c.args.value.now }) c.requires.parts (own_top (coordinates v) c.args.own) refl entry (ap (map.get v.lives) (sym is) ∙ c.in_ok-dot.ensures.unseen) c.in_ok-entry.ensures.ok c.replace.ensures.counts
+    (subst (λ (dot : Dot). (d : Dot) → map.get new.lives d ≡ killed_by (is_chosen command (Some dot)) d (map.get (map.insert v.lives dot (Live entry)) d)) is c.in_ok-killed.ensures.lives)

@@ -1,7 +1,8 @@
-use Rattle.std.proofs.Common.{length, sym, subst}
+use Rattle.std.proofs.Common.{◌∙◌, length, sym, subst}
 use Rattle.rds_state.specs.Fits.{ReplicaValue, Fits}
 use Rattle.rds_state.specs.Value.{coordinates}
 use Rattle.rds_state.proofs.FitsLemmas.{merge_fits}
+use Rattle.rds_state.proofs.Nothing.{joins_nothing, takes_nothing}
 use Rattle.rds_state.proofs.replica.Replica.take.Goals as goal
 
 pub invariant_of-self : goal.invariant_of-self
@@ -12,3 +13,9 @@ invariant_of-self g c =
       own = c.self.invariant.own;
       fits = merge_fits (length c.self.inside.roster.names) c.self.inside.state delta c.merge.new.self c.merge.result c.merge.ensures.ok c.merge.ensures.err c.self.invariant.fits fits;
     }
+
+pub returns-then-components-eq0-clause-ok : goal.returns-then-components-eq0-clause-ok
+returns-then-components-eq0-clause-ok g c = joins_nothing c.args.delta.now (sym c.components.ensures ∙ c.if-components-eq0.true) c.args.self.now.state
+
+pub returns-then-components-eq0-clause-gives : goal.returns-then-components-eq0-clause-gives
+returns-then-components-eq0-clause-gives g c = takes_nothing c.args.delta.now (sym c.components.ensures ∙ c.if-components-eq0.true) c.args.self.now.state c.args.self.now.own

@@ -1,8 +1,8 @@
-use Rattle.std.proofs.Common.{◌≡◌, sym, ◌∙◌, ap, refl, rules}
+use Rattle.std.proofs.Common.{sym, ◌∙◌, ap, refl, rules}
 use Rattle.std.specs.Map.{remove_entry}
 use Rattle.std.specs.Ordering.{is_eq}
 use Rattle.rds_tree.specs.Document.{key_cmp}
-use Rattle.rds_tree.specs.Row.{rows_of, are_full}
+use Rattle.rds_tree.specs.Row.{are_full}
 use Rattle.rds_tree.proofs.Adding.{full-set_value}
 use Rattle.rds_tree.proofs.Cutting.{cut_leaves, cut_whole, empty_rows, cut_none, cut_some, cut_all, full_removed, not_full, full_of}
 use Rattle.rds_tree.proofs.node.Node.+cut.Goals as goal

@@ -1,0 +1,252 @@
+-- A tree that goes with the live rows where a delta is joined in.
+use Rattle.std.proofs.Common.{◌≡◌, Bool, true, false, cond, not, ◌&&◌, ◌||◌, List, [], ◌∷◌, refl, sym, ◌∙◌, ap, subst}
+use Rattle.std.specs.Prelude.{Option, Some, None, filter}
+use Rattle.std.specs.List.{list_any}
+use Rattle.std.specs.Cmp.Lexicographic.{pointwise}
+use Rattle.std.specs.FinMap as map
+use Rattle.std.specs.Str.{bytes_eq}
+use Rattle.rds_names.specs.Conditions.{and_true, and_left, and_right}
+use Rattle.rds_names.specs.declared.entry.Entry.{Entry}
+use Rattle.rds_dots.specs.declared.dot.Dot.{Dot}
+use Rattle.rds_dots.specs.Sets.{same_dot as dot_is}
+use Rattle.rds_life.specs.declared.rank.Rank.TheVariants as ranks
+use Rattle.rds_life.specs.Killed.{is_same}
+use Rattle.rds_life.specs.Life.{Life, Live, Dead, Lived, join_life, live_rows}
+use Rattle.rds_state.specs.Coordinates.{join}
+use Rattle.rds_state.specs.Value.{StateValue, coordinates}
+use Rattle.rds_state.proofs.CountLemmas.{same_dot-tied}
+use Rattle.rds_tree.specs.Cuts.{IsCut}
+use Rattle.rds_tree.specs.Growing.{row_of, Holds}
+use Rattle.rds_tree.specs.Row.{Row, Adds}
+use Rattle.rds_tree.specs.Taken.{has_rank, ranked, is_row_of, is_one_of, AreSameBut, IsWith, IsWithout}
+use Rattle.rds_tree.proofs.Effects.{any_alike, live_passes, passes_live}
+use Rattle.rds_tree.proofs.Holding.{goes_shallow, itself, leaf_at, same_itself}
+use Rattle.rds_tree.proofs.Killing.{same_pass}
+use Rattle.rds_tree.proofs.Witness.{both_ways, or_left, or_right}
+
+and_yes : (a : Bool) → (a && true) ≡ a
+and_yes true = refl
+and_yes false = refl
+
+and_no : (a : Bool) → (a && false) ≡ false
+and_no true = refl
+and_no false = refl
+
+or_no : (a : Bool) → (a || false) ≡ a
+or_no true = refl
+or_no false = refl
+
+is_false : (a : Bool) → not a ≡ true → a ≡ false
+is_false true h = absurd (cc)
+is_false false h = refl
+
+never : (a : Bool) → (a ≡ true → ⊥) → a ≡ false
+never true h = absurd (h refl)
+never false h = refl
+
+-- ---- the row of a live dot
+
+pub own_row : (r : Dot × Entry) → is_row_of r (row_of r) ≡ true
+own_row r = goes_shallow (λ l. is_same r.0 l.dot) (leaf_at r) r.1.path r.1.path ∙ and_true _ _ (same_itself r.1.path) (itself r.0)
+
+row_dot : (r x : Dot × Entry) → is_row_of r (row_of x) ≡ true → r.0 ≡ x.0
+row_dot r x h = dot_is r.0 x.0 (same_dot-tied r.0 x.0 ∙ and_right (pointwise bytes_eq x.1.path r.1.path) _ (sym (goes_shallow (λ l. is_same r.0 l.dot) (leaf_at x) r.1.path x.1.path) ∙ h))
+
+any-filter : {X : Type 0} (t p : X → Bool) (xs : List X) → list_any t (filter p xs) ≡ list_any (λ x. t x && p x) xs
+any-filter t p [] = refl
+any-filter t p (x ∷ xs) = elim (p x) as (λ b. list_any t (cond b (x ∷ filter p xs) (filter p xs)) ≡ ((t x && b) || list_any (λ x. t x && p x) xs)) [
+  | true ↦ ap (λ b. t x || b) (any-filter t p xs) ∙ sym (ap (λ b. b || list_any (λ x. t x && p x) xs) (and_yes (t x)))
+  | false ↦ any-filter t p xs ∙ sym (ap (λ b. b || list_any (λ x. t x && p x) xs) (and_no (t x)))
+]
+
+-- ---- lives that are joined
+
+not_dead : (e : Entry) → Some Dead ≡ Some (Live e) → ⊥
+not_dead e h = cc
+
+-- what lives in the join lived here and hasn't died there, or lives there and is unseen here
+lives_in : {X : Type 0} (x y : Option Life) (e : Entry) → join_life x y ≡ Some (Live e) → (x ≡ Some (Live e) → has_rank ranks.Dead y ≡ false → X) → (has_rank ranks.Unseen x ≡ true → y ≡ Some (Live e) → X) → X
+lives_in None y e h old new = new refl h
+lives_in (Some (Live f)) None e h old new = old h refl
+lives_in (Some (Live f)) (Some (Live g)) e h old new = old h refl
+lives_in (Some (Live f)) (Some Dead) e h old new = absurd (not_dead e h)
+lives_in (Some Dead) y e h old new = absurd (not_dead e h)
+
+stays_live : (y : Option Life) (e : Entry) → has_rank ranks.Dead y ≡ false → join_life (Some (Live e)) y ≡ Some (Live e)
+stays_live None e h = refl
+stays_live (Some (Live f)) e h = refl
+stays_live (Some Dead) e h = absurd (cc)
+
+comes_live : (x y : Option Life) → has_rank ranks.Unseen x ≡ true → join_life x y ≡ y
+comes_live None y h = refl
+comes_live (Some l) y h = absurd (cc)
+
+seen_live : (x : Option Life) (e : Entry) → x ≡ Some (Live e) → has_rank ranks.Unseen x ≡ true → ⊥
+seen_live None e h u = cc
+seen_live (Some l) e h u = cc
+
+module _ (a b : Lived) where
+  abbrev pub dies : Dot × Entry → Bool
+  dies r = has_rank ranks.Dead (map.get b r.0)
+
+  abbrev pub comes : Dot × Entry → Bool
+  comes r = has_rank ranks.Unseen (map.get a r.0)
+
+  abbrev pub dying : List (Dot × Entry)
+  dying = ranked b ranks.Dead (live_rows a)
+
+  abbrev pub coming : List (Dot × Entry)
+  coming = ranked a ranks.Unseen (live_rows b)
+
+  -- a live dot here is one of those that die exactly where it dies
+  dies_as : (d : Dot) (e : Entry) → map.get a d ≡ Some (Live e) → is_one_of dying (row_of (d, e)) ≡ dies (d, e)
+  dies_as d e live =
+      any-filter (λ x. is_row_of x (row_of (d, e))) dies (live_rows a)
+      ∙ both_ways _ _
+      (λ h. let p = live_passes (λ x. is_row_of x (row_of (d, e)) && dies x) a h in
+      ap (λ q. has_rank ranks.Dead (map.get b q)) (sym (row_dot (p.0, p.1.0) (d, e) (and_left _ (dies (p.0, p.1.0)) p.1.1.1))) ∙ and_right (is_row_of (p.0, p.1.0) (row_of (d, e))) _ p.1.1.1)
+      (λ h. passes_live (λ x. is_row_of x (row_of (d, e)) && dies x) a d e live (and_true _ _ (own_row (d, e)) h))
+
+  -- it is none of those that come
+  no_coming : (d : Dot) (e : Entry) → map.get a d ≡ Some (Live e) → is_one_of coming (row_of (d, e)) ≡ false
+  no_coming d e live = never _ (λ h.
+      let p = live_passes (λ x. is_row_of x (row_of (d, e)) && comes x) b (sym (any-filter (λ x. is_row_of x (row_of (d, e))) comes (live_rows b)) ∙ h) in
+      seen_live (map.get a d) e live (ap (λ q. has_rank ranks.Unseen (map.get a q)) (sym (row_dot (p.0, p.1.0) (d, e) (and_left _ (comes (p.0, p.1.0)) p.1.1.1))) ∙ and_right (is_row_of (p.0, p.1.0) (row_of (d, e))) _ p.1.1.1))
+
+  -- an unseen dot is none of those that die
+  no_dying : (r : Dot × Entry) → comes r ≡ true → is_one_of dying (row_of r) ≡ false
+  no_dying r unseen = never _ (λ h.
+      let p = live_passes (λ x. is_row_of x (row_of r) && dies x) a (sym (any-filter (λ x. is_row_of x (row_of r)) dies (live_rows a)) ∙ h) in
+      seen_live (map.get a r.0) p.1.0 (ap (map.get a) (sym (row_dot (p.0, p.1.0) r (and_left _ (dies (p.0, p.1.0)) p.1.1.1))) ∙ p.1.1.0) unseen)
+
+  abbrev stays : (Dot × Entry → Bool) → Dot × Entry → Bool
+  stays u r = u r && not (dies r)
+
+  abbrev arrives : (Dot × Entry → Bool) → Dot × Entry → Bool
+  arrives u r = u r && comes r
+
+  -- the live rows of the join
+  rows_joined : (c : Lived) (u : Dot × Entry → Bool) → ((d : Dot) → map.get c d ≡ join_life (map.get a d) (map.get b d))
+      → list_any u (live_rows c) ≡ (list_any (λ r. u r && not (dies r)) (live_rows a) || list_any (λ r. u r && comes r) (live_rows b))
+  rows_joined c u joined = both_ways _ _ forth back
+    where
+      forth : list_any u (live_rows c) ≡ true → (list_any (stays u) (live_rows a) || list_any (arrives u) (live_rows b)) ≡ true
+      forth h =
+          let p = live_passes u c h in
+          lives_in (map.get a p.0) (map.get b p.0) p.1.0 (sym (joined p.0) ∙ p.1.1.0)
+          (λ live spared. or_left _ _ (passes_live (stays u) a p.0 p.1.0 live (and_true _ _ p.1.1.1 (ap not spared))))
+          (λ unseen live. or_right (list_any (stays u) (live_rows a)) _ (passes_live (arrives u) b p.0 p.1.0 live (and_true _ _ p.1.1.1 unseen)))
+
+      back : (list_any (stays u) (live_rows a) || list_any (arrives u) (live_rows b)) ≡ true → list_any u (live_rows c) ≡ true
+      back h = by (list_any (stays u) (live_rows a)) refl h
+        where
+          by : (x : Bool) → list_any (stays u) (live_rows a) ≡ x → (x || list_any (arrives u) (live_rows b)) ≡ true → list_any u (live_rows c) ≡ true
+          by true is g =
+              let p = live_passes (stays u) a is in
+              passes_live u c p.0 p.1.0 (joined p.0 ∙ ap (λ x. join_life x (map.get b p.0)) p.1.1.0 ∙ stays_live (map.get b p.0) p.1.0 (is_false _ (and_right (u (p.0, p.1.0)) _ p.1.1.1))) (and_left _ (not (dies (p.0, p.1.0))) p.1.1.1)
+          by false is g =
+              let p = live_passes (arrives u) b g in
+              passes_live u c p.0 p.1.0 (joined p.0 ∙ comes_live (map.get a p.0) (map.get b p.0) (and_right (u (p.0, p.1.0)) _ p.1.1.1) ∙ p.1.1.0) (and_left _ (comes (p.0, p.1.0)) p.1.1.1)
+
+  -- ---- the tree
+
+  swap : (x y : Bool) → (x || y) ≡ (y || x)
+  swap true true = refl
+  swap true false = refl
+  swap false true = refl
+  swap false false = refl
+
+  -- with the rows that come and without those that die, the tree has those of the join
+  pub holds_taken : (c : Lived) (old mid new : List Row) → Holds (live_rows a) old → IsWith coming old mid → IsWithout dying mid new → ((d : Dot) → map.get c d ≡ join_life (map.get a d) (map.get b d)) → Holds (live_rows c) new
+  holds_taken c old mid new holds with without joined = record {
+    any = λ t.
+        let kept : Row → Bool = λ row. t row && not (is_one_of dying row) in
+        without.any t ∙ with.any kept
+        ∙ ap (λ x. x || list_any kept old) (any-filter (λ r. kept (row_of r)) comes (live_rows b)
+        ∙ same_pass (λ r. kept (row_of r) && comes r) (λ r. t (row_of r) && comes r) (live_rows b) (kept_arrive t))
+        ∙ ap (λ x. list_any (λ r. t (row_of r) && comes r) (live_rows b) || x) (holds.any kept
+        ∙ any_alike (λ r. kept (row_of r)) (λ r. t (row_of r) && not (dies r)) a (λ d e live. ap (λ x. t (row_of (d, e)) && not x) (dies_as d e live)))
+        ∙ swap (list_any (λ r. t (row_of r) && comes r) (live_rows b)) (list_any (λ r. t (row_of r) && not (dies r)) (live_rows a))
+        ∙ sym (rows_joined c (λ r. t (row_of r)) joined);
+  }
+    where
+      kept_arrive : (t : Row → Bool) (r : Dot × Entry) → ((t (row_of r) && not (is_one_of dying (row_of r))) && comes r) ≡ (t (row_of r) && comes r)
+      kept_arrive t r = elim (comes r) as (λ x. comes r ≡ x → ((t (row_of r) && not (is_one_of dying (row_of r))) && x) ≡ (t (row_of r) && x)) [
+        | true ↦ λ is. ap (λ x. (t (row_of r) && not x) && true) (no_dying r is) ∙ ap (λ x. x && true) (and_yes (t (row_of r)))
+        | false ↦ λ is. and_no (t (row_of r) && not (is_one_of dying (row_of r))) ∙ sym (and_no (t (row_of r)))
+      ] refl
+
+  -- once those that come are taken out again, the tree is as before
+  pub holds_untaken : (old mid new : List Row) → Holds (live_rows a) old → AreSameBut coming old mid → IsWithout coming mid new → Holds (live_rows a) new
+  holds_untaken old mid new holds same without = record {
+    any = λ t.
+        without.any t ∙ same.any t ∙ holds.any (λ row. t row && not (is_one_of coming row))
+        ∙ any_alike (λ r. t (row_of r) && not (is_one_of coming (row_of r))) (λ r. t (row_of r)) a (λ d e live. ap (λ x. t (row_of (d, e)) && not x) (no_coming d e live) ∙ and_yes (t (row_of (d, e))));
+  }
+
+-- ---- one row after another
+
+-- what is left to add leads to the same tree as all of it, and is some of it
+pub record IsAdding (rows rest : List (Dot × Entry)) (old tree : List Row) : Type 0 where
+  pub leads : (t : Row → Bool) → (list_any (λ r. t (row_of r)) rest || list_any t tree) ≡ (list_any (λ r. t (row_of r)) rows || list_any t old)
+  pub same : AreSameBut rows old tree
+  pub left : (t : Dot × Entry → Bool) → list_any t rest ≡ true → list_any t rows ≡ true
+
+between : (x y z : Bool) → (x || (y || z)) ≡ ((y || x) || z)
+between true true z = refl
+between true false z = refl
+between false true z = refl
+between false false z = refl
+
+pub adds_none : (rows : List (Dot × Entry)) (tree : List Row) → IsAdding rows rows tree tree
+adds_none rows tree = record { leads = λ t. refl; same = record { any = λ t. refl }; left = λ t h. h }
+
+pub adds_one : (rows rest later : List (Dot × Entry)) (r : Dot × Entry) (old tree new : List Row) → rest ≡ r ∷ later → IsAdding rows rest old tree → Adds tree (row_of r) new → IsAdding rows later old new
+adds_one rows rest later r old tree new split is adds = record {
+  leads = λ t.
+      ap (λ x. list_any (λ r. t (row_of r)) later || x) (adds.any t)
+      ∙ between (list_any (λ r. t (row_of r)) later) (t (row_of r)) (list_any t tree)
+      ∙ ap (λ xs. list_any (λ r. t (row_of r)) xs || list_any t tree) (sym split)
+      ∙ is.leads t;
+  same = record {
+    any = λ t.
+        adds.any (λ row. t row && not (is_one_of rows row))
+        ∙ ap (λ x. (t (row_of r) && not x) || list_any (λ row. t row && not (is_one_of rows row)) tree) one
+        ∙ ap (λ x. x || list_any (λ row. t row && not (is_one_of rows row)) tree) (and_no (t (row_of r)))
+        ∙ is.same.any t;
+  };
+  left = λ t h. is.left t (ap (list_any t) split ∙ or_right (t r) _ h);
+}
+  where
+    one : is_one_of rows (row_of r) ≡ true
+    one = is.left (λ x. is_row_of x (row_of r)) (ap (is_one_of_at (row_of r)) split ∙ or_left (is_row_of r (row_of r)) _ (own_row r))
+      where
+        is_one_of_at : Row → List (Dot × Entry) → Bool
+        is_one_of_at row xs = list_any (λ x. is_row_of x row) xs
+
+pub adds_all : (rows rest : List (Dot × Entry)) (old tree : List Row) → rest ≡ [] → IsAdding rows rest old tree → IsWith rows old tree
+adds_all rows rest old tree none is = record { any = λ t. ap (λ xs. list_any (λ r. t (row_of r)) xs || list_any t tree) (sym none) ∙ is.leads t }
+
+-- what is left to cut leads to the same tree as all of it
+pub record IsCutting (rows rest : List (Dot × Entry)) (old tree : List Row) : Type 0 where
+  pub leads : (t : Row → Bool) → list_any (λ row. t row && not (is_one_of rest row)) tree ≡ list_any (λ row. t row && not (is_one_of rows row)) old
+
+neither : (t x y : Bool) → ((t && not y) && not x) ≡ (t && not (x || y))
+neither true true true = refl
+neither true true false = refl
+neither true false y = and_yes (not y)
+neither false x y = refl
+
+pub cuts_one : (rows rest later : List (Dot × Entry)) (r : Dot × Entry) (old tree new : List Row) → rest ≡ r ∷ later → IsCutting rows rest old tree → IsCut (λ l. is_same r.0 l.dot) false r.1.path tree new → IsCutting rows later old new
+cuts_one rows rest later r old tree new split is cut = record {
+  leads = λ t.
+      cut.any (λ row. t row && not (is_one_of later row))
+      ∙ same_pass _ (λ row. t row && not (is_one_of (r ∷ later) row)) tree (λ row. neither (t row) (is_row_of r row) (is_one_of later row))
+      ∙ ap (λ xs. list_any (λ row. t row && not (is_one_of xs row)) tree) (sym split)
+      ∙ is.leads t;
+}
+
+pub cuts_all : (rows rest : List (Dot × Entry)) (old tree : List Row) → rest ≡ [] → IsCutting rows rest old tree → IsWithout rows old tree
+cuts_all rows rest old tree none is = record {
+  any = λ t. same_pass t (λ row. t row && not (is_one_of [] row)) tree (λ row. sym (and_yes (t row))) ∙ ap (λ xs. list_any (λ row. t row && not (is_one_of xs row)) tree) (sym none) ∙ is.leads t;
+}
