@@ -62,7 +62,8 @@ impl Input {
         let lines = text.replace(alloc, "|", "\n")?;
         for each in number(from)?..number(to)? {
             let digits = format!(in alloc; "{each}")?;
-            self.add_line(lines.as_str().replace(alloc, "#", digits.as_str())?.as_str())?;
+            let line = lines.as_str().replace(alloc, "#", digits.as_str())?;
+            self.add_line(line.as_str())?;
         }
         self.told(alloc)
     }

@@ -5,7 +5,9 @@ use crate::files::{hold, make_folder, put, remove_file, remove_folder};
 use crate::input::Input;
 use crate::lengths::answer_lengths;
 use crate::replicas::{components_told, keep, read, replace, settle_nothing, settle_received};
-use crate::runs::{run_barred, run_long, run_reading, run_renamed, run_spaced, run_writing, usual_turns};
+use crate::runs::{
+    run_barred, run_long, run_reading, run_renamed, run_spaced, run_writing, usual_turns,
+};
 use crate::sessions::Sessions;
 use crate::simulated::Simulated;
 use crate::wire::{answer_over, answer_serving, answer_talk, answer_wire};

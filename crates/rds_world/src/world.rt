@@ -122,7 +122,8 @@ impl<S: DotSet> World<S> {
         }
     }
 
-    /// What the document of the replica with this number has in memory at a path. It costs what it shows.
+    /// What the document of the replica with this number has in memory at a path. In its index it walks only what it
+    /// shows.
     pub fn view(&self, number: u8, path: &Path) -> Result<View, Fault>
         ensures shown { IfOk result (λ view. ShowsAt self.now.memory number path.now (shown view)) }
         ensures absent { slice_get self.now.memory number ≡ None → result ≡ Err NoSuch }
