@@ -12,6 +12,7 @@ pub mod Finds
 pub mod Kills
 pub mod LivedLemmas
 pub mod MappedRows
+pub mod PastRows
 pub mod RowLemmas
 pub mod Steps
 pub mod Views
