@@ -4,9 +4,9 @@ mod Clashes
 mod Deaths
 mod Gathers
 mod Joins
+mod Lookups
 mod Puts
 mod Singles
-pub mod Additions
 pub mod Counting
 pub mod Finds
 pub mod Kills

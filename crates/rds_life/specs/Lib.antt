@@ -1,4 +1,3 @@
-pub mod Added
 pub mod Clash
 pub mod Code
 pub mod Fits

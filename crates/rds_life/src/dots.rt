@@ -26,7 +26,7 @@ pub fn insert_dot<S: DotSet>(dots: &mut S, dot: Dot) -> Result<(), Fault>
 /// The dots of rows, as a set, into which dots that follow each other go as one run. Rows that ascend only ever insert
 /// at its end.
 pub fn dots_of<S: DotSet>(alloc: Global, rows: LiveRows<'_>) -> Result<S, Fault>
-    requires { list_all is_dot (keys rows.entry) ≡ true }
+    requires { list_all is_dot (keys rows) ≡ true }
     ensures ok { IfOk result (λ dots. S.contents dots ≡ set.from_list (keys rows.entry)) }
     ensures memory { IfErr result (λ fault. fault ≡ Memory) }
 {

@@ -27,7 +27,8 @@ use std::marker::Model;
 /// The life of each dot, seen as a finite map from dots to lives; a dot that isn't in it is unseen.
 ///
 /// It keeps the set of seen dots and, in the order of the dots, the entries of those that are live:
-/// the dot store and causal context of Almeida, Shoker, Baquero 2018.
+/// the dot store and causal context of Almeida, Shoker, Baquero 2018. The entries stand in a list,
+/// or in a map once the lives are indexed.
 pub struct Lives<S: DotSet> {
     seen: S,
     rows: Rows,
@@ -166,8 +167,8 @@ impl<S: DotSet> Lives<S> {
 }
 
 impl<S: DotSet> Lives<S> {
-    /// Puts the live dots into a map, so that from then on one is made live or dead at the same
-    /// cost however many there are. Before, each is moved along that comes after it in the list.
+    /// Puts the live dots into a map, with copies of their entries. From then on, to make a dot
+    /// live or dead costs a search, where a list has to move all that come after the dot.
     pub fn index(&mut self) -> Result<(), Fault>
         ensures same { self.new ≡ self.old }
         ensures memory { IfErr result (λ fault. fault ≡ Memory) }
@@ -244,7 +245,8 @@ impl<S: DotSet> Lives<S> {
         self.rows.clash(&other.rows)
     }
 
-    /// Joins the other's lives into these, as `joined` says, and refuses as it does.
+    /// Joins the other's lives into these, as `joined` says, and refuses as it does. The live dots
+    /// then stand in a list.
     pub fn merge(&mut self, other: &Lives<S>) -> Result<(), Fault>
         ensures ok { OnOk result (IsJoin self.old other.now self.new) }
         ensures least { OnOk result (IsLeastAbove self.old other.now self.new) }

@@ -52,10 +52,15 @@ impl RowMap {
         ensures memory { IfErr result (λ fault. fault ≡ Memory) }
     {
         let mut map = RowMap::new(alloc);
-        for row in rows {
+        let mut rest = rows;
+        'adding: loop {
+            let (row, later) = match rest.split_first() {
+                Some(parts) => parts,
+                None => return Ok(map),
+            };
             map.insert(row.0, row.1.copy(alloc)?)?;
+            rest = later;
         }
-        Ok(map)
     }
 
     /// Takes out the rows that are chosen, in place, and says how many there were.
@@ -64,8 +69,7 @@ impl RowMap {
         ensures count { result ≡ count_by (λ r. C.chosen choice.now r.0 r.1) self.old }
     {
         let before = self.rows.len();
-        self.rows
-            .retain(|dot, entry| !choice.chooses(*dot, entry));
+        self.rows.retain(|dot, entry| !choice.chooses(*dot, entry));
         (before - self.rows.len()) as u64
     }
 

@@ -1,8 +1,8 @@
 //! The rows of live dots, in a list or in a map.
-ghost use Rattle.std.specs.Prelude.{◌≡◌, true, not, length, count_by, None, IfOk, IfErr, OnOk, OnErr};
+ghost use Rattle.std.specs.Prelude.{◌≡◌, ◌↔◌, IsTrue, true, not, length, count_by, None, Some, IfOk, IfErr, OnOk, OnErr};
 ghost use Rattle.std.specs.List.{filter};
 ghost use Rattle.std.specs.FinSet as set;
-ghost use Rattle.rds_life.specs.Clash.{Clashes};
+ghost use Rattle.rds_life.specs.Clash.{Clashes, SameIfBoth};
 ghost use Rattle.rds_life.specs.Joined.{joined};
 ghost use Rattle.rds_life.specs.Past.{first_row, rows_from};
 ghost use Rattle.std.specs.FinMap as map;
@@ -13,10 +13,10 @@ ghost use Rattle.rds_dots.specs.Dots.{dot_cmp};
 ghost use Rattle.rds_life.specs.Life.{keys};
 ghost use Rattle.rds_life.specs.Removed.{without};
 
-use crate::live_rows::LiveRows;
-use crate::row_map::RowMap;
 use crate::chosen::{Choice, remove_chosen};
 use crate::joining::{clash, join_rows};
+use crate::live_rows::LiveRows;
+use crate::row_map::RowMap;
 use crate::rows::{copy_rows, find_row, first_from, insert_row, remove_row};
 use rds_dots::{Dot, DotSet};
 use rds_names::{Entry, Fault};
@@ -162,17 +162,29 @@ impl Rows {
     /// The least dot that both have with different entries, by a search for each of the other's.
     fn clash_found(&self, other: LiveRows<'_>) -> Option<Dot>
         requires left { ascends (keys self.now) ≡ true }
-        requires right { ascends (keys other.entry) ≡ true }
+        requires right { ascends (keys other) ≡ true }
         ensures { Clashes self.now other.entry result }
     {
         let mut rest = other;
         'looking: loop {
-            let (dot, entry) = rest.next()?;
-            if let Some(mine) = self.find(dot)
-                && !mine.same(entry)
-            {
+            let (dot, entry) = match rest.next() {
+                Some(row) => row,
+                None => return None,
+            };
+            if !self.agrees(dot, entry) {
                 return Some(dot);
             }
+        }
+    }
+
+    /// Whether the dot has no other entry here.
+    fn agrees(&self, dot: Dot, entry: &Entry) -> bool
+        requires { ascends (keys self.now) ≡ true }
+        ensures { IsTrue result ↔ SameIfBoth (map.find dot_cmp dot self.now) (Some entry.now) }
+    {
+        match self.find(dot) {
+            Some(mine) => mine.same(entry),
+            None => true,
         }
     }
 

@@ -1,4 +1,4 @@
-use Rattle.std.proofs.Common.{◌≡◌, ◌∙◌, ap, sym, rules}
+use Rattle.std.proofs.Common.{◌∙◌, ap, sym, rules}
 use Rattle.rds_dots.specs.Ascending.{ascends}
 use Rattle.rds_life.specs.Life.{keys}
 use Rattle.rds_life.specs.Past.{rows_past}

@@ -1,4 +1,4 @@
-use Rattle.std.proofs.Common.{◌≡◌, None, ◌∙◌, ap, sym, not, true, false, rules}
+use Rattle.std.proofs.Common.{◌≡◌, None, ◌∙◌, ap, sym, true, false, rules}
 use Rattle.std.specs.Ordering.{is_le}
 use Rattle.rds_dots.specs.Dots.{dot_cmp}
 use Rattle.rds_dots.proofs.Splits.{at_most_is}
