@@ -4,12 +4,14 @@ ghost use Rattle.std.specs.List.{flat_map, list_all, AllByRecursion};
 ghost use Rattle.rds_names.specs.Name.{is_name};
 ghost use Rattle.rds_counts.specs.Counted.{number};
 ghost use Rattle.rds_counts.specs.Place.{Place};
+ghost use Rattle.rds_life.specs.Life.{live_rows};
 ghost use Rattle.rds_names.specs.Roster.{are_names};
 ghost use Rattle.rds_bytes.specs.Values.{is_key_text, AreCountsOf, IsKeyed, IsEntry, IsLiveRow, IsMember, IsScalar};
 ghost use Rattle.rds_bytes.specs.Spelling.{short_text, scalar_text, entry_text, live_row_text, count_row_text, counters_text, names_text, member_text};
 
 use rds_counts::{CountRow, Counts};
-use rds_dots::Dot;
+use rds_dots::DotSet;
+use rds_life::Lives;
 use rds_names::{Entry, Key, Roster, Scalar};
 
 /// The length of a key's text.
@@ -65,19 +67,21 @@ fn entry_length(entry: &Entry) -> usize
 
 /// The length of the rows of live dots, without their number.
 #[tactic(auto, using(crate::proofs::Lengths::length_more))]
-pub fn live_rows_length(mut rows: &[(Dot, Entry)]) -> u128
-    ensures length { result ≡ length (flat_map live_row_text rows.entry.now) }
-    ensures most { result ≤ 2048 * length rows.entry.now }
-    ensures are_entries { AllByRecursion IsLiveRow rows.entry.now }
+pub fn live_rows_length<S: DotSet>(lives: &Lives<S>) -> u128
+    ensures length { result ≡ length (flat_map live_row_text (live_rows lives.now)) }
+    ensures most { result ≤ 2048 * length (live_rows lives.now) }
+    ensures few { length (live_rows lives.now) < 2 ^ 64 }
+    ensures are_entries { AllByRecursion IsLiveRow (live_rows lives.now) }
 {
+    let _few = lives.live_len();
+    let mut rest = lives.live();
     let mut total = 0;
     'measuring: loop {
-        let (row, later) = match rows.split_first() {
-            Some(parts) => parts,
+        let entry = match rest.next() {
+            Some((_, entry)) => entry,
             None => return total,
         };
-        total += 9 + entry_length(&row.1) as u128;
-        rows = later;
+        total += 9 + entry_length(entry) as u128;
     }
 }
 

@@ -3,13 +3,15 @@ ghost use Rattle.std.specs.Prelude.{◌≡◌, ◌++◌, ◌<◌, ◌^◌, lengt
 ghost use Rattle.std.specs.List.{flat_map};
 ghost use Rattle.std.specs.Int.{w16, w32, w64, to_be_bytes, cast_unsigned};
 ghost use Rattle.rds_counts.specs.RowsOf.{count_rows};
+ghost use Rattle.rds_life.specs.Life.{live_rows};
 ghost use Rattle.rds_bytes.specs.Spelling.{byte_text, short_text, kind_byte, text_text, scalar_text, path_text, entry_text, live_row_text, live_rows_text, place_text, counts_text, count_row_text, count_rows_text, counters_text, names_text, roster_text, member_text, front_text};
 ghost use Rattle.rds_bytes.specs.Writing.{Adds};
 
 use crate::front::MAGIC;
 use byteorder::{BigEndian, ByteOrder};
 use rds_counts::{CountRow, Counts};
-use rds_dots::Dot;
+use rds_dots::{Dot, DotSet};
+use rds_life::Lives;
 use rds_names::{Entry, Key, Kind, Roster, Scalar};
 use std::alloc::AllocError;
 
@@ -131,22 +133,22 @@ fn put_entry(out: &mut Vec<u8>, entry: &Entry) -> Result<(), AllocError>
     put_scalar(out, &entry.value)
 }
 
-fn put_live_row(out: &mut Vec<u8>, row: &(Dot, Entry)) -> Result<(), AllocError>
-    ensures { Adds out.old.items out.new.items (live_row_text row.now) result }
+fn put_live_row(out: &mut Vec<u8>, dot: Dot, entry: &Entry) -> Result<(), AllocError>
+    ensures { Adds out.old.items out.new.items (live_row_text (dot, entry.now)) result }
 {
-    put_byte(out, row.0.replica)?;
-    put_u64(out, row.0.seq)?;
-    put_entry(out, &row.1)
+    put_byte(out, dot.replica)?;
+    put_u64(out, dot.seq)?;
+    put_entry(out, entry)
 }
 
 /// The rows of live dots, after their number.
-pub fn put_live_rows(out: &mut Vec<u8>, rows: &[(Dot, Entry)]) -> Result<(), AllocError>
-    requires { length rows.now < 2 ^ 32 }
-    ensures { Adds out.old.items out.new.items (live_rows_text rows.now) result }
+pub fn put_live_rows<S: DotSet>(out: &mut Vec<u8>, lives: &Lives<S>) -> Result<(), AllocError>
+    requires { length (live_rows lives.now) < 2 ^ 32 }
+    ensures { Adds out.old.items out.new.items (live_rows_text (live_rows lives.now)) result }
 {
-    put_u32(out, rows.len() as u32)?;
-    for row in rows {
-        put_live_row(out, row)?;
+    put_u32(out, lives.live_len() as u32)?;
+    for (dot, entry) in lives.live() {
+        put_live_row(out, dot, entry)?;
     }
     Ok(())
 }

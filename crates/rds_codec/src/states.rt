@@ -52,7 +52,7 @@ pub fn measure_state<S: DotSet>(state: &State<S>) -> (u16, u128)
 {
     let lives = state.lives();
     let (rows, dots_length) = measure_dots(lives.seen());
-    let live_length = 4 + live_rows_length(lives.live().as_slice());
+    let live_length = 4 + live_rows_length(lives);
     (
         rows,
         dots_length + live_length + counters_length(state.counts()),
@@ -71,7 +71,7 @@ pub fn put_state<S: DotSet>(
 {
     let lives = state.lives();
     put_dots(out, lives.seen(), rows)?;
-    put_live_rows(out, lives.live().as_slice())?;
+    put_live_rows(out, lives)?;
     put_counters(out, state.counts())
 }
 

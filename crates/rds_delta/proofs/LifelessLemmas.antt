@@ -1,148 +1,125 @@
--- What a search among the live rows says of the next live dot.
-use Rattle.std.proofs.Common.{◌≡◌, ◌⊎◌, ℕ, ◌+◌, ◌-◌, ◌<◌, ◌≤◌, true, false, ◌&&◌, List, [], ◌∷◌, length, get_or, Err, subst, refl, sym, ◌∙◌, ap, arith, inl, inr, leb}
+-- What the first live dot from one on says of those between.
+use Rattle.std.proofs.Common.{◌≡◌, ℕ, ◌+◌, ◌-◌, ◌<◌, ◌≤◌, true, false, cond, ◌&&◌, Bool, List, [], ◌∷◌, Option, Some, None, refl, sym, ◌∙◌, ap, arith, leb}
+use mathlib.Core.Bool.{false≢true}
 use Rattle.std.specs.Prelude.{is_some}
-use Rattle.std.specs.Ordering.{nat_cmp, ordering_then, is_eq, eq_by_cmp}
-use Rattle.std.specs.declared.cmp.Ordering.TheVariants.{Less, Equal, Greater}
+use Rattle.std.specs.Ordering.{nat_cmp, ordering_then, is_eq, is_le, is_lt}
+use Rattle.std.specs.Cmp.{tied_itself}
 use Rattle.std.specs.FinMap as map
-use Rattle.std.specs.List.Sorted.{IsBinarySearchResult}
-use Rattle.std.proofs.lemmas.Bool.{cases_lt}
+use Rattle.std.specs.FinMap.Entries.{find-where_key, is_sorted-where_key}
 use Rattle.std.proofs.lemmas.Bool.Decides.{nat_tests}
+use Rattle.rds_names.specs.Conditions.{and_true, and_left, less_of}
 use Rattle.rds_names.specs.declared.entry.Entry.{Entry}
 use Rattle.rds_dots.specs.declared.dot.Dot.{Dot}
 use Rattle.rds_dots.specs.declared.dot.TheConstants.{MAX_SEQ}
+use Rattle.rds_dots.specs.Ascending.{ascends}
 use Rattle.rds_dots.specs.Dots.{dot_cmp, is_dot}
 use Rattle.rds_dots.specs.Lacking.{dot_of}
-use Rattle.rds_dots.specs.Ascending.{ascends}
+use Rattle.rds_dots.specs.Merges.{above_trans}
+use Rattle.rds_dots.specs.Order.{dots_total, dots_exact}
 use Rattle.rds_life.specs.Life.{Lived, keys, live_rows}
+use Rattle.rds_life.specs.Past.{rows_from, first_row}
+use Rattle.rds_life.proofs.RowLemmas.{find_above, rise_of, sorted_of}
 use Rattle.rds_life.proofs.Views.{rise-live_rows, find-live_rows}
-use Rattle.rds_life.proofs.Finds.{find_at, find_none, rises_at, rising}
 use Rattle.rds_delta.specs.Next.{IsLifeless, is_live}
 
--- two dots that aren't tied
-not_before : (a n b m s : ℕ) → s ≤ n → ordering_then (nat_cmp b a) (nat_cmp m s) ≡ Less → is_eq (ordering_then (nat_cmp a b) (nat_cmp n m)) ≡ false
-not_before a n b m s le h = grind (arith, nat_tests)
+from_it : (a s n : ℕ) → s ≤ n → is_le (ordering_then (nat_cmp a a) (nat_cmp s n)) ≡ true
+from_it a s n le = grind (arith, nat_tests)
 
-not_at : (a n b m : ℕ) → n < m → is_eq (ordering_then (nat_cmp a b) (nat_cmp n m)) ≡ false
-not_at a n b m lt = grind (arith, nat_tests)
+before_it : (a n b m : ℕ) → a ≡ b → n < m → is_lt (ordering_then (nat_cmp a b) (nat_cmp n m)) ≡ true
+before_it a n b m e lt = grind (arith, nat_tests)
 
-not_past : (a n c t b m : ℕ) → c ≡ a → n < t → ordering_then (nat_cmp c b) (nat_cmp t m) ≡ Less → is_eq (ordering_then (nat_cmp a b) (nat_cmp n m)) ≡ false
-not_past a n c t b m e lt h = grind (arith, nat_tests)
+before_replica : (a n b m : ℕ) → a < b → is_lt (ordering_then (nat_cmp a b) (nat_cmp n m)) ≡ true
+before_replica a n b m lt = grind (arith, nat_tests)
 
-not_other : (a n c m : ℕ) → a < c → is_eq (ordering_then (nat_cmp a c) (nat_cmp n m)) ≡ false
-not_other a n c m lt = grind (arith, nat_tests)
+later_seq : (a s b n : ℕ) → a ≡ b → is_le (ordering_then (nat_cmp a b) (nat_cmp s n)) ≡ true → s ≤ n
+later_seq a s b n e le = grind (arith, nat_tests)
 
-later_replica : (a c t b m : ℕ) → a < c → ordering_then (nat_cmp c b) (nat_cmp t m) ≡ Less → a < b
-later_replica a c t b m lt h = grind (arith, nat_tests)
-
-greater_seq : (c t a s : ℕ) → c ≡ a → ordering_then (nat_cmp c a) (nat_cmp t s) ≡ Greater → s < t
-greater_seq c t a s e h = grind (arith, nat_tests)
-
-greater_replica : (c t a s : ℕ) → (c ≡ a → ⊥) → ordering_then (nat_cmp c a) (nat_cmp t s) ≡ Greater → a < c
-greater_replica c t a s e h = grind (arith, nat_tests)
-
-same_dots : (a b n m : ℕ) → a ≡ b → n ≡ m → ordering_then (nat_cmp a b) (nat_cmp n m) ≡ Equal
-same_dots a b n m e f = grind (arith, nat_tests)
+later_replica : (a s b n : ℕ) → (b ≡ a → ⊥) → is_le (ordering_then (nat_cmp a b) (nat_cmp s n)) ≡ true → a < b
+later_replica a s b n other le = grind (arith, nat_tests)
 
 most : (a n : ℕ) → (leb a 255 && leb 1 n && leb n 281474976710655) ≡ true → n ≤ 281474976710655
 most a n h = grind (arith, nat_tests)
 
-module _ (v : Lived) (d : Dot) (one : is_dot d ≡ true) (rows : List (Dot × Entry)) (are : rows ≡ live_rows v) where
-  rise : ascends (keys rows) ≡ true
-  rise = ap (λ rs. ascends (keys rs)) are ∙ rise-live_rows v
+module _ (v : Lived) (d : Dot) where
+  abbrev found : Dot → Option Entry
+  found q = map.find dot_cmp q (rows_from d (live_rows v))
 
-  is_found : (q : Dot) → is_live v q ≡ is_some (map.find dot_cmp q rows)
-  is_found q = ap is_some (sym (find-live_rows v q) ∙ ap (map.find dot_cmp q) (sym are))
+  lives_at : (q : Dot) → is_live v q ≡ is_some (map.find dot_cmp q (live_rows v))
+  lives_at q = ap is_some (sym (find-live_rows v q))
 
-  pub live_here : (e : Dot × Entry) (i : ℕ) → i < length rows → dot_cmp (get_or rows i e).0 d ≡ Equal → is_live v d ≡ true
-  live_here e i lt same = is_found d ∙ ap is_some (find_at rows rise e i lt d same)
+  found_is : (q : Dot) → found q ≡ cond (is_le (dot_cmp d q)) (map.find dot_cmp q (live_rows v)) None
+  found_is q = find-where_key dot_cmp (λ x. is_le (dot_cmp d x)) q (λ x t. ap (λ y. is_le (dot_cmp d y)) (sym (dots_exact q x t))) (live_rows v)
 
-  none_at : (e : Dot × Entry) (q : Dot) → ((k : ℕ) → k < length rows → eq_by_cmp dot_cmp q (get_or rows k e).0 ≡ false) → is_live v q ≡ false
-  none_at e q other = is_found q ∙ ap is_some (find_none rows q e other)
+  found_from : (q : Dot) → is_le (dot_cmp d q) ≡ true → is_live v q ≡ is_some (found q)
+  found_from q le = lives_at q ∙ sym (ap is_some (found_is q ∙ ap (λ b. cond b (map.find dot_cmp q (live_rows v)) None) le))
 
-  module _ (e : Dot × Entry) (at : ℕ) (before : (k : ℕ) → k < length rows → k < at → dot_cmp (get_or rows k e).0 d ≡ Less) where
-    -- no row from there on: none lives
-    pub none_later : length rows ≤ at → IsLifeless v d MAX_SEQ
-    none_later past = record {
-      from = most d.replica d.seq one;
-      none = λ n p q. none_at e (dot_of d.replica n) (λ k lt. not_before d.replica n (get_or rows k e).0.replica (get_or rows k e).0.seq d.seq p (before k lt (omega arith)));
-      ends = λ lt. absurd (omega arith);
-    }
+  rise : ascends (keys (rows_from d (live_rows v))) ≡ true
+  rise = rise_of (rows_from d (live_rows v)) (is_sorted-where_key dot_cmp (λ x. is_le (dot_cmp d x)) (live_rows v) (sorted_of (live_rows v) (rise-live_rows v)))
 
-    module _ (lt : at < length rows) (after : dot_cmp (get_or rows at e).0 d ≡ Greater) where
-      abbrev next : Dot
-      next = (get_or rows at e).0
+  none_is : (rows : List (Dot × Entry)) → None ≡ first_row rows → rows ≡ []
+  none_is [] h = refl
+  none_is (r ∷ rows) h = cc
 
-      -- the next row is of the same replica
-      pub next_lives : next.replica ≡ d.replica → IsLifeless v d (next.seq - 1)
-      next_lives same =
-          let above = greater_seq next.replica next.seq d.replica d.seq same after in
-          let back : next.seq - 1 + 1 ≡ next.seq = omega arith in
-          record {
-            from = omega arith;
-            none = λ n p q. none_at e (dot_of d.replica n) (λ k within. by_place n p (omega arith) k within (cases_lt k at) (cases_lt at k));
-            ends = λ _. is_found (dot_of d.replica (next.seq - 1 + 1)) ∙ ap is_some (find_at rows rise e at lt (dot_of d.replica (next.seq - 1 + 1)) (same_dots next.replica d.replica next.seq (next.seq - 1 + 1) same (sym back)));
-          }
-        where
-          by_place : (n : ℕ) → d.seq ≤ n → n < next.seq → (k : ℕ) → k < length rows → (k < at) ⊎ (at ≤ k) → (at < k) ⊎ (k ≤ at) → eq_by_cmp dot_cmp (dot_of d.replica n) (get_or rows k e).0 ≡ false
-          by_place n p q k within (inl less) _ = not_before d.replica n (get_or rows k e).0.replica (get_or rows k e).0.seq d.seq p (before k within less)
-          by_place n p q k within (inr from) (inl past) = not_past d.replica n next.replica next.seq (get_or rows k e).0.replica (get_or rows k e).0.seq same q (rises_at rows rise e at k past within)
-          by_place n p q k within (inr from) (inr upto) =
-              let here : at ≡ k = omega arith in
-              ap (λ i. eq_by_cmp dot_cmp (dot_of d.replica n) (get_or rows i e).0) (sym here) ∙ not_at d.replica n next.replica next.seq q
+  -- no live dot from there on
+  pub none_later : is_dot d ≡ true → None ≡ first_row (rows_from d (live_rows v)) → IsLifeless v d MAX_SEQ
+  none_later one none = record {
+    from = most d.replica d.seq one;
+    none = λ n p q. found_from (dot_of d.replica n) (from_it d.replica d.seq n p) ∙ ap (λ rows. is_some (map.find dot_cmp (dot_of d.replica n) rows)) (none_is (rows_from d (live_rows v)) none);
+    ends = λ lt. absurd (omega arith);
+  }
 
-      -- or of a later one
-      pub other_lives : (next.replica ≡ d.replica → ⊥) → IsLifeless v d MAX_SEQ
-      other_lives other =
-          let above = greater_replica next.replica next.seq d.replica d.seq other after in
-          record {
-            from = most d.replica d.seq one;
-            none = λ n p q. none_at e (dot_of d.replica n) (λ k within. by_place above n p k within (cases_lt k at) (cases_lt at k));
-            ends = λ lt. absurd (omega arith);
-          }
-        where
-          by_place : d.replica < next.replica → (n : ℕ) → d.seq ≤ n → (k : ℕ) → k < length rows → (k < at) ⊎ (at ≤ k) → (at < k) ⊎ (k ≤ at) → eq_by_cmp dot_cmp (dot_of d.replica n) (get_or rows k e).0 ≡ false
-          by_place above n p k within (inl less) _ = not_before d.replica n (get_or rows k e).0.replica (get_or rows k e).0.seq d.seq p (before k within less)
-          by_place above n p k within (inr from) (inl past) = not_other d.replica n (get_or rows k e).0.replica (get_or rows k e).0.seq (later_replica d.replica next.replica next.seq (get_or rows k e).0.replica (get_or rows k e).0.seq above (rises_at rows rise e at k past within))
-          by_place above n p k within (inr from) (inr upto) =
-              let here : at ≡ k = omega arith in
-              ap (λ i. eq_by_cmp dot_cmp (dot_of d.replica n) (get_or rows i e).0) (sym here) ∙ not_other d.replica n next.replica next.seq above
+  first_is : (rows : List (Dot × Entry)) (r : Dot × Entry) → Some r ≡ first_row rows → ascends (keys rows) ≡ true → (map.find dot_cmp r.0 rows ≡ Some r.1) × ((q : Dot) → is_lt (dot_cmp q r.0) ≡ true → map.find dot_cmp q rows ≡ None)
+  first_is [] r h rises = cc
+  first_is (x ∷ rows) r h rises =
+      let is : r ≡ x = cc in (
+        ap (λ y. map.find dot_cmp y.0 (x ∷ rows)) is ∙ ap (λ o. cond (is_eq o) (Some x.1) (map.find dot_cmp x.0 rows)) (tied_itself dots_total x.0) ∙ ap (λ y. Some y.1) (sym is),
+        λ q lt. (let less = ap (λ y. is_lt (dot_cmp q y.0)) (sym is) ∙ lt in find_above q (x ∷ rows) (and_true _ _ less (above_trans q x.0 (less_of (dot_cmp q x.0) less) (keys rows) (and_left _ (ascends (keys rows)) rises)))),
+      )
 
--- a list with a place has an element
-one_of : {X : Type 0} (xs : List X) (i : ℕ) → i < length xs → X
-one_of [] i lt = absurd (omega arith)
-one_of (x ∷ xs) i lt = x
+  module _ (next : Dot) (e : Entry) (first : Some (next, e) ≡ first_row (rows_from d (live_rows v))) where
+    facts : (found next ≡ Some e) × ((q : Dot) → is_lt (dot_cmp q next) ≡ true → found q ≡ None)
+    facts = first_is (rows_from d (live_rows v)) (next, e) first rise
 
-module _ (v : Lived) (d : Dot) (one : is_dot d ≡ true) (rows : List (Dot × Entry)) (are : rows ≡ live_rows v) where
-  rises : ascends (keys rows) ≡ true
-  rises = ap (λ rs. ascends (keys rs)) are ∙ rise-live_rows v
+    not_none : ¬ (None ≡ Some e)
+    not_none h = cc
 
-  pub found_lives : (i : ℕ) → i < length rows → ((e : Dot × Entry) → dot_cmp (get_or rows i e).0 d ≡ Equal) → is_live v d ≡ true
-  found_lives i lt same = let e = one_of rows i lt in live_here v d one rows are e i lt (same e)
+    from_d : (b : Bool) → is_le (dot_cmp d next) ≡ b → is_le (dot_cmp d next) ≡ true
+    from_d true is = is
+    from_d false is = absurd (not_none (sym (found_is next ∙ ap (λ b. cond b (map.find dot_cmp next (live_rows v)) None) is) ∙ facts.0))
 
-  module _ (at : ℕ) (parted : IsBinarySearchResult (λ (row : Dot × Entry). dot_cmp row.0 d) rows (Err at)) where
-    pub past_rows : length rows ≤ at → IsLifeless v d MAX_SEQ
-    past_rows past = by_rows rows refl
-      where
-        by_rows : (rs : List (Dot × Entry)) → rows ≡ rs → IsLifeless v d MAX_SEQ
-        by_rows [] e = record {
+    le : is_le (dot_cmp d next) ≡ true
+    le = from_d (is_le (dot_cmp d next)) refl
+
+    next_lives : is_live v next ≡ true
+    next_lives = found_from next le ∙ ap is_some facts.0
+
+    none_before : (n : ℕ) → d.seq ≤ n → is_lt (dot_cmp (dot_of d.replica n) next) ≡ true → is_live v (dot_of d.replica n) ≡ false
+    none_before n p lt = found_from (dot_of d.replica n) (from_it d.replica d.seq n p) ∙ ap is_some (facts.1 (dot_of d.replica n) lt)
+
+    -- it is the dot itself
+    pub found_lives : next.replica ≡ d.replica → next.seq ≡ d.seq → is_live v d ≡ true
+    found_lives same at = ap (is_live v) (sym ((λ i. dot_of (same i) (at i)))) ∙ next_lives
+
+    pub follows : next.replica ≡ d.replica → (next.seq ≡ d.seq → ⊥) → d.seq < next.seq
+    follows same other = let far = later_seq d.replica d.seq next.replica next.seq (sym same) le in omega (arith, far, other)
+
+    -- it is of the same replica
+    pub until_next : next.replica ≡ d.replica → (next.seq ≡ d.seq → ⊥) → IsLifeless v d (next.seq - 1)
+    until_next same other =
+        let lt = follows same other in
+        let back : next.seq - 1 + 1 ≡ next.seq = omega arith in
+        record {
+          from = omega arith;
+          none = λ n p q. none_before n p (before_it d.replica n next.replica next.seq (sym same) (omega arith));
+          ends = λ _. ap (λ n. is_live v (dot_of d.replica n)) back ∙ ap (λ r. is_live v (dot_of r next.seq)) (sym same) ∙ next_lives;
+        }
+
+    -- or of a later one
+    pub until_last : is_dot d ≡ true → (next.replica ≡ d.replica → ⊥) → IsLifeless v d MAX_SEQ
+    until_last one other =
+        let lt = later_replica d.replica d.seq next.replica next.seq other le in
+        record {
           from = most d.replica d.seq one;
-          none = λ n p q. is_found v d one rows are (dot_of d.replica n) ∙ ap (λ r. is_some (map.find dot_cmp (dot_of d.replica n) r)) e;
+          none = λ n p q. none_before n p (before_replica d.replica n next.replica next.seq lt);
           ends = λ lt. absurd (omega arith);
         }
-        by_rows (x ∷ rs) e = none_later v d one rows are x at (λ k lt below. (parted (rising rows rises d x)).0 k x (omega arith) below) past
-
-    module _ (row : Dot × Entry) (lt : at < length rows) (is : row ≡ get_or rows at row) where
-      after : dot_cmp (get_or rows at row).0 d ≡ Greater
-      after = (parted (rising rows rises d row)).1 at row (omega arith) lt
-
-      before : (k : ℕ) → k < length rows → k < at → dot_cmp (get_or rows k row).0 d ≡ Less
-      before k within below = (parted (rising rows rises d row)).0 k row (omega arith) below
-
-      pub follows : row.0.replica ≡ d.replica → d.seq < row.0.seq
-      follows same = greater_seq row.0.replica row.0.seq d.replica d.seq same (ap (λ r. dot_cmp r.0 d) is ∙ after)
-
-      pub until_next : row.0.replica ≡ d.replica → IsLifeless v d (row.0.seq - 1)
-      until_next same = subst (λ r. IsLifeless v d (r.0.seq - 1)) (sym is) (next_lives v d one rows are row at before lt after (ap (λ r. r.0.replica) (sym is) ∙ same))
-
-      pub until_last : (row.0.replica ≡ d.replica → ⊥) → IsLifeless v d MAX_SEQ
-      until_last other = other_lives v d one rows are row at before lt after (λ same. other (ap (λ r. r.0.replica) is ∙ same))

@@ -19,7 +19,7 @@ use crate::killed::dots_killed;
 use crate::stretches::stretch_from;
 use rds_counts::{CountRow, Counts};
 use rds_dots::{Dot, DotSet};
-use rds_life::Lives;
+use rds_life::{LiveRows, Lives};
 use rds_names::{Entry, Fault};
 use rds_state::State;
 use std::alloc::Global;
@@ -78,34 +78,34 @@ fn rows_unseen<S: DotSet>(
     ensures memory { IfErr result (λ fault. fault ≡ Memory) }
 {
     let mut unseen = Vec::new(alloc);
-    let mut rest = lives.live().as_slice();
+    let mut rest = lives.live();
     'copying: loop {
-        let (row, later) = match rest.split_first() {
-            Some(parts) => parts,
+        let (dot, entry) = match rest.next() {
+            Some(row) => row,
             None => return Ok(unseen),
         };
-        if seen.contains(row.0) {
-            rest = past_run(seen, row.0, later);
+        if seen.contains(dot) {
+            rest = past_run(seen, dot, rest);
         } else {
-            unseen.push((row.0, row.1.copy(alloc)?))?;
-            rest = later;
+            unseen.push((dot, entry.copy(alloc)?))?;
         }
     }
 }
 
 /// Of the rows behind a dot of the set, those past the set's run of that dot.
-fn past_run<'a, S: DotSet>(seen: &S, dot: Dot, rows: &'a [(Dot, Entry)]) -> &'a [(Dot, Entry)]
+fn past_run<'a, S: DotSet>(seen: &S, dot: Dot, mut rows: LiveRows<'a>) -> LiveRows<'a>
     requires seen { set.contains (S.contents seen.now) dot ≡ true }
-    requires rise { ascends (dot ∷ keys rows.now) ≡ true }
-    ensures unseen { let has = set.contains (S.contents seen.now) in unseen_rows has result.now ≡ unseen_rows has rows.now }
-    ensures rise { ascends (keys result.now) ≡ true }
-    ensures fewer { length result.now ≤ length rows.now }
+    requires rise { ascends (dot ∷ keys rows) ≡ true }
+    ensures unseen { let has = set.contains (S.contents seen.now) in unseen_rows has result ≡ unseen_rows has rows.entry }
+    ensures rise { ascends (keys result) ≡ true }
+    ensures fewer { length result ≤ length rows.entry }
 {
     let last = Dot {
         replica: dot.replica,
         seq: stretch_from(seen, dot).until,
     };
-    rows.split_at(rows.partition_point(|row| row.0 <= last)).1
+    rows.skip_past(last);
+    rows
 }
 
 /// The numbers that are above the peer's.

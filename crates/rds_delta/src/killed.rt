@@ -82,7 +82,10 @@ fn live_until<S: DotSet>(lives: &Lives<S>, run: Run) -> u64
         replica: run.replica,
         seq: run.lo,
     };
-    let rows = lives.live().as_slice();
+    let rows = match lives.live().as_slice() {
+        Some(rows) => rows,
+        None => return run.lo,
+    };
     match rows.binary_search_by_key(&first, |row| row.0) {
         Ok(at) => in_line(run, rows.split_at(at + 1).1),
         Err(_) => run.lo,

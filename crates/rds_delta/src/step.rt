@@ -71,20 +71,17 @@ pub fn lifeless_until<S: DotSet>(lives: &Lives<S>, dot: Dot) -> Option<u64>
     requires { is_dot dot ≡ true }
     ensures { IsLifelessUntil lives.now dot result }
 {
-    let rows = lives.live().as_slice();
-    let at = match rows.binary_search_by_key(&dot, |row| row.0) {
-        Ok(_) => return None,
-        Err(at) => at,
-    };
-    let next = match rows.get(at) {
-        Some(row) => row.0,
+    let (next, _) = match lives.first_from(dot) {
+        Some(row) => row,
         None => return Some(MAX_SEQ),
     };
-    if next.replica == dot.replica {
-        Some(next.seq - 1)
-    } else {
-        Some(MAX_SEQ)
+    if next.replica != dot.replica {
+        return Some(MAX_SEQ);
     }
+    if next.seq == dot.seq {
+        return None;
+    }
+    Some(next.seq - 1)
 }
 
 /// What stands at the next dots after the given one. The dots that aren't unseen lie in the range of dots.

@@ -28,14 +28,14 @@ module _ {X : Type 0} where
   none_left : (f : Option X) → SameIfBoth None f
   none_left f = tt
 
-  none_right : (e : Option X) → SameIfBoth e None
+  pub none_right : (e : Option X) → SameIfBoth e None
   none_right None = tt
   none_right (Some e) = tt
 
   by_left : (e f : Option X) → e ≡ None → SameIfBoth e f
   by_left e f h = subst (λ o. SameIfBoth o f) (sym h) tt
 
-  by_right : (e f : Option X) → f ≡ None → SameIfBoth e f
+  pub by_right : (e f : Option X) → f ≡ None → SameIfBoth e f
   by_right e f h = subst (λ o. SameIfBoth e o) (sym h) (none_right e)
 
   pub past_none : (a b : List (Dot × X)) → ascends (keys a) ≡ true → ascends (keys b) ≡ true → IsPast a b a b

@@ -4,14 +4,15 @@ mod Clashes
 mod Deaths
 mod Gathers
 mod Joins
+mod Lookups
 mod Puts
 mod Singles
-pub mod Additions
 pub mod Counting
 pub mod Finds
 pub mod Kills
 pub mod LivedLemmas
 pub mod MappedRows
+pub mod PastRows
 pub mod RowLemmas
 pub mod Steps
 pub mod Views

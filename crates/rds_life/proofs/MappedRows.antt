@@ -1,16 +1,15 @@
 -- A map's entries as rows.
-use Rattle.std.proofs.Common.{◌≡◌, Bool, true, false, not, cond, ◌&&◌, List, [], ◌∷◌, ◌++◌, map as each, Option, Some, None, refl, sym, ◌∙◌, ap}
-use Rattle.std.specs.List.{filter, list_all, AllByRecursion}
+use Rattle.std.proofs.Common.{◌≡◌, true, false, not, cond, List, [], ◌∷◌, Some, refl, sym, ◌∙◌, ap}
+use Rattle.std.specs.List.{list_all, AllByRecursion}
 use Rattle.std.specs.List.Sorted.{IsStrictlySortedBy}
 use Rattle.std.specs.Ordering.{eq_by_cmp, is_eq, is_lt, match_ordering}
-use Rattle.std.specs.declared.cmp.Ordering.{Ordering}
 use Rattle.std.specs.declared.cmp.Ordering.TheVariants.{Less, Equal, Greater}
 use Rattle.std.specs.Map.{lookup, remove_entry}
 use Rattle.std.specs.BTreeMap.{insert_entry}
 use Rattle.std.specs.FinMap as map
 use Rattle.std.specs.FinMap.Entries.{by_order}
 use Rattle.rds_names.specs.declared.entry.Entry.{Entry}
-use Rattle.rds_names.specs.Conditions.{and_true, and_left, and_right}
+use Rattle.rds_names.specs.Conditions.{and_true}
 use Rattle.rds_dots.specs.declared.dot.Dot.{Dot}
 use Rattle.rds_dots.specs.Dots.{dot_cmp}
 use Rattle.rds_dots.specs.Ascending.{ascends, is_above}

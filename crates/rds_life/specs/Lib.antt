@@ -1,10 +1,12 @@
-pub mod Added
 pub mod Clash
 pub mod Code
 pub mod Fits
+pub mod Forms
 pub mod Gathered
 pub mod Joined
 pub mod Killed
 pub mod Life
+pub mod Past
 pub mod Rank
 pub mod Removed
+pub mod Rests

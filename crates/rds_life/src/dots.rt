@@ -7,8 +7,9 @@ ghost use Rattle.rds_dots.specs.Dots.{is_dot, last_of, leads_to};
 ghost use Rattle.rds_life.specs.Gathered.{single};
 ghost use Rattle.rds_life.specs.Life.{keys};
 
+use crate::live_rows::LiveRows;
 use rds_dots::{Dot, DotSet, MAX_SEQ, Run};
-use rds_names::{Entry, Fault};
+use rds_names::Fault;
 use std::alloc::Global;
 
 /// Puts a dot into a set.
@@ -24,27 +25,32 @@ pub fn insert_dot<S: DotSet>(dots: &mut S, dot: Dot) -> Result<(), Fault>
 
 /// The dots of rows, as a set, into which dots that follow each other go as one run. Rows that ascend only ever insert
 /// at its end.
-pub fn dots_of<S: DotSet>(alloc: Global, rows: &[(Dot, Entry)]) -> Result<S, Fault>
-    requires { list_all is_dot (keys rows.now) ≡ true }
-    ensures ok { IfOk result (λ dots. S.contents dots ≡ set.from_list (keys rows.now)) }
+pub fn dots_of<S: DotSet>(alloc: Global, rows: LiveRows<'_>) -> Result<S, Fault>
+    requires { list_all is_dot (keys rows) ≡ true }
+    ensures ok { IfOk result (λ dots. S.contents dots ≡ set.from_list (keys rows.entry)) }
     ensures memory { IfErr result (λ fault. fault ≡ Memory) }
 {
     let mut dots = S::empty(alloc);
-    let (first, later) = match rows.split_first() {
-        Some(parts) => parts,
+    let mut rest = rows;
+    let mut run = match rest.next() {
+        Some((first, _)) => run_of(first),
         None => return Ok(dots),
     };
-    let mut run = run_of(first.0);
-    for row in later {
-        if goes_on(run, row.0) {
-            run.hi = row.0.seq;
+    'gathering: loop {
+        let dot = match rest.next() {
+            Some((dot, _)) => dot,
+            None => {
+                dots.insert_run(run)?;
+                return Ok(dots);
+            }
+        };
+        if goes_on(run, dot) {
+            run.hi = dot.seq;
         } else {
             dots.insert_run(run)?;
-            run = run_of(row.0);
+            run = run_of(dot);
         }
     }
-    dots.insert_run(run)?;
-    Ok(dots)
 }
 
 /// The run of one dot.

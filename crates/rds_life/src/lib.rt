@@ -1,19 +1,19 @@
 //! The life of each dot: unseen, live with an entry, or dead.
 #![tactic(auto)]
 
-mod adding;
 mod chosen;
 mod dots;
 mod found;
 mod joining;
+mod live_rows;
 mod lives;
 mod rank;
 mod row_map;
 mod rows;
+mod store;
 
-pub use adding::add_unseen;
 pub use chosen::Choice;
 pub use found::Found;
+pub use live_rows::LiveRows;
 pub use lives::Lives;
 pub use rank::Rank;
-pub use row_map::RowMap;

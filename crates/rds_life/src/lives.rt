@@ -2,35 +2,36 @@
 ghost use Rattle.std.specs.Prelude.{◌≡◌, true, None, IfOk, IfErr, IfSome, IsOk, count_by, OnOk, OnErr, MatchOption, length};
 ghost use Rattle.std.specs.FinMap as map;
 ghost use Rattle.std.specs.FinSet as set;
-ghost use Rattle.std.specs.Option.{option_copied};
-ghost use Rattle.std.specs.Slice.Iter.{iter_rest};
+ghost use Rattle.std.specs.Option.{option_copied, option_map};
 ghost use Rattle.rds_names.specs.declared.fault.Fault.TheVariants.{Memory};
 ghost use Rattle.rds_dots.specs.declared.dot.Dot.{Dot};
 ghost use Rattle.rds_dots.specs.Ascending.{ascends};
 ghost use Rattle.rds_dots.specs.Dots.{is_dot};
 ghost use Rattle.rds_life.specs.Killed.{killed_by, but_for, is_the};
 ghost use Rattle.rds_life.specs.Life.{Live, Dead, AreRows, keys, lived, seen_of, live_of, live_rows, entry_of, is_dead, Conflicts, IsJoin, IsLeastAbove, MergeGives};
+ghost use Rattle.rds_life.specs.Past.{first_row, rows_from};
 ghost use Rattle.rds_life.specs.Rank.{rank_of};
 
-use crate::chosen::{Choice, remove_chosen};
+use crate::chosen::Choice;
 use crate::dots::{dots_of, insert_dot};
 use crate::found::Found;
-use crate::joining::{clash, join_rows};
+use crate::live_rows::LiveRows;
 use crate::rank::Rank;
-use crate::rows::{are_rows, copy_rows, find_row, insert_row, remove_row};
+use crate::rows::are_rows;
+use crate::store::Rows;
 use rds_dots::{Dot, DotSet};
 use rds_names::{Entry, Fault};
 use std::alloc::Global;
 use std::marker::Model;
-use std::slice::Iter;
 
 /// The life of each dot, seen as a finite map from dots to lives; a dot that isn't in it is unseen.
 ///
 /// It keeps the set of seen dots and, in the order of the dots, the entries of those that are live:
-/// the dot store and causal context of Almeida, Shoker, Baquero 2018.
+/// the dot store and causal context of Almeida, Shoker, Baquero 2018. The entries stand in a list,
+/// or in a map once the lives are indexed.
 pub struct Lives<S: DotSet> {
     seen: S,
-    rows: Vec<(Dot, Entry)>,
+    rows: Rows,
 }
 
 impl<S: DotSet> Drop for Lives<S> {
@@ -50,9 +51,9 @@ impl<S: DotSet> Model for Lives<S> {
 
     ghost coded = { coded_lives };
 
-    ghost view = { λ l. lived (S.contents l.seen) l.rows.items };
+    ghost view = { λ l. lived (S.contents l.seen) l.rows };
 
-    ghost invariant = { λ l. AreRows (S.contents l.seen) l.rows.items };
+    ghost invariant = { λ l. AreRows (S.contents l.seen) l.rows };
 }
 
 impl<S: DotSet> Lives<S> {
@@ -62,7 +63,7 @@ impl<S: DotSet> Lives<S> {
     {
         Lives {
             seen: S::empty(alloc),
-            rows: Vec::new(alloc),
+            rows: Rows::listed(Vec::new(alloc)),
         }
     }
 
@@ -78,7 +79,10 @@ impl<S: DotSet> Lives<S> {
         if !are_rows(&seen, &rows) {
             return None;
         }
-        Some(Lives { seen, rows })
+        Some(Lives {
+            seen,
+            rows: Rows::listed(rows),
+        })
     }
 
     /// How far a dot has come.
@@ -88,7 +92,7 @@ impl<S: DotSet> Lives<S> {
         if !self.seen.contains(dot) {
             return Rank::Unseen;
         }
-        match find_row(&self.rows, dot) {
+        match self.rows.find(dot) {
             Some(_) => Rank::Live,
             None => Rank::Dead,
         }
@@ -98,7 +102,7 @@ impl<S: DotSet> Lives<S> {
     pub fn entry(&self, dot: Dot) -> Option<&Entry>
         ensures { option_copied result ≡ entry_of (map.get self.now dot) }
     {
-        find_row(&self.rows, dot)
+        self.rows.find(dot)
     }
 
     /// The dots that aren't unseen.
@@ -109,18 +113,26 @@ impl<S: DotSet> Lives<S> {
     }
 
     /// The live dots with their entries, in the order of the dots.
-    pub fn live(&self) -> Iter<'_, (Dot, Entry)>
-        ensures rows { iter_rest result ≡ live_rows self.now }
-        ensures ascending { ascends (keys (iter_rest result)) ≡ true }
+    pub fn live(&self) -> LiveRows<'_>
+        ensures rows { result ≡ live_rows self.now }
+        ensures ascending { ascends (keys result) ≡ true }
     {
         self.rows.iter()
+    }
+
+    /// The first live dot from the given one on, with its entry: a search, whose cost grows with
+    /// the logarithm of how many dots are live.
+    pub fn first_from(&self, dot: Dot) -> Option<(Dot, &Entry)>
+        ensures { option_map (λ row. (row.0, row.1.now)) result ≡ first_row (rows_from dot (live_rows self.now)) }
+    {
+        self.rows.first_from(dot)
     }
 
     /// How many dots are live.
     pub fn live_len(&self) -> usize
         ensures { result ≡ length (live_rows self.now) }
     {
-        self.rows.as_slice().len()
+        self.rows.len()
     }
 
     /// The dots that are live.
@@ -128,7 +140,7 @@ impl<S: DotSet> Lives<S> {
         ensures dots { IfOk result (λ live. S.contents live ≡ live_of self.now) }
         ensures memory { IfErr result (λ fault. fault ≡ Memory) }
     {
-        let live = dots_of(alloc, &self.rows)?;
+        let live = dots_of(alloc, self.rows.iter())?;
         Ok(live)
     }
 
@@ -142,19 +154,29 @@ impl<S: DotSet> Lives<S> {
         Ok(dead)
     }
 
-    /// Equal lives with memory of their own.
+    /// Equal lives with memory of their own, their live dots in a list.
     pub fn copy(&self, alloc: Global) -> Result<Lives<S>, Fault>
         ensures ok { IfOk result (λ lives. lives ≡ self.now) }
         ensures memory { IfErr result (λ fault. fault ≡ Memory) }
     {
         Ok(Lives {
             seen: self.seen.copy(alloc)?,
-            rows: copy_rows(alloc, &self.rows)?,
+            rows: self.rows.copy(alloc)?,
         })
     }
 }
 
 impl<S: DotSet> Lives<S> {
+    /// Puts the live dots into a map, with copies of their entries. From then on, to make a dot
+    /// live or dead costs a search, where a list has to move all that come after the dot.
+    pub fn index(&mut self) -> Result<(), Fault>
+        ensures same { self.new ≡ self.old }
+        ensures memory { IfErr result (λ fault. fault ≡ Memory) }
+    {
+        self.rows.index()?;
+        Ok(())
+    }
+
     /// Makes an unseen dot live.
     pub fn put_live(&mut self, dot: Dot, entry: Entry) -> Result<(), Fault>
         requires dot { is_dot dot ≡ true }
@@ -163,9 +185,9 @@ impl<S: DotSet> Lives<S> {
         ensures err { OnErr result (self.new ≡ self.old) }
         ensures memory { IfErr result (λ fault. fault ≡ Memory) }
     {
-        insert_row(&mut self.rows, dot, entry)?;
+        self.rows.insert(dot, entry)?;
         if let Err(fault) = insert_dot(&mut self.seen, dot) {
-            remove_row(&mut self.rows, dot);
+            self.rows.remove(dot);
             return Err(fault);
         }
         Ok(())
@@ -181,7 +203,7 @@ impl<S: DotSet> Lives<S> {
         ensures seen { map.contains_key self.old dot ≡ true → IsOk result }
     {
         if self.seen.contains(dot) {
-            remove_row(&mut self.rows, dot);
+            self.rows.remove(dot);
             return Ok(());
         }
         insert_dot(&mut self.seen, dot)?;
@@ -194,14 +216,14 @@ impl<S: DotSet> Lives<S> {
         ensures lives { (d : Dot) → map.get self.new d ≡ killed_by (C.chosen choice.now) d (map.get self.old d) }
         ensures killed { result ≡ count_by (λ r. C.chosen choice.now r.0 r.1) (live_rows self.old) }
     {
-        remove_chosen(&mut self.rows, choice)
+        self.rows.remove_chosen(choice)
     }
 
     /// Makes a dot dead if it is live. Takes no memory.
     pub fn kill_live(&mut self, dot: Dot)
         ensures { (d : Dot) → map.get self.new d ≡ killed_by (is_the dot) d (map.get self.old d) }
     {
-        remove_row(&mut self.rows, dot);
+        self.rows.remove(dot);
     }
 
     /// Makes the live dots dead that were found, but the one that is to stay, and says how many there
@@ -220,17 +242,18 @@ impl<S: DotSet> Lives<S> {
     pub fn conflict(&self, other: &Lives<S>) -> Option<Dot>
         ensures { Conflicts self.now other.now result }
     {
-        clash(&self.rows, &other.rows)
+        self.rows.clash(&other.rows)
     }
 
-    /// Joins the other's lives into these, as `joined` says, and refuses as it does.
+    /// Joins the other's lives into these, as `joined` says, and refuses as it does. The live dots
+    /// then stand in a list.
     pub fn merge(&mut self, other: &Lives<S>) -> Result<(), Fault>
         ensures ok { OnOk result (IsJoin self.old other.now self.new) }
         ensures least { OnOk result (IsLeastAbove self.old other.now self.new) }
         ensures gives { MergeGives self.old other.now result }
         ensures err { OnErr result (self.new ≡ self.old) }
     {
-        *self = self.joined(*self.rows.allocator(), other)?;
+        *self = self.joined(self.rows.alloc(), other)?;
         Ok(())
     }
 
@@ -249,7 +272,9 @@ impl<S: DotSet> Lives<S> {
             });
         }
         let seen = self.seen.union(alloc, &other.seen)?;
-        let rows = join_rows(alloc, &self.seen, &self.rows, &other.seen, &other.rows)?;
+        let rows = self
+            .rows
+            .joined(alloc, &self.seen, &other.seen, &other.rows)?;
         Ok(Lives { seen, rows })
     }
 }

@@ -1,18 +1,23 @@
 //! The entries of live dots in a map, where a row is put and taken out at no cost of the others.
-ghost use Rattle.std.specs.Prelude.{◌≡◌, ◌++◌, ◌∷◌, [], true, length, IfOk, IfErr, OnOk, OnErr};
+ghost use Rattle.std.specs.Prelude.{◌≡◌, ◌++◌, ◌∷◌, [], true, not, length, count_by, IfOk, IfErr, OnOk, OnErr};
+ghost use Rattle.std.specs.List.{filter};
 ghost use Rattle.std.specs.FinMap as map;
-ghost use Rattle.std.specs.Option.{option_copied};
+ghost use Rattle.std.specs.Option.{option_copied, option_map};
 ghost use Rattle.rds_names.specs.declared.fault.Fault.TheVariants.{Memory};
 ghost use Rattle.rds_dots.specs.Ascending.{ascends};
 ghost use Rattle.rds_dots.specs.Dots.{dot_cmp};
 ghost use Rattle.rds_life.specs.Life.{keys};
+ghost use Rattle.rds_life.specs.Past.{first_row, rows_from, rows_past};
 ghost use Rattle.rds_life.specs.Removed.{without};
 
+use crate::chosen::Choice;
 use rds_dots::Dot;
 use rds_names::{Entry, Fault};
 use std::alloc::Global;
 use std::collections::BTreeMap;
+use std::collections::btree_map::Range;
 use std::marker::Model;
+use std::ops::Bound;
 
 /// The entries of live dots by dot, seen as the ascending list of both.
 #[derive(Drop)]
@@ -38,6 +43,62 @@ impl RowMap {
         RowMap {
             rows: BTreeMap::new(alloc),
         }
+    }
+
+    /// Copies of the rows of a list.
+    pub fn of(alloc: Global, rows: &[(Dot, Entry)]) -> Result<RowMap, Fault>
+        requires { ascends (keys rows.now) ≡ true }
+        ensures ok { IfOk result (λ map. map ≡ rows.now) }
+        ensures memory { IfErr result (λ fault. fault ≡ Memory) }
+    {
+        let mut map = RowMap::new(alloc);
+        let mut rest = rows;
+        'adding: loop {
+            let (row, later) = match rest.split_first() {
+                Some(parts) => parts,
+                None => return Ok(map),
+            };
+            map.insert(row.0, row.1.copy(alloc)?)?;
+            rest = later;
+        }
+    }
+
+    /// Takes out the rows that are chosen, in place, and says how many there were.
+    pub fn remove_chosen<C: Choice>(&mut self, choice: &C) -> u64
+        ensures kept { self.new ≡ filter (λ r. not (C.chosen choice.now r.0 r.1)) self.old }
+        ensures count { result ≡ count_by (λ r. C.chosen choice.now r.0 r.1) self.old }
+    {
+        let before = self.rows.len();
+        self.rows.retain(|dot, entry| !choice.chooses(*dot, entry));
+        (before - self.rows.len()) as u64
+    }
+
+    /// The rows, in order.
+    pub fn iter(&self) -> MappedRows<'_>
+        ensures rows { result ≡ self.now }
+        ensures rise { ascends (keys self.now) ≡ true }
+    {
+        let _in_order = self.rows.len();
+        MappedRows {
+            map: self,
+            after: None,
+            left: self.rows.range(..),
+        }
+    }
+
+    /// The rows past a dot.
+    fn past(&self, dot: Dot) -> Range<'_, Dot, Entry>
+        ensures { result ≡ rows_past dot self.now }
+    {
+        self.rows.range((Bound::Excluded(dot), Bound::Unbounded))
+    }
+
+    /// The first row from a dot on.
+    pub fn first_from(&self, dot: Dot) -> Option<(Dot, &Entry)>
+        ensures { option_map (λ row. (row.0, row.1.now)) result ≡ first_row (rows_from dot self.now) }
+    {
+        let (first, entry) = self.rows.range(dot..).next()?;
+        Some((*first, entry))
     }
 
     /// How many rows there are.
@@ -98,4 +159,60 @@ fn push_copy(
 {
     list.push((dot, entry.copy(alloc)?))?;
     Ok(())
+}
+
+/// The rows of a map that are still to come, in the order of the dots.
+#[derive(Drop)]
+pub struct MappedRows<'a> {
+    map: &'a RowMap,
+    after: Option<Dot>,
+    left: Range<'a, Dot, Entry>,
+}
+
+impl<'a> Model for MappedRows<'a> {
+    ghost use Rattle.std.specs.Prelude.{◌≡◌, true, List};
+    ghost use Rattle.rds_names.specs.declared.entry.Entry.{Entry};
+    ghost use Rattle.rds_dots.specs.declared.dot.Dot.{Dot};
+    ghost use Rattle.rds_dots.specs.Ascending.{ascends};
+    ghost use Rattle.rds_life.specs.Life.{keys};
+    ghost use Rattle.rds_life.specs.Past.{rows_behind};
+
+    ghost Value = { List (Dot × Entry) };
+
+    ghost view = { λ r. r.left };
+
+    ghost invariant = { λ r. (r.left ≡ rows_behind r.after r.map.now) × (ascends (keys r.map.now) ≡ true) };
+}
+
+impl<'a> MappedRows<'a> {
+    /// Leaves out the rows up to the given dot and of the dot itself.
+    pub fn skip_past(&mut self, dot: Dot)
+        ensures { self.new ≡ rows_past dot self.old }
+    {
+        let after = self.after;
+        if let Some(last) = after
+            && dot <= last
+        {
+            return;
+        }
+        self.left = self.map.past(dot);
+        self.after = Some(dot);
+    }
+}
+
+impl<'a> Iterator for MappedRows<'a> {
+    type Item = (Dot, &'a Entry);
+
+    ghost use Rattle.std.specs.Iterator.{YieldsFirstBy, item_count};
+
+    ghost next_gives = { YieldsFirstBy (λ item. (item.0, item.1.now)) (λ rest. rest) };
+
+    ghost remaining = { item_count (λ rest. rest) };
+
+    fn next(&mut self) -> Option<(Dot, &'a Entry)> {
+        let (dot, entry) = self.left.next()?;
+        let dot = *dot;
+        self.after = Some(dot);
+        Some((dot, entry))
+    }
 }

@@ -1,12 +1,13 @@
 //! The entries of live dots, in the order of the dots.
 ghost use Rattle.std.specs.Prelude.{◌≡◌, ◌↔◌, ◌++◌, ◌∷◌, [], true, IsTrue, IfOk, IfErr, OnOk, OnErr, None};
 ghost use Rattle.std.specs.FinMap as map;
-ghost use Rattle.std.specs.Option.{option_copied};
+ghost use Rattle.std.specs.Option.{option_copied, option_map};
 ghost use Rattle.rds_names.specs.declared.fault.Fault.TheVariants.{Memory};
 ghost use Rattle.rds_dots.specs.Ascending.{ascends};
 ghost use Rattle.rds_dots.specs.Dots.{dot_cmp};
 ghost use Rattle.rds_life.specs.Fits.{before_next};
 ghost use Rattle.rds_life.specs.Life.{AreRows, keys};
+ghost use Rattle.rds_life.specs.Past.{first_row, rows_from, rows_past};
 ghost use Rattle.rds_life.specs.Removed.{without};
 
 use rds_dots::{Dot, DotSet};
@@ -64,6 +65,29 @@ pub fn find_row(rows: &[(Dot, Entry)], dot: Dot) -> Option<&Entry>
     match rows.binary_search_by_key(&dot, |row| row.0) {
         Ok(at) => Some(&rows[at].1),
         Err(_) => None,
+    }
+}
+
+/// The rows past a dot.
+pub fn past(rows: &[(Dot, Entry)], dot: Dot) -> &[(Dot, Entry)]
+    requires { ascends (keys rows.now) ≡ true }
+    ensures { result.now ≡ rows_past dot rows.now }
+{
+    rows.split_at(rows.partition_point(|row| row.0 <= dot)).1
+}
+
+/// The first row from a dot on.
+pub fn first_from(rows: &[(Dot, Entry)], dot: Dot) -> Option<(Dot, &Entry)>
+    requires { ascends (keys rows.now) ≡ true }
+    ensures { option_map (λ row. (row.0, row.1.now)) result ≡ first_row (rows_from dot rows.now) }
+{
+    match rows
+        .split_at(rows.partition_point(|row| row.0 < dot))
+        .1
+        .split_first()
+    {
+        Some((row, _)) => Some((row.0, &row.1)),
+        None => None,
     }
 }
 

@@ -188,7 +188,7 @@ fn element(alloc: Global, value: &str) -> Result<Entry, Fault> {
 fn live<S: DotSet>(alloc: Global, lives: &Lives<S>) -> Result<String, Fault> {
     let mut line = String::new(alloc);
     for (dot, entry) in lives.live() {
-        push(&mut line, row(alloc, *dot, entry)?.as_str())?;
+        push(&mut line, row(alloc, dot, entry)?.as_str())?;
     }
     if line.is_empty() {
         return said(alloc, "none live");

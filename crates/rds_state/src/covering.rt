@@ -1,11 +1,13 @@
 //! What a command covers.
 ghost use Rattle.std.specs.Prelude.{◌≡◌, IfOk, IfErr};
 ghost use Rattle.rds_names.specs.declared.fault.Fault.TheVariants.{Memory};
+ghost use Rattle.rds_life.specs.Life.{live_rows};
 ghost use Rattle.rds_state.specs.CoveredDots.{covered_dots};
 ghost use Rattle.rds_state.specs.Edit.{covers, is_element};
 
 use crate::command::Command;
-use rds_dots::Dot;
+use rds_dots::{Dot, DotSet};
+use rds_life::Lives;
 use rds_names::{Entry, Fault, Kind, Path, Scalar};
 use std::alloc::Global;
 
@@ -30,25 +32,24 @@ fn is_element_of(entry: &Entry, path: &Path, value: &Scalar) -> bool
     entry.kind() == Kind::Elem && entry.path() == path && entry.value().same(value)
 }
 
-/// The dots of the rows that a command covers.
-pub fn covered_in(
+/// The live dots that a command covers.
+pub fn covered_in<S: DotSet>(
     alloc: Global,
-    rows: &[(Dot, Entry)],
+    lives: &Lives<S>,
     command: &Command,
 ) -> Result<Vec<Dot>, Fault>
-    ensures ok { IfOk result (λ dots. dots.items ≡ covered_dots command.now rows.now) }
+    ensures ok { IfOk result (λ dots. dots.items ≡ covered_dots command.now (live_rows lives.now)) }
     ensures memory { IfErr result (λ fault. fault ≡ Memory) }
 {
     let mut dots = Vec::new(alloc);
-    let mut rest = rows;
+    let mut rest = lives.live();
     'looking: loop {
-        let (row, later) = match rest.split_first() {
-            Some(parts) => parts,
+        let (dot, entry) = match rest.next() {
+            Some(row) => row,
             None => return Ok(dots),
         };
-        if covers_entry(command, &row.1) {
-            dots.push(row.0)?;
+        if covers_entry(command, entry) {
+            dots.push(dot)?;
         }
-        rest = later;
     }
 }

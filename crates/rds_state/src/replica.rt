@@ -192,7 +192,7 @@ impl<S: DotSet> Replica<S> {
         ensures ok { IfOk result (λ dots. dots.items ≡ covered_dots command.now (live_rows self.now.state.lives)) }
         ensures memory { IfErr result (λ fault. fault ≡ Memory) }
     {
-        let dots = covered_in(alloc, self.state.lives().live().as_slice(), command)?;
+        let dots = covered_in(alloc, self.state.lives(), command)?;
         Ok(dots)
     }
 

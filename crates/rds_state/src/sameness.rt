@@ -1,31 +1,27 @@
 //! Lives that are equal.
 ghost use Rattle.std.specs.Prelude.{◌≡◌, ◌↔◌, IsTrue};
 
-use rds_dots::{Dot, DotSet, same};
-use rds_life::Lives;
-use rds_names::Entry;
+use rds_dots::{DotSet, same};
+use rds_life::{LiveRows, Lives};
 
 /// Whether each dot has the same life in both.
 pub fn are_same_lives<S: DotSet>(left: &Lives<S>, right: &Lives<S>) -> bool
     ensures { IsTrue result ↔ (left.now ≡ right.now) }
 {
-    same(left.seen(), right.seen())
-        && are_same_rows(left.live().as_slice(), right.live().as_slice())
+    same(left.seen(), right.seen()) && are_same_rows(left.live(), right.live())
 }
 
-/// Whether two lists have the same dots with the same entries.
-fn are_same_rows(mut left: &[(Dot, Entry)], mut right: &[(Dot, Entry)]) -> bool
-    ensures { IsTrue result ↔ (left.entry.now ≡ right.entry.now) }
+/// Whether the live dots are the same, with the same entries.
+fn are_same_rows(mut left: LiveRows<'_>, mut right: LiveRows<'_>) -> bool
+    ensures { IsTrue result ↔ (left.entry ≡ right.entry) }
 {
     'comparing: loop {
-        match (left.split_first(), right.split_first()) {
+        match (left.next(), right.next()) {
             (None, None) => return true,
-            (Some((x, xs)), Some((y, ys))) => {
-                if x.0 != y.0 || !x.1.same(&y.1) {
+            (Some((dot, entry)), Some((other, others))) => {
+                if dot != other || !entry.same(others) {
                     return false;
                 }
-                left = xs;
-                right = ys;
             }
             _ => return false,
         }

@@ -117,7 +117,7 @@ fn list_live<S: DotSet>(
     lives: &Lives<S>,
 ) -> Result<(), Fault> {
     for (dot, entry) in lives.live() {
-        listing.push(live_text(alloc, *dot, entry)?.as_str())?;
+        listing.push(live_text(alloc, dot, entry)?.as_str())?;
     }
     Ok(())
 }

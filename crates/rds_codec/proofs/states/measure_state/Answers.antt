@@ -19,7 +19,7 @@ returns-clause-length g c =
     let v = c.args.state.now in
     let lives = c.lives-lives.ensures in
     let seen : g.S.DotSet.contents c.seen.result.now ≡ seen_of v.lives = c.seen.ensures ∙ ap seen_of lives in
-    let live : c.as_slice.result.now ≡ live_rows v.lives = c.as_slice.ensures.value ∙ c.live.ensures.rows ∙ ap live_rows lives in
+    let live : live_rows c.lives-lives.result.now ≡ live_rows v.lives = ap live_rows lives in
     state_length v c.measure_dots-rows.result.1 c.live_rows_length-live_length.result c.counters_length.result
     (c.measure_dots-rows.ensures.length ∙ ap (λ (s : Dots). length (dots_text s)) seen)
     (c.live_rows_length-live_length.ensures.length ∙ ap (λ (rows : List (Dot × Entry)). length (flat_map live_row_text rows)) live)
@@ -37,7 +37,7 @@ returns-clause-value g c =
     let v = c.args.state.now in
     let lives = c.lives-lives.ensures in
     let seen : g.S.DotSet.contents c.seen.result.now ≡ seen_of v.lives = c.seen.ensures ∙ ap seen_of lives in
-    let live : c.as_slice.result.now ≡ live_rows v.lives = c.as_slice.ensures.value ∙ c.live.ensures.rows ∙ ap live_rows lives in
+    let live : live_rows c.lives-lives.result.now ≡ live_rows v.lives = ap live_rows lives in
     is_state_of v
     (λ d h. g.met.S.DotSet.within c.seen.result.now d (ap (λ (s : Dots). set.contains s d) seen ∙ h))
     (subst (AllByRecursion IsLiveRow) live c.live_rows_length-live_length.ensures.are_entries)

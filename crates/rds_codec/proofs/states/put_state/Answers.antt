@@ -21,7 +21,7 @@ put_dots-requires-clause-few g c =
 pub put_live_rows-requires : goal.put_live_rows-requires
 put_live_rows-requires g c =
     let v = c.args.state.now in
-    let live : c.as_slice.result.now ≡ live_rows v.lives = c.as_slice.ensures.value ∙ c.live.ensures.rows ∙ ap live_rows c.lives-lives.ensures in
+    let live : live_rows c.lives-lives.result.now ≡ live_rows v.lives = ap live_rows c.lives-lives.ensures in
     subst (λ (rows : List (Dot × Entry)). length rows < 2 ^ 32) (sym live) (state_within v c.requires.within).rows
 
 pub put_counters-requires : goal.put_counters-requires
@@ -33,7 +33,7 @@ pub returns : goal.returns
 returns g c =
     let v = c.args.state.now in
     let seen : g.S.DotSet.contents c.seen.result.now ≡ seen_of v.lives = c.seen.ensures ∙ ap seen_of c.lives-lives.ensures in
-    let live : c.as_slice.result.now ≡ live_rows v.lives = c.as_slice.ensures.value ∙ c.live.ensures.rows ∙ ap live_rows c.lives-lives.ensures in
+    let live : live_rows c.lives-lives.result.now ≡ live_rows v.lives = ap live_rows c.lives-lives.ensures in
     let a = c.args.out.now.items in
     let b = c.put_dots.new.out.items in
     let p = c.put_live_rows.new.out.items in

@@ -8,8 +8,8 @@ returns-then-same g c =
     let a = c.args.left.now in
     let b = c.args.right.now in
     let seen = sym c.seen.ensures ∙ c.if-same.ensures.0 refl ∙ c.seen-2.ensures in
-    let left = c.as_slice.ensures.value ∙ c.live.ensures.rows in
-    let right = c.as_slice-then-same.ensures.value ∙ c.live-then-same.ensures.rows in (
+    let left = c.live.ensures.rows in
+    let right = c.live-then-same.ensures.rows in (
       λ t. (let rows = sym left ∙ c.are_same_rows.ensures.0 t ∙ right in sym (lived_of_parts a) ∙ ap (λ s. lived s (live_rows a)) seen ∙ ap (lived (seen_of b)) rows ∙ lived_of_parts b),
       λ e. c.are_same_rows.ensures.1 (left ∙ ap live_rows e ∙ sym right),
     )

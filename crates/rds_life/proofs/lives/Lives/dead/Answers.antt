@@ -9,6 +9,6 @@ pub returns-clause-dots : goal.returns-clause-dots
 returns-clause-dots g c =
     let contents = g.S.DotSet.contents in
     let s = contents c.self.inside.seen in
-    let rows = c.self.inside.rows.items in
+    let rows = c.self.inside.rows in
     dead_is s (contents c.in_ok-live.live) (contents c.in_ok-dead.dead) rows c.args.self.now c.self.view_is
     (c.in_ok-live.ensures.dots ∙ ap live_of (sym c.self.view_is) ∙ ap (λ r. set.from_list (keys r)) (live_rows-lived s rows c.self.invariant)) c.in_ok-dead.ensures.ok

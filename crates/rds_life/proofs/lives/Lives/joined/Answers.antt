@@ -1,7 +1,6 @@
-use Rattle.std.proofs.Common.{◌≡◌, ◌∙◌, ap, rules}
+use Rattle.std.proofs.Common.{◌∙◌, ap, rules}
 use Rattle.std.specs.FinMap as map
 use Rattle.std.specs.FinSet as set
-use Rattle.rds_life.specs.Joined.{joined}
 use Rattle.rds_life.specs.Life.{lived, join_life}
 use Rattle.rds_life.proofs.Bounds.{least_above}
 use Rattle.rds_life.proofs.LivedLemmas.{get-joined, rows-joined}
@@ -12,21 +11,20 @@ invariant_of-result g c =
     let contents = g.S.DotSet.contents in
     let s = contents c.self.inside.seen in
     let t = contents c.other.inside.seen in
-    rw (c.in_ok-seen.ensures.ok, c.in_ok-rows.ensures.ok, c.deref.ensures.value, c.deref-2.ensures.value)
-    (rows-joined s t c.self.inside.rows.items c.other.inside.rows.items c.self.invariant c.other.invariant)
+    rw (c.in_ok-seen.ensures.ok, c.in_ok-rows.ensures.ok)
+    (rows-joined s t c.self.inside.rows c.other.inside.rows c.self.invariant c.other.invariant)
 
 pub returns-clause-ok : goal.returns-clause-ok
 returns-clause-ok g c =
     let contents = g.S.DotSet.contents in
     let s = contents c.self.inside.seen in
     let t = contents c.other.inside.seen in
-    let a = c.self.inside.rows.items in
-    let b = c.other.inside.rows.items in
-    let rows : c.in_ok-rows.rows.items ≡ joined (set.contains s) (set.contains t) a b = cc (c.in_ok-rows.ensures.ok, c.deref.ensures.value, c.deref-2.ensures.value) in
+    let a = c.self.inside.rows in
+    let b = c.other.inside.rows in
     record {
       each_dot = λ d.
-          ap (λ u. map.get (lived u c.in_ok-rows.rows.items) d) c.in_ok-seen.ensures.ok
-          ∙ ap (λ r. map.get (lived (set.union s t) r) d) rows
+          ap (λ u. map.get (lived u c.in_ok-rows.rows) d) c.in_ok-seen.ensures.ok
+          ∙ ap (λ r. map.get (lived (set.union s t) r) d) c.in_ok-rows.ensures.ok
           ∙ get-joined s t a b c.self.invariant c.other.invariant d
           ∙ ap (λ l. join_life (map.get l d) (map.get (lived t b) d)) c.self.view_is
           ∙ ap (λ l. join_life (map.get c.args.self.now d) (map.get l d)) c.other.view_is;

@@ -8,24 +8,24 @@ use Rattle.rds_life.proofs.lives.Lives.kill.Goals as goal
 
 pub invariant_of-self : goal.invariant_of-self
 invariant_of-self g c =
-    rw c.remove_row.ensures (rows-without (g.S.DotSet.contents c.self.inside.seen) c.self.inside.rows.items c.args.dot c.self.invariant)
+    rw c.remove.ensures (rows-without (g.S.DotSet.contents c.self.inside.seen) c.self.inside.rows c.args.dot c.self.invariant)
 
 pub returns-then-contains-clause-ok : goal.returns-then-contains-clause-ok
 returns-then-contains-clause-ok g c =
     let s = g.S.DotSet.contents c.self.inside.seen in
-    ap (lived s) c.remove_row.ensures
-    ∙ lived-without s c.self.inside.rows.items c.args.dot c.self.invariant (sym c.if-contains.ensures)
+    ap (lived s) c.remove.ensures
+    ∙ lived-without s c.self.inside.rows c.args.dot c.self.invariant (sym c.if-contains.ensures)
     ∙ ap (λ v. map.insert v c.args.dot Dead) c.self.view_is
 
 pub invariant_of-self-2 : goal.invariant_of-self-2
 invariant_of-self-2 g c =
-    rw c.in_ok-insert_dot.ensures.ok (rows-insert (g.S.DotSet.contents c.self.inside.seen) c.self.inside.rows.items c.args.dot c.self.invariant)
+    rw c.in_ok-insert_dot.ensures.ok (rows-insert (g.S.DotSet.contents c.self.inside.seen) c.self.inside.rows c.args.dot c.self.invariant)
 
 pub returns-clause-ok : goal.returns-clause-ok
 returns-clause-ok g c =
     let s = g.S.DotSet.contents c.self.inside.seen in
     rw c.in_ok-insert_dot.ensures.ok
-    (lived-insert s c.self.inside.rows.items c.args.dot c.self.invariant (sym c.if-contains.ensures)
+    (lived-insert s c.self.inside.rows c.args.dot c.self.invariant (sym c.if-contains.ensures)
     ∙ ap (λ v. map.insert v c.args.dot Dead) c.self.view_is)
 
 pub returns-clause-seen : goal.returns-clause-seen
@@ -33,4 +33,4 @@ returns-clause-seen g c = λ _. refl
 
 pub returns-in_err-insert_dot-clause-seen : goal.returns-in_err-insert_dot-clause-seen
 returns-in_err-insert_dot-clause-seen g c = λ seen.
-    absurd (false≢true (c.if-contains.ensures ∙ seen_is (g.S.DotSet.contents c.self.inside.seen) c.self.inside.rows.items c.args.self.now c.self.view_is c.args.dot ∙ seen))
+    absurd (false≢true (c.if-contains.ensures ∙ seen_is (g.S.DotSet.contents c.self.inside.seen) c.self.inside.rows c.args.self.now c.self.view_is c.args.dot ∙ seen))

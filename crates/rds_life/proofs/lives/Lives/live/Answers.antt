@@ -5,5 +5,5 @@ use Rattle.rds_life.proofs.lives.Lives.live.Goals as goal
 
 pub returns-clause-rows : goal.returns-clause-rows
 returns-clause-rows g c =
-    c.iter.ensures.rest ∙ c.deref.ensures.value
-    ∙ sym (live_rows-lived (g.S.DotSet.contents c.self.inside.seen) c.self.inside.rows.items c.self.invariant) ∙ ap live_rows c.self.view_is
+    c.iter.ensures.rows
+    ∙ sym (live_rows-lived (g.S.DotSet.contents c.self.inside.seen) c.self.inside.rows c.self.invariant) ∙ ap live_rows c.self.view_is

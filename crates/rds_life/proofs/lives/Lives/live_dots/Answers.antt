@@ -1,5 +1,6 @@
 use Rattle.std.proofs.Common.{◌∙◌, sym, ap}
 use Rattle.std.specs.FinSet as set
+use Rattle.std.specs.List.{list_all}
 use Rattle.rds_dots.specs.Dots.{is_dot}
 use Rattle.rds_life.specs.Life.{keys, live_of}
 use Rattle.rds_life.proofs.Deaths.{all_rows}
@@ -8,9 +9,10 @@ use Rattle.rds_life.proofs.lives.Lives.live_dots.Goals as goal
 
 pub dots_of-requires : goal.dots_of-requires
 dots_of-requires g c =
-    rw c.deref.ensures.value (all_rows (g.S.DotSet.contents c.self.inside.seen) is_dot (g.met.S.DotSet.within c.self.inside.seen) c.self.inside.rows.items c.self.invariant.seen_all)
+    ap (λ rows. list_all is_dot (keys rows)) c.iter.ensures.rows
+    ∙ all_rows (g.S.DotSet.contents c.self.inside.seen) is_dot (g.met.S.DotSet.within c.self.inside.seen) c.self.inside.rows c.self.invariant.seen_all
 
 pub returns-clause-dots : goal.returns-clause-dots
 returns-clause-dots g c =
-    c.in_ok-live.ensures.ok ∙ ap (λ r. set.from_list (keys r)) (c.deref.ensures.value ∙ sym (live_rows-lived (g.S.DotSet.contents c.self.inside.seen) c.self.inside.rows.items c.self.invariant))
+    c.in_ok-live.ensures.ok ∙ ap (λ r. set.from_list (keys r)) (c.iter.ensures.rows ∙ sym (live_rows-lived (g.S.DotSet.contents c.self.inside.seen) c.self.inside.rows c.self.invariant))
     ∙ ap live_of c.self.view_is

@@ -5,5 +5,5 @@ use Rattle.rds_life.proofs.lives.Lives.live_len.Goals as goal
 
 pub returns : goal.returns
 returns g c =
-    ap length c.as_slice.ensures.value
-    ∙ ap length (sym (live_rows-lived (g.S.DotSet.contents c.self.inside.seen) c.self.inside.rows.items c.self.invariant) ∙ ap live_rows c.self.view_is)
+    c.len.ensures
+    ∙ ap length (sym (live_rows-lived (g.S.DotSet.contents c.self.inside.seen) c.self.inside.rows c.self.invariant) ∙ ap live_rows c.self.view_is)

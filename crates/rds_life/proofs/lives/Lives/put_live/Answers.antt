@@ -6,29 +6,29 @@ use Rattle.rds_life.proofs.Puts.{rise-put, without-put}
 use Rattle.rds_life.proofs.Changes.{lived-put, rows-put}
 use Rattle.rds_life.proofs.lives.Lives.put_live.Goals as goal
 
-pub insert_row-requires-clause-absent : goal.insert_row-requires-clause-absent
-insert_row-requires-clause-absent g c =
-    no_row (g.S.DotSet.contents c.self.inside.seen) c.self.inside.rows.items c.self.invariant c.args.self.now c.self.view_is c.args.dot c.requires.unseen
+pub insert-requires-clause-absent : goal.insert-requires-clause-absent
+insert-requires-clause-absent g c =
+    no_row (g.S.DotSet.contents c.self.inside.seen) c.self.inside.rows c.self.invariant c.args.self.now c.self.view_is c.args.dot c.requires.unseen
 
-pub remove_row-requires : goal.remove_row-requires
-remove_row-requires g c = rw c.in_ok-insert_row.ensures.ok (rise-put c.args.dot c.args.entry c.self.inside.rows.items c.self.invariant.rise)
+pub remove-requires : goal.remove-requires
+remove-requires g c = rw c.in_ok-insert.ensures.ok (rise-put c.args.dot c.args.entry c.self.inside.rows c.self.invariant.rise)
 
 pub invariant_of-self-in-Err : goal.invariant_of-self-in-Err
 invariant_of-self-in-Err g c =
-    let none = no_row (g.S.DotSet.contents c.self.inside.seen) c.self.inside.rows.items c.self.invariant c.args.self.now c.self.view_is c.args.dot c.requires.unseen in
-    rw (c.in-Err.ensures.err, c.remove_row.ensures, c.in_ok-insert_row.ensures.ok, without-put c.args.dot c.args.entry c.self.inside.rows.items c.self.invariant.rise none) c.self.invariant
+    let none = no_row (g.S.DotSet.contents c.self.inside.seen) c.self.inside.rows c.self.invariant c.args.self.now c.self.view_is c.args.dot c.requires.unseen in
+    rw (c.in-Err.ensures.err, c.remove.ensures, c.in_ok-insert.ensures.ok, without-put c.args.dot c.args.entry c.self.inside.rows c.self.invariant.rise none) c.self.invariant
 
 pub returns-in-Err-clause-err : goal.returns-in-Err-clause-err
 returns-in-Err-clause-err g c =
-    let none = no_row (g.S.DotSet.contents c.self.inside.seen) c.self.inside.rows.items c.self.invariant c.args.self.now c.self.view_is c.args.dot c.requires.unseen in
-    rw (c.in-Err.ensures.err, c.remove_row.ensures, c.in_ok-insert_row.ensures.ok, without-put c.args.dot c.args.entry c.self.inside.rows.items c.self.invariant.rise none) c.self.view_is
+    let none = no_row (g.S.DotSet.contents c.self.inside.seen) c.self.inside.rows c.self.invariant c.args.self.now c.self.view_is c.args.dot c.requires.unseen in
+    rw (c.in-Err.ensures.err, c.remove.ensures, c.in_ok-insert.ensures.ok, without-put c.args.dot c.args.entry c.self.inside.rows c.self.invariant.rise none) c.self.view_is
 
 pub invariant_of-self-in_default : goal.invariant_of-self-in_default
 invariant_of-self-in_default g c =
-    rw (c.in_default.ensures.ok, c.in_ok-insert_row.ensures.ok)
-    (rows-put (g.S.DotSet.contents c.self.inside.seen) c.self.inside.rows.items c.args.dot c.self.invariant c.args.entry)
+    rw (c.in_default.ensures.ok, c.in_ok-insert.ensures.ok)
+    (rows-put (g.S.DotSet.contents c.self.inside.seen) c.self.inside.rows c.args.dot c.self.invariant c.args.entry)
 
 pub returns-clause-ok : goal.returns-clause-ok
 returns-clause-ok g c =
-    rw (c.in_default.ensures.ok, c.in_ok-insert_row.ensures.ok)
-    (lived-put (g.S.DotSet.contents c.self.inside.seen) c.self.inside.rows.items c.args.dot c.self.invariant c.args.entry ∙ ap (λ v. map.insert v c.args.dot (Live c.args.entry)) c.self.view_is)
+    rw (c.in_default.ensures.ok, c.in_ok-insert.ensures.ok)
+    (lived-put (g.S.DotSet.contents c.self.inside.seen) c.self.inside.rows c.args.dot c.self.invariant c.args.entry ∙ ap (λ v. map.insert v c.args.dot (Live c.args.entry)) c.self.view_is)

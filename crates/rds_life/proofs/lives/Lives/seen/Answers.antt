@@ -4,4 +4,4 @@ use Rattle.rds_life.proofs.Views.{seen_of-lived}
 use Rattle.rds_life.proofs.lives.Lives.seen.Goals as goal
 
 pub returns : goal.returns
-returns g c = sym (seen_of-lived (g.S.DotSet.contents c.self.inside.seen) c.self.inside.rows.items) ∙ ap seen_of c.self.view_is
+returns g c = sym (seen_of-lived (g.S.DotSet.contents c.self.inside.seen) c.self.inside.rows) ∙ ap seen_of c.self.view_is
