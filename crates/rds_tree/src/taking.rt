@@ -14,7 +14,7 @@ use crate::document::add;
 use crate::node::Node;
 use crate::pick::OneDot;
 use rds_dots::{Dot, DotSet};
-use rds_life::{Lives, Rank};
+use rds_life::{LiveRows, Lives, Rank};
 use rds_names::{Entry, Fault};
 use rds_state::{Replica, State};
 use std::alloc::Global;
@@ -43,8 +43,8 @@ pub fn take<S: DotSet>(
     replica.may_take(delta)?;
     let here = replica.state().lives();
     let there = delta.lives();
-    let dying = rows_ranked(alloc, here.live().as_slice(), there, Rank::Dead)?;
-    let coming = rows_ranked(alloc, there.live().as_slice(), here, Rank::Unseen)?;
+    let dying = rows_ranked(alloc, here.live(), there, Rank::Dead)?;
+    let coming = rows_ranked(alloc, there.live(), here, Rank::Unseen)?;
     if let Err(fault) = add_and_take(alloc, replica, tree, delta, &coming) {
         cut_leaves(tree, &coming);
         return Err(fault);
@@ -88,7 +88,7 @@ fn add_leaves(alloc: Global, tree: &mut Node, rows: &[(Dot, Entry)]) -> Result<(
             Some(parts) => parts,
             None => return Ok(()),
         };
-        add(alloc, tree, row)?;
+        add(alloc, tree, row.0, &row.1)?;
         rest = later;
     }
 }
@@ -111,24 +111,23 @@ fn cut_leaves(tree: &mut Node, rows: &[(Dot, Entry)])
 /// Copies of the rows whose dots have this rank in the lives.
 fn rows_ranked<S: DotSet>(
     alloc: Global,
-    rows: &[(Dot, Entry)],
+    rows: LiveRows<'_>,
     lives: &Lives<S>,
     rank: Rank,
 ) -> Result<Vec<(Dot, Entry)>, Fault>
-    ensures ok { IfOk result (λ copies. copies.items ≡ ranked lives.now rank rows.now) }
+    ensures ok { IfOk result (λ copies. copies.items ≡ ranked lives.now rank rows.entry) }
     ensures memory { IfErr result (λ fault. fault ≡ Memory) }
 {
     let mut copies = Vec::new(alloc);
     let mut rest = rows;
     'looking: loop {
-        let (row, later) = match rest.split_first() {
-            Some(parts) => parts,
+        let (dot, entry) = match rest.next() {
+            Some(row) => row,
             None => return Ok(copies),
         };
-        if is_ranked(lives, row.0, rank) {
-            copies.push((row.0, row.1.copy(alloc)?))?;
+        if is_ranked(lives, dot, rank) {
+            copies.push((dot, entry.copy(alloc)?))?;
         }
-        rest = later;
     }
 }
 
