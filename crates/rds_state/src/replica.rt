@@ -234,6 +234,15 @@ impl<S: DotSet> Replica<S> {
         self.state.merge(delta)
     }
 
+    /// Puts the live entries into a map, as [`Lives::index`](rds_life::Lives::index) does: an edit then costs the same,
+    /// however many entries live. The value stays as it is.
+    pub fn index(&mut self) -> Result<(), Fault>
+        ensures same { self.new ≡ self.old }
+        ensures memory { IfErr result (λ fault. fault ≡ Memory) }
+    {
+        self.state.index()
+    }
+
     /// An equal replica with memory of its own.
     pub fn copy(&self, alloc: Global) -> Result<Replica<S>, Fault>
         ensures ok { IfOk result (λ replica. replica ≡ self.now) }

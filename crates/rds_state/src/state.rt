@@ -116,9 +116,16 @@ impl<S: DotSet> State<S> {
         ensures gives { MergeGives self.old.lives other.now.lives result }
         ensures err { OnErr result (self.new ≡ self.old) }
     {
-        let lives = self.lives.joined(self.counts.alloc(), &other.lives)?;
-        self.counts.merge(&other.counts)?;
-        self.lives = lives;
+        if let Some(dot) = self.lives.conflict(&other.lives) {
+            return Err(Fault::Conflict {
+                replica: dot.replica,
+                seq: dot.seq,
+            });
+        }
+        let mut counts = self.counts.copy(self.counts.alloc())?;
+        counts.merge(&other.counts)?;
+        self.lives.merge(&other.lives)?;
+        self.counts = counts;
         Ok(())
     }
 
@@ -136,6 +143,14 @@ impl<S: DotSet> State<S> {
 
 /// The steps of an edit.
 impl<S: DotSet> State<S> {
+    /// Puts the live entries into a map.
+    pub(crate) fn index(&mut self) -> Result<(), Fault>
+        ensures same { self.new ≡ self.old }
+        ensures memory { IfErr result (λ fault. fault ≡ Memory) }
+    {
+        self.lives.index()
+    }
+
     /// The allocator that the state grows by.
     pub(crate) fn alloc(&self) -> Global {
         self.counts.alloc()

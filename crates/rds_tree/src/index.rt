@@ -63,9 +63,11 @@ impl<S: DotSet> Index<S> {
         ensures memory { IfErr result (λ fault. fault ≡ Memory) }
     {
         let tree = whole_tree(alloc, &replica)?;
+        let mut indexed = replica;
+        indexed.index()?;
         Ok(Index {
             alloc,
-            replica,
+            replica: indexed,
             tree,
         })
     }
