@@ -6,7 +6,7 @@ use crate::dots::{self, insert};
 use crate::scalars::integer;
 use crate::words::{self, push, run};
 use rds_dots::{Dot, DotSet, MAX_SEQ};
-use rds_life::{Choice, Lives, Rank};
+use rds_life::{Choice, LiveRows, Lives, Rank};
 use rds_names::{Entry, Fault, Kind, Path, Scalar};
 use rds_rows::told::said;
 use rds_rows::words::{number, parted};
@@ -41,6 +41,8 @@ impl<S: DotSet> Histories<S> {
             "merge" => self.merge(alloc),
             "join" => self.join(alloc),
             "copy" => self.copy(alloc),
+            "index" => self.index(alloc),
+            "kill_live" => self.kill_live(alloc, rest),
             _ => self.tell(alloc, asked, rest),
         }
     }
@@ -89,6 +91,18 @@ impl<S: DotSet> Histories<S> {
         live(alloc, &self.lives)
     }
 
+    /// Kills the dot if it is live.
+    fn kill_live(&mut self, alloc: Global, rest: &str) -> Result<String, Fault> {
+        self.lives.kill_live(words::dot(rest)?);
+        live(alloc, &self.lives)
+    }
+
+    /// Puts what is live into a map.
+    fn index(&mut self, alloc: Global) -> Result<String, Fault> {
+        self.lives.index()?;
+        live(alloc, &self.lives)
+    }
+
     /// Kills the live dots whose numbers are below a number, and says how many there were.
     fn kill_below(&mut self, alloc: Global, rest: &str) -> Result<String, Fault> {
         let below = Below { seq: number(rest)? };
@@ -128,6 +142,9 @@ impl<S: DotSet> Histories<S> {
             "dead" => dots::shown(alloc, &self.lives.dead(alloc)?),
             "live_dots" => dots::shown(alloc, &self.lives.live_dots(alloc)?),
             "conflict" => conflict(alloc, self.lives.conflict(&self.other)),
+            "count" => words::said_number(alloc, Some(self.lives.live_len() as u64)),
+            "first" => first(alloc, &self.lives, rest),
+            "past" => past(alloc, &self.lives, rest),
             _ => Err(Fault::Usage),
         }
     }
@@ -186,8 +203,27 @@ fn element(alloc: Global, value: &str) -> Result<Entry, Fault> {
 
 /// What is live, as `0:2=20`.
 fn live<S: DotSet>(alloc: Global, lives: &Lives<S>) -> Result<String, Fault> {
+    listed(alloc, lives.live())
+}
+
+/// What is live past a dot.
+fn past<S: DotSet>(alloc: Global, lives: &Lives<S>, rest: &str) -> Result<String, Fault> {
+    let mut rows = lives.live();
+    rows.skip_past(words::dot(rest)?);
+    listed(alloc, rows)
+}
+
+/// What is live first from a dot on.
+fn first<S: DotSet>(alloc: Global, lives: &Lives<S>, rest: &str) -> Result<String, Fault> {
+    match lives.first_from(words::dot(rest)?) {
+        Some((dot, entry)) => row(alloc, dot, entry),
+        None => said(alloc, "none"),
+    }
+}
+
+fn listed(alloc: Global, rows: LiveRows<'_>) -> Result<String, Fault> {
     let mut line = String::new(alloc);
-    for (dot, entry) in lives.live() {
+    for (dot, entry) in rows {
         push(&mut line, row(alloc, dot, entry)?.as_str())?;
     }
     if line.is_empty() {
