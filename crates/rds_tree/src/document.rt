@@ -13,6 +13,7 @@ use crate::node::Node;
 use crate::views::{Sums, View};
 use rds_counts::Counts;
 use rds_dots::{Dot, DotSet};
+use rds_life::LiveRows;
 use rds_names::{Entry, Fault, Path};
 use rds_state::State;
 use std::alloc::Global;
@@ -25,7 +26,7 @@ pub fn view<S: DotSet>(alloc: Global, state: &State<S>, path: &Path) -> Result<V
     ensures memory { IfErr result (λ fault. fault ≡ Memory) }
 {
     let counters = counters_at(alloc, state.counts(), path)?;
-    let tree = tree_of(alloc, state.lives().live().as_slice(), path)?;
+    let tree = tree_of(alloc, state.lives().live(), path)?;
     let view = tree.view_at(alloc, path.keys(), counters)?;
     Ok(view)
 }
@@ -42,33 +43,32 @@ pub fn counters_at(alloc: Global, counts: &Counts, path: &Path) -> Result<Option
 }
 
 /// The tree of the live dots at the path or below it.
-pub fn tree_of(alloc: Global, rows: &[(Dot, Entry)], path: &Path) -> Result<Node, Fault>
-    ensures ok { IfOk result (λ node. Holds (rows_under path.now rows.now) node) }
+pub fn tree_of(alloc: Global, rows: LiveRows<'_>, path: &Path) -> Result<Node, Fault>
+    ensures ok { IfOk result (λ node. Holds (rows_under path.now rows.entry) node) }
     ensures memory { IfErr result (λ fault. fault ≡ Memory) }
 {
     let mut node = Node::new(alloc);
     let mut rest = rows;
     'adding: loop {
-        let (row, later) = match rest.split_first() {
-            Some(parts) => parts,
+        let (dot, entry) = match rest.next() {
+            Some(row) => row,
             None => return Ok(node),
         };
-        if row.1.path.begins_with(path) {
-            add(alloc, &mut node, row)?;
+        if entry.path.begins_with(path) {
+            add(alloc, &mut node, dot, entry)?;
         }
-        rest = later;
     }
 }
 
 /// Adds a live dot to the tree.
-fn add(alloc: Global, node: &mut Node, row: &(Dot, Entry)) -> Result<(), Fault>
-    ensures ok { OnOk result (Adds node.old (row_of row.now) node.new) }
+fn add(alloc: Global, node: &mut Node, dot: Dot, entry: &Entry) -> Result<(), Fault>
+    ensures ok { OnOk result (Adds node.old (row_of (dot, entry.now)) node.new) }
     ensures memory { IfErr result (λ fault. fault ≡ Memory) }
 {
     let leaf = Leaf {
-        kind: row.1.kind,
-        value: row.1.value.copy(alloc)?,
-        dot: row.0,
+        kind: entry.kind,
+        value: entry.value.copy(alloc)?,
+        dot,
     };
-    node.insert(alloc, row.1.path.keys(), leaf)
+    node.insert(alloc, entry.path.keys(), leaf)
 }

@@ -138,6 +138,6 @@ fn whole_tree<S: DotSet>(alloc: Global, replica: &Replica<S>) -> Result<Node, Fa
     ensures memory { IfErr result (λ fault. fault ≡ Memory) }
 {
     let root = Path::new(alloc, "")?;
-    let tree = tree_of(alloc, replica.state().lives().live().as_slice(), &root)?;
+    let tree = tree_of(alloc, replica.state().lives().live(), &root)?;
     Ok(tree)
 }

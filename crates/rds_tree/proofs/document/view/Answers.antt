@@ -11,9 +11,9 @@ returns-clause-shown g c =
     let path = c.args.path.now in
     let state = c.args.state.now in
     let counters = c.in_ok-counters.ensures.ok ∙ ap (λ counts. counters_at path (sums_of counts)) c.counts.ensures in
-    let rows = c.as_slice.ensures.value ∙ c.live.ensures.rows ∙ ap live_rows c.lives.ensures in
+    let rows = c.live.ensures.rows ∙ ap live_rows c.lives.ensures in
     c.in_ok-view.ensures.ok (holds_fits _ c.in_ok-tree.tree c.in_ok-tree.ensures.ok)
     ∙ ap (λ keys. entries_view c.in_ok-counters.counters keys (placed_all c.in_ok-tree.tree)) c.keys.ensures.keys
     ∙ shows_rows c.in_ok-counters.counters path _ c.in_ok-tree.tree c.in_ok-tree.ensures.ok
-    ∙ ap (λ sums. entries_view sums path (entries_in c.as_slice.result.now)) counters
+    ∙ ap (λ sums. entries_view sums path (entries_in c.live.result)) counters
     ∙ ap (λ live. entries_view (counters_at path (sums_of state.counts)) path (entries_in live)) rows

@@ -5,5 +5,5 @@ use Rattle.rds_tree.proofs.index.whole_tree.Goals as goal
 
 pub returns-clause-ok : goal.returns-clause-ok
 returns-clause-ok g c =
-    let rows = c.as_slice.ensures.value ∙ c.live.ensures.rows ∙ ap live_rows (c.lives.ensures ∙ ap (λ s. s.lives) c.state.ensures.state) in
-    holds_root c.in_ok-root.root c.as_slice.result.now _ c.in_ok-tree.tree (search rules) rows c.in_ok-tree.ensures.ok
+    let rows = c.live.ensures.rows ∙ ap live_rows (c.lives.ensures ∙ ap (λ s. s.lives) c.state.ensures.state) in
+    holds_root c.in_ok-root.root c.live.result _ c.in_ok-tree.tree (search rules) rows c.in_ok-tree.ensures.ok
