@@ -9,10 +9,29 @@ use Rattle.rds_life.proofs.lives.Lives.merge.Goals as goal
 pub join_in-requires-clause-seen : goal.join_in-requires-clause-seen
 join_in-requires-clause-seen g c = find_unseen (g.S.DotSet.contents c.self.inside.seen) c.self.inside.rows c.self.invariant
 
-pub invariant_of-self : goal.invariant_of-self
-invariant_of-self g c =
+pub invariant_of-self-2 : goal.invariant_of-self-2
+invariant_of-self-2 g c =
     let contents = g.S.DotSet.contents in
     let s = contents c.self.inside.seen in
     let t = contents c.other.inside.seen in
     rw (c.in_ok-seen.ensures.ok, c.in_ok-join_in.ensures.ok)
     (rows-joined s t c.self.inside.rows c.other.inside.rows c.self.invariant c.other.invariant)
+
+pub returns-clause-ok : goal.returns-clause-ok
+returns-clause-ok g c =
+    let contents = g.S.DotSet.contents in
+    let s = contents c.self.inside.seen in
+    let t = contents c.other.inside.seen in
+    let a = c.self.inside.rows in
+    let b = c.other.inside.rows in
+    record {
+      each_dot = λ d.
+          ap (λ u. map.get (lived u c.join_in.new.self) d) c.in_ok-seen.ensures.ok
+          ∙ ap (λ r. map.get (lived (set.union s t) r) d) c.in_ok-join_in.ensures.ok
+          ∙ get-joined s t a b c.self.invariant c.other.invariant d
+          ∙ ap (λ l. join_life (map.get l d) (map.get (lived t b) d)) c.self.view_is
+          ∙ ap (λ l. join_life (map.get c.args.self.now d) (map.get l d)) c.other.view_is;
+    }
+
+pub returns-clause-least : goal.returns-clause-least
+returns-clause-least g c = least_above _ _ _ (search rules) (returns-clause-ok g c)
