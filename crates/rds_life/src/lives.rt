@@ -255,22 +255,12 @@ impl<S: DotSet> Lives<S> {
         ensures err { OnErr result (self.new ≡ self.old) }
     {
         self.check_join(other)?;
+        if other.seen.count() == 0 {
+            return Ok(());
+        }
         let seen = self.seen.union(self.rows.alloc(), &other.seen)?;
         self.rows.join_in(&self.seen, &other.seen, &other.rows)?;
         self.seen = seen;
-        Ok(())
-    }
-
-    /// Refuses lives that have no join, as `joined` does.
-    fn check_join(&self, other: &Lives<S>) -> Result<(), Fault>
-        ensures { MergeGives self.now other.now result }
-    {
-        if let Some(dot) = self.conflict(other) {
-            return Err(Fault::Conflict {
-                replica: dot.replica,
-                seq: dot.seq,
-            });
-        }
         Ok(())
     }
 
@@ -282,16 +272,24 @@ impl<S: DotSet> Lives<S> {
         ensures least { IfOk result (IsLeastAbove self.now other.now) }
         ensures gives { MergeGives self.now other.now result }
     {
+        self.check_join(other)?;
+        let seen = self.seen.union(alloc, &other.seen)?;
+        let rows = self
+            .rows
+            .joined(alloc, &self.seen, &other.seen, &other.rows)?;
+        Ok(Lives { seen, rows })
+    }
+
+    /// Refuses lives that have no join.
+    fn check_join(&self, other: &Lives<S>) -> Result<(), Fault>
+        ensures { MergeGives self.now other.now result }
+    {
         if let Some(dot) = self.conflict(other) {
             return Err(Fault::Conflict {
                 replica: dot.replica,
                 seq: dot.seq,
             });
         }
-        let seen = self.seen.union(alloc, &other.seen)?;
-        let rows = self
-            .rows
-            .joined(alloc, &self.seen, &other.seen, &other.rows)?;
-        Ok(Lives { seen, rows })
+        Ok(())
     }
 }

@@ -1,10 +1,19 @@
-use Rattle.std.proofs.Common.{◌∙◌, ap, rules}
+use Rattle.std.proofs.Common.{◌∙◌, sym, ap, rules}
 use Rattle.std.specs.FinMap as map
 use Rattle.std.specs.FinSet as set
 use Rattle.rds_life.specs.Life.{lived, join_life}
 use Rattle.rds_life.proofs.Bounds.{least_above}
-use Rattle.rds_life.proofs.LivedLemmas.{find_unseen, get-joined, rows-joined}
+use Rattle.rds_life.proofs.LivedLemmas.{find_unseen, get-joined, lived_empty, nothing_joined, rows-joined}
 use Rattle.rds_life.proofs.lives.Lives.merge.Goals as goal
+
+pub returns-then-count-eq0-clause-ok : goal.returns-then-count-eq0-clause-ok
+returns-then-count-eq0-clause-ok g c =
+    let t = g.S.DotSet.contents c.other.inside.seen in
+    let none = set.empty_of_len t (sym c.count.ensures ∙ c.if-count-eq0.true) in
+    nothing_joined c.args.self.now c.args.other.now (sym c.other.view_is ∙ lived_empty t c.other.inside.rows none)
+
+pub returns-then-count-eq0-clause-least : goal.returns-then-count-eq0-clause-least
+returns-then-count-eq0-clause-least g c = least_above _ _ _ (search rules) (returns-then-count-eq0-clause-ok g c)
 
 pub join_in-requires-clause-seen : goal.join_in-requires-clause-seen
 join_in-requires-clause-seen g c = find_unseen (g.S.DotSet.contents c.self.inside.seen) c.self.inside.rows c.self.invariant
