@@ -1,3 +1,4 @@
+mod Additions
 mod Bounds
 mod Changes
 mod Clashes

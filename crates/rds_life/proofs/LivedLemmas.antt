@@ -122,6 +122,15 @@ pub lived_empty : (seen : Dots) (rows : List (Dot × Entry)) → seen ≡ set.em
 lived_empty seen rows none = map.same_map dots_total dots_exact _ _ (λ d.
     get-lived seen rows d ∙ ap (λ b. cond b (Some (life_in rows d)) None) (ap (λ s. set.contains s d) none ∙ set.contains-empty dot_cmp d) ∙ sym (map.get-empty dot_cmp d))
 
+-- so where nothing was seen, nothing is joined
+stays : (o : Option Life) → join_life o None ≡ o
+stays None = refl
+stays (Some (Live e)) = refl
+stays (Some Dead) = refl
+
+pub nothing_joined : (a b : Lived) → b ≡ map.empty → IsJoin a b a
+nothing_joined a b none = record { each_dot = λ d. sym (ap (λ l. join_life (map.get a d) (map.get l d)) none ∙ ap (join_life (map.get a d)) (map.get-empty dot_cmp d) ∙ stays (map.get a d)) }
+
 is_some-cond : (b : Bool) (l : Life) → is_some (cond b (Some l) None) ≡ b
 is_some-cond true l = refl
 is_some-cond false l = refl

@@ -1,3 +1,4 @@
+pub mod Added
 pub mod Clash
 pub mod Code
 pub mod Fits

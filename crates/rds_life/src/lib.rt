@@ -1,6 +1,7 @@
 //! The life of each dot: unseen, live with an entry, or dead.
 #![tactic(auto)]
 
+mod adding;
 mod chosen;
 mod dots;
 mod found;

@@ -245,15 +245,22 @@ impl<S: DotSet> Lives<S> {
         self.rows.clash(&other.rows)
     }
 
-    /// Joins the other's lives into these, as `joined` says, and refuses as it does. The live dots
-    /// then stand in a list.
+    /// Joins the other's lives into these, as `joined` says, and refuses as it does. Lives that are
+    /// indexed are joined in place and stay indexed: that takes memory for what is new, not for
+    /// what they had. The live dots of others then stand in a list.
     pub fn merge(&mut self, other: &Lives<S>) -> Result<(), Fault>
         ensures ok { OnOk result (IsJoin self.old other.now self.new) }
         ensures least { OnOk result (IsLeastAbove self.old other.now self.new) }
         ensures gives { MergeGives self.old other.now result }
         ensures err { OnErr result (self.new ≡ self.old) }
     {
-        *self = self.joined(self.rows.alloc(), other)?;
+        self.check_join(other)?;
+        if other.seen.count() == 0 {
+            return Ok(());
+        }
+        let seen = self.seen.union(self.rows.alloc(), &other.seen)?;
+        self.rows.join_in(&self.seen, &other.seen, &other.rows)?;
+        self.seen = seen;
         Ok(())
     }
 
@@ -265,16 +272,24 @@ impl<S: DotSet> Lives<S> {
         ensures least { IfOk result (IsLeastAbove self.now other.now) }
         ensures gives { MergeGives self.now other.now result }
     {
+        self.check_join(other)?;
+        let seen = self.seen.union(alloc, &other.seen)?;
+        let rows = self
+            .rows
+            .joined(alloc, &self.seen, &other.seen, &other.rows)?;
+        Ok(Lives { seen, rows })
+    }
+
+    /// Refuses lives that have no join.
+    fn check_join(&self, other: &Lives<S>) -> Result<(), Fault>
+        ensures { MergeGives self.now other.now result }
+    {
         if let Some(dot) = self.conflict(other) {
             return Err(Fault::Conflict {
                 replica: dot.replica,
                 seq: dot.seq,
             });
         }
-        let seen = self.seen.union(alloc, &other.seen)?;
-        let rows = self
-            .rows
-            .joined(alloc, &self.seen, &other.seen, &other.rows)?;
-        Ok(Lives { seen, rows })
+        Ok(())
     }
 }

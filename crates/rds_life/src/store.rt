@@ -1,5 +1,5 @@
 //! The rows of live dots, in a list or in a map.
-ghost use Rattle.std.specs.Prelude.{◌≡◌, ◌↔◌, IsTrue, true, not, length, count_by, None, Some, IfOk, IfErr, OnOk, OnErr};
+ghost use Rattle.std.specs.Prelude.{◌≡◌, ◌↔◌, IsTrue, true, false, not, length, count_by, None, Some, IfOk, IfErr, OnOk, OnErr};
 ghost use Rattle.std.specs.List.{filter};
 ghost use Rattle.std.specs.FinSet as set;
 ghost use Rattle.rds_life.specs.Clash.{Clashes, SameIfBoth};
@@ -13,6 +13,7 @@ ghost use Rattle.rds_dots.specs.Dots.{dot_cmp};
 ghost use Rattle.rds_life.specs.Life.{keys};
 ghost use Rattle.rds_life.specs.Removed.{without};
 
+use crate::adding::join_in;
 use crate::chosen::{Choice, remove_chosen};
 use crate::joining::{clash, join_rows};
 use crate::live_rows::LiveRows;
@@ -212,6 +213,52 @@ impl Rows {
             )?,
         };
         Ok(Rows::listed(rows))
+    }
+
+    /// Joins the other's rows in. Rows of a map are joined in place, at the cost of the other's and
+    /// of one walk, and stay in the map; others then are in a list.
+    pub fn join_in<S: DotSet>(
+        &mut self,
+        seen: &S,
+        other_seen: &S,
+        other: &Rows,
+    ) -> Result<(), Fault>
+        requires seen { (d : Dot) → set.contains (S.contents seen.now) d ≡ false → map.find dot_cmp d self.old ≡ None }
+        requires rise { ascends (keys other.now) ≡ true }
+        ensures ok { OnOk result (self.new ≡ joined (set.contains (S.contents seen.now)) (set.contains (S.contents other_seen.now)) self.old other.now) }
+        ensures err { OnErr result (self.new ≡ self.old) }
+        ensures memory { IfErr result (λ fault. fault ≡ Memory) }
+    {
+        match &mut self.form {
+            Form::Mapped(rows) => other.join_to(self.alloc, rows, seen, other_seen),
+            Form::Listed(_) => {
+                *self = self.joined(self.alloc, seen, other_seen, other)?;
+                Ok(())
+            }
+        }
+    }
+
+    /// Joins these rows into a map, in place.
+    fn join_to<S: DotSet>(
+        &self,
+        alloc: Global,
+        target: &mut RowMap,
+        seen: &S,
+        own_seen: &S,
+    ) -> Result<(), Fault>
+        requires seen { (d : Dot) → set.contains (S.contents seen.now) d ≡ false → map.find dot_cmp d target.old ≡ None }
+        requires rise { ascends (keys self.now) ≡ true }
+        ensures ok { OnOk result (target.new ≡ joined (set.contains (S.contents seen.now)) (set.contains (S.contents own_seen.now)) target.old self.now) }
+        ensures err { OnErr result (target.new ≡ target.old) }
+        ensures memory { IfErr result (λ fault. fault ≡ Memory) }
+    {
+        match &self.form {
+            Form::Listed(rows) => join_in(alloc, target, seen, own_seen, rows),
+            Form::Mapped(rows) => {
+                let copies = rows.copy_list(alloc)?;
+                join_in(alloc, target, seen, own_seen, &copies)
+            }
+        }
     }
 
     /// Equal rows in a list, with memory of their own.

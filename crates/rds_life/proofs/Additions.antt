@@ -1,0 +1,180 @@
+-- Rows that are added where a dot is unseen, and taken out again.
+use Rattle.std.proofs.Common.{◌≡◌, Bool, true, false, not, ◌&&◌, cond, List, [], ◌∷◌, Option, Some, None, refl, sym, ◌∙◌, ap, subst}
+use mathlib.Core.Bool.{false≢true}
+use Rattle.std.specs.Prelude.{is_some}
+use Rattle.std.specs.List.{list_all}
+use Rattle.std.specs.Ordering.{eq_by_cmp}
+use Rattle.std.specs.FinMap as map
+use Rattle.std.specs.FinMap.Entries.{find-put}
+use Rattle.rds_names.specs.declared.entry.Entry.{Entry}
+use Rattle.rds_names.specs.Conditions.{and_left, and_right}
+use Rattle.rds_dots.specs.declared.dot.Dot.{Dot}
+use Rattle.rds_dots.specs.Dots.{dot_cmp}
+use Rattle.rds_dots.specs.Ascending.{is_above, ascends}
+use Rattle.rds_dots.specs.Order.{dots_total}
+use Rattle.rds_dots.specs.Sets.{same_dot}
+use Rattle.rds_life.specs.Added.{IsAdded, dropped, gained, is_gone}
+use Rattle.rds_life.specs.Joined.{joined}
+use Rattle.rds_life.specs.Life.{keys}
+use Rattle.rds_life.specs.Removed.{without}
+use Rattle.rds_life.proofs.Joins.{pick, find-joined, ascends-joined}
+use Rattle.rds_life.proofs.Kills.{left, spared, find-left, rise-left}
+use Rattle.rds_life.proofs.Puts.{find-without}
+use Rattle.rds_life.proofs.RowLemmas.{find_above, same_rows}
+
+abbrev Rows : Type 0
+Rows = List (Dot × Entry)
+
+abbrev at : Dot → Rows → Option Entry
+at d rows = map.find dot_cmp d rows
+
+-- what is left to add leads to the whole
+pub record IsAdding (seen : Dot → Bool) (other rest old now : Rows) : Type 0 where
+  pub rise : ascends (keys rest) ≡ true
+  pub within : (d : Dot) → is_some (at d other) ≡ false → at d rest ≡ None
+  pub leads : (d : Dot) → gained (seen d) (at d now) (at d rest) ≡ gained (seen d) (at d old) (at d other)
+  pub added : IsAdded seen other old now
+
+none_of : (o : Option Entry) → is_some o ≡ false → o ≡ None
+none_of None h = refl
+none_of (Some e) h = absurd (false≢true (sym h))
+
+pub adding_starts : (seen : Dot → Bool) (other old : Rows) → ascends (keys other) ≡ true → IsAdding seen other other old old
+adding_starts seen other old rise = record {
+  rise = rise;
+  within = λ d none. none_of (at d other) none;
+  leads = λ d. refl;
+  added = record { seen_stay = λ d _. refl; others_stay = λ d _. refl };
+}
+
+gained_none : (b : Bool) (o : Option Entry) → gained b o None ≡ o
+gained_none true o = refl
+gained_none false o = refl
+
+pub adding_ends : (seen : Dot → Bool) (other rest old now : Rows) → IsAdding seen other rest old now → rest ≡ [] → (d : Dot) → at d now ≡ gained (seen d) (at d old) (at d other)
+adding_ends seen other rest old now is none d = sym (gained_none (seen d) (at d now)) ∙ ap (λ rows. gained (seen d) (at d now) (at d rows)) (sym none) ∙ is.leads d
+
+module _ (seen : Dot → Bool) (other later old now : Rows) (row : Dot × Entry) where
+  later_none : (d : Dot) → (b : Bool) → eq_by_cmp dot_cmp d row.0 ≡ b → cond b (Some row.1) (at d later) ≡ None → at d later ≡ None
+  later_none d true is h = absurd (no_some row.1 h)
+    where
+      no_some : (e : Entry) → Some e ≡ None → ⊥
+      no_some e h = cc
+  later_none d false is h = h
+
+  pub adding_passes : (rest : Rows) → rest ≡ row ∷ later → IsAdding seen other rest old now → seen row.0 ≡ true → IsAdding seen other later old now
+  adding_passes rest split is has =
+      let i : IsAdding seen other (row ∷ later) old now = subst (λ rows. IsAdding seen other rows old now) split is in
+      record {
+        rise = and_right (list_all (is_above row.0) (keys later)) _ i.rise;
+        within = λ d none. later_none d (eq_by_cmp dot_cmp d row.0) refl (i.within d none);
+        leads = λ d. by d (eq_by_cmp dot_cmp d row.0) refl (i.leads d);
+        added = i.added;
+      }
+    where
+      by : (d : Dot) (b : Bool) → eq_by_cmp dot_cmp d row.0 ≡ b → gained (seen d) (at d now) (cond b (Some row.1) (at d later)) ≡ gained (seen d) (at d old) (at d other) → gained (seen d) (at d now) (at d later) ≡ gained (seen d) (at d old) (at d other)
+      by d true is h = let s : seen d ≡ true = ap seen (same_dot d row.0 is) ∙ has in ap (λ x. gained x (at d now) (at d later)) s ∙ sym (ap (λ x. gained x (at d now) (Some row.1)) s) ∙ h
+      by d false is h = h
+
+  pub adding_puts : (rest put : Rows) → rest ≡ row ∷ later → IsAdding seen other rest old now → seen row.0 ≡ false → put ≡ map.put dot_cmp row.0 row.1 now → IsAdding seen other later old put
+  adding_puts rest put split is unseen puts =
+      let i : IsAdding seen other (row ∷ later) old now = subst (λ rows. IsAdding seen other rows old now) split is in
+      record {
+        rise = and_right (list_all (is_above row.0) (keys later)) _ i.rise;
+        within = λ d none. later_none d (eq_by_cmp dot_cmp d row.0) refl (i.within d none);
+        leads = λ d. ap (λ o. gained (seen d) o (at d later)) (found d) ∙ by i.rise d (eq_by_cmp dot_cmp d row.0) refl (i.leads d);
+        added = record {
+          seen_stay = λ d has. found d ∙ same_seen d has (eq_by_cmp dot_cmp d row.0) refl ∙ i.added.seen_stay d has;
+          others_stay = λ d none. found d ∙ same_other d (i.within d none) (eq_by_cmp dot_cmp d row.0) refl ∙ i.added.others_stay d none;
+        };
+      }
+    where
+      found : (d : Dot) → at d put ≡ cond (eq_by_cmp dot_cmp d row.0) (Some row.1) (at d now)
+      found d = ap (at d) puts ∙ find-put dot_cmp dots_total d row.0 row.1 now
+
+      by : ascends (keys (row ∷ later)) ≡ true → (d : Dot) (b : Bool) → eq_by_cmp dot_cmp d row.0 ≡ b → gained (seen d) (at d now) (cond b (Some row.1) (at d later)) ≡ gained (seen d) (at d old) (at d other) → gained (seen d) (cond b (Some row.1) (at d now)) (at d later) ≡ gained (seen d) (at d old) (at d other)
+      by rise d true is h =
+          let s : seen d ≡ false = ap seen (same_dot d row.0 is) ∙ unseen in
+          let none : at d later ≡ None = ap (λ q. at q later) (same_dot d row.0 is) ∙ find_above row.0 later (and_left _ (ascends (keys later)) rise) in
+          ap (λ x. gained x (Some row.1) (at d later)) s ∙ ap (gained false (Some row.1)) none ∙ sym (ap (λ x. gained x (at d now) (Some row.1)) s) ∙ h
+      by rise d false is h = h
+
+      same_seen : (d : Dot) → seen d ≡ true → (b : Bool) → eq_by_cmp dot_cmp d row.0 ≡ b → cond b (Some row.1) (at d now) ≡ at d now
+      same_seen d has true is = absurd (false≢true (sym unseen ∙ ap seen (sym (same_dot d row.0 is)) ∙ has))
+      same_seen d has false is = refl
+
+      no_some : (e : Entry) → Some e ≡ None → ⊥
+      no_some e h = cc
+
+      same_other : (d : Dot) → at d (row ∷ later) ≡ None → (b : Bool) → eq_by_cmp dot_cmp d row.0 ≡ b → cond b (Some row.1) (at d now) ≡ at d now
+      same_other d none true is = absurd (no_some row.1 (sym (ap (λ b. cond b (Some row.1) (at d later)) is) ∙ none))
+      same_other d none false is = refl
+
+-- ---- taking out
+
+pub record IsDropping (seen : Dot → Bool) (other rest old now : Rows) : Type 0 where
+  pub leads : (d : Dot) → dropped (seen d) (is_some (at d rest)) (at d now) ≡ dropped (seen d) (is_some (at d other)) (at d old)
+
+pub dropping_ends : (seen : Dot → Bool) (other rest old now : Rows) → IsDropping seen other rest old now → rest ≡ [] → (d : Dot) → at d now ≡ dropped (seen d) (is_some (at d other)) (at d old)
+dropping_ends seen other rest old now is none d = sym (nothing (seen d)) ∙ ap (λ rows. dropped (seen d) (is_some (at d rows)) (at d now)) (sym none) ∙ is.leads d
+  where
+    nothing : (b : Bool) → dropped b false (at d now) ≡ at d now
+    nothing true = refl
+    nothing false = refl
+
+module _ (seen : Dot → Bool) (other later old now : Rows) (row : Dot × Entry) where
+  pub dropping_passes : (rest : Rows) → rest ≡ row ∷ later → IsDropping seen other rest old now → seen row.0 ≡ true → IsDropping seen other later old now
+  dropping_passes rest split is has = record { leads = λ d. by d (eq_by_cmp dot_cmp d row.0) refl ((subst (λ rows. IsDropping seen other rows old now) split is).leads d) }
+    where
+      by : (d : Dot) (b : Bool) → eq_by_cmp dot_cmp d row.0 ≡ b → dropped (seen d) (is_some (cond b (Some row.1) (at d later))) (at d now) ≡ dropped (seen d) (is_some (at d other)) (at d old) → dropped (seen d) (is_some (at d later)) (at d now) ≡ dropped (seen d) (is_some (at d other)) (at d old)
+      by d true is h = let s : seen d ≡ true = ap seen (same_dot d row.0 is) ∙ has in ap (λ x. dropped x (is_some (at d later)) (at d now)) s ∙ sym (ap (λ x. dropped x true (at d now)) s) ∙ h
+      by d false is h = h
+
+  pub dropping_takes : (rest less : Rows) → rest ≡ row ∷ later → IsDropping seen other rest old now → seen row.0 ≡ false → ((d : Dot) → at d less ≡ cond (eq_by_cmp dot_cmp d row.0) None (at d now)) → IsDropping seen other later old less
+  dropping_takes rest less split is unseen found = record { leads = λ d. ap (dropped (seen d) (is_some (at d later))) (found d) ∙ by d (eq_by_cmp dot_cmp d row.0) refl ((subst (λ rows. IsDropping seen other rows old now) split is).leads d) }
+    where
+      twice : (b : Bool) → cond (not false && b) None None ≡ cond (not false && true) None (at row.0 now)
+      twice true = refl
+      twice false = refl
+
+      by : (d : Dot) (b : Bool) → eq_by_cmp dot_cmp d row.0 ≡ b → dropped (seen d) (is_some (cond b (Some row.1) (at d later))) (at d now) ≡ dropped (seen d) (is_some (at d other)) (at d old) → dropped (seen d) (is_some (at d later)) (cond b None (at d now)) ≡ dropped (seen d) (is_some (at d other)) (at d old)
+      by d true is h =
+          let s : seen d ≡ false = ap seen (same_dot d row.0 is) ∙ unseen in
+          ap (λ x. dropped x (is_some (at d later)) None) s ∙ twice (is_some (at d later)) ∙ sym (ap (λ x. dropped x true (at d now)) s) ∙ h
+      by d false is h = h
+
+-- ---- what was put in is taken out again
+
+pub undone : (seen : Dot → Bool) (other old mid new : Rows) → ((d : Dot) → seen d ≡ false → at d old ≡ None) → ascends (keys old) ≡ true → ascends (keys new) ≡ true → IsAdded seen other old mid → ((d : Dot) → at d new ≡ dropped (seen d) (is_some (at d other)) (at d mid)) → new ≡ old
+undone seen other old mid new absent rise_old rise_new added out = same_rows new old rise_new rise_old (λ d. out d ∙ by d (seen d) refl (is_some (at d other)) refl)
+  where
+    by : (d : Dot) (s : Bool) → seen d ≡ s → (h : Bool) → is_some (at d other) ≡ h → cond (not s && h) None (at d mid) ≡ at d old
+    by d true is h has = added.seen_stay d is
+    by d false is true has = sym (absent d is)
+    by d false is false has = added.others_stay d has
+
+-- ---- what was added, without what is gone, is the join
+
+joined_at : (test : Dot → Entry → Bool) (d : Dot) (s t : Bool) (o f : Option Entry) → ((e : Entry) → test d e ≡ t && not (is_some f)) → (s ≡ false → o ≡ None) → spared test d (gained s o f) ≡ pick s t o f
+joined_at test d true true (Some e) (Some x) gone none = ap (λ b. cond (not b) (Some e) None) (gone e)
+joined_at test d true false (Some e) (Some x) gone none = ap (λ b. cond (not b) (Some e) None) (gone e)
+joined_at test d true true (Some e) None gone none = ap (λ b. cond (not b) (Some e) None) (gone e)
+joined_at test d true false (Some e) None gone none = ap (λ b. cond (not b) (Some e) None) (gone e)
+joined_at test d true t None (Some x) gone none = refl
+joined_at test d true t None None gone none = refl
+joined_at test d false t (Some e) f gone none = absurd (no_entry e (none refl))
+  where
+    no_entry : (e : Entry) → Some e ≡ None → ⊥
+    no_entry e h = cc
+joined_at test d false t None None gone none = refl
+joined_at test d false true None (Some x) gone none = ap (λ b. cond (not b) (Some x) None) (gone x)
+joined_at test d false false None (Some x) gone none = ap (λ b. cond (not b) (Some x) None) (gone x)
+
+pub joined_in : (s t : Dot → Bool) (other old mid : Rows) → ((d : Dot) → s d ≡ false → at d old ≡ None) → ascends (keys old) ≡ true → ascends (keys mid) ≡ true → ascends (keys other) ≡ true → ((d : Dot) → at d mid ≡ gained (s d) (at d old) (at d other)) → left (λ d e. is_gone t other d) mid ≡ joined s t old other
+joined_in s t other old mid absent rise_old rise_mid rise_other added =
+    let gone : Dot → Entry → Bool = λ d e. is_gone t other d in
+    same_rows _ _ (rise-left gone mid rise_mid) (ascends-joined s t old other rise_old rise_other) (λ d.
+    find-left gone mid rise_mid d
+    ∙ ap (spared gone d) (added d)
+    ∙ joined_at gone d (s d) (t d) (at d old) (at d other) (λ e. refl) (absent d)
+    ∙ sym (find-joined s t d old other rise_old rise_other))

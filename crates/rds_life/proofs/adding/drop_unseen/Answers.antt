@@ -1,0 +1,13 @@
+use Rattle.std.proofs.Common.{◌∙◌, ap, sym}
+use Rattle.std.specs.FinMap as map
+use Rattle.std.specs.FinSet as set
+use Rattle.rds_dots.specs.Dots.{dot_cmp}
+use Rattle.rds_life.proofs.Additions.{dropping_takes}
+use Rattle.rds_life.proofs.Puts.{find-without}
+use Rattle.rds_life.proofs.adding.drop_unseen.Goals as goal
+
+pub dropping-preserved-then-not-contains : goal.dropping-preserved-then-not-contains
+dropping-preserved-then-not-contains g c =
+    let row = c.in-Some.parts.0.now in
+    dropping_takes (set.contains (g.S.DotSet.contents c.args.seen.now)) c.args.other.now c.in-Some.parts.1.now c.args.rows.now c.dropping.rows row c.dropping.rest.now c.remove.new.self c.in-Some.ensures.cases.0 c.dropping.invariant (sym c.if-not-contains.ensures)
+    (λ d. ap (map.find dot_cmp d) c.remove.ensures ∙ find-without row.0 c.dropping.rows d)
