@@ -215,8 +215,9 @@ impl Rows {
         Ok(Rows::listed(rows))
     }
 
-    /// Joins the other's rows in. Rows of a map are joined in place, at the cost of the other's and,
-    /// where it has dead dots, of one walk, and stay in the map; others then are in a list.
+    /// Joins the other's rows in. Rows of a map stay in it, and are joined in place: that costs as
+    /// much as the other's are, and a walk where the other has dead dots. Rows of a list are joined
+    /// to a new one.
     pub fn join_in<S: DotSet>(
         &mut self,
         seen: &S,
