@@ -1,4 +1,5 @@
 mod Additions
+mod AllLive
 mod Bounds
 mod Changes
 mod Clashes

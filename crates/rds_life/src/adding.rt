@@ -8,7 +8,7 @@ ghost use Rattle.rds_dots.specs.Ascending.{ascends};
 ghost use Rattle.rds_dots.specs.Dots.{dot_cmp};
 ghost use Rattle.rds_life.specs.Added.{IsAdded, dropped, gained, is_gone};
 ghost use Rattle.rds_life.specs.Joined.{joined};
-ghost use Rattle.rds_life.specs.Life.{keys};
+ghost use Rattle.rds_life.specs.Life.{AreRows, keys};
 
 use crate::chosen::Choice;
 use crate::row_map::RowMap;
@@ -71,7 +71,7 @@ pub fn join_in<S: DotSet>(
     other: &[(Dot, Entry)],
 ) -> Result<(), Fault>
     requires seen { (d : Dot) → set.contains (S.contents seen.now) d ≡ false → map.find dot_cmp d rows.old ≡ None }
-    requires rise { ascends (keys other.now) ≡ true }
+    requires fit { AreRows (S.contents other_seen.now) other.now }
     ensures ok { OnOk result (rows.new ≡ joined (set.contains (S.contents seen.now)) (set.contains (S.contents other_seen.now)) rows.old other.now) }
     ensures err { OnErr result (rows.new ≡ rows.old) }
     ensures memory { IfErr result (λ fault. fault ≡ Memory) }
@@ -79,6 +79,10 @@ pub fn join_in<S: DotSet>(
     let _in_order = rows.len();
     add_unseen(alloc, rows, seen, other)?;
     let _still_in_order = rows.len();
+    let none_is_gone = other_seen.count() == other.len() as u64;
+    if none_is_gone {
+        return Ok(());
+    }
     rows.remove_chosen(&Gone {
         seen: other_seen,
         live: InOrder { rows: other },

@@ -246,8 +246,8 @@ impl<S: DotSet> Lives<S> {
     }
 
     /// Joins the other's lives into these, as `joined` says, and refuses as it does. Lives that are
-    /// indexed are joined in place and stay indexed: that takes memory for what is new, not for
-    /// what they had. The live dots of others then stand in a list.
+    /// indexed are joined in place and stay indexed: that copies the entries that are new here, not
+    /// those that they had. Without an index, the live dots then stand in a list.
     pub fn merge(&mut self, other: &Lives<S>) -> Result<(), Fault>
         ensures ok { OnOk result (IsJoin self.old other.now self.new) }
         ensures least { OnOk result (IsLeastAbove self.old other.now self.new) }

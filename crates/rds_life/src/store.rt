@@ -10,7 +10,7 @@ ghost use Rattle.std.specs.Option.{option_copied, option_map};
 ghost use Rattle.rds_names.specs.declared.fault.Fault.TheVariants.{Memory};
 ghost use Rattle.rds_dots.specs.Ascending.{ascends};
 ghost use Rattle.rds_dots.specs.Dots.{dot_cmp};
-ghost use Rattle.rds_life.specs.Life.{keys};
+ghost use Rattle.rds_life.specs.Life.{AreRows, keys};
 ghost use Rattle.rds_life.specs.Removed.{without};
 
 use crate::adding::join_in;
@@ -215,8 +215,9 @@ impl Rows {
         Ok(Rows::listed(rows))
     }
 
-    /// Joins the other's rows in. Rows of a map are joined in place, at the cost of the other's and
-    /// of one walk, and stay in the map; others then are in a list.
+    /// Joins the other's rows in. Rows of a map stay in it, and are joined in place: that costs as
+    /// much as the other's are, and a walk where the other has dead dots. Rows of a list are joined
+    /// to a new one.
     pub fn join_in<S: DotSet>(
         &mut self,
         seen: &S,
@@ -224,7 +225,7 @@ impl Rows {
         other: &Rows,
     ) -> Result<(), Fault>
         requires seen { (d : Dot) → set.contains (S.contents seen.now) d ≡ false → map.find dot_cmp d self.old ≡ None }
-        requires rise { ascends (keys other.now) ≡ true }
+        requires fit { AreRows (S.contents other_seen.now) other.now }
         ensures ok { OnOk result (self.new ≡ joined (set.contains (S.contents seen.now)) (set.contains (S.contents other_seen.now)) self.old other.now) }
         ensures err { OnErr result (self.new ≡ self.old) }
         ensures memory { IfErr result (λ fault. fault ≡ Memory) }
@@ -247,7 +248,7 @@ impl Rows {
         own_seen: &S,
     ) -> Result<(), Fault>
         requires seen { (d : Dot) → set.contains (S.contents seen.now) d ≡ false → map.find dot_cmp d target.old ≡ None }
-        requires rise { ascends (keys self.now) ≡ true }
+        requires fit { AreRows (S.contents own_seen.now) self.now }
         ensures ok { OnOk result (target.new ≡ joined (set.contains (S.contents seen.now)) (set.contains (S.contents own_seen.now)) target.old self.now) }
         ensures err { OnErr result (target.new ≡ target.old) }
         ensures memory { IfErr result (λ fault. fault ≡ Memory) }
