@@ -9,9 +9,10 @@ mod ways;
 use exchanges::exchange_once;
 use named::{Named, repeated};
 use outcomes::Outcomes;
-use rds_gaps::GapSet;
+use rds_dots::DotSet;
 use rds_keep::{Counted, Kept, read_snapshot};
 use rds_names::Fault;
+use rds_rows::Table;
 use rds_rows::told::said;
 use rds_rows::words::first;
 use rds_session::{
@@ -19,33 +20,26 @@ use rds_session::{
 };
 use showing::chunks_told;
 use std::alloc::Global;
+use std::marker::PhantomData;
 use steps::{Course, hear_in_pieces};
 use ways::{each_outcome, way_of};
 
 /// One end of a session.
 #[derive(Drop)]
-pub struct End {
+pub struct End<S: DotSet> {
     pub side: Side,
-    pub kept: Kept<GapSet>,
+    pub kept: Kept<S>,
 }
 
-/// What rows of sessions have named.
+/// What rows of sessions have named; the sessions keep sets of dots as `S`.
 #[derive(Drop)]
-pub struct Sessions {
+pub struct Sessions<S: DotSet> {
     named: Named,
+    sets: PhantomData<S>,
 }
 
-impl Sessions {
-    /// Nothing is named.
-    pub fn new(alloc: Global) -> Sessions {
-        Sessions {
-            named: Named::new(alloc),
-        }
-    }
-
-    /// What a row is answered.
-    pub fn answer(&mut self, alloc: Global, row: &str) -> Result<String, Fault> {
-        let (word, rest) = first(row);
+impl<S: DotSet> Table for Sessions<S> {
+    fn answer(&mut self, alloc: Global, word: &str, rest: &str) -> Result<String, Fault> {
         match word {
             "bytes" => {
                 let (name, words) = first(rest);
@@ -53,6 +47,16 @@ impl Sessions {
             }
             "laws" => laws(alloc),
             _ => self.meet(alloc, word, rest),
+        }
+    }
+}
+
+impl<S: DotSet> Sessions<S> {
+    /// Nothing is named.
+    pub fn new(alloc: Global) -> Sessions<S> {
+        Sessions {
+            named: Named::new(alloc),
+            sets: PhantomData,
         }
     }
 
@@ -68,7 +72,7 @@ impl Sessions {
         }
     }
 
-    fn end(&self, alloc: Global, side: &str, kept: &str) -> Result<End, Fault> {
+    fn end(&self, alloc: Global, side: &str, kept: &str) -> Result<End<S>, Fault> {
         let side = side_of(side)?;
         let snapshot = self.named.bytes_of(alloc, kept)?;
         let kept = read_snapshot(alloc, &mut Counted::new(snapshot.as_slice()))?;
@@ -76,7 +80,13 @@ impl Sessions {
     }
 
     // A row behind whose kept replica stands all that is heard.
-    fn listen(&self, alloc: Global, end: &End, word: &str, words: &str) -> Result<String, Fault> {
+    fn listen(
+        &self,
+        alloc: Global,
+        end: &End<S>,
+        word: &str,
+        words: &str,
+    ) -> Result<String, Fault> {
         let heard = self.named.bytes_of(alloc, words)?;
         match word {
             "chunks" => chunks_sent(alloc, end, &heard),
@@ -85,7 +95,7 @@ impl Sessions {
     }
 
     // A step for each word, and what has come of the session after it.
-    fn step_by_step(&self, alloc: Global, end: &End, words: &str) -> Result<String, Fault> {
+    fn step_by_step(&self, alloc: Global, end: &End<S>, words: &str) -> Result<String, Fault> {
         let mut course = Course::new(alloc, end);
         let mut outcomes = Outcomes::new(alloc);
         let mut steps = 0u64;
@@ -101,14 +111,19 @@ impl Sessions {
     fn outcome_of(
         &self,
         alloc: Global,
-        course: &mut Course<'_>,
+        course: &mut Course<'_, S>,
         word: &str,
     ) -> Result<String, Fault> {
         self.take_steps(alloc, course, word)?;
         course.told(alloc)
     }
 
-    fn take_steps(&self, alloc: Global, course: &mut Course<'_>, word: &str) -> Result<(), Fault> {
+    fn take_steps(
+        &self,
+        alloc: Global,
+        course: &mut Course<'_, S>,
+        word: &str,
+    ) -> Result<(), Fault> {
         if word == "end" {
             return course.step(alloc, Input::End);
         }
@@ -128,7 +143,7 @@ pub fn side_of(word: &str) -> Result<Side, Fault> {
 }
 
 // The lengths of the chunks that the session sends where it hears all at once.
-fn chunks_sent(alloc: Global, end: &End, heard: &[u8]) -> Result<String, Fault> {
+fn chunks_sent<S: DotSet>(alloc: Global, end: &End<S>, heard: &[u8]) -> Result<String, Fault> {
     let course = hear_in_pieces(alloc, end, heard, heard.len())?;
     let sent = course.into_sent();
     chunks_told(alloc, &sent)

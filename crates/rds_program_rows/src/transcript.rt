@@ -12,12 +12,14 @@ use crate::sessions::Sessions;
 use crate::simulated::Simulated;
 use crate::wire::{answer_over, answer_serving, answer_talk, answer_wire};
 use crate::worlds::Worlds;
+use rds_dots::ListSet;
 use rds_files::ReplicaFile;
 use rds_gaps::GapSet;
 use rds_lines::join_is_known;
 use rds_names::Fault;
-use rds_rows::Table;
 use rds_rows::told::said;
+use rds_rows::words::first;
+use rds_rows::{Both, Table};
 use rds_words::word_laws;
 use std::alloc::Global;
 
@@ -25,8 +27,8 @@ use std::alloc::Global;
 #[derive(Drop)]
 pub struct Transcript<'a> {
     rt: &'a HostRuntime,
-    sessions: Sessions,
-    worlds: Worlds,
+    sessions: Both<Sessions<GapSet>, Sessions<ListSet>>,
+    worlds: Both<Worlds<GapSet>, Worlds<ListSet>>,
     input: Input,
     simulated: Simulated,
     file: Option<ReplicaFile<'static, GapSet>>,
@@ -37,8 +39,8 @@ impl<'a> Transcript<'a> {
     pub fn new(rt: &'a HostRuntime) -> Transcript<'a> {
         Transcript {
             rt,
-            sessions: Sessions::new(rt.alloc()),
-            worlds: Worlds::new(rt.alloc()),
+            sessions: both_sessions(rt.alloc()),
+            worlds: both_worlds(rt.alloc()),
             input: Input::new(rt.alloc()),
             simulated: Simulated::new(rt.alloc()),
             file: None,
@@ -109,8 +111,8 @@ impl<'a> Transcript<'a> {
 impl Table for Transcript<'_> {
     fn answer(&mut self, alloc: Global, name: &str, rest: &str) -> Result<String, Fault> {
         match name {
-            "session" => self.sessions.answer(alloc, rest),
-            "world" => self.worlds.answer(alloc, rest),
+            "session" => answer_words(&mut self.sessions, alloc, rest),
+            "world" => answer_words(&mut self.worlds, alloc, rest),
             "empty" | "<" | "<-" | "<x" | "<n" | "<#" => self.answer_input(alloc, name, rest),
             "$" | "$|" | "$$" | "last" | "reads" | "writes" | "busy" | "away" => {
                 self.answer_run(name, rest)
@@ -140,4 +142,26 @@ fn laws(alloc: Global) -> Result<String, Fault> {
     join_is_known();
     word_laws();
     said(alloc, "called")
+}
+
+// Sessions over both sets of dots.
+fn both_sessions(alloc: Global) -> Both<Sessions<GapSet>, Sessions<ListSet>> {
+    Both {
+        first: Sessions::new(alloc),
+        second: Sessions::new(alloc),
+    }
+}
+
+// Worlds over both sets of dots.
+fn both_worlds(alloc: Global) -> Both<Worlds<GapSet>, Worlds<ListSet>> {
+    Both {
+        first: Worlds::new(alloc),
+        second: Worlds::new(alloc),
+    }
+}
+
+// What a table answers to a row behind whose name there is the word that says what it is.
+fn answer_words<T: Table>(table: &mut T, alloc: Global, row: &str) -> Result<String, Fault> {
+    let (word, rest) = first(row);
+    table.answer(alloc, word, rest)
 }

@@ -3,10 +3,10 @@ mod events;
 
 use crate::told::{bytes_told, count_told};
 use events::event;
-use rds_dots::Dot;
-use rds_gaps::GapSet;
+use rds_dots::{Dot, DotSet};
 use rds_life::Rank;
 use rds_names::{Entry, Fault, Scalar};
+use rds_rows::Table;
 use rds_rows::told::said;
 use rds_rows::words::{first, number, roster, small};
 use rds_state::Replica;
@@ -18,25 +18,15 @@ use rds_world::{
 use std::alloc::Global;
 use std::mem;
 
-/// The world at hand, and the events that are to be simulated.
+/// The world at hand, which keeps sets of dots as `S`, and the events that are to be simulated.
 #[derive(Drop)]
-pub struct Worlds {
-    world: Option<World<GapSet>>,
+pub struct Worlds<S: DotSet> {
+    world: Option<World<S>>,
     events: Vec<Event>,
 }
 
-impl Worlds {
-    /// No world and no events.
-    pub fn new(alloc: Global) -> Worlds {
-        Worlds {
-            world: None,
-            events: Vec::new(alloc),
-        }
-    }
-
-    /// What a row is answered.
-    pub fn answer(&mut self, alloc: Global, row: &str) -> Result<String, Fault> {
-        let (word, rest) = first(row);
+impl<S: DotSet> Table for Worlds<S> {
+    fn answer(&mut self, alloc: Global, word: &str, rest: &str) -> Result<String, Fault> {
         match word {
             "later" => self.plan(alloc, rest),
             "simulate" => self.simulate(alloc, rest),
@@ -45,6 +35,16 @@ impl Worlds {
                 Some(world) => look(alloc, world, word, rest),
                 None => Err(Fault::Usage),
             },
+        }
+    }
+}
+
+impl<S: DotSet> Worlds<S> {
+    /// No world and no events.
+    pub fn new(alloc: Global) -> Worlds<S> {
+        Worlds {
+            world: None,
+            events: Vec::new(alloc),
         }
     }
 
@@ -67,7 +67,7 @@ impl Worlds {
     fn come_to(
         &mut self,
         alloc: Global,
-        world: World<GapSet>,
+        world: World<S>,
         fault: Option<Fault>,
     ) -> Result<String, Fault> {
         self.world = Some(world);
@@ -79,7 +79,12 @@ impl Worlds {
 }
 
 // A look at the world.
-fn look(alloc: Global, world: &World<GapSet>, word: &str, rest: &str) -> Result<String, Fault> {
+fn look<S: DotSet>(
+    alloc: Global,
+    world: &World<S>,
+    word: &str,
+    rest: &str,
+) -> Result<String, Fault> {
     match word {
         "memory" => size_told(alloc, world.memory(small(rest)?)?),
         "kept" => size_told(alloc, world.kept(small(rest)?)?.view_of()),
@@ -90,13 +95,13 @@ fn look(alloc: Global, world: &World<GapSet>, word: &str, rest: &str) -> Result<
     }
 }
 
-fn size_told(alloc: Global, replica: &Replica<GapSet>) -> Result<String, Fault> {
+fn size_told<S: DotSet>(alloc: Global, replica: &Replica<S>) -> Result<String, Fault> {
     let components = replica.state().components();
     Ok(format!(in alloc; "components {components}")?)
 }
 
 // How far a dot has come in a replica's memory: its words are the replica that looks, and the dot's replica and number.
-fn find_dot(alloc: Global, world: &World<GapSet>, words: &str) -> Result<String, Fault> {
+fn find_dot<S: DotSet>(alloc: Global, world: &World<S>, words: &str) -> Result<String, Fault> {
     let (looking, words) = first(words);
     let memory = world.memory(small(looking)?)?;
     dot_told(alloc, memory, dot(words)?)
@@ -110,7 +115,7 @@ fn dot(words: &str) -> Result<Dot, Fault> {
     })
 }
 
-fn dot_told(alloc: Global, replica: &Replica<GapSet>, dot: Dot) -> Result<String, Fault> {
+fn dot_told<S: DotSet>(alloc: Global, replica: &Replica<S>, dot: Dot) -> Result<String, Fault> {
     let lives = replica.state().lives();
     match lives.rank(dot) {
         Rank::Unseen => said(alloc, "unseen"),

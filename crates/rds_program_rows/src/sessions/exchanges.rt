@@ -2,7 +2,7 @@
 use super::End;
 use super::named::Named;
 use super::showing::outcome_told;
-use rds_gaps::GapSet;
+use rds_dots::DotSet;
 use rds_keep::Counted;
 use rds_names::Fault;
 use rds_rows::devices::{Drip, Manner, Shelf};
@@ -30,7 +30,12 @@ impl Line {
 }
 
 /// What comes of the session over this line, and how many reads and writes failed.
-pub fn exchange_over(alloc: Global, end: &End, heard: &[u8], line: Line) -> Result<String, Fault> {
+pub fn exchange_over<S: DotSet>(
+    alloc: Global,
+    end: &End<S>,
+    heard: &[u8],
+    line: Line,
+) -> Result<String, Fault> {
     let mut sent = Vec::new(alloc);
     let mut reader = Counted::with_turns(Drip::new(heard, line.reads), line.turns);
     let mut writer = Counted::new(Shelf::new(&mut sent, line.writes));
@@ -40,10 +45,10 @@ pub fn exchange_over(alloc: Global, end: &End, heard: &[u8], line: Line) -> Resu
     exchanged_told(alloc, &sent, &exchanged, failed)
 }
 
-fn exchanged_told(
+fn exchanged_told<S: DotSet>(
     alloc: Global,
     sent: &[u8],
-    exchanged: &Exchanged<GapSet>,
+    exchanged: &Exchanged<S>,
     failed: (u64, u64),
 ) -> Result<String, Fault> {
     let outcome = outcome_told(alloc, sent, exchanged.ended, exchanged.received.as_ref())?;
@@ -52,9 +57,9 @@ fn exchanged_told(
 }
 
 /// A row whose words are the turns, the manner of reads, the manner of writes, and what is heard.
-pub fn exchange_once(
+pub fn exchange_once<S: DotSet>(
     alloc: Global,
-    end: &End,
+    end: &End<S>,
     named: &Named,
     words: &str,
 ) -> Result<String, Fault> {

@@ -1,7 +1,7 @@
 //! What came of sessions, as text.
 use crate::told::{bytes_told, joined};
 use rds_codec::encode_state;
-use rds_gaps::GapSet;
+use rds_dots::DotSet;
 use rds_names::Fault;
 use rds_rows::told::{named, said};
 use rds_session::Ended;
@@ -10,11 +10,11 @@ use std::alloc::Global;
 use std::fmt::Write;
 
 /// What was sent, how the session stands, and what it received.
-pub fn outcome_told(
+pub fn outcome_told<S: DotSet>(
     alloc: Global,
     sent: &[u8],
     ended: Ended,
-    received: Option<&State<GapSet>>,
+    received: Option<&State<S>>,
 ) -> Result<String, Fault> {
     let sent = bytes_told(alloc, sent)?;
     let ended = ended_told(alloc, ended)?;
@@ -30,7 +30,7 @@ pub fn outcome_told(
     Ok(joined(alloc, &parts)?)
 }
 
-fn received_told(alloc: Global, received: Option<&State<GapSet>>) -> Result<String, Fault> {
+fn received_told<S: DotSet>(alloc: Global, received: Option<&State<S>>) -> Result<String, Fault> {
     match received {
         Some(state) => bytes_told(alloc, &encode_state(alloc, state)?),
         None => said(alloc, "nothing"),

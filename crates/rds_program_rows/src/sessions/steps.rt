@@ -1,20 +1,20 @@
 //! Sessions, step by step.
 use super::End;
 use super::showing::outcome_told;
-use rds_gaps::GapSet;
+use rds_dots::DotSet;
 use rds_names::Fault;
 use rds_session::{Ended, Input, Session};
 use std::alloc::Global;
 
 /// A session, what it has sent, and how it stands.
-pub struct Course<'a> {
-    session: Session<'a, GapSet>,
+pub struct Course<'a, S: DotSet> {
+    session: Session<'a, S>,
     sent: Vec<u8>,
     ended: Ended,
 }
 
 // Written out, so that where a course is let go a caller's proof has one call, and not a step for each part of its parts.
-impl<'a> Drop for Course<'a> {
+impl<'a, S: DotSet> Drop for Course<'a, S> {
     fn drop(self) {
         let Course {
             session: _session,
@@ -24,9 +24,9 @@ impl<'a> Drop for Course<'a> {
     }
 }
 
-impl<'a> Course<'a> {
+impl<'a, S: DotSet> Course<'a, S> {
     /// A session that hasn't begun.
-    pub fn new(alloc: Global, end: &'a End) -> Course<'a> {
+    pub fn new(alloc: Global, end: &'a End<S>) -> Course<'a, S> {
         Course {
             session: Session::new(end.side, &end.kept),
             sent: Vec::new(alloc),
@@ -87,12 +87,12 @@ impl<'a> Course<'a> {
 }
 
 /// The session that has begun, and has heard the bytes in pieces of this length.
-pub fn hear_in_pieces<'a>(
+pub fn hear_in_pieces<'a, S: DotSet>(
     alloc: Global,
-    end: &'a End,
+    end: &'a End<S>,
     bytes: &[u8],
     length: usize,
-) -> Result<Course<'a>, Fault> {
+) -> Result<Course<'a, S>, Fault> {
     let mut course = Course::new(alloc, end);
     course.hear(alloc, bytes, length)?;
     Ok(course)

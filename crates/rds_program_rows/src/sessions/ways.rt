@@ -3,6 +3,7 @@ use super::End;
 use super::exchanges::{Line, exchange_over};
 use super::outcomes::Outcomes;
 use super::steps::hear_in_pieces;
+use rds_dots::DotSet;
 use rds_names::Fault;
 use rds_session::Input;
 use std::alloc::Global;
@@ -43,7 +44,13 @@ impl Way {
     }
 
     // What comes of the session with this number.
-    fn outcome(self, alloc: Global, end: &End, heard: &[u8], number: u64) -> Result<String, Fault> {
+    fn outcome<S: DotSet>(
+        self,
+        alloc: Global,
+        end: &End<S>,
+        heard: &[u8],
+        number: u64,
+    ) -> Result<String, Fault> {
         match self {
             Way::Pieces => hear_all(alloc, end, heard, number as usize),
             Way::Cut => hear_front(alloc, end, heard, number as usize),
@@ -54,7 +61,12 @@ impl Way {
 }
 
 /// What comes of the session for each number of a way. It is told once where it stays the same.
-pub fn each_outcome(alloc: Global, end: &End, heard: &[u8], way: Way) -> Result<String, Fault> {
+pub fn each_outcome<S: DotSet>(
+    alloc: Global,
+    end: &End<S>,
+    heard: &[u8],
+    way: Way,
+) -> Result<String, Fault> {
     let mut outcomes = Outcomes::new(alloc);
     for number in way.numbers(heard.len() as u64) {
         let outcome = way.outcome(alloc, end, heard, number)?;
@@ -64,12 +76,22 @@ pub fn each_outcome(alloc: Global, end: &End, heard: &[u8], way: Way) -> Result<
 }
 
 // What comes of the session that hears all in pieces of this length.
-fn hear_all(alloc: Global, end: &End, heard: &[u8], length: usize) -> Result<String, Fault> {
+fn hear_all<S: DotSet>(
+    alloc: Global,
+    end: &End<S>,
+    heard: &[u8],
+    length: usize,
+) -> Result<String, Fault> {
     hear_in_pieces(alloc, end, heard, length)?.into_told(alloc)
 }
 
 // What comes of the session that hears so many bytes in pieces of seven, and then the end.
-fn hear_front(alloc: Global, end: &End, heard: &[u8], count: usize) -> Result<String, Fault> {
+fn hear_front<S: DotSet>(
+    alloc: Global,
+    end: &End<S>,
+    heard: &[u8],
+    count: usize,
+) -> Result<String, Fault> {
     let (front, _) = heard.split_at(count.min(heard.len()));
     let mut course = hear_in_pieces(alloc, end, front, 7)?;
     course.step(alloc, Input::End)?;
