@@ -5,21 +5,18 @@ use Rattle.std.specs.Prelude.{is_some}
 use Rattle.std.specs.List.{list_all}
 use Rattle.std.specs.Ordering.{eq_by_cmp}
 use Rattle.std.specs.FinMap as map
-use Rattle.std.specs.FinMap.Entries.{find-put}
+use Rattle.std.specs.FinMap.Entries.{find-put, find-where_key}
 use Rattle.rds_names.specs.declared.entry.Entry.{Entry}
 use Rattle.rds_names.specs.Conditions.{and_left, and_right}
 use Rattle.rds_dots.specs.declared.dot.Dot.{Dot}
 use Rattle.rds_dots.specs.Dots.{dot_cmp}
 use Rattle.rds_dots.specs.Ascending.{is_above, ascends}
-use Rattle.rds_dots.specs.Order.{dots_total}
+use Rattle.rds_dots.specs.Order.{dots_total, dots_exact}
 use Rattle.rds_dots.specs.Sets.{same_dot}
-use Rattle.rds_life.specs.Added.{IsAdded, dropped, gained, is_gone}
+use Rattle.rds_life.specs.Added.{IsAdded, dropped, gained, gone_rows, is_gone}
 use Rattle.rds_life.specs.Joined.{joined}
 use Rattle.rds_life.specs.Life.{keys}
-use Rattle.rds_life.specs.Removed.{without}
 use Rattle.rds_life.proofs.Joins.{pick, find-joined, ascends-joined}
-use Rattle.rds_life.proofs.Kills.{left, spared, find-left, rise-left}
-use Rattle.rds_life.proofs.Puts.{find-without}
 use Rattle.rds_life.proofs.RowLemmas.{find_above, same_rows}
 
 abbrev Rows : Type 0
@@ -153,28 +150,35 @@ undone seen other old mid new absent rise_old rise_new added out = same_rows new
     by d false is true has = sym (absent d is)
     by d false is false has = added.others_stay d has
 
--- ---- what was added, without what is gone, is the join
+-- ---- what was added, without the rows that are gone from here, is the join
 
-joined_at : (test : Dot → Entry → Bool) (d : Dot) (s t : Bool) (o f : Option Entry) → ((e : Entry) → test d e ≡ t && not (is_some f)) → (s ≡ false → o ≡ None) → spared test d (gained s o f) ≡ pick s t o f
-joined_at test d true true (Some e) (Some x) gone none = ap (λ b. cond (not b) (Some e) None) (gone e)
-joined_at test d true false (Some e) (Some x) gone none = ap (λ b. cond (not b) (Some e) None) (gone e)
-joined_at test d true true (Some e) None gone none = ap (λ b. cond (not b) (Some e) None) (gone e)
-joined_at test d true false (Some e) None gone none = ap (λ b. cond (not b) (Some e) None) (gone e)
-joined_at test d true t None (Some x) gone none = refl
-joined_at test d true t None None gone none = refl
-joined_at test d false t (Some e) f gone none = absurd (no_entry e (none refl))
+find_gone : (t : Dot → Bool) (other old : Rows) (d : Dot) → at d (gone_rows t other old) ≡ cond (is_gone t other d) (at d old) None
+find_gone t other old d = find-where_key dot_cmp (is_gone t other) d (λ x is. ap (is_gone t other) (sym (dots_exact d x is))) old
+
+joined_at : (s t : Bool) (o f : Option Entry) → (s ≡ false → o ≡ None) → dropped false (is_some (cond (t && not (is_some f)) o None)) (gained s o f) ≡ pick s t o f
+joined_at true true (Some e) (Some x) none = refl
+joined_at true false (Some e) (Some x) none = refl
+joined_at true true (Some e) None none = refl
+joined_at true false (Some e) None none = refl
+joined_at true true None (Some x) none = refl
+joined_at true false None (Some x) none = refl
+joined_at true true None None none = refl
+joined_at true false None None none = refl
+joined_at false t (Some e) f none = absurd (no_entry e (none refl))
   where
     no_entry : (e : Entry) → Some e ≡ None → ⊥
     no_entry e h = cc
-joined_at test d false t None None gone none = refl
-joined_at test d false true None (Some x) gone none = ap (λ b. cond (not b) (Some x) None) (gone x)
-joined_at test d false false None (Some x) gone none = ap (λ b. cond (not b) (Some x) None) (gone x)
+joined_at false true None (Some x) none = refl
+joined_at false false None (Some x) none = refl
+joined_at false true None None none = refl
+joined_at false false None None none = refl
 
-pub joined_in : (s t : Dot → Bool) (other old mid : Rows) → ((d : Dot) → s d ≡ false → at d old ≡ None) → ascends (keys old) ≡ true → ascends (keys mid) ≡ true → ascends (keys other) ≡ true → ((d : Dot) → at d mid ≡ gained (s d) (at d old) (at d other)) → left (λ d e. is_gone t other d) mid ≡ joined s t old other
-joined_in s t other old mid absent rise_old rise_mid rise_other added =
-    let gone : Dot → Entry → Bool = λ d e. is_gone t other d in
-    same_rows _ _ (rise-left gone mid rise_mid) (ascends-joined s t old other rise_old rise_other) (λ d.
-    find-left gone mid rise_mid d
-    ∙ ap (spared gone d) (added d)
-    ∙ joined_at gone d (s d) (t d) (at d old) (at d other) (λ e. refl) (absent d)
+pub joined_in : (s t : Dot → Bool) (other old gone new : Rows) → ((d : Dot) → s d ≡ false → at d old ≡ None) → ascends (keys old) ≡ true → ascends (keys new) ≡ true → ascends (keys other) ≡ true → gone ≡ gone_rows t other old
+    → ((d : Dot) → at d new ≡ dropped false (is_some (at d gone)) (gained (s d) (at d old) (at d other))) → new ≡ joined s t old other
+joined_in s t other old gone new absent rise_old rise_new rise_other found made =
+    same_rows _ _ rise_new (ascends-joined s t old other rise_old rise_other) (λ d.
+    made d
+    ∙ ap (λ rows. dropped false (is_some (at d rows)) (gained (s d) (at d old) (at d other))) found
+    ∙ ap (λ o. dropped false (is_some o) (gained (s d) (at d old) (at d other))) (find_gone t other old d)
+    ∙ joined_at (s d) (t d) (at d old) (at d other) (absent d)
     ∙ sym (find-joined s t d old other rise_old rise_other))

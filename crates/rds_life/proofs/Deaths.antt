@@ -1,7 +1,7 @@
 -- The dead dots: those that are seen and have no row.
 use Rattle.std.proofs.Common.{◌≡◌, Bool, true, false, not, ◌&&◌, cond, List, [], ◌∷◌, Option, Some, None, refl, sym, ◌∙◌, ap}
 use Rattle.std.specs.Prelude.{is_some}
-use Rattle.std.specs.List.{list_all}
+use Rattle.std.specs.List.{filter, list_all}
 use Rattle.std.specs.FinMap as map
 use Rattle.std.specs.FinMap.Entries.{is_some-find}
 use Rattle.std.specs.FinSet as set
@@ -10,6 +10,7 @@ use Rattle.rds_dots.specs.declared.dot.Dot.{Dot}
 use Rattle.rds_dots.specs.Dots.{dot_cmp, Dots}
 use Rattle.rds_dots.specs.Order.{dots_total}
 use Rattle.rds_names.specs.Conditions.{and_true, and_left, and_right}
+use Rattle.rds_life.specs.Added.{gone_rows, is_gone}
 use Rattle.rds_life.specs.Life.{Lived, keys, life_of, lived, is_dead}
 use Rattle.rds_life.proofs.LivedLemmas.{get-lived}
 
@@ -32,3 +33,13 @@ dead_is s live dead rows v is rows_live left d =
     ∙ no_row_left (set.contains s d) (map.find dot_cmp d rows)
     ∙ ap is_dead (sym (get-lived s rows d))
     ∙ ap (λ l. is_dead (map.get l d)) is
+
+gone_is : (s : Dots) (rows : List (Dot × Entry)) (v : Lived) → lived s rows ≡ v → (d : Dot) → is_gone (set.contains s) rows d ≡ is_dead (map.get v d)
+gone_is s rows v is d = no_row_left (set.contains s d) (map.find dot_cmp d rows) ∙ ap is_dead (sym (get-lived s rows d) ∙ ap (λ w. map.get w d) is)
+
+-- the rows that are gone from lives are those of dots that are dead there
+pub gone_are_dead : (s : Dots) (live : List (Dot × Entry)) (v : Lived) → lived s live ≡ v → (rows : List (Dot × Entry)) → gone_rows (set.contains s) live rows ≡ filter (λ r. is_dead (map.get v r.0)) rows
+gone_are_dead s live v is [] = refl
+gone_are_dead s live v is (r ∷ rows) =
+    ap (λ b. cond b (r ∷ gone_rows (set.contains s) live rows) (gone_rows (set.contains s) live rows)) (gone_is s live v is r.0)
+    ∙ ap (λ l. cond (is_dead (map.get v r.0)) (r ∷ l) l) (gone_are_dead s live v is rows)

@@ -1,9 +1,9 @@
 mod Additions
-mod AllLive
 mod Bounds
 mod Changes
 mod Clashes
 mod Deaths
+mod GapRows
 mod Gathers
 mod Joins
 mod Lookups

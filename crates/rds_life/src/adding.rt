@@ -6,87 +6,32 @@ ghost use Rattle.rds_names.specs.declared.fault.Fault.TheVariants.{Memory};
 ghost use Rattle.rds_dots.specs.declared.dot.Dot.{Dot};
 ghost use Rattle.rds_dots.specs.Ascending.{ascends};
 ghost use Rattle.rds_dots.specs.Dots.{dot_cmp};
-ghost use Rattle.rds_life.specs.Added.{IsAdded, dropped, gained, is_gone};
-ghost use Rattle.rds_life.specs.Joined.{joined};
-ghost use Rattle.rds_life.specs.Life.{AreRows, keys};
+ghost use Rattle.rds_life.specs.Added.{IsAdded, dropped, gained};
+ghost use Rattle.rds_life.specs.Life.{keys};
 
-use crate::chosen::Choice;
 use crate::row_map::RowMap;
-use crate::rows::find_row;
 use rds_dots::{Dot, DotSet};
 use rds_names::{Entry, Fault};
 use std::alloc::Global;
-use std::marker::Model;
 
-/// Rows of a list, in the order of their dots.
-#[derive(Drop)]
-struct InOrder<'a> {
-    rows: &'a [(Dot, Entry)],
-}
-
-impl<'a> Model for InOrder<'a> {
-    ghost use Rattle.std.specs.Prelude.{◌≡◌, true, List};
-    ghost use Rattle.rds_names.specs.declared.entry.Entry.{Entry};
-    ghost use Rattle.rds_dots.specs.declared.dot.Dot.{Dot};
-    ghost use Rattle.rds_dots.specs.Ascending.{ascends};
-    ghost use Rattle.rds_life.specs.Life.{keys};
-
-    ghost Value = { List (Dot × Entry) };
-
-    ghost view = { λ r. r.rows.now };
-
-    ghost invariant = { λ r. ascends (keys r.rows.now) ≡ true };
-}
-
-impl<'a> InOrder<'a> {
-    /// Whether a dot has a row.
-    fn has(&self, dot: Dot) -> bool
-        ensures { result ≡ is_some (map.find dot_cmp dot self.now) }
-    {
-        find_row(self.rows, dot).is_some()
-    }
-}
-
-/// The dots that are dead in the other: it has seen them, and has no row of them.
-#[derive(Drop)]
-struct Gone<'a, S: DotSet> {
-    seen: &'a S,
-    live: InOrder<'a>,
-}
-
-impl<'a, S: DotSet> Choice for Gone<'a, S> {
-    ghost chosen = { λ c d e. is_gone (set.contains (S.contents c.seen.now)) c.live d };
-
-    fn chooses(&self, dot: Dot, _entry: &Entry) -> bool {
-        self.seen.contains(dot) && !self.live.has(dot)
-    }
-}
-
-/// Joins the other's rows into the map, in place. A refusal leaves it as it was.
+/// Joins the other's rows into the map, in place: copies of those of unseen dots are put in, and those that are gone are
+/// taken out. A refusal leaves it as it was.
 pub fn join_in<S: DotSet>(
     alloc: Global,
     rows: &mut RowMap,
     seen: &S,
-    other_seen: &S,
     other: &[(Dot, Entry)],
+    gone: &[(Dot, Entry)],
 ) -> Result<(), Fault>
     requires seen { (d : Dot) → set.contains (S.contents seen.now) d ≡ false → map.find dot_cmp d rows.old ≡ None }
-    requires fit { AreRows (S.contents other_seen.now) other.now }
-    ensures ok { OnOk result (rows.new ≡ joined (set.contains (S.contents seen.now)) (set.contains (S.contents other_seen.now)) rows.old other.now) }
+    requires rise { ascends (keys other.now) ≡ true }
+    ensures ok { OnOk result ((d : Dot) → map.find dot_cmp d rows.new ≡ dropped false (is_some (map.find dot_cmp d gone.now))
+        (gained (set.contains (S.contents seen.now) d) (map.find dot_cmp d rows.old) (map.find dot_cmp d other.now))) }
     ensures err { OnErr result (rows.new ≡ rows.old) }
     ensures memory { IfErr result (λ fault. fault ≡ Memory) }
 {
-    let _in_order = rows.len();
     add_unseen(alloc, rows, seen, other)?;
-    let _still_in_order = rows.len();
-    let none_is_gone = other_seen.count() == other.len() as u64;
-    if none_is_gone {
-        return Ok(());
-    }
-    rows.remove_chosen(&Gone {
-        seen: other_seen,
-        live: InOrder { rows: other },
-    });
+    drop_all(rows, gone);
     Ok(())
 }
 
@@ -151,6 +96,21 @@ fn drop_unseen<S: DotSet>(rows: &mut RowMap, seen: &S, other: &[(Dot, Entry)])
         if !seen.contains(row.0) {
             rows.remove(row.0);
         }
+        rest = later;
+    }
+}
+
+/// Takes out the rows of the other's dots.
+fn drop_all(rows: &mut RowMap, other: &[(Dot, Entry)])
+    ensures { (d : Dot) → map.find dot_cmp d rows.new ≡ dropped false (is_some (map.find dot_cmp d other.now)) (map.find dot_cmp d rows.old) }
+{
+    let mut rest = other;
+    'dropping: loop {
+        let (row, later) = match rest.split_first() {
+            Some(parts) => parts,
+            None => return,
+        };
+        rows.remove(row.0);
         rest = later;
     }
 }

@@ -5,6 +5,7 @@ mod adding;
 mod chosen;
 mod dots;
 mod found;
+mod gone;
 mod joining;
 mod live_rows;
 mod lives;

@@ -1,5 +1,5 @@
 //! The life of each dot.
-ghost use Rattle.std.specs.Prelude.{◌≡◌, true, None, IfOk, IfErr, IfSome, IsOk, count_by, OnOk, OnErr, MatchOption, length};
+ghost use Rattle.std.specs.Prelude.{◌≡◌, true, None, IfOk, IfErr, IfSome, IsOk, count_by, OnOk, OnErr, MatchOption, filter, length};
 ghost use Rattle.std.specs.FinMap as map;
 ghost use Rattle.std.specs.FinSet as set;
 ghost use Rattle.std.specs.Option.{option_copied, option_map};
@@ -15,6 +15,7 @@ ghost use Rattle.rds_life.specs.Rank.{rank_of};
 use crate::chosen::Choice;
 use crate::dots::{dots_of, insert_dot};
 use crate::found::Found;
+use crate::gone::rows_gone;
 use crate::live_rows::LiveRows;
 use crate::rank::Rank;
 use crate::rows::are_rows;
@@ -152,6 +153,16 @@ impl<S: DotSet> Lives<S> {
         let live = self.live_dots(alloc)?;
         let dead = self.seen.minus(alloc, &live)?;
         Ok(dead)
+    }
+
+    /// Copies of the rows of live dots that are dead in the other lives, in the order of the dots. They are found by the
+    /// other's seen dots: that costs a search for each run of these, and for each live dot here that the other has seen.
+    pub fn rows_dead_in(&self, alloc: Global, other: &Lives<S>) -> Result<Vec<(Dot, Entry)>, Fault>
+        ensures ok { IfOk result (λ rows. rows.items ≡ filter (λ r. is_dead (map.get other.now r.0)) (live_rows self.now)) }
+        ensures memory { IfErr result (λ fault. fault ≡ Memory) }
+    {
+        let rows = rows_gone(alloc, self.live(), &other.seen, &other.rows)?;
+        Ok(rows)
     }
 
     /// Equal lives with memory of their own, their live dots in a list.

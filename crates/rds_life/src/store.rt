@@ -1,7 +1,8 @@
 //! The rows of live dots, in a list or in a map.
-ghost use Rattle.std.specs.Prelude.{◌≡◌, ◌↔◌, IsTrue, true, false, not, length, count_by, None, Some, IfOk, IfErr, OnOk, OnErr};
+ghost use Rattle.std.specs.Prelude.{◌≡◌, ◌↔◌, IsTrue, is_some, true, false, not, length, count_by, None, Some, IfOk, IfErr, OnOk, OnErr};
 ghost use Rattle.std.specs.List.{filter};
 ghost use Rattle.std.specs.FinSet as set;
+ghost use Rattle.rds_life.specs.Added.{dropped, gained};
 ghost use Rattle.rds_life.specs.Clash.{Clashes, SameIfBoth};
 ghost use Rattle.rds_life.specs.Joined.{joined};
 ghost use Rattle.rds_life.specs.Past.{first_row, rows_from};
@@ -15,6 +16,7 @@ ghost use Rattle.rds_life.specs.Removed.{without};
 
 use crate::adding::join_in;
 use crate::chosen::{Choice, remove_chosen};
+use crate::gone::rows_gone;
 use crate::joining::{clash, join_rows};
 use crate::live_rows::LiveRows;
 use crate::row_map::RowMap;
@@ -215,9 +217,9 @@ impl Rows {
         Ok(Rows::listed(rows))
     }
 
-    /// Joins the other's rows in. Rows of a map stay in it, and are joined in place: that costs as
-    /// much as the other's are, and a walk where the other has dead dots. Rows of a list are joined
-    /// to a new one.
+    /// Joins the other's rows in. Rows of a map stay in it, and are joined in place: that costs a search
+    /// for each of the other's rows and seen runs, and for each row here of a dot that the other has seen.
+    /// Rows of a list are joined to a new one.
     pub fn join_in<S: DotSet>(
         &mut self,
         seen: &S,
@@ -239,7 +241,7 @@ impl Rows {
         }
     }
 
-    /// Joins these rows into a map, in place.
+    /// Joins these rows into a map, in place. What dies is found first, since that may take memory.
     fn join_to<S: DotSet>(
         &self,
         alloc: Global,
@@ -253,11 +255,33 @@ impl Rows {
         ensures err { OnErr result (target.new ≡ target.old) }
         ensures memory { IfErr result (λ fault. fault ≡ Memory) }
     {
+        let gone = rows_gone(alloc, LiveRows::mapped(target), own_seen, self)?;
+        let _in_order = target.len();
+        self.join_without(alloc, target, seen, &gone)?;
+        let _still_in_order = target.len();
+        Ok(())
+    }
+
+    /// Joins these rows into a map, in place, and takes out the rows that are gone.
+    fn join_without<S: DotSet>(
+        &self,
+        alloc: Global,
+        target: &mut RowMap,
+        seen: &S,
+        gone: &[(Dot, Entry)],
+    ) -> Result<(), Fault>
+        requires seen { (d : Dot) → set.contains (S.contents seen.now) d ≡ false → map.find dot_cmp d target.old ≡ None }
+        requires rise { ascends (keys self.now) ≡ true }
+        ensures ok { OnOk result ((d : Dot) → map.find dot_cmp d target.new ≡ dropped false (is_some (map.find dot_cmp d gone.now))
+            (gained (set.contains (S.contents seen.now) d) (map.find dot_cmp d target.old) (map.find dot_cmp d self.now))) }
+        ensures err { OnErr result (target.new ≡ target.old) }
+        ensures memory { IfErr result (λ fault. fault ≡ Memory) }
+    {
         match &self.form {
-            Form::Listed(rows) => join_in(alloc, target, seen, own_seen, rows),
+            Form::Listed(rows) => join_in(alloc, target, seen, rows, gone),
             Form::Mapped(rows) => {
                 let copies = rows.copy_list(alloc)?;
-                join_in(alloc, target, seen, own_seen, &copies)
+                join_in(alloc, target, seen, &copies, gone)
             }
         }
     }
