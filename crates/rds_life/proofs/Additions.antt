@@ -16,10 +16,8 @@ use Rattle.rds_dots.specs.Sets.{same_dot}
 use Rattle.rds_life.specs.Added.{IsAdded, dropped, gained, is_gone}
 use Rattle.rds_life.specs.Joined.{joined}
 use Rattle.rds_life.specs.Life.{keys}
-use Rattle.rds_life.specs.Removed.{without}
 use Rattle.rds_life.proofs.Joins.{pick, find-joined, ascends-joined}
 use Rattle.rds_life.proofs.Kills.{left, spared, find-left, rise-left}
-use Rattle.rds_life.proofs.Puts.{find-without}
 use Rattle.rds_life.proofs.RowLemmas.{find_above, same_rows}
 
 abbrev Rows : Type 0
