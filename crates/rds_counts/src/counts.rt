@@ -51,6 +51,16 @@ impl Counts {
         }
     }
 
+    /// The counters of rows that are known to ascend by key and replica, each with a number above 0 and
+    /// none above `MAX_COUNT`. Takes no memory, and tests nothing.
+    pub fn with_rows(rows: Vec<CountRow>) -> Counts
+        requires rows { AreCountRows rows.items }
+        ensures value { result ≡ counted rows.items }
+        ensures only { count_rows result ≡ rows.items }
+    {
+        Counts { rows }
+    }
+
     /// The counters of these rows, as a text holds them. `None` where the rows don't ascend by key
     /// and replica, where both numbers of a row are 0, or where one is above `MAX_COUNT`.
     pub fn from_rows(rows: Vec<CountRow>) -> Option<Counts>
@@ -59,7 +69,7 @@ impl Counts {
         if !are_rows(&rows) {
             return None;
         }
-        Some(Counts { rows })
+        Some(Counts::with_rows(rows))
     }
 
     /// The pairs that aren't both 0, by key, then replica.
@@ -123,15 +133,27 @@ impl Counts {
     }
 
     /// Takes the greater of each number, which is the join of positive-negative counters (Shapiro, Preguiça, Baquero,
-    /// Zawirski 2011).
+    /// Zawirski 2011). Others of which none was raised take no memory.
     pub fn merge(&mut self, other: &Counts) -> Result<(), Fault>
         ensures ok { OnOk result ((q : Place) → number self.new q ≡ max (number self.old q) (number other.now q)) }
         ensures memory { IfErr result (λ fault. fault ≡ Memory) }
+        ensures nothing { map.len other.now ≡ 0 → IsOk result }
         ensures err { OnErr result (self.new ≡ self.old) }
     {
-        let rows = merged_rows(*self.rows.allocator(), &self.rows, &other.rows)?;
-        *self = Counts { rows };
+        if other.rows.as_slice().is_empty() {
+            return Ok(());
+        }
+        *self = self.joined(self.alloc(), other)?;
         Ok(())
+    }
+
+    /// The greater of each number, with memory of its own.
+    pub fn joined(&self, alloc: Global, other: &Counts) -> Result<Counts, Fault>
+        ensures ok { IfOk result (λ counts. (q : Place) → number counts q ≡ max (number self.now q) (number other.now q)) }
+        ensures memory { IfErr result (λ fault. fault ≡ Memory) }
+    {
+        let rows = merged_rows(alloc, &self.rows, &other.rows)?;
+        Ok(Counts::with_rows(rows))
     }
 
     /// Whether all numbers are the same.
@@ -141,10 +163,11 @@ impl Counts {
         same_rows(&self.rows, &other.rows)
     }
 
-    /// Equal counters with memory of their own.
+    /// Equal counters with memory of their own. Those of which none was raised take none.
     pub fn copy(&self, alloc: Global) -> Result<Counts, Fault>
         ensures ok { IfOk result (λ counts. counts ≡ self.now) }
         ensures memory { IfErr result (λ fault. fault ≡ Memory) }
+        ensures nothing { map.len self.now ≡ 0 → IsOk result }
     {
         Ok(Counts {
             rows: copy_rows(alloc, &self.rows)?,

@@ -187,8 +187,12 @@ pub fn same_rows(left: &[CountRow], right: &[CountRow]) -> bool
 pub fn copy_rows(alloc: Global, rows: &[CountRow]) -> Result<Vec<CountRow>, Fault>
     ensures ok { IfOk result (λ copy. copy.items ≡ rows.now) }
     ensures memory { IfErr result (λ fault. fault ≡ Memory) }
+    ensures nothing { rows.now ≡ [] → IsOk result }
 {
-    let mut copy = Vec::new(alloc);
+    if rows.is_empty() {
+        return Ok(Vec::new(alloc));
+    }
+    let mut copy = Vec::with_capacity(alloc, rows.len())?;
     for row in rows {
         copy.push(CountRow {
             key: row.key.copy(alloc)?,
@@ -234,7 +238,7 @@ pub fn merged_rows(
     ensures ok { IfOk result (λ rows. rows.items ≡ drawn left.entry.now right.entry.now) }
     ensures memory { IfErr result (λ fault. fault ≡ Memory) }
 {
-    let mut rows = Vec::new(alloc);
+    let mut rows = Vec::with_capacity(alloc, left.len() + right.len())?;
     'joining: loop {
         match (left.split_first(), right.split_first()) {
             (None, None) => return Ok(rows),

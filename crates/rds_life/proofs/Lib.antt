@@ -14,6 +14,7 @@ pub mod Finds
 pub mod Kills
 pub mod LivedLemmas
 pub mod MappedRows
+pub mod NothingSeen
 pub mod PastRows
 pub mod RowLemmas
 pub mod Steps

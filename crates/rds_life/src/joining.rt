@@ -26,7 +26,7 @@ pub fn join_rows<S: DotSet>(
     ensures ok { IfOk result (λ rows. rows.items ≡ joined (set.contains (S.contents left_seen.now)) (set.contains (S.contents right_seen.now)) left.entry.now right.entry.now) }
     ensures memory { IfErr result (λ fault. fault ≡ Memory) }
 {
-    let mut rows = Vec::new(alloc);
+    let mut rows = Vec::with_capacity(alloc, left.len() + right.len())?;
     'joining: loop {
         match (left.split_first(), right.split_first()) {
             (None, None) => return Ok(rows),

@@ -8,7 +8,7 @@ ghost use Rattle.rds_dots.specs.declared.dot.Dot.{Dot};
 ghost use Rattle.rds_dots.specs.Ascending.{ascends};
 ghost use Rattle.rds_dots.specs.Dots.{is_dot};
 ghost use Rattle.rds_life.specs.Killed.{killed_by, but_for, is_the};
-ghost use Rattle.rds_life.specs.Life.{Live, Dead, AreRows, keys, lived, seen_of, live_of, live_rows, entry_of, is_dead, Conflicts, IsJoin, IsLeastAbove, MergeGives};
+ghost use Rattle.rds_life.specs.Life.{Live, Dead, AreRows, keys, lived, seen_of, live_of, live_rows, entry_of, is_dead, AreCompatible, Conflicts, IsJoin, IsLeastAbove, MergeGives};
 ghost use Rattle.rds_life.specs.Past.{first_row, rows_from};
 ghost use Rattle.rds_life.specs.Rank.{rank_of};
 
@@ -68,6 +68,20 @@ impl<S: DotSet> Lives<S> {
         }
     }
 
+    /// The dots of the rows are live with their entries, and the other dots of the set are dead. Takes
+    /// no memory, and tests nothing: the rows are known to ascend, each of a dot of the set.
+    pub fn with_rows(seen: S, rows: Vec<(Dot, Entry)>) -> Lives<S>
+        requires rows { AreRows (S.contents seen) rows.items }
+        ensures lives { result ≡ lived (S.contents seen) rows.items }
+        ensures seen { seen_of result ≡ S.contents seen }
+        ensures live { live_rows result ≡ rows.items }
+    {
+        Lives {
+            seen,
+            rows: Rows::listed(rows),
+        }
+    }
+
     /// The dots of the rows are live with their entries, and the other dots of the set are dead.
     /// `None` where the rows don't ascend by dot, or have a dot that isn't in the set. Takes no
     /// memory.
@@ -80,10 +94,7 @@ impl<S: DotSet> Lives<S> {
         if !are_rows(&seen, &rows) {
             return None;
         }
-        Some(Lives {
-            seen,
-            rows: Rows::listed(rows),
-        })
+        Some(Lives::with_rows(seen, rows))
     }
 
     /// How far a dot has come.
@@ -165,11 +176,16 @@ impl<S: DotSet> Lives<S> {
         Ok(rows)
     }
 
-    /// Equal lives with memory of their own, their live dots in a list.
+    /// Equal lives with memory of their own, their live dots in a list. Where no dot was seen, they
+    /// take none.
     pub fn copy(&self, alloc: Global) -> Result<Lives<S>, Fault>
         ensures ok { IfOk result (λ lives. lives ≡ self.now) }
         ensures memory { IfErr result (λ fault. fault ≡ Memory) }
+        ensures nothing { map.len self.now ≡ 0 → IsOk result }
     {
+        if self.seen.count() == 0 {
+            return Ok(Lives::empty(alloc));
+        }
         Ok(Lives {
             seen: self.seen.copy(alloc)?,
             rows: self.rows.copy(alloc)?,
@@ -256,16 +272,30 @@ impl<S: DotSet> Lives<S> {
         self.rows.clash(&other.rows)
     }
 
-    /// Joins the other's lives into these, as `joined` says, and refuses as it does. Lives that are
-    /// indexed are joined in place and stay indexed: that copies the entries that are new here, not
-    /// those that they had. Without an index, the live dots then stand in a list.
+    /// Joins the other's lives into these, as `joined` says, and refuses as it does. Others of which no
+    /// dot was seen take no memory. Lives that are indexed are joined in place and stay indexed: that
+    /// copies the entries that are new here, not those that they had. Without an index, the live dots
+    /// then stand in a list.
     pub fn merge(&mut self, other: &Lives<S>) -> Result<(), Fault>
         ensures ok { OnOk result (IsJoin self.old other.now self.new) }
         ensures least { OnOk result (IsLeastAbove self.old other.now self.new) }
         ensures gives { MergeGives self.old other.now result }
+        ensures nothing { map.len other.now ≡ 0 → IsOk result }
         ensures err { OnErr result (self.new ≡ self.old) }
     {
         self.check_join(other)?;
+        self.merge_compatible(other)
+    }
+
+    /// Joins the other's lives into these as `merge` does, where they are known to have a join.
+    pub fn merge_compatible(&mut self, other: &Lives<S>) -> Result<(), Fault>
+        requires compatible { AreCompatible self.old other.now }
+        ensures ok { OnOk result (IsJoin self.old other.now self.new) }
+        ensures least { OnOk result (IsLeastAbove self.old other.now self.new) }
+        ensures memory { IfErr result (λ fault. fault ≡ Memory) }
+        ensures nothing { map.len other.now ≡ 0 → IsOk result }
+        ensures err { OnErr result (self.new ≡ self.old) }
+    {
         if other.seen.count() == 0 {
             return Ok(());
         }
@@ -293,7 +323,8 @@ impl<S: DotSet> Lives<S> {
 
     /// Refuses lives that have no join.
     fn check_join(&self, other: &Lives<S>) -> Result<(), Fault>
-        ensures { MergeGives self.now other.now result }
+        ensures gives { MergeGives self.now other.now result }
+        ensures nothing { map.len other.now ≡ 0 → IsOk result }
     {
         if let Some(dot) = self.conflict(other) {
             return Err(Fault::Conflict {

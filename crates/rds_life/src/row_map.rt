@@ -139,7 +139,7 @@ impl RowMap {
         ensures ok { IfOk result (λ list. list.items ≡ self.now) }
         ensures memory { IfErr result (λ fault. fault ≡ Memory) }
     {
-        let mut list = Vec::new(alloc);
+        let mut list = Vec::with_capacity(alloc, self.rows.len())?;
         for (dot, entry) in self.rows.iter() {
             push_copy(alloc, &mut list, *dot, entry)?;
         }

@@ -96,7 +96,7 @@ pub fn copy_rows(alloc: Global, rows: &[(Dot, Entry)]) -> Result<Vec<(Dot, Entry
     ensures ok { IfOk result (λ copy. copy.items ≡ rows.now) }
     ensures memory { IfErr result (λ fault. fault ≡ Memory) }
 {
-    let mut copy = Vec::new(alloc);
+    let mut copy = Vec::with_capacity(alloc, rows.len())?;
     for row in rows {
         push_row(alloc, &mut copy, row)?;
     }

@@ -1,46 +1,5 @@
-use Rattle.std.proofs.Common.{◌∙◌, sym, ap, rules}
-use Rattle.std.specs.FinMap as map
-use Rattle.std.specs.FinSet as set
-use Rattle.rds_life.specs.Life.{lived, join_life}
-use Rattle.rds_life.proofs.Bounds.{least_above}
-use Rattle.rds_life.proofs.LivedLemmas.{find_unseen, get-joined, lived_empty, nothing_joined, rows-joined}
+use Rattle.rds_life.proofs.NothingSeen.{gives_memory}
 use Rattle.rds_life.proofs.lives.Lives.merge.Goals as goal
 
-pub returns-then-count-eq0-clause-ok : goal.returns-then-count-eq0-clause-ok
-returns-then-count-eq0-clause-ok g c =
-    let t = g.S.DotSet.contents c.other.inside.seen in
-    let none = set.empty_of_len t (sym c.count.ensures ∙ c.if-count-eq0.true) in
-    nothing_joined c.args.self.now c.args.other.now (sym c.other.view_is ∙ lived_empty t c.other.inside.rows none)
-
-pub returns-then-count-eq0-clause-least : goal.returns-then-count-eq0-clause-least
-returns-then-count-eq0-clause-least g c = least_above _ _ _ (search rules) (returns-then-count-eq0-clause-ok g c)
-
-pub join_in-requires-clause-seen : goal.join_in-requires-clause-seen
-join_in-requires-clause-seen g c = find_unseen (g.S.DotSet.contents c.self.inside.seen) c.self.inside.rows c.self.invariant
-
-pub invariant_of-self-2 : goal.invariant_of-self-2
-invariant_of-self-2 g c =
-    let contents = g.S.DotSet.contents in
-    let s = contents c.self.inside.seen in
-    let t = contents c.other.inside.seen in
-    rw (c.in_ok-seen.ensures.ok, c.in_ok-join_in.ensures.ok)
-    (rows-joined s t c.self.inside.rows c.other.inside.rows c.self.invariant c.other.invariant)
-
-pub returns-clause-ok : goal.returns-clause-ok
-returns-clause-ok g c =
-    let contents = g.S.DotSet.contents in
-    let s = contents c.self.inside.seen in
-    let t = contents c.other.inside.seen in
-    let a = c.self.inside.rows in
-    let b = c.other.inside.rows in
-    record {
-      each_dot = λ d.
-          ap (λ u. map.get (lived u c.join_in.new.self) d) c.in_ok-seen.ensures.ok
-          ∙ ap (λ r. map.get (lived (set.union s t) r) d) c.in_ok-join_in.ensures.ok
-          ∙ get-joined s t a b c.self.invariant c.other.invariant d
-          ∙ ap (λ l. join_life (map.get l d) (map.get (lived t b) d)) c.self.view_is
-          ∙ ap (λ l. join_life (map.get c.args.self.now d) (map.get l d)) c.other.view_is;
-    }
-
-pub returns-clause-least : goal.returns-clause-least
-returns-clause-least g c = least_above _ _ _ (search rules) (returns-clause-ok g c)
+pub returns-clause-gives : goal.returns-clause-gives
+returns-clause-gives g c = gives_memory c.args.self.now c.args.other.now c.merge_compatible.result c.in_ok-check_join.ensures.gives c.merge_compatible.ensures.memory

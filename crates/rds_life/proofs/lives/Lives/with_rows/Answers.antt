@@ -1,7 +1,7 @@
 use Rattle.std.proofs.Common.{◌∙◌, ap}
 use Rattle.rds_life.specs.Life.{lived, live_rows}
 use Rattle.rds_life.proofs.Views.{seen_of-lived, live_rows-lived}
-use Rattle.rds_life.proofs.lives.Lives.from_parts.Goals as goal
+use Rattle.rds_life.proofs.lives.Lives.with_rows.Goals as goal
 
 pub returns-clause-seen : goal.returns-clause-seen
 returns-clause-seen g c = seen_of-lived (g.S.DotSet.contents c.args.seen) c.listed.result
@@ -9,5 +9,4 @@ returns-clause-seen g c = seen_of-lived (g.S.DotSet.contents c.args.seen) c.list
 pub returns-clause-live : goal.returns-clause-live
 returns-clause-live g c =
     let s = g.S.DotSet.contents c.args.seen in
-    ap (λ rows. live_rows (lived s rows)) c.listed.ensures
-    ∙ live_rows-lived s c.args.rows.items (rw c.deref.ensures.value at c.are_rows.ensures.0 c.if-not-are_rows.false)
+    ap (λ rows. live_rows (lived s rows)) c.listed.ensures ∙ live_rows-lived s c.args.rows.items c.requires.rows
