@@ -1,8 +1,7 @@
 -- What the steps of an edit come to: the join with the command's effect.
 use Rattle.std.proofs.Common.{◌≡◌, ℕ, zero, suc, ◌+◌, ◌<◌, ◌≤◌, Bool, true, false, not, ◌&&◌, cond, max, List, [], ◌∷◌, Option, Some, None, Result, Ok, Err, refl, sym, ◌∙◌, ap, subst, arith, ◌⊎◌, inl, inr, eqb, nat_lt}
 use mathlib.Core.Bool.{false≢true}
-use Rattle.std.specs.Prelude.{is_some, ◌≢◌, IfOk, MatchResult}
-use Rattle.std.specs.Result.{IsErrAnd}
+use Rattle.std.specs.Prelude.{is_some, ◌≢◌, IfOk}
 use Rattle.std.specs.Ordering.{eq_by_cmp}
 use Rattle.std.specs.FinMap as map
 use Rattle.std.specs.FinSet as set
@@ -10,7 +9,7 @@ use Rattle.std.proofs.lemmas.Bool.Decides.{nat_tests}
 use Rattle.rds_names.specs.declared.entry.Entry.{Entry}
 use Rattle.rds_names.specs.declared.entry.Kind.TheVariants.{Reg, Elem}
 use Rattle.rds_names.specs.declared.fault.Fault.{Fault}
-use Rattle.rds_names.specs.declared.fault.Fault.TheVariants.{Memory, SeqFull}
+use Rattle.rds_names.specs.declared.fault.Fault.TheVariants.{SeqFull}
 use Rattle.rds_names.specs.Entry.{HasParts}
 use Rattle.rds_dots.specs.declared.dot.Dot.{Dot}
 use Rattle.rds_dots.specs.declared.dot.TheConstants.{MAX_SEQ}
@@ -26,7 +25,7 @@ use Rattle.rds_life.specs.Life.{Life, Live, Dead, join_life, seen_of}
 use Rattle.rds_life.proofs.Views.{contains-seen_of}
 use Rattle.rds_state.specs.Chosen.{Parts, parts_of, is_chosen, same_dot, AreRaised}
 use Rattle.rds_state.specs.Coordinates.{Coordinates}
-use Rattle.rds_state.specs.Edit.{covers, IsMade, greatest, own_top, is_next, life_made, life_killed, effect_number, JoinsEffect, new_dot, refusal, path_fault, seq_fault, IsDue}
+use Rattle.rds_state.specs.Edit.{covers, IsMade, greatest, own_top, is_next, life_made, life_killed, effect_number, JoinsEffect, refusal, path_fault, seq_fault}
 use Rattle.rds_state.specs.Value.{StateValue, coordinates}
 use Rattle.rds_state.specs.declared.command.Command.{Command}
 use Rattle.rds_state.specs.declared.command.Command.TheVariants.{Set, Add, Del, Clear, Inc, Dec}
@@ -118,14 +117,6 @@ module _ (a : Coordinates) (own : ℕ) where
 
     pub none_is_due : p.path ≢ [] → t < MAX_SEQ → refusal a own c ≡ None
     none_is_due below h = refusal_of_parts c p is ∙ past_root p.path _ below ∙ ap seq_fault top ∙ room t h
-
-  pub dot_of_parts : (c : Command) (p : Parts) → parts_of c ≡ Some p → (t : ℕ) → own_top a own ≡ t → Some (dot_of own (t + 1)) ≡ new_dot a own c
-  dot_of_parts (Set q v) p is t top = ap (λ n. Some (dot_of own (n + 1))) (sym top)
-  dot_of_parts (Add q v) p is t top = ap (λ n. Some (dot_of own (n + 1))) (sym top)
-  dot_of_parts (Del q v) p is t top = cc is
-  dot_of_parts (Clear q) p is t top = cc is
-  dot_of_parts (Inc k by) p is t top = cc is
-  dot_of_parts (Dec k by) p is t top = cc is
 
 pub made_of_parts : (c : Command) (p : Parts) (e : Entry) → parts_of c ≡ Some p → HasParts p.path p.kind p.value e → IsMade c (Some e)
 made_of_parts (Set q v) p e is has =
@@ -245,11 +236,6 @@ module _ (a b : StateValue) (own : ℕ) (k : List ℕ) (by : ℕ) (lives : b.liv
         (λ d. ap (λ l. map.get l d) lives ∙ life_kept (Dec k by) (λ e. refl) (is_next (coordinates a) own d) (map.get a.lives d))
         (λ q. raised q ∙ raised_max (eq_by_cmp place_cmp q (place k own N)) (number a.counts q) by);
   }
-
--- want of memory is allowed where no fault is due
-pub memory_is_due : {T : Type 0} (r : Result T Fault) (due : Option Fault) → due ≡ None → (f : Fault) → IsErrAnd r (λ e. e ≡ f) → f ≡ Memory → MatchResult r (λ _. due ≡ None) (IsDue due)
-memory_is_due (Ok x) due none f is memory = none
-memory_is_due (Err e) due none f is memory = let m : e ≡ Memory = is ∙ memory in rw m none
 
 pub if_ok : {T : Type 0} {X Y : T → Type 0} (r : Result T Fault) → ((x : T) → X x → Y x) → IfOk r X → IfOk r Y
 if_ok (Ok x) f h = f x h

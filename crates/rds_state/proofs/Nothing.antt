@@ -1,14 +1,15 @@
 -- A delta without components.
 use Rattle.std.proofs.Common.{◌≡◌, ℕ, Bool, true, false, max, refl, sym, ◌∙◌, ap, subst, arith}
 use Rattle.std.proofs.Math.Nat.{max-zero}
-use Rattle.std.specs.Prelude.{Option, Some, None, Ok, is_some}
+use Rattle.std.specs.Prelude.{Option, Some, None, Result, Ok, Err, OnOk, is_some}
 use Rattle.std.specs.FinMap as map
+use Rattle.rds_names.specs.declared.fault.Fault.{Fault}
 use Rattle.rds_dots.specs.declared.dot.Dot.{Dot}
 use Rattle.rds_dots.specs.Dots.{dot_cmp}
 use Rattle.rds_dots.specs.Lacking.{HasAll, dot_of}
 use Rattle.rds_counts.specs.Counted.{Counted, number, number_from}
 use Rattle.rds_counts.specs.Place.{Place, place_cmp}
-use Rattle.rds_life.specs.Life.{Agree, Life, Live, Dead, Lived, join_life, seen_of}
+use Rattle.rds_life.specs.Life.{Agree, IsJoin, Life, Live, Dead, Lived, join_life, seen_of}
 use Rattle.rds_life.proofs.Views.{contains-seen_of}
 use Rattle.rds_state.specs.Ahead.{KnowsNumbers, TakeGives}
 use Rattle.rds_state.specs.Coordinates.{join}
@@ -60,3 +61,12 @@ module _ (d : StateValue) (none : size d ≡ 0) where
 
       numbers : (q : Place) → number a.counts q ≡ max (number a.counts q) (number d.counts q)
       numbers q = sym (max-zero (number a.counts q)) ∙ ap (max (number a.counts q)) (sym (no_number q))
+
+-- where lives are joined and numbers too, states are
+pub joins_parts : (a b c : StateValue) → IsJoin a.lives b.lives c.lives → ((q : Place) → number c.counts q ≡ max (number a.counts q) (number b.counts q)) → coordinates c ≡ join (coordinates a) (coordinates b)
+joins_parts a b c lives numbers = λ i. record { life = λ d. lives.each_dot d i; number = λ q. numbers q i }
+
+-- and where the lives may be refused
+pub joins_lives : (a b c : StateValue) (r : Result (Unit {0}) Fault) → OnOk r (IsJoin a.lives b.lives c.lives) → ((q : Place) → number c.counts q ≡ max (number a.counts q) (number b.counts q)) → OnOk r (coordinates c ≡ join (coordinates a) (coordinates b))
+joins_lives a b c (Ok x) lives numbers = joins_parts a b c lives numbers
+joins_lives a b c (Err f) lives numbers = tt

@@ -1,5 +1,5 @@
 //! The state of a document.
-ghost use Rattle.std.specs.Prelude.{◌≡◌, ◌≢◌, ◌↔◌, ◌+◌, IsTrue, true, false, None, Err, count_by, IfOk, IfErr, OnOk, OnErr, MatchResult};
+ghost use Rattle.std.specs.Prelude.{◌≡◌, ◌≢◌, ◌↔◌, ◌+◌, IsTrue, true, false, None, Err, count_by, IfOk, IfErr, OnOk, OnErr, MatchResult, IsOk};
 ghost use Rattle.std.specs.FinMap as map;
 ghost use Rattle.rds_names.specs.declared.fault.Fault.TheVariants.{Memory};
 ghost use Rattle.rds_counts.specs.Counted.{number, place};
@@ -7,7 +7,7 @@ ghost use Rattle.rds_counts.specs.declared.row.Which.TheVariants.{P, N};
 ghost use Rattle.rds_dots.specs.declared.dot.Dot.{Dot};
 ghost use Rattle.rds_dots.specs.Dots.{is_dot};
 ghost use Rattle.rds_life.specs.Killed.{but_for, killed_by};
-ghost use Rattle.rds_life.specs.Life.{Live, MergeGives, live_rows};
+ghost use Rattle.rds_life.specs.Life.{AreCompatible, Live, MergeGives, live_rows};
 ghost use Rattle.rds_state.specs.Chosen.{AreRaised};
 ghost use Rattle.rds_state.specs.Coordinates.{join};
 ghost use Rattle.rds_state.specs.Edit.{count_fault, makes_pair, IsDue};
@@ -109,11 +109,12 @@ impl<S: DotSet> State<S> {
     }
 
     /// Joins the other state into this one (Shapiro, Preguiça, Baquero, Zawirski 2011): each coordinate becomes the later
-    /// life or the greater number. Refuses a
-    /// `Conflict`, which names the least dot that is live in both with different entries.
+    /// life or the greater number. Refuses a `Conflict`, which names the least dot that is live in both with different
+    /// entries. Another state without components takes no memory, and one without counters none for counters.
     pub fn merge(&mut self, other: &State<S>) -> Result<(), Fault>
         ensures ok { OnOk result (coordinates self.new ≡ join (coordinates self.old) (coordinates other.now)) }
         ensures gives { MergeGives self.old.lives other.now.lives result }
+        ensures nothing { size other.now ≡ 0 → IsOk result }
         ensures err { OnErr result (self.new ≡ self.old) }
     {
         if let Some(dot) = self.lives.conflict(&other.lives) {
@@ -122,17 +123,32 @@ impl<S: DotSet> State<S> {
                 seq: dot.seq,
             });
         }
-        let mut counts = self.counts.copy(self.counts.alloc())?;
-        counts.merge(&other.counts)?;
-        self.lives.merge(&other.lives)?;
+        self.merge_compatible(other)
+    }
+
+    /// Joins the other state into this one, where they are known to have no conflict. The numbers are joined aside, so
+    /// that all is as it was where there is no memory for the lives.
+    fn merge_compatible(&mut self, other: &State<S>) -> Result<(), Fault>
+        requires compatible { AreCompatible self.old.lives other.now.lives }
+        ensures ok { OnOk result (coordinates self.new ≡ join (coordinates self.old) (coordinates other.now)) }
+        ensures memory { IfErr result (λ fault. fault ≡ Memory) }
+        ensures nothing { size other.now ≡ 0 → IsOk result }
+        ensures err { OnErr result (self.new ≡ self.old) }
+    {
+        if other.counts.rows().is_empty() {
+            return self.lives.merge_compatible(&other.lives);
+        }
+        let counts = self.counts.joined(self.counts.alloc(), &other.counts)?;
+        self.lives.merge_compatible(&other.lives)?;
         self.counts = counts;
         Ok(())
     }
 
-    /// An equal state with memory of its own.
+    /// An equal state with memory of its own. One without components takes none.
     pub fn copy(&self, alloc: Global) -> Result<State<S>, Fault>
         ensures ok { IfOk result (λ state. state ≡ self.now) }
         ensures memory { IfErr result (λ fault. fault ≡ Memory) }
+        ensures nothing { size self.now ≡ 0 → IsOk result }
     {
         Ok(State {
             lives: self.lives.copy(alloc)?,

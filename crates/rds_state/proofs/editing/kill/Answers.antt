@@ -1,4 +1,4 @@
-use Rattle.std.proofs.Common.{◌∙◌, ap, None}
+use Rattle.std.proofs.Common.{◌∙◌, None}
 use Rattle.std.specs.FinMap as map
 use Rattle.rds_life.specs.Killed.{but_for}
 use Rattle.rds_state.specs.Chosen.{is_chosen}
