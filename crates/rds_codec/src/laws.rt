@@ -1,11 +1,13 @@
-//! The law of texts.
-ghost use Rattle.std.specs.Prelude.{ℕ};
+//! The laws of texts.
+ghost use Rattle.std.specs.Prelude.{◌≡◌, ℕ};
 ghost use Rattle.rds_codec.specs.AnswerTexts.{answer_kind};
 ghost use Rattle.rds_codec.specs.CertificateTexts.{certificate_kind};
 ghost use Rattle.rds_codec.specs.DigestTexts.{digest_kind};
 ghost use Rattle.rds_codec.specs.HelloTexts.{hello_kind};
 ghost use Rattle.rds_codec.specs.Kinds.{state_kind, snapshot_kind};
 ghost use Rattle.rds_codec.specs.Laws.{StandApart};
+ghost use Rattle.rds_codec.specs.declared.hellos.TheConstants.{VERSION};
+ghost use Rattle.rds_codec.specs.declared.limits.TheConstants.{LIMIT};
 
 /// No text of a kind begins another of that kind, and one text has one value. That a value has one text needs
 /// no law: its text is a function of it.
@@ -16,4 +18,11 @@ pub fn texts_stand_apart()
     ensures certificates { (replicas : ℕ) → StandApart (certificate_kind replicas) }
     ensures answers { (replicas : ℕ) → StandApart (answer_kind replicas) }
     ensures hellos { StandApart hello_kind }
+{}
+
+/// The greatest length of a text, 256 MiB, and the version that a hello says. The function does nothing: its contract is
+/// these numbers.
+pub fn limits_of_texts()
+    ensures length { LIMIT ≡ 268435456 }
+    ensures version { VERSION ≡ 1 }
 {}

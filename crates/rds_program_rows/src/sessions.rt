@@ -16,7 +16,8 @@ use rds_rows::Table;
 use rds_rows::told::said;
 use rds_rows::words::first;
 use rds_session::{
-    Input, Side, a_course_is_by_messages, streams_are_split_once, two_sessions, values_are_least,
+    Input, Side, a_course_is_by_messages, limit_of_messages, streams_are_split_once, two_sessions,
+    values_are_least,
 };
 use showing::chunks_told;
 use std::alloc::Global;
@@ -155,5 +156,6 @@ fn laws(alloc: Global) -> Result<String, Fault> {
     a_course_is_by_messages();
     two_sessions();
     values_are_least();
+    limit_of_messages();
     said(alloc, "called")
 }

@@ -1,8 +1,10 @@
 //! Laws of streams and sessions.
+ghost use Rattle.std.specs.Prelude.{◌≡◌};
 ghost use Rattle.rds_session.specs.ByMessages.{IsByMessages, IsQuiet};
 ghost use Rattle.rds_session.specs.Checked.{IsLeastDelta, IsOwnCertificate, PassesExactly};
 ghost use Rattle.rds_session.specs.Meeting.{BothEnd, KeepsAtEnd, ReceiveDeltas};
 ghost use Rattle.rds_session.specs.Stream.{AreSplit, AreSplitOnce};
+ghost use Rattle.rds_session.specs.declared.chunks.TheConstants.{MESSAGE_LIMIT};
 
 /// A stream of bytes is messages and a rest, less than a message, in exactly one way, however each message was cut
 /// into chunks. The function does nothing: its contract is these laws.
@@ -36,4 +38,10 @@ pub fn values_are_least()
     ensures least { IsLeastDelta }
     ensures certificate { IsOwnCertificate }
     ensures passes { PassesExactly }
+{}
+
+/// The greatest length of a message, 256 MiB, without the lengths of its chunks. The function does nothing: its contract is this
+/// number.
+pub fn limit_of_messages()
+    ensures { MESSAGE_LIMIT ≡ 268435456 }
 {}

@@ -13,7 +13,10 @@ mod talk;
 mod writing;
 
 pub use exchanging::{Exchanged, exchange};
-pub use laws::{a_course_is_by_messages, streams_are_split_once, two_sessions, values_are_least};
+pub use laws::{
+    a_course_is_by_messages, limit_of_messages, streams_are_split_once, two_sessions,
+    values_are_least,
+};
 pub use session::Session;
 pub use step::{Ended, Input, Output};
 pub use talk::Side;

@@ -1,6 +1,6 @@
 //! The snapshot that is held from row to row.
 use crate::{exchanges, places, reading, texts};
-use rds_codec::texts_stand_apart;
+use rds_codec::{limits_of_texts, texts_stand_apart};
 use rds_dots::DotSet;
 use rds_names::Fault;
 use rds_rows::Table;
@@ -50,5 +50,6 @@ impl<S: DotSet> Held<S> {
 /// `laws`: the function whose contract is the law of texts is called.
 fn laws(alloc: Global) -> Result<String, Fault> {
     texts_stand_apart();
+    limits_of_texts();
     said(alloc, "called")
 }
