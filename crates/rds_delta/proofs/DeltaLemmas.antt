@@ -1,6 +1,6 @@
 -- What the parts of a delta are.
-use Rattle.std.proofs.Common.{◌≡◌, ℕ, zero, suc, ◌<◌, ◌≤◌, Bool, true, false, not, ◌&&◌, ◌||◌, cond, nat_lt, List, [], ◌∷◌, Option, Some, None, refl, sym, ◌∙◌, ap, subst, arith}
-use Rattle.std.specs.Prelude.{is_some, nat_le, MatchOption, IsSome, IfSome}
+use Rattle.std.proofs.Common.{◌≡◌, ℕ, zero, suc, ◌<◌, ◌≤◌, Bool, true, false, not, ◌&&◌, ◌||◌, cond, nat_lt, List, [], ◌∷◌, Option, Some, None, refl, sym, ◌∙◌, ap, arith}
+use Rattle.std.specs.Prelude.{is_some, nat_le}
 use mathlib.Core.Bool.{false≢true}
 use Rattle.std.proofs.lemmas.Bool.Decides.{nat_tests}
 use Rattle.std.specs.List.{list_all}
@@ -29,17 +29,6 @@ use Rattle.rds_counts.specs.CountedLemmas.{some, number_in, number-row, number_p
 use Rattle.rds_delta.specs.Ranks.{life_rank}
 use Rattle.rds_delta.specs.Digested.{DigestValue, rank_in, IsInside}
 use Rattle.rds_delta.specs.Higher.{higher, higher_row, kept_row, higher_rows, unseen_rows, is_sent}
-
--- what is offered is there
-pub there : {X : Type 0} (o : Option X) (A : Type 0) (B : X → Type 0) → A → MatchOption o (¬ A) B → IsSome o
-there None A B a h = absurd (h a)
-there (Some x) A B a h = refl
-
-pub taken : {X : Type 0} (o : Option X) (x : X) (A : Type 0) (B : X → Type 0) → o ≡ Some x → MatchOption o A B → B x
-taken o x A B e h = subst (λ o. MatchOption o A B) e h
-
-pub given : {X : Type 0} (o : Option X) (x : X) (B : X → Type 0) → o ≡ Some x → IfSome o B → B x
-given o x B e h = subst (λ o. IfSome o B) e h
 
 module _ {X : Type 0} (p : Dot → Bool) where
   find-unseen : (d : Dot) (rows : List (Dot × X)) → find dot_cmp d (unseen_rows p rows) ≡ cond (not (p d)) (find dot_cmp d rows) None

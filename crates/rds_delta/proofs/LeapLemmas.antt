@@ -1,18 +1,15 @@
 -- Rows that a run of a set has are leapt.
-use Rattle.std.proofs.Common.{◌≡◌, ℕ, zero, suc, ◌<◌, ◌≤◌, Bool, true, false, cond, not, List, [], ◌∷◌, length, get_or, drop, refl, sym, ◌∙◌, ap, arith, inl, inr}
-use mathlib.Core.Bool.{false≢true}
+use Rattle.std.proofs.Common.{◌≡◌, ℕ, ◌≤◌, Bool, true, false, cond, not, List, [], ◌∷◌, length, refl, sym, ◌∙◌, ap, arith}
 use Rattle.std.specs.FinSet as set
 use Rattle.std.specs.List.{list_all}
 use Rattle.std.specs.Ordering.{is_lt, nat_cmp, ordering_then}
-use Rattle.std.specs.declared.cmp.Ordering.TheVariants.{Less}
 use Rattle.std.proofs.lemmas.List.Filters.{length-filter_both}
 use Rattle.std.proofs.lemmas.Bool.Decides.{nat_tests}
-use Rattle.rds_names.specs.Conditions.{and_left, and_right, less_of}
+use Rattle.rds_names.specs.Conditions.{and_left, and_right}
 use Rattle.rds_dots.specs.declared.dot.Dot.{Dot}
 use Rattle.rds_dots.specs.Ascending.{is_above, ascends}
-use Rattle.rds_dots.specs.Dots.{Dots, dot_cmp}
+use Rattle.rds_dots.specs.Dots.{Dots}
 use Rattle.rds_dots.specs.Lacking.{dot_of}
-use Rattle.rds_dots.specs.Order.{dots_total}
 use Rattle.rds_life.specs.Life.{keys}
 use Rattle.rds_life.specs.Past.{rows_past}
 use Rattle.rds_delta.specs.Higher.{unseen_rows}

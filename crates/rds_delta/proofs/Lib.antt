@@ -15,6 +15,7 @@ pub mod LeastLaws
 pub mod LifelessLemmas
 pub mod LineLemmas
 pub mod NextLemmas
+pub mod NothingSent
 pub mod PartLemmas
 pub mod Sent
 pub mod Sizes

@@ -16,3 +16,8 @@ least a b = record {
 pub record IsAbove (a : Coordinates) (b : Ranks) : Type 0 where
   pub lives : (d : Dot) → is_some (a.life d) ≡ true → b.rank d < life_rank (a.life d)
   pub numbers : (q : Place) → 0 < a.number q → b.number q < a.number q
+
+-- no component: every dot is unseen, and every number 0
+pub record IsNothing (a : Coordinates) : Type 0 where
+  pub lives : (d : Dot) → a.life d ≡ None
+  pub numbers : (q : Place) → a.number q ≡ 0

@@ -1,12 +1,12 @@
 //! The certificate of a delta.
-ghost use Rattle.std.specs.Prelude.{◌≡◌, ◌++◌, ℕ, List, true, None, is_some, IfOk, IfErr, IsOk, OnOk};
+ghost use Rattle.std.specs.Prelude.{◌≡◌, ◌++◌, [], ℕ, List, true, None, is_some, IfOk, IfErr, IsOk, OnOk};
 ghost use Rattle.std.specs.FinMap as map;
 ghost use Rattle.rds_names.specs.declared.fault.Fault.TheVariants.{Memory};
 ghost use Rattle.rds_dots.specs.declared.dot.Dot.{Dot};
 ghost use Rattle.rds_dots.specs.Dots.{is_dot};
 ghost use Rattle.rds_counts.specs.Counted.{number, place};
 ghost use Rattle.rds_state.specs.Fits.{Fits};
-ghost use Rattle.rds_state.specs.Value.{coordinates};
+ghost use Rattle.rds_state.specs.Value.{coordinates, size};
 ghost use Rattle.rds_delta.specs.declared.row.Row.{Row};
 ghost use Rattle.rds_delta.specs.Claims.{IsCertificate};
 ghost use Rattle.rds_delta.specs.CounterRows.{counter_rows, number_rows};
@@ -27,7 +27,7 @@ use std::alloc::Global;
 
 /// What the digest has in place of each component of a delta, in rows of which no two neighbours could be one: there is
 /// one such list. It says something of a delta whose components are all above the digest, as those of a least delta are:
-/// then each row lies in its range.
+/// then each row lies in its range. That of a delta without components takes no memory.
 pub fn certificate<S: DotSet>(
     alloc: Global,
     digest: &Digest<S>,
@@ -37,6 +37,7 @@ pub fn certificate<S: DotSet>(
     ensures unique { IfOk result (λ rows. (others : List Row) → IsCertificate (ranks_in digest.now) delta.now others → others ≡ rows) }
     ensures within { (replicas : ℕ) → Fits replicas (coordinates delta.now) → IsAbove (coordinates delta.now) (ranks_in digest.now) → IfOk result (AreRowsWithin replicas) }
     ensures memory { IfErr result (λ fault. fault ≡ Memory) }
+    ensures nothing { size delta.now ≡ 0 → IsOk result }
 {
     let mut rows = dot_rows(alloc, digest, delta.lives())?;
     push_counts(alloc, &mut rows, digest.counts(), delta.counts().rows())?;
@@ -52,6 +53,7 @@ fn dot_rows<S: DotSet>(
     ensures ok { IfOk result (λ rows. (more : List Row) → is_flat more ≡ true → rows.items ++ more ≡ rows_after (rank_in digest.now) lives.now None more) }
     ensures dots { IsOk result → (d : Dot) → is_some (map.get lives.now d) ≡ true → is_dot d ≡ true }
     ensures memory { IfErr result (λ fault. fault ≡ Memory) }
+    ensures nothing { map.len lives.now ≡ 0 → IsOk result }
 {
     let mut rows = Vec::new(alloc);
     let mut after = None;
@@ -86,7 +88,11 @@ fn push_counts(
 ) -> Result<(), Fault>
     ensures ok { OnOk result (rows.new.items ≡ rows.old.items ++ counter_rows (number peer.now) counts.now) }
     ensures memory { IfErr result (λ fault. fault ≡ Memory) }
+    ensures nothing { counts.now ≡ [] → IsOk result }
 {
+    if counts.is_empty() {
+        return Ok(());
+    }
     let mut left = counts;
     'telling: loop {
         let (count, later) = match left.split_first() {

@@ -1,5 +1,5 @@
 //! The least delta.
-ghost use Rattle.std.specs.Prelude.{◌≡◌, ◌≤◌, ◌∷◌, true, length, nat_lt, cond, None, IfOk, IfErr};
+ghost use Rattle.std.specs.Prelude.{◌≡◌, ◌≤◌, ◌∷◌, [], true, false, length, nat_lt, cond, None, IfOk, IfErr, IsOk};
 ghost use Rattle.std.specs.FinMap as map;
 ghost use Rattle.std.specs.FinSet as set;
 ghost use Rattle.rds_names.specs.declared.fault.Fault.TheVariants.{Memory};
@@ -11,10 +11,11 @@ ghost use Rattle.rds_counts.specs.Counted.{number};
 ghost use Rattle.rds_state.specs.Value.{coordinates};
 ghost use Rattle.rds_delta.specs.Digested.{rank_in, ranks_in};
 ghost use Rattle.rds_delta.specs.Higher.{higher, higher_rows, is_sent, unseen_rows};
-ghost use Rattle.rds_delta.specs.Least.{least};
+ghost use Rattle.rds_delta.specs.Least.{IsNothing, least};
 ghost use Rattle.rds_delta.specs.Ranks.{life_rank};
 
 use crate::digest::Digest;
+use crate::inside::is_inside;
 use crate::killed::dots_killed;
 use crate::stretches::stretch_from;
 use rds_counts::{CountRow, Counts};
@@ -26,7 +27,7 @@ use std::alloc::Global;
 
 /// The least delta of a state against a digest: the state's components that are above the digest's values, and
 /// nothing else (after Enes, Almeida, Baquero, Leitão 2019). Joined into what was digested, or into what that has become
-/// since, it does what the whole state would do.
+/// since, it does what the whole state would do. One without components takes no memory.
 pub fn delta<S: DotSet>(
     alloc: Global,
     state: &State<S>,
@@ -34,6 +35,7 @@ pub fn delta<S: DotSet>(
 ) -> Result<State<S>, Fault>
     ensures ok { IfOk result (λ delta. coordinates delta ≡ least (coordinates state.now) (ranks_in digest.now)) }
     ensures memory { IfErr result (λ fault. fault ≡ Memory) }
+    ensures nothing { IsNothing (least (coordinates state.now) (ranks_in digest.now)) → IsOk result }
 {
     let lives = lives_above(alloc, state.lives(), digest)?;
     let counts = counts_above(alloc, state.counts(), digest.counts())?;
@@ -48,11 +50,12 @@ fn lives_above<S: DotSet>(
 ) -> Result<Lives<S>, Fault>
     ensures ok { IfOk result (λ above. (d : Dot) → map.get above d ≡ cond (nat_lt (rank_in digest.now d) (life_rank (map.get lives.now d))) (map.get lives.now d) None) }
     ensures memory { IfErr result (λ fault. fault ≡ Memory) }
+    ensures nothing { ((d : Dot) → cond (nat_lt (rank_in digest.now d) (life_rank (map.get lives.now d))) (map.get lives.now d) None ≡ None) → IsOk result }
 {
-    let rows = rows_unseen(alloc, digest.seen(), lives)?;
+    let known = digest.seen();
     let seen = dots_above(alloc, lives, digest)?;
-    let above = Lives::from_parts(seen, rows).unwrap();
-    Ok(above)
+    let rows = rows_unseen(alloc, known, lives)?;
+    Ok(Lives::with_rows(seen, rows))
 }
 
 /// The dots that are above the digest's ranks: those that it hasn't, and those that are dead here and live there.
@@ -60,9 +63,13 @@ fn lives_above<S: DotSet>(
 fn dots_above<S: DotSet>(alloc: Global, lives: &Lives<S>, digest: &Digest<S>) -> Result<S, Fault>
     ensures ok { IfOk result (λ dots. (d : Dot) → set.contains (S.contents dots) d ≡ is_sent (map.get lives.now d) (set.contains digest.now.seen d) (set.contains digest.now.live d)) }
     ensures memory { IfErr result (λ fault. fault ≡ Memory) }
+    ensures nothing { ((d : Dot) → is_sent (map.get lives.now d) (set.contains digest.now.seen d) (set.contains digest.now.live d) ≡ false) → IsOk result }
 {
-    let new = lives.seen().minus(alloc, digest.seen())?;
     let killed = dots_killed(alloc, lives, digest.live())?;
+    if is_inside(lives.seen(), digest.seen()) {
+        return Ok(killed);
+    }
+    let new = lives.seen().minus(alloc, digest.seen())?;
     let sent = new.union(alloc, &killed)?;
     Ok(sent)
 }
@@ -76,6 +83,7 @@ fn rows_unseen<S: DotSet>(
     ensures ok { IfOk result
         (λ unseen. unseen.items ≡ unseen_rows (set.contains (S.contents seen.now)) (live_rows lives.now)) }
     ensures memory { IfErr result (λ fault. fault ≡ Memory) }
+    ensures nothing { unseen_rows (set.contains (S.contents seen.now)) (live_rows lives.now) ≡ [] → IsOk result }
 {
     let mut unseen = Vec::new(alloc);
     let mut rest = lives.live();
@@ -112,16 +120,17 @@ fn past_run<'a, S: DotSet>(seen: &S, dot: Dot, mut rows: LiveRows<'a>) -> LiveRo
 fn counts_above(alloc: Global, counts: &Counts, peer: &Counts) -> Result<Counts, Fault>
     ensures ok { IfOk result (λ above. (q : Place) → number above q ≡ higher (number counts.now q) (number peer.now q)) }
     ensures memory { IfErr result (λ fault. fault ≡ Memory) }
+    ensures nothing { ((q : Place) → higher (number counts.now q) (number peer.now q) ≡ 0) → IsOk result }
 {
     let rows = rows_above(alloc, peer, counts.rows())?;
-    let above = Counts::from_rows(rows).unwrap();
-    Ok(above)
+    Ok(Counts::with_rows(rows))
 }
 
 /// The rows with the numbers that are above the peer's, and 0 in place of the others.
 fn rows_above(alloc: Global, peer: &Counts, rows: &[CountRow]) -> Result<Vec<CountRow>, Fault>
     ensures ok { IfOk result (λ above. above.items ≡ higher_rows (number peer.now) rows.now) }
     ensures memory { IfErr result (λ fault. fault ≡ Memory) }
+    ensures nothing { higher_rows (number peer.now) rows.now ≡ [] → IsOk result }
 {
     let mut above = Vec::new(alloc);
     let mut rest = rows;

@@ -1,10 +1,12 @@
 //! What a replica has, without entries.
-ghost use Rattle.std.specs.Prelude.{◌≡◌, ◌≤◌, true, IfOk, IfErr, IfSome, MatchOption};
+ghost use Rattle.std.specs.Prelude.{◌≡◌, ◌≤◌, true, IfOk, IfErr, IfSome, IsOk, MatchOption};
+ghost use Rattle.std.specs.FinMap as map;
+ghost use Rattle.std.specs.FinSet as set;
 ghost use Rattle.rds_names.specs.declared.fault.Fault.TheVariants.{Memory};
 ghost use Rattle.rds_counts.specs.declared.row.Which.TheVariants.{P, N};
 ghost use Rattle.rds_counts.specs.declared.row.TheConstants.{MAX_COUNT};
 ghost use Rattle.rds_counts.specs.Counted.{place};
-ghost use Rattle.rds_state.specs.Value.{coordinates};
+ghost use Rattle.rds_state.specs.Value.{coordinates, size};
 ghost use Rattle.rds_delta.specs.Digested.{DigestValue, IsInside, digest_of, ranks_in};
 ghost use Rattle.rds_delta.specs.Ranks.{rank_number, ranks};
 
@@ -48,16 +50,39 @@ impl<S: DotSet> Model for Digest<S> {
 }
 
 impl<S: DotSet> Digest<S> {
-    /// The digest of a state.
+    /// The digest of a state. That of one without components takes no memory.
     pub fn of(alloc: Global, state: &State<S>) -> Result<Digest<S>, Fault>
         ensures ranks { IfOk result (λ digest. ranks_in digest ≡ ranks (coordinates state.now)) }
         ensures value { IfOk result (λ digest. digest ≡ digest_of state.now) }
         ensures memory { IfErr result (λ fault. fault ≡ Memory) }
+        ensures nothing { size state.now ≡ 0 → IsOk result }
     {
+        if state.components() == 0 {
+            return Ok(Digest::empty(alloc));
+        }
         let seen = state.lives().seen().copy(alloc)?;
         let live = state.lives().live_dots(alloc)?;
         let counts = state.counts().copy(alloc)?;
         Ok(Digest { seen, live, counts })
+    }
+
+    /// The digest of a state without components.
+    fn empty(alloc: Global) -> Digest<S>
+        ensures value { let none : DigestValue = record { seen = set.empty; live = set.empty; counts = map.empty } in result ≡ none }
+    {
+        Digest {
+            seen: S::empty(alloc),
+            live: S::empty(alloc),
+            counts: Counts::empty(alloc),
+        }
+    }
+
+    /// The digest of these parts. Takes no memory, and tests nothing: each live dot is known to be among the seen ones.
+    pub fn with_parts(seen: S, live: S, counts: Counts) -> Digest<S>
+        requires inside { IsInside (S.contents live) (S.contents seen) }
+        ensures value { let parts : DigestValue = record { seen = S.contents seen; live = S.contents live; counts = counts } in result ≡ parts }
+    {
+        Digest { seen, live, counts }
     }
 
     /// The digest of these parts, as a text holds them. `None` where a live dot isn't among the seen ones. Takes no
@@ -69,7 +94,7 @@ impl<S: DotSet> Digest<S> {
         if !is_inside(&live, &seen) {
             return None;
         }
-        Some(Digest { seen, live, counts })
+        Some(Digest::with_parts(seen, live, counts))
     }
 
     /// The dots that aren't unseen, the live ones among them.

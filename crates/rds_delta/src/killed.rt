@@ -1,5 +1,5 @@
 //! The dots of a set that are dead here.
-ghost use Rattle.std.specs.Prelude.{◌≡◌, ◌+◌, ◌<◌, ◌≤◌, ◌∷◌, ◌&&◌, ℕ, true, IfOk, IfErr};
+ghost use Rattle.std.specs.Prelude.{◌≡◌, ◌+◌, ◌<◌, ◌≤◌, ◌∷◌, ◌&&◌, ℕ, true, false, IfOk, IfErr, IsOk};
 ghost use Rattle.std.specs.FinMap as map;
 ghost use Rattle.std.specs.FinSet as set;
 ghost use Rattle.rds_names.specs.declared.fault.Fault.TheVariants.{Memory};
@@ -24,6 +24,7 @@ use std::alloc::Global;
 pub fn dots_killed<S: DotSet>(alloc: Global, lives: &Lives<S>, live: &S) -> Result<S, Fault>
     ensures ok { IfOk result (λ dots. (d : Dot) → set.contains (S.contents dots) d ≡ (is_dead (map.get lives.now d) && set.contains (S.contents live.now) d)) }
     ensures memory { IfErr result (λ fault. fault ≡ Memory) }
+    ensures nothing { ((d : Dot) → (is_dead (map.get lives.now d) && set.contains (S.contents live.now) d) ≡ false) → IsOk result }
 {
     let mut killed = S::empty(alloc);
     let mut after = None;

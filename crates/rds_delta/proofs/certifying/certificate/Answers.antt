@@ -1,10 +1,12 @@
-use Rattle.std.proofs.Common.{◌≡◌, ◌∙◌, ◌++◌, refl, sym, ap, subst, List, None, true}
+use Rattle.std.proofs.Common.{◌≡◌, ◌∙◌, ◌++◌, refl, sym, ap, subst, List, None, true, arith}
+use mathlib.Core.Bool.{false≢true}
 use Rattle.std.specs.Prelude.{is_some}
 use Rattle.std.specs.FinMap as map
 use Rattle.rds_dots.specs.declared.dot.Dot.{Dot}
 use Rattle.rds_dots.specs.Dots.{is_dot}
 use Rattle.rds_life.specs.Life.{Lived}
 use Rattle.rds_counts.specs.Counted.{Counted, number, counted}
+use Rattle.rds_counts.proofs.Nothing.{no_rows}
 use Rattle.rds_delta.specs.declared.row.Row.{Row}
 use Rattle.rds_delta.specs.Digested.{rank_in, ranks_in}
 use Rattle.rds_delta.specs.Claims.{IsCertificate}
@@ -37,3 +39,16 @@ returns-clause-within g c = λ replicas fits above.
     let is : v.counts ≡ counted rs = sym c.counts-2.ensures ∙ c.rows.ensures.value in
     let dots = subst (λ (l : Lived). (d : Dot) → is_some (map.get l d) ≡ true → is_dot d ≡ true) c.lives.ensures (c.in_ok-rows.ensures.dots refl) in
     certificate_within replicas b v dots (number_most v.counts rs c.rows.ensures.are_rows is) fits above c.new.result (returns-clause-ok g c)
+
+pub returns-in_err-rows-clause-nothing : goal.returns-in_err-rows-clause-nothing
+returns-in_err-rows-clause-nothing g c = λ none.
+    let first : map.len c.args.delta.now.lives ≡ 0 = omega (arith, none) in
+    absurd (false≢true (c.in_err-rows.ensures.nothing (ap (λ (l : Lived). map.len l) c.lives.ensures ∙ first)))
+
+pub returns-in_err-push_counts-clause-nothing : goal.returns-in_err-push_counts-clause-nothing
+returns-in_err-push_counts-clause-nothing g c = λ none.
+    let v = c.args.delta.now in
+    let rs = c.rows.result.now in
+    let is : v.counts ≡ counted rs = sym c.counts-2.ensures ∙ c.rows.ensures.value in
+    let second : map.len v.counts ≡ 0 = omega (arith, none) in
+    absurd (false≢true (c.in_err-push_counts.ensures.nothing (no_rows rs v.counts c.rows.ensures.are_rows (sym is) second)))

@@ -5,6 +5,7 @@ use Rattle.rds_delta.specs.Digested.{rank_in}
 use Rattle.rds_delta.specs.Rest.{row_of, after_of, rows_after}
 use Rattle.rds_delta.proofs.AfterLemmas.{step_none}
 use Rattle.rds_delta.proofs.ClaimedLemmas.{step_rows, fewer_left}
+use Rattle.rds_delta.proofs.NothingSent.{no_next_row}
 use Rattle.rds_delta.proofs.certifying.dot_rows.Goals as goal
 
 pub returns-in-None-clause-ok : goal.returns-in-None-clause-ok
@@ -27,3 +28,6 @@ telling-preserved g c = λ more flat.
     ∙ ap (λ (d : Dot). c.telling.rows.items ++ (row_of c.in-Some.next ∷ rest d)) c.last.ensures
     ∙ ap (λ (l : List Row). c.telling.rows.items ++ l) (sym (step_rows peer v c.telling.after c.in-Some.next c.in-Some.ensures.next more flat))
     ∙ c.telling.invariant more flat
+
+pub returns-in_err-push-in-Some-clause-nothing : goal.returns-in_err-push-in-Some-clause-nothing
+returns-in_err-push-in-Some-clause-nothing g c = λ none. absurd (no_next_row (rank_in c.args.digest.now) c.args.lives.now c.telling.after c.in-Some.next c.in-Some.ensures.next none)
