@@ -145,6 +145,7 @@ impl<S: DotSet> Histories<S> {
             "count" => words::said_number(alloc, Some(self.lives.live_len() as u64)),
             "first" => first(alloc, &self.lives, rest),
             "past" => past(alloc, &self.lives, rest),
+            "dead_there" => rows_told(alloc, &self.lives.rows_dead_in(alloc, &self.other)?),
             _ => Err(Fault::Usage),
         }
     }
@@ -228,6 +229,18 @@ fn listed(alloc: Global, rows: LiveRows<'_>) -> Result<String, Fault> {
     }
     if line.is_empty() {
         return said(alloc, "none live");
+    }
+    Ok(line)
+}
+
+/// Rows of a list, as `0:2=20`.
+fn rows_told(alloc: Global, rows: &[(Dot, Entry)]) -> Result<String, Fault> {
+    let mut line = String::new(alloc);
+    for (dot, entry) in rows {
+        push(&mut line, row(alloc, *dot, entry)?.as_str())?;
+    }
+    if line.is_empty() {
+        return said(alloc, "none");
     }
     Ok(line)
 }
