@@ -117,8 +117,5 @@ pub fn read_counters<'a>(
     ensures { Reads (λ x. (x.0, x.1.now)) result (counters_at replicas bytes.now) }
 {
     let (rows, rest) = read_count_rows(alloc, replicas, bytes)?;
-    match Counts::from_rows(rows) {
-        Some(counts) => Ok((counts, rest)),
-        None => Err(Fault::Bad),
-    }
+    Ok((Counts::with_rows(rows), rest))
 }

@@ -1,5 +1,5 @@
 -- A digest is a format.
-use Rattle.std.proofs.Common.{◌≡◌, ℕ, ◌+◌, ◌^◌, ◌<◌, ◌≤◌, inl, inr, Bool, true, false, cond, List, ◌++◌, length, Ok, Err, refl, ap, subst, arith}
+use Rattle.std.proofs.Common.{◌≡◌, ℕ, ◌+◌, ◌^◌, ◌<◌, ◌≤◌, Bool, true, false, List, ◌++◌, length, Ok, Err, refl, ap, arith}
 use Rattle.std.specs.FinSet as set
 use Rattle.rds_dots.specs.Dots.{Dots}
 use Rattle.rds_dots.specs.Order.{dots_total}
@@ -12,7 +12,7 @@ use Rattle.rds_codec.specs.DigestTexts.{DigestParts, IsDigestOf, are_seen, diges
 use Rattle.rds_bytes.specs.Reading as read
 use Rattle.rds_bytes.specs.Reading.{then_at, pair_at, when_at, dots_at, counters_at}
 use Rattle.rds_bytes.specs.Spelling.{dots_text, counters_text}
-use Rattle.rds_bytes.proofs.Format.{IsFormat, bind_ok, chosen, ok_is, failed, then_format, pair_format, made_format, when_format}
+use Rattle.rds_bytes.proofs.Format.{IsFormat, then_format, pair_format, made_format, when_format}
 use Rattle.rds_bytes.proofs.CounterFormats.{AreCounts, counters_format}
 use Rattle.rds_bytes.proofs.DotFormats.{CanCountDots, AreDots, dots_format}
 use Rattle.rds_bytes.proofs.Sequences.{three_lengths, three_added}
@@ -103,7 +103,7 @@ module _ (replicas : ℕ) where
   pub digest_reader : IsReaderOf (digest_kind replicas) (digest_at replicas)
   digest_reader = reader_of (digest_kind replicas) (digest_at replicas) FitsDigest digest_format (λ g h. h.0) (λ g is le. (is, digest_within g le))
 
--- ---- what was read as live dots is inside
+-- ---- live dots are read where they are inside
 
 module _ (replicas : ℕ) (seen : Dots) (bytes : List ℕ) (live : Dots) (rest : List ℕ) where
   pub live_found : dots_at replicas bytes ≡ Ok (live, rest) → IsInside live seen → live_dots_at replicas seen bytes ≡ Ok (live, rest)
@@ -117,15 +117,6 @@ module _ (replicas : ℕ) (seen : Dots) (bytes : List ℕ) (live : Dots) (rest :
       no : (b : Bool) → are_seen seen live ≡ b → when_at (are_seen seen) (dots_at replicas) bytes ≡ Err Bad
       no true e = absurd (not_inside (record { each_dot = set.is_subset-contains dots_total live seen e }))
       no false e = rw (read, e) refl
-
-  pub live_inside : live_dots_at replicas seen bytes ≡ Ok (live, rest) → IsInside live seen
-  unfolding live_dots_at
-  live_inside read =
-      let a = bind_ok (dots_at replicas bytes) (λ (x : Dots × List ℕ). cond (are_seen seen x.0) (Ok x) (Err Bad)) (live, rest) read in
-      elim (chosen (are_seen seen a.0.0) (Ok a.0) (Err Bad) (Ok (live, rest)) a.2) [
-        | inl k ↦ (let same = ap (λ (x : Dots × List ℕ). x.0) (ok_is a.0 (live, rest) k.1) in record { each_dot = set.is_subset-contains dots_total live seen (subst (λ (s : Dots). are_seen seen s ≡ true) same k.0) })
-        | inr k ↦ absurd (let bad : failed {A = Dots × List ℕ} Bad ≡ Ok (live, rest) = k.1 in cc)
-      ]
 
 -- ---- its text, part after part
 

@@ -1,5 +1,5 @@
 //! The text of a digest: the dots that were seen, those of them that are live, and the counters.
-ghost use Rattle.std.specs.Prelude.{◌≡◌, ℕ, ◌≤◌, length};
+ghost use Rattle.std.specs.Prelude.{◌≡◌, ℕ, ◌≤◌, length, IfOk};
 ghost use Rattle.rds_dots.specs.Runs.{runs_of};
 ghost use Rattle.rds_codec.specs.Decoding.{Decodes, ReadsAll, all_of};
 ghost use Rattle.rds_codec.specs.DigestTexts.{DigestFits, IsDigestOf, digest_text, live_dots_at, digest_at, digest_kind};
@@ -8,6 +8,7 @@ ghost use Rattle.rds_bytes.specs.Reading.{Reads};
 ghost use Rattle.rds_bytes.specs.Values.{AreDotsOf};
 ghost use Rattle.rds_codec.specs.Writing.{Encodes};
 ghost use Rattle.rds_bytes.specs.Writing.{Adds};
+ghost use Rattle.rds_delta.specs.Digested.{IsInside};
 
 use crate::limits::{LIMIT, room_for};
 use rds_bytes::{counters_length, measure_dots, put_counters, put_dots, read_counters, read_dots};
@@ -24,7 +25,8 @@ fn read_live<'a, S: DotSet>(
     seen: &S,
     bytes: &'a [u8],
 ) -> Result<(S, &'a [u8]), Fault>
-    ensures { Reads (λ x. (S.contents x.0, x.1.now)) result (live_dots_at replicas (S.contents seen.now) bytes.now) }
+    ensures read { Reads (λ x. (S.contents x.0, x.1.now)) result (live_dots_at replicas (S.contents seen.now) bytes.now) }
+    ensures inside { IfOk result (λ x. IsInside (S.contents x.0) (S.contents seen.now)) }
 {
     let (live, rest) = read_dots::<S>(alloc, replicas, bytes)?;
     if !is_inside(&live, seen) {
@@ -45,10 +47,7 @@ pub fn read_digest<'a, S: DotSet>(
     let (seen, rest) = read_dots::<S>(alloc, replicas, bytes)?;
     let (live, rest) = read_live(alloc, replicas, &seen, rest)?;
     let (counts, rest) = read_counters(alloc, replicas, rest)?;
-    match Digest::from_parts(seen, live, counts) {
-        Some(digest) => Ok((digest, rest)),
-        None => Err(Fault::Bad),
-    }
+    Ok((Digest::with_parts(seen, live, counts), rest))
 }
 
 fn read_all<S: DotSet>(alloc: Global, replicas: u16, bytes: &[u8]) -> Result<Digest<S>, Fault>

@@ -36,10 +36,8 @@ pub fn read_state<'a, S: DotSet>(
     let (seen, rest) = read_dots::<S>(alloc, replicas, bytes)?;
     let (rows, rest) = read_live_rows(alloc, &seen, rest)?;
     let (counts, rest) = read_counters(alloc, replicas, rest)?;
-    match Lives::from_parts(seen, rows) {
-        Some(lives) => Ok((State::from_parts(lives, counts), rest)),
-        None => Err(Fault::Bad),
-    }
+    let lives = Lives::with_rows(seen, rows);
+    Ok((State::from_parts(lives, counts), rest))
 }
 
 /// The number of rows of the seen dots, and the length of the text.
