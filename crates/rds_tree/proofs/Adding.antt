@@ -2,46 +2,18 @@
 use Rattle.std.proofs.Common.{◌≡◌, ℕ, Bool, true, false, cond, ◌||◌, List, [], ◌∷◌, map, refl, sym, ◌∙◌, ap, subst, length, arith}
 use Rattle.std.specs.Prelude.{Some, None, Result, Ok, Err, OnOk, OnErr}
 use Rattle.std.specs.List.{list_any}
-use Rattle.std.specs.Ordering.{is_eq, ordering_then, match_ordering}
+use Rattle.std.specs.Ordering.{is_eq, match_ordering}
 use Rattle.std.specs.declared.cmp.Ordering.{Ordering}
 use Rattle.std.specs.declared.cmp.Ordering.TheVariants.{Less, Equal, Greater}
-use Rattle.std.specs.BTreeSet.{insert_key}
 use Rattle.std.specs.BTreeMap.{insert_entry}
 use Rattle.std.specs.Map.{lookup, set_value}
 use Rattle.std.specs.FinMap.{nat_cmp-IsAntisymmetric, slice_cmp-IsAntisymmetric}
 use Rattle.std.proofs.lemmas.List.Folds.{list_any-append}
 use Rattle.rds_names.specs.Conditions.{and_true, and_left, and_right, equal_of}
-use Rattle.rds_names.specs.declared.scalar.Scalar.{Scalar}
-use Rattle.rds_names.specs.declared.entry.Kind.{Kind}
-use Rattle.rds_names.specs.declared.entry.Kind.TheVariants.{Reg, Elem}
-use Rattle.rds_dots.specs.declared.dot.Dot.{Dot}
-use Rattle.rds_dots.specs.Dots.{dot_cmp}
-use Rattle.rds_dots.specs.Order.{dots_exact}
 use Rattle.rds_tree.specs.declared.leaf.Leaf.{Leaf}
-use Rattle.rds_tree.specs.LeafOrder.{leaf_cmp}
-use Rattle.rds_tree.specs.ScalarOrder.{scalar_cmp, scalars_exact}
 use Rattle.rds_tree.specs.Document.{key_cmp}
-use Rattle.rds_tree.specs.Row.{Row, under, at_end, rows_below, rows_of, is_full, are_full, row_at, Adds}
-
--- ---- leaves that tie are one
-
-then_both : (o p : Ordering) → ordering_then o p ≡ Equal → (o ≡ Equal) × (p ≡ Equal)
-then_both Less p h = absurd (cc)
-then_both Equal p h = (refl, h)
-then_both Greater p h = absurd (cc)
-
-leaf_of : Kind → Scalar → Dot → Leaf
-leaf_of k v d = record { kind = k; value = v; dot = d }
-
-exact_by : (a b : Kind) (u v : Scalar) (d e : Dot) → leaf_cmp (record { kind = a; value = u; dot = d }) (record { kind = b; value = v; dot = e }) ≡ Equal → leaf_of a u d ≡ leaf_of b v e
-exact_by Reg Reg u v d e h = let both = then_both (scalar_cmp u v) (dot_cmp d e) h in λ i. leaf_of Reg (scalars_exact u v both.0 i) (dots_exact d e both.1 i)
-exact_by Elem Elem u v d e h = let both = then_both (scalar_cmp u v) (dot_cmp d e) h in λ i. leaf_of Elem (scalars_exact u v both.0 i) (dots_exact d e both.1 i)
-exact_by Reg Elem u v d e h = absurd (cc)
-exact_by Elem Reg u v d e h = absurd (cc)
-
-pub leaves_exact : (l m : Leaf) → leaf_cmp l m ≡ Equal → l ≡ m
-unfolding leaf_of
-leaves_exact l m h = exact_by l.kind m.kind l.value m.value l.dot m.dot h
+use Rattle.rds_tree.specs.Row.{Row, under, at_end, rows_below, rows_of, is_full, are_full, row_at, Adds, AddsLeaf}
+use Rattle.rds_tree.proofs.Grouped.{found_full, full-set_value, set_value-same}
 
 -- ---- lists
 
@@ -49,19 +21,6 @@ over : (a b c : Bool) → (a || (b || c)) ≡ (b || (a || c))
 over true true c = refl
 over true false c = refl
 over false b c = refl
-
-twice : (a b c : Bool) → a ≡ b → (a || c) ≡ (b || (a || c))
-twice true b c h = rw (← h) refl
-twice false b c h = rw (← h) refl
-
-any-insert_key : (s : Leaf → Bool) (ks : List Leaf) (k : Leaf) → list_any s (insert_key leaf_cmp ks k) ≡ (s k || list_any s ks)
-any-insert_key s [] k = refl
-any-insert_key s (x ∷ xs) k =
-    elim (leaf_cmp k x) as (λ o. leaf_cmp k x ≡ o → list_any s (match_ordering o (k ∷ x ∷ xs) (x ∷ xs) (x ∷ insert_key leaf_cmp xs k)) ≡ (s k || (s x || list_any s xs))) [
-      | Less ↦ λ e. refl
-      | Equal ↦ λ e. twice (s x) (s k) _ (ap s (sym (leaves_exact k x e)))
-      | Greater ↦ λ e. ap (λ b. s x || b) (any-insert_key s xs k) ∙ over (s x) (s k) _
-    ] refl
 
 -- whether a row below a child passes
 abbrev below_passes : (Row → Bool) → List ℕ × List Row → Bool
@@ -82,9 +41,9 @@ or_assoc : (a b c : Bool) → ((a || b) || c) ≡ (a || (b || c))
 or_assoc true b c = refl
 or_assoc false b c = refl
 
-pub adds_leaf : (old new : List Row) (leaves : List Leaf) (cs : List (List ℕ × List Row)) (l : Leaf) → rows_of leaves cs ≡ old → rows_of (insert_key leaf_cmp leaves l) cs ≡ new → Adds old (row_at [] l) new
-adds_leaf old new leaves cs l is was = record {
-  any = λ t. ap (list_any t) (sym was) ∙ any-rows t (insert_key leaf_cmp leaves l) cs ∙ ap (λ b. b || list_any (below_passes t) cs) (any-insert_key (λ l. t (at_end l)) leaves l)
+pub adds_leaf : (old new : List Row) (leaves ls : List Leaf) (cs : List (List ℕ × List Row)) (l : Leaf) → rows_of leaves cs ≡ old → AddsLeaf leaves l ls → rows_of ls cs ≡ new → Adds old (row_at [] l) new
+adds_leaf old new leaves ls cs l is grows was = record {
+  any = λ t. ap (list_any t) (sym was) ∙ any-rows t ls cs ∙ ap (λ b. b || list_any (below_passes t) cs) (grows.any (λ l. t (at_end l)))
       ∙ or_assoc (t (at_end l)) _ _ ∙ ap (λ b. t (at_end l) || b) (sym (any-rows t leaves cs) ∙ ap (list_any t) is);
 }
 
@@ -149,41 +108,7 @@ full_of_any (r ∷ rows) h = refl
 pub adds_full : (old new : List Row) (row : Row) → Adds old row new → is_full new ≡ true
 adds_full old new row adds = full_of_any new (adds.any (λ r. true))
 
-pub full-set_value : (t : List ℕ → Bool) (rows : List Row) (cs : List (List ℕ × List Row)) → is_full rows ≡ true → are_full cs ≡ true → are_full (set_value t cs rows) ≡ true
-full-set_value t rows [] one all = refl
-full-set_value t rows (c ∷ cs) one all =
-    elim (t c.0) as (λ b. are_full (cond b ((c.0, rows) ∷ cs) (c ∷ set_value t cs rows)) ≡ true) [
-      | true ↦ and_true _ _ one (and_right (is_full c.1) _ all)
-      | false ↦ and_true _ _ (and_left (is_full c.1) _ all) (full-set_value t rows cs one (and_right (is_full c.1) _ all))
-    ]
-
-pub full-insert_entry : (k : List ℕ) (rows : List Row) (cs : List (List ℕ × List Row)) → is_full rows ≡ true → are_full cs ≡ true → are_full (insert_entry key_cmp cs k rows) ≡ true
-full-insert_entry k rows [] one all = and_true _ _ one refl
-full-insert_entry k rows (c ∷ cs) one all =
-    elim (key_cmp k c.0) as (λ o. are_full (match_ordering o ((k, rows) ∷ c ∷ cs) ((c.0, rows) ∷ cs) (c ∷ insert_entry key_cmp cs k rows)) ≡ true) [
-      | Less ↦ and_true _ _ one all
-      | Equal ↦ and_true _ _ one (and_right (is_full c.1) _ all)
-      | Greater ↦ and_true _ _ (and_left (is_full c.1) _ all) (full-insert_entry k rows cs one (and_right (is_full c.1) _ all))
-    ]
-
--- what is written back unchanged changes nothing
-pub set_value-same : (t : List ℕ → Bool) (old : List Row) (cs : List (List ℕ × List Row)) → lookup t cs ≡ Some old → set_value t cs old ≡ cs
-set_value-same t old [] here = refl
-set_value-same t old (c ∷ cs) here =
-    elim (t c.0) as (λ b. cond b (Some c.1) (lookup t cs) ≡ Some old → cond b ((c.0, old) ∷ cs) (c ∷ set_value t cs old) ≡ c ∷ cs) [
-      | true ↦ λ h. ap (λ rows. (c.0, rows) ∷ cs) (sym (same_some c.1 old h))
-      | false ↦ λ h. ap (λ ds. c ∷ ds) (set_value-same t old cs h)
-    ] here
-
 -- ---- at the ends of an insertion
-
-found_full : (t : List ℕ → Bool) (old : List Row) (cs : List (List ℕ × List Row)) → are_full cs ≡ true → lookup t cs ≡ Some old → is_full old ≡ true
-found_full t old [] all here = absurd (cc)
-found_full t old (c ∷ cs) all here =
-    elim (t c.0) as (λ b. cond b (Some c.1) (lookup t cs) ≡ Some old → is_full old ≡ true) [
-      | true ↦ λ h. ap is_full (sym (same_some c.1 old h)) ∙ and_left (is_full c.1) _ all
-      | false ↦ λ h. found_full t old cs (and_right (is_full c.1) _ all) h
-    ] here
 
 pub grown_full : {A E : Type 0} (r : Result A E) (t : List ℕ → Bool) (cs ds : List (List ℕ × List Row)) (old new : List Row) (row : Row) → OnOk r (Adds old row new) → OnErr r (new ≡ old) → are_full cs ≡ true → Some old ≡ lookup t cs → ds ≡ set_value t cs new → are_full ds ≡ true
 grown_full (Ok x) t cs ds old new row ok err all here is = ap are_full is ∙ full-set_value t new cs (adds_full old new row ok) all
@@ -204,9 +129,9 @@ pub no_keys : (path : List (List ℕ)) → length path ≡ 0 → path ≡ []
 no_keys [] h = refl
 no_keys (k ∷ path) h = absurd (omega arith)
 
-pub adds_leaf_at : (old new : List Row) (leaves ls : List Leaf) (cs : List (List ℕ × List Row)) (path : List (List ℕ)) (l : Leaf) → length path ≡ 0 → rows_of leaves cs ≡ old → ls ≡ insert_key leaf_cmp leaves l → rows_of ls cs ≡ new → Adds old (row_at path l) new
+pub adds_leaf_at : (old new : List Row) (leaves ls : List Leaf) (cs : List (List ℕ × List Row)) (path : List (List ℕ)) (l : Leaf) → length path ≡ 0 → rows_of leaves cs ≡ old → AddsLeaf leaves l ls → rows_of ls cs ≡ new → Adds old (row_at path l) new
 adds_leaf_at old new leaves ls cs path l none is grows was =
-    subst (λ p. Adds old (row_at p l) new) (sym (no_keys path none)) (adds_leaf old new leaves cs l is (ap (λ ms. rows_of ms cs) (sym grows) ∙ was))
+    subst (λ p. Adds old (row_at p l) new) (sym (no_keys path none)) (adds_leaf old new leaves ls cs l is grows was)
 
 pub adds_child_at : (whole grown : List Row) (leaves : List Leaf) (cs ds : List (List ℕ × List Row)) (path : List (List ℕ)) (k copied : List ℕ) (rest : List (List ℕ)) (l : Leaf) (rows : List Row) → path ≡ k ∷ rest → copied ≡ k
     → rows_of leaves cs ≡ whole → ds ≡ insert_entry key_cmp cs copied rows → rows_of leaves ds ≡ grown → None ≡ lookup (at_key k) cs → rows ≡ row_at rest l ∷ [] → Adds whole (row_at path l) grown

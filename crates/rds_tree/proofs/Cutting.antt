@@ -1,6 +1,6 @@
 -- Rows that go.
 use Rattle.std.proofs.Common.{◌≡◌, ℕ, Bool, true, false, cond, not, ◌&&◌, ◌||◌, List, [], ◌∷◌, ◌++◌, map, refl, sym, ◌∙◌, ap, subst, length, arith}
-use Rattle.std.specs.Prelude.{Option, Some, None, filter}
+use Rattle.std.specs.Prelude.{Option, Some, None}
 use Rattle.std.specs.List.{list_any, AllByRecursion}
 use Rattle.std.specs.List.Sorted.{IsStrictlySortedBy}
 use Rattle.std.specs.Ordering.{is_eq, eq_by_cmp, nat_cmp}
@@ -9,10 +9,11 @@ use Rattle.std.specs.declared.cmp.Ordering.TheVariants.{Less, Equal, Greater}
 use Rattle.std.specs.Map.{lookup, set_value, remove_entry}
 use Rattle.std.specs.FinMap.{nat_cmp-IsAntisymmetric, slice_cmp-IsAntisymmetric}
 use Rattle.rds_tree.specs.declared.leaf.Leaf.{Leaf}
-use Rattle.rds_tree.specs.Cuts.{goes, IsCut}
+use Rattle.rds_tree.specs.Cuts.{goes, IsCut, IsLess}
 use Rattle.rds_tree.specs.Document.{key_cmp}
 use Rattle.rds_tree.specs.Row.{Row, under, at_end, rows_below, rows_of, is_full, are_full}
-use Rattle.rds_tree.proofs.Adding.{any-rows, full-set_value, no_keys}
+use Rattle.rds_tree.proofs.Adding.{any-rows, no_keys}
+use Rattle.rds_tree.proofs.Grouped.{any-removed}
 
 abbrev pub at_key : List ℕ → List ℕ → Bool
 at_key k x = is_eq (key_cmp k x)
@@ -28,22 +29,11 @@ and_true : (a : Bool) → (a && true) ≡ a
 and_true true = refl
 and_true false = refl
 
-any-filter : (t p : Leaf → Bool) (ls : List Leaf) → list_any t (filter p ls) ≡ list_any (λ l. t l && p l) ls
-any-filter t p [] = refl
-any-filter t p (l ∷ ls) = elim (p l) as (λ b. list_any t (cond b (l ∷ filter p ls) (filter p ls)) ≡ ((t l && b) || list_any (λ l. t l && p l) ls)) [
-  | true ↦ ap (λ b. t l || b) (any-filter t p ls) ∙ sym (ap (λ b. b || list_any (λ l. t l && p l) ls) (and_true (t l)))
-  | false ↦ any-filter t p ls ∙ falls (t l) _
-]
-  where
-    falls : (a b : Bool) → b ≡ ((a && false) || b)
-    falls true b = refl
-    falls false b = refl
-
-pub cut_leaves : (picks : Leaf → Bool) (deep : Bool) (path : List (List ℕ)) (old new : List Row) (leaves ls : List Leaf) (cs : List (List ℕ × List Row)) → deep ≡ false → length path ≡ 0 → rows_of leaves cs ≡ old → ls ≡ filter (λ l. not (picks l)) leaves → rows_of ls cs ≡ new → IsCut picks deep path old new
-cut_leaves picks deep path old new leaves ls cs shallow none is kept was =
+pub cut_leaves : (picks : Leaf → Bool) (deep : Bool) (path : List (List ℕ)) (old new : List Row) (leaves ls : List Leaf) (cs : List (List ℕ × List Row)) → deep ≡ false → length path ≡ 0 → rows_of leaves cs ≡ old → IsLess picks leaves ls → rows_of ls cs ≡ new → IsCut picks deep path old new
+cut_leaves picks deep path old new leaves ls cs shallow none is less was =
     subst (λ b. IsCut picks b path old new) (sym shallow) (subst (λ p. IsCut picks false p old new) (sym (no_keys path none)) (record {
-      any = λ t. ap (list_any t) (sym was ∙ ap (λ ms. rows_of ms cs) kept) ∙ any-rows t (filter (λ l. not (picks l)) leaves) cs
-          ∙ ap (λ b. b || list_any (below_passes t) cs) (any-filter (λ l. t (at_end l)) (λ l. not (picks l)) leaves)
+      any = λ t. ap (list_any t) (sym was) ∙ any-rows t ls cs
+          ∙ ap (λ b. b || list_any (below_passes t) cs) (less.any (λ l. t (at_end l)))
           ∙ ap (λ b. list_any (λ l. stays picks false [] t (at_end l)) leaves || b) (sym (plain t cs))
           ∙ sym (any-rows (stays picks false [] t) leaves cs) ∙ ap (list_any (stays picks false [] t)) is;
     }))
@@ -143,44 +133,16 @@ pub cut_some : (picks : Leaf → Bool) (deep : Bool) (path : List (List ℕ)) (k
 cut_some picks deep path k p old new child less leaves cs ds split is was set here rise one =
     below_is_cut picks deep path k p old new leaves cs ds split is was (λ t. ap (list_any (below_passes t)) set ∙ cut_child picks deep k p t child less cs rise (sym here) one)
 
--- a child without rows may be taken away
-any-remove : (t : Row → Bool) (k : List ℕ) (cs : List (List ℕ × List Row)) → list_any (below_passes t) (remove_entry (at_key k) (set_value (at_key k) cs [])) ≡ list_any (below_passes t) (set_value (at_key k) cs [])
-any-remove t k [] = refl
-any-remove t k (c ∷ cs) =
-    elim (at_key k c.0) as (λ b. at_key k c.0 ≡ b → list_any (below_passes t) (remove_entry (at_key k) (cond b ((c.0, []) ∷ cs) (c ∷ set_value (at_key k) cs []))) ≡ list_any (below_passes t) (cond b ((c.0, []) ∷ cs) (c ∷ set_value (at_key k) cs []))) [
-      | true ↦ λ e. rw e refl
-      | false ↦ λ e. rw e (ap (λ b. below_passes t c || b) (any-remove t k cs))
-    ] refl
-
 pub cut_all : (picks : Leaf → Bool) (deep : Bool) (path : List (List ℕ)) (k : List ℕ) (p : List (List ℕ)) (old new child less : List Row) (leaves : List Leaf) (cs ds es : List (List ℕ × List Row)) → path ≡ k ∷ p → rows_of leaves cs ≡ old → rows_of leaves es ≡ new
     → ds ≡ set_value (at_key k) cs less → es ≡ remove_entry (at_key k) ds → less ≡ [] → Some child ≡ lookup (at_key k) cs → IsStrictlySortedBy key_cmp (map (λ c. c.0) cs) → IsCut picks deep p child less → IsCut picks deep path old new
 cut_all picks deep path k p old new child less leaves cs ds es split is was set gone none here rise one =
     below_is_cut picks deep path k p old new leaves cs es split is was (λ t.
-    ap (list_any (below_passes t)) (gone ∙ ap (remove_entry (at_key k)) (set ∙ ap (set_value (at_key k) cs) none)) ∙ any-remove t k cs ∙ ap (λ rows. list_any (below_passes t) (set_value (at_key k) cs rows)) (sym none) ∙ cut_child picks deep k p t child less cs rise (sym here) one)
+    ap (list_any (below_passes t)) (gone ∙ ap (remove_entry (at_key k)) (set ∙ ap (set_value (at_key k) cs) none)) ∙ any-removed (at_key k) (λ x r. t (under x r)) cs ∙ ap (λ rows. list_any (below_passes t) (set_value (at_key k) cs rows)) (sym none) ∙ cut_child picks deep k p t child less cs rise (sym here) one)
 
-and_right : (a b : Bool) → (a && b) ≡ true → b ≡ true
-and_right true b h = h
-and_right false b h = absurd (cc)
-
-and_left : (a b : Bool) → (a && b) ≡ true → a ≡ true
-and_left true b h = refl
-and_left false b h = absurd (cc)
-
-both_true : (a b : Bool) → a ≡ true → b ≡ true → (a && b) ≡ true
-both_true a b h g = rw h g
-
-pub full_removed : (k : List ℕ) (less : List Row) (cs : List (List ℕ × List Row)) → are_full cs ≡ true → are_full (remove_entry (at_key k) (set_value (at_key k) cs less)) ≡ true
-full_removed k less [] all = refl
-full_removed k less (c ∷ cs) all =
-    elim (at_key k c.0) as (λ b. at_key k c.0 ≡ b → are_full (remove_entry (at_key k) (cond b ((c.0, less) ∷ cs) (c ∷ set_value (at_key k) cs less))) ≡ true) [
-      | true ↦ λ e. rw e (and_right (is_full c.1) _ all)
-      | false ↦ λ e. rw e (both_true _ _ (and_left (is_full c.1) _ all) (full_removed k less cs (and_right (is_full c.1) _ all)))
-    ] refl
-
-pub not_full : (rows : List Row) (b : Bool) → b ≡ not (is_full rows) → b ≡ true → rows ≡ []
+pub not_full : {X : Type 0} (rows : List X) (b : Bool) → b ≡ not (is_full rows) → b ≡ true → rows ≡ []
 not_full [] b h t = refl
 not_full (r ∷ rows) b h t = absurd (cc)
 
-pub full_of : (rows : List Row) (b : Bool) → b ≡ not (is_full rows) → b ≡ false → is_full rows ≡ true
+pub full_of : {X : Type 0} (rows : List X) (b : Bool) → b ≡ not (is_full rows) → b ≡ false → is_full rows ≡ true
 full_of [] b h f = absurd (cc)
 full_of (r ∷ rows) b h f = refl

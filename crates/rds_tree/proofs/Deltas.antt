@@ -10,17 +10,16 @@ use Rattle.rds_names.specs.declared.entry.Entry.{Entry}
 use Rattle.rds_dots.specs.declared.dot.Dot.{Dot}
 use Rattle.rds_dots.specs.Sets.{same_dot as dot_is}
 use Rattle.rds_life.specs.declared.rank.Rank.TheVariants as ranks
-use Rattle.rds_life.specs.Killed.{is_same}
 use Rattle.rds_life.specs.Life.{Life, Live, Dead, Lived, join_life, live_rows}
 use Rattle.rds_state.specs.Coordinates.{join}
 use Rattle.rds_state.specs.Value.{StateValue, coordinates}
 use Rattle.rds_state.proofs.CountLemmas.{same_dot-tied}
-use Rattle.rds_tree.specs.Cuts.{IsCut}
+use Rattle.rds_tree.specs.Cuts.{is_leaf, IsCut}
 use Rattle.rds_tree.specs.Growing.{row_of, Holds}
 use Rattle.rds_tree.specs.Row.{Row, Adds}
 use Rattle.rds_tree.specs.Taken.{has_rank, ranked, is_row_of, is_one_of, AreSameBut, IsWith, IsWithout}
 use Rattle.rds_tree.proofs.Effects.{any_alike, live_passes, passes_live}
-use Rattle.rds_tree.proofs.Holding.{goes_shallow, itself, leaf_at, same_itself}
+use Rattle.rds_tree.proofs.Holding.{goes_shallow, leaf_at, leaf_dot, leaf_itself, same_itself}
 use Rattle.rds_tree.proofs.Killing.{same_pass}
 use Rattle.rds_tree.proofs.Witness.{both_ways, or_left, or_right}
 
@@ -47,10 +46,10 @@ never false h = refl
 -- ---- the row of a live dot
 
 pub own_row : (r : Dot × Entry) → is_row_of r (row_of r) ≡ true
-own_row r = goes_shallow (λ l. is_same r.0 l.dot) (leaf_at r) r.1.path r.1.path ∙ and_true _ _ (same_itself r.1.path) (itself r.0)
+own_row r = goes_shallow (is_leaf r.1.kind r.1.value r.0) (leaf_at r) r.1.path r.1.path ∙ and_true _ _ (same_itself r.1.path) (leaf_itself r.1.kind r.1.value r.0)
 
 row_dot : (r x : Dot × Entry) → is_row_of r (row_of x) ≡ true → r.0 ≡ x.0
-row_dot r x h = dot_is r.0 x.0 (same_dot-tied r.0 x.0 ∙ and_right (pointwise bytes_eq x.1.path r.1.path) _ (sym (goes_shallow (λ l. is_same r.0 l.dot) (leaf_at x) r.1.path x.1.path) ∙ h))
+row_dot r x h = dot_is r.0 x.0 (same_dot-tied r.0 x.0 ∙ leaf_dot r.1.kind r.1.value r.0 (leaf_at x) (and_right (pointwise bytes_eq x.1.path r.1.path) _ (sym (goes_shallow (is_leaf r.1.kind r.1.value r.0) (leaf_at x) r.1.path x.1.path) ∙ h)))
 
 any-filter : {X : Type 0} (t p : X → Bool) (xs : List X) → list_any t (filter p xs) ≡ list_any (λ x. t x && p x) xs
 any-filter t p [] = refl
@@ -237,7 +236,7 @@ neither true true false = refl
 neither true false y = and_yes (not y)
 neither false x y = refl
 
-pub cuts_one : (rows rest later : List (Dot × Entry)) (r : Dot × Entry) (old tree new : List Row) → rest ≡ r ∷ later → IsCutting rows rest old tree → IsCut (λ l. is_same r.0 l.dot) false r.1.path tree new → IsCutting rows later old new
+pub cuts_one : (rows rest later : List (Dot × Entry)) (r : Dot × Entry) (old tree new : List Row) → rest ≡ r ∷ later → IsCutting rows rest old tree → IsCut (is_leaf r.1.kind r.1.value r.0) false r.1.path tree new → IsCutting rows later old new
 cuts_one rows rest later r old tree new split is cut = record {
   leads = λ t.
       cut.any (λ row. t row && not (is_one_of later row))

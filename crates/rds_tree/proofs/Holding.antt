@@ -10,6 +10,9 @@ use Rattle.std.specs.FinMap as map
 use Rattle.rds_names.specs.Conditions.{and_true, and_left, and_right}
 use Rattle.rds_names.specs.Entry.{HasParts}
 use Rattle.rds_names.specs.declared.entry.Entry.{Entry}
+use Rattle.rds_names.specs.declared.entry.Kind.{Kind}
+use Rattle.rds_names.specs.declared.entry.Kind.TheVariants.{Reg, Elem}
+use Rattle.rds_names.specs.declared.scalar.Scalar.{Scalar}
 use Rattle.rds_dots.specs.declared.dot.Dot.{Dot}
 use Rattle.rds_dots.specs.Dots.{dot_cmp}
 use Rattle.rds_dots.specs.Lacking.{dot_of}
@@ -25,14 +28,17 @@ use Rattle.rds_state.specs.declared.command.Command.{Command}
 use Rattle.rds_state.specs.declared.command.Command.TheVariants.{Set, Add, Del, Clear, Inc, Dec}
 use Rattle.rds_state.proofs.CountLemmas.{same_dot-tied}
 use Rattle.rds_tree.specs.declared.leaf.Leaf.{Leaf}
-use Rattle.rds_tree.specs.Cuts.{covered_leaf, covering, found_at, goes, is_deep, path_in, IsCut, IsRaise}
+use Rattle.rds_tree.specs.Cuts.{covered_leaf, covering, found_at, goes, is_deep, is_leaf, path_in, IsCut, IsRaise}
 use Rattle.rds_tree.specs.Document.{key_cmp}
 use Rattle.rds_tree.specs.Growing.{row_of, Holds}
+use Rattle.rds_tree.specs.Held.{at_value}
 use Rattle.rds_tree.specs.Row.{Row, row_at, Adds}
+use Rattle.rds_tree.specs.View.{is_kind}
 use Rattle.rds_tree.proofs.Cutting.{stays}
 use Rattle.rds_tree.proofs.Effects.{any_alike, live_passes, none_made, one_made, passes_live, rows_killed, rows_made}
 use Rattle.rds_tree.proofs.Growing.{same_test}
 use Rattle.rds_tree.proofs.Kids.{flip_eq, itself as key_itself}
+use Rattle.rds_tree.proofs.ScalarOrder.{scalars_total}
 use Rattle.rds_tree.proofs.Witness.{both_ways}
 
 abbrev pub leaf_at : Dot × Entry → Leaf
@@ -203,22 +209,43 @@ pub same_itself : (p : List (List ℕ)) → pointwise bytes_eq p p ≡ true
 same_itself [] = refl
 same_itself (k ∷ p) = and_true _ _ (sym (key_test k k) ∙ key_itself k) (same_itself p)
 
+-- ---- one leaf
+
+kind_itself : (k : Kind) → is_kind k k ≡ true
+kind_itself Reg = refl
+kind_itself Elem = refl
+
+pub leaf_itself : (k : Kind) (v : Scalar) (d : Dot) → is_leaf k v d (record { kind = k; value = v; dot = d }) ≡ true
+leaf_itself k v d = and_true _ _ (kind_itself k) (and_true _ _ (ap is_eq (tied_itself scalars_total v)) (itself d))
+
+pub leaf_dot : (k : Kind) (v : Scalar) (d : Dot) (l : Leaf) → is_leaf k v d l ≡ true → is_same d l.dot ≡ true
+leaf_dot k v d l h = and_right (at_value v l.value) _ (and_right (is_kind k l.kind) _ h)
+
 -- a leaf that was added and is taken out again
-pub holds_undone : (v : Lived) (path : List (List ℕ)) (l : Leaf) (old mid tree : List Row) → map.get v l.dot ≡ None → Holds (live_rows v) old → Adds old (row_at path l) mid → IsCut (λ m. is_same l.dot m.dot) false path mid tree → Holds (live_rows v) tree
+pub holds_undone : (v : Lived) (path : List (List ℕ)) (l : Leaf) (old mid tree : List Row) → map.get v l.dot ≡ None → Holds (live_rows v) old → Adds old (row_at path l) mid → IsCut (is_leaf l.kind l.value l.dot) false path mid tree → Holds (live_rows v) tree
 holds_undone v path l old mid tree unseen holds adds cut = record {
   any = λ t.
-      cut.any t ∙ adds.any (stays (λ m. is_same l.dot m.dot) false path t)
-      ∙ ap (λ x. (t (row_at path l) && not x) || list_any (stays (λ m. is_same l.dot m.dot) false path t) old) gone
-      ∙ ap (λ x. x || list_any (stays (λ m. is_same l.dot m.dot) false path t) old) (no_and (t (row_at path l)))
-      ∙ holds.any (stays (λ m. is_same l.dot m.dot) false path t)
-      ∙ any_alike (λ r. stays (λ m. is_same l.dot m.dot) false path t (row_of r)) (λ r. t (row_of r)) v (λ d e live. ap (λ x. t (row_of (d, e)) && not x) (other d e live) ∙ yes_and (t (row_of (d, e))));
+      cut.any t ∙ adds.any (stays picks false path t)
+      ∙ ap (λ x. (t (row_at path l) && not x) || list_any (stays picks false path t) old) gone
+      ∙ ap (λ x. x || list_any (stays picks false path t) old) (no_and (t (row_at path l)))
+      ∙ holds.any (stays picks false path t)
+      ∙ any_alike (λ r. stays picks false path t (row_of r)) (λ r. t (row_of r)) v (λ d e live. ap (λ x. t (row_of (d, e)) && not x) (other d e live) ∙ yes_and (t (row_of (d, e))));
 }
   where
-    gone : goes (λ m. is_same l.dot m.dot) false path path l ≡ true
-    gone = goes_shallow (λ m. is_same l.dot m.dot) l path path ∙ and_true _ _ (same_itself path) (itself l.dot)
+    picks : Leaf → Bool
+    picks = is_leaf l.kind l.value l.dot
 
-    other : (d : Dot) (e : Entry) → map.get v d ≡ Some (Live e) → goes (λ m. is_same l.dot m.dot) false path e.path (leaf_at (d, e)) ≡ false
-    other d e live = goes_shallow (λ m. is_same l.dot m.dot) (leaf_at (d, e)) path e.path ∙ ap (λ x. pointwise bytes_eq e.path path && x) (apart v l.dot d e unseen live) ∙ no_and (pointwise bytes_eq e.path path)
+    gone : goes picks false path path l ≡ true
+    gone = goes_shallow picks l path path ∙ and_true _ _ (same_itself path) (leaf_itself l.kind l.value l.dot)
+
+    third_none : (a b c : Bool) → (a && (b && (c && false))) ≡ false
+    third_none a b c = ap (λ x. a && (b && x)) (no_and c) ∙ ap (λ x. a && x) (no_and b) ∙ no_and a
+
+    other : (d : Dot) (e : Entry) → map.get v d ≡ Some (Live e) → goes picks false path e.path (leaf_at (d, e)) ≡ false
+    other d e live =
+        goes_shallow picks (leaf_at (d, e)) path e.path
+        ∙ ap (λ x. pointwise bytes_eq e.path path && (is_kind l.kind e.kind && (at_value l.value e.value && x))) (apart v l.dot d e unseen live)
+        ∙ third_none (pointwise bytes_eq e.path path) (is_kind l.kind e.kind) (at_value l.value e.value)
 
 -- what was found once the leaf of a new dot was added
 pub finds_made : (c : Command) (p : Parts) → parts_of c ≡ Some p → (v : Lived) (new : Dot) (old mid : List Row) → map.get v new ≡ None → Holds (live_rows v) old → Adds old (row_at p.path (record { kind = p.kind; value = p.value; dot = new })) mid → (d : Dot) (e : Entry) → map.get v d ≡ Some (Live e)

@@ -12,7 +12,7 @@ use Rattle.rds_life.specs.Life.{live_rows}
 use Rattle.rds_counts.specs.Value.{value_of}
 use Rattle.rds_state.specs.Value.{StateValue}
 use Rattle.rds_tree.specs.Document.{Placed, entries_in, key_cmp, counted_keys, sums_of, document}
-use Rattle.rds_tree.specs.ScalarOrder.{scalar_cmp}
+use Rattle.rds_names.specs.Orders.{scalar_cmp}
 use Rattle.rds_tree.specs.Shown.{Shown, maps_of}
 use Rattle.rds_tree.specs.Shows.{Ascend, IsInOrder, SumsAscend, map_keys}
 use Rattle.rds_tree.specs.View.{below, below_path, children, counters_at, entries_view, first_key, goes_on, keys_in, shown_to, value_here, values_by_key, values_here, view_of, with_key}

@@ -15,7 +15,8 @@ use Rattle.rds_life.specs.Life.{Life, Live, Dead}
 use Rattle.rds_life.specs.Killed.{but_for, is_same, is_the, killed_by}
 use Rattle.rds_state.proofs.CountLemmas.{same_dot-tied}
 use Rattle.rds_tree.specs.declared.leaf.Leaf.{Leaf}
-use Rattle.rds_tree.specs.Cuts.{goes, found_at, among, among_each, among_leaves, is_but}
+use Rattle.rds_tree.specs.Cuts.{goes, found_at, among, among_each, among_leaves}
+use Rattle.rds_tree.specs.Held.{is_but}
 use Rattle.rds_tree.specs.Document.{key_cmp}
 use Rattle.rds_tree.specs.Row.{Row, under, at_end, rows_below, rows_of}
 use Rattle.rds_tree.proofs.Adding.{any-rows, no_keys}

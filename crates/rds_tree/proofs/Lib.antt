@@ -4,7 +4,9 @@ pub mod Cutting
 pub mod Deltas
 pub mod Distinct
 pub mod Effects
+pub mod Grouped
 pub mod Growing
+pub mod HeldLeaves
 pub mod HereValues
 pub mod Holding
 pub mod InOrder
@@ -16,6 +18,7 @@ pub mod Reached
 pub mod Rows
 pub mod SameDocument
 pub mod SameView
+pub mod ScalarOrder
 pub mod Shows
 pub mod Walked
 pub mod Whole

@@ -3,6 +3,8 @@ use Rattle.std.specs.Prelude.{◌≡◌, ℕ, Bool, true, false, not, ◌&&◌, 
 use Rattle.std.specs.List.{list_any}
 use Rattle.std.specs.Ordering.{is_eq, eq_by_cmp}
 use Rattle.rds_names.specs.declared.entry.Entry.{Entry}
+use Rattle.rds_names.specs.declared.entry.Kind.{Kind}
+use Rattle.rds_names.specs.declared.scalar.Scalar.{Scalar}
 use Rattle.rds_dots.specs.declared.dot.Dot.{Dot}
 use Rattle.rds_dots.specs.Dots.{dot_cmp}
 use Rattle.rds_life.specs.Killed.{is_same}
@@ -11,7 +13,9 @@ use Rattle.rds_state.specs.declared.command.Command.TheVariants.{Set, Add, Del, 
 use Rattle.rds_state.specs.Edit.{is_reg, same_scalar}
 use Rattle.rds_tree.specs.declared.leaf.Leaf.{Leaf}
 use Rattle.rds_tree.specs.Document.{key_cmp}
+use Rattle.rds_tree.specs.Held.{at_value}
 use Rattle.rds_tree.specs.Row.{Row}
+use Rattle.rds_tree.specs.View.{is_kind}
 
 -- whether the command covers a leaf at the end of its path
 abbrev pub covered_leaf : Command → Leaf → Bool
@@ -26,6 +30,14 @@ covered_leaf (Dec k by) l = false
 abbrev pub covering : Command → Option Dot → Leaf → Bool
 covering c None l = covered_leaf c l
 covering c (Some stays) l = not (is_same stays l.dot) && covered_leaf c l
+
+-- whether it is the leaf of a kind, a value and a dot
+abbrev pub is_leaf : Kind → Scalar → Dot → Leaf → Bool
+is_leaf kind value dot l = is_kind kind l.kind && (at_value value l.value && is_same dot l.dot)
+
+-- the new leaves are the old ones that aren't picked
+pub record IsLess (picks : Leaf → Bool) (old new : List Leaf) : Type 0 where
+  pub any : (t : Leaf → Bool) → list_any t new ≡ list_any (λ l. t l && not (picks l)) old
 
 -- whether it covers all that stands further below
 abbrev pub is_deep : Command → Bool
@@ -71,11 +83,6 @@ among_each trees d e = list_any (λ rows. among rows d e) trees
 -- the dot has a leaf that is picked
 abbrev pub among_leaves : (Leaf → Bool) → List Leaf → Dot → Entry → Bool
 among_leaves picks leaves d e = list_any (λ l. picks l && eq_by_cmp dot_cmp l.dot d) leaves
-
--- the dot is the one that is to stay
-abbrev pub is_but : Option Dot → Dot → Bool
-is_but None d = false
-is_but (Some stays) d = is_same stays d
 
 -- the command raises a number
 abbrev pub IsRaise : Command → Type 0

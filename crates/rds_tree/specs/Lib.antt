@@ -3,12 +3,11 @@ pub mod Distinct
 pub mod Document
 pub mod Gathered
 pub mod Growing
-pub mod LeafOrder
+pub mod Held
 pub mod Once
 pub mod Row
 pub mod RowWeight
 pub mod SameDocument
-pub mod ScalarOrder
 pub mod Shown
 pub mod Shows
 pub mod Taken

@@ -28,8 +28,8 @@ abbrev pub is_full : {X : Type 0} → List X → Bool
 is_full [] = false
 is_full (x ∷ xs) = true
 
--- no child is empty
-abbrev pub are_full : List (List ℕ × List Row) → Bool
+-- no key is without members
+abbrev pub are_full : {K X : Type 0} → List (K × List X) → Bool
 are_full [] = true
 are_full (c ∷ cs) = is_full c.1 && are_full cs
 
@@ -62,3 +62,7 @@ row_at path leaf = record { path = path; leaf = leaf }
 -- the new rows are the old ones and this one
 pub record Adds (old : List Row) (row : Row) (new : List Row) : Type 0 where
   pub any : (t : Row → Bool) → list_any t new ≡ (t row || list_any t old)
+
+-- the new leaves are the old ones and this one
+pub record AddsLeaf (old : List Leaf) (leaf : Leaf) (new : List Leaf) : Type 0 where
+  pub any : (t : Leaf → Bool) → list_any t new ≡ (t leaf || list_any t old)

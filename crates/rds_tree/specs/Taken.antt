@@ -6,9 +6,8 @@ use Rattle.rds_names.specs.declared.entry.Entry.{Entry}
 use Rattle.rds_dots.specs.declared.dot.Dot.{Dot}
 use Rattle.rds_life.specs.declared.rank.Rank.{Rank}
 use Rattle.rds_life.specs.declared.rank.Rank.TheVariants as ranks
-use Rattle.rds_life.specs.Killed.{is_same}
 use Rattle.rds_life.specs.Life.{Life, Lived, Live, Dead}
-use Rattle.rds_tree.specs.Cuts.{goes}
+use Rattle.rds_tree.specs.Cuts.{goes, is_leaf}
 use Rattle.rds_tree.specs.Growing.{row_of}
 use Rattle.rds_tree.specs.Row.{Row}
 
@@ -29,7 +28,7 @@ ranked v rank rows = filter (λ r. has_rank rank (map.get v r.0)) rows
 
 -- the row of a tree is that of a live dot
 abbrev pub is_row_of : Dot × Entry → Row → Bool
-is_row_of r row = goes (λ l. is_same r.0 l.dot) false r.1.path row.path row.leaf
+is_row_of r row = goes (is_leaf r.1.kind r.1.value r.0) false r.1.path row.path row.leaf
 
 -- it is that of one of them
 abbrev pub is_one_of : List (Dot × Entry) → Row → Bool

@@ -6,7 +6,7 @@ use Rattle.rds_names.specs.declared.scalar.Scalar.{Scalar}
 use Rattle.rds_names.specs.declared.entry.Kind.{Kind}
 use Rattle.rds_names.specs.declared.entry.Kind.TheVariants.{Reg, Elem}
 use Rattle.rds_tree.specs.Once.{once}
-use Rattle.rds_tree.specs.ScalarOrder.{scalar_cmp}
+use Rattle.rds_names.specs.Orders.{scalar_cmp}
 use Rattle.rds_tree.specs.Shown.{Shown, shows, no_maps, maps_of}
 use Rattle.rds_tree.specs.Document.{Document, Placed, key_cmp, keys_once}
 

@@ -2,10 +2,11 @@
 ghost use Rattle.std.specs.Prelude.{◌≡◌, IfOk, IfErr, OnOk, OnErr};
 ghost use Rattle.rds_names.specs.declared.fault.Fault.TheVariants.{Memory};
 ghost use Rattle.rds_tree.specs.Document.{document, sums_of};
-ghost use Rattle.rds_tree.specs.Growing.{Holds, row_of, rows_under};
-ghost use Rattle.rds_tree.specs.Row.{Adds};
+ghost use Rattle.rds_tree.specs.Growing.{Holds, rows_under};
+ghost use Rattle.rds_tree.specs.Row.{row_at, Adds};
 ghost use Rattle.rds_tree.specs.Shown.{shown};
 ghost use Rattle.rds_tree.specs.View.{counters_at, view_of};
+ghost use Rattle.rds_tree.specs.declared.leaf.Leaf.{Leaf};
 
 use crate::counting::sums_of;
 use crate::leaf::Leaf;
@@ -14,7 +15,7 @@ use crate::views::{Sums, View};
 use rds_counts::Counts;
 use rds_dots::{Dot, DotSet};
 use rds_life::LiveRows;
-use rds_names::{Entry, Fault, Path};
+use rds_names::{Fault, Kind, Path, Scalar};
 use rds_state::State;
 use std::alloc::Global;
 
@@ -55,21 +56,28 @@ pub fn tree_of(alloc: Global, rows: LiveRows<'_>, path: &Path) -> Result<Node, F
             None => return Ok(node),
         };
         if entry.path.begins_with(path) {
-            add(alloc, &mut node, dot, entry)?;
+            add_leaf(alloc, &mut node, &entry.path, entry.kind, &entry.value, dot)?;
         }
     }
 }
 
-/// Adds a live dot to the tree.
-pub fn add(alloc: Global, node: &mut Node, dot: Dot, entry: &Entry) -> Result<(), Fault>
-    ensures ok { OnOk result (Adds node.old (row_of (dot, entry.now)) node.new) }
-    ensures err { OnErr result (node.new ≡ node.old) }
+/// Adds the leaf of a dot to the tree.
+pub fn add_leaf(
+    alloc: Global,
+    tree: &mut Node,
+    path: &Path,
+    kind: Kind,
+    value: &Scalar,
+    dot: Dot,
+) -> Result<(), Fault>
+    ensures ok { OnOk result (let leaf : Leaf = record { kind = kind; value = value.now; dot = dot } in Adds tree.old (row_at path.now leaf) tree.new) }
+    ensures err { OnErr result (tree.new ≡ tree.old) }
     ensures memory { IfErr result (λ fault. fault ≡ Memory) }
 {
     let leaf = Leaf {
-        kind: entry.kind,
-        value: entry.value.copy(alloc)?,
+        kind,
+        value: value.copy(alloc)?,
         dot,
     };
-    node.insert(alloc, entry.path.keys(), leaf)
+    tree.insert(alloc, path.keys(), leaf)
 }

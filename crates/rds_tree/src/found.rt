@@ -2,7 +2,6 @@
 ghost use Rattle.rds_tree.specs.Cuts.{covered_leaf, found_at, is_deep};
 
 use crate::node::Node;
-use crate::pick::Covering;
 use rds_dots::{Dot, DotSet};
 use rds_life::{Found, Lives};
 use rds_names::Path;
@@ -20,10 +19,7 @@ impl<'a> Found for FoundInTree<'a> {
     ghost found = { λ f. found_at (covered_leaf f.command.now) (is_deep f.command.now) f.path.now f.tree.now };
 
     fn kill_in<S: DotSet>(&self, lives: &mut Lives<S>, but: Option<Dot>) {
-        let covering = Covering {
-            command: self.command,
-            but: None,
-        };
-        self.tree.kill_in(self.path.keys(), &covering, lives, but);
+        self.tree
+            .kill_in(self.path.keys(), self.command, lives, but);
     }
 }

@@ -7,13 +7,11 @@ ghost use Rattle.rds_state.specs.Edit.{covers, JoinsEffect, new_dot, needs_room,
 ghost use Rattle.rds_state.specs.Value.{coordinates};
 ghost use Rattle.rds_tree.specs.Cuts.{path_in, IsRaise};
 ghost use Rattle.rds_tree.specs.Growing.{Holds};
-ghost use Rattle.rds_tree.specs.Row.{row_at, Adds};
-ghost use Rattle.rds_tree.specs.declared.leaf.Leaf.{Leaf};
 
+use crate::document::add_leaf;
 use crate::found::FoundInTree;
-use crate::leaf::Leaf;
 use crate::node::Node;
-use crate::pick::{Covering, OneDot};
+use crate::pick::{Covering, OneLeaf};
 use rds_dots::{Dot, DotSet};
 use rds_names::{Fault, Kind, Path, Scalar};
 use rds_state::{Command, Edited, Replica};
@@ -86,31 +84,10 @@ fn put<S: DotSet>(
             Ok(edited)
         }
         Err(fault) => {
-            tree.cut(path.keys(), &OneDot { dot });
+            tree.cut(path.keys(), &OneLeaf { kind, value, dot });
             Err(fault)
         }
     }
-}
-
-/// Adds the leaf of a dot to the tree.
-fn add_leaf(
-    alloc: Global,
-    tree: &mut Node,
-    path: &Path,
-    kind: Kind,
-    value: &Scalar,
-    dot: Dot,
-) -> Result<(), Fault>
-    ensures ok { OnOk result (let leaf : Leaf = record { kind = kind; value = value.now; dot = dot } in Adds tree.old (row_at path.now leaf) tree.new) }
-    ensures err { OnErr result (tree.new ≡ tree.old) }
-    ensures memory { IfErr result (λ fault. fault ≡ Memory) }
-{
-    let leaf = Leaf {
-        kind,
-        value: value.copy(alloc)?,
-        dot,
-    };
-    tree.insert(alloc, path.keys(), leaf)
 }
 
 /// Makes the dots dead that the command covers.

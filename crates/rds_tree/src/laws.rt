@@ -2,10 +2,10 @@
 ghost use Rattle.std.specs.Prelude.{◌≡◌, ◌↔◌, ◌++◌, ◌∷◌, [], ℕ, ℤ, List, None, Some, true};
 ghost use Rattle.rds_names.specs.declared.entry.Kind.TheVariants.{Reg, Elem};
 ghost use Rattle.rds_names.specs.declared.scalar.Scalar.{Scalar};
+ghost use Rattle.rds_names.specs.Orders.{IsScalarOrder, scalar_cmp};
 ghost use Rattle.rds_state.specs.Value.{StateValue};
 ghost use Rattle.rds_tree.specs.Document.{document};
 ghost use Rattle.rds_tree.specs.SameDocument.{AreSameDocument};
-ghost use Rattle.rds_tree.specs.ScalarOrder.{IsScalarOrder, scalar_cmp};
 ghost use Rattle.rds_tree.specs.Shown.{Shown};
 ghost use Rattle.rds_tree.specs.Shows.{counters_in, has_value, HasSums, IsInOrder, IsLiveAt, IsLiveBelow, map_at, maps_in, regs_in, sets_in};
 ghost use Rattle.rds_tree.specs.View.{view_of};

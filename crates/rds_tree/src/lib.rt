@@ -1,13 +1,16 @@
 //! What a document shows at a path, found over a nested tree of its live dots.
 #![tactic(auto)]
 
+mod by_value;
 mod counting;
 mod document;
+mod dot_list;
 mod found;
 mod index;
 mod indexing;
 mod laws;
 mod leaf;
+mod leaves;
 mod node;
 mod pick;
 mod repeats;

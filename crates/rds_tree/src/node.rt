@@ -1,37 +1,33 @@
 //! A tree of live dots by path.
-ghost use Rattle.std.specs.Prelude.{◌≡◌, ◌++◌, ◌∷◌, [], ℕ, ℤ, List, None, Option, not, true, filter, IfOk, IfErr, OnOk, OnErr, MatchOption};
+ghost use Rattle.std.specs.Prelude.{◌≡◌, ◌++◌, ◌∷◌, [], ℕ, ℤ, List, None, Option, not, true, IfOk, IfErr, OnOk, OnErr, MatchOption};
 ghost use Rattle.std.specs.FinMap as map;
 ghost use Rattle.std.specs.Map.{remove_entry};
 ghost use Rattle.std.specs.Ordering.{is_eq};
 ghost use Rattle.rds_dots.specs.declared.dot.Dot.{Dot};
-ghost use Rattle.rds_life.specs.Killed.{but_for, is_the, killed_by};
-ghost use Rattle.rds_tree.specs.Cuts.{among, among_leaves, found_at, is_but, IsCut};
+ghost use Rattle.rds_life.specs.Killed.{but_for, killed_by};
+ghost use Rattle.rds_tree.specs.Cuts.{among, covered_leaf, found_at, is_deep, IsCut};
 ghost use Rattle.rds_tree.specs.Document.{key_cmp};
-ghost use Rattle.std.specs.BTreeSet.{IsOrdered};
 ghost use Rattle.std.specs.Option.{option_to_list};
 ghost use Rattle.rds_names.specs.declared.fault.Fault.TheVariants.{Memory};
-ghost use Rattle.rds_tree.specs.Distinct.{distinct};
-ghost use Rattle.rds_tree.specs.Gathered.{values_in};
-ghost use Rattle.rds_tree.specs.LeafOrder.{leaf_cmp};
-ghost use Rattle.rds_tree.specs.ScalarOrder.{scalar_cmp};
 ghost use Rattle.rds_tree.specs.View.{below_path, entries_view, goes_on, shown_to, values_here, with_key};
 
 use crate::leaf::Leaf;
-use crate::pick::{Everything, Pick};
-use crate::repeats::is_last;
+use crate::leaves::Leaves;
+use crate::pick::{Pick, is_deep};
 use crate::views::{Maps, Scalars, Sums, Values, View};
 use rds_dots::{Dot, DotSet};
 use rds_life::Lives;
 use rds_names::{Fault, Key, Kind, Scalar};
+use rds_state::Command;
 use std::alloc::Global;
-use std::collections::{BTreeMap, BTreeSet};
+use std::collections::BTreeMap;
 use std::marker::Model;
 
 /// The live dots that stand here, and those below each key; seen as the list of both, each with the
 /// keys that are left of its path. No child is empty.
 #[derive(Drop)]
 pub struct Node {
-    leaves: BTreeSet<Leaf>,
+    leaves: Leaves,
     children: BTreeMap<Key, Node>,
 }
 
@@ -41,7 +37,7 @@ impl Model for Node {
 
     ghost Value = { List Row };
 
-    ghost view = { λ a. rows_of a.leaves.keys a.children.entries };
+    ghost view = { λ a. rows_of a.leaves a.children.entries };
 
     ghost invariant = { λ a. are_full a.children.entries ≡ true };
 
@@ -49,7 +45,7 @@ impl Model for Node {
 
     ghost use Rattle.rds_tree.specs.RowWeight.{child_is_lighter};
 
-    ghost size_decreases = { λ a h. child_is_lighter a.leaves.keys a.children.entries h };
+    ghost size_decreases = { λ a h. child_is_lighter a.leaves a.children.entries h };
 }
 
 impl Node {
@@ -61,7 +57,7 @@ impl Node {
         ensures { result ≡ [] }
     {
         Node {
-            leaves: BTreeSet::new(alloc),
+            leaves: Leaves::new(alloc),
             children: BTreeMap::new(alloc),
         }
     }
@@ -73,7 +69,7 @@ impl Node {
     {
         match path.split_first() {
             None => {
-                let leaves = leaf_set(alloc, leaf)?;
+                let leaves = Leaves::one(alloc, leaf)?;
                 Ok(Node {
                     leaves,
                     children: BTreeMap::new(alloc),
@@ -83,7 +79,7 @@ impl Node {
                 let child = Node::single(alloc, rest, leaf)?;
                 let children = child_map(alloc, key, child)?;
                 Ok(Node {
-                    leaves: BTreeSet::new(alloc),
+                    leaves: Leaves::new(alloc),
                     children,
                 })
             }
@@ -98,7 +94,7 @@ impl Node {
     {
         match path.split_first() {
             None => {
-                self.leaves.insert(leaf)?;
+                self.leaves.insert(alloc, leaf)?;
                 Ok(())
             }
             Some((key, rest)) => {
@@ -130,7 +126,7 @@ impl Node {
                     self.children.clear();
                     return;
                 }
-                keep_leaves(&mut self.leaves, pick);
+                pick.cut_from(&mut self.leaves);
             }
             Some((key, rest)) => {
                 let child = match self.children.get_mut(key) {
@@ -145,30 +141,30 @@ impl Node {
         }
     }
 
-    /// Makes the dots dead that are picked at the end of the path, and those that stand below where all goes, but the
-    /// one that is to stay. Takes no memory.
-    pub fn kill_in<P: Pick, S: DotSet>(
+    /// Makes the dots dead that a command covers at the end of the path, and those that stand below where all goes, but
+    /// the one that is to stay. Takes no memory.
+    pub fn kill_in<S: DotSet>(
         &self,
         path: &[Key],
-        pick: &P,
+        command: &Command,
         lives: &mut Lives<S>,
         but: Option<Dot>,
     )
-        ensures { (d : Dot) → map.get lives.new d ≡ killed_by (but_for but (found_at (P.picks pick.now) (P.deep pick.now) path.now self.now)) d (map.get lives.old d) }
+        ensures { (d : Dot) → map.get lives.new d ≡ killed_by (but_for but (found_at (covered_leaf command.now) (is_deep command.now) path.now self.now)) d (map.get lives.old d) }
     {
         match path.split_first() {
             None => {
-                if pick.goes_deep() {
+                if is_deep(command) {
                     self.kill_all(lives, but);
                     return;
                 }
-                kill_leaves(&self.leaves, pick, lives, but);
+                self.leaves.kill_covered(command, lives, but);
             }
             Some((key, rest)) => {
                 let _in_order = self.children.len();
                 match self.children.get(key) {
                     None => {}
-                    Some(child) => child.kill_in(rest, pick, lives, but),
+                    Some(child) => child.kill_in(rest, command, lives, but),
                 }
             }
         }
@@ -178,7 +174,7 @@ impl Node {
     fn kill_all<S: DotSet>(&self, lives: &mut Lives<S>, but: Option<Dot>)
         ensures { (d : Dot) → map.get lives.new d ≡ killed_by (but_for but (among self.now)) d (map.get lives.old d) }
     {
-        kill_leaves(&self.leaves, &Everything {}, lives, but);
+        self.leaves.kill(lives, but);
         for child in self.children.values() {
             child.kill_all(lives, but);
         }
@@ -223,7 +219,7 @@ impl Node {
         ensures ok { IfOk result (λ values. values.items ≡ values_here kind (placed_all self.now)) }
         ensures memory { IfErr result (λ fault. fault ≡ Memory) }
     {
-        let values = values_of(alloc, &self.leaves, kind)?;
+        let values = self.leaves.values(alloc, kind)?;
         Ok(values)
     }
 
@@ -258,22 +254,6 @@ impl Node {
     }
 }
 
-/// The values of a kind in ascending order, each once.
-fn values_of(alloc: Global, leaves: &BTreeSet<Leaf>, kind: Kind) -> Result<Vec<Scalar>, Fault>
-    ensures ok { IfOk result (λ values. (values.items ≡ distinct scalar_cmp None (values_in kind leaves.now.keys)) × IsOrdered leaf_cmp leaves.now) }
-    ensures memory { IfErr result (λ fault. fault ≡ Memory) }
-{
-    let mut values = Vec::new(alloc);
-    let mut last: Option<&Scalar> = None;
-    for leaf in leaves.iter() {
-        if leaf.kind == kind && !is_last(last, &leaf.value) {
-            values.push(leaf.value.copy(alloc)?)?;
-            last = Some(&leaf.value);
-        }
-    }
-    Ok(values)
-}
-
 /// Adds the values under the key, unless there are none.
 fn push_values(
     alloc: Global,
@@ -290,16 +270,6 @@ fn push_values(
     Ok(())
 }
 
-/// The set of one leaf.
-fn leaf_set(alloc: Global, leaf: Leaf) -> Result<BTreeSet<Leaf>, Fault>
-    ensures ok { IfOk result (λ leaves. leaves.keys ≡ leaf ∷ []) }
-    ensures memory { IfErr result (λ fault. fault ≡ Memory) }
-{
-    let mut leaves = BTreeSet::new(alloc);
-    leaves.insert(leaf)?;
-    Ok(leaves)
-}
-
 /// The children where there is one.
 fn child_map(alloc: Global, key: &Key, child: Node) -> Result<BTreeMap<Key, Node>, Fault>
     ensures ok { IfOk result (λ children. children.entries ≡ (key.now, child) ∷ []) }
@@ -310,51 +280,8 @@ fn child_map(alloc: Global, key: &Key, child: Node) -> Result<BTreeMap<Key, Node
     Ok(children)
 }
 
-/// Leaves out what is picked.
-fn keep_leaves<P: Pick>(leaves: &mut BTreeSet<Leaf>, pick: &P)
-    ensures { leaves.new.keys ≡ filter (λ l. not (P.picks pick.now l)) leaves.old.keys }
-{
-    leaves.retain(|leaf| !pick.picks_leaf(leaf));
-}
-
 fn remove_child(children: &mut BTreeMap<Key, Node>, key: &Key)
     ensures { children.new.entries ≡ remove_entry (λ x. is_eq (key_cmp key.now x)) children.old.entries }
 {
     let _child = children.remove(key);
-}
-
-/// Makes the dots of picked leaves dead, but the one that is to stay.
-fn kill_leaves<P: Pick, S: DotSet>(
-    leaves: &BTreeSet<Leaf>,
-    pick: &P,
-    lives: &mut Lives<S>,
-    but: Option<Dot>,
-)
-    ensures { (d : Dot) → map.get lives.new d ≡ killed_by (but_for but (among_leaves (P.picks pick.now) leaves.now.keys)) d (map.get lives.old d) }
-{
-    for leaf in leaves.iter() {
-        if pick.picks_leaf(leaf) {
-            kill_dot(lives, leaf.dot, but);
-        }
-    }
-}
-
-/// Makes a dot dead, unless it is the one that is to stay.
-fn kill_dot<S: DotSet>(lives: &mut Lives<S>, dot: Dot, but: Option<Dot>)
-    ensures { (d : Dot) → map.get lives.new d ≡ killed_by (but_for but (is_the dot)) d (map.get lives.old d) }
-{
-    if is_but(but, dot) {
-        return;
-    }
-    lives.kill_live(dot);
-}
-
-/// Whether the dot is the one that is to stay.
-fn is_but(but: Option<Dot>, dot: Dot) -> bool
-    ensures { result ≡ is_but but dot }
-{
-    match but {
-        None => false,
-        Some(stays) => stays == dot,
-    }
 }

@@ -1,11 +1,11 @@
 //! Leaves that are picked at the end of a path.
-ghost use Rattle.std.specs.Prelude.{◌≡◌, Bool, None, true};
-ghost use Rattle.rds_tree.specs.Cuts.{covering, is_deep};
+ghost use Rattle.std.specs.Prelude.{◌≡◌, Bool, false};
+ghost use Rattle.rds_tree.specs.Cuts.{covering, is_deep, is_leaf, IsLess};
 ghost use Rattle.rds_tree.specs.declared.leaf.Leaf.{Leaf};
 
-use crate::leaf::Leaf;
+use crate::leaves::Leaves;
 use rds_dots::Dot;
-use rds_names::Kind;
+use rds_names::{Kind, Scalar};
 use rds_state::Command;
 
 /// A choice among the leaves at the end of a path.
@@ -16,13 +16,14 @@ pub trait Pick {
     /// Whether all leaves are, and all that stands further below too.
     ghost deep: { Self → Bool };
 
-    /// Whether a leaf is picked.
-    fn picks_leaf(&self, leaf: &Leaf) -> bool
-        ensures { result ≡ picks self.now leaf.now };
-
     /// Whether all leaves are, and all that stands further below too.
     fn goes_deep(&self) -> bool
         ensures { result ≡ deep self.now };
+
+    /// Takes out the leaves that are picked, where not all are. Takes no memory.
+    fn cut_from(&self, leaves: &mut Leaves)
+        requires { deep self.now ≡ false }
+        ensures { IsLess (picks self.now) leaves.old leaves.new };
 }
 
 /// What a command covers, but a dot that is to stay.
@@ -37,74 +38,45 @@ impl<'a> Pick for Covering<'a> {
 
     ghost deep = { λ p. is_deep p.command.now };
 
-    fn picks_leaf(&self, leaf: &Leaf) -> bool {
-        match self.but {
-            None => covers_leaf(self.command, leaf),
-            Some(stays) => stays != leaf.dot && covers_leaf(self.command, leaf),
-        }
+    fn goes_deep(&self) -> bool {
+        is_deep(self.command)
     }
 
-    fn goes_deep(&self) -> bool {
-        match self.command {
-            Command::Set(_, _) => false,
-            Command::Add(_, _) => false,
-            Command::Del(_, _) => false,
-            Command::Clear(_) => true,
-            Command::Inc(_, _) => false,
-            Command::Dec(_, _) => false,
-        }
+    fn cut_from(&self, leaves: &mut Leaves) {
+        leaves.cut_covered(self.command, self.but);
     }
 }
 
-/// The leaf of a dot.
+/// One leaf.
 #[derive(Drop)]
-pub struct OneDot {
+pub struct OneLeaf<'a> {
+    pub kind: Kind,
+    pub value: &'a Scalar,
     pub dot: Dot,
 }
 
-impl Pick for OneDot {
-    ghost use Rattle.std.specs.Prelude.{false};
-    ghost use Rattle.rds_life.specs.Killed.{is_same};
-
-    ghost picks = { λ p l. is_same p.dot l.dot };
+impl<'a> Pick for OneLeaf<'a> {
+    ghost picks = { λ p. is_leaf p.kind p.value.now p.dot };
 
     ghost deep = { λ p. false };
-
-    fn picks_leaf(&self, leaf: &Leaf) -> bool {
-        self.dot == leaf.dot
-    }
 
     fn goes_deep(&self) -> bool {
         false
     }
-}
 
-/// All that stands there and below.
-#[derive(Drop)]
-pub struct Everything {}
-
-impl Pick for Everything {
-    ghost picks = { λ p l. true };
-
-    ghost deep = { λ p. true };
-
-    fn picks_leaf(&self, _leaf: &Leaf) -> bool {
-        true
-    }
-
-    fn goes_deep(&self) -> bool {
-        true
+    fn cut_from(&self, leaves: &mut Leaves) {
+        leaves.cut_leaf(self.kind, self.value, self.dot);
     }
 }
 
-/// Whether a command covers a leaf at the end of its path.
-fn covers_leaf(command: &Command, leaf: &Leaf) -> bool
-    ensures { result ≡ covering command.now None leaf.now }
+/// Whether a command covers all that stands below its path.
+pub fn is_deep(command: &Command) -> bool
+    ensures { result ≡ is_deep command.now }
 {
     match command {
-        Command::Set(_, _) => leaf.kind == Kind::Reg,
-        Command::Add(_, value) => leaf.kind == Kind::Elem && leaf.value.same(value),
-        Command::Del(_, value) => leaf.kind == Kind::Elem && leaf.value.same(value),
+        Command::Set(_, _) => false,
+        Command::Add(_, _) => false,
+        Command::Del(_, _) => false,
         Command::Clear(_) => true,
         Command::Inc(_, _) => false,
         Command::Dec(_, _) => false,

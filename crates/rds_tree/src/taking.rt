@@ -10,9 +10,9 @@ ghost use Rattle.rds_state.specs.Value.{coordinates, size};
 ghost use Rattle.rds_tree.specs.Growing.{Holds};
 ghost use Rattle.rds_tree.specs.Taken.{has_rank, ranked, AreSameBut, IsWith, IsWithout};
 
-use crate::document::add;
+use crate::document::add_leaf;
 use crate::node::Node;
-use crate::pick::OneDot;
+use crate::pick::OneLeaf;
 use rds_dots::{Dot, DotSet};
 use rds_life::{LiveRows, Lives, Rank};
 use rds_names::{Entry, Fault};
@@ -88,7 +88,8 @@ fn add_leaves(alloc: Global, tree: &mut Node, rows: &[(Dot, Entry)]) -> Result<(
             Some(parts) => parts,
             None => return Ok(()),
         };
-        add(alloc, tree, row.0, &row.1)?;
+        let entry = &row.1;
+        add_leaf(alloc, tree, &entry.path, entry.kind, &entry.value, row.0)?;
         rest = later;
     }
 }
@@ -103,7 +104,12 @@ fn cut_leaves(tree: &mut Node, rows: &[(Dot, Entry)])
             Some(parts) => parts,
             None => return,
         };
-        tree.cut(row.1.path.keys(), &OneDot { dot: row.0 });
+        let leaf = OneLeaf {
+            kind: row.1.kind,
+            value: &row.1.value,
+            dot: row.0,
+        };
+        tree.cut(row.1.path.keys(), &leaf);
         rest = later;
     }
 }

@@ -1,5 +1,5 @@
 use Rattle.std.proofs.Common.{refl}
-use Rattle.rds_tree.specs.ScalarOrder.{scalars_total}
+use Rattle.rds_tree.proofs.ScalarOrder.{scalars_total}
 use Rattle.rds_tree.specs.View.{entries_view}
 use Rattle.rds_tree.proofs.InOrder.{in_order}
 use Rattle.rds_tree.proofs.MapsShown.{maps_shown}

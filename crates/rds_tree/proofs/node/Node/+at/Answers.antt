@@ -9,11 +9,11 @@ pub returns-in-None-get : goal.returns-in-None-get
 returns-in-None-get t c =
     ap (λ path. below_path path (placed_all c.args.self.now)) c.in-Some.ensures.cases.0
     ∙ ap (λ rows. below_path (c.in-Some.key.now ∷ c.in-Some.rest.now) (placed_all rows)) (sym c.self.view_is)
-    ∙ ap (below_path c.in-Some.rest.now) (below-no_child c.in-Some.key.now c.self.inside.leaves.keys c.self.inside.children.entries c.in-None-get.ensures.value) ∙ below_path-nil c.in-Some.rest.now
+    ∙ ap (below_path c.in-Some.rest.now) (below-no_child c.in-Some.key.now c.self.inside.leaves c.self.inside.children.entries c.in-None-get.ensures.value) ∙ below_path-nil c.in-Some.rest.now
 
 pub returns-in-Some-get : goal.returns-in-Some-get
 returns-in-Some-get t c =
-    let there = below-child c.in-Some.key.now c.in-Some-get.child.now c.self.inside.leaves.keys c.self.inside.children.entries c.len-in_order.ensures.ordered c.in-Some-get.ensures.value in
+    let there = below-child c.in-Some.key.now c.in-Some-get.child.now c.self.inside.leaves c.self.inside.children.entries c.len-in_order.ensures.ordered c.in-Some-get.ensures.value in
     subst (λ es. MatchOption c.at.result (es ≡ []) (λ node. placed_all node.now ≡ es))
     (ap (below_path c.in-Some.rest.now) there
     ∙ ap (λ rows. below_path (c.in-Some.key.now ∷ c.in-Some.rest.now) (placed_all rows)) c.self.view_is

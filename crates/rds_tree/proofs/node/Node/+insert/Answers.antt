@@ -2,7 +2,8 @@ use Rattle.std.proofs.Common.{◌≡◌, sym, ◌∙◌, ap, subst, refl}
 use Rattle.std.specs.BTreeMap.{insert_entry}
 use Rattle.rds_tree.specs.Document.{key_cmp}
 use Rattle.rds_tree.specs.Row.{rows_of, row_at, Adds, is_full, are_full}
-use Rattle.rds_tree.proofs.Adding.{adds_leaf_at, adds_below, adds_child_at, grown_full, on_ok, on_err, written_back, full-insert_entry}
+use Rattle.rds_tree.proofs.Adding.{adds_leaf_at, adds_below, adds_child_at, grown_full, on_ok, on_err, written_back}
+use Rattle.rds_tree.proofs.Grouped.{full-inserted}
 use Rattle.rds_tree.proofs.node.Node.+insert.Goals as goal
 
 pub invariant_of-self-in-Some-get_mut : goal.invariant_of-self-in-Some-get_mut
@@ -12,27 +13,27 @@ invariant_of-self-in-Some-get_mut t c =
 
 pub returns-in-Some-get_mut-clause-ok : goal.returns-in-Some-get_mut-clause-ok
 returns-in-Some-get_mut-clause-ok t c =
-    on_ok c.insert-in-Some-get_mut.result (λ adds. subst (λ path. Adds c.args.self.now (row_at path c.args.leaf) (rows_of c.self.inside.leaves.keys (c.get_mut.follows.lender c.insert-in-Some-get_mut.new.self).entries)) (sym c.in-Some.ensures.cases.0)
-    (adds_below _ _ c.self.inside.leaves.keys c.self.inside.children.entries c.in-Some.key.now c.in-Some.rest.now c.args.leaf _ _ c.self.view_is
-    (ap (rows_of c.self.inside.leaves.keys) (sym (c.get_mut.follows.holds c.insert-in-Some-get_mut.new.self).0)) (sym c.in-Some-get_mut.ensures.value) adds)) c.insert-in-Some-get_mut.ensures.ok
+    on_ok c.insert-in-Some-get_mut.result (λ adds. subst (λ path. Adds c.args.self.now (row_at path c.args.leaf) (rows_of c.self.inside.leaves (c.get_mut.follows.lender c.insert-in-Some-get_mut.new.self).entries)) (sym c.in-Some.ensures.cases.0)
+    (adds_below _ _ c.self.inside.leaves c.self.inside.children.entries c.in-Some.key.now c.in-Some.rest.now c.args.leaf _ _ c.self.view_is
+    (ap (rows_of c.self.inside.leaves) (sym (c.get_mut.follows.holds c.insert-in-Some-get_mut.new.self).0)) (sym c.in-Some-get_mut.ensures.value) adds)) c.insert-in-Some-get_mut.ensures.ok
 
 pub returns-in-Some-get_mut-clause-err : goal.returns-in-Some-get_mut-clause-err
 returns-in-Some-get_mut-clause-err t c =
-    on_err c.insert-in-Some-get_mut.result (λ same. written_back _ c.self.inside.leaves.keys c.self.inside.children.entries _ _ _ _ c.self.view_is c.in-Some-get_mut.ensures.value (c.get_mut.follows.holds c.insert-in-Some-get_mut.new.self).0 same) c.insert-in-Some-get_mut.ensures.err
+    on_err c.insert-in-Some-get_mut.result (λ same. written_back _ c.self.inside.leaves c.self.inside.children.entries _ _ _ _ c.self.view_is c.in-Some-get_mut.ensures.value (c.get_mut.follows.holds c.insert-in-Some-get_mut.new.self).0 same) c.insert-in-Some-get_mut.ensures.err
 
 pub invariant_of-self-in-Some : goal.invariant_of-self-in-Some
 invariant_of-self-in-Some t c =
     let e : c.insert-in-Some.new.self.entries ≡ insert_entry key_cmp c.self.inside.children.entries c.in_ok-copy-in-Some.field-0 c.in_ok-child-in-Some.child =
     c.in_ok-insert-in-Some.ensures.entries ∙ ap (λ m. insert_entry key_cmp m.entries c.in_ok-copy-in-Some.field-0 c.in_ok-child-in-Some.child) c.get_mut.follows.holds-at-none in
-    ap are_full e ∙ full-insert_entry c.in_ok-copy-in-Some.field-0 c.in_ok-child-in-Some.child c.self.inside.children.entries (ap is_full c.in_ok-child-in-Some.ensures.ok) c.self.invariant
+    ap are_full e ∙ full-inserted key_cmp c.in_ok-copy-in-Some.field-0 c.in_ok-child-in-Some.child c.self.inside.children.entries (ap is_full c.in_ok-child-in-Some.ensures.ok) c.self.invariant
 
 pub returns-in_ok-insert-in-None-clause-ok : goal.returns-in_ok-insert-in-None-clause-ok
 returns-in_ok-insert-in-None-clause-ok t c =
-    adds_leaf_at _ _ c.self.inside.leaves.keys c.insert.new.self.keys c.self.inside.children.entries _ _ c.in-None.ensures.cases c.self.view_is c.in_ok-insert-in-None.ensures.keys refl
+    adds_leaf_at _ _ c.self.inside.leaves c.insert.new.self c.self.inside.children.entries _ _ c.in-None.ensures.cases c.self.view_is c.in_ok-insert-in-None.ensures.ok refl
 
 pub returns-in_ok-insert-in-Some-clause-ok : goal.returns-in_ok-insert-in-Some-clause-ok
 returns-in_ok-insert-in-Some-clause-ok t c =
     let e : c.insert-in-Some.new.self.entries ≡ insert_entry key_cmp c.self.inside.children.entries c.in_ok-copy-in-Some.field-0 c.in_ok-child-in-Some.child =
     c.in_ok-insert-in-Some.ensures.entries ∙ ap (λ m. insert_entry key_cmp m.entries c.in_ok-copy-in-Some.field-0 c.in_ok-child-in-Some.child) c.get_mut.follows.holds-at-none in
-    adds_child_at _ _ c.self.inside.leaves.keys c.self.inside.children.entries c.insert-in-Some.new.self.entries _ c.in-Some.key.now c.in_ok-copy-in-Some.field-0 c.in-Some.rest.now _ c.in_ok-child-in-Some.child c.in-Some.ensures.cases.0 c.in_ok-copy-in-Some.ensures.ok c.self.view_is
+    adds_child_at _ _ c.self.inside.leaves c.self.inside.children.entries c.insert-in-Some.new.self.entries _ c.in-Some.key.now c.in_ok-copy-in-Some.field-0 c.in-Some.rest.now _ c.in_ok-child-in-Some.child c.in-Some.ensures.cases.0 c.in_ok-copy-in-Some.ensures.ok c.self.view_is
     e refl c.in_default.ensures.value c.in_ok-child-in-Some.ensures.ok

@@ -13,5 +13,5 @@ returns g t c d =
     let last : finite.get c.loop-child.lives d ≡ killed_by (but_for but (among_each c.loop-child.child-iterator)) d (finite.get c.loop-child.lives d) =
     sym (killed_never (among_each c.loop-child.child-iterator) but d (finite.get c.loop-child.lives d) (λ e. ap (λ ts. among_each ts d e) c.in-None.ensures.steps.0)) in
     last ∙ c.loop-child.invariant d
-    ∙ killed_step (among_leaves (λ l. true) c.self.inside.leaves.keys) (among_each c.into_iter-child-iterator.result) (among c.args.self.now) but d (finite.get c.args.lives.now d) (finite.get c.kill_leaves.new.lives d) (c.kill_leaves.ensures d)
-    (λ e. among_node c.args.self.now c.self.inside.leaves.keys c.self.inside.children.entries c.into_iter-child-iterator.result d e c.self.view_is each)
+    ∙ killed_step (among_leaves (λ l. true) c.self.inside.leaves) (among_each c.into_iter-child-iterator.result) (among c.args.self.now) but d (finite.get c.args.lives.now d) (finite.get c.kill.new.lives d) (c.kill.ensures d)
+    (λ e. among_node c.args.self.now c.self.inside.leaves c.self.inside.children.entries c.into_iter-child-iterator.result d e c.self.view_is each)

@@ -31,7 +31,7 @@ returns-clause-ok t c n fit =
     ∙ ap (λ rs. shows (maps_of (views_shown c.loop-key.maps.items)) rs c.from_rows-3.result c.loop-key.counters-1) c.from_rows-2.ensures
     ∙ ap (λ ss. shows (maps_of (views_shown c.loop-key.maps.items)) c.loop-key.regs.items ss c.loop-key.counters-1) c.from_rows-3.ensures
     ∙ ap (shows (maps_of (views_shown c.loop-key.maps.items)) c.loop-key.regs.items c.loop-key.sets.items) c.loop-key.invariant.1
-    ∙ walked_whole n c.args.counters c.self.inside.leaves.keys c.self.inside.children.entries _ _ _ c.self.invariant c.iter-key-items.ensures.ordered
+    ∙ walked_whole n c.args.counters c.self.inside.leaves c.self.inside.children.entries _ _ _ c.self.invariant c.iter-key-items.ensures.ordered
     (walked_to _ _ _ _ _ _ c.loop-key.invariant.0 (c.into_iter-key-iterator.ensures.into_iter_gives ∙ c.iter-key-items.ensures.rest) c.in-None.ensures.steps.0)
     (ap (fits n) c.self.view_is ∙ fit)
     ∙ ap (λ rows. shown_to n c.args.counters (placed_all rows)) c.self.view_is

@@ -7,4 +7,4 @@ use Rattle.rds_tree.proofs.node.Node.goes_on.Goals as goal
 pub returns : goal.returns
 returns c =
     ap not (emptiness c.self.inside.children.entries _ c.is_empty.ensures) ∙ not_not (is_full c.self.inside.children.entries)
-    ∙ sym (goes_on-rows c.self.inside.leaves.keys c.self.inside.children.entries c.self.invariant) ∙ ap (λ rows. goes_on (placed_all rows)) c.self.view_is
+    ∙ sym (goes_on-rows c.self.inside.leaves c.self.inside.children.entries c.self.invariant) ∙ ap (λ rows. goes_on (placed_all rows)) c.self.view_is

@@ -6,5 +6,5 @@ use Rattle.rds_tree.proofs.node.Node.values.Goals as goal
 
 pub returns-clause-ok : goal.returns-clause-ok
 returns-clause-ok c =
-    c.in_ok-values.ensures.ok.0 ∙ sym (values_here-rows c.args.kind c.self.inside.leaves.keys c.self.inside.children.entries c.in_ok-values.ensures.ok.1)
+    c.in_ok-values.ensures.ok ∙ sym (values_here-rows c.args.kind c.self.inside.leaves c.self.inside.children.entries)
     ∙ ap (λ rows. values_here c.args.kind (placed_all rows)) c.self.view_is
