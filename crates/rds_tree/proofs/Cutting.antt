@@ -1,9 +1,9 @@
 -- Rows that go.
-use Rattle.std.proofs.Common.{◌≡◌, ℕ, Bool, true, false, cond, not, ◌&&◌, ◌||◌, List, [], ◌∷◌, ◌++◌, map, refl, sym, ◌∙◌, ap, subst, length, arith}
-use Rattle.std.specs.Prelude.{Option, Some, None}
+use Rattle.std.proofs.Common.{◌≡◌, ℕ, Bool, true, false, cond, not, ◌&&◌, ◌||◌, List, [], ◌∷◌, map, refl, sym, ◌∙◌, ap, subst, length}
+use Rattle.std.specs.Prelude.{Some, None}
 use Rattle.std.specs.List.{list_any, AllByRecursion}
 use Rattle.std.specs.List.Sorted.{IsStrictlySortedBy}
-use Rattle.std.specs.Ordering.{is_eq, eq_by_cmp, nat_cmp}
+use Rattle.std.specs.Ordering.{is_eq}
 use Rattle.std.specs.declared.cmp.Ordering.{Ordering}
 use Rattle.std.specs.declared.cmp.Ordering.TheVariants.{Less, Equal, Greater}
 use Rattle.std.specs.Map.{lookup, set_value, remove_entry}
@@ -11,7 +11,7 @@ use Rattle.std.specs.FinMap.{nat_cmp-IsAntisymmetric, slice_cmp-IsAntisymmetric}
 use Rattle.rds_tree.specs.declared.leaf.Leaf.{Leaf}
 use Rattle.rds_tree.specs.Cuts.{goes, IsCut, IsLess}
 use Rattle.rds_tree.specs.Document.{key_cmp}
-use Rattle.rds_tree.specs.Row.{Row, under, at_end, rows_below, rows_of, is_full, are_full}
+use Rattle.rds_tree.specs.Row.{Row, under, at_end, rows_of, is_full}
 use Rattle.rds_tree.proofs.Adding.{any-rows, no_keys}
 use Rattle.rds_tree.proofs.Grouped.{any-removed}
 

@@ -1,5 +1,5 @@
 -- A tree that goes with the live rows where a delta is joined in.
-use Rattle.std.proofs.Common.{◌≡◌, Bool, true, false, cond, not, ◌&&◌, ◌||◌, List, [], ◌∷◌, refl, sym, ◌∙◌, ap, subst}
+use Rattle.std.proofs.Common.{◌≡◌, Bool, true, false, cond, not, ◌&&◌, ◌||◌, List, [], ◌∷◌, refl, sym, ◌∙◌, ap}
 use Rattle.std.specs.Prelude.{Option, Some, None, filter}
 use Rattle.std.specs.List.{list_any}
 use Rattle.std.specs.Cmp.Lexicographic.{pointwise}
@@ -9,15 +9,12 @@ use Rattle.rds_names.specs.Conditions.{and_true, and_left, and_right}
 use Rattle.rds_names.specs.declared.entry.Entry.{Entry}
 use Rattle.rds_dots.specs.declared.dot.Dot.{Dot}
 use Rattle.rds_dots.specs.Sets.{same_dot as dot_is}
-use Rattle.rds_life.specs.declared.rank.Rank.TheVariants as ranks
-use Rattle.rds_life.specs.Life.{Life, Live, Dead, Lived, join_life, live_rows}
-use Rattle.rds_state.specs.Coordinates.{join}
-use Rattle.rds_state.specs.Value.{StateValue, coordinates}
+use Rattle.rds_life.specs.Life.{Life, Live, Dead, Lived, is_dead, join_life, live_rows}
 use Rattle.rds_state.proofs.CountLemmas.{same_dot-tied}
 use Rattle.rds_tree.specs.Cuts.{is_leaf, IsCut}
 use Rattle.rds_tree.specs.Growing.{row_of, Holds}
 use Rattle.rds_tree.specs.Row.{Row, Adds}
-use Rattle.rds_tree.specs.Taken.{has_rank, ranked, is_row_of, is_one_of, AreSameBut, IsWith, IsWithout}
+use Rattle.rds_tree.specs.Taken.{is_unseen, rows_dead, rows_unseen, is_row_of, is_one_of, AreSameBut, IsWith, IsWithout}
 use Rattle.rds_tree.proofs.Effects.{any_alike, live_passes, passes_live}
 use Rattle.rds_tree.proofs.Holding.{goes_shallow, leaf_at, leaf_dot, leaf_itself, same_itself}
 use Rattle.rds_tree.proofs.Killing.{same_pass}
@@ -64,38 +61,38 @@ not_dead : (e : Entry) → Some Dead ≡ Some (Live e) → ⊥
 not_dead e h = cc
 
 -- what lives in the join lived here and hasn't died there, or lives there and is unseen here
-lives_in : {X : Type 0} (x y : Option Life) (e : Entry) → join_life x y ≡ Some (Live e) → (x ≡ Some (Live e) → has_rank ranks.Dead y ≡ false → X) → (has_rank ranks.Unseen x ≡ true → y ≡ Some (Live e) → X) → X
+lives_in : {X : Type 0} (x y : Option Life) (e : Entry) → join_life x y ≡ Some (Live e) → (x ≡ Some (Live e) → is_dead y ≡ false → X) → (is_unseen x ≡ true → y ≡ Some (Live e) → X) → X
 lives_in None y e h old new = new refl h
 lives_in (Some (Live f)) None e h old new = old h refl
 lives_in (Some (Live f)) (Some (Live g)) e h old new = old h refl
 lives_in (Some (Live f)) (Some Dead) e h old new = absurd (not_dead e h)
 lives_in (Some Dead) y e h old new = absurd (not_dead e h)
 
-stays_live : (y : Option Life) (e : Entry) → has_rank ranks.Dead y ≡ false → join_life (Some (Live e)) y ≡ Some (Live e)
+stays_live : (y : Option Life) (e : Entry) → is_dead y ≡ false → join_life (Some (Live e)) y ≡ Some (Live e)
 stays_live None e h = refl
 stays_live (Some (Live f)) e h = refl
 stays_live (Some Dead) e h = absurd (cc)
 
-comes_live : (x y : Option Life) → has_rank ranks.Unseen x ≡ true → join_life x y ≡ y
+comes_live : (x y : Option Life) → is_unseen x ≡ true → join_life x y ≡ y
 comes_live None y h = refl
 comes_live (Some l) y h = absurd (cc)
 
-seen_live : (x : Option Life) (e : Entry) → x ≡ Some (Live e) → has_rank ranks.Unseen x ≡ true → ⊥
+seen_live : (x : Option Life) (e : Entry) → x ≡ Some (Live e) → is_unseen x ≡ true → ⊥
 seen_live None e h u = cc
 seen_live (Some l) e h u = cc
 
 module _ (a b : Lived) where
   abbrev pub dies : Dot × Entry → Bool
-  dies r = has_rank ranks.Dead (map.get b r.0)
+  dies r = is_dead (map.get b r.0)
 
   abbrev pub comes : Dot × Entry → Bool
-  comes r = has_rank ranks.Unseen (map.get a r.0)
+  comes r = is_unseen (map.get a r.0)
 
   abbrev pub dying : List (Dot × Entry)
-  dying = ranked b ranks.Dead (live_rows a)
+  dying = rows_dead b (live_rows a)
 
   abbrev pub coming : List (Dot × Entry)
-  coming = ranked a ranks.Unseen (live_rows b)
+  coming = rows_unseen a (live_rows b)
 
   -- a live dot here is one of those that die exactly where it dies
   dies_as : (d : Dot) (e : Entry) → map.get a d ≡ Some (Live e) → is_one_of dying (row_of (d, e)) ≡ dies (d, e)
@@ -103,14 +100,14 @@ module _ (a b : Lived) where
       any-filter (λ x. is_row_of x (row_of (d, e))) dies (live_rows a)
       ∙ both_ways _ _
       (λ h. let p = live_passes (λ x. is_row_of x (row_of (d, e)) && dies x) a h in
-      ap (λ q. has_rank ranks.Dead (map.get b q)) (sym (row_dot (p.0, p.1.0) (d, e) (and_left _ (dies (p.0, p.1.0)) p.1.1.1))) ∙ and_right (is_row_of (p.0, p.1.0) (row_of (d, e))) _ p.1.1.1)
+      ap (λ q. is_dead (map.get b q)) (sym (row_dot (p.0, p.1.0) (d, e) (and_left _ (dies (p.0, p.1.0)) p.1.1.1))) ∙ and_right (is_row_of (p.0, p.1.0) (row_of (d, e))) _ p.1.1.1)
       (λ h. passes_live (λ x. is_row_of x (row_of (d, e)) && dies x) a d e live (and_true _ _ (own_row (d, e)) h))
 
   -- it is none of those that come
   no_coming : (d : Dot) (e : Entry) → map.get a d ≡ Some (Live e) → is_one_of coming (row_of (d, e)) ≡ false
   no_coming d e live = never _ (λ h.
       let p = live_passes (λ x. is_row_of x (row_of (d, e)) && comes x) b (sym (any-filter (λ x. is_row_of x (row_of (d, e))) comes (live_rows b)) ∙ h) in
-      seen_live (map.get a d) e live (ap (λ q. has_rank ranks.Unseen (map.get a q)) (sym (row_dot (p.0, p.1.0) (d, e) (and_left _ (comes (p.0, p.1.0)) p.1.1.1))) ∙ and_right (is_row_of (p.0, p.1.0) (row_of (d, e))) _ p.1.1.1))
+      seen_live (map.get a d) e live (ap (λ q. is_unseen (map.get a q)) (sym (row_dot (p.0, p.1.0) (d, e) (and_left _ (comes (p.0, p.1.0)) p.1.1.1))) ∙ and_right (is_row_of (p.0, p.1.0) (row_of (d, e))) _ p.1.1.1))
 
   -- an unseen dot is none of those that die
   no_dying : (r : Dot × Entry) → comes r ≡ true → is_one_of dying (row_of r) ≡ false

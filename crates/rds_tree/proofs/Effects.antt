@@ -1,9 +1,8 @@
 -- The live rows after a command's effect.
-use Rattle.std.proofs.Common.{◌≡◌, ℕ, ◌+◌, ◌≤◌, Bool, true, false, cond, not, ◌&&◌, ◌||◌, List, [], ◌∷◌, map as each, refl, sym, ◌∙◌, ap, eqb, arith}
+use Rattle.std.proofs.Common.{◌≡◌, ℕ, ◌+◌, Bool, true, false, cond, not, ◌&&◌, ◌||◌, refl, sym, ◌∙◌, ap, eqb, arith}
 use mathlib.Core.Bool.{false≢true}
 use Rattle.std.specs.Prelude.{Option, Some, None}
 use Rattle.std.specs.List.{list_any}
-use Rattle.std.specs.Ordering.{eq_by_cmp}
 use Rattle.std.specs.FinMap as map
 use Rattle.std.proofs.lemmas.Bool.Decides.{nat_tests}
 use Rattle.rds_names.specs.Conditions.{and_true, and_left, and_right}
@@ -14,8 +13,8 @@ use Rattle.rds_dots.specs.Lacking.{dot_of}
 use Rattle.rds_dots.specs.Order.{dots_total, dots_exact}
 use Rattle.rds_life.specs.Life.{Life, Live, Dead, Lived, join_life, live_row, live_rows}
 use Rattle.rds_state.specs.Chosen.{Parts, parts_of}
-use Rattle.rds_state.specs.Coordinates.{Coordinates, join}
-use Rattle.rds_state.specs.Edit.{covers, IsMade, is_next, life_made, life_killed, effect, own_top, JoinsEffect}
+use Rattle.rds_state.specs.Coordinates.{join}
+use Rattle.rds_state.specs.Edit.{covers, IsMade, is_next, life_made, life_killed, effect, own_top}
 use Rattle.rds_state.specs.Value.{StateValue, coordinates}
 use Rattle.rds_state.specs.declared.command.Command.{Command}
 use Rattle.rds_state.specs.declared.command.Command.TheVariants.{Set, Add, Del, Clear, Inc, Dec}

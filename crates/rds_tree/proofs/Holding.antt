@@ -1,6 +1,6 @@
 -- A tree that goes with the live rows through an edit.
-use Rattle.std.proofs.Common.{◌≡◌, ℕ, ◌+◌, Bool, true, false, cond, not, ◌&&◌, ◌||◌, List, [], ◌∷◌, refl, sym, ◌∙◌, ap, eqb, arith, subst}
-use Rattle.std.specs.Prelude.{Option, Some, None, Result, Ok, Err, IfOk, OnErr}
+use Rattle.std.proofs.Common.{◌≡◌, ℕ, ◌+◌, Bool, true, false, not, ◌&&◌, ◌||◌, List, [], ◌∷◌, refl, sym, ◌∙◌, ap}
+use Rattle.std.specs.Prelude.{Some, None, Result, Ok, Err, IfOk, OnErr}
 use Rattle.std.specs.List.{list_any, starts_with}
 use Rattle.std.specs.Str.{bytes_eq}
 use Rattle.std.specs.Cmp.{tied_itself}
@@ -19,7 +19,7 @@ use Rattle.rds_dots.specs.Lacking.{dot_of}
 use Rattle.rds_dots.specs.Order.{dots_total}
 use Rattle.rds_dots.specs.Sets.{same_dot as dot_is}
 use Rattle.rds_life.specs.Killed.{is_same}
-use Rattle.rds_life.specs.Life.{Life, Live, Lived, live_rows}
+use Rattle.rds_life.specs.Life.{Live, Lived, live_rows}
 use Rattle.rds_state.specs.Chosen.{Parts, parts_of}
 use Rattle.rds_state.specs.Coordinates.{join}
 use Rattle.rds_state.specs.Edit.{covers, effect, own_top, is_reg, same_path, same_scalar, JoinsEffect}

@@ -1,5 +1,5 @@
 -- Dots by the value that they hold.
-use Rattle.std.specs.Prelude.{Option, Some, None, Bool, true, false, not, ◌&&◌, List, [], ◌∷◌, ◌++◌, map}
+use Rattle.std.specs.Prelude.{Option, Some, None, Bool, false, not, ◌&&◌, List, [], ◌∷◌, ◌++◌, map}
 use Rattle.std.specs.List.{list_any}
 use Rattle.std.specs.Ordering.{is_eq, eq_by_cmp}
 use Rattle.rds_names.specs.declared.entry.Entry.{Entry}

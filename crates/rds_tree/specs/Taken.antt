@@ -4,27 +4,23 @@ use Rattle.std.specs.List.{list_any}
 use Rattle.std.specs.FinMap as map
 use Rattle.rds_names.specs.declared.entry.Entry.{Entry}
 use Rattle.rds_dots.specs.declared.dot.Dot.{Dot}
-use Rattle.rds_life.specs.declared.rank.Rank.{Rank}
-use Rattle.rds_life.specs.declared.rank.Rank.TheVariants as ranks
-use Rattle.rds_life.specs.Life.{Life, Lived, Live, Dead}
+use Rattle.rds_life.specs.Life.{Life, Lived, is_dead}
 use Rattle.rds_tree.specs.Cuts.{goes, is_leaf}
 use Rattle.rds_tree.specs.Growing.{row_of}
 use Rattle.rds_tree.specs.Row.{Row}
 
--- whether a life has come as far as this, and no further
-abbrev pub has_rank : Rank → Option Life → Bool
-has_rank ranks.Unseen None = true
-has_rank ranks.Unseen (Some l) = false
-has_rank ranks.Live None = false
-has_rank ranks.Live (Some (Live e)) = true
-has_rank ranks.Live (Some Dead) = false
-has_rank ranks.Dead None = false
-has_rank ranks.Dead (Some (Live e)) = false
-has_rank ranks.Dead (Some Dead) = true
+-- whether a dot is unseen
+abbrev pub is_unseen : Option Life → Bool
+is_unseen None = true
+is_unseen (Some l) = false
 
--- the rows of dots that have this rank elsewhere
-abbrev pub ranked : Lived → Rank → List (Dot × Entry) → List (Dot × Entry)
-ranked v rank rows = filter (λ r. has_rank rank (map.get v r.0)) rows
+-- the rows of dots that are dead elsewhere
+abbrev pub rows_dead : Lived → List (Dot × Entry) → List (Dot × Entry)
+rows_dead v rows = filter (λ r. is_dead (map.get v r.0)) rows
+
+-- the rows of dots that are unseen elsewhere
+abbrev pub rows_unseen : Lived → List (Dot × Entry) → List (Dot × Entry)
+rows_unseen v rows = filter (λ r. is_unseen (map.get v r.0)) rows
 
 -- the row of a tree is that of a live dot
 abbrev pub is_row_of : Dot × Entry → Row → Bool

@@ -8,7 +8,7 @@ ghost use Rattle.rds_state.specs.Coordinates.{join};
 ghost use Rattle.rds_state.specs.Fits.{Fits};
 ghost use Rattle.rds_state.specs.Value.{coordinates, size};
 ghost use Rattle.rds_tree.specs.Growing.{Holds};
-ghost use Rattle.rds_tree.specs.Taken.{has_rank, ranked, AreSameBut, IsWith, IsWithout};
+ghost use Rattle.rds_tree.specs.Taken.{is_unseen, rows_unseen, AreSameBut, IsWith, IsWithout};
 
 use crate::document::add_leaf;
 use crate::node::Node;
@@ -43,8 +43,8 @@ pub fn take<S: DotSet>(
     replica.may_take(delta)?;
     let here = replica.state().lives();
     let there = delta.lives();
-    let dying = rows_ranked(alloc, here.live(), there, Rank::Dead)?;
-    let coming = rows_ranked(alloc, there.live(), here, Rank::Unseen)?;
+    let dying = here.rows_dead_in(alloc, there)?;
+    let coming = rows_unseen(alloc, there.live(), here)?;
     if let Err(fault) = add_and_take(alloc, replica, tree, delta, &coming) {
         cut_leaves(tree, &coming);
         return Err(fault);
@@ -114,14 +114,13 @@ fn cut_leaves(tree: &mut Node, rows: &[(Dot, Entry)])
     }
 }
 
-/// Copies of the rows whose dots have this rank in the lives.
-fn rows_ranked<S: DotSet>(
+/// Copies of the rows whose dots the lives haven't seen.
+fn rows_unseen<S: DotSet>(
     alloc: Global,
     rows: LiveRows<'_>,
     lives: &Lives<S>,
-    rank: Rank,
 ) -> Result<Vec<(Dot, Entry)>, Fault>
-    ensures ok { IfOk result (λ copies. copies.items ≡ ranked lives.now rank rows.entry) }
+    ensures ok { IfOk result (λ copies. copies.items ≡ rows_unseen lives.now rows.entry) }
     ensures memory { IfErr result (λ fault. fault ≡ Memory) }
 {
     let mut copies = Vec::new(alloc);
@@ -131,20 +130,18 @@ fn rows_ranked<S: DotSet>(
             Some(row) => row,
             None => return Ok(copies),
         };
-        if is_ranked(lives, dot, rank) {
+        if is_unseen(lives, dot) {
             copies.push((dot, entry.copy(alloc)?))?;
         }
     }
 }
 
-/// Whether a dot has this rank.
-fn is_ranked<S: DotSet>(lives: &Lives<S>, dot: Dot, rank: Rank) -> bool
-    ensures { result ≡ has_rank rank (map.get lives.now dot) }
+/// Whether the lives haven't seen a dot.
+fn is_unseen<S: DotSet>(lives: &Lives<S>, dot: Dot) -> bool
+    ensures { result ≡ is_unseen (map.get lives.now dot) }
 {
-    match (lives.rank(dot), rank) {
-        (Rank::Unseen, Rank::Unseen) => true,
-        (Rank::Live, Rank::Live) => true,
-        (Rank::Dead, Rank::Dead) => true,
-        _ => false,
+    match lives.rank(dot) {
+        Rank::Unseen => true,
+        Rank::Live | Rank::Dead => false,
     }
 }

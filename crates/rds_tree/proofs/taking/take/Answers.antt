@@ -1,11 +1,10 @@
 use Rattle.std.proofs.Common.{sym, ◌∙◌, ap, subst}
-use Rattle.rds_life.specs.declared.rank.Rank.TheVariants as ranks
 use Rattle.rds_life.specs.Life.{Lived, live_rows}
 use Rattle.rds_state.specs.Coordinates.{Coordinates}
 use Rattle.rds_state.specs.Fits.{ReplicaValue}
 use Rattle.rds_state.proofs.Nothing.{joins_nothing, takes_nothing}
 use Rattle.rds_tree.specs.Growing.{Holds}
-use Rattle.rds_tree.specs.Taken.{ranked, AreSameBut, IsWith, IsWithout}
+use Rattle.rds_tree.specs.Taken.{rows_dead, rows_unseen, AreSameBut, IsWith, IsWithout}
 use Rattle.rds_tree.proofs.Deltas.{holds_taken, holds_untaken}
 use Rattle.rds_tree.proofs.taking.take.Goals as goal
 
@@ -23,8 +22,8 @@ returns-in-Err-clause-holds g c =
     let here = c.args.replica.now.state.lives in
     let there = c.args.delta.now.lives in
     let here_is = c.lives-here.ensures ∙ ap (λ s. s.lives) c.state.ensures.state in
-    let rows = c.live-2.ensures.rows ∙ ap live_rows c.lives-there.ensures in
-    let coming = c.in_ok-coming.ensures.ok ∙ ap (λ (v : Lived). ranked v ranks.Unseen c.live-2.result) here_is ∙ ap (ranked here ranks.Unseen) rows in
+    let rows = c.live.ensures.rows ∙ ap live_rows c.lives-there.ensures in
+    let coming = c.in_ok-coming.ensures.ok ∙ ap (λ (v : Lived). rows_unseen v c.live.result) here_is ∙ ap (rows_unseen here) rows in
     subst (λ (v : ReplicaValue). Holds (live_rows v.state.lives) new) (sym c.in-Err.ensures.err)
     (holds_untaken here there old mid new c.requires.holds
     (subst (λ xs. AreSameBut xs old mid) (c.deref.ensures.value ∙ coming) c.in-Err.ensures.some)
@@ -38,10 +37,9 @@ returns-clause-holds g c =
     let here = c.args.replica.now.state.lives in
     let there = c.args.delta.now.lives in
     let here_is = c.lives-here.ensures ∙ ap (λ s. s.lives) c.state.ensures.state in
-    let rows = c.live-2.ensures.rows ∙ ap live_rows c.lives-there.ensures in
-    let coming = c.in_ok-coming.ensures.ok ∙ ap (λ (v : Lived). ranked v ranks.Unseen c.live-2.result) here_is ∙ ap (ranked here ranks.Unseen) rows in
-    let own_rows = c.live.ensures.rows ∙ ap live_rows here_is in
-    let dying = c.in_ok-dying.ensures.ok ∙ ap (λ (v : Lived). ranked v ranks.Dead c.live.result) c.lives-there.ensures ∙ ap (ranked there ranks.Dead) own_rows in
+    let rows = c.live.ensures.rows ∙ ap live_rows c.lives-there.ensures in
+    let coming = c.in_ok-coming.ensures.ok ∙ ap (λ (v : Lived). rows_unseen v c.live.result) here_is ∙ ap (rows_unseen here) rows in
+    let dying = c.in_ok-dying.ensures.ok ∙ ap (λ (v : Lived). rows_dead v (live_rows c.lives-here.result.now)) c.lives-there.ensures ∙ ap (λ (v : Lived). rows_dead there (live_rows v)) here_is in
     holds_taken here there c.add_and_take.new.replica.state.lives old mid new c.requires.holds
     (subst (λ xs. IsWith xs old mid) (c.deref.ensures.value ∙ coming) c.in_default.ensures.added)
     (subst (λ xs. IsWithout xs mid new) (c.deref-2.ensures.value ∙ dying) c.cut_leaves-2.ensures)

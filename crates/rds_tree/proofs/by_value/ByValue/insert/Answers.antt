@@ -1,7 +1,6 @@
-use Rattle.std.proofs.Common.{◌≡◌, ◌||◌, ◌∷◌, [], sym, ◌∙◌, ap, refl}
+use Rattle.std.proofs.Common.{◌≡◌, ◌||◌, sym, ◌∙◌, ap}
 use Rattle.std.specs.BTreeMap.{insert_entry}
 use Rattle.std.specs.Map.{set_value}
-use Rattle.rds_dots.specs.declared.dot.Dot.{Dot}
 use Rattle.rds_names.specs.Orders.{scalar_cmp}
 use Rattle.rds_tree.specs.Held.{any_held, at_value}
 use Rattle.rds_tree.specs.Row.{is_full, are_full}
