@@ -5,6 +5,7 @@
 mod counted;
 mod keeping;
 mod kept;
+mod owned;
 mod place;
 mod reading;
 mod snapshots;
@@ -13,5 +14,6 @@ mod writing;
 pub use counted::Counted;
 pub use keeping::keep_in;
 pub use kept::Kept;
+pub use owned::{keep_owned, write_owned};
 pub use place::Place;
 pub use snapshots::{read_snapshot, write_snapshot};
