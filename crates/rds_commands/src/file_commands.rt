@@ -75,8 +75,8 @@ where
     Ok(done)
 }
 
-/// Edits a copy of the replica in the file, and answers once that is kept in its place. Refuses as the
-/// edit does, and where that doesn't refuse, for want of memory or as keeping does.
+/// Edits the replica in the file, and answers once that is kept in its place. Refuses as the edit does,
+/// and where that doesn't refuse, as keeping does.
 pub fn edit_in<'a, H: Disk>(
     rt: &H,
     file: LockedFile<'a, H, GapSet>,
@@ -90,25 +90,10 @@ where
     ensures due { IfOk result (λ _. edit_refusal file.entry.kept command ≡ None) }
     ensures fault { IfErr result (RefusesEditIn command file.entry.kept) }
 {
-    let mut replica = match file.kept().view_of().copy(rt.alloc()) {
-        Ok(replica) => replica,
-        Err(memory) => return Err(uncopied(file.into_replica(), command, memory)),
-    };
+    let (mut replica, file) = file.into_parts();
     let answer = edited(&mut replica, command)?;
-    let file = file.replace(rt, &replica)?;
+    let file = file.replace(rt, replica)?;
     Ok(FileAnswer { file, answer })
-}
-
-// Why an edit is refused for which a replica couldn't be copied: want of memory comes only where the edit itself isn't
-// refused.
-fn uncopied(mut replica: Replica<GapSet>, command: Command, memory: Fault) -> Fault
-    requires { memory ≡ Memory }
-    ensures { IsDue (edit_refusal replica command) result }
-{
-    match edited(&mut replica, command) {
-        Ok(_) => memory,
-        Err(fault) => fault,
-    }
 }
 
 /// Shows what the document of the replica in a file has at the path of a text. The path is judged

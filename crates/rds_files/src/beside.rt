@@ -5,7 +5,7 @@ ghost use Rattle.rds_files.specs.Files.{IsUnkept};
 use crate::disk::{Disk, note};
 use crate::locks::LockFile;
 use rds_dots::DotSet;
-use rds_keep::{Counted, Kept, Place, keep_in};
+use rds_keep::{Counted, Kept, Place, keep_owned};
 use rds_names::Fault;
 use rds_state::Replica;
 use std::fs::{OpenFile, OpenOptions};
@@ -34,23 +34,24 @@ where
     ensures fault { IfErr result (IsUnkept replica.now) }
 {
     let alloc = rt.alloc();
+    let copy = replica.copy(alloc)?;
     let name = format!(in alloc; "{path}.new")?;
     let made = Beside::create(rt, name.as_str(), path, NEW_MODE);
-    keep_made(rt, replica, name.as_str(), made)
+    keep_made(rt, copy, name.as_str(), made)
 }
 
 /// Keeps the replica in the file of this path in place of what it holds, as `keep_new` does; FILE.new gets the mode of the old
 /// file before anything is written. The caller has the old file's lock.
 pub fn keep_over<H: Disk, S: DotSet>(
     rt: &H,
-    replica: &Replica<S>,
+    replica: Replica<S>,
     path: &str,
     old: &H::File,
 ) -> Result<Kept<S>, Fault>
 where
     H::File: LockFile,
-    ensures kept { IfOk result (λ kept. kept ≡ replica.now) }
-    ensures fault { IfErr result (IsUnkept replica.now) }
+    ensures kept { IfOk result (λ kept. kept ≡ replica) }
+    ensures fault { IfErr result (IsUnkept replica) }
 {
     let alloc = rt.alloc();
     let name = format!(in alloc; "{path}.new")?;
@@ -61,15 +62,15 @@ where
 // Keeps the replica in a file beside another, which takes its place.
 fn keep_made<H: Disk, S: DotSet>(
     rt: &H,
-    replica: &Replica<S>,
+    replica: Replica<S>,
     name: &str,
     made: io::Result<Beside<'_, H>>,
 ) -> Result<Kept<S>, Fault>
-    ensures kept { IfOk result (λ kept. kept ≡ replica.now) }
-    ensures fault { IfErr result (IsUnkept replica.now) }
+    ensures kept { IfOk result (λ kept. kept ≡ replica) }
+    ensures fault { IfErr result (IsUnkept replica) }
 {
     match made {
-        Ok(beside) => keep_in(rt.alloc(), replica, &mut Counted::new(beside)),
+        Ok(beside) => keep_owned(rt.alloc(), replica, &mut Counted::new(beside)),
         Err(error) => {
             note(rt, "cannot make", name, &error);
             Err(Fault::Device)

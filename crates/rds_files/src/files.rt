@@ -7,6 +7,7 @@ ghost use Rattle.rds_files.specs.Files.{IsHeldAt, IsReadAt, IsReadBy, IsUnkept, 
 use crate::beside::{folder_of, keep_new, keep_over};
 use crate::disk::{Disk, note};
 use crate::locks::{LockFile, lock};
+use crate::past::Past;
 use rds_dots::DotSet;
 use rds_keep::{Counted, Kept, read_snapshot};
 use rds_names::Fault;
@@ -156,37 +157,61 @@ where
         &self.kept
     }
 
-    /// The replica, to be edited. The lock is let go.
-    pub fn into_replica(self) -> Replica<S>
-        ensures { result ≡ self.entry.kept }
+    /// The replica, to be edited, and the file, in which it may be kept again. The lock is held on.
+    pub fn into_parts(self) -> (Replica<S>, EmptiedFile<'a, H, S>)
+        ensures replica { result.0 ≡ self.entry.kept }
+        ensures file { result.1 ≡ self.entry }
     {
-        self.kept.replica()
+        let LockedFile { path, kept, file } = self;
+        let before = Past::of(&kept);
+        (kept.replica(), EmptiedFile { path, before, file })
     }
+}
 
+/// The file of a locked file whose replica was taken out of it, to be edited. The lock is held as long as this is. Only
+/// `LockedFile::into_parts` makes one.
+#[derive(Drop)]
+pub struct EmptiedFile<'a, H: Disk, S: DotSet> {
+    path: &'a str,
+    before: Past<Kept<S>>,
+    file: H::File,
+}
+
+impl<'a, H: Disk, S: DotSet> Model for EmptiedFile<'a, H, S> {
+    ghost use Rattle.rds_files.specs.Files.{KeptFile, coded_kept_file};
+
+    ghost Value = { KeptFile };
+
+    ghost coded = { coded_kept_file };
+
+    ghost view = { λ f. record { path = f.path.now; kept = f.before.value } };
+}
+
+impl<'a, H: Disk, S: DotSet> EmptiedFile<'a, H, S>
+where
+    H::File: LockFile,
+{
     /// Keeps this replica in the file in place of the one that it holds, and then lets the lock go: FILE.new is written anew, with
     /// the mode of FILE, synced and renamed to FILE, and the folder is synced. A FILE.new that was left behind is removed first.
     ///
     /// Refuses `TooLong` where the replica's text is above the limit, and `Device` where a file can't be removed, made, given its
     /// mode, written, synced or renamed. FILE is then as it was, but where only the folder couldn't be synced.
-    pub fn replace(self, rt: &H, replica: &Replica<S>) -> Result<ReplacedFile<'a, S>, Fault>
-        ensures replaced { IfOk result (λ file. file ≡ record { path = self.entry.path; before = self.entry.kept; kept = replica.now }) }
-        ensures fault { IfErr result (IsUnkept replica.now) }
+    pub fn replace(self, rt: &H, replica: Replica<S>) -> Result<ReplacedFile<'a, S>, Fault>
+        ensures replaced { IfOk result (λ file. file ≡ record { path = self.entry.path; before = self.entry.kept; kept = replica }) }
+        ensures fault { IfErr result (IsUnkept replica) }
     {
-        let kept = keep_over(rt, replica, self.path, &self.file)?;
-        Ok(ReplacedFile {
-            path: self.path,
-            before: self.kept,
-            kept,
-        })
+        let EmptiedFile { path, before, file } = self;
+        let kept = keep_over(rt, replica, path, &file)?;
+        Ok(ReplacedFile { path, before, kept })
     }
 }
 
 /// A replica that was written whole to the file of a path in place of another, which was read there under the file's lock. Only
-/// `LockedFile::replace` makes one, and nothing changes it.
+/// `EmptiedFile::replace` makes one, and nothing changes it. What the file held before is seen by contracts alone.
 #[derive(Drop)]
 pub struct ReplacedFile<'a, S: DotSet> {
     path: &'a str,
-    before: Kept<S>,
+    before: Past<Kept<S>>,
     kept: Kept<S>,
 }
 
@@ -197,17 +222,10 @@ impl<'a, S: DotSet> Model for ReplacedFile<'a, S> {
 
     ghost coded = { coded_replaced };
 
-    ghost view = { λ f. record { path = f.path.now; before = f.before; kept = f.kept } };
+    ghost view = { λ f. record { path = f.path.now; before = f.before.value; kept = f.kept } };
 }
 
 impl<'a, S: DotSet> ReplacedFile<'a, S> {
-    /// What the file held before.
-    pub fn before(&self) -> &Kept<S>
-        ensures { result.now ≡ self.now.before }
-    {
-        &self.before
-    }
-
     /// The replica.
     pub fn kept(&self) -> &Kept<S>
         ensures { result.now ≡ self.now.kept }
@@ -235,7 +253,7 @@ impl<'a, S: DotSet> Model for CreatedFile<'a, S> {
 
 impl<'a, S: DotSet> CreatedFile<'a, S> {
     /// Makes the file of this path. It holds the lock of the folder while it does, so that of two at once one is refused. Refuses
-    /// `Usage` where the path ends in `.new` or something is there, and else as `LockedFile::replace` does.
+    /// `Usage` where the path ends in `.new` or something is there, and else as `EmptiedFile::replace` does.
     pub fn create<H: Disk>(
         rt: &H,
         path: &'a str,

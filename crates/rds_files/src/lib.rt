@@ -8,13 +8,14 @@ mod files;
 mod locks;
 mod meeting;
 mod pairing;
+mod past;
 mod reports;
 mod settling;
 mod syncing;
 
 pub use disk::Disk;
 pub use files::{
-    CreatedFile, FilePath, LockedFile, ReplacedFile, ReplicaFile, is_beside, is_there,
+    CreatedFile, EmptiedFile, FilePath, LockedFile, ReplacedFile, ReplicaFile, is_beside, is_there,
 };
 pub use locks::LockFile;
 pub use meeting::{Met, meet};

@@ -1,5 +1,5 @@
 //! What a session leaves of the replica in its file.
-ghost use Rattle.std.specs.Prelude.{◌≡◌, ◌↔◌, None, IfOk, IfErr, IsTrue, OnOk};
+ghost use Rattle.std.specs.Prelude.{◌≡◌, ◌↔◌, None, IfErr, IsTrue, OnOk};
 ghost use Rattle.rds_session.specs.Received.{HasChecked, IsChecked};
 ghost use Rattle.rds_files.specs.Settling.{IsJoined, IsSameReplica, RefusesJoin, Settles, SettlesDelta};
 
@@ -10,7 +10,6 @@ use rds_dots::DotSet;
 use rds_keep::Kept;
 use rds_names::Fault;
 use rds_state::{Replica, State};
-use std::alloc::Global;
 
 /// What a session left of the replica in its file.
 #[derive(Clone, Copy, Debug, PartialEq, Eq)]
@@ -101,11 +100,11 @@ where
         Ok(locked) => locked,
         Err(fault) => return Settlement::without_file(Settled::Refused(fault)),
     };
-    let replica = match joined(rt.alloc(), asked.kept(), locked.kept(), delta) {
-        Ok(replica) => replica,
-        Err(fault) => return Settlement::without_file(Settled::Refused(fault)),
-    };
-    match locked.replace(rt, &replica) {
+    let (mut replica, file) = locked.into_parts();
+    if let Err(fault) = take_into(&mut replica, asked.kept(), delta) {
+        return Settlement::without_file(Settled::Refused(fault));
+    }
+    match file.replace(rt, replica) {
         Ok(file) => Settlement {
             settled: Settled::Taken(delta.components()),
             file: Some(file),
@@ -114,24 +113,21 @@ where
     }
 }
 
-// What a file holds with the delta taken, in memory of its own.
-fn joined<S: DotSet>(
-    alloc: Global,
+// Takes the delta into what a file held.
+fn take_into<S: DotSet>(
+    held: &mut Replica<S>,
     asked: &Kept<S>,
-    held: &Kept<S>,
     delta: &State<S>,
-) -> Result<Replica<S>, Fault>
+) -> Result<(), Fault>
     requires { IsChecked asked.now delta.now }
-    ensures same { OnOk result (IsSameReplica asked.now held.now) }
-    ensures ok { IfOk result (IsJoined held.now delta.now) }
-    ensures err { IfErr result (RefusesJoin asked.now held.now delta.now) }
+    ensures same { OnOk result (IsSameReplica asked.now held.old) }
+    ensures ok { OnOk result (IsJoined held.old delta.now held.new) }
+    ensures err { IfErr result (RefusesJoin asked.now held.old delta.now) }
 {
-    if !is_same_replica(asked.view_of(), held.view_of()) {
+    if !is_same_replica(asked.view_of(), held) {
         return Err(Fault::WrongAsker);
     }
-    let mut replica = held.view_of().copy(alloc)?;
-    replica.take(delta)?;
-    Ok(replica)
+    held.take(delta)
 }
 
 // Whether the two are one replica of one group, whatever they hold.

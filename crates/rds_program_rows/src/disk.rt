@@ -64,7 +64,7 @@ fn changed(disk: &Disk<'_>, action: &str, path: &str) -> Result<&'static str, Fa
     let held = read_snapshot(disk.alloc(), &mut Counted::new(disk.bytes))?;
     match action {
         "create" => created(disk, path, held.view_of()),
-        _ => replaced(disk, path, held.view_of()),
+        _ => replaced(disk, path, held.replica()),
     }
 }
 
@@ -73,12 +73,9 @@ fn created(disk: &Disk<'_>, path: &str, held: &Replica<GapSet>) -> Result<&'stat
     Ok("made")
 }
 
-fn replaced<'a>(
-    disk: &Disk<'a>,
-    path: &str,
-    held: &Replica<GapSet>,
-) -> Result<&'static str, Fault> {
-    let file: LockedFile<'_, Disk<'a>, GapSet> = LockedFile::open(disk, path)?;
+fn replaced<'a>(disk: &Disk<'a>, path: &str, held: Replica<GapSet>) -> Result<&'static str, Fault> {
+    let locked: LockedFile<'_, Disk<'a>, GapSet> = LockedFile::open(disk, path)?;
+    let (_before, file) = locked.into_parts();
     let _file = file.replace(disk, held)?;
     Ok("replaced")
 }

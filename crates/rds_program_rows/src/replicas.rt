@@ -9,7 +9,7 @@ use rds_keep::{Counted, Kept};
 use rds_names::Fault;
 use rds_rows::words::{bytes_of, cut};
 use rds_session::{Side, exchange};
-use rds_state::State;
+use rds_state::{Replica, State};
 use std::alloc::Global;
 
 /// The file whose replica has the sessions.
@@ -35,12 +35,17 @@ pub fn replace(rt: &HostRuntime, name: &str) -> Result<String, Fault> {
 
 fn replace_by(rt: &HostRuntime, kept: &Kept<GapSet>) -> Result<String, Fault> {
     let locked: LockedFile<'_, HostRuntime, GapSet> = LockedFile::open(rt, FILE)?;
-    let replaced = locked.replace(rt, kept.view_of())?;
-    replaced_told(rt.alloc(), &replaced)
+    let (before, file) = locked.into_parts();
+    let replaced = file.replace(rt, kept.view_of().copy(rt.alloc())?)?;
+    replaced_told(rt.alloc(), &before, &replaced)
 }
 
-fn replaced_told(alloc: Global, replaced: &ReplacedFile<'_, GapSet>) -> Result<String, Fault> {
-    let before = components_of(replaced.before());
+fn replaced_told(
+    alloc: Global,
+    before: &Replica<GapSet>,
+    replaced: &ReplacedFile<'_, GapSet>,
+) -> Result<String, Fault> {
+    let before = before.state().components();
     let now = components_of(replaced.kept());
     Ok(format!(in alloc; "{before} components, then {now}")?)
 }
