@@ -5,4 +5,7 @@ pub mod Parts
 pub mod RosterLine
 pub mod Scalar
 pub mod Show
+pub mod Standing
+pub mod Texts
+pub mod Unnamed
 pub mod Verb

@@ -9,9 +9,15 @@ mod reading;
 mod roster;
 mod scalars;
 mod showing;
+mod standing;
+mod texts;
+mod unnamed;
 mod verb;
 
 pub use line::Line;
 pub use reading::command;
 pub use scalars::scalar;
-pub use showing::show;
+pub use showing::{show, show_pretty};
+pub use standing::show_at;
+pub use texts::{show_names, show_text};
+pub use unnamed::edit;

@@ -1,4 +1,7 @@
 //! Reading a line.
+ghost use Rattle.std.specs.Prelude.{◌≡◌, ◌⊎◌, Some, None, IfErr, IfOk};
+ghost use Rattle.rds_names.specs.declared.fault.Fault.TheVariants.{BadLine, Memory};
+ghost use Rattle.serde_json.specs.Read.{read};
 ghost use Rattle.rds_json.specs.Line.{line_by, line_in, line_of};
 ghost use Rattle.rds_json.specs.MayGive.{MayGive};
 ghost use Rattle.rds_json.specs.Members.{text_at};
@@ -23,17 +26,23 @@ use std::alloc::Global;
 pub fn command(alloc: Global, text: &str) -> Result<Line, Fault>
     ensures { MayGive result (line_of text.now) }
 {
-    let value = match Value::from_str(alloc, text) {
-        Ok(value) => value,
-        Err(error) => {
-            return Err(if error.is_memory() {
-                Fault::Memory
-            } else {
-                Fault::BadLine
-            });
-        }
-    };
-    line_in(alloc, &value)
+    let line = value_of(alloc, text)?;
+    line_in(alloc, &line)
+}
+
+/// The value of JSON that a text is.
+pub(crate) fn value_of(alloc: Global, text: &str) -> Result<Value, Fault>
+    ensures ok { IfOk result (λ value. read text.now ≡ Some (view value)) }
+    ensures err { IfErr result (λ fault. (fault ≡ Memory) ⊎ ((fault ≡ BadLine) × (read text.now ≡ None))) }
+{
+    match Value::from_str(alloc, text) {
+        Ok(value) => Ok(value),
+        Err(error) => Err(if error.is_memory() {
+            Fault::Memory
+        } else {
+            Fault::BadLine
+        }),
+    }
 }
 
 fn line_in(alloc: Global, line: &Value) -> Result<Line, Fault>

@@ -5,14 +5,19 @@ ghost use Rattle.serde_json.specs.Data.{put};
 ghost use Rattle.serde_json.specs.View.{members_view, view};
 ghost use Rattle.serde_json.specs.Written.{compact_text};
 ghost use Rattle.rds_tree.specs.Shown.{shown, maps_shown};
-ghost use Rattle.rds_json.specs.Show.{scalar_data, scalars_data, values_data, sums_data, maps_data, data_of};
+ghost use Rattle.rds_json.specs.Show.{IsPretty, scalar_data, scalars_data, values_data, sums_data, maps_data, data_of};
 
 use rds_names::{Fault, Key, Scalar};
 use rds_tree::{Maps, Scalars, Sums, Values, View};
 use serde_json::{Map, Value};
 use std::alloc::Global;
 
-fn put(alloc: Global, map: &mut Map<String, Value>, key: &str, value: Value) -> Result<(), Fault>
+pub(crate) fn put(
+    alloc: Global,
+    map: &mut Map<String, Value>,
+    key: &str,
+    value: Value,
+) -> Result<(), Fault>
     ensures ok { OnOk result (members_view map.new.entries ≡ put key.now (view value) (members_view map.old.entries)) }
     ensures memory { IfErr result (λ fault. fault ≡ Memory) }
 {
@@ -33,7 +38,7 @@ fn scalar_value(alloc: Global, scalar: &Scalar) -> Result<Value, Fault>
     }
 }
 
-fn scalars_value(alloc: Global, scalars: &[Scalar]) -> Result<Value, Fault>
+pub(crate) fn scalars_value(alloc: Global, scalars: &[Scalar]) -> Result<Value, Fault>
     ensures ok { IfOk result (λ v. view v ≡ scalars_data scalars.now) }
     ensures memory { IfErr result (λ fault. fault ≡ Memory) }
 {
@@ -132,4 +137,13 @@ pub fn show(alloc: Global, view: &View) -> Result<String, Fault>
 {
     let value = view_value(alloc, view)?;
     Ok(value.to_string(alloc)?)
+}
+
+/// The view as JSON on many lines, indented.
+pub fn show_pretty(alloc: Global, view: &View) -> Result<String, Fault>
+    ensures ok { IfOk result (λ text. IsPretty (string_bytes text) (data_of (shown view.now))) }
+    ensures memory { IfErr result (λ fault. fault ≡ Memory) }
+{
+    let value = view_value(alloc, view)?;
+    Ok(value.to_string_pretty(alloc)?)
 }

@@ -2,11 +2,13 @@ pub mod Answered
 pub mod AnswerPieces
 pub mod Beginnings
 pub mod DigitsSoFar
+pub mod EditedLines
 pub mod EndedLines
 pub mod Fronts
 pub mod JoinedOnce
 pub mod Joining
 pub mod Pieces
+pub mod Placing
 pub mod Running
 pub mod Simulating
 pub mod Told

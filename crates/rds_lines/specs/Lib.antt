@@ -1,6 +1,7 @@
 pub mod Ahead
 pub mod Answer
 pub mod Answering
+pub mod Editing
 pub mod Join
 pub mod JoinLaws
 pub mod Lines

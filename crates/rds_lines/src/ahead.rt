@@ -14,7 +14,7 @@ use std::io::Read;
 use std::marker::Model;
 
 /// The most bytes of a line, without its newline.
-const LINE_LIMIT: usize = 65_536;
+pub const LINE_LIMIT: usize = 65_536;
 
 /// How many bytes one call of a reader is asked for.
 const ROOM: usize = 8_192;

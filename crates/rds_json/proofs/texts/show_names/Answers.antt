@@ -1,0 +1,9 @@
+use Rattle.std.proofs.Common.{◌∙◌, ap}
+use Rattle.serde_json.specs.Written.{compact_text, has_float}
+use Rattle.rds_json.proofs.Plain.{texts_plain}
+use Rattle.rds_json.proofs.texts.show_names.Goals as goal
+
+pub returns-clause-ok : goal.returns-clause-ok
+returns-clause-ok c =
+    let is = c.in_ok-value.ensures.ok in
+    c.in_ok-to_string.ensures.text (ap has_float is ∙ texts_plain c.args.names.now) ∙ ap compact_text is
