@@ -1,5 +1,7 @@
 // Loaded before a program (LD_PRELOAD), fails its FAIL_AT-th request for memory, or its FAIL_AT-th call on files and
-// sockets, as FAIL_KIND is "memory" or "device". The name of what failed is written to the descriptor FAIL_TOLD.
+// sockets, as FAIL_KIND is "memory" or "device". Or it ends the program, with the status ENDED, at that call on files and
+// sockets: "before" it, "after" it, or as it has written "half" of its bytes, for which only calls that write are counted.
+// The name of the request or call is written to the descriptor FAIL_TOLD.
 #define _GNU_SOURCE
 #include <dlfcn.h>
 #include <errno.h>
@@ -9,12 +11,29 @@
 #include <sys/syscall.h>
 #include <unistd.h>
 
-static int fails(const char *kind, const char *name, int error) {
+enum { ENDED = 99 };
+enum kind { MEMORY, DEVICE, WRITES };
+enum what { NOTHING, FAILS, BEFORE, AFTER, HALF };
+
+static int is_wanted(const char *word) {
+    return !strcmp(word, getenv("FAIL_KIND"));
+}
+
+static enum what wanted(enum kind kind) {
+    if (is_wanted(kind == MEMORY ? "memory" : "device")) return FAILS;
+    if (kind != MEMORY && is_wanted("before")) return BEFORE;
+    if (kind != MEMORY && is_wanted("after")) return AFTER;
+    return kind == WRITES && is_wanted("half") ? HALF : NOTHING;
+}
+
+// What is to become of this request or call. Before it the program may end.
+static enum what begins(enum kind kind, const char *name) {
     static long calls;
-    if (strcmp(kind, getenv("FAIL_KIND")) || ++calls != atol(getenv("FAIL_AT"))) return 0;
+    enum what what = wanted(kind);
+    if (what == NOTHING || ++calls != atol(getenv("FAIL_AT"))) return NOTHING;
     syscall(SYS_write, atoi(getenv("FAIL_TOLD")), name, strlen(name));
-    errno = error;
-    return 1;
+    if (what == BEFORE) _exit(ENDED);
+    return what;
 }
 
 static const char *sync_of(int file) {
@@ -22,29 +41,35 @@ static const char *sync_of(int file) {
     return fstat(file, &about) == 0 && S_ISDIR(about.st_mode) ? "fsync of the folder" : "fsync";
 }
 
-#define CALL(result, name, told, kind, error, none, takes, given) \
+#define CALL(result, name, told, kind, error, none, takes, given, halved) \
     result name takes { \
         result(*real) takes = (result(*) takes)dlsym(RTLD_NEXT, #name); \
-        return fails(kind, told, error) ? (result)none : real given; \
+        enum what what = begins(kind, told); \
+        if (what == FAILS) return errno = error, (result)none; \
+        if (what == HALF) { halved; } \
+        result came = real given; \
+        if (what != NOTHING) _exit(ENDED); \
+        return came; \
     }
-#define GROWS(name, takes, given) CALL(void *, name, #name, "memory", ENOMEM, 0, takes, given)
-#define MOVES(name, told, takes, given) CALL(ssize_t, name, told, "device", EIO, -1, takes, given)
-#define DOES(name, takes, given) CALL(int, name, #name, "device", EIO, -1, takes, given)
+#define GROWS(name, takes, given) CALL(void *, name, #name, MEMORY, ENOMEM, 0, takes, given, )
+#define READS(name, takes, given) CALL(ssize_t, name, #name, DEVICE, EIO, -1, takes, given, )
+#define GIVES(name, told, takes, given) CALL(ssize_t, name, told, WRITES, EIO, -1, takes, given, size /= 2)
+#define DOES(name, takes, given) CALL(int, name, #name, DEVICE, EIO, -1, takes, given, )
 
 GROWS(malloc, (size_t size), (size))
 GROWS(calloc, (size_t count, size_t size), (count, size))
 GROWS(realloc, (void *old, size_t size), (old, size))
-MOVES(read, "read", (int file, void *to, size_t size), (file, to, size))
-MOVES(write, file == 1 ? "output" : file == 2 ? "standard error" : "write", (int file, const void *from, size_t size), (file, from, size))
-MOVES(recv, "recv", (int file, void *to, size_t size, int flags), (file, to, size, flags))
-MOVES(send, "send", (int file, const void *from, size_t size, int flags), (file, from, size, flags))
+READS(read, (int file, void *to, size_t size), (file, to, size))
+GIVES(write, file == 1 ? "output" : file == 2 ? "standard error" : "write", (int file, const void *from, size_t size), (file, from, size))
+READS(recv, (int file, void *to, size_t size, int flags), (file, to, size, flags))
+GIVES(send, "send", (int file, const void *from, size_t size, int flags), (file, from, size, flags))
 DOES(open, (const char *path, int flags, unsigned mode), (path, flags, mode))
 DOES(fcntl, (int file, int command, long rest), (file, command, rest))
 DOES(flock, (int file, int operation), (file, operation))
 DOES(statx, (int folder, const char *path, int flags, unsigned mask, struct statx *to), (folder, path, flags, mask, to))
 DOES(unlink, (const char *path), (path))
 DOES(fchmod, (int file, unsigned mode), (file, mode))
-CALL(int, fsync, sync_of(file), "device", EIO, -1, (int file), (file))
+CALL(int, fsync, sync_of(file), DEVICE, EIO, -1, (int file), (file), )
 DOES(fdatasync, (int file), (file))
 DOES(rename, (const char *from, const char *to), (from, to))
 DOES(socket, (int family, int kind, int protocol), (family, kind, protocol))

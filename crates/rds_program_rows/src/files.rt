@@ -1,7 +1,9 @@
 //! Files and folders that rows make, look at and remove.
 use rds_names::Fault;
 use rds_rows::told::{digits_of, said};
-use rds_rows::words::{bytes_of, first};
+use rds_rows::words::{bytes_of, cut, first};
+use std::fs::Permissions;
+use std::os::unix::fs::PermissionsExt;
 use std::{fs, io};
 
 /// `put FILE HEX`: writes the bytes of these hex digits into a file.
@@ -32,6 +34,29 @@ pub fn remove_file(rt: &HostRuntime, file: &str) -> Result<String, Fault> {
 /// `remove_folder NAME`: removes a folder that holds nothing.
 pub fn remove_folder(rt: &HostRuntime, name: &str) -> Result<String, Fault> {
     told_done(rt, fs::remove_dir(rt, name))
+}
+
+/// `mode FILE`: who may read and write a file, in octal digits.
+pub fn mode(rt: &HostRuntime, file: &str) -> Result<String, Fault> {
+    match fs::metadata(rt, file) {
+        Ok(about) => {
+            let mode = about.permissions().mode() & 0o777;
+            Ok(format!(in rt.alloc(); "{mode:o}")?)
+        }
+        Err(_) => said(rt.alloc(), "no file"),
+    }
+}
+
+/// `set_mode MODE FILE`: lets those read and write a file that the octal digits say.
+pub fn set_mode(rt: &HostRuntime, rest: &str) -> Result<String, Fault> {
+    let (digits, file) = cut(rest)?;
+    let Ok(mode) = u32::from_str_radix(digits, 8) else {
+        return Err(Fault::Usage);
+    };
+    told_done(
+        rt,
+        fs::set_permissions(rt, file, Permissions::from_mode(mode)),
+    )
 }
 
 fn told_done(rt: &HostRuntime, done: io::Result<()>) -> Result<String, Fault> {

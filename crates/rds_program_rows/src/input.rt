@@ -68,8 +68,49 @@ impl Input {
         self.told(alloc)
     }
 
+    /// `<, FROM TO TEXT`: adds a text and the number for each number from the first up to the second, which is left out.
+    pub fn add_listed(&mut self, alloc: Global, rest: &str) -> Result<String, Fault> {
+        let (from, rest) = cut(rest)?;
+        let (to, text) = cut(rest)?;
+        for each in number(from)?..number(to)? {
+            let digits = format!(in alloc; "{each}")?;
+            self.add(text.as_bytes())?;
+            self.add(digits.as_str().as_bytes())?;
+        }
+        self.told(alloc)
+    }
+
+    /// `<@ FROM TO STEP HEX`: adds the bytes of hex digits for each number from the first up to the second, which is left out.
+    /// In the place of each `#` stand the eight bytes of the number, so many times as the step says.
+    pub fn add_bytes_numbered(&mut self, alloc: Global, rest: &str) -> Result<String, Fault> {
+        let (from, rest) = cut(rest)?;
+        let (to, rest) = cut(rest)?;
+        let (step, digits) = cut(rest)?;
+        let step = number(step)?;
+        let (head, parts) = parts_of(alloc, digits)?;
+        for each in number(from)?..number(to)? {
+            let between = each.saturating_mul(step).to_be_bytes();
+            self.add(&head)?;
+            for part in &parts {
+                self.add(&between)?;
+                self.add(part)?;
+            }
+        }
+        self.told(alloc)
+    }
+
     /// How many bytes they are.
     pub fn told(&self, alloc: Global) -> Result<String, Fault> {
         count_told(alloc, self.bytes.len(), "bytes")
     }
+}
+
+// The bytes of the hex digits before the first '#', and of those behind each.
+fn parts_of(alloc: Global, digits: &str) -> Result<(Vec<u8>, Vec<Vec<u8>>), Fault> {
+    let (head, rest) = digits.split_once('#').unwrap_or((digits, ""));
+    let mut parts = Vec::new(alloc);
+    for part in rest.split('#') {
+        parts.push(bytes_of(alloc, part)?)?;
+    }
+    Ok((bytes_of(alloc, head)?, parts))
 }

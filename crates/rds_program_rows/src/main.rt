@@ -13,6 +13,7 @@ mod replicas;
 mod runs;
 mod sessions;
 mod simulated;
+mod sizes;
 mod told;
 mod transcript;
 mod wire;

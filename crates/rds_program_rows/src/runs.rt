@@ -51,7 +51,8 @@ fn run_words(rt: &HostRuntime, words: &[&str], input: &[u8]) -> Result<String, F
     status_told(rt.alloc(), &written, status)
 }
 
-fn run_on(rt: &HostRuntime, words: &[&str], input: &[u8]) -> (Vec<u8>, u8) {
+/// What the program writes, and its status.
+pub fn run_on(rt: &HostRuntime, words: &[&str], input: &[u8]) -> (Vec<u8>, u8) {
     let mut written = Vec::new(rt.alloc());
     let mut reader = Counted::new(input);
     let status = run(rt, words, &mut reader, &mut Counted::new(&mut written));

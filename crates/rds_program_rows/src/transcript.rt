@@ -1,7 +1,7 @@
 //! Which row does what.
 use crate::addresses::{run_away, run_busy};
 use crate::disk::answer_disk;
-use crate::files::{hold, make_folder, put, remove_file, remove_folder};
+use crate::files::{hold, make_folder, mode, put, remove_file, remove_folder, set_mode};
 use crate::input::Input;
 use crate::lengths::answer_lengths;
 use crate::replicas::{components_told, keep, read, replace, settle_nothing, settle_received};
@@ -10,6 +10,7 @@ use crate::runs::{
 };
 use crate::sessions::Sessions;
 use crate::simulated::Simulated;
+use crate::sizes::{add_digits_in, fill, holds_as, run_as};
 use crate::wire::{answer_over, answer_serving, answer_talk, answer_wire};
 use crate::worlds::Worlds;
 use rds_dots::ListSet;
@@ -55,6 +56,9 @@ impl<'a> Transcript<'a> {
             "<-" => self.input.add(rest.as_bytes())?,
             "<x" => return self.input.add_digits(alloc, rest),
             "<n" => return self.input.add_repeated(alloc, rest),
+            "<," => return self.input.add_listed(alloc, rest),
+            "<@" => return self.input.add_bytes_numbered(alloc, rest),
+            "digits" => return add_digits_in(self.rt, rest, &mut self.input),
             _ => return self.input.add_numbered(alloc, rest),
         }
         self.input.told(alloc)
@@ -71,6 +75,7 @@ impl<'a> Transcript<'a> {
             "reads" => run_reading(self.rt, rest, input),
             "writes" => run_writing(self.rt, rest, input),
             "busy" => run_busy(self.rt, rest),
+            "writes_as" => run_as(self.rt, rest, input),
             _ => run_away(self.rt, rest),
         }
     }
@@ -83,6 +88,10 @@ impl<'a> Transcript<'a> {
             "folder" => make_folder(self.rt, rest),
             "remove" => remove_file(self.rt, rest),
             "replace" => replace(self.rt, rest),
+            "mode" => mode(self.rt, rest),
+            "set_mode" => set_mode(self.rt, rest),
+            "fill" => fill(self.rt, rest, self.input.as_slice()),
+            "holds_as" => holds_as(self.rt, rest),
             _ => remove_folder(self.rt, rest),
         }
     }
@@ -113,8 +122,10 @@ impl Table for Transcript<'_> {
         match name {
             "session" => answer_words(&mut self.sessions, alloc, rest),
             "world" => answer_words(&mut self.worlds, alloc, rest),
-            "empty" | "<" | "<-" | "<x" | "<n" | "<#" => self.answer_input(alloc, name, rest),
-            "$" | "$|" | "$$" | "last" | "reads" | "writes" | "busy" | "away" => {
+            "empty" | "<" | "<-" | "<x" | "<n" | "<#" | "<," | "<@" | "digits" => {
+                self.answer_input(alloc, name, rest)
+            }
+            "$" | "$|" | "$$" | "last" | "reads" | "writes" | "busy" | "away" | "writes_as" => {
                 self.answer_run(name, rest)
             }
             "group" => self.simulated.begin(self.rt, rest),
@@ -127,9 +138,16 @@ impl Table for Transcript<'_> {
             "over" => answer_over(self.rt, rest, self.input.as_slice()),
             "serving" => answer_serving(self.rt, rest, self.input.as_slice()),
             "talk" => answer_talk(self.rt, rest, self.input.as_slice()),
-            "put" | "hold" | "folder" | "remove" | "remove_folder" | "replace" => {
-                self.answer_file(name, rest)
-            }
+            "put"
+            | "hold"
+            | "folder"
+            | "remove"
+            | "remove_folder"
+            | "replace"
+            | "mode"
+            | "set_mode"
+            | "fill"
+            | "holds_as" => self.answer_file(name, rest),
             "read" => self.read(alloc),
             "keep" | "settle" | "settle_nothing" => self.answer_read(name, rest),
             _ => Err(Fault::Usage),
