@@ -2,11 +2,11 @@
 ghost use Rattle.std.specs.Prelude.{◌<◌, ◌≤◌};
 
 use crate::report;
-use crate::samples::{Living, state};
+use crate::samples::{self, Living, state};
 use rds_codec::{encode_certificate, encode_digest, encode_state};
 use rds_delta::{Certificate, Digest, certificate, check, delta};
 use rds_gaps::GapSet;
-use rds_names::{Fault, Key, Name, Roster};
+use rds_names::Fault;
 use rds_state::{Replica, State};
 use std::alloc::Global;
 use std::io;
@@ -58,9 +58,7 @@ fn replica(alloc: Global, dots: u64, asker: Asker) -> Result<Replica<GapSet>, Fa
     requires least { 10 < dots }
     requires most { dots ≤ 1000000 }
 {
-    let names = [Name::new("a")?, Name::new("b")?];
-    let roster = Roster::new(alloc, Key::new(alloc, "g")?, names.as_slice())?;
-    Replica::from_parts(roster, 1, asking(alloc, dots, asker)?)
+    samples::replica(alloc, asking(alloc, dots, asker)?)
 }
 
 /// What the replica that asks has of so many live dots.
