@@ -7,6 +7,7 @@ pub mod EndedLines
 pub mod Fronts
 pub mod JoinedOnce
 pub mod Joining
+pub mod Overviews
 pub mod Pieces
 pub mod Placing
 pub mod Running

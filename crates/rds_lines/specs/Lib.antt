@@ -6,6 +6,7 @@ pub mod Join
 pub mod JoinLaws
 pub mod Lines
 pub mod Output
+pub mod Overview
 pub mod Refusal
 pub mod Run
 pub mod Sim

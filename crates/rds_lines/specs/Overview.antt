@@ -1,0 +1,60 @@
+-- Whose replica there is, and how much there is of it, as JSON.
+use Rattle.std.specs.Prelude.{◌≡◌, ℕ, ℤ, List, [], ◌++◌, codes, false, Option, Some, None, count_by, length, slice_get, unwrap_or}
+use Rattle.std.specs.FinMap as map
+use Rattle.std.specs.Fmt.{decimal}
+use Rattle.serde_json.specs.Data.{string}
+use Rattle.serde_json.specs.Written.{compact_text}
+use Rattle.rds_names.specs.Roster.{RosterValue}
+use Rattle.rds_life.specs.Life.{Lived, is_dead, live_rows}
+use Rattle.rds_state.specs.Fits.{ReplicaValue}
+use Rattle.rds_state.specs.Value.{size}
+use Rattle.rds_codec.specs.StateTexts.{snapshot_text}
+use Rattle.rds_tree.specs.Document.{sums_of}
+use Rattle.rds_tree.specs.Shown.{Shown, shows}
+use Rattle.rds_json.specs.Texts.{texts_data}
+use Rattle.rds_lines.specs.Answer.{answer_text, is_refusal}
+use Rattle.rds_lines.specs.declared.answer.Answer.{Answer}
+use Rattle.rds_lines.specs.declared.overview.Amounts.{Amounts}
+
+-- how many seen dots are dead
+abbrev pub dead_count : Lived → ℕ
+dead_count lives = count_by (λ x. is_dead (Some x.1)) (map.entries lives)
+
+-- how much there is of a replica
+pub record AreAmounts (r : ReplicaValue) (a : Amounts) : Type 0 where
+  pub live : a.live ≡ length (live_rows r.state.lives)
+  pub dead : a.dead ≡ dead_count r.state.lives
+  pub counters : a.counters ≡ length (sums_of r.state.counts)
+  pub components : a.components ≡ size r.state
+  pub bytes : a.bytes ≡ length (snapshot_text r)
+
+-- the name of a number in the roster
+abbrev pub own_name : RosterValue → ℕ → List ℕ
+own_name roster own = unwrap_or (slice_get roster.names own) []
+
+-- the group, the own name and all names
+abbrev pub whose_text : RosterValue → ℕ → List ℕ
+whose_text roster own = codes "{\"group\":" ++ compact_text (string roster.group) ++ codes ",\"own\":" ++ compact_text (string (own_name roster own)) ++ codes ",\"names\":" ++ compact_text (texts_data roster.names)
+
+abbrev pub much_text : Amounts → List ℕ
+much_text a =
+    codes ",\"live\":" ++ (decimal a.live ++ (codes ",\"dead\":" ++ (decimal a.dead ++ (codes ",\"counters\":" ++ (decimal a.counters
+    ++ (codes ",\"components\":" ++ (decimal a.components ++ (codes ",\"bytes\":" ++ (decimal a.bytes ++ codes "}")))))))))
+
+abbrev pub overview_text : RosterValue → ℕ → Amounts → List ℕ
+overview_text roster own amounts = whose_text roster own ++ much_text amounts
+
+-- that of a replica
+pub record TellsOverview (r : ReplicaValue) (answer : Answer) : Type 0 where
+  pub amounts : Amounts
+  pub are : AreAmounts r amounts
+  pub told : answer_text answer ≡ overview_text r.roster r.own amounts
+  pub done : is_refusal answer ≡ false
+
+-- how many counters a view shows
+abbrev pub counter_count : Option (List (List ℕ × ℤ)) → ℕ
+counter_count None = 0
+counter_count (Some sums) = length sums
+
+abbrev pub sum_count : Shown → ℕ
+sum_count (shows maps regs sets counters) = counter_count counters

@@ -1,0 +1,134 @@
+//! Whose replica there is, and how much there is of it.
+ghost use Rattle.std.specs.Prelude.{◌≡◌, IfErr, IfOk, length, string_bytes};
+ghost use Rattle.serde_json.specs.Data.{string};
+ghost use Rattle.serde_json.specs.Written.{compact_text};
+ghost use Rattle.rds_keep.specs.Kept.{IsKept};
+ghost use Rattle.rds_names.specs.declared.fault.Fault.TheVariants.{Memory};
+ghost use Rattle.rds_tree.specs.Document.{sums_of};
+ghost use Rattle.rds_tree.specs.Shown.{shown};
+ghost use Rattle.rds_lines.specs.Overview.{AreAmounts, TellsOverview, dead_count, much_text, overview_text, own_name, sum_count};
+
+use crate::answer::Answer;
+use rds_codec::encode_snapshot;
+use rds_dots::DotSet;
+use rds_json::{show_names, show_text};
+use rds_keep::Kept;
+use rds_life::Lives;
+use rds_names::{Fault, Path};
+use rds_state::{Replica, State};
+use rds_tree::{View, view};
+use std::alloc::Global;
+
+/// How much there is of a replica.
+#[derive(Clone, Copy, Debug)]
+pub struct Amounts {
+    live: u64,
+    dead: u64,
+    counters: u64,
+    components: u128,
+    bytes: u64,
+}
+
+/// Tells whose replica this is and how much there is of it: its live entries, dots of dead ones, counters and components, and
+/// the bytes of its snapshot.
+pub fn describe<S: DotSet>(alloc: Global, kept: &Kept<S>) -> Result<Answer, Fault>
+    ensures told { IfOk result (TellsOverview kept.now) }
+    ensures memory { IfErr result (λ fault. fault ≡ Memory) }
+{
+    let replica = kept.view_of();
+    let amounts = amounts_of(alloc, replica)?;
+    Ok(Answer::Shown(overview_line(alloc, replica, amounts)?))
+}
+
+// How much there is of a replica that can be kept.
+fn amounts_of<S: DotSet>(alloc: Global, replica: &Replica<S>) -> Result<Amounts, Fault>
+    requires { IsKept replica.now }
+    ensures are { IfOk result (AreAmounts replica.now) }
+    ensures memory { IfErr result (λ fault. fault ≡ Memory) }
+{
+    let text = encode_snapshot(alloc, replica)?;
+    let state = replica.state();
+    let live = state.lives().live_len() as u64;
+    Ok(Amounts {
+        live,
+        dead: dead_count(state.lives()),
+        counters: counter_count(alloc, state)?,
+        components: state.components(),
+        bytes: text.len() as u64,
+    })
+}
+
+// How many seen dots are dead.
+fn dead_count<S: DotSet>(lives: &Lives<S>) -> u64
+    ensures { result ≡ dead_count lives.now }
+{
+    let live = lives.live_len() as u64;
+    lives.seen().count().saturating_sub(live)
+}
+
+// How many counters there are.
+fn counter_count<S: DotSet>(alloc: Global, state: &State<S>) -> Result<u64, Fault>
+    ensures count { IfOk result (λ count. count ≡ length (sums_of state.now.counts)) }
+    ensures memory { IfErr result (λ fault. fault ≡ Memory) }
+{
+    let counters = State::from_parts(Lives::<S>::empty(alloc), state.counts().copy(alloc)?);
+    let root = Path::new(alloc, "")?;
+    let shape = view(alloc, &counters, &root)?;
+    Ok(sum_count(&shape))
+}
+
+// How many counters a view shows.
+fn sum_count(shape: &View) -> u64
+    ensures { result ≡ sum_count (shown shape.now) }
+{
+    match &shape.counters {
+        Some(sums) => sums.rows().len() as u64,
+        None => 0,
+    }
+}
+
+// The line.
+fn overview_line<S: DotSet>(
+    alloc: Global,
+    replica: &Replica<S>,
+    amounts: Amounts,
+) -> Result<String, Fault>
+    ensures text { IfOk result (λ text. string_bytes text ≡ overview_text replica.now.roster replica.now.own amounts) }
+    ensures memory { IfErr result (λ fault. fault ≡ Memory) }
+{
+    let roster = replica.roster();
+    let group = show_text(alloc, roster.group().as_str())?;
+    let own = show_own(alloc, replica)?;
+    let names = show_names(alloc, roster.names())?;
+    let whose = format!(in alloc; "{{\"group\":{group},\"own\":{own},\"names\":{names}")?;
+    let much = much_text(alloc, amounts)?;
+    Ok(format!(in alloc; "{whose}{much}")?)
+}
+
+// How much there is, as the end of the line.
+fn much_text(alloc: Global, amounts: Amounts) -> Result<String, Fault>
+    ensures text { IfOk result (λ text. string_bytes text ≡ much_text amounts) }
+    ensures memory { IfErr result (λ fault. fault ≡ Memory) }
+{
+    let Amounts {
+        live,
+        dead,
+        counters,
+        components,
+        bytes,
+    } = amounts;
+    Ok(format!(in alloc;
+        ",\"live\":{live},\"dead\":{dead},\"counters\":{counters},\"components\":{components},\"bytes\":{bytes}}}"
+    )?)
+}
+
+// The replica's own name.
+fn show_own<S: DotSet>(alloc: Global, replica: &Replica<S>) -> Result<String, Fault>
+    ensures ok { IfOk result (λ shown. string_bytes shown ≡ compact_text (string (own_name replica.now.roster replica.now.own))) }
+    ensures memory { IfErr result (λ fault. fault ≡ Memory) }
+{
+    match replica.roster().name_of(replica.own()) {
+        Some(name) => show_text(alloc, name.as_str()),
+        None => show_text(alloc, ""),
+    }
+}
