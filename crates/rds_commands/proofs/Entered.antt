@@ -9,7 +9,8 @@ use Rattle.rds_keep.specs.Counted.{CountedValue}
 use Rattle.rds_lines.specs.Answering.{WritesAnswer}
 use Rattle.rds_lines.specs.Output.{AnswersStatus, Writes}
 use Rattle.rds_lines.specs.declared.answer.Answer.{Answer}
-use Rattle.rds_commands.specs.Told.{AnswersMistake, WritesOfFile}
+use Rattle.rds_commands.specs.OfFile.{WritesOfFile}
+use Rattle.rds_commands.specs.Told.{AnswersMistake}
 use Rattle.rds_commands.specs.Unparsed.{unparsed_status}
 
 -- where no call of the writer failed, the status is the one that is due

@@ -1,4 +1,6 @@
+pub mod Batches
 pub mod Entered
+pub mod Getting
 pub mod Named
 pub mod Refused
 pub mod Replaced

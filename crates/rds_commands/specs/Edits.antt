@@ -1,4 +1,5 @@
 -- What commands on the replica in a file come to, and why they are refused.
+pub use Rattle.rds_lines.specs.Editing.{IsEdited, edit_refusal}
 use Rattle.std.specs.Prelude.{◌≡◌, ◌⊎◌, ℕ, false, List, Option, None, Ok, Err, IsOk, count_by}
 use Rattle.std.specs.FinMap as map
 use Rattle.rds_names.specs.declared.fault.Fault.{Fault}
@@ -40,17 +41,6 @@ abbrev pub RefusesInit : InitWords → Fault → Type 0
 RefusesInit words fault = (fault ≡ Memory) ⊎ ((roster_for words ≡ Err fault) ⊎ ((replica : ReplicaValue) × IsNamed words replica × RefusesFile replica fault))
 
 -- ---- edits
-
--- a replica's state was joined with the command's effect, and the answer tells the new dot and how many live dots it killed
-pub record IsEdited (command : Command) (before after : ReplicaValue) (answer : Answer) : Type 0 where
-  pub roster : after.roster ≡ before.roster
-  pub own : after.own ≡ before.own
-  pub joined : JoinsEffect (coordinates before.state) before.own command (coordinates after.state)
-  pub told : answer ≡ edit_answer before.roster (new_dot (coordinates before.state) before.own command) (count_by (λ r. covers command r.1) (live_rows before.state.lives))
-
--- what an edit itself is refused by, if it is
-abbrev pub edit_refusal : ReplicaValue → Command → Option Fault
-edit_refusal before command = refusal (coordinates before.state) before.own command
 
 -- an edited replica can't be kept
 abbrev pub IsEditedUnkept : Command → ReplicaValue → Fault → Type 0

@@ -4,14 +4,15 @@ use Rattle.clap.specs.Words.{IsAmong, Kinds, Text}
 use Rattle.clap.specs.declared.error.kind.ErrorKind.{ErrorKind}
 use Rattle.rds_names.specs.declared.fault.Fault.{Fault}
 use Rattle.rds_names.specs.declared.fault.Fault.TheVariants.{Memory, Usage}
-use Rattle.rds_lines.specs.Answering.{WritesAnswer, WritesAnswers}
+use Rattle.rds_lines.specs.Answering.{WritesAnswers}
 use Rattle.rds_lines.specs.Output.{Writes}
 use Rattle.rds_lines.specs.Sim.{IsSimOutput}
-use Rattle.rds_lines.specs.declared.answer.Answer.{Answer}
 use Rattle.rds_files.specs.Files.{is_beside}
 use Rattle.rds_files.specs.Pairing.{WritesPair}
 use Rattle.rds_files.specs.Syncing.{WritesServing, WritesSync}
 use Rattle.rds_commands.specs.Edits.{EditsFile, InitsFile, RefusesEdit, RefusesInit, RefusesShow, ShowsFile}
+use Rattle.rds_commands.specs.Looks.{WritesGet, WritesPretty, WritesStatus}
+use Rattle.rds_commands.specs.OfFile.{WritesOfFile}
 use Rattle.rds_words.specs.Meaning.{IsAmount}
 use Rattle.rds_words.specs.Task.{words_of}
 use Rattle.rds_commands.specs.Unparsed.{unparsed_status}
@@ -20,17 +21,11 @@ use Rattle.rds_words.specs.declared.tasks.InitWords.{InitWords}
 use Rattle.rds_words.specs.declared.tasks.ServeWords.{ServeWords}
 use Rattle.rds_words.specs.declared.tasks.SyncWords.{SyncWords}
 use Rattle.rds_words.specs.declared.tasks.Task.{Task}
-use Rattle.rds_words.specs.declared.tasks.Task.TheVariants.{Join, Sim, Init, Edit, Show, Serve, Sync, Pair}
+use Rattle.rds_words.specs.declared.tasks.Task.TheVariants.{Join, Sim, Init, Edit, EditLines, Get, Show, ShowPretty, Status, Serve, Sync, Pair}
 
 -- the answers to the lines of the input were written, and nothing else; or there was no memory to read the words
 abbrev pub WritesSim : List ℕ → Option (List ℕ) → Option (List ℕ) → ℕ → Type 0
 WritesSim input before after status = Writes (Err Memory) before after status ⊎ WritesAnswers (IsSimOutput input) before after status
-
--- an answer that came with such a file, or such a fault, was written, and nothing else, and its status is answered
-abbrev pub WritesOfFile : {F : Type 0} → (F → Answer → Type 0) → (Fault → Type 0) → Option (List ℕ) → Option (List ℕ) → ℕ → Type 0
-WritesOfFile {F} comes refuses before after status =
-    ((file : F) × (answer : Answer) × comes file answer × WritesAnswer (Ok answer) before after status)
-    ⊎ ((fault : Fault) × refuses fault × WritesAnswer (Err fault) before after status)
 
 abbrev pub WritesInit : InitWords → Option (List ℕ) → Option (List ℕ) → ℕ → Type 0
 WritesInit words = WritesOfFile (InitsFile words) (RefusesInit words)
@@ -71,13 +66,17 @@ WritesPairing first second before after status =
     ((is_beside first ≡ false) × (is_beside second ≡ false) × WritesPair first second before after status)
     ⊎ (((is_beside first || is_beside second) ≡ true) × Writes (Err Usage) before after status)
 
--- what is written for a task; of `join` and `sim` that hangs on what is read, and is said apart
+-- what is written for a task; of `join`, `sim` and edits by lines that hangs on what is read, and is said apart
 abbrev pub WritesTask : Task → Option (List ℕ) → Option (List ℕ) → ℕ → Type 0
 WritesTask Join before after status = Unit {0}
 WritesTask Sim before after status = Unit {0}
 WritesTask (Init words) before after status = WritesInit words before after status
 WritesTask (Edit file edit) before after status = WritesEdit file.now edit before after status
+WritesTask (EditLines file) before after status = Unit {0}
+WritesTask (Get file path) before after status = WritesGet file.now path.now before after status
 WritesTask (Show file path) before after status = WritesShow file.now path.now before after status
+WritesTask (ShowPretty file path) before after status = WritesPretty file.now path.now before after status
+WritesTask (Status file) before after status = WritesStatus file.now before after status
 WritesTask (Serve words) before after status = WritesServe words before after status
 WritesTask (Sync words) before after status = WritesSyncing words before after status
 WritesTask (Pair first second) before after status = WritesPairing first.now second.now before after status

@@ -4,7 +4,12 @@ use rds_words::EditWords;
 
 /// Tells which file a command was refused for, and by which fault.
 pub fn note_file<H: Eprint>(rt: &H, path: &str, fault: Fault) {
-    let _ = eprintln!(rt; "{path}: {fault:?}");
+    let _ = eprintln!(rt; "{path}: {fault}");
+}
+
+/// Tells that the input was refused, and by which fault.
+pub fn note_input<H: Eprint>(rt: &H, fault: Fault) {
+    let _ = eprintln!(rt; "standard input: {fault}");
 }
 
 /// Tells which file an edit was refused for, and by which fault. Where its value is no JSON, that may be text without quotes.

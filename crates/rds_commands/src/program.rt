@@ -5,10 +5,15 @@ ghost use Rattle.rds_lines.specs.Answering.{WritesAnswers, WritesCut};
 ghost use Rattle.rds_lines.specs.Output.{Writes, fault_line};
 ghost use Rattle.rds_lines.specs.Run.{WritesJoin};
 ghost use Rattle.rds_lines.specs.Sim.{IsSimOutput, MayBeSimulated};
-ghost use Rattle.rds_words.specs.Commands.{join_words, sim_words};
+ghost use Rattle.std.specs.Borrow.{Bor};
+ghost use Rattle.clap.specs.Words.{Text};
+ghost use Rattle.rds_words.specs.Commands.{edit_lines_words, join_words, sim_words};
+ghost use Rattle.rds_commands.specs.Batch.{WritesEdits};
 ghost use Rattle.rds_commands.specs.Told.{AnswersMistake, MayWriteNamed, WritesSim, WritesTask};
 ghost use Rattle.rds_words.specs.Entered.{Names, mistakes_in, named_in};
 
+use crate::batch::run_edit_lines;
+use crate::looking::{run_get, run_show_pretty, run_status};
 use crate::session_words::{run_pair, run_serve, run_sync};
 use crate::telling::{run_edit, run_init, run_show};
 use crate::unparsed::write_unparsed;
@@ -25,8 +30,8 @@ use std::net::Net;
 /// program's name, whatever it is.
 ///
 /// A fault is written as the line `fault N: Name` and answered by 1. Words that the command line
-/// doesn't have are `Usage`: that line, then the library's text, and 2. Help is written and answered
-/// by 0. A reader that fails, or that gives more reads than its bound of turns, is `Device`. Where
+/// doesn't have are `Usage`: that line, then the library's text, and 2. Help and the version are written
+/// and answered by 0. A reader that fails, or that gives more reads than its bound of turns, is `Device`. Where
 /// the output itself fails the answer is 1.
 pub fn run<H: Disk + Net, R: Read, W: Write, S: AsStr>(
     rt: &H,
@@ -52,6 +57,13 @@ where
         → WritesCut MayBeSimulated (fault_line Device)
         (R.remaining reader.old.inner) (R.remaining reader.new.inner)
         (W.contents writer.old.inner) (W.contents writer.new.inner) × (result ≡ 1) }
+    ensures edit { (file : Text) → Names (map S.text words.entry.now) (edit_lines_words file)
+        → IfSome (R.remaining reader.old.inner)
+        (λ input. reader.new.failed ≡ 0 → writer.new.failed ≡ 0
+        → WritesEdits file input (W.contents writer.old.inner) (W.contents writer.new.inner) result) }
+    ensures unread_edit { (file : Text) → Names (map S.text words.entry.now) (edit_lines_words file)
+        → reader.new.failed ≢ reader.old.failed → writer.new.failed ≡ 0
+        → Writes (Err Device) (W.contents writer.old.inner) (W.contents writer.new.inner) result }
     ensures task { mistakes_in (map S.text words.entry.now) ≡ [] → writer.new.failed ≡ 0
         → MayWriteNamed (named_in (map S.text words.entry.now))
         (W.contents writer.old.inner) (W.contents writer.new.inner) result }
@@ -92,6 +104,12 @@ where
         → WritesCut MayBeSimulated (fault_line Device)
         (R.remaining reader.old.inner) (R.remaining reader.new.inner)
         (W.contents writer.old.inner) (W.contents writer.new.inner) × (result ≡ 1) }
+    ensures edit { (at : Bor Text) → task.entry ≡ Task.EditLines at → IfSome (R.remaining reader.old.inner)
+        (λ input. reader.new.failed ≡ 0 → writer.new.failed ≡ 0
+        → WritesEdits at.now input (W.contents writer.old.inner) (W.contents writer.new.inner) result) }
+    ensures unread_edit { (at : Bor Text) → task.entry ≡ Task.EditLines at
+        → reader.new.failed ≢ reader.old.failed → writer.new.failed ≡ 0
+        → Writes (Err Device) (W.contents writer.old.inner) (W.contents writer.new.inner) result }
     ensures written { writer.new.failed ≡ 0
         → WritesTask task.entry (W.contents writer.old.inner) (W.contents writer.new.inner) result }
     ensures status { result ≤ 2 }
@@ -102,7 +120,11 @@ where
         Task::Sim => run_sim(rt.alloc(), reader, writer),
         Task::Init(words) => run_init(rt, &words, writer),
         Task::Edit { file, edit } => run_edit(rt, file, &edit, writer),
+        Task::EditLines { file } => run_edit_lines(rt, file, reader, writer),
+        Task::Get { file, path } => run_get(rt, file, path, writer),
         Task::Show { file, path } => run_show(rt, file, path, writer),
+        Task::ShowPretty { file, path } => run_show_pretty(rt, file, path, writer),
+        Task::Status { file } => run_status(rt, file, writer),
         Task::Serve(words) => run_serve(rt, words, writer),
         Task::Sync(words) => run_sync(rt, words, writer),
         Task::Pair { first, second } => run_pair(rt, first, second, writer),

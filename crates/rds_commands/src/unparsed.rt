@@ -13,8 +13,8 @@ use rds_lines::{status_of, write_fault, write_fault_line};
 use rds_names::Fault;
 use std::io::Write;
 
-/// Writes why the words of the command line gave no task, and answers the status. Help is its text
-/// alone, with 0; want of memory is its fault. Else the text follows the line of `Usage`, with 2.
+/// Writes why the words of the command line gave no task, and answers the status. Help and the version are
+/// their text alone, with 0; want of memory is its fault. Else the text follows the line of `Usage`, with 2.
 pub fn write_unparsed<W: Write>(writer: &mut Counted<W>, error: &Error) -> u8
     ensures memory { kind_of error.now ≡ ErrorKind.OutOfMemory → writer.new.failed ≡ 0
         → Writes (Err Memory) (W.contents writer.old.inner) (W.contents writer.new.inner) result }
@@ -23,7 +23,10 @@ pub fn write_unparsed<W: Write>(writer: &mut Counted<W>, error: &Error) -> u8
 {
     match error.kind() {
         ErrorKind::OutOfMemory => write_fault(writer, Fault::Memory),
-        ErrorKind::DisplayHelp => status_of(writer.write_shown(error), 0),
+        ErrorKind::DisplayHelp | ErrorKind::DisplayVersion => status_of(
+            writer.write_shown(error),
+            0,
+        ),
         _ => status_of(write_usage(writer, error), 2),
     }
 }

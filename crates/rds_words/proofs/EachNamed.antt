@@ -5,7 +5,7 @@ use Rattle.std.specs.Borrow.{Bor}
 use Rattle.clap.specs.Words.{Text, built}
 use Rattle.rds_names.specs.Conditions.{and_left, and_right}
 use Rattle.rds_words.specs.declared.tasks.Task.{Task}
-use Rattle.rds_words.specs.declared.tasks.Task.TheVariants.{Join, Sim, Init, Edit, Show, Serve, Sync, Pair}
+use Rattle.rds_words.specs.declared.tasks.Task.TheVariants.{Join, Sim, Init, Edit, EditLines, Get, Show, ShowPretty, Status, Serve, Sync, Pair}
 use Rattle.rds_words.specs.declared.tasks.EditWords.TheVariants.{Set, Add, Del, Clear, Inc, Dec}
 use Rattle.rds_words.specs.Commands.{node_app}
 use Rattle.rds_words.specs.Entered.{Names}
@@ -14,6 +14,7 @@ use Rattle.rds_words.specs.Written.{AreData, HasNames, IsWritable, dashed, is_da
 use Rattle.rds_words.proofs.CommandWords.{node_on_words}
 use Rattle.rds_words.proofs.Dashed.{Meets, undashed_fault, undashed_rows}
 use Rattle.rds_words.proofs.InitNamed.{init_dashed, init_met}
+use Rattle.rds_words.proofs.PrettyNamed.{pretty_dashed, pretty_named, show_met}
 use Rattle.rds_words.proofs.ServeNamed.{serve_met, serve_named, sessions_named, timeout_named}
 use Rattle.rds_words.proofs.SyncNamed.{sync_met, sync_named}
 
@@ -35,6 +36,18 @@ sim_dashed name = (refl, refl)
 show_dashed : (name file path : Text) → Names (name ∷ codes "show" ∷ codes "--" ∷ file ∷ path ∷ []) (codes "show" ∷ file ∷ path ∷ [])
 unfolding node_on_words
 show_dashed name file path = (refl, refl)
+
+edit_lines_dashed : (name file : Text) → Names (name ∷ codes "edit" ∷ codes "--" ∷ file ∷ []) (codes "edit" ∷ file ∷ [])
+unfolding node_on_words
+edit_lines_dashed name file = (refl, refl)
+
+get_dashed : (name file path : Text) → Names (name ∷ codes "get" ∷ codes "--" ∷ file ∷ path ∷ []) (codes "get" ∷ file ∷ path ∷ [])
+unfolding node_on_words
+get_dashed name file path = (refl, refl)
+
+status_dashed : (name file : Text) → Names (name ∷ codes "status" ∷ codes "--" ∷ file ∷ []) (codes "status" ∷ file ∷ [])
+unfolding node_on_words
+status_dashed name file = (refl, refl)
 
 sync_dashed : (name file addr timeout : Text) → Names (name ∷ codes "sync" ∷ (codes "--timeout=" ++ timeout) ∷ codes "--" ∷ file ∷ addr ∷ []) (codes "sync" ∷ file ∷ addr ∷ timeout ∷ [])
 unfolding node_on_words
@@ -107,9 +120,17 @@ sim_met : Meets (built node_app) (codes "sim")
 unfolding node_on_words
 sim_met = (refl, refl)
 
-show_met : Meets (built node_app) (codes "show")
+edit_lines_met : Meets (built node_app) (codes "edit")
 unfolding node_on_words
-show_met = (refl, refl)
+edit_lines_met = (refl, refl)
+
+get_met : Meets (built node_app) (codes "get")
+unfolding node_on_words
+get_met = (refl, refl)
+
+status_met : Meets (built node_app) (codes "status")
+unfolding node_on_words
+status_met = (refl, refl)
 
 pair_met : Meets (built node_app) (codes "pair")
 unfolding node_on_words
@@ -156,7 +177,11 @@ task_dashed name (Edit file (Del path value)) has = del_dashed name file.now pat
 task_dashed name (Edit file (Clear path)) has = clear_dashed name file.now path.now
 task_dashed name (Edit file (Inc key by)) has = inc_dashed name file.now key.now by.now
 task_dashed name (Edit file (Dec key by)) has = dec_dashed name file.now key.now by.now
+task_dashed name (EditLines file) has = edit_lines_dashed name file.now
+task_dashed name (Get file path) has = get_dashed name file.now path.now
 task_dashed name (Show file path) has = show_dashed name file.now path.now
+task_dashed name (ShowPretty file path) has = pretty_dashed name file.now path.now
+task_dashed name (Status file) has = status_dashed name file.now
 task_dashed name (Sync words) has = sync_dashed name words.file.now words.addr.now words.timeout.now
 task_dashed name (Pair first second) has = pair_dashed name first.now second.now
 task_dashed name (Serve words) has = serve_dashed name words.file.now words.addr.now words.sessions.now words.timeout.now
@@ -172,6 +197,10 @@ task_written name (Edit file (Del path value)) is = undashed name (codes "del") 
 task_written name (Edit file (Clear path)) is = undashed name (codes "clear") (file.now ∷ path.now ∷ []) _ clear_met is.1 (clear_dashed name file.now path.now)
 task_written name (Edit file (Inc key by)) is = undashed name (codes "inc") (file.now ∷ key.now ∷ by.now ∷ []) _ inc_met is.1 (inc_dashed name file.now key.now by.now)
 task_written name (Edit file (Dec key by)) is = undashed name (codes "dec") (file.now ∷ key.now ∷ by.now ∷ []) _ dec_met is.1 (dec_dashed name file.now key.now by.now)
+task_written name (EditLines file) is = undashed name (codes "edit") (file.now ∷ []) _ edit_lines_met is.1 (edit_lines_dashed name file.now)
+task_written name (Get file path) is = undashed name (codes "get") (file.now ∷ path.now ∷ []) _ get_met is.1 (get_dashed name file.now path.now)
+task_written name (ShowPretty file path) is = pretty_named name file.now path.now is.1
+task_written name (Status file) is = undashed name (codes "status") (file.now ∷ []) _ status_met is.1 (status_dashed name file.now)
 task_written name (Show file path) is = undashed name (codes "show") (file.now ∷ path.now ∷ []) _ show_met is.1 (show_dashed name file.now path.now)
 task_written name (Sync words) is =
     let behind = and_right (is_data words.file.now) _ is.1 in

@@ -7,5 +7,6 @@ pub mod NamedTasks
 pub mod Naming
 pub mod OneMeaning
 pub mod Passing
+pub mod PrettyNamed
 pub mod ServeNamed
 pub mod SyncNamed

@@ -1,8 +1,9 @@
 -- The task whose words are known.
-use Rattle.std.proofs.Common.{◌≡◌, [], ◌∷◌, codes, Option, Some, None, option_map, refl}
-use Rattle.rds_words.specs.Task.{words_of}
+use Rattle.std.proofs.Common.{◌≡◌, List, [], ◌∷◌, codes, Option, Some, None, option_map, refl}
+use Rattle.clap.specs.Words.{Text}
+use Rattle.rds_words.specs.Task.{EditsByLines, words_of}
 use Rattle.rds_words.specs.declared.tasks.Task.{Task}
-use Rattle.rds_words.specs.declared.tasks.Task.TheVariants.{Join, Sim, Init, Edit, Show, Serve, Sync, Pair}
+use Rattle.rds_words.specs.declared.tasks.Task.TheVariants.{Join, Sim, Init, Edit, EditLines, Get, Show, ShowPretty, Status, Serve, Sync, Pair}
 use Rattle.rds_words.specs.declared.tasks.EditWords.TheVariants.{Set, Add, Del, Clear, Inc, Dec}
 
 pub is_join : (task : Option Task) → option_map words_of task ≡ Some (codes "join" ∷ []) → task ≡ Some Join
@@ -16,7 +17,11 @@ is_join (Some (Edit file (Del path value))) e = absurd cc
 is_join (Some (Edit file (Clear path))) e = absurd cc
 is_join (Some (Edit file (Inc key by))) e = absurd cc
 is_join (Some (Edit file (Dec key by))) e = absurd cc
+is_join (Some (EditLines file)) e = absurd cc
+is_join (Some (Get file path)) e = absurd cc
 is_join (Some (Show file path)) e = absurd cc
+is_join (Some (ShowPretty file path)) e = absurd cc
+is_join (Some (Status file)) e = absurd cc
 is_join (Some (Serve words)) e = absurd cc
 is_join (Some (Sync words)) e = absurd cc
 is_join (Some (Pair first second)) e = absurd cc
@@ -32,7 +37,34 @@ is_sim (Some (Edit file (Del path value))) e = absurd cc
 is_sim (Some (Edit file (Clear path))) e = absurd cc
 is_sim (Some (Edit file (Inc key by))) e = absurd cc
 is_sim (Some (Edit file (Dec key by))) e = absurd cc
+is_sim (Some (EditLines file)) e = absurd cc
+is_sim (Some (Get file path)) e = absurd cc
 is_sim (Some (Show file path)) e = absurd cc
+is_sim (Some (ShowPretty file path)) e = absurd cc
+is_sim (Some (Status file)) e = absurd cc
 is_sim (Some (Serve words)) e = absurd cc
 is_sim (Some (Sync words)) e = absurd cc
 is_sim (Some (Pair first second)) e = absurd cc
+
+pub is_edit : (at : Text) (task : Option Task) → option_map words_of task ≡ Some (codes "edit" ∷ at ∷ []) → EditsByLines at task
+is_edit at None e = absurd cc
+is_edit at (Some Join) e = absurd cc
+is_edit at (Some Sim) e = absurd cc
+is_edit at (Some (Init words)) e = absurd cc
+is_edit at (Some (Edit file (Set path value))) e = absurd cc
+is_edit at (Some (Edit file (Add path value))) e = absurd cc
+is_edit at (Some (Edit file (Del path value))) e = absurd cc
+is_edit at (Some (Edit file (Clear path))) e = absurd cc
+is_edit at (Some (Edit file (Inc key by))) e = absurd cc
+is_edit at (Some (Edit file (Dec key by))) e = absurd cc
+is_edit at (Some (EditLines file)) e = (file, same file.now e, refl)
+  where
+    same : (t : Text) → ◌≡◌ {A = Option (List Text)} (Some (codes "edit" ∷ t ∷ [])) (Some (codes "edit" ∷ at ∷ [])) → t ≡ at
+    same t e = cc
+is_edit at (Some (Get file path)) e = absurd cc
+is_edit at (Some (Show file path)) e = absurd cc
+is_edit at (Some (ShowPretty file path)) e = absurd cc
+is_edit at (Some (Status file)) e = absurd cc
+is_edit at (Some (Serve words)) e = absurd cc
+is_edit at (Some (Sync words)) e = absurd cc
+is_edit at (Some (Pair first second)) e = absurd cc

@@ -1,6 +1,6 @@
 -- The command line as data.
 use Rattle.std.specs.Prelude.{codes, true, fold, Some, List, [], ◌∷◌}
-use Rattle.clap.specs.declared.builder.action.ArgAction.TheVariants.{Append}
+use Rattle.clap.specs.declared.builder.action.ArgAction.TheVariants.{Append, SetTrue}
 use Rattle.clap.specs.Words.{App, Rule, Text, new_app, new_rule, with_rule, with_subcommand}
 
 -- a word that has to be given
@@ -14,6 +14,10 @@ repeated_rule id = record (required_rule id) { action = Some Append }
 -- a word behind an option, with the value that it has where it isn't given
 abbrev pub defaulted_rule : Text → Text → Text → Rule
 defaulted_rule id long default = record (new_rule id) { long = Some long; value_names = 1; defaults = default ∷ [] }
+
+-- an option without a value
+abbrev pub flag_rule : Text → Text → Rule
+flag_rule id long = record (new_rule id) { long = Some long; action = Some SetTrue }
 
 -- the file of a replica
 abbrev pub file_rule : Rule
@@ -50,13 +54,17 @@ sessions_rule = defaulted_rule (codes "SESSIONS") (codes "sessions") (codes "1")
 abbrev pub timeout_rule : Rule
 timeout_rule = defaulted_rule (codes "TIMEOUT") (codes "timeout") (codes "60")
 
+-- whether JSON is indented
+abbrev pub pretty_rule : Rule
+pretty_rule = flag_rule (codes "PRETTY") (codes "pretty")
+
 -- a command with its words in their order
 abbrev pub command_app : Text → List Rule → App
 command_app name words = fold with_rule (new_app name) words
 
--- one of the subcommands has to be named
+-- one of the subcommands has to be named, and there is a version
 abbrev pub named_app : App
-named_app = let a = new_app (codes "rds_node") in record a { top = record a.top { subcommand_required = true } }
+named_app = let a = new_app (codes "rds_node") in record a { top = record a.top { subcommand_required = true; has_version = true } }
 
 abbrev pub with_command : App → App → App
 with_command program command = with_subcommand program command.top
@@ -73,7 +81,10 @@ commands =
     ∷ command_app (codes "clear") (file_rule ∷ part_rule ∷ [])
     ∷ command_app (codes "inc") (file_rule ∷ key_rule ∷ by_rule ∷ [])
     ∷ command_app (codes "dec") (file_rule ∷ key_rule ∷ by_rule ∷ [])
-    ∷ command_app (codes "show") (file_rule ∷ part_rule ∷ [])
+    ∷ command_app (codes "edit") (file_rule ∷ [])
+    ∷ command_app (codes "get") (file_rule ∷ path_rule ∷ [])
+    ∷ command_app (codes "show") (file_rule ∷ part_rule ∷ pretty_rule ∷ [])
+    ∷ command_app (codes "status") (file_rule ∷ [])
     ∷ command_app (codes "serve") (file_rule ∷ address_rule ∷ sessions_rule ∷ timeout_rule ∷ [])
     ∷ command_app (codes "sync") (file_rule ∷ address_rule ∷ timeout_rule ∷ [])
     ∷ command_app (codes "pair") (file_rule ∷ required_rule (codes "PEER") ∷ [])
@@ -90,3 +101,7 @@ join_words = codes "join" ∷ []
 -- the words of `sim`, likewise
 abbrev pub sim_words : List Text
 sim_words = codes "sim" ∷ []
+
+-- the words of `edit`, which edits a file by lines
+abbrev pub edit_lines_words : Text → List Text
+edit_lines_words file = codes "edit" ∷ file ∷ []

@@ -1,9 +1,11 @@
 -- The task that a parse of the words names.
-use Rattle.std.specs.Prelude.{List, [], ◌∷◌, ◌++◌, Option, Some, None, map, option_map, option_and_then, unwrap_or, codes, if◌then◌else◌}
+use Rattle.std.specs.Prelude.{◌≡◌, Bool, false, List, [], ◌∷◌, ◌++◌, Option, Some, None, map, option_map, option_and_then, unwrap_or, codes, if◌then◌else◌}
+use Rattle.std.specs.Borrow.{Bor}
+use Rattle.std.specs.Option.{option_map_or}
 use Rattle.std.specs.Str.{bytes_eq}
 use Rattle.clap.specs.Words.{Row, Text, all_of, first_of}
 use Rattle.rds_words.specs.declared.tasks.Task.{Task}
-use Rattle.rds_words.specs.declared.tasks.Task.TheVariants.{Join, Sim, Init, Edit, Show, Serve, Sync, Pair}
+use Rattle.rds_words.specs.declared.tasks.Task.TheVariants.{Join, Sim, Init, Edit, EditLines, Get, Show, ShowPretty, Status, Serve, Sync, Pair}
 use Rattle.rds_words.specs.declared.tasks.EditWords.{EditWords}
 use Rattle.rds_words.specs.declared.tasks.EditWords.TheVariants.{Set, Add, Del, Clear, Inc, Dec}
 
@@ -22,7 +24,11 @@ words_of Join = codes "join" ∷ []
 words_of Sim = codes "sim" ∷ []
 words_of (Init words) = codes "init" ∷ words.file.now ∷ words.group.now ∷ words.own.now ∷ map (λ n. n.now) words.names.items
 words_of (Edit file edit) = edit_words file.now edit
+words_of (EditLines file) = codes "edit" ∷ file.now ∷ []
+words_of (Get file path) = codes "get" ∷ file.now ∷ path.now ∷ []
 words_of (Show file path) = codes "show" ∷ file.now ∷ path.now ∷ []
+words_of (ShowPretty file path) = codes "show" ∷ file.now ∷ path.now ∷ codes "--pretty" ∷ []
+words_of (Status file) = codes "status" ∷ file.now ∷ []
 words_of (Serve words) = codes "serve" ∷ words.file.now ∷ words.addr.now ∷ words.sessions.now ∷ words.timeout.now ∷ []
 words_of (Sync words) = codes "sync" ∷ words.file.now ∷ words.addr.now ∷ words.timeout.now ∷ []
 words_of (Pair first second) = codes "pair" ∷ first.now ∷ second.now ∷ []
@@ -35,6 +41,14 @@ words_under (id ∷ ids) rows = option_and_then (λ word. option_map (λ words. 
 -- a file and a path, which is the root where none is given
 abbrev pub file_and_path : List Row → Option (List Text)
 file_and_path rows = option_map (λ file. file ∷ unwrap_or (first_of (codes "PATH") rows) [] ∷ []) (first_of (codes "FILE") rows)
+
+-- whether an option without a value was given
+abbrev pub is_given : Text → List Row → Bool
+is_given id rows = option_map_or (λ word. bytes_eq word (codes "true")) (first_of id rows) false
+
+-- a file and a path, and whether they are shown with indents
+abbrev pub show_words_in : List Row → Option (List Text)
+show_words_in rows = option_map (λ words. words ++ (if is_given (codes "PRETTY") rows then codes "--pretty" ∷ [] else [])) (file_and_path rows)
 
 abbrev pub entry_words_in : List Row → Option (List Text)
 entry_words_in = words_under (codes "FILE" ∷ codes "PATH" ∷ codes "VALUE" ∷ [])
@@ -64,13 +78,21 @@ session_words_behind name rows =
     else (if bytes_eq name (codes "pair") then words_under (codes "FILE" ∷ codes "PEER" ∷ []) rows
     else edit_words_behind name rows))
 
+-- the words behind the name of a command on a file that isn't told an edit, or that makes sessions or edits
+abbrev pub file_words_behind : Text → List Row → Option (List Text)
+file_words_behind name rows =
+    if bytes_eq name (codes "edit") then words_under (codes "FILE" ∷ []) rows
+    else (if bytes_eq name (codes "get") then words_under (codes "FILE" ∷ codes "PATH" ∷ []) rows
+    else (if bytes_eq name (codes "status") then words_under (codes "FILE" ∷ []) rows
+    else session_words_behind name rows))
+
 -- the words behind the name of a command but `init`
 abbrev pub plain_words_behind : Text → List Row → Option (List Text)
 plain_words_behind name rows =
     if bytes_eq name (codes "join") then Some []
     else (if bytes_eq name (codes "sim") then Some []
-    else (if bytes_eq name (codes "show") then file_and_path rows
-    else session_words_behind name rows))
+    else (if bytes_eq name (codes "show") then show_words_in rows
+    else file_words_behind name rows))
 
 abbrev pub words_behind : Text → List Row → Option (List Text)
 words_behind name rows = if bytes_eq name (codes "init") then init_words_in rows else plain_words_behind name rows
@@ -83,3 +105,7 @@ named_words name = option_map (λ words. name ∷ words)
 abbrev pub words_in : Option (Text × List Row) → Option (List Text)
 words_in None = None
 words_in (Some (name, rows)) = named_words name (words_behind name rows)
+
+-- the task is to edit this file by lines
+abbrev pub EditsByLines : Text → Option Task → Type 0
+EditsByLines file task = (at : Bor Text) × (at.now ≡ file) × (task ≡ Some (EditLines at))

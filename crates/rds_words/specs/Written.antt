@@ -3,7 +3,7 @@ use Rattle.std.specs.Prelude.{◌≡◌, ⊤, Bool, true, not, ◌==◌, List, [
 use Rattle.std.specs.List.{list_all}
 use Rattle.clap.specs.Words.{Text}
 use Rattle.rds_words.specs.declared.tasks.Task.{Task}
-use Rattle.rds_words.specs.declared.tasks.Task.TheVariants.{Init, Serve, Sync}
+use Rattle.rds_words.specs.declared.tasks.Task.TheVariants.{Init, Serve, ShowPretty, Sync}
 use Rattle.rds_words.specs.Task.{words_of}
 
 -- the word can't be taken for an option: it doesn't begin with a hyphen
@@ -14,8 +14,9 @@ is_data (b ∷ bs) = not (b == 45)
 abbrev pub AreData : List Text → Type 0
 AreData words = list_all is_data words ≡ true
 
--- the command, then its words; `serve` and `sync` have some of theirs behind options
+-- the command, then its words; `serve` and `sync` have some of theirs behind options, and `show` may have one before them
 abbrev pub written : Task → List Text
+written (ShowPretty file path) = codes "show" ∷ codes "--pretty" ∷ file.now ∷ path.now ∷ []
 written (Serve words) = codes "serve" ∷ words.file.now ∷ words.addr.now ∷ codes "--sessions" ∷ words.sessions.now ∷ codes "--timeout" ∷ words.timeout.now ∷ []
 written (Sync words) = codes "sync" ∷ words.file.now ∷ words.addr.now ∷ codes "--timeout" ∷ words.timeout.now ∷ []
 written task = words_of task
@@ -26,6 +27,7 @@ dashes_in [] = []
 dashes_in (command ∷ words) = command ∷ codes "--" ∷ words
 
 abbrev pub dashed : Task → List Text
+dashed (ShowPretty file path) = codes "show" ∷ codes "--pretty" ∷ codes "--" ∷ file.now ∷ path.now ∷ []
 dashed (Serve words) = codes "serve" ∷ (codes "--sessions=" ++ words.sessions.now) ∷ (codes "--timeout=" ++ words.timeout.now) ∷ codes "--" ∷ words.file.now ∷ words.addr.now ∷ []
 dashed (Sync words) = codes "sync" ∷ (codes "--timeout=" ++ words.timeout.now) ∷ codes "--" ∷ words.file.now ∷ words.addr.now ∷ []
 dashed task = dashes_in (words_of task)
@@ -35,6 +37,11 @@ abbrev pub HasNames : Task → Type 0
 HasNames (Init words) = words.names.items ≡ [] → ⊥
 HasNames task = ⊤
 
+-- the words that are given behind the command, but for options without a value
+abbrev pub given_words : Task → List Text
+given_words (ShowPretty file path) = file.now ∷ path.now ∷ []
+given_words task = drop 1 (words_of task)
+
 -- the words behind the command are data
 abbrev pub IsWritable : Task → Type 0
-IsWritable task = HasNames task × AreData (drop 1 (words_of task))
+IsWritable task = HasNames task × AreData (given_words task)

@@ -24,6 +24,7 @@ fn described_program<'a>(alloc: Global, commands: &[Described]) -> Result<Comman
 {
     let mut program = Command::new(alloc, "rds_node")
         .about(help::ABOUT)
+        .version(help::VERSION)
         .after_help(help::AFTER_HELP)
         .subcommand_required(true);
     for command in commands {
@@ -61,5 +62,6 @@ fn described_arg<'a>(alloc: Global, word: &Word) -> Arg<'a>
             value_name,
             default,
         } => arg.long(long).value_name(value_name).default_value(default),
+        Kind::Flag { long } => arg.long(long).action(ArgAction::SetTrue),
     }
 }

@@ -9,7 +9,10 @@ pub enum Page {
     Entry,
     Clear,
     Counter,
+    Edit,
+    Get,
     Show,
+    Status,
     Serve,
     Sync,
     Pair,
@@ -25,7 +28,10 @@ impl Page {
             Page::Entry => ENTRY_AFTER_HELP,
             Page::Clear => CLEAR_AFTER_HELP,
             Page::Counter => COUNTER_AFTER_HELP,
+            Page::Edit => EDIT_AFTER_HELP,
+            Page::Get => GET_AFTER_HELP,
             Page::Show => SHOW_AFTER_HELP,
+            Page::Status => STATUS_AFTER_HELP,
             Page::Serve => SERVE_AFTER_HELP,
             Page::Sync => SYNC_AFTER_HELP,
             Page::Pair => PAIR_AFTER_HELP,
@@ -36,12 +42,15 @@ impl Page {
 pub const ABOUT: &str =
     "Keeps replicas of one document, which are edited apart and joined in any order.";
 
+pub const VERSION: &str = "0.1.0, reads and writes format 1";
+
 pub const AFTER_HELP: &str = "\
 'rds_node COMMAND --help' says what a command reads and writes.
 
 Exit status: 0 where the command succeeded, 1 where it answered a fault, 2 where the
 words are none that the program takes. A fault is one line of output, 'fault N: Name'.
-Standard error has a line for people beside each fault, but not those of join and sim.
+Standard error has a line for people beside each fault, but not those of join and sim,
+nor those of the lines that edit reads.
 
 Example: rds_node join < two_snapshots";
 
@@ -167,12 +176,57 @@ where FILE can't be locked, read or written, 1 where there is no memory.
 
 Example: rds_node inc notes.a visits 1";
 
+pub const EDIT_ABOUT: &str = "Edits the replica in a file as lines say";
+
+const EDIT_AFTER_HELP: &str = "\
+Input: lines, each one JSON array of at most 65,536 bytes; the last may lack its
+newline. PATH and KEY are texts, VALUE is null, true, false, a whole number or a text, BY
+is a whole number from 0:
+  [\"set\",PATH,VALUE], [\"add\",PATH,VALUE], [\"del\",PATH,VALUE]
+  [\"clear\",PATH], [\"inc\",KEY,BY], [\"dec\",KEY,BY]
+Reads all lines, then FILE, edits it by one line after the other, and writes it anew once.
+FILE.new is made with mode 0600, gets FILE's mode, is written and synced, and then renamed
+to FILE. Another command that changes FILE meanwhile waits for its lock, at most ten
+seconds; then it is fault 24. So is a FILE without any write bit, which isn't replaced. A
+FILE whose name ends in '.new' is fault 27.
+Output, once FILE is written: one line of JSON for each line. An edit answers
+{\"dot\":[\"a\",1],\"killed\":0}: the name of the new entry or null, and how many entries were
+taken away. A refused one answers {\"fault\":N,\"name\":\"Name\"} and changes nothing; the others
+stand.
+Standard error has a line for people beside each fault of FILE or of the input.
+
+Exit status: 0 where FILE was written and no line was refused, 1 where a line was refused,
+2 with the line 'fault 27: Usage' where FILE ends in '.new', 2 for words that are none of
+these, else 1 with the line 'fault N: Name' and FILE as it was: 12 to 15 for a file that
+is no snapshot, 15 too where the input has more than 1,073,741,824 bytes or the new
+snapshot would be too long, 24 where the input can't be read or FILE can't be locked, read
+or written, 1 where there is no memory.
+
+Example: rds_node edit notes.a < lines";
+
+pub const GET_ABOUT: &str = "Prints what stands at a path of the replica in a file";
+
+const GET_AFTER_HELP: &str = "\
+PATH is 1 to 8 keys with '/' between them.
+Reads FILE and writes no file.
+Output: the line {\"counter\":8,\"reg\":[3],\"set\":[\"red\"]}: the counter, or null where there
+is none or PATH has more than one key, the values of the register and those of the set,
+each once in their order, none where there is no register or no set.
+Standard error has a line for people beside each fault.
+
+Exit status: 0 where the line was printed, 2 for words that are none of these, else 1
+with the line 'fault N: Name': 4 for a bad path, 3 for a bad key in it, 12 to 15 for a
+file that is no snapshot, 24 where FILE can't be read, 1 where there is no memory.
+
+Example: rds_node get notes.a shopping/fruit";
+
 pub const SHOW_ABOUT: &str = "Prints the document of the replica in a file";
 
 const SHOW_AFTER_HELP: &str = "\
 Reads FILE and writes no file.
 Output: one line of JSON, the document below PATH, or all of it: {\"maps\":..,
 \"regs\":..,\"sets\":..}, each by key, with \"counters\" before them where there is no PATH.
+With --pretty the same JSON on many lines, indented.
 Standard error has a line for people beside each fault.
 
 Exit status: 0 where the document was printed, 2 for words that are none of these, else
@@ -180,6 +234,22 @@ Exit status: 0 where the document was printed, 2 for words that are none of thes
 a file that is no snapshot, 24 where FILE can't be read, 1 where there is no memory.
 
 Example: rds_node show notes.a shopping";
+
+pub const STATUS_ABOUT: &str = "Tells whose replica a file holds, and how much there is of it";
+
+const STATUS_AFTER_HELP: &str = "\
+Reads FILE and writes no file.
+Output: the line {\"group\":\"g\",\"own\":\"a\",\"names\":[\"a\",\"b\"],\"live\":1,\"dead\":0,
+\"counters\":0,\"components\":1,\"bytes\":58}, without the break: the group, the replica's own
+name and the names of all; then how many live entries, dots of dead ones and counters
+there are, how many components in all, and how many bytes the snapshot has.
+Standard error has a line for people beside each fault.
+
+Exit status: 0 where the line was printed, 2 for words that are none of these, else 1
+with the line 'fault N: Name': 12 to 15 for a file that is no snapshot, 24 where FILE
+can't be read, 1 where there is no memory.
+
+Example: rds_node status notes.a";
 
 pub const SERVE_ABOUT: &str = "Serves the replica in a file to peers";
 
@@ -296,5 +366,7 @@ pub const SESSIONS_HELP: &str = "How many sessions, a whole number, 0 for no end
 
 pub const TIMEOUT_HELP: &str =
     "After how many seconds a silent peer is given up, a whole number, 0 for never";
+
+pub const PRETTY_HELP: &str = "Prints the JSON on many lines, indented";
 
 pub const PEER_HELP: &str = "The file of the replica that it meets, the server of the two";

@@ -9,7 +9,7 @@ ghost use Rattle.rds_words.specs.Written.{AreData, HasNames, IsWritable, dashed,
 /// Which words name a task, whatever the program is called: its command and its words in their order, where none of these
 /// begins with a hyphen, and, whatever they begin with, behind two dashes. A path that is left out is the root. `serve` has
 /// one session where it isn't told how many, and `serve` and `sync` give a silent peer 60 seconds where they aren't told how
-/// long. The function does nothing: its contract is these laws.
+/// long. `show` has its option before its words or behind them. The function does nothing: its contract is these laws.
 pub fn word_laws()
     ensures written { (name : Text) (task : Task) → IsWritable task
         → Names (name ∷ written task) (words_of task) }
@@ -17,6 +17,18 @@ pub fn word_laws()
         → Names (name ∷ dashed task) (words_of task) }
     ensures root_shown { (name : Text) (file : Text) → AreData (file ∷ [])
         → Names (name ∷ codes "show" ∷ file ∷ []) (codes "show" ∷ file ∷ [] ∷ []) }
+    ensures pretty_root { (name : Text) (file : Text) → AreData (file ∷ [])
+        → Names (name ∷ codes "show" ∷ codes "--pretty" ∷ file ∷ [])
+        (codes "show" ∷ file ∷ [] ∷ codes "--pretty" ∷ []) }
+    ensures pretty_root_dashed { (name : Text) (file : Text)
+        → Names (name ∷ codes "show" ∷ codes "--pretty" ∷ codes "--" ∷ file ∷ [])
+        (codes "show" ∷ file ∷ [] ∷ codes "--pretty" ∷ []) }
+    ensures pretty_behind { (name : Text) (file : Text) (path : Text) → AreData (file ∷ path ∷ [])
+        → Names (name ∷ codes "show" ∷ file ∷ path ∷ codes "--pretty" ∷ [])
+        (codes "show" ∷ file ∷ path ∷ codes "--pretty" ∷ []) }
+    ensures pretty_root_behind { (name : Text) (file : Text) → AreData (file ∷ [])
+        → Names (name ∷ codes "show" ∷ file ∷ codes "--pretty" ∷ [])
+        (codes "show" ∷ file ∷ [] ∷ codes "--pretty" ∷ []) }
     ensures root_cleared { (name : Text) (file : Text) → AreData (file ∷ [])
         → Names (name ∷ codes "clear" ∷ file ∷ []) (codes "clear" ∷ file ∷ [] ∷ []) }
     ensures one_session { (name : Text) (file : Text) (addr : Text) → AreData (file ∷ addr ∷ [])

@@ -1,7 +1,7 @@
 //! From what the library found to the task.
 ghost use Rattle.std.specs.Prelude.{◌≡◌, [], ◌∷◌, codes, map, option_map, unwrap_or, IfOk};
 ghost use Rattle.clap.specs.Words.{all_of, first_of, found_of, rows_of, subcommand_rows_of};
-ghost use Rattle.rds_words.specs.Task.{edit_words_behind, file_and_path, init_words_in, named_words, plain_words_behind, session_words_behind, words_in, words_of, words_under};
+ghost use Rattle.rds_words.specs.Task.{edit_words_behind, file_and_path, file_words_behind, init_words_in, is_given, named_words, plain_words_behind, session_words_behind, show_words_in, words_in, words_of, words_under};
 
 use crate::tasks::{EditWords, InitWords, ServeWords, SyncWords, Task};
 use clap::ArgMatches;
@@ -38,9 +38,41 @@ fn plain_task<'a>(name: &str, inner: &ArgMatches<'a>) -> Option<Task<'a>>
     match name {
         "join" => Some(Task::Join),
         "sim" => Some(Task::Sim),
-        "show" => {
-            let (file, path) = file_and_path(inner)?;
-            Some(Task::Show { file, path })
+        "show" => show_task(inner),
+        _ => file_task(name, inner),
+    }
+}
+
+// The task of `show`.
+fn show_task<'a>(inner: &ArgMatches<'a>) -> Option<Task<'a>>
+    ensures { option_map words_of result
+        ≡ named_words (codes "show") (show_words_in (rows_of (found_of inner.now))) }
+{
+    let (file, path) = file_and_path(inner)?;
+    if is_given(inner, "PRETTY") {
+        Some(Task::ShowPretty { file, path })
+    } else {
+        Some(Task::Show { file, path })
+    }
+}
+
+// The task of a command on a file that isn't told an edit, or that makes sessions or edits.
+fn file_task<'a>(name: &str, inner: &ArgMatches<'a>) -> Option<Task<'a>>
+    ensures { option_map words_of result
+        ≡ named_words name.now (file_words_behind name.now (rows_of (found_of inner.now))) }
+{
+    match name {
+        "edit" => {
+            let file = word_under(inner, "FILE")?;
+            Some(Task::EditLines { file })
+        }
+        "get" => {
+            let (file, path) = file_and_one(inner, "PATH")?;
+            Some(Task::Get { file, path })
+        }
+        "status" => {
+            let file = word_under(inner, "FILE")?;
+            Some(Task::Status { file })
         }
         _ => session_task(name, inner),
     }
@@ -184,6 +216,16 @@ fn file_and_path<'a>(inner: &ArgMatches<'a>) -> Option<(&'a str, &'a str)>
     let file = word_under(inner, "FILE")?;
     let path = word_under(inner, "PATH").unwrap_or("");
     Some((file, path))
+}
+
+// Whether an option without a value was given.
+fn is_given(inner: &ArgMatches<'_>, id: &str) -> bool
+    ensures { result ≡ is_given id.now (rows_of (found_of inner.now)) }
+{
+    match word_under(inner, id) {
+        Some(word) => word == "true",
+        None => false,
+    }
 }
 
 // The first word under an id.

@@ -34,6 +34,11 @@ pub enum Kind {
         /// The value where the option isn't given.
         default: &'static str,
     },
+    /// It is an option without a value.
+    Flag {
+        /// The option's name.
+        long: &'static str,
+    },
 }
 
 const FILE: Word = Word {
@@ -116,6 +121,12 @@ const TIMEOUT: Word = Word {
     },
 };
 
+const PRETTY: Word = Word {
+    id: "PRETTY",
+    help: help::PRETTY_HELP,
+    kind: Kind::Flag { long: "pretty" },
+};
+
 const PEER: Word = Word {
     id: "PEER",
     help: help::PEER_HELP,
@@ -123,7 +134,7 @@ const PEER: Word = Word {
 };
 
 /// The commands, in the order in which help lists them.
-pub static COMMANDS: [Described; 13] = [
+pub static COMMANDS: [Described; 16] = [
     Described {
         name: "join",
         about: help::JOIN_ABOUT,
@@ -179,10 +190,28 @@ pub static COMMANDS: [Described; 13] = [
         words: &[FILE, KEY, BY],
     },
     Described {
+        name: "edit",
+        about: help::EDIT_ABOUT,
+        page: Page::Edit,
+        words: &[FILE],
+    },
+    Described {
+        name: "get",
+        about: help::GET_ABOUT,
+        page: Page::Get,
+        words: &[FILE, PATH],
+    },
+    Described {
         name: "show",
         about: help::SHOW_ABOUT,
         page: Page::Show,
-        words: &[FILE, PATH_OR_ROOT],
+        words: &[FILE, PATH_OR_ROOT, PRETTY],
+    },
+    Described {
+        name: "status",
+        about: help::STATUS_ABOUT,
+        page: Page::Status,
+        words: &[FILE],
     },
     Described {
         name: "serve",

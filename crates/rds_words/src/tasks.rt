@@ -1,8 +1,8 @@
 //! The tasks that the words of a command line name.
 ghost use Rattle.std.specs.Prelude.{◌≡◌, map, option_map, IfOk, Some, MatchResult};
-ghost use Rattle.clap.specs.Words.{FailsBy, fault_of, kind_of, subcommand_of, subcommand_rows_of};
-ghost use Rattle.rds_words.specs.Commands.{node_app, join_words, sim_words};
-ghost use Rattle.rds_words.specs.Task.{words_of, words_in};
+ghost use Rattle.clap.specs.Words.{FailsBy, Text, fault_of, kind_of, subcommand_of, subcommand_rows_of};
+ghost use Rattle.rds_words.specs.Commands.{edit_lines_words, node_app, join_words, sim_words};
+ghost use Rattle.rds_words.specs.Task.{EditsByLines, words_of, words_in};
 ghost use Rattle.rds_words.specs.Entered.{Names};
 
 use crate::builders::node_command;
@@ -28,12 +28,36 @@ pub enum Task<'a> {
         /// How it is edited.
         edit: EditWords<'a>,
     },
+    /// Edits the replica in a file as the lines say that are read.
+    EditLines {
+        /// The file.
+        file: &'a str,
+    },
+    /// Prints what stands at a path of the replica in a file.
+    Get {
+        /// The file.
+        file: &'a str,
+        /// The path.
+        path: &'a str,
+    },
     /// Prints a part of the document of the replica in a file.
     Show {
         /// The file.
         file: &'a str,
         /// The path of the part, empty for the root.
         path: &'a str,
+    },
+    /// Prints such a part with indents.
+    ShowPretty {
+        /// The file.
+        file: &'a str,
+        /// The path of the part, empty for the root.
+        path: &'a str,
+    },
+    /// Prints whose replica a file holds, and how much there is of it.
+    Status {
+        /// The file.
+        file: &'a str,
     },
     /// Serves the replica in a file to peers, one session after the other.
     Serve(ServeWords<'a>),
@@ -141,6 +165,8 @@ pub fn task_of<'a, S: AsStr>(alloc: Global, words: &'a [S]) -> Result<Option<Tas
     ensures sim { Names (map S.text words.entry.now) sim_words
         → MatchResult result (λ task. task ≡ Some Task.Sim)
         (λ e. kind_of e ≡ ErrorKind.OutOfMemory) }
+    ensures edit { (file : Text) → Names (map S.text words.entry.now) (edit_lines_words file)
+        → MatchResult result (EditsByLines file) (λ e. kind_of e ≡ ErrorKind.OutOfMemory) }
 {
     let matches = matches_of(alloc, words)?;
     Ok(named_task(alloc, &matches)?)

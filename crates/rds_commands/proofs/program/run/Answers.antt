@@ -1,6 +1,7 @@
 use Rattle.std.proofs.Common.{inl, rules}
 use Rattle.rds_lines.proofs.Running.{memory_written}
 use Rattle.rds_words.proofs.CommandWords.{is_memory}
+use Rattle.rds_commands.proofs.Batches.{edits_unwritten}
 use Rattle.rds_commands.proofs.Entered.{mistaken}
 use Rattle.rds_commands.proofs.SimTold.{sim_unwritten}
 use Rattle.rds_commands.proofs.program.run.Goals as goal
@@ -25,3 +26,8 @@ returns-in-Err-clause-mistake g c = λ some wrote.
 
 pub returns-in-Ok-None-clause-task : goal.returns-in-Ok-None-clause-task
 returns-in-Ok-None-clause-task g c = search rules steps 1000000
+
+pub returns-in-Err-clause-edit : goal.returns-in-Err-clause-edit
+returns-in-Err-clause-edit g c = λ file names.
+    edits_unwritten file (g.R.Read.remaining c.args.reader.now.inner) (g.W.Write.contents c.args.writer.now.inner) (g.W.Write.contents c.write_unparsed.new.writer.inner) _ _ _
+    (c.write_unparsed.ensures.memory (c.in-Err.ensures.edit file names))

@@ -1,4 +1,7 @@
-use Rattle.std.proofs.Common.{rules}
+use Rattle.std.proofs.Common.{◌≡◌, ℕ, List, rules}
+use Rattle.std.specs.Prelude.{IfSome}
+use Rattle.rds_commands.specs.Batch.{WritesEdits}
+use Rattle.rds_commands.proofs.Batches.{edit_of}
 use Rattle.rds_commands.proofs.program.run_task.Goals as goal
 
 pub returns-in-Init-clause-written : goal.returns-in-Init-clause-written
@@ -30,3 +33,21 @@ returns-in-Sim-clause-sim g c = λ is. c.run_sim.ensures.sim
 
 pub returns-in-Sim-clause-cut : goal.returns-in-Sim-clause-cut
 returns-in-Sim-clause-cut g c = λ is. c.run_sim.ensures.cut
+
+pub returns-in-Get-clause-written : goal.returns-in-Get-clause-written
+returns-in-Get-clause-written g c = search rules steps 1000000
+
+pub returns-in-ShowPretty-clause-written : goal.returns-in-ShowPretty-clause-written
+returns-in-ShowPretty-clause-written g c = search rules steps 1000000
+
+pub returns-in-Status-clause-written : goal.returns-in-Status-clause-written
+returns-in-Status-clause-written g c = search rules steps 1000000
+
+pub returns-in-EditLines-clause-edit : goal.returns-in-EditLines-clause-edit
+returns-in-EditLines-clause-edit g c = λ at is.
+    edit_of (λ (p : List ℕ). IfSome (g.R.Read.remaining c.args.reader.now.inner) (λ input. c.run_edit_lines.new.reader.failed ≡ 0 → c.run_edit_lines.new.writer.failed ≡ 0
+    → WritesEdits p input (g.W.Write.contents c.args.writer.now.inner) (g.W.Write.contents c.run_edit_lines.new.writer.inner) c.run_edit_lines.result))
+    c.args.task c.in-EditLines.file at c.in-EditLines.is is c.run_edit_lines.ensures.edits
+
+pub returns-in-EditLines-clause-unread_edit : goal.returns-in-EditLines-clause-unread_edit
+returns-in-EditLines-clause-unread_edit g c = λ at is. c.run_edit_lines.ensures.unread

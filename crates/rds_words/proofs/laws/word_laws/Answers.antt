@@ -1,4 +1,5 @@
 use Rattle.rds_words.proofs.EachNamed.{once_served, root_cleared, root_shown, sessions_alone, sessions_alone_dashed, sync_alone, sync_alone_dashed, task_dashed, task_written, timeout_alone, timeout_alone_dashed}
+use Rattle.rds_words.proofs.PrettyNamed.{pretty_behind, pretty_root, pretty_root_behind, pretty_root_dashed}
 use Rattle.rds_words.proofs.laws.word_laws.Goals as goal
 
 pub returns-clause-written : goal.returns-clause-written
@@ -33,3 +34,15 @@ returns-clause-sync_alone c = sync_alone
 
 pub returns-clause-sync_alone_dashed : goal.returns-clause-sync_alone_dashed
 returns-clause-sync_alone_dashed c = sync_alone_dashed
+
+pub returns-clause-pretty_root : goal.returns-clause-pretty_root
+returns-clause-pretty_root c = pretty_root
+
+pub returns-clause-pretty_root_dashed : goal.returns-clause-pretty_root_dashed
+returns-clause-pretty_root_dashed c = pretty_root_dashed
+
+pub returns-clause-pretty_behind : goal.returns-clause-pretty_behind
+returns-clause-pretty_behind c = pretty_behind
+
+pub returns-clause-pretty_root_behind : goal.returns-clause-pretty_root_behind
+returns-clause-pretty_root_behind c = pretty_root_behind

@@ -1,0 +1,65 @@
+-- Many edits of what a file held.
+use Rattle.std.proofs.Common.{◌≡◌, ◌∙◌, ◌+◌, ◌<◌, ◌≤◌, ◌⊎◌, ℕ, List, length, take, Option, Some, None, Err, arith, ap, subst, inl, inr, refl, sym}
+use Rattle.std.specs.Prelude.{IfSome}
+use Rattle.std.specs.Borrow.{Bor}
+use Rattle.std.proofs.lemmas.List.{length-take, take_all}
+use Rattle.rds_names.specs.declared.fault.Fault.{Fault}
+use Rattle.rds_names.specs.declared.fault.Fault.TheVariants.{Memory}
+use Rattle.rds_state.specs.Fits.{ReplicaValue}
+use Rattle.rds_lines.specs.Editing.{EditsLines, WritesAll}
+use Rattle.rds_lines.specs.Lines.{lines_in}
+use Rattle.rds_lines.specs.Output.{Writes}
+use Rattle.rds_lines.specs.declared.answer.Answer.{Answer}
+use Rattle.rds_files.specs.Files.{IsHeldAt, IsUnkept, KeptFile, ReplacedValue}
+use Rattle.rds_words.specs.Task.{EditsByLines}
+use Rattle.rds_words.specs.declared.tasks.Task.{Task}
+use Rattle.rds_words.specs.declared.tasks.Task.TheVariants.{EditLines}
+use Rattle.rds_commands.specs.Batch.{EditsFileBy, RefusesLines, RefusesLinesIn, WritesEdits}
+use Rattle.rds_commands.specs.declared.batch.TheConstants.{MOST}
+
+-- the file that was read under its lock is the one that was replaced
+pub edits_file_by : (path : List ℕ) (lines : List (List ℕ)) (file : KeptFile) (done : ReplacedValue) (answers : List Answer) → IsHeldAt path file → done.path ≡ file.path → done.before ≡ file.kept
+    → EditsLines lines file.kept done.kept answers → EditsFileBy path lines done answers
+edits_file_by path lines file done answers held at is edited = record {
+  read = record { at = at ∙ held.at; value = rw is held.value; place = held.place };
+  edited = rw is edited;
+}
+
+-- the first bytes, up to one more than the limit, are written for as all of them are
+pub whole_input : (path input : List ℕ) (before after : Option (List ℕ)) (status : ℕ) → WritesEdits path (take (MOST + 1) input) before after status → WritesEdits path input before after status
+whole_input path input before after status writes = elim writes [
+  | inl few ↦ subst (λ (i : List ℕ). WritesEdits path i before after status) (all_taken input few.0) writes
+  | inr other ↦ elim other [
+    | inl many ↦ inr (inl (omega (arith, many.0, length-take (MOST + 1) input), many.1))
+    | inr memory ↦ inr (inr memory)
+  ]
+]
+  where
+    all_taken : (input : List ℕ) → length (take (MOST + 1) input) ≤ MOST → take (MOST + 1) input ≡ input
+    all_taken input few = take_all (MOST + 1) input (omega (arith, few, length-take (MOST + 1) input))
+
+-- the words weren't read
+pub edits_unwritten : (path : List ℕ) (o a b : Option (List ℕ)) (read wrote status : ℕ) → (wrote ≡ 0 → Writes (Err Memory) a b status) → IfSome o (λ input. read ≡ 0 → wrote ≡ 0 → WritesEdits path input a b status)
+edits_unwritten path None a b read wrote status h = tt
+edits_unwritten path (Some input) a b read wrote status h = λ steady written. inr (inr (h written))
+
+-- what is said of the first bytes of an input is said of all of it
+pub input_written : (path : List ℕ) (o a b : Option (List ℕ)) (front seen : List ℕ) (read wrote status : ℕ) → IfSome o (λ input. front ≡ take (MOST + 1) input) → seen ≡ front → (wrote ≡ 0 → WritesEdits path seen a b status)
+    → IfSome o (λ input. read ≡ 0 → wrote ≡ 0 → WritesEdits path input a b status)
+input_written path None a b front seen read wrote status is same h = tt
+input_written path (Some input) a b front seen read wrote status is same h = λ steady written.
+    whole_input path input a b status (subst (λ (i : List ℕ). WritesEdits path i a b status) (same ∙ is) (h written))
+
+-- what is said of the file of a task is said of the file that was named
+pub edit_named : (P : List ℕ → Type 0) (file : List ℕ) (task : Task) → EditsByLines file (Some task) → ((at : Bor (List ℕ)) → task ≡ EditLines at → P at.now) → P file
+edit_named P file task h said = subst P h.1 (said h.0 (of_some task h.0 h.2))
+  where
+    of_some : (task : Task) (at : Bor (List ℕ)) → Some task ≡ Some (EditLines at) → task ≡ EditLines at
+    of_some task at e = cc
+
+-- a task edits one file
+pub edit_of : (P : List ℕ → Type 0) (task : Task) (file at : Bor (List ℕ)) → task ≡ EditLines file → task ≡ EditLines at → P file.now → P at.now
+edit_of P task file at is are said = subst P (same file at (sym is ∙ are)) said
+  where
+    same : (file at : Bor (List ℕ)) → EditLines file ≡ EditLines at → file.now ≡ at.now
+    same file at e = cc

@@ -1,0 +1,125 @@
+//! Many edits of the replica in a file, which is read and written once.
+ghost use Rattle.std.specs.Prelude.{◌≡◌, ◌≢◌, ◌≤◌, ◌⊎◌, Err, IfErr, IfOk, IfSome};
+ghost use Rattle.rds_names.specs.declared.fault.Fault.TheVariants.{Device, Memory};
+ghost use Rattle.rds_lines.specs.Editing.{EditsLines};
+ghost use Rattle.rds_lines.specs.Lines.{lines_in};
+ghost use Rattle.rds_lines.specs.Output.{Writes};
+ghost use Rattle.rds_commands.specs.Batch.{EditsFileBy, RefusesLines, RefusesLinesIn, WritesEdits};
+
+use crate::notes::{note_file, note_input};
+use rds_files::{Disk, LockFile, LockedFile, ReplacedFile};
+use rds_gaps::GapSet;
+use rds_keep::Counted;
+use rds_lines::{Answer, edit_lines, write_answers, write_fault};
+use rds_names::Fault;
+use rds_state::Replica;
+use rds_tree::Index;
+use std::alloc::Global;
+use std::io::{Read, Write};
+
+/// The most bytes of an input.
+pub const MOST: usize = 1_073_741_824;
+
+/// A file as lines left it, and what each of them is answered.
+#[derive(Drop)]
+pub struct FileAnswers<'a> {
+    /// The file.
+    pub file: ReplacedFile<'a, GapSet>,
+    /// The answers, in the order of the lines.
+    pub answers: Vec<Answer>,
+}
+
+/// Edits the replica in a file as the lines of an input say. The file is locked and read once, its replica edited by one line after
+/// the other, and then kept once.
+pub fn edit_file_by<'a, H: Disk>(
+    rt: &H,
+    path: &'a str,
+    input: &[u8],
+) -> Result<FileAnswers<'a>, Fault>
+where
+    H::File: LockFile,
+    ensures edited { IfOk result (λ done. EditsFileBy path.now (lines_in input.now) done.file done.answers.items) }
+    ensures fault { IfErr result (RefusesLines path.now (lines_in input.now)) }
+{
+    let opened = LockedFile::open(rt, path)?;
+    let done = edit_in_by(rt, opened, input)?;
+    Ok(done)
+}
+
+/// Edits a copy of the replica in the file by lines, and answers once that is kept in its place.
+pub fn edit_in_by<'a, H: Disk>(
+    rt: &H,
+    file: LockedFile<'a, H, GapSet>,
+    input: &[u8],
+) -> Result<FileAnswers<'a>, Fault>
+where
+    H::File: LockFile,
+    ensures path { IfOk result (λ done. done.file.path ≡ file.entry.path) }
+    ensures before { IfOk result (λ done. done.file.before ≡ file.entry.kept) }
+    ensures edited { IfOk result (λ done. EditsLines (lines_in input.now) file.entry.kept done.file.kept done.answers.items) }
+    ensures fault { IfErr result (RefusesLinesIn (lines_in input.now) file.entry.kept) }
+{
+    let alloc = rt.alloc();
+    let mut index = index_of(alloc, file.kept().view_of())?;
+    let answers = edit_lines(alloc, &mut index, input)?;
+    let file = file.replace(rt, index.replica())?;
+    Ok(FileAnswers { file, answers })
+}
+
+// The index of a copy.
+fn index_of(alloc: Global, replica: &Replica<GapSet>) -> Result<Index<GapSet>, Fault>
+    ensures ok { IfOk result (λ index. index ≡ replica.now) }
+    ensures memory { IfErr result (λ fault. fault ≡ Memory) }
+{
+    let copy = replica.copy(alloc)?;
+    Index::of(alloc, copy)
+}
+
+/// Edits the replica in a file as the lines say that the reader holds, and writes their answers once it is kept. All lines are
+/// read before the file is locked. Where the reader fails, or holds more than [`MOST`] bytes, the file isn't used.
+pub fn run_edit_lines<H: Disk, R: Read, W: Write>(
+    rt: &H,
+    path: &str,
+    reader: &mut Counted<R>,
+    writer: &mut Counted<W>,
+) -> u8
+where
+    H::File: LockFile,
+    ensures edits { IfSome (R.remaining reader.old.inner)
+        (λ input. reader.new.failed ≡ 0 → writer.new.failed ≡ 0
+        → WritesEdits path.now input (W.contents writer.old.inner) (W.contents writer.new.inner) result) }
+    ensures unread { reader.new.failed ≢ reader.old.failed → writer.new.failed ≡ 0
+        → Writes (Err Device) (W.contents writer.old.inner) (W.contents writer.new.inner) result }
+    ensures status { result ≤ 2 }
+    ensures broken { (writer.new.failed ≡ writer.old.failed) ⊎ (result ≡ 1) }
+{
+    match reader.read_front(rt.alloc(), MOST + 1) {
+        Ok(input) => edit_by(rt, path, &input, writer),
+        Err(fault) => {
+            note_input(rt, fault);
+            write_fault(writer, fault)
+        }
+    }
+}
+
+// Edits the replica in a file as the lines of an input say, and writes their answers.
+fn edit_by<H: Disk, W: Write>(rt: &H, path: &str, input: &[u8], writer: &mut Counted<W>) -> u8
+where
+    H::File: LockFile,
+    ensures written { writer.new.failed ≡ 0
+        → WritesEdits path.now input.now (W.contents writer.old.inner) (W.contents writer.new.inner) result }
+    ensures status { result ≤ 2 }
+    ensures broken { (writer.new.failed ≡ writer.old.failed) ⊎ (result ≡ 1) }
+{
+    if MOST < input.len() {
+        note_input(rt, Fault::TooLong);
+        return write_fault(writer, Fault::TooLong);
+    }
+    match edit_file_by(rt, path, input) {
+        Ok(done) => write_answers(writer, &done.answers),
+        Err(fault) => {
+            note_file(rt, path, fault);
+            write_fault(writer, fault)
+        }
+    }
+}
