@@ -12,9 +12,7 @@ use rds_gaps::GapSet;
 use rds_keep::Counted;
 use rds_lines::{Answer, edit_lines, write_answers, write_fault};
 use rds_names::Fault;
-use rds_state::Replica;
 use rds_tree::Index;
-use std::alloc::Global;
 use std::io::{Read, Write};
 
 /// The most bytes of an input.
@@ -46,7 +44,7 @@ where
     Ok(done)
 }
 
-/// Edits a copy of the replica in the file by lines, and answers once that is kept in its place.
+/// Edits the replica in the file by lines, and answers once it is kept in its place.
 pub fn edit_in_by<'a, H: Disk>(
     rt: &H,
     file: LockedFile<'a, H, GapSet>,
@@ -60,19 +58,12 @@ where
     ensures fault { IfErr result (RefusesLinesIn (lines_in input.now) file.entry.kept) }
 {
     let alloc = rt.alloc();
-    let mut index = index_of(alloc, file.kept().view_of())?;
+    let (replica, emptied) = file.into_parts();
+    let mut index = Index::of(alloc, replica)?;
     let answers = edit_lines(alloc, &mut index, input)?;
-    let file = file.replace(rt, index.replica())?;
+    let edited = index.replica().copy(alloc)?;
+    let file = emptied.replace(rt, edited)?;
     Ok(FileAnswers { file, answers })
-}
-
-// The index of a copy.
-fn index_of(alloc: Global, replica: &Replica<GapSet>) -> Result<Index<GapSet>, Fault>
-    ensures ok { IfOk result (λ index. index ≡ replica.now) }
-    ensures memory { IfErr result (λ fault. fault ≡ Memory) }
-{
-    let copy = replica.copy(alloc)?;
-    Index::of(alloc, copy)
 }
 
 /// Edits the replica in a file as the lines say that the reader holds, and writes their answers once it is kept. All lines are
