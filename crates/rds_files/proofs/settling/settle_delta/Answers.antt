@@ -1,13 +1,12 @@
-use Rattle.std.proofs.Common.{inr, subst, ◌∙◌}
 use Rattle.rds_files.proofs.settling.settle_delta.Goals as goal
 use Rattle.rds_files.proofs.Takes.{refused_held, unkept_held}
 
-pub returns-in-Err-joined : goal.returns-in-Err-joined
-returns-in-Err-joined g c = record {
-  settles = rw (c.without_file-in-Err-joined.ensures.settled, c.without_file-in-Err-joined.ensures.file) (refused_held c.args.asked.now.path c.in-Ok.locked c.args.asked.now.kept c.args.delta.now c.in-Err-joined.fault (rw (← c.path.ensures) c.in-Ok.ensures.held) (rw (← c.kept.ensures, ← c.kept-2.ensures) c.in-Err-joined.ensures.err));
+pub returns-in-Err-take_into : goal.returns-in-Err-take_into
+returns-in-Err-take_into g c = record {
+  settles = rw (c.without_file-in-Err-take_into.ensures.settled, c.without_file-in-Err-take_into.ensures.file) (refused_held c.args.asked.now.path c.in-Ok.locked c.args.asked.now.kept c.args.delta.now c.in-Err-take_into.fault (rw (← c.path.ensures) c.in-Ok.ensures.held) (rw (← c.kept.ensures, ← c.into_parts-replica.ensures.replica) c.in-Err-take_into.ensures.err));
 }
 
-pub returns : goal.returns
-returns g c = record {
-  settles = rw (c.without_file-in-Err-replace.ensures.settled, c.without_file-in-Err-replace.ensures.file) (unkept_held c.args.asked.now.path c.in-Ok.locked c.args.asked.now.kept c.args.delta.now c.in-Ok-joined.replica c.in-Err-replace.fault (rw (← c.path.ensures) c.in-Ok.ensures.held) (rw (← c.kept.ensures, ← c.kept-2.ensures) c.in-Ok-joined.ensures.same) (rw (← c.kept-2.ensures) c.in-Ok-joined.ensures.ok) c.in-Err-replace.ensures.fault);
+pub returns-in-Err-replace : goal.returns-in-Err-replace
+returns-in-Err-replace g c = record {
+  settles = rw (c.without_file-in-Err-replace.ensures.settled, c.without_file-in-Err-replace.ensures.file) (unkept_held c.args.asked.now.path c.in-Ok.locked c.args.asked.now.kept c.args.delta.now c.take_into.new.held c.in-Err-replace.fault (rw (← c.path.ensures) c.in-Ok.ensures.held) (rw (← c.kept.ensures, ← c.into_parts-replica.ensures.replica) c.in_default.ensures.same) (rw (← c.into_parts-replica.ensures.replica) c.in_default.ensures.ok) c.in-Err-replace.ensures.fault);
 }
