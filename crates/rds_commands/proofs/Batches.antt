@@ -1,10 +1,11 @@
 -- Many edits of what a file held.
-use Rattle.std.proofs.Common.{◌≡◌, ◌∙◌, ◌+◌, ◌<◌, ◌≤◌, ◌⊎◌, ℕ, List, length, take, Option, Some, None, Err, arith, ap, subst, inl, inr, refl, sym}
+use Rattle.std.proofs.Common.{◌≡◌, ◌≢◌, ◌∙◌, ◌+◌, ◌<◌, ◌≤◌, ◌⊎◌, ℕ, List, length, take, Option, Some, None, Err, arith, ap, subst, inl, inr, refl, sym}
 use Rattle.std.specs.Prelude.{IfSome}
 use Rattle.std.specs.Borrow.{Bor}
 use Rattle.std.proofs.lemmas.List.{length-take, take_all}
 use Rattle.rds_names.specs.declared.fault.Fault.{Fault}
-use Rattle.rds_names.specs.declared.fault.Fault.TheVariants.{Memory}
+use Rattle.rds_names.specs.declared.fault.Fault.TheVariants.{Device, Memory}
+use Rattle.rds_keep.specs.Counted.{CountedValue, HasFailed}
 use Rattle.rds_state.specs.Fits.{ReplicaValue}
 use Rattle.rds_lines.specs.Editing.{EditsLines, WritesAll}
 use Rattle.rds_lines.specs.Lines.{lines_in}
@@ -28,7 +29,7 @@ edits_file_by path lines file done answers held at is edited = record {
 -- the first bytes, up to one more than the limit, are written for as all of them are
 pub whole_input : (path input : List ℕ) (before after : Option (List ℕ)) (status : ℕ) → WritesEdits path (take (MOST + 1) input) before after status → WritesEdits path input before after status
 whole_input path input before after status writes = elim writes [
-  | inl few ↦ subst (λ (i : List ℕ). WritesEdits path i before after status) (all_taken input few.0) writes
+  | inl few ↦ subst (λ (i : List ℕ). WritesEdits path i before after status) (all_taken input few.0) (inl few)
   | inr other ↦ elim other [
     | inl many ↦ inr (inl (omega (arith, many.0, length-take (MOST + 1) input), many.1))
     | inr memory ↦ inr (inr memory)
@@ -63,3 +64,39 @@ edit_of P task file at is are said = subst P (same file at (sym is ∙ are)) sai
   where
     same : (file at : Bor (List ℕ)) → EditLines file ≡ EditLines at → file.now ≡ at.now
     same file at e = cc
+
+-- what lines made of the replica that was taken out is kept
+pub kept_lines : (lines : List (List ℕ)) (before old after kept : ReplicaValue) (answers : List Answer) → old ≡ before → EditsLines lines old after answers → kept ≡ after → EditsLines lines before kept answers
+kept_lines lines before old after kept answers same edited is = rw (is, ← same) edited
+
+-- it can't be kept
+pub unkept_lines : (lines : List (List ℕ)) (before old after kept : ReplicaValue) (answers : List Answer) (fault : Fault) → old ≡ before → EditsLines lines old after answers → kept ≡ after → IsUnkept kept fault
+    → RefusesLinesIn lines before fault
+unkept_lines lines before old after kept answers fault same edited is unkept = inr (kept, answers, kept_lines lines before old after kept answers same edited is, unkept)
+
+-- the answers to the lines of an input were written
+pub answers_written : (path input : List ℕ) (before after : Option (List ℕ)) (status : ℕ) (file : ReplacedValue) (answers seen : List Answer) → length input ≤ MOST → EditsFileBy path (lines_in input) file answers → seen ≡ answers
+    → WritesAll seen before after status → WritesEdits path input before after status
+answers_written path input before after status file answers seen few edited same written = inl (few, inl (file, answers, edited, rw (← same) written))
+
+-- the file isn't edited by the lines of an input
+pub refusal_written : (path input : List ℕ) (before after : Option (List ℕ)) (status : ℕ) (fault : Fault) → length input ≤ MOST → RefusesLines path (lines_in input) fault → Writes (Err fault) before after status
+    → WritesEdits path input before after status
+refusal_written path input before after status fault few refused written = inl (few, inr (fault, refused, written))
+
+-- the input isn't read
+module _ {T : Type 0} (old new : CountedValue T) (fault : Fault) (a b : Option (List ℕ)) (wrote status : ℕ) (h : ((fault ≡ Memory) × (new.failed ≡ old.failed)) ⊎ ((fault ≡ Device) × HasFailed old new)) (told : wrote ≡ 0 → Writes (Err fault) a b status) where
+  -- there is no memory for it
+  pub unread_edits : (path : List ℕ) (o : Option (List ℕ)) → IfSome o (λ input. new.failed ≡ 0 → wrote ≡ 0 → WritesEdits path input a b status)
+  unread_edits path None = tt
+  unread_edits path (Some input) = λ steady written. elim h [
+    | inl memory ↦ inr (inr (subst (λ (f : Fault). Writes (Err f) a b status) memory.0 (told written)))
+    | inr device ↦ elim device.1 [ inl more ↦ absurd (omega (arith, more, steady)) | inr full ↦ absurd (omega (arith, full, steady)) ]
+  ]
+
+  -- the reader fails
+  pub unread_told : new.failed ≢ old.failed → wrote ≡ 0 → Writes (Err Device) a b status
+  unread_told failed written = elim h [
+    | inl memory ↦ absurd (failed memory.1)
+    | inr device ↦ subst (λ (f : Fault). Writes (Err f) a b status) device.0 (told written)
+  ]

@@ -1,7 +1,13 @@
-use Rattle.std.proofs.Common.{inl, rules}
+use Rattle.std.proofs.Common.{◌≡◌, ◌≢◌, ℕ, List, Option, Err, inl, rules, subst}
+use Rattle.std.specs.Prelude.{IfSome}
+use Rattle.rds_names.specs.declared.fault.Fault.TheVariants.{Device}
+use Rattle.rds_lines.specs.Output.{Writes}
+use Rattle.rds_words.specs.Task.{EditsByLines}
+use Rattle.rds_words.specs.declared.tasks.Task.{Task}
+use Rattle.rds_commands.specs.Batch.{WritesEdits}
 use Rattle.rds_lines.proofs.Running.{memory_written}
 use Rattle.rds_words.proofs.CommandWords.{is_memory}
-use Rattle.rds_commands.proofs.Batches.{edits_unwritten}
+use Rattle.rds_commands.proofs.Batches.{edit_named, edits_unwritten}
 use Rattle.rds_commands.proofs.Entered.{mistaken}
 use Rattle.rds_commands.proofs.SimTold.{sim_unwritten}
 use Rattle.rds_commands.proofs.program.run.Goals as goal
@@ -31,3 +37,15 @@ pub returns-in-Err-clause-edit : goal.returns-in-Err-clause-edit
 returns-in-Err-clause-edit g c = λ file names.
     edits_unwritten file (g.R.Read.remaining c.args.reader.now.inner) (g.W.Write.contents c.args.writer.now.inner) (g.W.Write.contents c.write_unparsed.new.writer.inner) _ _ _
     (c.write_unparsed.ensures.memory (c.in-Err.ensures.edit file names))
+
+pub returns-in-Ok-Some-clause-edit : goal.returns-in-Ok-Some-clause-edit
+returns-in-Ok-Some-clause-edit g c = λ file names.
+    edit_named (λ (p : List ℕ). IfSome (g.R.Read.remaining c.args.reader.now.inner) (λ input. c.run_task.new.reader.failed ≡ 0 → c.run_task.new.writer.failed ≡ 0
+    → WritesEdits p input (g.W.Write.contents c.args.writer.now.inner) (g.W.Write.contents c.run_task.new.writer.inner) c.run_task.result))
+    file c.in-Ok-Some.task (subst (λ (t : Option Task). EditsByLines file t) c.in-Ok-Some.field-0-is (c.in-Ok-Some.ensures.edit file names)) c.run_task.ensures.edit
+
+pub returns-in-Ok-Some-clause-unread_edit : goal.returns-in-Ok-Some-clause-unread_edit
+returns-in-Ok-Some-clause-unread_edit g c = λ file names.
+    edit_named (λ (p : List ℕ). c.run_task.new.reader.failed ≢ c.args.reader.now.failed → c.run_task.new.writer.failed ≡ 0
+    → Writes (Err Device) (g.W.Write.contents c.args.writer.now.inner) (g.W.Write.contents c.run_task.new.writer.inner) c.run_task.result)
+    file c.in-Ok-Some.task (subst (λ (t : Option Task). EditsByLines file t) c.in-Ok-Some.field-0-is (c.in-Ok-Some.ensures.edit file names)) c.run_task.ensures.unread_edit
