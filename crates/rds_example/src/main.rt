@@ -1,7 +1,7 @@
 //! The smallest use of the library: two replicas are edited apart, and the store takes what it lacks of the shop.
 #![tactic(auto)]
 
-use rds_delta::{Digest, delta};
+use rds_codec::exchange;
 use rds_gaps::GapSet;
 use rds_json::show;
 use rds_names::{Fault, Key, Name, Path, Roster, Scalar};
@@ -18,9 +18,8 @@ fn document(alloc: Global) -> Result<String, Fault> {
     shop.edit(Command::Add(tags, Scalar::text(alloc, "red")?))?;
     store.edit(Command::Inc(Key::new(alloc, "apples")?, 10))?;
 
-    let digest = Digest::of(alloc, store.state())?;
-    let lacking = delta(alloc, shop.state(), &digest)?;
-    store.take(&lacking)?;
+    let asked = store.copy(alloc)?;
+    let _answer = exchange(alloc, &shop, &asked, &mut store)?;
     show(alloc, &view(alloc, store.state(), &Path::new(alloc, "")?)?)
 }
 
