@@ -64,7 +64,8 @@ impl Counts {
     /// The counters of these rows, as a text holds them. `None` where the rows don't ascend by key
     /// and replica, where both numbers of a row are 0, or where one is above `MAX_COUNT`.
     pub fn from_rows(rows: Vec<CountRow>) -> Option<Counts>
-        ensures { MatchOption result (¬ (AreCountRows rows.items)) (λ counts. AreCountRows rows.items × (counts ≡ counted rows.items)) }
+        ensures { MatchOption result (¬ (AreCountRows rows.items))
+            (λ counts. AreCountRows rows.items × (counts ≡ counted rows.items)) }
     {
         if !are_rows(&rows) {
             return None;
@@ -115,8 +116,10 @@ impl Counts {
     /// (`CounterFull`). An amount of 0 is always fine and changes nothing. Takes no memory where one
     /// of the two numbers of the key and the replica is above 0 already.
     pub fn raise(&mut self, key: &Key, replica: u8, which: Which, by: u64) -> Result<(), Fault>
-        ensures raised { OnOk result (number self.new (place key.now replica which) ≡ number self.old (place key.now replica which) + by) }
-        ensures others { OnOk result ((q : Place) → ¬ (q ≡ place key.now replica which) → number self.new q ≡ number self.old q) }
+        ensures raised { OnOk result (number self.new (place key.now replica which)
+            ≡ number self.old (place key.now replica which) + by) }
+        ensures others { OnOk result ((q : Place) → ¬ (q ≡ place key.now replica which)
+            → number self.new q ≡ number self.old q) }
         ensures full { (result ≡ Err CounterFull) ↔ (MAX_COUNT < number self.old (place key.now replica which) + by) }
         ensures faults { IfErr result (λ fault. (fault ≡ Memory) ⊎ (fault ≡ CounterFull)) }
         ensures nothing { by ≡ 0 → IsOk result × (self.new ≡ self.old) }
@@ -149,7 +152,8 @@ impl Counts {
 
     /// The greater of each number, with memory of its own.
     pub fn joined(&self, alloc: Global, other: &Counts) -> Result<Counts, Fault>
-        ensures ok { IfOk result (λ counts. (q : Place) → number counts q ≡ max (number self.now q) (number other.now q)) }
+        ensures ok { IfOk result
+            (λ counts. (q : Place) → number counts q ≡ max (number self.now q) (number other.now q)) }
         ensures memory { IfErr result (λ fault. fault ≡ Memory) }
     {
         let rows = merged_rows(alloc, &self.rows, &other.rows)?;

@@ -3,8 +3,10 @@
 #![tactic(auto)]
 
 mod counts;
+mod laws;
 mod row;
 mod rows;
 
 pub use counts::Counts;
+pub use laws::limit_of_counts;
 pub use row::{CountRow, MAX_COUNT, Which};

@@ -21,19 +21,13 @@ pub fn are_rows(rows: &[CountRow]) -> bool
     ensures { result ≡ rows_fit rows.now }
 {
     let mut rest = rows;
-    'testing: loop {
-        let (row, later) = match rest.split_first() {
-            Some(parts) => parts,
-            None => return true,
-        };
-        if !is_row(row) {
-            return false;
-        }
-        if !is_before(row, later) {
+    'testing: while let Some((row, later)) = rest.split_first() {
+        if !is_row(row) || !is_before(row, later) {
             return false;
         }
         rest = later;
     }
+    true
 }
 
 fn is_row(row: &CountRow) -> bool
@@ -72,7 +66,8 @@ pub fn find_row(rows: &[CountRow], key: &Key, replica: u8) -> Result<usize, usiz
 pub fn pair_at(rows: &[CountRow], found: Result<usize, usize>) -> (u64, u64)
     requires rows { AreCountRows rows.now }
     requires found { IsSearchInRange found (length rows.now) }
-    ensures found { (key : List ℕ) (replica : ℕ) → IsSpot key replica rows.now found → result ≡ pair_of rows.now key replica }
+    ensures found { (key : List ℕ) (replica : ℕ) → IsSpot key replica rows.now found
+        → result ≡ pair_of rows.now key replica }
     ensures nowhere { IfErr found (λ _. result ≡ (0, 0)) }
     ensures within { (result.0 ≤ MAX_COUNT) × (result.1 ≤ MAX_COUNT) }
 {
@@ -106,18 +101,15 @@ fn first_totals(rows: &[CountRow], key: &Key) -> (u64, u64)
     let mut p = 0u64;
     let mut n = 0u64;
     let mut rest = rows;
-    'adding: loop {
-        let (row, later) = match rest.split_first() {
-            Some(parts) => parts,
-            None => return (p, n),
-        };
+    'adding: while let Some((row, later)) = rest.split_first() {
         if row.key != *key {
-            return (p, n);
+            break;
         }
         p += row.p;
         n += row.n;
         rest = later;
     }
+    (p, n)
 }
 
 /// A pair with one of its numbers raised.
@@ -155,7 +147,8 @@ pub fn put_row(
 ) -> Result<(), Fault>
     requires rows { AreCountRows rows.old.items }
     requires found { IsSpot key.now replica rows.old.items found }
-    requires above { ((pair_of rows.old.items key.now replica).0 ≤ pair.0) × ((pair_of rows.old.items key.now replica).1 ≤ pair.1) }
+    requires above { ((pair_of rows.old.items key.now replica).0 ≤ pair.0)
+        × ((pair_of rows.old.items key.now replica).1 ≤ pair.1) }
     ensures ok { OnOk result (rows.new.items ≡ drawn (row_of key.now replica pair ∷ []) rows.old.items) }
     ensures err { OnErr result (rows.new.items ≡ rows.old.items) }
     ensures memory { IfErr result (λ fault. fault ≡ Memory) }
@@ -211,14 +204,11 @@ pub fn numbers_above(rows: &[CountRow]) -> u128
 {
     let mut count = 0u128;
     let mut rest = rows;
-    'counting: loop {
-        let (row, later) = match rest.split_first() {
-            Some(parts) => parts,
-            None => return count,
-        };
+    'counting: while let Some((row, later)) = rest.split_first() {
         count += is_above(row.p) + is_above(row.n);
         rest = later;
     }
+    count
 }
 
 /// 1 for a number above 0, and 0 for 0.
@@ -278,7 +268,8 @@ fn push_row(
     p: u64,
     n: u64,
 ) -> Result<(), Fault>
-    ensures ok { OnOk result (rows.new.items ≡ rows.old.items ++ record { key = row.now.key; replica = row.now.replica; p = p; n = n } ∷ []) }
+    ensures ok { OnOk result (rows.new.items
+        ≡ rows.old.items ++ record { key = row.now.key; replica = row.now.replica; p = p; n = n } ∷ []) }
     ensures memory { IfErr result (λ fault. fault ≡ Memory) }
 {
     rows.push(CountRow {

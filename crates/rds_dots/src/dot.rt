@@ -23,7 +23,8 @@ impl Run {
     ghost use Rattle.std.specs.Prelude.{◌≡◌};
     ghost use Rattle.rds_dots.specs.Dots.{first_of, last_of};
 
-    pub(crate) fn first(&self) -> Dot
+    /// The run's least dot.
+    pub fn first(&self) -> Dot
         ensures { result ≡ first_of self.now }
     {
         Dot {
@@ -32,7 +33,8 @@ impl Run {
         }
     }
 
-    pub(crate) fn last(&self) -> Dot
+    /// The run's greatest dot.
+    pub fn last(&self) -> Dot
         ensures { result ≡ last_of self.now }
     {
         Dot {

@@ -1,5 +1,6 @@
-//! A law that all sets of dots keep together.
+//! What holds of dots, and of all sets of them together.
 ghost use Rattle.std.specs.Prelude.{◌≡◌};
+ghost use Rattle.rds_dots.specs.declared.dot.TheConstants.{MAX_SEQ};
 ghost use Rattle.rds_dots.specs.Runs.{runs_of};
 
 use crate::over::runs;
@@ -17,3 +18,8 @@ pub fn equal_sets_have_equal_runs<'a, S: DotSet, T: DotSet>(
 {
     (runs(left), runs(right))
 }
+
+/// The greatest number of a dot: 48 bits. The function does nothing: its contract is this limit.
+pub fn limit_of_dots()
+    ensures seq { MAX_SEQ ≡ 281474976710655 }
+{}

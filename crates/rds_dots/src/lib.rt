@@ -11,7 +11,7 @@ mod set;
 mod walk;
 
 pub use dot::{Dot, MAX_SEQ, Run};
-pub use law::equal_sets_have_equal_runs;
+pub use law::{equal_sets_have_equal_runs, limit_of_dots};
 pub use list_set::ListSet;
 pub use over::runs;
 pub use questions::{are_below, first_lacking, same};

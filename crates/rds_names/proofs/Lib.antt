@@ -1,5 +1,5 @@
 mod Differ
 mod Made
-mod Orders
 mod Padding
-mod Ascii
+pub mod Ascii
+pub mod Orders

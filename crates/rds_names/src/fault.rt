@@ -54,7 +54,8 @@ pub enum Fault {
     Extra,
     /// A text or a line is longer than its limit.
     TooLong,
-    /// A set of dots is larger than a limit. No set has one any more, so no call answers this; its number stays its own.
+    /// A set of dots is larger than a limit. No set has one any more, so no call answers this; its number stays its
+    /// own.
     TooManyDots,
     /// A delta's certificate doesn't hold.
     BadCertificate,

@@ -161,32 +161,26 @@ fn all_differ_after(own: &[Name], names: &[Name]) -> bool
     ensures { result ≡ names_differ (own.now ++ names.now) }
 {
     let mut rest = own;
-    'testing: loop {
-        let (name, others) = match rest.split_first() {
-            Some(parts) => parts,
-            None => return all_differ(names),
-        };
+    'testing: while let Some((name, others)) = rest.split_first() {
         if others.contains(name) || names.contains(name) {
             return false;
         }
         rest = others;
     }
+    all_differ(names)
 }
 
 fn all_differ(names: &[Name]) -> bool
     ensures { result ≡ names_differ names.now }
 {
     let mut rest = names;
-    'testing: loop {
-        let (name, others) = match rest.split_first() {
-            Some(parts) => parts,
-            None => return true,
-        };
+    'testing: while let Some((name, others)) = rest.split_first() {
         if others.contains(name) {
             return false;
         }
         rest = others;
     }
+    true
 }
 
 fn set_of(alloc: Global, names: &[Name]) -> Result<IndexSet<Name>, Fault>
