@@ -1,13 +1,12 @@
 -- Rows that a run of a set has are leapt.
-use Rattle.std.proofs.Common.{◌≡◌, ℕ, ◌≤◌, Bool, true, false, cond, not, List, [], ◌∷◌, length, refl, sym, ◌∙◌, ap, arith}
+use Rattle.std.proofs.Common.{◌≡◌, ℕ, ◌≤◌, Bool, true, false, cond, not, List, [], ◌∷◌, refl, sym, ◌∙◌, ap, arith}
 use Rattle.std.specs.FinSet as set
 use Rattle.std.specs.List.{list_all}
 use Rattle.std.specs.Ordering.{is_lt, nat_cmp, ordering_then}
-use Rattle.std.proofs.lemmas.List.Filters.{length-filter_both}
 use Rattle.std.proofs.lemmas.Bool.Decides.{nat_tests}
 use Rattle.rds_names.specs.Conditions.{and_left, and_right}
 use Rattle.rds_dots.specs.declared.dot.Dot.{Dot}
-use Rattle.rds_dots.specs.Ascending.{is_above, ascends}
+use Rattle.rds_dots.specs.Ascending.{is_above}
 use Rattle.rds_dots.specs.Dots.{Dots}
 use Rattle.rds_dots.specs.Lacking.{dot_of}
 use Rattle.rds_life.specs.Life.{keys}
@@ -37,9 +36,3 @@ module _ (s : Dots) (d : Dot) (here : set.contains s d ≡ true) (has : Bool) (u
         | true ↦ λ _. ap (λ l. cond (not (set.contains s r.0)) (r ∷ l) l) again
         | false ↦ λ is. again ∙ sym (ap (λ b. cond (not b) (r ∷ unseen_rows (set.contains s) rows) (unseen_rows (set.contains s) rows)) (at r.0 (and_left (is_above d r.0) _ all) is))
       ] refl
-
-pub front_rises : {X : Type 0} (d : Dot) (rows : List (Dot × X)) → ascends (d ∷ keys rows) ≡ true → list_all (is_above d) (keys rows) ≡ true
-front_rises d rows rise = and_left (list_all (is_above d) (keys rows)) _ rise
-
-pub no_more : {X : Type 0} (last : Dot) (rows : List (Dot × X)) → length (rows_past last rows) ≤ length rows
-no_more last rows = let n = length-filter_both (λ r. is_above last r.0) (λ r. not (is_above last r.0)) (λ r. refl) rows in omega (arith, n)

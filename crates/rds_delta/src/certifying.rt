@@ -25,17 +25,19 @@ use rds_names::{Fault, Key};
 use rds_state::State;
 use std::alloc::Global;
 
-/// What the digest has in place of each component of a delta, in rows of which no two neighbours could be one: there is
-/// one such list. It says something of a delta whose components are all above the digest, as those of a least delta are:
-/// then each row lies in its range. That of a delta without components takes no memory.
+/// What the digest has in place of each component of a delta, in rows of which no two neighbours could be one: there
+/// is one such list. It says something of a delta whose components are all above the digest, as those of a least
+/// delta are: then each row lies in its range. That of a delta without components takes no memory.
 pub fn certificate<S: DotSet>(
     alloc: Global,
     digest: &Digest<S>,
     delta: &State<S>,
 ) -> Result<Certificate, Fault>
     ensures ok { IfOk result (λ rows. IsCertificate (ranks_in digest.now) delta.now rows) }
-    ensures unique { IfOk result (λ rows. (others : List Row) → IsCertificate (ranks_in digest.now) delta.now others → others ≡ rows) }
-    ensures within { (replicas : ℕ) → Fits replicas (coordinates delta.now) → IsAbove (coordinates delta.now) (ranks_in digest.now) → IfOk result (AreRowsWithin replicas) }
+    ensures unique { IfOk result
+        (λ rows. (others : List Row) → IsCertificate (ranks_in digest.now) delta.now others → others ≡ rows) }
+    ensures within { (replicas : ℕ) → Fits replicas (coordinates delta.now)
+        → IsAbove (coordinates delta.now) (ranks_in digest.now) → IfOk result (AreRowsWithin replicas) }
     ensures memory { IfErr result (λ fault. fault ≡ Memory) }
     ensures nothing { size delta.now ≡ 0 → IsOk result }
 {
@@ -50,7 +52,9 @@ fn dot_rows<S: DotSet>(
     digest: &Digest<S>,
     lives: &Lives<S>,
 ) -> Result<Vec<Row>, Fault>
-    ensures ok { IfOk result (λ rows. (more : List Row) → is_flat more ≡ true → rows.items ++ more ≡ rows_after (rank_in digest.now) lives.now None more) }
+    ensures ok { IfOk result
+        (λ rows. (more : List Row) → is_flat more ≡ true
+        → rows.items ++ more ≡ rows_after (rank_in digest.now) lives.now None more) }
     ensures dots { IsOk result → (d : Dot) → is_some (map.get lives.now d) ≡ true → is_dot d ≡ true }
     ensures memory { IfErr result (λ fault. fault ≡ Memory) }
     ensures nothing { map.len lives.now ≡ 0 → IsOk result }
@@ -94,16 +98,13 @@ fn push_counts(
         return Ok(());
     }
     let mut left = counts;
-    'telling: loop {
-        let (count, later) = match left.split_first() {
-            Some(parts) => parts,
-            None => return Ok(()),
-        };
+    'telling: while let Some((count, later)) = left.split_first() {
         let (p, n) = peer.pair(&count.key, count.replica);
         push_number(alloc, rows, &count.key, count.replica, Which::P, count.p, p)?;
         push_number(alloc, rows, &count.key, count.replica, Which::N, count.n, n)?;
         left = later;
     }
+    Ok(())
 }
 
 /// Puts the row of a number at the end, if it is above 0.

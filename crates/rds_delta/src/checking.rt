@@ -23,7 +23,9 @@ use rds_state::State;
 /// Whether every component of the delta is above the digest's value, and the rows are the delta's certificate.
 /// Takes no memory.
 pub fn check<S: DotSet>(digest: &Digest<S>, delta: &State<S>, certificate: &Certificate) -> bool
-    ensures { IsTrue result ↔ (IsAbove (coordinates delta.now) (ranks_in digest.now) × IsCertificate (ranks_in digest.now) delta.now certificate.now) }
+    ensures { IsTrue result
+        ↔ (IsAbove (coordinates delta.now) (ranks_in digest.now)
+        × IsCertificate (ranks_in digest.now) delta.now certificate.now) }
 {
     match dots_claimed(digest, delta.lives(), certificate.rows()) {
         None => false,
@@ -37,7 +39,8 @@ fn dots_claimed<'a, S: DotSet>(
     lives: &Lives<S>,
     rows: &'a [Row],
 ) -> Option<&'a [Row]>
-    ensures { MatchOption result (IsUnclaimed (rank_in digest.now) lives.now rows.entry.now) (λ rest. IsClaimed (rank_in digest.now) lives.now rows.entry.now rest.now) }
+    ensures { MatchOption result (IsUnclaimed (rank_in digest.now) lives.now rows.entry.now)
+        (λ rest. IsClaimed (rank_in digest.now) lives.now rows.entry.now rest.now) }
 {
     let mut after = None;
     let mut rest = rows;
@@ -48,10 +51,7 @@ fn dots_claimed<'a, S: DotSet>(
                 if !is_above(next) {
                     return None;
                 }
-                let (row, later) = match rest.split_first() {
-                    Some(parts) => parts,
-                    None => return None,
-                };
+                let (row, later) = rest.split_first()?;
                 if !is_row(row, next) {
                     return None;
                 }
@@ -90,15 +90,12 @@ fn is_row(row: &Row, next: DotRow) -> bool
 
 /// Whether the rows are those of the counters, each number of which is above the peer's.
 fn counts_claimed(peer: &Counts, counts: &[CountRow], rows: &[Row]) -> bool
-    ensures { IsTrue result ↔ (AreAbove (number peer.now) counts.now × (rows.now ≡ counter_rows (number peer.now) counts.now)) }
+    ensures { IsTrue result
+        ↔ (AreAbove (number peer.now) counts.now × (rows.now ≡ counter_rows (number peer.now) counts.now)) }
 {
     let mut left = counts;
     let mut rest = rows;
-    'claiming: loop {
-        let (count, later) = match left.split_first() {
-            Some(parts) => parts,
-            None => return rest.is_empty(),
-        };
+    'claiming: while let Some((count, later)) = left.split_first() {
         let (p, n) = peer.pair(&count.key, count.replica);
         let after_p = match number_claimed(rest, &count.key, count.replica, Which::P, count.p, p) {
             Some(after) => after,
@@ -118,6 +115,7 @@ fn counts_claimed(peer: &Counts, counts: &[CountRow], rows: &[Row]) -> bool
         left = later;
         rest = after_n;
     }
+    rest.is_empty()
 }
 
 /// The rows after that of a number, if it is as it must be and above the peer's.
@@ -129,7 +127,10 @@ fn number_claimed<'a>(
     sent: u64,
     peer: u64,
 ) -> Option<&'a [Row]>
-    ensures { MatchOption result (IsNumberAbove sent peer → (rest : List Row) → rows.entry.now ≡ number_rows (place key.now replica which) sent peer ++ rest → ⊥) (λ rest. IsNumberAbove sent peer × (rows.entry.now ≡ number_rows (place key.now replica which) sent peer ++ rest.now)) }
+    ensures { MatchOption result (IsNumberAbove sent peer → (rest : List Row)
+        → rows.entry.now ≡ number_rows (place key.now replica which) sent peer ++ rest → ⊥)
+        (λ rest. IsNumberAbove sent peer
+        × (rows.entry.now ≡ number_rows (place key.now replica which) sent peer ++ rest.now)) }
 {
     if sent == 0 {
         return Some(rows);
@@ -137,10 +138,7 @@ fn number_claimed<'a>(
     if peer >= sent {
         return None;
     }
-    let (row, rest) = match rows.split_first() {
-        Some(parts) => parts,
-        None => return None,
-    };
+    let (row, rest) = rows.split_first()?;
     if !is_count(row, key, replica, which, sent, peer) {
         return None;
     }

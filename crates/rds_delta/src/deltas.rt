@@ -26,8 +26,8 @@ use rds_state::State;
 use std::alloc::Global;
 
 /// The least delta of a state against a digest: the state's components that are above the digest's values, and
-/// nothing else (after Enes, Almeida, Baquero, Leitão 2019). Joined into what was digested, or into what that has become
-/// since, it does what the whole state would do. One without components takes no memory.
+/// nothing else (after Enes, Almeida, Baquero, Leitão 2019). Joined into what was digested, or into what that has
+/// become since, it does what the whole state would do. One without components takes no memory.
 pub fn delta<S: DotSet>(
     alloc: Global,
     state: &State<S>,
@@ -48,9 +48,13 @@ fn lives_above<S: DotSet>(
     lives: &Lives<S>,
     digest: &Digest<S>,
 ) -> Result<Lives<S>, Fault>
-    ensures ok { IfOk result (λ above. (d : Dot) → map.get above d ≡ cond (nat_lt (rank_in digest.now d) (life_rank (map.get lives.now d))) (map.get lives.now d) None) }
+    ensures ok { IfOk result
+        (λ above. (d : Dot) → map.get above d
+        ≡ cond (nat_lt (rank_in digest.now d) (life_rank (map.get lives.now d))) (map.get lives.now d) None) }
     ensures memory { IfErr result (λ fault. fault ≡ Memory) }
-    ensures nothing { ((d : Dot) → cond (nat_lt (rank_in digest.now d) (life_rank (map.get lives.now d))) (map.get lives.now d) None ≡ None) → IsOk result }
+    ensures nothing { ((d : Dot)
+        → cond (nat_lt (rank_in digest.now d) (life_rank (map.get lives.now d))) (map.get lives.now d) None ≡ None)
+        → IsOk result }
 {
     let known = digest.seen();
     let seen = dots_above(alloc, lives, digest)?;
@@ -61,9 +65,13 @@ fn lives_above<S: DotSet>(
 /// The dots that are above the digest's ranks: those that it hasn't, and those that are dead here and live there.
 #[tactic(auto, using(crate::proofs::Sent::sets))]
 fn dots_above<S: DotSet>(alloc: Global, lives: &Lives<S>, digest: &Digest<S>) -> Result<S, Fault>
-    ensures ok { IfOk result (λ dots. (d : Dot) → set.contains (S.contents dots) d ≡ is_sent (map.get lives.now d) (set.contains digest.now.seen d) (set.contains digest.now.live d)) }
+    ensures ok { IfOk result
+        (λ dots. (d : Dot) → set.contains (S.contents dots) d
+        ≡ is_sent (map.get lives.now d) (set.contains digest.now.seen d) (set.contains digest.now.live d)) }
     ensures memory { IfErr result (λ fault. fault ≡ Memory) }
-    ensures nothing { ((d : Dot) → is_sent (map.get lives.now d) (set.contains digest.now.seen d) (set.contains digest.now.live d) ≡ false) → IsOk result }
+    ensures nothing { ((d : Dot)
+        → is_sent (map.get lives.now d) (set.contains digest.now.seen d) (set.contains digest.now.live d) ≡ false)
+        → IsOk result }
 {
     let killed = dots_killed(alloc, lives, digest.live())?;
     if is_inside(lives.seen(), digest.seen()) {
@@ -104,7 +112,8 @@ fn rows_unseen<S: DotSet>(
 fn past_run<'a, S: DotSet>(seen: &S, dot: Dot, mut rows: LiveRows<'a>) -> LiveRows<'a>
     requires seen { set.contains (S.contents seen.now) dot ≡ true }
     requires rise { ascends (dot ∷ keys rows) ≡ true }
-    ensures unseen { let has = set.contains (S.contents seen.now) in unseen_rows has result ≡ unseen_rows has rows.entry }
+    ensures unseen { let has = set.contains (S.contents seen.now) in
+        unseen_rows has result ≡ unseen_rows has rows.entry }
     ensures rise { ascends (keys result) ≡ true }
     ensures fewer { length result ≤ length rows.entry }
 {
@@ -118,7 +127,8 @@ fn past_run<'a, S: DotSet>(seen: &S, dot: Dot, mut rows: LiveRows<'a>) -> LiveRo
 
 /// The numbers that are above the peer's.
 fn counts_above(alloc: Global, counts: &Counts, peer: &Counts) -> Result<Counts, Fault>
-    ensures ok { IfOk result (λ above. (q : Place) → number above q ≡ higher (number counts.now q) (number peer.now q)) }
+    ensures ok { IfOk result
+        (λ above. (q : Place) → number above q ≡ higher (number counts.now q) (number peer.now q)) }
     ensures memory { IfErr result (λ fault. fault ≡ Memory) }
     ensures nothing { ((q : Place) → higher (number counts.now q) (number peer.now q) ≡ 0) → IsOk result }
 {
@@ -134,11 +144,7 @@ fn rows_above(alloc: Global, peer: &Counts, rows: &[CountRow]) -> Result<Vec<Cou
 {
     let mut above = Vec::new(alloc);
     let mut rest = rows;
-    'copying: loop {
-        let (row, later) = match rest.split_first() {
-            Some(parts) => parts,
-            None => return Ok(above),
-        };
+    'copying: while let Some((row, later)) = rest.split_first() {
         let (peer_p, peer_n) = peer.pair(&row.key, row.replica);
         let p = number_above(row.p, peer_p);
         let n = number_above(row.n, peer_n);
@@ -152,6 +158,7 @@ fn rows_above(alloc: Global, peer: &Counts, rows: &[CountRow]) -> Result<Vec<Cou
         }
         rest = later;
     }
+    Ok(above)
 }
 
 /// The number where it is above the peer's, else 0.

@@ -68,7 +68,8 @@ impl<S: DotSet> Digest<S> {
 
     /// The digest of a state without components.
     fn empty(alloc: Global) -> Digest<S>
-        ensures value { let none : DigestValue = record { seen = set.empty; live = set.empty; counts = map.empty } in result ≡ none }
+        ensures value { let none : DigestValue = record { seen = set.empty; live = set.empty; counts = map.empty } in
+            result ≡ none }
     {
         Digest {
             seen: S::empty(alloc),
@@ -88,7 +89,8 @@ impl<S: DotSet> Digest<S> {
     /// The digest of these parts, as a text holds them. `None` where a live dot isn't among the seen ones. Takes no
     /// memory.
     pub fn from_parts(seen: S, live: S, counts: Counts) -> Option<Digest<S>>
-        ensures exact { MatchOption result (¬ (IsInside (S.contents live) (S.contents seen))) (λ _. IsInside (S.contents live) (S.contents seen)) }
+        ensures exact { MatchOption result (¬ (IsInside (S.contents live) (S.contents seen)))
+            (λ _. IsInside (S.contents live) (S.contents seen)) }
         ensures value { let parts : DigestValue = record { seen = S.contents seen; live = S.contents live; counts = counts } in IfSome result (λ digest. digest ≡ parts) }
     {
         if !is_inside(&live, &seen) {

@@ -22,9 +22,12 @@ use std::alloc::Global;
 
 /// The dots of a set that are dead here: a few look-ups for each part of a run that is alike here.
 pub fn dots_killed<S: DotSet>(alloc: Global, lives: &Lives<S>, live: &S) -> Result<S, Fault>
-    ensures ok { IfOk result (λ dots. (d : Dot) → set.contains (S.contents dots) d ≡ (is_dead (map.get lives.now d) && set.contains (S.contents live.now) d)) }
+    ensures ok { IfOk result
+        (λ dots. (d : Dot) → set.contains (S.contents dots) d
+        ≡ (is_dead (map.get lives.now d) && set.contains (S.contents live.now) d)) }
     ensures memory { IfErr result (λ fault. fault ≡ Memory) }
-    ensures nothing { ((d : Dot) → (is_dead (map.get lives.now d) && set.contains (S.contents live.now) d) ≡ false) → IsOk result }
+    ensures nothing { ((d : Dot) → (is_dead (map.get lives.now d) && set.contains (S.contents live.now) d) ≡ false)
+        → IsOk result }
 {
     let mut killed = S::empty(alloc);
     let mut after = None;

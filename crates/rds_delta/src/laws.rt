@@ -18,7 +18,9 @@ ghost use Rattle.rds_delta.specs.Sized.{HasComponents};
 pub fn least_delta_laws()
     ensures effect { (a b grown : Coordinates) → AtMost b grown → join grown (least a (ranks b)) ≡ join grown a }
     ensures below { (a b c : Coordinates) → AreCompatible b c → join b c ≡ join b a → AtMost (least a (ranks b)) c }
-    ensures fewest { (a b c d : StateValue) → coordinates d ≡ least (coordinates a) (ranks (coordinates b)) → AreCompatible (coordinates b) (coordinates c) → join (coordinates b) (coordinates c) ≡ join (coordinates b) (coordinates a) → size d ≤ size c }
+    ensures fewest { (a b c d : StateValue) → coordinates d ≡ least (coordinates a) (ranks (coordinates b))
+        → AreCompatible (coordinates b) (coordinates c)
+        → join (coordinates b) (coordinates c) ≡ join (coordinates b) (coordinates a) → size d ≤ size c }
     ensures counted { (v : StateValue) → HasComponents (coordinates v) (size v) }
     ensures part { (a : Coordinates) (b : Ranks) → AtMost (least a b) a }
     ensures above { (a : Coordinates) (b : Ranks) → IsAbove (least a b) b }
@@ -32,7 +34,9 @@ pub fn least_delta_laws()
 pub fn checked_delta_laws()
     ensures compatible { (d b : Coordinates) → IsAbove d (ranks b) → AreCompatible b d }
     ensures below { (d b c : Coordinates) → IsAbove d (ranks b) → AreCompatible b c → join b c ≡ join b d → AtMost d c }
-    ensures fewest { (d b c : StateValue) → IsAbove (coordinates d) (ranks (coordinates b)) → AreCompatible (coordinates b) (coordinates c) → join (coordinates b) (coordinates c) ≡ join (coordinates b) (coordinates d) → size d ≤ size c }
+    ensures fewest { (d b c : StateValue) → IsAbove (coordinates d) (ranks (coordinates b))
+        → AreCompatible (coordinates b) (coordinates c)
+        → join (coordinates b) (coordinates c) ≡ join (coordinates b) (coordinates d) → size d ≤ size c }
     ensures least { (d b : Coordinates) → IsAbove d (ranks b) → d ≡ least d (ranks b) }
 {}
 
@@ -41,6 +45,10 @@ pub fn checked_delta_laws()
 /// that both knew. The function does nothing: its contract is these laws.
 pub fn friends_exchange_deltas()
     ensures fits { (replicas : ℕ) (a asked : Coordinates) → Fits replicas a → Fits replicas (least a (ranks asked)) }
-    ensures taken { (left right : ℕ) (a b d : StateValue) (asked : Coordinates) (answer : Result (Unit {0}) Refusal) → AreFriends left (coordinates a) right (coordinates b) → coordinates d ≡ least (coordinates a) (ranks asked) → TakeGives b right d answer → (answer ≡ Ok tt) ⊎ (answer ≡ Err Memory) }
-    ensures joins { (a b d : StateValue) (asked : Coordinates) → AtMost asked (coordinates b) → coordinates d ≡ least (coordinates a) (ranks asked) → join (coordinates b) (coordinates d) ≡ join (coordinates b) (coordinates a) }
+    ensures taken { (left right : ℕ) (a b d : StateValue) (asked : Coordinates) (answer : Result (Unit {0}) Refusal)
+        → AreFriends left (coordinates a) right (coordinates b) → coordinates d ≡ least (coordinates a) (ranks asked)
+        → TakeGives b right d answer → (answer ≡ Ok tt) ⊎ (answer ≡ Err Memory) }
+    ensures joins { (a b d : StateValue) (asked : Coordinates) → AtMost asked (coordinates b)
+        → coordinates d ≡ least (coordinates a) (ranks asked)
+        → join (coordinates b) (coordinates d) ≡ join (coordinates b) (coordinates a) }
 {}

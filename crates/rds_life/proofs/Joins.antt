@@ -14,7 +14,7 @@ use Rattle.rds_dots.specs.Merges.{above, above_trans}
 use Rattle.rds_names.specs.Conditions.{and_true, and_left, and_right}
 use Rattle.rds_dots.specs.Sets.{same_dot}
 use Rattle.rds_life.specs.Life.{keys}
-use Rattle.rds_life.specs.Joined.{kept, right_only, joined_onto, joined}
+use Rattle.rds_life.specs.Joined.{kept, outside, joined_onto, joined}
 use Rattle.rds_life.proofs.RowLemmas.{find_above, find-kept, all-kept, ascends-kept}
 
 -- what stays of the two sides' rows at one dot
@@ -44,12 +44,12 @@ module _ {X : Type 0} where
   both_kept false false sl sr v w fx fy e = refl
 
 module _ {X : Type 0} (sl sr : Dot → Bool) (d : Dot) where
-  find-right_only : (ys : List (Dot × X)) → ascends (keys ys) ≡ true → find dot_cmp d (right_only sl sr ys) ≡ pick (sl d) (sr d) None (find dot_cmp d ys)
-  find-right_only [] rise = refl
-  find-right_only (y ∷ ys) rise =
+  find-outside : (ys : List (Dot × X)) → ascends (keys ys) ≡ true → find dot_cmp d (outside sl ys) ≡ pick (sl d) (sr d) None (find dot_cmp d ys)
+  find-outside [] rise = refl
+  find-outside (y ∷ ys) rise =
       let first = and_left (list_all (is_above y.0) (keys ys)) _ rise in
-      let again = find-right_only ys (and_right (list_all (is_above y.0) (keys ys)) _ rise) in
-      find-kept d (not (sl y.0)) y (right_only sl sr ys)
+      let again = find-outside ys (and_right (list_all (is_above y.0) (keys ys)) _ rise) in
+      find-kept d (not (sl y.0)) y (outside sl ys)
       ∙ ap (λ o. cond (not (sl y.0)) (cond (eq_by_cmp dot_cmp d y.0) (Some y.1) o) o) again
       ∙ right_kept (eq_by_cmp dot_cmp d y.0) (sl y.0) (sl d) (sr d) y.1 None (find dot_cmp d ys) (λ is. record {
         same = ap sl (sym (same_dot d y.0 is));
@@ -94,18 +94,18 @@ module _ {X : Type 0} (sl sr : Dot → Bool) (d : Dot) where
 
   -- what the rows of a join have at a dot
   pub find-joined : (xs ys : List (Dot × X)) → ascends (keys xs) ≡ true → ascends (keys ys) ≡ true → find dot_cmp d (joined sl sr xs ys) ≡ pick (sl d) (sr d) (find dot_cmp d xs) (find dot_cmp d ys)
-  find-joined [] ys rise_xs rise_ys = find-right_only ys rise_ys
+  find-joined [] ys rise_xs rise_ys = find-outside ys rise_ys
   find-joined (x ∷ xs) ys rise_xs rise_ys =
       find-joined_onto x xs (joined sl sr xs) (and_left _ (ascends (keys xs)) rise_xs) (λ zs rise. find-joined xs zs (and_right (list_all (is_above x.0) (keys xs)) _ rise_xs) rise) ys rise_ys
 
 module _ {X : Type 0} (sl sr : Dot → Bool) where
-  all-right_only : (p : Dot → Bool) (ys : List (Dot × X)) → list_all p (keys ys) ≡ true → list_all p (keys (right_only sl sr ys)) ≡ true
-  all-right_only p [] all = refl
-  all-right_only p (y ∷ ys) all = all-kept p (not (sl y.0)) y _ (and_left (p y.0) _ all) (all-right_only p ys (and_right (p y.0) _ all))
+  all-outside : (p : Dot → Bool) (ys : List (Dot × X)) → list_all p (keys ys) ≡ true → list_all p (keys (outside sl ys)) ≡ true
+  all-outside p [] all = refl
+  all-outside p (y ∷ ys) all = all-kept p (not (sl y.0)) y _ (and_left (p y.0) _ all) (all-outside p ys (and_right (p y.0) _ all))
 
-  ascends-right_only : (ys : List (Dot × X)) → ascends (keys ys) ≡ true → ascends (keys (right_only sl sr ys)) ≡ true
-  ascends-right_only [] rise = refl
-  ascends-right_only (y ∷ ys) rise = ascends-kept (not (sl y.0)) y _ (all-right_only (is_above y.0) ys (and_left _ (ascends (keys ys)) rise)) (ascends-right_only ys (and_right (list_all (is_above y.0) (keys ys)) _ rise))
+  ascends-outside : (ys : List (Dot × X)) → ascends (keys ys) ≡ true → ascends (keys (outside sl ys)) ≡ true
+  ascends-outside [] rise = refl
+  ascends-outside (y ∷ ys) rise = ascends-kept (not (sl y.0)) y _ (all-outside (is_above y.0) ys (and_left _ (ascends (keys ys)) rise)) (ascends-outside ys (and_right (list_all (is_above y.0) (keys ys)) _ rise))
 
   all-joined_onto : (p : Dot → Bool) (x : Dot × X) (rest : List (Dot × X) → List (Dot × X)) → p x.0 ≡ true → ((ys : List (Dot × X)) → list_all p (keys ys) ≡ true → list_all p (keys (rest ys)) ≡ true) → (ys : List (Dot × X)) → list_all p (keys ys) ≡ true → list_all p (keys (joined_onto sl sr x rest ys)) ≡ true
   all-joined_onto p x rest px h [] all = all-kept p (not (sr x.0)) x _ px (h [] refl)
@@ -118,7 +118,7 @@ module _ {X : Type 0} (sl sr : Dot → Bool) where
       ]
 
   pub all-joined : (p : Dot → Bool) (xs ys : List (Dot × X)) → list_all p (keys xs) ≡ true → list_all p (keys ys) ≡ true → list_all p (keys (joined sl sr xs ys)) ≡ true
-  all-joined p [] ys all_xs all_ys = all-right_only p ys all_ys
+  all-joined p [] ys all_xs all_ys = all-outside p ys all_ys
   all-joined p (x ∷ xs) ys all_xs all_ys = all-joined_onto p x (joined sl sr xs) (and_left (p x.0) _ all_xs) (λ zs all. all-joined p xs zs (and_right (p x.0) _ all_xs) all) ys all_ys
 
   ascends-joined_onto : (x : Dot × X) (xs : List (Dot × X)) (rest : List (Dot × X) → List (Dot × X)) → list_all (is_above x.0) (keys xs) ≡ true → ((p : Dot → Bool) (ys : List (Dot × X)) → list_all p (keys xs) ≡ true → list_all p (keys ys) ≡ true → list_all p (keys (rest ys)) ≡ true) → ((ys : List (Dot × X)) → ascends (keys ys) ≡ true → ascends (keys (rest ys)) ≡ true) → (ys : List (Dot × X)) → ascends (keys ys) ≡ true → ascends (keys (joined_onto sl sr x rest ys)) ≡ true
@@ -135,6 +135,6 @@ module _ {X : Type 0} (sl sr : Dot → Bool) where
 
   -- and they rise
   pub ascends-joined : (xs ys : List (Dot × X)) → ascends (keys xs) ≡ true → ascends (keys ys) ≡ true → ascends (keys (joined sl sr xs ys)) ≡ true
-  ascends-joined [] ys rise_xs rise_ys = ascends-right_only ys rise_ys
+  ascends-joined [] ys rise_xs rise_ys = ascends-outside ys rise_ys
   ascends-joined (x ∷ xs) ys rise_xs rise_ys =
       ascends-joined_onto x xs (joined sl sr xs) (and_left _ (ascends (keys xs)) rise_xs) (λ p zs. all-joined p xs zs) (λ zs. ascends-joined xs zs (and_right (list_all (is_above x.0) (keys xs)) _ rise_xs)) ys rise_ys

@@ -3,14 +3,15 @@ mod Bounds
 mod Changes
 mod Clashes
 mod Deaths
-mod GapRows
 mod Gathers
 mod Joins
 mod Lookups
+mod Moves
 mod Puts
 mod Singles
 pub mod Counting
 pub mod Finds
+pub mod GapRows
 pub mod Kills
 pub mod LivedLemmas
 pub mod MappedRows

@@ -88,6 +88,17 @@ module _ (s t : Dots) (a b : List (Dot × Entry)) (rows_a : AreRows s a) (rows_b
       find-joined (set.contains s) (set.contains t) d a b rows_a.rise rows_b.rise
       ∙ neither (set.contains s d) (set.contains t d) _ _ (sym (set.contains-union dots_total s t d) ∙ fails) (find_unseen s a rows_a d) (find_unseen t b rows_b d))
 
+  -- so lives of these rows and dots are the join
+  pub is_joined : (u : Dots) (r : List (Dot × Entry)) (v w : Lived) → u ≡ set.union s t → r ≡ joined (set.contains s) (set.contains t) a b → lived s a ≡ v → lived t b ≡ w → IsJoin v w (lived u r)
+  is_joined u r v w seen rows left right = record {
+    each_dot = λ d.
+        ap (λ x. map.get (lived x r) d) seen
+        ∙ ap (λ x. map.get (lived (set.union s t) x) d) rows
+        ∙ get-joined d
+        ∙ ap (λ l. join_life (map.get l d) (map.get (lived t b) d)) left
+        ∙ ap (λ l. join_life (map.get v d) (map.get l d)) right;
+  }
+
   agree_from : (x y : Bool) (e f : Option Entry) → SameIfBoth e f → Agree (cond x (Some (life_of e)) None) (cond y (Some (life_of f)) None)
   agree_from true true (Some e) (Some f) h = h
   agree_from true true (Some e) None h = tt

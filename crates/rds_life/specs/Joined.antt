@@ -9,12 +9,12 @@ module _ {X : Type 0} where
   abbrev pub kept : Bool → Dot × X → List (Dot × X) → List (Dot × X)
   kept stays row rows = cond stays (row ∷ rows) rows
 
-module _ {X : Type 0} (left_has right_has : Dot → Bool) where
-  -- rows of the right alone live where the left hasn't seen them
-  abbrev pub right_only : List (Dot × X) → List (Dot × X)
-  right_only [] = []
-  right_only (y ∷ ys) = kept (not (left_has y.0)) y (right_only ys)
+  -- the rows of dots that aren't in the set
+  abbrev pub outside : (Dot → Bool) → List (Dot × X) → List (Dot × X)
+  outside has [] = []
+  outside has (y ∷ ys) = kept (not (has y.0)) y (outside has ys)
 
+module _ {X : Type 0} (left_has right_has : Dot → Bool) where
   abbrev pub joined_onto : Dot × X → (List (Dot × X) → List (Dot × X)) → List (Dot × X) → List (Dot × X)
   joined_onto x rest [] = kept (not (right_has x.0)) x (rest [])
   joined_onto x rest (y ∷ ys) =
@@ -22,5 +22,5 @@ module _ {X : Type 0} (left_has right_has : Dot → Bool) where
 
   -- a row that both have stays; any other stays where the other side hasn't seen its dot
   abbrev pub joined : List (Dot × X) → List (Dot × X) → List (Dot × X)
-  joined [] ys = right_only ys
+  joined [] ys = outside left_has ys
   joined (x ∷ xs) ys = joined_onto x (joined xs) ys

@@ -14,8 +14,8 @@ use rds_dots::{Dot, DotSet};
 use rds_names::{Entry, Fault};
 use std::alloc::Global;
 
-/// Joins the other's rows into the map, in place: copies of those of unseen dots are put in, and those that are gone are
-/// taken out. A refusal leaves it as it was.
+/// Joins the other's rows into the map, in place: copies of those of unseen dots are put in, and those that are gone
+/// are taken out. A refusal leaves it as it was.
 pub fn join_in<S: DotSet>(
     alloc: Global,
     rows: &mut RowMap,
@@ -25,7 +25,8 @@ pub fn join_in<S: DotSet>(
 ) -> Result<(), Fault>
     requires seen { (d : Dot) → set.contains (S.contents seen.now) d ≡ false → map.find dot_cmp d rows.old ≡ None }
     requires rise { ascends (keys other.now) ≡ true }
-    ensures ok { OnOk result ((d : Dot) → map.find dot_cmp d rows.new ≡ dropped false (is_some (map.find dot_cmp d gone.now))
+    ensures ok { OnOk result ((d : Dot)
+        → map.find dot_cmp d rows.new ≡ dropped false (is_some (map.find dot_cmp d gone.now))
         (gained (set.contains (S.contents seen.now) d) (map.find dot_cmp d rows.old) (map.find dot_cmp d other.now))) }
     ensures err { OnErr result (rows.new ≡ rows.old) }
     ensures memory { IfErr result (λ fault. fault ≡ Memory) }
@@ -45,7 +46,9 @@ fn add_unseen<S: DotSet>(
 ) -> Result<(), Fault>
     requires seen { (d : Dot) → set.contains (S.contents seen.now) d ≡ false → map.find dot_cmp d rows.old ≡ None }
     requires rise { ascends (keys other.now) ≡ true }
-    ensures ok { OnOk result ((d : Dot) → map.find dot_cmp d rows.new ≡ gained (set.contains (S.contents seen.now) d) (map.find dot_cmp d rows.old) (map.find dot_cmp d other.now)) }
+    ensures ok { OnOk result ((d : Dot)
+        → map.find dot_cmp d rows.new
+        ≡ gained (set.contains (S.contents seen.now) d) (map.find dot_cmp d rows.old) (map.find dot_cmp d other.now)) }
     ensures err { OnErr result (rows.new ≡ rows.old) }
     ensures memory { IfErr result (λ fault. fault ≡ Memory) }
 {
@@ -66,26 +69,26 @@ fn add_each<S: DotSet>(
     other: &[(Dot, Entry)],
 ) -> Result<(), Fault>
     requires { ascends (keys other.now) ≡ true }
-    ensures ok { OnOk result ((d : Dot) → map.find dot_cmp d rows.new ≡ gained (set.contains (S.contents seen.now) d) (map.find dot_cmp d rows.old) (map.find dot_cmp d other.now)) }
+    ensures ok { OnOk result ((d : Dot)
+        → map.find dot_cmp d rows.new
+        ≡ gained (set.contains (S.contents seen.now) d) (map.find dot_cmp d rows.old) (map.find dot_cmp d other.now)) }
     ensures some { IsAdded (set.contains (S.contents seen.now)) other.now rows.old rows.new }
     ensures memory { IfErr result (λ fault. fault ≡ Memory) }
 {
     let mut rest = other;
-    'adding: loop {
-        let (row, later) = match rest.split_first() {
-            Some(parts) => parts,
-            None => return Ok(()),
-        };
+    'adding: while let Some((row, later)) = rest.split_first() {
         if !seen.contains(row.0) {
             rows.insert(row.0, row.1.copy(alloc)?)?;
         }
         rest = later;
     }
+    Ok(())
 }
 
 /// Takes out the rows of the other's unseen dots.
 fn drop_unseen<S: DotSet>(rows: &mut RowMap, seen: &S, other: &[(Dot, Entry)])
-    ensures { (d : Dot) → map.find dot_cmp d rows.new ≡ dropped (set.contains (S.contents seen.now) d) (is_some (map.find dot_cmp d other.now)) (map.find dot_cmp d rows.old) }
+    ensures { (d : Dot) → map.find dot_cmp d rows.new
+        ≡ dropped (set.contains (S.contents seen.now) d) (is_some (map.find dot_cmp d other.now)) (map.find dot_cmp d rows.old) }
 {
     let mut rest = other;
     'dropping: loop {
@@ -102,7 +105,8 @@ fn drop_unseen<S: DotSet>(rows: &mut RowMap, seen: &S, other: &[(Dot, Entry)])
 
 /// Takes out the rows of the other's dots.
 fn drop_all(rows: &mut RowMap, other: &[(Dot, Entry)])
-    ensures { (d : Dot) → map.find dot_cmp d rows.new ≡ dropped false (is_some (map.find dot_cmp d other.now)) (map.find dot_cmp d rows.old) }
+    ensures { (d : Dot) → map.find dot_cmp d rows.new
+        ≡ dropped false (is_some (map.find dot_cmp d other.now)) (map.find dot_cmp d rows.old) }
 {
     let mut rest = other;
     'dropping: loop {

@@ -44,7 +44,8 @@ pub fn rows_gone<S: DotSet>(
 /// Of the rows behind a dot that isn't in the set, those from the set's next dot on.
 fn past_gap<'a, S: DotSet>(seen: &S, dot: Dot, mut rows: LiveRows<'a>) -> LiveRows<'a>
     requires rise { ascends (dot ∷ keys rows) ≡ true }
-    ensures gone { (live : List (Dot × Entry)) → let has = set.contains (S.contents seen.now) in gone_rows has live result ≡ gone_rows has live rows.entry }
+    ensures gone { (live : List (Dot × Entry))
+        → let has = set.contains (S.contents seen.now) in gone_rows has live result ≡ gone_rows has live rows.entry }
     ensures rise { ascends (keys result) ≡ true }
     ensures fewer { length result ≤ length rows.entry }
 {

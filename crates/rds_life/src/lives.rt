@@ -86,7 +86,8 @@ impl<S: DotSet> Lives<S> {
     /// `None` where the rows don't ascend by dot, or have a dot that isn't in the set. Takes no
     /// memory.
     pub fn from_parts(seen: S, rows: Vec<(Dot, Entry)>) -> Option<Lives<S>>
-        ensures exact { MatchOption result (¬ (AreRows (S.contents seen) rows.items)) (λ _. AreRows (S.contents seen) rows.items) }
+        ensures exact { MatchOption result (¬ (AreRows (S.contents seen) rows.items))
+            (λ _. AreRows (S.contents seen) rows.items) }
         ensures lives { IfSome result (λ lives. lives ≡ lived (S.contents seen) rows.items) }
         ensures seen { IfSome result (λ lives. seen_of lives ≡ S.contents seen) }
         ensures live { IfSome result (λ lives. live_rows lives ≡ rows.items) }
@@ -158,7 +159,8 @@ impl<S: DotSet> Lives<S> {
 
     /// The dots that are dead.
     pub fn dead(&self, alloc: Global) -> Result<S, Fault>
-        ensures dots { IfOk result (λ dead. (d : Dot) → set.contains (S.contents dead) d ≡ is_dead (map.get self.now d)) }
+        ensures dots { IfOk result
+            (λ dead. (d : Dot) → set.contains (S.contents dead) d ≡ is_dead (map.get self.now d)) }
         ensures memory { IfErr result (λ fault. fault ≡ Memory) }
     {
         let live = self.live_dots(alloc)?;
@@ -166,10 +168,12 @@ impl<S: DotSet> Lives<S> {
         Ok(dead)
     }
 
-    /// Copies of the rows of live dots that are dead in the other lives, in the order of the dots. They are found by the
-    /// other's seen dots: that costs a search for each run of these, and for each live dot here that the other has seen.
+    /// Copies of the rows of live dots that are dead in the other lives, in the order of the dots. They are found by
+    /// the other's seen dots: that costs a search for each run of these, and for each live dot here that the other
+    /// has seen.
     pub fn rows_dead_in(&self, alloc: Global, other: &Lives<S>) -> Result<Vec<(Dot, Entry)>, Fault>
-        ensures ok { IfOk result (λ rows. rows.items ≡ filter (λ r. is_dead (map.get other.now r.0)) (live_rows self.now)) }
+        ensures ok { IfOk result
+            (λ rows. rows.items ≡ filter (λ r. is_dead (map.get other.now r.0)) (live_rows self.now)) }
         ensures memory { IfErr result (λ fault. fault ≡ Memory) }
     {
         let rows = rows_gone(alloc, self.live(), &other.seen, &other.rows)?;
@@ -256,7 +260,8 @@ impl<S: DotSet> Lives<S> {
     /// Makes the live dots dead that were found, but the one that is to stay, and says how many there
     /// were. Takes no memory.
     pub fn kill_found<F: Found>(&mut self, found: &F, but: Option<Dot>) -> u64
-        ensures lives { (d : Dot) → map.get self.new d ≡ killed_by (but_for but (F.found found.now)) d (map.get self.old d) }
+        ensures lives { (d : Dot)
+            → map.get self.new d ≡ killed_by (but_for but (F.found found.now)) d (map.get self.old d) }
         ensures killed { result ≡ count_by (λ r. but_for but (F.found found.now) r.0 r.1) (live_rows self.old) }
     {
         let before = self.live_len();

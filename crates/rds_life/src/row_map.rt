@@ -53,14 +53,11 @@ impl RowMap {
     {
         let mut map = RowMap::new(alloc);
         let mut rest = rows;
-        'adding: loop {
-            let (row, later) = match rest.split_first() {
-                Some(parts) => parts,
-                None => return Ok(map),
-            };
+        'adding: while let Some((row, later)) = rest.split_first() {
             map.insert(row.0, row.1.copy(alloc)?)?;
             rest = later;
         }
+        Ok(map)
     }
 
     /// Takes out the rows that are chosen, in place, and says how many there were.

@@ -32,11 +32,7 @@ pub fn are_rows<S: DotSet>(seen: &S, rows: &[(Dot, Entry)]) -> bool
     ensures { IsTrue result ↔ AreRows (S.contents seen.now) rows.now }
 {
     let mut rest = rows;
-    'testing: loop {
-        let (row, later) = match rest.split_first() {
-            Some(parts) => parts,
-            None => return true,
-        };
+    'testing: while let Some((row, later)) = rest.split_first() {
         if !seen.contains(row.0) {
             return false;
         }
@@ -45,6 +41,7 @@ pub fn are_rows<S: DotSet>(seen: &S, rows: &[(Dot, Entry)]) -> bool
         }
         rest = later;
     }
+    true
 }
 
 /// Whether a dot comes before the first row.

@@ -17,7 +17,7 @@ ghost use Rattle.rds_life.specs.Removed.{without};
 use crate::adding::join_in;
 use crate::chosen::{Choice, remove_chosen};
 use crate::gone::rows_gone;
-use crate::joining::{clash, join_rows};
+use crate::joining::{clash, join_into, join_rows};
 use crate::live_rows::LiveRows;
 use crate::row_map::RowMap;
 use crate::rows::{copy_rows, find_row, first_from, insert_row, remove_row};
@@ -199,7 +199,9 @@ impl Rows {
         other_seen: &S,
         other: &Rows,
     ) -> Result<Rows, Fault>
-        ensures ok { IfOk result (λ rows. rows ≡ joined (set.contains (S.contents seen.now)) (set.contains (S.contents other_seen.now)) self.now other.now) }
+        ensures ok { IfOk result
+            (λ rows. rows ≡ joined (set.contains (S.contents seen.now))
+            (set.contains (S.contents other_seen.now)) self.now other.now) }
         ensures memory { IfErr result (λ fault. fault ≡ Memory) }
     {
         let rows = match (&self.form, &other.form) {
@@ -219,7 +221,7 @@ impl Rows {
 
     /// Joins the other's rows in. Rows of a map stay in it, and are joined in place: that costs a search
     /// for each of the other's rows and seen runs, and for each row here of a dot that the other has seen.
-    /// Rows of a list are joined to a new one.
+    /// Rows of a list are moved to a new one.
     pub fn join_in<S: DotSet>(
         &mut self,
         seen: &S,
@@ -228,15 +230,37 @@ impl Rows {
     ) -> Result<(), Fault>
         requires seen { (d : Dot) → set.contains (S.contents seen.now) d ≡ false → map.find dot_cmp d self.old ≡ None }
         requires fit { AreRows (S.contents other_seen.now) other.now }
-        ensures ok { OnOk result (self.new ≡ joined (set.contains (S.contents seen.now)) (set.contains (S.contents other_seen.now)) self.old other.now) }
+        ensures ok { OnOk result (self.new
+            ≡ joined (set.contains (S.contents seen.now)) (set.contains (S.contents other_seen.now)) self.old other.now) }
         ensures err { OnErr result (self.new ≡ self.old) }
         ensures memory { IfErr result (λ fault. fault ≡ Memory) }
     {
         match &mut self.form {
             Form::Mapped(rows) => other.join_to(self.alloc, rows, seen, other_seen),
-            Form::Listed(_) => {
-                *self = self.joined(self.alloc, seen, other_seen, other)?;
-                Ok(())
+            Form::Listed(rows) => other.join_to_list(self.alloc, rows, seen, other_seen),
+        }
+    }
+
+    /// Joins these rows into a list.
+    fn join_to_list<S: DotSet>(
+        &self,
+        alloc: Global,
+        target: &mut Vec<(Dot, Entry)>,
+        seen: &S,
+        own_seen: &S,
+    ) -> Result<(), Fault>
+        requires { (d : Dot) → set.contains (S.contents seen.now) d ≡ false
+            → map.find dot_cmp d target.old.items ≡ None }
+        ensures ok { OnOk result (target.new.items
+            ≡ joined (set.contains (S.contents seen.now)) (set.contains (S.contents own_seen.now)) target.old.items self.now) }
+        ensures err { OnErr result (target.new.items ≡ target.old.items) }
+        ensures memory { IfErr result (λ fault. fault ≡ Memory) }
+    {
+        match &self.form {
+            Form::Listed(rows) => join_into(alloc, target, seen, own_seen, rows),
+            Form::Mapped(rows) => {
+                let copies = rows.copy_list(alloc)?;
+                join_into(alloc, target, seen, own_seen, &copies)
             }
         }
     }
@@ -249,9 +273,11 @@ impl Rows {
         seen: &S,
         own_seen: &S,
     ) -> Result<(), Fault>
-        requires seen { (d : Dot) → set.contains (S.contents seen.now) d ≡ false → map.find dot_cmp d target.old ≡ None }
+        requires seen { (d : Dot) → set.contains (S.contents seen.now) d ≡ false
+            → map.find dot_cmp d target.old ≡ None }
         requires fit { AreRows (S.contents own_seen.now) self.now }
-        ensures ok { OnOk result (target.new ≡ joined (set.contains (S.contents seen.now)) (set.contains (S.contents own_seen.now)) target.old self.now) }
+        ensures ok { OnOk result (target.new
+            ≡ joined (set.contains (S.contents seen.now)) (set.contains (S.contents own_seen.now)) target.old self.now) }
         ensures err { OnErr result (target.new ≡ target.old) }
         ensures memory { IfErr result (λ fault. fault ≡ Memory) }
     {
@@ -270,9 +296,11 @@ impl Rows {
         seen: &S,
         gone: &[(Dot, Entry)],
     ) -> Result<(), Fault>
-        requires seen { (d : Dot) → set.contains (S.contents seen.now) d ≡ false → map.find dot_cmp d target.old ≡ None }
+        requires seen { (d : Dot) → set.contains (S.contents seen.now) d ≡ false
+            → map.find dot_cmp d target.old ≡ None }
         requires rise { ascends (keys self.now) ≡ true }
-        ensures ok { OnOk result ((d : Dot) → map.find dot_cmp d target.new ≡ dropped false (is_some (map.find dot_cmp d gone.now))
+        ensures ok { OnOk result ((d : Dot)
+            → map.find dot_cmp d target.new ≡ dropped false (is_some (map.find dot_cmp d gone.now))
             (gained (set.contains (S.contents seen.now) d) (map.find dot_cmp d target.old) (map.find dot_cmp d self.now))) }
         ensures err { OnErr result (target.new ≡ target.old) }
         ensures memory { IfErr result (λ fault. fault ≡ Memory) }

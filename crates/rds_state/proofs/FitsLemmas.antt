@@ -1,5 +1,5 @@
 -- Which states fit: rows say it, no coordinate breaks it, and joins keep it.
-use Rattle.std.proofs.Common.{◌≡◌, ℕ, zero, suc, ◌<◌, true, max, List, Option, Some, None, Result, Ok, Err, refl, sym, ◌∙◌, ap, subst, arith, OnOk, OnErr}
+use Rattle.std.proofs.Common.{◌≡◌, ℕ, zero, suc, ◌≤◌, ◌<◌, true, max, List, Option, Some, None, Result, Ok, Err, refl, sym, ◌∙◌, ap, subst, arith, OnOk, OnErr}
 use mathlib.Core.Bool.{false≢true}
 use Rattle.std.specs.Prelude.{is_some}
 use Rattle.std.specs.FinMap as map
@@ -40,6 +40,13 @@ join_fits n a b p q = record {
 pub merge_fits : (n : ℕ) (a b c : StateValue) (r : Result (Unit {0}) Fault) → OnOk r (coordinates c ≡ join (coordinates a) (coordinates b)) → OnErr r (c ≡ a) → Fits n (coordinates a) → Fits n (coordinates b) → Fits n (coordinates c)
 merge_fits n a b c (Ok x) ok err p q = subst (Fits n) (sym ok) (join_fits n (coordinates a) (coordinates b) p q)
 merge_fits n a b c (Err f) ok err p q = subst (λ v. Fits n (coordinates v)) (sym err) p
+
+-- what fits some replicas fits more
+pub fits_more : (n m : ℕ) (a : Coordinates) → n ≤ m → Fits n a → Fits m a
+fits_more n m a le fits = record {
+  dots = λ d h. let below = fits.dots d h in omega (arith, below);
+  numbers = λ q h. let below = fits.numbers q h in omega (arith, below);
+}
 
 no_dot : (v : Lived) → v ≡ map.empty → (d : Dot) → is_some (map.get v d) ≡ true → ⊥
 no_dot v e d h = false≢true (sym (ap (λ l. is_some (map.get l d)) e ∙ ap is_some (map.get-empty {X = Life} dot_cmp d)) ∙ h)

@@ -6,6 +6,7 @@ pub mod EditLemmas
 pub mod FirstAbove
 pub mod FitsLemmas
 pub mod FriendLemmas
+pub mod GrownLemmas
 pub mod JoinLaws
 pub mod Nothing
 pub mod RaiseLemmas

@@ -7,6 +7,7 @@ pub mod Document
 pub mod Edit
 pub mod Fits
 pub mod Friends
+pub mod Grown
 pub mod Made
 pub mod RowsAhead
 pub mod Value

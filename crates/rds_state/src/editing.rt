@@ -66,11 +66,14 @@ pub fn edit<S: DotSet, F: Found>(
     command: &Command,
     found: &F,
 ) -> Result<Edited, Fault>
-    requires found { (d : Dot) (e : Entry) → map.get state.old.lives d ≡ Some (Live e) → F.found found.now d e ≡ covers command.now e }
+    requires found { (d : Dot) (e : Entry) → map.get state.old.lives d ≡ Some (Live e)
+        → F.found found.now d e ≡ covers command.now e }
     ensures joined { IfOk result (λ _. JoinsEffect (coordinates state.old) own command.now (coordinates state.new)) }
     ensures dot { IfOk result (λ edited. edited.dot ≡ new_dot (coordinates state.old) own command.now) }
-    ensures killed { IfOk result (λ edited. edited.killed ≡ count_by (λ r. covers command.now r.1) (live_rows state.old.lives)) }
-    ensures refusal { let due = refusal (coordinates state.old) own command.now in MatchResult result (λ _. due ≡ None) (IsDue due) }
+    ensures killed { IfOk result
+        (λ edited. edited.killed ≡ count_by (λ r. covers command.now r.1) (live_rows state.old.lives)) }
+    ensures refusal { let due = refusal (coordinates state.old) own command.now in
+        MatchResult result (λ _. due ≡ None) (IsDue due) }
     ensures room { needs_room (coordinates state.old) own command.now ≡ false → result ≢ Err Memory }
     ensures err { OnErr result (state.new ≡ state.old) }
 {
@@ -99,12 +102,16 @@ fn put<S: DotSet, F: Found>(
     kind: Kind,
     value: &Scalar,
 ) -> Result<Edited, Fault>
-    requires parts { let parts : Parts = record { path = path.now; kind = kind; value = value.now } in parts_of command.now ≡ Some parts }
-    requires found { (d : Dot) (e : Entry) → map.get state.old.lives d ≡ Some (Live e) → F.found found.now d e ≡ covers command.now e }
+    requires parts { let parts : Parts = record { path = path.now; kind = kind; value = value.now } in
+        parts_of command.now ≡ Some parts }
+    requires found { (d : Dot) (e : Entry) → map.get state.old.lives d ≡ Some (Live e)
+        → F.found found.now d e ≡ covers command.now e }
     ensures joined { IfOk result (λ _. JoinsEffect (coordinates state.old) own command.now (coordinates state.new)) }
     ensures dot { IfOk result (λ edited. edited.dot ≡ new_dot (coordinates state.old) own command.now) }
-    ensures killed { IfOk result (λ edited. edited.killed ≡ count_by (λ r. covers command.now r.1) (live_rows state.old.lives)) }
-    ensures refusal { let due = refusal (coordinates state.old) own command.now in MatchResult result (λ _. due ≡ None) (IsDue due) }
+    ensures killed { IfOk result
+        (λ edited. edited.killed ≡ count_by (λ r. covers command.now r.1) (live_rows state.old.lives)) }
+    ensures refusal { let due = refusal (coordinates state.old) own command.now in
+        MatchResult result (λ _. due ≡ None) (IsDue due) }
     ensures err { OnErr result (state.new ≡ state.old) }
 {
     let dot = next_dot(state, own, path)?;
@@ -118,7 +125,9 @@ fn put<S: DotSet, F: Found>(
 
 /// The next own dot, for an entry at the path.
 pub fn next_dot<S: DotSet>(state: &State<S>, own: u8, path: &Path) -> Result<Dot, Fault>
-    ensures exact { let top = own_top (coordinates state.now) own in MatchResult result (λ dot. (path_fault path.now (seq_fault top) ≡ None) × (dot ≡ dot_of own (top + 1))) (λ fault. path_fault path.now (seq_fault top) ≡ Some fault) }
+    ensures exact { let top = own_top (coordinates state.now) own in
+        MatchResult result (λ dot. (path_fault path.now (seq_fault top) ≡ None) × (dot ≡ dot_of own (top + 1)))
+        (λ fault. path_fault path.now (seq_fault top) ≡ Some fault) }
     ensures unseen { IfOk result (λ dot. map.get state.now.lives dot ≡ None) }
 {
     if path.is_empty() {
@@ -154,10 +163,14 @@ fn replace<S: DotSet, F: Found>(
 ) -> Result<u64, Fault>
     requires dot { is_dot dot ≡ true }
     requires unseen { map.get state.old.lives dot ≡ None }
-    requires found { (d : Dot) (e : Entry) → map.get state.old.lives d ≡ Some (Live e) → F.found found.now d e ≡ covers command.now e }
-    ensures lives { IfOk result (λ _. (d : Dot) → map.get state.new.lives d ≡ killed_by (is_chosen command.now (Some dot)) d (map.get (map.insert state.old.lives dot (Live entry)) d)) }
+    requires found { (d : Dot) (e : Entry) → map.get state.old.lives d ≡ Some (Live e)
+        → F.found found.now d e ≡ covers command.now e }
+    ensures lives { IfOk result
+        (λ _. (d : Dot) → map.get state.new.lives d
+        ≡ killed_by (is_chosen command.now (Some dot)) d (map.get (map.insert state.old.lives dot (Live entry)) d)) }
     ensures counts { state.new.counts ≡ state.old.counts }
-    ensures killed { IfOk result (λ killed. killed ≡ count_by (λ r. covers command.now r.1) (live_rows state.old.lives)) }
+    ensures killed { IfOk result
+        (λ killed. killed ≡ count_by (λ r. covers command.now r.1) (live_rows state.old.lives)) }
     ensures err { OnErr result (state.new ≡ state.old) }
     ensures memory { IfErr result (λ fault. fault ≡ Memory) }
 {
@@ -167,8 +180,10 @@ fn replace<S: DotSet, F: Found>(
 
 /// Makes the dots dead that the command covers.
 fn kill<S: DotSet, F: Found>(state: &mut State<S>, command: &Command, found: &F) -> Edited
-    requires found { (d : Dot) (e : Entry) → map.get state.old.lives d ≡ Some (Live e) → F.found found.now d e ≡ covers command.now e }
-    ensures lives { (d : Dot) → map.get state.new.lives d ≡ killed_by (is_chosen command.now None) d (map.get state.old.lives d) }
+    requires found { (d : Dot) (e : Entry) → map.get state.old.lives d ≡ Some (Live e)
+        → F.found found.now d e ≡ covers command.now e }
+    ensures lives { (d : Dot)
+        → map.get state.new.lives d ≡ killed_by (is_chosen command.now None) d (map.get state.old.lives d) }
     ensures counts { state.new.counts ≡ state.old.counts }
     ensures killed { result.killed ≡ count_by (λ r. covers command.now r.1) (live_rows state.old.lives) }
     ensures dot { result.dot ≡ None }
@@ -188,8 +203,10 @@ fn raise<S: DotSet>(
     ensures numbers { IfOk result (λ _. AreRaised state.old.counts (place key.now own which) by state.new.counts) }
     ensures lives { state.new.lives ≡ state.old.lives }
     ensures edited { IfOk result (λ edited. (edited.dot ≡ None) × (edited.killed ≡ 0)) }
-    ensures refusal { let due = count_fault (number state.old.counts (place key.now own which) + by) in MatchResult result (λ _. due ≡ None) (IsDue due) }
-    ensures room { makes_pair (number state.old.counts (place key.now own P)) (number state.old.counts (place key.now own N)) by ≡ false → result ≢ Err Memory }
+    ensures refusal { let due = count_fault (number state.old.counts (place key.now own which) + by) in
+        MatchResult result (λ _. due ≡ None) (IsDue due) }
+    ensures room { makes_pair (number state.old.counts (place key.now own P))
+        (number state.old.counts (place key.now own N)) by ≡ false → result ≢ Err Memory }
     ensures err { OnErr result (state.new ≡ state.old) }
 {
     state.raise(key, own, which, by)?;

@@ -10,8 +10,9 @@ ghost use Rattle.rds_state.specs.Value.{StateValue, coordinates};
 
 /// States are ordered coordinate by coordinate, and the join of compatible states is the least state above both
 /// (Shapiro, Preguiça, Baquero, Zawirski 2011). The join is associative and idempotent, and commutative on compatible
-/// states; what is compatible with both of two states is so with their join, so that states of which every two are compatible
-/// merge in any order; equal coordinates are equal states. The function does nothing: its contract is these laws.
+/// states; what is compatible with both of two states is so with their join, so that states of which every two are
+/// compatible merge in any order; equal coordinates are equal states. The function does nothing: its contract is
+/// these laws.
 pub fn join_laws()
     ensures reflexive { (a : Coordinates) → AtMost a a }
     ensures transitive { (a b c : Coordinates) → AtMost a b → AtMost b c → AtMost a c }
@@ -38,8 +39,8 @@ pub fn documents_have_the_sums()
     ensures { (v : StateValue) (key : List ℕ) → value_in (coordinates v) key ≡ value_of v.counts key }
 {}
 
-/// The greatest number of a dot and the greatest number of a counter, for each replica: 48 bits. The function does nothing: its
-/// contract is these limits.
+/// The greatest number of a dot and the greatest number of a counter, for each replica: 48 bits. The function does
+/// nothing: its contract is these limits.
 pub fn limits_of_numbers()
     ensures seq { MAX_SEQ ≡ 281474976710655 }
     ensures count { MAX_COUNT ≡ 281474976710655 }

@@ -1,5 +1,5 @@
 //! One replica of a document.
-ghost use Rattle.std.specs.Prelude.{◌≡◌, ◌+◌, ◌≢◌, ◌≤◌, ◌<◌, ◌↔◌, IsTrue, false, None, Some, Err, count_by, IfOk, IfErr, IsOk, OnOk, OnErr, MatchResult, length};
+ghost use Rattle.std.specs.Prelude.{◌≡◌, ◌+◌, ◌≢◌, ◌≤◌, ◌<◌, ◌↔◌, IsTrue, false, max, None, Some, Err, count_by, IfOk, IfErr, IsOk, OnOk, OnErr, MatchResult, length};
 ghost use Rattle.std.specs.FinMap as map;
 ghost use Rattle.rds_names.specs.declared.fault.Fault.TheVariants.{Memory, BadRoster};
 ghost use Rattle.rds_life.specs.Life.{Live, live_rows};
@@ -11,6 +11,7 @@ ghost use Rattle.rds_state.specs.CoveredDots.{covered_dots};
 ghost use Rattle.rds_state.specs.Edit.{covers, JoinsEffect, new_dot, needs_room, own_top, path_fault, refusal, seq_fault, IsDue};
 ghost use Rattle.rds_dots.specs.Lacking.{dot_of};
 ghost use Rattle.rds_state.specs.Fits.{Fits, ReplicaValue, IsReplica};
+ghost use Rattle.rds_state.specs.Grown.{longer, GrowGives, MeetGives, TakeWithGives};
 ghost use Rattle.rds_counts.specs.Below.{rows_below};
 ghost use Rattle.rds_state.specs.Value.{coordinates, size};
 
@@ -25,6 +26,7 @@ use rds_life::Found;
 use rds_names::{Fault, Path, Roster};
 use std::alloc::Global;
 use std::marker::Model;
+use std::mem;
 
 /// A replica: the roster of its group, its own number there, and its state. The numbers of all replicas that the
 /// state speaks of are below the roster's length.
@@ -34,7 +36,8 @@ pub struct Replica<S: DotSet> {
     state: State<S>,
 }
 
-// Written out, so that where a replica is let go a caller's proof has one call, and not a step for each part of its parts.
+// Written out, so that where a replica is let go a caller's proof has one call, and not a step for each part of its
+// parts.
 impl<S: DotSet> Drop for Replica<S> {
     fn drop(self) {
         let Replica {
@@ -61,8 +64,11 @@ impl<S: DotSet> Replica<S> {
     /// The replica with this number, without any entry or counter. A number that isn't below the roster's length is
     /// refused (`BadRoster`).
     pub fn new(alloc: Global, roster: Roster, own: u8) -> Result<Replica<S>, Fault>
-        ensures ok { IfOk result (λ replica. (replica.roster ≡ roster) × (replica.own ≡ own) × (replica.state.lives ≡ map.empty) × (replica.state.counts ≡ map.empty)) }
-        ensures exact { MatchResult result (λ _. own < length roster.names) (λ fault. (fault ≡ BadRoster) × (length roster.names ≤ own)) }
+        ensures ok { IfOk result
+            (λ replica. (replica.roster ≡ roster) × (replica.own ≡ own) × (replica.state.lives ≡ map.empty)
+            × (replica.state.counts ≡ map.empty)) }
+        ensures exact { MatchResult result (λ _. own < length roster.names)
+            (λ fault. (fault ≡ BadRoster) × (length roster.names ≤ own)) }
     {
         if !has_number(&roster, own) {
             return Err(Fault::BadRoster);
@@ -77,8 +83,10 @@ impl<S: DotSet> Replica<S> {
     /// The replica of these parts. Where the own number or a replica's number in the state isn't below the roster's
     /// length, they are refused (`BadRoster`). Takes no memory.
     pub fn from_parts(roster: Roster, own: u8, state: State<S>) -> Result<Replica<S>, Fault>
-        ensures ok { IfOk result (λ replica. (replica.roster ≡ roster) × (replica.own ≡ own) × (replica.state ≡ state)) }
-        ensures exact { let parts : ReplicaValue = record { roster = roster; own = own; state = state } in MatchResult result (λ _. IsReplica parts) (λ fault. (fault ≡ BadRoster) × (¬ (IsReplica parts))) }
+        ensures ok { IfOk result
+            (λ replica. (replica.roster ≡ roster) × (replica.own ≡ own) × (replica.state ≡ state)) }
+        ensures exact { let parts : ReplicaValue = record { roster = roster; own = own; state = state } in
+            MatchResult result (λ _. IsReplica parts) (λ fault. (fault ≡ BadRoster) × (¬ (IsReplica parts))) }
     {
         if !has_number(&roster, own) || !fits_into(&roster, &state) {
             return Err(Fault::BadRoster);
@@ -136,10 +144,13 @@ impl<S: DotSet> Replica<S> {
     /// `CounterFull` where a number would pass its limit. Only `Set`, `Add` and the first raise of a counter here take
     /// memory.
     pub fn edit(&mut self, command: Command) -> Result<Edited, Fault>
-        ensures joined { IfOk result (λ _. JoinsEffect (coordinates self.old.state) self.old.own command (coordinates self.new.state)) }
+        ensures joined { IfOk result
+            (λ _. JoinsEffect (coordinates self.old.state) self.old.own command (coordinates self.new.state)) }
         ensures dot { IfOk result (λ edited. edited.dot ≡ new_dot (coordinates self.old.state) self.old.own command) }
-        ensures killed { IfOk result (λ edited. edited.killed ≡ count_by (λ r. covers command r.1) (live_rows self.old.state.lives)) }
-        ensures refusal { let due = refusal (coordinates self.old.state) self.old.own command in MatchResult result (λ _. due ≡ None) (IsDue due) }
+        ensures killed { IfOk result
+            (λ edited. edited.killed ≡ count_by (λ r. covers command r.1) (live_rows self.old.state.lives)) }
+        ensures refusal { let due = refusal (coordinates self.old.state) self.old.own command in
+            MatchResult result (λ _. due ≡ None) (IsDue due) }
         ensures room { needs_room (coordinates self.old.state) self.old.own command ≡ false → result ≢ Err Memory }
         ensures roster { self.new.roster ≡ self.old.roster }
         ensures own { self.new.own ≡ self.old.own }
@@ -150,10 +161,14 @@ impl<S: DotSet> Replica<S> {
 
     /// Edits the document as [`edit`](Replica::edit) does, by a command that the caller keeps.
     pub fn edit_by(&mut self, command: &Command) -> Result<Edited, Fault>
-        ensures joined { IfOk result (λ _. JoinsEffect (coordinates self.old.state) self.old.own command.now (coordinates self.new.state)) }
-        ensures dot { IfOk result (λ edited. edited.dot ≡ new_dot (coordinates self.old.state) self.old.own command.now) }
-        ensures killed { IfOk result (λ edited. edited.killed ≡ count_by (λ r. covers command.now r.1) (live_rows self.old.state.lives)) }
-        ensures refusal { let due = refusal (coordinates self.old.state) self.old.own command.now in MatchResult result (λ _. due ≡ None) (IsDue due) }
+        ensures joined { IfOk result
+            (λ _. JoinsEffect (coordinates self.old.state) self.old.own command.now (coordinates self.new.state)) }
+        ensures dot { IfOk result
+            (λ edited. edited.dot ≡ new_dot (coordinates self.old.state) self.old.own command.now) }
+        ensures killed { IfOk result
+            (λ edited. edited.killed ≡ count_by (λ r. covers command.now r.1) (live_rows self.old.state.lives)) }
+        ensures refusal { let due = refusal (coordinates self.old.state) self.old.own command.now in
+            MatchResult result (λ _. due ≡ None) (IsDue due) }
         ensures room { needs_room (coordinates self.old.state) self.old.own command.now ≡ false → result ≢ Err Memory }
         ensures roster { self.new.roster ≡ self.old.roster }
         ensures own { self.new.own ≡ self.old.own }
@@ -162,14 +177,19 @@ impl<S: DotSet> Replica<S> {
         edit(&mut self.state, self.own, command, &Searched { command })
     }
 
-    /// Edits the document as [`edit`](Replica::edit) does, where the live dots that the command covers were found before: only
-    /// these are looked at.
+    /// Edits the document as [`edit`](Replica::edit) does, where the live dots that the command covers were found
+    /// before: only these are looked at.
     pub fn edit_found<F: Found>(&mut self, command: &Command, found: &F) -> Result<Edited, Fault>
-        requires found { (d : Dot) (e : Entry) → map.get self.old.state.lives d ≡ Some (Live e) → F.found found.now d e ≡ covers command.now e }
-        ensures joined { IfOk result (λ _. JoinsEffect (coordinates self.old.state) self.old.own command.now (coordinates self.new.state)) }
-        ensures dot { IfOk result (λ edited. edited.dot ≡ new_dot (coordinates self.old.state) self.old.own command.now) }
-        ensures killed { IfOk result (λ edited. edited.killed ≡ count_by (λ r. covers command.now r.1) (live_rows self.old.state.lives)) }
-        ensures refusal { let due = refusal (coordinates self.old.state) self.old.own command.now in MatchResult result (λ _. due ≡ None) (IsDue due) }
+        requires found { (d : Dot) (e : Entry) → map.get self.old.state.lives d ≡ Some (Live e)
+            → F.found found.now d e ≡ covers command.now e }
+        ensures joined { IfOk result
+            (λ _. JoinsEffect (coordinates self.old.state) self.old.own command.now (coordinates self.new.state)) }
+        ensures dot { IfOk result
+            (λ edited. edited.dot ≡ new_dot (coordinates self.old.state) self.old.own command.now) }
+        ensures killed { IfOk result
+            (λ edited. edited.killed ≡ count_by (λ r. covers command.now r.1) (live_rows self.old.state.lives)) }
+        ensures refusal { let due = refusal (coordinates self.old.state) self.old.own command.now in
+            MatchResult result (λ _. due ≡ None) (IsDue due) }
         ensures room { needs_room (coordinates self.old.state) self.old.own command.now ≡ false → result ≢ Err Memory }
         ensures roster { self.new.roster ≡ self.old.roster }
         ensures own { self.new.own ≡ self.old.own }
@@ -178,10 +198,12 @@ impl<S: DotSet> Replica<S> {
         edit(&mut self.state, self.own, command, found)
     }
 
-    /// The own dot that a `Set` or an `Add` at the path would make live, or the fault that would refuse it: `BadPath` for the
-    /// root, else `SeqFull`. Takes no memory.
+    /// The own dot that a `Set` or an `Add` at the path would make live, or the fault that would refuse it: `BadPath`
+    /// for the root, else `SeqFull`. Takes no memory.
     pub fn next_dot(&self, path: &Path) -> Result<Dot, Fault>
-        ensures exact { let top = own_top (coordinates self.now.state) self.now.own in MatchResult result (λ dot. (path_fault path.now (seq_fault top) ≡ None) × (dot ≡ dot_of self.now.own (top + 1))) (λ fault. path_fault path.now (seq_fault top) ≡ Some fault) }
+        ensures exact { let top = own_top (coordinates self.now.state) self.now.own in
+            MatchResult result (λ dot. (path_fault path.now (seq_fault top) ≡ None)
+            × (dot ≡ dot_of self.now.own (top + 1))) (λ fault. path_fault path.now (seq_fault top) ≡ Some fault) }
         ensures unseen { IfOk result (λ dot. map.get self.now.state.lives dot ≡ None) }
     {
         next_dot(&self.state, self.own, path)
@@ -196,8 +218,8 @@ impl<S: DotSet> Replica<S> {
         Ok(dots)
     }
 
-    /// Whether [`take`](Replica::take) would take the delta, if there is memory; else the fault that it would give. Takes no
-    /// memory.
+    /// Whether [`take`](Replica::take) would take the delta, if there is memory; else the fault that it would give.
+    /// Takes no memory.
     pub fn may_take(&self, delta: &State<S>) -> Result<(), Fault>
         ensures { TakeGives self.now.state self.now.own delta.now result }
     {
@@ -214,11 +236,12 @@ impl<S: DotSet> Replica<S> {
     }
 
     /// Joins a delta into the state. Refuses `OwnAhead` first, where the delta has an own dot that is unseen here,
-    /// which the fault names, or an own number that is above the one here: both show that this replica has lost
-    /// edits that it had sent. Then it refuses a `Conflict`, as a merge does. A delta without components takes no memory.
+    /// which the fault names, or an own number that is above the one here: both show that this replica has lost edits
+    /// that it had sent. Then it refuses a `Conflict`, as a merge does. A delta without components takes no memory.
     pub fn take(&mut self, delta: &State<S>) -> Result<(), Fault>
         requires { Fits (length self.old.roster.names) (coordinates delta.now) }
-        ensures ok { OnOk result (coordinates self.new.state ≡ join (coordinates self.old.state) (coordinates delta.now)) }
+        ensures ok { OnOk result (coordinates self.new.state
+            ≡ join (coordinates self.old.state) (coordinates delta.now)) }
         ensures roster { self.new.roster ≡ self.old.roster }
         ensures own { self.new.own ≡ self.old.own }
         ensures gives { TakeGives self.old.state self.old.own delta.now result }
@@ -232,6 +255,59 @@ impl<S: DotSet> Replica<S> {
             return Err(Fault::OwnAhead(ahead));
         }
         self.state.merge(delta)
+    }
+
+    /// Takes a roster that its own begins, in place of its own. Refuses one of another group (`WrongGroup`), then one
+    /// that its own doesn't begin (`WrongRoster`). Takes no memory.
+    pub fn grow(&mut self, roster: Roster) -> Result<(), Fault>
+        ensures roster { OnOk result (self.new.roster ≡ roster) }
+        ensures own { self.new.own ≡ self.old.own }
+        ensures state { self.new.state ≡ self.old.state }
+        ensures gives { GrowGives self.old.roster roster result }
+        ensures err { OnErr result (self.new ≡ self.old) }
+    {
+        if self.roster.group() != roster.group() {
+            return Err(Fault::WrongGroup);
+        }
+        if !self.roster.begins(&roster) {
+            return Err(Fault::WrongRoster);
+        }
+        self.roster = roster;
+        Ok(())
+    }
+
+    /// Whether [`take_with`](Replica::take_with) would take the delta, if there is memory; else the fault that it
+    /// would give. Takes no memory.
+    pub fn may_take_with(&self, roster: &Roster, delta: &State<S>) -> Result<(), Fault>
+        ensures { TakeWithGives self.now.roster roster.now self.now.state self.now.own delta.now result }
+    {
+        may_meet(&self.roster, roster)?;
+        self.may_take(delta)
+    }
+
+    /// Takes a delta that comes with a roster, and the longer of that roster and its own. Refuses a roster of another
+    /// group (`WrongGroup`), then one where neither begins the other (`WrongRoster`), and then as
+    /// [`take`](Replica::take) does.
+    pub fn take_with(&mut self, roster: Roster, delta: &State<S>) -> Result<(), Fault>
+        requires { Fits (max (length self.old.roster.names) (length roster.names)) (coordinates delta.now) }
+        ensures ok { OnOk result (coordinates self.new.state
+            ≡ join (coordinates self.old.state) (coordinates delta.now)) }
+        ensures roster { OnOk result (self.new.roster ≡ longer self.old.roster roster) }
+        ensures own { self.new.own ≡ self.old.own }
+        ensures gives { TakeWithGives self.old.roster roster self.old.state self.old.own delta.now result }
+        ensures nothing { size delta.now ≡ 0 → result ≢ Err Memory }
+        ensures err { OnErr result (self.new ≡ self.old) }
+    {
+        may_meet(&self.roster, &roster)?;
+        if roster.len() <= self.roster.len() {
+            return self.take(delta);
+        }
+        let own = mem::replace(&mut self.roster, roster);
+        let taken = self.take(delta);
+        if taken.is_err() {
+            self.roster = own;
+        }
+        taken
     }
 
     /// Puts the live entries into a map, as [`Lives::index`](rds_life::Lives::index) does: an edit then costs the same,
@@ -263,6 +339,19 @@ fn has_number(roster: &Roster, number: u8) -> bool
     u16::from(number) < roster.len()
 }
 
+/// Whether one of two rosters begins the other; else why it doesn't.
+fn may_meet(own: &Roster, roster: &Roster) -> Result<(), Fault>
+    ensures { MeetGives own.now roster.now result }
+{
+    if own.group() != roster.group() {
+        return Err(Fault::WrongGroup);
+    }
+    if !own.begins(roster) && !roster.begins(own) {
+        return Err(Fault::WrongRoster);
+    }
+    Ok(())
+}
+
 /// Whether all replica numbers of the state are below the roster's length.
 fn fits_into<S: DotSet>(roster: &Roster, state: &State<S>) -> bool
     ensures { IsTrue result ↔ Fits (length roster.now.names) (coordinates state.now) }
@@ -278,14 +367,11 @@ fn are_rows_below(rows: &[CountRow], replicas: u16) -> bool
     ensures { result ≡ rows_below replicas rows.now }
 {
     let mut rest = rows;
-    'testing: loop {
-        let (row, later) = match rest.split_first() {
-            Some(parts) => parts,
-            None => return true,
-        };
+    'testing: while let Some((row, later)) = rest.split_first() {
         if u16::from(row.replica) >= replicas {
             return false;
         }
         rest = later;
     }
+    true
 }

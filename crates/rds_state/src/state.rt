@@ -27,7 +27,8 @@ pub struct State<S: DotSet> {
     counts: Counts,
 }
 
-// Written out, so that where a state is let go a caller's proof has one call, and not a step for each part of its parts.
+// Written out, so that where a state is let go a caller's proof has one call, and not a step for each part of its
+// parts.
 impl<S: DotSet> Drop for State<S> {
     fn drop(self) {
         let State {
@@ -108,9 +109,10 @@ impl<S: DotSet> State<S> {
         are_same_lives(&self.lives, &other.lives) && self.counts.same(&other.counts)
     }
 
-    /// Joins the other state into this one (Shapiro, Preguiça, Baquero, Zawirski 2011): each coordinate becomes the later
-    /// life or the greater number. Refuses a `Conflict`, which names the least dot that is live in both with different
-    /// entries. Another state without components takes no memory, and one without counters none for counters.
+    /// Joins the other state into this one (Shapiro, Preguiça, Baquero, Zawirski 2011): each coordinate becomes the
+    /// later life or the greater number. Refuses a `Conflict`, which names the least dot that is live in both with
+    /// different entries. Another state without components takes no memory, and one without counters none for
+    /// counters.
     pub fn merge(&mut self, other: &State<S>) -> Result<(), Fault>
         ensures ok { OnOk result (coordinates self.new ≡ join (coordinates self.old) (coordinates other.now)) }
         ensures gives { MergeGives self.old.lives other.now.lives result }
@@ -186,7 +188,8 @@ impl<S: DotSet> State<S> {
 
     /// Makes the live dots dead that were found, but the one that is to stay, and says how many there were.
     pub(crate) fn kill_found<F: Found>(&mut self, found: &F, but: Option<Dot>) -> u64
-        ensures lives { (d : Dot) → map.get self.new.lives d ≡ killed_by (but_for but (F.found found.now)) d (map.get self.old.lives d) }
+        ensures lives { (d : Dot)
+            → map.get self.new.lives d ≡ killed_by (but_for but (F.found found.now)) d (map.get self.old.lives d) }
         ensures counts { self.new.counts ≡ self.old.counts }
         ensures killed { result ≡ count_by (λ r. but_for but (F.found found.now) r.0 r.1) (live_rows self.old.lives) }
     {
@@ -203,8 +206,10 @@ impl<S: DotSet> State<S> {
     ) -> Result<(), Fault>
         ensures numbers { OnOk result (AreRaised self.old.counts (place key.now replica which) by self.new.counts) }
         ensures lives { self.new.lives ≡ self.old.lives }
-        ensures refusal { let due = count_fault (number self.old.counts (place key.now replica which) + by) in MatchResult result (λ _. due ≡ None) (IsDue due) }
-        ensures room { makes_pair (number self.old.counts (place key.now replica P)) (number self.old.counts (place key.now replica N)) by ≡ false → result ≢ Err Memory }
+        ensures refusal { let due = count_fault (number self.old.counts (place key.now replica which) + by) in
+            MatchResult result (λ _. due ≡ None) (IsDue due) }
+        ensures room { makes_pair (number self.old.counts (place key.now replica P))
+            (number self.old.counts (place key.now replica N)) by ≡ false → result ≢ Err Memory }
         ensures err { OnErr result (self.new ≡ self.old) }
     {
         self.counts.raise(key, replica, which, by)

@@ -1,16 +1,22 @@
 -- A tree that goes with the live rows where a delta is joined in.
-use Rattle.std.proofs.Common.{◌≡◌, Bool, true, false, cond, not, ◌&&◌, ◌||◌, List, [], ◌∷◌, refl, sym, ◌∙◌, ap}
-use Rattle.std.specs.Prelude.{Option, Some, None, filter}
+use Rattle.std.proofs.Common.{◌≡◌, Bool, true, false, cond, not, ◌&&◌, ◌||◌, List, [], ◌∷◌, refl, sym, ◌∙◌, ap, subst, OnOk, OnErr}
+use Rattle.std.specs.Prelude.{Option, Some, None, Result, Ok, Err, filter}
 use Rattle.std.specs.List.{list_any}
 use Rattle.std.specs.Cmp.Lexicographic.{pointwise}
 use Rattle.std.specs.FinMap as map
 use Rattle.std.specs.Str.{bytes_eq}
+use Rattle.rds_names.specs.declared.fault.Fault.{Fault}
 use Rattle.rds_names.specs.Conditions.{and_true, and_left, and_right}
 use Rattle.rds_names.specs.declared.entry.Entry.{Entry}
 use Rattle.rds_dots.specs.declared.dot.Dot.{Dot}
 use Rattle.rds_dots.specs.Sets.{same_dot as dot_is}
 use Rattle.rds_life.specs.Life.{Life, Live, Dead, Lived, is_dead, join_life, live_rows}
+use Rattle.rds_state.specs.Coordinates.{join}
+use Rattle.rds_state.specs.Fits.{ReplicaValue}
+use Rattle.rds_state.specs.Value.{StateValue, coordinates, size}
 use Rattle.rds_state.proofs.CountLemmas.{same_dot-tied}
+use Rattle.rds_state.proofs.JoinLaws.{same_value}
+use Rattle.rds_state.proofs.Nothing.{joins_nothing}
 use Rattle.rds_tree.specs.Cuts.{is_leaf, IsCut}
 use Rattle.rds_tree.specs.Growing.{row_of, Holds}
 use Rattle.rds_tree.specs.Row.{Row, Adds}
@@ -179,6 +185,27 @@ module _ (a b : Lived) where
         without.any t ∙ same.any t ∙ holds.any (λ row. t row && not (is_one_of coming row))
         ∙ any_alike (λ r. t (row_of r) && not (is_one_of coming (row_of r))) (λ r. t (row_of r)) a (λ d e live. ap (λ x. t (row_of (d, e)) && not x) (no_coming d e live) ∙ and_yes (t (row_of (d, e))));
   }
+
+-- the same, where the lives that led to the change are known to be these
+module _ (a b here there : Lived) (here_is : here ≡ a) (there_is : there ≡ b) (old mid new : List Row) (rows : List (Dot × Entry)) (holds : Holds (live_rows a) old) (comes_is : rows ≡ rows_unseen here (live_rows there)) where
+  rows_come : rows ≡ rows_unseen a (live_rows b)
+  rows_come = comes_is ∙ ap (λ (v : Lived). rows_unseen v (live_rows there)) here_is ∙ ap (λ (v : Lived). rows_unseen a (live_rows v)) there_is
+
+  pub holds_joined : (c : Lived) (dead : List (Dot × Entry)) → dead ≡ rows_dead there (live_rows here) → IsWith rows old mid → IsWithout dead mid new → ((d : Dot) → map.get c d ≡ join_life (map.get a d) (map.get b d)) → Holds (live_rows c) new
+  holds_joined c dead dies_is with without joined =
+      let rows_die = dies_is ∙ ap (λ (v : Lived). rows_dead v (live_rows here)) there_is ∙ ap (λ (v : Lived). rows_dead b (live_rows v)) here_is in
+      holds_taken a b c old mid new holds (subst (λ xs. IsWith xs old mid) rows_come with) (subst (λ xs. IsWithout xs mid new) rows_die without) joined
+
+  pub holds_refused : AreSameBut rows old mid → IsWithout rows mid new → Holds (live_rows a) new
+  holds_refused same without = holds_untaken a b old mid new holds (subst (λ xs. AreSameBut xs old mid) rows_come same) (subst (λ xs. IsWithout xs mid new) rows_come without)
+
+-- a delta without components leaves the tree as it is
+pub holds_nothing : (old new : ReplicaValue) (d : StateValue) (tree : List Row) (r : Result (Unit {0}) Fault) → size d ≡ 0
+    → OnOk r (coordinates new.state ≡ join (coordinates old.state) (coordinates d)) → OnErr r (new ≡ old)
+    → Holds (live_rows old.state.lives) tree → Holds (live_rows new.state.lives) tree
+holds_nothing old new d tree (Ok x) none ok err holds =
+    subst (λ (v : StateValue). Holds (live_rows v.lives) tree) (sym (same_value new.state old.state (ok ∙ sym (joins_nothing d none old.state)))) holds
+holds_nothing old new d tree (Err f) none ok err holds = subst (λ (v : ReplicaValue). Holds (live_rows v.state.lives) tree) (sym err) holds
 
 -- ---- one row after another
 

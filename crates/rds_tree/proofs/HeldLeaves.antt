@@ -34,7 +34,8 @@ use Rattle.rds_tree.specs.View.{is_kind, values_once}
 use Rattle.rds_tree.proofs.Grouped.{and_yes, none_held, or_assoc, or_false, over}
 use Rattle.rds_tree.proofs.Kids.{flip_eq}
 use Rattle.rds_tree.proofs.SameView.{any-filter_map, passes}
-use Rattle.rds_tree.proofs.ScalarOrder.{scalars_exact, scalars_total}
+use Rattle.rds_names.proofs.Orders.{scalars_exact}
+use Rattle.rds_tree.proofs.ScalarOrder.{scalars_total}
 use Rattle.rds_tree.proofs.Witness.{both_ways}
 
 abbrev Held : Type 0

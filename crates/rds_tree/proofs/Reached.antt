@@ -10,7 +10,8 @@ use Rattle.rds_names.specs.declared.entry.Kind.{Kind}
 use Rattle.rds_names.specs.declared.entry.Kind.TheVariants.{Reg, Elem}
 use Rattle.rds_tree.specs.Document.{Placed}
 use Rattle.rds_names.specs.Orders.{scalar_cmp}
-use Rattle.rds_tree.proofs.ScalarOrder.{scalars_total, scalars_exact}
+use Rattle.rds_names.proofs.Orders.{scalars_exact}
+use Rattle.rds_tree.proofs.ScalarOrder.{scalars_total}
 use Rattle.rds_tree.specs.View.{below, below_path, is_kind, same_key, step_into, value_here}
 use Rattle.rds_names.specs.Conditions.{equal_of}
 use Rattle.rds_tree.proofs.Kids.{itself}

@@ -16,7 +16,8 @@ use Rattle.rds_state.specs.Document.{IsCounted, value_in}
 use Rattle.rds_state.specs.Value.{StateValue, coordinates}
 use Rattle.rds_tree.specs.Document.{Placed, entries_in, keys_once, counted_keys, sums_of, document}
 use Rattle.rds_names.specs.Orders.{scalar_cmp}
-use Rattle.rds_tree.proofs.ScalarOrder.{scalars_total, scalars_exact}
+use Rattle.rds_names.proofs.Orders.{scalars_exact}
+use Rattle.rds_tree.proofs.ScalarOrder.{scalars_total}
 use Rattle.rds_tree.specs.Shows.{IsLiveAt, has_value, regs_in, sets_in, sum_at}
 use Rattle.rds_tree.specs.View.{below, below_path, children, entries_view, first_key, keys_in, same_key, value_here, values_by_key, values_here, view_of, with_key}
 use Rattle.rds_tree.proofs.Kids.{itself}

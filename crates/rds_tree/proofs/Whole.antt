@@ -1,14 +1,14 @@
 -- A tree of all live dots.
-use Rattle.std.proofs.Common.{◌≡◌, ℕ, Bool, true, List, [], ◌∷◌, refl, sym, ◌∙◌, ap, subst}
+use Rattle.std.proofs.Common.{◌≡◌, ℕ, List, [], ◌∷◌, refl, ◌∙◌, ap, subst}
 use Rattle.std.specs.Prelude.{ℤ, Option}
 use Rattle.rds_names.specs.declared.entry.Entry.{Entry}
 use Rattle.rds_dots.specs.declared.dot.Dot.{Dot}
 use Rattle.rds_tree.specs.Document.{entries_in}
 use Rattle.rds_tree.specs.Growing.{rows_under, Holds}
 use Rattle.rds_tree.specs.Row.{Row, placed_all}
-use Rattle.rds_tree.specs.View.{below_path, entries_view}
+use Rattle.rds_tree.specs.View.{entries_view}
 use Rattle.rds_tree.proofs.Growing.{same_members}
-use Rattle.rds_tree.proofs.SameView.{SameMembers, same_below_path, same_entries_view}
+use Rattle.rds_tree.proofs.SameView.{same_below_path, same_entries_view}
 
 rows_under_root : (rows : List (Dot × Entry)) → rows_under [] rows ≡ rows
 rows_under_root [] = refl

@@ -63,7 +63,8 @@ impl ByValue {
 
     /// Adds a dot of a value.
     pub fn insert(&mut self, alloc: Global, value: Scalar, dot: Dot) -> Result<(), Fault>
-        ensures ok { OnOk result ((t : Scalar → Dot → Bool) → any_held t self.new ≡ (t value dot || any_held t self.old)) }
+        ensures ok { OnOk result ((t : Scalar → Dot → Bool)
+            → any_held t self.new ≡ (t value dot || any_held t self.old)) }
         ensures err { OnErr result (self.new ≡ self.old) }
         ensures memory { IfErr result (λ fault. fault ≡ Memory) }
     {
@@ -92,14 +93,16 @@ impl ByValue {
 
     /// Takes out those dots of all values that are meant. Takes no memory.
     pub fn cut(&mut self, which: Which)
-        ensures { (t : Scalar → Dot → Bool) → any_held t self.new ≡ any_held (λ v d. t v d && not (means which d)) self.old }
+        ensures { (t : Scalar → Dot → Bool)
+            → any_held t self.new ≡ any_held (λ v d. t v d && not (means which d)) self.old }
     {
         self.values.retain(|_value, dots| keep_others(dots, which));
     }
 
     /// Takes out those dots of one value that are meant. Takes no memory.
     pub fn cut_value(&mut self, value: &Scalar, which: Which)
-        ensures { (t : Scalar → Dot → Bool) → any_held t self.new ≡ any_held (λ v d. t v d && not (at_value value.now v && means which d)) self.old }
+        ensures { (t : Scalar → Dot → Bool)
+            → any_held t self.new ≡ any_held (λ v d. t v d && not (at_value value.now v && means which d)) self.old }
     {
         let dots = match self.values.get_mut(value) {
             Some(dots) => dots,
@@ -113,7 +116,8 @@ impl ByValue {
 
     /// Makes the dots of all values dead, but the one that is to stay.
     pub fn kill<S: DotSet>(&self, lives: &mut Lives<S>, but: Option<Dot>)
-        ensures { (d : Dot) → map.get lives.new d ≡ killed_by (but_for but (among_held (λ v. true) self.now)) d (map.get lives.old d) }
+        ensures { (d : Dot) → map.get lives.new d ≡ killed_by (but_for but (among_held
+            (λ v. true) self.now)) d (map.get lives.old d) }
     {
         for dots in self.values.values() {
             dots.kill(lives, but);
@@ -122,7 +126,8 @@ impl ByValue {
 
     /// Makes the dots of one value dead, but the one that is to stay.
     pub fn kill_value<S: DotSet>(&self, value: &Scalar, lives: &mut Lives<S>, but: Option<Dot>)
-        ensures { (d : Dot) → map.get lives.new d ≡ killed_by (but_for but (among_held (at_value value.now) self.now)) d (map.get lives.old d) }
+        ensures { (d : Dot) → map.get lives.new d
+            ≡ killed_by (but_for but (among_held (at_value value.now) self.now)) d (map.get lives.old d) }
     {
         let _in_order = self.values.len();
         match self.values.get(value) {

@@ -17,15 +17,12 @@ pub fn sums_of(alloc: Global, counts: &Counts) -> Result<Sums, Fault>
     let mut sums = Vec::new(alloc);
     let mut last: Option<&Key> = None;
     let mut rest = counts.rows();
-    'adding: loop {
-        let (row, later) = match rest.split_first() {
-            Some(parts) => parts,
-            None => return Ok(Sums::from_rows(sums)),
-        };
+    'adding: while let Some((row, later)) = rest.split_first() {
         if !is_last(last, &row.key) {
             sums.push((row.key.copy(alloc)?, counts.value(&row.key)))?;
             last = Some(&row.key);
         }
         rest = later;
     }
+    Ok(Sums::from_rows(sums))
 }

@@ -70,7 +70,8 @@ pub fn add_leaf(
     value: &Scalar,
     dot: Dot,
 ) -> Result<(), Fault>
-    ensures ok { OnOk result (let leaf : Leaf = record { kind = kind; value = value.now; dot = dot } in Adds tree.old (row_at path.now leaf) tree.new) }
+    ensures ok { OnOk result
+        (let leaf : Leaf = record { kind = kind; value = value.now; dot = dot } in Adds tree.old (row_at path.now leaf) tree.new) }
     ensures err { OnErr result (tree.new ≡ tree.old) }
     ensures memory { IfErr result (λ fault. fault ≡ Memory) }
 {

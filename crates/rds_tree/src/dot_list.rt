@@ -74,7 +74,8 @@ impl DotList {
 
     /// Makes the dots dead, but the one that is to stay.
     pub fn kill<S: DotSet>(&self, lives: &mut Lives<S>, but: Option<Dot>)
-        ensures { (d : Dot) → map.get lives.new d ≡ killed_by (but_for but (among_dots self.now)) d (map.get lives.old d) }
+        ensures { (d : Dot) → map.get lives.new d
+            ≡ killed_by (but_for but (among_dots self.now)) d (map.get lives.old d) }
     {
         kill_each(&self.dots, lives, but);
     }

@@ -26,11 +26,16 @@ pub fn edit<S: DotSet>(
 ) -> Result<Edited, Fault>
     requires holds { Holds (live_rows replica.old.state.lives) tree.old }
     ensures holds { Holds (live_rows replica.new.state.lives) tree.new }
-    ensures joined { IfOk result (λ _. JoinsEffect (coordinates replica.old.state) replica.old.own command.now (coordinates replica.new.state)) }
-    ensures dot { IfOk result (λ edited. edited.dot ≡ new_dot (coordinates replica.old.state) replica.old.own command.now) }
-    ensures killed { IfOk result (λ edited. edited.killed ≡ count_by (λ r. covers command.now r.1) (live_rows replica.old.state.lives)) }
-    ensures refusal { let due = refusal (coordinates replica.old.state) replica.old.own command.now in MatchResult result (λ _. due ≡ None) (IsDue due) }
-    ensures room { needs_room (coordinates replica.old.state) replica.old.own command.now ≡ false → result ≢ Err Memory }
+    ensures joined { IfOk result
+        (λ _. JoinsEffect (coordinates replica.old.state) replica.old.own command.now (coordinates replica.new.state)) }
+    ensures dot { IfOk result
+        (λ edited. edited.dot ≡ new_dot (coordinates replica.old.state) replica.old.own command.now) }
+    ensures killed { IfOk result
+        (λ edited. edited.killed ≡ count_by (λ r. covers command.now r.1) (live_rows replica.old.state.lives)) }
+    ensures refusal { let due = refusal (coordinates replica.old.state) replica.old.own command.now in
+        MatchResult result (λ _. due ≡ None) (IsDue due) }
+    ensures room { needs_room (coordinates replica.old.state) replica.old.own command.now ≡ false
+        → result ≢ Err Memory }
     ensures roster { replica.new.roster ≡ replica.old.roster }
     ensures own { replica.new.own ≡ replica.old.own }
     ensures err { OnErr result (replica.new ≡ replica.old) }
@@ -55,14 +60,20 @@ fn put<S: DotSet>(
     kind: Kind,
     value: &Scalar,
 ) -> Result<Edited, Fault>
-    requires parts { let parts : Parts = record { path = path.now; kind = kind; value = value.now } in parts_of command.now ≡ Some parts }
+    requires parts { let parts : Parts = record { path = path.now; kind = kind; value = value.now } in
+        parts_of command.now ≡ Some parts }
     requires holds { Holds (live_rows replica.old.state.lives) tree.old }
     ensures holds { Holds (live_rows replica.new.state.lives) tree.new }
-    ensures joined { IfOk result (λ _. JoinsEffect (coordinates replica.old.state) replica.old.own command.now (coordinates replica.new.state)) }
-    ensures dot { IfOk result (λ edited. edited.dot ≡ new_dot (coordinates replica.old.state) replica.old.own command.now) }
-    ensures killed { IfOk result (λ edited. edited.killed ≡ count_by (λ r. covers command.now r.1) (live_rows replica.old.state.lives)) }
-    ensures refusal { let due = refusal (coordinates replica.old.state) replica.old.own command.now in MatchResult result (λ _. due ≡ None) (IsDue due) }
-    ensures room { needs_room (coordinates replica.old.state) replica.old.own command.now ≡ false → result ≢ Err Memory }
+    ensures joined { IfOk result
+        (λ _. JoinsEffect (coordinates replica.old.state) replica.old.own command.now (coordinates replica.new.state)) }
+    ensures dot { IfOk result
+        (λ edited. edited.dot ≡ new_dot (coordinates replica.old.state) replica.old.own command.now) }
+    ensures killed { IfOk result
+        (λ edited. edited.killed ≡ count_by (λ r. covers command.now r.1) (live_rows replica.old.state.lives)) }
+    ensures refusal { let due = refusal (coordinates replica.old.state) replica.old.own command.now in
+        MatchResult result (λ _. due ≡ None) (IsDue due) }
+    ensures room { needs_room (coordinates replica.old.state) replica.old.own command.now ≡ false
+        → result ≢ Err Memory }
     ensures roster { replica.new.roster ≡ replica.old.roster }
     ensures own { replica.new.own ≡ replica.old.own }
     ensures err { OnErr result (replica.new ≡ replica.old) }
@@ -101,11 +112,16 @@ fn kill<S: DotSet>(
     requires parts { parts_of command.now ≡ None }
     requires holds { Holds (live_rows replica.old.state.lives) tree.old }
     ensures holds { Holds (live_rows replica.new.state.lives) tree.new }
-    ensures joined { IfOk result (λ _. JoinsEffect (coordinates replica.old.state) replica.old.own command.now (coordinates replica.new.state)) }
-    ensures dot { IfOk result (λ edited. edited.dot ≡ new_dot (coordinates replica.old.state) replica.old.own command.now) }
-    ensures killed { IfOk result (λ edited. edited.killed ≡ count_by (λ r. covers command.now r.1) (live_rows replica.old.state.lives)) }
-    ensures refusal { let due = refusal (coordinates replica.old.state) replica.old.own command.now in MatchResult result (λ _. due ≡ None) (IsDue due) }
-    ensures room { needs_room (coordinates replica.old.state) replica.old.own command.now ≡ false → result ≢ Err Memory }
+    ensures joined { IfOk result
+        (λ _. JoinsEffect (coordinates replica.old.state) replica.old.own command.now (coordinates replica.new.state)) }
+    ensures dot { IfOk result
+        (λ edited. edited.dot ≡ new_dot (coordinates replica.old.state) replica.old.own command.now) }
+    ensures killed { IfOk result
+        (λ edited. edited.killed ≡ count_by (λ r. covers command.now r.1) (live_rows replica.old.state.lives)) }
+    ensures refusal { let due = refusal (coordinates replica.old.state) replica.old.own command.now in
+        MatchResult result (λ _. due ≡ None) (IsDue due) }
+    ensures room { needs_room (coordinates replica.old.state) replica.old.own command.now ≡ false
+        → result ≢ Err Memory }
     ensures roster { replica.new.roster ≡ replica.old.roster }
     ensures own { replica.new.own ≡ replica.old.own }
     ensures err { OnErr result (replica.new ≡ replica.old) }
@@ -130,11 +146,16 @@ fn raise<S: DotSet>(
     requires raise { IsRaise command.now }
     requires holds { Holds (live_rows replica.old.state.lives) tree.old }
     ensures holds { Holds (live_rows replica.new.state.lives) tree.new }
-    ensures joined { IfOk result (λ _. JoinsEffect (coordinates replica.old.state) replica.old.own command.now (coordinates replica.new.state)) }
-    ensures dot { IfOk result (λ edited. edited.dot ≡ new_dot (coordinates replica.old.state) replica.old.own command.now) }
-    ensures killed { IfOk result (λ edited. edited.killed ≡ count_by (λ r. covers command.now r.1) (live_rows replica.old.state.lives)) }
-    ensures refusal { let due = refusal (coordinates replica.old.state) replica.old.own command.now in MatchResult result (λ _. due ≡ None) (IsDue due) }
-    ensures room { needs_room (coordinates replica.old.state) replica.old.own command.now ≡ false → result ≢ Err Memory }
+    ensures joined { IfOk result
+        (λ _. JoinsEffect (coordinates replica.old.state) replica.old.own command.now (coordinates replica.new.state)) }
+    ensures dot { IfOk result
+        (λ edited. edited.dot ≡ new_dot (coordinates replica.old.state) replica.old.own command.now) }
+    ensures killed { IfOk result
+        (λ edited. edited.killed ≡ count_by (λ r. covers command.now r.1) (live_rows replica.old.state.lives)) }
+    ensures refusal { let due = refusal (coordinates replica.old.state) replica.old.own command.now in
+        MatchResult result (λ _. due ≡ None) (IsDue due) }
+    ensures room { needs_room (coordinates replica.old.state) replica.old.own command.now ≡ false
+        → result ≢ Err Memory }
     ensures roster { replica.new.roster ≡ replica.old.roster }
     ensures own { replica.new.own ≡ replica.old.own }
     ensures err { OnErr result (replica.new ≡ replica.old) }

@@ -16,11 +16,17 @@ ghost use Rattle.rds_tree.specs.View.{view_of};
 /// each once, and there is no key without values; keys are ordered by their bytes, and values so: null, false, true,
 /// integers by size, texts by their bytes. The function does nothing: its contract is these laws.
 pub fn views_show_what_is_live()
-    ensures regs { (v : StateValue) (path : List (List ℕ)) (key : List ℕ) (value : Scalar) → (has_value (regs_in (view_of (document v) path)) key value ≡ true) ↔ IsLiveAt v (path ++ key ∷ []) Reg value }
-    ensures sets { (v : StateValue) (path : List (List ℕ)) (key : List ℕ) (value : Scalar) → (has_value (sets_in (view_of (document v) path)) key value ≡ true) ↔ IsLiveAt v (path ++ key ∷ []) Elem value }
-    ensures maps { (v : StateValue) (path : List (List ℕ)) (key : List ℕ) (shown : Shown) → (map_at (maps_in (view_of (document v) path)) key ≡ Some shown) ↔ (IsLiveBelow v (path ++ key ∷ []) × (shown ≡ view_of (document v) (path ++ key ∷ []))) }
+    ensures regs { (v : StateValue) (path : List (List ℕ)) (key : List ℕ) (value : Scalar)
+        → (has_value (regs_in (view_of (document v) path)) key value ≡ true) ↔ IsLiveAt v (path ++ key ∷ []) Reg value }
+    ensures sets { (v : StateValue) (path : List (List ℕ)) (key : List ℕ) (value : Scalar)
+        → (has_value (sets_in (view_of (document v) path)) key value ≡ true)
+        ↔ IsLiveAt v (path ++ key ∷ []) Elem value }
+    ensures maps { (v : StateValue) (path : List (List ℕ)) (key : List ℕ) (shown : Shown)
+        → (map_at (maps_in (view_of (document v) path)) key ≡ Some shown)
+        ↔ (IsLiveBelow v (path ++ key ∷ []) × (shown ≡ view_of (document v) (path ++ key ∷ []))) }
     ensures root { (v : StateValue) → HasSums v (counters_in (view_of (document v) [])) }
-    ensures below_root { (v : StateValue) (key : List ℕ) (path : List (List ℕ)) → counters_in (view_of (document v) (key ∷ path)) ≡ None }
+    ensures below_root { (v : StateValue) (key : List ℕ) (path : List (List ℕ))
+        → counters_in (view_of (document v) (key ∷ path)) ≡ None }
     ensures order { (v : StateValue) (path : List (List ℕ)) → IsInOrder (view_of (document v) path) }
     ensures scalars { IsScalarOrder scalar_cmp }
 {}
@@ -28,5 +34,6 @@ pub fn views_show_what_is_live()
 /// States in which the same entries are live and the same keys are counted, with the same sums, show the same at every
 /// path, whichever dots and replicas these come from. The function does nothing: its contract is this law.
 pub fn same_documents_show_the_same()
-    ensures { (v w : StateValue) → AreSameDocument v w → (path : List (List ℕ)) → view_of (document v) path ≡ view_of (document w) path }
+    ensures { (v w : StateValue) → AreSameDocument v w → (path : List (List ℕ))
+        → view_of (document v) path ≡ view_of (document w) path }
 {}

@@ -119,7 +119,8 @@ impl Leaves {
     /// Makes the dots dead that a command covers here, but the one that is to stay.
     pub fn kill_covered<S: DotSet>(&self, command: &Command, lives: &mut Lives<S>, but: Option<Dot>)
         requires { is_deep command.now ≡ false }
-        ensures { (d : Dot) → map.get lives.new d ≡ killed_by (but_for but (among_leaves (covered_leaf command.now) self.now)) d (map.get lives.old d) }
+        ensures { (d : Dot) → map.get lives.new d
+            ≡ killed_by (but_for but (among_leaves (covered_leaf command.now) self.now)) d (map.get lives.old d) }
     {
         match command {
             Command::Set(_, _) => self.regs.kill(lives, but),
@@ -133,7 +134,8 @@ impl Leaves {
 
     /// Makes all dots dead, but the one that is to stay.
     pub fn kill<S: DotSet>(&self, lives: &mut Lives<S>, but: Option<Dot>)
-        ensures { (d : Dot) → map.get lives.new d ≡ killed_by (but_for but (among_leaves (λ l. true) self.now)) d (map.get lives.old d) }
+        ensures { (d : Dot) → map.get lives.new d ≡ killed_by (but_for but (among_leaves
+            (λ l. true) self.now)) d (map.get lives.old d) }
     {
         self.regs.kill(lives, but);
         self.elems.kill(lives, but);

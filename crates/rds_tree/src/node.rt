@@ -150,7 +150,8 @@ impl Node {
         lives: &mut Lives<S>,
         but: Option<Dot>,
     )
-        ensures { (d : Dot) → map.get lives.new d ≡ killed_by (but_for but (found_at (covered_leaf command.now) (is_deep command.now) path.now self.now)) d (map.get lives.old d) }
+        ensures { (d : Dot) → map.get lives.new d
+            ≡ killed_by (but_for but (found_at (covered_leaf command.now) (is_deep command.now) path.now self.now)) d (map.get lives.old d) }
     {
         match path.split_first() {
             None => {
@@ -182,7 +183,8 @@ impl Node {
 
     /// The node at the end of the path, unless nothing stands there or below.
     pub fn at(&self, path: &[Key]) -> Option<&Node>
-        ensures { MatchOption result (below_path path.now (placed_all self.now) ≡ []) (λ node. placed_all node.now ≡ below_path path.now (placed_all self.now)) }
+        ensures { MatchOption result (below_path path.now (placed_all self.now) ≡ [])
+            (λ node. placed_all node.now ≡ below_path path.now (placed_all self.now)) }
     {
         match path.split_first() {
             None => Some(self),
@@ -203,7 +205,8 @@ impl Node {
         path: &[Key],
         counters: Option<Sums>,
     ) -> Result<View, Fault>
-        ensures ok { IfOk result (λ view. fits 8 self.now ≡ true → shown view ≡ entries_view counters path.now (placed_all self.now)) }
+        ensures ok { IfOk result
+            (λ view. fits 8 self.now ≡ true → shown view ≡ entries_view counters path.now (placed_all self.now)) }
         ensures memory { IfErr result (λ fault. fault ≡ Memory) }
     {
         if let Some(node) = self.at(path) {
@@ -232,7 +235,8 @@ impl Node {
 
     /// The view of what stands below, with these counters.
     pub fn view(&self, alloc: Global, counters: Option<Sums>) -> Result<View, Fault>
-        ensures ok { IfOk result (λ view. (n : ℕ) → fits n self.now ≡ true → shown view ≡ shown_to n counters (placed_all self.now)) }
+        ensures ok { IfOk result
+            (λ view. (n : ℕ) → fits n self.now ≡ true → shown view ≡ shown_to n counters (placed_all self.now)) }
         ensures memory { IfErr result (λ fault. fault ≡ Memory) }
     {
         let mut maps = Vec::new(alloc);

@@ -1,21 +1,22 @@
 //! A delta that is joined into a replica and into the tree of its live dots.
-ghost use Rattle.std.specs.Prelude.{◌≡◌, None, IfOk, IfErr, IsOk, OnOk, OnErr, length};
+ghost use Rattle.std.specs.Prelude.{◌≡◌, ◌≢◌, max, Err, IfOk, IfErr, IsOk, OnOk, OnErr, length};
 ghost use Rattle.std.specs.FinMap as map;
-ghost use Rattle.rds_life.specs.Life.{live_rows, AreCompatible};
+ghost use Rattle.rds_life.specs.Life.{Lived, live_rows};
 ghost use Rattle.rds_names.specs.declared.fault.Fault.TheVariants.{Memory};
-ghost use Rattle.rds_state.specs.Ahead.{Ahead, TakeGives};
+ghost use Rattle.rds_state.specs.Ahead.{TakeGives};
 ghost use Rattle.rds_state.specs.Coordinates.{join};
 ghost use Rattle.rds_state.specs.Fits.{Fits};
+ghost use Rattle.rds_state.specs.Grown.{longer, TakeWithGives};
 ghost use Rattle.rds_state.specs.Value.{coordinates, size};
 ghost use Rattle.rds_tree.specs.Growing.{Holds};
-ghost use Rattle.rds_tree.specs.Taken.{is_unseen, rows_unseen, AreSameBut, IsWith, IsWithout};
+ghost use Rattle.rds_tree.specs.Taken.{is_unseen, rows_dead, rows_unseen, AreSameBut, IsWith, IsWithout};
 
 use crate::document::add_leaf;
 use crate::node::Node;
 use crate::pick::OneLeaf;
 use rds_dots::{Dot, DotSet};
 use rds_life::{LiveRows, Lives, Rank};
-use rds_names::{Entry, Fault};
+use rds_names::{Entry, Fault, Roster};
 use rds_state::{Replica, State};
 use std::alloc::Global;
 
@@ -30,7 +31,8 @@ pub fn take<S: DotSet>(
     requires fits { Fits (length replica.old.roster.names) (coordinates delta.now) }
     requires holds { Holds (live_rows replica.old.state.lives) tree.old }
     ensures holds { Holds (live_rows replica.new.state.lives) tree.new }
-    ensures ok { OnOk result (coordinates replica.new.state ≡ join (coordinates replica.old.state) (coordinates delta.now)) }
+    ensures ok { OnOk result (coordinates replica.new.state
+        ≡ join (coordinates replica.old.state) (coordinates delta.now)) }
     ensures roster { replica.new.roster ≡ replica.old.roster }
     ensures own { replica.new.own ≡ replica.old.own }
     ensures gives { TakeGives replica.old.state replica.old.own delta.now result }
@@ -41,39 +43,97 @@ pub fn take<S: DotSet>(
         return Ok(());
     }
     replica.may_take(delta)?;
-    let here = replica.state().lives();
-    let there = delta.lives();
-    let dying = here.rows_dead_in(alloc, there)?;
-    let coming = rows_unseen(alloc, there.live(), here)?;
-    if let Err(fault) = add_and_take(alloc, replica, tree, delta, &coming) {
-        cut_leaves(tree, &coming);
+    let change = Change::by(alloc, replica.state().lives(), delta.lives())?;
+    change.begin(alloc, tree)?;
+    if let Err(fault) = replica.take(delta) {
+        change.undo(tree);
         return Err(fault);
     }
-    cut_leaves(tree, &dying);
+    change.finish(tree);
     Ok(())
 }
 
-/// Adds the leaves of the dots that come to the tree, and joins the delta into the replica.
-fn add_and_take<S: DotSet>(
+/// Joins a delta into the replica and its tree as `take` does, where the delta comes with a roster.
+pub fn take_with<S: DotSet>(
     alloc: Global,
     replica: &mut Replica<S>,
     tree: &mut Node,
+    roster: Roster,
     delta: &State<S>,
-    coming: &[(Dot, Entry)],
 ) -> Result<(), Fault>
-    requires fits { Fits (length replica.old.roster.names) (coordinates delta.now) }
-    requires ahead { Ahead replica.old.state replica.old.own delta.now None }
-    requires compatible { AreCompatible replica.old.state.lives delta.now.lives }
-    ensures added { OnOk result (IsWith coming.now tree.old tree.new) }
-    ensures some { AreSameBut coming.now tree.old tree.new }
-    ensures ok { OnOk result (coordinates replica.new.state ≡ join (coordinates replica.old.state) (coordinates delta.now)) }
-    ensures roster { replica.new.roster ≡ replica.old.roster }
+    requires fits { Fits (max (length replica.old.roster.names) (length roster.names)) (coordinates delta.now) }
+    requires holds { Holds (live_rows replica.old.state.lives) tree.old }
+    ensures holds { Holds (live_rows replica.new.state.lives) tree.new }
+    ensures ok { OnOk result (coordinates replica.new.state
+        ≡ join (coordinates replica.old.state) (coordinates delta.now)) }
+    ensures roster { OnOk result (replica.new.roster ≡ longer replica.old.roster roster) }
     ensures own { replica.new.own ≡ replica.old.own }
-    ensures gives { TakeGives replica.old.state replica.old.own delta.now result }
+    ensures gives { TakeWithGives replica.old.roster roster replica.old.state replica.old.own delta.now result }
+    ensures nothing { size delta.now ≡ 0 → result ≢ Err Memory }
     ensures err { OnErr result (replica.new ≡ replica.old) }
 {
-    add_leaves(alloc, tree, coming)?;
-    replica.take(delta)
+    if delta.components() == 0 {
+        return replica.take_with(roster, delta);
+    }
+    replica.may_take_with(&roster, delta)?;
+    let change = Change::by(alloc, replica.state().lives(), delta.lives())?;
+    change.begin(alloc, tree)?;
+    if let Err(fault) = replica.take_with(roster, delta) {
+        change.undo(tree);
+        return Err(fault);
+    }
+    change.finish(tree);
+    Ok(())
+}
+
+/// What a join changes in the tree: copies of the rows of dots that die by it, and of those that come.
+#[derive(Drop)]
+struct Change {
+    dying: Vec<(Dot, Entry)>,
+    coming: Vec<(Dot, Entry)>,
+}
+
+impl Change {
+    /// What a join of the lives there changes here.
+    fn by<S: DotSet>(alloc: Global, here: &Lives<S>, there: &Lives<S>) -> Result<Change, Fault>
+        ensures dying { IfOk result (λ change. change.dying.items ≡ rows_dead there.now (live_rows here.now)) }
+        ensures coming { IfOk result (λ change. change.coming.items ≡ rows_unseen here.now (live_rows there.now)) }
+        ensures memory { IfErr result (λ fault. fault ≡ Memory) }
+    {
+        Ok(Change {
+            dying: here.rows_dead_in(alloc, there)?,
+            coming: rows_unseen(alloc, there.live(), here)?,
+        })
+    }
+
+    /// Adds the leaves of the dots that come, or none where there is no memory.
+    fn begin(&self, alloc: Global, tree: &mut Node) -> Result<(), Fault>
+        ensures ok { OnOk result (IsWith self.now.coming.items tree.old tree.new) }
+        ensures some { OnOk result (AreSameBut self.now.coming.items tree.old tree.new) }
+        ensures err { OnErr result ((here there : Lived) → self.now.coming.items ≡ rows_unseen here (live_rows there)
+            → Holds (live_rows here) tree.old → Holds (live_rows here) tree.new) }
+        ensures memory { IfErr result (λ fault. fault ≡ Memory) }
+    {
+        if let Err(fault) = add_leaves(alloc, tree, &self.coming) {
+            self.undo(tree);
+            return Err(fault);
+        }
+        Ok(())
+    }
+
+    /// Takes the leaves of the dots that come out again. Takes no memory.
+    fn undo(&self, tree: &mut Node)
+        ensures { IsWithout self.now.coming.items tree.old tree.new }
+    {
+        cut_leaves(tree, &self.coming);
+    }
+
+    /// Takes the leaves of the dots that die out. Takes no memory.
+    fn finish(&self, tree: &mut Node)
+        ensures { IsWithout self.now.dying.items tree.old tree.new }
+    {
+        cut_leaves(tree, &self.dying);
+    }
 }
 
 /// Adds the leaves of live dots to the tree, as far as memory goes.
@@ -83,15 +143,12 @@ fn add_leaves(alloc: Global, tree: &mut Node, rows: &[(Dot, Entry)]) -> Result<(
     ensures memory { IfErr result (λ fault. fault ≡ Memory) }
 {
     let mut rest = rows;
-    'adding: loop {
-        let (row, later) = match rest.split_first() {
-            Some(parts) => parts,
-            None => return Ok(()),
-        };
+    'adding: while let Some((row, later)) = rest.split_first() {
         let entry = &row.1;
         add_leaf(alloc, tree, &entry.path, entry.kind, &entry.value, row.0)?;
         rest = later;
     }
+    Ok(())
 }
 
 /// Takes the leaves of live dots out of the tree. Takes no memory.

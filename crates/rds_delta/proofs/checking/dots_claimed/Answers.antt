@@ -11,14 +11,15 @@ use Rattle.rds_delta.proofs.checking.dots_claimed.Goals as goal
 pub returns-in-None : goal.returns-in-None
 returns-in-None g c = claim_end (rank_in c.args.digest.now) c.args.lives.now c.args.rows.now c.claiming.after c.claiming.rest.now c.in-None.ensures.next c.claiming.invariant
 
-pub returns-in-None-split_first : goal.returns-in-None-split_first
-returns-in-None-split_first g c = claim_other (rank_in c.args.digest.now) c.args.lives.now c.args.rows.now c.claiming.after c.in-Some.next c.claiming.rest.now c.in-Some.ensures.next c.claiming.invariant (λ later h.
-    let n = c.in-None-split_first.ensures.cases in let e = ap length h in omega (arith, n, e))
+pub returns-in_err-row-in-Some : goal.returns-in_err-row-in-Some
+returns-in_err-row-in-Some g c =
+    rw c.from_residual.ensures (claim_other (rank_in c.args.digest.now) c.args.lives.now c.args.rows.now c.claiming.after c.in-Some.next c.claiming.rest.now c.in-Some.ensures.next c.claiming.invariant (λ later h.
+    let n = c.in_err-row-in-Some.ensures.cases in let e = ap length h in omega (arith, n, e)))
 
 pub returns-then-not-is_row : goal.returns-then-not-is_row
 returns-then-not-is_row g c = claim_other (rank_in c.args.digest.now) c.args.lives.now c.args.rows.now c.claiming.after c.in-Some.next c.claiming.rest.now c.in-Some.ensures.next c.claiming.invariant (λ later h.
-    let a = c.in-Some-split_first.ensures.cases.0 in
-    let same : c.in-Some-split_first.parts.0.now ≡ row_of c.in-Some.next = cc (a, h) in
+    let a = c.in_ok-row-in-Some.ensures.cases.0 in
+    let same : c.in_ok-row-in-Some.row.now ≡ row_of c.in-Some.next = cc (a, h) in
     false≢true (sym c.if-not-is_row.true ∙ c.is_row.ensures.1 same))
 
 pub claiming-smaller : goal.claiming-smaller
@@ -30,9 +31,9 @@ pub claiming-preserved : goal.claiming-preserved
 claiming-preserved g c =
     let peer = rank_in c.args.digest.now in
     let v = c.args.lives.now in
-    let later = c.in-Some-split_first.parts.1.now in
-    let same : c.in-Some-split_first.parts.0.now ≡ row_of c.in-Some.next = c.is_row.ensures.0 c.if-not-is_row.false in
-    let is = c.in-Some-split_first.ensures.cases.0 ∙ ap (λ (r : Row). r ∷ later) same in
+    let later = c.in_ok-row-in-Some.later.now in
+    let same : c.in_ok-row-in-Some.row.now ≡ row_of c.in-Some.next = c.is_row.ensures.0 c.if-not-is_row.false in
+    let is = c.in_ok-row-in-Some.ensures.cases.0 ∙ ap (λ (r : Row). r ∷ later) same in
     let high : row_above c.in-Some.next ≡ true = sym c.is_above.ensures ∙ c.if-not-is_above.false in
     subst (λ (d : Dot). IsClaimedTo peer v c.args.rows.now (Some d) later) (sym c.last.ensures)
     (claim_step peer v c.args.rows.now c.claiming.after c.in-Some.next later c.in-Some.ensures.next high (subst (IsClaimedTo peer v c.args.rows.now c.claiming.after) is c.claiming.invariant))

@@ -2,7 +2,8 @@ use Rattle.std.proofs.Common.{◌≤◌, ◌∙◌, ap, sym, subst, length}
 use Rattle.std.specs.FinSet as set
 use Rattle.rds_dots.specs.Lacking.{dot_of}
 use Rattle.rds_delta.specs.Higher.{unseen_rows}
-use Rattle.rds_delta.proofs.LeapLemmas.{front_rises, no_more, rows_leapt}
+use Rattle.rds_life.proofs.GapRows.{front_rises, no_more}
+use Rattle.rds_delta.proofs.LeapLemmas.{rows_leapt}
 use Rattle.rds_delta.proofs.deltas.past_run.Goals as goal
 
 pub stretch_from-requires : goal.stretch_from-requires

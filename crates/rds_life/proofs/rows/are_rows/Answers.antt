@@ -3,8 +3,8 @@ use Rattle.std.proofs.lemmas.Grind.{common_steps}
 use Rattle.rds_life.proofs.LivedLemmas.{fits_tell}
 use Rattle.rds_life.proofs.rows.are_rows.Goals as goal
 
-pub returns-in-None : goal.returns-in-None
-returns-in-None g c = fits_tell true (g.S.DotSet.contents c.args.seen.now) c.args.rows.now (grind (arith, common_steps))
+pub returns : goal.returns
+returns g c = fits_tell true (g.S.DotSet.contents c.args.seen.now) c.args.rows.now (grind (arith, common_steps))
 
 pub returns-then-not-contains : goal.returns-then-not-contains
 returns-then-not-contains g c = fits_tell false (g.S.DotSet.contents c.args.seen.now) c.args.rows.now (search rules)

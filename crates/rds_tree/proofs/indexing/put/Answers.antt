@@ -1,5 +1,4 @@
 use Rattle.std.proofs.Common.{sym, subst, Some}
-use Rattle.rds_life.specs.Killed.{is_same}
 use Rattle.rds_life.specs.Life.{live_rows}
 use Rattle.rds_state.specs.Chosen.{Parts}
 use Rattle.rds_state.specs.Fits.{ReplicaValue}

@@ -1,9 +1,6 @@
-use Rattle.std.proofs.Common.{◌∙◌, ap, rules}
-use Rattle.std.specs.FinMap as map
-use Rattle.std.specs.FinSet as set
-use Rattle.rds_life.specs.Life.{lived, join_life}
+use Rattle.std.proofs.Common.{rules}
 use Rattle.rds_life.proofs.Bounds.{least_above}
-use Rattle.rds_life.proofs.LivedLemmas.{get-joined, rows-joined}
+use Rattle.rds_life.proofs.LivedLemmas.{is_joined, rows-joined}
 use Rattle.rds_life.proofs.lives.Lives.joined.Goals as goal
 
 pub invariant_of-result : goal.invariant_of-result
@@ -17,18 +14,8 @@ invariant_of-result g c =
 pub returns-clause-ok : goal.returns-clause-ok
 returns-clause-ok g c =
     let contents = g.S.DotSet.contents in
-    let s = contents c.self.inside.seen in
-    let t = contents c.other.inside.seen in
-    let a = c.self.inside.rows in
-    let b = c.other.inside.rows in
-    record {
-      each_dot = λ d.
-          ap (λ u. map.get (lived u c.in_ok-rows.rows) d) c.in_ok-seen.ensures.ok
-          ∙ ap (λ r. map.get (lived (set.union s t) r) d) c.in_ok-rows.ensures.ok
-          ∙ get-joined s t a b c.self.invariant c.other.invariant d
-          ∙ ap (λ l. join_life (map.get l d) (map.get (lived t b) d)) c.self.view_is
-          ∙ ap (λ l. join_life (map.get c.args.self.now d) (map.get l d)) c.other.view_is;
-    }
+    is_joined (contents c.self.inside.seen) (contents c.other.inside.seen) c.self.inside.rows c.other.inside.rows c.self.invariant c.other.invariant
+    (contents c.in_ok-seen.seen) c.in_ok-rows.rows c.args.self.now c.args.other.now c.in_ok-seen.ensures.ok c.in_ok-rows.ensures.ok c.self.view_is c.other.view_is
 
 pub returns-clause-least : goal.returns-clause-least
 returns-clause-least g c = least_above _ _ _ (search rules) (returns-clause-ok g c)

@@ -1,4 +1,4 @@
-use Rattle.std.proofs.Common.{◌≡◌, not, rules, ◌&&◌, ◌∙◌, ap}
+use Rattle.std.proofs.Common.{not, rules, ◌&&◌, ◌∙◌, ap}
 use Rattle.rds_tree.specs.Held.{any_held, means}
 use Rattle.rds_tree.proofs.Grouped.{any-retained, full-retained}
 use Rattle.rds_tree.proofs.by_value.ByValue.cut.Goals as goal

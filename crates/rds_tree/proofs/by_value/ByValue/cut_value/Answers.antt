@@ -4,7 +4,7 @@ use Rattle.rds_tree.specs.Row.{are_full}
 use Rattle.rds_tree.specs.Held.{any_held, at_value, means}
 use Rattle.rds_tree.proofs.Cutting.{full_of, not_full}
 use Rattle.rds_tree.proofs.Grouped.{any-removed, cut_none, cut_some, full-removed, full-set_value}
-use Rattle.rds_tree.proofs.ScalarOrder.{scalars_exact}
+use Rattle.rds_names.proofs.Orders.{scalars_exact}
 use Rattle.rds_tree.proofs.by_value.ByValue.cut_value.Goals as goal
 
 pub invariant_of-self-then-is_empty : goal.invariant_of-self-then-is_empty

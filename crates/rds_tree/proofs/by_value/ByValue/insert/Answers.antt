@@ -6,7 +6,7 @@ use Rattle.rds_tree.specs.Held.{any_held, at_value}
 use Rattle.rds_tree.specs.Row.{is_full, are_full}
 use Rattle.rds_tree.proofs.Adding.{on_ok, on_err}
 use Rattle.rds_tree.proofs.Grouped.{any-grown, any-inserted, full-inserted, full-pushed, set_value-same}
-use Rattle.rds_tree.proofs.ScalarOrder.{scalars_exact}
+use Rattle.rds_names.proofs.Orders.{scalars_exact}
 use Rattle.rds_tree.proofs.by_value.ByValue.insert.Goals as goal
 
 pub invariant_of-self : goal.invariant_of-self

@@ -5,7 +5,7 @@ use Rattle.rds_dots.specs.Dots.{dot_cmp}
 use Rattle.rds_tree.specs.Held.{among_dots, among_held, at_value}
 use Rattle.rds_tree.proofs.Grouped.{found_none, found_some}
 use Rattle.rds_tree.proofs.Killing.{killed_never, killed_same}
-use Rattle.rds_tree.proofs.ScalarOrder.{scalars_exact}
+use Rattle.rds_names.proofs.Orders.{scalars_exact}
 use Rattle.rds_tree.proofs.by_value.ByValue.kill_value.Goals as goal
 
 pub returns-in-None : goal.returns-in-None

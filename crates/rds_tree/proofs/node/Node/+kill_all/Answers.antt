@@ -1,4 +1,4 @@
-use Rattle.std.proofs.Common.{◌≡◌, ◌∙◌, ap, map, sym, refl, false, true}
+use Rattle.std.proofs.Common.{◌≡◌, ◌∙◌, ap, map, sym, true}
 use Rattle.std.specs.FinMap as finite
 use Rattle.rds_life.specs.Killed.{but_for, killed_by}
 use Rattle.rds_tree.specs.Cuts.{among, among_each, among_leaves}

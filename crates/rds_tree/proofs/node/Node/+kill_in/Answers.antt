@@ -1,4 +1,4 @@
-use Rattle.std.proofs.Common.{◌∙◌, sym, ap}
+use Rattle.std.proofs.Common.{◌∙◌, sym}
 use Rattle.std.specs.FinMap as map
 use Rattle.rds_tree.specs.Cuts.{among, among_leaves, covered_leaf, found_at, is_deep}
 use Rattle.rds_tree.proofs.Killing.{found_child, found_deep, found_here, found_none, killed_never, killed_same}

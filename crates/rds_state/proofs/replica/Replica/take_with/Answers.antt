@@ -1,0 +1,11 @@
+use Rattle.std.proofs.Common.{subst}
+use Rattle.rds_state.specs.Fits.{ReplicaValue}
+use Rattle.rds_state.specs.Grown.{OneBegins}
+use Rattle.rds_state.proofs.GrownLemmas.{gives_with}
+use Rattle.rds_state.proofs.replica.Replica.take_with.Goals as goal
+
+pub returns-then-len-clause-gives : goal.returns-then-len-clause-gives
+returns-then-len-clause-gives g c =
+    let old = c.args.self.now in
+    let meets = subst (λ (v : ReplicaValue). OneBegins v.roster c.args.roster) c.self.view_is c.in_ok-may_meet.ensures in
+    gives_with old.roster c.args.roster old.state old.own c.args.delta.now c.take.result meets c.take.ensures.gives
