@@ -5,8 +5,8 @@ use Rattle.std.proofs.lemmas.Bool.{leb-true, ltb-true, le-leb, lt-ltb}
 use Rattle.rds_dots.specs.Dots.{Dots}
 use Rattle.rds_names.specs.Conditions.{and_true, and_left, and_right}
 use Rattle.rds_dots.specs.Runs.{runs_of}
-use Rattle.rds_bytes.specs.declared.rows.Gap.{Gap}
-use Rattle.rds_bytes.specs.declared.rows.DotRow.{DotRow}
+use Rattle.rds_bytes.specs.declared.dots.Gap.{Gap}
+use Rattle.rds_bytes.specs.declared.dots.DotRow.{DotRow}
 use Rattle.rds_bytes.specs.Values.{AreDotsOf}
 use Rattle.rds_bytes.specs.DotRows.{rows_from, CanCountAll}
 use Rattle.rds_bytes.specs.RowDots.{dots_of_rows}
@@ -16,7 +16,7 @@ use Rattle.rds_bytes.specs.Reading.{byte_at, number_at, then_at, when_at, is_bet
 use Rattle.rds_bytes.proofs.Format.{IsFormat, byte_format, number16, number32, number64, then_format, pair_format, made_format, when_format, refit}
 use Rattle.rds_bytes.proofs.Lists.{AllAfter, list_format}
 use Rattle.rds_bytes.proofs.PartFormats.{last-push}
-use Rattle.rds_bytes.proofs.RowAlgebra.{GapsStand, RowStands, RowsStand}
+use Rattle.rds_bytes.specs.SetRows.{GapsStand, RowStands, RowsStand}
 use Rattle.rds_bytes.proofs.RowSets.{numbers, few, numbers_below, numbers_of, dots_there, dots_back}
 
 -- ---- gaps

@@ -16,6 +16,10 @@ use Rattle.rds_bytes.specs.Values.{IsKeyed, IsCountRowOf, AreCountsOf}
 pub all_more : {A : Type 0} (test : A → Bool) (x : A) (xs : List A) → test x ≡ true → list_all test xs ≡ true → list_all test (x ∷ xs) ≡ true
 all_more test x xs is all = and_true _ _ is all
 
+pub all_pass : {A : Type 0} (test : A → Bool) (xs : List A) → AllByRecursion (λ x. test x ≡ true) xs → list_all test xs ≡ true
+all_pass test [] all = refl
+all_pass test (x ∷ xs) all = all_more test x xs all.0 (all_pass test xs all.1)
+
 pub all_taken : {A : Type 0} (test : A → Bool) (xs : List A) (i : ℕ) (x : A) → slice_get xs i ≡ Some x → test x ≡ true → list_all test (take i xs) ≡ true → list_all test (take (suc i) xs) ≡ true
 all_taken test [] i x is passes all = absurd (let none : ⊥ = cc in none)
 all_taken test (y ∷ ys) zero x is passes all = (let same : y ≡ x = cc in and_true _ _ (ap test same ∙ passes) refl)

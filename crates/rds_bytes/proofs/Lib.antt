@@ -17,3 +17,4 @@ mod RowsLive
 mod RowsRead
 mod RunSteps
 pub mod Sequences
+mod SetRowLemmas

@@ -2,18 +2,18 @@
 use Rattle.std.proofs.Common.{◌≡◌, ℕ, zero, suc, ◌-◌, ◌^◌, ◌<◌, ◌≤◌, Bool, true, false, not, cond, eqb, leb, ◌&&◌, ◌||◌, List, [], ◌∷◌, ◌++◌, length, Option, Some, None, refl, sym, ap, subst, ◌∙◌, arith, length-append, append_assoc}
 use Rattle.std.specs.Prelude.{slice_get}
 use Rattle.std.specs.List.{list_any, list_all}
-use Rattle.std.specs.Str.{bytes_eq, is_utf8, IsAscii}
+use Rattle.std.specs.Str.{bytes_eq, is_utf8}
 use Rattle.std.specs.Cmp.Lexicographic.{nat_list_eq_equiv}
 use Rattle.std.proofs.lemmas.Bool.{leb-true, ltb-true, le-leb, lt-ltb, false≢true}
 use Rattle.std.proofs.lemmas.List.{append-nil}
-use Rattle.std.proofs.lemmas.Bool.Decides.{nat_tests}
-use Rattle.std.proofs.lemmas.Str.{IsUtf8-from_ascii, is_utf8-from_IsUtf8}
+use Rattle.std.proofs.lemmas.Str.{is_utf8-from_IsUtf8}
 use Rattle.std.proofs.lemmas.Slice.Eq.{bytes_eq-Decides}
 use Rattle.std.proofs.lemmas.List.Folds.{list_any-append}
 use Rattle.rds_names.specs.Key.{is_key}
 use Rattle.rds_names.specs.Name.{is_name, is_name_byte, starts_with_letter}
 use Rattle.rds_names.specs.Roster.{RosterValue, all_differ, are_names}
 use Rattle.rds_names.specs.Conditions.{and_true, and_left, and_right}
+use Rattle.rds_names.proofs.Ascii.{name_is_text}
 use Rattle.rds_bytes.specs.Spelling as spell
 use Rattle.rds_bytes.specs.Spelling.{byte_text, short_text, names_text, roster_text, magic}
 use Rattle.rds_bytes.specs.Reading as read
@@ -47,15 +47,6 @@ key_format =
     (((below_byte 1 64 (length t) (omega arith) len, len), and_left (is_utf8 t) (is_key t) h), key)))
     (when_format is_key _ _ _ (short_format 1 64))
 
--- a name is ASCII, so it is text
-small : (b : ℕ) → is_name_byte b ≡ true → b < 128
-small b h = grind (arith, nat_tests)
-
-all_small : (bs : List ℕ) → list_all is_name_byte bs ≡ true → IsAscii bs
-all_small [] all i = omega arith
-all_small (b ∷ bs) all zero = small b (and_left _ (list_all is_name_byte bs) all)
-all_small (b ∷ bs) all (suc i) = all_small bs (and_right (is_name_byte b) _ all) i
-
 starts_some : (t : List ℕ) → starts_with_letter t ≡ true → leb 1 (length t) ≡ true
 starts_some [] h = absurd (false≢true h)
 starts_some (b ∷ t) h = le-leb 1 (suc (length t)) (omega arith)
@@ -69,8 +60,7 @@ name_parts n h =
     let some = starts_some n (and_left (starts_with_letter n) (leb (length n) 16) front) in
     let few = and_right (starts_with_letter n) (leb (length n) 16) front in
     let len : is_between 1 16 (length n) ≡ true = and_true _ _ some few in
-    let bytes = and_right (starts_with_letter n && leb (length n) 16) (list_all is_name_byte n) h in
-    ((below_byte 1 16 (length n) (omega arith) len, len), is_utf8-from_IsUtf8 n (IsUtf8-from_ascii n (all_small n bytes)))
+    ((below_byte 1 16 (length n) (omega arith) len, len), is_utf8-from_IsUtf8 n (name_is_text n h))
 
 pub name_most : (n : List ℕ) → is_name n ≡ true → length n ≤ 16
 name_most n h = leb-true (length n) 16 (and_right (leb 1 (length n)) _ (name_parts n h).0.1)
@@ -209,22 +199,22 @@ Member = RosterValue × ℕ
 abbrev pub IsMemberPair : Member → Type 0
 IsMemberPair f = IsRoster f.0 × (f.1 < length f.0.names)
 
-abbrev front_parts : Member → List ℕ × Member
-front_parts f = (magic, f)
+abbrev header_parts : Member → List ℕ × Member
+header_parts f = (magic, f)
 
-front_there : (f : Member) → IsMemberPair f → (IsMagic magic × IsMemberPair f) × (f ≡ f)
-front_there f is = (((refl, refl), is), refl)
+header_there : (f : Member) → IsMemberPair f → (IsMagic magic × IsMemberPair f) × (f ≡ f)
+header_there f is = (((refl, refl), is), refl)
 
-front_back : (p : List ℕ × Member) → IsMagic p.0 × IsMemberPair p.1 → IsMemberPair p.1 × (front_parts p.1 ≡ p)
-front_back p h = (h.1, ap (λ (m : List ℕ). let q : List ℕ × Member = (m, p.1) in q) ((bytes_eq-Decides magic p.0).0 h.0.1))
+header_back : (p : List ℕ × Member) → IsMagic p.0 × IsMemberPair p.1 → IsMemberPair p.1 × (header_parts p.1 ≡ p)
+header_back p h = (h.1, ap (λ (m : List ℕ). let q : List ℕ × Member = (m, p.1) in q) ((bytes_eq-Decides magic p.0).0 h.0.1))
 
 pub member_format : IsFormat read.member_at (λ f. spell.member_text f.0 f.1) IsMemberPair
 unfolding read.member_at
 member_format = then_format _ _ _ _ _ _ roster_format own_format
 
-pub front_format : IsFormat read.front_at (λ f. spell.front_text f.0 f.1) IsMemberPair
-unfolding read.front_at
-front_format = made_format (λ p. p.1) front_parts _ _ _ IsMemberPair front_there front_back (pair_format _ _ _ _ _ _ magic_format member_format)
+pub header_format : IsFormat read.header_at (λ f. spell.header_text f.0 f.1) IsMemberPair
+unfolding read.header_at
+header_format = made_format (λ p. p.1) header_parts _ _ _ IsMemberPair header_there header_back (pair_format _ _ _ _ _ _ magic_format member_format)
 
 -- ---- the last of the parts before
 

@@ -7,24 +7,11 @@ use Rattle.std.proofs.lemmas.List.Concat.{flat_map-cons}
 use Rattle.rds_dots.specs.declared.dot.Run.{Run}
 use Rattle.rds_dots.specs.Runs.{place, start, stop, begins_past, are_maximal}
 use Rattle.rds_dots.specs.RunFacts.{Bounds, parts_of, maximal_by, lt_of, lt_by}
-use Rattle.rds_bytes.specs.declared.rows.Gap.{Gap}
-use Rattle.rds_bytes.specs.declared.rows.DotRow.{DotRow}
+use Rattle.rds_bytes.specs.declared.dots.Gap.{Gap}
+use Rattle.rds_bytes.specs.declared.dots.DotRow.{DotRow}
 use Rattle.rds_bytes.specs.DotRows.{a_gap, gap_before, gaps_in, top_in, row_in, rows_from}
 use Rattle.rds_bytes.specs.RowDots.{run_before, runs_between, row_runs}
-
--- gaps in order from a least number on, below the top, with a dot between any two
-abbrev pub GapsStand : ℕ → ℕ → List Gap → Type 0
-GapsStand least top [] = Unit {0}
-GapsStand least top (g ∷ gs) = ((least ≤ g.lo) × ((g.lo ≤ g.hi) × (g.hi < top))) × GapsStand (g.hi + 2) top gs
-
--- a row of a replica whose number is below another
-abbrev pub RowStands : ℕ → DotRow → Type 0
-RowStands numbers r = (r.replica < numbers) × ((1 ≤ r.top) × ((r.top ≤ 281474976710655) × GapsStand 1 r.top r.gaps))
-
--- rows in the order of their replicas, from a least one on
-abbrev pub RowsStand : ℕ → ℕ → List DotRow → Type 0
-RowsStand numbers least [] = Unit {0}
-RowsStand numbers least (r ∷ rs) = ((least ≤ r.replica) × RowStands numbers r) × RowsStand numbers (r.replica + 1) rs
+use Rattle.rds_bytes.specs.SetRows.{GapsStand, RowStands, RowsStand}
 
 abbrev pub a_run : ℕ → ℕ → ℕ → Run
 a_run replica lo hi = record { replica = replica; lo = lo; hi = hi }

@@ -13,8 +13,8 @@ use Rattle.rds_dots.specs.declared.dot.Dot.{Dot}
 use Rattle.rds_dots.specs.declared.dot.Run.{Run}
 use Rattle.rds_dots.specs.Dots.{Dots, in_run}
 use Rattle.rds_dots.specs.Runs.{covers}
-use Rattle.rds_bytes.specs.declared.rows.Gap.{Gap}
-use Rattle.rds_bytes.specs.declared.rows.DotRow.{DotRow}
+use Rattle.rds_bytes.specs.declared.dots.Gap.{Gap}
+use Rattle.rds_bytes.specs.declared.dots.DotRow.{DotRow}
 use Rattle.rds_bytes.specs.Inserting.{IsInserted}
 use Rattle.rds_bytes.specs.RowDots.{first_after_gap, run_before, runs_between, row_runs}
 use Rattle.rds_bytes.specs.Reading.{Reader, Fails, number_at, byte_at, when_at, rows_after, list_at, last, gap_at, gaps_at, least_replica, is_next_replica, numbers_at, dot_row_at, dot_rows_at}

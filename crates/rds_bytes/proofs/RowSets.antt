@@ -17,12 +17,13 @@ use Rattle.rds_dots.specs.RunFacts.{Bounds, parts_of}
 use Rattle.rds_dots.specs.Runs.{covers, are_maximal, runs_of}
 use Rattle.rds_dots.specs.RunsOf.{are_runs, runs_are, covered_is_dot}
 use Rattle.rds_dots.specs.Sets.{contains_list, dot_limits, lists-run}
-use Rattle.rds_bytes.specs.declared.rows.Gap.{Gap}
-use Rattle.rds_bytes.specs.declared.rows.DotRow.{DotRow}
+use Rattle.rds_bytes.specs.declared.dots.Gap.{Gap}
+use Rattle.rds_bytes.specs.declared.dots.DotRow.{DotRow}
 use Rattle.rds_bytes.specs.Values.{AreDotsOf}
 use Rattle.rds_bytes.specs.DotRows.{rows_from}
 use Rattle.rds_bytes.specs.RowDots.{runs_between, row_runs, dots_of_runs, dots_of_rows}
-use Rattle.rds_bytes.proofs.RowAlgebra.{RowsStand, rows_opens, rows_back, runs_back, rows_stand, before_some, before_none}
+use Rattle.rds_bytes.specs.SetRows.{RowsStand}
+use Rattle.rds_bytes.proofs.RowAlgebra.{rows_opens, rows_back, runs_back, rows_stand, before_some, before_none}
 
 is_run_of : (r : Run) → Bounds r → IsRun r
 is_run_of r b = record { from_one = b.one; rises = b.rises; within = b.most }

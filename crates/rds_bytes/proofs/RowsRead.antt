@@ -7,12 +7,13 @@ use Rattle.rds_dots.specs.Dots.{Dots, dot_cmp}
 use Rattle.rds_dots.specs.Order.{dots_total, dots_exact}
 use Rattle.rds_dots.specs.Runs.{covers}
 use Rattle.rds_bytes.specs.Inserting.{IsInserted}
-use Rattle.rds_bytes.specs.declared.rows.DotRow.{DotRow}
+use Rattle.rds_bytes.specs.declared.dots.DotRow.{DotRow}
 use Rattle.rds_bytes.specs.RowDots.{row_runs, dots_of_rows}
 use Rattle.rds_bytes.specs.Reading.{Reader, rows_after, list_at, dot_rows_at, dots_at}
 use Rattle.rds_bytes.proofs.Format.{IsBytes}
 use Rattle.rds_bytes.proofs.DotFormats.{rows_format}
-use Rattle.rds_bytes.proofs.RowAlgebra.{RowsStand, rows_opens}
+use Rattle.rds_bytes.specs.SetRows.{RowsStand}
+use Rattle.rds_bytes.proofs.RowAlgebra.{rows_opens}
 use Rattle.rds_bytes.proofs.RowLoops.{or_none, list_is}
 use Rattle.rds_bytes.proofs.RowSets.{numbers, few, contains-runs}
 

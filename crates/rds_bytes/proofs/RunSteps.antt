@@ -1,6 +1,8 @@
 -- Walking the maximal runs of a set, one after the other.
-use Rattle.std.proofs.Common.{◌≡◌, ℕ, ◌+◌, ◌-◌, ◌*◌, ◌<◌, ◌≤◌, ◌≢◌, ◌^◌, true, false, cond, ltb, List, [], ◌∷◌, ◌++◌, length, Option, Some, None, refl, sym, ap, subst, ◌∙◌, arith, inl, inr, append_assoc, length-append}
+use Rattle.std.proofs.Common.{◌≡◌, ℕ, ◌+◌, ◌-◌, ◌*◌, ◌<◌, ◌≤◌, ◌≢◌, ◌^◌, Bool, true, false, cond, eqb, ltb, List, [], ◌∷◌, ◌++◌, length, Option, Some, None, refl, sym, ap, subst, ◌∙◌, arith, inl, inr, append_assoc, length-append}
 use Rattle.std.specs.List.{flat_map}
+use Rattle.std.specs.Bool.{then_some}
+use Rattle.std.specs.Option.{MatchOption}
 use Rattle.std.specs.Ordering.{is_lt, nat_cmp, ordering_then}
 use Rattle.std.proofs.lemmas.Bool.Decides.{nat_tests, eqb_tells}
 use Rattle.std.proofs.lemmas.List.{append-nil}
@@ -15,9 +17,9 @@ use Rattle.rds_dots.specs.Runs.{are_maximal, first_after, runs_of}
 use Rattle.rds_dots.specs.RunsAfter.{runs_left}
 use Rattle.rds_dots.specs.RunsOf.{are_runs}
 use Rattle.rds_dots.proofs.RunWalks.{all_left, none_left, one_left}
-use Rattle.rds_bytes.specs.declared.rows.Gap.{Gap}
-use Rattle.rds_bytes.specs.declared.rows.DotRow.{DotRow}
-use Rattle.rds_bytes.specs.DotRows.{gap_before, gaps_in, top_in, rows_from, row_of_run, row_end, CanCountAll, next_of, IsNext}
+use Rattle.rds_bytes.specs.declared.dots.Gap.{Gap}
+use Rattle.rds_bytes.specs.declared.dots.DotRow.{DotRow}
+use Rattle.rds_bytes.specs.DotRows.{gap_before, gaps_in, top_in, rows_from, row_of_run, row_end, CanCountAll, next_of, IsNext, Follows}
 use Rattle.rds_bytes.specs.Spelling.{gap_text, dot_row_text}
 use Rattle.rds_bytes.proofs.RowAlgebra.{ne_eqb, rows_skip, rows_open, gaps_same, gaps_other, top_same, top_other}
 
@@ -82,6 +84,17 @@ module _ (s : Dots) (dots : AreOnlyDots s) where
   pub follows_none : (q : Run) → first_after (Some (last_of q)) (runs_of s) ≡ None → next_of q.replica (left s (Some (last_of q))) ≡ None
   follows_none q is = ap (next_of q.replica) (stop_at (Some (last_of q)) is)
 
+  -- what is kept of the run that comes next by a test of its replica
+  pub follows_kept : (q : Run) (found kept : Option Run) → found ≡ first_after (Some (last_of q)) (runs_of s) → (Gives : Run → Bool → Type 0) → ((x : Run) (b : Bool) → Gives x b → b ≡ eqb x.replica q.replica)
+      → MatchOption found (kept ≡ None) (λ x. (b : Bool) × Gives x b × (kept ≡ then_some b x)) → Follows s q kept
+  follows_kept q None kept is Gives tells none = rw none (follows_none q (sym is))
+  follows_kept q (Some x) kept is Gives tells (b, gives, kept_is) =
+      let test = tells x b gives in
+      elim (eqb_tells x.replica q.replica) [
+        | inl e ↦ (let all : kept ≡ Some x = kept_is ∙ ap (λ b. then_some b x) (test ∙ e.0) in rw all (follows_some q x (sym is) e.1))
+        | inr ne ↦ (let all : kept ≡ None = kept_is ∙ ap (λ b. then_some b x) (test ∙ ne.0) in rw all (follows_other q x (sym is) ne.1))
+      ]
+
 -- where no run of the replica comes next, its row is at its end
 no_gaps : (ρ : ℕ) (rs : List Run) → next_of ρ rs ≡ None → (least : ℕ) → gaps_in ρ least rs ≡ []
 no_gaps ρ [] none least = refl
@@ -100,94 +113,90 @@ no_top ρ (r ∷ rs) none top = elim (eqb_tells r.replica ρ) [
 before-some : (least lo : ℕ) (gs : List Gap) → gap_before least lo gs ≡ gap_before least lo [] ++ gs
 before-some least lo gs = elim (ltb least lo) as (λ b. let g : Gap = record { lo = least; hi = lo - 1 } in cond b (g ∷ gs) gs ≡ cond b (g ∷ []) [] ++ gs) [ true ↦ refl | false ↦ refl ]
 
--- what is left of a row from a run on
-abbrev pub rest_of : Dots → ℕ → ℕ → Run → List Gap
-rest_of s ρ least r = gaps_in ρ least (r ∷ left s (Some (last_of r)))
+-- the gaps of a replica's row after a run of it
+abbrev pub gaps_after : Dots → ℕ → Run → List Gap
+gaps_after s ρ r = gaps_in ρ (r.hi + 1) (left s (Some (last_of r)))
 
-rest_is : (s : Dots) (ρ least : ℕ) (r : Run) → r.replica ≡ ρ → rest_of s ρ least r ≡ gap_before least r.lo [] ++ gaps_in ρ (r.hi + 1) (left s (Some (last_of r)))
-rest_is s ρ least r e = gaps_same ρ least r (left s (Some (last_of r))) e ∙ before-some least r.lo (gaps_in ρ (r.hi + 1) (left s (Some (last_of r))))
+-- the gap from a least number on, before a run, and those after it
+gaps_from : (s : Dots) (ρ least : ℕ) (r : Run) → r.replica ≡ ρ → gaps_in ρ least (r ∷ left s (Some (last_of r))) ≡ gap_before least r.lo [] ++ gaps_after s ρ r
+gaps_from s ρ least r e = gaps_same ρ least r (left s (Some (last_of r))) e ∙ before-some least r.lo (gaps_after s ρ r)
+
+row_gaps : (s : Dots) (first : Run) → (row_of_run s first).gaps ≡ gap_before 1 first.lo [] ++ gaps_after s first.replica first
+row_gaps s first = gaps_from s first.replica 1 first refl
+
+next_gaps : (s : Dots) (ρ : ℕ) (run next : Run) → run.replica ≡ ρ → IsNext s run next → gaps_after s ρ run ≡ gap_before (run.hi + 1) next.lo [] ++ gaps_after s ρ next
+next_gaps s ρ run next e n = ap (gaps_in ρ (run.hi + 1)) n.left ∙ gaps_from s ρ (run.hi + 1) next (n.same ∙ e)
+
+last_gaps : (s : Dots) (ρ : ℕ) (run : Run) → run.replica ≡ ρ → next_of run.replica (left s (Some (last_of run))) ≡ None → gaps_after s ρ run ≡ []
+last_gaps s ρ run e none = no_gaps ρ (left s (Some (last_of run))) (ap (λ n. next_of n (left s (Some (last_of run)))) (sym e) ∙ none) (run.hi + 1)
 
 -- ---- counting the gaps of a row
 
-pub record IsCountingGaps (s : Dots) (first run : Run) (least gaps : ℕ) : Type 0 where
+pub record IsCountingGaps (s : Dots) (first run : Run) (gaps : ℕ) : Type 0 where
   pub run_is : IsRun run
   pub same : run.replica ≡ first.replica
-  pub low : gaps < least
-  pub most : least ≤ run.hi
-  pub counted : gaps + length (rest_of s first.replica least run) ≡ length (row_of_run s first).gaps
+  pub few : gaps ≤ run.hi
+  pub counted : gaps + length (gaps_after s first.replica run) ≡ length (row_of_run s first).gaps
   pub top : top_in first.replica run.hi (left s (Some (last_of run))) ≡ (row_of_run s first).top
 
-pub gaps_begin : (s : Dots) (first : Run) → IsRun first → IsCountingGaps s first first 1 0
-gaps_begin s first is =
-    let one = is.from_one in
+pub gaps_begin : (s : Dots) (first : Run) (gaps : ℕ) → IsRun first → gaps ≡ length (gap_before 1 first.lo []) → gaps ≤ 1 → IsCountingGaps s first first gaps
+gaps_begin s first gaps is is_gaps one =
+    let from_one = is.from_one in
     let rises = is.rises in
-    record { run_is = is; same = refl; low = omega arith; most = omega arith; counted = omega arith; top = refl }
+    let e = ap length (row_gaps s first) ∙ length-append (gap_before 1 first.lo []) (gaps_after s first.replica first) in
+    record { run_is = is; same = refl; few = omega arith; counted = omega arith; top = refl }
 
-module _ (s : Dots) (first run : Run) (least gaps more : ℕ) (i : IsCountingGaps s first run least gaps) (is_more : more ≡ length (gap_before least run.lo [])) (one : more ≤ 1) where
-  now_counted : (gaps + more) + length (gaps_in first.replica (run.hi + 1) (left s (Some (last_of run)))) ≡ length (row_of_run s first).gaps
-  now_counted =
-      let before = gap_before least run.lo [] in
-      let after = gaps_in first.replica (run.hi + 1) (left s (Some (last_of run))) in
-      let e = ap length (rest_is s first.replica least run i.same) ∙ length-append before after in
-      let so_far = i.counted in omega arith
-
-  pub gaps_fit : gaps + more < 2 ^ 48
-  gaps_fit = let low = i.low in let most = i.most in let within = i.run_is.within in omega arith
-
-  pub gaps_go_on : (next : Run) → IsNext s run next → IsCountingGaps s first next (run.hi + 1) (gaps + more)
-  gaps_go_on next n =
-      let low = i.low in
-      let most = i.most in
+module _ (s : Dots) (first run : Run) (gaps : ℕ) (i : IsCountingGaps s first run gaps) where
+  pub gaps_go_on : (next : Run) (more : ℕ) → IsNext s run next → more ≡ length (gap_before (run.hi + 1) next.lo []) → more ≤ 1 → IsCountingGaps s first next (gaps + more)
+  gaps_go_on next more n is_more one =
+      let few = i.few in
       let higher = n.higher in
+      let counted = i.counted in
+      let e = ap length (next_gaps s first.replica run next i.same n) ∙ length-append (gap_before (run.hi + 1) next.lo []) (gaps_after s first.replica next) in
       record {
         run_is = n.is_run;
         same = n.same ∙ i.same;
-        low = omega arith;
-        most = omega arith;
-        counted = ap (λ (rs : List Run). (gaps + more) + length (gaps_in first.replica (run.hi + 1) rs)) (sym n.left) ∙ now_counted;
+        few = omega arith;
+        counted = omega arith;
         top = sym (top_same first.replica run.hi next (left s (Some (last_of next))) (n.same ∙ i.same)) ∙ ap (top_in first.replica run.hi) (sym n.left) ∙ i.top;
       }
 
-  none_of : next_of run.replica (left s (Some (last_of run))) ≡ None → next_of first.replica (left s (Some (last_of run))) ≡ None
-  none_of none = ap (λ n. next_of n (left s (Some (last_of run)))) (sym i.same) ∙ none
-
-  pub gaps_end : next_of run.replica (left s (Some (last_of run))) ≡ None → gaps + more ≡ length (row_of_run s first).gaps
+  pub gaps_end : next_of run.replica (left s (Some (last_of run))) ≡ None → gaps ≡ length (row_of_run s first).gaps
   gaps_end none =
-      let e = ap length (no_gaps first.replica (left s (Some (last_of run))) (none_of none) (run.hi + 1)) in
-      let so_far = now_counted in omega arith
+      let e = ap length (last_gaps s first.replica run i.same none) in
+      let counted = i.counted in omega arith
 
   pub top_ends : next_of run.replica (left s (Some (last_of run))) ≡ None → run.hi ≡ (row_of_run s first).top
-  top_ends none = sym (no_top first.replica (left s (Some (last_of run))) (none_of none) run.hi) ∙ i.top
+  top_ends none = sym (no_top first.replica (left s (Some (last_of run))) (ap (λ n. next_of n (left s (Some (last_of run)))) (sym i.same) ∙ none) run.hi) ∙ i.top
 
 -- ---- writing the gaps of a row
 
-pub record IsWritingGaps (s : Dots) (first run : Run) (least : ℕ) (out all : List ℕ) : Type 0 where
+pub record IsWritingGaps (s : Dots) (first run : Run) (out all : List ℕ) : Type 0 where
   pub run_is : IsRun run
   pub same : run.replica ≡ first.replica
-  pub written : out ++ flat_map gap_text (rest_of s first.replica least run) ≡ all
+  pub written : out ++ flat_map gap_text (gaps_after s first.replica run) ≡ all
 
-pub writing_begins : (s : Dots) (first : Run) (out : List ℕ) → IsRun first → IsWritingGaps s first first 1 out (out ++ flat_map gap_text (row_of_run s first).gaps)
-writing_begins s first out is = record { run_is = is; same = refl; written = refl }
+-- a gap that was written, and those that are to come
+one_written : (out next_out : List ℕ) (before after all : List Gap) → next_out ≡ out ++ flat_map gap_text before → all ≡ before ++ after → next_out ++ flat_map gap_text after ≡ out ++ flat_map gap_text all
+one_written out next_out before after all more is =
+    ap (λ (t : List ℕ). t ++ flat_map gap_text after) more ∙ append_assoc out (flat_map gap_text before) (flat_map gap_text after)
+    ∙ ap (λ (t : List ℕ). out ++ t) (sym (flat_map-append gap_text before after)) ∙ ap (λ (gs : List Gap). out ++ flat_map gap_text gs) (sym is)
 
-module _ (s : Dots) (first run : Run) (least : ℕ) (out next_out all : List ℕ) (i : IsWritingGaps s first run least out all) (more : next_out ≡ out ++ flat_map gap_text (gap_before least run.lo [])) where
-  now_written : next_out ++ flat_map gap_text (gaps_in first.replica (run.hi + 1) (left s (Some (last_of run)))) ≡ all
-  now_written =
-      let before = gap_before least run.lo [] in
-      let after = gaps_in first.replica (run.hi + 1) (left s (Some (last_of run))) in
-      ap (λ (t : List ℕ). t ++ flat_map gap_text after) more ∙ append_assoc out (flat_map gap_text before) (flat_map gap_text after)
-      ∙ ap (λ (t : List ℕ). out ++ t) (sym (flat_map-append gap_text before after)) ∙ ap (λ (gs : List Gap). out ++ flat_map gap_text gs) (sym (rest_is s first.replica least run i.same)) ∙ i.written
+pub writing_begins : (s : Dots) (first : Run) (out next_out : List ℕ) → IsRun first → next_out ≡ out ++ flat_map gap_text (gap_before 1 first.lo [])
+    → IsWritingGaps s first first next_out (out ++ flat_map gap_text (row_of_run s first).gaps)
+writing_begins s first out next_out is more =
+    record { run_is = is; same = refl; written = one_written out next_out (gap_before 1 first.lo []) (gaps_after s first.replica first) (row_of_run s first).gaps more (row_gaps s first) }
 
-  pub writing_goes_on : (next : Run) → IsNext s run next → IsWritingGaps s first next (run.hi + 1) next_out all
-  writing_goes_on next n = record {
+module _ (s : Dots) (first run : Run) (out all : List ℕ) (i : IsWritingGaps s first run out all) where
+  pub writing_goes_on : (next : Run) (next_out : List ℕ) → IsNext s run next → next_out ≡ out ++ flat_map gap_text (gap_before (run.hi + 1) next.lo []) → IsWritingGaps s first next next_out all
+  writing_goes_on next next_out n more = record {
     run_is = n.is_run;
     same = n.same ∙ i.same;
-    written = ap (λ (rs : List Run). next_out ++ flat_map gap_text (gaps_in first.replica (run.hi + 1) rs)) (sym n.left) ∙ now_written;
+    written = one_written out next_out (gap_before (run.hi + 1) next.lo []) (gaps_after s first.replica next) (gaps_after s first.replica run) more (next_gaps s first.replica run next i.same n) ∙ i.written;
   }
 
-  pub writing_ends : next_of run.replica (left s (Some (last_of run))) ≡ None → next_out ≡ all
-  writing_ends none =
-      let ended = no_gaps first.replica (left s (Some (last_of run))) (ap (λ n. next_of n (left s (Some (last_of run)))) (sym i.same) ∙ none) (run.hi + 1) in
-      sym (append-nil next_out) ∙ ap (λ (gs : List Gap). next_out ++ flat_map gap_text gs) (sym ended) ∙ now_written
+  pub writing_ends : next_of run.replica (left s (Some (last_of run))) ≡ None → out ≡ all
+  writing_ends none = sym (append-nil out) ∙ ap (λ (gs : List Gap). out ++ flat_map gap_text gs) (sym (last_gaps s first.replica run i.same none)) ∙ i.written
 
 -- ---- measuring and writing the rows
 

@@ -6,8 +6,8 @@ use Rattle.rds_dots.specs.declared.dot.Run.{Run}
 use Rattle.rds_dots.specs.Dots.{Dots, IsRun, last_of}
 use Rattle.rds_dots.specs.Runs.{runs_of}
 use Rattle.rds_dots.specs.RunsAfter.{runs_left}
-use Rattle.rds_bytes.specs.declared.rows.Gap.{Gap}
-use Rattle.rds_bytes.specs.declared.rows.DotRow.{DotRow}
+use Rattle.rds_bytes.specs.declared.dots.Gap.{Gap}
+use Rattle.rds_bytes.specs.declared.dots.DotRow.{DotRow}
 
 abbrev pub a_gap : ℕ → ℕ → Gap
 a_gap lo hi = record { lo = lo; hi = hi }
@@ -19,7 +19,8 @@ gap_before least lo gaps = if nat_lt least lo then a_gap least (lo - 1) ∷ gaps
 -- the gaps between the first runs, those of one replica
 abbrev pub gaps_in : ℕ → ℕ → List Run → List Gap
 gaps_in replica least [] = []
-gaps_in replica least (r ∷ rs) = if r.replica == replica then gap_before least r.lo (gaps_in replica (r.hi + 1) rs) else []
+gaps_in replica least (r ∷ rs) =
+    if r.replica == replica then gap_before least r.lo (gaps_in replica (r.hi + 1) rs) else []
 
 -- where the last of the first runs ends, those of one replica
 abbrev pub top_in : ℕ → ℕ → List Run → ℕ
@@ -33,7 +34,8 @@ row_in r rs = record { replica = r.replica; top = top_in r.replica r.hi rs; gaps
 -- the rows of the replicas from a least one on; the first run of each begins its row
 abbrev pub rows_from : ℕ → List Run → List DotRow
 rows_from least [] = []
-rows_from least (r ∷ rs) = if nat_lt r.replica least then rows_from least rs else (row_in r rs ∷ rows_from (r.replica + 1) rs)
+rows_from least (r ∷ rs) =
+    if nat_lt r.replica least then rows_from least rs else (row_in r rs ∷ rows_from (r.replica + 1) rs)
 
 -- the row that begins with a run of a set
 abbrev pub row_of_run : Dots → Run → DotRow

@@ -13,7 +13,8 @@ abbrev pub parts_of : Entry → Parts
 parts_of e = (e.path, (e.kind, e.value))
 
 -- the entry, where the path has one key at least and 8 at most
-abbrev pub entry_where : (p : Parts) (some few : Bool) → nat_le 1 (length p.0) ≡ some → nat_le (length p.0) 8 ≡ few → Option Entry
+abbrev pub entry_where : (p : Parts) (some few : Bool)
+    → nat_le 1 (length p.0) ≡ some → nat_le (length p.0) 8 ≡ few → Option Entry
 entry_where p true true some few =
     Some (record { path = p.0; kind = p.1.0; value = p.1.1; below_root = leb-true _ _ some; within = leb-true _ _ few })
 entry_where p true false some few = None

@@ -3,6 +3,7 @@ pub mod Entries
 pub mod Inserting
 pub mod Reading
 pub mod RowDots
+pub mod SetRows
 pub mod Spelling
 pub mod Values
 pub mod Writing

@@ -23,8 +23,8 @@ use Rattle.std.specs.Ordering.{nat_cmp, ordering_then, is_lt}
 use Rattle.rds_counts.specs.declared.row.CountRow.{CountRow}
 use Rattle.rds_counts.specs.declared.row.TheConstants.{MAX_COUNT}
 use Rattle.rds_counts.specs.Counted.{Counted, counted}
-use Rattle.rds_bytes.specs.declared.rows.Gap.{Gap}
-use Rattle.rds_bytes.specs.declared.rows.DotRow.{DotRow}
+use Rattle.rds_bytes.specs.declared.dots.Gap.{Gap}
+use Rattle.rds_bytes.specs.declared.dots.DotRow.{DotRow}
 use Rattle.rds_bytes.specs.Entries.{entry_of}
 use Rattle.rds_bytes.specs.RowDots.{dots_of_rows}
 use Rattle.rds_bytes.specs.Spelling.{magic}
@@ -88,7 +88,9 @@ byte_at [] = Err Cut
 byte_at (b ∷ rest) = Ok (b, rest)
 
 abbrev pub number_at : Width → Reader ℕ
-number_at w bytes = if nat_lt (length bytes) (byte_len w) then Err Cut else Ok (from_be_bytes w (take (byte_len w) bytes), drop (byte_len w) bytes)
+number_at w bytes =
+    if nat_lt (length bytes) (byte_len w) then Err Cut
+    else Ok (from_be_bytes w (take (byte_len w) bytes), drop (byte_len w) bytes)
 
 -- as many bytes as are asked for
 abbrev pub bytes_at : ℕ → Reader (List ℕ)
@@ -143,9 +145,9 @@ replica_at replicas = when_at (is_number replicas) byte_at
 unfoldable pub member_at : Reader (RosterValue × ℕ)
 member_at = then_at roster_at (λ roster. replica_at (length roster.names))
 
--- all that stands before the dots
-unfoldable pub front_at : Reader (RosterValue × ℕ)
-front_at = made_at (λ p. p.1) (pair_at magic_at member_at)
+-- what stands before the dots: the format, the roster and the own number
+unfoldable pub header_at : Reader (RosterValue × ℕ)
+header_at = made_at (λ p. p.1) (pair_at magic_at member_at)
 
 -- ---- a set of dots
 
@@ -171,7 +173,9 @@ is_end top lo hi = nat_le lo hi && nat_lt hi top
 
 -- the gap that comes next below a top
 unfoldable pub gap_at : ℕ → Option Gap → Reader Gap
-gap_at top before = made_at gap_by (then_at (when_at (nat_le (least_lo before)) (number_at w64)) (λ lo. when_at (is_end top lo) (number_at w64)))
+gap_at top before =
+    made_at gap_by
+    (then_at (when_at (nat_le (least_lo before)) (number_at w64)) (λ lo. when_at (is_end top lo) (number_at w64)))
 
 unfoldable pub gaps_at : ℕ → Reader (List Gap)
 gaps_at top = list_at (number_at w32) (λ before. gap_at top (last before))
@@ -188,7 +192,8 @@ abbrev pub is_next_replica : ℕ → ℕ → ℕ → Bool
 is_next_replica replicas least n = nat_le least n && nat_lt n replicas
 
 unfoldable pub dot_row_at : ℕ → List DotRow → Reader DotRow
-dot_row_at replicas before = made_at dot_row_by (pair_at (when_at (is_next_replica replicas (least_replica (last before))) byte_at) numbers_at)
+dot_row_at replicas before =
+    made_at dot_row_by (pair_at (when_at (is_next_replica replicas (least_replica (last before))) byte_at) numbers_at)
 
 unfoldable pub dot_rows_at : ℕ → Reader (List DotRow)
 dot_rows_at replicas = list_at (number_at w16) (dot_row_at replicas)

@@ -5,8 +5,8 @@ use Rattle.std.specs.FinSet as set
 use Rattle.rds_dots.specs.declared.dot.Run.{Run}
 use Rattle.rds_dots.specs.Dots.{Dots}
 use Rattle.rds_dots.specs.Listed.{dots_of}
-use Rattle.rds_bytes.specs.declared.rows.Gap.{Gap}
-use Rattle.rds_bytes.specs.declared.rows.DotRow.{DotRow}
+use Rattle.rds_bytes.specs.declared.dots.Gap.{Gap}
+use Rattle.rds_bytes.specs.declared.dots.DotRow.{DotRow}
 
 -- the first number after a gap
 abbrev pub first_after_gap : Option Gap → ℕ
@@ -15,7 +15,8 @@ first_after_gap (Some g) = g.hi + 1
 
 -- the dots of a replica from a least one on, before a gap
 abbrev pub run_before : ℕ → ℕ → ℕ → List Run → List Run
-run_before replica least lo rs = if nat_lt least lo then record { replica = replica; lo = least; hi = lo - 1 } ∷ rs else rs
+run_before replica least lo rs =
+    if nat_lt least lo then record { replica = replica; lo = least; hi = lo - 1 } ∷ rs else rs
 
 -- the runs between gaps, and the last one, which ends at the top
 abbrev pub runs_between : ℕ → ℕ → ℕ → List Gap → List Run

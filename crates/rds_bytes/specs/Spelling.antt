@@ -11,8 +11,8 @@ use Rattle.rds_names.specs.declared.scalar.Scalar.TheVariants.{Null, Bool as Tru
 use Rattle.rds_dots.specs.declared.dot.Dot.{Dot}
 use Rattle.rds_dots.specs.Dots.{Dots}
 use Rattle.rds_dots.specs.Runs.{runs_of}
-use Rattle.rds_bytes.specs.declared.rows.Gap.{Gap}
-use Rattle.rds_bytes.specs.declared.rows.DotRow.{DotRow}
+use Rattle.rds_bytes.specs.declared.dots.Gap.{Gap}
+use Rattle.rds_bytes.specs.declared.dots.DotRow.{DotRow}
 use Rattle.rds_bytes.specs.DotRows.{rows_from}
 use Rattle.rds_counts.specs.declared.row.CountRow.{CountRow}
 use Rattle.rds_counts.specs.Counted.{Counted}
@@ -39,9 +39,9 @@ roster_text roster = short_text roster.group ++ names_text roster.names
 abbrev pub member_text : RosterValue → ℕ → List ℕ
 member_text roster own = roster_text roster ++ byte_text own
 
--- all that stands before the dots
-abbrev pub front_text : RosterValue → ℕ → List ℕ
-front_text roster own = magic ++ member_text roster own
+-- what stands before the dots: the format, the roster and the own number
+abbrev pub header_text : RosterValue → ℕ → List ℕ
+header_text roster own = magic ++ member_text roster own
 
 abbrev pub gap_text : Gap → List ℕ
 gap_text g = to_be_bytes w64 g.lo ++ to_be_bytes w64 g.hi

@@ -1,24 +1,27 @@
 //! The counters of a snapshot: a row for each key and replica.
-ghost use Rattle.std.specs.Prelude.{◌≡◌, ◌<◌, ◌^◌, length, IfOk};
-ghost use Rattle.std.specs.Int.{w32, w64};
-ghost use Rattle.rds_counts.specs.Counted.{AreCountRows};
+ghost use Rattle.std.specs.Prelude.{◌≡◌, ◌<◌, ◌^◌, length, IfOk, ℕ, ◌*◌, ◌≤◌};
+ghost use Rattle.std.specs.Int.{w64};
+ghost use Rattle.std.specs.List.{flat_map, AllByRecursion};
+ghost use Rattle.rds_counts.specs.Counted.{AreCountRows, number};
+ghost use Rattle.rds_counts.specs.Place.{Place};
+ghost use Rattle.rds_counts.specs.RowsOf.{count_rows};
 ghost use Rattle.rds_bytes.specs.Reading.{Reads, ReadsExactly, number_at, when_at, last, comes_after_row as is_after_row, is_count as is_count_of, is_second, place_at, counts_at, count_row_at, count_rows_at, counters_at};
+ghost use Rattle.rds_bytes.specs.Values.{AreCountsOf, IsKeyed};
+ghost use Rattle.rds_bytes.specs.Spelling.{count_row_text, counters_text, place_text, counts_text, count_rows_text};
+ghost use Rattle.rds_bytes.specs.Writing.{Adds};
 
-use crate::front::read_key;
+use crate::keys::{key_length, put_key, read_key};
 use crate::list::{PartReader, read_parts};
-use crate::numbers::{read_byte, read_u32, read_u64};
+use crate::numbers::{put_byte, put_u32, put_u64, read_byte, read_u32, read_u64};
 use rds_counts::{CountRow, Counts, MAX_COUNT};
 use rds_names::{Fault, Key};
-use std::alloc::Global;
+use std::alloc::{AllocError, Global};
 
 /// Whether a key and a replica come after those of the last row, as all do where there is none.
 fn comes_after_row(before: &[CountRow], key: &Key, replica: u8) -> bool
     ensures { result ≡ is_after_row (last before.now) key.now replica }
 {
-    match before.last() {
-        Some(row) => row.key.cmp(key).then(row.replica.cmp(&replica)).is_lt(),
-        None => true,
-    }
+    before.last().is_none_or(|row| row.key.cmp(key).then(row.replica.cmp(&replica)).is_lt())
 }
 
 fn read_p(bytes: &[u8]) -> Result<(u64, &[u8]), Fault>
@@ -118,4 +121,69 @@ pub fn read_counters<'a>(
 {
     let (rows, rest) = read_count_rows(alloc, replicas, bytes)?;
     Ok((Counts::with_rows(rows), rest))
+}
+
+fn count_rows_length(rows: &[CountRow]) -> u128
+    ensures length { result ≡ length (flat_map count_row_text rows.now) }
+    ensures most { result ≤ 128 * length rows.now }
+    ensures are_keyed { AllByRecursion IsKeyed rows.now }
+{
+    let mut total = 0;
+    for row in rows {
+        total += 17 + key_length(&row.key) as u128;
+    }
+    total
+}
+
+/// The length of the counters.
+#[tactic(auto, unfolding(crate::specs::Spelling::counters_text))]
+pub fn counters_length(counts: &Counts) -> u128
+    ensures length { result ≡ length (counters_text counts.now) }
+    ensures most { result ≤ 2 ^ 80 }
+    ensures are_counts { (replicas : ℕ) → ((q : Place) → 0 < number counts.now q → q.replica < replicas)
+        → AreCountsOf replicas counts.now }
+{
+    4 + count_rows_length(counts.rows())
+}
+
+/// A key and a replica.
+pub fn put_place(out: &mut Vec<u8>, key: &Key, replica: u8) -> Result<(), AllocError>
+    ensures { Adds out.old.items out.new.items (place_text key.now replica) result }
+{
+    put_key(out, key)?;
+    put_byte(out, replica)
+}
+
+fn put_counts(out: &mut Vec<u8>, p: u64, n: u64) -> Result<(), AllocError>
+    ensures { Adds out.old.items out.new.items (counts_text p n) result }
+{
+    put_u64(out, p)?;
+    put_u64(out, n)
+}
+
+fn put_count_row(out: &mut Vec<u8>, row: &CountRow) -> Result<(), AllocError>
+    ensures { Adds out.old.items out.new.items (count_row_text row.now) result }
+{
+    put_place(out, &row.key, row.replica)?;
+    put_counts(out, row.p, row.n)
+}
+
+fn put_count_rows(out: &mut Vec<u8>, rows: &[CountRow]) -> Result<(), AllocError>
+    requires { length rows.now < 2 ^ 32 }
+    ensures { Adds out.old.items out.new.items (count_rows_text rows.now) result }
+{
+    put_u32(out, rows.len() as u32)?;
+    for row in rows {
+        put_count_row(out, row)?;
+    }
+    Ok(())
+}
+
+/// The counters.
+#[tactic(auto, unfolding(crate::specs::Spelling::counters_text))]
+pub fn put_counters(out: &mut Vec<u8>, counts: &Counts) -> Result<(), AllocError>
+    requires { length (count_rows counts.now) < 2 ^ 32 }
+    ensures { Adds out.old.items out.new.items (counters_text counts.now) result }
+{
+    put_count_rows(out, counts.rows())
 }

@@ -1,25 +1,30 @@
-//! The parts of texts as bytes: numbers, names, sets of dots, the entries of live dots, and counters. What reads a part
-//! (`numbers`, `front`, `rows`, `entries`, `counters`) and what writes it (`putting`, `walking`) meet in its spelling.
+//! The parts of texts as bytes. Each part is read, measured and written in one module.
+//!
+//! To be read in this order: `numbers` and `strings`; `list`, by which parts are read one after the other; `keys`,
+//! `paths`, `scalars`, `entries` and `live_rows`; `counters`; `roster` and `header`; `dots`, and `laws`, which has
+//! their text in the set's own words.
 #![tactic(auto)]
 
 mod counters;
+mod dots;
 mod entries;
-mod front;
+mod header;
+mod keys;
+mod laws;
 mod list;
-mod measuring;
+mod live_rows;
 mod numbers;
-mod putting;
-mod rows;
-mod walking;
+mod paths;
+mod roster;
+mod scalars;
+mod strings;
 
-pub use counters::read_counters;
-pub use entries::read_live_rows;
-pub use front::{MAGIC, read_front, read_key, read_member, read_replica};
+pub use counters::{counters_length, put_counters, put_place, read_counters};
+pub use dots::{measure_dots, put_dots, read_dots};
+pub use header::{MAGIC, put_header, read_header};
+pub use keys::{key_length, read_key};
+pub use laws::sets_are_spelled_by_rows;
 pub use list::{PartReader, read_parts};
-pub use measuring::{counters_length, key_length, live_rows_length, member_length};
-pub use numbers::{read_byte, read_length, read_u32, read_u64};
-pub use putting::{
-    put_byte, put_counters, put_front, put_live_rows, put_member, put_place, put_u32, put_u64,
-};
-pub use rows::read_dots;
-pub use walking::{measure_dots, put_dots};
+pub use live_rows::{live_rows_length, put_live_rows, read_live_rows};
+pub use numbers::{put_byte, put_u32, put_u64, read_byte, read_length, read_u32, read_u64};
+pub use roster::{member_length, put_member, read_member, read_replica};

@@ -1,11 +1,12 @@
-//! Reading numbers and short texts from the front of bytes.
-ghost use Rattle.std.specs.Prelude.{◌≡◌, true, false, MatchResult};
-ghost use Rattle.std.specs.Int.{w16, w32, w64};
-ghost use Rattle.std.specs.Str.{is_utf8};
-ghost use Rattle.rds_names.specs.declared.fault.Fault.TheVariants.{Bad};
-ghost use Rattle.rds_bytes.specs.Reading.{ReadsExactly, byte_at, number_at, bytes_at, short_at, when_at, is_between};
+//! Bytes, and numbers of one, two, four and eight bytes, big-endian.
+ghost use Rattle.std.specs.Int.{w16, w32, w64, to_be_bytes};
+ghost use Rattle.rds_bytes.specs.Reading.{ReadsExactly, byte_at, number_at, bytes_at, when_at, is_between};
+ghost use Rattle.rds_bytes.specs.Spelling.{byte_text};
+ghost use Rattle.rds_bytes.specs.Writing.{Adds};
 
+use byteorder::{BigEndian, ByteOrder};
 use rds_names::Fault;
+use std::alloc::AllocError;
 
 /// A byte.
 pub fn read_byte(bytes: &[u8]) -> Result<(u8, &[u8]), Fault>
@@ -76,23 +77,44 @@ pub fn read_length(least: u8, most: u8, bytes: &[u8]) -> Result<(u8, &[u8]), Fau
     Ok((length, rest))
 }
 
-/// The bytes as text.
-pub fn text_of(bytes: &[u8]) -> Result<&str, Fault>
-    ensures { MatchResult result (λ text. (text.now ≡ bytes.now) × (is_utf8 bytes.now ≡ true)) (λ fault. (fault ≡ Bad) × (is_utf8 bytes.now ≡ false)) }
+/// These bytes.
+pub fn put(out: &mut Vec<u8>, bytes: &[u8]) -> Result<(), AllocError>
+    ensures { Adds out.old.items out.new.items bytes.now result }
 {
-    match str::from_utf8(bytes) {
-        Ok(text) => Ok(text),
-        Err(_) => Err(Fault::Bad),
-    }
+    out.extend_from_slice(bytes)?;
+    Ok(())
 }
 
-/// A text after a byte of length, which is from one number to another.
-#[tactic(auto, unfolding(crate::specs::Reading::short_at))]
-pub fn read_short(least: u8, most: u8, bytes: &[u8]) -> Result<(&str, &[u8]), Fault>
-    ensures { ReadsExactly (λ x. (x.0.now, x.1.now)) result (short_at least most bytes.now) }
+/// A byte.
+pub fn put_byte(out: &mut Vec<u8>, byte: u8) -> Result<(), AllocError>
+    ensures { Adds out.old.items out.new.items (byte_text byte) result }
 {
-    let (length, rest) = read_length(least, most, bytes)?;
-    let (text, rest) = read_bytes(usize::from(length), rest)?;
-    let text = text_of(text)?;
-    Ok((text, rest))
+    put(out, &[byte])
+}
+
+/// A number of two bytes.
+pub fn put_u16(out: &mut Vec<u8>, number: u16) -> Result<(), AllocError>
+    ensures { Adds out.old.items out.new.items (to_be_bytes w16 number) result }
+{
+    let mut bytes = [0u8; 2];
+    BigEndian::write_u16(&mut bytes, number);
+    put(out, &bytes)
+}
+
+/// A number of four bytes.
+pub fn put_u32(out: &mut Vec<u8>, number: u32) -> Result<(), AllocError>
+    ensures { Adds out.old.items out.new.items (to_be_bytes w32 number) result }
+{
+    let mut bytes = [0u8; 4];
+    BigEndian::write_u32(&mut bytes, number);
+    put(out, &bytes)
+}
+
+/// A number of eight bytes.
+pub fn put_u64(out: &mut Vec<u8>, number: u64) -> Result<(), AllocError>
+    ensures { Adds out.old.items out.new.items (to_be_bytes w64 number) result }
+{
+    let mut bytes = [0u8; 8];
+    BigEndian::write_u64(&mut bytes, number);
+    put(out, &bytes)
 }

@@ -1,5 +1,5 @@
 -- A digest is a format.
-use Rattle.std.proofs.Common.{◌≡◌, ℕ, ◌+◌, ◌^◌, ◌<◌, ◌≤◌, Bool, true, false, List, ◌++◌, length, Ok, Err, refl, ap, arith}
+use Rattle.std.proofs.Common.{◌≡◌, ℕ, ◌+◌, ◌^◌, ◌<◌, ◌≤◌, Bool, true, false, List, ◌++◌, length, Ok, Err, refl, arith}
 use Rattle.std.specs.FinSet as set
 use Rattle.rds_dots.specs.Dots.{Dots}
 use Rattle.rds_dots.specs.Order.{dots_total}

@@ -8,26 +8,26 @@ use Rattle.rds_state.specs.Fits.{ReplicaValue}
 use Rattle.rds_bytes.specs.Values.{IsMember}
 use Rattle.rds_codec.specs.StateTexts.{IsSnapshot, state_text, snapshot_text}
 use Rattle.rds_codec.specs.Kinds.{snapshot_kind}
-use Rattle.rds_bytes.specs.Spelling.{front_text}
+use Rattle.rds_bytes.specs.Spelling.{header_text}
 use Rattle.rds_bytes.specs.Reading as read
 use Rattle.rds_codec.specs.StateTexts as texts
 use Rattle.rds_bytes.specs.Reading.{then_at}
 use Rattle.rds_bytes.proofs.Format.{IsFormat, then_format, made_format}
 use Rattle.rds_codec.proofs.Whole.{IsReaderOf, reader_of}
-use Rattle.rds_bytes.proofs.PartFormats.{Member, IsMemberPair, front_format}
+use Rattle.rds_bytes.proofs.PartFormats.{Member, IsMemberPair, header_format}
 
 abbrev All : Type 0
 All = Member × StateValue
 
 abbrev all_text : All → List ℕ
-all_text p = front_text p.0.0 p.0.1 ++ state_text p.1
+all_text p = header_text p.0.0 p.0.1 ++ state_text p.1
 
 abbrev IsAll : All → Type 0
 IsAll p = IsMemberPair p.0 × FitsState (length p.0.0.names) p.1
 
-all_format : IsFormat (then_at read.front_at (λ f. texts.state_at (length f.0.names))) all_text IsAll
+all_format : IsFormat (then_at read.header_at (λ f. texts.state_at (length f.0.names))) all_text IsAll
 all_format =
-    then_format read.front_at (λ (f : Member). texts.state_at (length f.0.names)) (λ (f : Member). front_text f.0 f.1) (λ f. state_text) IsMemberPair (λ f. FitsState (length f.0.names)) front_format
+    then_format read.header_at (λ (f : Member). texts.state_at (length f.0.names)) (λ (f : Member). header_text f.0 f.1) (λ f. state_text) IsMemberPair (λ f. FitsState (length f.0.names)) header_format
     (λ f is. state_format (length f.0.names))
 
 abbrev all_of_value : ReplicaValue → All
@@ -54,7 +54,7 @@ snapshot_format = made_format texts.snapshot_by all_of_value _ all_text IsAll Fi
 
 pub value_within : (v : ReplicaValue) → length (snapshot_text v) ≤ LIMIT → CanCountState v.state
 unfolding snapshot_text
-value_within v le = let a = length-append (front_text v.roster v.own) (state_text v.state) in state_within v.state (omega arith)
+value_within v le = let a = length-append (header_text v.roster v.own) (state_text v.state) in state_within v.state (omega arith)
 
 pub snapshot_reader : IsReaderOf snapshot_kind texts.snapshot_at
 snapshot_reader =

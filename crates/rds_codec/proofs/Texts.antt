@@ -5,7 +5,7 @@ use Rattle.std.specs.List.{flat_map}
 use Rattle.rds_life.specs.Life.{seen_of, live_rows}
 use Rattle.rds_state.specs.Value.{StateValue}
 use Rattle.rds_state.specs.Fits.{ReplicaValue}
-use Rattle.rds_bytes.specs.Spelling.{magic, member_text, front_text, dots_text, live_row_text, live_rows_text, counters_text}
+use Rattle.rds_bytes.specs.Spelling.{magic, member_text, header_text, dots_text, live_row_text, live_rows_text, counters_text}
 use Rattle.rds_codec.specs.StateTexts.{state_text, snapshot_text}
 
 pub OnOk-map : {T E : Type 0} {P Q : Type 0} (r : Result T E) → (P → Q) → OnOk r P → OnOk r Q
@@ -37,8 +37,8 @@ state_parts v a b c d p q r =
     let counts = counters_text v.counts in
     r ∙ ap (λ (t : List ℕ). t ++ counts) q ∙ append_assoc b live counts ∙ ap (λ (t : List ℕ). t ++ (live ++ counts)) p ∙ append_assoc a dots (live ++ counts)
 
-pub snapshot_parts : (v : ReplicaValue) (a b c : List ℕ) → b ≡ a ++ front_text v.roster v.own → c ≡ b ++ state_text v.state → c ≡ a ++ snapshot_text v
+pub snapshot_parts : (v : ReplicaValue) (a b c : List ℕ) → b ≡ a ++ header_text v.roster v.own → c ≡ b ++ state_text v.state → c ≡ a ++ snapshot_text v
 unfolding snapshot_text
 snapshot_parts v a b c p q =
-    let front = front_text v.roster v.own in
+    let front = header_text v.roster v.own in
     q ∙ ap (λ (t : List ℕ). t ++ state_text v.state) p ∙ append_assoc a front (state_text v.state)

@@ -6,8 +6,8 @@ use Rattle.rds_names.specs.declared.entry.Entry.{Entry}
 use Rattle.rds_dots.specs.declared.dot.Dot.{Dot}
 use Rattle.rds_dots.specs.Dots.{Dots}
 use Rattle.rds_dots.specs.Runs.{runs_of}
-use Rattle.rds_bytes.specs.declared.rows.Gap.{Gap}
-use Rattle.rds_bytes.specs.declared.rows.DotRow.{DotRow}
+use Rattle.rds_bytes.specs.declared.dots.Gap.{Gap}
+use Rattle.rds_bytes.specs.declared.dots.DotRow.{DotRow}
 use Rattle.rds_codec.specs.declared.limits.TheConstants.{LIMIT}
 use Rattle.rds_counts.specs.Counted.{Counted}
 use Rattle.rds_counts.specs.RowsOf.{count_rows}

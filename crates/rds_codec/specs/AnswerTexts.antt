@@ -23,7 +23,8 @@ abbrev pub answer_by : AnswerParts → AnswerValue
 answer_by p = answer p.0 p.1.0 p.1.1
 
 unfoldable pub answer_at : ℕ → Reader AnswerValue
-answer_at replicas = made_at answer_by (pair_at (replica_at replicas) (pair_at (state_at replicas) (certificate_at replicas)))
+answer_at replicas =
+    made_at answer_by (pair_at (replica_at replicas) (pair_at (state_at replicas) (certificate_at replicas)))
 
 -- the asker is one of so many replicas, and so are those of the parts
 pub record IsAnswerOf (replicas : ℕ) (a : AnswerValue) : Type 0 where

@@ -12,4 +12,7 @@ pub record AnswerValue : Type 0 where
   pub certificate : List Row
 
 abbrev pub coded_answer : Coded AnswerValue
-coded_answer = code_by (ℕ × (StateValue × List Row)) (coded× coded_ℕ (coded× coded_state (coded_list row.the_row.coded))) (λ a. (a.asker, (a.state, a.certificate))) (λ p. record { asker = p.0; state = p.1.0; certificate = p.1.1 }) (λ _. refl)
+coded_answer =
+    code_by (ℕ × (StateValue × List Row)) (coded× coded_ℕ (coded× coded_state (coded_list row.the_row.coded)))
+    (λ a. (a.asker, (a.state, a.certificate)))
+    (λ p. record { asker = p.0; state = p.1.0; certificate = p.1.1 }) (λ _. refl)

@@ -41,10 +41,12 @@ certificate_text rows = to_be_bytes w32 (length rows) ++ flat_map row_text rows
 -- ---- reading
 
 unfoldable pub claimed_dot_at : ℕ → Reader Dot
-claimed_dot_at replicas = made_at dot_by (pair_at (replica_at replicas) (when_at (is_between 1 MAX_SEQ) (number_at w64)))
+claimed_dot_at replicas =
+    made_at dot_by (pair_at (replica_at replicas) (when_at (is_between 1 MAX_SEQ) (number_at w64)))
 
 unfoldable pub ends_at : Reader (ℕ × ℕ)
-ends_at = then_at (when_at (is_between 1 MAX_SEQ) (number_at w64)) (λ lo. when_at (is_between lo MAX_SEQ) (number_at w64))
+ends_at =
+    then_at (when_at (is_between 1 MAX_SEQ) (number_at w64)) (λ lo. when_at (is_between lo MAX_SEQ) (number_at w64))
 
 abbrev pub run_by : ℕ × (ℕ × ℕ) → Run
 run_by p = record { replica = p.0; lo = p.1.0; hi = p.1.1 }

@@ -30,7 +30,8 @@ abbrev pub digest_by : DigestParts → DigestValue
 digest_by p = record { seen = p.0; live = p.1.0; counts = p.1.1 }
 
 unfoldable pub digest_at : ℕ → Reader DigestValue
-digest_at replicas = made_at digest_by (then_at (dots_at replicas) (λ seen. pair_at (live_dots_at replicas seen) (counters_at replicas)))
+digest_at replicas =
+    made_at digest_by (then_at (dots_at replicas) (λ seen. pair_at (live_dots_at replicas seen) (counters_at replicas)))
 
 -- all replica numbers of the digest are below this one
 pub record DigestFits (replicas : ℕ) (g : DigestValue) : Type 0 where

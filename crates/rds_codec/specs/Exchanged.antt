@@ -32,7 +32,8 @@ pub record IsAskOf (asked : StateValue) (bytes : List ℕ) : Type 0 where
   pub again : (replicas : ℕ) → Fits replicas (coordinates asked) → IsDigestOf replicas (digest_of asked)
 
 -- The bytes are the text of the answer, of so many components, which is read again.
-pub record IsReplyTo (digest : DigestValue) (asker : ℕ) (held : StateValue) (bytes : List ℕ) (components : ℕ) : Type 0 where
+pub record IsReplyTo (digest : DigestValue) (asker : ℕ) (held : StateValue) (bytes : List ℕ)
+    (components : ℕ) : Type 0 where
   pub value : AnswerValue
   pub answers : IsAnswerTo digest asker held value
   pub text : bytes ≡ answer_text value
@@ -52,7 +53,8 @@ pub record IsLongAnswer (digest : DigestValue) (asker : ℕ) (held : StateValue)
 
 -- the delta is above the digest, and the certificate is that of the delta against it
 abbrev pub IsCertified : DigestValue → AnswerValue → Type 0
-IsCertified digest a = IsAbove (coordinates a.state) (ranks_in digest) × IsCertificate (ranks_in digest) a.state a.certificate
+IsCertified digest a =
+    IsAbove (coordinates a.state) (ranks_in digest) × IsCertificate (ranks_in digest) a.state a.certificate
 
 -- the certificate is not the right one
 pub record IsUncertified (digest : DigestValue) (a : AnswerValue) : Type 0 where
@@ -60,7 +62,8 @@ pub record IsUncertified (digest : DigestValue) (a : AnswerValue) : Type 0 where
 
 -- It is refused as BadCertificate exactly where its certificate is not the right one. Any other is taken or refused as
 -- a take does its delta.
-pub data TakesCertified (digest : DigestValue) (a : AnswerValue) (own : ℕ) (old : StateValue) (result : Result (Unit {0}) Fault) : Type 0 where
+pub data TakesCertified (digest : DigestValue) (a : AnswerValue) (own : ℕ) (old : StateValue)
+    (result : Result (Unit {0}) Fault) : Type 0 where
   Certified : IsCertified digest a → TakeGives old own a.state result → TakesCertified digest a own old result
   Uncertified : IsUncertified digest a → result ≡ Err BadCertificate → TakesCertified digest a own old result
 
@@ -92,9 +95,11 @@ IsWithin asked a = (length (digest_text (digest_of asked)) ≤ LIMIT) × (length
 
 -- the ask or the answer is too long
 abbrev pub IsLongExchange : ReplicaValue → ReplicaValue → ReplicaValue → Type 0
-IsLongExchange answerer asked asker = IsLongDigest asked.state ⊎ IsLongAnswer (digest_of asked.state) asker.own answerer.state
+IsLongExchange answerer asked asker =
+    IsLongDigest asked.state ⊎ IsLongAnswer (digest_of asked.state) asker.own answerer.state
 
 -- why nothing was exchanged: a text didn't come, or the delta of the answer to this ask isn't taken
 pub data IsRefusal (answerer asked asker : ReplicaValue) (fault : Fault) : Type 0 where
   Lost : IsLost (IsLongExchange answerer asked asker) fault → IsRefusal answerer asked asker fault
-  Untaken : (a : AnswerValue) → IsAnswerTo (digest_of asked.state) asker.own answerer.state a → TakeGives {T = Unit {0}} asker.state asker.own a.state (Err fault) → IsRefusal answerer asked asker fault
+  Untaken : (a : AnswerValue) → IsAnswerTo (digest_of asked.state) asker.own answerer.state a
+      → TakeGives {T = Unit {0}} asker.state asker.own a.state (Err fault) → IsRefusal answerer asked asker fault

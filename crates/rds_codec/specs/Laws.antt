@@ -10,4 +10,6 @@ pub record HasText {V : Type 0} (kind : Kind V) (v : V) : Type 0 where
 
 -- no text begins another, and one text has one value
 abbrev pub StandApart : {V : Type 0} → Kind V → Type 0
-StandApart {V} kind = (v w : V) (x y : List ℕ) → HasText kind v → HasText kind w → kind.text v ++ x ≡ kind.text w ++ y → (v ≡ w) × (x ≡ y)
+StandApart {V} kind =
+    (v w : V) (x y : List ℕ) → HasText kind v → HasText kind w
+    → kind.text v ++ x ≡ kind.text w ++ y → (v ≡ w) × (x ≡ y)

@@ -9,8 +9,8 @@ use Rattle.rds_life.specs.Life.{lived, seen_of, live_rows}
 use Rattle.rds_counts.specs.Counted.{Counted}
 use Rattle.rds_state.specs.Value.{StateValue}
 use Rattle.rds_state.specs.Fits.{ReplicaValue}
-use Rattle.rds_bytes.specs.Reading.{Reader, then_at, pair_at, made_at, front_at, dots_at, live_rows_at, counters_at}
-use Rattle.rds_bytes.specs.Spelling.{front_text, dots_text, live_rows_text, counters_text}
+use Rattle.rds_bytes.specs.Reading.{Reader, then_at, pair_at, made_at, header_at, dots_at, live_rows_at, counters_at}
+use Rattle.rds_bytes.specs.Spelling.{header_text, dots_text, live_rows_text, counters_text}
 use Rattle.rds_bytes.specs.Values.{AreDotsOf, AreCountsOf, IsLiveRow, IsMember}
 
 -- ---- spelling
@@ -19,7 +19,7 @@ unfoldable pub state_text : StateValue → List ℕ
 state_text v = dots_text (seen_of v.lives) ++ (live_rows_text (live_rows v.lives) ++ counters_text v.counts)
 
 unfoldable pub snapshot_text : ReplicaValue → List ℕ
-snapshot_text v = front_text v.roster v.own ++ state_text v.state
+snapshot_text v = header_text v.roster v.own ++ state_text v.state
 
 -- ---- reading
 
@@ -31,13 +31,14 @@ state_by p = record { lives = lived p.0 p.1.0; counts = p.1.1 }
 
 -- the dots, the live rows and the counters
 unfoldable pub state_at : ℕ → Reader StateValue
-state_at replicas = made_at state_by (then_at (dots_at replicas) (λ seen. pair_at (live_rows_at seen) (counters_at replicas)))
+state_at replicas =
+    made_at state_by (then_at (dots_at replicas) (λ seen. pair_at (live_rows_at seen) (counters_at replicas)))
 
 abbrev pub snapshot_by : (RosterValue × ℕ) × StateValue → ReplicaValue
 snapshot_by p = record { roster = p.0.0; own = p.0.1; state = p.1 }
 
 unfoldable pub snapshot_at : Reader ReplicaValue
-snapshot_at = made_at snapshot_by (then_at front_at (λ front. state_at (length front.0.names)))
+snapshot_at = made_at snapshot_by (then_at header_at (λ header. state_at (length header.0.names)))
 
 -- ---- which have a text
 

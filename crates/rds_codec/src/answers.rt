@@ -83,8 +83,8 @@ fn read_all<S: DotSet>(alloc: Global, replicas: u16, bytes: &[u8]) -> Result<Ans
 /// delta isn't judged: that is what `check` does.
 ///
 /// The bytes are read from the left, and each part is judged as soon as it is there. Refused are bytes above the
-/// limit (`TooLong`, before anything is read); bytes that go on after a text (`Extra`); and other bytes that are no text: `Cut` where
-/// they end inside a part, `Bad` where a part that is there is none.
+/// limit (`TooLong`, before anything is read); bytes that go on after a text (`Extra`); and other bytes that are no
+/// text: `Cut` where they end inside a part, `Bad` where a part that is there is none.
 pub fn decode_answer<S: DotSet>(
     alloc: Global,
     replicas: u16,
@@ -103,9 +103,14 @@ pub fn decode_answer<S: DotSet>(
 fn measure<S: DotSet>(asker: u8, state: &State<S>, certificate: &Certificate) -> (u16, u128)
     ensures rows { result.0 ≡ length (rows_from 0 (runs_of (seen_of state.now.lives))) }
     ensures length { result.1 ≡ length (answer_text (answer asker state.now certificate.now)) }
-    ensures dots { (replicas : ℕ) → Fits replicas (coordinates state.now) → AreDotsOf replicas (seen_of state.now.lives) }
-    ensures value { (replicas : ℕ) → asker < replicas → Fits replicas (coordinates state.now) → AllByRecursion (RowFits replicas) certificate.now → IsAnswerOf replicas (answer asker state.now certificate.now) }
-    ensures certified { (replicas : ℕ) (peer : Ranks) → asker < replicas → Fits replicas (coordinates state.now) → IsAbove (coordinates state.now) peer → IsCertificate peer state.now certificate.now → IsAnswerOf replicas (answer asker state.now certificate.now) }
+    ensures dots { (replicas : ℕ) → Fits replicas (coordinates state.now)
+        → AreDotsOf replicas (seen_of state.now.lives) }
+    ensures value { (replicas : ℕ) → asker < replicas → Fits replicas (coordinates state.now)
+        → AllByRecursion (RowFits replicas) certificate.now
+        → IsAnswerOf replicas (answer asker state.now certificate.now) }
+    ensures certified { (replicas : ℕ) (peer : Ranks) → asker < replicas → Fits replicas (coordinates state.now)
+        → IsAbove (coordinates state.now) peer → IsCertificate peer state.now certificate.now
+        → IsAnswerOf replicas (answer asker state.now certificate.now) }
 {
     let (rows, state_length) = measure_state(state);
     (rows, 1 + state_length + certificate_length(certificate))
@@ -128,9 +133,9 @@ fn put_answer<S: DotSet>(
 }
 
 /// The text of an answer with these parts. It is read again where the asker and the delta's replicas are below the
-/// roster's length, and the rows of the certificate lie in the ranges of
-/// the format, as those of the delta's own certificate do. Above the limit it is refused (`TooLong`) before any memory
-/// is taken; then all memory that the text needs is taken at once.
+/// roster's length, and the rows of the certificate lie in the ranges of the format, as those of the delta's own
+/// certificate do. Above the limit it is refused (`TooLong`) before any memory is taken; then all memory that the text
+/// needs is taken at once.
 pub fn encode_answer<S: DotSet>(
     alloc: Global,
     asker: u8,
@@ -138,9 +143,14 @@ pub fn encode_answer<S: DotSet>(
     certificate: &Certificate,
 ) -> Result<Vec<u8>, Fault>
     ensures text { Encodes (answer_text (answer asker state.now certificate.now)) result }
-    ensures dots { (replicas : ℕ) → Fits replicas (coordinates state.now) → AreDotsOf replicas (seen_of state.now.lives) }
-    ensures value { (replicas : ℕ) → asker < replicas → Fits replicas (coordinates state.now) → AllByRecursion (RowFits replicas) certificate.now → IsAnswerOf replicas (answer asker state.now certificate.now) }
-    ensures certified { (replicas : ℕ) (peer : Ranks) → asker < replicas → Fits replicas (coordinates state.now) → IsAbove (coordinates state.now) peer → IsCertificate peer state.now certificate.now → IsAnswerOf replicas (answer asker state.now certificate.now) }
+    ensures dots { (replicas : ℕ) → Fits replicas (coordinates state.now)
+        → AreDotsOf replicas (seen_of state.now.lives) }
+    ensures value { (replicas : ℕ) → asker < replicas → Fits replicas (coordinates state.now)
+        → AllByRecursion (RowFits replicas) certificate.now
+        → IsAnswerOf replicas (answer asker state.now certificate.now) }
+    ensures certified { (replicas : ℕ) (peer : Ranks) → asker < replicas → Fits replicas (coordinates state.now)
+        → IsAbove (coordinates state.now) peer → IsCertificate peer state.now certificate.now
+        → IsAnswerOf replicas (answer asker state.now certificate.now) }
 {
     let (rows, length) = measure(asker, state, certificate);
     let mut out = room_for(alloc, length)?;

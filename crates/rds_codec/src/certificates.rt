@@ -224,21 +224,16 @@ fn row_length(row: &Row) -> usize
 }
 
 /// The length of the rows, without their number.
-#[tactic(auto, using(rds_bytes::proofs::Lengths::length_more))]
-fn rows_length(mut rows: &[Row]) -> u128
-    ensures length { result ≡ length (flat_map row_text rows.entry.now) }
-    ensures most { result ≤ 128 * length rows.entry.now }
-    ensures held { AllByRecursion IsHeldRow rows.entry.now }
+fn rows_length(rows: &[Row]) -> u128
+    ensures length { result ≡ length (flat_map row_text rows.now) }
+    ensures most { result ≤ 128 * length rows.now }
+    ensures held { AllByRecursion IsHeldRow rows.now }
 {
     let mut total = 0;
-    'measuring: loop {
-        let (row, later) = match rows.split_first() {
-            Some(parts) => parts,
-            None => return total,
-        };
+    for row in rows {
         total += row_length(row) as u128;
-        rows = later;
     }
+    total
 }
 
 /// The length of the text.
@@ -247,7 +242,8 @@ pub fn certificate_length(certificate: &Certificate) -> u128
     ensures length { result ≡ length (certificate_text certificate.now) }
     ensures few { result ≤ 2 ^ 101 }
     ensures held { AllByRecursion IsHeldRow certificate.now }
-    ensures value { (replicas : ℕ) → AllByRecursion (RowFits replicas) certificate.now → IsCertificateOf replicas certificate.now }
+    ensures value { (replicas : ℕ) → AllByRecursion (RowFits replicas) certificate.now
+        → IsCertificateOf replicas certificate.now }
 {
     4 + rows_length(certificate.rows())
 }
@@ -330,7 +326,8 @@ pub fn put_certificate(out: &mut Vec<u8>, certificate: &Certificate) -> Result<(
 /// any memory is taken; then all memory that the text needs is taken at once.
 pub fn encode_certificate(alloc: Global, certificate: &Certificate) -> Result<Vec<u8>, Fault>
     ensures text { Encodes (certificate_text certificate.now) result }
-    ensures value { (replicas : ℕ) → AllByRecursion (RowFits replicas) certificate.now → IsCertificateOf replicas certificate.now }
+    ensures value { (replicas : ℕ) → AllByRecursion (RowFits replicas) certificate.now
+        → IsCertificateOf replicas certificate.now }
 {
     let mut out = room_for(alloc, certificate_length(certificate))?;
     put_certificate(&mut out, certificate)?;

@@ -25,7 +25,8 @@ fn read_live<'a, S: DotSet>(
     seen: &S,
     bytes: &'a [u8],
 ) -> Result<(S, &'a [u8]), Fault>
-    ensures read { Reads (λ x. (S.contents x.0, x.1.now)) result (live_dots_at replicas (S.contents seen.now) bytes.now) }
+    ensures read { Reads (λ x. (S.contents x.0, x.1.now)) result
+        (live_dots_at replicas (S.contents seen.now) bytes.now) }
     ensures inside { IfOk result (λ x. IsInside (S.contents x.0) (S.contents seen.now)) }
 {
     let (live, rest) = read_dots::<S>(alloc, replicas, bytes)?;
@@ -63,8 +64,9 @@ fn read_all<S: DotSet>(alloc: Global, replicas: u16, bytes: &[u8]) -> Result<Dig
 /// The digest whose text the bytes are, of a roster of so many replicas.
 ///
 /// They are read from the left, and each part is judged as soon as it is there. Refused are bytes above the
-/// limit (`TooLong`, before anything is read); bytes that go on after a text (`Extra`); and other bytes that are no text: `Cut` where
-/// they end inside a part, `Bad` where a part that is there is none, as a set of live dots that aren't all seen.
+/// limit (`TooLong`, before anything is read); bytes that go on after a text (`Extra`); and other bytes that are no
+/// text: `Cut` where they end inside a part, `Bad` where a part that is there is none, as a set of live dots that
+/// aren't all seen.
 pub fn decode_digest<S: DotSet>(
     alloc: Global,
     replicas: u16,

@@ -58,7 +58,8 @@ pub fn take_certified<S: DotSet>(
     requires { Fits (length replica.old.roster.names) (coordinates answer.now.state) }
     ensures taken { TakesCertified digest.now answer.now replica.old.own replica.old.state result }
     ensures checked { OnOk result (IsCertified digest.now answer.now) }
-    ensures ok { OnOk result (coordinates replica.new.state ≡ join (coordinates replica.old.state) (coordinates answer.now.state)) }
+    ensures ok { OnOk result (coordinates replica.new.state
+        ≡ join (coordinates replica.old.state) (coordinates answer.now.state)) }
     ensures roster { replica.new.roster ≡ replica.old.roster }
     ensures own { replica.new.own ≡ replica.old.own }
     ensures err { OnErr result (replica.new ≡ replica.old) }
@@ -94,8 +95,10 @@ fn send_answer<S: DotSet>(
 ) -> Result<Answer<S>, Fault>
     ensures fits { IfOk result (λ answer. Fits replicas (coordinates answer.state)) }
     ensures within { IfOk result (λ answer. length (answer_text answer) ≤ LIMIT) }
-    ensures ok { asker < replicas → Fits replicas (coordinates held.now) → IfOk result (IsAnswerTo digest.now asker held.now) }
-    ensures fault { asker < replicas → Fits replicas (coordinates held.now) → IfErr result (IsLost (IsLongAnswer digest.now asker held.now)) }
+    ensures ok { asker < replicas → Fits replicas (coordinates held.now)
+        → IfOk result (IsAnswerTo digest.now asker held.now) }
+    ensures fault { asker < replicas → Fits replicas (coordinates held.now)
+        → IfErr result (IsLost (IsLongAnswer digest.now asker held.now)) }
 {
     let (bytes, _) = answer(alloc, asker, held, digest)?;
     decode_answer(alloc, replicas, &bytes)
@@ -109,10 +112,12 @@ fn take_answer<S: DotSet>(
     answer: &Answer<S>,
 ) -> Result<(), Fault>
     requires { Fits (length replica.old.roster.names) (coordinates answer.now.state) }
-    ensures taken { answer.now.asker ≡ replica.old.own → IsCertified digest.now answer.now → TakeGives replica.old.state replica.old.own answer.now.state result }
+    ensures taken { answer.now.asker ≡ replica.old.own → IsCertified digest.now answer.now
+        → TakeGives replica.old.state replica.old.own answer.now.state result }
     ensures asked { OnOk result (answer.now.asker ≡ replica.old.own) }
     ensures checked { OnOk result (IsCertified digest.now answer.now) }
-    ensures ok { OnOk result (coordinates replica.new.state ≡ join (coordinates replica.old.state) (coordinates answer.now.state)) }
+    ensures ok { OnOk result (coordinates replica.new.state
+        ≡ join (coordinates replica.old.state) (coordinates answer.now.state)) }
     ensures roster { replica.new.roster ≡ replica.old.roster }
     ensures own { replica.new.own ≡ replica.old.own }
     ensures err { OnErr result (replica.new ≡ replica.old) }
@@ -128,25 +133,30 @@ fn take_answer<S: DotSet>(
 /// The one that asked checks the two and joins the delta into its state. The answer that it took is handed back.
 ///
 /// Where both fit the roster of the one that asked, no text is refused by the one that reads it, and no check says no.
-/// Only want of memory, too long a text
-/// or what [`Replica::take`] refuses of the answer's delta (`OwnAhead`, `Conflict`) is a hindrance. Where the two are
-/// friends of one roster besides, no take finds a conflict or a loss either, and the one that asked ends with all that
-/// both knew, whatever it has become since. Elsewhere any of these may refuse it. What is refused has changed nothing.
-pub fn exchange<S: DotSet>(
+/// Only want of memory, too long a text or what [`Replica::take`] refuses of the answer's delta (`OwnAhead`,
+/// `Conflict`) is a hindrance. Where the two are friends of one roster besides, no take finds a conflict or a loss
+/// either, and the one that asked ends with all that both knew, whatever it has become since. Elsewhere any of these
+/// may refuse it. What is refused has changed nothing.
+pub fn pull<S: DotSet>(
     alloc: Global,
     answerer: &Replica<S>,
     asked: &Replica<S>,
     asker: &mut Replica<S>,
 ) -> Result<Answer<S>, Fault>
-    ensures taken { IfOk result (λ answer. coordinates asker.new.state ≡ join (coordinates asker.old.state) (coordinates answer.state)) }
+    ensures taken { IfOk result (λ answer. coordinates asker.new.state
+        ≡ join (coordinates asker.old.state) (coordinates answer.state)) }
     ensures asked { IfOk result (λ answer. answer.asker ≡ asker.old.own) }
     ensures checked { IfOk result (PassesCheck (length asker.old.roster.names) asked.now.state) }
     ensures within { IfOk result (IsWithin asked.now.state) }
     ensures takes { IfOk result (λ answer. TakeGives asker.old.state asker.old.own answer.state result) }
-    ensures answer { CanRead answerer.now asked.now asker.old → IfOk result (IsAnswerTo (digest_of asked.now.state) asker.old.own answerer.now.state) }
-    ensures refusal { CanRead answerer.now asked.now asker.old → IfErr result (IsRefusal answerer.now asked.now asker.old) }
-    ensures joined { CanExchange answerer.now asked.now asker.old → OnOk result (coordinates asker.new.state ≡ join (coordinates asker.old.state) (coordinates answerer.now.state)) }
-    ensures fault { CanExchange answerer.now asked.now asker.old → IfErr result (IsLost (IsLongDigest asked.now.state ⊎ IsLongAnswer (digest_of asked.now.state) asker.old.own answerer.now.state)) }
+    ensures answer { CanRead answerer.now asked.now asker.old
+        → IfOk result (IsAnswerTo (digest_of asked.now.state) asker.old.own answerer.now.state) }
+    ensures refusal { CanRead answerer.now asked.now asker.old
+        → IfErr result (IsRefusal answerer.now asked.now asker.old) }
+    ensures joined { CanExchange answerer.now asked.now asker.old → OnOk result (coordinates asker.new.state
+        ≡ join (coordinates asker.old.state) (coordinates answerer.now.state)) }
+    ensures fault { CanExchange answerer.now asked.now asker.old → IfErr result (IsLost (IsLongDigest asked.now.state
+        ⊎ IsLongAnswer (digest_of asked.now.state) asker.old.own answerer.now.state)) }
     ensures roster { asker.new.roster ≡ asker.old.roster }
     ensures own { asker.new.own ≡ asker.old.own }
     ensures err { OnErr result (asker.new ≡ asker.old) }

@@ -20,8 +20,8 @@ pub fn texts_stand_apart()
     ensures hellos { StandApart hello_kind }
 {}
 
-/// The greatest length of a text, 256 MiB, and the version that a hello says. The function does nothing: its contract is
-/// these numbers.
+/// The greatest length of a text, 256 MiB, and the version that a hello says. The function does nothing: its contract
+/// is these numbers.
 pub fn limits_of_texts()
     ensures length { LIMIT ≡ 268435456 }
     ensures version { VERSION ≡ 1 }

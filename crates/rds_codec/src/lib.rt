@@ -1,5 +1,8 @@
 //! The texts of values, format 1, and what is asked, answered and taken by them. All numbers are big-endian, a
 //! value has one text, and no text of a kind begins another.
+//!
+//! To be read in this order: `limits`; the kinds of texts, `states`, `snapshots`, `digests`, `certificates`, `answers`
+//! and `hellos`; `exchanges`, which brings them from one replica to another; `laws`.
 #![tactic(auto)]
 
 mod answers;
@@ -15,7 +18,7 @@ mod states;
 pub use answers::{Answer, decode_answer, encode_answer};
 pub use certificates::{decode_certificate, encode_certificate};
 pub use digests::{decode_digest, encode_digest};
-pub use exchanges::{answer, ask, exchange, take_certified};
+pub use exchanges::{answer, ask, pull, take_certified};
 pub use hellos::{Hello, VERSION, decode_hello, encode_hello};
 pub use laws::{limits_of_texts, texts_stand_apart};
 pub use limits::LIMIT;

@@ -13,7 +13,7 @@ ghost use Rattle.rds_life.specs.Life.{seen_of};
 
 use crate::limits::{LIMIT, room_for};
 use crate::states::{measure_state, put_state, read_state};
-use rds_bytes::{member_length, put_front, read_front};
+use rds_bytes::{member_length, put_header, read_header};
 use rds_dots::DotSet;
 use rds_names::Fault;
 use rds_state::Replica;
@@ -23,7 +23,7 @@ use std::alloc::{AllocError, Global};
 fn read_snapshot<S: DotSet>(alloc: Global, bytes: &[u8]) -> Result<(Replica<S>, &[u8]), Fault>
     ensures { Reads (λ x. (x.0, x.1.now)) result (snapshot_at bytes.now) }
 {
-    let ((roster, own), rest) = read_front(alloc, bytes)?;
+    let ((roster, own), rest) = read_header(alloc, bytes)?;
     let (state, rest) = read_state(alloc, roster.len(), rest)?;
     match Replica::from_parts(roster, own, state) {
         Ok(replica) => Ok((replica, rest)),
@@ -44,8 +44,8 @@ fn read_all<S: DotSet>(alloc: Global, bytes: &[u8]) -> Result<Replica<S>, Fault>
 /// The replica whose snapshot the bytes are.
 ///
 /// They are read from the left, and each part is judged as soon as it is there. Refused are bytes above the
-/// limit (`TooLong`, before anything is read); bytes that go on after a text (`Extra`); and other bytes that are no text: `Cut` where
-/// they end inside a part, `Bad` where a part that is there is none.
+/// limit (`TooLong`, before anything is read); bytes that go on after a text (`Extra`); and other bytes that are no
+/// text: `Cut` where they end inside a part, `Bad` where a part that is there is none.
 pub fn decode_snapshot<S: DotSet>(alloc: Global, bytes: &[u8]) -> Result<Replica<S>, Fault>
     ensures text { Decodes snapshot_kind bytes.now result }
     ensures read { ReadsAll snapshot_at bytes.now result }
@@ -60,7 +60,8 @@ pub fn decode_snapshot<S: DotSet>(alloc: Global, bytes: &[u8]) -> Result<Replica
 fn measure<S: DotSet>(replica: &Replica<S>) -> (u16, u128)
     ensures rows { result.0 ≡ length (rows_from 0 (runs_of (seen_of replica.now.state.lives))) }
     ensures length { result.1 ≡ length (snapshot_text replica.now) }
-    ensures small { replica.now.state.lives ≡ map.empty → replica.now.state.counts ≡ map.empty → length (snapshot_text replica.now) ≤ LIMIT }
+    ensures small { replica.now.state.lives ≡ map.empty → replica.now.state.counts ≡ map.empty
+        → length (snapshot_text replica.now) ≤ LIMIT }
     ensures value { IsSnapshot replica.now }
 {
     let (rows, state_length) = measure_state(replica.state());
@@ -79,7 +80,7 @@ fn put_snapshot<S: DotSet>(
     requires within { length (snapshot_text replica.now) ≤ LIMIT }
     ensures { Adds out.old.items out.new.items (snapshot_text replica.now) result }
 {
-    put_front(out, replica.roster(), replica.own())?;
+    put_header(out, replica.roster(), replica.own())?;
     put_state(out, replica.state(), rows)
 }
 
@@ -87,7 +88,8 @@ fn put_snapshot<S: DotSet>(
 /// then all memory that the text needs is taken at once.
 pub fn encode_snapshot<S: DotSet>(alloc: Global, replica: &Replica<S>) -> Result<Vec<u8>, Fault>
     ensures text { Encodes (snapshot_text replica.now) result }
-    ensures small { replica.now.state.lives ≡ map.empty → replica.now.state.counts ≡ map.empty → length (snapshot_text replica.now) ≤ LIMIT }
+    ensures small { replica.now.state.lives ≡ map.empty → replica.now.state.counts ≡ map.empty
+        → length (snapshot_text replica.now) ≤ LIMIT }
     ensures value { IsSnapshot replica.now }
 {
     let (rows, length) = measure(replica);

@@ -45,7 +45,8 @@ pub fn measure_state<S: DotSet>(state: &State<S>) -> (u16, u128)
     ensures rows { result.0 ≡ length (rows_from 0 (runs_of (seen_of state.now.lives))) }
     ensures length { result.1 ≡ length (state_text state.now) }
     ensures few { result.1 ≤ 2 ^ 101 }
-    ensures dots { (replicas : ℕ) → Fits replicas (coordinates state.now) → AreDotsOf replicas (seen_of state.now.lives) }
+    ensures dots { (replicas : ℕ) → Fits replicas (coordinates state.now)
+        → AreDotsOf replicas (seen_of state.now.lives) }
     ensures value { (replicas : ℕ) → Fits replicas (coordinates state.now) → IsStateOf replicas state.now }
 {
     let lives = state.lives();
@@ -104,7 +105,8 @@ pub fn decode_state<S: DotSet>(
 /// that the text needs is taken at once.
 pub fn encode_state<S: DotSet>(alloc: Global, state: &State<S>) -> Result<Vec<u8>, Fault>
     ensures text { Encodes (state_text state.now) result }
-    ensures dots { (replicas : ℕ) → Fits replicas (coordinates state.now) → AreDotsOf replicas (seen_of state.now.lives) }
+    ensures dots { (replicas : ℕ) → Fits replicas (coordinates state.now)
+        → AreDotsOf replicas (seen_of state.now.lives) }
     ensures value { (replicas : ℕ) → Fits replicas (coordinates state.now) → IsStateOf replicas state.now }
 {
     let (rows, length) = measure_state(state);

@@ -1,7 +1,7 @@
 //! The smallest use of the library: two replicas are edited apart, and the store takes what it lacks of the shop.
 #![tactic(auto)]
 
-use rds_codec::exchange;
+use rds_codec::pull;
 use rds_gaps::GapSet;
 use rds_json::show;
 use rds_names::{Fault, Key, Name, Path, Roster, Scalar};
@@ -19,7 +19,7 @@ fn document(alloc: Global) -> Result<String, Fault> {
     store.edit(Command::Inc(Key::new(alloc, "apples")?, 10))?;
 
     let asked = store.copy(alloc)?;
-    let _answer = exchange(alloc, &shop, &asked, &mut store)?;
+    let _answer = pull(alloc, &shop, &asked, &mut store)?;
     show(alloc, &view(alloc, store.state(), &Path::new(alloc, "")?)?)
 }
 

@@ -7,7 +7,7 @@ use Rattle.std.proofs.lemmas.List.{append-nil, take-append-le}
 use Rattle.rds_names.specs.declared.fault.Fault.TheVariants.{Bad}
 use Rattle.rds_state.specs.Fits.{ReplicaValue}
 use Rattle.rds_bytes.specs.Spelling.{magic}
-use Rattle.rds_bytes.specs.Reading.{magic_at, front_at}
+use Rattle.rds_bytes.specs.Reading.{magic_at, header_at}
 use Rattle.rds_codec.specs.Decoding.{Decodes, all_of}
 use Rattle.rds_codec.specs.Kinds.{snapshot_kind}
 use Rattle.rds_codec.specs.StateTexts.{snapshot_text, snapshot_at}
@@ -28,7 +28,7 @@ unfolding magic_at
 magic_bad input is = grind (arith, nat_tests, bytes_eq-Decides, is.0, is.1)
 
 reads_bad : (input : List ℕ) → IsForeign input → all_of snapshot_at input ≡ Err Bad
-unfolding snapshot_at front_at
+unfolding snapshot_at header_at
 reads_bad input is = rw (magic_bad input is) refl
 
 decodes_bad : (input : List ℕ) → IsForeign input → length input ≤ LIMIT → Decodes snapshot_kind input (Err Bad)

@@ -34,7 +34,8 @@ pub fn write_owned<S: DotSet, W: Write>(
     ensures steady { OnOk result (writer.new.failed ≡ writer.old.failed) }
     ensures turns { writer.new.turns ≡ writer.old.turns }
     ensures renamed { writer.new.renamed ≡ writer.old.renamed }
-    ensures small { replica.state.lives ≡ map.empty → replica.state.counts ≡ map.empty → length (snapshot_text replica) ≤ LIMIT }
+    ensures small { replica.state.lives ≡ map.empty → replica.state.counts ≡ map.empty
+        → length (snapshot_text replica) ≤ LIMIT }
 {
     let text = encode_snapshot(alloc, &replica)?;
     let kept = Kept::new(replica);

@@ -41,7 +41,8 @@ pub fn write_snapshot<S: DotSet, W: Write>(
     ensures steady { OnOk result (writer.new.failed ≡ writer.old.failed) }
     ensures turns { writer.new.turns ≡ writer.old.turns }
     ensures renamed { writer.new.renamed ≡ writer.old.renamed }
-    ensures small { replica.now.state.lives ≡ map.empty → replica.now.state.counts ≡ map.empty → length (snapshot_text replica.now) ≤ LIMIT }
+    ensures small { replica.now.state.lives ≡ map.empty → replica.now.state.counts ≡ map.empty
+        → length (snapshot_text replica.now) ≤ LIMIT }
 {
     let text = encode_snapshot(alloc, replica)?;
     let kept = Kept::new(replica.copy(alloc)?);

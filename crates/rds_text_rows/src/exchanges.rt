@@ -1,6 +1,6 @@
 //! Rows on what is asked, answered and taken by texts.
 use crate::forms::REPLICAS;
-use rds_codec::{decode_digest, decode_snapshot, encode_snapshot, exchange};
+use rds_codec::{decode_digest, decode_snapshot, encode_snapshot, pull};
 use rds_delta::Digest;
 use rds_dots::DotSet;
 use rds_names::Fault;
@@ -56,7 +56,7 @@ fn taken<S: DotSet>(
     let mut asker: Replica<S> = decode_snapshot(alloc, held)?;
     let answerer: Replica<S> = decode_snapshot(alloc, answerer)?;
     let asked: Replica<S> = decode_snapshot(alloc, asked)?;
-    let answer = exchange(alloc, &answerer, &asked, &mut asker)?;
+    let answer = pull(alloc, &answerer, &asked, &mut asker)?;
     let text = encode_snapshot(alloc, &asker)?;
     Ok((text, answer.state.components()))
 }
