@@ -9,6 +9,7 @@ pub mod Moves
 pub mod Runs
 pub mod Scans
 pub mod Sendings
+pub mod Spent
 pub mod Splits
 pub mod Splitting
 pub mod Spoken

@@ -8,6 +8,7 @@ pub mod Judging
 pub mod Leaving
 pub mod Meeting
 pub mod Messages
+pub mod Reads
 pub mod Received
 pub mod Scanning
 pub mod Sending

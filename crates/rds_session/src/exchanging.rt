@@ -1,7 +1,7 @@
 //! A session over a reader and a writer.
-ghost use Rattle.std.specs.Prelude.{◌≡◌, ◌⊎◌, ◌<◌, ℕ, List, Option, true, false, length, OnOk, OnErr, IfOk, IfErr, IfSome};
+ghost use Rattle.std.specs.Prelude.{◌≡◌, ◌⊎◌, ◌-◌, ◌<◌, ◌≤◌, ℕ, List, Option, true, false, length, OnOk, OnErr, IfOk, IfErr, IfSome};
 ghost use Rattle.rds_keep.specs.Counted.{HasFailed};
-ghost use Rattle.rds_keep.specs.Parts.{AppendsPart};
+ghost use Rattle.rds_keep.specs.Parts.{AppendsPart, ConsumesAtMost};
 ghost use Rattle.std.specs.Io.KnownBytes.{Appends};
 ghost use Rattle.rds_names.specs.declared.fault.Fault.TheVariants.{Device};
 ghost use Rattle.rds_session.specs.declared.step.Ended.TheVariants.{Going, Failed};
@@ -9,6 +9,7 @@ ghost use Rattle.rds_session.specs.declared.talk.Side.{Side};
 ghost use Rattle.rds_session.specs.Exchange.{Exchanges};
 ghost use Rattle.rds_session.specs.Received.{HasChecked, IsDoneBy};
 ghost use Rattle.rds_session.specs.Leaving.{IsOfCalls, IsOfSession, IsWrittenUnless, Speaks};
+ghost use Rattle.rds_session.specs.Reads.{most_heard};
 ghost use Rattle.rds_session.specs.Session.{Heard, Nothing};
 ghost use Rattle.rds_session.specs.Steps.{came, Continues, HasStanding, IsNoDevice, IsOver};
 ghost use Rattle.rds_state.specs.Fits.{ReplicaValue};
@@ -45,10 +46,14 @@ fn say<S: DotSet, W: Write>(
     ensures ended { IfOk result (λ e. e ≡ session.new.ended) }
     ensures known { OnOk result (IsNoDevice session.old.ended → IsNoDevice session.new.ended) }
     ensures kept { session.new.kept ≡ session.old.kept }
-    ensures sent { OnOk result ((side : Side) (kept : ReplicaValue) (heard : Heard) → HasStanding side kept heard session.old
-        → (sent : List ℕ) × Continues side kept heard (came input.entry) session.new sent × Appends (W.contents writer.old.inner) (W.contents writer.new.inner) sent) }
-    ensures part { OnErr result ((side : Side) (kept : ReplicaValue) (heard : Heard) → HasStanding side kept heard session.old
-        → (sent : List ℕ) × Continues side kept heard (came input.entry) session.new sent × AppendsPart (W.contents writer.old.inner) (W.contents writer.new.inner) sent) }
+    ensures sent { OnOk result ((side : Side) (kept : ReplicaValue) (heard : Heard)
+        → HasStanding side kept heard session.old
+        → (sent : List ℕ) × Continues side kept heard (came input.entry) session.new sent
+        × Appends (W.contents writer.old.inner) (W.contents writer.new.inner) sent) }
+    ensures part { OnErr result ((side : Side) (kept : ReplicaValue) (heard : Heard)
+        → HasStanding side kept heard session.old
+        → (sent : List ℕ) × Continues side kept heard (came input.entry) session.new sent
+        × AppendsPart (W.contents writer.old.inner) (W.contents writer.new.inner) sent) }
     ensures fault { IfErr result (λ e. (e ≡ Device) × HasFailed writer.old writer.new) }
     ensures steady { OnOk result (writer.new.failed ≡ writer.old.failed) }
 {
@@ -66,19 +71,28 @@ fn turn<S: DotSet, R: Read, W: Write>(
     piece: &mut [u8],
 ) -> Result<Ended, Fault>
     requires room { 0 < length piece.old }
+    requires piece { length piece.old ≤ most_heard 1 }
     requires going { session.old.ended ≡ Going }
     ensures ended { IfOk result (λ e. e ≡ session.new.ended) }
     ensures known { OnOk result (IsNoDevice session.old.ended → IsNoDevice session.new.ended) }
     ensures kept { session.new.kept ≡ session.old.kept }
     ensures speaks { OnOk result ((side : Side) (kept : ReplicaValue) (first before : Option (List ℕ))
-        → Speaks side kept first (R.remaining reader.old.inner) session.old (Appends before (W.contents writer.old.inner))
-        → Speaks side kept first (R.remaining reader.new.inner) session.new (Appends before (W.contents writer.new.inner))) }
+        → Speaks side kept first (R.remaining reader.old.inner) session.old
+        (Appends before (W.contents writer.old.inner))
+        → Speaks side kept first (R.remaining reader.new.inner) session.new
+        (Appends before (W.contents writer.new.inner))) }
     ensures part { OnErr result ((side : Side) (kept : ReplicaValue) (first before : Option (List ℕ))
-        → Speaks side kept first (R.remaining reader.old.inner) session.old (Appends before (W.contents writer.old.inner))
-        → Speaks side kept first (R.remaining reader.new.inner) session.new (IsWrittenUnless (HasFailed writer.old writer.new) before (W.contents writer.new.inner))) }
-    ensures fault { IfErr result (λ e. (e ≡ Device) × (HasFailed reader.old reader.new ⊎ HasFailed writer.old writer.new)) }
+        → Speaks side kept first (R.remaining reader.old.inner) session.old
+        (Appends before (W.contents writer.old.inner))
+        → Speaks side kept first (R.remaining reader.new.inner) session.new
+        (IsWrittenUnless (HasFailed writer.old writer.new) before (W.contents writer.new.inner))) }
+    ensures fault { IfErr result
+        (λ e. (e ≡ Device) × (HasFailed reader.old reader.new ⊎ HasFailed writer.old writer.new)) }
     ensures steady_reader { OnOk result (reader.new.failed ≡ reader.old.failed) }
     ensures steady_writer { OnOk result (writer.new.failed ≡ writer.old.failed) }
+    ensures bound { ConsumesAtMost (R.remaining reader.old.inner) (R.remaining reader.new.inner)
+        (most_heard (reader.old.left - reader.new.left)) }
+    ensures left { reader.new.left ≤ reader.old.left }
     ensures fewer { OnOk result (reader.new.left < reader.old.left) }
 {
     let count = reader.read(piece)?;
@@ -100,12 +114,18 @@ fn talk<S: DotSet, R: Read, W: Write>(
     ensures known { OnOk result (IsNoDevice session.old.ended → IsNoDevice session.new.ended) }
     ensures kept { session.new.kept ≡ session.old.kept }
     ensures speaks { OnOk result ((side : Side) (kept : ReplicaValue) → HasStanding side kept Nothing session.old
-        → Speaks side kept (R.remaining reader.old.inner) (R.remaining reader.new.inner) session.new (Appends (W.contents writer.old.inner) (W.contents writer.new.inner))) }
+        → Speaks side kept (R.remaining reader.old.inner) (R.remaining reader.new.inner) session.new
+        (Appends (W.contents writer.old.inner) (W.contents writer.new.inner))) }
     ensures part { OnErr result ((side : Side) (kept : ReplicaValue) → HasStanding side kept Nothing session.old
-        → Speaks side kept (R.remaining reader.old.inner) (R.remaining reader.new.inner) session.new (IsWrittenUnless (HasFailed writer.old writer.new) (W.contents writer.old.inner) (W.contents writer.new.inner))) }
-    ensures fault { IfErr result (λ e. (e ≡ Device) × (HasFailed reader.old reader.new ⊎ HasFailed writer.old writer.new)) }
+        → Speaks side kept (R.remaining reader.old.inner) (R.remaining reader.new.inner) session.new
+        (IsWrittenUnless (HasFailed writer.old writer.new) (W.contents writer.old.inner)
+        (W.contents writer.new.inner))) }
+    ensures fault { IfErr result
+        (λ e. (e ≡ Device) × (HasFailed reader.old reader.new ⊎ HasFailed writer.old writer.new)) }
     ensures steady_reader { OnOk result (reader.new.failed ≡ reader.old.failed) }
     ensures steady_writer { OnOk result (writer.new.failed ≡ writer.old.failed) }
+    ensures bound { ConsumesAtMost (R.remaining reader.old.inner) (R.remaining reader.new.inner)
+        (most_heard (reader.old.turns - reader.new.left)) }
 {
     let mut ended = say(alloc, session, Input::Bytes(&[]), writer)?;
     let mut piece = [0u8; PIECE];
@@ -135,7 +155,10 @@ pub fn exchange<S: DotSet, R: Read, W: Write>(
     ensures session { IsOfSession side kept.now result.received result.ended }
     ensures heard { IsOfCalls side kept.now (R.remaining reader.old.inner) (R.remaining reader.new.inner)
         (W.contents writer.old.inner) (W.contents writer.new.inner) (HasFailed writer.old writer.new) result.received result.ended }
-    ensures told { ((reader.new.failed ≡ reader.old.failed) × (writer.new.failed ≡ writer.old.failed)) ⊎ (result.ended ≡ Failed Device) }
+    ensures told { ((reader.new.failed ≡ reader.old.failed) × (writer.new.failed ≡ writer.old.failed))
+        ⊎ (result.ended ≡ Failed Device) }
+    ensures bound { ConsumesAtMost (R.remaining reader.old.inner) (R.remaining reader.new.inner)
+        (most_heard (reader.old.turns - reader.new.left)) }
     ensures device { result.ended ≡ Failed Device → HasFailed reader.old reader.new ⊎ HasFailed writer.old writer.new }
     ensures exchange { reader.new.failed ≡ 0 → writer.new.failed ≡ 0 → IfSome (R.remaining reader.old.inner) (λ input.
         Exchanges side kept.now input (W.contents writer.old.inner) (W.contents writer.new.inner) result.received result.ended) }

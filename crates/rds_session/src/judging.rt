@@ -158,8 +158,10 @@ fn passes<S: DotSet>(
     certificate: &Certificate,
 ) -> Result<bool, Fault>
     ensures ok { IfOk result (λ holds. holds ≡ passes (digest_of kept.now.state) delta.now certificate.now) }
-    ensures above { IfOk result (λ holds. holds ≡ true → IsAbove (coordinates delta.now) (ranks (coordinates kept.now.state))) }
-    ensures certified { IfOk result (λ holds. holds ≡ true → IsCertificate (ranks (coordinates kept.now.state)) delta.now certificate.now) }
+    ensures above { IfOk result
+        (λ holds. holds ≡ true → IsAbove (coordinates delta.now) (ranks (coordinates kept.now.state))) }
+    ensures certified { IfOk result
+        (λ holds. holds ≡ true → IsCertificate (ranks (coordinates kept.now.state)) delta.now certificate.now) }
     ensures err { IfErr result (λ fault. fault ≡ Memory) }
 {
     let digest = Digest::of(alloc, kept.state())?;

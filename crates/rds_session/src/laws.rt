@@ -21,11 +21,11 @@ pub fn a_course_is_by_messages()
     ensures quiet { IsQuiet }
 {}
 
-/// Two sessions of replicas with one roster and different numbers, whose
-/// messages are all within the limit. Where each hears a beginning of what the other sent, wherever it was cut, each has
-/// received nothing, or exactly what the other has and it lacks. Where each hears all that the other sent, both have
-/// received that and both are done. And of any session: the end of a stream takes nothing from what was received. The
-/// function does nothing: its contract is these laws.
+/// Two sessions of replicas with one roster and different numbers, whose messages are all within the limit. Where
+/// each hears a beginning of what the other sent, wherever it was cut, each has received nothing, or exactly what the
+/// other has and it lacks. Where each hears all that the other sent, both have received that and both are done. And
+/// of any session: the end of a stream takes nothing from what was received. The function does nothing: its contract
+/// is these laws.
 pub fn two_sessions()
     ensures receive { ReceiveDeltas }
     ensures end { BothEnd }
@@ -40,8 +40,8 @@ pub fn values_are_least()
     ensures passes { PassesExactly }
 {}
 
-/// The greatest length of a message, 256 MiB, without the lengths of its chunks. The function does nothing: its contract is this
-/// number.
+/// The greatest length of a message, 256 MiB, without the lengths of its chunks. The function does nothing: its
+/// contract is this number.
 pub fn limit_of_messages()
     ensures { MESSAGE_LIMIT ≡ 268435456 }
 {}

@@ -97,7 +97,8 @@ fn answer_digest<S: DotSet>(
     peer: u8,
     digest: &Digest<S>,
 ) -> Result<bool, Fault>
-    ensures { SendsAll send.old.items send.new.items (hello_message kept.now ∷ digest_message kept.now ∷ delta_message kept.now peer digest.now ∷ []) result }
+    ensures { SendsAll send.old.items send.new.items
+        (hello_message kept.now ∷ digest_message kept.now ∷ delta_message kept.now peer digest.now ∷ []) result }
 {
     if !send_hello(alloc, send, kept)? {
         return Ok(false);
@@ -115,7 +116,8 @@ fn answer_delta<S: DotSet>(
     peer: u8,
     digest: &Digest<S>,
 ) -> Result<bool, Fault>
-    ensures { SendsAll send.old.items send.new.items (delta_message kept.now peer digest.now ∷ bye_message byes.Done ∷ []) result }
+    ensures { SendsAll send.old.items send.new.items
+        (delta_message kept.now peer digest.now ∷ bye_message byes.Done ∷ []) result }
 {
     if !send_delta(alloc, send, kept, peer, digest)? {
         return Ok(false);
@@ -133,7 +135,8 @@ pub fn send_replies<S: DotSet>(
     turn: &Turn<S>,
     act: &Act<S>,
 ) -> Result<bool, Fault>
-    ensures { SendsAll send.old.items send.new.items (replies_of side kept.now (awaited turn.now) (said act.now)) result }
+    ensures { SendsAll send.old.items send.new.items
+        (replies_of side kept.now (awaited turn.now) (said act.now)) result }
 {
     match side {
         Side::Server => match act {

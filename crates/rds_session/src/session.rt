@@ -111,7 +111,8 @@ impl<'a, S: DotSet> Session<'a, S> {
             → Continues side kept heard (came input.entry) self.new result.send.items }
         ensures ended { result.ended ≡ self.new.ended }
         ensures over { IsOver self.old.ended → (self.new ≡ self.old) × (result.send.items ≡ []) }
-        ensures end { self.old.begun ≡ true → came input.entry ≡ None → (self.new ≡ (cut_off self.old).0) × (result.send.items ≡ []) }
+        ensures end { self.old.begun ≡ true → came input.entry ≡ None → (self.new ≡ (cut_off self.old).0)
+            × (result.send.items ≡ []) }
         ensures device { IsNoDevice self.old.ended → IsNoDevice self.new.ended }
         ensures kept { self.new.kept ≡ self.old.kept }
     {

@@ -1,0 +1,24 @@
+-- How much was heard, read by read.
+use Rattle.std.proofs.Common.{◌≡◌, ℕ, ◌+◌, ◌-◌, ◌<◌, ◌≤◌, List, [], ◌++◌, length, take, Option, arith}
+use Rattle.std.specs.Prelude.{OnOk, Result, Ok, Err}
+use Rattle.std.specs.Io.KnownBytes.{Consumes, ReadConsumes}
+use Rattle.std.proofs.lemmas.List.{length-append, length-take}
+use Rattle.rds_keep.specs.Parts.{ConsumesAtMost}
+use Rattle.rds_session.specs.Reads.{most_heard}
+use Rattle.rds_session.proofs.Turns.{consumes_kept, consumes_none, consumes_then}
+
+-- nothing was read
+pub unread : (input : Option (List ℕ)) (most : ℕ) → ConsumesAtMost input input most
+unread input most = ([], omega (arith), consumes_none input)
+
+-- one read, which took a turn
+pub read_once : {E : Type 0} (now next : Option (List ℕ)) (r : Result ℕ E) (piece : List ℕ) (left later : ℕ) → ReadConsumes now next r piece → length piece ≤ most_heard 1
+    → later ≡ left - 1 → OnOk r (0 < left) → ConsumesAtMost now next (most_heard (left - later))
+read_once now next (Ok n) piece left later read room one some = (take n piece, omega (arith, length-take n piece, room, one, some), read.0)
+read_once now next (Err e) piece left later read room one some = ([], omega (arith), consumes_kept now now next [] (consumes_none now) read)
+
+-- what was read so far, and then more
+pub read_more : (first now next : Option (List ℕ)) (turns left later : ℕ) → ConsumesAtMost first now (most_heard (turns - left)) → ConsumesAtMost now next (most_heard (left - later))
+    → left ≤ turns → later ≤ left → ConsumesAtMost first next (most_heard (turns - later))
+read_more first now next turns left later before more le lower =
+    (before.0 ++ more.0, omega (arith, length-append before.0 more.0, before.1, more.1, le, lower), consumes_then first now next before.0 more.0 before.2 more.2)
