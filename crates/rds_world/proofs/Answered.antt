@@ -1,11 +1,14 @@
 -- Answers do to the value of a world what they do to the model.
-use Rattle.std.proofs.Common.{◌≡◌, ℕ, ◌<◌, ◌≤◌, suc, zero, inl, inr, Bool, true, false, Ok, Err, List, [], ◌∷◌, ◌++◌, length, Option, Some, None, refl, sym, ap, ◌∙◌, subst, arith, slice_get, nat_lt}
+use Rattle.std.proofs.Common.{◌≡◌, ℕ, ◌<◌, ◌≤◌, suc, zero, max, inl, inr, Bool, true, false, List, [], ◌∷◌, ◌++◌, length, Option, Some, None, refl, sym, ap, ◌∙◌, subst, arith, slice_get, nat_lt}
+use mathlib.Core.Bool.{false≢true}
+use mathlib.Core.HLevel.{⊥_prop}
+use mathlib.Core.Logic.{∥∥₁_elim}
 use Rattle.std.specs.List.{AllZip}
-use Rattle.std.specs.Prelude.{is_some}
-use Rattle.rds_names.specs.Roster.{RosterValue}
+use Rattle.std.proofs.lemmas.Bool.{le-leb, leb-true}
+use Rattle.std.specs.Prelude.{is_some, nat_le}
+use Rattle.rds_names.specs.Roster.{Begins}
 use Rattle.rds_names.specs.declared.fault.Fault.{Fault}
 use Rattle.rds_names.specs.declared.fault.Fault.TheVariants.{NoSuch}
-use Rattle.rds_life.specs.Life.{seen_of}
 use Rattle.rds_state.specs.Fits.{ReplicaValue}
 use Rattle.rds_state.specs.Value.{StateValue, coordinates, size}
 use Rattle.rds_state.proofs.JoinLaws.{same_value}
@@ -15,14 +18,10 @@ use Rattle.rds_delta.specs.Least.{least}
 use Rattle.rds_delta.specs.Ranks.{ranks}
 use Rattle.rds_delta.proofs.Grouping.{one_certificate}
 use Rattle.rds_codec.specs.AnswerTexts.{IsAnswerOf, answer, answer_text}
-use Rattle.rds_codec.specs.CertificateTexts.{IsReplicaOf}
-use Rattle.rds_codec.specs.Decoding.{Decodes}
-use Rattle.rds_codec.specs.DigestTexts.{digest_kind}
-use Rattle.rds_bytes.specs.Values.{AreDotsOf}
 use Rattle.rds_codec.specs.declared.limits.TheConstants.{LIMIT}
 use Rattle.rds_world.specs.declared.event.Event.TheVariants.{Answer}
 use Rattle.rds_world.specs.declared.event.Done.TheVariants.{Answered}
-use Rattle.rds_world.specs.World.{World, Question, answered, after, refused, reply, unless_there}
+use Rattle.rds_world.specs.World.{World, Question, after_answer, after, refusal_of, reply, unless_there}
 use Rattle.rds_world.specs.Stored.{AskText, AnswerText, WorldValue}
 use Rattle.rds_world.specs.Stands.{state_of, HoldsAsk, HoldsAnswer, Stands, IsWorld}
 use Rattle.rds_world.specs.Events.{IsLongAnswer, Refuses, NoMemory, Due, Long}
@@ -31,7 +30,7 @@ use Rattle.rds_world.specs.Steps.{IsStopped}
 use Rattle.rds_world.proofs.Performed.{IsDoneTo, is_there, not_there, matched_length, no_memory, read_at, stopped}
 use Rattle.rds_world.proofs.Readings.{read_ranks, unread_ask}
 use Rattle.rds_world.proofs.Standing.{stands_answered, model_after}
-use Rattle.rds_world.proofs.Tables.{Together, matched_at, last_get, same_some}
+use Rattle.rds_world.proofs.Tables.{Together, matched_at, last_get, same_some, slice_get_below}
 
 -- what the model has at the place of a text
 pub record HasPartner {A C : Type 0} (P : A → C → Type 0) (xs : List A) (k : ℕ) (y : C) : Type 0 where
@@ -65,34 +64,47 @@ either : (b : Bool) (due : Option Fault) → due ≡ Some NoSuch → unless_ther
 either true due e = e
 either false due e = refl
 
-pub slice_get_below : {A : Type 0} (xs : List A) (k : ℕ) (x : A) → slice_get xs k ≡ Some x → k < length xs
-slice_get_below [] k x e = cc
-slice_get_below (y ∷ ys) zero x e = omega arith
-slice_get_below (y ∷ ys) (suc k) x e = let below = slice_get_below ys k x e in omega (arith, below)
-
 pub answer_absent : (v : WorldValue) (r k : ℕ) → length v.memory ≤ r → IsStopped v (Answer r k) NoSuch v
 answer_absent v r k h = stopped v (Answer r k) NoSuch (λ w s. Due NoSuch (not_there r w.replicas (unless_there (is_some (slice_get w.asks k)) None) (subst (λ n. n ≤ r) (sym s.replicas) h)))
 
 pub answer_unasked : (v : WorldValue) (r k : ℕ) → length v.asks ≤ k → IsStopped v (Answer r k) NoSuch v
-answer_unasked v r k h = stopped v (Answer r k) NoSuch (λ w s. Due NoSuch (either (nat_lt r w.replicas) (unless_there (is_some (slice_get w.asks k)) None) (absent_at (HoldsAsk (length v.roster.names)) w.asks v.asks k s.asks h)))
+answer_unasked v r k h = stopped v (Answer r k) NoSuch (λ w s. Due NoSuch (either (nat_lt r w.replicas) (unless_there (is_some (slice_get w.asks k)) None) (absent_at HoldsAsk w.asks v.asks k s.asks h)))
+
+-- which of two numbers is less is a fact, though of the model nothing else is known than that there is one
+pub less_by : {A : Type 0} (n m : ℕ) → ∥ A ∥₁ → (A → n ≤ m) → n ≤ m
+less_by n m has less = elim (nat_le n m) as (λ b. nat_le n m ≡ b → n ≤ m) [
+  | true ↦ λ e. leb-true n m e
+  | false ↦ λ e. absurd (∥∥₁_elim has ⊥_prop (λ x. false≢true (sym e ∙ le-leb n m (less x))))
+] refl
 
 module _ (v : WorldValue) (i : IsWorld v) (r k : ℕ) (m : ReplicaValue) (a : AskText) (lt : r < length v.memory) (there : slice_get v.kept r ≡ Some m) (asked : slice_get v.asks k ≡ Some a) where
   abbrev n : ℕ
-  n = length v.roster.names
+  n = max a.names (length m.roster.names)
 
   kept_in_model : (w : World) → Stands v w → w.kept r ≡ coordinates m.state
   kept_in_model w s = s.kept r ∙ ap state_of there
 
-  ask_of : (w : World) → Stands v w → HasPartner (HoldsAsk n) w.asks k a
-  ask_of w s = partner (HoldsAsk n) w.asks v.asks k a s.asks asked
+  ask_of : (w : World) → Stands v w → HasPartner HoldsAsk w.asks k a
+  ask_of w s = partner HoldsAsk w.asks v.asks k a s.asks asked
 
-  pub due : (w : World) → Stands v w → refused w (Answer r k) ≡ None
+  ask_le : (w : World) (s : Stands v w) → (ask_of w s).it.names ≤ n
+  ask_le w s = let names : a.names ≡ (ask_of w s).it.names = (ask_of w s).related.names in omega (arith, names)
+
+  -- the asker is of the roster with which it asked
+  pub asker_met : a.asker < n
+  asker_met =
+      let less : suc a.asker ≤ n = less_by (suc a.asker) n i.model (λ h.
+      let q = ask_of h.world h.stands in
+      let asker : a.asker ≡ q.it.asker = q.related.asker in
+      let names : a.names ≡ q.it.names = q.related.names in
+      let below : q.it.asker < q.it.names = h.rosters.askers k q.it q.there in
+      omega (arith, asker, names, below)) in
+      omega (arith, less)
+
+  pub due : (w : World) → Stands v w → refusal_of w (Answer r k) ≡ None
   due w s =
       is_there r w.replicas (unless_there (is_some (slice_get w.asks k)) None) (subst (λ j. r < j) (sym s.replicas) lt)
       ∙ present_at w.asks k (ask_of w s).it (ask_of w s).there
-
-  same_roster : length m.roster.names ≡ n
-  same_roster = ap (λ (o : RosterValue). length o.names) (i.kept r m there).0
 
   -- the delta against what was asked from
   delta_is : (w : World) (s : Stands v w) (g : DigestValue) (q : Question) → q ≡ (ask_of w s).it → ranks_in g ≡ ranks (ask_of w s).it.state → (x : StateValue) → coordinates x ≡ least (coordinates m.state) (ranks_in g)
@@ -101,16 +113,15 @@ module _ (v : WorldValue) (i : IsWorld v) (r k : ℕ) (m : ReplicaValue) (a : As
       let kept = kept_in_model w s in
       h ∙ sym ((λ j. least (kept j) (ranks (is j).state)) ∙ ap (λ b. least (coordinates m.state) b) (sym e))
 
-  pub answer_stopped : (f : Fault) → HasNoReply (length m.roster.names) a.bytes a.asker m.state f → IsStopped v (Answer r k) f v
+  pub answer_stopped : (f : Fault) → HasNoReply n a.bytes a.asker m.state f → IsStopped v (Answer r k) f v
   answer_stopped f (Lacks is) = no_memory v (Answer r k) f is due (λ x. x) (λ w. tt)
   answer_stopped f (Unread read) = stopped v (Answer r k) f (λ w s.
       let q = ask_of w s in
-      let is = unread_ask n q.it a q.related f (subst (λ j. Decodes (digest_kind j) a.bytes (Err f)) same_roster read) in
+      let is = unread_ask n q.it a q.related (ask_le w s) f read in
       subst (Refuses v w (Answer r k)) (sym is) (NoMemory (due w s) (λ x. x) tt))
   answer_stopped f (TooBig g read is long) = stopped v (Answer r k) f (λ w s.
       let q = ask_of w s in
-      let read' = subst (λ j. Decodes (digest_kind j) a.bytes (Ok g)) same_roster read in
-      let e = read_ranks n q.it a q.related g read' in
+      let e = read_ranks n q.it a q.related (ask_le w s) g read in
       subst (Refuses v w (Answer r k)) (sym is) (Long (due w s)
       (record {
         asked = q.it;
@@ -126,40 +137,39 @@ module _ (v : WorldValue) (i : IsWorld v) (r k : ℕ) (m : ReplicaValue) (a : As
   same_ask : (w : World) (s : Stands v w) (q : Question) → slice_get w.asks k ≡ Some q → q ≡ (ask_of w s).it
   same_ask w s q e = read_at w.asks k (ask_of w s).it q (ask_of w s).there e
 
-  module _ (bytes : List ℕ) (components number : ℕ) (r' : IsReply (length m.roster.names) a.bytes a.asker m.state bytes components) (at : number ≡ length v.answers) where
+  module _ (bytes : List ℕ) (components number : ℕ) (r' : IsReply n a.bytes a.asker m.state bytes components) (at : number ≡ length v.answers) where
     abbrev text : AnswerText
-    text = record { question = k; asker = a.asker; bytes = bytes }
-
-    read : Decodes (digest_kind n) a.bytes (Ok r'.digest)
-    read = subst (λ j. Decodes (digest_kind j) a.bytes (Ok r'.digest)) same_roster r'.read
+    text = record { question = k; asker = a.asker; roster = m.roster; bytes = bytes }
 
     told : (w : World) (s : Stands v w) → ranks_in r'.digest ≡ ranks (ask_of w s).it.state
-    told w s = read_ranks n (ask_of w s).it a (ask_of w s).related r'.digest read
+    told w s = read_ranks n (ask_of w s).it a (ask_of w s).related (ask_le w s) r'.digest r'.read
 
-    holds : (w : World) (s : Stands v w) → HoldsAnswer n w.asks v.asks (reply w r k (ask_of w s).it) text
+    holds : (w : World) (s : Stands v w) → HoldsAnswer v.roster w.asks (reply w r k (ask_of w s).it) text
     holds w s =
         let q = ask_of w s in
         let y = r'.reply in
         let whole : y.value ≡ answer a.asker y.value.state y.value.certificate = λ j. answer (y.answers.asked j) y.value.state y.value.certificate in
+        let kept : length m.roster.names ≡ w.kept_names r = s.kept_names r m there in
+        let names : a.names ≡ q.it.names = q.related.names in
+        let longer : n ≡ max (w.kept_names r) q.it.names = omega (arith, kept, names) in
         record {
           question = refl;
           asker = q.related.asker;
-          replica = subst (λ j. IsReplicaOf j a.asker) same_roster r'.replica;
+          begins = (i.kept r m there).0;
+          names = kept;
           asked = q.it;
           ask = q.there;
-          read = record { ask = a; there = asked; digest = r'.digest; is_text = read.value.1 };
           value = y.value.state;
           state = delta_is w s r'.digest q.it refl (told w s) y.value.state y.answers.delta;
           rows = y.value.certificate;
           certificate = subst (λ b. IsCertificate b y.value.state y.value.certificate) (told w s) y.answers.certificate;
           text = y.text ∙ ap answer_text whole;
           within = y.within;
-          dots = subst (λ j. AreDotsOf j (seen_of y.value.state.lives)) same_roster (y.dots (length m.roster.names) r'.fits);
-          again = subst (IsAnswerOf n) whole (subst (λ j. IsAnswerOf j y.value) same_roster (y.again (length m.roster.names) r'.replica.1 r'.fits));
+          again = subst (λ j. IsAnswerOf j (answer a.asker y.value.state y.value.certificate)) longer (subst (IsAnswerOf n) whole (y.again n r'.replica.1 r'.fits));
         }
 
     answered_so : (w : World) (s : Stands v w) → after w (Answer r k) ≡ record w { answers = w.answers ++ reply w r k (ask_of w s).it ∷ [] }
-    answered_so w s = ap (answered w r k) (ask_of w s).there
+    answered_so w s = ap (after_answer w r k) (ask_of w s).there
 
     stands : (w : World) (s : Stands v w) → Stands (record v { answers = v.answers ++ text ∷ [] }) (after w (Answer r k))
     stands w s = subst (Stands (record v { answers = v.answers ++ text ∷ [] })) (sym (answered_so w s)) (stands_answered v w (reply w r k (ask_of w s).it) text s (holds w s))
@@ -188,11 +198,11 @@ module _ (v : WorldValue) (i : IsWorld v) (r k : ℕ) (m : ReplicaValue) (a : As
             memory = i.memory;
             kept = i.kept;
             same_length = i.same_length;
-            within = i.within;
+            whole = i.whole;
             asks = i.asks;
             answers = λ j b h. elim (last_get v.answers text b j (subst (λ (l : List AnswerText). slice_get l j ≡ Some b) are h)) [
               | inl old ↦ i.answers j b old
-              | inr new ↦ subst (λ (z : AnswerText). (z.asker < length v.memory) × (z.question < length v.asks)) (sym new) (i.asks k a asked, slice_get_below v.asks k a asked)
+              | inr new ↦ subst (λ (z : AnswerText). (z.asker < length v.memory) × ((z.question < length v.asks) × Begins z.roster v.roster)) (sym new) (i.asks k a asked, (slice_get_below v.asks k a asked, (i.kept r m there).0))
             ];
             model = model_after v (record v { answers = answers }) (Answer r k) (λ w s. (due w s, stands' w s)) i.model;
           };
@@ -203,7 +213,7 @@ module _ (v : WorldValue) (i : IsWorld v) (r k : ℕ) (m : ReplicaValue) (a : As
             };
             stands = stands';
             done = λ w s. record {
-              number = at ∙ sym (matched_length (HoldsAnswer n w.asks v.asks) w.answers v.answers s.answers);
+              number = at ∙ sym (matched_length (HoldsAnswer v.roster w.asks) w.answers v.answers s.answers);
               components = λ q d there' is.
                   (let same = same_ask w s q there' in
                   let e : coordinates d ≡ coordinates r'.reply.value.state = is ∙ ap (λ (z : Question). (reply w r k z).state) same ∙ sym (delta_is w s r'.digest (ask_of w s).it refl (told w s) r'.reply.value.state r'.reply.answers.delta) in

@@ -3,8 +3,8 @@ use Rattle.std.proofs.Common.{◌≡◌, length, ℕ, List, [], ◌∷◌, ◌++
 use Rattle.rds_state.specs.Coordinates.{AtMost, AreCompatible}
 use Rattle.rds_state.proofs.JoinLaws.{reflexive, transitive}
 use Rattle.rds_world.specs.declared.event.Event.{Event}
-use Rattle.rds_world.specs.declared.event.Event.TheVariants.{Edit, Save, Crash, Ask, Answer, Take}
-use Rattle.rds_world.specs.World.{World, Question, Reply, start, reply, answered, taken, after, run, Accepted}
+use Rattle.rds_world.specs.declared.event.Event.TheVariants.{Edit, Save, Crash, Ask, Answer, Take, Grow}
+use Rattle.rds_world.specs.World.{World, Question, Reply, start, reply, after_answer, after_take, after, run, Accepted}
 use Rattle.rds_world.specs.Coherent.{IsCoherent}
 use Rattle.rds_world.specs.Law.{world_after, BringsWhatWasKept, EachAnswerBringsWhatWasKept}
 use Rattle.rds_delta.proofs.LeastLaws.{grown_delta, least_delta}
@@ -15,11 +15,11 @@ use Rattle.rds_world.proofs.Tables.{get_front, get_last}
 
 -- ---- what is kept only grows
 
-answered_kept : (w : World) (s k : ℕ) (o : Option Question) → (answered w s k o).kept ≡ w.kept
+answered_kept : (w : World) (s k : ℕ) (o : Option Question) → (after_answer w s k o).kept ≡ w.kept
 answered_kept w s k None = refl
 answered_kept w s k (Some q) = refl
 
-taken_kept : (w : World) (o : Option Reply) → (taken w o).kept ≡ w.kept
+taken_kept : (w : World) (o : Option Reply) → (after_take w o).kept ≡ w.kept
 taken_kept w None = refl
 taken_kept w (Some m) = refl
 
@@ -28,6 +28,7 @@ kept_step w i (Edit s c) r = reflexive (w.kept r)
 kept_step w i (Save s) r = kept_grows w i s r
 kept_step w i (Crash s) r = reflexive (w.kept r)
 kept_step w i (Ask s) r = reflexive (w.kept r)
+kept_step w i (Grow s name) r = reflexive (w.kept r)
 kept_step w i (Answer s k) r = subst (λ f. AtMost (w.kept r) (f r)) (sym (answered_kept w s k (slice_get w.asks k))) (reflexive (w.kept r))
 kept_step w i (Take k) r = subst (λ f. AtMost (w.kept r) (f r)) (sym (taken_kept w (slice_get w.answers k))) (reflexive (w.kept r))
 
@@ -37,11 +38,11 @@ kept_run (e ∷ es) w i a r = transitive _ _ _ (kept_step w i e r) (kept_run es 
 
 -- ---- an answer keeps its number
 
-answered_stands : (w : World) (s j : ℕ) (o : Option Question) (k : ℕ) (m : Reply) → slice_get w.answers k ≡ Some m → slice_get (answered w s j o).answers k ≡ Some m
+answered_stands : (w : World) (s j : ℕ) (o : Option Question) (k : ℕ) (m : Reply) → slice_get w.answers k ≡ Some m → slice_get (after_answer w s j o).answers k ≡ Some m
 answered_stands w s j None k m e = e
 answered_stands w s j (Some q) k m e = get_front w.answers (reply w s j q ∷ []) k m e
 
-taken_stands : (w : World) (o : Option Reply) (k : ℕ) (m : Reply) → slice_get w.answers k ≡ Some m → slice_get (taken w o).answers k ≡ Some m
+taken_stands : (w : World) (o : Option Reply) (k : ℕ) (m : Reply) → slice_get w.answers k ≡ Some m → slice_get (after_take w o).answers k ≡ Some m
 taken_stands w None k m e = e
 taken_stands w (Some q) k m e = e
 
@@ -50,6 +51,7 @@ stands_step w (Edit s c) k m e = e
 stands_step w (Save s) k m e = e
 stands_step w (Crash s) k m e = e
 stands_step w (Ask s) k m e = e
+stands_step w (Grow s name) k m e = e
 stands_step w (Answer s j) k m e = answered_stands w s j (slice_get w.asks j) k m e
 stands_step w (Take j) k m e = taken_stands w (slice_get w.answers j) k m e
 
@@ -66,13 +68,13 @@ answer_brings w i es s k q e a agree =
     transitive _ _ _ (i.asks_below k q e) (transitive _ _ _ (kept_step w i (Answer s k) q.asker) (transitive _ _ _ (kept_run es (after w (Answer s k)) next a.1 q.asker) (last.kept_below q.asker))) in
     record {
       stands = stands_run es (after w (Answer s k)) (length w.answers) (reply w s k q)
-          (subst (λ o. slice_get (answered w s k o).answers (length w.answers) ≡ Some (reply w s k q)) (sym e) (get_last w.answers (reply w s k q)));
+          (subst (λ o. slice_get (after_answer w s k o).answers (length w.answers) ≡ Some (reply w s k q)) (sym e) (get_last w.answers (reply w s k q)));
       compatible = agree;
       effect = grown_delta (w.kept s) q.state ((run es (after w (Answer s k))).memory q.asker) up;
       least = λ c h p. least_delta (w.kept s) q.state c p;
     }
 
-pub each_answer_brings : (n : ℕ) (es : List Event) → Accepted es (start n) → EachAnswerBringsWhatWasKept n es
+pub each_answer_brings : (n : List (List ℕ)) (es : List Event) → Accepted es (start n) → EachAnswerBringsWhatWasKept n es
 each_answer_brings n es a before later s k q is e =
     let whole : Accepted (before ++ Answer s k ∷ later) (start n) = subst (λ fs. Accepted fs (start n)) is a in
     let both = (accepted_on before (Answer s k ∷ later) (start n)).0 whole in

@@ -1,5 +1,5 @@
 -- Coherence is kept by each event.
-use Rattle.std.proofs.Common.{◌≡◌, ◌≢◌, ◌<◌, ℕ, Bool, true, false, cond, List, [], ◌∷◌, ◌++◌, refl, sym, ap, ◌∙◌, subst, inl, inr, ◌⊎◌, arith, nat_lt, Option, Some, None, slice_get}
+use Rattle.std.proofs.Common.{◌≡◌, ◌≢◌, ◌<◌, ℕ, Bool, true, false, cond, List, [], ◌∷◌, ◌++◌, refl, sym, ap, ◌∙◌, subst, inl, inr, ◌⊎◌, arith, nat_lt, suc, max, Option, Some, None, slice_get, length}
 use Rattle.std.specs.Prelude.{is_some}
 use Rattle.std.proofs.lemmas.Bool.Decides.{nat_tests}
 use Rattle.rds_names.specs.declared.entry.Entry.{Entry}
@@ -14,11 +14,12 @@ use Rattle.rds_state.specs.Fits.{Fits}
 use Rattle.rds_state.specs.Friends.{KnowsItsOwn}
 use Rattle.rds_state.specs.Made.{entry_made}
 use Rattle.rds_state.specs.declared.command.Command.{Command}
+use Rattle.rds_state.proofs.FitsLemmas.{fits_more}
 use Rattle.rds_state.proofs.JoinLaws.{reflexive, transitive, above_left, compatible_join}
 use Rattle.rds_delta.specs.Ranks.{ranks}
 use Rattle.rds_world.specs.declared.event.Event.{Event}
-use Rattle.rds_world.specs.declared.event.Event.TheVariants.{Edit, Save, Crash, Ask, Answer, Take}
-use Rattle.rds_world.specs.World.{World, Question, Reply, empty, put, start, edited, reply, answered, taken, after, refused, run, Accepted}
+use Rattle.rds_world.specs.declared.event.Event.TheVariants.{Edit, Save, Crash, Ask, Answer, Take, Grow}
+use Rattle.rds_world.specs.World.{World, Question, Reply, empty, put, start, after_edit, reply, after_answer, after_take, after, refusal_of, run, Accepted}
 use Rattle.rds_world.specs.Coherent.{Position, AtMemory, AtKept, AtAsk, AtAnswer, state_asked, state_answered, state_at, AnswersIts, IsCoherent}
 use Rattle.rds_delta.proofs.LeastLaws.{compatible_sym, compatible_least, least_part, least_above}
 use Rattle.rds_world.proofs.States.{by_life, agree_if, compatible_same, knows_same, knows_grown, knows_join, knows_less, fits_join, fits_below}
@@ -155,9 +156,9 @@ module _ (w : World) (i : IsCoherent w) where
 
   -- ---- a memory becomes a state that agrees with all, and has of others what they keep
 
-  module _ (r : ℕ) (x : Coordinates) (c : (a : Coordinates) → IsIn w a → AreCompatible x a) (f : Fits w.replicas x) (k : (s : ℕ) → r ≢ s → KnowsItsOwn s (w.kept s) x) (b : AtMost (w.memory r) x) where
+  module _ (r : ℕ) (x : Coordinates) (c : (a : Coordinates) → IsIn w a → AreCompatible x a) (f : Fits w.replicas x) (k : (s : ℕ) → r ≢ s → KnowsItsOwn s (w.kept s) x) (b : AtMost (w.memory r) x) (ns : ℕ → ℕ) where
     abbrev grown : World
-    grown = record w { memory = put w.memory r x }
+    grown = record w { memory = put w.memory r x; memory_names = ns }
 
     grown_in : (a : Coordinates) → IsIn grown a → IsIn w a ⊎ (a ≡ x)
     grown_in a (of_memory t) = put_one (λ t a. IsIn w a ⊎ (a ≡ x)) w.memory r x (inr refl) (λ t n. inl (of_memory t)) t
@@ -219,26 +220,28 @@ module _ (w : World) (i : IsCoherent w) where
     }
 
     edit_coherent : IsCoherent (after w (Edit r c))
-    edit_coherent = memory_grows r (edited (w.memory r) r c)
+    edit_coherent = memory_grows r (after_edit (w.memory r) r c)
         (λ a x. compatible_join (w.memory r) its_effect a (agree_in w i (w.memory r) a (of_memory r) x) (effect_agrees_all a x))
         (fits_join w.replicas (w.memory r) its_effect (fits_in w i (w.memory r) (of_memory r)) effect_fits)
         (λ s n. knows_join s (w.kept s) (w.memory r) its_effect (i.in_memory r s n) (effect_known s n))
         (above_left (w.memory r) its_effect)
+        w.memory_names
 
   -- ---- Take
 
-  take_coherent : (k : ℕ) (o : Option Reply) → slice_get w.answers k ≡ o → IsCoherent (taken w o)
+  take_coherent : (k : ℕ) (o : Option Reply) → slice_get w.answers k ≡ o → IsCoherent (after_take w o)
   take_coherent k None e = i
   take_coherent k (Some m) e = memory_grows m.asker (join (w.memory m.asker) m.state)
       (λ a x. compatible_join (w.memory m.asker) m.state a (agree_in w i (w.memory m.asker) a (of_memory m.asker) x) (agree_in w i m.state a (of_answer k m e) x))
       (fits_join w.replicas (w.memory m.asker) m.state (fits_in w i (w.memory m.asker) (of_memory m.asker)) (fits_in w i m.state (of_answer k m e)))
       (λ s n. knows_join s (w.kept s) (w.memory m.asker) m.state (i.in_memory m.asker s n) (i.in_answers k m e s))
       (above_left (w.memory m.asker) m.state)
+      (put w.memory_names m.asker (max (w.memory_names m.asker) m.names))
 
   -- ---- Ask
 
   abbrev question : ℕ → Question
-  question r = record { asker = r; state = w.kept r }
+  question r = record { asker = r; names = w.kept_names r; state = w.kept r }
 
   asking_in : (r : ℕ) (a : Coordinates) → IsIn (after w (Ask r)) a → IsIn w a
   asking_in r a (of_memory t) = of_memory t
@@ -271,7 +274,7 @@ module _ (w : World) (i : IsCoherent w) where
     abbrev new : Reply
     new = reply w s k q
 
-    answering_in : (a : Coordinates) → IsIn (answered w s k (Some q)) a → IsIn w a ⊎ (a ≡ new.state)
+    answering_in : (a : Coordinates) → IsIn (after_answer w s k (Some q)) a → IsIn w a ⊎ (a ≡ new.state)
     answering_in a (of_memory t) = inl (of_memory t)
     answering_in a (of_kept t) = inl (of_kept t)
     answering_in a (of_ask j p e) = inl (of_ask j p e)
@@ -286,10 +289,10 @@ module _ (w : World) (i : IsCoherent w) where
     new_its : AnswersIts w.asks new
     new_its = record { question = q; asked = asked; asker = refl; above = least_above (w.kept s) (ranks q.state) }
 
-    answer_coherent : IsCoherent (answered w s k (Some q))
+    answer_coherent : IsCoherent (after_answer w s k (Some q))
     answer_coherent = record {
-      compatible = one_more w (answered w s k (Some q)) i new.state answering_in new_agrees;
-      fits = one_fits w (answered w s k (Some q)) i new.state answering_in new_fits;
+      compatible = one_more w (after_answer w s k (Some q)) i new.state answering_in new_agrees;
+      fits = one_fits w (after_answer w s k (Some q)) i new.state answering_in new_fits;
       in_memory = i.in_memory;
       in_kept = i.in_kept;
       in_asks = i.in_asks;
@@ -302,9 +305,33 @@ module _ (w : World) (i : IsCoherent w) where
       answers_its = λ j m e. elim (last_get w.answers new m j e) [ inl p ↦ i.answers_its j m p | inr p ↦ subst (AnswersIts w.asks) (sym p) new_its ];
     }
 
-  answer_any : (s k : ℕ) (o : Option Question) → slice_get w.asks k ≡ o → s < w.replicas → IsCoherent (answered w s k o)
+  answer_any : (s k : ℕ) (o : Option Question) → slice_get w.asks k ≡ o → s < w.replicas → IsCoherent (after_answer w s k o)
   answer_any s k None e lt = i
   answer_any s k (Some q) e lt = answer_coherent s k q e lt
+
+  -- ---- Grow
+
+  growing_in : (r : ℕ) (name : List ℕ) (a : Coordinates) → IsIn (after w (Grow r name)) a → IsIn w a
+  growing_in r name a (of_memory t) = of_memory t
+  growing_in r name a (of_kept t) = of_kept t
+  growing_in r name a (of_ask k q e) = of_ask k q e
+  growing_in r name a (of_answer k m e) = of_answer k m e
+
+  grow_coherent : (r : ℕ) (name : List ℕ) → IsCoherent (after w (Grow r name))
+  grow_coherent r name = record {
+    compatible = none_more w (after w (Grow r name)) i (growing_in r name);
+    fits = λ p a d. fits_more w.replicas (suc w.replicas) a (omega arith) (none_fit w (after w (Grow r name)) i (growing_in r name) p a d);
+    in_memory = i.in_memory;
+    in_kept = i.in_kept;
+    in_asks = i.in_asks;
+    in_answers = i.in_answers;
+    kept_below = i.kept_below;
+    asks_below = i.asks_below;
+    answers_below = i.answers_below;
+    askers = λ k q e. let h : q.asker < w.replicas = i.askers k q e in omega arith;
+    makers = λ k m e. let h : m.maker < w.replicas = i.makers k m e in omega arith;
+    answers_its = i.answers_its;
+  }
 
 -- what an event that isn't refused says of its numbers
 pub there : (b : Bool) (due : Option Fault) → cond b due (Some NoSuch) ≡ None → due ≡ None
@@ -314,27 +341,28 @@ there false due h = cc
 pub is_there : (r n : ℕ) (due : Option Fault) → cond (nat_lt r n) due (Some NoSuch) ≡ None → r < n
 is_there r n due h = grind (arith, nat_tests)
 
-pub event_coherent : (w : World) (i : IsCoherent w) (e : Event) → refused w e ≡ None → IsCoherent (after w e)
+pub event_coherent : (w : World) (i : IsCoherent w) (e : Event) → refusal_of w e ≡ None → IsCoherent (after w e)
 event_coherent w i (Edit r c) ok = edit_coherent w i r c (is_there r w.replicas (refusal (w.memory r) r c) ok) (there (nat_lt r w.replicas) (refusal (w.memory r) r c) ok)
 event_coherent w i (Save r) ok = save_coherent w i r
 event_coherent w i (Crash r) ok = crash_coherent w i r
 event_coherent w i (Ask r) ok = ask_coherent w i r (is_there r w.replicas None ok)
 event_coherent w i (Answer s k) ok = answer_any w i s k (slice_get w.asks k) refl (is_there s w.replicas (cond (is_some (slice_get w.asks k)) None (Some NoSuch)) ok)
 event_coherent w i (Take k) ok = take_coherent w i k (slice_get w.answers k) refl
+event_coherent w i (Grow r name) ok = grow_coherent w i r name
 
-is_empty : (n : ℕ) (p : Position) (a : Coordinates) → state_at (start n) p ≡ Some a → empty ≡ a
+is_empty : (n : List (List ℕ)) (p : Position) (a : Coordinates) → state_at (start n) p ≡ Some a → empty ≡ a
 is_empty n (AtMemory s) a e = same_some empty a e
 is_empty n (AtKept s) a e = same_some empty a e
 is_empty n (AtAsk k) a e = cc
 is_empty n (AtAnswer k) a e = cc
 
-empty_fits : (n : ℕ) → Fits n empty
+pub empty_fits : (n : ℕ) → Fits n empty
 empty_fits n = record { dots = λ d p. cc; numbers = λ q p. absurd (omega arith) }
 
-pub coherent_start : (n : ℕ) → IsCoherent (start n)
-coherent_start n = record {
-  compatible = λ p q a b d e. subst (λ x. AreCompatible x b) (is_empty n p a d) (subst (AreCompatible empty) (is_empty n q b e) (compatible_same empty));
-  fits = λ p a d. subst (Fits n) (is_empty n p a d) (empty_fits n);
+pub coherent_start : (ns : List (List ℕ)) → IsCoherent (start ns)
+coherent_start ns = record {
+  compatible = λ p q a b d e. subst (λ x. AreCompatible x b) (is_empty ns p a d) (subst (AreCompatible empty) (is_empty ns q b e) (compatible_same empty));
+  fits = λ p a d. subst (Fits (length ns)) (is_empty ns p a d) (empty_fits (length ns));
   in_memory = λ r s d. knows_same s empty;
   in_kept = λ r s. knows_same s empty;
   in_asks = λ k q e s. cc;

@@ -1,5 +1,5 @@
 -- A counter's numbers in a state are sums over the updates that it holds.
-use Rattle.std.proofs.Common.{◌≡◌, ℕ, ◌+◌, ◌≤◌, ◌<◌, suc, zero, Bool, true, cond, List, [], ◌∷◌, refl, sym, ap, ◌∙◌, subst, inl, inr, ◌⊎◌, arith, ◌==◌, ◌&&◌, Option, Some, None, slice_get}
+use Rattle.std.proofs.Common.{◌≡◌, ℕ, ◌+◌, ◌≤◌, ◌<◌, suc, zero, Bool, true, cond, List, refl, sym, ap, ◌∙◌, subst, inl, inr, ◌⊎◌, arith, ◌==◌, ◌&&◌}
 use Rattle.std.specs.Prelude.{pos, ◌-ℤ◌}
 use Rattle.std.specs.List.{sum_by, range_with_len}
 use Rattle.std.proofs.lemmas.Bool.Decides.{nat_tests}
@@ -9,9 +9,7 @@ use Rattle.rds_counts.specs.Place.{Place}
 use Rattle.rds_counts.specs.Counted.{place}
 use Rattle.rds_state.specs.Coordinates.{Coordinates}
 use Rattle.rds_state.specs.Document.{IsCounted, total_in, value_in}
-use Rattle.rds_world.specs.declared.event.Event.{Event}
-use Rattle.rds_world.specs.declared.event.Event.TheVariants.{Edit, Save, Crash, Ask, Answer, Take}
-use Rattle.rds_world.specs.World.{World, Question, Reply, answered, taken, after, run}
+use Rattle.rds_world.specs.World.{World}
 use Rattle.rds_world.specs.Held.{Update, Holdings, amount, share, IsChanged, total_of, value_of}
 use Rattle.rds_world.specs.Coherent.{Store, state_in}
 use Rattle.rds_world.specs.Law.{held_in}
@@ -217,25 +215,3 @@ store_shows T B h w l R e le x r = record {
   keys = λ key. (counted_changed T B h w l x r key, changed_counted T B h w l x r key);
   values = λ key. store_value T B h w l x r key R e le;
 }
-
--- ---- the roster stays
-
-answered_replicas : (w : World) (s k : ℕ) (o : Option Question) → (answered w s k o).replicas ≡ w.replicas
-answered_replicas w s k None = refl
-answered_replicas w s k (Some q) = refl
-
-taken_replicas : (w : World) (o : Option Reply) → (taken w o).replicas ≡ w.replicas
-taken_replicas w None = refl
-taken_replicas w (Some m) = refl
-
-after_replicas : (w : World) (e : Event) → (after w e).replicas ≡ w.replicas
-after_replicas w (Edit r c) = refl
-after_replicas w (Save r) = refl
-after_replicas w (Crash r) = refl
-after_replicas w (Ask r) = refl
-after_replicas w (Answer s k) = answered_replicas w s k (slice_get w.asks k)
-after_replicas w (Take k) = taken_replicas w (slice_get w.answers k)
-
-pub run_replicas : (es : List Event) (w : World) → (run es w).replicas ≡ w.replicas
-run_replicas [] w = refl
-run_replicas (e ∷ es) w = run_replicas es (after w e) ∙ after_replicas w e

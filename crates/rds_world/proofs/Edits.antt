@@ -14,7 +14,7 @@ use Rattle.rds_state.specs.Edit.{IsMade, effect, JoinsEffect}
 use Rattle.rds_state.specs.Made.{entry_where, entry_from, entry_made}
 use Rattle.rds_state.specs.declared.command.Command.{Command}
 use Rattle.rds_state.specs.declared.command.Command.TheVariants.{Set, Add, Del, Clear, Inc, Dec}
-use Rattle.rds_world.specs.World.{edited}
+use Rattle.rds_world.specs.World.{after_edit}
 
 abbrev parts : List (List ℕ) → Kind → Scalar → Parts
 parts p k v = record { path = p; kind = k; value = v }
@@ -48,5 +48,5 @@ made_is (Clear p) made h = h
 made_is (Inc k by) made h = h
 made_is (Dec k by) made h = h
 
-pub edit_is : (a b : Coordinates) (own : ℕ) (c : Command) → JoinsEffect a own c b → b ≡ edited a own c
+pub edit_is : (a b : Coordinates) (own : ℕ) (c : Command) → JoinsEffect a own c b → b ≡ after_edit a own c
 edit_is a b own c h = h.joined ∙ ap (λ m. join a (effect a own c m)) (made_is c h.made h.is_made)

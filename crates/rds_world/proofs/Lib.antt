@@ -10,10 +10,14 @@ pub mod Facts
 pub mod Friends
 pub mod Invariant
 pub mod Joins
+mod Grown
+mod Longer
+pub mod Meeting
 pub mod Sendings
 pub mod Openings
 pub mod Performed
 pub mod Readings
+pub mod Rosters
 pub mod Runs
 pub mod Simulated
 pub mod Standing

@@ -3,11 +3,10 @@ use Rattle.std.proofs.Common.{◌≡◌, ◌≢◌, Bool, true, false, ◌+◌, 
 use Rattle.std.specs.List.{AllZip}
 use Rattle.std.proofs.Math.ListN.{set, length-set}
 use Rattle.std.proofs.lemmas.Bool.{lt-ltb, le-ltb}
-use Rattle.rds_names.specs.Roster.{RosterValue}
+use Rattle.rds_names.specs.Roster.{RosterValue, Begins}
 use Rattle.rds_names.specs.declared.fault.Fault.{Fault}
 use Rattle.rds_names.specs.declared.fault.Fault.TheVariants.{Memory, NoSuch, TooLong}
 use Rattle.rds_life.specs.Life.{live_rows}
-use Rattle.rds_state.specs.Coordinates.{Coordinates}
 use Rattle.rds_state.specs.Edit.{IsDue, JoinsEffect, covers, needs_room, new_dot, refusal}
 use Rattle.rds_state.specs.Fits.{ReplicaValue}
 use Rattle.rds_state.specs.Value.{coordinates}
@@ -20,13 +19,13 @@ use Rattle.rds_codec.specs.declared.limits.TheConstants.{LIMIT}
 use Rattle.rds_world.specs.declared.event.Event.{Event}
 use Rattle.rds_world.specs.declared.event.Event.TheVariants.{Edit, Save, Crash, Ask}
 use Rattle.rds_world.specs.declared.event.Done.TheVariants.{Edited, Plain, Asked}
-use Rattle.rds_world.specs.World.{World, edited, refused, unless_there}
+use Rattle.rds_world.specs.World.{World, Question, after_edit, put, refusal_of, unless_there}
 use Rattle.rds_world.specs.Stored.{AskText, WorldValue}
-use Rattle.rds_world.specs.Stands.{state_of, HoldsAsk, Stands, HasModel, IsWorld}
+use Rattle.rds_world.specs.Stands.{state_of, HoldsAsk, Stands, HasModel, IsWhole, IsWorld}
 use Rattle.rds_world.specs.Events.{Refuses, NoMemory, Due, Long, SavesTooLong, TakesMemory, IsLongSnapshot}
 use Rattle.rds_world.specs.Steps.{IsStep, IsStopped}
 use Rattle.rds_world.proofs.Edits.{edit_is}
-use Rattle.rds_world.proofs.Standing.{places_set, stands_memory, stands_kept, stands_asked, model_after}
+use Rattle.rds_world.proofs.Standing.{names_put, names_same, places_set, stands_memory, stands_kept, stands_asked, model_after}
 use Rattle.rds_world.proofs.Tables.{same_some, last_get}
 
 -- the world that an event leaves is one, and stands for the model's
@@ -60,7 +59,7 @@ pub stopped : (v : WorldValue) (e : Event) (f : Fault) → ((w : World) → Stan
 stopped v e f h = record { refused = h; same = refl }
 
 -- want of memory, where nothing is in the way that is found without memory
-pub no_memory : (v : WorldValue) (e : Event) (f : Fault) → f ≡ Memory → ((w : World) → Stands v w → refused w e ≡ None) → (SavesTooLong v e → ⊥) → ((w : World) → TakesMemory w e) → IsStopped v e f v
+pub no_memory : (v : WorldValue) (e : Event) (f : Fault) → f ≡ Memory → ((w : World) → Stands v w → refusal_of w e ≡ None) → (SavesTooLong v e → ⊥) → ((w : World) → TakesMemory w e) → IsStopped v e f v
 no_memory v e f is due short takes = subst (λ x. IsStopped v e x v) (sym is) (stopped v e Memory (λ w s. NoMemory (due w s) short (takes w)))
 
 -- a replica of the world is one of the model's
@@ -82,15 +81,19 @@ ask_absent v r h = stopped v (Ask r) NoSuch (λ w s. Due NoSuch (not_there r w.r
 pub stopped_same : (v u : WorldValue) (e : Event) (f : Fault) → u ≡ v → IsStopped v e f v → IsStopped v e f u
 stopped_same v u e f same h = record { refused = h.refused; same = same }
 
+whole_as : (roster : RosterValue) (xs ys : List ReplicaValue) → length ys ≡ length xs → IsWhole roster xs → IsWhole roster ys
+whole_as roster xs ys same (inl none) = inl (same ∙ none)
+whole_as roster xs ys same (inr all) = inr (same ∙ all)
+
 -- a world with another replica in memory
-pub world_memory : (v : WorldValue) (i : IsWorld v) (r : ℕ) (x : ReplicaValue) → r < length v.memory → (x.roster ≡ v.roster) × (x.own ≡ r) → ∥ HasModel (record v { memory = set v.memory r x }) ∥₁ → IsWorld (record v { memory = set v.memory r x })
+pub world_memory : (v : WorldValue) (i : IsWorld v) (r : ℕ) (x : ReplicaValue) → r < length v.memory → Begins x.roster v.roster × (x.own ≡ r) → ∥ HasModel (record v { memory = set v.memory r x }) ∥₁ → IsWorld (record v { memory = set v.memory r x })
 world_memory v i r x lt at model =
     let len : length (set v.memory r x) ≡ length v.memory = length-set v.memory r x in
     record {
       memory = places_set v.roster v.memory r x lt at i.memory;
       kept = i.kept;
       same_length = i.same_length ∙ sym len;
-      within = subst (λ n. n ≤ length v.roster.names) (sym len) i.within;
+      whole = whole_as v.roster v.memory (set v.memory r x) len i.whole;
       asks = λ k a h. subst (λ n. a.asker < n) (sym len) (i.asks k a h);
       answers = λ k a h. (let x = i.answers k a h in (subst (λ n. a.asker < n) (sym len) x.0, x.1));
       model = model;
@@ -111,7 +114,7 @@ module _ (v : WorldValue) (i : IsWorld v) (r : ℕ) (m : ReplicaValue) (lt : r <
   -- ---- edits
 
   module _ (c : Command) where
-    edit_due : (w : World) → Stands v w → refused w (Edit r c) ≡ refusal (coordinates m.state) m.own c
+    edit_due : (w : World) → Stands v w → refusal_of w (Edit r c) ≡ refusal (coordinates m.state) m.own c
     edit_due w s =
         let own : r ≡ m.own = sym (i.memory r m there).1 in
         let same = in_model w s in
@@ -138,11 +141,12 @@ module _ (v : WorldValue) (i : IsWorld v) (r : ℕ) (m : ReplicaValue) (lt : r <
         → IsDoneTo v (Edit r c) (Edited e) (record v { memory = set v.memory r x })
     edit_done x e same joins dot killed due =
         let own : r ≡ m.own = sym (i.memory r m there).1 in
-        let at : (x.roster ≡ v.roster) × (x.own ≡ r) = (same.0 ∙ (i.memory r m there).0, same.1 ∙ (i.memory r m there).1) in
+        let at : Begins x.roster v.roster × (x.own ≡ r) = (subst (λ o. Begins o v.roster) (sym same.0) (i.memory r m there).0, same.1 ∙ (i.memory r m there).1) in
+        let names : (w : World) → Stands v w → length x.roster.names ≡ w.memory_names r = λ w s. ap (λ (o : RosterValue). length o.names) same.0 ∙ s.memory_names r m there in
         let stands : (w : World) → Stands v w → Stands (record v { memory = set v.memory r x }) (Rattle.rds_world.specs.World.after w (Edit r c)) =
-        λ w s. (let same = in_model w s in stands_memory v w r x (edited (w.memory r) r c) lt at s
-        ((λ j. edited (same j) (own j) c) ∙ sym (edit_is (coordinates m.state) (coordinates x.state) m.own c joins))) in
-        let accepted : (w : World) → Stands v w → refused w (Edit r c) ≡ None = λ w s. edit_due w s ∙ due in
+        λ w s. (let same = in_model w s in stands_memory v w r x (after_edit (w.memory r) r c) w.memory_names lt at (names_same w.memory_names v.memory r x lt (names w s) s.memory_names) s
+        ((λ j. after_edit (same j) (own j) c) ∙ sym (edit_is (coordinates m.state) (coordinates x.state) m.own c joins))) in
+        let accepted : (w : World) → Stands v w → refusal_of w (Edit r c) ≡ None = λ w s. edit_due w s ∙ due in
         record {
           world = world_memory v i r x lt at (model_after v (record v { memory = set v.memory r x }) (Edit r c) (λ w s. (accepted w s, stands w s)) i.model);
           step = record {
@@ -171,16 +175,17 @@ module _ (v : WorldValue) (i : IsWorld v) (r : ℕ) (m : ReplicaValue) (lt : r <
   pub save_done : (x : ReplicaValue) → x ≡ m → length (snapshot_text m) ≤ LIMIT → IsDoneTo v (Save r) Plain (record v { kept = set v.kept r x })
   save_done x is short =
       let lt_kept : r < length v.kept = subst (λ n. r < n) (sym i.same_length) lt in
-      let at : (x.roster ≡ v.roster) × (x.own ≡ r) = (ap (λ (z : ReplicaValue). z.roster) is ∙ (i.memory r m there).0, ap (λ (z : ReplicaValue). z.own) is ∙ (i.memory r m there).1) in
+      let at : Begins x.roster v.roster × (x.own ≡ r) = subst (λ (z : ReplicaValue). Begins z.roster v.roster × (z.own ≡ r)) (sym is) (i.memory r m there) in
+      let names : (w : World) → Stands v w → length x.roster.names ≡ w.memory_names r = λ w s. ap (λ (z : ReplicaValue). length z.roster.names) is ∙ s.memory_names r m there in
       let stands : (w : World) → Stands v w → Stands (record v { kept = set v.kept r x }) (Rattle.rds_world.specs.World.after w (Save r)) =
-      λ w s. stands_kept v w r x (w.memory r) lt_kept at s (in_model w s ∙ ap (λ (z : ReplicaValue). coordinates z.state) (sym is)) in
-      let accepted : (w : World) → Stands v w → refused w (Save r) ≡ None = λ w s. is_there r w.replicas None (below w s) in
+      λ w s. stands_kept v w r x (w.memory r) (w.memory_names r) lt_kept at (names w s) s (in_model w s ∙ ap (λ (z : ReplicaValue). coordinates z.state) (sym is)) in
+      let accepted : (w : World) → Stands v w → refusal_of w (Save r) ≡ None = λ w s. is_there r w.replicas None (below w s) in
       record {
         world = record {
           memory = i.memory;
           kept = places_set v.roster v.kept r x lt_kept at i.kept;
           same_length = length-set v.kept r x ∙ i.same_length;
-          within = i.within;
+          whole = i.whole;
           asks = i.asks;
           answers = i.answers;
           model = model_after v (record v { kept = set v.kept r x }) (Save r) (λ w s. (accepted w s, stands w s)) i.model;
@@ -208,10 +213,11 @@ module _ (v : WorldValue) (i : IsWorld v) (r : ℕ) (m : ReplicaValue) (lt : r <
 
   pub crash_done : (x : ReplicaValue) → x ≡ m → IsDoneTo v (Crash r) Plain (record v { memory = set v.memory r x })
   crash_done x is =
-      let at : (x.roster ≡ v.roster) × (x.own ≡ r) = (ap (λ (z : ReplicaValue). z.roster) is ∙ (i.kept r m there).0, ap (λ (z : ReplicaValue). z.own) is ∙ (i.kept r m there).1) in
+      let at : Begins x.roster v.roster × (x.own ≡ r) = subst (λ (z : ReplicaValue). Begins z.roster v.roster × (z.own ≡ r)) (sym is) (i.kept r m there) in
+      let names : (w : World) → Stands v w → length x.roster.names ≡ w.kept_names r = λ w s. ap (λ (z : ReplicaValue). length z.roster.names) is ∙ s.kept_names r m there in
       let stands : (w : World) → Stands v w → Stands (record v { memory = set v.memory r x }) (Rattle.rds_world.specs.World.after w (Crash r)) =
-      λ w s. stands_memory v w r x (w.kept r) lt at s (kept_in_model w s ∙ ap (λ (z : ReplicaValue). coordinates z.state) (sym is)) in
-      let accepted : (w : World) → Stands v w → refused w (Crash r) ≡ None = λ w s. is_there r w.replicas None (kept_below w s) in
+      λ w s. stands_memory v w r x (w.kept r) (put w.memory_names r (w.kept_names r)) lt at (names_put w.memory_names (w.kept_names r) v.memory r x lt (names w s) s.memory_names) s (kept_in_model w s ∙ ap (λ (z : ReplicaValue). coordinates z.state) (sym is)) in
+      let accepted : (w : World) → Stands v w → refusal_of w (Crash r) ≡ None = λ w s. is_there r w.replicas None (kept_below w s) in
       record {
         world = world_memory v i r x lt at (model_after v (record v { memory = set v.memory r x }) (Crash r) (λ w s. (accepted w s, stands w s)) i.model);
         step = record {
@@ -230,27 +236,27 @@ module _ (v : WorldValue) (i : IsWorld v) (r : ℕ) (m : ReplicaValue) (lt : r <
     | inr l ↦ subst (λ x. IsStopped v (Ask r) x v) (sym l.0) (stopped v (Ask r) TooLong (λ w s. Long (is_there r w.replicas None (kept_below w s)) (record { replica = m; there = there; long = l.1 })))
   ]
 
-  pub ask_done : (bytes : List ℕ) (asks : List AskText) (question : ℕ) → asks ≡ v.asks ++ record { asker = r; bytes = bytes } ∷ [] → question ≡ length v.asks
-      → HoldsAsk (length m.roster.names) (record { asker = m.own; state = coordinates m.state }) (record { asker = m.own; bytes = bytes }) → length (digest_text (digest_of m.state)) ≤ LIMIT
+  pub ask_done : (ask : AskText) (asks : List AskText) (question : ℕ) → asks ≡ v.asks ++ ask ∷ [] → question ≡ length v.asks
+      → HoldsAsk (record { asker = m.own; names = length m.roster.names; state = coordinates m.state }) ask → length (digest_text (digest_of m.state)) ≤ LIMIT
       → IsDoneTo v (Ask r) (Asked question) (record v { asks = asks })
-  ask_done bytes asks question are number holds short =
+  ask_done ask asks question are number holds short =
       let at = i.kept r m there in
-      let ask : AskText = record { asker = r; bytes = bytes } in
-      let here : HoldsAsk (length v.roster.names) (record { asker = r; state = coordinates m.state }) ask =
-      subst (λ (o : ℕ). HoldsAsk (length v.roster.names) (record { asker = o; state = coordinates m.state }) (record { asker = o; bytes = bytes })) at.1
-      (subst (λ (o : RosterValue). HoldsAsk (length o.names) (record { asker = m.own; state = coordinates m.state }) (record { asker = m.own; bytes = bytes })) at.0 holds) in
+      let here : (w : World) → Stands v w → HoldsAsk (record { asker = r; names = w.kept_names r; state = w.kept r }) ask =
+      λ w s. (let names = s.kept_names r m there in let state = sym (kept_in_model w s) in
+      subst (λ (q : Question). HoldsAsk q ask) (λ j. record { asker = at.1 j; names = names j; state = state j }) holds) in
       let stands : (w : World) → Stands v w → Stands (record v { asks = asks }) (Rattle.rds_world.specs.World.after w (Ask r)) =
       λ w s. subst (λ (l : List AskText). Stands (record v { asks = l }) (Rattle.rds_world.specs.World.after w (Ask r))) (sym are)
-      (stands_asked v w (record { asker = r; state = w.kept r }) ask s (subst (λ (a : Coordinates). HoldsAsk (length v.roster.names) (record { asker = r; state = a }) ask) (sym (kept_in_model w s)) here)) in
-      let accepted : (w : World) → Stands v w → refused w (Ask r) ≡ None = λ w s. is_there r w.replicas None (kept_below w s) in
+      (stands_asked v w (record { asker = r; names = w.kept_names r; state = w.kept r }) ask s (here w s)) in
+      let accepted : (w : World) → Stands v w → refusal_of w (Ask r) ≡ None = λ w s. is_there r w.replicas None (kept_below w s) in
+      let asker : ask.asker < length v.memory = subst (λ o. o < length v.memory) (sym (holds.asker ∙ at.1)) lt in
       record {
         world = record {
           memory = i.memory;
           kept = i.kept;
           same_length = i.same_length;
-          within = i.within;
-          asks = λ k a h. elim (last_get v.asks ask a k (subst (λ (l : List AskText). slice_get l k ≡ Some a) are h)) [ inl old ↦ i.asks k a old | inr new ↦ subst (λ (z : AskText). z.asker < length v.memory) (sym new) lt ];
-          answers = λ k a h. (let x = i.answers k a h in (x.0, (let len : length asks ≡ length v.asks + 1 = ap length are ∙ length-append v.asks (ask ∷ []) in let before = x.1 in omega (arith, len, before))));
+          whole = i.whole;
+          asks = λ k a h. elim (last_get v.asks ask a k (subst (λ (l : List AskText). slice_get l k ≡ Some a) are h)) [ inl old ↦ i.asks k a old | inr new ↦ subst (λ (z : AskText). z.asker < length v.memory) (sym new) asker ];
+          answers = λ k a h. (let x = i.answers k a h in (x.0, ((let len : length asks ≡ length v.asks + 1 = ap length are ∙ length-append v.asks (ask ∷ []) in let before = x.1.0 in omega (arith, len, before)), x.1.1)));
           model = model_after v (record v { asks = asks }) (Ask r) (λ w s. (accepted w s, stands w s)) i.model;
         };
         step = record {
@@ -259,7 +265,7 @@ module _ (v : WorldValue) (i : IsWorld v) (r : ℕ) (m : ReplicaValue) (lt : r <
             short = λ h. (let same = read_at v.kept r h.replica m h.there there in let long : LIMIT < length (digest_text (digest_of m.state)) = subst (λ (z : ReplicaValue). LIMIT < length (digest_text (digest_of z.state))) (sym same) h.long in omega (arith, short, long));
           };
           stands = stands;
-          done = λ w s. number ∙ sym (matched_length (HoldsAsk (length v.roster.names)) w.asks v.asks s.asks);
+          done = λ w s. number ∙ sym (matched_length HoldsAsk w.asks v.asks s.asks);
           roster = refl;
         };
       }

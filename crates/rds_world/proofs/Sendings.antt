@@ -1,5 +1,5 @@
 -- The bytes of asks and answers hold what was asked and answered.
-use Rattle.std.proofs.Common.{◌≡◌, OnOk, ℕ, ◌≤◌, inl, inr, List, length, Result, Ok, Err, IfOk, IfErr, refl, sym, subst}
+use Rattle.std.proofs.Common.{◌≡◌, OnOk, ℕ, ◌≤◌, inl, inr, List, length, Result, Ok, Err, IfOk, IfErr, sym, subst}
 use Rattle.std.specs.Global.{Vec}
 use Rattle.rds_names.specs.declared.fault.Fault.{Fault}
 use Rattle.rds_state.specs.Coordinates.{join}
@@ -23,25 +23,23 @@ fault_is P r f is h = subst (λ x. IfErr x P) (sym is) h
 
 -- ---- an ask
 
-pub holds_ask : (n own : ℕ) (v w : StateValue) (r : Result (Vec ℕ) Fault) → w ≡ v → Fits n (coordinates v) → IfOk r (λ bytes. IsAskOf w bytes.items)
-    → IfOk r (λ bytes. HoldsAsk n (record { asker = own; state = coordinates v }) (record { asker = own; bytes = bytes.items }))
-holds_ask n own v w (Ok b) e fits sent =
-    let is : IsAskOf v b.items = subst (λ (s : StateValue). IsAskOf s b.items) e sent in
+pub holds_ask : (own n asker names : ℕ) (v w : StateValue) (bytes : List ℕ) → w ≡ v → Fits n (coordinates v) → IsAskOf w bytes → asker ≡ own → names ≡ n
+    → HoldsAsk (record { asker = own; names = n; state = coordinates v }) (record { asker = asker; names = names; bytes = bytes })
+holds_ask own n asker names v w bytes e fits sent same many =
+    let is : IsAskOf v bytes = subst (λ (s : StateValue). IsAskOf s bytes) e sent in
     record {
-      asker = refl;
+      asker = same;
+      names = many;
       digest = digest_of v;
       ranks = ranks_of_digest v;
       inside = live_inside v.lives;
       text = is.text;
       within = is.within;
-      dots = is.dots n fits;
       again = is.again n fits;
     }
-holds_ask n own v w (Err f) e fits sent = tt
 
-pub short_ask : (v w : StateValue) (r : Result (Vec ℕ) Fault) → w ≡ v → IfOk r (λ bytes. IsAskOf w bytes.items) → OnOk r (length (digest_text (digest_of v)) ≤ LIMIT)
-short_ask v w (Ok b) e sent = subst (λ (s : StateValue). length (digest_text (digest_of s)) ≤ LIMIT) e (subst (λ (t : List ℕ). length t ≤ LIMIT) sent.text sent.within)
-short_ask v w (Err f) e sent = tt
+pub short_ask : (v w : StateValue) (bytes : List ℕ) → w ≡ v → IsAskOf w bytes → length (digest_text (digest_of v)) ≤ LIMIT
+short_ask v w bytes e sent = subst (λ (s : StateValue). length (digest_text (digest_of s)) ≤ LIMIT) e (subst (λ (t : List ℕ). length t ≤ LIMIT) sent.text sent.within)
 
 -- ---- an answer
 

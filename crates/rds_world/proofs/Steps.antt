@@ -8,10 +8,10 @@ use Rattle.rds_state.specs.Made.{entry_made}
 use Rattle.rds_state.specs.declared.command.Command.{Command}
 use Rattle.rds_state.proofs.JoinLaws.{reflexive, transitive}
 use Rattle.rds_world.specs.declared.event.Event.{Event}
-use Rattle.rds_world.specs.declared.event.Event.TheVariants.{Edit, Save, Crash, Ask, Answer, Take}
-use Rattle.rds_world.specs.World.{World, Question, Reply, empty, put, start, reply, after, answered, taken, refused, run, Accepted}
-use Rattle.rds_world.specs.Held.{Update, Remembered, Holdings, both, with_update, nothing_held, hold, remembers, takes, held}
-use Rattle.rds_world.specs.Updates.{effect_of, noted, bases}
+use Rattle.rds_world.specs.declared.event.Event.TheVariants.{Edit, Save, Crash, Ask, Answer, Take, Grow}
+use Rattle.rds_world.specs.World.{World, Question, Reply, empty, put, start, reply, after, after_answer, after_take, refusal_of, run, Accepted}
+use Rattle.rds_world.specs.Held.{Update, Remembered, Holdings, both, with_update, nothing_held, hold, remembers, takes, holdings_after}
+use Rattle.rds_world.specs.Updates.{effect_of, bases_with, bases}
 use Rattle.rds_delta.proofs.LeastLaws.{grown_delta}
 use Rattle.rds_world.proofs.Effects.{effect_agrees}
 use Rattle.rds_world.proofs.Coherent.{there, is_there}
@@ -20,7 +20,7 @@ use Rattle.rds_world.proofs.Tables.{Together, matched_last, matched_weaker, matc
 use Rattle.rds_world.proofs.Invariant.{IsRecorded, IsBacked, IsAsk, IsAnswer, Lawful, own, compatible, kept_own}
 
 -- at the beginning
-pub lawful_start : (T : ℕ → Update) (B : ℕ → Coordinates) (n : ℕ) → Lawful T B nothing_held (start n)
+pub lawful_start : (T : ℕ → Update) (B : ℕ → Coordinates) (n : List (List ℕ)) → Lawful T B nothing_held (start n)
 lawful_start T B n = record {
   recorded = λ i k. absurd (omega arith);
   placed = λ i k. absurd (omega arith);
@@ -148,7 +148,7 @@ module _ (T : ℕ → Update) (B : ℕ → Coordinates) (h : Holdings) (w : Worl
     line = l.line;
     memory = l.memory;
     kept = l.kept;
-    asks = matched_last (IsAsk T B (hold h (Ask r)) (after w (Ask r))) w.asks h.asks (record { asker = r; state = w.kept r }) r (asks_stay (hold h (Ask r)) (after w (Ask r)) refl refl) (record {
+    asks = matched_last (IsAsk T B (hold h (Ask r)) (after w (Ask r))) w.asks h.asks (record { asker = r; names = w.kept_names r; state = w.kept r }) r (asks_stay (hold h (Ask r)) (after w (Ask r)) refl refl) (record {
       same = refl;
       below = reflexive (w.kept r);
       set = h.kept r;
@@ -158,7 +158,23 @@ module _ (T : ℕ → Update) (B : ℕ → Coordinates) (h : Holdings) (w : Worl
     answers = answers_stay (hold h (Ask r)) (after w (Ask r)) refl refl;
   }
 
-  answer_keeps : (s k : ℕ) (m : Option Question) (a : Option ℕ) → Together (IsAsk T B h w) m a → Lawful T B (remembers h s a) (answered w s k m)
+  grow_keeps : (r : ℕ) (name : List ℕ) → Lawful T B (hold h (Grow r name)) (after w (Grow r name))
+  grow_keeps r name = record {
+    recorded = l.recorded;
+    placed = λ i k. let x : (T i).replica < w.replicas = l.placed i k in omega arith;
+    few = l.few;
+    within = l.within;
+    closed = l.closed;
+    backed = l.backed;
+    kept_backed = l.kept_backed;
+    line = l.line;
+    memory = l.memory;
+    kept = l.kept;
+    asks = asks_stay (hold h (Grow r name)) (after w (Grow r name)) refl refl;
+    answers = answers_stay (hold h (Grow r name)) (after w (Grow r name)) refl refl;
+  }
+
+  answer_keeps : (s k : ℕ) (m : Option Question) (a : Option ℕ) → Together (IsAsk T B h w) m a → Lawful T B (remembers h s a) (after_answer w s k m)
   answer_keeps s k None None x = l
   answer_keeps s k None (Some a) x = absurd x
   answer_keeps s k (Some m) None x = absurd x
@@ -173,8 +189,8 @@ module _ (T : ℕ → Update) (B : ℕ → Coordinates) (h : Holdings) (w : Worl
     line = l.line;
     memory = l.memory;
     kept = l.kept;
-    asks = asks_stay (remembers h s (Some a)) (answered w s k (Some m)) refl refl;
-    answers = matched_last (IsAnswer T B (remembers h s (Some a)) (answered w s k (Some m))) w.answers h.answers (reply w s k m) (record { asker = a; held = h.kept s }) (answers_stay (remembers h s (Some a)) (answered w s k (Some m)) refl refl) (record {
+    asks = asks_stay (remembers h s (Some a)) (after_answer w s k (Some m)) refl refl;
+    answers = matched_last (IsAnswer T B (remembers h s (Some a)) (after_answer w s k (Some m))) w.answers h.answers (reply w s k m) (record { asker = a; held = h.kept s }) (answers_stay (remembers h s (Some a)) (after_answer w s k (Some m)) refl refl) (record {
       same = x.same;
       full = w.kept s;
       asked = m.state;
@@ -203,7 +219,7 @@ module _ (T : ℕ → Update) (B : ℕ → Coordinates) (h : Holdings) (w : Worl
   came_back : (m : Reply) (a : Remembered) (x : IsAnswer T B h w m a) (i : ℕ) → both (h.memory m.asker) a.held i ≡ true → (T i).replica ≡ m.asker → h.memory m.asker i ≡ true
   came_back m a x i p e = either (h.memory m.asker i) (a.held i) p (λ q. q) (λ q. subst (λ r. h.memory r i ≡ true) e (l.within (T i).replica i (x.backed.backed i q)))
 
-  take_one : (m : Reply) (a : Remembered) → IsAnswer T B h w m a → Lawful T B (record h { memory = put h.memory m.asker (both (h.memory m.asker) a.held) }) (taken w (Some m))
+  take_one : (m : Reply) (a : Remembered) → IsAnswer T B h w m a → Lawful T B (record h { memory = put h.memory m.asker (both (h.memory m.asker) a.held) }) (after_take w (Some m))
   take_one m a x = record {
     recorded = l.recorded;
     placed = l.placed;
@@ -215,15 +231,15 @@ module _ (T : ℕ → Update) (B : ℕ → Coordinates) (h : Holdings) (w : Worl
     line = λ s i j. put_one (λ t S. S i ≡ true → S j ≡ true → (T i).replica ≡ t → (T j).replica ≡ t → i < j → (T j).past i ≡ true) h.memory m.asker (both (h.memory m.asker) a.held) (λ p q e f. l.line m.asker i j (came_back m a x i p e) (came_back m a x j q f) e f) (λ t n. l.line t i j) s;
     memory = λ s. put_two (λ t S f. IsGathered (effect_of T B) S f) h.memory w.memory m.asker (both (h.memory m.asker) a.held) (join (w.memory m.asker) m.state) (taken_join m a x) (λ t n. l.memory t) s;
     kept = l.kept;
-    asks = asks_stay (record h { memory = put h.memory m.asker (both (h.memory m.asker) a.held) }) (taken w (Some m)) refl refl;
-    answers = answers_stay (record h { memory = put h.memory m.asker (both (h.memory m.asker) a.held) }) (taken w (Some m)) refl refl;
+    asks = asks_stay (record h { memory = put h.memory m.asker (both (h.memory m.asker) a.held) }) (after_take w (Some m)) refl refl;
+    answers = answers_stay (record h { memory = put h.memory m.asker (both (h.memory m.asker) a.held) }) (after_take w (Some m)) refl refl;
   }
 
-  take_keeps : (m : Option Reply) (a : Option Remembered) → Together (IsAnswer T B h w) m a → Lawful T B (takes h a) (taken w m)
+  take_keeps : (m : Option Reply) (a : Option Remembered) → Together (IsAnswer T B h w) m a → Lawful T B (takes h a) (after_take w m)
   take_keeps None None x = l
   take_keeps None (Some a) x = absurd x
   take_keeps (Some m) None x = absurd x
-  take_keeps (Some m) (Some a) x = subst (λ n. Lawful T B (record h { memory = put h.memory n (both (h.memory n) a.held) }) (taken w (Some m))) x.same (take_one m a x)
+  take_keeps (Some m) (Some a) x = subst (λ n. Lawful T B (record h { memory = put h.memory n (both (h.memory n) a.held) }) (after_take w (Some m))) x.same (take_one m a x)
 
   module _ (r : ℕ) (c : Command) (lt : r < w.replicas) (ok : refusal (w.memory r) r c ≡ None) (tr : (T h.size).replica ≡ r) (tc : (T h.size).command ≡ c) (tp : (T h.size).past ≡ h.memory r) (tb : B h.size ≡ w.memory r) where
     same_effect : effect_of T B h.size ≡ effect (w.memory r) r c (entry_made c)
@@ -287,14 +303,16 @@ IsInTables T B h w (Crash r) = Unit {0}
 IsInTables T B h w (Ask r) = Unit {0}
 IsInTables T B h w (Answer s k) = Unit {0}
 IsInTables T B h w (Take k) = Unit {0}
+IsInTables T B h w (Grow r name) = Unit {0}
 
-pub event_keeps : (T : ℕ → Update) (B : ℕ → Coordinates) (h : Holdings) (w : World) (e : Event) → Lawful T B h w → refused w e ≡ None → IsInTables T B h w e → Lawful T B (hold h e) (after w e)
+pub event_keeps : (T : ℕ → Update) (B : ℕ → Coordinates) (h : Holdings) (w : World) (e : Event) → Lawful T B h w → refusal_of w e ≡ None → IsInTables T B h w e → Lawful T B (hold h e) (after w e)
 event_keeps T B h w (Edit r c) l ok t = edit_keeps T B h w l r c (is_there r w.replicas (refusal (w.memory r) r c) ok) (there (nat_lt r w.replicas) (refusal (w.memory r) r c) ok) (ap (λ u. u.replica) t.0) (ap (λ u. u.command) t.0) (ap (λ u. u.past) t.0) t.1
 event_keeps T B h w (Save r) l ok t = save_keeps T B h w l r
 event_keeps T B h w (Crash r) l ok t = crash_keeps T B h w l r
 event_keeps T B h w (Ask r) l ok t = ask_keeps T B h w l r
 event_keeps T B h w (Answer s k) l ok t = answer_keeps T B h w l s k (slice_get w.asks k) (slice_get h.asks k) (matched_at (IsAsk T B h w) w.asks h.asks k l.asks)
 event_keeps T B h w (Take k) l ok t = take_keeps T B h w l (slice_get w.answers k) (slice_get h.answers k) (matched_at (IsAnswer T B h w) w.answers h.answers k l.answers)
+event_keeps T B h w (Grow r name) l ok t = grow_keeps T B h w l r name
 
 remembers_same : (h : Holdings) (s : ℕ) (o : Option ℕ) → ((remembers h s o).size ≡ h.size) × ((remembers h s o).update ≡ h.update)
 remembers_same h s None = (refl, refl)
@@ -309,40 +327,43 @@ hold_same h (Edit r c) i k = (omega arith, put_there h.update h.size (record { r
 hold_same h (Save r) i k = (k, refl)
 hold_same h (Crash r) i k = (k, refl)
 hold_same h (Ask r) i k = (k, refl)
+hold_same h (Grow r name) i k = (k, refl)
 hold_same h (Answer s n) i k = let x = remembers_same h s (slice_get h.asks n) in (subst (λ m. i < m) (sym x.0) k, ap (λ f. f i) x.1)
 hold_same h (Take n) i k = let x = takes_same h (slice_get h.answers n) in (subst (λ m. i < m) (sym x.0) k, ap (λ f. f i) x.1)
 
-noted_same : (base : ℕ → Coordinates) (n : ℕ) (w : World) (e : Event) (i : ℕ) → i < n → noted base n w e i ≡ base i
+noted_same : (base : ℕ → Coordinates) (n : ℕ) (w : World) (e : Event) (i : ℕ) → i < n → bases_with base n w e i ≡ base i
 noted_same base n w (Edit r c) i k = put_there base n (w.memory r) i (λ e. absurd (omega arith))
 noted_same base n w (Save r) i k = refl
 noted_same base n w (Crash r) i k = refl
 noted_same base n w (Ask r) i k = refl
 noted_same base n w (Answer s m) i k = refl
 noted_same base n w (Take m) i k = refl
+noted_same base n w (Grow r name) i k = refl
 
-held_same : (es : List Event) (h : Holdings) (i : ℕ) → i < h.size → (held es h).update i ≡ h.update i
+held_same : (es : List Event) (h : Holdings) (i : ℕ) → i < h.size → (holdings_after es h).update i ≡ h.update i
 held_same [] h i k = refl
 held_same (e ∷ es) h i k = let x = hold_same h e i k in held_same es (hold h e) i x.0 ∙ x.1
 
 bases_same : (es : List Event) (base : ℕ → Coordinates) (h : Holdings) (w : World) (i : ℕ) → i < h.size → bases es base h w i ≡ base i
 bases_same [] base h w i k = refl
-bases_same (e ∷ es) base h w i k = bases_same es (noted base h.size w e) (hold h e) (after w e) i (hold_same h e i k).0 ∙ noted_same base h.size w e i k
+bases_same (e ∷ es) base h w i k = bases_same es (bases_with base h.size w e) (hold h e) (after w e) i (hold_same h e i k).0 ∙ noted_same base h.size w e i k
 
-in_tables : (es : List Event) (base : ℕ → Coordinates) (h : Holdings) (w : World) (e : Event) → IsInTables (held es (hold h e)).update (bases es (noted base h.size w e) (hold h e) (after w e)) h w e
+in_tables : (es : List Event) (base : ℕ → Coordinates) (h : Holdings) (w : World) (e : Event) → IsInTables (holdings_after es (hold h e)).update (bases es (bases_with base h.size w e) (hold h e) (after w e)) h w e
 in_tables es base h w (Edit r c) = (
   held_same es (hold h (Edit r c)) h.size (omega arith) ∙ put_here h.update h.size (record { replica = r; command = c; past = h.memory r }),
-  bases_same es (noted base h.size w (Edit r c)) (hold h (Edit r c)) (after w (Edit r c)) h.size (omega arith) ∙ put_here base h.size (w.memory r),
+  bases_same es (bases_with base h.size w (Edit r c)) (hold h (Edit r c)) (after w (Edit r c)) h.size (omega arith) ∙ put_here base h.size (w.memory r),
 )
 in_tables es base h w (Save r) = tt
 in_tables es base h w (Crash r) = tt
 in_tables es base h w (Ask r) = tt
 in_tables es base h w (Answer s k) = tt
 in_tables es base h w (Take k) = tt
+in_tables es base h w (Grow r name) = tt
 
-run_keeps : (es : List Event) (base : ℕ → Coordinates) (h : Holdings) (w : World) → Lawful (held es h).update (bases es base h w) h w → Accepted es w → Lawful (held es h).update (bases es base h w) (held es h) (run es w)
+run_keeps : (es : List Event) (base : ℕ → Coordinates) (h : Holdings) (w : World) → Lawful (holdings_after es h).update (bases es base h w) h w → Accepted es w → Lawful (holdings_after es h).update (bases es base h w) (holdings_after es h) (run es w)
 run_keeps [] base h w l a = l
-run_keeps (e ∷ es) base h w l a = run_keeps es (noted base h.size w e) (hold h e) (after w e)
-    (event_keeps (held es (hold h e)).update (bases es (noted base h.size w e) (hold h e) (after w e)) h w e l a.0 (in_tables es base h w e)) a.1
+run_keeps (e ∷ es) base h w l a = run_keeps es (bases_with base h.size w e) (hold h e) (after w e)
+    (event_keeps (holdings_after es (hold h e)).update (bases es (bases_with base h.size w e) (hold h e) (after w e)) h w e l a.0 (in_tables es base h w e)) a.1
 
 -- ---- what was kept once
 
@@ -360,28 +381,29 @@ stays_backed T B h w l (Edit r c) S b = b
 stays_backed T B h w l (Save r) S b = backed_grows T B h w l r S b
 stays_backed T B h w l (Crash r) S b = b
 stays_backed T B h w l (Ask r) S b = b
+stays_backed T B h w l (Grow r name) S b = b
 stays_backed T B h w l (Answer s k) S b = subst (λ K. IsBacked T K S) (sym (answered_holds h s (slice_get h.asks k))) b
 stays_backed T B h w l (Take k) S b = subst (λ K. IsBacked T K S) (sym (taken_holds h (slice_get h.answers k))) b
 
 -- each later memory is compatible with a join of updates that were backed
-backed_agrees : (es : List Event) (base : ℕ → Coordinates) (h : Holdings) (w : World) → Lawful (held es h).update (bases es base h w) h w → Accepted es w
-    → (S : ℕ → Bool) (a : Coordinates) → IsBacked (held es h).update h.kept S → IsGathered (effect_of (held es h).update (bases es base h w)) S a → (r : ℕ) → AreCompatible ((run es w).memory r) a
+backed_agrees : (es : List Event) (base : ℕ → Coordinates) (h : Holdings) (w : World) → Lawful (holdings_after es h).update (bases es base h w) h w → Accepted es w
+    → (S : ℕ → Bool) (a : Coordinates) → IsBacked (holdings_after es h).update h.kept S → IsGathered (effect_of (holdings_after es h).update (bases es base h w)) S a → (r : ℕ) → AreCompatible ((run es w).memory r) a
 backed_agrees [] base h w l ok S a b j r = compatible h.update base h w l (h.memory r) S (w.memory r) a (l.memory r) j (own h.update base h w l r) (kept_own h.update base h w l S b)
 backed_agrees (e ∷ es) base h w l ok S a b j r =
-    let T = (held es (hold h e)).update in
-    let B = bases es (noted base h.size w e) (hold h e) (after w e) in
-    backed_agrees es (noted base h.size w e) (hold h e) (after w e) (event_keeps T B h w e l ok.0 (in_tables es base h w e)) ok.1 S a (stays_backed T B h w l e S b) j r
+    let T = (holdings_after es (hold h e)).update in
+    let B = bases es (bases_with base h.size w e) (hold h e) (after w e) in
+    backed_agrees es (bases_with base h.size w e) (hold h e) (after w e) (event_keeps T B h w e l ok.0 (in_tables es base h w e)) ok.1 S a (stays_backed T B h w l e S b) j r
 
-kept_agrees_from : (es later : List Event) (base : ℕ → Coordinates) (h : Holdings) (w : World) → Lawful (held (es ++ later) h).update (bases (es ++ later) base h w) h w → Accepted (es ++ later) w
+kept_agrees_from : (es later : List Event) (base : ℕ → Coordinates) (h : Holdings) (w : World) → Lawful (holdings_after (es ++ later) h).update (bases (es ++ later) base h w) h w → Accepted (es ++ later) w
     → (r s : ℕ) → AreCompatible ((run (es ++ later) w).memory r) ((run es w).kept s)
 kept_agrees_from [] later base h w l ok r s = backed_agrees later base h w l ok (h.kept s) (w.kept s) (l.kept_backed s) (l.kept s) r
-kept_agrees_from (e ∷ es) later base h w l ok r s = kept_agrees_from es later (noted base h.size w e) (hold h e) (after w e)
-    (event_keeps (held (es ++ later) (hold h e)).update (bases (es ++ later) (noted base h.size w e) (hold h e) (after w e)) h w e l ok.0 (in_tables (es ++ later) base h w e)) ok.1 r s
+kept_agrees_from (e ∷ es) later base h w l ok r s = kept_agrees_from es later (bases_with base h.size w e) (hold h e) (after w e)
+    (event_keeps (holdings_after (es ++ later) (hold h e)).update (bases (es ++ later) (bases_with base h.size w e) (hold h e) (after w e)) h w e l ok.0 (in_tables (es ++ later) base h w e)) ok.1 r s
 
 -- each memory is compatible with all that was kept at an earlier moment
-pub kept_agrees : (n : ℕ) (es later : List Event) → Accepted (es ++ later) (start n) → (r s : ℕ) → AreCompatible ((run (es ++ later) (start n)).memory r) ((run es (start n)).kept s)
-kept_agrees n es later ok = kept_agrees_from es later (λ i. empty) nothing_held (start n) (lawful_start (held (es ++ later) nothing_held).update (bases (es ++ later) (λ i. empty) nothing_held (start n)) n) ok
+pub kept_agrees : (n : List (List ℕ)) (es later : List Event) → Accepted (es ++ later) (start n) → (r s : ℕ) → AreCompatible ((run (es ++ later) (start n)).memory r) ((run es (start n)).kept s)
+kept_agrees n es later ok = kept_agrees_from es later (λ i. empty) nothing_held (start n) (lawful_start (holdings_after (es ++ later) nothing_held).update (bases (es ++ later) (λ i. empty) nothing_held (start n)) n) ok
 
 -- after any list of events none of which is refused
-pub lawful : (n : ℕ) (es : List Event) → Accepted es (start n) → Lawful (held es nothing_held).update (bases es (λ i. empty) nothing_held (start n)) (held es nothing_held) (run es (start n))
-lawful n es a = run_keeps es (λ i. empty) nothing_held (start n) (lawful_start (held es nothing_held).update (bases es (λ i. empty) nothing_held (start n)) n) a
+pub lawful : (n : List (List ℕ)) (es : List Event) → Accepted es (start n) → Lawful (holdings_after es nothing_held).update (bases es (λ i. empty) nothing_held (start n)) (holdings_after es nothing_held) (run es (start n))
+lawful n es a = run_keeps es (λ i. empty) nothing_held (start n) (lawful_start (holdings_after es nothing_held).update (bases es (λ i. empty) nothing_held (start n)) n) a

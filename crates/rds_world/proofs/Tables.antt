@@ -1,13 +1,13 @@
 -- A function with another value at one place, and lists that go side by side.
-use Rattle.std.proofs.Common.{◌≡◌, ℕ, suc, zero, Bool, true, false, cond, List, [], ◌∷◌, ◌++◌, refl, sym, subst, inl, inr, ◌⊎◌, arith, ◌==◌, length, Option, Some, None, slice_get}
+use Rattle.std.proofs.Common.{◌≡◌, ◌<◌, ℕ, suc, zero, Bool, true, false, cond, List, [], ◌∷◌, ◌++◌, refl, sym, subst, inl, inr, ◌⊎◌, arith, ◌==◌, length, Option, Some, None, slice_get}
 use Rattle.std.specs.List.{AllZip}
 use Rattle.std.proofs.lemmas.Bool.Decides.{nat_tests}
 use Rattle.rds_world.specs.World.{put}
 
-is_same : (i n : ℕ) → (i == n) ≡ true → i ≡ n
+pub is_same : (i n : ℕ) → (i == n) ≡ true → i ≡ n
 is_same i n h = grind (arith, nat_tests)
 
-isnt_same : (i n : ℕ) → (i == n) ≡ false → i ≡ n → ⊥
+pub isnt_same : (i n : ℕ) → (i == n) ≡ false → i ≡ n → ⊥
 isnt_same i n h = grind (arith, nat_tests)
 
 put_case : {A C : Type 0} (P : ℕ → A → C → Type 0) (f : ℕ → A) (g : ℕ → C) (r : ℕ) (x : A) (y : C) → P r x y → ((s : ℕ) → (s ≡ r → ⊥) → P s (f s) (g s)) → (s : ℕ) (b : Bool) → (s == r) ≡ b → P s (cond b x (f s)) (cond b y (g s))
@@ -77,6 +77,11 @@ get_front (x ∷ xs) ys (suc k) y e = get_front xs ys k y e
 pub get_last : {A : Type 0} (xs : List A) (x : A) → slice_get (xs ++ x ∷ []) (length xs) ≡ Some x
 get_last [] x = refl
 get_last (a ∷ xs) x = get_last xs x
+
+pub slice_get_below : {A : Type 0} (xs : List A) (k : ℕ) (x : A) → slice_get xs k ≡ Some x → k < length xs
+slice_get_below [] k x e = cc
+slice_get_below (y ∷ ys) zero x e = omega arith
+slice_get_below (y ∷ ys) (suc k) x e = let below = slice_get_below ys k x e in omega (arith, below)
 
 pub same_or_not : (t r : ℕ) → (t ≡ r) ⊎ (t ≡ r → ⊥)
 same_or_not t r = grind arith

@@ -3,7 +3,7 @@ use Rattle.std.proofs.Common.{◌≡◌, ℕ, suc, Bool, true, false, cond, List
 use Rattle.std.specs.List.{AllZip}
 use Rattle.std.specs.FinMap as map
 use Rattle.std.specs.FinSet as set
-use Rattle.rds_names.specs.Roster.{RosterValue}
+use Rattle.rds_names.specs.Roster.{RosterValue, Begins}
 use Rattle.rds_dots.specs.declared.dot.Dot.{Dot}
 use Rattle.rds_dots.specs.Order.{dots_exact, dots_total}
 use Rattle.rds_state.specs.Coordinates.{Coordinates}
@@ -18,7 +18,8 @@ use Rattle.rds_codec.specs.AnswerTexts.{answer, answer_text}
 use Rattle.rds_codec.specs.DigestTexts.{digest_text}
 use Rattle.rds_world.specs.World.{Question, Reply}
 use Rattle.rds_world.specs.Stored.{AskText, AnswerText}
-use Rattle.rds_world.specs.Stands.{AreAtTheirPlaces, HoldsAnswer, HoldsAsk, WorldsHaveOneValue, state_of}
+use Rattle.rds_world.specs.Stands.{AreAtTheirPlaces, HaveNames, HoldsAnswer, HoldsAsk, WorldsHaveOneValue, state_of}
+use Rattle.rds_world.proofs.Meeting.{same_beginnings}
 use Rattle.rds_world.proofs.Tables.{same_some}
 
 -- ---- lists
@@ -44,12 +45,20 @@ same_matched P Q (x ∷ xs) (y ∷ ys) (z ∷ zs) one m n = let first = one x y 
 same_replica : (x y : ReplicaValue) → x.roster ≡ y.roster → x.own ≡ y.own → coordinates x.state ≡ coordinates y.state → x ≡ y
 same_replica x y roster own state = let value = same_value x.state y.state state in λ i. record { roster = roster i; own = own i; state = value i }
 
-same_replicas : (r q : RosterValue) (xs ys : List ReplicaValue) (f : ℕ → Coordinates) → r ≡ q → AreAtTheirPlaces r xs → AreAtTheirPlaces q ys → length xs ≡ length ys
+-- rosters that begin one roster, with as many names, are equal
+same_roster : (x y r q : RosterValue) → r ≡ q → Begins x r → Begins y q → length x.names ≡ length y.names → x ≡ y
+same_roster x y r q same bx by len =
+    let b : Begins y r = subst (Begins y) (sym same) by in
+    let group : x.group ≡ y.group = bx.0 ∙ sym b.0 in
+    let names : x.names ≡ y.names = same_beginnings x.names y.names r.names bx.1 b.1 len in
+    λ i. record { group = group i; names = names i }
+
+same_replicas : (r q : RosterValue) (names : ℕ → ℕ) (xs ys : List ReplicaValue) (f : ℕ → Coordinates) → r ≡ q → AreAtTheirPlaces r xs → AreAtTheirPlaces q ys → HaveNames names xs → HaveNames names ys → length xs ≡ length ys
     → ((k : ℕ) → f k ≡ state_of (slice_get xs k)) → ((k : ℕ) → f k ≡ state_of (slice_get ys k)) → xs ≡ ys
-same_replicas r q xs ys f same px py len fx fy = same_list xs ys len (λ k x y ex ey.
+same_replicas r q names xs ys f same px py nx ny len fx fy = same_list xs ys len (λ k x y ex ey.
     let a = px k x ex in
     let b = py k y ey in
-    same_replica x y (a.0 ∙ same ∙ sym b.0) (a.1 ∙ sym b.1) (sym (fx k ∙ ap state_of ex) ∙ fy k ∙ ap state_of ey))
+    same_replica x y (same_roster x.roster y.roster r q same a.0 b.0 (nx k x ex ∙ sym (ny k y ey))) (a.1 ∙ sym b.1) (sym (fx k ∙ ap state_of ex) ∙ fy k ∙ ap state_of ey))
 
 -- ---- asks
 
@@ -78,17 +87,18 @@ same_digest g h e inside other =
     let numbers : a ≡ b = same_value a b (λ i. record { life = λ d. map.get a.lives d; number = (e i).number }) in
     λ i. record { seen = seen i; live = live i; counts = (numbers i).counts }
 
-same_ask : (n m : ℕ) (q : Question) (a b : AskText) → HoldsAsk n q a → HoldsAsk m q b → a ≡ b
-same_ask n m q a b x y =
+same_ask : (q : Question) (a b : AskText) → HoldsAsk q a → HoldsAsk q b → a ≡ b
+same_ask q a b x y =
     let digest : x.digest ≡ y.digest = same_digest x.digest y.digest (x.ranks ∙ sym y.ranks) x.inside y.inside in
     let asker : a.asker ≡ b.asker = x.asker ∙ sym y.asker in
     let bytes : a.bytes ≡ b.bytes = x.text ∙ ap digest_text digest ∙ sym y.text in
-    λ i. record { asker = asker i; bytes = bytes i }
+    let names : a.names ≡ b.names = x.names ∙ sym y.names in
+    λ i. record { asker = asker i; names = names i; bytes = bytes i }
 
 -- ---- answers
 
-same_answer : (n m : ℕ) (qs : List Question) (xs ys : List AskText) (r : Reply) (a b : AnswerText) → HoldsAnswer n qs xs r a → HoldsAnswer m qs ys r b → a ≡ b
-same_answer n m qs xs ys r a b x y =
+same_answer : (o p : RosterValue) → o ≡ p → (qs : List Question) (r : Reply) (a b : AnswerText) → HoldsAnswer o qs r a → HoldsAnswer p qs r b → a ≡ b
+same_answer o p same qs r a b x y =
     let question : a.question ≡ b.question = x.question ∙ sym y.question in
     let asker : a.asker ≡ b.asker = x.asker ∙ sym y.asker in
     let asked : x.asked ≡ y.asked = same_some x.asked y.asked (sym x.ask ∙ y.ask) in
@@ -98,16 +108,15 @@ same_answer n m qs xs ys r a b x y =
     let rows : x.rows ≡ y.rows = one_certificate (ranks y.asked.state) y.value y.rows x.rows y.certificate certificate in
     let text : answer_text (answer a.asker x.value x.rows) ≡ answer_text (answer b.asker y.value y.rows) = λ i. answer_text (answer (asker i) (value i) (rows i)) in
     let bytes : a.bytes ≡ b.bytes = x.text ∙ text ∙ sym y.text in
-    λ i. record { question = question i; asker = asker i; bytes = bytes i }
+    let roster : a.roster ≡ b.roster = same_roster a.roster b.roster o p same x.begins y.begins (x.names ∙ sym y.names) in
+    λ i. record { question = question i; asker = asker i; roster = roster i; bytes = bytes i }
 
 -- ---- worlds
 
 pub one_value : WorldsHaveOneValue
 one_value v u w roster s t =
-    let n = length v.roster.names in
-    let m = length u.roster.names in
-    let memory = same_replicas v.roster u.roster v.memory u.memory w.memory roster s.memory_places t.memory_places (sym s.replicas ∙ t.replicas) s.memory t.memory in
-    let kept = same_replicas v.roster u.roster v.kept u.kept w.kept roster s.kept_places t.kept_places (s.same_length ∙ sym s.replicas ∙ t.replicas ∙ sym t.same_length) s.kept t.kept in
-    let asks = same_matched (HoldsAsk n) (HoldsAsk m) w.asks v.asks u.asks (same_ask n m) s.asks t.asks in
-    let answers = same_matched (HoldsAnswer n w.asks v.asks) (HoldsAnswer m w.asks u.asks) w.answers v.answers u.answers (same_answer n m w.asks v.asks u.asks) s.answers t.answers in
+    let memory = same_replicas v.roster u.roster w.memory_names v.memory u.memory w.memory roster s.memory_places t.memory_places s.memory_names t.memory_names (sym s.replicas ∙ t.replicas) s.memory t.memory in
+    let kept = same_replicas v.roster u.roster w.kept_names v.kept u.kept w.kept roster s.kept_places t.kept_places s.kept_names t.kept_names (s.same_length ∙ sym s.replicas ∙ t.replicas ∙ sym t.same_length) s.kept t.kept in
+    let asks = same_matched HoldsAsk HoldsAsk w.asks v.asks u.asks same_ask s.asks t.asks in
+    let answers = same_matched (HoldsAnswer v.roster w.asks) (HoldsAnswer u.roster w.asks) w.answers v.answers u.answers (same_answer v.roster u.roster roster w.asks) s.answers t.answers in
     λ i. record { roster = roster i; memory = memory i; kept = kept i; asks = asks i; answers = answers i }

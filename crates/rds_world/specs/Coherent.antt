@@ -1,5 +1,5 @@
 -- What holds of the states that a world has now, and is kept by every event.
-use Rattle.std.specs.Prelude.{◌≡◌, ◌≢◌, ◌⊎◌, ◌<◌, ℕ, List, Option, Some, None, Result, Ok, Err, slice_get}
+use Rattle.std.specs.Prelude.{◌≡◌, ◌≢◌, ◌⊎◌, ◌<◌, ◌≤◌, ℕ, List, length, Option, Some, None, Result, Ok, Err, slice_get}
 use Rattle.rds_names.specs.declared.fault.Fault.{Fault}
 use Rattle.rds_names.specs.declared.fault.Fault.TheVariants.{Memory as NoMemory}
 use Rattle.rds_state.specs.Ahead.{TakeGives}
@@ -12,7 +12,7 @@ use Rattle.rds_state.specs.declared.command.Command.{Command}
 use Rattle.rds_delta.specs.Ranks.{ranks}
 use Rattle.rds_delta.specs.Least.{IsAbove}
 use Rattle.rds_world.specs.declared.event.Event.{Event}
-use Rattle.rds_world.specs.World.{World, Question, Reply, start, edited, after, refused}
+use Rattle.rds_world.specs.World.{World, Question, Reply, start, after_edit, after, refusal_of}
 
 -- where a state stands in a world
 pub data Position : Type 0 where
@@ -71,10 +71,10 @@ pub record IsCoherent (w : World) : Type 0 where
   pub answers_its : (k : ℕ) (m : Reply) → slice_get w.answers k ≡ Some m → AnswersIts w.asks m
 
 abbrev pub StartsCoherent : Type 0
-StartsCoherent = (n : ℕ) → IsCoherent (start n)
+StartsCoherent = (ns : List (List ℕ)) → IsCoherent (start ns)
 
 abbrev pub KeepsCoherence : Type 0
-KeepsCoherence = (w : World) (e : Event) → IsCoherent w → refused w e ≡ None → IsCoherent (after w e)
+KeepsCoherence = (w : World) (e : Event) → IsCoherent w → refusal_of w e ≡ None → IsCoherent (after w e)
 
 -- every state of one replica and every state of another are friends
 abbrev pub ReplicasAreFriends : World → Type 0
@@ -91,4 +91,26 @@ NoDeliveryIsRefused w = (k : ℕ) (m : Reply) (a d : StateValue) (result : Resul
 
 -- what an edit does to a state is determined by its command
 abbrev pub EditsAreSteps : Type 0
-EditsAreSteps = (a b : Coordinates) (own : ℕ) (c : Command) → JoinsEffect a own c b → b ≡ edited a own c
+EditsAreSteps = (a b : Coordinates) (own : ℕ) (c : Command) → JoinsEffect a own c b → b ≡ after_edit a own c
+
+-- ---- rosters
+
+-- Each replica of the roster knows its own name; what it has kept isn't longer than what it has in memory, nor that than the
+-- world's roster; and each state speaks only of the replicas that the roster beside it names.
+pub record HasRosters (w : World) : Type 0 where
+  pub named : w.replicas ≡ length w.roster
+  pub own : (r : ℕ) → r < w.replicas → r < w.kept_names r
+  pub kept_within : (r : ℕ) → w.kept_names r ≤ w.memory_names r
+  pub memory_within : (r : ℕ) → w.memory_names r ≤ w.replicas
+  pub memory : (r : ℕ) → Fits (w.memory_names r) (w.memory r)
+  pub kept : (r : ℕ) → Fits (w.kept_names r) (w.kept r)
+  pub askers : (k : ℕ) (q : Question) → slice_get w.asks k ≡ Some q → q.asker < q.names
+  -- what a replica has kept never gets shorter than what it asked or answered with
+  pub asks : (k : ℕ) (q : Question) → slice_get w.asks k ≡ Some q → Fits q.names q.state × (q.names ≤ w.kept_names q.asker)
+  pub answers : (k : ℕ) (m : Reply) → slice_get w.answers k ≡ Some m → Fits m.names m.state × (m.names ≤ w.kept_names m.maker)
+
+abbrev pub StartsWithRosters : Type 0
+StartsWithRosters = (ns : List (List ℕ)) → HasRosters (start ns)
+
+abbrev pub KeepsRosters : Type 0
+KeepsRosters = (w : World) (e : Event) → HasRosters w → refusal_of w e ≡ None → HasRosters (after w e)

@@ -1,7 +1,8 @@
 -- When code refuses an event, and what it answers.
-use Rattle.std.specs.Prelude.{◌≡◌, ◌<◌, ℕ, true, List, Some, None, length, count_by, slice_get}
+use Rattle.std.specs.Prelude.{◌≡◌, ◌<◌, ◌++◌, ◌∷◌, [], ℕ, true, List, Some, None, length, count_by, slice_get}
 use Rattle.rds_names.specs.declared.fault.Fault.{Fault}
 use Rattle.rds_names.specs.declared.fault.Fault.TheVariants.{Memory, TooLong}
+use Rattle.rds_names.specs.Roster.{RosterValue}
 use Rattle.rds_life.specs.Life.{live_rows}
 use Rattle.rds_state.specs.Edit.{covers, needs_room, new_dot}
 use Rattle.rds_state.specs.Fits.{ReplicaValue}
@@ -16,10 +17,10 @@ use Rattle.rds_codec.specs.Exchanged as exchanged
 use Rattle.rds_codec.specs.StateTexts.{snapshot_text}
 use Rattle.rds_codec.specs.declared.limits.TheConstants.{LIMIT}
 use Rattle.rds_world.specs.declared.event.Event.{Event}
-use Rattle.rds_world.specs.declared.event.Event.TheVariants.{Edit, Save, Crash, Ask, Answer, Take}
+use Rattle.rds_world.specs.declared.event.Event.TheVariants.{Edit, Save, Crash, Ask, Answer, Take, Grow}
 use Rattle.rds_world.specs.declared.event.Done.{Done}
 use Rattle.rds_world.specs.declared.event.Done.TheVariants.{Edited, Plain, Asked, Answered}
-use Rattle.rds_world.specs.World.{World, Question, reply, refused}
+use Rattle.rds_world.specs.World.{World, Question, reply, refusal_of}
 use Rattle.rds_world.specs.Stored.{WorldValue}
 
 -- the snapshot of a replica in memory is above the limit
@@ -52,10 +53,11 @@ MakesTooLong v w (Crash r) = ⊥
 MakesTooLong v w (Ask r) = IsLongDigest v r
 MakesTooLong v w (Answer s k) = IsLongAnswer w s k
 MakesTooLong v w (Take k) = ⊥
+MakesTooLong v w (Grow r name) = ⊥
 
 -- the model doesn't refuse the event, and its texts are within their limits
 pub record IsAccepted (v : WorldValue) (w : World) (e : Event) : Type 0 where
-  pub due : refused w e ≡ None
+  pub due : refusal_of w e ≡ None
   pub short : MakesTooLong v w e → ⊥
 
 -- the snapshot that a save makes is above the limit
@@ -66,6 +68,7 @@ SavesTooLong v (Crash r) = ⊥
 SavesTooLong v (Ask r) = ⊥
 SavesTooLong v (Answer s k) = ⊥
 SavesTooLong v (Take k) = ⊥
+SavesTooLong v (Grow r name) = ⊥
 
 -- the event may take memory: an edit only where it adds a live dot or a number
 abbrev pub TakesMemory : World → Event → Type 0
@@ -75,13 +78,24 @@ TakesMemory w (Crash r) = Unit {0}
 TakesMemory w (Ask r) = Unit {0}
 TakesMemory w (Answer s k) = Unit {0}
 TakesMemory w (Take k) = Unit {0}
+TakesMemory w (Grow r name) = Unit {0}
 
 -- What the model refuses it for; else a text that is made too long. Want of memory
 -- comes after what is found without memory: what the model refuses, and a snapshot that is too long.
 pub data Refuses (v : WorldValue) (w : World) (e : Event) : Fault → Type 0 where
-  NoMemory : refused w e ≡ None → (SavesTooLong v e → ⊥) → TakesMemory w e → Refuses v w e Memory
-  Due : (f : Fault) → refused w e ≡ Some f → Refuses v w e f
-  Long : refused w e ≡ None → MakesTooLong v w e → Refuses v w e TooLong
+  NoMemory : refusal_of w e ≡ None → (SavesTooLong v e → ⊥) → TakesMemory w e → Refuses v w e Memory
+  Due : (f : Fault) → refusal_of w e ≡ Some f → Refuses v w e f
+  Long : refusal_of w e ≡ None → MakesTooLong v w e → Refuses v w e TooLong
+
+-- the roster after an event that isn't refused
+abbrev pub roster_after : RosterValue → Event → RosterValue
+roster_after roster (Edit r c) = roster
+roster_after roster (Save r) = roster
+roster_after roster (Crash r) = roster
+roster_after roster (Ask r) = roster
+roster_after roster (Answer s k) = roster
+roster_after roster (Take k) = roster
+roster_after roster (Grow r name) = record roster { names = roster.names ++ name ∷ [] }
 
 -- what an edit did: the dot that it made, and how many live dots it covers
 pub record IsEdited (v : WorldValue) (w : World) (r : ℕ) (c : Command) (e : Effected) : Type 0 where
@@ -101,4 +115,5 @@ IsDone v w (Crash r) Plain = Unit {0}
 IsDone v w (Ask r) (Asked k) = k ≡ length w.asks
 IsDone v w (Answer s j) (Answered k components) = IsAnswered w s j k components
 IsDone v w (Take k) Plain = Unit {0}
+IsDone v w (Grow r name) Plain = Unit {0}
 IsDone v w e done = ⊥

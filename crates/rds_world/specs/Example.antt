@@ -10,6 +10,10 @@ use Rattle.rds_world.specs.declared.event.Event.TheVariants.{Edit, Save, Crash, 
 abbrev pub add_to_s : ℕ → Command
 add_to_s n = Add ((115 ∷ []) ∷ []) (scalars.Int (pos n))
 
+-- three names
+abbrev pub three : List (List ℕ)
+three = (97 ∷ []) ∷ (98 ∷ []) ∷ (99 ∷ []) ∷ []
+
 -- Replica 0 adds 1, and replica 1 asks it and is answered. After a crash replica 0 adds 2, keeps that, and answers again.
 -- Replica 1 takes the later answer, then the earlier one.
 abbrev pub lost_and_again : List Event

@@ -10,7 +10,7 @@ use Rattle.rds_state.specs.Made.{entry_made}
 use Rattle.rds_state.specs.declared.command.Command.{Command}
 use Rattle.rds_state.specs.declared.command.Command.TheVariants.{Clear, Inc, Dec}
 use Rattle.rds_world.specs.declared.event.Event.{Event}
-use Rattle.rds_world.specs.declared.event.Event.TheVariants.{Edit, Save, Crash, Ask, Answer, Take}
+use Rattle.rds_world.specs.declared.event.Event.TheVariants.{Edit, Save, Crash, Ask, Answer, Take, Grow}
 use Rattle.rds_world.specs.World.{put}
 
 -- an edit, and which updates its replica's memory held just before
@@ -69,10 +69,11 @@ hold h (Crash r) = record h { memory = put h.memory r (h.kept r) }
 hold h (Ask r) = record h { asks = h.asks ++ r ∷ [] }
 hold h (Answer s k) = remembers h s (slice_get h.asks k)
 hold h (Take k) = takes h (slice_get h.answers k)
+hold h (Grow r name) = h
 
-abbrev pub held : List Event → Holdings → Holdings
-held [] h = h
-held (e ∷ es) h = held es (hold h e)
+abbrev pub holdings_after : List Event → Holdings → Holdings
+holdings_after [] h = h
+holdings_after (e ∷ es) h = holdings_after es (hold h e)
 
 -- ---- the document of a set of updates
 

@@ -5,55 +5,59 @@ use Rattle.rds_state.specs.Coordinates.{Coordinates, AtMost, AreCompatible, join
 use Rattle.rds_world.specs.declared.event.Event.{Event}
 use Rattle.rds_world.specs.declared.event.Event.TheVariants.{Answer}
 use Rattle.rds_world.specs.World.{World, Question, empty, start, reply, run, Accepted}
-use Rattle.rds_world.specs.Held.{Holdings, nothing_held, held}
-use Rattle.rds_world.specs.Coherent.{Store, Memory, Kept, state_in, IsCoherent, ReplicasAreFriends}
+use Rattle.rds_world.specs.Held.{Holdings, nothing_held, holdings_after}
+use Rattle.rds_world.specs.Coherent.{Store, Memory, Kept, state_in, HasRosters, IsCoherent, ReplicasAreFriends}
 use Rattle.rds_world.specs.Updates.{bases, effect_of, IsJoinOf, IsExplained, ShowsUpdates}
 
--- what is said of n replicas and of events none of which was refused
-abbrev pub Afterwards : (ℕ → List Event → Type 0) → Type 0
-Afterwards P = (n : ℕ) (es : List Event) → Accepted es (start n) → P n es
+-- what is said of these first names and of events none of which was refused
+abbrev pub Afterwards : (List (List ℕ) → List Event → Type 0) → Type 0
+Afterwards P = (ns : List (List ℕ)) (es : List Event) → Accepted es (start ns) → P ns es
 
-abbrev pub world_after : ℕ → List Event → World
-world_after n es = run es (start n)
+abbrev pub world_after : List (List ℕ) → List Event → World
+world_after ns es = run es (start ns)
 
 abbrev pub held_after : List Event → Holdings
-held_after es = held es nothing_held
+held_after es = holdings_after es nothing_held
 
-abbrev pub bases_after : ℕ → List Event → ℕ → Coordinates
-bases_after n es = bases es (λ u. empty) nothing_held (start n)
+abbrev pub bases_after : List (List ℕ) → List Event → ℕ → Coordinates
+bases_after ns es = bases es (λ u. empty) nothing_held (start ns)
 
-abbrev pub effects_after : ℕ → List Event → ℕ → Coordinates
-effects_after n es = effect_of (held_after es).update (bases_after n es)
+abbrev pub effects_after : List (List ℕ) → List Event → ℕ → Coordinates
+effects_after ns es = effect_of (held_after es).update (bases_after ns es)
 
 -- which updates a replica's memory holds, or what it has kept
 abbrev pub held_in : Holdings → Store → ℕ → ℕ → Bool
 held_in h Memory r = h.memory r
 held_in h Kept r = h.kept r
 
-abbrev pub IsCoherentAfter : ℕ → List Event → Type 0
-IsCoherentAfter n es = IsCoherent (world_after n es)
+abbrev pub IsCoherentAfter : List (List ℕ) → List Event → Type 0
+IsCoherentAfter ns es = IsCoherent (world_after ns es)
 
 -- every state of one replica and every state of another are friends
-abbrev pub AreFriendsAfter : ℕ → List Event → Type 0
-AreFriendsAfter n es = ReplicasAreFriends (world_after n es)
+abbrev pub AreFriendsAfter : List (List ℕ) → List Event → Type 0
+AreFriendsAfter ns es = ReplicasAreFriends (world_after ns es)
+
+-- each replica's roster begins the world's and names all replicas that the state beside it speaks of
+abbrev pub HasRostersAfter : List (List ℕ) → List Event → Type 0
+HasRostersAfter ns es = HasRosters (world_after ns es)
 
 -- each state is the join of the effects of the updates that it holds
-abbrev pub EachIsTheJoin : ℕ → List Event → Type 0
-EachIsTheJoin n es = (x : Store) (r : ℕ) → IsJoinOf (effects_after n es) (held_in (held_after es) x r) (state_in (world_after n es) x r)
+abbrev pub EachIsTheJoin : List (List ℕ) → List Event → Type 0
+EachIsTheJoin ns es = (x : Store) (r : ℕ) → IsJoinOf (effects_after ns es) (held_in (held_after es) x r) (state_in (world_after ns es) x r)
 
 -- each seen dot is that of one update held, and dead exactly where an update held that held that one covers its entry
-abbrev pub EachDotIsExplained : ℕ → List Event → Type 0
-EachDotIsExplained n es = (x : Store) (r : ℕ) (d : Dot) → is_some ((state_in (world_after n es) x r).life d) ≡ true
-    → IsExplained (held_after es).update (bases_after n es) (held_in (held_after es) x r) (state_in (world_after n es) x r) d
+abbrev pub EachDotIsExplained : List (List ℕ) → List Event → Type 0
+EachDotIsExplained ns es = (x : Store) (r : ℕ) (d : Dot) → is_some ((state_in (world_after ns es) x r).life d) ≡ true
+    → IsExplained (held_after es).update (bases_after ns es) (held_in (held_after es) x r) (state_in (world_after ns es) x r) d
 
 -- each document is that of the updates held; a roster names at most 256 replicas
-abbrev pub EachShowsItsUpdates : ℕ → List Event → Type 0
-EachShowsItsUpdates n es = n ≤ 256 → (x : Store) (r : ℕ) → ShowsUpdates (held_after es).update (held_after es).size (held_in (held_after es) x r) (state_in (world_after n es) x r)
+abbrev pub EachShowsItsUpdates : List (List ℕ) → List Event → Type 0
+EachShowsItsUpdates ns es = length ns ≤ 256 → (x : Store) (r : ℕ) → ShowsUpdates (held_after es).update (held_after es).size (held_in (held_after es) x r) (state_in (world_after ns es) x r)
 
 -- states that hold the same updates are equal
-abbrev pub SameUpdatesSameState : ℕ → List Event → Type 0
-SameUpdatesSameState n es = (x y : Store) (r s : ℕ) → ((u : ℕ) → held_in (held_after es) x r u ≡ held_in (held_after es) y s u)
-    → state_in (world_after n es) x r ≡ state_in (world_after n es) y s
+abbrev pub SameUpdatesSameState : List (List ℕ) → List Event → Type 0
+SameUpdatesSameState ns es = (x y : Store) (r s : ℕ) → ((u : ℕ) → held_in (held_after es) x r u ≡ held_in (held_after es) y s u)
+    → state_in (world_after ns es) x r ≡ state_in (world_after ns es) y s
 
 -- ---- answers
 
@@ -65,6 +69,6 @@ pub record BringsWhatWasKept (w later : World) (s k : ℕ) (q : Question) : Type
   pub effect : join (later.memory q.asker) (reply w s k q).state ≡ join (later.memory q.asker) (w.kept s)
   pub least : (c : Coordinates) → AreCompatible q.state c → join q.state c ≡ join q.state (w.kept s) → AtMost (reply w s k q).state c
 
-abbrev pub EachAnswerBringsWhatWasKept : ℕ → List Event → Type 0
-EachAnswerBringsWhatWasKept n es = (before later : List Event) (s k : ℕ) (q : Question) → es ≡ before ++ Answer s k ∷ later
-    → slice_get (world_after n before).asks k ≡ Some q → BringsWhatWasKept (world_after n before) (world_after n es) s k q
+abbrev pub EachAnswerBringsWhatWasKept : List (List ℕ) → List Event → Type 0
+EachAnswerBringsWhatWasKept ns es = (before later : List Event) (s k : ℕ) (q : Question) → es ≡ before ++ Answer s k ∷ later
+    → slice_get (world_after ns before).asks k ≡ Some q → BringsWhatWasKept (world_after ns before) (world_after ns es) s k q

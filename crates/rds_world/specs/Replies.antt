@@ -43,6 +43,7 @@ pub data IsNotTaken (n : ℕ) (ask bytes : List ℕ) (own : ℕ) (old : StateVal
   NoDigest : Decodes (digest_kind n) ask (Err fault) → IsNotTaken n ask bytes own old fault
   NoAnswer : Decodes (answer_kind n) bytes (Err fault) → IsNotTaken n ask bytes own old fault
   Uncertified : (digest : DigestValue) (a : AnswerValue) → Decodes (digest_kind n) ask (Ok digest) → Decodes (answer_kind n) bytes (Ok a) → fault ≡ BadCertificate → IsUncertified digest a → IsNotTaken n ask bytes own old fault
+  NoCopy : fault ≡ Memory → IsNotTaken n ask bytes own old fault
   Untaken : (a : AnswerValue) → Decodes (answer_kind n) bytes (Ok a) → TakeGives {T = Unit {0}} old own a.state (Err fault) → IsNotTaken n ask bytes own old fault
 
 -- ---- certificates

@@ -1,5 +1,5 @@
 -- How far a list of events goes, and what holds of all that was reached on the way.
-use Rattle.std.specs.Prelude.{◌≡◌, ◌⊎◌, ℕ, List, ◌∷◌, ◌++◌, Some, [], length, slice_get}
+use Rattle.std.specs.Prelude.{◌≡◌, ◌⊎◌, ℕ, List, ◌∷◌, ◌++◌, Some, [], slice_get}
 use Rattle.rds_names.specs.declared.fault.Fault.{Fault}
 use Rattle.rds_names.specs.declared.fault.Fault.TheVariants.{Memory}
 use Rattle.rds_names.specs.Roster.{RosterValue}
@@ -14,10 +14,14 @@ use Rattle.rds_world.specs.Coherent.{Store, Memory as InMemory, Kept as AsKept}
 use Rattle.rds_world.specs.Law.{world_after, held_after, held_in, effects_after}
 use Rattle.rds_world.specs.Updates.{IsJoinOf, ShowsUpdates}
 
--- what stands for the model's world, of this roster, accepts the event: nothing that it makes is too long
+-- the roster with which a group began, with the names of a world
+abbrev pub roster_in : RosterValue → World → RosterValue
+roster_in roster w = record roster { names = w.roster }
+
+-- what stands for the model's world, of a group that began with this roster, accepts the event: nothing that it makes is too long
 pub record Happens (roster : RosterValue) (w : World) (e : Event) : Type 0 where
   pub value : WorldValue
-  pub of_roster : value.roster ≡ roster
+  pub of_roster : value.roster ≡ roster_in roster w
   pub stands : Stands value w
   pub accepted : IsAccepted value w e
 
@@ -28,8 +32,9 @@ AllHappen roster (e ∷ es) w = Happens roster w e × AllHappen roster es (after
 
 -- all events happened, and the world stands for the model's after them
 pub record Reaches (roster : RosterValue) (es : List Event) (v : WorldValue) : Type 0 where
-  pub happened : AllHappen roster es (start (length roster.names))
-  pub stands : Stands v (world_after (length roster.names) es)
+  pub happened : AllHappen roster es (start roster.names)
+  pub stands : Stands v (world_after roster.names es)
+  pub of_roster : v.roster ≡ roster_in roster (world_after roster.names es)
 
 -- the world was reached before an event that is refused so
 pub record StopsAt (roster : RosterValue) (es : List Event) (v : WorldValue) (fault : Fault) : Type 0 where
@@ -38,7 +43,7 @@ pub record StopsAt (roster : RosterValue) (es : List Event) (v : WorldValue) (fa
   pub later : List Event
   pub whole : es ≡ before ++ last ∷ later
   pub reached : Reaches roster before v
-  pub refused : Refuses v (world_after (length roster.names) before) last fault
+  pub refused : Refuses v (world_after roster.names before) last fault
 
 -- there was no memory for the replicas
 pub record HasNoReplicas (v : WorldValue) (fault : Fault) : Type 0 where
@@ -53,23 +58,23 @@ abbrev pub Stops : RosterValue → List Event → WorldValue → Fault → Type 
 Stops roster es v fault = StopsAt roster es v fault ⊎ HasNoReplicas v fault
 
 -- it is said of each beginning of the events none of which was refused
-abbrev pub Throughout : ℕ → List Event → (ℕ → List Event → Type 0) → Type 0
-Throughout n es P = (before later : List Event) → es ≡ before ++ later → Accepted before (start n) → P n before
+abbrev pub Throughout : List (List ℕ) → List Event → (List (List ℕ) → List Event → Type 0) → Type 0
+Throughout ns es P = (before later : List Event) → es ≡ before ++ later → Accepted before (start ns) → P ns before
 
 abbrev pub replicas_in : WorldValue → Store → List ReplicaValue
 replicas_in v InMemory = v.memory
 replicas_in v AsKept = v.kept
 
 -- each replica's state is the join of the effects of the updates that it holds
-abbrev pub ReplicasAreJoins : ℕ → List Event → WorldValue → Type 0
-ReplicasAreJoins n es v = (x : Store) (r : ℕ) (m : ReplicaValue) → slice_get (replicas_in v x) r ≡ Some m → IsJoinOf (effects_after n es) (held_in (held_after es) x r) (coordinates m.state)
+abbrev pub ReplicasAreJoins : List (List ℕ) → List Event → WorldValue → Type 0
+ReplicasAreJoins ns es v = (x : Store) (r : ℕ) (m : ReplicaValue) → slice_get (replicas_in v x) r ≡ Some m → IsJoinOf (effects_after ns es) (held_in (held_after es) x r) (coordinates m.state)
 
 -- each replica's document is that of the updates that it holds
-abbrev pub ReplicasShowTheirUpdates : ℕ → List Event → WorldValue → Type 0
-ReplicasShowTheirUpdates n es v = (x : Store) (r : ℕ) (m : ReplicaValue) → slice_get (replicas_in v x) r ≡ Some m
+abbrev pub ReplicasShowTheirUpdates : List (List ℕ) → List Event → WorldValue → Type 0
+ReplicasShowTheirUpdates ns es v = (x : Store) (r : ℕ) (m : ReplicaValue) → slice_get (replicas_in v x) r ≡ Some m
     → ShowsUpdates (held_after es).update (held_after es).size (held_in (held_after es) x r) (coordinates m.state)
 
 -- replicas that hold the same updates have equal states
-abbrev pub SameUpdatesSameReplicas : ℕ → List Event → WorldValue → Type 0
-SameUpdatesSameReplicas n es v = (x y : Store) (r s : ℕ) (a b : ReplicaValue) → slice_get (replicas_in v x) r ≡ Some a → slice_get (replicas_in v y) s ≡ Some b
+abbrev pub SameUpdatesSameReplicas : List (List ℕ) → List Event → WorldValue → Type 0
+SameUpdatesSameReplicas ns es v = (x y : Store) (r s : ℕ) (a b : ReplicaValue) → slice_get (replicas_in v x) r ≡ Some a → slice_get (replicas_in v y) s ≡ Some b
     → ((u : ℕ) → held_in (held_after es) x r u ≡ held_in (held_after es) y s u) → a.state ≡ b.state

@@ -4,15 +4,17 @@ use Rattle.std.specs.Coded.{Coded, code_by, coded×, coded_ℕ, coded_list}
 use Rattle.rds_names.specs.Roster.{RosterValue}
 use Rattle.rds_state.specs.Fits.{ReplicaValue, coded_roster, coded_replica}
 
--- who asked, and the text of the digest
+-- who asked, how many names it had kept, and the text of the digest
 pub record AskText : Type 0 where
   pub asker : ℕ
+  pub names : ℕ
   pub bytes : List ℕ
 
--- the number of the ask, who asked, and the text of the answer
+-- the number of the ask, who asked, the roster that who answers had kept, and the text of the answer
 pub record AnswerText : Type 0 where
   pub question : ℕ
   pub asker : ℕ
+  pub roster : RosterValue
   pub bytes : List ℕ
 
 pub record WorldValue : Type 0 where
@@ -38,10 +40,11 @@ abbrev pub answer_bytes_at : List AnswerText → ℕ → Option (List ℕ)
 answer_bytes_at answers k = bytes_answered (slice_get answers k)
 
 abbrev pub coded_ask : Coded AskText
-coded_ask = code_by (ℕ × List ℕ) (coded× coded_ℕ (coded_list coded_ℕ)) (λ a. (a.asker, a.bytes)) (λ p. record { asker = p.0; bytes = p.1 }) (λ _. refl)
+coded_ask = code_by (ℕ × (ℕ × List ℕ)) (coded× coded_ℕ (coded× coded_ℕ (coded_list coded_ℕ))) (λ a. (a.asker, (a.names, a.bytes))) (λ p. record { asker = p.0; names = p.1.0; bytes = p.1.1 }) (λ _. refl)
 
 abbrev pub coded_answer : Coded AnswerText
-coded_answer = code_by (ℕ × (ℕ × List ℕ)) (coded× coded_ℕ (coded× coded_ℕ (coded_list coded_ℕ))) (λ a. (a.question, (a.asker, a.bytes))) (λ p. record { question = p.0; asker = p.1.0; bytes = p.1.1 }) (λ _. refl)
+coded_answer = code_by (ℕ × (ℕ × (RosterValue × List ℕ))) (coded× coded_ℕ (coded× coded_ℕ (coded× coded_roster (coded_list coded_ℕ)))) (λ a. (a.question, (a.asker, (a.roster, a.bytes))))
+    (λ p. record { question = p.0; asker = p.1.0; roster = p.1.1.0; bytes = p.1.1.1 }) (λ _. refl)
 
 abbrev Parts : Type 0
 Parts = RosterValue × (List ReplicaValue × (List ReplicaValue × (List AskText × List AnswerText)))

@@ -8,24 +8,25 @@ use Rattle.rds_state.specs.Document.{IsShown, IsCounted, value_in}
 use Rattle.rds_state.specs.Edit.{covers, effect, new_dot}
 use Rattle.rds_state.specs.Made.{entry_made}
 use Rattle.rds_world.specs.declared.event.Event.{Event}
-use Rattle.rds_world.specs.declared.event.Event.TheVariants.{Edit, Save, Crash, Ask, Answer, Take}
+use Rattle.rds_world.specs.declared.event.Event.TheVariants.{Edit, Save, Crash, Ask, Answer, Take, Grow}
 use Rattle.rds_world.specs.World.{World, put, after}
 use Rattle.rds_world.specs.Held.{Update, Holdings, hold, IsPresent, IsChanged, value_of}
 
 -- ---- the states on which edits ran
 
-abbrev pub noted : (ℕ → Coordinates) → ℕ → World → Event → ℕ → Coordinates
-noted base n w (Edit r c) = put base n (w.memory r)
-noted base n w (Save r) = base
-noted base n w (Crash r) = base
-noted base n w (Ask r) = base
-noted base n w (Answer s k) = base
-noted base n w (Take k) = base
+abbrev pub bases_with : (ℕ → Coordinates) → ℕ → World → Event → ℕ → Coordinates
+bases_with base n w (Edit r c) = put base n (w.memory r)
+bases_with base n w (Save r) = base
+bases_with base n w (Crash r) = base
+bases_with base n w (Ask r) = base
+bases_with base n w (Answer s k) = base
+bases_with base n w (Take k) = base
+bases_with base n w (Grow r name) = base
 
 -- the states on which the edits ran, by the numbers of their updates
 abbrev pub bases : List Event → (ℕ → Coordinates) → Holdings → World → ℕ → Coordinates
 bases [] base h w = base
-bases (e ∷ es) base h w = bases es (noted base h.size w e) (hold h e) (after w e)
+bases (e ∷ es) base h w = bases es (bases_with base h.size w e) (hold h e) (after w e)
 
 -- ---- for updates T that ran on the states B
 

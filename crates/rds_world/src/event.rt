@@ -1,4 +1,5 @@
 //! What may happen to the replicas of a document.
+use rds_names::Name;
 use rds_state::{Command, Edited};
 
 /// An event. Replicas are named by their numbers in the roster, asks and answers by the order in which they were
@@ -17,6 +18,9 @@ pub enum Event {
     Answer(u8, u64),
     /// The asker takes an answer into its memory.
     Take(u64),
+    /// The replica, which knows the whole roster, puts a name last in it. The replica of that name appears, with
+    /// nothing.
+    Grow(u8, Name),
 }
 
 /// What an event did.
@@ -24,7 +28,7 @@ pub enum Event {
 pub enum Done {
     /// An edit did this.
     Edited(Edited),
-    /// A save, a crash or a take was made.
+    /// A save, a crash or a take was made, or the roster grew.
     Plain,
     /// The ask has this number.
     Asked(u64),

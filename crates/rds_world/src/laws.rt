@@ -11,17 +11,20 @@ ghost use Rattle.rds_world.specs.Coherent.{
   AnswersMayBeTaken,
   NoDeliveryIsRefused,
   EditsAreSteps,
+  StartsWithRosters,
+  KeepsRosters,
 };
 ghost use Rattle.rds_world.specs.Law.{
   Afterwards,
   IsCoherentAfter,
+  HasRostersAfter,
   EachIsTheJoin,
   EachDotIsExplained,
   EachShowsItsUpdates,
   SameUpdatesSameState,
   EachAnswerBringsWhatWasKept,
 };
-ghost use Rattle.rds_world.specs.Example.{add_to_s, lost_and_again};
+ghost use Rattle.rds_world.specs.Example.{add_to_s, three, lost_and_again};
 ghost use Rattle.rds_world.specs.Stands.{WorldsHaveOneValue};
 ghost use Rattle.rds_world.specs.World.{World, start, run, Accepted};
 ghost use Rattle.rds_world.specs.declared.event.Event.{Event};
@@ -36,18 +39,27 @@ pub fn worlds_stay_coherent()
     ensures after { Afterwards IsCoherentAfter }
 {}
 
+/// Each replica's roster names it, and is no longer than the world's. What is kept is no longer than what is in
+/// memory, and no shorter than what its replica asked or answered with. No state speaks of a replica that the roster
+/// beside it doesn't name. The function does nothing: its contract is these laws.
+pub fn rosters_grow()
+    ensures start { StartsWithRosters }
+    ensures step { KeepsRosters }
+    ensures after { Afterwards HasRostersAfter }
+{}
+
 /// In a coherent world every two replicas are friends, and no take of an answer is refused but for want of memory,
-/// whatever its asker did since, and however often it was taken before. The function does nothing: its contract is these
-/// laws.
+/// whatever its asker did since, and however often it was taken before. The function does nothing: its contract is
+/// these laws.
 pub fn coherent_replicas_are_friends()
     ensures friends { (w : World) → IsCoherent w → ReplicasAreFriends w }
     ensures take { (w : World) → IsCoherent w → AnswersMayBeTaken w }
     ensures accepted { (w : World) → IsCoherent w → NoDeliveryIsRefused w }
 {}
 
-/// A world of the model and a roster determine the replicas in memory and as kept, and the bytes of each ask and answer.
-/// So what is said of some value of a roster that stands for a world, as when a text of it is too long, is said of the
-/// one there is. The function does nothing: its contract is this law.
+/// A world of the model and a roster determine the replicas in memory and as kept, and the bytes of each ask and
+/// answer. So what is said of some value of a roster that stands for a world, as when a text of it is too long, is
+/// said of the one there is. The function does nothing: its contract is this law.
 pub fn worlds_have_one_value()
     ensures { WorldsHaveOneValue }
 {}
@@ -69,22 +81,25 @@ pub fn states_are_joins_of_updates()
     ensures same { Afterwards SameUpdatesSameState }
 {}
 
-/// An answer brings what its maker had kept, whenever it is taken: its asker's memory always has a join with that, which
-/// is what it becomes; and the answer is the least that does so. The function does nothing: its contract is this law.
+/// An answer brings what its maker had kept, whenever it is taken: its asker's memory always has a join with that,
+/// which is what it becomes; and the answer is the least that does so. The function does nothing: its contract is
+/// this law.
 pub fn answers_bring_what_was_kept()
     ensures { Afterwards EachAnswerBringsWhatWasKept }
 {}
 
-/// A run of two lists is the run of the first, and then of the second; so each beginning of an accepted list is accepted.
-/// The function does nothing: its contract is these laws.
+/// A run of two lists is the run of the first, and then of the second; so each beginning of an accepted list is
+/// accepted. The function does nothing: its contract is these laws.
 pub fn runs_go_on()
     ensures run { (es fs : List Event) (w : World) → run (es ++ fs) w ≡ run fs (run es w) }
-    ensures accepted { (es fs : List Event) (w : World) → Accepted (es ++ fs) w ↔ (Accepted es w × Accepted fs (run es w)) }
+    ensures accepted { (es fs : List Event) (w : World) → Accepted (es ++ fs) w
+        ↔ (Accepted es w × Accepted fs (run es w)) }
 {}
 
 /// A worked run: a crash loses an edit that another replica had asked for, its dot is used again with another entry,
 /// and each answer is taken. The function does nothing: its contract is what holds of this run.
 pub fn lost_dots_are_used_again()
-    ensures accepted { Accepted lost_and_again (start 3) }
-    ensures again { entry_of (((run lost_and_again (start 3)).memory 1).life (dot_of 0 1)) ≡ entry_made (add_to_s 2) }
+    ensures accepted { Accepted lost_and_again (start three) }
+    ensures again { entry_of (((run lost_and_again (start three)).memory 1).life (dot_of 0 1))
+        ≡ entry_made (add_to_s 2) }
 {}

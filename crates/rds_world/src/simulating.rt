@@ -1,6 +1,7 @@
 //! Lists of events.
 ghost use Rattle.std.specs.Prelude.{◌≡◌, ◌≤◌, IfOk, IfErr, MatchResult, length};
-ghost use Rattle.rds_world.specs.Law.{IsCoherentAfter, AreFriendsAfter, EachIsTheJoin, EachDotIsExplained, EachShowsItsUpdates, SameUpdatesSameState, EachAnswerBringsWhatWasKept};
+ghost use Rattle.rds_names.specs.Roster.{Begins};
+ghost use Rattle.rds_world.specs.Law.{IsCoherentAfter, HasRostersAfter, AreFriendsAfter, EachIsTheJoin, EachDotIsExplained, EachShowsItsUpdates, SameUpdatesSameState, EachAnswerBringsWhatWasKept};
 ghost use Rattle.rds_world.specs.Replies.{EachAnswerIsCertified};
 ghost use Rattle.rds_world.specs.Simulation.{Reaches, Stops, Throughout, ReplicasAreJoins, ReplicasShowTheirUpdates, SameUpdatesSameReplicas};
 
@@ -10,12 +11,12 @@ use rds_dots::DotSet;
 use rds_names::{Fault, Roster};
 use std::alloc::Global;
 
-/// All replicas of the roster after these events, in order. Where one is refused: the world before the first that is, and
-/// why. Where there is no memory for the replicas: a world without any, and `Memory`.
+/// All replicas of the roster after these events, in order. Where one is refused: the world before the first that is,
+/// and why. Where there is no memory for the replicas: a world without any, and `Memory`.
 ///
-/// Each state in memory and as kept is the join of the effects of exactly the updates that it holds, as these follow from
-/// the events alone, and its document is theirs, whatever was lost in crashes, came late, twice or never. The bytes of each
-/// answer bring a certificate that is accepted against what those of its ask bring.
+/// Each state in memory and as kept is the join of the effects of exactly the updates that it holds, as these follow
+/// from the events alone, and its document is theirs, whatever was lost in crashes, came late, twice or never. The
+/// bytes of each answer bring a certificate that is accepted against what those of its ask bring.
 pub fn simulate<S: DotSet>(
     alloc: Global,
     roster: Roster,
@@ -23,18 +24,19 @@ pub fn simulate<S: DotSet>(
 ) -> Result<World<S>, (World<S>, Fault)>
     ensures reached { IfOk result (λ world. Reaches roster events.now world) }
     ensures stopped { IfErr result (λ e. Stops roster events.now e.0 e.1) }
-    ensures roster { MatchResult result (λ world. world.roster ≡ roster) (λ e. e.0.roster ≡ roster) }
-    ensures joins { IfOk result (λ world. ReplicasAreJoins (length roster.names) events.now world) }
-    ensures documents { IfOk result (λ world. ReplicasShowTheirUpdates (length roster.names) events.now world) }
-    ensures same { IfOk result (λ world. SameUpdatesSameReplicas (length roster.names) events.now world) }
+    ensures roster { MatchResult result (λ world. Begins roster world.roster) (λ e. Begins roster e.0.roster) }
+    ensures joins { IfOk result (λ world. ReplicasAreJoins roster.names events.now world) }
+    ensures documents { IfOk result (λ world. ReplicasShowTheirUpdates roster.names events.now world) }
+    ensures same { IfOk result (λ world. SameUpdatesSameReplicas roster.names events.now world) }
     ensures certified { MatchResult result EachAnswerIsCertified (λ e. EachAnswerIsCertified e.0) }
-    ensures coherent_throughout { Throughout (length roster.names) events.now IsCoherentAfter }
-    ensures friends_throughout { Throughout (length roster.names) events.now AreFriendsAfter }
-    ensures joins_throughout { Throughout (length roster.names) events.now EachIsTheJoin }
-    ensures dots_throughout { Throughout (length roster.names) events.now EachDotIsExplained }
-    ensures documents_throughout { Throughout (length roster.names) events.now EachShowsItsUpdates }
-    ensures same_throughout { Throughout (length roster.names) events.now SameUpdatesSameState }
-    ensures answers_throughout { Throughout (length roster.names) events.now EachAnswerBringsWhatWasKept }
+    ensures coherent_throughout { Throughout roster.names events.now IsCoherentAfter }
+    ensures friends_throughout { Throughout roster.names events.now AreFriendsAfter }
+    ensures rosters_throughout { Throughout roster.names events.now HasRostersAfter }
+    ensures joins_throughout { Throughout roster.names events.now EachIsTheJoin }
+    ensures dots_throughout { Throughout roster.names events.now EachDotIsExplained }
+    ensures documents_throughout { Throughout roster.names events.now EachShowsItsUpdates }
+    ensures same_throughout { Throughout roster.names events.now SameUpdatesSameState }
+    ensures answers_throughout { Throughout roster.names events.now EachAnswerBringsWhatWasKept }
     ensures few { length roster.names ≤ 256 }
 {
     go_through(alloc, roster, events)
@@ -47,7 +49,7 @@ fn go_through<S: DotSet>(
 ) -> Result<World<S>, (World<S>, Fault)>
     ensures reached { IfOk result (λ world. Reaches roster events.now world) }
     ensures stopped { IfErr result (λ e. Stops roster events.now e.0 e.1) }
-    ensures roster { MatchResult result (λ world. world.roster ≡ roster) (λ e. e.0.roster ≡ roster) }
+    ensures roster { MatchResult result (λ world. Begins roster world.roster) (λ e. Begins roster e.0.roster) }
     ensures few { length roster.names ≤ 256 }
 {
     let mut world = match World::open(alloc, roster) {

@@ -1,10 +1,12 @@
 //! The bytes of asks and answers.
+use rds_names::Roster;
 use std::marker::Model;
 
-/// An ask: who asked, and the text of the digest.
+/// An ask: who asked, how many names it had kept, and the text of the digest.
 #[derive(Drop)]
 pub struct Asking {
     pub asker: u8,
+    pub names: u16,
     pub bytes: Vec<u8>,
 }
 
@@ -15,14 +17,15 @@ impl Model for Asking {
 
     ghost coded = { coded_ask };
 
-    ghost view = { λ a. record { asker = a.asker; bytes = a.bytes.items } };
+    ghost view = { λ a. record { asker = a.asker; names = a.names; bytes = a.bytes.items } };
 }
 
-/// An answer: the number of its ask, who asked, and the text.
+/// An answer: the number of its ask, who asked, the roster that its maker had kept, and the text.
 #[derive(Drop)]
 pub struct Answering {
     pub question: u64,
     pub asker: u8,
+    pub roster: Roster,
     pub bytes: Vec<u8>,
 }
 
@@ -33,5 +36,5 @@ impl Model for Answering {
 
     ghost coded = { coded_answer };
 
-    ghost view = { λ a. record { question = a.question; asker = a.asker; bytes = a.bytes.items } };
+    ghost view = { λ a. record { question = a.question; asker = a.asker; roster = a.roster; bytes = a.bytes.items } };
 }

@@ -1,13 +1,14 @@
 //! All replicas of a document, in memory and as kept.
-ghost use Rattle.std.specs.Prelude.{◌≡◌, ◌≤◌, ◌<◌, ◌⊎◌, [], Some, None, Err, IfOk, IfErr, OnOk, MatchResult, length, slice_get};
+ghost use Rattle.std.specs.Prelude.{◌≡◌, ◌≤◌, ◌<◌, ◌⊎◌, [], Some, None, Err, IfOk, IfErr, OnOk, MatchResult, length, take, slice_get};
 ghost use Rattle.std.specs.FinMap as map;
 ghost use Rattle.rds_codec.specs.StateTexts.{snapshot_text};
 ghost use Rattle.rds_codec.specs.declared.limits.TheConstants.{LIMIT};
+ghost use Rattle.rds_names.specs.Roster.{Begins};
 ghost use Rattle.rds_names.specs.declared.fault.Fault.TheVariants.{Memory, NoSuch, TooLong};
 ghost use Rattle.rds_tree.specs.Shown.{shown};
 ghost use Rattle.rds_world.specs.Shows.{IsNoSuch, ShowsAt};
 ghost use Rattle.rds_world.specs.Simulation.{HasNoReplicas};
-ghost use Rattle.rds_world.specs.Stands.{Stands, IsNew, AreNew};
+ghost use Rattle.rds_world.specs.Stands.{Stands, IsNew, AreNew, IsWhole};
 ghost use Rattle.rds_world.specs.Stored.{ask_bytes_at, answer_bytes_at};
 ghost use Rattle.rds_world.specs.World.{start};
 
@@ -24,7 +25,7 @@ use std::marker::Model;
 /// bytes. In memory an [`Index`] holds each.
 #[derive(Drop)]
 pub struct World<S: DotSet> {
-    roster: Roster,
+    pub(crate) roster: Roster,
     pub(crate) memory: Vec<Index<S>>,
     pub(crate) kept: Vec<Kept<S>>,
     pub(crate) asks: Vec<Asking>,
@@ -47,7 +48,7 @@ impl<S: DotSet> Model for World<S> {
 impl<S: DotSet> World<S> {
     /// The replicas of the roster, all empty in memory and as kept, without asks or answers.
     pub fn new(alloc: Global, roster: Roster) -> Result<World<S>, Fault>
-        ensures start { IfOk result (λ world. Stands world (start (length roster.names))) }
+        ensures start { IfOk result (λ world. Stands world (start roster.names)) }
         ensures roster { IfOk result (λ world. world.roster ≡ roster) }
         ensures memory { IfErr result (λ fault. fault ≡ Memory) }
     {
@@ -57,7 +58,7 @@ impl<S: DotSet> World<S> {
 
     /// The same, or a world without replicas.
     pub(crate) fn open(alloc: Global, roster: Roster) -> Result<World<S>, (World<S>, Fault)>
-        ensures start { IfOk result (λ world. Stands world (start (length roster.names))) }
+        ensures start { IfOk result (λ world. Stands world (start roster.names)) }
         ensures nothing { IfErr result (λ e. HasNoReplicas e.0 e.1) }
         ensures roster { MatchResult result (λ world. world.roster ≡ roster) (λ e. e.0.roster ≡ roster) }
         ensures few { length roster.names ≤ 256 }
@@ -75,8 +76,8 @@ impl<S: DotSet> World<S> {
     fn opened(alloc: Global, roster: Roster, memory: Vec<Index<S>>, kept: Vec<Kept<S>>) -> World<S>
         requires memory { AreNew roster memory.items (length memory.items) }
         requires kept { AreNew roster kept.items (length memory.items) }
-        requires within { length memory.items ≤ length roster.names }
-        ensures start { Stands result (start (length memory.items)) }
+        requires whole { IsWhole roster memory.items }
+        ensures start { Stands result (start (take (length memory.items) roster.names)) }
         ensures roster { result.roster ≡ roster }
         ensures memory { result.memory ≡ memory.items }
         ensures kept { result.kept ≡ kept.items }
@@ -103,7 +104,7 @@ impl<S: DotSet> World<S> {
     pub fn memory(&self, number: u8) -> Result<&Replica<S>, Fault>
         ensures there { IfOk result (λ replica. slice_get self.now.memory number ≡ Some replica.now) }
         ensures own { IfOk result (λ replica. replica.now.own ≡ number) }
-        ensures roster { IfOk result (λ replica. replica.now.roster ≡ self.now.roster) }
+        ensures roster { IfOk result (λ replica. Begins replica.now.roster self.now.roster) }
         ensures absent { IfErr result (λ fault. (fault ≡ NoSuch) × (slice_get self.now.memory number ≡ None)) }
     {
         Ok(self.index_at(number)?.replica())
@@ -113,7 +114,7 @@ impl<S: DotSet> World<S> {
     fn index_at(&self, number: u8) -> Result<&Index<S>, Fault>
         ensures there { IfOk result (λ index. slice_get self.now.memory number ≡ Some index.now) }
         ensures own { IfOk result (λ index. index.now.own ≡ number) }
-        ensures roster { IfOk result (λ index. index.now.roster ≡ self.now.roster) }
+        ensures roster { IfOk result (λ index. Begins index.now.roster self.now.roster) }
         ensures absent { IfErr result (λ fault. (fault ≡ NoSuch) × (slice_get self.now.memory number ≡ None)) }
     {
         match self.memory.get(usize::from(number)) {
@@ -138,7 +139,7 @@ impl<S: DotSet> World<S> {
     pub fn kept(&self, number: u8) -> Result<&Kept<S>, Fault>
         ensures there { IfOk result (λ kept. slice_get self.now.kept number ≡ Some kept.now) }
         ensures own { IfOk result (λ kept. kept.now.own ≡ number) }
-        ensures roster { IfOk result (λ kept. kept.now.roster ≡ self.now.roster) }
+        ensures roster { IfOk result (λ kept. Begins kept.now.roster self.now.roster) }
         ensures absent { IfErr result (λ fault. (fault ≡ NoSuch) × (slice_get self.now.kept number ≡ None)) }
     {
         match self.kept.get(usize::from(number)) {
@@ -184,11 +185,28 @@ fn empty_replicas<S: DotSet>(
     let mut memory = Vec::new(alloc);
     let mut kept = Vec::new(alloc);
     'making: for number in 0..replicas {
-        let replica = empty_replica(alloc, roster, number as u8)?;
-        kept.push(keep_empty(alloc, &replica)?)?;
-        memory.push(Index::of(alloc, replica)?)?;
+        let (index, empty) = newcomer(alloc, roster, number as u8)?;
+        kept.push(empty)?;
+        memory.push(index)?;
     }
     Ok((memory, kept))
+}
+
+/// The replica with this number, without any component, in memory and as kept.
+pub fn newcomer<S: DotSet>(
+    alloc: Global,
+    roster: &Roster,
+    number: u8,
+) -> Result<(Index<S>, Kept<S>), Fault>
+    requires { number < length roster.now.names }
+    ensures memory { IfOk result (λ p. IsNew roster.now number p.0) }
+    ensures kept { IfOk result (λ p. IsNew roster.now number p.1) }
+    ensures fault { IfErr result (λ fault. fault ≡ Memory) }
+{
+    let replica = empty_replica(alloc, roster, number)?;
+    let kept = keep_empty(alloc, &replica)?;
+    let index = Index::of(alloc, replica)?;
+    Ok((index, kept))
 }
 
 /// How many replicas the roster names.
@@ -223,8 +241,11 @@ fn keep_empty<S: DotSet>(alloc: Global, replica: &Replica<S>) -> Result<Kept<S>,
 pub fn keep<S: DotSet>(alloc: Global, replica: &Replica<S>) -> Result<Kept<S>, Fault>
     ensures ok { IfOk result (λ kept. kept ≡ replica.now) }
     ensures short { OnOk result (length (snapshot_text replica.now) ≤ LIMIT) }
-    ensures small { replica.now.state.lives ≡ map.empty → replica.now.state.counts ≡ map.empty → length (snapshot_text replica.now) ≤ LIMIT }
-    ensures fault { IfErr result (λ fault. ((fault ≡ Memory) × (length (snapshot_text replica.now) ≤ LIMIT)) ⊎ ((fault ≡ TooLong) × (LIMIT < length (snapshot_text replica.now)))) }
+    ensures small { replica.now.state.lives ≡ map.empty → replica.now.state.counts ≡ map.empty
+        → length (snapshot_text replica.now) ≤ LIMIT }
+    ensures fault { IfErr result
+        (λ fault. ((fault ≡ Memory) × (length (snapshot_text replica.now) ≤ LIMIT))
+        ⊎ ((fault ≡ TooLong) × (LIMIT < length (snapshot_text replica.now)))) }
 {
     let mut file = Counted::new(Vec::<u8>::new(alloc));
     match write_snapshot(alloc, replica, &mut file) {

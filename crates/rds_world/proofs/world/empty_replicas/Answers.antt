@@ -1,5 +1,5 @@
-use Rattle.std.proofs.Common.{rules, ◌≡◌, subst, sym, length}
-use Rattle.rds_world.specs.Stands.{IsNew, AreNew}
+use Rattle.std.proofs.Common.{rules, ◌≡◌, subst, length}
+use Rattle.rds_world.specs.Stands.{AreNew}
 use Rattle.rds_world.proofs.Openings.{more_new, none_new}
 use Rattle.rds_world.proofs.world.empty_replicas.Goals as goal
 
@@ -7,12 +7,10 @@ pub making-init : goal.making-init
 making-init g c = (none_new c.args.roster.now c.new-memory.result.items c.new-memory.ensures.items, none_new c.args.roster.now c.new-kept.result.items c.new-kept.ensures.items)
 
 pub making-preserved : goal.making-preserved
-making-preserved g c =
-    let new : IsNew c.args.roster.now c.making.number c.in_ok-replica.replica = c.in_ok-replica.ensures.ok in
-    let kept : IsNew c.args.roster.now c.making.number c.in_ok-keep_empty.field-0 = subst (IsNew c.args.roster.now c.making.number) (sym c.in_ok-keep_empty.ensures.ok) new in (
-      more_new c.args.roster.now c.making.memory.items c.push-in-making.new.self.items c.in_ok-of.field-0 c.making.number c.making.invariant.0 (subst (IsNew c.args.roster.now c.making.number) (sym c.in_ok-of.ensures.ok) new) c.in_ok-push-2.ensures.items,
-      more_new c.args.roster.now c.making.kept.items c.push.new.self.items c.in_ok-keep_empty.field-0 c.making.number c.making.invariant.1 kept c.in_ok-push.ensures.items,
-    )
+making-preserved g c = (
+  more_new c.args.roster.now c.making.memory.items c.push-in-making.new.self.items c.in_ok-index.index c.making.number c.making.invariant.0 c.in_ok-index.ensures.memory c.in_ok-push-2.ensures.items,
+  more_new c.args.roster.now c.making.kept.items c.push.new.self.items c.in_ok-index.empty c.making.number c.making.invariant.1 c.in_ok-index.ensures.kept c.in_ok-push.ensures.items,
+)
 
 pub returns-clause-memory : goal.returns-clause-memory
 returns-clause-memory g c =

@@ -1,5 +1,5 @@
 use Rattle.std.proofs.Common.{arith}
-use Rattle.rds_world.proofs.Openings.{few_names}
+use Rattle.rds_world.proofs.Rosters.{few_names}
 use Rattle.rds_world.proofs.world.replicas_of.Goals as goal
 
 pub returns-clause-few : goal.returns-clause-few

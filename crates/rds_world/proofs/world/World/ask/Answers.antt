@@ -16,16 +16,17 @@ returns-then-at-len-clause-err g c =
     let absent : length v.memory ≤ n = search rules in
     subst (λ (u : WorldValue). IsStopped u (Ask n) NoSuch u) c.self.view_is (ask_absent v n absent)
 
-pub returns-in_err-bytes-clause-err : goal.returns-in_err-bytes-clause-err
-returns-in_err-bytes-clause-err g c =
+pub returns-in_err-ask-clause-err : goal.returns-in_err-ask-clause-err
+returns-in_err-ask-clause-err g c =
     let v : WorldValue = record { roster = c.self.inside.roster; memory = c.self.inside.memory.items; kept = c.self.inside.kept.items; asks = c.self.inside.asks.items; answers = c.self.inside.answers.items } in
     let n = c.args.number in
     let lt : n < length v.memory = search rules in
     let lt_kept : n < length v.kept = subst (λ k. n < k) (sym c.self.invariant.same_length) lt in
-    let there : slice_get v.kept n ≡ Some c.index.result.now = subst (λ k. slice_get v.kept k ≡ Some c.index.result.now) c.from-at.ensures (slice_get_read v.kept (length v.kept) c.from-at.result c.index.result.now refl (subst (λ k. k < length v.kept) (sym c.from-at.ensures) lt_kept) c.index.ensures) in
-    let f = c.in_err-bytes.field-0.0 in
+    let m = c.index.result.now in
+    let there : slice_get v.kept n ≡ Some m = subst (λ k. slice_get v.kept k ≡ Some m) c.from-at.ensures (slice_get_read v.kept (length v.kept) c.from-at.result m refl (subst (λ k. k < length v.kept) (sym c.from-at.ensures) lt_kept) c.index.ensures) in
+    let f = c.in_err-ask.field-0.0 in
     let is : c.from_residual.result ≡ Err f = search rules in
-    fault_is _ _ f is (subst (λ (u : WorldValue). IsStopped u (Ask n) f u) c.self.view_is (ask_stopped v c.self.invariant n c.index.result.now lt there f (rw c.view_of-kept.ensures.replica at c.in_err-bytes.ensures.fault)))
+    fault_is _ _ f is (subst (λ (u : WorldValue). IsStopped u (Ask n) f u) c.self.view_is (ask_stopped v c.self.invariant n m lt there f (rw c.view_of-kept.ensures.replica at c.in_err-ask.ensures.fault)))
 
 pub returns-in_err-push-clause-err : goal.returns-in_err-push-clause-err
 returns-in_err-push-clause-err g c =
@@ -43,11 +44,12 @@ invariant_of-self-2 g c =
     let n = c.args.number in
     let lt : n < length v.memory = search rules in
     let lt_kept : n < length v.kept = subst (λ k. n < k) (sym c.self.invariant.same_length) lt in
-    let there : slice_get v.kept n ≡ Some c.index.result.now = subst (λ k. slice_get v.kept k ≡ Some c.index.result.now) c.from-at.ensures (slice_get_read v.kept (length v.kept) c.from-at.result c.index.result.now refl (subst (λ k. k < length v.kept) (sym c.from-at.ensures) lt_kept) c.index.ensures) in
-    let short = rw c.view_of-kept.ensures.replica at c.in_ok-bytes.ensures.short in
-    let holds = rw c.view_of-kept.ensures.replica at c.in_ok-bytes.ensures.ok in
+    let m = c.index.result.now in
+    let there : slice_get v.kept n ≡ Some m = subst (λ k. slice_get v.kept k ≡ Some m) c.from-at.ensures (slice_get_read v.kept (length v.kept) c.from-at.result m refl (subst (λ k. k < length v.kept) (sym c.from-at.ensures) lt_kept) c.index.ensures) in
+    let short = rw c.view_of-kept.ensures.replica at c.in_ok-ask.ensures.short in
+    let holds = rw c.view_of-kept.ensures.replica at c.in_ok-ask.ensures.ok in
     let question : c.len-question.result ≡ length v.asks = search rules in
-    let done = ask_done v c.self.invariant n c.index.result.now lt there c.in_ok-bytes.bytes.items c.push.new.self.items c.len-question.result c.in_ok-push.ensures.items question holds short in
+    let done = ask_done v c.self.invariant n m lt there c.in_ok-ask.ask c.push.new.self.items c.len-question.result c.in_ok-push.ensures.items question holds short in
     done.world
 
 pub returns-clause-ok : goal.returns-clause-ok
@@ -56,9 +58,10 @@ returns-clause-ok g c =
     let n = c.args.number in
     let lt : n < length v.memory = search rules in
     let lt_kept : n < length v.kept = subst (λ k. n < k) (sym c.self.invariant.same_length) lt in
-    let there : slice_get v.kept n ≡ Some c.index.result.now = subst (λ k. slice_get v.kept k ≡ Some c.index.result.now) c.from-at.ensures (slice_get_read v.kept (length v.kept) c.from-at.result c.index.result.now refl (subst (λ k. k < length v.kept) (sym c.from-at.ensures) lt_kept) c.index.ensures) in
-    let short = rw c.view_of-kept.ensures.replica at c.in_ok-bytes.ensures.short in
-    let holds = rw c.view_of-kept.ensures.replica at c.in_ok-bytes.ensures.ok in
+    let m = c.index.result.now in
+    let there : slice_get v.kept n ≡ Some m = subst (λ k. slice_get v.kept k ≡ Some m) c.from-at.ensures (slice_get_read v.kept (length v.kept) c.from-at.result m refl (subst (λ k. k < length v.kept) (sym c.from-at.ensures) lt_kept) c.index.ensures) in
+    let short = rw c.view_of-kept.ensures.replica at c.in_ok-ask.ensures.short in
+    let holds = rw c.view_of-kept.ensures.replica at c.in_ok-ask.ensures.ok in
     let question : c.len-question.result ≡ length v.asks = search rules in
-    let done = ask_done v c.self.invariant n c.index.result.now lt there c.in_ok-bytes.bytes.items c.push.new.self.items c.len-question.result c.in_ok-push.ensures.items question holds short in
+    let done = ask_done v c.self.invariant n m lt there c.in_ok-ask.ask c.push.new.self.items c.len-question.result c.in_ok-push.ensures.items question holds short in
     subst (λ (u : WorldValue). IsStep u (Ask n) (Asked c.len-question.result) (record v { asks = c.push.new.self.items })) c.self.view_is done.step

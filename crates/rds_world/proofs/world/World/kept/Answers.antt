@@ -1,5 +1,6 @@
-use Rattle.std.proofs.Common.{◌≡◌, ◌∙◌, None, Some, ap, length, refl, slice_get, sym}
+use Rattle.std.proofs.Common.{◌≡◌, ◌∙◌, None, Some, length, refl, slice_get, subst, sym}
 use Rattle.std.proofs.lemmas.Option.{slice_get_past, slice_get_read}
+use Rattle.rds_names.specs.Roster.{Begins}
 use Rattle.rds_world.specs.Stored.{WorldValue}
 use Rattle.rds_world.proofs.world.World.kept.Goals as goal
 
@@ -17,7 +18,7 @@ returns-in-Some-clause-roster g c =
     let look = c.in-Some.ensures.lookup in
     let there : slice_get c.self.inside.kept.items c.args.number ≡ Some c.in-Some.kept.now =
     sym (λ j. slice_get (c.deref.ensures.value j) (c.from.ensures j)) ∙ slice_get_read xs (length xs) c.from.result c.in-Some.kept.now refl look.3.0 look.1 in
-    (c.self.invariant.kept c.args.number c.in-Some.kept.now there).0 ∙ ap (λ (v : WorldValue). v.roster) c.self.view_is
+    subst (λ (v : WorldValue). Begins c.in-Some.kept.now.roster v.roster) c.self.view_is (c.self.invariant.kept c.args.number c.in-Some.kept.now there).0
 
 pub returns-in-None-clause-absent : goal.returns-in-None-clause-absent
 returns-in-None-clause-absent g c =
