@@ -9,8 +9,8 @@ use Rattle.rds_keep.specs.Counted.{CountedValue, HasFailed}
 use Rattle.rds_state.specs.Fits.{ReplicaValue}
 use Rattle.rds_lines.specs.Editing.{EditsLines, WritesAll}
 use Rattle.rds_lines.specs.Lines.{lines_in}
-use Rattle.rds_lines.specs.Output.{Writes}
-use Rattle.rds_lines.specs.declared.answer.Answer.{Answer}
+use Rattle.rds_output.specs.Output.{Writes}
+use Rattle.rds_output.specs.declared.reply.Reply.{Reply}
 use Rattle.rds_files.specs.Files.{IsHeldAt, IsUnkept, KeptFile, ReplacedValue}
 use Rattle.rds_words.specs.Task.{EditsByLines}
 use Rattle.rds_words.specs.declared.tasks.Task.{Task}
@@ -19,7 +19,7 @@ use Rattle.rds_commands.specs.Batch.{EditsFileBy, RefusesLines, RefusesLinesIn, 
 use Rattle.rds_commands.specs.declared.batch.TheConstants.{MOST}
 
 -- the file that was read under its lock is the one that was replaced
-pub edits_file_by : (path : List ℕ) (lines : List (List ℕ)) (file : KeptFile) (done : ReplacedValue) (answers : List Answer) → IsHeldAt path file → done.path ≡ file.path → done.before ≡ file.kept
+pub edits_file_by : (path : List ℕ) (lines : List (List ℕ)) (file : KeptFile) (done : ReplacedValue) (answers : List Reply) → IsHeldAt path file → done.path ≡ file.path → done.before ≡ file.kept
     → EditsLines lines file.kept done.kept answers → EditsFileBy path lines done answers
 edits_file_by path lines file done answers held at is edited = record {
   read = record { at = at ∙ held.at; value = rw is held.value; place = held.place };
@@ -66,23 +66,18 @@ edit_of P task file at is are said = subst P (same file at (sym is ∙ are)) sai
     same file at e = cc
 
 -- what lines made of the replica that was taken out is kept
-pub kept_lines : (lines : List (List ℕ)) (before old after kept : ReplicaValue) (answers : List Answer) → old ≡ before → EditsLines lines old after answers → kept ≡ after → EditsLines lines before kept answers
+pub kept_lines : (lines : List (List ℕ)) (before old after kept : ReplicaValue) (answers : List Reply) → old ≡ before → EditsLines lines old after answers → kept ≡ after → EditsLines lines before kept answers
 kept_lines lines before old after kept answers same edited is = rw (is, ← same) edited
 
 -- it can't be kept
-pub unkept_lines : (lines : List (List ℕ)) (before old after kept : ReplicaValue) (answers : List Answer) (fault : Fault) → old ≡ before → EditsLines lines old after answers → kept ≡ after → IsUnkept kept fault
+pub unkept_lines : (lines : List (List ℕ)) (before old after kept : ReplicaValue) (answers : List Reply) (fault : Fault) → old ≡ before → EditsLines lines old after answers → kept ≡ after → IsUnkept kept fault
     → RefusesLinesIn lines before fault
 unkept_lines lines before old after kept answers fault same edited is unkept = inr (kept, answers, kept_lines lines before old after kept answers same edited is, unkept)
 
 -- the answers to the lines of an input were written
-pub answers_written : (path input : List ℕ) (before after : Option (List ℕ)) (status : ℕ) (file : ReplacedValue) (answers seen : List Answer) → length input ≤ MOST → EditsFileBy path (lines_in input) file answers → seen ≡ answers
+pub answers_written : (path input : List ℕ) (before after : Option (List ℕ)) (status : ℕ) (file : ReplacedValue) (answers seen : List Reply) → length input ≤ MOST → EditsFileBy path (lines_in input) file answers → seen ≡ answers
     → WritesAll seen before after status → WritesEdits path input before after status
 answers_written path input before after status file answers seen few edited same written = inl (few, inl (file, answers, edited, rw (← same) written))
-
--- the file isn't edited by the lines of an input
-pub refusal_written : (path input : List ℕ) (before after : Option (List ℕ)) (status : ℕ) (fault : Fault) → length input ≤ MOST → RefusesLines path (lines_in input) fault → Writes (Err fault) before after status
-    → WritesEdits path input before after status
-refusal_written path input before after status fault few refused written = inl (few, inr (fault, refused, written))
 
 -- the input isn't read
 module _ {T : Type 0} (old new : CountedValue T) (fault : Fault) (a b : Option (List ℕ)) (wrote status : ℕ) (h : ((fault ≡ Memory) × (new.failed ≡ old.failed)) ⊎ ((fault ≡ Device) × HasFailed old new)) (told : wrote ≡ 0 → Writes (Err fault) a b status) where

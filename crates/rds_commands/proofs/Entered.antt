@@ -6,9 +6,9 @@ use Rattle.clap.specs.declared.error.kind.ErrorKind.TheVariants.{OutOfMemory}
 use Rattle.rds_names.specs.declared.fault.Fault.{Fault}
 use Rattle.rds_names.specs.declared.fault.Fault.TheVariants.{Memory}
 use Rattle.rds_keep.specs.Counted.{CountedValue}
-use Rattle.rds_lines.specs.Answering.{WritesAnswer}
-use Rattle.rds_lines.specs.Output.{AnswersStatus, Writes}
-use Rattle.rds_lines.specs.declared.answer.Answer.{Answer}
+use Rattle.rds_output.specs.Reply.{WritesReply}
+use Rattle.rds_output.specs.Output.{AnswersStatus, Writes}
+use Rattle.rds_output.specs.declared.reply.Reply.{Reply}
 use Rattle.rds_commands.specs.OfFile.{WritesOfFile}
 use Rattle.rds_commands.specs.Told.{AnswersMistake}
 use Rattle.rds_commands.specs.Unparsed.{unparsed_status}
@@ -30,7 +30,7 @@ mistaken kinds e before after status old new has memory answers wrote = elim has
 ]
 
 -- the answer that came with a file
-pub told_of_file : {F : Type 0} (comes : F → Answer → Type 0) (refuses : Fault → Type 0) (file : F) (answer given : Answer) (before after : Option (List ℕ)) (status : ℕ) → comes file answer → given ≡ answer
-    → WritesAnswer (Ok given) before after status → WritesOfFile comes refuses before after status
+pub told_of_file : {F : Type 0} (comes : F → Reply → Type 0) (refuses : Fault → Type 0) (file : F) (answer given : Reply) (before after : Option (List ℕ)) (status : ℕ) → comes file answer → given ≡ answer
+    → WritesReply (Ok given) before after status → WritesOfFile comes refuses before after status
 told_of_file comes refuses file answer given before after status came is writes =
-    inl (file, answer, came, subst (λ (a : Answer). WritesAnswer (Ok a) before after status) is writes)
+    inl (file, answer, came, subst (λ (a : Reply). WritesReply (Ok a) before after status) is writes)

@@ -7,13 +7,13 @@ use Rattle.rds_names.specs.Path.{path_of}
 use Rattle.rds_state.specs.Fits.{ReplicaValue}
 use Rattle.rds_lines.specs.Overview.{TellsOverview}
 use Rattle.rds_lines.specs.Views.{TellsAt}
-use Rattle.rds_lines.specs.declared.answer.Answer.{Answer}
+use Rattle.rds_output.specs.declared.reply.Reply.{Reply}
 use Rattle.rds_files.specs.Files.{FileValue, IsReadAt, IsUnread}
 use Rattle.rds_words.proofs.OneMeaning.{ok_isnt_err}
 use Rattle.rds_commands.specs.Looks.{DescribesFile, GetsFile, RefusesGet}
 
 -- it is told of what the file holds
-pub describes_file : (path : List ℕ) (file : FileValue) (kept : ReplicaValue) (answer : Answer) → IsReadAt path file → kept ≡ file.kept → TellsOverview kept answer → DescribesFile path file answer
+pub describes_file : (path : List ℕ) (file : FileValue) (kept : ReplicaValue) (answer : Reply) → IsReadAt path file → kept ≡ file.kept → TellsOverview kept answer → DescribesFile path file answer
 describes_file path file kept answer read same told = record { read = read; told = rw (← same) told }
 
 module _ (text : List ℕ) (keys : List (List ℕ)) (is : path_of text ≡ Ok keys) where
@@ -53,13 +53,3 @@ module _ (text : List ℕ) (keys : List (List ℕ)) (is : path_of text ≡ Ok ke
   -- there is no memory for what is told
   pub no_answer : (fault : Fault) → fault ≡ Memory → RefusesGet text fault
   no_answer fault memory = no_place fault (inl memory)
-
-  -- it is told what stands there
-  pub gets_file : (path : List ℕ) (above : List (List ℕ)) (key : List ℕ) (file : FileValue) (answer : Answer) → keys ≡ above ++ key ∷ [] → IsReadAt path file → TellsAt file.kept.state above key answer → GetsFile path text file answer
-  gets_file path above key file answer at read told = record {
-    read = read;
-    above = above;
-    key = key;
-    asked = is ∙ ap Ok at;
-    told = told;
-  }

@@ -2,7 +2,7 @@
 use Rattle.std.proofs.Common.{◌≡◌, ℕ, List, Option, Some, None, Err, inl}
 use Rattle.std.specs.Prelude.{IfSome}
 use Rattle.rds_names.specs.declared.fault.Fault.TheVariants.{Memory}
-use Rattle.rds_lines.specs.Output.{Writes}
+use Rattle.rds_output.specs.Output.{Writes}
 use Rattle.rds_commands.specs.Told.{WritesSim}
 
 pub sim_unwritten : (o a b : Option (List ℕ)) (read wrote status : ℕ) → (wrote ≡ 0 → Writes (Err Memory) a b status) → IfSome o (λ input. read ≡ 0 → wrote ≡ 0 → WritesSim input a b status)

@@ -11,10 +11,11 @@ use Rattle.rds_state.specs.Edit.{IsDue, JoinsEffect, covers, new_dot, refusal}
 use Rattle.rds_state.specs.Fits.{ReplicaValue}
 use Rattle.rds_state.specs.Value.{coordinates}
 use Rattle.rds_state.specs.declared.command.Command.{Command}
-use Rattle.rds_lines.specs.Answer.{edit_answer}
+use Rattle.rds_output.specs.Reply.{edit_reply}
 use Rattle.rds_lines.specs.Views.{ShowsView}
-use Rattle.rds_lines.specs.declared.answer.Answer.{Answer}
-use Rattle.rds_lines.specs.declared.answer.Answer.TheVariants.{Done}
+use Rattle.rds_lines.specs.declared.views.Layout.{Layout}
+use Rattle.rds_output.specs.declared.reply.Reply.{Reply}
+use Rattle.rds_output.specs.declared.reply.Reply.TheVariants.{Done}
 use Rattle.rds_files.specs.Files.{FileValue, IsReadAt, IsReplacedAt, IsUnkept, IsUnread, KeptFile, RefusesFile, RefusesLock, ReplacedValue, is_beside}
 use Rattle.rds_words.specs.Meaning.{IsCommand, roster_for}
 use Rattle.rds_words.specs.declared.tasks.EditWords.{EditWords}
@@ -29,30 +30,36 @@ pub record IsNamed (words : InitWords) (replica : ReplicaValue) : Type 0 where
   pub no_counts : replica.state.counts ≡ map.empty
 
 -- the file of the words' path was made, and keeps that replica, and that it was done is told
-pub record InitsFile (words : InitWords) (file : KeptFile) (answer : Answer) : Type 0 where
+pub record InitsFile (words : InitWords) (file : KeptFile) (answer : Reply) : Type 0 where
   pub at : file.path ≡ words.file.now
   pub place : is_beside words.file.now ≡ false
   pub kept : IsNamed words file.kept
   pub told : answer ≡ Done
 
--- why no file is made: the words name no replica; else something is there, or the path is none for it, or that replica can't be kept; or
--- want of memory
+-- why no file is made: the words name no replica; else something is there, or the path is none for it, or that replica
+-- can't be kept; or want of memory
 abbrev pub RefusesInit : InitWords → Fault → Type 0
-RefusesInit words fault = (fault ≡ Memory) ⊎ ((roster_for words ≡ Err fault) ⊎ ((replica : ReplicaValue) × IsNamed words replica × RefusesFile replica fault))
+RefusesInit words fault =
+    (fault ≡ Memory)
+    ⊎ ((roster_for words ≡ Err fault) ⊎ ((replica : ReplicaValue) × IsNamed words replica × RefusesFile replica fault))
 
 -- ---- edits
 
 -- an edited replica can't be kept
 abbrev pub IsEditedUnkept : Command → ReplicaValue → Fault → Type 0
-IsEditedUnkept command before fault = (after : ReplicaValue) × (answer : Answer) × IsEdited command before after answer × IsUnkept after fault
+IsEditedUnkept command before fault =
+    (after : ReplicaValue) × (answer : Reply) × IsEdited command before after answer × IsUnkept after fault
 
--- why a replica isn't edited and kept: what the edit itself is refused by, and only where that is nothing, that the new one
--- can't be kept; want of memory comes only there too
+-- why a replica isn't edited and kept: what the edit itself is refused by, and only where that is nothing, that the new
+-- one can't be kept; want of memory comes only there too
 abbrev pub RefusesEditIn : Command → ReplicaValue → Fault → Type 0
-RefusesEditIn command before fault = IsDue (edit_refusal before command) fault ⊎ ((edit_refusal before command ≡ None) × IsEditedUnkept command before fault)
+RefusesEditIn command before fault =
+    IsDue (edit_refusal before command) fault
+    ⊎ ((edit_refusal before command ≡ None) × IsEditedUnkept command before fault)
 
--- the file at this path was read under its lock, and keeps what it held then, edited as the words ask by an edit that isn't refused
-pub record EditsFile (path : List ℕ) (words : EditWords) (file : ReplacedValue) (answer : Answer) : Type 0 where
+-- the file at this path was read under its lock, and keeps what it held then, edited as the words ask by an edit that
+-- isn't refused
+pub record EditsFile (path : List ℕ) (words : EditWords) (file : ReplacedValue) (answer : Reply) : Type 0 where
   pub read : IsReplacedAt path file
   pub command : Command
   pub asked : IsCommand words (Ok command)
@@ -61,20 +68,24 @@ pub record EditsFile (path : List ℕ) (words : EditWords) (file : ReplacedValue
 
 -- why a command isn't carried out on the file at a path: it can't be locked and read, or the replica in it isn't edited
 abbrev pub RefusesCommand : List ℕ → Command → Fault → Type 0
-RefusesCommand path command fault = RefusesLock path fault ⊎ ((before : ReplicaValue) × RefusesEditIn command before fault)
+RefusesCommand path command fault =
+    RefusesLock path fault ⊎ ((before : ReplicaValue) × RefusesEditIn command before fault)
 
 -- why words edit no file: they are no command, or it isn't carried out; or want of memory
 abbrev pub RefusesEdit : List ℕ → EditWords → Fault → Type 0
-RefusesEdit path words fault = (fault ≡ Memory) ⊎ (IsCommand words (Err fault) ⊎ ((command : Command) × IsCommand words (Ok command) × RefusesCommand path command fault))
+RefusesEdit path words fault =
+    (fault ≡ Memory)
+    ⊎ (IsCommand words (Err fault)
+    ⊎ ((command : Command) × IsCommand words (Ok command) × RefusesCommand path command fault))
 
 -- ---- show
 
--- the file at this path was read, and this is the view, at the path of the text, of what it held
-pub record ShowsFile (path text : List ℕ) (file : FileValue) (answer : Answer) : Type 0 where
+-- the file at this path was read, and this is the view, at the path of the text, of what it held, so laid out
+pub record ShowsFile (layout : Layout) (path text : List ℕ) (file : FileValue) (answer : Reply) : Type 0 where
   pub read : IsReadAt path file
   pub keys : List (List ℕ)
   pub asked : path_of text ≡ Ok keys
-  pub shown : ShowsView file.kept.state keys answer
+  pub shown : ShowsView layout file.kept.state keys answer
 
 -- why nothing is shown: the text is no path; else there is no replica in the file
 abbrev pub RefusesShow : List ℕ → Fault → Type 0

@@ -4,18 +4,17 @@ use Rattle.rds_names.specs.declared.fault.Fault.{Fault}
 use Rattle.rds_names.specs.declared.fault.Fault.TheVariants.{BadPath}
 use Rattle.rds_names.specs.Gives.{Refuses}
 use Rattle.rds_names.specs.Path.{path_of}
-use Rattle.rds_lines.specs.Answering.{WritesAnswer}
+use Rattle.rds_output.specs.Reply.{WritesReply}
 use Rattle.rds_lines.specs.Overview.{TellsOverview}
-use Rattle.rds_lines.specs.Views.{ShowsPretty, TellsAt}
-use Rattle.rds_lines.specs.declared.answer.Answer.{Answer}
+use Rattle.rds_lines.specs.Views.{TellsAt}
+use Rattle.rds_output.specs.declared.reply.Reply.{Reply}
 use Rattle.rds_files.specs.Files.{FileValue, IsReadAt, IsUnread}
-use Rattle.rds_commands.specs.Edits.{RefusesShow}
 use Rattle.rds_commands.specs.OfFile.{WritesOfFile}
 
 -- ---- get
 
 -- the file at this path was read, and this is what stands at the path of the text in what it held
-pub record GetsFile (path text : List ℕ) (file : FileValue) (answer : Answer) : Type 0 where
+pub record GetsFile (path text : List ℕ) (file : FileValue) (answer : Reply) : Type 0 where
   pub read : IsReadAt path file
   pub above : List (List ℕ)
   pub key : List ℕ
@@ -32,27 +31,16 @@ IsBelowRoot text = (above : List (List ℕ)) × (key : List ℕ) × (path_of tex
 
 -- why nothing is told: the text is no path, or that of the root; else there is no replica in the file
 abbrev pub RefusesGet : List ℕ → Fault → Type 0
-RefusesGet text fault = Refuses fault (path_of text) ⊎ (((fault ≡ BadPath) × IsRoot text) ⊎ (IsBelowRoot text × IsUnread fault))
+RefusesGet text fault =
+    Refuses fault (path_of text) ⊎ (((fault ≡ BadPath) × IsRoot text) ⊎ (IsBelowRoot text × IsUnread fault))
 
 abbrev pub WritesGet : List ℕ → List ℕ → Option (List ℕ) → Option (List ℕ) → ℕ → Type 0
 WritesGet path text = WritesOfFile (GetsFile path text) (RefusesGet text)
 
--- ---- show --pretty
-
--- the file at this path was read, and this is the view, indented, at the path of the text, of what it held
-pub record ShowsFilePretty (path text : List ℕ) (file : FileValue) (answer : Answer) : Type 0 where
-  pub read : IsReadAt path file
-  pub keys : List (List ℕ)
-  pub asked : path_of text ≡ Ok keys
-  pub shown : ShowsPretty file.kept.state keys answer
-
-abbrev pub WritesPretty : List ℕ → List ℕ → Option (List ℕ) → Option (List ℕ) → ℕ → Type 0
-WritesPretty path text = WritesOfFile (ShowsFilePretty path text) (RefusesShow text)
-
 -- ---- status
 
 -- the file at this path was read, and this tells whose replica it held, and how much of it
-pub record DescribesFile (path : List ℕ) (file : FileValue) (answer : Answer) : Type 0 where
+pub record DescribesFile (path : List ℕ) (file : FileValue) (answer : Reply) : Type 0 where
   pub read : IsReadAt path file
   pub told : TellsOverview file.kept answer
 

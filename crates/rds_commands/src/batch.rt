@@ -3,15 +3,16 @@ ghost use Rattle.std.specs.Prelude.{◌≡◌, ◌≢◌, ◌≤◌, ◌⊎◌, 
 ghost use Rattle.rds_names.specs.declared.fault.Fault.TheVariants.{Device, Memory};
 ghost use Rattle.rds_lines.specs.Editing.{EditsLines};
 ghost use Rattle.rds_lines.specs.Lines.{lines_in};
-ghost use Rattle.rds_lines.specs.Output.{Writes};
+ghost use Rattle.rds_output.specs.Output.{Writes};
 ghost use Rattle.rds_commands.specs.Batch.{EditsFileBy, RefusesLines, RefusesLinesIn, WritesEdits};
 
 use crate::notes::{note_file, note_input};
 use rds_files::{Disk, LockFile, LockedFile, ReplacedFile};
 use rds_gaps::GapSet;
 use rds_keep::Counted;
-use rds_lines::{Answer, edit_lines, write_answers, write_fault};
+use rds_lines::{edit_lines, write_replies};
 use rds_names::Fault;
+use rds_output::{Reply, write_fault};
 use rds_tree::Index;
 use std::io::{Read, Write};
 
@@ -24,11 +25,11 @@ pub struct FileAnswers<'a> {
     /// The file.
     pub file: ReplacedFile<'a, GapSet>,
     /// The answers, in the order of the lines.
-    pub answers: Vec<Answer>,
+    pub answers: Vec<Reply>,
 }
 
-/// Edits the replica in a file as the lines of an input say. The file is locked and read once, its replica edited by one line after
-/// the other, and then kept once.
+/// Edits the replica in a file as the lines of an input say. The file is locked and read once, its replica edited by
+/// one line after the other, and then kept once.
 pub fn edit_file_by<'a, H: Disk>(
     rt: &H,
     path: &'a str,
@@ -54,20 +55,21 @@ where
     H::File: LockFile,
     ensures path { IfOk result (λ done. done.file.path ≡ file.entry.path) }
     ensures before { IfOk result (λ done. done.file.before ≡ file.entry.kept) }
-    ensures edited { IfOk result (λ done. EditsLines (lines_in input.now) file.entry.kept done.file.kept done.answers.items) }
+    ensures edited { IfOk result
+        (λ done. EditsLines (lines_in input.now) file.entry.kept done.file.kept done.answers.items) }
     ensures fault { IfErr result (RefusesLinesIn (lines_in input.now) file.entry.kept) }
 {
     let alloc = rt.alloc();
     let (replica, emptied) = file.into_parts();
     let mut index = Index::of(alloc, replica)?;
     let answers = edit_lines(alloc, &mut index, input)?;
-    let edited = index.replica().copy(alloc)?;
-    let file = emptied.replace(rt, edited)?;
+    let file = emptied.replace(rt, index.into_replica())?;
     Ok(FileAnswers { file, answers })
 }
 
-/// Edits the replica in a file as the lines say that the reader holds, and writes their answers once it is kept. All lines are
-/// read before the file is locked. Where the reader fails, or holds more than [`MOST`] bytes, the file isn't used.
+/// Edits the replica in a file as the lines say that the reader holds, and writes their answers once it is kept. All
+/// lines are read before the file is locked. Where the reader fails, or holds more than [`MOST`] bytes, the file isn't
+/// used.
 pub fn run_edit_lines<H: Disk, R: Read, W: Write>(
     rt: &H,
     path: &str,
@@ -107,7 +109,7 @@ where
         return write_fault(writer, Fault::TooLong);
     }
     match edit_file_by(rt, path, input) {
-        Ok(done) => write_answers(writer, &done.answers),
+        Ok(done) => write_replies(writer, &done.answers),
         Err(fault) => {
             note_file(rt, path, fault);
             write_fault(writer, fault)

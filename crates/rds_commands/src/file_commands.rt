@@ -9,8 +9,9 @@ ghost use Rattle.rds_words.specs.Meaning.{IsCommand, roster_for};
 use rds_dots::DotSet;
 use rds_files::{CreatedFile, Disk, LockFile, LockedFile, ReplacedFile, ReplicaFile};
 use rds_gaps::GapSet;
-use rds_lines::{Answer, shown};
+use rds_lines::{Layout, shown};
 use rds_names::{Fault, Path};
+use rds_output::Reply;
 use rds_state::{Command, Replica};
 use rds_words::{EditWords, InitWords, command_of, roster_in};
 
@@ -20,20 +21,20 @@ pub struct FileAnswer<F> {
     /// The file.
     pub file: F,
     /// The answer.
-    pub answer: Answer,
+    pub answer: Reply,
 }
 
 impl<F: Drop> FileAnswer<F> {
     /// The answer alone: the file is let go.
-    pub fn into_answer(self) -> Answer
+    pub fn into_answer(self) -> Reply
         ensures { result ≡ self.answer }
     {
         self.answer
     }
 }
 
-/// Makes a file that holds an empty replica of a group. The words are judged first, as `roster_in`
-/// does; then a file that is there already, or whose name ends in `.new`, is `Usage`, and one that can't be made is `Device`.
+/// Makes a file that holds an empty replica of a group. The words are judged first, as `roster_in` does; then a file
+/// that is there already, or whose name ends in `.new`, is `Usage`, and one that can't be made is `Device`.
 pub fn init_file<'a, H: Disk>(
     rt: &H,
     words: &InitWords<'a>,
@@ -51,7 +52,7 @@ where
     let file = CreatedFile::create(rt, words.file, &replica)?;
     Ok(FileAnswer {
         file,
-        answer: Answer::Done,
+        answer: Reply::Done,
     })
 }
 
@@ -102,26 +103,27 @@ pub fn show_file<'a, H: Disk>(
     rt: &H,
     path: &'a str,
     text: &str,
+    layout: Layout,
 ) -> Result<FileAnswer<ReplicaFile<'a, GapSet>>, Fault>
-    ensures shown { IfOk result (λ done. ShowsFile path.now text.now done.file done.answer) }
+    ensures shown { IfOk result (λ done. ShowsFile layout path.now text.now done.file done.answer) }
     ensures path { (fault : Fault) → path_of text.now ≡ Err fault → result ≡ Err fault }
     ensures fault { IfErr result (RefusesShow text.now) }
 {
     let alloc = rt.alloc();
     let keys = Path::new(alloc, text)?;
     let file = ReplicaFile::open(rt, path)?;
-    let answer = shown(alloc, file.kept().view_of().state(), &keys)?;
+    let answer = shown(alloc, file.kept().view_of().state(), &keys, layout)?;
     Ok(FileAnswer { file, answer })
 }
 
 /// Edits a replica, and answers which dot is new and how many entries were taken away. Refuses as
 /// the edit does, and then nothing is changed.
-pub fn edited<S: DotSet>(replica: &mut Replica<S>, command: Command) -> Result<Answer, Fault>
+pub fn edited<S: DotSet>(replica: &mut Replica<S>, command: Command) -> Result<Reply, Fault>
     ensures edited { IfOk result (IsEdited command replica.old replica.new) }
     ensures refusal { let due = edit_refusal replica.old command in
         MatchResult result (λ _. due ≡ None) (IsDue due) }
     ensures err { OnErr result (replica.new ≡ replica.old) }
 {
     let edited = replica.edit(command)?;
-    Ok(Answer::of_edit(replica.roster(), &edited))
+    Ok(Reply::of_edit(replica.roster(), &edited))
 }

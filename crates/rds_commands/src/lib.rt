@@ -1,4 +1,5 @@
-//! The program's commands: words in, what is written and the exit status out.
+//! The program's commands: words in, what is written and the exit status out. Read from above: `program`, `telling`,
+//! `file_commands`, `batch`, `looking`, `session_words`, `notes` and `unparsed`.
 #![tactic(auto)]
 
 mod batch;

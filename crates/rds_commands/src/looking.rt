@@ -3,20 +3,20 @@ ghost use Rattle.std.specs.Prelude.{◌≡◌, ◌≤◌, ◌⊎◌, [], Err, If
 ghost use Rattle.rds_names.specs.declared.fault.Fault.TheVariants.{BadPath};
 ghost use Rattle.rds_names.specs.Path.{path_of};
 ghost use Rattle.rds_files.specs.Files.{IsUnread};
-ghost use Rattle.rds_commands.specs.Edits.{RefusesShow};
-ghost use Rattle.rds_commands.specs.Looks.{DescribesFile, GetsFile, RefusesGet, ShowsFilePretty, WritesGet, WritesPretty, WritesStatus};
+ghost use Rattle.rds_commands.specs.Looks.{DescribesFile, GetsFile, RefusesGet, WritesGet, WritesStatus};
 
 use crate::file_commands::FileAnswer;
 use crate::notes::note_file;
 use rds_files::{Disk, ReplicaFile};
 use rds_gaps::GapSet;
 use rds_keep::Counted;
-use rds_lines::{describe, place_of, shown_at, shown_pretty, write_answer};
+use rds_lines::{describe, place_of, shown_at};
 use rds_names::{Fault, Path};
+use rds_output::write_reply;
 use std::io::Write;
 
-/// Tells what stands at the path of a text in the document of the replica in a file. The path is judged first: `BadPath`, then
-/// `BadKey`, and `BadPath` at the root.
+/// Tells what stands at the path of a text in the document of the replica in a file. The path is judged first:
+/// `BadPath`, then `BadKey`, and `BadPath` at the root.
 pub fn get_file<'a, H: Disk>(
     rt: &H,
     path: &'a str,
@@ -32,23 +32,6 @@ pub fn get_file<'a, H: Disk>(
     let (above, key) = place_of(alloc, &keys)?;
     let file = ReplicaFile::open(rt, path)?;
     let answer = shown_at(alloc, file.kept().view_of().state(), &above, &key)?;
-    Ok(FileAnswer { file, answer })
-}
-
-/// Shows what the document of the replica in a file has at the path of a text, indented. Refuses as `show_file` does.
-pub fn show_file_pretty<'a, H: Disk>(
-    rt: &H,
-    path: &'a str,
-    text: &str,
-) -> Result<FileAnswer<ReplicaFile<'a, GapSet>>, Fault>
-    ensures shown { IfOk result (λ done. ShowsFilePretty path.now text.now done.file done.answer) }
-    ensures path { (fault : Fault) → path_of text.now ≡ Err fault → result ≡ Err fault }
-    ensures fault { IfErr result (RefusesShow text.now) }
-{
-    let alloc = rt.alloc();
-    let keys = Path::new(alloc, text)?;
-    let file = ReplicaFile::open(rt, path)?;
-    let answer = shown_pretty(alloc, file.kept().view_of().state(), &keys)?;
     Ok(FileAnswer { file, answer })
 }
 
@@ -73,31 +56,10 @@ pub fn run_get<H: Disk, W: Write>(rt: &H, path: &str, text: &str, writer: &mut C
     ensures broken { (writer.new.failed ≡ writer.old.failed) ⊎ (result ≡ 1) }
 {
     match get_file(rt, path, text) {
-        Ok(done) => write_answer(writer, Ok(done.into_answer())),
+        Ok(done) => write_reply(writer, Ok(done.into_answer())),
         Err(fault) => {
             note_file(rt, path, fault);
-            write_answer(writer, Err(fault))
-        }
-    }
-}
-
-/// Shows a part of the replica in a file as `show_file_pretty` does, and writes the answer.
-pub fn run_show_pretty<H: Disk, W: Write>(
-    rt: &H,
-    path: &str,
-    text: &str,
-    writer: &mut Counted<W>,
-) -> u8
-    ensures written { writer.new.failed ≡ 0
-        → WritesPretty path.now text.now (W.contents writer.old.inner) (W.contents writer.new.inner) result }
-    ensures status { result ≤ 2 }
-    ensures broken { (writer.new.failed ≡ writer.old.failed) ⊎ (result ≡ 1) }
-{
-    match show_file_pretty(rt, path, text) {
-        Ok(done) => write_answer(writer, Ok(done.into_answer())),
-        Err(fault) => {
-            note_file(rt, path, fault);
-            write_answer(writer, Err(fault))
+            write_reply(writer, Err(fault))
         }
     }
 }
@@ -110,10 +72,10 @@ pub fn run_status<H: Disk, W: Write>(rt: &H, path: &str, writer: &mut Counted<W>
     ensures broken { (writer.new.failed ≡ writer.old.failed) ⊎ (result ≡ 1) }
 {
     match describe_file(rt, path) {
-        Ok(done) => write_answer(writer, Ok(done.into_answer())),
+        Ok(done) => write_reply(writer, Ok(done.into_answer())),
         Err(fault) => {
             note_file(rt, path, fault);
-            write_answer(writer, Err(fault))
+            write_reply(writer, Err(fault))
         }
     }
 }

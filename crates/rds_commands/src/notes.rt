@@ -7,12 +7,22 @@ pub fn note_file<H: Eprint>(rt: &H, path: &str, fault: Fault) {
     let _ = eprintln!(rt; "{path}: {fault}");
 }
 
+/// Tells which file `init` was refused for, and by which fault. Why the file can't be made, which is `Usage`, was told
+/// already.
+pub fn note_init<H: Eprint>(rt: &H, path: &str, fault: Fault) {
+    match fault {
+        Fault::Usage => (),
+        _ => note_file(rt, path, fault),
+    }
+}
+
 /// Tells that the input was refused, and by which fault.
 pub fn note_input<H: Eprint>(rt: &H, fault: Fault) {
     let _ = eprintln!(rt; "standard input: {fault}");
 }
 
-/// Tells which file an edit was refused for, and by which fault. Where its value is no JSON, that may be text without quotes.
+/// Tells which file an edit was refused for, and by which fault. Where its value is no JSON, that may be text without
+/// quotes.
 pub fn note_edit<H: Eprint>(rt: &H, path: &str, words: &EditWords<'_>, fault: Fault) {
     note_file(rt, path, fault);
     if let Fault::BadLine = fault {

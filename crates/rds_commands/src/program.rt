@@ -1,26 +1,28 @@
 //! The program's commands.
 ghost use Rattle.std.specs.Prelude.{◌≡◌, ◌≢◌, [], ◌≤◌, ◌⊎◌, Err, map, IfSome};
 ghost use Rattle.rds_names.specs.declared.fault.Fault.TheVariants.{Device};
-ghost use Rattle.rds_lines.specs.Answering.{WritesAnswers, WritesCut};
-ghost use Rattle.rds_lines.specs.Output.{Writes, fault_line};
-ghost use Rattle.rds_lines.specs.Run.{WritesJoin};
+ghost use Rattle.rds_keep.specs.Counted.{HasFailed};
+ghost use Rattle.rds_lines.specs.Answering.{WritesAnswers, WritesCut, WritesFront};
+ghost use Rattle.rds_output.specs.Output.{Writes, fault_line};
+ghost use Rattle.rds_lines.specs.Run.{WritesJoin, WritesJoinFront};
 ghost use Rattle.rds_lines.specs.Sim.{IsSimOutput, MayBeSimulated};
 ghost use Rattle.std.specs.Borrow.{Bor};
 ghost use Rattle.clap.specs.Words.{Text};
 ghost use Rattle.rds_words.specs.Commands.{edit_lines_words, join_words, sim_words};
 ghost use Rattle.rds_commands.specs.Batch.{WritesEdits};
-ghost use Rattle.rds_commands.specs.Told.{AnswersMistake, MayWriteNamed, WritesSim, WritesTask};
+ghost use Rattle.rds_commands.specs.Told.{AnswersMistake, MayWriteNamed, WritesSim, WritesSimFront, WritesTask};
 ghost use Rattle.rds_words.specs.Entered.{Names, mistakes_in, named_in};
 
 use crate::batch::run_edit_lines;
-use crate::looking::{run_get, run_show_pretty, run_status};
+use crate::looking::{run_get, run_status};
 use crate::session_words::{run_pair, run_serve, run_sync};
 use crate::telling::{run_edit, run_init, run_show};
 use crate::unparsed::write_unparsed;
 use rds_files::{Disk, LockFile};
 use rds_keep::Counted;
-use rds_lines::{run_join, run_sim, write_fault};
+use rds_lines::{Layout, run_join, run_sim};
 use rds_names::Fault;
+use rds_output::write_fault;
 use rds_words::{Task, task_of};
 use std::convert::AsStr;
 use std::io::{Read, Write};
@@ -32,7 +34,7 @@ use std::net::Net;
 /// A fault is written as the line `fault N: Name` and answered by 1. Words that the command line
 /// doesn't have are `Usage`: that line, then the library's text, and 2. Help and the version are written
 /// and answered by 0. A reader that fails, or that gives more reads than its bound of turns, is `Device`. Where
-/// the output itself fails the answer is 1.
+/// the output itself fails the answer is 1, and of `join` and `sim` a beginning of what is due was written.
 pub fn run<H: Disk + Net, R: Read, W: Write, S: AsStr>(
     rt: &H,
     words: &[S],
@@ -45,6 +47,9 @@ where
         → IfSome (R.remaining reader.old.inner)
         (λ input. reader.new.failed ≡ 0 → writer.new.failed ≡ 0
         → WritesJoin input (W.contents writer.old.inner) (W.contents writer.new.inner) result) }
+    ensures join_part { Names (map S.text words.entry.now) join_words
+        → IfSome (R.remaining reader.old.inner) (λ input. reader.new.failed ≡ 0
+        → WritesJoinFront input (W.contents writer.old.inner) (W.contents writer.new.inner)) }
     ensures unread { Names (map S.text words.entry.now) join_words
         → reader.new.failed ≢ reader.old.failed → writer.new.failed ≡ 0
         → Writes (Err Device) (W.contents writer.old.inner) (W.contents writer.new.inner) result }
@@ -57,6 +62,11 @@ where
         → WritesCut MayBeSimulated (fault_line Device)
         (R.remaining reader.old.inner) (R.remaining reader.new.inner)
         (W.contents writer.old.inner) (W.contents writer.new.inner) × (result ≡ 1) }
+    ensures sim_part { Names (map S.text words.entry.now) sim_words
+        → writer.new.failed ≢ writer.old.failed
+        → WritesSimFront (HasFailed reader.old reader.new)
+        (R.remaining reader.old.inner) (R.remaining reader.new.inner)
+        (W.contents writer.old.inner) (W.contents writer.new.inner) }
     ensures edit { (file : Text) → Names (map S.text words.entry.now) (edit_lines_words file)
         → IfSome (R.remaining reader.old.inner)
         (λ input. reader.new.failed ≡ 0 → writer.new.failed ≡ 0
@@ -92,6 +102,8 @@ where
     ensures join { task.entry ≡ Task.Join → IfSome (R.remaining reader.old.inner)
         (λ input. reader.new.failed ≡ 0 → writer.new.failed ≡ 0
         → WritesJoin input (W.contents writer.old.inner) (W.contents writer.new.inner) result) }
+    ensures join_part { task.entry ≡ Task.Join → IfSome (R.remaining reader.old.inner) (λ input. reader.new.failed ≡ 0
+        → WritesJoinFront input (W.contents writer.old.inner) (W.contents writer.new.inner)) }
     ensures unread { task.entry ≡ Task.Join
         → reader.new.failed ≢ reader.old.failed → writer.new.failed ≡ 0
         → Writes (Err Device) (W.contents writer.old.inner) (W.contents writer.new.inner) result }
@@ -104,6 +116,10 @@ where
         → WritesCut MayBeSimulated (fault_line Device)
         (R.remaining reader.old.inner) (R.remaining reader.new.inner)
         (W.contents writer.old.inner) (W.contents writer.new.inner) × (result ≡ 1) }
+    ensures sim_part { task.entry ≡ Task.Sim → writer.new.failed ≢ writer.old.failed
+        → WritesFront MayBeSimulated (fault_line Device) (HasFailed reader.old reader.new)
+        (R.remaining reader.old.inner) (R.remaining reader.new.inner)
+        (W.contents writer.old.inner) (W.contents writer.new.inner) }
     ensures edit { (at : Bor Text) → task.entry ≡ Task.EditLines at → IfSome (R.remaining reader.old.inner)
         (λ input. reader.new.failed ≡ 0 → writer.new.failed ≡ 0
         → WritesEdits at.now input (W.contents writer.old.inner) (W.contents writer.new.inner) result) }
@@ -122,8 +138,8 @@ where
         Task::Edit { file, edit } => run_edit(rt, file, &edit, writer),
         Task::EditLines { file } => run_edit_lines(rt, file, reader, writer),
         Task::Get { file, path } => run_get(rt, file, path, writer),
-        Task::Show { file, path } => run_show(rt, file, path, writer),
-        Task::ShowPretty { file, path } => run_show_pretty(rt, file, path, writer),
+        Task::Show { file, path } => run_show(rt, file, path, Layout::Compact, writer),
+        Task::ShowPretty { file, path } => run_show(rt, file, path, Layout::Indented, writer),
         Task::Status { file } => run_status(rt, file, writer),
         Task::Serve(words) => run_serve(rt, words, writer),
         Task::Sync(words) => run_sync(rt, words, writer),

@@ -3,20 +3,20 @@ ghost use Rattle.std.specs.Prelude.{◌≡◌, ◌≤◌, ◌⊎◌, ◌||◌, t
 ghost use Rattle.rds_names.specs.declared.fault.Fault.TheVariants.{Usage};
 ghost use Rattle.rds_commands.specs.Told.{RefusesServe, RefusesSync, WritesPairing, WritesServe, WritesSyncing, sessions_asked};
 ghost use Rattle.rds_files.specs.Files.{is_beside};
-ghost use Rattle.rds_lines.specs.Output.{Writes};
+ghost use Rattle.rds_output.specs.Output.{Writes};
 
 use crate::notes::note_words;
 use rds_files::{Disk, LockFile, is_beside, pair_files, serve_file, sync_file};
 use rds_keep::Counted;
-use rds_lines::write_fault;
 use rds_names::Fault;
+use rds_output::write_fault;
 use rds_words::{ServeWords, SyncWords, amount_of};
 use std::io::Write;
 use std::net::Net;
 use std::time::Duration;
 
-/// Serves the replica in a file at an address, in so many sessions. The words are judged first: a number that is none, and a path
-/// that ends in `.new`, are `Usage`, and neither the file nor the address is used.
+/// Serves the replica in a file at an address, in so many sessions. The words are judged first: a number that is none,
+/// and a path that ends in `.new`, are `Usage`, and neither the file nor the address is used.
 pub fn run_serve<H: Disk + Net, W: Write>(
     rt: &H,
     words: ServeWords<'_>,
@@ -47,7 +47,8 @@ where
     }
 }
 
-/// One session of the replica in a file with the peer at an address. The words are judged first, as those of `serve` are.
+/// One session of the replica in a file with the peer at an address. The words are judged first, as those of `serve`
+/// are.
 pub fn run_sync<H: Disk + Net, W: Write>(
     rt: &H,
     words: SyncWords<'_>,

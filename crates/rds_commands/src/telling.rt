@@ -3,10 +3,11 @@ ghost use Rattle.std.specs.Prelude.{◌≡◌, ◌≤◌, ◌⊎◌};
 ghost use Rattle.rds_commands.specs.Told.{WritesEdit, WritesInit, WritesShow};
 
 use crate::file_commands::{edit_file, init_file, show_file};
-use crate::notes::{note_edit, note_file};
+use crate::notes::{note_edit, note_file, note_init};
 use rds_files::{Disk, LockFile};
 use rds_keep::Counted;
-use rds_lines::write_answer;
+use rds_lines::Layout;
+use rds_output::write_reply;
 use rds_words::{EditWords, InitWords};
 use std::io::Write;
 
@@ -20,10 +21,10 @@ where
     ensures broken { (writer.new.failed ≡ writer.old.failed) ⊎ (result ≡ 1) }
 {
     match init_file(rt, words) {
-        Ok(done) => write_answer(writer, Ok(done.into_answer())),
+        Ok(done) => write_reply(writer, Ok(done.into_answer())),
         Err(fault) => {
-            note_file(rt, words.file, fault);
-            write_answer(writer, Err(fault))
+            note_init(rt, words.file, fault);
+            write_reply(writer, Err(fault))
         }
     }
 }
@@ -43,26 +44,32 @@ where
     ensures broken { (writer.new.failed ≡ writer.old.failed) ⊎ (result ≡ 1) }
 {
     match edit_file(rt, path, words) {
-        Ok(done) => write_answer(writer, Ok(done.into_answer())),
+        Ok(done) => write_reply(writer, Ok(done.into_answer())),
         Err(fault) => {
             note_edit(rt, path, words, fault);
-            write_answer(writer, Err(fault))
+            write_reply(writer, Err(fault))
         }
     }
 }
 
 /// Shows a part of the replica in a file as `show_file` does, and writes the answer.
-pub fn run_show<H: Disk, W: Write>(rt: &H, path: &str, text: &str, writer: &mut Counted<W>) -> u8
+pub fn run_show<H: Disk, W: Write>(
+    rt: &H,
+    path: &str,
+    text: &str,
+    layout: Layout,
+    writer: &mut Counted<W>,
+) -> u8
     ensures written { writer.new.failed ≡ 0
-        → WritesShow path.now text.now (W.contents writer.old.inner) (W.contents writer.new.inner) result }
+        → WritesShow layout path.now text.now (W.contents writer.old.inner) (W.contents writer.new.inner) result }
     ensures status { result ≤ 2 }
     ensures broken { (writer.new.failed ≡ writer.old.failed) ⊎ (result ≡ 1) }
 {
-    match show_file(rt, path, text) {
-        Ok(done) => write_answer(writer, Ok(done.into_answer())),
+    match show_file(rt, path, text, layout) {
+        Ok(done) => write_reply(writer, Ok(done.into_answer())),
         Err(fault) => {
             note_file(rt, path, fault);
-            write_answer(writer, Err(fault))
+            write_reply(writer, Err(fault))
         }
     }
 }

@@ -3,14 +3,15 @@ ghost use Rattle.std.specs.Prelude.{◌≡◌, ◌≤◌, Err, OnOk, OnErr};
 ghost use Rattle.clap.specs.Words.{kind_of};
 ghost use Rattle.rds_names.specs.declared.fault.Fault.TheVariants.{Memory};
 ghost use Rattle.rds_keep.specs.Counted.{one_more};
-ghost use Rattle.rds_lines.specs.Output.{AnswersStatus, Writes};
+ghost use Rattle.rds_keep.specs.Parts.{AppendsFront};
+ghost use Rattle.rds_output.specs.Output.{AnswersStatus, Writes, fault_line};
 ghost use Rattle.rds_commands.specs.Unparsed.{unparsed_status};
 
 use clap::Error;
 use clap::error::ErrorKind;
 use rds_keep::Counted;
-use rds_lines::{status_of, write_fault, write_fault_line};
 use rds_names::Fault;
+use rds_output::{status_of, write_fault, write_fault_line};
 use std::io::Write;
 
 /// Writes why the words of the command line gave no task, and answers the status. Help and the version are
@@ -18,6 +19,8 @@ use std::io::Write;
 pub fn write_unparsed<W: Write>(writer: &mut Counted<W>, error: &Error) -> u8
     ensures memory { kind_of error.now ≡ ErrorKind.OutOfMemory → writer.new.failed ≡ 0
         → Writes (Err Memory) (W.contents writer.old.inner) (W.contents writer.new.inner) result }
+    ensures part { kind_of error.now ≡ ErrorKind.OutOfMemory
+        → AppendsFront (W.contents writer.old.inner) (W.contents writer.new.inner) (fault_line Memory) }
     ensures status { AnswersStatus writer.old writer.new (unparsed_status (kind_of error.now)) result }
     ensures within { result ≤ 2 }
 {

@@ -7,7 +7,7 @@ use Rattle.rds_session.specs.declared.talk.Side.{Side}
 use Rattle.rds_files.specs.Files.{PathValue}
 use Rattle.rds_files.specs.Reports.{report_text, tells_fault, told_status}
 use Rattle.rds_files.specs.Settling.{is_unkept}
-use Rattle.rds_files.specs.Syncing.{MeetsPeer, Served, unserved, served_more, Serves, none, more, WritesSessionsOf}
+use Rattle.rds_files.specs.Syncing.{MeetsPeer, Served, served_none, served_more, Serves, none, more, WritesSessionsOf}
 use Rattle.rds_files.specs.declared.settling.Settled.{Settled}
 use Rattle.rds_files.specs.declared.settling.Settled.TheVariants.{Nothing, Taken, Refused, Unkept}
 
@@ -23,7 +23,7 @@ pub record HasServed (side : Side) (first now_at : PathValue) (count : ℕ) (tol
 
 pub none_served : (side : Side) (first : PathValue) (before : Option (List ℕ)) → HasServed side first first 0 false before before
 none_served side first before = record {
-  served = unserved first;
+  served = served_none first;
   serves = none;
   is_at = refl;
   is_count = refl;

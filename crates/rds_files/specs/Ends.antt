@@ -24,9 +24,11 @@ pub record EndValue (T : Type 0) : Type 0 where
 
 abbrev pub coded_end : {T : Type 0} → Coded T → Coded (EndValue T)
 coded_end {T} code =
-    code_by (Standing × (T × (List ℕ × (Ended × Bool)))) (coded× coded_standing (coded× code (coded× (coded_list coded_ℕ) (coded× ended.the_row.coded coded_bool))))
+    code_by (Standing × (T × (List ℕ × (Ended × Bool))))
+    (coded× coded_standing (coded× code (coded× (coded_list coded_ℕ) (coded× ended.the_row.coded coded_bool))))
     (λ e. (e.session, (e.stream, (e.pending, (e.ended, e.is_shut)))))
-    (λ p. record { session = p.0; stream = p.1.0; pending = p.1.1.0; ended = p.1.1.1.0; is_shut = p.1.1.1.1 }) (λ _. refl)
+    (λ p. record { session = p.0; stream = p.1.0; pending = p.1.1.0; ended = p.1.1.1.0; is_shut = p.1.1.1.1 })
+    (λ _. refl)
 
 -- it said so many of the bytes that were to be said, from the first on, and nothing else
 pub record HasSaid {T : Type 0} (old new : EndValue T) (before after : Option (List ℕ)) (count : ℕ) : Type 0 where
@@ -35,21 +37,27 @@ pub record HasSaid {T : Type 0} (old new : EndValue T) (before after : Option (L
   pub said : Appends before after (take count old.pending)
   pub left : new ≡ record old { stream = new.stream; pending = drop count old.pending }
 
--- a step of the session with this input: what it sends is to be said after what already is; or there was no memory for that
-pub record HasTaken (side : Side) (kept : ReplicaValue) (heard : Heard) (input : Option (List ℕ)) {T : Type 0} (old new : EndValue T) : Type 0 where
+-- a step of the session with this input: what it sends is to be said after what already is; or there was no memory for
+-- that
+pub record HasTaken (side : Side) (kept : ReplicaValue) (heard : Heard) (input : Option (List ℕ)) {T : Type 0}
+    (old new : EndValue T) : Type 0 where
   pub sent : List ℕ
   pub continues : Continues side kept heard input new.session sent
-  pub told : ((new.ended ≡ new.session.ended) × (new.pending ≡ old.pending ++ sent)) ⊎ ((new.ended ≡ Failed Memory) × (new.pending ≡ old.pending))
+  pub told : ((new.ended ≡ new.session.ended) × (new.pending ≡ old.pending ++ sent))
+      ⊎ ((new.ended ≡ Failed Memory) × (new.pending ≡ old.pending))
 
 -- an end that goes on takes a step, and one that is over takes nothing more
 pub record Takes (input : Option (List ℕ)) {T : Type 0} (old new : EndValue T) : Type 0 where
   pub over : IsOver old.ended → new ≡ old
-  pub going : old.ended ≡ Going → (side : Side) (kept : ReplicaValue) (heard : Heard) → HasStanding side kept heard old.session → HasTaken side kept heard input old new
+  pub going : old.ended ≡ Going → (side : Side) (kept : ReplicaValue) (heard : Heard)
+      → HasStanding side kept heard old.session → HasTaken side kept heard input old new
   pub same : new ≡ record old { session = new.session; pending = new.pending; ended = new.ended }
 
--- an end that heard what its stream held at first and doesn't hold now, each byte once and in order, but for what came when it was
--- over; and what it has said and is still to say is what its session sends for that, but for what there was no memory for
-pub record Hears (side : Side) (kept : ReplicaValue) (first now : Option (List ℕ)) (said : List ℕ) {T : Type 0} (e : EndValue T) : Type 0 where
+-- an end that heard what its stream held at first and doesn't hold now, each byte once and in order, but for what came
+-- when it was over; and what it has said and is still to say is what its session sends for that, but for what there was
+-- no memory for
+pub record Hears (side : Side) (kept : ReplicaValue) (first now : Option (List ℕ)) (said : List ℕ) {T : Type 0}
+    (e : EndValue T) : Type 0 where
   pub heard : Heard
   pub held : Option (List ℕ)
   pub dropped : List ℕ
@@ -62,11 +70,16 @@ pub record Hears (side : Side) (kept : ReplicaValue) (first now : Option (List �
 
 -- whatever it had heard and said, it hears on
 abbrev pub HearsOn : {T : Type 0} → Option (List ℕ) → Option (List ℕ) → EndValue T → EndValue T → Type 0
-HearsOn now later old new = (side : Side) (kept : ReplicaValue) (first : Option (List ℕ)) (said : List ℕ) → Hears side kept first now said old → Hears side kept first later said new
+HearsOn now later old new =
+    (side : Side) (kept : ReplicaValue) (first : Option (List ℕ)) (said : List ℕ) → Hears side kept first now said old
+    → Hears side kept first later said new
 
 -- the stream has ended, and the end is over
 abbrev pub HeardTheEnd : {T : Type 0} → Option (List ℕ) → Option (List ℕ) → EndValue T → EndValue T → Type 0
-HeardTheEnd now later old new = IsAtEnd later × ((side : Side) (kept : ReplicaValue) (first : Option (List ℕ)) (said : List ℕ) → Hears side kept first now said old → IsOver new.ended)
+HeardTheEnd now later old new =
+    IsAtEnd later
+    × ((side : Side) (kept : ReplicaValue) (first : Option (List ℕ)) (said : List ℕ)
+    → Hears side kept first now said old → IsOver new.ended)
 
 -- so many bytes came; or fewer, and then the end of the stream
 pub record HasHeardAll {T : Type 0} (count : ℕ) (now later : Option (List ℕ)) (old new : EndValue T) : Type 0 where

@@ -18,7 +18,9 @@ pub record PathValue : Type 0 where
   pub reads : ℕ
 
 abbrev pub coded_path : Coded PathValue
-coded_path = code_by (List ℕ × ℕ) (coded× (coded_list coded_ℕ) coded_ℕ) (λ p. (p.path, p.reads)) (λ p. record { path = p.0; reads = p.1 }) (λ _. refl)
+coded_path =
+    code_by (List ℕ × ℕ) (coded× (coded_list coded_ℕ) coded_ℕ) (λ p. (p.path, p.reads))
+    (λ p. record { path = p.0; reads = p.1 }) (λ _. refl)
 
 abbrev pub read_more : PathValue → PathValue
 read_more at = record at { reads = one_more at.reads }
@@ -31,7 +33,8 @@ pub record FileValue : Type 0 where
 
 abbrev pub coded_file : Coded FileValue
 coded_file =
-    code_by (List ℕ × (ReplicaValue × ℕ)) (coded× (coded_list coded_ℕ) (coded× coded_replica coded_ℕ)) (λ f. (f.path, (f.kept, f.nth)))
+    code_by (List ℕ × (ReplicaValue × ℕ)) (coded× (coded_list coded_ℕ) (coded× coded_replica coded_ℕ))
+    (λ f. (f.path, (f.kept, f.nth)))
     (λ p. record { path = p.0; kept = p.1.0; nth = p.1.1 }) (λ _. refl)
 
 -- a replica that a file holds
@@ -40,7 +43,9 @@ pub record KeptFile : Type 0 where
   pub kept : ReplicaValue
 
 abbrev pub coded_kept_file : Coded KeptFile
-coded_kept_file = code_by (List ℕ × ReplicaValue) (coded× (coded_list coded_ℕ) coded_replica) (λ f. (f.path, f.kept)) (λ p. record { path = p.0; kept = p.1 }) (λ _. refl)
+coded_kept_file =
+    code_by (List ℕ × ReplicaValue) (coded× (coded_list coded_ℕ) coded_replica) (λ f. (f.path, f.kept))
+    (λ p. record { path = p.0; kept = p.1 }) (λ _. refl)
 
 -- a replica in the place of another
 pub record ReplacedValue : Type 0 where
@@ -50,7 +55,8 @@ pub record ReplacedValue : Type 0 where
 
 abbrev pub coded_replaced : Coded ReplacedValue
 coded_replaced =
-    code_by (List ℕ × (ReplicaValue × ReplicaValue)) (coded× (coded_list coded_ℕ) (coded× coded_replica coded_replica)) (λ f. (f.path, (f.before, f.kept)))
+    code_by (List ℕ × (ReplicaValue × ReplicaValue)) (coded× (coded_list coded_ℕ) (coded× coded_replica coded_replica))
+    (λ f. (f.path, (f.before, f.kept)))
     (λ p. record { path = p.0; before = p.1.0; kept = p.1.1 }) (λ _. refl)
 
 -- ---- what they hold
@@ -93,7 +99,8 @@ RefusesLock path fault = ((fault ≡ Usage) × (is_beside path ≡ true)) ⊎ Is
 
 -- why a replica can't be kept in a file: a call on a file failed, or its text is above the limit; or want of memory
 abbrev pub IsUnkept : ReplicaValue → Fault → Type 0
-IsUnkept replica fault = (fault ≡ Memory) ⊎ ((fault ≡ Device) ⊎ ((fault ≡ TooLong) × (LIMIT < length (snapshot_text replica))))
+IsUnkept replica fault =
+    (fault ≡ Memory) ⊎ ((fault ≡ Device) ⊎ ((fault ≡ TooLong) × (LIMIT < length (snapshot_text replica))))
 
 -- why no file is made for a replica: by its path, or since something is there; or the replica can't be kept
 abbrev pub RefusesFile : ReplicaValue → Fault → Type 0

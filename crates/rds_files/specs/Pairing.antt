@@ -23,8 +23,8 @@ pub record IsEnd (side : Side) (kept : ReplicaValue) (s : Standing) (ended : End
 abbrev pub StaysEnd : Standing → Ended → Standing → Ended → Type 0
 StaysEnd old was new is = (side : Side) (kept : ReplicaValue) → IsEnd side kept old was → IsEnd side kept new is
 
--- what is told of an end, whose replica was read from this file, and whether a fault is told: what it received was settled in what
--- the file held then
+-- what is told of an end, whose replica was read from this file, and whether a fault is told: what it received was
+-- settled in what the file held then
 pub record Tells (side : Side) (file : FileValue) (text : List ℕ) (told : Bool) : Type 0 where
   pub received : Option StateValue
   pub ended : Ended
@@ -35,7 +35,8 @@ pub record Tells (side : Side) (file : FileValue) (text : List ℕ) (told : Bool
   pub text_is : text ≡ report_text settled ended
   pub told_is : told ≡ tells_fault settled ended
 
--- what is told of the client and then of the server was written, and nothing else; the status is 1 where a fault is told
+-- what is told of the client and then of the server was written, and nothing else; the status is 1 where a fault is
+-- told
 pub record WritesBoth (client server : FileValue) (before after : Option (List ℕ)) (status : ℕ) : Type 0 where
   pub first : List ℕ
   pub first_told : Bool
@@ -56,4 +57,5 @@ pub record WritesSessionOf (first second : List ℕ) (before after : Option (Lis
 
 -- why there is no session alone, or what two replicas came to
 abbrev pub WritesPair : List ℕ → List ℕ → Option (List ℕ) → Option (List ℕ) → ℕ → Type 0
-WritesPair first second before after status = WritesNone before after status ⊎ WritesSessionOf first second before after status
+WritesPair first second before after status =
+    WritesNone before after status ⊎ WritesSessionOf first second before after status

@@ -7,7 +7,7 @@ use Rattle.rds_names.specs.declared.fault.Fault.TheVariants.{Device}
 use Rattle.rds_codec.specs.Decoding.{IsOtherFault}
 use Rattle.rds_session.specs.declared.step.Ended.{Ended}
 use Rattle.rds_session.specs.declared.step.Ended.TheVariants.{Failed}
-use Rattle.rds_lines.specs.Output.{fault_line}
+use Rattle.rds_output.specs.Output.{fault_line}
 use Rattle.rds_files.specs.Settling.{is_fault}
 use Rattle.rds_files.specs.declared.settling.Settled.{Settled}
 use Rattle.rds_files.specs.declared.settling.Settled.TheVariants.{Nothing, Taken, Refused, Unkept}
@@ -41,13 +41,15 @@ told_status told = if told then 1 else 0
 
 -- a session's report was written, and nothing else, and its status is answered
 abbrev pub WritesReport : Settled → Ended → Option (List ℕ) → Option (List ℕ) → ℕ → Type 0
-WritesReport settled ended before after status = Appends before after (report_text settled ended) × (status ≡ told_status (tells_fault settled ended))
+WritesReport settled ended before after status =
+    Appends before after (report_text settled ended) × (status ≡ told_status (tells_fault settled ended))
 
 -- the fault's line was written, and nothing else, and its status is answered
 abbrev pub WritesFault : Fault → Option (List ℕ) → Option (List ℕ) → ℕ → Type 0
 WritesFault fault before after status = Appends before after (fault_line fault) × (status ≡ 1)
 
--- there is no session, and why is told alone: a file can't be had or holds no snapshot, or an address or a peer can't be had
+-- there is no session, and why is told alone: a file can't be had or holds no snapshot, or an address or a peer can't
+-- be had
 pub record WritesNone (before after : Option (List ℕ)) (status : ℕ) : Type 0 where
   pub fault : Fault
   pub due : (fault ≡ Device) ⊎ IsOtherFault fault

@@ -2,7 +2,6 @@
 use Rattle.std.specs.Prelude.{◌≡◌, ◌⊎◌, Bool, true, false, List, ℕ, Option, Some, None, Err}
 use Rattle.rds_names.specs.declared.fault.Fault.{Fault}
 use Rattle.rds_names.specs.declared.fault.Fault.TheVariants.{Memory, OwnAhead, WrongAsker}
-use Rattle.rds_names.specs.declared.fault.Own.{Own}
 use Rattle.rds_codec.specs.StateTexts.{IsSnapshot}
 use Rattle.rds_delta.specs.Least.{IsAbove}
 use Rattle.rds_delta.specs.Ranks.{ranks}
@@ -31,14 +30,14 @@ abbrev pub RefusesKnown : ReplicaValue → StateValue → Fault → Type 0
 RefusesKnown old delta (OwnAhead own) = Ahead old.state old.own delta (Some own)
 RefusesKnown old delta fault = fault ≡ Memory
 
--- why a delta isn't taken: as a take gives it, or want of memory. A conflict is no such cause where all that the delta has is
--- above what is here, as where nobody else changed the file
+-- why a delta isn't taken: as a take gives it, or want of memory. A conflict is no such cause where all that the delta
+-- has is above what is here, as where nobody else changed the file
 pub record RefusesDelta (old : ReplicaValue) (delta : StateValue) (fault : Fault) : Type 0 where
   pub gives : (fault ≡ Memory) ⊎ TakeGives {T = Unit {0}} old.state old.own delta (Err fault)
   pub above : IsAbove (coordinates delta) (ranks (coordinates old.state)) → RefusesKnown old delta fault
 
--- the file at this path, which held the replica that asked, was read and then replaced: by the join of what it held then and the
--- delta
+-- the file at this path, which held the replica that asked, was read and then replaced: by the join of what it held
+-- then and the delta
 pub record TakesDelta (path : List ℕ) (asked : ReplicaValue) (delta : StateValue) (file : ReplacedValue) : Type 0 where
   pub replaced : IsReplacedAt path file
   pub same : IsSameReplica asked file.before
@@ -46,7 +45,8 @@ pub record TakesDelta (path : List ℕ) (asked : ReplicaValue) (delta : StateVal
 
 -- why what a file holds now doesn't take a delta: it is another replica, or a take of it is refused
 abbrev pub RefusesJoin : ReplicaValue → ReplicaValue → StateValue → Fault → Type 0
-RefusesJoin asked held delta fault = ((fault ≡ WrongAsker) × (IsSameReplica asked held → ⊥)) ⊎ RefusesDelta held delta fault
+RefusesJoin asked held delta fault =
+    ((fault ≡ WrongAsker) × (IsSameReplica asked held → ⊥)) ⊎ RefusesDelta held delta fault
 
 -- the same, of something that a file may hold
 pub record RefusesHeld (asked : ReplicaValue) (delta : StateValue) (fault : Fault) : Type 0 where
@@ -69,7 +69,8 @@ pub record IsJoinedUnkept (asked : ReplicaValue) (delta : StateValue) (fault : F
 
 -- what became of a delta: the file took it and was replaced, or it wasn't taken, or the file couldn't be replaced
 abbrev pub SettlesDelta : List ℕ → ReplicaValue → StateValue → Settled → Option ReplacedValue → Type 0
-SettlesDelta path asked delta (Taken components) (Some file) = TakesDelta path asked delta file × (components ≡ size delta)
+SettlesDelta path asked delta (Taken components) (Some file) =
+    TakesDelta path asked delta file × (components ≡ size delta)
 SettlesDelta path asked delta (Refused fault) None = RefusesAt path asked delta fault
 SettlesDelta path asked delta (Unkept fault) None = IsJoinedUnkept asked delta fault
 SettlesDelta path asked delta settled file = ⊥

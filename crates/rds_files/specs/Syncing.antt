@@ -15,10 +15,12 @@ use Rattle.rds_files.specs.Settling.{Settles, is_unkept}
 use Rattle.rds_files.specs.declared.settling.Settled.{Settled}
 use Rattle.rds_files.specs.declared.settling.Settled.TheVariants.{Nothing}
 
--- a session of this side and the replica that was read from a file, over a reader that held this at first and holds this now, and a
--- writer: it heard what the reader gave up, each byte once and in order, and where a call failed a beginning of what it had to say may
--- be written; it ended so, and what it received was settled so in what the file held then
-pub record IsSession (side : Side) (first now before after : Option (List ℕ)) (file : FileValue) (settled : Settled) (ended : Ended) : Type 0 where
+-- a session of this side and the replica that was read from a file, over a reader that held this at first and holds
+-- this now, and a writer: it heard what the reader gave up, each byte once and in order, and where a call failed a
+-- beginning of what it had to say may be written; it ended so, and what it received was settled so in what the file
+-- held then
+pub record IsSession (side : Side) (first now before after : Option (List ℕ)) (file : FileValue) (settled : Settled)
+    (ended : Ended) : Type 0 where
   pub received : Option StateValue
   pub leaves : Leaves side file.kept received ended
   pub heard : IsOfCalls side file.kept first now before after (Unit {0}) received ended
@@ -34,10 +36,12 @@ pub record IsUnmet (settled : Settled) (ended : Ended) : Type 0 where
 abbrev pub Meets : Side → Option (List ℕ) → FileValue → Settled → Ended → Type 0
 Meets side first file settled ended =
     IsUnmet settled ended
-    ⊎ ((now : Option (List ℕ)) × (before : Option (List ℕ)) × (after : Option (List ℕ)) × IsSession side first now before after file settled ended)
+    ⊎ ((now : Option (List ℕ)) × (before : Option (List ℕ)) × (after : Option (List ℕ))
+    × IsSession side first now before after file settled ended)
 
 -- a session over a stream that held this at first, or none, was told of, and nothing else
-pub record WritesSession (side : Side) (held : Option (List ℕ)) (file : FileValue) (before after : Option (List ℕ)) (status : ℕ) : Type 0 where
+pub record WritesSession (side : Side) (held : Option (List ℕ)) (file : FileValue) (before after : Option (List ℕ))
+    (status : ℕ) : Type 0 where
   pub settled : Settled
   pub ended : Ended
   pub meets : Meets side held file settled ended
@@ -59,10 +63,12 @@ pub record MeetsOnce (side : Side) (at : PathValue) (settled : Settled) (ended :
 
 -- no peer came, or the file was read once more
 abbrev pub MeetsPeer : Side → PathValue → PathValue → Settled → Ended → Type 0
-MeetsPeer side at now settled ended = ((now ≡ at) × IsUnmet settled ended) ⊎ ((now ≡ read_more at) × (FindsNone settled ended ⊎ MeetsOnce side at settled ended))
+MeetsPeer side at now settled ended =
+    ((now ≡ at) × IsUnmet settled ended)
+    ⊎ ((now ≡ read_more at) × (FindsNone settled ended ⊎ MeetsOnce side at settled ended))
 
--- sessions so far: how often the file was read by now, how many there were, what is told of them, whether a fault is, and whether
--- the file couldn't be kept
+-- sessions so far: how often the file was read by now, how many there were, what is told of them, whether a fault is,
+-- and whether the file couldn't be kept
 pub record Served : Type 0 where
   pub at : PathValue
   pub count : ℕ
@@ -70,21 +76,29 @@ pub record Served : Type 0 where
   pub told : Bool
   pub stopped : Bool
 
-abbrev pub unserved : PathValue → Served
-unserved at = record { at = at; count = 0; text = []; told = false; stopped = false }
+abbrev pub served_none : PathValue → Served
+served_none at = record { at = at; count = 0; text = []; told = false; stopped = false }
 
 abbrev pub served_more : Served → PathValue → Settled → Ended → Served
 served_more s now settled ended =
-    record { at = now; count = s.count + 1; text = s.text ++ report_text settled ended; told = s.told || tells_fault settled ended; stopped = is_unkept settled }
+    record {
+      at = now;
+      count = s.count + 1;
+      text = s.text ++ report_text settled ended;
+      told = s.told || tells_fault settled ended;
+      stopped = is_unkept settled;
+    }
 
 -- one session after the other, each of a reading of its own, while the file is kept
 pub data Serves (side : Side) (first : PathValue) : Served → Type 0 where
-  none : Serves side first (unserved first)
-  more : (s : Served) (now : PathValue) (settled : Settled) (ended : Ended) → Serves side first s → s.stopped ≡ false → MeetsPeer side s.at now settled ended → Serves side first (served_more s now settled ended)
+  none : Serves side first (served_none first)
+  more : (s : Served) (now : PathValue) (settled : Settled) (ended : Ended) → Serves side first s → s.stopped ≡ false
+      → MeetsPeer side s.at now settled ended → Serves side first (served_more s now settled ended)
 
--- the reports of sessions of the file at a path, which was read so often at first and at last, were written, and nothing else, and their
--- status is answered: of so many, or of those until it couldn't be kept
-pub record WritesSessionsOf (side : Side) (first last : PathValue) (sessions : ℕ) (before after : Option (List ℕ)) (status : ℕ) : Type 0 where
+-- the reports of sessions of the file at a path, which was read so often at first and at last, were written, and
+-- nothing else, and their status is answered: of so many, or of those until it couldn't be kept
+pub record WritesSessionsOf (side : Side) (first last : PathValue) (sessions : ℕ) (before after : Option (List ℕ))
+    (status : ℕ) : Type 0 where
   pub served : Served
   pub serves : Serves side first served
   pub left : served.at ≡ last
@@ -94,7 +108,8 @@ pub record WritesSessionsOf (side : Side) (first last : PathValue) (sessions : �
   pub told : status ≡ told_status served.told
 
 -- the same, of the file at this path
-pub record WritesSessions (side : Side) (path : List ℕ) (sessions : ℕ) (before after : Option (List ℕ)) (status : ℕ) : Type 0 where
+pub record WritesSessions (side : Side) (path : List ℕ) (sessions : ℕ) (before after : Option (List ℕ))
+    (status : ℕ) : Type 0 where
   pub first : PathValue
   pub at : first.path ≡ path
   pub last : PathValue
@@ -102,9 +117,12 @@ pub record WritesSessions (side : Side) (path : List ℕ) (sessions : ℕ) (befo
 
 -- why there is no session alone, or the reports of sessions
 abbrev pub WritesServing : List ℕ → ℕ → Option (List ℕ) → Option (List ℕ) → ℕ → Type 0
-WritesServing path sessions before after status = WritesNone before after status ⊎ WritesSessions Server path sessions before after status
+WritesServing path sessions before after status =
+    WritesNone before after status ⊎ WritesSessions Server path sessions before after status
 
 -- why there is no session alone, or the report of one of the file that was read at this path
 abbrev pub WritesSync : List ℕ → Option (List ℕ) → Option (List ℕ) → ℕ → Type 0
 WritesSync path before after status =
-    WritesNone before after status ⊎ ((file : FileValue) × IsReadAt path file × (held : Option (List ℕ)) × WritesSession Client held file before after status)
+    WritesNone before after status
+    ⊎ ((file : FileValue) × IsReadAt path file × (held : Option (List ℕ))
+    × WritesSession Client held file before after status)

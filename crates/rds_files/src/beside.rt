@@ -20,9 +20,9 @@ const NEW_MODE: u32 = 0o666;
 /// The mode of a new file until it has that of the file whose place it takes: its owner alone may open it.
 const OWNER_MODE: u32 = 0o600;
 
-/// Keeps the replica in a new file of this path. FILE.new is made anew; then it is written, synced and renamed to FILE, and last
-/// the folder is synced. A FILE.new that was left behind is removed first, be it a file or a link, and so is this one where it
-/// doesn't take FILE's place. The caller has the folder's lock.
+/// Keeps the replica in a new file of this path. FILE.new is made anew; then it is written, synced and renamed to FILE,
+/// and last the folder is synced. A FILE.new that was left behind is removed first, be it a file or a link, and so is
+/// this one where it doesn't take FILE's place. The caller has the folder's lock.
 pub fn keep_new<H: Disk, S: DotSet>(
     rt: &H,
     replica: &Replica<S>,
@@ -40,8 +40,8 @@ where
     keep_made(rt, copy, name.as_str(), made)
 }
 
-/// Keeps the replica in the file of this path in place of what it holds, as `keep_new` does; FILE.new gets the mode of the old
-/// file before anything is written. The caller has the old file's lock.
+/// Keeps the replica in the file of this path in place of what it holds, as `keep_new` does; FILE.new gets the mode of
+/// the old file before anything is written. The caller has the old file's lock.
 pub fn keep_over<H: Disk, S: DotSet>(
     rt: &H,
     replica: Replica<S>,

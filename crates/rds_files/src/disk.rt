@@ -8,7 +8,8 @@ pub trait Disk: Files + Clock + Eprint + AllocGlobal {}
 
 impl<H: Files + Clock + Eprint + AllocGlobal> Disk for H {}
 
-/// Tells on standard error which call failed, on what, and what the system said. Whether that can be told changes nothing.
+/// Tells on standard error which call failed, on what, and what the system said. Whether that can be told changes
+/// nothing.
 pub fn note<H: Eprint>(rt: &H, what: &str, name: &str, error: &io::Error) {
     let _ = eprintln!(rt; "{what} {name}: {error}");
 }

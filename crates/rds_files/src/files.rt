@@ -49,8 +49,8 @@ impl<'a> FilePath<'a> {
         self.path
     }
 
-    /// Reads the file as it is now, and counts that. A file is always whole, so this takes no lock. Refuses `Device` where it
-    /// can't be opened or read, and as decoding does where it holds no snapshot. A full count stays.
+    /// Reads the file as it is now, and counts that. A file is always whole, so this takes no lock. Refuses `Device`
+    /// where it can't be opened or read, and as decoding does where it holds no snapshot. A full count stays.
     pub fn read<H: Disk, S: DotSet>(&mut self, rt: &H) -> Result<ReplicaFile<'a, S>, Fault>
         ensures read { IfOk result (IsReadBy self.old) }
         ensures counted { self.new ≡ read_more self.old }
@@ -110,8 +110,8 @@ impl<'a, S: DotSet> ReplicaFile<'a, S> {
     }
 }
 
-/// A replica that was read whole from the file of a path, whose lock is held as long as this is: no other command that takes
-/// the lock changes the file. Only `open` makes one.
+/// A replica that was read whole from the file of a path, whose lock is held as long as this is: no other command that
+/// takes the lock changes the file. Only `open` makes one.
 #[derive(Drop)]
 pub struct LockedFile<'a, H: Disk, S: DotSet> {
     path: &'a str,
@@ -133,9 +133,10 @@ impl<'a, H: Disk, S: DotSet> LockedFile<'a, H, S>
 where
     H::File: LockFile,
 {
-    /// Locks the file of this path, and reads it. Refuses `Usage` where the path ends in `.new`, as the files do that are written
-    /// beside others; then `Device` where the file can't be opened or read, where its mode lets nobody write it, or where
-    /// another has its lock for more than ten seconds; and as decoding does where it holds no snapshot.
+    /// Locks the file of this path, and reads it. Refuses `Usage` where the path ends in `.new`, as the files do that
+    /// are written beside others; then `Device` where the file can't be opened or read, where its mode lets nobody
+    /// write it, or where another has its lock for more than ten seconds; and as decoding does where it holds no
+    /// snapshot.
     pub fn open(rt: &H, path: &'a str) -> Result<LockedFile<'a, H, S>, Fault>
         ensures held { IfOk result (IsHeldAt path.now) }
         ensures beside { is_beside path.now ≡ true → result ≡ Err Usage }
@@ -191,13 +192,16 @@ impl<'a, H: Disk, S: DotSet> EmptiedFile<'a, H, S>
 where
     H::File: LockFile,
 {
-    /// Keeps this replica in the file in place of the one that it holds, and then lets the lock go: FILE.new is written anew, with
-    /// the mode of FILE, synced and renamed to FILE, and the folder is synced. A FILE.new that was left behind is removed first.
+    /// Keeps this replica in the file in place of the one that it holds, and then lets the lock go: FILE.new is written
+    /// anew, with the mode of FILE, synced and renamed to FILE, and the folder is synced. A FILE.new that was left
+    /// behind is removed first.
     ///
-    /// Refuses `TooLong` where the replica's text is above the limit, and `Device` where a file can't be removed, made, given its
-    /// mode, written, synced or renamed. FILE is then as it was, but where only the folder couldn't be synced.
+    /// Refuses `TooLong` where the replica's text is above the limit, and `Device` where a file can't be removed, made,
+    /// given its mode, written, synced or renamed. FILE is then as it was, but where only the folder couldn't be
+    /// synced.
     pub fn replace(self, rt: &H, replica: Replica<S>) -> Result<ReplacedFile<'a, S>, Fault>
-        ensures replaced { IfOk result (λ file. file ≡ record { path = self.entry.path; before = self.entry.kept; kept = replica }) }
+        ensures replaced { IfOk result
+            (λ file. file ≡ record { path = self.entry.path; before = self.entry.kept; kept = replica }) }
         ensures fault { IfErr result (IsUnkept replica) }
     {
         let EmptiedFile { path, before, file } = self;
@@ -206,8 +210,9 @@ where
     }
 }
 
-/// A replica that was written whole to the file of a path in place of another, which was read there under the file's lock. Only
-/// `EmptiedFile::replace` makes one, and nothing changes it. What the file held before is seen by contracts alone.
+/// A replica that was written whole to the file of a path in place of another, which was read there under the file's
+/// lock. Only `EmptiedFile::replace` makes one, and nothing changes it. What the file held before is seen by contracts
+/// alone.
 #[derive(Drop)]
 pub struct ReplacedFile<'a, S: DotSet> {
     path: &'a str,
@@ -252,8 +257,9 @@ impl<'a, S: DotSet> Model for CreatedFile<'a, S> {
 }
 
 impl<'a, S: DotSet> CreatedFile<'a, S> {
-    /// Makes the file of this path. It holds the lock of the folder while it does, so that of two at once one is refused. Refuses
-    /// `Usage` where the path ends in `.new` or something is there, and else as `EmptiedFile::replace` does.
+    /// Makes the file of this path. It holds the lock of the folder while it does, so that of two at once one is
+    /// refused. Refuses `Usage` where the path ends in `.new` or something is there, and else as `EmptiedFile::replace`
+    /// does.
     pub fn create<H: Disk>(
         rt: &H,
         path: &'a str,
@@ -267,6 +273,7 @@ impl<'a, S: DotSet> CreatedFile<'a, S> {
         ensures fault { IfErr result (RefusesFile replica.now) }
     {
         if is_beside(path) {
+            let _ = eprintln!(rt; "{path}: ends in .new, as a file that is written beside another");
             return Err(Fault::Usage);
         }
         let _folder = lock(rt, folder_of(path))?;

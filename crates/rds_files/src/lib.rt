@@ -1,5 +1,6 @@
-//! Replicas in files, and their sessions: over a stream with a peer, or of two files with one another. Read `disk`, `locks`,
-//! `beside` and `files` first, then `settling`, `meeting` and `syncing`; `pairing` stands on `files` and `settling` alone.
+//! Replicas in files, and their sessions: over a stream with a peer, or of two files with one another. Read `disk`,
+//! `locks`, `past`, `beside` and `files` first, then `settling`, `meeting`, `reports` and `syncing`; `pairing`, with
+//! `pending`, `end` and `meeting` in its folder, stands on `files` and `settling` alone.
 #![tactic(auto)]
 
 mod beside;

@@ -75,8 +75,8 @@ where
     Err(Fault::Device)
 }
 
-// The locked file at this path. There is none where another has the lock, or where another file has taken its place, since
-// a file that is replaced keeps the lock of whoever replaced it.
+// The locked file at this path. There is none where another has the lock, or where another file has taken its place,
+// since a file that is replaced keeps the lock of whoever replaced it.
 fn try_lock<H: Disk>(rt: &H, path: &str) -> io::Result<Option<H::File>>
 where
     H::File: LockFile,

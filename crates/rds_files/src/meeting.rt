@@ -49,8 +49,8 @@ impl<T> Met<T> {
 }
 
 impl<T: Read + OpenStream + Drop> Met<T> {
-    /// Lets the peer go: what it still sends is read and dropped, so that it gets all that was said to it. Nothing depends on
-    /// whether that succeeds.
+    /// Lets the peer go: what it still sends is read and dropped, so that it gets all that was said to it. Nothing
+    /// depends on whether that succeeds.
     pub fn let_go(self) {
         if let Some(stream) = self.rest {
             drop_rest(&mut Counted::new(stream));
@@ -58,9 +58,9 @@ impl<T: Read + OpenStream + Drop> Met<T> {
     }
 }
 
-/// A session over the stream to its end. It is read by one handle and written by another; where there is no other, or the
-/// time that a call may take can't be set, that is a session that failed. What it received is in the file before the peer is
-/// let go, and nothing more is sent.
+/// A session over the stream to its end. It is read by one handle and written by another; where there is no other, or
+/// the time that a call may take can't be set, that is a session that failed. What it received is in the file before
+/// the peer is let go, and nothing more is sent.
 pub fn meet<H: Disk, S: DotSet, T: Read + Write + OpenStream + Drop>(
     rt: &H,
     side: Side,

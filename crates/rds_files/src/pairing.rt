@@ -20,8 +20,8 @@ use meeting::{connect, meet};
 use rds_dots::DotSet;
 use rds_gaps::GapSet;
 use rds_keep::Counted;
-use rds_lines::status_of;
 use rds_names::Fault;
+use rds_output::status_of;
 use rds_session::Ended;
 use std::io::Write;
 use std::net::Net;
@@ -57,10 +57,10 @@ where
     }
 }
 
-/// One session of the replicas that were read from two files over the connection. What each received is settled in what its file
-/// holds then, the first's first. Then what the first received is told, and after that the second's. Where the output fails at
-/// the first, nothing of the second is told, but its delta is taken all the same. The session has at most as many turns as the
-/// writer says.
+/// One session of the replicas that were read from two files over the connection. What each received is settled in what
+/// its file holds then, the first's first. Then what the first received is told, and after that the second's. Where the
+/// output fails at the first, nothing of the second is told, but its delta is taken all the same. The session has at
+/// most as many turns as the writer says.
 pub fn pair<H: Disk + Net, S: DotSet, W: Write>(
     rt: &H,
     client: &ReplicaFile<'_, S>,

@@ -8,8 +8,8 @@ ghost use Rattle.rds_files.specs.Reports.{WritesFault, WritesReport, ended_text,
 
 use crate::settling::Settled;
 use rds_keep::Counted;
-use rds_lines::{Digits, status_of, write_fault_line};
 use rds_names::Fault;
+use rds_output::{Digits, status_of, write_fault_line};
 use rds_session::Ended;
 use std::io::Write;
 use std::net::OpenStream;
@@ -63,8 +63,8 @@ pub fn note_settled<H: Eprint>(rt: &H, path: &str, settled: &Settled) {
     }
 }
 
-/// Tells on standard error what came between in a session of a file, be it why what was received isn't in the file or why the
-/// session failed.
+/// Tells on standard error what came between in a session of a file, be it why what was received isn't in the file or
+/// why the session failed.
 pub fn note_report<H: Eprint>(rt: &H, path: &str, settled: &Settled, ended: Ended) {
     note_settled(rt, path, settled);
     if let Ended::Failed(fault) = ended {

@@ -64,9 +64,10 @@ impl<S: DotSet> Settlement<'_, S> {
     }
 }
 
-/// Takes what a session of the replica in the file received into what the file holds now: others may have changed it since the
-/// session began, and what they did stays. The file is locked, read, joined with the delta, replaced and unlocked. A delta
-/// without components is taken and kept as any other; where nothing was received the file isn't touched.
+/// Takes what a session of the replica in the file received into what the file holds now: others may have changed it
+/// since the session began, and what they did stays. The file is locked, read, joined with the delta, replaced and
+/// unlocked. A delta without components is taken and kept as any other; where nothing was received the file isn't
+/// touched.
 ///
 /// Refuses `WrongAsker` where the file holds another replica by now.
 pub fn settle<'a, H: Disk, S: DotSet>(

@@ -101,8 +101,8 @@ fn note_address<H: Eprint, L: OpenListener>(rt: &H, listener: &L) {
     }
 }
 
-/// One session of the replica that was read from the file over the stream, as the client. What it received is settled in what the
-/// file holds then, and it is told as `report` does; only then is the peer let go.
+/// One session of the replica that was read from the file over the stream, as the client. What it received is settled
+/// in what the file holds then, and it is told as `report` does; only then is the peer let go.
 pub fn sync<H: Disk, S: DotSet, T: Read + Write + OpenStream + Drop, W: Write>(
     rt: &H,
     file: &ReplicaFile<'_, S>,
@@ -113,7 +113,8 @@ pub fn sync<H: Disk, S: DotSet, T: Read + Write + OpenStream + Drop, W: Write>(
 where
     H::File: LockFile,
     ensures written { writer.new.failed ≡ 0
-        → WritesSession Client (T.remaining stream) file.now (W.contents writer.old.inner) (W.contents writer.new.inner) result }
+        → WritesSession Client (T.remaining stream) file.now
+        (W.contents writer.old.inner) (W.contents writer.new.inner) result }
     ensures status { result ≤ 1 }
     ensures broken { (writer.new.failed ≡ writer.old.failed) ⊎ (result ≡ 1) }
 {
@@ -124,11 +125,11 @@ where
     status
 }
 
-/// So many sessions of the replica in the file, one after the other, as the server of peers that the
-/// listener accepts. The file is read anew for each peer, so what others did to it by then is in the session; and what the session
-/// received is settled in what the file holds at its end. Each is told as `report` does before its peer is let go; a peer that
-/// can't be accepted and a file that can't be read are sessions that failed. They end early where the file can't be kept or the
-/// output fails.
+/// So many sessions of the replica in the file, one after the other, as the server of peers that the listener accepts.
+/// The file is read anew for each peer, so what others did to it by then is in the session; and what the session
+/// received is settled in what the file holds at its end. Each is told as `report` does before its peer is let go; a
+/// peer that can't be accepted and a file that can't be read are sessions that failed. They end early where the file
+/// can't be kept or the output fails.
 pub fn serve<H: Disk + Net, W: Write>(
     rt: &H,
     path: &mut FilePath<'_>,
@@ -140,7 +141,8 @@ pub fn serve<H: Disk + Net, W: Write>(
 where
     H::File: LockFile,
     ensures written { writer.new.failed ≡ 0
-        → WritesSessionsOf Server path.old path.new sessions (W.contents writer.old.inner) (W.contents writer.new.inner) result }
+        → WritesSessionsOf Server path.old path.new sessions
+        (W.contents writer.old.inner) (W.contents writer.new.inner) result }
     ensures status { result ≤ 1 }
     ensures broken { (writer.new.failed ≡ writer.old.failed) ⊎ (result ≡ 1) }
 {

@@ -6,14 +6,14 @@ use Rattle.rds_names.specs.declared.fault.Fault.{Fault}
 use Rattle.rds_names.specs.declared.fault.Fault.TheVariants.{BadLine}
 use Rattle.rds_state.specs.declared.command.Command.TheVariants as commands
 use Rattle.rds_json.specs.declared.line.Line.{Line}
-use Rattle.rds_json.specs.declared.line.Line.TheVariants.{Roster, Edit, Save, Crash, Ask, Answer, Take, Show}
+use Rattle.rds_json.specs.declared.line.Line.TheVariants.{Roster, Edit, Save, Crash, Ask, Answer, Take, Grow, Show}
 use Rattle.rds_json.specs.declared.verb.Verb.{Verb}
 use Rattle.rds_json.specs.declared.verb.Verb.TheVariants as verbs
 use Rattle.rds_json.specs.declared.verb.EditVerb.{EditVerb}
 use Rattle.rds_json.specs.declared.verb.EditVerb.TheVariants as edits
 use Rattle.rds_names.specs.AndThen.{◌>>=◌}
 use Rattle.rds_json.specs.Members.{text_at}
-use Rattle.rds_json.specs.Parts.{answer_at, counter_at, number_alone, place_at, replica_at, value_at}
+use Rattle.rds_json.specs.Parts.{answer_at, counter_at, growth_at, number_alone, place_at, replica_at, value_at}
 use Rattle.rds_json.specs.RosterLine.{roster_at}
 use Rattle.rds_json.specs.Verb.{verb_of}
 
@@ -33,6 +33,7 @@ line_by verbs.Crash d = replica_at d >>= λ name. Ok (Crash name)
 line_by verbs.Ask d = replica_at d >>= λ name. Ok (Ask name)
 line_by verbs.Answer d = answer_at d >>= λ at. Ok (Answer at.name at.ask)
 line_by verbs.Take d = number_alone d >>= λ answer. Ok (Take answer)
+line_by verbs.Grow d = growth_at d >>= λ at. Ok (Grow at.name at.newcomer)
 line_by verbs.Show d = place_at d >>= λ at. Ok (Show at.name at.path)
 
 abbrev pub line_with : Option Verb → Data → Result Line Fault

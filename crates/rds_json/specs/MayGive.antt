@@ -1,5 +1,5 @@
 -- What a call answers that may find no memory at any point.
-use Rattle.std.specs.Prelude.{◌≡◌, ◌⊎◌, Result, Ok, Err}
+use Rattle.std.specs.Prelude.{◌≡◌, ◌⊎◌, Result, Err}
 use Rattle.rds_names.specs.declared.fault.Fault.{Fault}
 use Rattle.rds_names.specs.declared.fault.Fault.TheVariants.{Memory}
 

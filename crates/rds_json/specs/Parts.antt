@@ -1,4 +1,5 @@
--- What stands behind the word of a line. Members are counted and their kinds judged first, then the members from left to right.
+-- What stands behind the word of a line. Members are counted and their kinds judged first, then the members from left
+-- to right.
 use Rattle.std.specs.Prelude.{ℕ, ◌==◌, List, Option, Some, None, Result, Ok, Err, if◌then◌else◌}
 use Rattle.serde_json.specs.Data.{Data}
 use Rattle.serde_json.specs.Find.{at}
@@ -9,6 +10,7 @@ use Rattle.rds_names.specs.Name.{name_of}
 use Rattle.rds_names.specs.Path.{path_of}
 use Rattle.rds_json.specs.declared.parts.AnswerAt.{AnswerAt}
 use Rattle.rds_json.specs.declared.parts.CounterAt.{CounterAt}
+use Rattle.rds_json.specs.declared.parts.GrowthAt.{GrowthAt}
 use Rattle.rds_json.specs.declared.parts.PlaceAt.{PlaceAt}
 use Rattle.rds_json.specs.declared.parts.ValueAt.{ValueAt}
 use Rattle.rds_names.specs.AndThen.{◌>>=◌}
@@ -21,21 +23,21 @@ of_count n d said = if member_count d == n then said else Err BadLine
 
 -- ---- [WORD, W]
 
-abbrev pub named : Option (List ℕ) → Result (List ℕ) Fault
-named (Some name) = name_of name
-named None = Err BadLine
+abbrev pub name_from : Option (List ℕ) → Result (List ℕ) Fault
+name_from (Some name) = name_of name
+name_from None = Err BadLine
 
 abbrev pub replica_at : Data → Result (List ℕ) Fault
-replica_at d = of_count 2 d (named (text_at 1 d))
+replica_at d = of_count 2 d (name_from (text_at 1 d))
 
 -- ---- [WORD, K]
 
-abbrev pub numbered : Option ℕ → Result ℕ Fault
-numbered (Some n) = Ok n
-numbered None = Err BadLine
+abbrev pub number_from : Option ℕ → Result ℕ Fault
+number_from (Some n) = Ok n
+number_from None = Err BadLine
 
 abbrev pub number_alone : Data → Result ℕ Fault
-number_alone d = of_count 2 d (numbered (number_at 1 d))
+number_alone d = of_count 2 d (number_from (number_at 1 d))
 
 -- ---- [WORD, W, K]
 
@@ -48,6 +50,18 @@ answer_from _ _ = Err BadLine
 
 abbrev pub answer_at : Data → Result AnswerAt Fault
 answer_at d = of_count 3 d (answer_from (text_at 1 d) (number_at 2 d))
+
+-- ---- [WORD, W, NAME]
+
+abbrev pub named_growth : List ℕ → List ℕ → Result GrowthAt Fault
+named_growth name newcomer = name_of name >>= λ n. name_of newcomer >>= λ m. Ok (record { name = n; newcomer = m })
+
+abbrev pub growth_from : Option (List ℕ) → Option (List ℕ) → Result GrowthAt Fault
+growth_from (Some name) (Some newcomer) = named_growth name newcomer
+growth_from _ _ = Err BadLine
+
+abbrev pub growth_at : Data → Result GrowthAt Fault
+growth_at d = of_count 3 d (growth_from (text_at 1 d) (text_at 2 d))
 
 -- ---- [WORD, W, PATH]
 
@@ -64,7 +78,8 @@ place_at d = of_count 3 d (place_from (text_at 1 d) (text_at 2 d))
 -- ---- [WORD, W, PATH, VALUE]
 
 abbrev pub named_value : List ℕ → List ℕ → Data → Result ValueAt Fault
-named_value name path value = name_of name >>= λ n. path_of path >>= λ p. scalar_of value >>= λ v. Ok (record { name = n; path = p; value = v })
+named_value name path value =
+    name_of name >>= λ n. path_of path >>= λ p. scalar_of value >>= λ v. Ok (record { name = n; path = p; value = v })
 
 abbrev pub value_from : Option (List ℕ) → Option (List ℕ) → Option Data → Result ValueAt Fault
 value_from (Some name) (Some path) (Some value) = named_value name path value

@@ -9,24 +9,27 @@ use Rattle.rds_names.specs.Key.{key_of}
 use Rattle.rds_names.specs.Roster.{RosterValue, roster_of}
 use Rattle.rds_names.specs.AndThen.{◌>>=◌}
 use Rattle.rds_json.specs.Members.{members}
-use Rattle.rds_json.specs.Parts.{named}
+use Rattle.rds_json.specs.Parts.{name_from}
 
 abbrev pub is_text : Data → Bool
 is_text d = is_some (as_str d)
 
-abbrev pub keyed : Option (List ℕ) → Result (List ℕ) Fault
-keyed (Some key) = key_of key
-keyed None = Err BadLine
+abbrev pub key_from : Option (List ℕ) → Result (List ℕ) Fault
+key_from (Some key) = key_of key
+key_from None = Err BadLine
 
 -- the names, up to the first that is none
 abbrev pub names_of : List Data → Result (List (List ℕ)) Fault
 names_of [] = Ok []
-names_of (d ∷ ds) = named (as_str d) >>= λ name. names_of ds >>= λ names. Ok (name ∷ names)
+names_of (d ∷ ds) = name_from (as_str d) >>= λ name. names_of ds >>= λ names. Ok (name ∷ names)
 
 -- the group, then the names
 abbrev pub roster_from : List Data → Result RosterValue Fault
 roster_from [] = Err BadLine
-roster_from (group ∷ names) = if list_all is_text (group ∷ names) then keyed (as_str group) >>= (λ key. names_of names >>= λ ns. roster_of key ns) else Err BadLine
+roster_from (group ∷ names) =
+    if list_all is_text (group ∷ names)
+    then key_from (as_str group) >>= (λ key. names_of names >>= λ ns. roster_of key ns)
+    else Err BadLine
 
 abbrev pub roster_at : Data → Result RosterValue Fault
 roster_at d = roster_from (drop 1 (members d))

@@ -29,4 +29,6 @@ counter_data (Some z) = number (of_integer z)
 -- the counter, the values of the register and those of the set
 abbrev pub standing_data : List ℕ → Shown → Data
 standing_data key (shows maps regs sets counters) =
-    object (put (codes "set") (scalars_data (values_at key sets)) (put (codes "reg") (scalars_data (values_at key regs)) (put (codes "counter") (counter_data (counter_at key counters)) no_members)))
+    object (put (codes "set") (scalars_data (values_at key sets))
+    (put (codes "reg") (scalars_data (values_at key regs))
+    (put (codes "counter") (counter_data (counter_at key counters)) no_members)))

@@ -1,4 +1,5 @@
--- What a line asks for that edits a replica which it doesn't name. Members are counted and their kinds judged first, then the members from left to right.
+-- What a line asks for that edits a replica which it doesn't name. Members are counted and their kinds judged first,
+-- then the members from left to right.
 use Rattle.std.specs.Prelude.{ℕ, List, Option, Some, None, Result, Ok, Err}
 use Rattle.serde_json.specs.Data.{Data}
 use Rattle.serde_json.specs.Find.{at}

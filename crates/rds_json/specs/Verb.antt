@@ -2,7 +2,7 @@
 use Rattle.std.specs.Prelude.{ℕ, List, codes, Option, Some, None, if◌then◌else◌}
 use Rattle.std.specs.Str.{bytes_eq}
 use Rattle.rds_json.specs.declared.verb.Verb.{Verb}
-use Rattle.rds_json.specs.declared.verb.Verb.TheVariants.{Roster, Edit, Save, Crash, Ask, Answer, Take, Show}
+use Rattle.rds_json.specs.declared.verb.Verb.TheVariants.{Roster, Edit, Save, Crash, Ask, Answer, Take, Grow, Show}
 use Rattle.rds_json.specs.declared.verb.EditVerb.TheVariants.{Set, Add, Del, Clear, Inc, Dec}
 
 abbrev pub verb_of : List ℕ → Option Verb
@@ -19,5 +19,6 @@ verb_of word =
     else (if bytes_eq word (codes "ask") then Some Ask
     else (if bytes_eq word (codes "answer") then Some Answer
     else (if bytes_eq word (codes "take") then Some Take
+    else (if bytes_eq word (codes "grow") then Some Grow
     else (if bytes_eq word (codes "show") then Some Show
-    else None))))))))))))
+    else None)))))))))))))

@@ -1,4 +1,6 @@
-//! Lines of JSON that ask something of a group of replicas, and views as JSON.
+//! Lines of JSON that ask something of a group of replicas, and views as JSON. Of lines, read `line`, `verb`,
+//! `members`, `scalars`, `parts`, `edits`, `roster`, `reading` and `unnamed`, in this order; of views, `showing`,
+//! `standing` and `texts`.
 #![tactic(auto)]
 
 mod edits;

@@ -19,6 +19,8 @@ pub enum Line {
     Answer(Name, u64),
     /// Takes the answer of this number in.
     Take(u64),
+    /// Has a replica put a name last in the roster.
+    Grow(Name, Name),
     /// Shows what a replica's document has at a path.
     Show(Name, Path),
 }

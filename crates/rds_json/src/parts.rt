@@ -1,8 +1,8 @@
-//! What stands behind the word of a line, by the shapes that there are. Members are counted and their kinds judged first,
-//! then the members from left to right.
+//! What stands behind the word of a line, by the shapes that there are. Members are counted and their kinds judged
+//! first, then the members from left to right.
 ghost use Rattle.std.specs.Prelude.{◌≡◌};
 ghost use Rattle.rds_json.specs.MayGive.{MayGive};
-ghost use Rattle.rds_json.specs.Parts.{answer_at, counter_at, named_answer, named_counter, named_place, named_value, number_alone, place_at, replica_at, value_at};
+ghost use Rattle.rds_json.specs.Parts.{answer_at, counter_at, growth_at, named_answer, named_counter, named_growth, named_place, named_value, number_alone, place_at, replica_at, value_at};
 ghost use Rattle.serde_json.specs.View.{view};
 
 use crate::members::{member_count, number_at, text_at};
@@ -16,6 +16,13 @@ use std::alloc::Global;
 pub struct AnswerAt {
     pub name: Name,
     pub ask: u64,
+}
+
+/// A replica and the name of a new one.
+#[derive(Debug, Drop)]
+pub struct GrowthAt {
+    pub name: Name,
+    pub newcomer: Name,
 }
 
 /// A replica and a path.
@@ -77,6 +84,19 @@ pub fn answer_at(line: &Value) -> Result<AnswerAt, Fault>
     }
 }
 
+/// `[WORD, W, NAME]`
+pub fn growth_at(line: &Value) -> Result<GrowthAt, Fault>
+    ensures { result ≡ growth_at (view line.now) }
+{
+    if member_count(line) != 3 {
+        return Err(Fault::BadLine);
+    }
+    match (text_at(line, 1), text_at(line, 2)) {
+        (Some(name), Some(newcomer)) => named_growth(name, newcomer),
+        _ => Err(Fault::BadLine),
+    }
+}
+
 /// `[WORD, W, PATH]`
 pub fn place_at(alloc: Global, line: &Value) -> Result<PlaceAt, Fault>
     ensures { MayGive result (place_at (view line.now)) }
@@ -122,6 +142,15 @@ fn named_answer(name: &str, ask: u64) -> Result<AnswerAt, Fault>
     Ok(AnswerAt {
         name: Name::new(name)?,
         ask,
+    })
+}
+
+fn named_growth(name: &str, newcomer: &str) -> Result<GrowthAt, Fault>
+    ensures { result ≡ named_growth name.now newcomer.now }
+{
+    Ok(GrowthAt {
+        name: Name::new(name)?,
+        newcomer: Name::new(newcomer)?,
     })
 }
 

@@ -10,7 +10,7 @@ ghost use Rattle.serde_json.specs.View.{view};
 use crate::edits::edit_line;
 use crate::line::Line;
 use crate::members::text_at;
-use crate::parts::{answer_at, number_alone, place_at, replica_at};
+use crate::parts::{answer_at, growth_at, number_alone, place_at, replica_at};
 use crate::roster::roster_at;
 use crate::verb::{Verb, verb_of};
 use rds_names::Fault;
@@ -72,6 +72,10 @@ fn line_by(alloc: Global, verb: Verb, line: &Value) -> Result<Line, Fault>
             Ok(Line::Answer(at.name, at.ask))
         }
         Verb::Take => Ok(Line::Take(number_alone(line)?)),
+        Verb::Grow => {
+            let at = growth_at(line)?;
+            Ok(Line::Grow(at.name, at.newcomer))
+        }
         Verb::Show => {
             let at = place_at(alloc, line)?;
             Ok(Line::Show(at.name, at.path))

@@ -2,8 +2,8 @@
 ghost use Rattle.std.specs.Prelude.{◌≡◌, ◌⊎◌, map, Ok, Err, IfOk, IfErr};
 ghost use Rattle.std.specs.List.{list_all};
 ghost use Rattle.rds_json.specs.MayGive.{MayGive};
-ghost use Rattle.rds_json.specs.Parts.{named};
-ghost use Rattle.rds_json.specs.RosterLine.{is_text, keyed, names_of, roster_at, roster_from};
+ghost use Rattle.rds_json.specs.Parts.{name_from};
+ghost use Rattle.rds_json.specs.RosterLine.{is_text, key_from, names_of, roster_at, roster_from};
 ghost use Rattle.rds_names.specs.declared.fault.Fault.TheVariants.{Memory};
 ghost use Rattle.serde_json.specs.Find.{as_str};
 ghost use Rattle.serde_json.specs.View.{view};
@@ -45,22 +45,12 @@ fn roster_from(alloc: Global, members: &[Value]) -> Result<Roster, Fault>
 fn are_texts(members: &[Value]) -> bool
     ensures { result ≡ list_all is_text (map view members.now) }
 {
-    let mut rest = members;
-    'testing: loop {
-        let (member, later) = match rest.split_first() {
-            Some(parts) => parts,
-            None => return true,
-        };
-        if !member.is_string() {
-            return false;
-        }
-        rest = later;
-    }
+    members.iter().all(|member| member.is_string())
 }
 
 /// The key that a member is.
 fn key(alloc: Global, member: &Value) -> Result<Key, Fault>
-    ensures { MayGive result (keyed (as_str (view member.now))) }
+    ensures { MayGive result (key_from (as_str (view member.now))) }
 {
     match member.as_str() {
         Some(text) => Key::new(alloc, text),
@@ -70,7 +60,7 @@ fn key(alloc: Global, member: &Value) -> Result<Key, Fault>
 
 /// The name that a member is.
 fn name(member: &Value) -> Result<Name, Fault>
-    ensures { result ≡ named (as_str (view member.now)) }
+    ensures { result ≡ name_from (as_str (view member.now)) }
 {
     match member.as_str() {
         Some(text) => Name::new(text),
@@ -84,13 +74,8 @@ fn names_of(alloc: Global, members: &[Value]) -> Result<Vec<Name>, Fault>
     ensures err { IfErr result (λ fault. (fault ≡ Memory) ⊎ (names_of (map view members.now) ≡ Err fault)) }
 {
     let mut names = Vec::new(alloc);
-    let mut rest = members;
-    'naming: loop {
-        let (member, later) = match rest.split_first() {
-            Some(parts) => parts,
-            None => return Ok(names),
-        };
+    for member in members {
         names.push(name(member)?)?;
-        rest = later;
     }
+    Ok(names)
 }

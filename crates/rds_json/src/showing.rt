@@ -54,20 +54,15 @@ fn values_value(alloc: Global, rows: &[(Key, Scalars)]) -> Result<Value, Fault>
     ensures memory { IfErr result (λ fault. fault ≡ Memory) }
 {
     let mut map = Map::new(alloc);
-    let mut rest = rows;
-    'putting: loop {
-        let (row, later) = match rest.split_first() {
-            Some(parts) => parts,
-            None => return Ok(Value::Object(map)),
-        };
+    for row in rows {
         put(
             alloc,
             &mut map,
             row.0.as_str(),
             scalars_value(alloc, row.1.rows())?,
         )?;
-        rest = later;
     }
+    Ok(Value::Object(map))
 }
 
 fn sums_value(alloc: Global, rows: &[(Key, i64)]) -> Result<Value, Fault>
@@ -75,15 +70,10 @@ fn sums_value(alloc: Global, rows: &[(Key, i64)]) -> Result<Value, Fault>
     ensures memory { IfErr result (λ fault. fault ≡ Memory) }
 {
     let mut map = Map::new(alloc);
-    let mut rest = rows;
-    'putting: loop {
-        let (row, later) = match rest.split_first() {
-            Some(parts) => parts,
-            None => return Ok(Value::Object(map)),
-        };
+    for row in rows {
         put(alloc, &mut map, row.0.as_str(), Value::from(row.1))?;
-        rest = later;
     }
+    Ok(Value::Object(map))
 }
 
 #[cycle(showing)]
@@ -92,15 +82,11 @@ fn maps_value(alloc: Global, maps: &Maps) -> Result<Value, Fault>
     ensures memory { IfErr result (λ fault. fault ≡ Memory) }
 {
     let mut map = Map::new(alloc);
-    let mut rest = maps.rows();
-    'putting: loop {
-        let (row, later) = match rest.split_first() {
-            Some(parts) => parts,
-            None => return Ok(Value::Object(map)),
-        };
+    let rows = maps.rows();
+    for row in rows {
         put(alloc, &mut map, row.0.as_str(), view_value(alloc, &row.1)?)?;
-        rest = later;
     }
+    Ok(Value::Object(map))
 }
 
 #[cycle(showing)]
@@ -129,8 +115,8 @@ fn view_value(alloc: Global, shape: &View) -> Result<Value, Fault>
 }
 
 /// The view as compact JSON: an object with the members "counters" (at the root of the document alone), "maps", "regs"
-/// and "sets". The keys ascend by their bytes, each with a view, an array of values in the view's order, or a sum; `view` of
-/// `rds_tree` makes views in which these ascend too.
+/// and "sets". The keys ascend by their bytes, each with a view, an array of values in the view's order, or a sum;
+/// `view` of `rds_tree` makes views in which these ascend too.
 pub fn show(alloc: Global, view: &View) -> Result<String, Fault>
     ensures ok { IfOk result (λ text. string_bytes text ≡ compact_text (data_of (shown view.now))) }
     ensures memory { IfErr result (λ fault. fault ≡ Memory) }

@@ -12,8 +12,8 @@ use rds_tree::{Sums, Values, View};
 use serde_json::{Map, Value};
 use std::alloc::Global;
 
-/// What stands at a key of a view, as compact JSON: an object with the members "counter" (null where there is none), "reg"
-/// and "set" (the values under the key, in the view's order).
+/// What stands at a key of a view, as compact JSON: an object with the members "counter" (null where there is none),
+/// "reg" and "set" (the values under the key, in the view's order).
 pub fn show_at(alloc: Global, shape: &View, key: &Key) -> Result<String, Fault>
     ensures ok { IfOk result (λ text. string_bytes text ≡ compact_text (standing_data key.now (shown shape.now))) }
     ensures memory { IfErr result (λ fault. fault ≡ Memory) }
@@ -70,29 +70,24 @@ fn sum_value(sum: Option<i64>) -> Value
 fn sum_at(sums: &Sums, key: &Key) -> Option<i64>
     ensures { result ≡ sum_at key.now sums.now }
 {
-    let mut rest = sums.rows();
-    'finding: loop {
-        let (row, later) = rest.split_first()?;
+    let rows = sums.rows();
+    for row in rows {
         if row.0 == *key {
             return Some(row.1);
         }
-        rest = later;
     }
+    None
 }
 
 /// The values under a key.
 fn values_at<'a>(values: &'a Values, key: &Key) -> &'a [Scalar]
     ensures { result.now ≡ values_at key.now values.now }
 {
-    let mut rest = values.rows();
-    'finding: loop {
-        let (row, later) = match rest.split_first() {
-            Some(parts) => parts,
-            None => return &[],
-        };
+    let rows = values.rows();
+    for row in rows {
         if row.0 == *key {
             return row.1.rows();
         }
-        rest = later;
     }
+    &[]
 }

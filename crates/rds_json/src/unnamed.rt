@@ -28,8 +28,9 @@ pub struct CountedAt {
     pub by: u64,
 }
 
-/// The edit that a line asks for, which is an array of JSON (RFC 8259, Bray 2017): an edit's word, and what belongs to it,
-/// without a replica's name. It is judged as [`command`](crate::command) judges a line, of which these words are the edits.
+/// The edit that a line asks for, which is an array of JSON (RFC 8259, Bray 2017): an edit's word, and what belongs to
+/// it, without a replica's name. It is judged as [`command`](crate::command) judges a line, of which these words are
+/// the edits.
 pub fn edit(alloc: Global, text: &str) -> Result<Command, Fault>
     ensures { MayGive result (edit_of text.now) }
 {

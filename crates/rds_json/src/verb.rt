@@ -12,6 +12,7 @@ pub enum Verb {
     Ask,
     Answer,
     Take,
+    Grow,
     Show,
 }
 
@@ -43,6 +44,7 @@ pub fn verb_of(word: &str) -> Option<Verb>
         "ask" => Some(Verb::Ask),
         "answer" => Some(Verb::Answer),
         "take" => Some(Verb::Take),
+        "grow" => Some(Verb::Grow),
         "show" => Some(Verb::Show),
         _ => None,
     }

@@ -1,8 +1,9 @@
 -- Lines that edit one replica, one after the other.
-use Rattle.std.proofs.Common.{◌≡◌, ◌∙◌, ◌<◌, ◌++◌, ◌||◌, ℕ, Bool, false, true, List, [], ◌∷◌, length, eqb, arith, Option, None, Some, Result, Ok, Err, cond, refl, sym, ap, subst, inl, inr, append-nil, append_assoc}
+use Rattle.std.proofs.Common.{◌≡◌, ◌∙◌, ◌<◌, ◌≤◌, ◌+◌, ◌++◌, ◌||◌, ℕ, Bool, false, true, List, [], ◌∷◌, length, take, get_or, eqb, arith, Option, None, Some, Result, Ok, Err, cond, refl, sym, ap, subst, inl, inr, append-nil, append_assoc}
 use Rattle.std.specs.Io.KnownBytes.{Appends}
 use Rattle.std.proofs.KnownBytes.{Appends-nil, Appends-trans}
 use Rattle.std.specs.List.{list_any}
+use Rattle.std.proofs.lemmas.List.{take_all, take_more}
 use Rattle.std.proofs.lemmas.Bool.{eqb-true, lt-leb}
 use Rattle.rds_names.specs.declared.fault.Fault.{Fault}
 use Rattle.rds_names.specs.declared.fault.Fault.TheVariants.{BadLine, Memory}
@@ -11,22 +12,21 @@ use Rattle.rds_state.specs.Fits.{ReplicaValue}
 use Rattle.rds_state.specs.declared.command.Command.{Command}
 use Rattle.rds_json.specs.MayGive.{MayGive}
 use Rattle.rds_json.specs.Unnamed.{edit_of}
-use Rattle.rds_lines.specs.Answering.{answer_line}
-use Rattle.rds_lines.specs.Answer.{is_refusal}
-use Rattle.rds_lines.specs.Editing.{EditsLines, IsEdited, WritesAll, MeetsCommand, MeetsEdit, answers_text, edit_of_bytes, edit_refusal}
+use Rattle.rds_output.specs.Reply.{reply_line, is_refusal}
+use Rattle.rds_lines.specs.Editing.{EditsLines, IsEdited, WritesAll, MeetsCommand, MeetsEdit, replies_text, edit_of_bytes, edit_refusal}
 use Rattle.rds_lines.specs.Lines.{after_line, is_text_line, lines_in, until_newline}
-use Rattle.rds_lines.specs.declared.answer.Answer.{Answer}
-use Rattle.rds_lines.specs.declared.answer.Answer.TheVariants.{Refused}
+use Rattle.rds_output.specs.declared.reply.Reply.{Reply}
+use Rattle.rds_output.specs.declared.reply.Reply.TheVariants.{Refused}
 use Rattle.rds_lines.proofs.EndedLines.{lines_first}
 
 -- whatever the lines that are left make of the replica follows what was made of it so far
-abbrev pub FollowsOn : List ℕ → List ℕ → ReplicaValue → ReplicaValue → List Answer → Type 0
-FollowsOn input rest first now answers = (after : ReplicaValue) (more : List Answer) → EditsLines (lines_in rest) now after more → EditsLines (lines_in input) first after (answers ++ more)
+abbrev pub FollowsOn : List ℕ → List ℕ → ReplicaValue → ReplicaValue → List Reply → Type 0
+FollowsOn input rest first now answers = (after : ReplicaValue) (more : List Reply) → EditsLines (lines_in rest) now after more → EditsLines (lines_in input) first after (answers ++ more)
 
 pub follows_first : (input : List ℕ) (first : ReplicaValue) → FollowsOn input input first first []
 follows_first input first = λ after more h. h
 
-pub follows_next : (input rest : List ℕ) (first now next : ReplicaValue) (answers : List Answer) (answer : Answer) → 0 < length rest → FollowsOn input rest first now answers
+pub follows_next : (input rest : List ℕ) (first now next : ReplicaValue) (answers : List Reply) (answer : Reply) → 0 < length rest → FollowsOn input rest first now answers
     → MeetsEdit (until_newline rest) now answer next → FollowsOn input (after_line rest) first next (answers ++ answer ∷ [])
 follows_next input rest first now next answers answer some follows met = λ after more h.
     subst (EditsLines (lines_in input) first after) (sym (append_assoc answers (answer ∷ []) more))
@@ -34,15 +34,15 @@ follows_next input rest first now next answers answer some follows met = λ afte
     (subst (λ (ls : List (List ℕ)). EditsLines ls now after (answer ∷ more)) (sym (lines_first rest some))
     (record { answer = answer; next = next; met = met; rest = more; later = h; answers_are = refl })))
 
-pub follows_last : (input rest : List ℕ) (first now : ReplicaValue) (answers : List Answer) → rest ≡ [] → FollowsOn input rest first now answers → EditsLines (lines_in input) first now answers
+pub follows_last : (input rest : List ℕ) (first now : ReplicaValue) (answers : List Reply) → rest ≡ [] → FollowsOn input rest first now answers → EditsLines (lines_in input) first now answers
 follows_last input rest first now answers none follows =
     subst (EditsLines (lines_in input) first now) (append-nil answers)
     (follows now [] (subst (λ (r : List ℕ). EditsLines (lines_in r) now now []) (sym none) (refl, refl)))
 
-pub follows_step : (input rest line later : List ℕ) (first now next : ReplicaValue) (answers pushed : List Answer) (answer : Answer) → 0 < length rest → line ≡ until_newline rest → later ≡ after_line rest
+pub follows_step : (input rest line later : List ℕ) (first now next : ReplicaValue) (answers pushed : List Reply) (answer : Reply) → 0 < length rest → line ≡ until_newline rest → later ≡ after_line rest
     → pushed ≡ answers ++ answer ∷ [] → FollowsOn input rest first now answers → MeetsEdit line now answer next → FollowsOn input later first next pushed
 follows_step input rest line later first now next answers pushed answer some is_line is_later is_pushed follows met = λ after more h.
-    subst (λ (p : List Answer). EditsLines (lines_in input) first after (p ++ more)) (sym is_pushed)
+    subst (λ (p : List Reply). EditsLines (lines_in input) first after (p ++ more)) (sym is_pushed)
     (follows_next input rest first now next answers answer some follows (subst (λ (l : List ℕ). MeetsEdit l now answer next) is_line met) after more
     (subst (λ (l : List ℕ). EditsLines (lines_in l) next after more) is_later h))
 
@@ -91,23 +91,21 @@ module _ (line text : List ℕ) (is : (is_text_line line ≡ true) × (text ≡ 
       inr (subst (λ (r : Result Command Fault). MeetsCommand r before (Refused fault) after) (asked command given) (inr (fault, due, (refl, same))))
 
   -- the edit is made
-  pub an_edit : (command : Command) (answer : Answer) → MayGive (Ok command) (edit_of text) → edit_refusal before command ≡ None → IsEdited command before after answer → MeetsEdit line before answer after
+  pub an_edit : (command : Command) (answer : Reply) → MayGive (Ok command) (edit_of text) → edit_refusal before command ≡ None → IsEdited command before after answer → MeetsEdit line before answer after
   an_edit command answer given due edited = inr (subst (λ (r : Result Command Fault). MeetsCommand r before answer after) (asked command given) (inl (due, edited)))
 
 -- ---- answers that are written
 
--- the answers before the rest were written, and whether one is a refusal
-pub record WritesSome (all rest : List Answer) (before after : Option (List ℕ)) (refused : Bool) : Type 0 where
-  pub taken : List Answer
-  pub taken_are : taken ++ rest ≡ all
-  pub written : Appends before after (answers_text taken)
-  pub refused_is : refused ≡ list_any is_refusal taken
+-- these answers were written, and whether one is a refusal
+pub record WritesSome (answers : List Reply) (before after : Option (List ℕ)) (refused : Bool) : Type 0 where
+  pub written : Appends before after (replies_text answers)
+  pub refused_is : refused ≡ list_any is_refusal answers
 
-texts_join : (xs ys : List Answer) → answers_text (xs ++ ys) ≡ answers_text xs ++ answers_text ys
+texts_join : (xs ys : List Reply) → replies_text (xs ++ ys) ≡ replies_text xs ++ replies_text ys
 texts_join [] ys = refl
-texts_join (x ∷ xs) ys = ap (λ (t : List ℕ). answer_line x ++ t) (texts_join xs ys) ∙ sym (append_assoc (answer_line x) (answers_text xs) (answers_text ys))
+texts_join (x ∷ xs) ys = ap (λ (t : List ℕ). reply_line x ++ t) (texts_join xs ys) ∙ sym (append_assoc (reply_line x) (replies_text xs) (replies_text ys))
 
-any_join : (xs : List Answer) (y : Answer) → list_any is_refusal (xs ++ y ∷ []) ≡ (list_any is_refusal xs || is_refusal y)
+any_join : (xs : List Reply) (y : Reply) → list_any is_refusal (xs ++ y ∷ []) ≡ (list_any is_refusal xs || is_refusal y)
 any_join [] y = or_false (is_refusal y)
   where
     or_false : (b : Bool) → (b || false) ≡ b
@@ -119,21 +117,26 @@ any_join (x ∷ xs) y = ap (λ (b : Bool). is_refusal x || b) (any_join xs y) �
     or_assoc true b c = refl
     or_assoc false b c = refl
 
-pub some_first : (all : List Answer) (before : Option (List ℕ)) → WritesSome all all before before false
-some_first all before = record { taken = []; taken_are = refl; written = Appends-nil before; refused_is = refl }
+pub some_first : (before : Option (List ℕ)) → WritesSome [] before before false
+some_first before = record { written = Appends-nil before; refused_is = refl }
 
-pub some_next : (all rest later : List Answer) (answer : Answer) (before now after : Option (List ℕ)) (refused refusal : Bool) → rest ≡ answer ∷ later → refusal ≡ is_refusal answer
-    → WritesSome all rest before now refused → Appends now after (answer_line answer) → WritesSome all later before after (refused || refusal)
-some_next all rest later answer before now after refused refusal is of w one = record {
-  taken = w.taken ++ answer ∷ [];
-  taken_are = append_assoc w.taken (answer ∷ []) later ∙ ap (λ (r : List Answer). w.taken ++ r) (sym is) ∙ w.taken_are;
-  written = subst (Appends before after) (ap (λ (t : List ℕ). answers_text w.taken ++ t) (sym (append-nil (answer_line answer))) ∙ sym (texts_join w.taken (answer ∷ []))) (Appends-trans before now after (answers_text w.taken) (answer_line answer) w.written one);
-  refused_is = ap (λ (b : Bool). b || refusal) w.refused_is ∙ ap (λ (b : Bool). list_any is_refusal w.taken || b) of ∙ sym (any_join w.taken answer);
-}
+-- one more
+pub some_next : (all : List Reply) (i : ℕ) (answer : Reply) (before now after : Option (List ℕ)) (refused refusal : Bool) → i < length all → get_or all i answer ≡ answer → refusal ≡ is_refusal answer
+    → WritesSome (take i all) before now refused → Appends now after (reply_line answer) → WritesSome (take (i + 1) all) before after (refused || refusal)
+some_next all i answer before now after refused refusal lt is of w one =
+    let taken = take i all in
+    let more : take (i + 1) all ≡ taken ++ answer ∷ [] = take_more all i answer lt ∙ ap (λ (x : Reply). taken ++ x ∷ []) is in
+    subst (λ (answers : List Reply). WritesSome answers before after (refused || refusal)) (sym more) (record {
+      written = subst (Appends before after) (ap (λ (t : List ℕ). replies_text taken ++ t) (sym (append-nil (reply_line answer))) ∙ sym (texts_join taken (answer ∷ [])))
+          (Appends-trans before now after (replies_text taken) (reply_line answer) w.written one);
+      refused_is = ap (λ (b : Bool). b || refusal) w.refused_is ∙ ap (λ (b : Bool). list_any is_refusal taken || b) of ∙ sym (any_join taken answer);
+    })
 
-pub some_last : (all rest : List Answer) (before after : Option (List ℕ)) (refused : Bool) (status : ℕ) → rest ≡ [] → WritesSome all rest before after refused → status ≡ cond refused 1 0 → WritesAll all before after status
-some_last all rest before after refused status none w is =
-    let are : w.taken ≡ all = sym (append-nil w.taken) ∙ ap (λ (r : List Answer). w.taken ++ r) (sym none) ∙ w.taken_are in (
-      subst (λ (t : List Answer). Appends before after (answers_text t)) are w.written,
+-- all of them
+pub some_last : (all : List Reply) (n : ℕ) (before after : Option (List ℕ)) (refused : Bool) (status : ℕ) → length all ≤ n → WritesSome (take n all) before after refused → status ≡ cond refused 1 0
+    → WritesAll all before after status
+some_last all n before after refused status le w is =
+    let are : take n all ≡ all = take_all n all le in (
+      subst (λ (t : List Reply). Appends before after (replies_text t)) are w.written,
       is ∙ ap (λ (b : Bool). cond b 1 0) (w.refused_is ∙ ap (list_any is_refusal) are),
     )

@@ -1,7 +1,5 @@
 pub mod Answered
-pub mod AnswerPieces
 pub mod Beginnings
-pub mod DigitsSoFar
 pub mod EditedLines
 pub mod EndedLines
 pub mod Fronts

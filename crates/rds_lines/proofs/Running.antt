@@ -7,10 +7,11 @@ use Rattle.hex.specs.Hex.{encode_lower}
 use Rattle.rds_names.specs.declared.fault.Fault.{Fault}
 use Rattle.rds_names.specs.declared.fault.Fault.TheVariants.{Memory}
 use Rattle.rds_keep.specs.Counted.{one_more}
+use Rattle.rds_keep.specs.Parts.{AppendsFront}
 use Rattle.rds_lines.specs.Join.{JoinsTo, MayJoinTo}
-use Rattle.rds_lines.specs.Output.{Writes}
+use Rattle.rds_output.specs.Output.{Writes, fault_line}
 use Rattle.rds_lines.specs.Refusal.{fault_of}
-use Rattle.rds_lines.specs.Run.{WritesJoin, IsJoinLine}
+use Rattle.rds_lines.specs.Run.{WritesJoin, WritesJoinFront, IsJoinLine}
 use Rattle.rds_lines.specs.declared.refusal.Refusal.{Refusal}
 use Rattle.rds_lines.specs.declared.run.TheConstants.{MOST}
 use Rattle.rds_lines.proofs.Fronts.{joins_whole, may_join_whole}
@@ -49,3 +50,7 @@ pub memory_written : (o a b : Option (List ℕ)) (failed writer status : ℕ) �
     → IfSome o (λ input. failed ≡ 0 → writer ≡ 0 → WritesJoin input a b status)
 memory_written None a b failed writer status w = tt
 memory_written (Some input) a b failed writer status w = λ steady written. (Err Memory, inl refl, w written)
+
+pub memory_begun : (o a b : Option (List ℕ)) (failed : ℕ) → AppendsFront a b (fault_line Memory) → IfSome o (λ input. failed ≡ 0 → WritesJoinFront input a b)
+memory_begun None a b failed front = tt
+memory_begun (Some input) a b failed front = λ steady. (Err Memory, inl refl, front)

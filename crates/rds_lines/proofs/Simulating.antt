@@ -1,5 +1,5 @@
 -- Lines that are met one after the other.
-use Rattle.std.proofs.Common.{◌≡◌, ◌∙◌, ◌≤◌, ◌⊎◌, ◌++◌, ◌||◌, ℕ, Bool, List, length, Option, Some, None, Result, Ok, Err, refl, sym, ap, subst, inl, inr, slice_get, arith}
+use Rattle.std.proofs.Common.{◌≡◌, ◌∙◌, ◌≤◌, ◌⊎◌, ◌++◌, ◌∷◌, [], ◌||◌, ℕ, suc, Bool, List, length, length-append, Option, Some, None, Result, Ok, Err, refl, sym, ap, subst, inl, inr, slice_get, arith}
 use Rattle.std.specs.Prelude.{IfOk, IfErr, IfSome}
 use Rattle.std.proofs.lemmas.Option.{slice_get_cases}
 use Rattle.rds_names.specs.declared.fault.Fault.{Fault}
@@ -8,48 +8,53 @@ use Rattle.rds_names.specs.Roster.{RosterValue}
 use Rattle.rds_state.specs.Fits.{ReplicaValue}
 use Rattle.rds_json.specs.declared.line.Line.{Line}
 use Rattle.rds_json.specs.declared.line.Line.TheVariants as lines
-use Rattle.rds_world.specs.Events.{IsAccepted, IsDone, Refuses}
+use Rattle.rds_world.specs.Events.{IsAccepted, IsDone, Refuses, roster_after}
 use Rattle.rds_world.specs.Stands.{Stands, state_of}
 use Rattle.rds_world.specs.Stored.{WorldValue}
-use Rattle.rds_world.specs.World.{World, Question, Reply, after, answered, taken, start}
+use Rattle.rds_world.specs.World.{World, Question, Reply as ModelReply, after, after_answer, after_take, start}
 use Rattle.rds_world.specs.declared.event.Event.{Event}
-use Rattle.rds_world.specs.declared.event.Event.TheVariants.{Edit, Save, Crash, Ask, Answer as Answering, Take}
+use Rattle.rds_world.specs.declared.event.Event.TheVariants.{Edit, Save, Crash, Ask, Answer as Answering, Take, Grow}
 use Rattle.rds_world.specs.declared.event.Done.{Done as Outcome}
-use Rattle.rds_lines.specs.Answer.{is_refusal}
-use Rattle.rds_lines.specs.Answering.{WritesAnswers, WritesCut, WritesFront, answer_line}
+use Rattle.rds_output.specs.Reply.{is_refusal, reply_line}
+use Rattle.rds_lines.specs.Answering.{WritesAnswers, WritesCut, WritesFront}
 use Rattle.rds_lines.specs.Views.{ShowsView}
+use Rattle.rds_lines.specs.declared.views.Layout.TheVariants.{Compact}
 use Rattle.rds_lines.specs.Lines.{lines_in}
-use Rattle.rds_lines.specs.Output.{fault_line}
-use Rattle.rds_lines.specs.Sim.{Group, IsSimOutput, MayBeSimulated, MeetsBytes, MeetsFirst, MeetsLines, MeetsRequest, done_answer, opening, request_of}
-use Rattle.rds_lines.specs.Simulated.{IsGroup, LeadsTo, LineLeadsTo, StandsFor, answer_of}
-use Rattle.rds_lines.specs.declared.answer.Answer.{Answer}
-use Rattle.rds_lines.specs.declared.answer.Answer.TheVariants.{Done, Refused}
+use Rattle.rds_output.specs.Output.{fault_line}
+use Rattle.rds_lines.specs.Sim.{Group, IsSimOutput, MayBeSimulated, MeetsBytes, MeetsFirst, MeetsLines, MeetsRequest, done_reply, group_after, opening, request_of}
+use Rattle.rds_lines.specs.Simulated.{IsGroup, LeadsTo, LineLeadsTo, StandsFor, reply_of}
+use Rattle.rds_output.specs.declared.reply.Reply.{Reply}
+use Rattle.rds_output.specs.declared.reply.Reply.TheVariants.{Done, Refused}
 use Rattle.rds_lines.specs.declared.sim.Request.{Request}
 use Rattle.rds_lines.specs.declared.sim.Request.TheVariants as requests
 
-answered_replicas : (w : World) (s k : ℕ) (q : Option Question) → (answered w s k q).replicas ≡ w.replicas
+answered_replicas : (w : World) (s k : ℕ) (q : Option Question) → (after_answer w s k q).replicas ≡ w.replicas
 answered_replicas w s k None = refl
 answered_replicas w s k (Some q) = refl
 
-taken_replicas : (w : World) (m : Option Reply) → (taken w m).replicas ≡ w.replicas
+taken_replicas : (w : World) (m : Option ModelReply) → (after_take w m).replicas ≡ w.replicas
 taken_replicas w None = refl
 taken_replicas w (Some m) = refl
 
--- no event adds a replica
-replicas_stay : (w : World) (e : Event) → (after w e).replicas ≡ w.replicas
-replicas_stay w (Edit r c) = refl
-replicas_stay w (Save r) = refl
-replicas_stay w (Crash r) = refl
-replicas_stay w (Ask r) = refl
-replicas_stay w (Answering s k) = answered_replicas w s k (slice_get w.asks k)
-replicas_stay w (Take k) = taken_replicas w (slice_get w.answers k)
+one_more : (names : List (List ℕ)) (name : List ℕ) (n : ℕ) → n ≡ length names → suc n ≡ length (names ++ name ∷ [])
+one_more names name n e = (let one = length-append names (name ∷ []) in omega (arith, e, one))
 
-pub happened : (v new : WorldValue) (e : Event) (done : Outcome) (answer : Answer) → ((w : World) → Stands v w → IsAccepted v w e) → ((w : World) → Stands v w → Stands new (after w e))
-    → ((w : World) → Stands v w → IsDone v w e done) → new.roster ≡ v.roster → answer ≡ done_answer new.roster done → (now : Group) → LeadsTo v now e (Ok answer) new
+-- the roster names as many replicas as there are
+stays_whole : (w : World) (roster : RosterValue) (e : Event) → w.replicas ≡ length roster.names → (after w e).replicas ≡ length (roster_after roster e).names
+stays_whole w roster (Edit r c) all = all
+stays_whole w roster (Save r) all = all
+stays_whole w roster (Crash r) all = all
+stays_whole w roster (Ask r) all = all
+stays_whole w roster (Answering s k) all = answered_replicas w s k (slice_get w.asks k) ∙ all
+stays_whole w roster (Take k) all = taken_replicas w (slice_get w.answers k) ∙ all
+stays_whole w roster (Grow r name) all = one_more roster.names name w.replicas all
+
+pub happened : (v new : WorldValue) (e : Event) (done : Outcome) (answer : Reply) → ((w : World) → Stands v w → IsAccepted v w e) → ((w : World) → Stands v w → Stands new (after w e))
+    → ((w : World) → Stands v w → IsDone v w e done) → new.roster ≡ roster_after v.roster e → answer ≡ done_reply new.roster done → (now : Group) → LeadsTo v now e (Ok answer) new
 happened v new e done answer accepted stands is_done same told now h =
-    let roster : new.roster ≡ now.roster = same ∙ h.roster in (
-      record now { world = after now.world e },
-      record { stands = stands now.world h.stands; roster = roster; whole = replicas_stay now.world e ∙ h.whole },
+    let roster : new.roster ≡ roster_after now.roster e = same ∙ ap (λ (r : RosterValue). roster_after r e) h.roster in (
+      group_after now e,
+      record { stands = stands now.world h.stands; roster = roster; whole = stays_whole now.world now.roster e h.whole },
       record {
         value = v;
         stands = h.stands;
@@ -58,7 +63,7 @@ happened v new e done answer accepted stands is_done same told now h =
           accepted = accepted now.world h.stands;
           outcome = done;
           done = is_done now.world h.stands;
-          told = told ∙ ap (λ (r : RosterValue). done_answer r done) roster;
+          told = told ∙ ap (λ (r : RosterValue). done_reply r done) roster;
           next_is = refl;
         });
       },
@@ -79,11 +84,11 @@ asked_here v line due is now h = sym is ∙ ap (λ (r : RosterValue). request_of
 pub line_refused : (v : WorldValue) (line : Line) (fault : Fault) → request_of v.roster line ≡ Err fault → (now : Group) → LineLeadsTo (Some v) (Some now) line (Err fault) (Some v)
 line_refused v line fault is now h = (Some now, h, inr (subst (λ (r : Result Request Fault). MeetsRequest now r (Refused fault) (Some now)) (asked_here v line (Err fault) is now h) (refl, refl)))
 
-pub line_happens : (v new : WorldValue) (line : Line) (e : Event) (result : Result Answer Fault) → request_of v.roster line ≡ Ok (requests.Event e) → ((now : Group) → LeadsTo v now e result new)
+pub line_happens : (v new : WorldValue) (line : Line) (e : Event) (result : Result Reply Fault) → request_of v.roster line ≡ Ok (requests.Event e) → ((now : Group) → LeadsTo v now e result new)
     → (now : Group) → LineLeadsTo (Some v) (Some now) line result (Some new)
 line_happens v new line e result is leads now h =
     let m = leads now h in
-    (Some m.0, m.1, inr (subst (λ (r : Result Request Fault). MeetsRequest now r (answer_of result) (Some m.0)) (asked_here v line (Ok (requests.Event e)) is now h) m.2))
+    (Some m.0, m.1, inr (subst (λ (r : Result Request Fault). MeetsRequest now r (reply_of result) (Some m.0)) (asked_here v line (Ok (requests.Event e)) is now h) m.2))
 
 nothing_there : (xs : List ReplicaValue) (i : ℕ) → slice_get xs i ≡ None → length xs ≤ i
 nothing_there xs i none = elim (slice_get_cases xs i).1 [
@@ -94,8 +99,8 @@ nothing_there xs i none = elim (slice_get_cases xs i).1 [
     some_isnt_none : (m : ReplicaValue) → Some m ≡ None → ⊥
     some_isnt_none m e = absurd cc
 
-pub line_shows : (v : WorldValue) (line : Line) (number : ℕ) (path : List (List ℕ)) (result : Result Answer Fault) → request_of v.roster line ≡ Ok (requests.Show number path)
-    → IfOk result (λ answer. (replica : ReplicaValue) × (slice_get v.memory number ≡ Some replica) × ShowsView replica.state path answer)
+pub line_shows : (v : WorldValue) (line : Line) (number : ℕ) (path : List (List ℕ)) (result : Result Reply Fault) → request_of v.roster line ≡ Ok (requests.Show number path)
+    → IfOk result (λ answer. (replica : ReplicaValue) × (slice_get v.memory number ≡ Some replica) × ShowsView Compact replica.state path answer)
     → IfErr result (λ fault. (fault ≡ Memory) ⊎ ((fault ≡ NoSuch) × (slice_get v.memory number ≡ None)))
     → (now : Group) → LineLeadsTo (Some v) (Some now) line result (Some v)
 line_shows v line number path (Ok answer) is ok err now h =
@@ -116,20 +121,20 @@ line_shows v line number path (Err fault) is ok err now h =
 
 -- ---- a line, whether there is a group or none
 
-world_opens : (roster : RosterValue) (world : WorldValue) → (world.roster ≡ roster) × Stands world (start (length roster.names)) → LineLeadsTo None None (lines.Roster roster) (Ok Done) (Some world)
+world_opens : (roster : RosterValue) (world : WorldValue) → (world.roster ≡ roster) × Stands world (start roster.names) → LineLeadsTo None None (lines.Roster roster) (Ok Done) (Some world)
 world_opens roster world h none = (Some (opening roster), record { stands = h.1; roster = h.0; whole = refl }, inr (refl, refl))
 
-pub worlds_open : (roster : RosterValue) (opened : Result WorldValue Fault) → IfOk opened (λ world. Stands world (start (length roster.names))) → IfOk opened (λ world. world.roster ≡ roster)
+pub worlds_open : (roster : RosterValue) (opened : Result WorldValue Fault) → IfOk opened (λ world. Stands world (start roster.names)) → IfOk opened (λ world. world.roster ≡ roster)
     → IfOk opened (λ world. LineLeadsTo None None (lines.Roster roster) (Ok Done) (Some world))
 worlds_open roster (Ok world) stands same = world_opens roster world (same, stands)
 worlds_open roster (Err fault) stands same = tt
 
 -- a line's answer, and what is written for those after it
-pub first_met : (bytes : List ℕ) (lines : List (List ℕ)) (out : List ℕ) (refused : Bool) (result : Result Answer Fault) (new : Option WorldValue) (now : Option Group)
-    → (next : Option Group) × IsGroup new next × MeetsBytes now bytes (answer_of result) next → ((next : Option Group) → IsGroup new next → MeetsLines lines next out refused)
-    → MeetsFirst now bytes (MeetsLines lines) (answer_line (answer_of result) ++ out) (is_refusal (answer_of result) || refused)
+pub first_met : (bytes : List ℕ) (lines : List (List ℕ)) (out : List ℕ) (refused : Bool) (result : Result Reply Fault) (new : Option WorldValue) (now : Option Group)
+    → (next : Option Group) × IsGroup new next × MeetsBytes now bytes (reply_of result) next → ((next : Option Group) → IsGroup new next → MeetsLines lines next out refused)
+    → MeetsFirst now bytes (MeetsLines lines) (reply_line (reply_of result) ++ out) (is_refusal (reply_of result) || refused)
 first_met bytes lines out refused result new now m later = record {
-  answer = answer_of result;
+  answer = reply_of result;
   next = m.0;
   met = m.2;
   rest = out;

@@ -11,8 +11,8 @@ use Rattle.rds_keep.specs.Parts.{AppendsFront, AppendsPart}
 use Rattle.rds_lines.specs.Lines.{IsOneLine, ReadsText, ended_lines, until_newline, lines_in}
 use Rattle.rds_lines.specs.Ahead.{IsOfSomeLine, LosesPiece, TakesLine}
 use Rattle.rds_lines.specs.Answering.{AreLinesOf, WritesCut, WritesFront}
-use Rattle.rds_lines.specs.Output.{Writes, fault_line}
-use Rattle.rds_lines.proofs.Beginnings.{front_after}
+use Rattle.rds_output.specs.Output.{Writes, fault_line}
+use Rattle.rds_output.proofs.Beginnings.{front_after}
 use Rattle.rds_lines.proofs.EndedLines.{AreEnded, ended_none, halves, last_line, none_ended, one_more_ended}
 use Rattle.rds_lines.proofs.Answered.{or_assoc}
 use Rattle.rds_lines.proofs.Pieces.{line_is_one}

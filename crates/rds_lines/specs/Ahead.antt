@@ -11,8 +11,8 @@ abbrev pub left_of : List ℕ → ℕ → ℕ
 left_of bytes reads = reads * 8193 + length bytes
 
 -- what is still to be taken: the bytes that were read, and those that the reader holds
-abbrev pub untaken : List ℕ → Option (List ℕ) → Option (List ℕ)
-untaken bytes held = prepend_known bytes held
+abbrev pub bytes_untaken : List ℕ → Option (List ℕ) → Option (List ℕ)
+bytes_untaken bytes held = prepend_known bytes held
 
 -- the bytes of a line so far, or why they aren't held
 abbrev pub IsHeld : List ℕ → Result (Vec ℕ) Fault → Type 0

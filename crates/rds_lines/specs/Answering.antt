@@ -1,37 +1,22 @@
 -- What is written for the lines of an input.
-use Rattle.std.specs.Prelude.{◌≡◌, ◌⊎◌, ℕ, Bool, List, [], ◌∷◌, ◌++◌, Option, Result, Ok, Err, if◌then◌else◌}
+use Rattle.std.specs.Prelude.{◌≡◌, ◌⊎◌, ℕ, Bool, List, [], ◌++◌, Option, if◌then◌else◌}
 use Rattle.std.specs.Io.KnownBytes.{Appends, Consumes, IsAtEnd}
-use Rattle.rds_names.specs.declared.fault.Fault.{Fault}
 use Rattle.rds_keep.specs.Parts.{AppendsFront}
-use Rattle.rds_lines.specs.Output.{fault_line, fault_status}
-use Rattle.rds_lines.specs.Answer.{answer_text}
 use Rattle.rds_lines.specs.Lines.{ended_lines, lines_in}
-use Rattle.rds_lines.specs.declared.answer.Answer.{Answer}
-
--- an answer and its newline
-abbrev pub answer_line : Answer → List ℕ
-answer_line answer = answer_text answer ++ 10 ∷ []
-
--- the line of an answer, or of a fault
-abbrev pub line_for : Result Answer Fault → List ℕ
-line_for (Ok answer) = answer_line answer
-line_for (Err fault) = fault_line fault
-
--- an answer's line was written, or a fault's, and nothing else, and its status is answered
-abbrev pub WritesAnswer : Result Answer Fault → Option (List ℕ) → Option (List ℕ) → ℕ → Type 0
-WritesAnswer (Ok answer) before after status = Appends before after (answer_line answer) × (status ≡ 0)
-WritesAnswer (Err fault) before after status = Appends before after (fault_line fault) × (status ≡ fault_status fault)
 
 -- such answers were written, and nothing else; the status is 1 where a line was refused
 abbrev pub WritesAnswers : (List ℕ → Bool → Type 0) → Option (List ℕ) → Option (List ℕ) → ℕ → Type 0
-WritesAnswers may before after status = (out : List ℕ) × (refused : Bool) × may out refused × Appends before after out × (status ≡ (if refused then 1 else 0))
+WritesAnswers may before after status =
+    (out : List ℕ) × (refused : Bool) × may out refused × Appends before after out
+    × (status ≡ (if refused then 1 else 0))
 
 -- of what a reader gave that now holds this: all lines that have their newline; or all, where it was at its end
 abbrev pub AreLinesOf : Option (List ℕ) → List ℕ → List (List ℕ) → Type 0
 AreLinesOf now given lines = ((lines ≡ lines_in given) × IsAtEnd now) ⊎ (lines ≡ ended_lines given)
 
 -- what the lines of all that the reader gave up may be answered was written, then this line, and nothing else
-pub record WritesCut (may : List (List ℕ) → List ℕ → Bool → Type 0) (line : List ℕ) (first now before after : Option (List ℕ)) : Type 0 where
+pub record WritesCut (may : List (List ℕ) → List ℕ → Bool → Type 0) (line : List ℕ)
+    (first now before after : Option (List ℕ)) : Type 0 where
   pub given : List ℕ
   pub is_given : Consumes first now given
   pub lines : List (List ℕ)
@@ -41,9 +26,10 @@ pub record WritesCut (may : List (List ℕ) → List ℕ → Bool → Type 0) (l
   pub answered : may lines out refused
   pub is_written : Appends before after (out ++ line)
 
--- a beginning of what the first lines that the reader gave may be answered was written, and nothing else; or, where the reader
--- failed, of what all its lines may be answered, and of this line
-pub record WritesFront (may : List (List ℕ) → List ℕ → Bool → Type 0) (line : List ℕ) (IsCut : Type 0) (first now before after : Option (List ℕ)) : Type 0 where
+-- a beginning of what the first lines that the reader gave may be answered was written, and nothing else; or, where the
+-- reader failed, of what all its lines may be answered, and of this line
+pub record WritesFront (may : List (List ℕ) → List ℕ → Bool → Type 0) (line : List ℕ) (IsCut : Type 0)
+    (first now before after : Option (List ℕ)) : Type 0 where
   pub given : List ℕ
   pub is_given : Consumes first now given
   pub lines : List (List ℕ)

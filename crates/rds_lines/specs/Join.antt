@@ -42,12 +42,14 @@ abbrev pub JoinedTo : ReplicaValue → ReplicaValue → Result ReplicaValue Faul
 JoinedTo v w (Ok both) = IsJoined v w both
 JoinedTo v w (Err WrongGroup) = v.roster.group ≢ w.roster.group
 JoinedTo v w (Err WrongRoster) = (v.roster.group ≡ w.roster.group) × (v.roster.names ≢ w.roster.names)
-JoinedTo v w (Err (Conflict replica seq)) = (v.roster ≡ w.roster) × IsFirstConflict v.state.lives w.state.lives (record { replica = replica; seq = seq })
+JoinedTo v w (Err (Conflict replica seq)) =
+    (v.roster ≡ w.roster) × IsFirstConflict v.state.lives w.state.lives (record { replica = replica; seq = seq })
 JoinedTo v w (Err _) = ⊥
 
 -- the text of what was joined, where it is within the limit
 abbrev pub TextOfJoined : Result ReplicaValue Fault → Result (List ℕ) Fault → Type 0
-TextOfJoined (Ok both) r = MatchBool (nat_lt LIMIT (length (snapshot_text both))) (r ≡ Err TooLong) (r ≡ Ok (snapshot_text both))
+TextOfJoined (Ok both) r =
+    MatchBool (nat_lt LIMIT (length (snapshot_text both))) (r ≡ Err TooLong) (r ≡ Ok (snapshot_text both))
 TextOfJoined (Err e) r = r ≡ Err e
 
 -- nothing may follow the second line
@@ -60,12 +62,15 @@ AfterSecond rest v (Ok w) r = AfterBoth rest v w r
 AfterSecond rest v (Err e) r = r ≡ Err e
 
 abbrev pub AfterFirst : List ℕ → Result ReplicaValue Fault → Result (List ℕ) Fault → Type 0
-AfterFirst rest (Ok v) r = (second : Result ReplicaValue Fault) × ReadsLine (until_newline rest) second × AfterSecond (after_line rest) v second r
+AfterFirst rest (Ok v) r =
+    (second : Result ReplicaValue Fault) × ReadsLine (until_newline rest) second
+    × AfterSecond (after_line rest) v second r
 AfterFirst rest (Err e) r = r ≡ Err e
 
 -- the first line is read first; a fault of it is the answer
 abbrev pub JoinsTo : List ℕ → Result (List ℕ) Fault → Type 0
-JoinsTo input r = (first : Result ReplicaValue Fault) × ReadsLine (until_newline input) first × AfterFirst (after_line input) first r
+JoinsTo input r =
+    (first : Result ReplicaValue Fault) × ReadsLine (until_newline input) first × AfterFirst (after_line input) first r
 
 -- the same, or memory ran out
 abbrev pub MayJoinTo : List ℕ → Result (List ℕ) Fault → Type 0

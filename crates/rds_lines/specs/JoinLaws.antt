@@ -25,7 +25,8 @@ pub record SpellsBoth (input : List ℕ) (v w : ReplicaValue) : Type 0 where
 abbrev pub IsJoinedOnce : Type 0
 IsJoinedOnce = (v w : ReplicaValue) (a b : Result ReplicaValue Fault) → JoinedTo v w a → JoinedTo v w b → a ≡ b
 
--- whatever is answered for the lines of two snapshots is the text of their join, or why there is none, or memory ran out
+-- whatever is answered for the lines of two snapshots is the text of their join, or why there is none, or memory ran
+-- out
 abbrev pub AnswersSpelled : Type 0
 AnswersSpelled = (input : List ℕ) (v w : ReplicaValue) (joined : Result ReplicaValue Fault) (r : Result (List ℕ) Fault)
     → SpellsBoth input v w → JoinedTo v w joined → MayJoinTo input r → TextOfJoined joined r ⊎ (r ≡ Err Memory)

@@ -1,11 +1,9 @@
 pub mod Ahead
-pub mod Answer
 pub mod Answering
 pub mod Editing
 pub mod Join
 pub mod JoinLaws
 pub mod Lines
-pub mod Output
 pub mod Overview
 pub mod Refusal
 pub mod Run

@@ -12,8 +12,8 @@ use Rattle.rds_codec.specs.StateTexts.{snapshot_text}
 use Rattle.rds_tree.specs.Document.{sums_of}
 use Rattle.rds_tree.specs.Shown.{Shown, shows}
 use Rattle.rds_json.specs.Texts.{texts_data}
-use Rattle.rds_lines.specs.Answer.{answer_text, is_refusal}
-use Rattle.rds_lines.specs.declared.answer.Answer.{Answer}
+use Rattle.rds_output.specs.Reply.{reply_text, is_refusal}
+use Rattle.rds_output.specs.declared.reply.Reply.{Reply}
 use Rattle.rds_lines.specs.declared.overview.Amounts.{Amounts}
 
 -- how many seen dots are dead
@@ -34,21 +34,24 @@ own_name roster own = unwrap_or (slice_get roster.names own) []
 
 -- the group, the own name and all names
 abbrev pub whose_text : RosterValue → ℕ → List ℕ
-whose_text roster own = codes "{\"group\":" ++ compact_text (string roster.group) ++ codes ",\"own\":" ++ compact_text (string (own_name roster own)) ++ codes ",\"names\":" ++ compact_text (texts_data roster.names)
+whose_text roster own =
+    codes "{\"group\":" ++ compact_text (string roster.group) ++ codes ",\"own\":"
+    ++ compact_text (string (own_name roster own)) ++ codes ",\"names\":" ++ compact_text (texts_data roster.names)
 
 abbrev pub much_text : Amounts → List ℕ
 much_text a =
-    codes ",\"live\":" ++ (decimal a.live ++ (codes ",\"dead\":" ++ (decimal a.dead ++ (codes ",\"counters\":" ++ (decimal a.counters
-    ++ (codes ",\"components\":" ++ (decimal a.components ++ (codes ",\"bytes\":" ++ (decimal a.bytes ++ codes "}")))))))))
+    codes ",\"live\":" ++ (decimal a.live ++ (codes ",\"dead\":" ++ (decimal a.dead
+    ++ (codes ",\"counters\":" ++ (decimal a.counters ++ (codes ",\"components\":" ++ (decimal a.components
+    ++ (codes ",\"bytes\":" ++ (decimal a.bytes ++ codes "}")))))))))
 
 abbrev pub overview_text : RosterValue → ℕ → Amounts → List ℕ
 overview_text roster own amounts = whose_text roster own ++ much_text amounts
 
 -- that of a replica
-pub record TellsOverview (r : ReplicaValue) (answer : Answer) : Type 0 where
+pub record TellsOverview (r : ReplicaValue) (answer : Reply) : Type 0 where
   pub amounts : Amounts
   pub are : AreAmounts r amounts
-  pub told : answer_text answer ≡ overview_text r.roster r.own amounts
+  pub told : reply_text answer ≡ overview_text r.roster r.own amounts
   pub done : is_refusal answer ≡ false
 
 -- how many counters a view shows

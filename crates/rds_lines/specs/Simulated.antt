@@ -6,8 +6,8 @@ use Rattle.rds_world.specs.Stands.{Stands}
 use Rattle.rds_world.specs.Stored.{WorldValue}
 use Rattle.rds_world.specs.declared.event.Event.{Event}
 use Rattle.rds_lines.specs.Sim.{Group, MayMeet, MeetsEvent}
-use Rattle.rds_lines.specs.declared.answer.Answer.{Answer}
-use Rattle.rds_lines.specs.declared.answer.Answer.TheVariants.{Refused}
+use Rattle.rds_output.specs.declared.reply.Reply.{Reply}
+use Rattle.rds_output.specs.declared.reply.Reply.TheVariants.{Refused}
 
 -- the group's roster, and a world of the model that they stand for, with all its replicas
 pub record StandsFor (v : WorldValue) (g : Group) : Type 0 where
@@ -22,14 +22,16 @@ IsGroup (Some v) None = ⊥
 IsGroup (Some v) (Some g) = StandsFor v g
 
 -- a fault is answered as a refusal
-abbrev pub answer_of : Result Answer Fault → Answer
-answer_of (Ok answer) = answer
-answer_of (Err fault) = Refused fault
+abbrev pub reply_of : Result Reply Fault → Reply
+reply_of (Ok answer) = answer
+reply_of (Err fault) = Refused fault
 
 -- the replicas stand for a group that the event leads to
-abbrev pub LeadsTo : WorldValue → Group → Event → Result Answer Fault → WorldValue → Type 0
-LeadsTo old g event result new = StandsFor old g → (next : Group) × StandsFor new next × MeetsEvent g event (answer_of result) (Some next)
+abbrev pub LeadsTo : WorldValue → Group → Event → Result Reply Fault → WorldValue → Type 0
+LeadsTo old g event result new =
+    StandsFor old g → (next : Group) × StandsFor new next × MeetsEvent g event (reply_of result) (Some next)
 
 -- the same of a line
-abbrev pub LineLeadsTo : Option WorldValue → Option Group → Line → Result Answer Fault → Option WorldValue → Type 0
-LineLeadsTo old now line result new = IsGroup old now → (next : Option Group) × IsGroup new next × MayMeet now line (answer_of result) next
+abbrev pub LineLeadsTo : Option WorldValue → Option Group → Line → Result Reply Fault → Option WorldValue → Type 0
+LineLeadsTo old now line result new =
+    IsGroup old now → (next : Option Group) × IsGroup new next × MayMeet now line (reply_of result) next

@@ -3,7 +3,7 @@ ghost use Rattle.std.specs.Prelude.{◌≡◌, ◌++◌, ◌<◌, ◌≤◌, Lis
 ghost use Rattle.std.specs.Io.KnownBytes.{IsAtEnd, Keeps};
 ghost use Rattle.rds_names.specs.declared.fault.Fault.TheVariants.{Device};
 ghost use Rattle.rds_keep.specs.Counted.{HasFailed};
-ghost use Rattle.rds_lines.specs.Ahead.{IsHeld, IsOfSomeLine, LosesPiece, TakesLine, left_of, untaken};
+ghost use Rattle.rds_lines.specs.Ahead.{IsHeld, IsOfSomeLine, LosesPiece, TakesLine, left_of, bytes_untaken};
 ghost use Rattle.rds_lines.specs.Lines.{ReadsText, after_line, until_newline};
 
 use crate::lines::split_line;
@@ -61,14 +61,15 @@ impl Ahead {
         alloc: Global,
         reader: &mut Counted<R>,
     ) -> Result<Option<Result<String, Fault>>, Fault>
-        ensures taken { IfOk result (TakesLine (untaken self.old (R.remaining reader.old.inner))
-            (untaken self.new (R.remaining reader.new.inner))) }
+        ensures taken { IfOk result (TakesLine (bytes_untaken self.old (R.remaining reader.old.inner))
+            (bytes_untaken self.new (R.remaining reader.new.inner))) }
         ensures line { IfOk result (λ line. IfSome line IsOfSomeLine) }
         ensures fault { IfErr result (λ e. (e ≡ Device) × HasFailed reader.old reader.new) }
-        ensures piece { IfErr result (λ _. LosesPiece (untaken self.old (R.remaining reader.old.inner))
+        ensures piece { IfErr result (λ _. LosesPiece (bytes_untaken self.old (R.remaining reader.old.inner))
             (R.remaining reader.new.inner)) }
         ensures steady { OnOk result (reader.new.failed ≡ reader.old.failed) }
-        ensures falls { IfOk result (λ line. OnSome line (left_of self.new reader.new.left < left_of self.old reader.old.left)) }
+        ensures falls { IfOk result
+            (λ line. OnSome line (left_of self.new reader.new.left < left_of self.old reader.old.left)) }
     {
         let mut line = Ok(Vec::new(alloc));
         let mut begun = false;
@@ -88,11 +89,11 @@ impl Ahead {
 
     // Reads where nothing is ahead.
     fn fill<R: Read>(&mut self, reader: &mut Counted<R>) -> Result<(), Fault>
-        ensures kept { OnOk result (Keeps (untaken self.old (R.remaining reader.old.inner))
-            (untaken self.new (R.remaining reader.new.inner))) }
+        ensures kept { OnOk result (Keeps (bytes_untaken self.old (R.remaining reader.old.inner))
+            (bytes_untaken self.new (R.remaining reader.new.inner))) }
         ensures end { OnOk result (self.new ≡ [] → IsAtEnd (R.remaining reader.new.inner)) }
         ensures fault { IfErr result (λ e. (e ≡ Device) × HasFailed reader.old reader.new) }
-        ensures unread { OnErr result (Keeps (untaken self.old (R.remaining reader.old.inner))
+        ensures unread { OnErr result (Keeps (bytes_untaken self.old (R.remaining reader.old.inner))
             (R.remaining reader.new.inner)) }
         ensures steady { OnOk result (reader.new.failed ≡ reader.old.failed) }
         ensures falls { OnOk result (left_of self.new reader.new.left ≤ left_of self.old reader.old.left) }

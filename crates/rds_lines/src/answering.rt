@@ -4,13 +4,12 @@ ghost use Rattle.rds_names.specs.declared.fault.Fault.TheVariants.{Device};
 ghost use Rattle.rds_keep.specs.Counted.{HasFailed};
 ghost use Rattle.rds_lines.specs.Answering.{WritesAnswers, WritesCut, WritesFront};
 ghost use Rattle.rds_lines.specs.Lines.{lines_in};
-ghost use Rattle.rds_lines.specs.Output.{fault_line};
+ghost use Rattle.rds_output.specs.Output.{fault_line};
 
 use crate::ahead::Ahead;
-use crate::answer::Answer;
-use crate::output::write_fault;
 use rds_keep::Counted;
 use rds_names::Fault;
+use rds_output::{Reply, write_fault};
 use std::alloc::Global;
 use std::io::{Read, Write};
 
@@ -18,17 +17,16 @@ use std::io::{Read, Write};
 /// on: all that is written, and whether one of them is refused.
 pub trait Answers {
     ghost use Rattle.std.specs.Prelude.{◌≡◌, ◌++◌, ◌∷◌, ◌||◌, [], ℕ, Bool, false, List};
-    ghost use Rattle.rds_lines.specs.Answer.{is_refusal};
-    ghost use Rattle.rds_lines.specs.Answering.{answer_line};
+    ghost use Rattle.rds_output.specs.Reply.{is_refusal, reply_line};
     ghost use Rattle.rds_lines.specs.Lines.{ReadsText};
 
     ghost may_answer: { Self → List (List ℕ) → List ℕ → Bool → Type 0 };
 
     /// Answers a line, by its text or why there is none.
-    fn answer(&mut self, alloc: Global, line: Result<String, Fault>) -> Answer
+    fn answer(&mut self, alloc: Global, line: Result<String, Fault>) -> Reply
         ensures { (bytes : List ℕ) (lines : List (List ℕ)) (out : List ℕ) (refused : Bool)
             → ReadsText bytes line → may_answer self.new lines out refused
-            → may_answer self.old (bytes ∷ lines) (answer_line result ++ out) (is_refusal result || refused) };
+            → may_answer self.old (bytes ∷ lines) (reply_line result ++ out) (is_refusal result || refused) };
 
     /// Where no line is left nothing is written.
     ghost ends: { (a : Self) → may_answer a [] [] false };

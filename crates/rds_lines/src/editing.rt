@@ -3,27 +3,27 @@ ghost use Rattle.std.specs.Prelude.{◌≡◌, ◌≢◌, ◌≤◌, ◌⊎◌, 
 ghost use Rattle.rds_names.specs.declared.fault.Fault.TheVariants.{BadLine, Memory};
 ghost use Rattle.rds_lines.specs.Editing.{EditsLines, IsEdited, MeetsEdit, WritesAll, edit_of_bytes, edit_refusal};
 ghost use Rattle.rds_lines.specs.Lines.{is_text_line, lines_in};
-ghost use Rattle.rds_lines.specs.Simulated.{answer_of};
+ghost use Rattle.rds_lines.specs.Simulated.{reply_of};
 
 use crate::ahead::LINE_LIMIT;
-use crate::answer::Answer;
 use crate::lines::split_line;
 use rds_dots::DotSet;
 use rds_json::edit;
 use rds_keep::Counted;
 use rds_names::Fault;
+use rds_output::Reply;
 use rds_tree::Index;
 use std::alloc::Global;
 use std::io::Write;
 
-/// Edits a replica as the lines of an input say, one after the other, and answers each. A line that is refused changes nothing,
-/// and the next is gone on with. Where there is no memory for the answers it is `Memory`, and the replica is as the lines so far
-/// left it.
+/// Edits a replica as the lines of an input say, one after the other, and answers each. A line that is refused changes
+/// nothing, and the next is gone on with. Where there is no memory for the answers it is `Memory`, and the replica is
+/// as the lines so far left it.
 pub fn edit_lines<S: DotSet>(
     alloc: Global,
     index: &mut Index<S>,
     input: &[u8],
-) -> Result<Vec<Answer>, Fault>
+) -> Result<Vec<Reply>, Fault>
     ensures edited { IfOk result (λ answers. EditsLines (lines_in input.now) index.old index.new answers.items) }
     ensures memory { IfErr result (λ fault. fault ≡ Memory) }
 {
@@ -40,23 +40,23 @@ pub fn edit_lines<S: DotSet>(
 }
 
 // Edits a replica as a line says, and answers it.
-fn answer_to<S: DotSet>(alloc: Global, index: &mut Index<S>, line: &[u8]) -> Answer
+fn answer_to<S: DotSet>(alloc: Global, index: &mut Index<S>, line: &[u8]) -> Reply
     ensures { MeetsEdit line.now index.old result index.new }
 {
     match edited(alloc, index, line) {
         Ok(answer) => answer,
-        Err(fault) => Answer::Refused(fault),
+        Err(fault) => Reply::Refused(fault),
     }
 }
 
 // Edits a replica as a line says, or refuses it.
-fn edited<S: DotSet>(alloc: Global, index: &mut Index<S>, line: &[u8]) -> Result<Answer, Fault>
-    ensures { MeetsEdit line.now index.old (answer_of result) index.new }
+fn edited<S: DotSet>(alloc: Global, index: &mut Index<S>, line: &[u8]) -> Result<Reply, Fault>
+    ensures { MeetsEdit line.now index.old (reply_of result) index.new }
 {
     let text = text_of(line)?;
     let command = edit(alloc, text)?;
     let edited = index.edit(command)?;
-    Ok(Answer::of_edit(index.replica().roster(), &edited))
+    Ok(Reply::of_edit(index.replica().roster(), &edited))
 }
 
 // The text of a line.
@@ -74,24 +74,19 @@ fn text_of(line: &[u8]) -> Result<&str, Fault>
 }
 
 /// Writes answers, a line each, and answers the status: 0, or 1 where one is a refusal or a call of the writer fails.
-pub fn write_answers<W: Write>(writer: &mut Counted<W>, answers: &[Answer]) -> u8
+pub fn write_replies<W: Write>(writer: &mut Counted<W>, answers: &[Reply]) -> u8
     ensures written { writer.new.failed ≡ 0
         → WritesAll answers.now (W.contents writer.old.inner) (W.contents writer.new.inner) result }
     ensures status { result ≤ 1 }
     ensures broken { (writer.new.failed ≡ writer.old.failed) ⊎ (result ≡ 1) }
 {
     let mut refused = false;
-    let mut rest = answers;
-    'answers: loop {
-        let (answer, later) = match rest.split_first() {
-            Some(parts) => parts,
-            None => return if refused { 1 } else { 0 },
-        };
+    'answers: for answer in answers {
         refused |= answer.is_refusal();
         match answer.write_to(writer) {
             Ok(()) => (),
             Err(_) => return 1,
         }
-        rest = later;
     }
+    if refused { 1 } else { 0 }
 }

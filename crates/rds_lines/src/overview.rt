@@ -8,13 +8,13 @@ ghost use Rattle.rds_tree.specs.Document.{sums_of};
 ghost use Rattle.rds_tree.specs.Shown.{shown};
 ghost use Rattle.rds_lines.specs.Overview.{AreAmounts, TellsOverview, dead_count, much_text, overview_text, own_name, sum_count};
 
-use crate::answer::Answer;
 use rds_codec::encode_snapshot;
 use rds_dots::DotSet;
 use rds_json::{show_names, show_text};
 use rds_keep::Kept;
 use rds_life::Lives;
 use rds_names::{Fault, Path};
+use rds_output::Reply;
 use rds_state::{Replica, State};
 use rds_tree::{View, view};
 use std::alloc::Global;
@@ -29,15 +29,15 @@ pub struct Amounts {
     bytes: u64,
 }
 
-/// Tells whose replica this is and how much there is of it: its live entries, dots of dead ones, counters and components, and
-/// the bytes of its snapshot.
-pub fn describe<S: DotSet>(alloc: Global, kept: &Kept<S>) -> Result<Answer, Fault>
+/// Tells whose replica this is and how much there is of it: its live entries, dots of dead ones, counters and
+/// components, and the bytes of its snapshot.
+pub fn describe<S: DotSet>(alloc: Global, kept: &Kept<S>) -> Result<Reply, Fault>
     ensures told { IfOk result (TellsOverview kept.now) }
     ensures memory { IfErr result (λ fault. fault ≡ Memory) }
 {
     let replica = kept.view_of();
     let amounts = amounts_of(alloc, replica)?;
-    Ok(Answer::Shown(overview_line(alloc, replica, amounts)?))
+    Ok(Reply::Shown(overview_line(alloc, replica, amounts)?))
 }
 
 // How much there is of a replica that can be kept.
@@ -124,7 +124,8 @@ fn much_text(alloc: Global, amounts: Amounts) -> Result<String, Fault>
 
 // The replica's own name.
 fn show_own<S: DotSet>(alloc: Global, replica: &Replica<S>) -> Result<String, Fault>
-    ensures ok { IfOk result (λ shown. string_bytes shown ≡ compact_text (string (own_name replica.now.roster replica.now.own))) }
+    ensures ok { IfOk result
+        (λ shown. string_bytes shown ≡ compact_text (string (own_name replica.now.roster replica.now.own))) }
     ensures memory { IfErr result (λ fault. fault ≡ Memory) }
 {
     match replica.roster().name_of(replica.own()) {

@@ -4,17 +4,17 @@ ghost use Rattle.rds_names.specs.declared.fault.Fault.TheVariants.{Device};
 ghost use Rattle.rds_keep.specs.Counted.{HasFailed};
 ghost use Rattle.rds_keep.specs.Parts.{AppendsFront};
 ghost use Rattle.rds_lines.specs.Answering.{WritesAnswers, WritesCut, WritesFront};
-ghost use Rattle.rds_lines.specs.Output.{Writes, fault_line};
+ghost use Rattle.rds_output.specs.Output.{Writes, fault_line};
 ghost use Rattle.rds_lines.specs.Refusal.{fault_of};
 ghost use Rattle.rds_lines.specs.Run.{WritesJoin, WritesJoinFront, IsJoinLine};
 ghost use Rattle.rds_lines.specs.Sim.{IsSimOutput, MayBeSimulated};
 
 use crate::answering::answer_lines;
 use crate::join::join;
-use crate::output::{status_of, write_fault};
 use crate::refusal::Refusal;
 use crate::sim::Simulation;
 use rds_keep::Counted;
+use rds_output::{status_of, write_fault};
 use std::alloc::Global;
 use std::io::{Read, Write};
 

@@ -3,17 +3,17 @@ ghost use Rattle.std.specs.Prelude.{◌≡◌, ◌⊎◌, List, ℕ, Ok, Err, So
 ghost use Rattle.rds_names.specs.declared.fault.Fault.TheVariants.{Memory, NoSuch};
 ghost use Rattle.rds_lines.specs.Views.{ShowsView};
 ghost use Rattle.rds_lines.specs.Lines.{ReadsText};
-ghost use Rattle.rds_lines.specs.Sim.{Group, MeetsBytes, done_answer, number_of, request_of};
-ghost use Rattle.rds_lines.specs.Simulated.{IsGroup, LeadsTo, LineLeadsTo, answer_of};
+ghost use Rattle.rds_lines.specs.Sim.{Group, MeetsBytes, done_reply, number_of, request_of};
+ghost use Rattle.rds_lines.specs.Simulated.{IsGroup, LeadsTo, LineLeadsTo, reply_of};
 ghost use Rattle.rds_state.specs.Fits.{ReplicaValue};
 
-use crate::answer::Answer;
 use crate::answering::Answers;
-use crate::views::printed;
+use crate::views::{Layout, printed};
 use rds_dots::DotSet;
 use rds_gaps::GapSet;
 use rds_json::{Line, command};
 use rds_names::{Fault, Name, Path, Roster};
+use rds_output::Reply;
 use rds_world::{Done, Event, World};
 use std::alloc::Global;
 
@@ -41,9 +41,9 @@ impl Simulation {
     }
 
     // Answers a line, or refuses it.
-    fn answered(&mut self, alloc: Global, line: Result<String, Fault>) -> Result<Answer, Fault>
+    fn answered(&mut self, alloc: Global, line: Result<String, Fault>) -> Result<Reply, Fault>
         ensures { (bytes : List ℕ) (now : Option Group) → ReadsText bytes line → IsGroup self.old.world now
-            → (next : Option Group) × IsGroup self.new.world next × MeetsBytes now bytes (answer_of result) next }
+            → (next : Option Group) × IsGroup self.new.world next × MeetsBytes now bytes (reply_of result) next }
     {
         let text = line?;
         let line = command(alloc, text.as_str())?;
@@ -51,14 +51,14 @@ impl Simulation {
     }
 
     // Does what a line asks for.
-    fn meet(&mut self, alloc: Global, line: Line) -> Result<Answer, Fault>
+    fn meet(&mut self, alloc: Global, line: Line) -> Result<Reply, Fault>
         ensures { (now : Option Group) → LineLeadsTo self.old.world now line result self.new.world }
     {
         match &mut self.world {
             Some(world) => meet_in(alloc, world, line),
             None => {
                 self.world = Some(open(alloc, line)?);
-                Ok(Answer::Done)
+                Ok(Reply::Done)
             }
         }
     }
@@ -71,10 +71,10 @@ impl Answers for Simulation {
 
     ghost may_answer = { λ s lines out refused. (now : Option Group) → IsGroup s.world now → MeetsLines lines now out refused };
 
-    fn answer(&mut self, alloc: Global, line: Result<String, Fault>) -> Answer {
+    fn answer(&mut self, alloc: Global, line: Result<String, Fault>) -> Reply {
         match self.answered(alloc, line) {
             Ok(answer) => answer,
-            Err(fault) => Answer::Refused(fault),
+            Err(fault) => Reply::Refused(fault),
         }
     }
 
@@ -83,7 +83,7 @@ impl Answers for Simulation {
 
 // The replicas of the first line's roster.
 fn open<S: DotSet>(alloc: Global, line: Line) -> Result<World<S>, Fault>
-    ensures ok { IfOk result (λ world. LineLeadsTo None None line (Ok Answer.Done) (Some world)) }
+    ensures ok { IfOk result (λ world. LineLeadsTo None None line (Ok Reply.Done) (Some world)) }
     ensures err { IfErr result (λ fault. LineLeadsTo None None line (Err fault) None) }
 {
     match line {
@@ -93,7 +93,7 @@ fn open<S: DotSet>(alloc: Global, line: Line) -> Result<World<S>, Fault>
 }
 
 // Does what a line asks of these replicas.
-fn meet_in<S: DotSet>(alloc: Global, world: &mut World<S>, line: Line) -> Result<Answer, Fault>
+fn meet_in<S: DotSet>(alloc: Global, world: &mut World<S>, line: Line) -> Result<Reply, Fault>
     ensures { (now : Group) → LineLeadsTo (Some world.old) (Some now) line result (Some world.new) }
 {
     match request_of(world.roster(), line)? {
@@ -114,6 +114,9 @@ fn request_of(roster: &Roster, line: Line) -> Result<Request, Fault>
         Line::Ask(name) => Request::Event(Event::Ask(number_of(roster, name)?)),
         Line::Answer(name, ask) => Request::Event(Event::Answer(number_of(roster, name)?, ask)),
         Line::Take(answer) => Request::Event(Event::Take(answer)),
+        Line::Grow(name, newcomer) => {
+            Request::Event(Event::Grow(number_of(roster, name)?, newcomer))
+        }
         Line::Show(name, path) => Request::Show(number_of(roster, name)?, path),
     })
 }
@@ -128,22 +131,22 @@ fn number_of(roster: &Roster, name: Name) -> Result<u8, Fault>
 }
 
 // Lets an event happen, and answers what it did.
-fn happen<S: DotSet>(alloc: Global, world: &mut World<S>, event: &Event) -> Result<Answer, Fault>
+fn happen<S: DotSet>(alloc: Global, world: &mut World<S>, event: &Event) -> Result<Reply, Fault>
     ensures { (now : Group) → LeadsTo world.old now event.now result world.new }
 {
     let done = world.step(alloc, event)?;
-    Ok(done_answer(world.roster(), &done))
+    Ok(done_reply(world.roster(), &done))
 }
 
 // The answer to an event that happened.
-fn done_answer(roster: &Roster, done: &Done) -> Answer
-    ensures { result ≡ done_answer roster.now done.now }
+fn done_reply(roster: &Roster, done: &Done) -> Reply
+    ensures { result ≡ done_reply roster.now done.now }
 {
     match done {
-        Done::Edited(edited) => Answer::of_edit(roster, edited),
-        Done::Plain => Answer::Done,
-        Done::Asked(number) => Answer::Asked(*number),
-        Done::Answered(number, components) => Answer::Answered {
+        Done::Edited(edited) => Reply::of_edit(roster, edited),
+        Done::Plain => Reply::Done,
+        Done::Asked(number) => Reply::Asked(*number),
+        Done::Answered(number, components) => Reply::Answered {
             number: *number,
             components: *components,
         },
@@ -151,15 +154,13 @@ fn done_answer(roster: &Roster, done: &Done) -> Answer
 }
 
 // Shows what a replica has in memory at a path.
-fn show<S: DotSet>(
-    alloc: Global,
-    world: &World<S>,
-    number: u8,
-    path: &Path,
-) -> Result<Answer, Fault>
-    ensures shown { IfOk result (λ answer. (replica : ReplicaValue) × (slice_get world.now.memory number ≡ Some replica) × ShowsView replica.state path.now answer) }
-    ensures refused { IfErr result (λ fault. (fault ≡ Memory) ⊎ ((fault ≡ NoSuch) × (slice_get world.now.memory number ≡ None))) }
+fn show<S: DotSet>(alloc: Global, world: &World<S>, number: u8, path: &Path) -> Result<Reply, Fault>
+    ensures shown { IfOk result
+        (λ answer. (replica : ReplicaValue) × (slice_get world.now.memory number ≡ Some replica)
+        × ShowsView Layout.Compact replica.state path.now answer) }
+    ensures refused { IfErr result
+        (λ fault. (fault ≡ Memory) ⊎ ((fault ≡ NoSuch) × (slice_get world.now.memory number ≡ None))) }
 {
     let view = world.view(number, path)?;
-    printed(alloc, &view)
+    printed(alloc, &view, Layout::Compact)
 }

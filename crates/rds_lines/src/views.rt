@@ -1,53 +1,58 @@
 //! What documents have at a path, as answers.
-ghost use Rattle.std.specs.Prelude.{◌≡◌, IfErr, IfOk};
-ghost use Rattle.rds_lines.specs.Views.{Prints, PrintsAt, PrintsPretty, ShowsPretty, ShowsView, TellsAt};
+ghost use Rattle.std.specs.Prelude.{◌≡◌, IfErr, IfOk, string_bytes};
+ghost use Rattle.rds_json.specs.Show.{data_of};
+ghost use Rattle.rds_lines.specs.Views.{IsLaidOut, Prints, PrintsAt, ShowsView, TellsAt};
 ghost use Rattle.rds_names.specs.declared.fault.Fault.TheVariants.{Memory};
 ghost use Rattle.rds_tree.specs.Shown.{shown};
 
-use crate::answer::Answer;
 use rds_dots::DotSet;
 use rds_json::{show, show_at, show_pretty};
 use rds_names::{Fault, Key, Path};
+use rds_output::Reply;
 use rds_state::State;
 use rds_tree::{View, view};
 use std::alloc::Global;
 
+/// How JSON is laid out.
+#[derive(Clone, Copy, Debug, PartialEq, Eq)]
+pub enum Layout {
+    /// On one line, without spaces.
+    Compact,
+    /// On many lines, indented.
+    Indented,
+}
+
 /// Shows what a state's document has at a path.
-pub fn shown<S: DotSet>(alloc: Global, state: &State<S>, path: &Path) -> Result<Answer, Fault>
-    ensures shown { IfOk result (ShowsView state.now path.now) }
-    ensures memory { IfErr result (λ fault. fault ≡ Memory) }
-{
-    let view = view(alloc, state, path)?;
-    printed(alloc, &view)
-}
-
-/// Shows a view.
-pub fn printed(alloc: Global, view: &View) -> Result<Answer, Fault>
-    ensures shown { IfOk result (Prints (shown view.now)) }
-    ensures memory { IfErr result (λ fault. fault ≡ Memory) }
-{
-    Ok(Answer::Shown(show(alloc, view)?))
-}
-
-/// Shows what a state's document has at a path, indented.
-pub fn shown_pretty<S: DotSet>(
+pub fn shown<S: DotSet>(
     alloc: Global,
     state: &State<S>,
     path: &Path,
-) -> Result<Answer, Fault>
-    ensures shown { IfOk result (ShowsPretty state.now path.now) }
+    layout: Layout,
+) -> Result<Reply, Fault>
+    ensures shown { IfOk result (ShowsView layout state.now path.now) }
     ensures memory { IfErr result (λ fault. fault ≡ Memory) }
 {
-    let shape = view(alloc, state, path)?;
-    printed_pretty(alloc, &shape)
+    let view = view(alloc, state, path)?;
+    printed(alloc, &view, layout)
 }
 
-// Shows a view, indented.
-fn printed_pretty(alloc: Global, view: &View) -> Result<Answer, Fault>
-    ensures shown { IfOk result (PrintsPretty (shown view.now)) }
+/// Shows a view.
+pub fn printed(alloc: Global, view: &View, layout: Layout) -> Result<Reply, Fault>
+    ensures shown { IfOk result (Prints layout (shown view.now)) }
     ensures memory { IfErr result (λ fault. fault ≡ Memory) }
 {
-    Ok(Answer::Shown(show_pretty(alloc, view)?))
+    Ok(Reply::Shown(laid_out(alloc, view, layout)?))
+}
+
+// The JSON of a view.
+fn laid_out(alloc: Global, view: &View, layout: Layout) -> Result<String, Fault>
+    ensures text { IfOk result (λ text. IsLaidOut layout (string_bytes text) (data_of (shown view.now))) }
+    ensures memory { IfErr result (λ fault. fault ≡ Memory) }
+{
+    match layout {
+        Layout::Compact => show(alloc, view),
+        Layout::Indented => show_pretty(alloc, view),
+    }
 }
 
 /// Shows what stands at a key below a path of a state's document.
@@ -56,7 +61,7 @@ pub fn shown_at<S: DotSet>(
     state: &State<S>,
     above: &Path,
     key: &Key,
-) -> Result<Answer, Fault>
+) -> Result<Reply, Fault>
     ensures shown { IfOk result (TellsAt state.now above.now key.now) }
     ensures memory { IfErr result (λ fault. fault ≡ Memory) }
 {
@@ -65,9 +70,9 @@ pub fn shown_at<S: DotSet>(
 }
 
 // Shows what stands at a key of a view.
-fn printed_at(alloc: Global, view: &View, key: &Key) -> Result<Answer, Fault>
+fn printed_at(alloc: Global, view: &View, key: &Key) -> Result<Reply, Fault>
     ensures shown { IfOk result (PrintsAt (shown view.now) key.now) }
     ensures memory { IfErr result (λ fault. fault ≡ Memory) }
 {
-    Ok(Answer::Shown(show_at(alloc, view, key)?))
+    Ok(Reply::Shown(show_at(alloc, view, key)?))
 }

@@ -10,7 +10,7 @@ use Rattle.rds_words.specs.declared.tasks.EditWords.TheVariants.{Set, Add, Del, 
 use Rattle.rds_words.specs.Commands.{node_app}
 use Rattle.rds_words.specs.Entered.{Names}
 use Rattle.rds_words.specs.Task.{words_in, words_of}
-use Rattle.rds_words.specs.Written.{AreData, HasNames, IsWritable, dashed, is_data, written}
+use Rattle.rds_words.specs.Written.{AreData, HasNames, IsWritable, words_dashed, is_data, words_written}
 use Rattle.rds_words.proofs.CommandWords.{node_on_words}
 use Rattle.rds_words.proofs.Dashed.{Meets, undashed_fault, undashed_rows}
 use Rattle.rds_words.proofs.InitNamed.{init_dashed, init_met}
@@ -167,7 +167,7 @@ init_behind : (name file group own : Text) (names : List (Bor Text)) → (names 
 init_behind name file group own [] has = absurd (has refl)
 init_behind name file group own (n ∷ names) has = init_dashed name file group own n.now (map (λ n. n.now) names)
 
-pub task_dashed : (name : Text) (task : Task) → HasNames task → Names (name ∷ dashed task) (words_of task)
+pub task_dashed : (name : Text) (task : Task) → HasNames task → Names (name ∷ words_dashed task) (words_of task)
 task_dashed name Join has = join_dashed name
 task_dashed name Sim has = sim_dashed name
 task_dashed name (Init words) has = init_behind name words.file.now words.group.now words.own.now words.names.items has
@@ -186,7 +186,7 @@ task_dashed name (Sync words) has = sync_dashed name words.file.now words.addr.n
 task_dashed name (Pair first second) has = pair_dashed name first.now second.now
 task_dashed name (Serve words) has = serve_dashed name words.file.now words.addr.now words.sessions.now words.timeout.now
 
-pub task_written : (name : Text) (task : Task) → IsWritable task → Names (name ∷ written task) (words_of task)
+pub task_written : (name : Text) (task : Task) → IsWritable task → Names (name ∷ words_written task) (words_of task)
 task_written name Join is = undashed name (codes "join") [] _ join_met is.1 (join_dashed name)
 task_written name Sim is = undashed name (codes "sim") [] _ sim_met is.1 (sim_dashed name)
 task_written name (Init words) is = undashed name (codes "init") (words.file.now ∷ words.group.now ∷ words.own.now ∷ map (λ n. n.now) words.names.items) _ init_met is.1

@@ -1,7 +1,7 @@
 -- Words that the walk of a command goes over with no fault.
-use Rattle.std.proofs.Common.{◌≡◌, ◌∙◌, ℕ, List, [], ◌∷◌, codes, true, false, Some, refl, ap, ap₂}
+use Rattle.std.proofs.Common.{◌≡◌, ◌∙◌, ℕ, List, [], ◌∷◌, codes, false, Some, refl, ap, ap₂}
 use Rattle.std.specs.Prelude.{fold}
-use Rattle.clap.specs.Words.{Kinds, Row, Shape, Text}
+use Rattle.clap.specs.Words.{Kinds, Shape, Text}
 use Rattle.clap.specs.Kinds.{or_else}
 use Rattle.clap.specs.Faults.{check_fault, defaults_fault, level_fault, settle_fault, turn_fault, walk_fault}
 use Rattle.clap.specs.Walk.{Held, Walk, finished, idle, nothing_held, settled, walk_from, walked}

@@ -2,7 +2,7 @@
 use Rattle.std.proofs.Common.{◌≡◌, ◌∙◌, List, [], ◌∷◌, codes, true, false, Some, refl, ap}
 use Rattle.clap.specs.Words.{built, Kinds, Shape, Text}
 use Rattle.clap.specs.Kinds.{or_else}
-use Rattle.clap.specs.Walk.{Held, Walk, finished, idle, nothing_held, option, walk_from}
+use Rattle.clap.specs.Walk.{Walk, finished, idle, nothing_held, option, walk_from}
 use Rattle.rds_words.specs.Commands.{node_app}
 use Rattle.rds_words.specs.Entered.{Names}
 use Rattle.rds_words.specs.Task.{words_in}

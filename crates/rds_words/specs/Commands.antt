@@ -64,7 +64,9 @@ command_app name words = fold with_rule (new_app name) words
 
 -- one of the subcommands has to be named, and there is a version
 abbrev pub named_app : App
-named_app = let a = new_app (codes "rds_node") in record a { top = record a.top { subcommand_required = true; has_version = true } }
+named_app =
+    let a = new_app (codes "rds_node") in
+    record a { top = record a.top { subcommand_required = true; has_version = true } }
 
 abbrev pub with_command : App → App → App
 with_command program command = with_subcommand program command.top
@@ -74,7 +76,8 @@ abbrev pub commands : List App
 commands =
     command_app (codes "join") []
     ∷ command_app (codes "sim") []
-    ∷ command_app (codes "init") (file_rule ∷ required_rule (codes "GROUP") ∷ required_rule (codes "OWN") ∷ repeated_rule (codes "NAMES") ∷ [])
+    ∷ command_app (codes "init")
+    (file_rule ∷ required_rule (codes "GROUP") ∷ required_rule (codes "OWN") ∷ repeated_rule (codes "NAMES") ∷ [])
     ∷ command_app (codes "set") (file_rule ∷ path_rule ∷ value_rule ∷ [])
     ∷ command_app (codes "add") (file_rule ∷ path_rule ∷ value_rule ∷ [])
     ∷ command_app (codes "del") (file_rule ∷ path_rule ∷ value_rule ∷ [])

@@ -34,7 +34,9 @@ IsAmount text amount = ParsesUnsigned 64 10 text amount × IfErr amount (λ e. e
 
 -- the command of a key and an amount
 abbrev pub IsCount : (List ℕ → ℕ → Command) → List ℕ → List ℕ → Result Command Fault → Type 0
-IsCount make key by r = MatchResult (key_of key) (λ k. (amount : Result ℕ Fault) × IsAmount by amount × (r ≡ (amount >>= λ n. Ok (make k n)))) (λ e. r ≡ Err e)
+IsCount make key by r =
+    MatchResult (key_of key)
+    (λ k. (amount : Result ℕ Fault) × IsAmount by amount × (r ≡ (amount >>= λ n. Ok (make k n)))) (λ e. r ≡ Err e)
 
 -- the command, or the fault of the first word that is none
 abbrev pub IsCommand : EditWords → Result Command Fault → Type 0
@@ -60,7 +62,8 @@ place_in roster own = placed (position (bytes_eq own) roster.names)
 
 -- a roster and an own number, or the fault of the first word that is none
 abbrev pub roster_in : List ℕ → List ℕ → List (List ℕ) → Result (RosterValue × ℕ) Fault
-roster_in group own names = key_of group >>= λ g. name_of own >>= λ o. names_of names >>= λ ns. roster_of g ns >>= λ r. place_in r o
+roster_in group own names =
+    key_of group >>= λ g. name_of own >>= λ o. names_of names >>= λ ns. roster_of g ns >>= λ r. place_in r o
 
 -- the same, of the words of `init`
 abbrev pub roster_for : InitWords → Result (RosterValue × ℕ) Fault

@@ -22,7 +22,8 @@ edit_words file (Dec key by) = codes "dec" ∷ file ∷ key.now ∷ by.now ∷ [
 abbrev pub words_of : Task → List Text
 words_of Join = codes "join" ∷ []
 words_of Sim = codes "sim" ∷ []
-words_of (Init words) = codes "init" ∷ words.file.now ∷ words.group.now ∷ words.own.now ∷ map (λ n. n.now) words.names.items
+words_of (Init words) =
+    codes "init" ∷ words.file.now ∷ words.group.now ∷ words.own.now ∷ map (λ n. n.now) words.names.items
 words_of (Edit file edit) = edit_words file.now edit
 words_of (EditLines file) = codes "edit" ∷ file.now ∷ []
 words_of (Get file path) = codes "get" ∷ file.now ∷ path.now ∷ []
@@ -36,11 +37,13 @@ words_of (Pair first second) = codes "pair" ∷ first.now ∷ second.now ∷ []
 -- the words under these ids, where each has one
 abbrev pub words_under : List Text → List Row → Option (List Text)
 words_under [] rows = Some []
-words_under (id ∷ ids) rows = option_and_then (λ word. option_map (λ words. word ∷ words) (words_under ids rows)) (first_of id rows)
+words_under (id ∷ ids) rows =
+    option_and_then (λ word. option_map (λ words. word ∷ words) (words_under ids rows)) (first_of id rows)
 
 -- a file and a path, which is the root where none is given
 abbrev pub file_and_path : List Row → Option (List Text)
-file_and_path rows = option_map (λ file. file ∷ unwrap_or (first_of (codes "PATH") rows) [] ∷ []) (first_of (codes "FILE") rows)
+file_and_path rows =
+    option_map (λ file. file ∷ unwrap_or (first_of (codes "PATH") rows) [] ∷ []) (first_of (codes "FILE") rows)
 
 -- whether an option without a value was given
 abbrev pub is_given : Text → List Row → Bool
@@ -48,7 +51,9 @@ is_given id rows = option_map_or (λ word. bytes_eq word (codes "true")) (first_
 
 -- a file and a path, and whether they are shown with indents
 abbrev pub show_words_in : List Row → Option (List Text)
-show_words_in rows = option_map (λ words. words ++ (if is_given (codes "PRETTY") rows then codes "--pretty" ∷ [] else [])) (file_and_path rows)
+show_words_in rows =
+    option_map (λ words. words ++ (if is_given (codes "PRETTY") rows then codes "--pretty" ∷ [] else []))
+    (file_and_path rows)
 
 abbrev pub entry_words_in : List Row → Option (List Text)
 entry_words_in = words_under (codes "FILE" ∷ codes "PATH" ∷ codes "VALUE" ∷ [])
@@ -57,7 +62,9 @@ abbrev pub counter_words_in : List Row → Option (List Text)
 counter_words_in = words_under (codes "FILE" ∷ codes "KEY" ∷ codes "BY" ∷ [])
 
 abbrev pub init_words_in : List Row → Option (List Text)
-init_words_in rows = option_and_then (λ words. option_map (λ names. words ++ names) (all_of (codes "NAMES") rows)) (words_under (codes "FILE" ∷ codes "GROUP" ∷ codes "OWN" ∷ []) rows)
+init_words_in rows =
+    option_and_then (λ words. option_map (λ names. words ++ names) (all_of (codes "NAMES") rows))
+    (words_under (codes "FILE" ∷ codes "GROUP" ∷ codes "OWN" ∷ []) rows)
 
 -- the words behind the name of a command that edits a file's replica
 abbrev pub edit_words_behind : Text → List Row → Option (List Text)
@@ -73,7 +80,8 @@ edit_words_behind name rows =
 -- the words behind the name of a command that makes sessions, or that edits a file's replica
 abbrev pub session_words_behind : Text → List Row → Option (List Text)
 session_words_behind name rows =
-    if bytes_eq name (codes "serve") then words_under (codes "FILE" ∷ codes "ADDR" ∷ codes "SESSIONS" ∷ codes "TIMEOUT" ∷ []) rows
+    if bytes_eq name (codes "serve")
+    then words_under (codes "FILE" ∷ codes "ADDR" ∷ codes "SESSIONS" ∷ codes "TIMEOUT" ∷ []) rows
     else (if bytes_eq name (codes "sync") then words_under (codes "FILE" ∷ codes "ADDR" ∷ codes "TIMEOUT" ∷ []) rows
     else (if bytes_eq name (codes "pair") then words_under (codes "FILE" ∷ codes "PEER" ∷ []) rows
     else edit_words_behind name rows))

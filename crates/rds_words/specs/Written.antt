@@ -14,23 +14,29 @@ is_data (b ∷ bs) = not (b == 45)
 abbrev pub AreData : List Text → Type 0
 AreData words = list_all is_data words ≡ true
 
--- the command, then its words; `serve` and `sync` have some of theirs behind options, and `show` may have one before them
-abbrev pub written : Task → List Text
-written (ShowPretty file path) = codes "show" ∷ codes "--pretty" ∷ file.now ∷ path.now ∷ []
-written (Serve words) = codes "serve" ∷ words.file.now ∷ words.addr.now ∷ codes "--sessions" ∷ words.sessions.now ∷ codes "--timeout" ∷ words.timeout.now ∷ []
-written (Sync words) = codes "sync" ∷ words.file.now ∷ words.addr.now ∷ codes "--timeout" ∷ words.timeout.now ∷ []
-written task = words_of task
+-- the command, then its words; `serve` and `sync` have some of theirs behind options, and `show` may have one before
+-- them
+abbrev pub words_written : Task → List Text
+words_written (ShowPretty file path) = codes "show" ∷ codes "--pretty" ∷ file.now ∷ path.now ∷ []
+words_written (Serve words) =
+    codes "serve" ∷ words.file.now ∷ words.addr.now
+    ∷ codes "--sessions" ∷ words.sessions.now ∷ codes "--timeout" ∷ words.timeout.now ∷ []
+words_written (Sync words) = codes "sync" ∷ words.file.now ∷ words.addr.now ∷ codes "--timeout" ∷ words.timeout.now ∷ []
+words_written task = words_of task
 
 -- two dashes stand between the command, with its options, and its words
 abbrev pub dashes_in : List Text → List Text
 dashes_in [] = []
 dashes_in (command ∷ words) = command ∷ codes "--" ∷ words
 
-abbrev pub dashed : Task → List Text
-dashed (ShowPretty file path) = codes "show" ∷ codes "--pretty" ∷ codes "--" ∷ file.now ∷ path.now ∷ []
-dashed (Serve words) = codes "serve" ∷ (codes "--sessions=" ++ words.sessions.now) ∷ (codes "--timeout=" ++ words.timeout.now) ∷ codes "--" ∷ words.file.now ∷ words.addr.now ∷ []
-dashed (Sync words) = codes "sync" ∷ (codes "--timeout=" ++ words.timeout.now) ∷ codes "--" ∷ words.file.now ∷ words.addr.now ∷ []
-dashed task = dashes_in (words_of task)
+abbrev pub words_dashed : Task → List Text
+words_dashed (ShowPretty file path) = codes "show" ∷ codes "--pretty" ∷ codes "--" ∷ file.now ∷ path.now ∷ []
+words_dashed (Serve words) =
+    codes "serve" ∷ (codes "--sessions=" ++ words.sessions.now) ∷ (codes "--timeout=" ++ words.timeout.now)
+    ∷ codes "--" ∷ words.file.now ∷ words.addr.now ∷ []
+words_dashed (Sync words) =
+    codes "sync" ∷ (codes "--timeout=" ++ words.timeout.now) ∷ codes "--" ∷ words.file.now ∷ words.addr.now ∷ []
+words_dashed task = dashes_in (words_of task)
 
 -- `init` has a name
 abbrev pub HasNames : Task → Type 0

@@ -80,6 +80,7 @@ whole number or a text, BY and K are whole numbers from 0:
   [\"clear\",W,PATH], [\"inc\",W,KEY,BY], [\"dec\",W,KEY,BY]
   [\"save\",W], [\"crash\",W]                      keep the memory; go back to what is kept
   [\"ask\",W], [\"answer\",W,K], [\"take\",K]        a digest; a delta for ask K; take answer K
+  [\"grow\",W,NAME]                              put NAME last in the roster
   [\"show\",W,PATH]                              the document below the path
 Output: one line of JSON for each line. A refused one answers
 {\"fault\":N,\"name\":\"Name\"} and changes nothing, and the next line is read.

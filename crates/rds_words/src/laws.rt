@@ -4,17 +4,18 @@ ghost use Rattle.clap.specs.Words.{Text};
 ghost use Rattle.rds_words.specs.declared.tasks.Task.{Task};
 ghost use Rattle.rds_words.specs.Entered.{Names};
 ghost use Rattle.rds_words.specs.Task.{words_of};
-ghost use Rattle.rds_words.specs.Written.{AreData, HasNames, IsWritable, dashed, written};
+ghost use Rattle.rds_words.specs.Written.{AreData, HasNames, IsWritable, words_dashed, words_written};
 
-/// Which words name a task, whatever the program is called: its command and its words in their order, where none of these
-/// begins with a hyphen, and, whatever they begin with, behind two dashes. A path that is left out is the root. `serve` has
-/// one session where it isn't told how many, and `serve` and `sync` give a silent peer 60 seconds where they aren't told how
-/// long. `show` has its option before its words or behind them. The function does nothing: its contract is these laws.
+/// Which words name a task, whatever the program is called: its command and its words in their order, where none of
+/// these begins with a hyphen, and, whatever they begin with, behind two dashes. A path that is left out is the root.
+/// `serve` has one session where it isn't told how many, and `serve` and `sync` give a silent peer 60 seconds where
+/// they aren't told how long. `show` has its option before its words or behind them. The function does nothing: its
+/// contract is these laws.
 pub fn word_laws()
     ensures written { (name : Text) (task : Task) → IsWritable task
-        → Names (name ∷ written task) (words_of task) }
+        → Names (name ∷ words_written task) (words_of task) }
     ensures dashed { (name : Text) (task : Task) → HasNames task
-        → Names (name ∷ dashed task) (words_of task) }
+        → Names (name ∷ words_dashed task) (words_of task) }
     ensures root_shown { (name : Text) (file : Text) → AreData (file ∷ [])
         → Names (name ∷ codes "show" ∷ file ∷ []) (codes "show" ∷ file ∷ [] ∷ []) }
     ensures pretty_root { (name : Text) (file : Text) → AreData (file ∷ [])

@@ -1,4 +1,5 @@
-//! The command line: words in, the task that they name and what it means out.
+//! The command line: words in, the task that they name and what it means out. Read `tasks`, `table`, `help`, `builders`
+//! and `reading` first, then `meaning`, and last `laws`.
 #![tactic(auto)]
 
 mod builders;

@@ -90,7 +90,8 @@ impl<'a, T: Read + Write + OpenStream + Drop, S: DotSet> End<'a, T, S> {
     /// waits for the other end, which reads only after it.
     pub fn say(&mut self) -> Result<usize, Fault>
         ensures end { StaysEnd self.old.session self.old.ended self.new.session self.new.ended }
-        ensures said { IfOk result (HasSaid self.old self.new (T.contents self.old.stream) (T.contents self.new.stream)) }
+        ensures said { IfOk result
+            (HasSaid self.old self.new (T.contents self.old.stream) (T.contents self.new.stream)) }
         ensures piece { IfOk result (λ count. count ≤ 1024) }
         ensures unsaid { OnErr result (Appends (T.contents self.old.stream) (T.contents self.new.stream) []) }
         ensures failed { OnErr result (self.new ≡ record self.old { stream = self.new.stream; ended = Failed Device }) }
@@ -123,7 +124,8 @@ impl<'a, T: Read + Write + OpenStream + Drop, S: DotSet> End<'a, T, S> {
     pub fn hear(&mut self, alloc: Global, count: usize) -> Result<(), Fault>
         ensures end { StaysEnd self.old.session self.old.ended self.new.session self.new.ended }
         ensures hears { HearsOn (T.remaining self.old.stream) (T.remaining self.new.stream) self.old self.new }
-        ensures all { OnOk result (HasHeardAll count (T.remaining self.old.stream) (T.remaining self.new.stream) self.old self.new) }
+        ensures all { OnOk result
+            (HasHeardAll count (T.remaining self.old.stream) (T.remaining self.new.stream) self.old self.new) }
         ensures shut { self.new.is_shut ≡ self.old.is_shut }
         ensures fault { IfErr result (λ e. e ≡ Device) }
     {
@@ -144,8 +146,12 @@ impl<'a, T: Read + Write + OpenStream + Drop, S: DotSet> End<'a, T, S> {
         ensures within { IfOk result (λ count. count ≤ most) }
         ensures end { StaysEnd self.old.session self.old.ended self.new.session self.new.ended }
         ensures hears { HearsOn (T.remaining self.old.stream) (T.remaining self.new.stream) self.old self.new }
-        ensures came { IfOk result (λ count. (bytes : List ℕ) × Consumes (T.remaining self.old.stream) (T.remaining self.new.stream) bytes × (length bytes ≡ count)) }
-        ensures last { IfOk result (λ count. count ≡ 0 → HeardTheEnd (T.remaining self.old.stream) (T.remaining self.new.stream) self.old self.new) }
+        ensures came { IfOk result
+            (λ count. (bytes : List ℕ) × Consumes (T.remaining self.old.stream) (T.remaining self.new.stream) bytes
+            × (length bytes ≡ count)) }
+        ensures last { IfOk result
+            (λ count. count ≡ 0
+            → HeardTheEnd (T.remaining self.old.stream) (T.remaining self.new.stream) self.old self.new) }
         ensures shut { self.new.is_shut ≡ self.old.is_shut }
         ensures fault { IfErr result (λ e. e ≡ Device) }
     {

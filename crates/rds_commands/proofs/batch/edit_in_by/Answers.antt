@@ -15,18 +15,13 @@ returns-in_err-answers-clause-fault g c =
     let p = err_from_is_err_and c.from_residual-in_err-answers.result c.from_residual-in_err-answers.ensures.1 in
     rw (p.1, p.2) (inl c.in_err-answers.ensures.memory)
 
-pub returns-in_err-edited-clause-fault : goal.returns-in_err-edited-clause-fault
-returns-in_err-edited-clause-fault g c =
-    let p = err_from_is_err_and c.from_residual-in_err-edited.result c.from_residual-in_err-edited.ensures.1 in
-    rw (p.1, p.2) (inl c.in_err-edited.ensures.memory)
-
 pub returns-in_err-file-clause-fault : goal.returns-in_err-file-clause-fault
 returns-in_err-file-clause-fault g c =
     let p = err_from_is_err_and c.from_residual-in_err-file.result c.from_residual-in_err-file.ensures.1 in
-    rw (p.1, p.2) (unkept_lines (lines_in c.args.input.now) c.args.file.kept c.in_ok-index.index c.edit_lines.new.index c.in_ok-edited.edited c.in_ok-answers.answers.items c.in_err-file.field-0.0
-    (c.in_ok-index.ensures.ok ∙ c.into_parts-replica.ensures.replica) c.in_ok-answers.ensures.edited (c.in_ok-edited.ensures.ok ∙ c.replica.ensures) c.in_err-file.ensures.fault)
+    rw (p.1, p.2) (unkept_lines (lines_in c.args.input.now) c.args.file.kept c.in_ok-index.index c.edit_lines.new.index c.into_replica.result c.in_ok-answers.answers.items c.in_err-file.field-0.0
+    (c.in_ok-index.ensures.ok ∙ c.into_parts-replica.ensures.replica) c.in_ok-answers.ensures.edited c.into_replica.ensures c.in_err-file.ensures.fault)
 
 pub returns-clause-edited : goal.returns-clause-edited
 returns-clause-edited g c =
     kept_lines (lines_in c.args.input.now) c.args.file.kept c.in_ok-index.index c.edit_lines.new.index c.in_ok-file.file.kept c.in_ok-answers.answers.items
-    (c.in_ok-index.ensures.ok ∙ c.into_parts-replica.ensures.replica) c.in_ok-answers.ensures.edited (ap (λ (f : ReplacedValue). f.kept) c.in_ok-file.ensures.replaced ∙ (c.in_ok-edited.ensures.ok ∙ c.replica.ensures))
+    (c.in_ok-index.ensures.ok ∙ c.into_parts-replica.ensures.replica) c.in_ok-answers.ensures.edited (ap (λ (f : ReplacedValue). f.kept) c.in_ok-file.ensures.replaced ∙ c.into_replica.ensures)

@@ -1,11 +1,11 @@
 use Rattle.std.proofs.Common.{◌≡◌, ◌≢◌, ℕ, List, Option, Err, inl, rules, subst}
 use Rattle.std.specs.Prelude.{IfSome}
 use Rattle.rds_names.specs.declared.fault.Fault.TheVariants.{Device}
-use Rattle.rds_lines.specs.Output.{Writes}
+use Rattle.rds_output.specs.Output.{Writes}
 use Rattle.rds_words.specs.Task.{EditsByLines}
 use Rattle.rds_words.specs.declared.tasks.Task.{Task}
 use Rattle.rds_commands.specs.Batch.{WritesEdits}
-use Rattle.rds_lines.proofs.Running.{memory_written}
+use Rattle.rds_lines.proofs.Running.{memory_begun, memory_written}
 use Rattle.rds_words.proofs.CommandWords.{is_memory}
 use Rattle.rds_commands.proofs.Batches.{edit_named, edits_unwritten}
 use Rattle.rds_commands.proofs.Entered.{mistaken}
@@ -49,3 +49,11 @@ returns-in-Ok-Some-clause-unread_edit g c = λ file names.
     edit_named (λ (p : List ℕ). c.run_task.new.reader.failed ≢ c.args.reader.now.failed → c.run_task.new.writer.failed ≡ 0
     → Writes (Err Device) (g.W.Write.contents c.args.writer.now.inner) (g.W.Write.contents c.run_task.new.writer.inner) c.run_task.result)
     file c.in-Ok-Some.task (subst (λ (t : Option Task). EditsByLines file t) c.in-Ok-Some.field-0-is (c.in-Ok-Some.ensures.edit file names)) c.run_task.ensures.unread_edit
+
+pub returns-in-Err-clause-join_part : goal.returns-in-Err-clause-join_part
+returns-in-Err-clause-join_part g c = λ names.
+    memory_begun (g.R.Read.remaining c.args.reader.now.inner) (g.W.Write.contents c.args.writer.now.inner) (g.W.Write.contents c.write_unparsed.new.writer.inner) _
+    (c.write_unparsed.ensures.part (c.in-Err.ensures.join names))
+
+pub returns-in-Err-clause-sim_part : goal.returns-in-Err-clause-sim_part
+returns-in-Err-clause-sim_part g c = λ names failed. inl (c.write_unparsed.ensures.part (c.in-Err.ensures.sim names))

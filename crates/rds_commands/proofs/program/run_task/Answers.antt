@@ -51,3 +51,9 @@ returns-in-EditLines-clause-edit g c = λ at is.
 
 pub returns-in-EditLines-clause-unread_edit : goal.returns-in-EditLines-clause-unread_edit
 returns-in-EditLines-clause-unread_edit g c = λ at is. c.run_edit_lines.ensures.unread
+
+pub returns-in-Join-clause-join_part : goal.returns-in-Join-clause-join_part
+returns-in-Join-clause-join_part g c = λ is. c.run_join.ensures.part
+
+pub returns-in-Sim-clause-sim_part : goal.returns-in-Sim-clause-sim_part
+returns-in-Sim-clause-sim_part g c = λ is. c.run_sim.ensures.part

@@ -1,6 +1,7 @@
 use Rattle.std.proofs.Common.{◌≡◌, ◌∷◌, ◌++◌, [], ℕ, List, ap, rules, string_bytes}
-use Rattle.rds_lines.proofs.AnswerPieces.{same_bytes, same_part}
-use Rattle.rds_lines.proofs.Beginnings.{fault_begun, front_written, line_begun}
+use Rattle.rds_output.proofs.ReplyPieces.{same_bytes, same_part}
+use Rattle.rds_lines.proofs.Beginnings.{fault_begun, line_begun}
+use Rattle.rds_output.proofs.Beginnings.{front_written}
 use Rattle.rds_lines.proofs.Running.{line_written, fault_written}
 use Rattle.rds_lines.proofs.run.run_join.Goals as goal
 

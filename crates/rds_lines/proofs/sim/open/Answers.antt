@@ -2,7 +2,7 @@ use Rattle.std.proofs.Common.{None, Ok, Some, subst, sym}
 use Rattle.std.specs.Prelude.{IfOk}
 use Rattle.rds_json.specs.declared.line.Line.{Line}
 use Rattle.rds_lines.specs.Simulated.{LineLeadsTo}
-use Rattle.rds_lines.specs.declared.answer.Answer.TheVariants.{Done}
+use Rattle.rds_output.specs.declared.reply.Reply.TheVariants.{Done}
 use Rattle.rds_lines.proofs.Simulating.{worlds_open}
 use Rattle.rds_lines.proofs.sim.open.Goals as goal
 

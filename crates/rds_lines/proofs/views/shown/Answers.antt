@@ -6,4 +6,4 @@ use Rattle.rds_lines.proofs.views.shown.Goals as goal
 
 pub returns-clause-shown : goal.returns-clause-shown
 returns-clause-shown g c =
-    IfOk-weaker c.printed.result _ _ (λ answer h. subst (λ (v : Shown). Prints v answer) c.in_ok-view.ensures.shown h) c.printed.ensures.shown
+    IfOk-weaker c.printed.result _ _ (λ answer h. subst (λ (v : Shown). Prints c.args.layout v answer) c.in_ok-view.ensures.shown h) c.printed.ensures.shown

@@ -1,7 +1,0 @@
-use Rattle.rds_lines.specs.Answering.{answer_line}
-use Rattle.rds_lines.proofs.Beginnings.{front_written}
-use Rattle.rds_lines.proofs.output.write_answer.Goals as goal
-
-pub returns-in-Ok-clause-part : goal.returns-in-Ok-clause-part
-returns-in-Ok-clause-part g c =
-    rw c.in-Ok.is (front_written (g.W.Write.contents c.args.writer.now.inner) (g.W.Write.contents c.write_to.new.writer.inner) (answer_line c.in-Ok.answer) c.write_to.result c.write_to.ensures.bytes c.write_to.ensures.part)
