@@ -1,8 +1,8 @@
 //! Times what the program doesn't show by itself. `rds_bench texts N` encodes and decodes a state of N dots, two
-//! thirds of them live; `rds_bench delta N` takes what a replica of N dots has that one without the last ten lacks, and
-//! `rds_bench fresh N` what one lacks that has none of them. `rds_bench index N` takes ten dots into an index of one set
-//! of N elements, adds ten elements and deletes these. It prints a line of figures, and nothing where it was called by
-//! no words. Then it waits until its input ends, so that who called it can see how much memory it had.
+//! thirds of them live; `rds_bench delta N` takes what a replica of N dots has that one without the last ten lacks,
+//! and `rds_bench fresh N` what one lacks that has none of them. `rds_bench index N` takes ten dots into an index of
+//! one set of N elements, adds ten elements and deletes these. It prints a line of figures, and nothing where it was
+//! called by no words. Then it waits until its input ends, so that who called it can see how much memory it had.
 #![tactic(auto)]
 
 mod deltas;

@@ -4,6 +4,7 @@ use rds_names::Fault;
 use rds_rows::words::{first, number};
 use std::alloc::{AllocError, Global};
 use std::cell::Cell;
+use std::fs::OpenOptions;
 use std::io::{self, ErrorKind};
 use std::time::Duration;
 
@@ -14,6 +15,7 @@ pub struct Calls<'a> {
     // The calls since the last pause.
     round: Cell<String>,
     pauses: Cell<u64>,
+    notes: Cell<u64>,
     fails: &'a str,
     // Which of the calls that are so named fails; 0 is each.
     nth: u64,
@@ -28,6 +30,7 @@ impl<'a> Drop for Calls<'a> {
             told: _told,
             round: _round,
             pauses: _,
+            notes: _,
             fails: _,
             nth: _,
             met: _,
@@ -48,6 +51,7 @@ impl<'a> Calls<'a> {
             told: Cell::new(String::new(alloc)),
             round: Cell::new(String::new(alloc)),
             pauses: Cell::new(0),
+            notes: Cell::new(0),
             fails,
             nth,
             met: Cell::new(0),
@@ -66,6 +70,26 @@ impl<'a> Calls<'a> {
             return Err(failure());
         }
         Ok(())
+    }
+
+    /// What is at a path is opened; or a new file is made there, which is told with the mode that it is to have.
+    pub fn open(&self, how: &OpenOptions, path: &str) -> io::Result<()> {
+        if !how.asks_create_new() {
+            return self.call("open", path);
+        }
+        let mode = mode_asked(self.alloc, how)?;
+        let on = joined(self.alloc, &[path, " ", mode.as_str()])?;
+        self.call("make", on.as_str())
+    }
+
+    /// A line on standard error. It is counted alone.
+    pub fn note(&self) {
+        self.notes.set(self.notes.get().saturating_add(1));
+    }
+
+    /// How many lines there were on standard error.
+    pub fn notes(&self) -> u64 {
+        self.notes.get()
     }
 
     /// Whether these are the words of the row, and the time that the row means.
@@ -111,6 +135,17 @@ impl<'a> Calls<'a> {
             0 => Ok(String::new(self.alloc)),
             count => format!(in self.alloc; "pauses {count}\n"),
         }
+    }
+}
+
+// The mode that a new file is to have, in octal digits. Only their debug text tells what the options say of it.
+fn mode_asked(alloc: Global, how: &OpenOptions) -> Result<String, AllocError> {
+    let text = format!(in alloc; "{how:?}")?;
+    let (_, rest) = text.as_str().split_once("mode: ").unwrap_or(("", ""));
+    let (digits, _) = rest.split_once(' ').unwrap_or((rest, ""));
+    match digits.parse::<u32>() {
+        Ok(mode) => format!(in alloc; "{mode:o}"),
+        Err(_) => String::from_str(alloc, "unknown"),
     }
 }
 

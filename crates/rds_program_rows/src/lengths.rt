@@ -2,8 +2,9 @@
 use crate::devices::reader_of;
 use crate::runs::status_told;
 use rds_keep::Counted;
-use rds_lines::{Answer, Answers, answer_lines};
+use rds_lines::{Answers, answer_lines};
 use rds_names::Fault;
+use rds_output::Reply;
 use std::alloc::Global;
 
 // Answers a line by the number of its bytes.
@@ -13,10 +14,10 @@ struct Lengths;
 impl Answers for Lengths {
     ghost may_answer = { λ _ _ _ _. Unit {0} };
 
-    fn answer(&mut self, _alloc: Global, line: Result<String, Fault>) -> Answer {
+    fn answer(&mut self, _alloc: Global, line: Result<String, Fault>) -> Reply {
         match line {
-            Ok(text) => Answer::Asked(text.len() as u64),
-            Err(fault) => Answer::Refused(fault),
+            Ok(text) => Reply::Asked(text.len() as u64),
+            Err(fault) => Reply::Refused(fault),
         }
     }
 

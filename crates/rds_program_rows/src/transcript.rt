@@ -11,7 +11,9 @@ use crate::runs::{
 use crate::sessions::Sessions;
 use crate::simulated::Simulated;
 use crate::sizes::{add_digits_in, fill, holds_as, run_as};
-use crate::wire::{answer_over, answer_serving, answer_talk, answer_wire};
+use crate::wire::{
+    answer_by_lines, answer_notes, answer_over, answer_serving, answer_talk, answer_wire,
+};
 use crate::worlds::Worlds;
 use rds_dots::ListSet;
 use rds_files::ReplicaFile;
@@ -136,6 +138,8 @@ impl Table for Transcript<'_> {
             "disk" => answer_disk(alloc, rest, self.input.as_slice()),
             "wire" => answer_wire(self.rt, rest),
             "over" => answer_over(self.rt, rest, self.input.as_slice()),
+            "by_lines" => answer_by_lines(self.rt, rest, self.input.as_slice()),
+            "notes" => answer_notes(self.rt, rest),
             "serving" => answer_serving(self.rt, rest, self.input.as_slice()),
             "talk" => answer_talk(self.rt, rest, self.input.as_slice()),
             "put"

@@ -1,6 +1,8 @@
 //! Rows about a connection in memory.
+mod file;
 mod host;
 mod line;
+mod lines;
 mod output;
 
 use crate::calls::Calls;
@@ -8,6 +10,7 @@ use crate::replicas::read;
 use crate::runs::named;
 use host::Wired;
 use line::Wire;
+use lines::Lines;
 use output::Output;
 use rds_commands::run;
 use rds_files::{Settled, meet, pair_files};
@@ -49,22 +52,47 @@ fn talk<'a>(rt: &HostRuntime, wire: &'a Wire<'a>) -> Result<(Settled, Ended), Fa
 /// `over WORDS`: runs the program on these words behind its name, over a connection with a peer that says what the input is.
 /// Answers the calls that were made, what was written, and the status.
 pub fn answer_over(rt: &HostRuntime, words: &str, input: &[u8]) -> Result<String, Fault> {
-    run_over(rt, words, "", input)
+    run_over(rt, words, &Wire::with_peer(rt.alloc(), "", input)?, b"")
 }
 
 /// `serving CALL`: the same on the words of two sessions as the server, over a connection on which this call fails.
 pub fn answer_serving(rt: &HostRuntime, fails: &str, input: &[u8]) -> Result<String, Fault> {
-    run_over(rt, "serve f 127.0.0.1:8 --sessions 2", fails, input)
+    let wire = Wire::with_peer(rt.alloc(), fails, input)?;
+    run_over(rt, "serve f 127.0.0.1:8 --sessions 2", &wire, b"")
 }
 
-fn run_over(rt: &HostRuntime, words: &str, fails: &str, input: &[u8]) -> Result<String, Fault> {
+/// `by_lines WORDS`: the same as `over`, but nobody is connected, and the program reads the input, a line a call.
+pub fn answer_by_lines(rt: &HostRuntime, words: &str, input: &[u8]) -> Result<String, Fault> {
+    run_over(rt, words, &Wire::new(rt.alloc(), ""), input)
+}
+
+/// `notes WORDS`: the same, but answers only how many lines people are told on standard error, and the status.
+pub fn answer_notes(rt: &HostRuntime, words: &str) -> Result<String, Fault> {
+    let wire = Wire::new(rt.alloc(), "");
     let words = named(rt.alloc(), words)?;
-    let wire = Wire::with_peer(rt.alloc(), fails, input)?;
+    let (_, status) = run_on_wire(rt, &words, &wire, b"");
+    let notes = wire.calls.notes();
+    Ok(format!(in rt.alloc(); "{notes} told, status {status}")?)
+}
+
+fn run_over(rt: &HostRuntime, words: &str, wire: &Wire<'_>, input: &[u8]) -> Result<String, Fault> {
+    let words = named(rt.alloc(), words)?;
+    let (written, status) = run_on_wire(rt, &words, wire, input);
+    run_told(&wire.calls, &written, status)
+}
+
+// What the program writes, and its status.
+fn run_on_wire<'a>(
+    rt: &'a HostRuntime,
+    words: &[&str],
+    wire: &'a Wire<'a>,
+    input: &'a [u8],
+) -> (Vec<u8>, u8) {
     let mut output = Output::new(&wire.calls);
-    let mut nothing = Counted::new(&b""[..]);
-    let wired = Wired { rt, wire: &wire };
-    let status = run(&wired, &words, &mut nothing, &mut Counted::new(&mut output));
-    run_told(&wire.calls, &output.written, status)
+    let mut lines = Counted::new(Lines::new(&wire.calls, input));
+    let wired = Wired { rt, wire };
+    let status = run(&wired, words, &mut lines, &mut Counted::new(&mut output));
+    (output.written, status)
 }
 
 /// `wire CALL`: a session of the replicas in the files a and b, over a connection on which this call fails; `wire stranger`

@@ -12,7 +12,7 @@ use rds_rows::words::{first, number, roster, small};
 use rds_state::Replica;
 use rds_world::{
     Event, World, answers_bring_what_was_kept, coherent_replicas_are_friends, edits_are_steps,
-    lost_dots_are_used_again, runs_go_on, simulate, states_are_joins_of_updates,
+    lost_dots_are_used_again, rosters_grow, runs_go_on, simulate, states_are_joins_of_updates,
     worlds_have_one_value, worlds_stay_coherent,
 };
 use std::alloc::Global;
@@ -138,6 +138,7 @@ fn entry_told(alloc: Global, entry: Option<&Entry>) -> Result<String, Fault> {
 // The laws have no answer: their contracts are proved.
 fn laws(alloc: Global) -> Result<String, Fault> {
     worlds_stay_coherent();
+    rosters_grow();
     worlds_have_one_value();
     coherent_replicas_are_friends();
     edits_are_steps();

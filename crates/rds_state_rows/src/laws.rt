@@ -1,5 +1,7 @@
 //! The row of the laws.
+use rds_counts::limit_of_counts;
 use rds_delta::{checked_delta_laws, friends_exchange_deltas, least_delta_laws};
+use rds_dots::limit_of_dots;
 use rds_names::Fault;
 use rds_rows::told::said;
 use rds_state::{documents_have_the_sums, friends_take_each_other, join_laws, limits_of_numbers};
@@ -10,6 +12,8 @@ use std::alloc::Global;
 pub fn laws(alloc: Global) -> Result<String, Fault> {
     join_laws();
     limits_of_numbers();
+    limit_of_dots();
+    limit_of_counts();
     friends_take_each_other();
     documents_have_the_sums();
     least_delta_laws();

@@ -61,9 +61,12 @@ impl<'a> Files for Disk<'a> {
     type Dir = DiskFile<'a>;
 
     fn open_file(&self, how: &OpenOptions, path: &str) -> io::Result<DiskFile<'a>> {
-        let makes = how.asks_create_new();
-        self.calls.call(if makes { "make" } else { "open" }, path)?;
-        if !makes && path == self.path && !self.is_there && !self.calls.is("there", path)? {
+        self.calls.open(how, path)?;
+        if !how.asks_create_new()
+            && path == self.path
+            && !self.is_there
+            && !self.calls.is("there", path)?
+        {
             return Err(io::Error::from(ErrorKind::NotFound));
         }
         Ok(DiskFile {

@@ -1,4 +1,5 @@
 //! The host, with a connection in memory in place of its network.
+use super::file::WiredFile;
 use super::line::{End, Listener, Wire};
 use crate::calls::failure;
 use crate::told::joined;
@@ -13,7 +14,7 @@ use std::path::PathBuf;
 use std::rt::Files;
 use std::time::{Clock, Duration};
 
-/// The files of the host, of which it is told which are opened, made, renamed and removed, and the connection.
+/// The files of the host, of which each call is told, and the connection.
 #[derive(Drop)]
 pub struct Wired<'a> {
     pub rt: &'a HostRuntime,
@@ -43,13 +44,14 @@ impl Clock for Wired<'_> {
     }
 }
 
-// What people are told isn't kept.
+// What people are told isn't kept, but how many lines it is.
 impl Eprint for Wired<'_> {
     fn eprint<D: Display + Drop>(&self, _value: D) -> io::Result<()> {
         Ok(())
     }
 
     fn eprintln<D: Display + Drop>(&self, _value: D) -> io::Result<()> {
+        self.wire.calls.note();
         Ok(())
     }
 }
@@ -93,19 +95,15 @@ impl<'a> Net for Wired<'a> {
     }
 }
 
-impl Files for Wired<'_> {
-    type File = <HostRuntime as Files>::File;
+impl<'a> Files for Wired<'a> {
+    type File = WiredFile<'a>;
 
     type Dir = <HostRuntime as Files>::Dir;
 
-    fn open_file(&self, how: &OpenOptions, path: &str) -> io::Result<Self::File> {
-        let verb = if how.asks_create_new() {
-            "make"
-        } else {
-            "open"
-        };
-        self.wire.calls.call(verb, path)?;
-        self.rt.open_file(how, path)
+    fn open_file(&self, how: &OpenOptions, path: &str) -> io::Result<WiredFile<'a>> {
+        self.wire.calls.open(how, path)?;
+        let file = self.rt.open_file(how, path)?;
+        WiredFile::new(&self.wire.calls, path, file)
     }
 
     fn open_dir(&self, path: &str) -> io::Result<Self::Dir> {

@@ -1,6 +1,6 @@
 //! Events as words.
 use rds_json::{Line, command};
-use rds_names::Fault;
+use rds_names::{Fault, Name};
 use rds_rows::words::{first, number, small};
 use rds_state::Command;
 use rds_world::Event;
@@ -16,6 +16,7 @@ pub fn event(alloc: Global, words: &str) -> Result<Event, Fault> {
         "ask" => Ok(Event::Ask(small(rest)?)),
         "answer" => answer(rest),
         "take" => Ok(Event::Take(number(rest)?)),
+        "grow" => grow(rest),
         _ => Err(Fault::Usage),
     }
 }
@@ -37,4 +38,9 @@ fn command_in(line: Line) -> Result<Command, Fault> {
 fn answer(words: &str) -> Result<Event, Fault> {
     let (replica, ask) = first(words);
     Ok(Event::Answer(small(replica)?, number(ask)?))
+}
+
+fn grow(words: &str) -> Result<Event, Fault> {
+    let (replica, name) = first(words);
+    Ok(Event::Grow(small(replica)?, Name::new(name)?))
 }
