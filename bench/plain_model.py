@@ -1,0 +1,524 @@
+"""A plain model of a document, its texts and its sessions: docs/MODEL.md and docs/FORMATS.md in a few lines of Python.
+
+`bench/random` compares the program with it. It is written from these two pages alone, over sets and dictionaries.
+"""
+import collections
+import re
+
+GREATEST = 281_474_976_710_655
+# More dots than these are not held as a set here: of such a text only the decoding is compared.
+MANY = 100_000
+NAMES = {12: "Cut", 13: "Bad", 14: "Extra"} | {3: "BadKey", 4: "BadPath", 5: "BadScalar", 8: "CounterFull", 9: "Conflict"}
+NAMES |= {10: "OwnAhead", 11: "WrongAsker", 17: "BadCertificate", 18: "WrongVersion", 19: "WrongGroup", 20: "WrongRoster"}
+NAMES |= {21: "SameReplica", 22: "OutOfTurn", 23: "PeerEnded", 25: "BadLine", 27: "Usage"}
+REGISTER, ELEMENT = 1, 2
+HELLO, DIGEST, DELTA, BYE = 1, 2, 3, 4
+# The bye that tells of a fault; 5 for those that aren't here.
+BYES = {18: 1, 19: 2, 20: 3, 21: 4}
+
+
+class Refused(Exception):
+    """The fault by its number."""
+
+    @property
+    def number(self):
+        return self.args[0]
+
+
+class TooMany(Exception):
+    """A text of more dots than the model holds."""
+
+
+def refuse_if(is_so, number):
+    if is_so:
+        raise Refused(number)
+
+
+def line_of(number):
+    return f"fault {number}: {NAMES[number]}\n"
+
+
+# The model. An entry is (path, kind, scalar), and a scalar (tag, value), so that both are in the order of docs/PROMISES.md.
+class State:
+    """The life of each dot that is seen, None where it is dead, and the two numbers of each counter and replica."""
+
+    def __init__(self, lives=(), numbers=()):
+        self.lives, self.numbers = dict(lives), {at: pair for at, pair in dict(numbers).items() if pair != (0, 0)}
+
+    def __eq__(self, other):
+        return (self.lives, self.numbers) == (other.lives, other.numbers)
+
+    def live(self):
+        return {dot: entry for dot, entry in self.lives.items() if entry}
+
+    def digest(self):
+        return {dot: 1 + (entry is None) for dot, entry in self.lives.items()}, self.numbers
+
+    def least(self, digest):
+        """What is above a digest."""
+        ranks, numbers = digest
+        lives = {dot: entry for dot, entry in self.lives.items() if 1 + (entry is None) > ranks.get(dot, 0)}
+        above = lambda mine, other: tuple(number * (number > theirs) for number, theirs in zip(mine, other))
+        return State(lives, {at: above(pair, numbers.get(at, (0, 0))) for at, pair in self.numbers.items()})
+
+    def joined(self, other):
+        lives = dict(self.lives)
+        for dot, entry in other.lives.items():
+            mine = lives.get(dot, entry)
+            refuse_if(mine and entry and mine != entry, 9)
+            lives[dot] = mine and entry
+        numbers = dict(self.numbers)
+        for at, pair in other.numbers.items():
+            numbers[at] = tuple(map(max, pair, numbers.get(at, (0, 0))))
+        return State(lives, numbers)
+
+    def size(self):
+        return len(self.lives) + sum((number > 0) for pair in self.numbers.values() for number in pair)
+
+
+Replica = collections.namedtuple("Replica", "group names own state")
+
+
+def taken(replica, delta):
+    """A replica that takes a delta, unless that has something of its own that it lacks."""
+    own, state = replica.own, replica.state
+    refuse_if(any(dot[0] == own and dot not in state.lives for dot in delta.lives), 10)
+    for at, pair in delta.numbers.items():
+        refuse_if(at[1] == own and any(a > b for a, b in zip(pair, state.numbers.get(at, (0, 0)))), 10)
+    return replica._replace(state=state.joined(delta))
+
+
+def edited(replica, verb, path, scalar=None, amount=0):
+    """An edit's replica and answer."""
+    state, own = replica.state, replica.own
+    if verb in ("inc", "dec"):
+        at = path[0], own
+        pair = list(state.numbers.get(at, (0, 0)))
+        pair[verb == "dec"] += amount
+        refuse_if(max(pair) > GREATEST, 8)
+        return replica._replace(state=State(state.lives, state.numbers | {at: tuple(pair)})), (None, 0)
+    covers = {
+        "set": lambda entry: entry[:2] == (path, REGISTER),
+        "add": lambda entry: entry == (path, ELEMENT, scalar),
+        "del": lambda entry: entry == (path, ELEMENT, scalar),
+        "clear": lambda entry: entry[0][: len(path)] == path,
+    }[verb]
+    killed = [dot for dot, entry in state.live().items() if covers(entry)]
+    lives = state.lives | dict.fromkeys(killed)
+    dot = None
+    if verb in ("set", "add"):
+        dot = own, 1 + max((seq for replica, seq in lives if replica == own), default=0)
+        lives[dot] = path, REGISTER if verb == "set" else ELEMENT, scalar
+    return replica._replace(state=State(lives, state.numbers)), (dot, len(killed))
+
+
+def view(state, path):
+    """What stands at a path, as lists of pairs in their order."""
+    maps, leaves = set(), {REGISTER: {}, ELEMENT: {}}
+    for at, kind, scalar in state.live().values():
+        if at[: len(path)] == path and len(at) > len(path) + 1:
+            maps.add(at[len(path)])
+        elif at[:-1] == path:
+            leaves[kind].setdefault(at[-1], set()).add(scalar)
+    shown = lambda sets: [(key, [value for _, value in sorted(sets[key])]) for key in sorted(sets)]
+    parts = [("maps", [(key, view(state, (*path, key))) for key in sorted(maps)])]
+    return parts + [("regs", shown(leaves[REGISTER])), ("sets", shown(leaves[ELEMENT]))]
+
+
+def document(state, path):
+    if path:
+        return view(state, path)
+    values = collections.Counter()
+    for (key, _), (ups, downs) in state.numbers.items():
+        values[key] += ups - downs
+    return [("counters", sorted(values.items()))] + view(state, path)
+
+
+# Texts.
+def number(value, size):
+    return value.to_bytes(size, "big")
+
+
+def piece(text, size=1):
+    text = text if isinstance(text, bytes) else text.encode()
+    return number(len(text), size) + text
+
+
+def many(size, parts):
+    parts = list(parts)
+    return number(len(parts), size) + b"".join(parts)
+
+
+def runs_of(numbers):
+    """The maximal runs of a set of numbers."""
+    runs = []
+    for each in sorted(numbers):
+        if runs and runs[-1][1] + 1 == each:
+            runs[-1] = runs[-1][0], each
+        else:
+            runs.append((each, each))
+    return runs
+
+
+def dots_text(dots):
+    of = collections.defaultdict(set)
+    for replica, seq in dots:
+        of[replica].add(seq)
+    return many(2, (one_text(replica, runs_of(of[replica])) for replica in sorted(of)))
+
+
+def one_text(replica, runs):
+    ends = [0] + [last for _, last in runs]
+    gaps = [(end + 1, first - 1) for end, (first, _) in zip(ends, runs) if first > end + 1]
+    return number(replica, 1) + number(ends[-1], 8) + many(4, (number(first, 8) + number(last, 8) for first, last in gaps))
+
+
+def scalar_text(scalar):
+    tag, value = scalar
+    bodies = {3: lambda: value.to_bytes(8, "big", signed=True), 4: lambda: piece(value, 2)}
+    return number(tag, 1) + bodies.get(tag, bytes)()
+
+
+def entry_text(entry):
+    path, kind, scalar = entry
+    return many(1, map(piece, path)) + number(kind, 1) + scalar_text(scalar)
+
+
+def dot_text(dot):
+    return number(dot[0], 1) + number(dot[1], 8)
+
+
+def counts_text(numbers):
+    rows = sorted(numbers.items(), key=lambda row: (row[0][0].encode(), row[0][1]))
+    return many(4, (piece(key) + number(replica, 1) + number(ups, 8) + number(downs, 8) for (key, replica), (ups, downs) in rows))
+
+
+def state_text(state):
+    live = many(4, (dot_text(dot) + entry_text(entry) for dot, entry in sorted(state.live().items())))
+    return dots_text(state.lives) + live + counts_text(state.numbers)
+
+
+def who_text(replica):
+    return piece(replica.group) + many(2, map(piece, replica.names)) + number(replica.own, 1)
+
+
+def snapshot_text(replica):
+    return b"RDS1" + who_text(replica) + state_text(replica.state)
+
+
+def digest_text(digest):
+    ranks, numbers = digest
+    return dots_text(ranks) + dots_text(dot for dot, rank in ranks.items() if rank == 1) + counts_text(numbers)
+
+
+def certificate(delta, digest):
+    """The rows that a delta has against a digest, each as its bytes."""
+    ranks, numbers = digest
+    rows = [(dot, b"\1" + dot_text(dot)) for dot in delta.live()]
+    dead = collections.defaultdict(set)
+    for (replica, seq), entry in delta.lives.items():
+        if entry is None:
+            dead[replica, ranks.get((replica, seq), 0)].add(seq)
+    for (replica, rank), seqs in dead.items():
+        for first, last in runs_of(seqs):
+            rows.append(((replica, first), b"\2" + dot_text((replica, first)) + number(last, 8) + number(rank, 1)))
+    rows = [row for _, row in sorted(rows)]
+    for (key, replica), pair in sorted(delta.numbers.items()):
+        for kind, (sent, theirs) in enumerate(zip(pair, numbers.get((key, replica), (0, 0)))):
+            if sent:
+                rows.append(b"\3" + piece(key) + bytes([replica, kind + 1]) + number(sent, 8) + number(theirs, 8))
+    return rows
+
+
+def answer_text(asker, delta, digest):
+    return number(asker, 1) + state_text(delta) + many(4, certificate(delta, digest))
+
+
+def message(body, sizes=()):
+    """A message in chunks of these sizes, and the last of at most 16,384 bytes."""
+    chunks, sizes = [], list(sizes)
+    while body:
+        size = sizes.pop(0) if sizes else 16_384
+        chunks.append(piece(body[:size], 2))
+        body = body[size:]
+    return b"".join(chunks) + b"\0\0"
+
+
+class Reader:
+    """A text, from the left."""
+
+    def __init__(self, text):
+        self.text, self.at = text, 0
+
+    def bytes(self, size):
+        refuse_if(len(self.text) - self.at < size, 12)
+        self.at += size
+        return self.text[self.at - size : self.at]
+
+    def number(self, size, least=0, most=None):
+        value = int.from_bytes(self.bytes(size), "big")
+        refuse_if(value < least or most is not None and value > most, 13)
+        return value
+
+    def utf8(self, size):
+        try:
+            return self.bytes(size).decode()
+        except UnicodeDecodeError:
+            raise Refused(13)
+
+    def key(self):
+        key = self.utf8(self.number(1, 1, 64))
+        refuse_if("/" in key, 13)
+        return key
+
+    def name(self):
+        name = self.bytes(self.number(1, 1, 16))
+        refuse_if(not re.fullmatch(rb"[a-z][a-z0-9-]*", name), 13)
+        return name.decode()
+
+    def many(self, size, part):
+        """Parts, each of which is told the one before."""
+        parts = [None]
+        for _ in range(self.number(size)):
+            parts.append(part(parts[-1]))
+        return parts[1:]
+
+    def ascending(self, part, before):
+        refuse_if(before is not None and part <= before, 13)
+        return part
+
+    def roster(self):
+        names = []
+        for _ in range(self.number(2, 1, 256)):
+            name = self.name()
+            refuse_if(name in names, 13)
+            names.append(name)
+        return names
+
+    def end(self):
+        refuse_if(self.at < len(self.text), 14)
+
+
+class Parts(Reader):
+    """A text that speaks of so many replicas."""
+
+    def __init__(self, text, count):
+        super().__init__(text)
+        self.count = count
+
+    def replica(self):
+        return self.number(1, 0, self.count - 1)
+
+    def gaps(self, top):
+        gaps = []
+        for _ in range(self.number(4)):
+            first = self.number(8, gaps[-1][1] + 2 if gaps else 1)
+            gaps.append((first, self.number(8, first, top - 1)))
+        return gaps
+
+    def dots(self):
+        """Each replica's top and gaps."""
+        of = {}
+        for _ in range(self.number(2)):
+            replica = self.ascending(self.replica(), max(of, default=None))
+            top = self.number(8, 1, GREATEST)
+            of[replica] = top, self.gaps(top)
+        return of
+
+    def dot(self):
+        replica, seq = self.number(1), self.number(8)
+        refuse_if(replica >= self.count or not 1 <= seq <= GREATEST, 13)
+        return replica, seq
+
+    def scalar(self):
+        tag = self.number(1, 0, 4)
+        if tag == 3:
+            return tag, int.from_bytes(self.bytes(8), "big", signed=True)
+        return tag, self.utf8(self.number(2, 0, 1024)) if tag == 4 else {0: None, 1: False, 2: True}[tag]
+
+    def entry(self):
+        path = tuple(self.key() for _ in range(self.number(1, 1, 8)))
+        return path, self.number(1, 1, 2), self.scalar()
+
+    def live_row(self, before, seen):
+        dot = self.ascending(self.dot(), before and before[0])
+        refuse_if(not has_seen(seen, dot), 13)
+        return dot, self.entry()
+
+    def count_row(self, before):
+        key, replica = self.key(), self.number(1)
+        at = self.ascending((key.encode(), replica), before and (before[0][0].encode(), before[0][1]))
+        refuse_if(replica >= self.count, 13)
+        pair = self.number(8, 0, GREATEST), self.number(8, 0, GREATEST)
+        refuse_if(pair == (0, 0), 13)
+        return (key, at[1]), pair
+
+    def counts(self):
+        return dict(self.many(4, self.count_row))
+
+    def state(self):
+        """Dots, live rows and numbers, as they are written."""
+        seen = self.dots()
+        live = dict(self.many(4, lambda before: self.live_row(before, seen)))
+        return seen, live, self.counts()
+
+    def digest(self):
+        seen, live = self.dots(), self.dots()
+        refuse_if(not are_within(live, seen), 13)
+        return seen, live, self.counts()
+
+    def certificate_row(self, _):
+        at, tag = self.at, self.number(1, 1, 3)
+        if tag == 1:
+            self.dot()
+        elif tag == 2:
+            self.number(8, self.dot()[1], GREATEST)
+            self.number(1, 0, 1)
+        else:
+            self.key(), self.replica(), self.number(1, 1, 2)
+            self.number(8, 0, GREATEST), self.number(8, 0, GREATEST)
+        return self.text[at : self.at]
+
+
+def has_seen(seen, dot):
+    top, gaps = seen.get(dot[0], (0, []))
+    return dot[1] <= top and not any(first <= dot[1] <= last for first, last in gaps)
+
+
+def runs_in(of):
+    """The runs of dots that are written as tops and gaps."""
+    for replica, (top, gaps) in of.items():
+        begins = [1] + [last + 1 for _, last in gaps]
+        for first, last in zip(begins, [first - 1 for first, _ in gaps] + [top]):
+            if first <= last:
+                yield replica, first, last
+
+
+def are_within(of, seen):
+    runs = list(runs_in(seen))
+    return all(any(r == replica and f <= first and last <= l for r, f, l in runs) for replica, first, last in runs_in(of))
+
+
+def set_of(of):
+    if sum(last - first + 1 for _, first, last in runs_in(of)) > MANY:
+        raise TooMany
+    return {(replica, seq) for replica, first, last in runs_in(of) for seq in range(first, last + 1)}
+
+
+def state_of(seen, live, numbers):
+    return State(dict.fromkeys(set_of(seen)) | live, numbers)
+
+
+def who(reader):
+    """A group, a roster and the own number."""
+    group, names = reader.key(), reader.roster()
+    return group, names, reader.number(1, 0, len(names) - 1)
+
+
+def read_snapshot(text):
+    """The replica of a text; that it is one is judged before it is held."""
+    reader = Reader(text)
+    refuse_if(reader.bytes(4) != b"RDS1", 13)
+    group, names, own = who(reader)
+    parts = Parts(text[reader.at :], len(names))
+    state = parts.state()
+    parts.end()
+    return Replica(group, names, own, state_of(*state))
+
+
+def joined(first, second):
+    """What `join` makes of two replicas."""
+    refuse_if(first.group != second.group, 19)
+    refuse_if(first.names != second.names, 20)
+    return first._replace(state=first.state.joined(second.state))
+
+
+# Sessions.
+class Course:
+    """A session of a replica as the server: what it says of a whole stream, what it received, and the fault that it ends by."""
+
+    def __init__(self, replica, stream):
+        self.replica, self.waits, self.digest, self.received, self.said = replica, [HELLO, DIGEST, DELTA, BYE], None, None, b""
+        self.fault, self.is_bye = 23, False
+        try:
+            self.hear(stream)
+        except Refused as refused:
+            self.fault = refused.number
+            if not self.is_bye:
+                self.said += message(bytes([BYE, BYES.get(self.fault, 5)]))
+
+    def hear(self, stream):
+        reader, body = Reader(stream), b""
+        while self.waits:
+            if len(stream) - reader.at < 2:
+                return
+            size = reader.number(2)
+            if len(stream) - reader.at < size:
+                return
+            body += reader.bytes(size)
+            if not size:
+                self.judge(body)
+                body = b""
+        self.fault = None
+
+    def judge(self, body):
+        refuse_if(not body, 12)
+        kind, body = body[0], body[1:]
+        refuse_if(kind not in (HELLO, DIGEST, DELTA, BYE), 13)
+        if kind == BYE:
+            return self.judge_bye(body)
+        refuse_if(kind != self.waits[0], 22)
+        {HELLO: self.judge_hello, DIGEST: self.judge_digest, DELTA: self.judge_delta}[kind](body)
+        self.waits.pop(0)
+
+    def judge_bye(self, body):
+        refuse_if(not body, 12)
+        refuse_if(body[0] > 6, 13)
+        refuse_if(len(body) > 1, 14)
+        self.is_bye = body[0] > 0
+        refuse_if(self.is_bye, {1: 18, 2: 19, 3: 20, 4: 21}.get(body[0], 23))
+        refuse_if(self.waits != [BYE], 22)
+        self.waits = []
+        self.said += message(bytes([BYE, 0]))
+
+    def judge_hello(self, body):
+        reader = Reader(body)
+        refuse_if(reader.number(1) != 1, 18)
+        group, names, own = who(reader)
+        reader.end()
+        refuse_if(group != self.replica.group, 19)
+        refuse_if(names != self.replica.names, 20)
+        refuse_if(own == self.replica.own, 21)
+        self.asker = own
+
+    def judge_digest(self, body):
+        parts = Parts(body, len(self.replica.names))
+        seen, live, numbers = parts.digest()
+        parts.end()
+        live = set_of(live)
+        theirs = {dot: 2 - (dot in live) for dot in set_of(seen)}, numbers
+        state = self.replica.state
+        self.digest = state.digest()
+        delta = answer_text(self.asker, state.least(theirs), theirs)
+        texts = [b"\1\1" + who_text(self.replica), b"\2" + digest_text(self.digest), b"\3" + delta]
+        self.said += b"".join(map(message, texts))
+
+    def judge_delta(self, body):
+        parts = Parts(body, len(self.replica.names))
+        asker, state = parts.replica(), parts.state()
+        rows = parts.many(4, parts.certificate_row)
+        parts.end()
+        refuse_if(asker != self.replica.own, 11)
+        delta = state_of(*state)
+        is_above = delta == delta.least(self.digest)
+        refuse_if(not is_above or rows != certificate(delta, self.digest), 17)
+        self.received = delta
+
+
+def stream_of(client, server, delta=None, asker=None):
+    """The messages that a client says to a server, and with them this delta in place of its own."""
+    digest = server.state.digest()
+    delta = client.state.least(digest) if delta is None else delta
+    asker = server.own if asker is None else asker
+    texts = [b"\1\1" + who_text(client), b"\2" + digest_text(client.state.digest())]
+    return texts + [b"\3" + answer_text(asker, delta, digest), b"\4\0"]
