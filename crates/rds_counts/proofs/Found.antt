@@ -1,5 +1,5 @@
 -- What is found where a search for a key and a replica ends.
-use Rattle.std.proofs.Common.{◌≡◌, ℕ, zero, suc, ◌+◌, ◌<◌, ◌≤◌, true, false, cond, List, [], ◌∷◌, length, get_or, Ok, Err, refl, sym, ◌∙◌, ap, arith, inl, inr}
+use Rattle.std.proofs.Common.{◌≡◌, ℕ, zero, suc, ◌+◌, ◌<◌, ◌≤◌, true, false, cond, List, [], ◌∷◌, length, get_or, Result, Ok, Err, refl, sym, ◌∙◌, ap, subst, arith, inl, inr}
 use Rattle.std.specs.List.{list_all}
 use Rattle.std.specs.List.Sorted.{IsNonDecreasingBy}
 use Rattle.std.specs.Ordering.{nat_cmp, ordering_index, ordering_reverse, is_lt, is_eq}
@@ -77,3 +77,7 @@ pair_lacking key replica rows rise at spot =
       | inl below ↦ ap is_eq (by.0 k below)
       | inr from ↦ ap is_eq (by.1 k from lt)
     ])
+
+-- the pair that a search and a reading of the same rows give
+pub pair_read : {key : List ℕ} {replica : ℕ} {rows searched read : List CountRow} {found : Result ℕ ℕ} {pair : ℕ × ℕ} → searched ≡ rows → read ≡ rows → IsSpot key replica searched found → ((k : List ℕ) (i : ℕ) → IsSpot k i read found → pair ≡ pair_of read k i) → pair ≡ pair_of rows key replica
+pair_read {key = key} {replica = replica} {found = found} is was spot numbers = numbers key replica (subst (λ l. IsSpot key replica l found) (is ∙ sym was) spot) ∙ ap (λ l. pair_of l key replica) was

@@ -4,4 +4,5 @@ pub mod Found
 pub mod Nothing
 pub mod Puts
 pub mod Raises
+pub mod SameCounts
 pub mod Totals

@@ -82,7 +82,7 @@ number_of-cond : (w : Which) (b : Bool) (x y : ℕ × ℕ) → number_of w (cond
 number_of-cond w true x y = refl
 number_of-cond w false x y = refl
 
-number_of-none : (w : Which) → number_of w (0, 0) ≡ 0
+pub number_of-none : (w : Which) → number_of w (0, 0) ≡ 0
 number_of-none P = refl
 number_of-none N = refl
 

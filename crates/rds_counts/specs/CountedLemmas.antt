@@ -123,13 +123,6 @@ number-own r rows N all =
     apart : (k : List ℕ) (n : ℕ) → eq_by_cmp place_cmp (place k n N) (place k n P) ≡ false
     apart k n = rw (tied_itself nat_list_cmp_total k, tied_itself nat_cmp_total n) refl
 
-then_equal : (x y z : Ordering) → ordering_then x (ordering_then y z) ≡ Equal → ordering_then x y ≡ Equal
-then_equal Less y z h = absurd (cc)
-then_equal Equal Less z h = absurd (cc)
-then_equal Equal Equal z h = refl
-then_equal Equal Greater z h = absurd (cc)
-then_equal Greater y z h = absurd (cc)
-
 pub both_other : (a b x y : Bool) (p n rest : ℕ) → a ≡ false → b ≡ false → cond (a && x) p (cond (b && y) n rest) ≡ rest
 both_other true b x y p n rest h k = absurd (false≢true (sym h))
 both_other false true x y p n rest h k = absurd (false≢true (sym k))

@@ -8,5 +8,5 @@ mod row;
 mod rows;
 
 pub use counts::Counts;
-pub use laws::limit_of_counts;
+pub use laws::{a_merge_of_counts_has_one_result, limit_of_counts};
 pub use row::{CountRow, MAX_COUNT, Which};

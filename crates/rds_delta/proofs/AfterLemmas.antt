@@ -17,7 +17,7 @@ use Rattle.rds_dots.specs.Dots.{dot_cmp, first_of, last_of, comes_after}
 use Rattle.rds_dots.specs.Lacking.{dot_of}
 use Rattle.rds_dots.specs.Listed.{dots_from}
 use Rattle.rds_dots.specs.Order.{dots_total, dots_exact, before_after, after_before}
-use Rattle.rds_names.specs.Conditions.{and_true, less_of}
+use Rattle.rds_names.specs.Conditions.{and_true, less_of, true_of}
 use Rattle.rds_life.specs.Life.{Life, Live, Dead, Lived, entry_of}
 use Rattle.rds_delta.specs.declared.row.Row.{Row}
 use Rattle.rds_delta.specs.declared.row.Row.TheVariants as rows
@@ -29,10 +29,6 @@ use Rattle.rds_delta.specs.Rest.{after_of, rows_after, is_flat}
 
 to_T : (b : Bool) → b ≡ true → T b
 to_T b h = subst T (sym h) tt
-
-from_T : (b : Bool) → T b → b ≡ true
-from_T true h = refl
-from_T false h = absurd h
 
 find-after : (v : Lived) (after : Option Dot) (q : Dot) → find dot_cmp q (after_of after v) ≡ cond (comes_after after q) (map.get v q) None
 find-after v after q =
@@ -66,7 +62,7 @@ trans_after (Some x) d q a b = ap is_lt (dots_total.trans x d q (less_of (dot_cm
 pub after_next : (v : Lived) (after : Option Dot) (d : Dot) (l : Life) → map.get v d ≡ Some l → comes_after after d ≡ true → IsGap v after d → after_of after v ≡ (d, l) ∷ after_of (Some d) v
 after_next v after d l here comes gap =
     same_entries dot_cmp dots_total dots_exact (after_of after v) ((d, l) ∷ after_of (Some d) v) (sorted-after v after)
-    (to_T _ (and_true _ _ (below_kept d (map.entries v)) (from_T _ (sorted-after v (Some d)))))
+    (to_T _ (and_true _ _ (below_kept d (map.entries v)) (true_of _ (sorted-after v (Some d)))))
     (λ q. find-after v after q ∙ sym (ap (cond (eq_by_cmp dot_cmp q d) (Some l)) (find-after v (Some d) q) ∙ at q (dot_cmp q d) refl))
   where
     at : (q : Dot) (o : Ordering) → dot_cmp q d ≡ o → cond (eq_by_cmp dot_cmp q d) (Some l) (cond (comes_after (Some d) q) (map.get v q) None) ≡ cond (comes_after after q) (map.get v q) None

@@ -41,12 +41,6 @@ is_zero p h = grind (arith, nat_tests)
 is_below : (p : ℕ) → nat_lt p 2 ≡ true → p < 2
 is_below p h = grind (arith, nat_tests)
 
-not_zero : (p : ℕ) → p < 1 → (p == 0) ≡ true
-not_zero p h = grind (arith, nat_tests)
-
-not_below : (p : ℕ) → p < 2 → nat_lt p 2 ≡ true
-not_below p h = grind (arith, nat_tests)
-
 -- a dot up to the last of a run is before it, or in it
 upto : (a b s lo hi : ℕ) → lo ≤ hi → is_lt (ordering_then (nat_cmp b a) (nat_cmp hi s)) ≡ false → (is_lt (ordering_then (nat_cmp a b) (nat_cmp s lo)) ≡ true) ⊎ ((a ≡ b) × (lo ≤ s) × (s ≤ hi))
 upto a b s lo hi le h = grind (arith, nat_tests)
@@ -95,29 +89,6 @@ claim_step peer v rows after next later is above to = record {
 pub claim_other : (peer : Dot → ℕ) (v : Lived) (rows : List Row) (after : Option Dot) (next : DotRow) (rest : List Row) → IsNextRow peer v after (Some next) → IsClaimedTo peer v rows after rest → ((later : List Row) → rest ≡ row_of next ∷ later → ⊥) → IsUnclaimed peer v rows
 claim_other peer v rows after next rest is to other = record { fails = λ above more flat h. other (rows_after peer v (Some (end_of next)) more) ((to.left more flat).0 h ∙ step_rows peer v after next is more flat) }
 
--- a next row that isn't above
-pub claim_low : (peer : Dot → ℕ) (v : Lived) (rows : List Row) (after : Option Dot) (next : DotRow) → IsNextRow peer v after (Some next) → row_above next ≡ false → IsUnclaimed peer v rows
-claim_low peer v rows after (dots.Live d p) is low = record {
-  fails = λ above more flat h.
-      let one = live_rank (map.get v d) is.live in
-      let lt = above d (some_live (map.get v d) is.live) in
-      let same = is.rank in
-      false≢true (sym low ∙ not_zero p (omega (arith, one, lt, same)));
-}
-  where
-    some_live : (o : Option Life) → is_some (entry_of o) ≡ true → is_some o ≡ true
-    some_live None h = h
-    some_live (Some l) h = refl
-claim_low peer v rows after (dots.Dead r p) is low = record {
-  fails = λ above more flat h.
-      let rises = is.is_run.rises in
-      let dead = is.dead r.lo (omega arith) rises in
-      let lt = above (first_of r) (ap is_some dead) in
-      let two : life_rank (map.get v (first_of r)) ≡ 2 = ap life_rank dead in
-      let same = is.rank r.lo (omega arith) rises in
-      false≢true (sym low ∙ not_below p (omega (arith, two, lt, same)));
-}
-
 -- no more dots
 pub claim_end : (peer : Dot → ℕ) (v : Lived) (rows : List Row) (after : Option Dot) (rest : List Row) → IsNextRow peer v after None → IsClaimedTo peer v rows after rest → IsClaimed peer v rows rest
 claim_end peer v rows after rest none to = record {
@@ -130,9 +101,6 @@ claim_end peer v rows after rest none to = record {
     by_after : (d : Dot) (b : Bool) → comes_after after d ≡ b → IsAboveAt peer v d
     by_after d true comes = nothing peer v d (none d comes)
     by_after d false comes = to.above d comes
-
-pub claim_start : (peer : Dot → ℕ) (v : Lived) (rows : List Row) → IsClaimedTo peer v rows None rows
-claim_start peer v rows = record { above = λ d h. absurd (false≢true (sym h)); left = λ more flat. (λ h. h, λ h. h) }
 
 -- fewer dots are left
 pub fewer_left : (peer : Dot → ℕ) (v : Lived) (after : Option Dot) (next : DotRow) → IsNextRow peer v after (Some next) → length (after_of (Some (end_of next)) v) < length (after_of after v)

@@ -1,5 +1,6 @@
 -- Claims are grouped into the fewest rows in one way.
-use Rattle.std.proofs.Common.{◌≡◌, ℕ, zero, suc, ◌+◌, ◌-◌, ◌≤◌, Bool, true, false, not, cond, ◌&&◌, ◌==◌, List, [], ◌∷◌, ◌++◌, refl, sym, ◌∙◌, ap, arith}
+use Rattle.std.proofs.Common.{◌≡◌, ℕ, zero, suc, ◌+◌, ◌-◌, ◌≤◌, true, false, not, cond, ◌&&◌, ◌==◌, List, [], ◌∷◌, ◌++◌, refl, sym, ◌∙◌, ap, arith}
+use Rattle.std.proofs.lemmas.Bool.{not-true}
 use Rattle.std.specs.Prelude.{map as each, nat_le}
 use Rattle.std.specs.List.{list_all}
 use Rattle.std.proofs.lemmas.Bool.Decides.{nat_tests}
@@ -21,15 +22,11 @@ grouped-append (c ∷ cs) ds rs = ap (front c) (grouped-append cs ds rs)
 goes : (r s p q lo hi : ℕ) → r ≡ s → p ≡ q → lo ≡ hi + 1 → ((r == s) && (p == q) && (lo == hi + 1)) ≡ true
 goes r s p q lo hi a b c = grind (arith, nat_tests)
 
-not_true : (b : Bool) → not b ≡ true → b ≡ false
-not_true true h = sym h
-not_true false h = refl
-
 -- a dead dot that nothing goes on from
 alone : (replica seq p : ℕ) (rs : List Row) → stops_before (rows.Dead (run_of replica seq seq) p) rs ≡ true → dead_front (record { replica = replica; seq = seq }) p rs ≡ rows.Dead (run_of replica seq seq) p ∷ rs
 alone replica seq p [] h = refl
 alone replica seq p (rows.Live e ∷ rs) h = refl
-alone replica seq p (rows.Dead r q ∷ rs) h = ap (λ b. cond b (rows.Dead (run_of replica seq r.hi) p ∷ rs) (rows.Dead (run_of replica seq seq) p ∷ rows.Dead r q ∷ rs)) (not_true (goes_on (rows.Dead (run_of replica seq seq) p) (rows.Dead r q)) h)
+alone replica seq p (rows.Dead r q ∷ rs) h = ap (λ b. cond b (rows.Dead (run_of replica seq r.hi) p ∷ rs) (rows.Dead (run_of replica seq seq) p ∷ rows.Dead r q ∷ rs)) (not-true (goes_on (rows.Dead (run_of replica seq seq) p) (rows.Dead r q)) h)
 alone replica seq p (rows.Count key rep which sent peer ∷ rs) h = refl
 
 run_onto : (replica lo p n : ℕ) (rs : List Row) → stops_before (rows.Dead (run_of replica lo (lo + n)) p) rs ≡ true → grouped_onto (each (λ d. OfDead d p) (dots_from replica lo (suc n))) rs ≡ rows.Dead (run_of replica lo (lo + n)) p ∷ rs

@@ -55,12 +55,16 @@ module _ (v : Lived) (g : DigestValue) where
   nothing_above inside none d = no_life (map.get v d) (set.contains g.seen d) (set.contains g.live d) (inside.each_dot d) (none d)
 
   -- where the digest has all seen dots, what is dead here and live there is sent alone
-  pub sent_inside : IsInside (seen_of v) g.seen → (d : Dot) → (is_dead (map.get v d) && set.contains g.live d) ≡ is_sent (map.get v d) (set.contains g.seen d) (set.contains g.live d)
-  sent_inside inside d = sent_known (map.get v d) (set.contains g.seen d) (set.contains g.live d) (λ is. inside.each_dot d (contains-seen_of v d ∙ is))
+  pub sent_inside : {s t : Dots} → s ≡ seen_of v → t ≡ g.seen → IsInside s t → (d : Dot) → (is_dead (map.get v d) && set.contains g.live d) ≡ is_sent (map.get v d) (set.contains g.seen d) (set.contains g.live d)
+  sent_inside seen known inside d =
+      let whole : IsInside (seen_of v) g.seen = rw (← seen, ← known) inside in
+      sent_known (map.get v d) (set.contains g.seen d) (set.contains g.live d) (λ is. whole.each_dot d (contains-seen_of v d ∙ is))
 
   module _ (none : (d : Dot) → is_sent (map.get v d) (set.contains g.seen d) (set.contains g.live d) ≡ false) where
-    pub nothing_new : IsInside (seen_of v) g.seen
-    nothing_new = record { each_dot = λ d is. all_known (map.get v d) (set.contains g.seen d) (set.contains g.live d) (none d) (sym (contains-seen_of v d) ∙ is) }
+    pub nothing_new : {s t : Dots} → s ≡ seen_of v → t ≡ g.seen → IsInside s t
+    nothing_new seen known =
+        let whole : IsInside (seen_of v) g.seen = record { each_dot = λ d is. all_known (map.get v d) (set.contains g.seen d) (set.contains g.live d) (none d) (sym (contains-seen_of v d) ∙ is) } in
+        rw (seen, known) whole
 
     pub nothing_killed : (d : Dot) → (is_dead (map.get v d) && set.contains g.live d) ≡ false
     nothing_killed d = none_dead (map.get v d) (set.contains g.seen d) (set.contains g.live d) (none d)

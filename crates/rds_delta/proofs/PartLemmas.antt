@@ -1,5 +1,6 @@
 -- What the first run after a dot says of a stretch and of a part.
 use Rattle.std.proofs.Common.{◌≡◌, ℕ, ◌+◌, ◌-◌, ◌*◌, ◌<◌, ◌≤◌, Bool, true, false, cond, ◌&&◌, ◌==◌, Option, Some, None, refl, sym, ◌∙◌, ap, subst, arith, eqb, leb}
+use Rattle.std.proofs.lemmas.Bool.{false_from_ne_true}
 use Rattle.std.specs.Prelude.{nat_le}
 use mathlib.Core.Bool.{false≢true}
 use Rattle.std.specs.Ordering.{nat_cmp, ordering_then, is_lt}
@@ -87,10 +88,6 @@ and_false : (a b : Bool) → b ≡ false → (a && b) ≡ false
 and_false true b h = h
 and_false false b h = refl
 
-from_true : (b : Bool) → (b ≡ true → ⊥) → b ≡ false
-from_true true h = absurd (h refl)
-from_true false h = refl
-
 -- a dot not before a run, but before a number of it, is in the run
 same_replica : (a s ρ lo n : ℕ) → s ≤ 281474976710655 → ρ * 281474976710656 + lo ≤ a * 281474976710656 + s → is_lt (ordering_then (nat_cmp a ρ) (nat_cmp s n)) ≡ true → a ≡ ρ
 same_replica a s ρ lo n most from h = grind (arith, nat_tests)
@@ -106,7 +103,7 @@ module _ (s : Dots) (dots : (d : Dot) → set.contains s d ≡ true → is_dot d
   runs = are_runs s dots
 
   pub no_part : None ≡ first_after after (runs_of s) → (d : Dot) → comes_after after d ≡ true → set.contains s d ≡ false
-  no_part none d comes = from_true _ (λ h. none_after (runs_of s) after (sym none) d (runs.same d ∙ h) comes)
+  no_part none d comes = false_from_ne_true _ (λ h. none_after (runs_of s) after (sym none) d (runs.same d ∙ h) comes)
 
   module _ (r : Run) (is : Some r ≡ first_after after (runs_of s)) where
     one : IsFirst (runs_of s) after r
@@ -133,7 +130,7 @@ module _ (s : Dots) (dots : (d : Dot) → set.contains s d ≡ true → is_dot d
           follows = q.follows;
           inside = λ m x y. there m (omega arith) y;
           ends = sym (runs.same (dot_of r.replica (r.hi + 1))) ∙ covers_is (runs_of s) runs.maximal (dot_of r.replica (r.hi + 1)) ∙ and_false (is_dot (dot_of r.replica (r.hi + 1))) _ (ap (has (runs_of s)) (place_is r.replica r.hi) ∙ one.gap);
-          first = λ d comes lt. from_true _ (λ h.
+          first = λ d comes lt. false_from_ne_true _ (λ h.
               let from = one.first d (runs.same d ∙ h) comes in
               let most = (dot_limits d (dots d h)).within in
               let same = same_replica d.replica d.seq r.replica r.lo n most from lt in

@@ -27,6 +27,13 @@ pub fn least_delta_laws()
     ensures compatible { (a c : Coordinates) (b : Ranks) → AreCompatible c a → AreCompatible c (least a b) }
 {}
 
+/// What [`delta`](crate::delta) says of its result is met by no second state: the least delta of a state against a
+/// digest is one. So the contract refuses each wrong delta. The function does nothing: its contract is this law.
+pub fn a_delta_has_one_result()
+    ensures { (a : Coordinates) (b : Ranks) (v w : StateValue) → coordinates v ≡ least a b → coordinates w ≡ least a b
+        → v ≡ w }
+{}
+
 /// A delta whose components are all above a digest, as `check` says of it, does no harm, whoever made it: the state
 /// that was digested is compatible with it, and it lies below each state that is compatible with that one and does
 /// to it what the delta does, so that it has nothing that isn't needed. The function does nothing: its contract is

@@ -18,5 +18,7 @@ pub use checking::check;
 pub use deltas::delta;
 pub use digest::Digest;
 pub use inside::is_inside;
-pub use laws::{checked_delta_laws, friends_exchange_deltas, least_delta_laws};
+pub use laws::{
+    a_delta_has_one_result, checked_delta_laws, friends_exchange_deltas, least_delta_laws,
+};
 pub use row::{Certificate, Row};

@@ -1,5 +1,5 @@
 -- Rows that are added where a dot is unseen, and taken out again.
-use Rattle.std.proofs.Common.{◌≡◌, Bool, true, false, not, ◌&&◌, cond, List, [], ◌∷◌, Option, Some, None, refl, sym, ◌∙◌, ap, subst}
+use Rattle.std.proofs.Common.{◌≡◌, Bool, true, false, not, ◌&&◌, cond, List, ◌∷◌, Option, Some, None, refl, sym, ◌∙◌, ap, subst}
 use mathlib.Core.Bool.{false≢true}
 use Rattle.std.specs.Prelude.{is_some}
 use Rattle.std.specs.List.{list_all}
@@ -32,25 +32,6 @@ pub record IsAdding (seen : Dot → Bool) (other rest old now : Rows) : Type 0 w
   pub leads : (d : Dot) → gained (seen d) (at d now) (at d rest) ≡ gained (seen d) (at d old) (at d other)
   pub added : IsAdded seen other old now
 
-none_of : (o : Option Entry) → is_some o ≡ false → o ≡ None
-none_of None h = refl
-none_of (Some e) h = absurd (false≢true (sym h))
-
-pub adding_starts : (seen : Dot → Bool) (other old : Rows) → ascends (keys other) ≡ true → IsAdding seen other other old old
-adding_starts seen other old rise = record {
-  rise = rise;
-  within = λ d none. none_of (at d other) none;
-  leads = λ d. refl;
-  added = record { seen_stay = λ d _. refl; others_stay = λ d _. refl };
-}
-
-gained_none : (b : Bool) (o : Option Entry) → gained b o None ≡ o
-gained_none true o = refl
-gained_none false o = refl
-
-pub adding_ends : (seen : Dot → Bool) (other rest old now : Rows) → IsAdding seen other rest old now → rest ≡ [] → (d : Dot) → at d now ≡ gained (seen d) (at d old) (at d other)
-adding_ends seen other rest old now is none d = sym (gained_none (seen d) (at d now)) ∙ ap (λ rows. gained (seen d) (at d now) (at d rows)) (sym none) ∙ is.leads d
-
 module _ (seen : Dot → Bool) (other later old now : Rows) (row : Dot × Entry) where
   later_none : (d : Dot) → (b : Bool) → eq_by_cmp dot_cmp d row.0 ≡ b → cond b (Some row.1) (at d later) ≡ None → at d later ≡ None
   later_none d true is h = absurd (no_some row.1 h)
@@ -58,20 +39,6 @@ module _ (seen : Dot → Bool) (other later old now : Rows) (row : Dot × Entry)
       no_some : (e : Entry) → Some e ≡ None → ⊥
       no_some e h = cc
   later_none d false is h = h
-
-  pub adding_passes : (rest : Rows) → rest ≡ row ∷ later → IsAdding seen other rest old now → seen row.0 ≡ true → IsAdding seen other later old now
-  adding_passes rest split is has =
-      let i : IsAdding seen other (row ∷ later) old now = subst (λ rows. IsAdding seen other rows old now) split is in
-      record {
-        rise = and_right (list_all (is_above row.0) (keys later)) _ i.rise;
-        within = λ d none. later_none d (eq_by_cmp dot_cmp d row.0) refl (i.within d none);
-        leads = λ d. by d (eq_by_cmp dot_cmp d row.0) refl (i.leads d);
-        added = i.added;
-      }
-    where
-      by : (d : Dot) (b : Bool) → eq_by_cmp dot_cmp d row.0 ≡ b → gained (seen d) (at d now) (cond b (Some row.1) (at d later)) ≡ gained (seen d) (at d old) (at d other) → gained (seen d) (at d now) (at d later) ≡ gained (seen d) (at d old) (at d other)
-      by d true is h = let s : seen d ≡ true = ap seen (same_dot d row.0 is) ∙ has in ap (λ x. gained x (at d now) (at d later)) s ∙ sym (ap (λ x. gained x (at d now) (Some row.1)) s) ∙ h
-      by d false is h = h
 
   pub adding_puts : (rest put : Rows) → rest ≡ row ∷ later → IsAdding seen other rest old now → seen row.0 ≡ false → put ≡ map.put dot_cmp row.0 row.1 now → IsAdding seen other later old put
   adding_puts rest put split is unseen puts =
@@ -112,21 +79,7 @@ module _ (seen : Dot → Bool) (other later old now : Rows) (row : Dot × Entry)
 pub record IsDropping (seen : Dot → Bool) (other rest old now : Rows) : Type 0 where
   pub leads : (d : Dot) → dropped (seen d) (is_some (at d rest)) (at d now) ≡ dropped (seen d) (is_some (at d other)) (at d old)
 
-pub dropping_ends : (seen : Dot → Bool) (other rest old now : Rows) → IsDropping seen other rest old now → rest ≡ [] → (d : Dot) → at d now ≡ dropped (seen d) (is_some (at d other)) (at d old)
-dropping_ends seen other rest old now is none d = sym (nothing (seen d)) ∙ ap (λ rows. dropped (seen d) (is_some (at d rows)) (at d now)) (sym none) ∙ is.leads d
-  where
-    nothing : (b : Bool) → dropped b false (at d now) ≡ at d now
-    nothing true = refl
-    nothing false = refl
-
 module _ (seen : Dot → Bool) (other later old now : Rows) (row : Dot × Entry) where
-  pub dropping_passes : (rest : Rows) → rest ≡ row ∷ later → IsDropping seen other rest old now → seen row.0 ≡ true → IsDropping seen other later old now
-  dropping_passes rest split is has = record { leads = λ d. by d (eq_by_cmp dot_cmp d row.0) refl ((subst (λ rows. IsDropping seen other rows old now) split is).leads d) }
-    where
-      by : (d : Dot) (b : Bool) → eq_by_cmp dot_cmp d row.0 ≡ b → dropped (seen d) (is_some (cond b (Some row.1) (at d later))) (at d now) ≡ dropped (seen d) (is_some (at d other)) (at d old) → dropped (seen d) (is_some (at d later)) (at d now) ≡ dropped (seen d) (is_some (at d other)) (at d old)
-      by d true is h = let s : seen d ≡ true = ap seen (same_dot d row.0 is) ∙ has in ap (λ x. dropped x (is_some (at d later)) (at d now)) s ∙ sym (ap (λ x. dropped x true (at d now)) s) ∙ h
-      by d false is h = h
-
   pub dropping_takes : (rest less : Rows) → rest ≡ row ∷ later → IsDropping seen other rest old now → seen row.0 ≡ false → ((d : Dot) → at d less ≡ cond (eq_by_cmp dot_cmp d row.0) None (at d now)) → IsDropping seen other later old less
   dropping_takes rest less split is unseen found = record { leads = λ d. ap (dropped (seen d) (is_some (at d later))) (found d) ∙ by d (eq_by_cmp dot_cmp d row.0) refl ((subst (λ rows. IsDropping seen other rows old now) split is).leads d) }
     where

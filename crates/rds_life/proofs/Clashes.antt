@@ -1,5 +1,5 @@
 -- Looking for a clash through two lists of rows.
-use Rattle.std.proofs.Common.{◌≡◌, ◌⊎◌, inl, inr, true, false, cond, List, [], ◌∷◌, Option, Some, None, refl, sym, ◌∙◌, ap, subst}
+use Rattle.std.proofs.Common.{◌≡◌, ◌⊎◌, inl, inr, true, false, cond, List, ◌∷◌, Option, Some, None, refl, sym, ◌∙◌, ap, subst}
 use Rattle.std.specs.Ordering.{eq_by_cmp, is_eq, is_lt}
 use Rattle.std.specs.List.{list_all}
 use Rattle.std.specs.FinMap.{find}
@@ -25,9 +25,6 @@ pub record IsPast {X : Type 0} (a b xs ys : List (Dot × X)) : Type 0 where
   pub each_dot : (d : Dot) → SameIfBoth (find dot_cmp d a) (find dot_cmp d b) ⊎ ((find dot_cmp d xs ≡ find dot_cmp d a) × (find dot_cmp d ys ≡ find dot_cmp d b))
 
 module _ {X : Type 0} where
-  none_left : (f : Option X) → SameIfBoth None f
-  none_left f = tt
-
   pub none_right : (e : Option X) → SameIfBoth e None
   none_right None = tt
   none_right (Some e) = tt
@@ -37,9 +34,6 @@ module _ {X : Type 0} where
 
   pub by_right : (e f : Option X) → f ≡ None → SameIfBoth e f
   by_right e f h = subst (λ o. SameIfBoth e o) (sym h) (none_right e)
-
-  pub past_none : (a b : List (Dot × X)) → ascends (keys a) ≡ true → ascends (keys b) ≡ true → IsPast a b a b
-  past_none a b rise_a rise_b = record { rise_xs = rise_a; rise_ys = rise_b; from_a = λ d e h. h; from_b = λ d e h. h; each_dot = λ d. inr (refl, refl) }
 
   not_none : (e : X) → ¬ (None ≡ Some e)
   not_none e h = cc
@@ -101,13 +95,6 @@ module _ {X : Type 0} where
           ] tests both.0
     ];
   }
-
-  -- where one list is at its end, there is no clash
-  pub past_all_left : (a b ys : List (Dot × X)) → IsPast a b [] ys → (d : Dot) → SameIfBoth (find dot_cmp d a) (find dot_cmp d b)
-  past_all_left a b ys past d = elim (past.each_dot d) [ inl same ↦ same | inr both ↦ by_left _ _ (sym both.0) ]
-
-  pub past_all_right : (a b xs : List (Dot × X)) → IsPast a b xs [] → (d : Dot) → SameIfBoth (find dot_cmp d a) (find dot_cmp d b)
-  past_all_right a b xs past d = elim (past.each_dot d) [ inl same ↦ same | inr both ↦ by_right _ _ (sym both.1) ]
 
   -- a dot with different entries is the first
   before_none : (q : Dot) (x : Dot × X) (xs : List (Dot × X)) → dot_cmp q x.0 ≡ Less → list_all (is_above x.0) (keys xs) ≡ true → find dot_cmp q (x ∷ xs) ≡ None

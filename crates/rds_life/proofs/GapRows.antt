@@ -1,5 +1,6 @@
 -- Rows that lie in a gap of a set are leapt.
-use Rattle.std.proofs.Common.{◌≡◌, ℕ, ◌+◌, ◌-◌, ◌*◌, ◌<◌, ◌≤◌, Bool, true, false, cond, not, ◌&&◌, List, [], ◌∷◌, length, Some, None, refl, sym, ◌∙◌, ap, arith}
+use Rattle.std.proofs.Common.{◌≡◌, ℕ, ◌+◌, ◌-◌, ◌*◌, ◌<◌, ◌≤◌, true, false, cond, not, ◌&&◌, List, [], ◌∷◌, length, Some, None, refl, sym, ◌∙◌, ap, arith}
+use Rattle.std.proofs.lemmas.Bool.{false_from_ne_true}
 use Rattle.std.specs.Prelude.{is_some}
 use Rattle.std.specs.FinMap as map
 use Rattle.std.specs.FinSet as set
@@ -22,17 +23,13 @@ use Rattle.rds_life.specs.Added.{gone_rows, is_gone, IsGapEnd}
 use Rattle.rds_life.specs.Life.{keys}
 use Rattle.rds_life.specs.Past.{rows_past}
 
-none_there : (b : Bool) → (b ≡ true → ⊥) → b ≡ false
-none_there true h = absurd (h refl)
-none_there false h = refl
-
 -- what isn't past the dot before a run lies before the run
 before_run : (ρ lo a n : ℕ) → 1 ≤ lo → n ≤ 281474976710655 → is_lt (ordering_then (nat_cmp ρ a) (nat_cmp (lo - 1) n)) ≡ false → a * 281474976710656 + n < ρ * 281474976710656 + lo
 before_run ρ lo a n one most h = grind (arith, nat_tests)
 
 module _ (s : Dots) (dots : (d : Dot) → set.contains s d ≡ true → is_dot d ≡ true) (first : Dot) where
   pub ends_before : (r : Run) → Some r ≡ first_after (Some first) (runs_of s) → IsGapEnd s first (dot_of r.replica (r.lo - 1))
-  ends_before r is = λ d above upto. none_there _ (λ h.
+  ends_before r is = λ d above upto. false_from_ne_true _ (λ h.
       let runs = are_runs s dots in
       let one = is_first (runs_of s) runs.maximal (Some first) r (sym is) in
       let from = one.first d (runs.same d ∙ h) above in
@@ -44,7 +41,7 @@ module _ (s : Dots) (dots : (d : Dot) → set.contains s d ≡ true → is_dot d
   begins_later r is = (is_first (runs_of s) (are_runs s dots).maximal (Some first) r (sym is)).bounds.one
 
   pub no_end : (last : Dot) → None ≡ first_after (Some first) (runs_of s) → IsGapEnd s first last
-  no_end last is = λ d above upto. none_there _ (λ h. none_after (runs_of s) (Some first) (sym is) d ((are_runs s dots).same d ∙ h) above)
+  no_end last is = λ d above upto. false_from_ne_true _ (λ h. none_after (runs_of s) (Some first) (sym is) d ((are_runs s dots).same d ∙ h) above)
 
 module _ (s : Dots) (live : List (Dot × Entry)) (first last : Dot) (gap : IsGapEnd s first last) where
   abbrev pub gone : List (Dot × Entry) → List (Dot × Entry)

@@ -13,6 +13,7 @@ pub mod Counting
 pub mod Finds
 pub mod GapRows
 pub mod Kills
+pub mod LifeOrder
 pub mod LivedLemmas
 pub mod MappedRows
 pub mod NothingSeen

@@ -1,17 +1,21 @@
 -- What seen dots and rows mean, and what their join and clashes mean.
 use Rattle.std.proofs.Common.{◌≡◌, Bool, true, false, ◌||◌, ◌&&◌, cond, List, [], ◌∷◌, Option, Some, None, refl, sym, ◌∙◌, ap}
 use mathlib.Core.Bool.{false≢true}
-use Rattle.std.specs.Prelude.{◌↔◌, map as each, is_some}
+use Rattle.std.specs.Prelude.{◌↔◌, ◌≢◌, map as each, is_some, Result, Ok, Err}
 use Rattle.rds_life.specs.declared.rank.Rank.{Rank}
 use Rattle.rds_life.specs.declared.rank.Rank.TheVariants as ranks
 use Rattle.rds_life.specs.Rank.{rank_of}
 use Rattle.rds_life.specs.Fits.{fits, before_next}
 use Rattle.std.specs.List.{list_all}
-use Rattle.std.specs.Ordering.{eq_by_cmp, is_eq}
+use Rattle.std.specs.Ordering.{eq_by_cmp, is_eq, is_lt, ordering_reverse}
+use Rattle.std.specs.declared.cmp.Ordering.{Ordering}
+use Rattle.std.specs.declared.cmp.Ordering.TheVariants.{Less, Equal, Greater}
 use Rattle.std.specs.Cmp.{tied_itself}
 use Rattle.std.specs.FinMap as map
 use Rattle.std.specs.FinSet as set
 use Rattle.rds_names.specs.declared.entry.Entry.{Entry}
+use Rattle.rds_names.specs.declared.fault.Fault.{Fault}
+use Rattle.rds_names.specs.declared.fault.Fault.TheVariants.{Memory, Conflict}
 use Rattle.rds_dots.specs.declared.dot.Dot.{Dot}
 use Rattle.rds_dots.specs.Dots.{dot_cmp, Dots}
 use Rattle.rds_dots.specs.Ascending.{ascends, is_above}
@@ -20,7 +24,8 @@ use Rattle.rds_dots.specs.Merges.{above_trans}
 use Rattle.rds_names.specs.Conditions.{and_true, and_left, and_right, less_of}
 use Rattle.rds_life.specs.Joined.{joined}
 use Rattle.rds_life.specs.Clash.{SameIfBoth, Clashes}
-use Rattle.rds_life.specs.Life.{Life, Live, Dead, Lived, keys, life_of, life_in, entry_of, lived, AreRows, join_life, IsJoin, Agree, Conflicts}
+use Rattle.rds_life.specs.Life.{Life, Lived, keys, life_of, life_in, entry_of, lived, AreRows, join_life, IsJoin, Agree, IsFirstConflict, Conflicts, MergeGives}
+use Rattle.rds_life.proofs.LifeOrder.{join_none}
 use Rattle.rds_life.proofs.RowLemmas.{find_outside, find-each}
 use Rattle.rds_life.proofs.Joins.{pick, find-joined, ascends-joined}
 
@@ -83,10 +88,13 @@ module _ (s t : Dots) (a b : List (Dot × Entry)) (rows_a : AreRows s a) (rows_b
   neither false false e f h he hf = rw (he refl, hf refl) refl
 
   -- and they are rows
-  pub rows-joined : AreRows (set.union s t) (joined (set.contains s) (set.contains t) a b)
+  rows-joined : AreRows (set.union s t) (joined (set.contains s) (set.contains t) a b)
   rows-joined = are_rows_of (set.union s t) (joined (set.contains s) (set.contains t) a b) (ascends-joined (set.contains s) (set.contains t) a b rows_a.rise rows_b.rise) (λ d fails.
       find-joined (set.contains s) (set.contains t) d a b rows_a.rise rows_b.rise
       ∙ neither (set.contains s d) (set.contains t d) _ _ (sym (set.contains-union dots_total s t d) ∙ fails) (find_unseen s a rows_a d) (find_unseen t b rows_b d))
+
+  pub are_joined : {u : Dots} {r : List (Dot × Entry)} → u ≡ set.union s t → r ≡ joined (set.contains s) (set.contains t) a b → AreRows u r
+  are_joined seen rows = rw (seen, rows) rows-joined
 
   -- so lives of these rows and dots are the join
   pub is_joined : (u : Dots) (r : List (Dot × Entry)) (v w : Lived) → u ≡ set.union s t → r ≡ joined (set.contains s) (set.contains t) a b → lived s a ≡ v → lived t b ≡ w → IsJoin v w (lived u r)
@@ -129,18 +137,41 @@ module _ (s t : Dots) (a b : List (Dot × Entry)) (rows_a : AreRows s a) (rows_b
 pub one_join : (a b c d : Lived) → IsJoin a b c → IsJoin a b d → c ≡ d
 one_join a b c d first second = map.same_map dots_total dots_exact c d (λ q. first.each_dot q ∙ sym (second.each_dot q))
 
+-- and one least dot in conflict, or none
+one_first : (a b : Lived) (d e : Dot) → IsFirstConflict a b d → IsFirstConflict a b e → d ≡ e
+one_first a b d e one other = by (dot_cmp d e) refl
+  where
+    by : (o : Ordering) → dot_cmp d e ≡ o → d ≡ e
+    by Less is = absurd (one.here (other.first d (ap is_lt is)))
+    by Equal is = dots_exact d e is
+    by Greater is = absurd (other.here (one.first e (ap is_lt (dots_total.antisymm e d ∙ ap ordering_reverse is))))
+
+pub one_conflict : (a b : Lived) (r s : Option Dot) → Conflicts a b r → Conflicts a b s → r ≡ s
+one_conflict a b None None one other = refl
+one_conflict a b None (Some e) one other = absurd (other.here (one.each_dot e))
+one_conflict a b (Some d) None one other = absurd (one.here (other.each_dot d))
+one_conflict a b (Some d) (Some e) one other = ap Some (one_first a b d e one other)
+
+-- so a merge has one answer, where there is memory
+pub one_answer : (a b : Lived) (r s : Result (Unit {0}) Fault) → MergeGives a b r → MergeGives a b s → r ≢ Err Memory → s ≢ Err Memory → r ≡ s
+one_answer a b (Ok x) (Ok y) one other _ _ = refl
+one_answer a b (Ok x) (Err Memory) one other _ room = absurd (room refl)
+one_answer a b (Ok x) (Err (Conflict i n)) one other _ _ = absurd (other.here (one.each_dot (record { replica = i; seq = n })))
+one_answer a b (Ok x) (Err f) one other _ _ = absurd other
+one_answer a b (Err Memory) s one other room _ = absurd (room refl)
+one_answer a b (Err (Conflict i n)) (Ok y) one other _ _ = absurd (one.here (other.each_dot (record { replica = i; seq = n })))
+one_answer a b (Err (Conflict i n)) (Err Memory) one other _ room = absurd (room refl)
+one_answer a b (Err (Conflict i n)) (Err (Conflict j m)) one other _ _ = ap (λ (d : Dot). Err (Conflict d.replica d.seq)) (one_first a b _ _ one other)
+one_answer a b (Err (Conflict i n)) (Err f) one other _ _ = absurd other
+one_answer a b (Err f) s one other _ _ = absurd one
+
 pub lived_empty : (seen : Dots) (rows : List (Dot × Entry)) → seen ≡ set.empty → lived seen rows ≡ map.empty
 lived_empty seen rows none = map.same_map dots_total dots_exact _ _ (λ d.
     get-lived seen rows d ∙ ap (λ b. cond b (Some (life_in rows d)) None) (ap (λ s. set.contains s d) none ∙ set.contains-empty dot_cmp d) ∙ sym (map.get-empty dot_cmp d))
 
 -- so where nothing was seen, nothing is joined
-stays : (o : Option Life) → join_life o None ≡ o
-stays None = refl
-stays (Some (Live e)) = refl
-stays (Some Dead) = refl
-
 pub nothing_joined : (a b : Lived) → b ≡ map.empty → IsJoin a b a
-nothing_joined a b none = record { each_dot = λ d. sym (ap (λ l. join_life (map.get a d) (map.get l d)) none ∙ ap (join_life (map.get a d)) (map.get-empty dot_cmp d) ∙ stays (map.get a d)) }
+nothing_joined a b none = record { each_dot = λ d. sym (ap (λ l. join_life (map.get a d) (map.get l d)) none ∙ ap (join_life (map.get a d)) (map.get-empty dot_cmp d) ∙ join_none (map.get a d)) }
 
 is_some-cond : (b : Bool) (l : Life) → is_some (cond b (Some l) None) ≡ b
 is_some-cond true l = refl
@@ -175,12 +206,6 @@ rank-cond false o = refl
 
 pub rank_is : (s : Dots) (rows : List (Dot × Entry)) (v : Lived) → lived s rows ≡ v → (d : Dot) (b : Bool) (o : Option Entry) → set.contains s d ≡ b → map.find dot_cmp d rows ≡ o → ranked b o ≡ rank_of (map.get v d)
 rank_is s rows v is d b o eb eo = sym (ap (λ l. rank_of (map.get l d)) (sym is) ∙ ap rank_of (get-lived s rows d) ∙ rank-cond (set.contains s d) _ ∙ ap (λ x. ranked x (map.find dot_cmp d rows)) eb ∙ ap (ranked b) eo)
-
--- what ranks as unseen has no life
-pub unseen_of-rank : (o : Option Life) → rank_of o ≡ ranks.Unseen → o ≡ None
-unseen_of-rank None h = refl
-unseen_of-rank (Some (Live e)) h = cc
-unseen_of-rank (Some Dead) h = cc
 
 -- rows that fit are rows
 above_next : (d : Dot) (rows : List (Dot × Entry)) → before_next d rows ≡ true → ascends (keys rows) ≡ true → list_all (is_above d) (keys rows) ≡ true

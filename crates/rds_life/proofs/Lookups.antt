@@ -48,9 +48,6 @@ module _ {X : Type 0} (a : List (Dot × X)) (x : Dot × X) (rest : List (Dot × 
   }
 
 module _ {X : Type 0} (a b : List (Dot × X)) where
-  pub look_none : ascends (keys b) ≡ true → IsLookedUp a b b
-  look_none rise = record { rise = rise; leads = λ r h. h }
-
   module _ (was : List (Dot × X)) (x : Dot × X) (rest : List (Dot × X)) (is : was ≡ x ∷ rest) (past : IsLookedUp a b was) where
     rises : ascends (keys (x ∷ rest)) ≡ true
     rises = ap (λ l. ascends (keys l)) (sym is) ∙ past.rise

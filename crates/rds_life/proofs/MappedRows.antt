@@ -24,9 +24,6 @@ pub lookup-find : (d : Dot) (rows : Rows) → lookup (λ x. is_eq (dot_cmp d x))
 lookup-find d [] = refl
 lookup-find d (r ∷ rows) = ap (λ o. cond (eq_by_cmp dot_cmp d r.0) (Some r.1) o) (lookup-find d rows)
 
-kept_key : (d x : Dot) (e : Entry) (rows : Rows) → dot_cmp d x ≡ Equal → (x, e) ∷ rows ≡ (d, e) ∷ rows
-kept_key d x e rows is = ap (λ y. (y, e) ∷ rows) (sym (same_dot d x (ap is_eq is)))
-
 pub insert-put : (d : Dot) (e : Entry) (rows : Rows) → insert_entry dot_cmp rows d e ≡ map.put dot_cmp d e rows
 insert-put d e [] = refl
 insert-put d e (r ∷ rows) =

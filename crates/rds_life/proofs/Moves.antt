@@ -1,10 +1,10 @@
 -- Own rows and those that come, moved to the rows of a join.
-use Rattle.std.proofs.Common.{◌≡◌, Bool, true, false, not, cond, List, [], ◌∷◌, ◌++◌, Option, Some, None, length, refl, sym, ◌∙◌, ap, subst, rules, arith, append_assoc}
+use Rattle.std.proofs.Common.{◌≡◌, Bool, true, false, not, cond, List, [], ◌∷◌, ◌++◌, Option, Some, None, length, refl, sym, ◌∙◌, ap, rules, arith, append_assoc}
 use Rattle.std.specs.Vec.Iter.{into_iter_items, into_iter_len, into_iter_steps}
 use Rattle.std.specs.declared.vec.IntoIter.{IntoIter}
 use Rattle.std.specs.Ordering.{eq_by_cmp, is_eq}
 use Rattle.std.specs.declared.cmp.Ordering.{Ordering}
-use Rattle.std.specs.declared.cmp.Ordering.TheVariants.{Less, Equal, Greater}
+use Rattle.std.specs.declared.cmp.Ordering.TheVariants.{Less, Equal}
 use Rattle.std.specs.FinMap.Entries.{by_order}
 use Rattle.std.specs.FinMap.{find}
 use Rattle.std.specs.Cmp.{tied_itself}
@@ -28,16 +28,6 @@ module _ {X : Type 0} (sl sr : Dot → Bool) (xs ys : List (Dot × X)) where
     | true ↦ λ h. absurd (cc)
     | false ↦ λ h. h
   ] none
-
-  pub begins : (xs_known : (d : Dot) → sl d ≡ false → find dot_cmp d xs ≡ None) → IsMoving sl sr xs ys [] xs ys (outside sl ys)
-  begins known = record { joins = refl; comes = refl; known = known }
-
-  pub last : (out own coming : List (Dot × X)) (x : Dot × X) → IsMoving sl sr xs ys out (x ∷ own) [] coming → IsMoving sl sr xs ys (out ++ kept (not (sr x.0)) x []) own [] coming
-  last out own coming x is = record {
-    joins = kept_push out (not (sr x.0)) x (joined sl sr own []) ∙ is.joins;
-    comes = is.comes;
-    known = λ d unseen. later_known x own d (is.known d unseen);
-  }
 
   module _ (out own other coming : List (Dot × X)) (x y : Dot × X) (is : IsMoving sl sr xs ys out (x ∷ own) (y ∷ other) coming) where
     by : (o : Ordering) → dot_cmp x.0 y.0 ≡ o → out ++ by_order o (kept (not (sr x.0)) x (joined sl sr own (y ∷ other))) (x ∷ joined sl sr own other) (kept (not (sl y.0)) y (joined sl sr (x ∷ own) other)) ≡ joined sl sr xs ys
@@ -69,26 +59,17 @@ module _ {X : Type 0} (sl sr : Dot → Bool) (xs ys : List (Dot × X)) where
       known = λ d unseen. later_known x own d (is.known d unseen);
     }
 
-    pub other_first : (later : List (Dot × X)) → dot_cmp x.0 y.0 ≡ Greater → later ≡ outside sl other → IsMoving sl sr xs ys (out ++ kept (not (sl y.0)) y []) (x ∷ own) other later
-    other_first later greater comes = record {
-      joins = kept_push out (not (sl y.0)) y (joined sl sr (x ∷ own) other) ∙ by Greater greater;
-      comes = comes;
-      known = is.known;
-    }
-
 -- ---- the steps of the loop
 
-module _ {X : Type 0} (sl sr : Dot → Bool) (xs ys : List (Dot × X)) (out own other later coming : List (Dot × X)) (x y : Dot × X) (split : other ≡ y ∷ later) (is : IsMoving sl sr xs ys out (x ∷ own) other coming) where
+module _ {X : Type 0} {sl sr : Dot → Bool} {xs ys out rows own next other later coming : List (Dot × X)} {x y : Dot × X} (first : rows ≡ x ∷ own) (split : other ≡ y ∷ later) (rest : own ≡ next) (is : IsMoving sl sr xs ys out rows other coming) where
   is_split : IsMoving sl sr xs ys out (x ∷ own) (y ∷ later) coming
-  is_split = subst (λ o. IsMoving sl sr xs ys out (x ∷ own) o coming) split is
+  is_split = rw (← first, ← split) is
 
-  pub moves_own : (new : List (Dot × X)) → dot_cmp x.0 y.0 ≡ Less → new ≡ out ++ kept (not (sr x.0)) x [] → IsMoving sl sr xs ys new own other coming
-  moves_own new less made =
-      subst (λ rows. IsMoving sl sr xs ys rows own other coming) (sym made)
-      (subst (λ o. IsMoving sl sr xs ys (out ++ kept (not (sr x.0)) x []) own o coming) (sym split) (own_first sl sr xs ys out own later coming x y is_split less))
+  pub moves_own : {new : List (Dot × X)} → dot_cmp x.0 y.0 ≡ Less → new ≡ out ++ kept (not (sr x.0)) x [] → IsMoving sl sr xs ys new next other coming
+  moves_own less made = rw (made, ← rest, split) (own_first sl sr xs ys out own later coming x y is_split less)
 
-  pub moves_both : (new : List (Dot × X)) → dot_cmp x.0 y.0 ≡ Equal → new ≡ out ++ x ∷ [] → IsMoving sl sr xs ys new own later coming
-  moves_both new same made = subst (λ rows. IsMoving sl sr xs ys rows own later coming) (sym made) (both sl sr xs ys out own later coming x y is_split same)
+  pub moves_both : {new : List (Dot × X)} → dot_cmp x.0 y.0 ≡ Equal → new ≡ out ++ x ∷ [] → IsMoving sl sr xs ys new next later coming
+  moves_both same made = rw (made, ← rest) (both sl sr xs ys out own later coming x y is_split same)
 
 -- with no own row left, those that come are the rest
 pub moves_rest : {X : Type 0} (sl sr : Dot → Bool) (xs ys out own other coming new : List (Dot × X)) → own ≡ [] → IsMoving sl sr xs ys out own other coming → new ≡ out ++ coming → new ≡ joined sl sr xs ys

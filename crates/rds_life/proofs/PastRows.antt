@@ -6,7 +6,7 @@ use Rattle.std.specs.List.Sorted.{IsPartitionPoint, IsPartitionedBy}
 use Rattle.std.specs.Ordering.{is_lt, is_le}
 use Rattle.std.specs.Cmp.{tied_itself}
 use Rattle.std.specs.declared.cmp.Ordering.TheVariants.{Less, Equal, Greater}
-use Rattle.std.proofs.lemmas.Bool.{cases_lt}
+use Rattle.std.proofs.lemmas.Bool.{cases_lt, not-false, not-true}
 use Rattle.rds_dots.proofs.Splits.{at_most_is}
 use Rattle.rds_life.proofs.Finds.{rises_at}
 use Rattle.rds_names.specs.Conditions.{and_true, and_left, and_right, less_of}
@@ -29,14 +29,6 @@ stays_above d a e le above =
 all_stay : (d a : Dot) → is_le (dot_cmp d a) ≡ true → (ds : List Dot) → list_all (is_above a) ds ≡ true → list_all (is_above d) ds ≡ true
 all_stay d a le [] all = refl
 all_stay d a le (e ∷ ds) all = and_true _ _ (stays_above d a e le (and_left (is_above a e) _ all)) (all_stay d a le ds (and_right (is_above a e) _ all))
-
-pub not_false : (b : Bool) → not b ≡ false → b ≡ true
-not_false true h = refl
-not_false false h = sym h
-
-not_true : (b : Bool) → not b ≡ true → b ≡ false
-not_true false h = refl
-not_true true h = sym h
 
 -- a dot that a later one passes is passed
 not_above : (last d e : Dot) → dot_cmp d e ≡ Less → not (is_above last e) ≡ true → not (is_above last d) ≡ true
@@ -118,7 +110,7 @@ module _ {X : Type 0} where
 
   -- a cut where the rows come to be above the dot
   pub past_at : (d : Dot) (rows : List (Dot × X)) (i : ℕ) → IsPartitionPoint (λ (r : Dot × X). not (is_above d r.0) ≡ true) (λ (r : Dot × X). not (is_above d r.0) ≡ false) rows i → drop i rows ≡ rows_past d rows
-  past_at d rows i point = cut_at (is_above d) rows i (λ k e lt under. not_true (is_above d (get_or rows k e).0) (point.0 k e (omega arith) under)) (λ k e lt past. not_false (is_above d (get_or rows k e).0) (point.1 k e past lt))
+  past_at d rows i point = cut_at (is_above d) rows i (λ k e lt under. not-true (is_above d (get_or rows k e).0) (point.0 k e (omega arith) under)) (λ k e lt past. not-false (is_above d (get_or rows k e).0) (point.1 k e past lt))
 
   -- a cut where they come to be at the dot or above it
   pub from_at : (d : Dot) (rows : List (Dot × X)) (i : ℕ) → IsPartitionPoint (λ (r : Dot × X). is_above r.0 d ≡ true) (λ (r : Dot × X). is_above r.0 d ≡ false) rows i → drop i rows ≡ rows_from d rows

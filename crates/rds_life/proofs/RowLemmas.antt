@@ -11,7 +11,7 @@ use Rattle.rds_dots.specs.declared.dot.Dot.{Dot}
 use Rattle.rds_dots.specs.Dots.{dot_cmp}
 use Rattle.rds_dots.specs.Ascending.{is_above, ascends}
 use Rattle.rds_dots.specs.Order.{dots_total, dots_exact}
-use Rattle.rds_names.specs.Conditions.{and_true, and_left, and_right, less_of}
+use Rattle.rds_names.specs.Conditions.{and_true, and_left, and_right, less_of, true_of}
 use Rattle.rds_dots.specs.Sets.{same_dot}
 use Rattle.rds_life.specs.Life.{keys}
 use Rattle.rds_life.specs.Joined.{kept}
@@ -32,10 +32,6 @@ module _ {X : Type 0} where
         | false ↦ λ _. again
       ] refl
 
-  pub all-keys : (p : Dot → Bool) (rows : List (Dot × X)) → list_all (λ r. p r.0) rows ≡ list_all p (keys rows)
-  all-keys p [] = refl
-  all-keys p (r ∷ rows) = ap (λ b. p r.0 && b) (all-keys p rows)
-
   pub find-kept : (d : Dot) (b : Bool) (r : Dot × X) (rows : List (Dot × X)) → find dot_cmp d (kept b r rows) ≡ cond b (cond (eq_by_cmp dot_cmp d r.0) (Some r.1) (find dot_cmp d rows)) (find dot_cmp d rows)
   find-kept d true r rows = refl
   find-kept d false r rows = refl
@@ -47,10 +43,6 @@ module _ {X : Type 0} where
   pub ascends-kept : (b : Bool) (r : Dot × X) (rows : List (Dot × X)) → list_all (is_above r.0) (keys rows) ≡ true → ascends (keys rows) ≡ true → ascends (keys (kept b r rows)) ≡ true
   ascends-kept true r rows first rise = and_true _ _ first rise
   ascends-kept false r rows first rise = rise
-
-from_T : (b : Bool) → T b → b ≡ true
-from_T true h = refl
-from_T false h = absurd h
 
 -- rows that rise are std's entries in order
 module _ {X : Type 0} where
@@ -66,7 +58,7 @@ module _ {X : Type 0} where
   sorted_of rows rise = subst T (sym (sym (rise-is_sorted rows) ∙ rise)) tt
 
   pub rise_of : (rows : List (Dot × X)) → T (is_sorted dot_cmp rows) → ascends (keys rows) ≡ true
-  rise_of rows sorted = rise-is_sorted rows ∙ from_T _ sorted
+  rise_of rows sorted = rise-is_sorted rows ∙ true_of _ sorted
 
   -- rows that rise are those of their look-ups
   pub same_rows : (ls rs : List (Dot × X)) → ascends (keys ls) ≡ true → ascends (keys rs) ≡ true → ((d : Dot) → find dot_cmp d ls ≡ find dot_cmp d rs) → ls ≡ rs

@@ -88,7 +88,8 @@ fn add_each<S: DotSet>(
 /// Takes out the rows of the other's unseen dots.
 fn drop_unseen<S: DotSet>(rows: &mut RowMap, seen: &S, other: &[(Dot, Entry)])
     ensures { (d : Dot) → map.find dot_cmp d rows.new
-        ≡ dropped (set.contains (S.contents seen.now) d) (is_some (map.find dot_cmp d other.now)) (map.find dot_cmp d rows.old) }
+        ≡ dropped (set.contains (S.contents seen.now) d) (is_some (map.find dot_cmp d other.now))
+        (map.find dot_cmp d rows.old) }
 {
     let mut rest = other;
     'dropping: loop {

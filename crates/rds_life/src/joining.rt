@@ -77,7 +77,8 @@ pub fn join_into<S: DotSet>(
 ) -> Result<(), Fault>
     requires { (d : Dot) → set.contains (S.contents seen.now) d ≡ false → map.find dot_cmp d rows.old.items ≡ None }
     ensures ok { OnOk result (rows.new.items
-        ≡ joined (set.contains (S.contents seen.now)) (set.contains (S.contents other_seen.now)) rows.old.items other.now) }
+        ≡ joined (set.contains (S.contents seen.now)) (set.contains (S.contents other_seen.now))
+        rows.old.items other.now) }
     ensures err { OnErr result (rows.new.items ≡ rows.old.items) }
     ensures memory { IfErr result (λ fault. fault ≡ Memory) }
 {
@@ -121,7 +122,8 @@ fn move_rows<S: DotSet>(
     requires seen { (d : Dot) → set.contains (S.contents seen.now) d ≡ false → map.find dot_cmp d own.items ≡ None }
     requires coming { coming.items ≡ outside (set.contains (S.contents seen.now)) other.now }
     ensures { rows.new.items
-        ≡ joined (set.contains (S.contents seen.now)) (set.contains (S.contents other_seen.now)) own.items other.entry.now }
+        ≡ joined (set.contains (S.contents seen.now)) (set.contains (S.contents other_seen.now))
+        own.items other.entry.now }
 {
     let mut mine = own.into_iter();
     let mut theirs = coming.into_iter();

@@ -7,6 +7,7 @@ mod dots;
 mod found;
 mod gone;
 mod joining;
+mod laws;
 mod live_rows;
 mod lives;
 mod rank;
@@ -16,6 +17,7 @@ mod store;
 
 pub use chosen::Choice;
 pub use found::Found;
+pub use laws::a_merge_of_lives_has_one_result;
 pub use live_rows::LiveRows;
 pub use lives::Lives;
 pub use rank::Rank;

@@ -231,7 +231,8 @@ impl Rows {
         requires seen { (d : Dot) → set.contains (S.contents seen.now) d ≡ false → map.find dot_cmp d self.old ≡ None }
         requires fit { AreRows (S.contents other_seen.now) other.now }
         ensures ok { OnOk result (self.new
-            ≡ joined (set.contains (S.contents seen.now)) (set.contains (S.contents other_seen.now)) self.old other.now) }
+            ≡ joined (set.contains (S.contents seen.now)) (set.contains (S.contents other_seen.now))
+            self.old other.now) }
         ensures err { OnErr result (self.new ≡ self.old) }
         ensures memory { IfErr result (λ fault. fault ≡ Memory) }
     {
@@ -252,7 +253,8 @@ impl Rows {
         requires { (d : Dot) → set.contains (S.contents seen.now) d ≡ false
             → map.find dot_cmp d target.old.items ≡ None }
         ensures ok { OnOk result (target.new.items
-            ≡ joined (set.contains (S.contents seen.now)) (set.contains (S.contents own_seen.now)) target.old.items self.now) }
+            ≡ joined (set.contains (S.contents seen.now)) (set.contains (S.contents own_seen.now))
+            target.old.items self.now) }
         ensures err { OnErr result (target.new.items ≡ target.old.items) }
         ensures memory { IfErr result (λ fault. fault ≡ Memory) }
     {
@@ -277,7 +279,8 @@ impl Rows {
             → map.find dot_cmp d target.old ≡ None }
         requires fit { AreRows (S.contents own_seen.now) self.now }
         ensures ok { OnOk result (target.new
-            ≡ joined (set.contains (S.contents seen.now)) (set.contains (S.contents own_seen.now)) target.old self.now) }
+            ≡ joined (set.contains (S.contents seen.now)) (set.contains (S.contents own_seen.now))
+            target.old self.now) }
         ensures err { OnErr result (target.new ≡ target.old) }
         ensures memory { IfErr result (λ fault. fault ≡ Memory) }
     {
@@ -301,7 +304,8 @@ impl Rows {
         requires rise { ascends (keys self.now) ≡ true }
         ensures ok { OnOk result ((d : Dot)
             → map.find dot_cmp d target.new ≡ dropped false (is_some (map.find dot_cmp d gone.now))
-            (gained (set.contains (S.contents seen.now) d) (map.find dot_cmp d target.old) (map.find dot_cmp d self.now))) }
+            (gained (set.contains (S.contents seen.now) d) (map.find dot_cmp d target.old)
+            (map.find dot_cmp d self.now))) }
         ensures err { OnErr result (target.new ≡ target.old) }
         ensures memory { IfErr result (λ fault. fault ≡ Memory) }
     {

@@ -25,7 +25,8 @@ impl Model for Name {
 
     ghost view = { λ n. take n.len n.bytes };
 
-    ghost invariant = { λ n. (length n.bytes ≡ 16) × (length (take n.len n.bytes) ≡ n.len) × (drop n.len n.bytes ≡ replicate (16 - n.len) 0) × IsTrue (is_name (take n.len n.bytes)) };
+    ghost invariant = { λ n. (length n.bytes ≡ 16) × (length (take n.len n.bytes) ≡ n.len)
+        × (drop n.len n.bytes ≡ replicate (16 - n.len) 0) × IsTrue (is_name (take n.len n.bytes)) };
 
     ghost inverse = { λ bs. record { bytes = bs ++ replicate (16 - length bs) 0; len = length bs } };
 

@@ -39,7 +39,8 @@ impl Model for Path {
 
     ghost view = { λ p. shared_items p.keys };
 
-    ghost invariant = { λ p. (length (shared_items p.keys) ≤ 8) × IfSome p.keys (λ keys. 1 ≤ length (rc_slice_items keys)) };
+    ghost invariant = { λ p. (length (shared_items p.keys) ≤ 8)
+        × IfSome p.keys (λ keys. 1 ≤ length (rc_slice_items keys)) };
 }
 
 impl Path {

@@ -1,6 +1,5 @@
 -- What an edit leaves fits.
 use Rattle.std.proofs.Common.{◌≡◌, ℕ, ◌+◌, ◌<◌, Bool, true, false, ◌&&◌, cond, List, Option, Some, None, Result, Ok, Err, OnErr, refl, sym, subst, arith, eqb}
-use mathlib.Core.Bool.{false≢true}
 use Rattle.std.specs.Prelude.{is_some, IfOk}
 use Rattle.std.specs.Ordering.{eq_by_cmp}
 use Rattle.std.proofs.lemmas.Bool.Decides.{nat_tests}
@@ -29,10 +28,6 @@ own_of a b n m h = grind (arith, nat_tests)
 killed_seen : (c : Command) (o : Option Life) → is_some (life_killed c o) ≡ true → is_some o ≡ true
 killed_seen c None h = h
 killed_seen c (Some l) h = refl
-
-number_zero : (b : Bool) (n : ℕ) → b ≡ false → 0 < cond b n 0 → ⊥
-number_zero true n e h = false≢true (sym e)
-number_zero false n e h = absurd (omega (arith, h))
 
 module _ (n : ℕ) (a : Coordinates) (own : ℕ) (fits : Fits n a) (small : own < n) where
   dot_fits : (c : Command) (made : Option Entry) (d : Dot) (b : Bool) → is_next a own d ≡ b → is_some (cond b (life_made made (life_killed c (a.life d))) (life_killed c (a.life d))) ≡ true → d.replica < n

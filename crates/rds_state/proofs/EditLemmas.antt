@@ -1,5 +1,6 @@
 -- What the steps of an edit come to: the join with the command's effect.
 use Rattle.std.proofs.Common.{◌≡◌, ℕ, zero, suc, ◌+◌, ◌<◌, ◌≤◌, Bool, true, false, not, ◌&&◌, cond, max, List, [], ◌∷◌, Option, Some, None, Result, Ok, Err, refl, sym, ◌∙◌, ap, subst, arith, ◌⊎◌, inl, inr, eqb, nat_lt}
+use Rattle.std.proofs.lemmas.Bool.{false_from_ne_true}
 use mathlib.Core.Bool.{false≢true}
 use Rattle.std.specs.Prelude.{is_some, ◌≢◌, IfOk}
 use Rattle.std.specs.Ordering.{eq_by_cmp}
@@ -22,10 +23,11 @@ use Rattle.rds_counts.specs.Place.{Place, place_cmp}
 use Rattle.rds_counts.specs.Counted.{number, place}
 use Rattle.rds_life.specs.Killed.{killed_by}
 use Rattle.rds_life.specs.Life.{Life, Live, Dead, join_life, seen_of}
+use Rattle.rds_life.proofs.LifeOrder.{join_none}
 use Rattle.rds_life.proofs.Views.{contains-seen_of}
 use Rattle.rds_state.specs.Chosen.{Parts, parts_of, is_chosen, same_dot, AreRaised}
 use Rattle.rds_state.specs.Coordinates.{Coordinates}
-use Rattle.rds_state.specs.Edit.{covers, IsMade, greatest, own_top, is_next, life_made, life_killed, effect_number, JoinsEffect, refusal, path_fault, seq_fault}
+use Rattle.rds_state.specs.Edit.{covers, IsMade, greatest, own_top, is_next, life_made, life_killed, number_raised, effect_number, JoinsEffect, refusal, path_fault, seq_fault}
 use Rattle.rds_state.specs.Value.{StateValue, coordinates}
 use Rattle.rds_state.specs.declared.command.Command.{Command}
 use Rattle.rds_state.specs.declared.command.Command.TheVariants.{Set, Add, Del, Clear, Inc, Dec}
@@ -51,10 +53,6 @@ greatest_is p (suc m) n h k o = elim (last_or_less n m h) [
     at_false : (b : Bool) (j g n : ℕ) → b ≡ false → g ≡ n → cond b j g ≡ n
     at_false b j g n h e = grind arith
 
-from_true : (b : Bool) → (b ≡ true → ⊥) → b ≡ false
-from_true true h = absurd (h refl)
-from_true false h = refl
-
 none_of : (o : Option Life) → is_some o ≡ false → o ≡ None
 none_of None h = refl
 none_of (Some l) h = absurd (false≢true (sym h))
@@ -68,7 +66,7 @@ module _ (v : StateValue) (own t : ℕ) (s : Dots) (seen : s ≡ seen_of v.lives
   seen_at n = sym (ap (λ x. set.contains x (dot_of own n)) seen ∙ contains-seen_of v.lives (dot_of own n))
 
   past : (n : ℕ) → t < n → is_some (map.get v.lives (dot_of own n)) ≡ false
-  past n lt = from_true _ (λ h. let le = is.at_most n (sym (seen_at n) ∙ h) in omega (arith, le, lt))
+  past n lt = false_from_ne_true _ (λ h. let le = is.at_most n (sym (seen_at n) ∙ h) in omega (arith, le, lt))
 
   within : t ≤ MAX_SEQ
   within = elim (above_zero t) [ inl z ↦ omega (arith, z) | inr one ↦ (dot_limits (dot_of own t) (dots (dot_of own t) (is.there one))).within ]
@@ -206,36 +204,28 @@ none_killed c none None = refl
 none_killed c none (Some (Live e)) = ap (λ b. cond b (Some Dead) None) (none e)
 none_killed c none (Some Dead) = refl
 
-join_none : (o : Option Life) → o ≡ join_life o None
-join_none None = refl
-join_none (Some (Live e)) = refl
-join_none (Some Dead) = refl
-
 life_kept : (c : Command) → ((e : Entry) → covers c e ≡ false) → (b : Bool) (o : Option Life) → o ≡ join_life o (cond b (life_made None (life_killed c o)) (life_killed c o))
-life_kept c none b o = join_none o ∙ ap (join_life o) (sym (none_killed c none o) ∙ cond_same b (life_killed c o))
+life_kept c none b o = sym (join_none o) ∙ ap (join_life o) (sym (none_killed c none o) ∙ cond_same b (life_killed c o))
 
 raised_max : (x : Bool) (n by : ℕ) → cond x (n + by) n ≡ max n (cond x (n + by) 0)
 raised_max true n by = omega arith
 raised_max false n by = omega arith
 
 module _ (a b : StateValue) (own : ℕ) (k : List ℕ) (by : ℕ) (lives : b.lives ≡ a.lives) where
-  pub inc_joins : AreRaised a.counts (place k own P) by b.counts → JoinsEffect (coordinates a) own (Inc k by) (coordinates b)
-  inc_joins raised = record {
+  raise_joins : (c : Command) (at : Place) → IsMade c None → ((e : Entry) → covers c e ≡ false) → ((q : Place) → number_raised (coordinates a) at by q ≡ effect_number (coordinates a) own c q) → AreRaised a.counts at by b.counts → JoinsEffect (coordinates a) own c (coordinates b)
+  raise_joins c at made none numbers raised = record {
     made = None;
-    is_made = refl;
+    is_made = made;
     joined = same_coordinates _ _
-        (λ d. ap (λ l. map.get l d) lives ∙ life_kept (Inc k by) (λ e. refl) (is_next (coordinates a) own d) (map.get a.lives d))
-        (λ q. raised q ∙ raised_max (eq_by_cmp place_cmp q (place k own P)) (number a.counts q) by);
+        (λ d. ap (λ l. map.get l d) lives ∙ life_kept c none (is_next (coordinates a) own d) (map.get a.lives d))
+        (λ q. raised q ∙ raised_max (eq_by_cmp place_cmp q at) (number a.counts q) by ∙ ap (max (number a.counts q)) (numbers q));
   }
 
+  pub inc_joins : AreRaised a.counts (place k own P) by b.counts → JoinsEffect (coordinates a) own (Inc k by) (coordinates b)
+  inc_joins = raise_joins (Inc k by) (place k own P) refl (λ e. refl) (λ q. refl)
+
   pub dec_joins : AreRaised a.counts (place k own N) by b.counts → JoinsEffect (coordinates a) own (Dec k by) (coordinates b)
-  dec_joins raised = record {
-    made = None;
-    is_made = refl;
-    joined = same_coordinates _ _
-        (λ d. ap (λ l. map.get l d) lives ∙ life_kept (Dec k by) (λ e. refl) (is_next (coordinates a) own d) (map.get a.lives d))
-        (λ q. raised q ∙ raised_max (eq_by_cmp place_cmp q (place k own N)) (number a.counts q) by);
-  }
+  dec_joins = raise_joins (Dec k by) (place k own N) refl (λ e. refl) (λ q. refl)
 
 pub if_ok : {T : Type 0} {X Y : T → Type 0} (r : Result T Fault) → ((x : T) → X x → Y x) → IfOk r X → IfOk r Y
 if_ok (Ok x) f h = f x h

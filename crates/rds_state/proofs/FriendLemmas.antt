@@ -1,30 +1,23 @@
 -- A friend's state is ahead in nothing, and in conflict with nothing.
-use Rattle.std.proofs.Common.{◌≡◌, ℕ, ◌⊎◌, Some, Result, Ok, Err, refl, sym, ◌∙◌, arith, inl, inr}
+use Rattle.std.proofs.Common.{◌≡◌, ℕ, ◌⊎◌, Some, Result, Ok, Err, refl, sym, ◌∙◌, inl, inr}
 use mathlib.Core.Bool.{false≢true}
 use Rattle.rds_names.specs.declared.fault.Own.{Own}
 use Rattle.rds_names.specs.declared.fault.Own.TheVariants.{Seq, Plus, Minus}
 use Rattle.rds_names.specs.declared.fault.Fault.{Fault}
 use Rattle.rds_names.specs.declared.fault.Fault.TheVariants.{Memory, Conflict, OwnAhead}
-use Rattle.rds_counts.specs.declared.row.Which.{Which}
 use Rattle.rds_counts.specs.declared.row.Which.TheVariants.{P, N}
-use Rattle.rds_counts.specs.Counted.{number}
 use Rattle.rds_dots.specs.Lacking.{dot_of}
 use Rattle.rds_life.proofs.Views.{contains-seen_of}
 use Rattle.rds_state.specs.Value.{StateValue, coordinates}
-use Rattle.rds_state.specs.Ahead.{Ahead, IsNumberAhead, TakeGives}
+use Rattle.rds_state.specs.Ahead.{Ahead, TakeGives}
 use Rattle.rds_state.specs.Friends.{AreFriends, KnowsItsOwn, MayTake}
-
-not_above : (own : ℕ) (a d : StateValue) → KnowsItsOwn own (coordinates a) (coordinates d) → (w : Which) (n : ℕ) → IsNumberAhead (number a.counts) own (number d.counts) w n → ⊥
-not_above own a d knows w n ahead =
-    let above = ahead.is_first.above in
-    let known = knows.numbers ahead.place ahead.is_first.own_place in
-    omega (arith, above, known)
+use Rattle.rds_state.proofs.OneAhead.{knows_none}
 
 never_ahead : (own : ℕ) (a d : StateValue) → KnowsItsOwn own (coordinates a) (coordinates d) → (o : Own) → Ahead a own d (Some o) → ⊥
 never_ahead own a d knows (Seq n) ahead =
     false≢true (sym ahead.lacking ∙ contains-seen_of a.lives (dot_of own n) ∙ knows.dots n (sym (contains-seen_of d.lives (dot_of own n)) ∙ ahead.there))
-never_ahead own a d knows (Plus n) ahead = not_above own a d knows P n ahead.1
-never_ahead own a d knows (Minus n) ahead = not_above own a d knows N n ahead.1
+never_ahead own a d knows (Plus n) ahead = knows_none _ own _ P n knows.numbers ahead.1
+never_ahead own a d knows (Minus n) ahead = knows_none _ own _ N n knows.numbers ahead.1
 
 -- what a replica may take is taken
 pub may_take_is_taken : (own : ℕ) (a d : StateValue) (answer : Result (Unit {0}) Fault) → MayTake own (coordinates a) (coordinates d) → TakeGives a own d answer → (answer ≡ Ok tt) ⊎ (answer ≡ Err Memory)

@@ -1,12 +1,11 @@
 -- The order of states, and their join.
-use Rattle.std.proofs.Common.{◌≡◌, ℕ, max, refl, sym, ap, ◌∙◌, arith, Option, Some, None}
+use Rattle.std.proofs.Common.{◌≡◌, ℕ, max, ap, arith}
 use Rattle.std.specs.FinMap as map
 use Rattle.rds_dots.specs.declared.dot.Dot.{Dot}
 use Rattle.rds_dots.specs.Order.{dots_total, dots_exact}
 use Rattle.rds_counts.specs.Place.{Place}
-use Rattle.rds_counts.specs.PlaceOrder.{place_total, place_exact}
-use Rattle.rds_counts.specs.Counted.{Above, number_from}
-use Rattle.rds_life.specs.Life.{Life, Live, Dead, IsNoLater, Agree, join_life}
+use Rattle.rds_counts.proofs.SameCounts.{same_counts}
+use Rattle.rds_life.proofs.LifeOrder.{life_reflexive, life_transitive, life_antisymmetric, life_left, life_right, life_least, life_commutes, life_associates, life_idempotent, agree_joined}
 use Rattle.rds_state.specs.Coordinates.{Coordinates, AtMost, AreCompatible, join}
 use Rattle.rds_state.specs.Value.{StateValue, coordinates}
 
@@ -14,104 +13,12 @@ use Rattle.rds_state.specs.Value.{StateValue, coordinates}
 pub same_coordinates : (a b : Coordinates) → ((d : Dot) → a.life d ≡ b.life d) → ((q : Place) → a.number q ≡ b.number q) → a ≡ b
 same_coordinates a b p q = λ i. record { life = λ d. p d i; number = λ x. q x i }
 
-same_above : (x y : Option Above) → number_from x ≡ number_from y → x ≡ y
-same_above None None e = refl
-same_above None (Some b) e = absurd (omega arith)
-same_above (Some a) None e = absurd (omega arith)
-same_above (Some a) (Some b) e =
-    let k : a.before ≡ b.before = omega arith in
-    ap (λ n. let x : Above = record { before = n } in Some x) k
-
 -- and so are their values
 pub same_value : (v w : StateValue) → coordinates v ≡ coordinates w → v ≡ w
 same_value v w e =
     let l = map.same_map dots_total dots_exact v.lives w.lives (λ d. ap (λ c. c.life d) e) in
-    let n = map.same_map place_total place_exact v.counts w.counts (λ q. same_above _ _ (ap (λ c. c.number q) e)) in
+    let n = same_counts v.counts w.counts (λ q. ap (λ c. c.number q) e) in
     λ i. record { lives = l i; counts = n i }
-
-life_reflexive : (a : Option Life) → IsNoLater a a
-life_reflexive None = tt
-life_reflexive (Some (Live e)) = refl
-life_reflexive (Some Dead) = tt
-
-life_transitive : (a b c : Option Life) → IsNoLater a b → IsNoLater b c → IsNoLater a c
-life_transitive None b c p q = tt
-life_transitive (Some (Live e)) None c p q = absurd p
-life_transitive (Some (Live e)) (Some (Live f)) None p q = absurd q
-life_transitive (Some (Live e)) (Some (Live f)) (Some (Live g)) p q = p ∙ q
-life_transitive (Some (Live e)) (Some (Live f)) (Some Dead) p q = tt
-life_transitive (Some (Live e)) (Some Dead) None p q = absurd q
-life_transitive (Some (Live e)) (Some Dead) (Some (Live g)) p q = absurd q
-life_transitive (Some (Live e)) (Some Dead) (Some Dead) p q = tt
-life_transitive (Some Dead) None c p q = absurd p
-life_transitive (Some Dead) (Some (Live f)) c p q = absurd p
-life_transitive (Some Dead) (Some Dead) c p q = q
-
-life_antisymmetric : (a b : Option Life) → IsNoLater a b → IsNoLater b a → a ≡ b
-life_antisymmetric None None p q = refl
-life_antisymmetric None (Some (Live f)) p q = absurd q
-life_antisymmetric None (Some Dead) p q = absurd q
-life_antisymmetric (Some (Live e)) None p q = absurd p
-life_antisymmetric (Some (Live e)) (Some (Live f)) p q = ap (λ x. Some (Live x)) p
-life_antisymmetric (Some (Live e)) (Some Dead) p q = absurd q
-life_antisymmetric (Some Dead) None p q = absurd p
-life_antisymmetric (Some Dead) (Some (Live f)) p q = absurd p
-life_antisymmetric (Some Dead) (Some Dead) p q = refl
-
-life_left : (a b : Option Life) → IsNoLater a (join_life a b)
-life_left None b = tt
-life_left (Some (Live e)) None = refl
-life_left (Some (Live e)) (Some (Live f)) = refl
-life_left (Some (Live e)) (Some Dead) = tt
-life_left (Some Dead) b = tt
-
-life_right : (a b : Option Life) → Agree a b → IsNoLater b (join_life a b)
-life_right None b h = life_reflexive b
-life_right (Some (Live e)) None h = tt
-life_right (Some (Live e)) (Some (Live f)) h = sym h
-life_right (Some (Live e)) (Some Dead) h = tt
-life_right (Some Dead) None h = tt
-life_right (Some Dead) (Some (Live f)) h = tt
-life_right (Some Dead) (Some Dead) h = tt
-
-life_least : (a b c : Option Life) → IsNoLater a c → IsNoLater b c → IsNoLater (join_life a b) c
-life_least None b c p q = q
-life_least (Some (Live e)) None c p q = p
-life_least (Some (Live e)) (Some (Live f)) c p q = p
-life_least (Some (Live e)) (Some Dead) c p q = q
-life_least (Some Dead) b c p q = p
-
-life_commutes : (a b : Option Life) → Agree a b → join_life a b ≡ join_life b a
-life_commutes None None h = refl
-life_commutes None (Some (Live f)) h = refl
-life_commutes None (Some Dead) h = refl
-life_commutes (Some (Live e)) None h = refl
-life_commutes (Some (Live e)) (Some (Live f)) h = ap (λ x. Some (Live x)) h
-life_commutes (Some (Live e)) (Some Dead) h = refl
-life_commutes (Some Dead) None h = refl
-life_commutes (Some Dead) (Some (Live f)) h = refl
-life_commutes (Some Dead) (Some Dead) h = refl
-
-life_associates : (a b c : Option Life) → join_life (join_life a b) c ≡ join_life a (join_life b c)
-life_associates None b c = refl
-life_associates (Some (Live e)) None c = refl
-life_associates (Some (Live e)) (Some (Live f)) None = refl
-life_associates (Some (Live e)) (Some (Live f)) (Some (Live g)) = refl
-life_associates (Some (Live e)) (Some (Live f)) (Some Dead) = refl
-life_associates (Some (Live e)) (Some Dead) c = refl
-life_associates (Some Dead) b c = refl
-
-life_idempotent : (a : Option Life) → join_life a a ≡ a
-life_idempotent None = refl
-life_idempotent (Some (Live e)) = refl
-life_idempotent (Some Dead) = refl
-
-agree_joined : (l m k : Option Life) → Agree l k → Agree m k → Agree (join_life l m) k
-agree_joined None m k p q = q
-agree_joined (Some (Live e)) None k p q = p
-agree_joined (Some (Live e)) (Some (Live f)) k p q = p
-agree_joined (Some (Live e)) (Some Dead) k p q = q
-agree_joined (Some Dead) m k p q = p
 
 max_associates : (x y z : ℕ) → max (max x y) z ≡ max x (max y z)
 max_associates x y z = omega arith

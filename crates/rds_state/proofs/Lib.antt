@@ -8,6 +8,9 @@ pub mod FitsLemmas
 pub mod FriendLemmas
 pub mod GrownLemmas
 pub mod JoinLaws
+pub mod MadeLemmas
 pub mod Nothing
+pub mod OneAhead
+pub mod OneResult
 pub mod RaiseLemmas
 pub mod Sizes

@@ -1,5 +1,5 @@
 -- A delta without components.
-use Rattle.std.proofs.Common.{◌≡◌, ℕ, Bool, true, false, max, refl, sym, ◌∙◌, ap, subst, arith}
+use Rattle.std.proofs.Common.{◌≡◌, ℕ, Bool, true, false, max, sym, ◌∙◌, ap, subst, arith}
 use Rattle.std.proofs.Math.Nat.{max-zero}
 use Rattle.std.specs.Prelude.{Option, Some, None, Result, Ok, Err, OnOk, is_some}
 use Rattle.std.specs.FinMap as map
@@ -10,6 +10,7 @@ use Rattle.rds_dots.specs.Lacking.{HasAll, dot_of}
 use Rattle.rds_counts.specs.Counted.{Counted, number, number_from}
 use Rattle.rds_counts.specs.Place.{Place, place_cmp}
 use Rattle.rds_life.specs.Life.{Agree, IsJoin, Life, Live, Dead, Lived, join_life, seen_of}
+use Rattle.rds_life.proofs.LifeOrder.{join_none}
 use Rattle.rds_life.proofs.Views.{contains-seen_of}
 use Rattle.rds_state.specs.Ahead.{KnowsNumbers, TakeGives}
 use Rattle.rds_state.specs.Coordinates.{join}
@@ -51,13 +52,8 @@ module _ (d : StateValue) (none : size d ≡ 0) where
   pub joins_nothing : (a : StateValue) → coordinates a ≡ join (coordinates a) (coordinates d)
   joins_nothing a = λ i. record { life = λ q. lives q i; number = λ q. numbers q i }
     where
-      kept : (x : Option Life) → x ≡ join_life x None
-      kept None = refl
-      kept (Some (Live e)) = refl
-      kept (Some Dead) = refl
-
       lives : (q : Dot) → map.get a.lives q ≡ join_life (map.get a.lives q) (map.get d.lives q)
-      lives q = kept (map.get a.lives q) ∙ ap (join_life (map.get a.lives q)) (sym (no_life q))
+      lives q = sym (join_none (map.get a.lives q)) ∙ ap (join_life (map.get a.lives q)) (sym (no_life q))
 
       numbers : (q : Place) → number a.counts q ≡ max (number a.counts q) (number d.counts q)
       numbers q = sym (max-zero (number a.counts q)) ∙ ap (max (number a.counts q)) (sym (no_number q))

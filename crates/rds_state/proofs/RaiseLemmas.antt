@@ -1,19 +1,18 @@
 -- What a raise leaves, and when it is refused.
-use Rattle.std.proofs.Common.{◌≡◌, ℕ, zero, suc, ◌+◌, ◌<◌, Bool, true, false, cond, Some, None, Result, Ok, Err, OnOk, refl, sym, ◌∙◌, ap, subst, arith, ◌⊎◌, inl, inr}
-use Rattle.std.specs.Prelude.{◌↔◌, ◌≢◌, IsOk, IfErr, MatchResult, nat_le}
+use Rattle.std.proofs.Common.{◌≡◌, ℕ, zero, suc, ◌+◌, ◌<◌, Bool, true, false, cond, Result, Ok, Err, OnOk, refl, sym, ◌∙◌, ap, subst, arith}
+use Rattle.std.specs.Prelude.{◌≢◌, IsOk}
 use mathlib.Core.Bool.{false≢true}
 use Rattle.std.specs.Ordering.{eq_by_cmp, is_eq}
 use Rattle.std.specs.Cmp.{tied_itself}
 use Rattle.std.proofs.lemmas.Bool.Decides.{nat_tests}
 use Rattle.rds_names.specs.declared.fault.Fault.{Fault}
-use Rattle.rds_names.specs.declared.fault.Fault.TheVariants.{Memory, CounterFull}
-use Rattle.rds_counts.specs.declared.row.TheConstants.{MAX_COUNT}
+use Rattle.rds_names.specs.declared.fault.Fault.TheVariants.{Memory}
 use Rattle.rds_counts.specs.Place.{Place, place_cmp}
 use Rattle.rds_counts.specs.PlaceOrder.{place_total, place_exact}
 use Rattle.rds_counts.specs.Counted.{Counted, number}
 use Rattle.rds_names.specs.Conditions.{equal_of}
 use Rattle.rds_state.specs.Chosen.{AreRaised}
-use Rattle.rds_state.specs.Edit.{count_fault, makes_pair, IsDue}
+use Rattle.rds_state.specs.Edit.{makes_pair}
 
 at_place : (a b : Counted) (at : Place) (by : ℕ) → number b at ≡ number a at + by → ((q : Place) → ¬ (q ≡ at) → number b q ≡ number a q) → (q : Place) (t : Bool) → eq_by_cmp place_cmp q at ≡ t → number b q ≡ cond t (number a q + by) (number a q)
 at_place a b at by raised others q true is =
@@ -24,30 +23,6 @@ at_place a b at by raised others q false is = others q (λ same. false≢true (s
 pub are_raised : (a b : Counted) (at : Place) (by : ℕ) (r : Result (Unit {0}) Fault) → OnOk r (number b at ≡ number a at + by) → OnOk r ((q : Place) → ¬ (q ≡ at) → number b q ≡ number a q) → OnOk r (AreRaised a at by b)
 are_raised a b at by (Ok x) raised others = λ q. at_place a b at by raised others q (eq_by_cmp place_cmp q at) refl
 are_raised a b at by (Err f) raised others = tt
-
-none_due : (sum : ℕ) → (MAX_COUNT < sum → ⊥) → count_fault sum ≡ None
-none_due sum h = by (nat_le sum MAX_COUNT) refl
-  where
-    over : (n m : ℕ) → nat_le n m ≡ false → m < n
-    over n m h = grind (arith, nat_tests)
-
-    by : (t : Bool) → nat_le sum MAX_COUNT ≡ t → cond t None (Some CounterFull) ≡ None
-    by true e = refl
-    by false e = absurd (h (over sum MAX_COUNT e))
-
-full_due : (sum : ℕ) → MAX_COUNT < sum → count_fault sum ≡ Some CounterFull
-full_due sum h = ap (λ t. cond t None (Some CounterFull)) (not_within sum MAX_COUNT h)
-  where
-    not_within : (n m : ℕ) → m < n → nat_le n m ≡ false
-    not_within n m h = grind (arith, nat_tests)
-
-due : (sum : ℕ) (f : Fault) (r : Result (Unit {0}) Fault) → r ≡ Err f → (r ≡ Err CounterFull) ↔ (MAX_COUNT < sum) → (f ≡ Memory) ⊎ (f ≡ CounterFull) → IsDue (count_fault sum) f
-due sum f r is full (inl e) = rw e (none_due sum (λ h. let c = full.1 h in cc (c, is, e)))
-due sum f r is full (inr e) = rw e (full_due sum (full.0 (cc (is, e))))
-
-pub raise_is_due : (sum : ℕ) (r : Result (Unit {0}) Fault) → (r ≡ Err CounterFull) ↔ (MAX_COUNT < sum) → IfErr r (λ f. (f ≡ Memory) ⊎ (f ≡ CounterFull)) → MatchResult r (λ _. count_fault sum ≡ None) (IsDue (count_fault sum))
-raise_is_due sum (Ok x) full faults = none_due sum (λ h. let c = full.1 h in cc c)
-raise_is_due sum (Err f) full faults = due sum f (Err f) refl full faults
 
 -- a raise takes no memory, but where it makes a pair
 pub raise_has_room : (p n by : ℕ) (r : Result (Unit {0}) Fault) → (by ≡ 0 → IsOk r) → (0 < p → r ≢ Err Memory) → (0 < n → r ≢ Err Memory) → makes_pair p n by ≡ false → r ≢ Err Memory

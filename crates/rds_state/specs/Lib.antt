@@ -9,5 +9,6 @@ pub mod Fits
 pub mod Friends
 pub mod Grown
 pub mod Made
+pub mod Results
 pub mod RowsAhead
 pub mod Value

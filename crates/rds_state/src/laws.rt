@@ -1,12 +1,15 @@
-//! The laws of the join.
-ghost use Rattle.std.specs.Prelude.{◌≡◌, ℕ, List};
+//! The laws of the join, and of what a replica does.
+ghost use Rattle.std.specs.Prelude.{◌≡◌, ◌≢◌, ℕ, List, Result, Err};
+ghost use Rattle.rds_names.specs.declared.fault.Fault.{Fault};
+ghost use Rattle.rds_names.specs.declared.fault.Fault.TheVariants.{Memory};
 ghost use Rattle.rds_counts.specs.Value.{value_of};
-ghost use Rattle.rds_counts.specs.declared.row.TheConstants.{MAX_COUNT};
-ghost use Rattle.rds_dots.specs.declared.dot.TheConstants.{MAX_SEQ};
 ghost use Rattle.rds_state.specs.Coordinates.{Coordinates, AtMost, AreCompatible, join};
 ghost use Rattle.rds_state.specs.Document.{value_in};
 ghost use Rattle.rds_state.specs.Friends.{FriendsAreTaken};
+ghost use Rattle.rds_state.specs.Results.{IsEdited, IsMerged, IsTaken};
 ghost use Rattle.rds_state.specs.Value.{StateValue, coordinates};
+ghost use Rattle.rds_state.specs.declared.command.Command.{Command};
+ghost use Rattle.rds_state.specs.declared.command.Edited.{Edited};
 
 /// States are ordered coordinate by coordinate, and the join of compatible states is the least state above both
 /// (Shapiro, Preguiça, Baquero, Zawirski 2011). The join is associative and idempotent, and commutative on compatible
@@ -39,9 +42,16 @@ pub fn documents_have_the_sums()
     ensures { (v : StateValue) (key : List ℕ) → value_in (coordinates v) key ≡ value_of v.counts key }
 {}
 
-/// The greatest number of a dot and the greatest number of a counter, for each replica: 48 bits. The function does
-/// nothing: its contract is these limits.
-pub fn limits_of_numbers()
-    ensures seq { MAX_SEQ ≡ 281474976710655 }
-    ensures count { MAX_COUNT ≡ 281474976710655 }
+/// What [`State::merge`](crate::State::merge), [`Replica::take`](crate::Replica::take) and
+/// [`Replica::edit`](crate::Replica::edit) say of their answer and of the state after it is met by no second pair, but
+/// that memory may run out. So these contracts refuse each wrong result. The function does nothing: its contract is
+/// this law.
+pub fn a_change_has_one_result()
+    ensures merge { (a b v w : StateValue) (r s : Result (Unit {0}) Fault) → IsMerged a b r v → IsMerged a b s w
+        → r ≢ Err Memory → s ≢ Err Memory → (r ≡ s) × (v ≡ w) }
+    ensures take { (a d v w : StateValue) (own : ℕ) (r s : Result (Unit {0}) Fault) → IsTaken a own d r v
+        → IsTaken a own d s w → r ≢ Err Memory → s ≢ Err Memory → (r ≡ s) × (v ≡ w) }
+    ensures edit { (a v w : StateValue) (own : ℕ) (command : Command) (r s : Result Edited Fault)
+        → IsEdited a own command r v → IsEdited a own command s w → r ≢ Err Memory → s ≢ Err Memory
+        → (r ≡ s) × (v ≡ w) }
 {}

@@ -12,6 +12,8 @@ mod sameness;
 mod state;
 
 pub use command::{Command, Edited};
-pub use laws::{documents_have_the_sums, friends_take_each_other, join_laws, limits_of_numbers};
+pub use laws::{
+    a_change_has_one_result, documents_have_the_sums, friends_take_each_other, join_laws,
+};
 pub use replica::Replica;
 pub use state::State;

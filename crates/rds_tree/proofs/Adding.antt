@@ -1,5 +1,6 @@
 -- One more row.
 use Rattle.std.proofs.Common.{◌≡◌, ℕ, Bool, true, false, cond, ◌||◌, List, [], ◌∷◌, map, refl, sym, ◌∙◌, ap, subst, length, arith}
+use Rattle.std.proofs.Math.Bool.{or-false, or_assoc}
 use Rattle.std.specs.Prelude.{Some, None, Result, Ok, Err, OnOk, OnErr}
 use Rattle.std.specs.List.{list_any}
 use Rattle.std.specs.Ordering.{is_eq, match_ordering}
@@ -35,10 +36,6 @@ any-below t (c ∷ cs) = list_any-append t (map (under c.0) c.1) (rows_below cs)
 
 pub any-rows : (t : Row → Bool) (leaves : List Leaf) (cs : List (List ℕ × List Row)) → list_any t (rows_of leaves cs) ≡ (list_any (λ l. t (at_end l)) leaves || list_any (below_passes t) cs)
 any-rows t leaves cs = list_any-append t (map at_end leaves) (rows_below cs) ∙ ap (λ b. b || list_any t (rows_below cs)) (any-map t at_end leaves) ∙ ap (λ b. list_any (λ l. t (at_end l)) leaves || b) (any-below t cs)
-
-or_assoc : (a b c : Bool) → ((a || b) || c) ≡ (a || (b || c))
-or_assoc true b c = refl
-or_assoc false b c = refl
 
 pub adds_leaf : (old new : List Row) (leaves ls : List Leaf) (cs : List (List ℕ × List Row)) (l : Leaf) → rows_of leaves cs ≡ old → AddsLeaf leaves l ls → rows_of ls cs ≡ new → Adds old (row_at [] l) new
 adds_leaf old new leaves ls cs l is grows was = record {
@@ -85,16 +82,12 @@ any-insert_entry t k rows (c ∷ cs) none =
       | Greater ↦ λ e h. ap (λ b. below_passes t c || b) (any-insert_entry t k rows cs h) ∙ over (below_passes t c) (below_passes t (k, rows)) _
     ] refl none
 
-or_false : (a : Bool) → (a || false) ≡ a
-or_false true = refl
-or_false false = refl
-
 pub adds_child : (whole grown : List Row) (leaves : List Leaf) (cs : List (List ℕ × List Row)) (k : List ℕ) (path : List (List ℕ)) (l : Leaf) (rows : List Row)
     → rows_of leaves cs ≡ whole → rows_of leaves (insert_entry key_cmp cs k rows) ≡ grown → lookup (at_key k) cs ≡ None → rows ≡ row_at path l ∷ [] → Adds whole (row_at (k ∷ path) l) grown
 adds_child whole grown leaves cs k path l rows is was none one = record {
   any = λ t. ap (list_any t) (sym was) ∙ any-rows t leaves (insert_entry key_cmp cs k rows) ∙ ap (λ b. list_any (λ l. t (at_end l)) leaves || b) (any-insert_entry t k rows cs none)
       ∙ over (list_any (λ l. t (at_end l)) leaves) (below_passes t (k, rows)) _ ∙ ap (λ rs. below_passes t (k, rs) || (list_any (λ l. t (at_end l)) leaves || list_any (below_passes t) cs)) one
-      ∙ ap (λ b. b || (list_any (λ l. t (at_end l)) leaves || list_any (below_passes t) cs)) (or_false (t (row_at (k ∷ path) l)))
+      ∙ ap (λ b. b || (list_any (λ l. t (at_end l)) leaves || list_any (below_passes t) cs)) (or-false (t (row_at (k ∷ path) l)))
       ∙ ap (λ b. t (row_at (k ∷ path) l) || b) (sym (any-rows t leaves cs) ∙ ap (list_any t) is);
 }
 

@@ -1,5 +1,6 @@
 -- Rows that go.
 use Rattle.std.proofs.Common.{◌≡◌, ℕ, Bool, true, false, cond, not, ◌&&◌, ◌||◌, List, [], ◌∷◌, map, refl, sym, ◌∙◌, ap, subst, length}
+use Rattle.std.proofs.Math.Bool.{and-false, and-true}
 use Rattle.std.specs.Prelude.{Some, None}
 use Rattle.std.specs.List.{list_any, AllByRecursion}
 use Rattle.std.specs.List.Sorted.{IsStrictlySortedBy}
@@ -25,10 +26,6 @@ below_passes t c = list_any (λ r. t (under c.0 r)) c.1
 abbrev pub stays : (Leaf → Bool) → Bool → List (List ℕ) → (Row → Bool) → Row → Bool
 stays picks deep path t r = t r && not (goes picks deep path r.path r.leaf)
 
-and_true : (a : Bool) → (a && true) ≡ a
-and_true true = refl
-and_true false = refl
-
 pub cut_leaves : (picks : Leaf → Bool) (deep : Bool) (path : List (List ℕ)) (old new : List Row) (leaves ls : List Leaf) (cs : List (List ℕ × List Row)) → deep ≡ false → length path ≡ 0 → rows_of leaves cs ≡ old → IsLess picks leaves ls → rows_of ls cs ≡ new → IsCut picks deep path old new
 cut_leaves picks deep path old new leaves ls cs shallow none is less was =
     subst (λ b. IsCut picks b path old new) (sym shallow) (subst (λ p. IsCut picks false p old new) (sym (no_keys path none)) (record {
@@ -39,11 +36,7 @@ cut_leaves picks deep path old new leaves ls cs shallow none is less was =
     }))
   where
     plain : (t : Row → Bool) (cs : List (List ℕ × List Row)) → list_any (below_passes (stays picks false [] t)) cs ≡ list_any (below_passes t) cs
-    plain t cs i = list_any (λ c. list_any (λ r. and_true (t (under c.0 r)) i) c.1) cs
-
-and_false : (a : Bool) → (a && false) ≡ false
-and_false true = refl
-and_false false = refl
+    plain t cs i = list_any (λ c. list_any (λ r. and-true (t (under c.0 r)) i) c.1) cs
 
 pub goes_all : (picks : Leaf → Bool) (q : List (List ℕ)) (l : Leaf) → goes picks true [] q l ≡ true
 goes_all picks [] l = refl
@@ -51,7 +44,7 @@ goes_all picks (x ∷ q) l = refl
 
 none_stays : (picks : Leaf → Bool) (t : Row → Bool) (rows : List Row) → list_any (stays picks true [] t) rows ≡ false
 none_stays picks t [] = refl
-none_stays picks t (r ∷ rows) = ap (λ b. (t r && not b) || list_any (stays picks true [] t) rows) (goes_all picks r.path r.leaf) ∙ ap (λ b. b || list_any (stays picks true [] t) rows) (and_false (t r)) ∙ none_stays picks t rows
+none_stays picks t (r ∷ rows) = ap (λ b. (t r && not b) || list_any (stays picks true [] t) rows) (goes_all picks r.path r.leaf) ∙ ap (λ b. b || list_any (stays picks true [] t) rows) (and-false (t r)) ∙ none_stays picks t rows
 
 pub empty_rows : (leaves : List Leaf) (cs : List (List ℕ × List Row)) → leaves ≡ [] → cs ≡ [] → rows_of leaves cs ≡ []
 empty_rows leaves cs l c = ap (λ ls. rows_of ls cs) l ∙ ap (λ ds. rows_of [] ds) c
@@ -91,7 +84,7 @@ others_none k (c ∷ cs) none =
 
 untouched_one : (picks : Leaf → Bool) (deep : Bool) (k : List ℕ) (p : List (List ℕ)) (t : Row → Bool) (c : List ℕ × List Row) → at_key k c.0 ≡ false → below_passes (stays picks deep (k ∷ p) t) c ≡ below_passes t c
 untouched_one picks deep k p t c e =
-    (λ i. list_any (λ r. t (under c.0 r) && not (e i && goes picks deep p r.path r.leaf)) c.1) ∙ (λ i. list_any (λ r. and_true (t (under c.0 r)) i) c.1)
+    (λ i. list_any (λ r. t (under c.0 r) && not (e i && goes picks deep p r.path r.leaf)) c.1) ∙ (λ i. list_any (λ r. and-true (t (under c.0 r)) i) c.1)
 
 untouched : (picks : Leaf → Bool) (deep : Bool) (k : List ℕ) (p : List (List ℕ)) (t : Row → Bool) (cs : List (List ℕ × List Row)) → AreOthers k cs → list_any (below_passes (stays picks deep (k ∷ p) t)) cs ≡ list_any (below_passes t) cs
 untouched picks deep k p t [] h = refl
@@ -112,7 +105,7 @@ cut_child picks deep k p t old new (c ∷ cs) rise here is =
 
 -- leaves with longer paths stay where they are
 here_stays : (picks : Leaf → Bool) (deep : Bool) (k : List ℕ) (p : List (List ℕ)) (t : Row → Bool) (leaves : List Leaf) → list_any (λ l. stays picks deep (k ∷ p) t (at_end l)) leaves ≡ list_any (λ l. t (at_end l)) leaves
-here_stays picks deep k p t leaves i = list_any (λ l. and_true (t (at_end l)) i) leaves
+here_stays picks deep k p t leaves i = list_any (λ l. and-true (t (at_end l)) i) leaves
 
 -- from what passes below to all rows
 below_is_cut : (picks : Leaf → Bool) (deep : Bool) (path : List (List ℕ)) (k : List ℕ) (p : List (List ℕ)) (old new : List Row) (leaves : List Leaf) (cs ds : List (List ℕ × List Row)) → path ≡ k ∷ p → rows_of leaves cs ≡ old → rows_of leaves ds ≡ new

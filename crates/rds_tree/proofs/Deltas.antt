@@ -1,5 +1,7 @@
 -- A tree that goes with the live rows where a delta is joined in.
 use Rattle.std.proofs.Common.{◌≡◌, Bool, true, false, cond, not, ◌&&◌, ◌||◌, List, [], ◌∷◌, refl, sym, ◌∙◌, ap, subst, OnOk, OnErr}
+use Rattle.std.proofs.lemmas.Bool.{not-true, false_from_ne_true}
+use Rattle.std.proofs.Math.Bool.{and-false, and-true, or_comm}
 use Rattle.std.specs.Prelude.{Option, Some, None, Result, Ok, Err, filter}
 use Rattle.std.specs.List.{list_any}
 use Rattle.std.specs.Cmp.Lexicographic.{pointwise}
@@ -17,7 +19,7 @@ use Rattle.rds_state.specs.Value.{StateValue, coordinates, size}
 use Rattle.rds_state.proofs.CountLemmas.{same_dot-tied}
 use Rattle.rds_state.proofs.JoinLaws.{same_value}
 use Rattle.rds_state.proofs.Nothing.{joins_nothing}
-use Rattle.rds_tree.specs.Cuts.{is_leaf, IsCut}
+use Rattle.rds_tree.specs.Cuts.{is_leaf}
 use Rattle.rds_tree.specs.Growing.{row_of, Holds}
 use Rattle.rds_tree.specs.Row.{Row, Adds}
 use Rattle.rds_tree.specs.Taken.{is_unseen, rows_dead, rows_unseen, is_row_of, is_one_of, AreSameBut, IsWith, IsWithout}
@@ -25,26 +27,6 @@ use Rattle.rds_tree.proofs.Effects.{any_alike, live_passes, passes_live}
 use Rattle.rds_tree.proofs.Holding.{goes_shallow, leaf_at, leaf_dot, leaf_itself, same_itself}
 use Rattle.rds_tree.proofs.Killing.{same_pass}
 use Rattle.rds_tree.proofs.Witness.{both_ways, or_left, or_right}
-
-and_yes : (a : Bool) → (a && true) ≡ a
-and_yes true = refl
-and_yes false = refl
-
-and_no : (a : Bool) → (a && false) ≡ false
-and_no true = refl
-and_no false = refl
-
-or_no : (a : Bool) → (a || false) ≡ a
-or_no true = refl
-or_no false = refl
-
-is_false : (a : Bool) → not a ≡ true → a ≡ false
-is_false true h = absurd (cc)
-is_false false h = refl
-
-never : (a : Bool) → (a ≡ true → ⊥) → a ≡ false
-never true h = absurd (h refl)
-never false h = refl
 
 -- ---- the row of a live dot
 
@@ -57,8 +39,8 @@ row_dot r x h = dot_is r.0 x.0 (same_dot-tied r.0 x.0 ∙ leaf_dot r.1.kind r.1.
 any-filter : {X : Type 0} (t p : X → Bool) (xs : List X) → list_any t (filter p xs) ≡ list_any (λ x. t x && p x) xs
 any-filter t p [] = refl
 any-filter t p (x ∷ xs) = elim (p x) as (λ b. list_any t (cond b (x ∷ filter p xs) (filter p xs)) ≡ ((t x && b) || list_any (λ x. t x && p x) xs)) [
-  | true ↦ ap (λ b. t x || b) (any-filter t p xs) ∙ sym (ap (λ b. b || list_any (λ x. t x && p x) xs) (and_yes (t x)))
-  | false ↦ any-filter t p xs ∙ sym (ap (λ b. b || list_any (λ x. t x && p x) xs) (and_no (t x)))
+  | true ↦ ap (λ b. t x || b) (any-filter t p xs) ∙ sym (ap (λ b. b || list_any (λ x. t x && p x) xs) (and-true (t x)))
+  | false ↦ any-filter t p xs ∙ sym (ap (λ b. b || list_any (λ x. t x && p x) xs) (and-false (t x)))
 ]
 
 -- ---- lives that are joined
@@ -111,13 +93,13 @@ module _ (a b : Lived) where
 
   -- it is none of those that come
   no_coming : (d : Dot) (e : Entry) → map.get a d ≡ Some (Live e) → is_one_of coming (row_of (d, e)) ≡ false
-  no_coming d e live = never _ (λ h.
+  no_coming d e live = false_from_ne_true _ (λ h.
       let p = live_passes (λ x. is_row_of x (row_of (d, e)) && comes x) b (sym (any-filter (λ x. is_row_of x (row_of (d, e))) comes (live_rows b)) ∙ h) in
       seen_live (map.get a d) e live (ap (λ q. is_unseen (map.get a q)) (sym (row_dot (p.0, p.1.0) (d, e) (and_left _ (comes (p.0, p.1.0)) p.1.1.1))) ∙ and_right (is_row_of (p.0, p.1.0) (row_of (d, e))) _ p.1.1.1))
 
   -- an unseen dot is none of those that die
   no_dying : (r : Dot × Entry) → comes r ≡ true → is_one_of dying (row_of r) ≡ false
-  no_dying r unseen = never _ (λ h.
+  no_dying r unseen = false_from_ne_true _ (λ h.
       let p = live_passes (λ x. is_row_of x (row_of r) && dies x) a (sym (any-filter (λ x. is_row_of x (row_of r)) dies (live_rows a)) ∙ h) in
       seen_live (map.get a r.0) p.1.0 (ap (map.get a) (sym (row_dot (p.0, p.1.0) r (and_left _ (dies (p.0, p.1.0)) p.1.1.1))) ∙ p.1.1.0) unseen)
 
@@ -145,18 +127,12 @@ module _ (a b : Lived) where
           by : (x : Bool) → list_any (stays u) (live_rows a) ≡ x → (x || list_any (arrives u) (live_rows b)) ≡ true → list_any u (live_rows c) ≡ true
           by true is g =
               let p = live_passes (stays u) a is in
-              passes_live u c p.0 p.1.0 (joined p.0 ∙ ap (λ x. join_life x (map.get b p.0)) p.1.1.0 ∙ stays_live (map.get b p.0) p.1.0 (is_false _ (and_right (u (p.0, p.1.0)) _ p.1.1.1))) (and_left _ (not (dies (p.0, p.1.0))) p.1.1.1)
+              passes_live u c p.0 p.1.0 (joined p.0 ∙ ap (λ x. join_life x (map.get b p.0)) p.1.1.0 ∙ stays_live (map.get b p.0) p.1.0 (not-true _ (and_right (u (p.0, p.1.0)) _ p.1.1.1))) (and_left _ (not (dies (p.0, p.1.0))) p.1.1.1)
           by false is g =
               let p = live_passes (arrives u) b g in
               passes_live u c p.0 p.1.0 (joined p.0 ∙ comes_live (map.get a p.0) (map.get b p.0) (and_right (u (p.0, p.1.0)) _ p.1.1.1) ∙ p.1.1.0) (and_left _ (comes (p.0, p.1.0)) p.1.1.1)
 
   -- ---- the tree
-
-  swap : (x y : Bool) → (x || y) ≡ (y || x)
-  swap true true = refl
-  swap true false = refl
-  swap false true = refl
-  swap false false = refl
 
   -- with the rows that come and without those that die, the tree has those of the join
   pub holds_taken : (c : Lived) (old mid new : List Row) → Holds (live_rows a) old → IsWith coming old mid → IsWithout dying mid new → ((d : Dot) → map.get c d ≡ join_life (map.get a d) (map.get b d)) → Holds (live_rows c) new
@@ -168,14 +144,14 @@ module _ (a b : Lived) where
         ∙ same_pass (λ r. kept (row_of r) && comes r) (λ r. t (row_of r) && comes r) (live_rows b) (kept_arrive t))
         ∙ ap (λ x. list_any (λ r. t (row_of r) && comes r) (live_rows b) || x) (holds.any kept
         ∙ any_alike (λ r. kept (row_of r)) (λ r. t (row_of r) && not (dies r)) a (λ d e live. ap (λ x. t (row_of (d, e)) && not x) (dies_as d e live)))
-        ∙ swap (list_any (λ r. t (row_of r) && comes r) (live_rows b)) (list_any (λ r. t (row_of r) && not (dies r)) (live_rows a))
+        ∙ or_comm (list_any (λ r. t (row_of r) && comes r) (live_rows b)) (list_any (λ r. t (row_of r) && not (dies r)) (live_rows a))
         ∙ sym (rows_joined c (λ r. t (row_of r)) joined);
   }
     where
       kept_arrive : (t : Row → Bool) (r : Dot × Entry) → ((t (row_of r) && not (is_one_of dying (row_of r))) && comes r) ≡ (t (row_of r) && comes r)
       kept_arrive t r = elim (comes r) as (λ x. comes r ≡ x → ((t (row_of r) && not (is_one_of dying (row_of r))) && x) ≡ (t (row_of r) && x)) [
-        | true ↦ λ is. ap (λ x. (t (row_of r) && not x) && true) (no_dying r is) ∙ ap (λ x. x && true) (and_yes (t (row_of r)))
-        | false ↦ λ is. and_no (t (row_of r) && not (is_one_of dying (row_of r))) ∙ sym (and_no (t (row_of r)))
+        | true ↦ λ is. ap (λ x. (t (row_of r) && not x) && true) (no_dying r is) ∙ ap (λ x. x && true) (and-true (t (row_of r)))
+        | false ↦ λ is. and-false (t (row_of r) && not (is_one_of dying (row_of r))) ∙ sym (and-false (t (row_of r)))
       ] refl
 
   -- once those that come are taken out again, the tree is as before
@@ -183,21 +159,19 @@ module _ (a b : Lived) where
   holds_untaken old mid new holds same without = record {
     any = λ t.
         without.any t ∙ same.any t ∙ holds.any (λ row. t row && not (is_one_of coming row))
-        ∙ any_alike (λ r. t (row_of r) && not (is_one_of coming (row_of r))) (λ r. t (row_of r)) a (λ d e live. ap (λ x. t (row_of (d, e)) && not x) (no_coming d e live) ∙ and_yes (t (row_of (d, e))));
+        ∙ any_alike (λ r. t (row_of r) && not (is_one_of coming (row_of r))) (λ r. t (row_of r)) a (λ d e live. ap (λ x. t (row_of (d, e)) && not x) (no_coming d e live) ∙ and-true (t (row_of (d, e))));
   }
 
 -- the same, where the lives that led to the change are known to be these
-module _ (a b here there : Lived) (here_is : here ≡ a) (there_is : there ≡ b) (old mid new : List Row) (rows : List (Dot × Entry)) (holds : Holds (live_rows a) old) (comes_is : rows ≡ rows_unseen here (live_rows there)) where
-  rows_come : rows ≡ rows_unseen a (live_rows b)
-  rows_come = comes_is ∙ ap (λ (v : Lived). rows_unseen v (live_rows there)) here_is ∙ ap (λ (v : Lived). rows_unseen a (live_rows v)) there_is
-
-  pub holds_joined : (c : Lived) (dead : List (Dot × Entry)) → dead ≡ rows_dead there (live_rows here) → IsWith rows old mid → IsWithout dead mid new → ((d : Dot) → map.get c d ≡ join_life (map.get a d) (map.get b d)) → Holds (live_rows c) new
-  holds_joined c dead dies_is with without joined =
-      let rows_die = dies_is ∙ ap (λ (v : Lived). rows_dead v (live_rows here)) there_is ∙ ap (λ (v : Lived). rows_dead b (live_rows v)) here_is in
-      holds_taken a b c old mid new holds (subst (λ xs. IsWith xs old mid) rows_come with) (subst (λ xs. IsWithout xs mid new) rows_die without) joined
+module _ {a b here there : Lived} (here_is : here ≡ a) (there_is : there ≡ b) {rows : List (Dot × Entry)} (comes_is : rows ≡ rows_unseen here (live_rows there)) {old mid new : List Row} (holds : Holds (live_rows a) old) where
+  pub holds_joined : (c : Lived) {dead : List (Dot × Entry)} → dead ≡ rows_dead there (live_rows here) → IsWith rows old mid → IsWithout dead mid new → ((d : Dot) → map.get c d ≡ join_life (map.get a d) (map.get b d)) → Holds (live_rows c) new
+  holds_joined c dies_is with without joined =
+      holds_taken a b c old mid new holds (subst (λ xs. IsWith xs old mid) (rw (here_is, there_is) at comes_is) with) (subst (λ xs. IsWithout xs mid new) (rw (here_is, there_is) at dies_is) without) joined
 
   pub holds_refused : AreSameBut rows old mid → IsWithout rows mid new → Holds (live_rows a) new
-  holds_refused same without = holds_untaken a b old mid new holds (subst (λ xs. AreSameBut xs old mid) rows_come same) (subst (λ xs. IsWithout xs mid new) rows_come without)
+  holds_refused same without =
+      let rows_come = rw (here_is, there_is) at comes_is in
+      holds_untaken a b old mid new holds (subst (λ xs. AreSameBut xs old mid) rows_come same) (subst (λ xs. IsWithout xs mid new) rows_come without)
 
 -- a delta without components leaves the tree as it is
 pub holds_nothing : (old new : ReplicaValue) (d : StateValue) (tree : List Row) (r : Result (Unit {0}) Fault) → size d ≡ 0
@@ -221,9 +195,6 @@ between true false z = refl
 between false true z = refl
 between false false z = refl
 
-pub adds_none : (rows : List (Dot × Entry)) (tree : List Row) → IsAdding rows rows tree tree
-adds_none rows tree = record { leads = λ t. refl; same = record { any = λ t. refl }; left = λ t h. h }
-
 pub adds_one : (rows rest later : List (Dot × Entry)) (r : Dot × Entry) (old tree new : List Row) → rest ≡ r ∷ later → IsAdding rows rest old tree → Adds tree (row_of r) new → IsAdding rows later old new
 adds_one rows rest later r old tree new split is adds = record {
   leads = λ t.
@@ -235,7 +206,7 @@ adds_one rows rest later r old tree new split is adds = record {
     any = λ t.
         adds.any (λ row. t row && not (is_one_of rows row))
         ∙ ap (λ x. (t (row_of r) && not x) || list_any (λ row. t row && not (is_one_of rows row)) tree) one
-        ∙ ap (λ x. x || list_any (λ row. t row && not (is_one_of rows row)) tree) (and_no (t (row_of r)))
+        ∙ ap (λ x. x || list_any (λ row. t row && not (is_one_of rows row)) tree) (and-false (t (row_of r)))
         ∙ is.same.any t;
   };
   left = λ t h. is.left t (ap (list_any t) split ∙ or_right (t r) _ h);
@@ -247,29 +218,6 @@ adds_one rows rest later r old tree new split is adds = record {
         is_one_of_at : Row → List (Dot × Entry) → Bool
         is_one_of_at row xs = list_any (λ x. is_row_of x row) xs
 
-pub adds_all : (rows rest : List (Dot × Entry)) (old tree : List Row) → rest ≡ [] → IsAdding rows rest old tree → IsWith rows old tree
-adds_all rows rest old tree none is = record { any = λ t. ap (λ xs. list_any (λ r. t (row_of r)) xs || list_any t tree) (sym none) ∙ is.leads t }
-
 -- what is left to cut leads to the same tree as all of it
 pub record IsCutting (rows rest : List (Dot × Entry)) (old tree : List Row) : Type 0 where
   pub leads : (t : Row → Bool) → list_any (λ row. t row && not (is_one_of rest row)) tree ≡ list_any (λ row. t row && not (is_one_of rows row)) old
-
-neither : (t x y : Bool) → ((t && not y) && not x) ≡ (t && not (x || y))
-neither true true true = refl
-neither true true false = refl
-neither true false y = and_yes (not y)
-neither false x y = refl
-
-pub cuts_one : (rows rest later : List (Dot × Entry)) (r : Dot × Entry) (old tree new : List Row) → rest ≡ r ∷ later → IsCutting rows rest old tree → IsCut (is_leaf r.1.kind r.1.value r.0) false r.1.path tree new → IsCutting rows later old new
-cuts_one rows rest later r old tree new split is cut = record {
-  leads = λ t.
-      cut.any (λ row. t row && not (is_one_of later row))
-      ∙ same_pass _ (λ row. t row && not (is_one_of (r ∷ later) row)) tree (λ row. neither (t row) (is_row_of r row) (is_one_of later row))
-      ∙ ap (λ xs. list_any (λ row. t row && not (is_one_of xs row)) tree) (sym split)
-      ∙ is.leads t;
-}
-
-pub cuts_all : (rows rest : List (Dot × Entry)) (old tree : List Row) → rest ≡ [] → IsCutting rows rest old tree → IsWithout rows old tree
-cuts_all rows rest old tree none is = record {
-  any = λ t. same_pass t (λ row. t row && not (is_one_of [] row)) tree (λ row. sym (and_yes (t row))) ∙ ap (λ xs. list_any (λ row. t row && not (is_one_of xs row)) tree) (sym none) ∙ is.leads t;
-}

@@ -1,6 +1,6 @@
 -- The live rows after a command's effect.
 use Rattle.std.proofs.Common.{◌≡◌, ℕ, ◌+◌, Bool, true, false, cond, not, ◌&&◌, ◌||◌, refl, sym, ◌∙◌, ap, eqb, arith}
-use mathlib.Core.Bool.{false≢true}
+use Rattle.std.proofs.lemmas.Bool.{not-true}
 use Rattle.std.specs.Prelude.{Option, Some, None}
 use Rattle.std.specs.List.{list_any}
 use Rattle.std.specs.FinMap as map
@@ -107,7 +107,7 @@ module _ (c : Command) (a b : StateValue) (own : ℕ) where
       let s = spared c (map.get a.lives p.0) p.1.0 (sym (plain p.0) ∙ p.1.1.0) in
       passes_live (stay u) a.lives p.0 p.1.0 s.0 (and_true _ _ p.1.1.1 (ap not s.1)))
       (λ h. let p = live_passes (stay u) a.lives h in
-      passes_live u b.lives p.0 p.1.0 (plain p.0 ∙ stays_live c (map.get a.lives p.0) p.1.0 p.1.1.0 (not_covered (covers c p.1.0) (and_right (u (p.0, p.1.0)) _ p.1.1.1))) (and_left _ (not (covers c p.1.0)) p.1.1.1))
+      passes_live u b.lives p.0 p.1.0 (plain p.0 ∙ stays_live c (map.get a.lives p.0) p.1.0 p.1.1.0 (not-true (covers c p.1.0) (and_right (u (p.0, p.1.0)) _ p.1.1.1))) (and_left _ (not (covers c p.1.0)) p.1.1.1))
     where
       same_cond : {X : Type 0} (x : Bool) (y : X) → cond x y y ≡ y
       same_cond true y = refl
@@ -116,20 +116,12 @@ module _ (c : Command) (a b : StateValue) (own : ℕ) where
       plain : (d : Dot) → map.get b.lives d ≡ join_life (map.get a.lives d) (life_killed c (map.get a.lives d))
       plain d = life None joined d ∙ ap (join_life (map.get a.lives d)) (same_cond (is_next (coordinates a) own d) (life_killed c (map.get a.lives d)))
 
-      not_covered : (x : Bool) → not x ≡ true → x ≡ false
-      not_covered true h = absurd (false≢true h)
-      not_covered false h = refl
-
   -- the next own dot was made live
   pub rows_made : (u : Dot × Entry → Bool) (e : Entry) → coordinates b ≡ join (coordinates a) (effect (coordinates a) own c (Some e)) → map.get a.lives new ≡ None → list_any u (live_rows b.lives) ≡ (u (new, e) || list_any (stay u) (live_rows a.lives))
   rows_made u e joined unseen = both_ways _ _ forth back
     where
       at_new : map.get b.lives new ≡ Some (Live e)
       at_new = life (Some e) joined new ∙ ap (λ o. join_life o (cond (is_next (coordinates a) own new) (Some (Live e)) (life_killed c o))) unseen ∙ ap (λ x. join_life None (cond x (Some (Live e)) (life_killed c None))) new_is
-
-      not_covered : (x : Bool) → not x ≡ true → x ≡ false
-      not_covered true h = absurd (false≢true h)
-      not_covered false h = refl
 
       forth : list_any u (live_rows b.lives) ≡ true → (u (new, e) || list_any (stay u) (live_rows a.lives)) ≡ true
       forth h = let p = live_passes u b.lives h in by p.0 p.1.0 p.1.1.0 p.1.1.1 (is_next (coordinates a) own p.0) refl
@@ -151,7 +143,7 @@ module _ (c : Command) (a b : StateValue) (own : ℕ) where
             where
               on : (d : Dot) (f : Entry) → map.get a.lives d ≡ Some (Live f) → stay u (d, f) ≡ true → (x : Bool) → is_next (coordinates a) own d ≡ x → list_any u (live_rows b.lives) ≡ true
               on d f got passed true is = absurd (no_life (Live f) (sym unseen ∙ ap (map.get a.lives) (sym (is_new d is)) ∙ got))
-              on d f got passed false is = passes_live u b.lives d f (elsewhere (Some e) joined d is ∙ stays_live c (map.get a.lives d) f got (not_covered (covers c f) (and_right (u (d, f)) _ passed))) (and_left _ (not (covers c f)) passed)
+              on d f got passed false is = passes_live u b.lives d f (elsewhere (Some e) joined d is ∙ stays_live c (map.get a.lives d) f got (not-true (covers c f) (and_right (u (d, f)) _ passed))) (and_left _ (not (covers c f)) passed)
 
           by : (x : Bool) → u (new, e) ≡ x → (x || list_any (stay u) (live_rows a.lives)) ≡ true → list_any u (live_rows b.lives) ≡ true
           by true is g = passes_live u b.lives new e at_new is

@@ -1,5 +1,6 @@
 -- Members by key, where those of one key change.
 use Rattle.std.proofs.Common.{◌≡◌, Bool, true, false, cond, not, ◌&&◌, ◌||◌, List, [], ◌∷◌, ◌++◌, map, refl, sym, ◌∙◌, ap, subst}
+use Rattle.std.proofs.Math.Bool.{and-true, or-false, or_comm, or_assoc}
 use Rattle.std.specs.Prelude.{Some, None, Result, Ok, Err, OnOk, OnErr, filter}
 use Rattle.std.specs.List.{list_any, AllByRecursion}
 use Rattle.std.specs.List.Sorted.{IsStrictlySortedBy}
@@ -20,24 +21,6 @@ over true true c = refl
 over true false c = refl
 over false b c = refl
 
-pub or_assoc : (a b c : Bool) → ((a || b) || c) ≡ (a || (b || c))
-or_assoc true b c = refl
-or_assoc false b c = refl
-
-pub or_false : (a : Bool) → (a || false) ≡ a
-or_false true = refl
-or_false false = refl
-
-pub and_yes : (a : Bool) → (a && true) ≡ a
-and_yes true = refl
-and_yes false = refl
-
-swap : (a b : Bool) → (a || b) ≡ (b || a)
-swap true true = refl
-swap true false = refl
-swap false true = refl
-swap false false = refl
-
 same_some : {A : Type 0} (a b : A) → Some a ≡ Some b → a ≡ b
 same_some a b h = cc
 
@@ -46,7 +29,7 @@ same_some a b h = cc
 pub any-filter : {X : Type 0} (t p : X → Bool) (xs : List X) → list_any t (filter p xs) ≡ list_any (λ x. t x && p x) xs
 any-filter t p [] = refl
 any-filter t p (x ∷ xs) = elim (p x) as (λ b. list_any t (cond b (x ∷ filter p xs) (filter p xs)) ≡ ((t x && b) || list_any (λ x. t x && p x) xs)) [
-  | true ↦ ap (λ b. t x || b) (any-filter t p xs) ∙ sym (ap (λ b. b || list_any (λ x. t x && p x) xs) (and_yes (t x)))
+  | true ↦ ap (λ b. t x || b) (any-filter t p xs) ∙ sym (ap (λ b. b || list_any (λ x. t x && p x) xs) (and-true (t x)))
   | false ↦ any-filter t p xs ∙ falls (t x) _
 ]
   where
@@ -55,7 +38,7 @@ any-filter t p (x ∷ xs) = elim (p x) as (λ b. list_any t (cond b (x ∷ filte
     falls false b = refl
 
 pub any-push : {X : Type 0} (t : X → Bool) (xs : List X) (x : X) → list_any t (xs ++ x ∷ []) ≡ (t x || list_any t xs)
-any-push t xs x = list_any-append t xs (x ∷ []) ∙ ap (λ b. list_any t xs || b) (or_false (t x)) ∙ swap (list_any t xs) (t x)
+any-push t xs x = list_any-append t xs (x ∷ []) ∙ ap (λ b. list_any t xs || b) (or-false (t x)) ∙ or_comm (list_any t xs) (t x)
 
 any_none : {X : Type 0} (xs : List X) → list_any (λ x. false) xs ≡ false
 any_none [] = refl
@@ -173,10 +156,10 @@ module _ {K : Type 0} {R : K → K → Ordering} (exact : map_of.IsAntisymmetric
         ] refl here
 
     pub any-inserted : (t : K → X → Bool) (x : X) (cs : List (K × List X)) → lookup at cs ≡ None → any_held t (insert_entry R cs k (x ∷ [])) ≡ (t k x || any_held t cs)
-    any-inserted t x [] none = ap (λ b. b || false) (or_false (t k x))
+    any-inserted t x [] none = ap (λ b. b || false) (or-false (t k x))
     any-inserted t x (c ∷ cs) none =
         elim (R k c.0) as (λ o. R k c.0 ≡ o → cond (is_eq o) (Some c.1) (lookup at cs) ≡ None → any_held t (match_ordering o ((k, x ∷ []) ∷ c ∷ cs) ((c.0, x ∷ []) ∷ cs) (c ∷ insert_entry R cs k (x ∷ []))) ≡ (t k x || (list_any (t c.0) c.1 || any_held t cs))) [
-          | Less ↦ λ e h. ap (λ b. b || (list_any (t c.0) c.1 || any_held t cs)) (or_false (t k x))
+          | Less ↦ λ e h. ap (λ b. b || (list_any (t c.0) c.1 || any_held t cs)) (or-false (t k x))
           | Equal ↦ λ e h. absurd (cc)
           | Greater ↦ λ e h. ap (λ b. list_any (t c.0) c.1 || b) (any-inserted t x cs h) ∙ over (list_any (t c.0) c.1) (t k x) _
         ] refl none
@@ -205,7 +188,7 @@ module _ {K : Type 0} {R : K → K → Ordering} (exact : map_of.IsAntisymmetric
       stays q x = t q x && not (at q && m x)
 
       untouched_one : (c : K × List X) → at c.0 ≡ false → list_any (stays c.0) c.1 ≡ list_any (t c.0) c.1
-      untouched_one c e = (λ i. list_any (λ x. t c.0 x && not (e i && m x)) c.1) ∙ (λ i. list_any (λ x. and_yes (t c.0 x) i) c.1)
+      untouched_one c e = (λ i. list_any (λ x. t c.0 x && not (e i && m x)) c.1) ∙ (λ i. list_any (λ x. and-true (t c.0 x) i) c.1)
 
       untouched : (cs : List (K × List X)) → AreOthers cs → any_held stays cs ≡ any_held t cs
       untouched [] h = refl
@@ -247,7 +230,7 @@ module _ {K : Type 0} {R : K → K → Ordering} (exact : map_of.IsAntisymmetric
       found_some old (c ∷ cs) rise here =
           elim (at c.0) as (λ b. at c.0 ≡ b → cond b (Some c.1) (lookup at cs) ≡ Some old → list_any s old ≡ (list_any (hits c.0) c.1 || any_held hits cs)) [
             | true ↦ λ e h.
-                ap (list_any s) (sym (same_some c.1 old h)) ∙ sym (λ i. list_any (λ x. e i && s x) c.1) ∙ sym (or_false (list_any (hits c.0) c.1))
+                ap (list_any s) (sym (same_some c.1 old h)) ∙ sym (λ i. list_any (λ x. e i && s x) c.1) ∙ sym (or-false (list_any (hits c.0) c.1))
                 ∙ ap (λ b. list_any (hits c.0) c.1 || b) (sym (all_missed cs (others_above c.0 cs (is_key c.0 e) rise.0)))
             | false ↦ λ e h. found_some old cs rise.1 h ∙ ap (λ b. b || any_held hits cs) (sym (missed c e))
           ] refl here

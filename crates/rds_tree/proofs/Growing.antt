@@ -11,7 +11,7 @@ use Rattle.rds_names.specs.declared.entry.Entry.{Entry}
 use Rattle.rds_dots.specs.declared.dot.Dot.{Dot}
 use Rattle.rds_tree.specs.Document.{Placed, entry_placed, entries_in}
 use Rattle.rds_tree.specs.View.{below, below_path, step_into, same_key, entries_view}
-use Rattle.rds_tree.specs.Row.{Row, Adds, placed, placed_all, fits}
+use Rattle.rds_tree.specs.Row.{Row, placed, placed_all, fits}
 use Rattle.rds_tree.specs.Growing.{row_of, rows_under, Holds}
 use Rattle.rds_tree.proofs.Kids.{flip_eq}
 use Rattle.rds_tree.proofs.SameView.{SameMembers, same_below_path, same_entries_view}
@@ -20,33 +20,8 @@ use Rattle.rds_tree.proofs.SameView.{SameMembers, same_below_path, same_entries_
 pub record IsGrowing (path : List (List ℕ)) (rows rest : List (Dot × Entry)) (tree : List Row) : Type 0 where
   pub any : (t : Row → Bool) → (list_any t tree || list_any (λ r. t (row_of r)) (rows_under path rest)) ≡ list_any (λ r. t (row_of r)) (rows_under path rows)
 
-over : (a b c : Bool) → ((a || b) || c) ≡ (b || (a || c))
-over true true c = refl
-over true false c = refl
-over false b c = refl
-
-or_false : (a : Bool) → (a || false) ≡ a
-or_false true = refl
-or_false false = refl
-
 abbrev is_under : List (List ℕ) → Dot × Entry → Bool
 is_under path r = starts_with bytes_eq r.1.path path
-
-pub grows : (path : List (List ℕ)) (rows rest later : List (Dot × Entry)) (r : Dot × Entry) (old new : List Row) → IsGrowing path rows rest old → rest ≡ r ∷ later → is_under path r ≡ true → Adds old (row_of r) new → IsGrowing path rows later new
-grows path rows rest later r old new g split under adds = record {
-  any = λ t. ap (λ b. b || list_any (λ r. t (row_of r)) (rows_under path later)) (adds.any t) ∙ over (t (row_of r)) (list_any t old) _
-      ∙ ap (λ b. list_any t old || list_any (λ r. t (row_of r)) (cond b (r ∷ rows_under path later) (rows_under path later))) (sym under)
-      ∙ ap (λ xs. list_any t old || list_any (λ r. t (row_of r)) (rows_under path xs)) (sym split) ∙ g.any t;
-}
-
-pub passed_by : (path : List (List ℕ)) (rows rest later : List (Dot × Entry)) (r : Dot × Entry) (tree : List Row) → IsGrowing path rows rest tree → rest ≡ r ∷ later → is_under path r ≡ false → IsGrowing path rows later tree
-passed_by path rows rest later r tree g split under = record {
-  any = λ t. ap (λ b. list_any t tree || list_any (λ r. t (row_of r)) (cond b (r ∷ rows_under path later) (rows_under path later))) (sym under)
-      ∙ ap (λ xs. list_any t tree || list_any (λ r. t (row_of r)) (rows_under path xs)) (sym split) ∙ g.any t;
-}
-
-pub grown : (path : List (List ℕ)) (rows rest : List (Dot × Entry)) (tree : List Row) → IsGrowing path rows rest tree → rest ≡ [] → Holds (rows_under path rows) tree
-grown path rows rest tree g none = record { any = λ t. sym (or_false (list_any t tree)) ∙ ap (λ xs. list_any t tree || list_any (λ r. t (row_of r)) (rows_under path xs)) (sym none) ∙ g.any t }
 
 any-map : {A B : Type 0} (t : B → Bool) (f : A → B) (xs : List A) → list_any t (map f xs) ≡ list_any (λ x. t (f x)) xs
 any-map t f [] = refl

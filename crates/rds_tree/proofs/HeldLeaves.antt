@@ -1,5 +1,6 @@
 -- Leaves, by their kind and value.
 use Rattle.std.proofs.Common.{◌≡◌, ℕ, Bool, true, false, cond, not, ◌&&◌, ◌||◌, List, [], ◌∷◌, map, refl, sym, ◌∙◌, ap, subst}
+use Rattle.std.proofs.Math.Bool.{and-false, and-true, and_comm, or-false, or_assoc}
 use Rattle.std.specs.Prelude.{ℤ, Option, Some, None, Result, Ok, Err, IfOk}
 use Rattle.std.specs.List.{list_any}
 use Rattle.std.specs.List.Sorted.{IsStrictlySortedBy}
@@ -31,7 +32,7 @@ use Rattle.rds_tree.specs.Held.{among_any, among_dots, among_held, any_held, at_
 use Rattle.rds_tree.specs.Once.{once_is}
 use Rattle.rds_tree.specs.Row.{is_full, are_full, AddsLeaf}
 use Rattle.rds_tree.specs.View.{is_kind, values_once}
-use Rattle.rds_tree.proofs.Grouped.{and_yes, none_held, or_assoc, or_false, over}
+use Rattle.rds_tree.proofs.Grouped.{none_held, over}
 use Rattle.rds_tree.proofs.Kids.{flip_eq}
 use Rattle.rds_tree.proofs.SameView.{any-filter_map, passes}
 use Rattle.rds_names.proofs.Orders.{scalars_exact}
@@ -108,7 +109,7 @@ is_less picks old new regs elems rs es is was reg elem = record {
 }
 
 stays_one : (t p : Bool) → p ≡ false → t ≡ (t && not p)
-stays_one t p none = sym (ap (λ b. t && not b) none ∙ and_yes t)
+stays_one t p none = sym (ap (λ b. t && not b) none ∙ and-true t)
 
 -- where none goes
 pub stays_all : (p : Scalar → Dot → Bool) (held : Held) → ((v : Scalar) (d : Dot) → p v d ≡ false) → StaysBut p held held
@@ -149,32 +150,22 @@ same_as (Text a) (Int b) = refl
 
 -- ---- what commands cover, but a dot
 
-and_swap : (a b : Bool) → (a && b) ≡ (b && a)
-and_swap true true = refl
-and_swap true false = refl
-and_swap false true = refl
-and_swap false false = refl
-
-no_and : (a : Bool) → (a && false) ≡ false
-no_and true = refl
-no_and false = refl
-
 module _ (p : List (List ℕ)) (value : Scalar) where
   sets_reg : (but : Option Dot) (v : Scalar) (d : Dot) → means (AllBut but) d ≡ covering (Set p value) but (leaf Reg v d)
   sets_reg None v d = refl
-  sets_reg (Some stays) v d = sym (and_yes (not (is_same stays d)))
+  sets_reg (Some stays) v d = sym (and-true (not (is_same stays d)))
 
   sets_elem : (but : Option Dot) (v : Scalar) (d : Dot) → covering (Set p value) but (leaf Elem v d) ≡ false
   sets_elem None v d = refl
-  sets_elem (Some stays) v d = no_and (not (is_same stays d))
+  sets_elem (Some stays) v d = and-false (not (is_same stays d))
 
   adds_no_reg : (but : Option Dot) (v : Scalar) (d : Dot) → covering (Add p value) but (leaf Reg v d) ≡ false
   adds_no_reg None v d = refl
-  adds_no_reg (Some stays) v d = no_and (not (is_same stays d))
+  adds_no_reg (Some stays) v d = and-false (not (is_same stays d))
 
   adds_one : (but : Option Dot) (v : Scalar) (d : Dot) → (at_value value v && means (AllBut but) d) ≡ covering (Add p value) but (leaf Elem v d)
-  adds_one None v d = and_yes (at_value value v) ∙ same_as value v
-  adds_one (Some stays) v d = and_swap (at_value value v) (not (is_same stays d)) ∙ ap (λ b. not (is_same stays d) && b) (same_as value v)
+  adds_one None v d = and-true (at_value value v) ∙ same_as value v
+  adds_one (Some stays) v d = and_comm (at_value value v) (not (is_same stays d)) ∙ ap (λ b. not (is_same stays d) && b) (same_as value v)
 
   pub set_less : (c : Command) → c ≡ Set p value → (but : Option Dot) (old new : List Leaf) (regs elems rs : Held) → leaves_in regs elems ≡ old → leaves_in rs elems ≡ new → StaysBut (λ v d. means (AllBut but) d) regs rs → IsLess (covering c but) old new
   set_less c at but old new regs elems rs is was stays =
@@ -208,7 +199,7 @@ elem_less k at value dot old new regs elems es is was stays =
 module _ (p : List (List ℕ)) (value : Scalar) (d : Dot) (e : Entry) where
   pub set_among : (c : Command) → c ≡ Set p value → (leaves : List Leaf) (regs elems : Held) → leaves_in regs elems ≡ leaves → among_held (λ v. true) regs d e ≡ among_leaves (covered_leaf c) leaves d e
   set_among c at leaves regs elems is =
-      sym (or_false _) ∙ ap (λ b. among_held (λ v. true) regs d e || b) (sym (none_held elems))
+      sym (or-false _) ∙ ap (λ b. among_held (λ v. true) regs d e || b) (sym (none_held elems))
       ∙ sym (any-leaves (λ l. covered_leaf (Set p value) l && eq_by_cmp dot_cmp l.dot d) regs elems) ∙ ap (λ ls. among_leaves (covered_leaf (Set p value)) ls d e) is
       ∙ ap (λ m. among_leaves (covered_leaf m) leaves d e) (sym at)
 
@@ -260,7 +251,7 @@ of_kind Elem regs elems = elems
 any_values : (t : Scalar → Bool) (kind : Kind) (regs elems : Held) → are_full (of_kind kind regs elems) ≡ true → list_any t (values_in kind (leaves_in regs elems)) ≡ list_any t (map (λ e. e.0) (of_kind kind regs elems))
 any_values t Reg regs elems all =
     any-filter_map t (λ l. cond (is_kind Reg l.kind) (Some l.value) None) (leaves_in regs elems) ∙ any-leaves (λ l. passes t (cond (is_kind Reg l.kind) (Some l.value) None)) regs elems
-    ∙ ap (λ b. any_held (λ v d. t v) regs || b) (none_held elems) ∙ or_false _ ∙ any_keys t regs all
+    ∙ ap (λ b. any_held (λ v d. t v) regs || b) (none_held elems) ∙ or-false _ ∙ any_keys t regs all
 any_values t Elem regs elems all =
     any-filter_map t (λ l. cond (is_kind Elem l.kind) (Some l.value) None) (leaves_in regs elems) ∙ any-leaves (λ l. passes t (cond (is_kind Elem l.kind) (Some l.value) None)) regs elems
     ∙ ap (λ b. b || any_held (λ v d. t v) elems) (none_held regs) ∙ any_keys t elems all

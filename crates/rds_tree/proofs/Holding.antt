@@ -1,5 +1,6 @@
 -- A tree that goes with the live rows through an edit.
 use Rattle.std.proofs.Common.{◌≡◌, ℕ, ◌+◌, Bool, true, false, not, ◌&&◌, ◌||◌, List, [], ◌∷◌, refl, sym, ◌∙◌, ap}
+use Rattle.std.proofs.Math.Bool.{and-false, and-true, and_comm}
 use Rattle.std.specs.Prelude.{Some, None, Result, Ok, Err, IfOk, OnErr}
 use Rattle.std.specs.List.{list_any, starts_with}
 use Rattle.std.specs.Str.{bytes_eq}
@@ -66,29 +67,19 @@ module _ (picks : Leaf → Bool) (l : Leaf) where
   goes_below (k ∷ p) [] = refl
   goes_below (k ∷ p) (x ∷ q) = ap (λ b. b && goes picks true p q l) (flip_eq k x ∙ sym (same_test k x)) ∙ ap (λ b. bytes_eq k x && b) (goes_below p q)
 
-swap : (a b : Bool) → (a && b) ≡ (b && a)
-swap true true = refl
-swap true false = refl
-swap false true = refl
-swap false false = refl
-
 middle : (m k s : Bool) → (m && (k && s)) ≡ ((k && m) && s)
 middle true true s = refl
 middle true false s = refl
 middle false true s = refl
 middle false false s = refl
 
-no_and : (a : Bool) → (a && false) ≡ false
-no_and true = refl
-no_and false = refl
-
 pub goes_covers : (c : Command) (r : Dot × Entry) → goes (covered_leaf c) (is_deep c) (path_in c) r.1.path (leaf_at r) ≡ covers c r.1
-goes_covers (Set p v) r = goes_shallow (covered_leaf (Set p v)) (leaf_at r) p r.1.path ∙ swap (same_path r.1.path p) (is_reg r.1.kind)
+goes_covers (Set p v) r = goes_shallow (covered_leaf (Set p v)) (leaf_at r) p r.1.path ∙ and_comm (same_path r.1.path p) (is_reg r.1.kind)
 goes_covers (Add p v) r = goes_shallow (covered_leaf (Add p v)) (leaf_at r) p r.1.path ∙ middle (same_path r.1.path p) (not (is_reg r.1.kind)) (same_scalar r.1.value v)
 goes_covers (Del p v) r = goes_shallow (covered_leaf (Del p v)) (leaf_at r) p r.1.path ∙ middle (same_path r.1.path p) (not (is_reg r.1.kind)) (same_scalar r.1.value v)
 goes_covers (Clear p) r = goes_below (covered_leaf (Clear p)) (leaf_at r) p r.1.path
-goes_covers (Inc k by) r = goes_shallow (covered_leaf (Inc k by)) (leaf_at r) [] r.1.path ∙ no_and (same_path r.1.path [])
-goes_covers (Dec k by) r = goes_shallow (covered_leaf (Dec k by)) (leaf_at r) [] r.1.path ∙ no_and (same_path r.1.path [])
+goes_covers (Inc k by) r = goes_shallow (covered_leaf (Inc k by)) (leaf_at r) [] r.1.path ∙ and-false (same_path r.1.path [])
+goes_covers (Dec k by) r = goes_shallow (covered_leaf (Dec k by)) (leaf_at r) [] r.1.path ∙ and-false (same_path r.1.path [])
 
 -- picks that agree on a leaf
 pub goes_alike : (t u : Leaf → Bool) (deep : Bool) (p q : List (List ℕ)) (l : Leaf) → t l ≡ u l → goes t deep p q l ≡ goes u deep p q l
@@ -136,13 +127,9 @@ pub holds_raised : (c : Command) (a b : StateValue) (own : ℕ) (tree : List Row
 holds_raised c a b own tree none covers_none holds joins = record {
   any = λ t.
       holds.any t
-      ∙ any_alike (λ r. t (row_of r)) (λ r. t (row_of r) && not (covers c r.1)) a.lives (λ d e live. sym (ap (λ b. t (row_of (d, e)) && not b) (covers_none e) ∙ yes_and (t (row_of (d, e)))))
+      ∙ any_alike (λ r. t (row_of r)) (λ r. t (row_of r) && not (covers c r.1)) a.lives (λ d e live. sym (ap (λ b. t (row_of (d, e)) && not b) (covers_none e) ∙ and-true (t (row_of (d, e)))))
       ∙ sym (rows_killed c a b own (λ r. t (row_of r)) (joins.joined ∙ ap (λ m. join (coordinates a) (effect (coordinates a) own c m)) (none_made c joins.made none joins.is_made)));
 }
-  where
-    yes_and : (x : Bool) → (x && true) ≡ x
-    yes_and true = refl
-    yes_and false = refl
 
 pub itself : (d : Dot) → is_same d d ≡ true
 itself d = sym (same_dot-tied d d) ∙ tied d
@@ -156,10 +143,6 @@ apart v new d e unseen live = by (is_same new d) refl
     by : (x : Bool) → is_same new d ≡ x → x ≡ false
     by true is = absurd (no_life (sym unseen ∙ ap (map.get v) (dot_is new d (same_dot-tied new d ∙ is)) ∙ live))
     by false is = refl
-
-yes_and : (x : Bool) → (x && true) ≡ x
-yes_and true = refl
-yes_and false = refl
 
 shallow_parts : (c : Command) (p : Parts) → parts_of c ≡ Some p → (is_deep c ≡ false) × (p.path ≡ path_in c)
 shallow_parts (Set q v) p is = let path : p.path ≡ q = cc is in (refl, path)
@@ -178,7 +161,7 @@ module _ (c : Command) (p : Parts) (is : parts_of c ≡ Some p) (a : StateValue)
       ap (λ b. goes (covering c (Some new)) b p.path p.path leaf) (shallow_parts c p is).0
       ∙ goes_shallow (covering c (Some new)) leaf p.path p.path
       ∙ ap (λ b. pointwise bytes_eq p.path p.path && (not b && covered_leaf c leaf)) (itself new)
-      ∙ no_and (pointwise bytes_eq p.path p.path)
+      ∙ and-false (pointwise bytes_eq p.path p.path)
 
   others_go : (d : Dot) (e : Entry) → map.get a.lives d ≡ Some (Live e) → goes (covering c (Some new)) (is_deep c) p.path e.path (leaf_at (d, e)) ≡ covers c e
   others_go d e live =
@@ -198,7 +181,7 @@ module _ (c : Command) (p : Parts) (is : parts_of c ≡ Some p) (a : StateValue)
         let next = dot_of own (own_top (coordinates a) own + 1) in
         cut.any t ∙ adds.any (stays (covering c (Some new)) (is_deep c) p.path t)
         ∙ ap (λ x. (t (row_at p.path leaf) && not x) || list_any (stays (covering c (Some new)) (is_deep c) p.path t) old) own_stays
-        ∙ ap (λ x. x || list_any (stays (covering c (Some new)) (is_deep c) p.path t) old) (yes_and (t (row_at p.path leaf)))
+        ∙ ap (λ x. x || list_any (stays (covering c (Some new)) (is_deep c) p.path t) old) (and-true (t (row_at p.path leaf)))
         ∙ ap (λ x. t (row_at p.path leaf) || x) (holds.any (stays (covering c (Some new)) (is_deep c) p.path t)
         ∙ any_alike (λ r. stays (covering c (Some new)) (is_deep c) p.path t (row_of r)) (λ r. t (row_of r) && not (covers c r.1)) a.lives (λ d f live. ap (λ x. t (row_of (d, f)) && not x) (others_go d f live)))
         ∙ ap (λ row. t row || list_any (λ r. t (row_of r) && not (covers c r.1)) (live_rows a.lives)) (sym (same_row e made.1.1 next (sym at)))
@@ -227,9 +210,9 @@ holds_undone v path l old mid tree unseen holds adds cut = record {
   any = λ t.
       cut.any t ∙ adds.any (stays picks false path t)
       ∙ ap (λ x. (t (row_at path l) && not x) || list_any (stays picks false path t) old) gone
-      ∙ ap (λ x. x || list_any (stays picks false path t) old) (no_and (t (row_at path l)))
+      ∙ ap (λ x. x || list_any (stays picks false path t) old) (and-false (t (row_at path l)))
       ∙ holds.any (stays picks false path t)
-      ∙ any_alike (λ r. stays picks false path t (row_of r)) (λ r. t (row_of r)) v (λ d e live. ap (λ x. t (row_of (d, e)) && not x) (other d e live) ∙ yes_and (t (row_of (d, e))));
+      ∙ any_alike (λ r. stays picks false path t (row_of r)) (λ r. t (row_of r)) v (λ d e live. ap (λ x. t (row_of (d, e)) && not x) (other d e live) ∙ and-true (t (row_of (d, e))));
 }
   where
     picks : Leaf → Bool
@@ -239,7 +222,7 @@ holds_undone v path l old mid tree unseen holds adds cut = record {
     gone = goes_shallow picks l path path ∙ and_true _ _ (same_itself path) (leaf_itself l.kind l.value l.dot)
 
     third_none : (a b c : Bool) → (a && (b && (c && false))) ≡ false
-    third_none a b c = ap (λ x. a && (b && x)) (no_and c) ∙ ap (λ x. a && x) (no_and b) ∙ no_and a
+    third_none a b c = ap (λ x. a && (b && x)) (and-false c) ∙ ap (λ x. a && x) (and-false b) ∙ and-false a
 
     other : (d : Dot) (e : Entry) → map.get v d ≡ Some (Live e) → goes picks false path e.path (leaf_at (d, e)) ≡ false
     other d e live =
@@ -253,7 +236,7 @@ pub finds_made : (c : Command) (p : Parts) → parts_of c ≡ Some p → (v : Li
 finds_made c p is v new old mid unseen holds adds d e live =
     adds.any (λ r. goes (covered_leaf c) (is_deep c) p.path r.path r.leaf && eq_by_cmp dot_cmp r.leaf.dot d)
     ∙ ap (λ x. (goes (covered_leaf c) (is_deep c) p.path p.path (record { kind = p.kind; value = p.value; dot = new }) && x) || found_at (covered_leaf c) (is_deep c) p.path old d e) (same_dot-tied new d ∙ apart v new d e unseen live)
-    ∙ ap (λ x. x || found_at (covered_leaf c) (is_deep c) p.path old d e) (no_and (goes (covered_leaf c) (is_deep c) p.path p.path (record { kind = p.kind; value = p.value; dot = new })))
+    ∙ ap (λ x. x || found_at (covered_leaf c) (is_deep c) p.path old d e) (and-false (goes (covered_leaf c) (is_deep c) p.path p.path (record { kind = p.kind; value = p.value; dot = new })))
     ∙ finds c p.path v old (shallow_parts c p is).1 holds d e live
 
 pub raise_covers : (c : Command) → IsRaise c → (e : Entry) → covers c e ≡ false

@@ -1,18 +1,17 @@
 -- Dots of a tree that are made dead one after another.
-use Rattle.std.proofs.Common.{◌≡◌, ℕ, Bool, true, false, cond, not, ◌&&◌, ◌||◌, List, [], ◌∷◌, map, refl, sym, ◌∙◌, ap, subst, length, arith, eqb}
+use Rattle.std.proofs.Common.{◌≡◌, ℕ, Bool, true, false, cond, not, ◌&&◌, ◌||◌, List, [], ◌∷◌, map, refl, sym, ◌∙◌, ap, subst, length}
+use Rattle.std.proofs.Math.Bool.{and-false, or-false}
 use Rattle.std.specs.Prelude.{Option, Some, None}
 use Rattle.std.specs.List.{list_any}
 use Rattle.std.specs.List.Sorted.{IsStrictlySortedBy}
 use Rattle.std.specs.Ordering.{eq_by_cmp}
 use Rattle.std.specs.Map.{lookup}
-use Rattle.std.proofs.lemmas.Bool.Decides.{nat_tests}
 use Rattle.rds_names.specs.declared.entry.Entry.{Entry}
 use Rattle.rds_dots.specs.declared.dot.Dot.{Dot}
 use Rattle.rds_dots.specs.Dots.{dot_cmp}
 use Rattle.rds_dots.specs.Sets.{same_dot as dot_is}
 use Rattle.rds_life.specs.Life.{Life, Live, Dead}
 use Rattle.rds_life.specs.Killed.{but_for, is_same, is_the, killed_by}
-use Rattle.rds_state.proofs.CountLemmas.{same_dot-tied}
 use Rattle.rds_tree.specs.declared.leaf.Leaf.{Leaf}
 use Rattle.rds_tree.specs.Cuts.{goes, found_at, among, among_each, among_leaves}
 use Rattle.rds_tree.specs.Held.{is_but}
@@ -37,9 +36,6 @@ but_same (Some stays) f g d e same = ap (λ b. not (is_same stays d) && b) same
 pub killed_same : (f g : Test) (but : Option Dot) (d : Dot) (o : Option Life) → ((e : Entry) → f d e ≡ g d e) → killed_by (but_for but f) d o ≡ killed_by (but_for but g) d o
 killed_same f g but d o same = killed_one (but_for but f) (but_for but g) d o (λ e. but_same but f g d e (same e))
 
-no_test : Test
-no_test d e = false
-
 never : (d : Dot) (o : Option Life) → killed_by (λ q e. false) d o ≡ o
 never d None = refl
 never d (Some (Live e)) = refl
@@ -47,11 +43,7 @@ never d (Some Dead) = refl
 
 but_none : (but : Option Dot) (f : Test) (d : Dot) (e : Entry) → f d e ≡ false → but_for but f d e ≡ false
 but_none None f d e h = h
-but_none (Some stays) f d e h = ap (λ b. not (is_same stays d) && b) h ∙ falls (not (is_same stays d))
-  where
-    falls : (a : Bool) → (a && false) ≡ false
-    falls true = refl
-    falls false = refl
+but_none (Some stays) f d e h = ap (λ b. not (is_same stays d) && b) h ∙ and-false (not (is_same stays d))
 
 pub killed_never : (f : Test) (but : Option Dot) (d : Dot) (o : Option Life) → ((e : Entry) → f d e ≡ false) → killed_by (but_for but f) d o ≡ o
 killed_never f but d o none = killed_one (but_for but f) (λ q e. false) d o (λ e. but_none but f d e (none e)) ∙ never d o
@@ -79,27 +71,11 @@ killed_step f g h but d old mid step either = ap (killed_by (but_for but g) d) s
 
 -- ---- the dot that is to stay
 
-is_same-sym : (a b : Dot) → is_same a b ≡ eq_by_cmp dot_cmp a b
-is_same-sym a b = sym (same_dot-tied a b)
-
-eq_of_same : (a b : Dot) → is_same a b ≡ true → a ≡ b
-eq_of_same a b h = dot_is a b (sym (is_same-sym a b) ∙ h)
-
-same_itself : (a : Dot) → is_same a a ≡ true
-same_itself a = itself a.replica a.seq
-  where
-    itself : (m n : ℕ) → (eqb m m && eqb n n) ≡ true
-    itself m n = grind (arith, nat_tests)
-
 spares : (stays dot d : Dot) → is_same stays dot ≡ true → (e : Entry) → (not (is_same stays d) && is_the dot d e) ≡ false
 spares stays dot d same e = elim (is_the dot d e) as (λ b. is_the dot d e ≡ b → (not (is_same stays d) && b) ≡ false) [
   | true ↦ λ is. ap (λ b. not b && true) (ap (is_same stays) (sym (dot_is dot d is)) ∙ same)
-  | false ↦ λ _. falls (not (is_same stays d))
+  | false ↦ λ _. and-false (not (is_same stays d))
 ] refl
-  where
-    falls : (a : Bool) → (a && false) ≡ false
-    falls true = refl
-    falls false = refl
 
 -- a dot that is to stay isn't killed
 pub spared_kill : (but : Option Dot) (dot d : Dot) (o : Option Life) → is_but but dot ≡ true → o ≡ killed_by (but_for but (is_the dot)) d o
@@ -109,12 +85,8 @@ spared_kill (Some stays) dot d o h = sym (killed_one (but_for (Some stays) (is_t
 keeps : (stays dot d : Dot) → is_same stays dot ≡ false → (e : Entry) → is_the dot d e ≡ (not (is_same stays d) && is_the dot d e)
 keeps stays dot d apart e = elim (is_the dot d e) as (λ b. is_the dot d e ≡ b → b ≡ (not (is_same stays d) && b)) [
   | true ↦ λ is. sym (ap (λ b. not b && true) (ap (is_same stays) (sym (dot_is dot d is)) ∙ apart))
-  | false ↦ λ _. sym (falls (not (is_same stays d)))
+  | false ↦ λ _. sym (and-false (not (is_same stays d)))
 ] refl
-  where
-    falls : (a : Bool) → (a && false) ≡ false
-    falls true = refl
-    falls false = refl
 
 -- and any other is
 pub plain_kill : (but : Option Dot) (dot d : Dot) (o : Option Life) → is_but but dot ≡ false → killed_by (is_the dot) d o ≡ killed_by (but_for but (is_the dot)) d o
@@ -122,10 +94,6 @@ plain_kill None dot d o h = refl
 plain_kill (Some stays) dot d o h = killed_one (is_the dot) (but_for (Some stays) (is_the dot)) d o (keeps stays dot d h)
 
 -- ---- what a walk finds
-
-or_false : (a : Bool) → (a || false) ≡ a
-or_false true = refl
-or_false false = refl
 
 abbrev below_passes : (Row → Bool) → List ℕ × List Row → Bool
 below_passes t c = list_any (λ r. t (under c.0 r)) c.1
@@ -160,7 +128,7 @@ pub found_here : (picks : Leaf → Bool) (deep : Bool) (path : List (List ℕ)) 
 found_here picks deep path rows leaves cs d e shallow none is =
     subst (λ b. among_leaves picks leaves d e ≡ found_at picks b path rows d e) (sym shallow) (subst (λ p. among_leaves picks leaves d e ≡ found_at picks false p rows d e) (sym (no_keys path none))
     (sym (ap (λ rs. found_at picks false [] rs d e) (sym is) ∙ any-rows (λ r. goes picks false [] r.path r.leaf && eq_by_cmp dot_cmp r.leaf.dot d) leaves cs
-    ∙ ap (λ b. among_leaves picks leaves d e || b) (none_pass (below_passes (λ r. goes picks false [] r.path r.leaf && eq_by_cmp dot_cmp r.leaf.dot d)) cs (λ c. none_pass (λ r. false) c.1 (λ r. refl))) ∙ or_false (among_leaves picks leaves d e))))
+    ∙ ap (λ b. among_leaves picks leaves d e || b) (none_pass (below_passes (λ r. goes picks false [] r.path r.leaf && eq_by_cmp dot_cmp r.leaf.dot d)) cs (λ c. none_pass (λ r. false) c.1 (λ r. refl))) ∙ or-false (among_leaves picks leaves d e))))
 
 -- below a key
 module _ (picks : Leaf → Bool) (deep : Bool) (k : List ℕ) (p : List (List ℕ)) (d : Dot) (e : Entry) where
@@ -182,7 +150,7 @@ module _ (picks : Leaf → Bool) (deep : Bool) (k : List ℕ) (p : List (List �
   one_met child [] rise here = absurd (cc)
   one_met child (c ∷ cs) rise here =
       elim (at_key k c.0) as (λ b. at_key k c.0 ≡ b → cond b (Some c.1) (lookup (at_key k) cs) ≡ Some child → (below_passes hits c || list_any (below_passes hits) cs) ≡ found_at picks deep p child d e) [
-        | true ↦ λ is h. ap (λ b. below_passes hits c || b) (all_missed cs (others_above k c.0 cs (keys_exact k c.0 is) rise.0)) ∙ or_false (below_passes hits c) ∙ met c is ∙ ap (λ rows. found_at picks deep p rows d e) (same_some c.1 child h)
+        | true ↦ λ is h. ap (λ b. below_passes hits c || b) (all_missed cs (others_above k c.0 cs (keys_exact k c.0 is) rise.0)) ∙ or-false (below_passes hits c) ∙ met c is ∙ ap (λ rows. found_at picks deep p rows d e) (same_some c.1 child h)
         | false ↦ λ is h. ap (λ b. b || list_any (below_passes hits) cs) (missed c is) ∙ one_met child cs rise.1 h
       ] refl here
 

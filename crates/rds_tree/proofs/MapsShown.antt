@@ -1,5 +1,6 @@
 -- Which maps a view has, and what they show.
 use Rattle.std.proofs.Common.{◌≡◌, ℕ, zero, suc, Bool, true, false, cond, ◌&&◌, ◌||◌, List, [], ◌∷◌, ◌++◌, map, refl, sym, ◌∙◌, ap, append_assoc, length, leb, arith, ◌≤◌}
+use Rattle.std.proofs.Math.Bool.{and-false}
 use Rattle.std.specs.Prelude.{◌↔◌, ℤ, Option, Some, None, if◌then◌else◌}
 use Rattle.std.proofs.lemmas.Bool.Decides.{nat_tests}
 use Rattle.std.specs.List.{list_any, filter_map, cons_option}
@@ -27,10 +28,6 @@ use Rattle.rds_tree.proofs.SameDocument.{shown_passes, some_shows}
 use Rattle.rds_tree.proofs.SameView.{any-filter_map, filter_map-map, passes}
 use Rattle.rds_tree.proofs.Walked.{no_fit, suc_le}
 
-and_false : (a : Bool) → (a && false) ≡ false
-and_false true = refl
-and_false false = refl
-
 -- ---- what stands under a key
 
 module _ (f : List Placed → Shown) (g : List ℕ → List Placed) (key : List ℕ) where
@@ -50,7 +47,7 @@ module _ (f : List Placed → Shown) (g : List ℕ → List Placed) (key : List 
         ] refl
         | false ↦ λ off. elim (same_key key k) as (λ b. same_key key k ≡ b → map_at (maps_of (kept ks)) key ≡ cond ((b || list_any (same_key key) ks) && goes_on (g key)) (Some (f (g key))) None) [
           | true ↦ λ is. let none = ap (λ q. goes_on (g q)) (keys_exact key k is) ∙ off in
-              map_at-of ks ∙ ap (λ b. cond (list_any (same_key key) ks && b) (Some (f (g key))) None) none ∙ ap (λ b. cond b (Some (f (g key))) None) (and_false (list_any (same_key key) ks))
+              map_at-of ks ∙ ap (λ b. cond (list_any (same_key key) ks && b) (Some (f (g key))) None) none ∙ ap (λ b. cond b (Some (f (g key))) None) (and-false (list_any (same_key key) ks))
               ∙ sym (ap (λ b. cond b (Some (f (g key))) None) none)
           | false ↦ λ _. map_at-of ks
         ] refl
@@ -72,7 +69,7 @@ key_stands key es on =
 both : (key : List ℕ) (es : List Placed) → (list_any (same_key key) (keys_in es) && goes_on (below key es)) ≡ goes_on (below key es)
 both key es = elim (goes_on (below key es)) as (λ b. goes_on (below key es) ≡ b → (list_any (same_key key) (keys_in es) && b) ≡ b) [
   | true ↦ λ on. ap (λ b. b && true) (key_stands key es on)
-  | false ↦ λ _. and_false (list_any (same_key key) (keys_in es))
+  | false ↦ λ _. and-false (list_any (same_key key) (keys_in es))
 ] refl
 
 below_some : (rest : List (List ℕ)) → is_below rest ≡ true → (x : List ℕ) × ((more : List (List ℕ)) × (rest ≡ x ∷ more))

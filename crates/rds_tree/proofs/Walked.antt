@@ -1,5 +1,6 @@
 -- What a walk over a tree's children has gathered so far.
 use Rattle.std.proofs.Common.{◌≡◌, ℕ, zero, suc, Bool, true, false, ◌&&◌, List, [], ◌∷◌, ◌++◌, map, refl, sym, ◌∙◌, ap, length, leb, arith, append-nil, append_assoc, subst}
+use Rattle.rds_names.specs.Conditions.{and_right, and_left}
 use Rattle.std.specs.Prelude.{Option, Some, None, if◌then◌else◌, ℤ}
 use Rattle.std.specs.Option.{option_to_list}
 use Rattle.std.proofs.lemmas.Bool.Decides.{nat_tests}
@@ -32,14 +33,6 @@ pushed : {X : Type 0} (xs : List X) (o : Option X) (ys : List X) → (xs ++ opti
 pushed xs None ys = ap (λ zs. zs ++ ys) (append-nil xs)
 pushed xs (Some y) ys = append_assoc xs (y ∷ []) ys
 
-both_right : (a b : Bool) → (a && b) ≡ true → b ≡ true
-both_right true b h = h
-both_right false b h = absurd (cc)
-
-both_left : (a b : Bool) → (a && b) ≡ true → a ≡ true
-both_left true b h = refl
-both_left false b h = absurd (cc)
-
 -- one more child
 pub walked_on : (all left rest : List (List ℕ × List Row)) (c : List ℕ × List Row) (regs sets regs' sets' : List (List ℕ × List Scalar)) (maps maps' : List (List ℕ × Shown)) → IsWalked all left regs sets maps → left ≡ c ∷ rest
     → regs' ≡ regs ++ option_to_list (with_key c.0 (values_here Reg (placed_all c.1))) → sets' ≡ sets ++ option_to_list (with_key c.0 (values_here Elem (placed_all c.1)))
@@ -49,8 +42,8 @@ walked_on all left rest c regs sets regs' sets' maps maps' w is r s m =
     record {
       of_regs = ap (λ xs. xs ++ values_by_key Reg (seen rest)) r ∙ pushed regs _ _ ∙ ap (λ cs. regs ++ values_by_key Reg (seen cs)) (sym is) ∙ w.of_regs;
       of_sets = ap (λ xs. xs ++ values_by_key Elem (seen rest)) s ∙ pushed sets _ _ ∙ ap (λ cs. sets ++ values_by_key Elem (seen cs)) (sym is) ∙ w.of_sets;
-      fit = λ n h. both_right _ _ (fit n h);
-      of_maps = λ n h. ap (λ xs. xs ++ child_maps n (seen rest)) (m n (both_left _ _ (fit n h))) ∙ pushed maps (child_map n c) _ ∙ ap (λ cs. maps ++ child_maps n (seen cs)) (sym is) ∙ w.of_maps n h;
+      fit = λ n h. and_right _ _ (fit n h);
+      of_maps = λ n h. ap (λ xs. xs ++ child_maps n (seen rest)) (m n (and_left _ _ (fit n h))) ∙ pushed maps (child_map n c) _ ∙ ap (λ cs. maps ++ child_maps n (seen cs)) (sym is) ∙ w.of_maps n h;
     }
 
 pub no_fit : (a : ℕ) (b : Bool) → (leb (suc a) zero && b) ≡ true → ⊥
@@ -79,7 +72,7 @@ fits_below n (c ∷ cs) = fits-under n c.0 c.1 (rows_below cs) ∙ ap (λ b. fit
 
 all_fit_of : (n : ℕ) (leaves : List Leaf) (cs : List (List ℕ × List Row)) → fits (suc n) (rows_of leaves cs) ≡ true → all_fit n cs ≡ true
 all_fit_of n [] cs h = sym (fits_below n cs) ∙ h
-all_fit_of n (l ∷ leaves) cs h = all_fit_of n leaves cs (both_right _ _ h)
+all_fit_of n (l ∷ leaves) cs h = all_fit_of n leaves cs (and_right _ _ h)
 
 -- at the end the walk has the view
 pub walked_whole : (n : ℕ) (counters : Option (List (List ℕ × ℤ))) (leaves : List Leaf) (cs : List (List ℕ × List Row)) (regs sets : List (List ℕ × List Scalar)) (maps : List (List ℕ × Shown)) → are_full cs ≡ true → IsStrictlySortedBy key_cmp (map (λ c. c.0) cs) → IsWalked cs [] regs sets maps
@@ -101,9 +94,6 @@ walked_whole (suc n) counters leaves cs regs sets maps full rise w h =
 pub views_push : (xs : List (List ℕ × View)) (k : List ℕ) (v : View) → views_shown (xs ++ (k, v) ∷ []) ≡ views_shown xs ++ (k, shown v) ∷ []
 views_push [] k v = refl
 views_push (x ∷ xs) k v = ap (λ ys. (x.0, shown x.1) ∷ ys) (views_push xs k v)
-
-pub walked_none : (all : List (List ℕ × List Row)) → IsWalked all all [] [] []
-walked_none all = record { of_regs = refl; of_sets = refl; fit = λ n h. h; of_maps = λ n h. refl }
 
 -- the maps after a child below which something stands, and below which nothing does
 pub with_map : (k : List ℕ) (rows : List Row) (maps : List (List ℕ × Shown)) (shows_it : Shown) → goes_on (placed_all rows) ≡ true → (n : ℕ) → shows_it ≡ shown_to n None (placed_all rows) → maps ++ (k, shows_it) ∷ [] ≡ maps ++ option_to_list (child_map n (k, rows))

@@ -71,7 +71,8 @@ pub fn add_leaf(
     dot: Dot,
 ) -> Result<(), Fault>
     ensures ok { OnOk result
-        (let leaf : Leaf = record { kind = kind; value = value.now; dot = dot } in Adds tree.old (row_at path.now leaf) tree.new) }
+        (let leaf : Leaf = record { kind = kind; value = value.now; dot = dot } in
+        Adds tree.old (row_at path.now leaf) tree.new) }
     ensures err { OnErr result (tree.new ≡ tree.old) }
     ensures memory { IfErr result (λ fault. fault ≡ Memory) }
 {

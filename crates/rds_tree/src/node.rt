@@ -151,7 +151,8 @@ impl Node {
         but: Option<Dot>,
     )
         ensures { (d : Dot) → map.get lives.new d
-            ≡ killed_by (but_for but (found_at (covered_leaf command.now) (is_deep command.now) path.now self.now)) d (map.get lives.old d) }
+            ≡ killed_by (but_for but (found_at (covered_leaf command.now) (is_deep command.now) path.now self.now)) d
+            (map.get lives.old d) }
     {
         match path.split_first() {
             None => {

@@ -13,13 +13,9 @@ returns-then-components-eq0-clause-holds g c = holds_nothing c.args.replica.now 
 pub returns-in-Err-clause-holds : goal.returns-in-Err-clause-holds
 returns-in-Err-clause-holds g c =
     subst (λ (v : ReplicaValue). Holds (live_rows v.state.lives) c.undo.new.tree) (sym c.in-Err.ensures.err)
-    (holds_refused c.args.replica.now.state.lives c.args.delta.now.lives c.lives.result.now c.lives-2.result.now
-    (c.lives.ensures ∙ ap (λ (s : StateValue). s.lives) c.state.ensures.state) c.lives-2.ensures c.args.tree.now c.begin.new.tree c.undo.new.tree c.in_ok-change.change.coming.items c.requires.holds
-    c.in_ok-change.ensures.coming c.in_ok-begin.ensures.some c.undo.ensures)
+    (holds_refused (c.lives.ensures ∙ ap (λ (s : StateValue). s.lives) c.state.ensures.state) c.lives-2.ensures c.in_ok-change.ensures.coming c.requires.holds c.in_ok-begin.ensures.some c.undo.ensures)
 
 pub returns-clause-holds : goal.returns-clause-holds
 returns-clause-holds g c =
-    holds_joined c.args.replica.now.state.lives c.args.delta.now.lives c.lives.result.now c.lives-2.result.now
-    (c.lives.ensures ∙ ap (λ (s : StateValue). s.lives) c.state.ensures.state) c.lives-2.ensures c.args.tree.now c.begin.new.tree c.finish.new.tree c.in_ok-change.change.coming.items c.requires.holds
-    c.in_ok-change.ensures.coming c.take_with-2.new.self.state.lives c.in_ok-change.change.dying.items c.in_ok-change.ensures.dying c.in_ok-begin.ensures.ok c.finish.ensures
+    holds_joined (c.lives.ensures ∙ ap (λ (s : StateValue). s.lives) c.state.ensures.state) c.lives-2.ensures c.in_ok-change.ensures.coming c.requires.holds c.take_with-2.new.self.state.lives c.in_ok-change.ensures.dying c.in_ok-begin.ensures.ok c.finish.ensures
     (λ d. ap (λ (x : Coordinates). x.life d) c.in_default.ensures.ok)

@@ -1,7 +1,7 @@
 use Rattle.std.proofs.Common.{◌∙◌, sym, rules}
 use Rattle.std.specs.FinSet as set
 use Rattle.rds_life.proofs.Bounds.{least_above}
-use Rattle.rds_life.proofs.LivedLemmas.{find_unseen, is_joined, lived_empty, nothing_joined, rows-joined}
+use Rattle.rds_life.proofs.LivedLemmas.{are_joined, find_unseen, is_joined, lived_empty, nothing_joined}
 use Rattle.rds_life.proofs.NothingSeen.{nothing_seen}
 use Rattle.rds_life.proofs.lives.Lives.merge_compatible.Goals as goal
 
@@ -18,18 +18,10 @@ pub join_in-requires-clause-seen : goal.join_in-requires-clause-seen
 join_in-requires-clause-seen g c = find_unseen (g.S.DotSet.contents c.self.inside.seen) c.self.inside.rows c.self.invariant
 
 pub invariant_of-self-2 : goal.invariant_of-self-2
-invariant_of-self-2 g c =
-    let contents = g.S.DotSet.contents in
-    let s = contents c.self.inside.seen in
-    let t = contents c.other.inside.seen in
-    rw (c.in_ok-seen.ensures.ok, c.in_ok-join_in.ensures.ok)
-    (rows-joined s t c.self.inside.rows c.other.inside.rows c.self.invariant c.other.invariant)
+invariant_of-self-2 g c = are_joined _ _ _ _ c.self.invariant c.other.invariant c.in_ok-seen.ensures.ok c.in_ok-join_in.ensures.ok
 
 pub returns-clause-ok : goal.returns-clause-ok
-returns-clause-ok g c =
-    let contents = g.S.DotSet.contents in
-    is_joined (contents c.self.inside.seen) (contents c.other.inside.seen) c.self.inside.rows c.other.inside.rows c.self.invariant c.other.invariant
-    (contents c.in_ok-seen.seen) c.join_in.new.self c.args.self.now c.args.other.now c.in_ok-seen.ensures.ok c.in_ok-join_in.ensures.ok c.self.view_is c.other.view_is
+returns-clause-ok g c = is_joined _ _ _ _ c.self.invariant c.other.invariant _ _ _ _ c.in_ok-seen.ensures.ok c.in_ok-join_in.ensures.ok c.self.view_is c.other.view_is
 
 pub returns-clause-least : goal.returns-clause-least
 returns-clause-least g c = least_above _ _ _ (search rules) (returns-clause-ok g c)
