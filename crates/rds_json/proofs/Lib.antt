@@ -1,3 +1,11 @@
+pub mod EditsUnderstood
+pub mod LinesUnderstood
 pub mod Names
+pub mod Outcomes
+pub mod Paths
 pub mod Plain
+pub mod Proper
 pub mod Sizes
+pub mod Spelled
+pub mod Understood
+pub mod Words

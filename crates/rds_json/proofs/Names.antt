@@ -5,8 +5,8 @@ use Rattle.serde_json.specs.Find.{as_str}
 use Rattle.serde_json.specs.View.{items_of}
 use Rattle.rds_names.specs.declared.fault.Fault.{Fault}
 use Rattle.rds_names.specs.AndThen.{◌>>=◌}
-use Rattle.rds_json.specs.Members.{items_in}
-use Rattle.rds_json.specs.Parts.{name_from}
+use Rattle.rds_json.specs.Members.{items_in, of_one}
+use Rattle.rds_names.specs.Name.{name_of}
 use Rattle.rds_json.specs.RosterLine.{names_of}
 
 pub items_back : (ds : List Data) → items_in (items_of ds) ≡ ds
@@ -24,8 +24,8 @@ moved : (names : List (List ℕ)) (n : List ℕ) (r : Result (List (List ℕ)) F
 moved names n (Ok ns) = ap Ok (append_assoc names (n ∷ []) ns)
 moved names n (Err e) = refl
 
-pub with_name : (names : List (List ℕ)) (n : List ℕ) (d : Data) (ds : List Data) → name_from (as_str d) ≡ Ok n → names_with (names ++ n ∷ []) ds ≡ names_with names (d ∷ ds)
+pub with_name : (names : List (List ℕ)) (n : List ℕ) (d : Data) (ds : List Data) → of_one name_of (as_str d) ≡ Ok n → names_with (names ++ n ∷ []) ds ≡ names_with names (d ∷ ds)
 with_name names n d ds is = moved names n (names_of ds) ∙ ap (λ r. (r >>= λ name. names_of ds >>= λ ns. Ok (name ∷ ns)) >>= λ ns. Ok (names ++ ns)) (sym is)
 
-pub with_fault : (names : List (List ℕ)) (e : Fault) (d : Data) (ds : List Data) → name_from (as_str d) ≡ Err e → names_with names (d ∷ ds) ≡ Err e
+pub with_fault : (names : List (List ℕ)) (e : Fault) (d : Data) (ds : List Data) → of_one name_of (as_str d) ≡ Err e → names_with names (d ∷ ds) ≡ Err e
 with_fault names e d ds is = ap (λ r. (r >>= λ name. names_of ds >>= λ ns. Ok (name ∷ ns)) >>= λ ns. Ok (names ++ ns)) is

@@ -1,10 +1,13 @@
+pub mod Limits
 pub mod Line
 pub mod MayGive
+pub mod Meaning
 pub mod Members
 pub mod Parts
 pub mod RosterLine
 pub mod Scalar
 pub mod Show
+pub mod Spelling
 pub mod Standing
 pub mod Texts
 pub mod Unnamed

@@ -1,9 +1,8 @@
 -- What a line of JSON asks for, or why it asks for nothing.
-use Rattle.std.specs.Prelude.{ℕ, List, Option, Some, None, Result, Ok, Err}
+use Rattle.std.specs.Prelude.{ℕ, List, Result, Ok}
 use Rattle.serde_json.specs.Data.{Data}
 use Rattle.serde_json.specs.Read.{read}
 use Rattle.rds_names.specs.declared.fault.Fault.{Fault}
-use Rattle.rds_names.specs.declared.fault.Fault.TheVariants.{BadLine}
 use Rattle.rds_state.specs.declared.command.Command.TheVariants as commands
 use Rattle.rds_json.specs.declared.line.Line.{Line}
 use Rattle.rds_json.specs.declared.line.Line.TheVariants.{Roster, Edit, Save, Crash, Ask, Answer, Take, Grow, Show}
@@ -12,10 +11,10 @@ use Rattle.rds_json.specs.declared.verb.Verb.TheVariants as verbs
 use Rattle.rds_json.specs.declared.verb.EditVerb.{EditVerb}
 use Rattle.rds_json.specs.declared.verb.EditVerb.TheVariants as edits
 use Rattle.rds_names.specs.AndThen.{◌>>=◌}
-use Rattle.rds_json.specs.Members.{text_at}
+use Rattle.rds_json.specs.Members.{of_one}
 use Rattle.rds_json.specs.Parts.{answer_at, counter_at, growth_at, number_alone, place_at, replica_at, value_at}
 use Rattle.rds_json.specs.RosterLine.{roster_at}
-use Rattle.rds_json.specs.Verb.{verb_of}
+use Rattle.rds_json.specs.Verb.{verb_at}
 
 abbrev pub edit_line : EditVerb → Data → Result Line Fault
 edit_line edits.Set d = value_at d >>= λ at. Ok (Edit at.name (commands.Set at.path at.value))
@@ -36,18 +35,9 @@ line_by verbs.Take d = number_alone d >>= λ answer. Ok (Take answer)
 line_by verbs.Grow d = growth_at d >>= λ at. Ok (Grow at.name at.newcomer)
 line_by verbs.Show d = place_at d >>= λ at. Ok (Show at.name at.path)
 
-abbrev pub line_with : Option Verb → Data → Result Line Fault
-line_with None d = Err BadLine
-line_with (Some verb) d = line_by verb d
-
-abbrev pub line_in : Option (List ℕ) → Data → Result Line Fault
-line_in None d = Err BadLine
-line_in (Some word) d = line_with (verb_of word) d
-
-abbrev pub line_from : Option Data → Result Line Fault
-line_from None = Err BadLine
-line_from (Some d) = line_in (text_at 0 d) d
+abbrev pub line_in : Data → Result Line Fault
+line_in d = of_one (λ verb. line_by verb d) (verb_at d)
 
 -- what the text asks for, or its fault
 abbrev pub line_of : List ℕ → Result Line Fault
-line_of text = line_from (read text)
+line_of text = of_one line_in (read text)

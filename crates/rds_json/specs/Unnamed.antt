@@ -1,6 +1,6 @@
 -- What a line asks for that edits a replica which it doesn't name. Members are counted and their kinds judged first,
 -- then the members from left to right.
-use Rattle.std.specs.Prelude.{ℕ, List, Option, Some, None, Result, Ok, Err}
+use Rattle.std.specs.Prelude.{ℕ, List, Result, Ok, Err}
 use Rattle.serde_json.specs.Data.{Data}
 use Rattle.serde_json.specs.Find.{at}
 use Rattle.serde_json.specs.Read.{read}
@@ -17,43 +17,31 @@ use Rattle.rds_json.specs.declared.verb.Verb.{Verb}
 use Rattle.rds_json.specs.declared.verb.Verb.TheVariants as verbs
 use Rattle.rds_json.specs.declared.verb.EditVerb.{EditVerb}
 use Rattle.rds_json.specs.declared.verb.EditVerb.TheVariants as edits
-use Rattle.rds_json.specs.Members.{number_at, text_at}
+use Rattle.rds_json.specs.Members.{number_at, of_one, of_two, text_at}
 use Rattle.rds_json.specs.Parts.{of_count}
 use Rattle.rds_json.specs.Scalar.{scalar_of}
-use Rattle.rds_json.specs.Verb.{verb_of}
+use Rattle.rds_json.specs.Verb.{verb_at}
 
 -- ---- [WORD, PATH]
 
-abbrev pub part_from : Option (List ℕ) → Result (List (List ℕ)) Fault
-part_from (Some path) = path_of path
-part_from None = Err BadLine
-
 abbrev pub part_at : Data → Result (List (List ℕ)) Fault
-part_at d = of_count 2 d (part_from (text_at 1 d))
+part_at d = of_count 2 d (of_one path_of (text_at 1 d))
 
 -- ---- [WORD, PATH, VALUE]
 
 abbrev pub pathed_value : List ℕ → Data → Result ValuedAt Fault
 pathed_value path value = path_of path >>= λ p. scalar_of value >>= λ v. Ok (record { path = p; value = v })
 
-abbrev pub valued_from : Option (List ℕ) → Option Data → Result ValuedAt Fault
-valued_from (Some path) (Some value) = pathed_value path value
-valued_from _ _ = Err BadLine
-
 abbrev pub valued_at : Data → Result ValuedAt Fault
-valued_at d = of_count 3 d (valued_from (text_at 1 d) (at 2 d))
+valued_at d = of_count 3 d (of_two pathed_value (text_at 1 d) (at 2 d))
 
 -- ---- [WORD, KEY, BY]
 
 abbrev pub keyed_count : List ℕ → ℕ → Result CountedAt Fault
 keyed_count key by = key_of key >>= λ k. Ok (record { key = k; by = by })
 
-abbrev pub counted_from : Option (List ℕ) → Option ℕ → Result CountedAt Fault
-counted_from (Some key) (Some by) = keyed_count key by
-counted_from _ _ = Err BadLine
-
 abbrev pub counted_at : Data → Result CountedAt Fault
-counted_at d = of_count 3 d (counted_from (text_at 1 d) (number_at 2 d))
+counted_at d = of_count 3 d (of_two keyed_count (text_at 1 d) (number_at 2 d))
 
 -- ---- the line
 
@@ -66,18 +54,13 @@ edit_by edits.Inc d = counted_at d >>= λ at. Ok (Inc at.key at.by)
 edit_by edits.Dec d = counted_at d >>= λ at. Ok (Dec at.key at.by)
 
 -- the words of edits alone
-abbrev pub edit_with : Option Verb → Data → Result Command Fault
-edit_with (Some (verbs.Edit verb)) d = edit_by verb d
+abbrev pub edit_with : Verb → Data → Result Command Fault
+edit_with (verbs.Edit verb) d = edit_by verb d
 edit_with _ d = Err BadLine
 
-abbrev pub edit_in : Option (List ℕ) → Data → Result Command Fault
-edit_in None d = Err BadLine
-edit_in (Some word) d = edit_with (verb_of word) d
-
-abbrev pub edit_from : Option Data → Result Command Fault
-edit_from None = Err BadLine
-edit_from (Some d) = edit_in (text_at 0 d) d
+abbrev pub edit_in : Data → Result Command Fault
+edit_in d = of_one (λ verb. edit_with verb d) (verb_at d)
 
 -- the edit that the text asks for, or its fault
 abbrev pub edit_of : List ℕ → Result Command Fault
-edit_of text = edit_from (read text)
+edit_of text = of_one edit_in (read text)

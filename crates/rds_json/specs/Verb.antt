@@ -1,6 +1,8 @@
 -- The words that lines begin with.
-use Rattle.std.specs.Prelude.{ℕ, List, codes, Option, Some, None, if◌then◌else◌}
+use Rattle.std.specs.Prelude.{ℕ, List, codes, Option, Some, None, option_and_then, if◌then◌else◌}
 use Rattle.std.specs.Str.{bytes_eq}
+use Rattle.serde_json.specs.Data.{Data}
+use Rattle.rds_json.specs.Members.{text_at}
 use Rattle.rds_json.specs.declared.verb.Verb.{Verb}
 use Rattle.rds_json.specs.declared.verb.Verb.TheVariants.{Roster, Edit, Save, Crash, Ask, Answer, Take, Grow, Show}
 use Rattle.rds_json.specs.declared.verb.EditVerb.TheVariants.{Set, Add, Del, Clear, Inc, Dec}
@@ -22,3 +24,7 @@ verb_of word =
     else (if bytes_eq word (codes "grow") then Some Grow
     else (if bytes_eq word (codes "show") then Some Show
     else None)))))))))))))
+
+-- the verb that a value begins with
+abbrev pub verb_at : Data → Option Verb
+verb_at d = option_and_then verb_of (text_at 0 d)

@@ -1,9 +1,10 @@
 //! Lines of JSON that ask something of a group of replicas, and views as JSON. Of lines, read `line`, `verb`,
-//! `members`, `scalars`, `parts`, `edits`, `roster`, `reading` and `unnamed`, in this order; of views, `showing`,
-//! `standing` and `texts`.
+//! `members`, `scalars`, `parts`, `edits`, `roster`, `reading` and `unnamed`, in this order; `laws` says what lines mean
+//! by how they are spelled. Of views, read `showing`, `standing` and `texts`.
 #![tactic(auto)]
 
 mod edits;
+mod laws;
 mod line;
 mod members;
 mod parts;
@@ -16,6 +17,7 @@ mod texts;
 mod unnamed;
 mod verb;
 
+pub use laws::lines_mean_their_spelling;
 pub use line::Line;
 pub use reading::command;
 pub use scalars::scalar;

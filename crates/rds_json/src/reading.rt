@@ -4,7 +4,6 @@ ghost use Rattle.rds_names.specs.declared.fault.Fault.TheVariants.{BadLine, Memo
 ghost use Rattle.serde_json.specs.Read.{read};
 ghost use Rattle.rds_json.specs.Line.{line_by, line_in, line_of};
 ghost use Rattle.rds_json.specs.MayGive.{MayGive};
-ghost use Rattle.rds_json.specs.Members.{text_at};
 ghost use Rattle.serde_json.specs.View.{view};
 
 use crate::edits::edit_line;
@@ -46,7 +45,7 @@ pub(crate) fn value_of(alloc: Global, text: &str) -> Result<Value, Fault>
 }
 
 fn line_in(alloc: Global, line: &Value) -> Result<Line, Fault>
-    ensures { MayGive result (line_in (text_at 0 (view line.now)) (view line.now)) }
+    ensures { MayGive result (line_in (view line.now)) }
 {
     let word = match text_at(line, 0) {
         Some(word) => word,

@@ -2,8 +2,10 @@
 ghost use Rattle.std.specs.Prelude.{◌≡◌, ◌⊎◌, map, Ok, Err, IfOk, IfErr};
 ghost use Rattle.std.specs.List.{list_all};
 ghost use Rattle.rds_json.specs.MayGive.{MayGive};
-ghost use Rattle.rds_json.specs.Parts.{name_from};
-ghost use Rattle.rds_json.specs.RosterLine.{is_text, key_from, names_of, roster_at, roster_from};
+ghost use Rattle.rds_json.specs.Members.{of_one};
+ghost use Rattle.rds_json.specs.RosterLine.{is_text, names_of, roster_at, roster_from};
+ghost use Rattle.rds_names.specs.Key.{key_of};
+ghost use Rattle.rds_names.specs.Name.{name_of};
 ghost use Rattle.rds_names.specs.declared.fault.Fault.TheVariants.{Memory};
 ghost use Rattle.serde_json.specs.Find.{as_str};
 ghost use Rattle.serde_json.specs.View.{view};
@@ -50,7 +52,7 @@ fn are_texts(members: &[Value]) -> bool
 
 /// The key that a member is.
 fn key(alloc: Global, member: &Value) -> Result<Key, Fault>
-    ensures { MayGive result (key_from (as_str (view member.now))) }
+    ensures { MayGive result (of_one key_of (as_str (view member.now))) }
 {
     match member.as_str() {
         Some(text) => Key::new(alloc, text),
@@ -60,7 +62,7 @@ fn key(alloc: Global, member: &Value) -> Result<Key, Fault>
 
 /// The name that a member is.
 fn name(member: &Value) -> Result<Name, Fault>
-    ensures { result ≡ name_from (as_str (view member.now)) }
+    ensures { result ≡ of_one name_of (as_str (view member.now)) }
 {
     match member.as_str() {
         Some(text) => Name::new(text),

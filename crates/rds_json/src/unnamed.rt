@@ -1,7 +1,6 @@
 //! Lines that edit a replica which they don't name. Members are counted and their kinds judged first, then the members
 //! from left to right.
 ghost use Rattle.rds_json.specs.MayGive.{MayGive};
-ghost use Rattle.rds_json.specs.Members.{text_at};
 ghost use Rattle.rds_json.specs.Unnamed.{counted_at, edit_by, edit_in, edit_of, keyed_count, pathed_value, part_at, valued_at};
 ghost use Rattle.serde_json.specs.View.{view};
 
@@ -39,7 +38,7 @@ pub fn edit(alloc: Global, text: &str) -> Result<Command, Fault>
 }
 
 fn edit_in(alloc: Global, line: &Value) -> Result<Command, Fault>
-    ensures { MayGive result (edit_in (text_at 0 (view line.now)) (view line.now)) }
+    ensures { MayGive result (edit_in (view line.now)) }
 {
     let word = match text_at(line, 0) {
         Some(word) => word,
