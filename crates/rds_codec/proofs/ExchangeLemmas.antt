@@ -1,9 +1,11 @@
 -- What goes by bytes between friends comes as it was sent.
-use Rattle.std.proofs.Common.{◌≡◌, ℕ, ◌<◌, ◌≤◌, inl, inr, List, length, Result, Ok, Err, refl, sym, ap, subst, ◌∙◌}
+use Rattle.std.proofs.Common.{◌≡◌, ◌+◌, ℕ, ◌<◌, ◌≤◌, inl, inr, List, length, Result, Ok, Err, refl, sym, ap, subst, ◌∙◌, arith}
 use Rattle.std.specs.Prelude.{IfOk, IfErr, IsErrAnd}
 use Rattle.std.specs.Global.{Vec}
-use Rattle.rds_names.specs.Roster.{RosterValue}
+use Rattle.std.proofs.lemmas.List.{length-append}
+use Rattle.rds_names.specs.Roster.{Begins, RosterValue}
 use Rattle.rds_names.specs.declared.fault.Fault.{Fault}
+use Rattle.rds_names.specs.declared.fault.Fault.TheVariants.{WrongGroup, WrongRoster}
 use Rattle.rds_life.specs.Life.{seen_of}
 use Rattle.rds_life.proofs.Views.{contains-seen_of}
 use Rattle.rds_state.specs.Coordinates.{Coordinates, AtMost, join}
@@ -11,6 +13,8 @@ use Rattle.rds_state.specs.Fits.{Fits, ReplicaValue}
 use Rattle.rds_state.specs.Value.{StateValue, coordinates, size}
 use Rattle.rds_state.specs.Ahead.{TakeGives}
 use Rattle.rds_state.specs.Friends.{AreFriends}
+use Rattle.rds_state.specs.Grown.{OneBegins, TakeWithGives}
+use Rattle.rds_state.proofs.FitsLemmas.{fits_more}
 use Rattle.rds_delta.specs.declared.row.Row.{Row}
 use Rattle.rds_delta.specs.Claims.{IsCertificate}
 use Rattle.rds_delta.specs.Digested.{DigestValue, digest_of, ranks_in}
@@ -24,7 +28,7 @@ use Rattle.rds_codec.specs.AnswerValues.{AnswerValue}
 use Rattle.rds_codec.specs.declared.limits.TheConstants.{LIMIT}
 use Rattle.rds_codec.specs.Decoding.{Answers, IsTextOf, Decodes}
 use Rattle.rds_codec.specs.DigestTexts.{DigestFits, IsDigestOf, digest_text, digest_kind}
-use Rattle.rds_codec.specs.Exchanged.{CanExchange, CanRead, IsAnswerTo, IsAskOf, IsCertified, IsLongAnswer, IsLongDigest, IsLost, IsRefusal, IsReplyTo, TakesCertified, Certified, Uncertified, Untaken}
+use Rattle.rds_codec.specs.Exchanged.{CanExchange, CanRead, IsAnswerTo, IsAskOf, IsCertified, IsLongAnswer, IsLongDigest, IsLost, IsRefusal, IsReplyTo, Untaken, replicas_of_both}
 use Rattle.rds_codec.specs.Kinds.{Kind}
 use Rattle.rds_bytes.specs.Values.{AreDotsOf}
 use Rattle.rds_codec.specs.Writing.{Encodes, IsUnwritten}
@@ -107,6 +111,21 @@ pub lost : {T : Type 0} (result : Result T Fault) (fault : Fault) (IsLong : Type
 lost (Ok x) fault IsLong is h = tt
 lost (Err e) fault IsLong is h = subst (IsLost IsLong) (sym is) h
 
+-- ---- where two rosters meet
+
+-- one that begins another has no more names
+begins_length : (r s : RosterValue) → Begins r s → length r.names ≤ length s.names
+begins_length r s b =
+    let is : length s.names ≡ length r.names + length b.1.0 = ap length b.1.1 ∙ length-append r.names b.1.0 in
+    omega (arith, is)
+
+-- what is taken is taken as ever
+pub taken_as_ever : (r s : RosterValue) (a : StateValue) (own : ℕ) (d : StateValue) (result : Result (Unit {0}) Fault) → OneBegins r s → TakeWithGives r s a own d result → TakeGives a own d result
+taken_as_ever r s a own d (Ok x) meet gives = gives.1
+taken_as_ever r s a own d (Err WrongGroup) meet gives = absurd (gives (elim meet [ inl b ↦ b.0 | inr b ↦ sym b.0 ]))
+taken_as_ever r s a own d (Err WrongRoster) meet gives = absurd (gives.1 meet)
+taken_as_ever r s a own d (Err f) meet gives = gives.1
+
 -- ---- what is answered
 
 module _ (digest : DigestValue) (asker : ℕ) (held : StateValue) (a : AnswerValue) (is : IsAnswerTo digest asker held a) where
@@ -123,8 +142,8 @@ module _ (digest : DigestValue) (asker : ℕ) (held : StateValue) (a : AnswerVal
       ap (join (coordinates mine)) delta ∙ grown_delta (coordinates held) (coordinates asked) (coordinates mine) grown
 
   -- and a friend takes it, unless memory runs out
-  pub answer_is_taken : (left : ℕ) (mine : StateValue) (result : Result (Unit {0}) Fault) (IsLong : Type 0) → AreFriends left (coordinates held) asker (coordinates mine) → TakeGives mine asker a.state result → IfErr result (IsLost IsLong)
-  answer_is_taken left mine result IsLong friends gives = elim (least_is_taken left asker held mine a.state (ranks_in digest) result friends is.delta gives) [
+  pub answer_is_taken : (left : ℕ) (r t : RosterValue) (mine : StateValue) (result : Result (Unit {0}) Fault) (IsLong : Type 0) → OneBegins r t → AreFriends left (coordinates held) asker (coordinates mine) → TakeWithGives r t mine asker a.state result → IfErr result (IsLost IsLong)
+  answer_is_taken left r t mine result IsLong meet friends gives = elim (least_is_taken left asker held mine a.state (ranks_in digest) result friends is.delta (taken_as_ever r t mine asker a.state result meet gives)) [
     | inl e ↦ subst (λ (r : Result (Unit {0}) Fault). IfErr r (IsLost IsLong)) (sym e) tt
     | inr e ↦ subst (λ (r : Result (Unit {0}) Fault). IfErr r (IsLost IsLong)) (sym e) (inl refl)
   ]
@@ -151,13 +170,8 @@ module _ (digest : DigestValue) (asker : ℕ) (held delta : StateValue) (rows : 
 
 -- ---- a take
 
--- what is said of a delta holds of what was taken
-pub taken_of : (digest : DigestValue) (a : AnswerValue) (own : ℕ) (old : StateValue) (r : Result (Unit {0}) Fault) → TakesCertified digest a own old r → IsCertified digest a → TakeGives old own a.state r
-taken_of digest a own old r (Certified is gives) h = gives
-taken_of digest a own old r (Uncertified is e) h = absurd (is.wrong h)
-
 -- the same fact of what equals them
-pub fits_here : (n m : ℕ) (v w : StateValue) → n ≡ m → w ≡ v → Fits m (coordinates v) → Fits n (coordinates w)
+fits_here : (n m : ℕ) (v w : StateValue) → n ≡ m → w ≡ v → Fits m (coordinates v) → Fits n (coordinates w)
 fits_here n m v w e k fits = subst (λ (x : ℕ). Fits x (coordinates w)) (sym e) (subst (λ (x : StateValue). Fits m (coordinates x)) (sym k) fits)
 
 -- what was asked, and what was answered to it, of the replicas themselves
@@ -165,37 +179,35 @@ pub record IsAsked (answerer asked mine : ReplicaValue) (digest : DigestValue) (
   pub same : digest ≡ digest_of asked.state
   pub answers : IsAnswerTo digest mine.own answerer.state a
 
-pub asked_of : (n own : ℕ) (answerer asked mine : ReplicaValue) (told held : StateValue) (digest : DigestValue) (a : AnswerValue) → n ≡ length mine.roster.names → own ≡ mine.own → own < n
-    → told ≡ asked.state → held ≡ answerer.state
+pub asked_of : (n own : ℕ) (answerer asked mine : ReplicaValue) (told held : StateValue) (digest : DigestValue) (a : AnswerValue) → n ≡ replicas_of_both answerer mine → own ≡ mine.own → own < length mine.roster.names
+    → told ≡ asked.state → held ≡ answerer.state → Fits (length answerer.roster.names) (coordinates answerer.state)
     → (Fits n (coordinates told) → digest ≡ digest_of told)
     → (own < n → Fits n (coordinates held) → IsAnswerTo digest own held a)
     → CanRead answerer asked mine → IsAsked answerer asked mine digest a
-asked_of n own answerer asked mine told held digest a many is_own below told_is held_is asks answers can =
-    let here : IsAnswerTo digest own held a = answers below (fits_here n (length mine.roster.names) answerer.state held many held_is can.held_fits) in
+asked_of n own answerer asked mine told held digest a many is_own below told_is held_is held_fits asks answers can =
+    let both = replicas_of_both answerer mine in
+    let fits : Fits both (coordinates answerer.state) = fits_more (length answerer.roster.names) both (coordinates answerer.state) (omega arith) held_fits in
+    let here : IsAnswerTo digest own held a = answers (omega (arith, many, below)) (fits_here n both answerer.state held many held_is fits) in
     record {
-      same = asks (fits_here n (length mine.roster.names) asked.state told many told_is can.asked_fits) ∙ ap digest_of told_is;
+      same = asks (fits_here n both asked.state told many told_is can) ∙ ap digest_of told_is;
       answers = subst (λ (k : ℕ). IsAnswerTo digest k answerer.state a) is_own (subst (λ (s : StateValue). IsAnswerTo digest own s a) held_is here);
     }
 
 -- what the take of the answer refuses is a refusal of the exchange
 pub untaken : (answerer asked mine : ReplicaValue) (digest : DigestValue) (a : AnswerValue) (fault : Fault) → IsAsked answerer asked mine digest a
-    → (a.asker ≡ mine.own → IsCertified digest a → TakeGives {T = Unit {0}} mine.state mine.own a.state (Err fault)) → IsRefusal answerer asked mine fault
+    → (a.asker ≡ mine.own → IsCertified digest a → TakeWithGives {T = Unit {0}} mine.roster answerer.roster mine.state mine.own a.state (Err fault)) → IsRefusal answerer asked mine fault
 untaken answerer asked mine digest a fault told gives =
     let is = told.answers in
     Untaken a (subst (λ (d : DigestValue). IsAnswerTo d mine.own answerer.state a) told.same is) (gives is.asked (answer_is_above digest mine.own answerer.state a is, is.certificate))
 
--- friends of one roster read each other
-pub can_read : (answerer asked mine : ReplicaValue) → Fits (length asked.roster.names) (coordinates asked.state) → Fits (length answerer.roster.names) (coordinates answerer.state) → CanExchange answerer asked mine → CanRead answerer asked mine
-can_read answerer asked mine asked_fits held_fits can = record {
-  asked_fits = subst (λ (r : RosterValue). Fits (length r.names) (coordinates asked.state)) can.asked_roster asked_fits;
-  held_fits = subst (λ (r : RosterValue). Fits (length r.names) (coordinates answerer.state)) can.answerer_roster held_fits;
-}
-
-pub told_within : (asked told : StateValue) → told ≡ asked → length (digest_text (digest_of told)) ≤ LIMIT → length (digest_text (digest_of asked)) ≤ LIMIT
-told_within asked told is within = subst (λ (s : StateValue). length (digest_text (digest_of s)) ≤ LIMIT) is within
+-- friends whose rosters meet read each other
+pub can_read : (answerer asked mine : ReplicaValue) → Fits (length asked.roster.names) (coordinates asked.state) → CanExchange answerer asked mine → CanRead answerer asked mine
+can_read answerer asked mine fits can =
+    let le = begins_length asked.roster mine.roster can.asked_roster in
+    fits_more (length asked.roster.names) (replicas_of_both answerer mine) (coordinates asked.state) (omega (arith, le)) fits
 
 -- the same text of the same replicas
-pub checked_text : (asked : StateValue) (n : ℕ) (r : RosterValue) (told : StateValue) (digest : DigestValue) → n ≡ length r.names → told ≡ asked
-    → IsTextOf (digest_kind n) (digest_text (digest_of told)) digest → IsTextOf (digest_kind (length r.names)) (digest_text (digest_of asked)) digest
-checked_text asked n r told digest many is text =
-    subst (λ (m : ℕ). IsTextOf (digest_kind m) (digest_text (digest_of asked)) digest) many (subst (λ (s : StateValue). IsTextOf (digest_kind n) (digest_text (digest_of s)) digest) is text)
+pub checked_text : (asked : StateValue) (n m : ℕ) (told : StateValue) (digest : DigestValue) → n ≡ m → told ≡ asked
+    → IsTextOf (digest_kind n) (digest_text (digest_of told)) digest → IsTextOf (digest_kind m) (digest_text (digest_of asked)) digest
+checked_text asked n m told digest many is text =
+    subst (λ (k : ℕ). IsTextOf (digest_kind k) (digest_text (digest_of asked)) digest) many (subst (λ (s : StateValue). IsTextOf (digest_kind n) (digest_text (digest_of s)) digest) is text)

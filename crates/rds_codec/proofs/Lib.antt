@@ -5,6 +5,7 @@ pub mod DigestFormats
 pub mod ExchangeLemmas
 mod HaveTexts
 pub mod HelloFormats
+pub mod Longer
 pub mod Replicas
 mod SmallTexts
 mod SnapshotFormats

@@ -1,12 +1,13 @@
 -- What goes from one replica to another, when it is too long, and what is taken of it.
-use Rattle.std.specs.Prelude.{◌≡◌, ◌<◌, ◌≤◌, ◌⊎◌, ℕ, List, length, Result, Err}
+use Rattle.std.specs.Prelude.{◌≡◌, ◌<◌, ◌≤◌, ◌⊎◌, ℕ, List, length, max, Result, Err}
 use Rattle.rds_names.specs.declared.fault.Fault.{Fault}
 use Rattle.rds_names.specs.declared.fault.Fault.TheVariants.{Memory, TooLong, BadCertificate}
+use Rattle.rds_names.specs.Roster.{Begins}
 use Rattle.rds_life.specs.Life.{seen_of}
-use Rattle.rds_state.specs.Ahead.{TakeGives}
 use Rattle.rds_state.specs.Coordinates.{AtMost}
 use Rattle.rds_state.specs.Fits.{Fits, ReplicaValue}
 use Rattle.rds_state.specs.Friends.{AreFriends}
+use Rattle.rds_state.specs.Grown.{OneBegins, TakeWithGives}
 use Rattle.rds_state.specs.Value.{StateValue, coordinates, size}
 use Rattle.rds_delta.specs.Claims.{IsCertificate}
 use Rattle.rds_delta.specs.Digested.{DigestValue, digest_of, ranks_in}
@@ -60,12 +61,12 @@ IsCertified digest a =
 pub record IsUncertified (digest : DigestValue) (a : AnswerValue) : Type 0 where
   pub wrong : IsCertified digest a → ⊥
 
--- It is refused as BadCertificate exactly where its certificate is not the right one. Any other is taken or refused as
--- a take does its delta.
-pub data TakesCertified (digest : DigestValue) (a : AnswerValue) (own : ℕ) (old : StateValue)
+-- It is refused as BadCertificate exactly where its certificate is not the right one. Any other is given what its take
+-- gives.
+pub data TakesCertified (digest : DigestValue) (a : AnswerValue) (Gives : Result (Unit {0}) Fault → Type 0)
     (result : Result (Unit {0}) Fault) : Type 0 where
-  Certified : IsCertified digest a → TakeGives old own a.state result → TakesCertified digest a own old result
-  Uncertified : IsUncertified digest a → result ≡ Err BadCertificate → TakesCertified digest a own old result
+  Certified : IsCertified digest a → Gives result → TakesCertified digest a Gives result
+  Uncertified : IsUncertified digest a → result ≡ Err BadCertificate → TakesCertified digest a Gives result
 
 -- It passes the check against what the text of the asked one's digest brings.
 pub record PassesCheck (replicas : ℕ) (asked : StateValue) (a : AnswerValue) : Type 0 where
@@ -73,17 +74,20 @@ pub record PassesCheck (replicas : ℕ) (asked : StateValue) (a : AnswerValue) :
   pub brought : IsTextOf (digest_kind replicas) (digest_text (digest_of asked)) digest
   pub certified : IsCertified digest a
 
--- Two friends of one roster, and what one of them was when it asked.
+-- the length of the longer of their rosters
+abbrev pub replicas_of_both : ReplicaValue → ReplicaValue → ℕ
+replicas_of_both answerer asker = max (length asker.roster.names) (length answerer.roster.names)
+
+-- Two friends, one of whose rosters begins the other, and what one of them was when it asked.
 pub record CanExchange (answerer asked asker : ReplicaValue) : Type 0 where
-  pub answerer_roster : answerer.roster ≡ asker.roster
-  pub asked_roster : asked.roster ≡ asker.roster
+  pub meet : OneBegins asker.roster answerer.roster
+  pub asked_roster : Begins asked.roster asker.roster
   pub friends : AreFriends answerer.own (coordinates answerer.state) asker.own (coordinates asker.state)
   pub grown : AtMost (coordinates asked.state) (coordinates asker.state)
 
--- What was asked and what answers fit the roster of the one that asks.
-pub record CanRead (answerer asked asker : ReplicaValue) : Type 0 where
-  pub asked_fits : Fits (length asker.roster.names) (coordinates asked.state)
-  pub held_fits : Fits (length asker.roster.names) (coordinates answerer.state)
+-- What was asked fits the longer of the two rosters. What answers does so anyway.
+abbrev pub CanRead : ReplicaValue → ReplicaValue → ReplicaValue → Type 0
+CanRead answerer asked asker = Fits (replicas_of_both answerer asker) (coordinates asked.state)
 
 -- why a text didn't come: memory ran out, or it is too long
 abbrev pub IsLost : Type 0 → Fault → Type 0
@@ -102,4 +106,5 @@ IsLongExchange answerer asked asker =
 pub data IsRefusal (answerer asked asker : ReplicaValue) (fault : Fault) : Type 0 where
   Lost : IsLost (IsLongExchange answerer asked asker) fault → IsRefusal answerer asked asker fault
   Untaken : (a : AnswerValue) → IsAnswerTo (digest_of asked.state) asker.own answerer.state a
-      → TakeGives {T = Unit {0}} asker.state asker.own a.state (Err fault) → IsRefusal answerer asked asker fault
+      → TakeWithGives {T = Unit {0}} asker.roster answerer.roster asker.state asker.own a.state (Err fault)
+      → IsRefusal answerer asked asker fault

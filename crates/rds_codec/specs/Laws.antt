@@ -1,6 +1,7 @@
 -- The law of the texts of a kind.
 use Rattle.std.specs.Prelude.{◌≡◌, ◌≤◌, ℕ, List, ◌++◌, length}
 use Rattle.rds_codec.specs.declared.limits.TheConstants.{LIMIT}
+use Rattle.rds_codec.specs.Decoding.{IsTextOf}
 use Rattle.rds_codec.specs.Kinds.{Kind}
 
 -- the value has a text, which is within the limit
@@ -13,3 +14,8 @@ abbrev pub StandApart : {V : Type 0} → Kind V → Type 0
 StandApart {V} kind =
     (v w : V) (x y : List ℕ) → HasText kind v → HasText kind w
     → kind.text v ++ x ≡ kind.text w ++ y → (v ≡ w) × (x ≡ y)
+
+-- where more replicas are known, each text is still that of the same value
+abbrev pub IsSameAmongMore : {V : Type 0} → (ℕ → Kind V) → Type 0
+IsSameAmongMore {V} kind =
+    (few more : ℕ) (bytes : List ℕ) (v : V) → few ≤ more → IsTextOf (kind few) bytes v → IsTextOf (kind more) bytes v

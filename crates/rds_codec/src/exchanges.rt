@@ -1,22 +1,22 @@
 //! An exchange over bytes: what a replica asks, what another answers, and what the first one takes.
-ghost use Rattle.std.specs.Prelude.{◌≡◌, ◌<◌, ◌≤◌, ◌⊎◌, ℕ, length, IfOk, IfErr, OnOk, OnErr};
-ghost use Rattle.rds_state.specs.Ahead.{TakeGives};
+ghost use Rattle.std.specs.Prelude.{◌≡◌, ◌<◌, ◌≤◌, ◌⊎◌, ℕ, length, max, IfOk, IfErr, OnOk, OnErr};
 ghost use Rattle.rds_state.specs.Coordinates.{join};
 ghost use Rattle.rds_state.specs.Fits.{Fits};
+ghost use Rattle.rds_state.specs.Grown.{OneBegins, TakeWithGives, longer};
 ghost use Rattle.rds_state.specs.Value.{coordinates};
 ghost use Rattle.rds_life.specs.Life.{seen_of};
 ghost use Rattle.rds_delta.specs.Digested.{digest_of};
 ghost use Rattle.rds_codec.specs.AnswerTexts.{answer_text};
 ghost use Rattle.rds_codec.specs.Decoding.{IsTextOf};
 ghost use Rattle.rds_codec.specs.DigestTexts.{digest_text, digest_kind};
-ghost use Rattle.rds_codec.specs.Exchanged.{CanExchange, CanRead, IsAnswerTo, IsAskOf, IsCertified, IsLongAnswer, IsLongDigest, IsLost, IsRefusal, IsReplyTo, IsWithin, PassesCheck, TakesCertified};
+ghost use Rattle.rds_codec.specs.Exchanged.{CanExchange, CanRead, IsAnswerTo, IsAskOf, IsCertified, IsLongAnswer, IsLongDigest, IsLost, IsRefusal, IsReplyTo, IsWithin, PassesCheck, TakesCertified, replicas_of_both};
 ghost use Rattle.rds_codec.specs.declared.limits.TheConstants.{LIMIT};
 
 use crate::answers::{Answer, decode_answer, encode_answer};
 use crate::digests::{decode_digest, encode_digest};
 use rds_delta::{Digest, certificate, check, delta};
 use rds_dots::DotSet;
-use rds_names::Fault;
+use rds_names::{Fault, Roster};
 use rds_state::{Replica, State};
 use std::alloc::Global;
 
@@ -47,27 +47,30 @@ pub fn answer<S: DotSet>(
     Ok((bytes, delta.components()))
 }
 
-/// Joins the delta of an answer into a replica. Refused as `BadCertificate` is exactly an answer that the check says no
-/// to: one whose delta isn't above the digest, or whose certificate isn't that of its delta against it. Any other is
-/// taken or refused as [`Replica::take`] does its delta (`OwnAhead`, `Conflict`, `Memory`).
+/// Joins the delta of an answer into a replica, with the roster of the one that answered. Refused as `BadCertificate`
+/// is exactly an answer that the check says no to: one whose delta isn't above the digest, or whose certificate isn't
+/// that of its delta against it. Any other is taken or refused as [`Replica::take_with`] does its delta (`WrongGroup`,
+/// `WrongRoster`, `OwnAhead`, `Conflict`, `Memory`).
 pub fn take_certified<S: DotSet>(
     replica: &mut Replica<S>,
+    roster: Roster,
     digest: &Digest<S>,
     answer: &Answer<S>,
 ) -> Result<(), Fault>
-    requires { Fits (length replica.old.roster.names) (coordinates answer.now.state) }
-    ensures taken { TakesCertified digest.now answer.now replica.old.own replica.old.state result }
+    requires { Fits (max (length replica.old.roster.names) (length roster.names)) (coordinates answer.now.state) }
+    ensures taken { TakesCertified digest.now answer.now
+        (TakeWithGives replica.old.roster roster replica.old.state replica.old.own answer.now.state) result }
     ensures checked { OnOk result (IsCertified digest.now answer.now) }
     ensures ok { OnOk result (coordinates replica.new.state
         ≡ join (coordinates replica.old.state) (coordinates answer.now.state)) }
-    ensures roster { replica.new.roster ≡ replica.old.roster }
+    ensures roster { OnOk result (replica.new.roster ≡ longer replica.old.roster roster) }
     ensures own { replica.new.own ≡ replica.old.own }
     ensures err { OnErr result (replica.new ≡ replica.old) }
 {
     if !check(digest, &answer.state, &answer.certificate) {
         return Err(Fault::BadCertificate);
     }
-    replica.take(&answer.state)
+    replica.take_with(roster, &answer.state)
 }
 
 /// The digest of a state, as its text brings it.
@@ -108,35 +111,44 @@ fn send_answer<S: DotSet>(
 /// (`WrongAsker`), and then what [`take_certified`] refuses.
 fn take_answer<S: DotSet>(
     replica: &mut Replica<S>,
+    roster: Roster,
     digest: &Digest<S>,
     answer: &Answer<S>,
 ) -> Result<(), Fault>
-    requires { Fits (length replica.old.roster.names) (coordinates answer.now.state) }
+    requires { Fits (max (length replica.old.roster.names) (length roster.names)) (coordinates answer.now.state) }
     ensures taken { answer.now.asker ≡ replica.old.own → IsCertified digest.now answer.now
-        → TakeGives replica.old.state replica.old.own answer.now.state result }
+        → TakeWithGives replica.old.roster roster replica.old.state replica.old.own answer.now.state result }
     ensures asked { OnOk result (answer.now.asker ≡ replica.old.own) }
     ensures checked { OnOk result (IsCertified digest.now answer.now) }
     ensures ok { OnOk result (coordinates replica.new.state
         ≡ join (coordinates replica.old.state) (coordinates answer.now.state)) }
-    ensures roster { replica.new.roster ≡ replica.old.roster }
+    ensures roster { OnOk result (replica.new.roster ≡ longer replica.old.roster roster) }
     ensures own { replica.new.own ≡ replica.old.own }
     ensures err { OnErr result (replica.new ≡ replica.old) }
 {
     if answer.asker != replica.own() {
         return Err(Fault::WrongAsker);
     }
-    take_certified(replica, digest, answer)
+    take_certified(replica, roster, digest, answer)
+}
+
+/// How many replicas the longer of two rosters has.
+fn replicas_of(left: &Roster, right: &Roster) -> u16
+    ensures { result ≡ max (length left.now.names) (length right.now.names) }
+{
+    left.len().max(right.len())
 }
 
 /// One replica asks another for what it lacks, and takes what it is answered. The digest of what it was when it asked
 /// goes to the other as bytes. The other sends back, as bytes, the least delta against that digest and its certificate.
-/// The one that asked checks the two and joins the delta into its state. The answer that it took is handed back.
+/// The one that asked checks the two, takes the longer of the two rosters, and joins the delta into its state. Both
+/// texts are read with that roster. The answer that it took is handed back.
 ///
-/// Where both fit the roster of the one that asked, no text is refused by the one that reads it, and no check says no.
-/// Only want of memory, too long a text or what [`Replica::take`] refuses of the answer's delta (`OwnAhead`,
-/// `Conflict`) is a hindrance. Where the two are friends of one roster besides, no take finds a conflict or a loss
-/// either, and the one that asked ends with all that both knew, whatever it has become since. Elsewhere any of these
-/// may refuse it. What is refused has changed nothing.
+/// Where what was asked fits the longer roster, no text is refused by the one that reads it, and no check says no. Only
+/// want of memory, too long a text or what [`Replica::take_with`] refuses of the answer's delta (`WrongGroup`,
+/// `WrongRoster`, `OwnAhead`, `Conflict`) is a hindrance. Where the two are friends besides, and one of their rosters
+/// begins the other, no take finds a conflict or a loss either, and the one that asked ends with all that both knew,
+/// whatever it has become since. Elsewhere any of these may refuse it. What is refused has changed nothing.
 pub fn pull<S: DotSet>(
     alloc: Global,
     answerer: &Replica<S>,
@@ -146,9 +158,11 @@ pub fn pull<S: DotSet>(
     ensures taken { IfOk result (λ answer. coordinates asker.new.state
         ≡ join (coordinates asker.old.state) (coordinates answer.state)) }
     ensures asked { IfOk result (λ answer. answer.asker ≡ asker.old.own) }
-    ensures checked { IfOk result (PassesCheck (length asker.old.roster.names) asked.now.state) }
+    ensures checked { IfOk result (PassesCheck (replicas_of_both answerer.now asker.old) asked.now.state) }
     ensures within { IfOk result (IsWithin asked.now.state) }
-    ensures takes { IfOk result (λ answer. TakeGives asker.old.state asker.old.own answer.state result) }
+    ensures meet { IfOk result (λ _. OneBegins asker.old.roster answerer.now.roster) }
+    ensures takes { IfOk result (λ answer.
+        TakeWithGives asker.old.roster answerer.now.roster asker.old.state asker.old.own answer.state result) }
     ensures answer { CanRead answerer.now asked.now asker.old
         → IfOk result (IsAnswerTo (digest_of asked.now.state) asker.old.own answerer.now.state) }
     ensures refusal { CanRead answerer.now asked.now asker.old
@@ -157,13 +171,14 @@ pub fn pull<S: DotSet>(
         ≡ join (coordinates asker.old.state) (coordinates answerer.now.state)) }
     ensures fault { CanExchange answerer.now asked.now asker.old → IfErr result (IsLost (IsLongDigest asked.now.state
         ⊎ IsLongAnswer (digest_of asked.now.state) asker.old.own answerer.now.state)) }
-    ensures roster { asker.new.roster ≡ asker.old.roster }
+    ensures roster { OnOk result (asker.new.roster ≡ longer asker.old.roster answerer.now.roster) }
     ensures own { asker.new.own ≡ asker.old.own }
     ensures err { OnErr result (asker.new ≡ asker.old) }
 {
-    let replicas = asker.roster().len();
+    let replicas = replicas_of(asker.roster(), answerer.roster());
     let digest = send_digest(alloc, replicas, asked.state())?;
     let answer = send_answer(alloc, replicas, asker.own(), answerer.state(), &digest)?;
-    take_answer(asker, &digest, &answer)?;
+    let roster = answerer.roster().copy(alloc)?;
+    take_answer(asker, roster, &digest, &answer)?;
     Ok(answer)
 }

@@ -5,7 +5,7 @@ ghost use Rattle.rds_codec.specs.CertificateTexts.{certificate_kind};
 ghost use Rattle.rds_codec.specs.DigestTexts.{digest_kind};
 ghost use Rattle.rds_codec.specs.HelloTexts.{hello_kind};
 ghost use Rattle.rds_codec.specs.Kinds.{state_kind, snapshot_kind};
-ghost use Rattle.rds_codec.specs.Laws.{StandApart};
+ghost use Rattle.rds_codec.specs.Laws.{IsSameAmongMore, StandApart};
 ghost use Rattle.rds_codec.specs.declared.hellos.TheConstants.{VERSION};
 ghost use Rattle.rds_codec.specs.declared.limits.TheConstants.{LIMIT};
 
@@ -18,6 +18,16 @@ pub fn texts_stand_apart()
     ensures certificates { (replicas : ℕ) → StandApart (certificate_kind replicas) }
     ensures answers { (replicas : ℕ) → StandApart (answer_kind replicas) }
     ensures hellos { StandApart hello_kind }
+{}
+
+/// A text whose reader knows a roster by its length is, under a longer roster, still the text of the same value. So
+/// what a replica told can be read with the roster that its group has grown to. The function does nothing: its contract
+/// is these laws.
+pub fn texts_outlive_growth()
+    ensures states { IsSameAmongMore state_kind }
+    ensures digests { IsSameAmongMore digest_kind }
+    ensures certificates { IsSameAmongMore certificate_kind }
+    ensures answers { IsSameAmongMore answer_kind }
 {}
 
 /// The greatest length of a text, 256 MiB, and the version that a hello says. The function does nothing: its contract

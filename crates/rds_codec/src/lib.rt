@@ -20,7 +20,7 @@ pub use certificates::{decode_certificate, encode_certificate};
 pub use digests::{decode_digest, encode_digest};
 pub use exchanges::{answer, ask, pull, take_certified};
 pub use hellos::{Hello, VERSION, decode_hello, encode_hello};
-pub use laws::{limits_of_texts, texts_stand_apart};
+pub use laws::{limits_of_texts, texts_outlive_growth, texts_stand_apart};
 pub use limits::LIMIT;
 pub use snapshots::{decode_snapshot, encode_snapshot};
 pub use states::{decode_state, encode_state};

@@ -34,7 +34,13 @@ impl<T> Model for Counted<T> {
 
     ghost coded = { counted_code T.code };
 
-    ghost view = { λ c. record { inner = c.inner; failed = c.failed; turns = c.turns; left = c.left; renamed = c.renamed } };
+    ghost view = { λ c. record {
+      inner = c.inner;
+      failed = c.failed;
+      turns = c.turns;
+      left = c.left;
+      renamed = c.renamed;
+    } };
 }
 
 impl<T> Counted<T> {

@@ -1,6 +1,6 @@
 //! The snapshot that is held from row to row.
 use crate::{exchanges, places, reading, texts};
-use rds_codec::{limits_of_texts, texts_stand_apart};
+use rds_codec::{limits_of_texts, texts_outlive_growth, texts_stand_apart};
 use rds_dots::DotSet;
 use rds_names::Fault;
 use rds_rows::Table;
@@ -47,9 +47,10 @@ impl<S: DotSet> Held<S> {
     }
 }
 
-/// `laws`: the function whose contract is the law of texts is called.
+/// `laws`: the functions whose contracts are the laws of texts are called.
 fn laws(alloc: Global) -> Result<String, Fault> {
     texts_stand_apart();
+    texts_outlive_growth();
     limits_of_texts();
     said(alloc, "called")
 }
