@@ -77,15 +77,21 @@ less_by n m has less = elim (nat_le n m) as (λ b. nat_le n m ≡ b → n ≤ m)
   | false ↦ λ e. absurd (∥∥₁_elim has ⊥_prop (λ x. false≢true (sym e ∙ le-leb n m (less x))))
 ] refl
 
-module _ (v : WorldValue) (i : IsWorld v) (r k : ℕ) (m : ReplicaValue) (a : AskText) (lt : r < length v.memory) (there : slice_get v.kept r ≡ Some m) (asked : slice_get v.asks k ≡ Some a) where
+-- what the replica that answers has kept, and what it is asked
+pub record IsAsked (v : WorldValue) (r k : ℕ) (m : ReplicaValue) (a : AskText) : Type 0 where
+  pub below : r < length v.memory
+  pub there : slice_get v.kept r ≡ Some m
+  pub asked : slice_get v.asks k ≡ Some a
+
+module _ (v : WorldValue) (i : IsWorld v) (r k : ℕ) (m : ReplicaValue) (a : AskText) (at : IsAsked v r k m a) where
   abbrev n : ℕ
   n = max a.names (length m.roster.names)
 
   kept_in_model : (w : World) → Stands v w → w.kept r ≡ coordinates m.state
-  kept_in_model w s = s.kept r ∙ ap state_of there
+  kept_in_model w s = s.kept r ∙ ap state_of at.there
 
   ask_of : (w : World) → Stands v w → HasPartner HoldsAsk w.asks k a
-  ask_of w s = partner HoldsAsk w.asks v.asks k a s.asks asked
+  ask_of w s = partner HoldsAsk w.asks v.asks k a s.asks at.asked
 
   ask_le : (w : World) (s : Stands v w) → (ask_of w s).it.names ≤ n
   ask_le w s = let names : a.names ≡ (ask_of w s).it.names = (ask_of w s).related.names in omega (arith, names)
@@ -103,7 +109,7 @@ module _ (v : WorldValue) (i : IsWorld v) (r k : ℕ) (m : ReplicaValue) (a : As
 
   pub due : (w : World) → Stands v w → refusal_of w (Answer r k) ≡ None
   due w s =
-      is_there r w.replicas (unless_there (is_some (slice_get w.asks k)) None) (subst (λ j. r < j) (sym s.replicas) lt)
+      is_there r w.replicas (unless_there (is_some (slice_get w.asks k)) None) (subst (λ j. r < j) (sym s.replicas) at.below)
       ∙ present_at w.asks k (ask_of w s).it (ask_of w s).there
 
   -- the delta against what was asked from
@@ -137,7 +143,7 @@ module _ (v : WorldValue) (i : IsWorld v) (r k : ℕ) (m : ReplicaValue) (a : As
   same_ask : (w : World) (s : Stands v w) (q : Question) → slice_get w.asks k ≡ Some q → q ≡ (ask_of w s).it
   same_ask w s q e = read_at w.asks k (ask_of w s).it q (ask_of w s).there e
 
-  module _ (bytes : List ℕ) (components number : ℕ) (r' : IsReply n a.bytes a.asker m.state bytes components) (at : number ≡ length v.answers) where
+  module _ (bytes : List ℕ) (components number : ℕ) (r' : IsReply n a.bytes a.asker m.state bytes components) (is_next : number ≡ length v.answers) where
     abbrev text : AnswerText
     text = record { question = k; asker = a.asker; roster = m.roster; bytes = bytes }
 
@@ -149,13 +155,13 @@ module _ (v : WorldValue) (i : IsWorld v) (r k : ℕ) (m : ReplicaValue) (a : As
         let q = ask_of w s in
         let y = r'.reply in
         let whole : y.value ≡ answer a.asker y.value.state y.value.certificate = λ j. answer (y.answers.asked j) y.value.state y.value.certificate in
-        let kept : length m.roster.names ≡ w.kept_names r = s.kept_names r m there in
+        let kept : length m.roster.names ≡ w.kept_names r = s.kept_names r m at.there in
         let names : a.names ≡ q.it.names = q.related.names in
         let longer : n ≡ max (w.kept_names r) q.it.names = omega (arith, kept, names) in
         record {
           question = refl;
           asker = q.related.asker;
-          begins = (i.kept r m there).0;
+          begins = (i.kept r m at.there).0;
           names = kept;
           asked = q.it;
           ask = q.there;
@@ -202,7 +208,7 @@ module _ (v : WorldValue) (i : IsWorld v) (r k : ℕ) (m : ReplicaValue) (a : As
             asks = i.asks;
             answers = λ j b h. elim (last_get v.answers text b j (subst (λ (l : List AnswerText). slice_get l j ≡ Some b) are h)) [
               | inl old ↦ i.answers j b old
-              | inr new ↦ subst (λ (z : AnswerText). (z.asker < length v.memory) × ((z.question < length v.asks) × Begins z.roster v.roster)) (sym new) (i.asks k a asked, (slice_get_below v.asks k a asked, (i.kept r m there).0))
+              | inr new ↦ subst (λ (z : AnswerText). (z.asker < length v.memory) × ((z.question < length v.asks) × Begins z.roster v.roster)) (sym new) (i.asks k a at.asked, (slice_get_below v.asks k a at.asked, (i.kept r m at.there).0))
             ];
             model = model_after v (record v { answers = answers }) (Answer r k) (λ w s. (due w s, stands' w s)) i.model;
           };
@@ -213,7 +219,7 @@ module _ (v : WorldValue) (i : IsWorld v) (r k : ℕ) (m : ReplicaValue) (a : As
             };
             stands = stands';
             done = λ w s. record {
-              number = at ∙ sym (matched_length (HoldsAnswer v.roster w.asks) w.answers v.answers s.answers);
+              number = is_next ∙ sym (matched_length (HoldsAnswer v.roster w.asks) w.answers v.answers s.answers);
               components = λ q d there' is.
                   (let same = same_ask w s q there' in
                   let e : coordinates d ≡ coordinates r'.reply.value.state = is ∙ ap (λ (z : Question). (reply w r k z).state) same ∙ sym (delta_is w s r'.digest (ask_of w s).it refl (told w s) r'.reply.value.state r'.reply.answers.delta) in

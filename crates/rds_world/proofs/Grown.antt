@@ -23,13 +23,19 @@ use Rattle.rds_world.proofs.Meeting.{begins_itself, begins_on, begins_after}
 use Rattle.rds_world.proofs.Openings.{last_at, new_state}
 use Rattle.rds_world.proofs.Performed.{IsDoneTo, is_there, not_there, no_memory, stopped}
 use Rattle.rds_world.proofs.Rosters.{few_names}
-use Rattle.rds_world.proofs.Standing.{names_put, places_set, state_put, model_after}
+use Rattle.rds_world.proofs.Standing.{holds_on, names_put, places_set, state_put, model_after}
 use Rattle.rds_world.proofs.Tables.{is_same, matched_weaker, put_here, put_there, same_some, slice_get_below}
 
 -- ---- refusals
 
 pub grow_absent : (v : WorldValue) (r : ℕ) (name : List ℕ) → length v.memory ≤ r → IsStopped v (Grow r name) NoSuch v
 grow_absent v r name h = stopped v (Grow r name) NoSuch (λ w s. Due NoSuch (not_there r w.replicas _ (subst (λ n. n ≤ r) (sym s.replicas) h)))
+
+-- a replica in memory, and the roster that it knows
+pub record IsGrower (v : WorldValue) (r : ℕ) (m : ReplicaValue) (own : RosterValue) : Type 0 where
+  pub below : r < length v.memory
+  pub there : slice_get v.memory r ≡ Some m
+  pub roster : own ≡ m.roster
 
 differ : (n m : ℕ) → n < m → (n == m) ≡ false
 differ n m lt = grind (arith, nat_tests)
@@ -135,21 +141,7 @@ module _ (before now : RosterValue) (on : Begins before now) where
   ]
 
   answer_on : (qs : List Question) (m : Reply) (t : AnswerText) → HoldsAnswer before qs m t → HoldsAnswer now qs m t
-  answer_on qs m t h = record {
-    question = h.question;
-    asker = h.asker;
-    begins = begins_on t.roster before now h.begins on;
-    names = h.names;
-    asked = h.asked;
-    ask = h.ask;
-    value = h.value;
-    state = h.state;
-    rows = h.rows;
-    certificate = h.certificate;
-    text = h.text;
-    within = h.within;
-    again = h.again;
-  }
+  answer_on qs m t h = holds_on before now qs qs m t h (begins_on t.roster before now h.begins on) h.ask
 
 names_more : (names : ℕ → ℕ) (xs : List ReplicaValue) (y : ReplicaValue) (n : ℕ) → HaveNames names xs → length y.roster.names ≡ n → HaveNames (put names (length xs) n) (xs ++ y ∷ [])
 names_more names xs y n all last k m is = elim (last_at xs y m k is) [

@@ -75,36 +75,31 @@ join_is (Some Dead) b = inl refl
 max_is : (a b : ℕ) → (max a b ≡ a) ⊎ (max a b ≡ b)
 max_is a b = grind arith
 
+-- what one of two sets gathers at a place, the greater set does too
+gathered_in : {A : Type 0} (at : ℕ → A) (S V : ℕ → Bool) (none here joined : A) → ((u : ℕ) → S u ≡ true → V u ≡ true) → joined ≡ here → (here ≡ none) ⊎ ((u : ℕ) × (S u ≡ true) × (at u ≡ here)) → (joined ≡ none) ⊎ ((u : ℕ) × (V u ≡ true) × (at u ≡ joined))
+gathered_in at S V none here joined within is gathered = elim gathered [
+  | inl u ↦ inl (is ∙ u)
+  | inr x ↦ inr (x.0, within x.0 x.1, x.2 ∙ sym is)
+]
+
 module _ (E : ℕ → Coordinates) (S U : ℕ → Bool) (a b : Coordinates) (j : IsGathered E S a) (k : IsGathered E U b) where
   abbrev LifeGathered : Dot → Type 0
   LifeGathered d = (join_life (a.life d) (b.life d) ≡ None) ⊎ ((u : ℕ) × (both S U u ≡ true) × ((E u).life d ≡ join_life (a.life d) (b.life d)))
 
   left_life : (d : Dot) → join_life (a.life d) (b.life d) ≡ a.life d → LifeGathered d
-  left_life d h = elim (j.lives d) [
-    | inl u ↦ inl (h ∙ u)
-    | inr x ↦ inr (x.0, in_left (S x.0) (U x.0) x.1, x.2 ∙ sym h)
-  ]
+  left_life d h = gathered_in (λ u. (E u).life d) S (both S U) None (a.life d) (join_life (a.life d) (b.life d)) (λ u. in_left (S u) (U u)) h (j.lives d)
 
   right_life : (d : Dot) → join_life (a.life d) (b.life d) ≡ b.life d → LifeGathered d
-  right_life d h = elim (k.lives d) [
-    | inl u ↦ inl (h ∙ u)
-    | inr x ↦ inr (x.0, in_right (S x.0) (U x.0) x.1, x.2 ∙ sym h)
-  ]
+  right_life d h = gathered_in (λ u. (E u).life d) U (both S U) None (b.life d) (join_life (a.life d) (b.life d)) (λ u. in_right (S u) (U u)) h (k.lives d)
 
   abbrev NumberGathered : Place → Type 0
   NumberGathered q = (max (a.number q) (b.number q) ≡ 0) ⊎ ((u : ℕ) × (both S U u ≡ true) × ((E u).number q ≡ max (a.number q) (b.number q)))
 
   left_number : (q : Place) → max (a.number q) (b.number q) ≡ a.number q → NumberGathered q
-  left_number q h = elim (j.numbers q) [
-    | inl u ↦ inl (h ∙ u)
-    | inr x ↦ inr (x.0, in_left (S x.0) (U x.0) x.1, x.2 ∙ sym h)
-  ]
+  left_number q h = gathered_in (λ u. (E u).number q) S (both S U) 0 (a.number q) (max (a.number q) (b.number q)) (λ u. in_left (S u) (U u)) h (j.numbers q)
 
   right_number : (q : Place) → max (a.number q) (b.number q) ≡ b.number q → NumberGathered q
-  right_number q h = elim (k.numbers q) [
-    | inl u ↦ inl (h ∙ u)
-    | inr x ↦ inr (x.0, in_right (S x.0) (U x.0) x.1, x.2 ∙ sym h)
-  ]
+  right_number q h = gathered_in (λ u. (E u).number q) U (both S U) 0 (b.number q) (max (a.number q) (b.number q)) (λ u. in_right (S u) (U u)) h (k.numbers q)
 
   -- of two sets together
   pub gathered_both : AreCompatible a b → IsGathered E (both S U) (join a b)

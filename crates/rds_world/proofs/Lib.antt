@@ -11,7 +11,6 @@ pub mod Friends
 pub mod Invariant
 pub mod Joins
 mod Grown
-mod Longer
 pub mod Meeting
 pub mod Sendings
 pub mod Openings

@@ -5,10 +5,7 @@ use Rattle.std.proofs.lemmas.Bool.Decides.{nat_tests}
 use Rattle.std.proofs.lemmas.List.{append_assoc}
 use Rattle.rds_names.specs.Roster.{RosterValue, AreFirst, Begins}
 use Rattle.rds_names.specs.declared.fault.Fault.{Fault}
-use Rattle.rds_names.specs.declared.fault.Fault.TheVariants.{WrongGroup, WrongRoster}
-use Rattle.rds_state.specs.Ahead.{TakeGives}
-use Rattle.rds_state.specs.Grown.{OneBegins, TakeWithGives, longer}
-use Rattle.rds_state.specs.Value.{StateValue}
+use Rattle.rds_state.specs.Grown.{OneBegins, longer}
 use Rattle.rds_world.specs.declared.event.Event.{Event}
 use Rattle.rds_world.specs.declared.event.Event.TheVariants.{Edit, Save, Crash, Ask, Answer, Take, Grow}
 use Rattle.rds_world.specs.declared.event.Done.{Done}
@@ -93,10 +90,3 @@ chosen_length false r s e = grind (arith, nat_tests)
 
 pub longer_length : (r s : RosterValue) → length (longer r s).names ≡ max (length r.names) (length s.names)
 longer_length r s = chosen_length (nat_le (length s.names) (length r.names)) r s refl
-
--- where the rosters meet, what is taken is taken as ever
-pub taken_as_ever : (r s : RosterValue) (a : StateValue) (own : ℕ) (d : StateValue) (result : Result (Unit {0}) Fault) → OneBegins r s → TakeWithGives r s a own d result → TakeGives a own d result
-taken_as_ever r s a own d (Ok x) meet gives = gives.1
-taken_as_ever r s a own d (Err WrongGroup) meet gives = absurd (gives (elim meet [ inl b ↦ b.0 | inr b ↦ sym b.0 ]))
-taken_as_ever r s a own d (Err WrongRoster) meet gives = absurd (gives.1 meet)
-taken_as_ever r s a own d (Err f) meet gives = gives.1

@@ -19,6 +19,7 @@ use Rattle.rds_codec.specs.declared.limits.TheConstants.{LIMIT}
 use Rattle.rds_world.specs.declared.event.Event.{Event}
 use Rattle.rds_world.specs.declared.event.Event.TheVariants.{Edit, Save, Crash, Ask}
 use Rattle.rds_world.specs.declared.event.Done.TheVariants.{Edited, Plain, Asked}
+use Rattle.rds_world.specs.declared.world.World.TheInside.{Inside}
 use Rattle.rds_world.specs.World.{World, Question, after_edit, put, refusal_of, unless_there}
 use Rattle.rds_world.specs.Stored.{AskText, WorldValue}
 use Rattle.rds_world.specs.Stands.{state_of, HoldsAsk, Stands, HasModel, IsWhole, IsWorld}
@@ -27,6 +28,10 @@ use Rattle.rds_world.specs.Steps.{IsStep, IsStopped}
 use Rattle.rds_world.proofs.Edits.{edit_is}
 use Rattle.rds_world.proofs.Standing.{names_put, names_same, places_set, stands_memory, stands_kept, stands_asked, model_after}
 use Rattle.rds_world.proofs.Tables.{same_some, last_get}
+
+-- the value of a world, by its parts
+abbrev pub value_of : {S : Type 0} → Inside S → WorldValue
+value_of w = record { roster = w.roster; memory = w.memory.items; kept = w.kept.items; asks = w.asks.items; answers = w.answers.items }
 
 -- the world that an event leaves is one, and stands for the model's
 pub record IsDoneTo (v : WorldValue) (e : Event) (answer : Rattle.rds_world.specs.declared.event.Done.Done) (u : WorldValue) : Type 0 where

@@ -12,7 +12,7 @@ use Rattle.rds_codec.specs.DigestTexts.{digest_kind}
 use Rattle.rds_world.specs.World.{Question, Reply}
 use Rattle.rds_world.specs.Stored.{AskText, AnswerText}
 use Rattle.rds_world.specs.Stands.{HoldsAsk, HoldsAnswer}
-use Rattle.rds_world.proofs.Longer.{digest_longer, answer_longer}
+use Rattle.rds_codec.proofs.Longer.{digest_longer, answer_longer}
 
 ok_is : {V : Type 0} (x y : V) → (let r : Result V Fault = Ok x in r ≡ Ok y) → x ≡ y
 ok_is x y e = cc

@@ -2,6 +2,7 @@
 use Rattle.std.proofs.Common.{◌≡◌, OnOk, ℕ, ◌≤◌, inl, inr, List, length, Result, Ok, Err, IfOk, IfErr, sym, subst}
 use Rattle.std.specs.Global.{Vec}
 use Rattle.rds_names.specs.declared.fault.Fault.{Fault}
+use Rattle.rds_state.specs.Ahead.{TakeGives}
 use Rattle.rds_state.specs.Coordinates.{join}
 use Rattle.rds_state.specs.Fits.{Fits}
 use Rattle.rds_state.specs.Value.{StateValue, coordinates}
@@ -63,12 +64,17 @@ module _ (n : ℕ) (ask : List ℕ) (asker : ℕ) (held w : StateValue) (digest 
 
 -- ---- a take
 
-module _ (n : ℕ) (ask bytes : List ℕ) (own : ℕ) (old : StateValue) (digest : DigestValue) (a : AnswerValue) (asked : Decodes (digest_kind n) ask (Ok digest)) (read : Decodes (answer_kind n) bytes (Ok a)) where
+-- what the bytes of an ask and of its answer bring
+pub record AreRead (n : ℕ) (ask bytes : List ℕ) (digest : DigestValue) (a : AnswerValue) : Type 0 where
+  pub asked : Decodes (digest_kind n) ask (Ok digest)
+  pub answered : Decodes (answer_kind n) bytes (Ok a)
+
+module _ (n : ℕ) (ask bytes : List ℕ) (own : ℕ) (old : StateValue) (digest : DigestValue) (a : AnswerValue) (read : AreRead n ask bytes digest a) where
   pub is_taken : (new : StateValue) (r : Result (Unit {0}) Fault) → OnOk r (IsCertified digest a) → OnOk r (coordinates new ≡ join (coordinates old) (coordinates a.state)) → OnOk r (IsTaken n ask bytes old new)
-  is_taken new (Ok x) certified joined = record { digest = digest; asked = asked; answer = a; read = read; certified = certified; joined = joined }
+  is_taken new (Ok x) certified joined = record { digest = digest; asked = read.asked; answer = a; read = read.answered; certified = certified; joined = joined }
   is_taken new (Err f) certified joined = tt
 
-  pub not_taken : (r : Result (Unit {0}) Fault) → TakesCertified digest a own old r → IfErr r (IsNotTaken n ask bytes own old)
+  pub not_taken : (r : Result (Unit {0}) Fault) → TakesCertified digest a (TakeGives old own a.state) r → IfErr r (IsNotTaken n ask bytes own old)
   not_taken (Ok x) takes = tt
-  not_taken (Err f) (Certified is gives) = Untaken a read gives
-  not_taken (Err f) (Uncertified is e) = replies.Uncertified digest a asked read (cc e) is
+  not_taken (Err f) (Certified is gives) = Untaken a read.answered gives
+  not_taken (Err f) (Uncertified is e) = replies.Uncertified digest a read.asked read.answered (cc e) is

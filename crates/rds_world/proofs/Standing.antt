@@ -1,6 +1,7 @@
 -- What stands for a world of the model before an event stands for the world after it.
 use Rattle.std.proofs.Common.{◌≡◌, ℕ, ◌<◌, suc, zero, Bool, true, false, cond, List, [], ◌∷◌, ◌++◌, length, take, Option, Some, None, refl, sym, ap, ◌∙◌, subst, arith, ◌==◌, slice_get}
 use mathlib.Core.Logic.{∥∥₁_map}
+use Rattle.std.specs.List.{AllZip}
 use Rattle.std.proofs.Math.ListN.{set, length-set}
 use Rattle.std.proofs.lemmas.Bool.Decides.{nat_tests}
 use Rattle.rds_names.specs.Roster.{RosterValue, Begins}
@@ -106,14 +107,15 @@ stands_kept v w r x c n h at names s is = record {
   answers = s.answers;
 }
 
-answer_later : (roster : RosterValue) (qs : List Question) (q : Question) (m : Reply) (t : AnswerText) → HoldsAnswer roster qs m t → HoldsAnswer roster (qs ++ q ∷ []) m t
-answer_later roster qs q m t h = record {
+-- an answer is one to the same ask, wherever that stands
+pub holds_on : (before now : RosterValue) (qs others : List Question) (m : Reply) (t : AnswerText) (h : HoldsAnswer before qs m t) → Begins t.roster now → slice_get others m.question ≡ Some h.asked → HoldsAnswer now others m t
+holds_on before now qs others m t h begins there = record {
   question = h.question;
   asker = h.asker;
-  begins = h.begins;
+  begins = begins;
   names = h.names;
   asked = h.asked;
-  ask = get_front qs (q ∷ []) m.question h.asked h.ask;
+  ask = there;
   value = h.value;
   state = h.state;
   rows = h.rows;
@@ -123,8 +125,9 @@ answer_later roster qs q m t h = record {
   again = h.again;
 }
 
-pub stands_asked : (v : WorldValue) (w : World) (q : Question) (a : AskText) → Stands v w → HoldsAsk q a → Stands (record v { asks = v.asks ++ a ∷ [] }) (record w { asks = w.asks ++ q ∷ [] })
-stands_asked v w q a s h = record {
+stands_texts : (v : WorldValue) (w : World) (asks : List AskText) (answers : List AnswerText) (qs : List Question) (ms : List Reply) → Stands v w → AllZip HoldsAsk qs asks → AllZip (HoldsAnswer v.roster qs) ms answers
+    → Stands (record v { asks = asks; answers = answers }) (record w { asks = qs; answers = ms })
+stands_texts v w asks answers qs ms s asked answered = record {
   roster = s.roster;
   replicas = s.replicas;
   same_length = s.same_length;
@@ -134,24 +137,19 @@ stands_asked v w q a s h = record {
   kept_names = s.kept_names;
   memory = s.memory;
   kept = s.kept;
-  asks = matched_last HoldsAsk w.asks v.asks q a s.asks h;
-  answers = matched_weaker (HoldsAnswer v.roster w.asks) (HoldsAnswer v.roster (w.asks ++ q ∷ [])) w.answers v.answers (answer_later v.roster w.asks q) s.answers;
+  asks = asked;
+  answers = answered;
 }
 
+pub stands_asked : (v : WorldValue) (w : World) (q : Question) (a : AskText) → Stands v w → HoldsAsk q a → Stands (record v { asks = v.asks ++ a ∷ [] }) (record w { asks = w.asks ++ q ∷ [] })
+stands_asked v w q a s h =
+    let later : (m : Reply) (t : AnswerText) → HoldsAnswer v.roster w.asks m t → HoldsAnswer v.roster (w.asks ++ q ∷ []) m t =
+    λ m t y. holds_on v.roster v.roster w.asks (w.asks ++ q ∷ []) m t y y.begins (get_front w.asks (q ∷ []) m.question y.asked y.ask) in
+    stands_texts v w (v.asks ++ a ∷ []) v.answers (w.asks ++ q ∷ []) w.answers s (matched_last HoldsAsk w.asks v.asks q a s.asks h)
+    (matched_weaker (HoldsAnswer v.roster w.asks) (HoldsAnswer v.roster (w.asks ++ q ∷ [])) w.answers v.answers later s.answers)
+
 pub stands_answered : (v : WorldValue) (w : World) (m : Reply) (a : AnswerText) → Stands v w → HoldsAnswer v.roster w.asks m a → Stands (record v { answers = v.answers ++ a ∷ [] }) (record w { answers = w.answers ++ m ∷ [] })
-stands_answered v w m a s h = record {
-  roster = s.roster;
-  replicas = s.replicas;
-  same_length = s.same_length;
-  memory_places = s.memory_places;
-  kept_places = s.kept_places;
-  memory_names = s.memory_names;
-  kept_names = s.kept_names;
-  memory = s.memory;
-  kept = s.kept;
-  asks = s.asks;
-  answers = matched_last (HoldsAnswer v.roster w.asks) w.answers v.answers m a s.answers h;
-}
+stands_answered v w m a s h = stands_texts v w v.asks (v.answers ++ a ∷ []) w.asks (w.answers ++ m ∷ []) s s.asks (matched_last (HoldsAnswer v.roster w.asks) w.answers v.answers m a s.answers h)
 
 -- ---- the model after an event
 

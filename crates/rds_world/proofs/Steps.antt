@@ -136,8 +136,12 @@ module _ (T : ℕ → Update) (B : ℕ → Coordinates) (h : Holdings) (w : Worl
     answers = answers_stay (hold h (Crash r)) (after w (Crash r)) refl refl;
   }
 
-  ask_keeps : (r : ℕ) → Lawful T B (hold h (Ask r)) (after w (Ask r))
-  ask_keeps r = record {
+  -- nothing changes but what was asked and answered
+  texts_keep : (asked : List ℕ) (answered : List Remembered) (qs : List Question) (ms : List Reply)
+      → AllZip (IsAsk T B (record h { asks = asked; answers = answered }) (record w { asks = qs; answers = ms })) qs asked
+      → AllZip (IsAnswer T B (record h { asks = asked; answers = answered }) (record w { asks = qs; answers = ms })) ms answered
+      → Lawful T B (record h { asks = asked; answers = answered }) (record w { asks = qs; answers = ms })
+  texts_keep asked answered qs ms p q = record {
     recorded = l.recorded;
     placed = l.placed;
     few = l.few;
@@ -148,15 +152,22 @@ module _ (T : ℕ → Update) (B : ℕ → Coordinates) (h : Holdings) (w : Worl
     line = l.line;
     memory = l.memory;
     kept = l.kept;
-    asks = matched_last (IsAsk T B (hold h (Ask r)) (after w (Ask r))) w.asks h.asks (record { asker = r; names = w.kept_names r; state = w.kept r }) r (asks_stay (hold h (Ask r)) (after w (Ask r)) refl refl) (record {
-      same = refl;
-      below = reflexive (w.kept r);
-      set = h.kept r;
-      backed = l.kept_backed r;
-      join = l.kept r;
-    });
-    answers = answers_stay (hold h (Ask r)) (after w (Ask r)) refl refl;
+    asks = p;
+    answers = q;
   }
+
+  ask_keeps : (r : ℕ) → Lawful T B (hold h (Ask r)) (after w (Ask r))
+  ask_keeps r =
+      let q : Question = record { asker = r; names = w.kept_names r; state = w.kept r } in
+      texts_keep (h.asks ++ r ∷ []) h.answers (w.asks ++ q ∷ []) w.answers
+      (matched_last (IsAsk T B (hold h (Ask r)) (after w (Ask r))) w.asks h.asks q r (asks_stay (hold h (Ask r)) (after w (Ask r)) refl refl) (record {
+        same = refl;
+        below = reflexive (w.kept r);
+        set = h.kept r;
+        backed = l.kept_backed r;
+        join = l.kept r;
+      }))
+      (answers_stay (hold h (Ask r)) (after w (Ask r)) refl refl)
 
   grow_keeps : (r : ℕ) (name : List ℕ) → Lawful T B (hold h (Grow r name)) (after w (Grow r name))
   grow_keeps r name = record {
@@ -178,28 +189,19 @@ module _ (T : ℕ → Update) (B : ℕ → Coordinates) (h : Holdings) (w : Worl
   answer_keeps s k None None x = l
   answer_keeps s k None (Some a) x = absurd x
   answer_keeps s k (Some m) None x = absurd x
-  answer_keeps s k (Some m) (Some a) x = record {
-    recorded = l.recorded;
-    placed = l.placed;
-    few = l.few;
-    within = l.within;
-    closed = l.closed;
-    backed = l.backed;
-    kept_backed = l.kept_backed;
-    line = l.line;
-    memory = l.memory;
-    kept = l.kept;
-    asks = asks_stay (remembers h s (Some a)) (after_answer w s k (Some m)) refl refl;
-    answers = matched_last (IsAnswer T B (remembers h s (Some a)) (after_answer w s k (Some m))) w.answers h.answers (reply w s k m) (record { asker = a; held = h.kept s }) (answers_stay (remembers h s (Some a)) (after_answer w s k (Some m)) refl refl) (record {
-      same = x.same;
-      full = w.kept s;
-      asked = m.state;
-      sent = refl;
-      below = x.below;
-      backed = l.kept_backed s;
-      join = l.kept s;
-    });
-  }
+  answer_keeps s k (Some m) (Some a) x =
+      let g = remembers h s (Some a) in
+      let u = after_answer w s k (Some m) in
+      texts_keep h.asks (h.answers ++ record { asker = a; held = h.kept s } ∷ []) w.asks (w.answers ++ reply w s k m ∷ []) (asks_stay g u refl refl)
+      (matched_last (IsAnswer T B g u) w.answers h.answers (reply w s k m) (record { asker = a; held = h.kept s }) (answers_stay g u refl refl) (record {
+        same = x.same;
+        full = w.kept s;
+        asked = m.state;
+        sent = refl;
+        below = x.below;
+        backed = l.kept_backed s;
+        join = l.kept s;
+      }))
 
   kept_below : (r : ℕ) → AtMost (w.kept r) (w.memory r)
   kept_below r = gathered_smaller (effect_of T B) (h.kept r) (h.memory r) (w.kept r) (w.memory r) (l.kept r) (l.memory r) (l.within r)

@@ -1,7 +1,8 @@
 -- A function with another value at one place, and lists that go side by side.
-use Rattle.std.proofs.Common.{◌≡◌, ◌<◌, ℕ, suc, zero, Bool, true, false, cond, List, [], ◌∷◌, ◌++◌, refl, sym, subst, inl, inr, ◌⊎◌, arith, ◌==◌, length, Option, Some, None, slice_get}
+use Rattle.std.proofs.Common.{◌≡◌, ◌<◌, ◌≤◌, ◌∙◌, ℕ, suc, zero, Bool, true, false, cond, List, [], ◌∷◌, ◌++◌, refl, sym, subst, inl, inr, ◌⊎◌, arith, ◌==◌, length, Option, Some, None, slice_get, slice_index_or}
 use Rattle.std.specs.List.{AllZip}
 use Rattle.std.proofs.lemmas.Bool.Decides.{nat_tests}
+use Rattle.std.proofs.lemmas.Option.{slice_get_past, slice_get_read}
 use Rattle.rds_world.specs.World.{put}
 
 pub is_same : (i n : ℕ) → (i == n) ≡ true → i ≡ n
@@ -59,6 +60,17 @@ pub together_some : {A C : Type 0} (P : A → C → Type 0) (x : Option A) (y : 
 together_some P None y m t e = cc
 together_some P (Some n) None m t e = absurd t
 together_some P (Some n) (Some a) m t e = (a, refl, subst (λ z. P z a) (same_some n m e) t)
+
+-- what is read at a place below the length stands there
+pub read_there : {A : Type 0} (xs : List A) (at n : ℕ) (x : A) → at ≡ n → n < length xs → x ≡ slice_index_or xs at x → slice_get xs n ≡ Some x
+read_there xs at n x is below read = slice_get_read xs (length xs) n x refl below (subst (λ k. x ≡ slice_index_or xs k x) is read)
+
+-- and what a look at an equal list finds, or doesn't
+pub looked_up : {A : Type 0} (xs ys : List A) (i n : ℕ) (x : A) → xs ≡ ys → i ≡ n → i < length xs → x ≡ slice_index_or xs i x → slice_get ys n ≡ Some x
+looked_up xs ys i n x same is below read = sym (λ j. slice_get (same j) (is j)) ∙ slice_get_read xs (length xs) i x refl below read
+
+pub looked_past : {A : Type 0} (xs ys : List A) (i n : ℕ) → xs ≡ ys → i ≡ n → length xs ≤ i → slice_get ys n ≡ None
+looked_past xs ys i n same is past = sym (λ j. slice_get (same j) (is j)) ∙ slice_get_past xs i past
 
 -- ---- lists that grow at their end
 

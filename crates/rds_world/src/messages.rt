@@ -1,5 +1,6 @@
 //! What goes between replicas as bytes.
 ghost use Rattle.std.specs.Prelude.{◌≡◌, ◌<◌, ◌≤◌, IfOk, IfErr, OnOk, OnErr, length, max};
+ghost use Rattle.rds_state.specs.Ahead.{TakeGives};
 ghost use Rattle.rds_state.specs.Coordinates.{join};
 ghost use Rattle.rds_state.specs.Fits.{Fits};
 ghost use Rattle.rds_state.specs.Grown.{OneBegins, longer};
@@ -23,7 +24,11 @@ use std::alloc::Global;
 /// What asks for what a replica hasn't kept: the text of the digest of what it has.
 pub fn ask<S: DotSet>(alloc: Global, kept: &Replica<S>) -> Result<Asking, Fault>
     ensures ok { IfOk result
-        (HoldsAsk (record { asker = kept.now.own; names = length kept.now.roster.names; state = coordinates kept.now.state })) }
+        (HoldsAsk (record {
+          asker = kept.now.own;
+          names = length kept.now.roster.names;
+          state = coordinates kept.now.state;
+        })) }
     ensures short { OnOk result (length (digest_text (digest_of kept.now.state)) ≤ LIMIT) }
     ensures fault { IfErr result (IsLost (IsLongDigest kept.now.state)) }
 {
@@ -141,7 +146,8 @@ fn take_certified<S: DotSet>(
 ) -> Result<(), Fault>
     requires fits { Fits (max (length asker.old.roster.names) (length roster.names)) (coordinates answer.now.state) }
     requires meet { OneBegins asker.old.roster roster }
-    ensures taken { TakesCertified digest.now answer.now asker.old.own asker.old.state result }
+    ensures taken { TakesCertified digest.now answer.now
+        (TakeGives asker.old.state asker.old.own answer.now.state) result }
     ensures checked { OnOk result (IsCertified digest.now answer.now) }
     ensures ok { OnOk result (coordinates asker.new.state
         ≡ join (coordinates asker.old.state) (coordinates answer.now.state)) }

@@ -40,9 +40,21 @@ impl<S: DotSet> Model for World<S> {
 
     ghost coded = { coded_world };
 
-    ghost view = { λ w. record { roster = w.roster; memory = w.memory.items; kept = w.kept.items; asks = w.asks.items; answers = w.answers.items } };
+    ghost view = { λ w. record {
+      roster = w.roster;
+      memory = w.memory.items;
+      kept = w.kept.items;
+      asks = w.asks.items;
+      answers = w.answers.items;
+    } };
 
-    ghost invariant = { λ w. IsWorld (record { roster = w.roster; memory = w.memory.items; kept = w.kept.items; asks = w.asks.items; answers = w.answers.items }) };
+    ghost invariant = { λ w. IsWorld (record {
+      roster = w.roster;
+      memory = w.memory.items;
+      kept = w.kept.items;
+      asks = w.asks.items;
+      answers = w.answers.items;
+    }) };
 }
 
 impl<S: DotSet> World<S> {

@@ -1,6 +1,6 @@
 use Rattle.std.proofs.Common.{rules}
 use Rattle.rds_state.specs.Ahead.{TakeGives}
-use Rattle.rds_world.proofs.Meeting.{taken_as_ever}
+use Rattle.rds_codec.proofs.ExchangeLemmas.{taken_as_ever}
 use Rattle.rds_world.proofs.messages.take_certified.Goals as goal
 
 pub returns-clause-taken : goal.returns-clause-taken
