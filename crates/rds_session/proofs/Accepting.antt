@@ -5,6 +5,7 @@ use Rattle.rds_names.specs.declared.fault.Fault.{Fault}
 use Rattle.rds_names.specs.declared.fault.Fault.TheVariants.{WrongAsker, Cut, BadCertificate, WrongVersion, WrongGroup, WrongRoster, SameReplica}
 use Rattle.rds_state.specs.Fits.{ReplicaValue}
 use Rattle.rds_delta.specs.Digested.{DigestValue, digest_of}
+use Rattle.rds_session.specs.declared.talk.Peer.{Peer}
 use Rattle.rds_session.specs.declared.talk.Stop.{Stop}
 use Rattle.rds_session.specs.declared.talk.Stop.TheVariants.{Refused}
 use Rattle.rds_codec.specs.AnswerValues.{AnswerValue}
@@ -16,12 +17,12 @@ use Rattle.rds_session.specs.declared.kinds.ByeCode.TheVariants as byes
 use Rattle.rds_session.specs.declared.kinds.MessageKind.{MessageKind}
 use Rattle.rds_session.specs.declared.kinds.MessageKind.TheVariants as kinds
 use Rattle.rds_session.specs.Messages.{kind_of, bye_of}
-use Rattle.rds_session.specs.Judging.{Awaited, ForHello, ForDigest, ForDelta, ForBye, Said, Greets, Learns, Receives, Finishes, accepted, bye_came, bye_judged, code_came, body_came, kind_came, hello_judged, delta_judged, read_then, other_version, same_names, replicas_of}
+use Rattle.rds_session.specs.Judging.{Awaited, ForHello, ForDigest, ForDelta, ForBye, Said, Greets, Learns, Receives, Finishes, accepted, bye_came, bye_judged, code_came, body_came, kind_came, hello_judged, delta_judged, read_then, other_version, one_begins, peer_of, replicas_of}
 
 abbrev pub IsActFor : Awaited → Said → Type 0
 IsActFor ForHello (Greets p) = Unit {0}
 IsActFor (ForDigest q) (Learns p g) = Unit {0}
-IsActFor (ForDelta q g) (Receives d) = Unit {0}
+IsActFor (ForDelta q g) (Receives d r) = Unit {0}
 IsActFor ForBye Finishes = Unit {0}
 IsActFor _ _ = ⊥
 
@@ -68,26 +69,26 @@ bye_suits turn [] = refusal_suits turn (Refused Cut)
 bye_suits turn (b ∷ rest) = code_suits turn (bye_of b) rest
 
 abbrev same_own : ReplicaValue → Hello → Result Said Stop
-same_own kept h = cond (eqb h.own kept.own) (Err (Refused SameReplica)) (Ok (Greets h.own))
+same_own kept h = cond (eqb h.own kept.own) (Err (Refused SameReplica)) (Ok (Greets (peer_of kept h)))
 
 abbrev other_names : ReplicaValue → Hello → Result Said Stop
-other_names kept h = cond (same_names h.roster.names kept.roster.names) (same_own kept h) (Err (Refused WrongRoster))
+other_names kept h = cond (one_begins h.roster.names kept.roster.names) (same_own kept h) (Err (Refused WrongRoster))
 
 hello_suits : (kept : ReplicaValue) (h : Hello) → Suits ForHello (hello_judged kept h)
 hello_suits kept h =
     if_suits ForHello (bytes_eq h.roster.group kept.roster.group) (other_names kept h) (Err (Refused WrongGroup))
-    (if_suits ForHello (same_names h.roster.names kept.roster.names) (same_own kept h) (Err (Refused WrongRoster))
-    (if_suits ForHello (eqb h.own kept.own) (Err (Refused SameReplica)) (Ok (Greets h.own)) (record { fits = tt }) (record { fits = tt }))
+    (if_suits ForHello (one_begins h.roster.names kept.roster.names) (same_own kept h) (Err (Refused WrongRoster))
+    (if_suits ForHello (eqb h.own kept.own) (Err (Refused SameReplica)) (Ok (Greets (peer_of kept h))) (record { fits = tt }) (record { fits = tt }))
     (record { fits = tt }))
     (record { fits = tt })
 
-abbrev passing : ReplicaValue → AnswerValue → Result Said Stop
-passing kept a = cond (passes (digest_of kept.state) a.state a.certificate) (Ok (Receives a.state)) (Err (Refused BadCertificate))
+abbrev passing : ReplicaValue → Peer → AnswerValue → Result Said Stop
+passing kept peer a = cond (passes (digest_of kept.state) a.state a.certificate) (Ok (Receives a.state peer.roster)) (Err (Refused BadCertificate))
 
-delta_suits : (q : ℕ) (g : DigestValue) (kept : ReplicaValue) (a : AnswerValue) → Suits (ForDelta q g) (delta_judged kept a)
+delta_suits : (q : Peer) (g : DigestValue) (kept : ReplicaValue) (a : AnswerValue) → Suits (ForDelta q g) (delta_judged kept q a)
 delta_suits q g kept a =
-    if_suits (ForDelta q g) (eqb a.asker kept.own) (passing kept a) (Err (Refused WrongAsker))
-    (if_suits (ForDelta q g) (passes (digest_of kept.state) a.state a.certificate) (Ok (Receives a.state)) (Err (Refused BadCertificate)) (record { fits = tt }) (record { fits = tt }))
+    if_suits (ForDelta q g) (eqb a.asker kept.own) (passing kept q a) (Err (Refused WrongAsker))
+    (if_suits (ForDelta q g) (passes (digest_of kept.state) a.state a.certificate) (Ok (Receives a.state q.roster)) (Err (Refused BadCertificate)) (record { fits = tt }) (record { fits = tt }))
     (record { fits = tt })
 
 body_suits : (kept : ReplicaValue) (kind : MessageKind) (turn : Awaited) (body : List ℕ) → Suits turn (body_came kept kind turn body)
@@ -99,12 +100,12 @@ body_suits kept kinds.Hello (ForDigest q) body = record { fits = tt }
 body_suits kept kinds.Hello (ForDelta q g) body = record { fits = tt }
 body_suits kept kinds.Hello ForBye body = record { fits = tt }
 body_suits kept kinds.Digest ForHello body = record { fits = tt }
-body_suits kept kinds.Digest (ForDigest q) body = read_suits (ForDigest q) (digest_in (replicas_of kept) body) (λ g. Ok (Learns q g)) (λ g. record { fits = tt })
+body_suits kept kinds.Digest (ForDigest q) body = read_suits (ForDigest q) (digest_in (replicas_of kept q.roster) body) (λ g. Ok (Learns q g)) (λ g. record { fits = tt })
 body_suits kept kinds.Digest (ForDelta q g) body = record { fits = tt }
 body_suits kept kinds.Digest ForBye body = record { fits = tt }
 body_suits kept kinds.Delta ForHello body = record { fits = tt }
 body_suits kept kinds.Delta (ForDigest q) body = record { fits = tt }
-body_suits kept kinds.Delta (ForDelta q g) body = read_suits (ForDelta q g) (answer_in (replicas_of kept) body) (delta_judged kept) (delta_suits q g kept)
+body_suits kept kinds.Delta (ForDelta q g) body = read_suits (ForDelta q g) (answer_in (replicas_of kept q.roster) body) (delta_judged kept q) (delta_suits q g kept)
 body_suits kept kinds.Delta ForBye body = record { fits = tt }
 
 kind_suits : (kept : ReplicaValue) (turn : Awaited) (kind : Option MessageKind) (body : List ℕ) → Suits turn (kind_came kept turn kind body)

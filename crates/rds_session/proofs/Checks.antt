@@ -8,11 +8,9 @@ use Rattle.std.specs.List.{list_all, list_any}
 use Rattle.std.specs.Cmp.{IsTotalOrder, tied_itself}
 use Rattle.std.specs.Ordering.{eq_by_cmp, is_eq}
 use Rattle.std.specs.declared.cmp.Ordering.{Ordering}
-use Rattle.std.specs.Str.{bytes_eq}
 use Rattle.std.proofs.lemmas.Bool.Decides.{Decides-and, Decides-eqb, Decides-like, Decides-ltb, same_from_decides}
 use Rattle.std.proofs.lemmas.Slice.Eq.{bytes_eq-Decides, slice_eq-Decides}
 use Rattle.rds_names.specs.Conditions.{equal_of, and_true, and_left, and_right}
-use Rattle.rds_names.specs.Roster.{RosterValue}
 use Rattle.rds_dots.specs.declared.dot.Dot.{Dot}
 use Rattle.rds_dots.specs.declared.dot.Run.{Run}
 use Rattle.rds_dots.specs.Order.{dots_total, dots_exact}
@@ -35,7 +33,6 @@ use Rattle.rds_delta.proofs.LeastLaws.{least_above}
 use Rattle.rds_delta.proofs.Grouping.{certificate_is, grouped_certificate}
 use Rattle.rds_codec.specs.AnswerTexts.{answer}
 use Rattle.rds_session.specs.Checked.{is_later, is_greater, is_all_above, same_run, same_which, same_row, certificate_of, least_state, passes, IsLeastDelta, IsOwnCertificate, PassesExactly}
-use Rattle.rds_session.specs.Judging.{same_names}
 
 -- ---- equal rows
 
@@ -74,11 +71,11 @@ rows_decide (Count k r w s p) (Dead t q) = (λ h. absurd (false≢true h), λ (h
 
 -- ---- all above
 
-either : (a b : Bool) → (a || b) ≡ true → (a ≡ true) ⊎ (b ≡ true)
+pub either : (a b : Bool) → (a || b) ≡ true → (a ≡ true) ⊎ (b ≡ true)
 either true b h = inl refl
 either false b h = inr h
 
-or_true : (a : Bool) → (a || true) ≡ true
+pub or_true : (a : Bool) → (a || true) ≡ true
 or_true true = refl
 or_true false = refl
 
@@ -149,13 +146,6 @@ passes_exactly v g rows = Decides-and _ _ (above_decides g v) (certificate_decid
 -- an exact check is the test
 pub passes_are : (g : DigestValue) (v : StateValue) (rows : List Row) (holds : Bool) → (holds ≡ true) ↔ (IsAbove (coordinates v) (ranks_in g) × IsCertificate (ranks_in g) v rows) → holds ≡ passes g v rows
 passes_are g v rows holds exact = same_from_decides holds (passes g v rows) exact (Decides-and _ _ (above_decides g v) (certificate_decides g v rows))
-
--- rosters of one group are the same exactly where their names are
-pub names_are : (h k : RosterValue) (same : Bool) → bytes_eq h.group k.group ≡ true → (same ≡ true) ↔ (h ≡ k) → same ≡ same_names h.names k.names
-names_are h k same group exact =
-    let groups : h.group ≡ k.group = (bytes_eq-Decides h.group k.group).0 group in
-    same_from_decides same (same_names h.names k.names) (λ e. ap (λ (r : RosterValue). r.names) (exact.0 e), λ e. exact.1 (λ i. record { group = groups i; names = e i }))
-    (slice_eq-Decides bytes_eq-Decides h.names k.names (same_names h.names k.names) refl)
 
 -- ---- the least delta as a value
 

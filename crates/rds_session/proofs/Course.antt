@@ -5,7 +5,6 @@ use Rattle.std.proofs.lemmas.List.{append-nil}
 use Rattle.rds_names.specs.declared.fault.Fault.{Fault}
 use Rattle.rds_names.specs.declared.fault.Fault.TheVariants.{Memory, TooLong, PeerEnded}
 use Rattle.rds_state.specs.Fits.{ReplicaValue}
-use Rattle.rds_state.specs.Value.{StateValue}
 use Rattle.rds_session.specs.declared.talk.Side.{Side}
 use Rattle.rds_session.specs.declared.talk.Stop.{Stop}
 use Rattle.rds_session.specs.declared.talk.Stop.TheVariants.{Refused, Left}
@@ -13,6 +12,7 @@ use Rattle.rds_session.specs.declared.step.Ended.{Ended}
 use Rattle.rds_session.specs.declared.step.Ended.TheVariants.{Going, Done, Failed}
 use Rattle.rds_session.specs.Chunks.{start, Scan, More, Whole, Long, byte_scanned}
 use Rattle.rds_session.specs.Judging.{Awaited, ForHello, ForDigest, ForDelta, ForBye, Said, Greets, Learns, Receives, Finishes, accepted, replies_of}
+use Rattle.rds_session.specs.Received.{Delivery}
 use Rattle.rds_session.specs.Sending.{sending}
 use Rattle.rds_session.specs.Session.{Standing, Sent, fresh, failed, then_more, when_going, after_sending, performed, answered, message_comes, scanned, stay, byte_comes, run, opening, opened, cut_off, Heard, Nothing, So_far, All_of, heard_more, course, taken, stepped}
 use Rattle.rds_session.specs.Steps as steps
@@ -64,20 +64,20 @@ not_yet s h o = elim o [ inl none ↦ none | inr bye ↦ absurd (h bye) ]
 performed_by : (s : Standing) (turn : Awaited) (said : Said) → s.turn ≡ turn → IsActFor turn said → Follows s (performed s said)
 performed_by s ForHello (Greets p) is h = record { begun = refl; side = refl; kept = refl; orderly = λ o. inl (not_yet s (λ e. let bad : ForHello ≡ ForBye = sym is ∙ e in cc) o); received = λ o. inr refl }
 performed_by s (ForDigest q) (Learns p g) is h = record { begun = refl; side = refl; kept = refl; orderly = λ o. inl (not_yet s (λ e. let bad : ForDigest q ≡ ForBye = sym is ∙ e in cc) o); received = λ o. inr refl }
-performed_by s (ForDelta q g) (Receives d) is h = record { begun = refl; side = refl; kept = refl; orderly = λ o. inr refl; received = λ o. inl (not_yet s (λ e. let bad : ForDelta q g ≡ ForBye = sym is ∙ e in cc) o) }
+performed_by s (ForDelta q g) (Receives d r) is h = record { begun = refl; side = refl; kept = refl; orderly = λ o. inr refl; received = λ o. inl (not_yet s (λ e. let bad : ForDelta q g ≡ ForBye = sym is ∙ e in cc) o) }
 performed_by s ForBye Finishes is h = follows_same s (performed s Finishes) refl refl refl refl refl
 performed_by s ForHello (Learns p g) is h = absurd h
-performed_by s ForHello (Receives d) is h = absurd h
+performed_by s ForHello (Receives d r) is h = absurd h
 performed_by s ForHello Finishes is h = absurd h
 performed_by s (ForDigest q) (Greets p) is h = absurd h
-performed_by s (ForDigest q) (Receives d) is h = absurd h
+performed_by s (ForDigest q) (Receives d r) is h = absurd h
 performed_by s (ForDigest q) Finishes is h = absurd h
 performed_by s (ForDelta q g) (Greets p) is h = absurd h
 performed_by s (ForDelta q g) (Learns p f) is h = absurd h
 performed_by s (ForDelta q g) Finishes is h = absurd h
 performed_by s ForBye (Greets p) is h = absurd h
 performed_by s ForBye (Learns p g) is h = absurd h
-performed_by s ForBye (Receives d) is h = absurd h
+performed_by s ForBye (Receives d r) is h = absurd h
 
 failed_follows : (s : Standing) (f : Fault) → Follows s (failed s f)
 failed_follows s f = follows_same s (failed s f) refl refl refl refl refl
@@ -236,7 +236,7 @@ opening_keeps s = elim s.begun as (λ b. ((cond b (s, []) (after_sending (record
 ]
 
 -- what was received on the way is received in the end, or nothing was
-on_the_way : (o : Standing) (piece : List ℕ) (received : Option StateValue) → IsOrderly o → ReceivedOnTheWay o piece received → (received ≡ None) ⊎ (received ≡ (run piece o).0.received)
+on_the_way : (o : Standing) (piece : List ℕ) (received : Option Delivery) → IsOrderly o → ReceivedOnTheWay o piece received → (received ≡ None) ⊎ (received ≡ (run piece o).0.received)
 on_the_way o piece received orderly w =
     let front = w.0 in
     let rest = w.1 in
@@ -255,7 +255,7 @@ cut_keeps_by (Failed f) s = refl
 pub cut_keeps : (s : Standing) → (cut_off s).0.received ≡ s.received
 cut_keeps s = cut_keeps_by s.ended s
 
-by_input : (o : Standing) (i : Option (List ℕ)) (received : Option StateValue) → IsOrderly o → ReceivedOnTheWay o (piece_of i) received → (received ≡ None) ⊎ (received ≡ (taken i o).0.received)
+by_input : (o : Standing) (i : Option (List ℕ)) (received : Option Delivery) → IsOrderly o → ReceivedOnTheWay o (piece_of i) received → (received ≡ None) ⊎ (received ≡ (taken i o).0.received)
 unfolding run
 by_input o (Some piece) received orderly w = on_the_way o piece received orderly w
 by_input o None received orderly w = elim (on_the_way o [] received orderly w) [
@@ -328,7 +328,7 @@ ends old new i sent steps begun none = elim steps [
 ]
 
 -- nothing was taken yet, so what was received stayed
-pub at_first : (old : Standing) (i : Option (List ℕ)) (received : Option StateValue) → received ≡ old.received → ReceivedOnTheWay (opened old).0 (piece_of i) received
+pub at_first : (old : Standing) (i : Option (List ℕ)) (received : Option Delivery) → received ≡ old.received → ReceivedOnTheWay (opened old).0 (piece_of i) received
 unfolding run
 at_first old i received e = ([], piece_of i, refl, e ∙ sym (opening_keeps old).0)
 

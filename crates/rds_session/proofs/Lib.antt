@@ -6,6 +6,7 @@ pub mod Knowing
 pub mod Meeting
 pub mod Messages
 pub mod Moves
+pub mod Rosters
 pub mod Runs
 pub mod Scans
 pub mod Sendings

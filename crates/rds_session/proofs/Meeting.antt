@@ -3,8 +3,9 @@ use Rattle.std.proofs.Common.{◌≡◌, ℕ, ◌≤◌, true, false, ltb, List,
 use Rattle.std.specs.List.{AllByRecursion}
 use Rattle.std.proofs.lemmas.Bool.{le-ltb}
 use Rattle.std.proofs.lemmas.List.{append-nil}
+use Rattle.rds_names.specs.Roster.{RosterValue}
 use Rattle.rds_state.specs.Fits.{ReplicaValue}
-use Rattle.rds_state.specs.Value.{StateValue}
+use Rattle.rds_state.specs.Grown.{OneBegins}
 use Rattle.rds_delta.specs.Digested.{digest_of}
 use Rattle.rds_session.specs.declared.chunks.TheConstants.{MESSAGE_LIMIT}
 use Rattle.rds_session.specs.declared.talk.Side.TheVariants.{Client, Server}
@@ -12,16 +13,17 @@ use Rattle.rds_session.specs.declared.step.Ended.TheVariants.{Going, Done}
 use Rattle.rds_session.specs.Checked.{least_state}
 use Rattle.rds_session.specs.Chunks.{Under, start, Scan, Whole, scan, spelled}
 use Rattle.rds_session.specs.declared.kinds.ByeCode.TheVariants as byes
-use Rattle.rds_session.specs.Judging.{Said, Greets, Learns, Receives, Finishes, accepted, replies_of}
+use Rattle.rds_session.specs.Judging.{Said, Greets, Learns, Receives, Finishes, accepted, longer_than, replies_of}
 use Rattle.rds_session.specs.Meeting.{IsBeginningOf, CanMeet, IsItsDelta, Hear, HearAll, ReceiveDeltas, BothEnd}
 use Rattle.rds_session.specs.Messages.{hello_message, digest_message, delta_message, bye_message}
+use Rattle.rds_session.specs.Received.{Delivery}
 use Rattle.rds_session.specs.Sending.{sending, then_sent}
 use Rattle.rds_session.specs.Session.{Standing, Sent, fresh, then_more, after_sending, performed, answered, message_comes, scanned, run, opening, opened, So_far, course}
 use Rattle.rds_session.specs.Steps.{IsOver}
 use Rattle.rds_session.proofs.Course.{run_follows, IsOrderly}
 use Rattle.rds_session.proofs.Messages.{scan_spelled}
 use Rattle.rds_session.proofs.Runs.{run-append, run-scan, run_over}
-use Rattle.rds_session.proofs.Told.{IsTold, hello_accepted, digest_accepted, delta_accepted, bye_accepted, its_least}
+use Rattle.rds_session.proofs.Told.{IsTold, speaker, hello_accepted, digest_accepted, delta_accepted, bye_accepted, its_least}
 
 -- ---- sending
 
@@ -83,16 +85,16 @@ greeting k = hello_message k ∷ digest_message k ∷ []
 
 -- what the client has heard before the last message, and after it
 abbrev client_told : ReplicaValue → ReplicaValue → Standing
-client_told a b = performed (performed (performed (client a) (Greets b.own)) (Learns b.own (digest_of b.state))) (Receives (least_state b.state (digest_of a.state)))
+client_told a b = performed (performed (performed (client a) (Greets (speaker a b))) (Learns (speaker a b) (digest_of b.state))) (Receives (least_state b.state (digest_of a.state)) (longer_than a.roster b.roster))
 
 abbrev client_done : ReplicaValue → ReplicaValue → Standing
 client_done a b = performed (client_told a b) Finishes
 
 abbrev server_asked : ReplicaValue → ReplicaValue → Standing
-server_asked b a = performed (performed (server b) (Greets a.own)) (Learns a.own (digest_of a.state))
+server_asked b a = performed (performed (server b) (Greets (speaker b a))) (Learns (speaker b a) (digest_of a.state))
 
 abbrev server_done : ReplicaValue → ReplicaValue → Standing
-server_done b a = performed (performed (server_asked b a) (Receives (least_state a.state (digest_of b.state)))) Finishes
+server_done b a = performed (performed (server_asked b a) (Receives (least_state a.state (digest_of b.state)) (longer_than b.roster a.roster))) Finishes
 
 -- what each says, in its two turns
 abbrev server_says : ReplicaValue → ReplicaValue → List (List ℕ)
@@ -111,37 +113,40 @@ opened_by s ms new is fit = rw new (ap (after_sending (record s { begun = true }
 bye_fits : Fits (bye_message byes.Done)
 bye_fits = omega arith
 
+other_way : {r s : RosterValue} → OneBegins r s → OneBegins s r
+other_way h = elim h [ inl own ↦ inr own | inr other ↦ inl other ]
+
 client_told_by : (a b : ReplicaValue) → CanMeet a b → IsTold a b
-client_told_by a b h = record { roster = sym h.roster; others = λ e. h.others (sym e); text = h.b_text; own_text = h.a_text; room = h.b_room }
+client_told_by a b h = record { roster = h.roster; others = λ e. h.others (sym e); text = h.b_text; own_text = h.a_text; room = h.b_room }
 
 server_told_by : (a b : ReplicaValue) → CanMeet a b → IsTold b a
-server_told_by a b h = record { roster = h.roster; others = h.others; text = h.a_text; own_text = h.b_text; room = h.a_room }
+server_told_by a b h = record { roster = other_way h.roster; others = h.others; text = h.a_text; own_text = h.b_text; room = h.a_room }
 
 client_hears : (a b : ReplicaValue) → CanMeet a b → Talks (client a) (server_says b a) (client_told a b) (client_says a b)
 client_hears a b h =
-    let c1 = performed (client a) (Greets b.own) in
-    let c2 = performed c1 (Learns b.own (digest_of b.state)) in
+    let c1 = performed (client a) (Greets (speaker a b)) in
+    let c2 = performed c1 (Learns (speaker a b) (digest_of b.state)) in
     talks_then (client a) c1 (client_told a b) (hello_message b ∷ []) (digest_message b ∷ delta_message b a.own (digest_of a.state) ∷ []) [] (client_says a b)
-    (one_talks (client a) (hello_message b) (Greets b.own) [] refl refl h.b_room.hello (hello_accepted a b (client_told_by a b h)) refl tt)
+    (one_talks (client a) (hello_message b) (Greets (speaker a b)) [] refl refl h.b_room.hello (hello_accepted a b (client_told_by a b h)) refl tt)
     (talks_then c1 c2 (client_told a b) (digest_message b ∷ []) (delta_message b a.own (digest_of a.state) ∷ []) [] (client_says a b)
-    (one_talks c1 (digest_message b) (Learns b.own (digest_of b.state)) [] refl refl h.b_room.digest (digest_accepted a b b.own (client_told_by a b h)) refl tt)
-    (one_talks c2 (delta_message b a.own (digest_of a.state)) (Receives (least_state b.state (digest_of a.state))) (client_says a b) refl refl h.b_room.delta (delta_accepted a b b.own (digest_of b.state) (client_told_by a b h)) refl (h.a_room.delta, (bye_fits, tt))))
+    (one_talks c1 (digest_message b) (Learns (speaker a b) (digest_of b.state)) [] refl refl h.b_room.digest (digest_accepted a b (client_told_by a b h)) refl tt)
+    (one_talks c2 (delta_message b a.own (digest_of a.state)) (Receives (least_state b.state (digest_of a.state)) (longer_than a.roster b.roster)) (client_says a b) refl refl h.b_room.delta (delta_accepted a b (digest_of b.state) (client_told_by a b h)) refl (h.a_room.delta, (bye_fits, tt))))
 
 client_ends : (a b : ReplicaValue) → Talks (client_told a b) last_word (client_done a b) []
 client_ends a b = one_talks (client_told a b) (bye_message byes.Done) Finishes [] refl refl bye_fits (bye_accepted a) refl tt
 
 server_hears : (a b : ReplicaValue) → CanMeet a b → Talks (server b) (greeting a) (server_asked b a) (server_says b a)
 server_hears a b h =
-    let s1 = performed (server b) (Greets a.own) in
+    let s1 = performed (server b) (Greets (speaker b a)) in
     talks_then (server b) s1 (server_asked b a) (hello_message a ∷ []) (digest_message a ∷ []) [] (server_says b a)
-    (one_talks (server b) (hello_message a) (Greets a.own) [] refl refl h.a_room.hello (hello_accepted b a (server_told_by a b h)) refl tt)
-    (one_talks s1 (digest_message a) (Learns a.own (digest_of a.state)) (server_says b a) refl refl h.a_room.digest (digest_accepted b a a.own (server_told_by a b h)) refl (h.b_room.hello, (h.b_room.digest, (h.b_room.delta, tt))))
+    (one_talks (server b) (hello_message a) (Greets (speaker b a)) [] refl refl h.a_room.hello (hello_accepted b a (server_told_by a b h)) refl tt)
+    (one_talks s1 (digest_message a) (Learns (speaker b a) (digest_of a.state)) (server_says b a) refl refl h.a_room.digest (digest_accepted b a (server_told_by a b h)) refl (h.b_room.hello, (h.b_room.digest, (h.b_room.delta, tt))))
 
 server_ends : (a b : ReplicaValue) → CanMeet a b → Talks (server_asked b a) (client_says a b) (server_done b a) last_word
 server_ends a b h =
-    let s3 = performed (server_asked b a) (Receives (least_state a.state (digest_of b.state))) in
+    let s3 = performed (server_asked b a) (Receives (least_state a.state (digest_of b.state)) (longer_than b.roster a.roster)) in
     talks_then (server_asked b a) s3 (server_done b a) (delta_message a b.own (digest_of b.state) ∷ []) last_word [] last_word
-    (one_talks (server_asked b a) (delta_message a b.own (digest_of b.state)) (Receives (least_state a.state (digest_of b.state))) [] refl refl h.a_room.delta (delta_accepted b a a.own (digest_of a.state) (server_told_by a b h)) refl tt)
+    (one_talks (server_asked b a) (delta_message a b.own (digest_of b.state)) (Receives (least_state a.state (digest_of b.state)) (longer_than b.roster a.roster)) [] refl refl h.a_room.delta (delta_accepted b a (digest_of a.state) (server_told_by a b h)) refl tt)
     (one_talks s3 (bye_message byes.Done) Finishes last_word refl refl bye_fits (bye_accepted b) refl (bye_fits, tt))
 
 client_opens : (a b : ReplicaValue) → CanMeet a b → opened (fresh Client a) ≡ (client a, texts (greeting a))
@@ -267,7 +272,7 @@ module _ (a b : ReplicaValue) (h : CanMeet a b) where
   ]
 
 -- what is received of a beginning is nothing, or what is received of the whole
-received_of : (s : Standing) (x w : List ℕ) (d : StateValue) → IsOrderly s → IsBeginningOf x w → (run w s).0.received ≡ Some d → ((run x s).0.received ≡ None) ⊎ ((run x s).0.received ≡ Some d)
+received_of : (s : Standing) (x w : List ℕ) (d : Delivery) → IsOrderly s → IsBeginningOf x w → (run w s).0.received ≡ Some d → ((run x s).0.received ≡ None) ⊎ ((run x s).0.received ≡ Some d)
 received_of s x w d orderly p whole =
     let mid = (run x s).0 in
     let e : run w s ≡ then_more (run x s) (run p.0) = ap (λ (t : List ℕ). run t s) p.1 ∙ run-append x p.0 s in
@@ -304,7 +309,7 @@ the_talk a b x y h hear =
     (subst (IsBeginningOf x) (ap (λ (p : Sent). p.1) (server_course b y)) hear.client)
     (subst (IsBeginningOf y) (ap (λ (p : Sent). p.1) (client_course a b x h)) hear.server)
 
-its_delta : (peer own : ReplicaValue) (received : Option StateValue) → (received ≡ None) ⊎ (received ≡ Some (least_state peer.state (digest_of own.state))) → IsItsDelta peer own received
+its_delta : (peer own : ReplicaValue) (received : Option Delivery) → (received ≡ None) ⊎ (received ≡ Some (least_state peer.state (digest_of own.state), longer_than own.roster peer.roster)) → IsItsDelta peer own received
 its_delta peer own received h = elim h [ inl none ↦ inl none | inr is ↦ inr (its_least peer own received is) ]
 
 pub receive_deltas : ReceiveDeltas
@@ -314,8 +319,8 @@ receive_deltas a b x y h hear =
     let server-end = ap (λ (s : Standing). s.received) (server_whole a b h) in
     let client-is = ap (λ (p : Sent). p.0.received) (client_course a b x h) in
     let server-is = ap (λ (p : Sent). p.0.received) (server_course b y) in (
-      subst (IsItsDelta b a) (sym client-is) (its_delta b a _ (received_of (client a) x (texts (server_says b a) ++ texts last_word) (least_state b.state (digest_of a.state)) (inl refl) talk.0 client-end)),
-      subst (IsItsDelta a b) (sym server-is) (its_delta a b _ (received_of (server b) y (texts (greeting a) ++ texts (client_says a b)) (least_state a.state (digest_of b.state)) (inl refl) talk.1 server-end)),
+      subst (IsItsDelta b a) (sym client-is) (its_delta b a _ (received_of (client a) x (texts (server_says b a) ++ texts last_word) (least_state b.state (digest_of a.state), longer_than a.roster b.roster) (inl refl) talk.0 client-end)),
+      subst (IsItsDelta a b) (sym server-is) (its_delta a b _ (received_of (server b) y (texts (greeting a) ++ texts (client_says a b)) (least_state a.state (digest_of b.state), longer_than b.roster a.roster) (inl refl) talk.1 server-end)),
     )
 
 begins_itself : (x : List ℕ) → IsBeginningOf x x

@@ -1,7 +1,7 @@
 -- How much was heard, read by read.
-use Rattle.std.proofs.Common.{◌≡◌, ℕ, ◌+◌, ◌-◌, ◌<◌, ◌≤◌, List, [], ◌++◌, length, take, Option, arith}
+use Rattle.std.proofs.Common.{◌≡◌, ℕ, ◌-◌, ◌<◌, ◌≤◌, List, [], ◌++◌, length, take, Option, arith}
 use Rattle.std.specs.Prelude.{OnOk, Result, Ok, Err}
-use Rattle.std.specs.Io.KnownBytes.{Consumes, ReadConsumes}
+use Rattle.std.specs.Io.KnownBytes.{ReadConsumes}
 use Rattle.std.proofs.lemmas.List.{length-append, length-take}
 use Rattle.rds_keep.specs.Parts.{ConsumesAtMost}
 use Rattle.rds_session.specs.Reads.{most_heard}

@@ -1,16 +1,14 @@
 -- What one replica tells another is accepted, message by message.
 use Rattle.std.proofs.Common.{◌≡◌, ℕ, ◌≤◌, true, false, cond, eqb, List, [], length, Option, Some, Result, Ok, Err, refl, sym, ap, ◌∙◌, arith}
-use Rattle.std.specs.Str.{bytes_eq}
 use Rattle.std.proofs.lemmas.Bool.{ne_eqb, eq-eqb}
 use Rattle.std.proofs.lemmas.List.{append-nil}
-use Rattle.std.proofs.lemmas.Slice.Eq.{bytes_eq-Decides, slice_eq-Decides}
 use Rattle.rds_names.specs.declared.fault.Fault.{Fault}
 use Rattle.rds_names.specs.declared.fault.Fault.TheVariants.{Extra}
-use Rattle.rds_names.specs.Roster.{RosterValue}
 use Rattle.rds_delta.specs.Least.{least}
 use Rattle.rds_codec.specs.CertificateTexts.{IsReplicaOf}
 use Rattle.rds_state.specs.Fits.{ReplicaValue}
-use Rattle.rds_state.specs.Value.{StateValue, coordinates}
+use Rattle.rds_state.specs.Grown.{OneBegins}
+use Rattle.rds_state.specs.Value.{coordinates}
 use Rattle.rds_delta.specs.Digested.{DigestValue, digest_of}
 use Rattle.rds_codec.specs.AnswerTexts.{answer, answer_at, answer_text, answer_kind}
 use Rattle.rds_codec.specs.AnswerValues.{AnswerValue}
@@ -19,7 +17,7 @@ use Rattle.rds_codec.specs.HelloTexts.{hello_at, hello_text, hello_kind}
 use Rattle.rds_codec.specs.Kinds.{Kind}
 use Rattle.rds_bytes.specs.Reading.{◌>>=◌, Reader}
 use Rattle.rds_codec.specs.Decoding.{all_of}
-use Rattle.rds_codec.specs.StateTexts.{IsSnapshot}
+use Rattle.rds_codec.specs.StateTexts.{IsSnapshot, IsStateOf}
 use Rattle.rds_codec.specs.declared.hellos.Hello.{Hello}
 use Rattle.rds_codec.specs.declared.hellos.TheConstants.{VERSION}
 use Rattle.rds_codec.specs.declared.limits.TheConstants.{LIMIT}
@@ -28,19 +26,23 @@ use Rattle.rds_delta.proofs.Digests.{ranks_of_digest}
 use Rattle.rds_codec.proofs.AnswerFormats.{answer_reader}
 use Rattle.rds_codec.proofs.DigestFormats.{digest_reader}
 use Rattle.rds_codec.proofs.HelloFormats.{hello_reader}
+use Rattle.rds_codec.proofs.Longer.{state_longer}
 use Rattle.rds_codec.proofs.Whole.{IsReaderOf}
 use Rattle.rds_session.specs.Bodies.{hello_in, digest_in, answer_in}
 use Rattle.rds_session.specs.Checked.{certificate_of, least_state}
 use Rattle.rds_session.specs.declared.kinds.ByeCode.TheVariants as byes
-use Rattle.rds_session.specs.Judging.{ForHello, ForDigest, ForDelta, ForBye, Greets, Learns, Receives, Finishes, accepted, read_then, hello_judged, delta_judged, same_names}
+use Rattle.rds_session.specs.Judging.{ForHello, ForDigest, ForDelta, ForBye, Greets, Learns, Receives, Finishes, accepted, read_then, hello_judged, delta_judged, longer_than}
 use Rattle.rds_session.specs.Meeting.{HasRoom, IsItsLeast}
 use Rattle.rds_session.specs.Messages.{hello_message, digest_message, delta_message, bye_message}
+use Rattle.rds_session.specs.Received.{Delivery}
+use Rattle.rds_session.specs.declared.talk.Peer.{Peer}
 use Rattle.rds_session.proofs.Checks.{least_coordinates, least_passes}
+use Rattle.rds_session.proofs.Rosters.{among, both_within, group_is, one_begins_is}
 use Rattle.rds_session.proofs.Tellings.{digest_is, answer_is}
 
 -- one hears what the other tells
 pub record IsTold (k from : ReplicaValue) : Type 0 where
-  pub roster : from.roster ≡ k.roster
+  pub roster : OneBegins k.roster from.roster
   pub others : from.own ≡ k.own → ⊥
   pub text : IsSnapshot from
   pub own_text : IsSnapshot k
@@ -61,49 +63,58 @@ hello_again : (from : ReplicaValue) → IsSnapshot from → length (hello_text (
 unfolding hello_in hello_of
 hello_again from h le = read_whole hello_kind hello_at hello_reader (hello_of from) (record { version = refl; member = h.member }) le
 
-group_is : (k from : ReplicaValue) → from.roster ≡ k.roster → bytes_eq from.roster.group k.roster.group ≡ true
-group_is k from e = (bytes_eq-Decides from.roster.group k.roster.group).1 (ap (λ (r : RosterValue). r.group) e)
+-- who speaks, as it is known to the one that hears it
+abbrev pub speaker : ReplicaValue → ReplicaValue → Peer
+speaker k from = record { number = from.own; roster = longer_than k.roster from.roster }
 
-names_are_same : (k from : ReplicaValue) → from.roster ≡ k.roster → same_names from.roster.names k.roster.names ≡ true
-names_are_same k from e = (slice_eq-Decides bytes_eq-Decides from.roster.names k.roster.names (same_names from.roster.names k.roster.names) refl).1 (ap (λ (r : RosterValue). r.names) e)
-
-pub hello_accepted : (k from : ReplicaValue) → IsTold k from → accepted k ForHello (hello_message from) ≡ Ok (Greets from.own)
+pub hello_accepted : (k from : ReplicaValue) → IsTold k from → accepted k ForHello (hello_message from) ≡ Ok (Greets (speaker k from))
 unfolding accepted hello_of hello_text
 hello_accepted k from t =
     let o : eqb from.own k.own ≡ false = ne_eqb _ _ t.others in
     let read : hello_in (hello_text (hello_of from)) ≡ Ok (hello_of from) = hello_again from t.text (omega (arith, t.room.hello)) in
-    ap (λ (r : Result Hello Fault). read_then r (hello_judged k)) read ∙ rw (group_is k from t.roster, names_are_same k from t.roster, o) refl
+    ap (λ (r : Result Hello Fault). read_then r (hello_judged k)) read ∙ rw (group_is k.roster from.roster t.roster, one_begins_is k.roster from.roster t.roster, o) refl
+
+-- ---- the longer roster
+
+-- what it tells has a text among so many replicas
+told_state : (k from : ReplicaValue) → IsTold k from → IsStateOf (among k from) from.state
+told_state k from t = state_longer (length from.roster.names) (among k from) (both_within k from).0 from.state t.text.state
+
+own_state : (k from : ReplicaValue) → IsTold k from → IsStateOf (among k from) k.state
+own_state k from t = state_longer (length k.roster.names) (among k from) (both_within k from).1 k.state t.own_text.state
+
+-- the own number is a byte, below the roster's length
+own_is : (k from : ReplicaValue) → IsSnapshot k → IsReplicaOf (among k from) k.own
+own_is k from h =
+    let few = few_of_names k.roster.names h.member.names in
+    let within = (both_within k from).1 in
+    (omega (arith, few, h.member.own_number), omega (arith, within, h.member.own_number))
 
 -- ---- DIGEST
 
-pub digest_accepted : (k from : ReplicaValue) (peer : ℕ) → IsTold k from → accepted k (ForDigest peer) (digest_message from) ≡ Ok (Learns peer (digest_of from.state))
+pub digest_accepted : (k from : ReplicaValue) → IsTold k from
+    → accepted k (ForDigest (speaker k from)) (digest_message from) ≡ Ok (Learns (speaker k from) (digest_of from.state))
 unfolding accepted digest_in
-digest_accepted k from peer t =
-    let n = length k.roster.names in
-    let same : length from.roster.names ≡ n = ap (λ (r : RosterValue). length r.names) t.roster in
+digest_accepted k from t =
+    let n = among k from in
     let read : digest_in n (digest_text (digest_of from.state)) ≡ Ok (digest_of from.state) =
-    read_whole (digest_kind n) (digest_at n) (digest_reader n) (digest_of from.state) (digest_is n from.state (rw (← same) t.text.state)) (omega (arith, t.room.digest)) in
-    ap (λ (r : Result DigestValue Fault). read_then r (λ digest. Ok (Learns peer digest))) read
+    read_whole (digest_kind n) (digest_at n) (digest_reader n) (digest_of from.state) (digest_is n from.state (told_state k from t)) (omega (arith, t.room.digest)) in
+    ap (λ (r : Result DigestValue Fault). read_then r (λ digest. Ok (Learns (speaker k from) digest))) read
 
 -- ---- DELTA and BYE
 
--- the own number is a byte, below the roster's length
-own_is : (k : ReplicaValue) → IsSnapshot k → IsReplicaOf (length k.roster.names) k.own
-own_is k h = let few = few_of_names k.roster.names h.member.names in (omega (arith, few, h.member.own_number), h.member.own_number)
-
-pub delta_accepted : (k from : ReplicaValue) (peer : ℕ) (digest : DigestValue) → IsTold k from
-    → accepted k (ForDelta peer digest) (delta_message from k.own (digest_of k.state)) ≡ Ok (Receives (least_state from.state (digest_of k.state)))
+pub delta_accepted : (k from : ReplicaValue) (digest : DigestValue) → IsTold k from
+    → accepted k (ForDelta (speaker k from) digest) (delta_message from k.own (digest_of k.state)) ≡ Ok (Receives (least_state from.state (digest_of k.state)) (longer_than k.roster from.roster))
 unfolding accepted answer_in
-delta_accepted k from peer digest t =
-    let n = length k.roster.names in
-    let same : length from.roster.names ≡ n = ap (λ (r : RosterValue). length r.names) t.roster in
+delta_accepted k from digest t =
+    let n = among k from in
     let g = digest_of k.state in
     let delta = least_state from.state g in
     let sent = answer k.own delta (certificate_of g delta) in
     let read : answer_in n (answer_text sent) ≡ Ok sent =
-    read_whole (answer_kind n) (answer_at n) (answer_reader n) sent (answer_is n k.own from.state g (own_is k t.own_text) (rw (← same) t.text.state) (digest_is n k.state t.own_text.state)) (omega (arith, t.room.delta)) in
+    read_whole (answer_kind n) (answer_at n) (answer_reader n) sent (answer_is n k.own from.state g (own_is k from t.own_text) (told_state k from t) (digest_is n k.state (own_state k from t))) (omega (arith, t.room.delta)) in
     let own : eqb k.own k.own ≡ true = eq-eqb _ _ refl in
-    ap (λ (r : Result AnswerValue Fault). read_then r (delta_judged k)) read ∙ rw (own, least_passes from.state g) refl
+    ap (λ (r : Result AnswerValue Fault). read_then r (delta_judged k (speaker k from))) read ∙ rw (own, least_passes from.state g) refl
 
 pub bye_accepted : (k : ReplicaValue) → accepted k ForBye (bye_message byes.Done) ≡ Ok Finishes
 unfolding accepted
@@ -111,7 +122,8 @@ bye_accepted k = refl
 
 -- ---- what is received
 
-pub its_least : (peer own : ReplicaValue) (received : Option StateValue) → received ≡ Some (least_state peer.state (digest_of own.state)) → IsItsLeast peer own received
+pub its_least : (peer own : ReplicaValue) (received : Option Delivery)
+    → received ≡ Some (least_state peer.state (digest_of own.state), longer_than own.roster peer.roster) → IsItsLeast peer own received
 its_least peer own received is = record {
   delta = least_state peer.state (digest_of own.state);
   is_received = is;

@@ -5,10 +5,10 @@ use Rattle.std.specs.Io.KnownBytes.{Consumes, Appends, Keeps, IsAtEnd}
 use Rattle.std.proofs.lemmas.List.{append-nil}
 use Rattle.rds_names.specs.declared.fault.Fault.{Fault}
 use Rattle.rds_state.specs.Fits.{ReplicaValue}
-use Rattle.rds_state.specs.Value.{StateValue}
 use Rattle.rds_session.specs.declared.talk.Side.{Side}
 use Rattle.rds_session.specs.declared.step.Ended.{Ended}
 use Rattle.rds_session.specs.declared.step.Ended.TheVariants.{Going}
+use Rattle.rds_session.specs.Received.{Delivery}
 use Rattle.rds_session.specs.Session.{Standing, Sent, Heard, Nothing, So_far, All_of, heard_more, course}
 use Rattle.rds_session.specs.Steps.{HasStanding, IsOver}
 use Rattle.rds_session.proofs.Course.{over_all, received_stays, all_over}
@@ -136,13 +136,13 @@ came_end now later n buf h none room = (subst (λ (k : ℕ). Consumes now later 
 pub came_piece : (now later : Option (List ℕ)) (n : ℕ) (buf piece : List ℕ) → Consumes now later (take n buf) × (n ≡ 0 → 0 < length buf → IsAtEnd later) → piece ≡ take n buf → Came now later (Some piece)
 came_piece now later n buf piece h is = subst (Consumes now later) (sym is) h.0
 
-pub exchanged : (side : Side) (kept : ReplicaValue) (first now : Option (List ℕ)) (s : Standing) (before after : Option (List ℕ)) (received : Option StateValue) (ended : Ended)
+pub exchanged : (side : Side) (kept : ReplicaValue) (first now : Option (List ℕ)) (s : Standing) (before after : Option (List ℕ)) (received : Option Delivery) (ended : Ended)
     → Speaks side kept first now s (Appends before after) → (ended ≡ s.ended) × IsOver ended → received ≡ s.received → IfSome first (λ input. Exchanges side kept input before after received ended)
 exchanged side kept first now s before after received ended spoken over got =
     let over-now : IsOver s.ended = subst IsOver over.0 over.1 in
     let done = talk_ends side kept first now s before after spoken.0 over-now spoken.1 (course_of side kept spoken.0 s spoken.2 before after spoken.3 spoken.4) in
     subst (λ (e : Ended). IfSome first (λ input. Exchanges side kept input before after received e)) (sym over.0)
-    (subst (λ (r : Option StateValue). IfSome first (λ input. Exchanges side kept input before after r s.ended)) (sym got) done)
+    (subst (λ (r : Option Delivery). IfSome first (λ input. Exchanges side kept input before after r s.ended)) (sym got) done)
 
 pub on_ok : {T : Type 0} (r : Result T Fault) (A B : Type 0) → OnOk r A → (A → B) → OnOk r B
 on_ok (Ok x) A B h f = f h

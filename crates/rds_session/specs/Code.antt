@@ -1,22 +1,31 @@
 -- The code of standings.
 use Rattle.std.specs.Prelude.{◌≡◌, ℕ, Bool, List, Option, Some, None, refl}
 use Rattle.std.specs.Coded.{Coded, code_by, coded×, coded_ℕ, coded_bool, coded_list, coded_option}
-use Rattle.rds_state.specs.Fits.{ReplicaValue, coded_replica}
-use Rattle.rds_state.specs.Value.{StateValue, coded_state}
+use Rattle.rds_names.specs.Roster.{RosterValue}
+use Rattle.rds_state.specs.Fits.{ReplicaValue, coded_replica, coded_roster}
+use Rattle.rds_state.specs.Value.{coded_state}
 use Rattle.rds_delta.specs.Digested.{DigestValue, coded_digest}
 use Rattle.rds_session.specs.contracts.chunks.Place as place
 use Rattle.rds_session.specs.contracts.step.Ended as ended
 use Rattle.rds_session.specs.contracts.talk.Side as side
 use Rattle.rds_session.specs.declared.chunks.Place.{Place}
 use Rattle.rds_session.specs.declared.step.Ended.{Ended}
+use Rattle.rds_session.specs.declared.talk.Peer.{Peer}
 use Rattle.rds_session.specs.declared.talk.Side.{Side}
 use Rattle.rds_session.specs.Chunks.{Under}
 use Rattle.rds_session.specs.Judging.{Awaited, ForHello, ForDigest, ForDelta, ForBye}
+use Rattle.rds_session.specs.Received.{Delivery}
 use Rattle.rds_session.specs.Session.{Standing}
 
--- the peer's number, where it is known, and its digest
+abbrev coded_peer : Coded Peer
+coded_peer = code_by (ℕ × Option RosterValue) (coded× coded_ℕ (coded_option coded_roster)) (λ p. (p.number, p.roster)) (λ q. record { number = q.0; roster = q.1 }) (λ _. refl)
+
+abbrev coded_delivery : Coded Delivery
+coded_delivery = coded× coded_state (coded_option coded_roster)
+
+-- the peer, where it is known, and its digest
 abbrev Known : Type 0
-Known = Option (ℕ × Option DigestValue) × Bool
+Known = Option (Peer × Option DigestValue) × Bool
 
 abbrev known_of : Awaited → Known
 known_of ForHello = (None, Bool.true)
@@ -37,17 +46,17 @@ back (ForDelta peer digest) = refl
 back ForBye = refl
 
 abbrev coded_awaited : Coded Awaited
-coded_awaited = code_by Known (coded× (coded_option (coded× coded_ℕ (coded_option coded_digest))) coded_bool) known_of awaited_of back
+coded_awaited = code_by Known (coded× (coded_option (coded× coded_peer (coded_option coded_digest))) coded_bool) known_of awaited_of back
 
 abbrev coded_under : Coded Under
 coded_under = code_by (Place × List ℕ) (coded× place.the_row.coded (coded_list coded_ℕ)) (λ u. (u.place, u.held)) (λ p. record { place = p.0; held = p.1 }) (λ _. refl)
 
 abbrev Parts : Type 0
-Parts = (Side × (ReplicaValue × Bool)) × (Awaited × (Option StateValue × (Ended × Under)))
+Parts = (Side × (ReplicaValue × Bool)) × (Awaited × (Option Delivery × (Ended × Under)))
 
 abbrev pub coded_standing : Coded Standing
 coded_standing =
-    code_by Parts (coded× (coded× side.the_row.coded (coded× coded_replica coded_bool)) (coded× coded_awaited (coded× (coded_option coded_state) (coded× ended.the_row.coded coded_under))))
+    code_by Parts (coded× (coded× side.the_row.coded (coded× coded_replica coded_bool)) (coded× coded_awaited (coded× (coded_option coded_delivery) (coded× ended.the_row.coded coded_under))))
     (λ s. ((s.side, (s.kept, s.begun)), (s.turn, (s.received, (s.ended, s.under)))))
     (λ p. record { side = p.0.0; kept = p.0.1.0; begun = p.0.1.1; turn = p.1.0; received = p.1.1.0; ended = p.1.1.1.0; under = p.1.1.1.1 })
     (λ _. refl)

@@ -1,9 +1,10 @@
 -- What a whole message is taken as, or why it ends the session.
-use Rattle.std.specs.Prelude.{◌≡◌, ℕ, ◌==◌, Bool, true, false, List, [], ◌∷◌, length, Option, Some, None, Result, Ok, Err, if◌then◌else◌}
+use Rattle.std.specs.Prelude.{◌≡◌, ℕ, ◌==◌, ◌||◌, nat_lt, Bool, true, false, List, [], ◌∷◌, length, Option, Some, None, Result, Ok, Err, if◌then◌else◌}
 use Rattle.std.specs.Str.{bytes_eq}
-use Rattle.std.specs.Cmp.Lexicographic.{pointwise}
+use Rattle.std.specs.List.{starts_with}
 use Rattle.rds_names.specs.declared.fault.Fault.{Fault}
 use Rattle.rds_names.specs.declared.fault.Fault.TheVariants.{Device, Memory, WrongAsker, Cut, Bad, Extra, BadCertificate, WrongVersion, WrongGroup, WrongRoster, SameReplica, OutOfTurn}
+use Rattle.rds_names.specs.Roster.{RosterValue}
 use Rattle.rds_state.specs.Fits.{ReplicaValue}
 use Rattle.rds_state.specs.Value.{StateValue}
 use Rattle.rds_delta.specs.Digested.{DigestValue, digest_of}
@@ -11,6 +12,7 @@ use Rattle.rds_session.specs.declared.kinds.ByeCode.{ByeCode}
 use Rattle.rds_session.specs.declared.kinds.ByeCode.TheVariants as byes
 use Rattle.rds_session.specs.declared.kinds.MessageKind.{MessageKind}
 use Rattle.rds_session.specs.declared.kinds.MessageKind.TheVariants as kinds
+use Rattle.rds_session.specs.declared.talk.Peer.{Peer}
 use Rattle.rds_session.specs.declared.talk.Side.{Side}
 use Rattle.rds_session.specs.declared.talk.Side.TheVariants.{Client, Server}
 use Rattle.rds_session.specs.declared.talk.Turn.{Turn}
@@ -26,18 +28,18 @@ use Rattle.rds_session.specs.Bodies.{hello_in, digest_in, answer_in}
 use Rattle.rds_session.specs.Checked.{passes}
 use Rattle.rds_session.specs.Messages.{kind_of, bye_of, hello_message, digest_message, delta_message, bye_message, fault_of}
 
--- the message that is waited for, with what the earlier ones said: the peer's own number, and its digest
+-- the message that is waited for, with what the earlier ones said: who the peer is, and its digest
 pub data Awaited : Type 0 where
   ForHello : Awaited
-  ForDigest : (peer : ℕ) → Awaited
-  ForDelta : (peer : ℕ) (digest : DigestValue) → Awaited
+  ForDigest : (peer : Peer) → Awaited
+  ForDelta : (peer : Peer) (digest : DigestValue) → Awaited
   ForBye : Awaited
 
 -- what an accepted message says
 pub data Said : Type 0 where
-  Greets : (peer : ℕ) → Said
-  Learns : (peer : ℕ) (digest : DigestValue) → Said
-  Receives : (delta : StateValue) → Said
+  Greets : (peer : Peer) → Said
+  Learns : (peer : Peer) (digest : DigestValue) → Said
+  Receives : (delta : StateValue) (roster : Option RosterValue) → Said
   Finishes : Said
 
 abbrev pub awaited : {S : Type 0} → Turn S → Awaited
@@ -49,7 +51,7 @@ awaited turns.Bye = ForBye
 abbrev pub said : {S : Type 0} → Act S → Said
 said (acts.Greet peer) = Greets peer
 said (acts.Learn peer digest) = Learns peer digest
-said (acts.Receive delta) = Receives delta
+said (acts.Receive delta roster) = Receives delta roster
 said acts.Finish = Finishes
 
 -- ---- BYE
@@ -78,15 +80,24 @@ abbrev pub read_then : {A : Type 0} → Result A Fault → (A → Result Said St
 read_then (Ok x) f = f x
 read_then (Err e) f = Err (Refused e)
 
-abbrev pub same_names : List (List ℕ) → List (List ℕ) → Bool
-same_names ns ms = pointwise bytes_eq ns ms
+-- one roster's names are the other's first ones
+abbrev pub one_begins : List (List ℕ) → List (List ℕ) → Bool
+one_begins ns ms = starts_with bytes_eq ms ns || starts_with bytes_eq ns ms
+
+-- the other roster, where it has more names than the own one
+abbrev pub longer_than : RosterValue → RosterValue → Option RosterValue
+longer_than own other = if nat_lt (length own.names) (length other.names) then Some other else None
+
+-- who says hello
+abbrev pub peer_of : ReplicaValue → Hello → Peer
+peer_of kept h = record { number = h.own; roster = longer_than kept.roster h.roster }
 
 -- the group, then the names and their order, then the own number
 abbrev pub hello_judged : ReplicaValue → Hello → Result Said Stop
 hello_judged kept h =
     if bytes_eq h.roster.group kept.roster.group
-    then (if same_names h.roster.names kept.roster.names
-    then (if h.own == kept.own then Err (Refused SameReplica) else Ok (Greets h.own))
+    then (if one_begins h.roster.names kept.roster.names
+    then (if h.own == kept.own then Err (Refused SameReplica) else Ok (Greets (peer_of kept h)))
     else Err (Refused WrongRoster))
     else Err (Refused WrongGroup)
 
@@ -98,28 +109,34 @@ other_version (v ∷ rest) = if v == VERSION then false else true
 abbrev pub hello_came : ReplicaValue → List ℕ → Result Said Stop
 hello_came kept body = if other_version body then Err (Refused WrongVersion) else read_then (hello_in body) (hello_judged kept)
 
-abbrev pub replicas_of : ReplicaValue → ℕ
-replicas_of kept = length kept.roster.names
+-- the longer of two rosters: the own one, or the other where it is there
+abbrev pub roster_among : RosterValue → Option RosterValue → RosterValue
+roster_among own None = own
+roster_among own (Some longer) = longer
 
-abbrev pub digest_came : ReplicaValue → ℕ → List ℕ → Result Said Stop
-digest_came kept peer body = read_then (digest_in (replicas_of kept) body) (λ digest. Ok (Learns peer digest))
+-- how many replicas the longer roster has
+abbrev pub replicas_of : ReplicaValue → Option RosterValue → ℕ
+replicas_of kept longer = length (roster_among kept.roster longer).names
+
+abbrev pub digest_came : ReplicaValue → Peer → List ℕ → Result Said Stop
+digest_came kept peer body = read_then (digest_in (replicas_of kept peer.roster) body) (λ digest. Ok (Learns peer digest))
 
 -- the asker, then the certificate against the own digest
-abbrev pub delta_judged : ReplicaValue → AnswerValue → Result Said Stop
-delta_judged kept a =
+abbrev pub delta_judged : ReplicaValue → Peer → AnswerValue → Result Said Stop
+delta_judged kept peer a =
     if a.asker == kept.own
-    then (if passes (digest_of kept.state) a.state a.certificate then Ok (Receives a.state) else Err (Refused BadCertificate))
+    then (if passes (digest_of kept.state) a.state a.certificate then Ok (Receives a.state peer.roster) else Err (Refused BadCertificate))
     else Err (Refused WrongAsker)
 
-abbrev pub delta_came : ReplicaValue → List ℕ → Result Said Stop
-delta_came kept body = read_then (answer_in (replicas_of kept) body) (delta_judged kept)
+abbrev pub delta_came : ReplicaValue → Peer → List ℕ → Result Said Stop
+delta_came kept peer body = read_then (answer_in (replicas_of kept peer.roster) body) (delta_judged kept peer)
 
 -- a body comes: a BYE at any time, another message where it is waited for
 abbrev pub body_came : ReplicaValue → MessageKind → Awaited → List ℕ → Result Said Stop
 body_came kept kinds.Bye turn body = bye_came turn body
 body_came kept kinds.Hello ForHello body = hello_came kept body
 body_came kept kinds.Digest (ForDigest peer) body = digest_came kept peer body
-body_came kept kinds.Delta (ForDelta peer digest) body = delta_came kept body
+body_came kept kinds.Delta (ForDelta peer digest) body = delta_came kept peer body
 body_came kept kind turn body = Err (Refused OutOfTurn)
 
 -- a message of no type is refused
@@ -138,13 +155,13 @@ accepted kept turn (n ∷ body) = kind_came kept turn (kind_of n) body
 abbrev pub turn_after : Awaited → Said → Awaited
 turn_after turn (Greets peer) = ForDigest peer
 turn_after turn (Learns peer digest) = ForDelta peer digest
-turn_after turn (Receives delta) = ForBye
+turn_after turn (Receives delta roster) = ForBye
 turn_after turn Finishes = turn
 
 -- the messages that answer it
 abbrev pub replies_of : Side → ReplicaValue → Awaited → Said → List (List ℕ)
-replies_of Server kept turn (Learns peer digest) = hello_message kept ∷ digest_message kept ∷ delta_message kept peer digest ∷ []
-replies_of Client kept (ForDelta peer digest) (Receives delta) = delta_message kept peer digest ∷ bye_message byes.Done ∷ []
+replies_of Server kept turn (Learns peer digest) = hello_message kept ∷ digest_message kept ∷ delta_message kept peer.number digest ∷ []
+replies_of Client kept (ForDelta peer digest) (Receives delta roster) = delta_message kept peer.number digest ∷ bye_message byes.Done ∷ []
 replies_of Server kept turn Finishes = bye_message byes.Done ∷ []
 replies_of _ _ _ _ = []
 

@@ -4,12 +4,11 @@ use Rattle.std.specs.Io.KnownBytes.{Appends}
 use Rattle.rds_names.specs.declared.fault.Fault.TheVariants.{Memory, Device}
 use Rattle.rds_keep.specs.Parts.{AppendsFront}
 use Rattle.rds_state.specs.Fits.{ReplicaValue}
-use Rattle.rds_state.specs.Value.{StateValue}
 use Rattle.rds_session.specs.declared.step.Ended.{Ended}
 use Rattle.rds_session.specs.declared.step.Ended.TheVariants.{Failed}
 use Rattle.rds_session.specs.declared.talk.Side.{Side}
 use Rattle.rds_session.specs.Exchange.{HasRunOut, IsHeard}
-use Rattle.rds_session.specs.Received.{HasChecked, IsDoneBy}
+use Rattle.rds_session.specs.Received.{Delivery, HasChecked, IsDoneBy}
 use Rattle.rds_session.specs.Session.{Heard, Nothing, Standing, heard_more, course}
 use Rattle.rds_session.specs.Steps.{HasStanding, IsLastWord, IsOver}
 
@@ -49,7 +48,7 @@ abbrev pub StandsAs : Standing → Ended → Type 0
 StandsAs s ended = (ended ≡ s.ended) ⊎ ((ended ≡ Failed Device) ⊎ (ended ≡ Failed Memory))
 
 -- this is what a session of this side and replica received for some stream, and how it ended
-pub record IsOfSession (side : Side) (kept : ReplicaValue) (received : Option StateValue) (ended : Ended) : Type 0 where
+pub record IsOfSession (side : Side) (kept : ReplicaValue) (received : Option Delivery) (ended : Ended) : Type 0 where
   pub session : Standing
   pub heard : HasHeard side kept session
   pub is_received : received ≡ session.received
@@ -58,7 +57,7 @@ pub record IsOfSession (side : Side) (kept : ReplicaValue) (received : Option St
 -- what a session came to over a reader and a writer: it took a step, it heard the bytes that the reader held at first and doesn't
 -- hold now, each once and in order, this is what it received, and all that it sent was written and it ended so; or a call failed,
 -- and all that it sent was written, or where that call was a write a beginning of it
-pub record IsOfCalls (side : Side) (kept : ReplicaValue) (first now before after : Option (List ℕ)) (WriteFailed : Type 0) (received : Option StateValue) (ended : Ended) : Type 0 where
+pub record IsOfCalls (side : Side) (kept : ReplicaValue) (first now before after : Option (List ℕ)) (WriteFailed : Type 0) (received : Option Delivery) (ended : Ended) : Type 0 where
   pub session : Standing
   pub heard : Heard
   pub begun : HasBegun heard
@@ -69,7 +68,7 @@ pub record IsOfCalls (side : Side) (kept : ReplicaValue) (first now before after
   pub stands : ((ended ≡ session.ended) × Appends before after sent) ⊎ ((ended ≡ Failed Device) × IsWrittenUnless WriteFailed before after sent)
 
 -- what an end came to: it is over, has received nothing or what it checked, and that where it is done, as a session does for some stream
-pub record Leaves (side : Side) (kept : ReplicaValue) (received : Option StateValue) (ended : Ended) : Type 0 where
+pub record Leaves (side : Side) (kept : ReplicaValue) (received : Option Delivery) (ended : Ended) : Type 0 where
   pub checked : HasChecked kept received
   pub done : IsDoneBy ended received
   pub over : IsOver ended

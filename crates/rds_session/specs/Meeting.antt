@@ -1,6 +1,7 @@
 -- Two sessions that hear each other.
 use Rattle.std.specs.Prelude.{◌≡◌, ◌≢◌, ℕ, ◌≤◌, ◌⊎◌, List, ◌++◌, length, Option, Some, None}
 use Rattle.rds_state.specs.Fits.{ReplicaValue}
+use Rattle.rds_state.specs.Grown.{OneBegins}
 use Rattle.rds_state.specs.Value.{StateValue, coordinates}
 use Rattle.rds_delta.specs.Digested.{digest_of}
 use Rattle.rds_delta.specs.Least.{least}
@@ -10,7 +11,9 @@ use Rattle.rds_session.specs.declared.chunks.TheConstants.{MESSAGE_LIMIT}
 use Rattle.rds_session.specs.declared.talk.Side.{Side}
 use Rattle.rds_session.specs.declared.talk.Side.TheVariants.{Client, Server}
 use Rattle.rds_session.specs.declared.step.Ended.TheVariants.{Done}
+use Rattle.rds_session.specs.Judging.{longer_than}
 use Rattle.rds_session.specs.Messages.{hello_message, digest_message, delta_message}
+use Rattle.rds_session.specs.Received.{Delivery}
 use Rattle.rds_session.specs.Session.{So_far, All_of, course}
 
 abbrev pub IsBeginningOf : List ℕ → List ℕ → Type 0
@@ -22,23 +25,24 @@ pub record HasRoom (from to : ReplicaValue) : Type 0 where
   pub digest : length (digest_message from) ≤ MESSAGE_LIMIT
   pub delta : length (delta_message from to.own (digest_of to.state)) ≤ MESSAGE_LIMIT
 
--- two replicas of one roster with different own numbers, each of which has a text
+-- two replicas, of rosters one of which begins the other, with different own numbers, each of which has a text
 pub record CanMeet (a b : ReplicaValue) : Type 0 where
-  pub roster : a.roster ≡ b.roster
+  pub roster : OneBegins a.roster b.roster
   pub others : a.own ≢ b.own
   pub a_text : IsSnapshot a
   pub b_text : IsSnapshot b
   pub a_room : HasRoom a b
   pub b_room : HasRoom b a
 
--- a delta that is the least of what the peer kept against what was kept here
-pub record IsItsLeast (peer own : ReplicaValue) (received : Option StateValue) : Type 0 where
+-- a delta that is the least of what the peer kept against what was kept here, and the peer's roster exactly where that
+-- has more names
+pub record IsItsLeast (peer own : ReplicaValue) (received : Option Delivery) : Type 0 where
   pub delta : StateValue
-  pub is_received : received ≡ Some delta
+  pub is_received : received ≡ Some (delta, longer_than own.roster peer.roster)
   pub is_least : coordinates delta ≡ least (coordinates peer.state) (ranks (coordinates own.state))
 
 -- nothing, or exactly that
-abbrev pub IsItsDelta : ReplicaValue → ReplicaValue → Option StateValue → Type 0
+abbrev pub IsItsDelta : ReplicaValue → ReplicaValue → Option Delivery → Type 0
 IsItsDelta peer own received = (received ≡ None) ⊎ IsItsLeast peer own received
 
 -- the client hears x and the server y, each a beginning of what the other sent
@@ -46,7 +50,7 @@ pub record Hear (a b : ReplicaValue) (x y : List ℕ) : Type 0 where
   pub client : IsBeginningOf x (course Server b (So_far y)).1
   pub server : IsBeginningOf y (course Client a (So_far x)).1
 
--- each has received nothing, or what the other has and it lacks
+-- each has received nothing, or what the other has and it lacks, and the longer roster
 abbrev pub ReceiveDeltas : Type 0
 ReceiveDeltas = (a b : ReplicaValue) (x y : List ℕ) → CanMeet a b → Hear a b x y
     → IsItsDelta b a (course Client a (So_far x)).0.received × IsItsDelta a b (course Server b (So_far y)).0.received
@@ -56,7 +60,7 @@ pub record HearAll (a b : ReplicaValue) (x y : List ℕ) : Type 0 where
   pub client : x ≡ (course Server b (So_far y)).1
   pub server : y ≡ (course Client a (So_far x)).1
 
--- both are done, and each has received what the other has and it lacks
+-- both are done, and each has received what the other has and it lacks, and the longer roster
 pub record AreDone (a b : ReplicaValue) (x y : List ℕ) : Type 0 where
   pub client : (course Client a (So_far x)).0.ended ≡ Done
   pub client_has : IsItsLeast b a (course Client a (So_far x)).0.received

@@ -3,7 +3,6 @@ use Rattle.std.specs.Prelude.{ℕ, Bool, true, false, List, [], ◌∷◌, ◌++
 use Rattle.rds_names.specs.declared.fault.Fault.{Fault}
 use Rattle.rds_names.specs.declared.fault.Fault.TheVariants.{TooLong, PeerEnded}
 use Rattle.rds_state.specs.Fits.{ReplicaValue}
-use Rattle.rds_state.specs.Value.{StateValue}
 use Rattle.rds_session.specs.declared.kinds.ByeCode.TheVariants as byes
 use Rattle.rds_session.specs.declared.talk.Side.{Side}
 use Rattle.rds_session.specs.declared.talk.Side.TheVariants.{Client, Server}
@@ -14,6 +13,7 @@ use Rattle.rds_session.specs.declared.step.Ended.TheVariants.{Going, Done, Faile
 use Rattle.rds_session.specs.Chunks.{Under, start, spelled, Scan, More, Whole, Long, byte_scanned}
 use Rattle.rds_session.specs.Messages.{hello_message, digest_message, bye_message, code_of}
 use Rattle.rds_session.specs.Judging.{Awaited, ForHello, Said, Receives, Finishes, accepted, turn_after, replies_of}
+use Rattle.rds_session.specs.Received.{Delivery}
 use Rattle.rds_session.specs.Sending.{sending}
 
 -- what a session holds of what came so far: whether a step was made, the message that is waited for, what was
@@ -23,7 +23,7 @@ pub record Standing : Type 0 where
   pub kept : ReplicaValue
   pub begun : Bool
   pub turn : Awaited
-  pub received : Option StateValue
+  pub received : Option Delivery
   pub ended : Ended
   pub under : Under
 
@@ -54,8 +54,8 @@ abbrev pub refuses : Standing → Fault → Sent
 refuses s f = (failed s f, spelled (bye_message (code_of f)))
 
 -- what is received, and how the session ends
-abbrev pub received_after : Option StateValue → Said → Option StateValue
-received_after received (Receives delta) = Some delta
+abbrev pub received_after : Option Delivery → Said → Option Delivery
+received_after received (Receives delta roster) = Some (delta, roster)
 received_after received _ = received
 
 abbrev pub ended_after : Ended → Said → Ended

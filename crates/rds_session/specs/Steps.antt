@@ -3,7 +3,6 @@ use Rattle.std.specs.Prelude.{◌≡◌, ◌⊎◌, ◌≤◌, ℕ, length, true
 use Rattle.rds_names.specs.declared.fault.Fault.{Fault}
 use Rattle.rds_names.specs.declared.fault.Fault.TheVariants.{Memory}
 use Rattle.rds_state.specs.Fits.{ReplicaValue}
-use Rattle.rds_state.specs.Value.{StateValue}
 use Rattle.rds_session.specs.declared.kinds.ByeCode.TheVariants as byes
 use Rattle.rds_session.specs.declared.talk.Side.{Side}
 use Rattle.rds_session.specs.declared.step.Ended.{Ended}
@@ -17,6 +16,7 @@ use Rattle.rds_session.specs.Chunks.{Under, start, spelled, Scan, More, Whole, L
 use Rattle.rds_session.specs.declared.talk.Stop.TheVariants.{Refused}
 use Rattle.rds_session.specs.Judging.{StopsByNoDevice}
 use Rattle.rds_session.specs.Messages.{bye_message}
+use Rattle.rds_session.specs.Received.{Delivery}
 use Rattle.rds_session.specs.Session.{Standing, Sent, then_more, run, opened, taken, stepped, Heard, heard_more, course}
 
 -- ---- a step, and the stream
@@ -31,7 +31,7 @@ came (Bytes piece) = Some piece.now
 came End = None
 
 -- nothing was received, or what is received for the stream
-abbrev pub ReceivedAtMost : Side → ReplicaValue → Heard → Option StateValue → Type 0
+abbrev pub ReceivedAtMost : Side → ReplicaValue → Heard → Option Delivery → Type 0
 ReceivedAtMost side kept heard received = (received ≡ None) ⊎ (received ≡ (course side kept heard).0.received)
 
 -- the last bytes where memory ran out: a BYE that says so, or nothing where there is no memory for it either
@@ -45,7 +45,7 @@ pub record GoesOn (side : Side) (kept : ReplicaValue) (heard : Heard) (input : O
   pub beyond : (course side kept (heard_more heard input)).1 ≡ (course side kept heard).1 ++ sent
 
 -- what had been received for the stream so far stays
-abbrev pub StaysReceived : Side → ReplicaValue → Heard → Option StateValue → Type 0
+abbrev pub StaysReceived : Side → ReplicaValue → Heard → Option Delivery → Type 0
 StaysReceived side kept heard received = ((course side kept heard).0.received ≡ None) ⊎ (received ≡ (course side kept heard).0.received)
 
 -- memory ran out in the step
@@ -90,7 +90,7 @@ pub record Ran (old : Standing) (sent piece : List ℕ) (new : Standing) (more r
   pub said : more ≡ sent ++ (run front old).1
 
 -- what was received after a front of the bytes
-abbrev pub ReceivedOnTheWay : Standing → List ℕ → Option StateValue → Type 0
+abbrev pub ReceivedOnTheWay : Standing → List ℕ → Option Delivery → Type 0
 ReceivedOnTheWay old piece received = (front rest : List ℕ) × (piece ≡ front ++ rest) × (received ≡ (run front old).0.received)
 
 -- the bytes came; or memory ran out with what was received after a front of them

@@ -1,5 +1,5 @@
 //! A session over a reader and a writer.
-ghost use Rattle.std.specs.Prelude.{◌≡◌, ◌⊎◌, ◌-◌, ◌<◌, ◌≤◌, ℕ, List, Option, true, false, length, OnOk, OnErr, IfOk, IfErr, IfSome};
+ghost use Rattle.std.specs.Prelude.{◌≡◌, ◌⊎◌, ◌-◌, ◌<◌, ◌≤◌, ℕ, List, Option, None, true, false, length, OnOk, OnErr, IfOk, IfErr, IfSome};
 ghost use Rattle.rds_keep.specs.Counted.{HasFailed};
 ghost use Rattle.rds_keep.specs.Parts.{AppendsPart, ConsumesAtMost};
 ghost use Rattle.std.specs.Io.KnownBytes.{Appends};
@@ -7,7 +7,7 @@ ghost use Rattle.rds_names.specs.declared.fault.Fault.TheVariants.{Device};
 ghost use Rattle.rds_session.specs.declared.step.Ended.TheVariants.{Going, Failed};
 ghost use Rattle.rds_session.specs.declared.talk.Side.{Side};
 ghost use Rattle.rds_session.specs.Exchange.{Exchanges};
-ghost use Rattle.rds_session.specs.Received.{HasChecked, IsDoneBy};
+ghost use Rattle.rds_session.specs.Received.{HasChecked, IsDoneBy, delivered};
 ghost use Rattle.rds_session.specs.Leaving.{IsOfCalls, IsOfSession, IsWrittenUnless, Speaks};
 ghost use Rattle.rds_session.specs.Reads.{most_heard};
 ghost use Rattle.rds_session.specs.Session.{Heard, Nothing};
@@ -19,7 +19,7 @@ use crate::step::{Ended, Input};
 use crate::talk::Side;
 use rds_dots::DotSet;
 use rds_keep::{Counted, Kept};
-use rds_names::Fault;
+use rds_names::{Fault, Roster};
 use rds_state::State;
 use std::alloc::Global;
 use std::io::{Read, Write};
@@ -32,8 +32,35 @@ const PIECE: usize = 16_384;
 pub struct Exchanged<S: DotSet> {
     /// The delta that was received.
     pub received: Option<State<S>>,
+    /// The peer's roster, where a delta was received and that roster is longer than the own one: the replica that takes
+    /// the delta has to grow to it first.
+    pub roster: Option<Roster>,
     /// How the session ended.
     pub ended: Ended,
+}
+
+impl<S: DotSet> Exchanged<S> {
+    /// What a session received, with how it came to an end. Takes no memory.
+    pub fn of(session: Session<'_, S>, ended: Ended) -> Exchanged<S>
+        ensures received { delivered result.received result.roster ≡ session.entry.received }
+        ensures alone { result.received ≡ None → result.roster ≡ None }
+        ensures ended { result.ended ≡ ended }
+        ensures checked { HasChecked session.entry.kept (delivered result.received result.roster) }
+        ensures done { IsDoneBy session.entry.ended (delivered result.received result.roster) }
+    {
+        match session.into_received() {
+            None => Exchanged {
+                received: None,
+                roster: None,
+                ended,
+            },
+            Some((delta, roster)) => Exchanged {
+                received: Some(delta),
+                roster,
+                ended,
+            },
+        }
+    }
 }
 
 // Takes a step, and writes what it sends.
@@ -150,28 +177,25 @@ pub fn exchange<S: DotSet, R: Read, W: Write>(
     writer: &mut Counted<W>,
 ) -> Exchanged<S>
     ensures over { IsOver result.ended }
-    ensures checked { HasChecked kept.now result.received }
-    ensures done { IsDoneBy result.ended result.received }
-    ensures session { IsOfSession side kept.now result.received result.ended }
+    ensures checked { HasChecked kept.now (delivered result.received result.roster) }
+    ensures done { IsDoneBy result.ended (delivered result.received result.roster) }
+    ensures alone { result.received ≡ None → result.roster ≡ None }
+    ensures session { IsOfSession side kept.now (delivered result.received result.roster) result.ended }
     ensures heard { IsOfCalls side kept.now (R.remaining reader.old.inner) (R.remaining reader.new.inner)
-        (W.contents writer.old.inner) (W.contents writer.new.inner) (HasFailed writer.old writer.new) result.received result.ended }
+        (W.contents writer.old.inner) (W.contents writer.new.inner) (HasFailed writer.old writer.new)
+        (delivered result.received result.roster) result.ended }
     ensures told { ((reader.new.failed ≡ reader.old.failed) × (writer.new.failed ≡ writer.old.failed))
         ⊎ (result.ended ≡ Failed Device) }
     ensures bound { ConsumesAtMost (R.remaining reader.old.inner) (R.remaining reader.new.inner)
         (most_heard (reader.old.turns - reader.new.left)) }
     ensures device { result.ended ≡ Failed Device → HasFailed reader.old reader.new ⊎ HasFailed writer.old writer.new }
     ensures exchange { reader.new.failed ≡ 0 → writer.new.failed ≡ 0 → IfSome (R.remaining reader.old.inner) (λ input.
-        Exchanges side kept.now input (W.contents writer.old.inner) (W.contents writer.new.inner) result.received result.ended) }
+        Exchanges side kept.now input (W.contents writer.old.inner) (W.contents writer.new.inner)
+        (delivered result.received result.roster) result.ended) }
 {
     let mut session = Session::new(side, kept);
     match talk(alloc, &mut session, reader, writer) {
-        Ok(ended) => Exchanged {
-            received: session.into_received(),
-            ended,
-        },
-        Err(fault) => Exchanged {
-            received: session.into_received(),
-            ended: Ended::Failed(fault),
-        },
+        Ok(ended) => Exchanged::of(session, ended),
+        Err(fault) => Exchanged::of(session, Ended::Failed(fault)),
     }
 }

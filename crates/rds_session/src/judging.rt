@@ -5,21 +5,22 @@ ghost use Rattle.rds_bytes.specs.Reading.{Reads};
 ghost use Rattle.rds_session.specs.Bodies.{hello_in, digest_in, answer_in};
 ghost use Rattle.rds_delta.specs.Digested.{digest_of};
 ghost use Rattle.rds_names.specs.declared.fault.Fault.TheVariants.{Memory};
-ghost use Rattle.rds_session.specs.Judging.{Awaited, StopsByNoDevice, Judges, awaited, bye_came, bye_judged, hello_came, digest_came, delta_came, body_came, accepted, other_version, same_names};
+ghost use Rattle.rds_session.specs.Judging.{Awaited, StopsByNoDevice, Judges, awaited, bye_came, bye_judged, hello_came, digest_came, delta_came, body_came, accepted, other_version, one_begins, longer_than, replicas_of};
 ghost use Rattle.rds_session.specs.Checked.{passes};
-ghost use Rattle.rds_session.specs.Received.{Brings};
+ghost use Rattle.rds_session.specs.Received.{Brings, KnowsPeer, IsLongerIfThere};
 ghost use Rattle.rds_codec.specs.AnswerTexts.{IsAnswerOf};
 ghost use Rattle.rds_delta.specs.Claims.{IsCertificate};
 ghost use Rattle.rds_delta.specs.Least.{IsAbove};
 ghost use Rattle.rds_delta.specs.Ranks.{ranks};
 ghost use Rattle.rds_state.specs.Fits.{ReplicaValue};
 ghost use Rattle.rds_state.specs.Value.{coordinates};
+ghost use Rattle.std.specs.List.{starts_with};
 ghost use Rattle.std.specs.Str.{bytes_eq};
 ghost use Rattle.rds_session.specs.Messages.{fault_of};
 ghost use Rattle.rds_session.specs.declared.talk.Stop.TheVariants.{Left, Refused};
 
 use crate::kinds::{ByeCode, MessageKind};
-use crate::talk::{Act, Stop, Turn};
+use crate::talk::{Act, Peer, Stop, Turn, copy_of};
 use rds_codec::{Answer, Hello, VERSION, decode_answer, decode_digest, decode_hello};
 use rds_delta::{Certificate, Digest, check};
 use rds_dots::DotSet;
@@ -107,18 +108,48 @@ fn read_answer<S: DotSet>(alloc: Global, replicas: u16, body: &[u8]) -> Result<A
     decode_answer(alloc, replicas, body)
 }
 
-// Whether two rosters of one group have the same names in the same order.
-fn has_same_names(hello: &Roster, kept: &Roster) -> bool
-    requires { bytes_eq hello.now.group kept.now.group ≡ true }
-    ensures { result ≡ same_names hello.now.names kept.now.names }
+// Whether the names of a roster are the first ones of another of the same group.
+fn begins(roster: &Roster, other: &Roster) -> bool
+    requires { roster.now.group ≡ other.now.group }
+    ensures { result ≡ starts_with bytes_eq other.now.names roster.now.names }
 {
-    hello.same(kept)
+    roster.begins(other)
+}
+
+// Whether one of two rosters of one group begins the other.
+fn one_begins(hello: &Roster, kept: &Roster) -> bool
+    requires { hello.now.group ≡ kept.now.group }
+    ensures { result ≡ one_begins hello.now.names kept.now.names }
+{
+    begins(hello, kept) || begins(kept, hello)
+}
+
+// The other roster, where it has more names than the own one.
+fn longer_than(own: &Roster, other: Roster) -> Option<Roster>
+    ensures { result ≡ longer_than own.now other }
+{
+    if own.len() < other.len() {
+        Some(other)
+    } else {
+        None
+    }
+}
+
+// How many replicas the longer roster has.
+fn replicas_of<S: DotSet>(kept: &Replica<S>, longer: &Option<Roster>) -> u16
+    ensures { result ≡ replicas_of kept.now longer.now }
+{
+    match longer {
+        None => kept.roster().len(),
+        Some(roster) => roster.len(),
+    }
 }
 
 fn judge_hello<S: DotSet>(alloc: Global, kept: &Replica<S>, body: &[u8]) -> Result<Act<S>, Stop>
     requires { length body.now ≤ LIMIT }
     ensures known { IfErr result StopsByNoDevice }
     ensures judges { Judges result (hello_came kept.now body.now) }
+    ensures brings { (turn : Awaited) → IfOk result (Brings kept.now turn) }
 {
     if is_other_version(body) {
         return Err(Stop::Refused(Fault::WrongVersion));
@@ -127,27 +158,39 @@ fn judge_hello<S: DotSet>(alloc: Global, kept: &Replica<S>, body: &[u8]) -> Resu
     if hello.roster.group() != kept.roster().group() {
         return Err(Stop::Refused(Fault::WrongGroup));
     }
-    if !has_same_names(&hello.roster, kept.roster()) {
+    if !one_begins(&hello.roster, kept.roster()) {
         return Err(Stop::Refused(Fault::WrongRoster));
     }
     if hello.own == kept.own() {
         return Err(Stop::Refused(Fault::SameReplica));
     }
-    Ok(Act::Greet(hello.own))
+    Ok(Act::Greet(Peer {
+        number: hello.own,
+        roster: longer_than(kept.roster(), hello.roster),
+    }))
 }
 
 fn judge_digest<S: DotSet>(
     alloc: Global,
     kept: &Replica<S>,
-    peer: u8,
+    peer: &Peer,
     body: &[u8],
 ) -> Result<Act<S>, Stop>
     requires { length body.now ≤ LIMIT }
     ensures known { IfErr result StopsByNoDevice }
-    ensures judges { Judges result (digest_came kept.now peer body.now) }
+    ensures judges { Judges result (digest_came kept.now peer.now body.now) }
+    ensures brings { IsLongerIfThere kept.now.roster peer.now.roster
+        → (turn : Awaited) → IfOk result (Brings kept.now turn) }
 {
-    let digest = read_digest(alloc, kept.roster().len(), body)?;
-    Ok(Act::Learn(peer, digest))
+    let digest = read_digest(alloc, replicas_of(kept, &peer.roster), body)?;
+    let roster = copy_of(alloc, &peer.roster)?;
+    Ok(Act::Learn(
+        Peer {
+            number: peer.number,
+            roster,
+        },
+        digest,
+    ))
 }
 
 // Whether a delta is needed here, component by component, and its certificate says so.
@@ -168,20 +211,27 @@ fn passes<S: DotSet>(
     Ok(check(&digest, delta, certificate))
 }
 
-fn judge_delta<S: DotSet>(alloc: Global, kept: &Replica<S>, body: &[u8]) -> Result<Act<S>, Stop>
+fn judge_delta<S: DotSet>(
+    alloc: Global,
+    kept: &Replica<S>,
+    peer: &Peer,
+    body: &[u8],
+) -> Result<Act<S>, Stop>
     requires { length body.now ≤ LIMIT }
     ensures known { IfErr result StopsByNoDevice }
-    ensures judges { Judges result (delta_came kept.now body.now) }
-    ensures brings { (turn : Awaited) → IfOk result (Brings kept.now turn) }
+    ensures judges { Judges result (delta_came kept.now peer.now body.now) }
+    ensures brings { IsLongerIfThere kept.now.roster peer.now.roster
+        → (turn : Awaited) → IfOk result (Brings kept.now turn) }
 {
-    let answer = read_answer(alloc, kept.roster().len(), body)?;
+    let answer = read_answer(alloc, replicas_of(kept, &peer.roster), body)?;
     if answer.asker != kept.own() {
         return Err(Stop::Refused(Fault::WrongAsker));
     }
     if !passes(alloc, kept, &answer.state, &answer.certificate)? {
         return Err(Stop::Refused(Fault::BadCertificate));
     }
-    Ok(Act::Receive(answer.state))
+    let roster = copy_of(alloc, &peer.roster)?;
+    Ok(Act::Receive(answer.state, roster))
 }
 
 // A BYE may come at any time, another message where it is waited for.
@@ -195,13 +245,13 @@ fn judge_body<S: DotSet>(
     requires { length body.now ≤ LIMIT }
     ensures known { IfErr result StopsByNoDevice }
     ensures judges { Judges result (body_came kept.now kind (awaited turn.now) body.now) }
-    ensures brings { IfOk result (Brings kept.now (awaited turn.now)) }
+    ensures brings { KnowsPeer kept.now (awaited turn.now) → IfOk result (Brings kept.now (awaited turn.now)) }
 {
     match (kind, turn) {
         (MessageKind::Bye, _) => judge_bye(turn, body),
         (MessageKind::Hello, Turn::Hello) => judge_hello(alloc, kept, body),
-        (MessageKind::Digest, Turn::Digest { peer }) => judge_digest(alloc, kept, *peer, body),
-        (MessageKind::Delta, Turn::Delta { .. }) => judge_delta(alloc, kept, body),
+        (MessageKind::Digest, Turn::Digest { peer }) => judge_digest(alloc, kept, peer, body),
+        (MessageKind::Delta, Turn::Delta { peer, .. }) => judge_delta(alloc, kept, peer, body),
         _ => Err(Stop::Refused(Fault::OutOfTurn)),
     }
 }
@@ -217,7 +267,7 @@ pub fn accept<S: DotSet>(
     requires { length message.now ≤ LIMIT }
     ensures known { IfErr result StopsByNoDevice }
     ensures judges { Judges result (accepted kept.now (awaited turn.now) message.now) }
-    ensures brings { IfOk result (Brings kept.now (awaited turn.now)) }
+    ensures brings { KnowsPeer kept.now (awaited turn.now) → IfOk result (Brings kept.now (awaited turn.now)) }
 {
     match message {
         [] => Err(Stop::Refused(Fault::Cut)),

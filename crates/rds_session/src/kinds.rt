@@ -51,7 +51,7 @@ pub enum ByeCode {
     WrongVersion,
     /// The peer is of another group.
     WrongGroup,
-    /// The peer has another roster.
+    /// The peer has another roster, and neither begins the other.
     WrongRoster,
     /// The peer has the own number of this replica.
     SameReplica,

@@ -21,11 +21,11 @@ pub fn a_course_is_by_messages()
     ensures quiet { IsQuiet }
 {}
 
-/// Two sessions of replicas with one roster and different numbers, whose messages are all within the limit. Where
-/// each hears a beginning of what the other sent, wherever it was cut, each has received nothing, or exactly what the
-/// other has and it lacks. Where each hears all that the other sent, both have received that and both are done. And
-/// of any session: the end of a stream takes nothing from what was received. The function does nothing: its contract
-/// is these laws.
+/// Two sessions of replicas with different numbers and rosters one of which begins the other, whose messages are all
+/// within the limit. Where each hears a beginning of what the other sent, wherever it was cut, each has received
+/// nothing, or exactly what the other has and it lacks, and the other's roster exactly where that is longer. Where
+/// each hears all that the other sent, both have received that and both are done. And of any session: the end of a
+/// stream takes nothing from what was received. The function does nothing: its contract is these laws.
 pub fn two_sessions()
     ensures receive { ReceiveDeltas }
     ensures end { BothEnd }

@@ -140,13 +140,13 @@ pub fn send_replies<S: DotSet>(
 {
     match side {
         Side::Server => match act {
-            Act::Learn(peer, digest) => answer_digest(alloc, send, kept, *peer, digest),
+            Act::Learn(peer, digest) => answer_digest(alloc, send, kept, peer.number, digest),
             Act::Finish => send_bye(send, ByeCode::Done),
-            Act::Greet(_) | Act::Receive(_) => Ok(true),
+            Act::Greet(_) | Act::Receive(_, _) => Ok(true),
         },
         Side::Client => match (act, turn) {
-            (Act::Receive(_), Turn::Delta { peer, digest }) => {
-                answer_delta(alloc, send, kept, *peer, digest)
+            (Act::Receive(_, _), Turn::Delta { peer, digest }) => {
+                answer_delta(alloc, send, kept, peer.number, digest)
             }
             _ => Ok(true),
         },

@@ -12,20 +12,24 @@ use crate::step::{Ended, Input, Output};
 use crate::talk::{Act, Side, Stop, Turn, code_of};
 use rds_dots::DotSet;
 use rds_keep::Kept;
-use rds_names::Fault;
+use rds_names::{Fault, Roster};
 use rds_state::State;
 use std::alloc::Global;
 use std::marker::Model;
 
 /// One end of a session: it tells what was kept here, and receives what the peer has and it lacks. All that it sends
 /// comes from the replica that it was lent.
+///
+/// One of the two rosters begins the other: they are equal, or one of them has grown since. What the peer tells is read
+/// as of the replicas of the longer one, so that a peer whose roster has grown may tell of replicas that aren't named
+/// here yet.
 #[derive(Drop)]
 pub struct Session<'a, S: DotSet> {
     side: Side,
     kept: &'a Kept<S>,
     begun: bool,
     turn: Turn<S>,
-    received: Option<State<S>>,
+    received: Option<(State<S>, Option<Roster>)>,
     ended: Ended,
     under: Option<Chunks>,
 }
@@ -60,7 +64,7 @@ impl<'a, S: DotSet> Session<'a, S> {
     ghost use Rattle.rds_session.specs.declared.talk.Side.{Side};
     ghost use Rattle.rds_session.specs.Chunks.{scan};
     ghost use Rattle.rds_session.specs.Judging.{StopsByNoDevice, said};
-    ghost use Rattle.rds_session.specs.Received.{Brings, HasChecked, IsDoneBy};
+    ghost use Rattle.rds_session.specs.Received.{Brings, HasChecked, IsDoneBy, IsLongerIfThere, delta_of, roster_of};
     ghost use Rattle.rds_session.specs.declared.talk.Stop.TheVariants.{Refused};
     ghost use Rattle.rds_session.specs.Session.{failed, performed, refuses, answered, message_comes, opened, cut_off, Heard, Nothing};
     ghost use Rattle.rds_session.specs.Steps.{came, Continues, Does, HasScanned, HasStanding, IsLastWord, IsNoDevice, IsOver, Ran, Runs, Steps, Works};
@@ -84,15 +88,32 @@ impl<'a, S: DotSet> Session<'a, S> {
 
     /// The delta that was received.
     pub fn received(&self) -> Option<&State<S>>
-        ensures received { option_copied result ≡ self.now.received }
+        ensures received { option_copied result ≡ delta_of self.now.received }
         ensures checked { HasChecked self.now.kept self.now.received }
         ensures done { IsDoneBy self.now.ended self.now.received }
     {
-        self.received.as_ref()
+        match &self.received {
+            None => None,
+            Some((delta, _)) => Some(delta),
+        }
     }
 
-    /// The delta that was received, taken out of the session. Takes no memory.
-    pub fn into_received(mut self) -> Option<State<S>>
+    /// The peer's roster, where a delta was received and that roster is longer than the own one: the delta may have
+    /// components of replicas that the own roster doesn't name yet, so the own roster grows to it first. Takes no
+    /// memory.
+    pub fn roster(&self) -> Option<&Roster>
+        ensures roster { option_copied result ≡ roster_of self.now.received }
+        ensures longer { IsLongerIfThere self.now.kept.roster (roster_of self.now.received) }
+    {
+        match &self.received {
+            None => None,
+            Some((_, roster)) => roster.as_ref(),
+        }
+    }
+
+    /// The delta that was received, and the peer's roster where that is longer than the own one, taken out of the
+    /// session. Takes no memory.
+    pub fn into_received(mut self) -> Option<(State<S>, Option<Roster>)>
         ensures received { result ≡ self.entry.received }
         ensures checked { HasChecked self.entry.kept result }
         ensures done { IsDoneBy self.entry.ended result }
@@ -313,9 +334,9 @@ impl<'a, S: DotSet> Session<'a, S> {
         match act {
             Act::Greet(peer) => self.turn = Turn::Digest { peer },
             Act::Learn(peer, digest) => self.turn = Turn::Delta { peer, digest },
-            Act::Receive(delta) => {
+            Act::Receive(delta, roster) => {
                 self.turn = Turn::Bye;
-                self.received = Some(delta);
+                self.received = Some((delta, roster));
             }
             Act::Finish => self.ended = Ended::Done,
         }

@@ -1,12 +1,14 @@
 //! The words of a session: who speaks, what is waited for, what was said.
-ghost use Rattle.std.specs.Prelude.{◌≡◌};
+ghost use Rattle.std.specs.Prelude.{◌≡◌, IfOk, IfErr};
+ghost use Rattle.rds_names.specs.declared.fault.Fault.TheVariants.{Memory};
 ghost use Rattle.rds_session.specs.Messages.{code_of};
 
 use crate::kinds::ByeCode;
 use rds_delta::Digest;
 use rds_dots::DotSet;
-use rds_names::Fault;
+use rds_names::{Fault, Roster};
 use rds_state::State;
+use std::alloc::Global;
 
 /// Which end of the stream.
 #[derive(Clone, Copy, Debug, PartialEq, Eq)]
@@ -17,24 +19,42 @@ pub enum Side {
     Server,
 }
 
+/// Who speaks at the other end: its own number, and its roster where that is longer than the own one.
+#[derive(Drop)]
+pub struct Peer {
+    pub number: u8,
+    pub roster: Option<Roster>,
+}
+
+/// The same roster once more, where it is there.
+pub fn copy_of(alloc: Global, roster: &Option<Roster>) -> Result<Option<Roster>, Fault>
+    ensures ok { IfOk result (λ copy. copy ≡ roster.now) }
+    ensures memory { IfErr result (λ fault. fault ≡ Memory) }
+{
+    match roster {
+        None => Ok(None),
+        Some(roster) => Ok(Some(roster.copy(alloc)?)),
+    }
+}
+
 /// The message that is waited for, with what the earlier ones said.
 #[derive(Drop)]
 pub enum Turn<S: DotSet> {
     Hello,
-    Digest { peer: u8 },
-    Delta { peer: u8, digest: Digest<S> },
+    Digest { peer: Peer },
+    Delta { peer: Peer, digest: Digest<S> },
     Bye,
 }
 
 /// What an accepted message says.
 #[derive(Drop)]
 pub enum Act<S: DotSet> {
-    /// The peer's own number.
-    Greet(u8),
-    /// The peer's own number and digest.
-    Learn(u8, Digest<S>),
-    /// What the peer has and this side lacks.
-    Receive(State<S>),
+    /// Who the peer is.
+    Greet(Peer),
+    /// Who the peer is, and its digest.
+    Learn(Peer, Digest<S>),
+    /// What the peer has and this side lacks, and the peer's roster where that is longer.
+    Receive(State<S>, Option<Roster>),
     /// The peer is done.
     Finish,
 }

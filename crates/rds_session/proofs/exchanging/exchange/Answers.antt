@@ -2,9 +2,10 @@ use Rattle.std.proofs.Common.{◌≡◌, ap, sym, inl, inr, ◌∙◌, subst}
 use Rattle.rds_state.specs.Fits.{ReplicaValue}
 use Rattle.rds_session.specs.declared.step.Ended.TheVariants.{Failed}
 use Rattle.rds_session.specs.declared.talk.Side.{Side}
-use Rattle.rds_session.specs.Received.{HasChecked}
+use Rattle.rds_session.specs.Received.{HasChecked, delivered}
 use Rattle.rds_session.specs.Session.{Standing, Nothing, course}
-use Rattle.rds_session.specs.Steps.{HasStanding}
+use Rattle.rds_session.specs.declared.step.Ended.{Ended}
+use Rattle.rds_session.specs.Steps.{HasStanding, IsOver}
 use Rattle.rds_session.proofs.Spoken.{heard_some}
 use Rattle.rds_session.proofs.Turns.{exchanged}
 use Rattle.rds_session.proofs.exchanging.exchange.Goals as goal
@@ -17,35 +18,36 @@ kept_at_first side kept s is = ap (λ (t : Standing). t.kept) is
 pub returns-in-Ok-clause-checked : goal.returns-in-Ok-clause-checked
 returns-in-Ok-clause-checked g c =
     let kept = c.talk.ensures.kept ∙ kept_at_first c.args.side c.args.kept.now _ c.new-session.ensures.standing in
-    subst (λ k. HasChecked k c.into_received.result) kept c.into_received.ensures.checked
+    subst (λ k. HasChecked k (delivered c.of.result.received c.of.result.roster)) kept c.of.ensures.checked
 
 pub returns-in-Err-clause-checked : goal.returns-in-Err-clause-checked
 returns-in-Err-clause-checked g c =
     let kept = c.talk.ensures.kept ∙ kept_at_first c.args.side c.args.kept.now _ c.new-session.ensures.standing in
-    subst (λ k. HasChecked k c.into_received-in-Err.result) kept c.into_received-in-Err.ensures.checked
+    subst (λ k. HasChecked k (delivered c.of-in-Err.result.received c.of-in-Err.result.roster)) kept c.of-in-Err.ensures.checked
 
 pub returns-in-Ok-clause-exchange : goal.returns-in-Ok-clause-exchange
 returns-in-Ok-clause-exchange g c =
-    λ reader writer. exchanged c.args.side c.args.kept.now (g.R.Read.remaining c.args.reader.now.inner) _ c.talk.new.session _ _ c.into_received.result c.in-Ok.ended
-    (c.in-Ok.ensures.speaks c.args.side c.args.kept.now c.new-session.ensures.standing) c.in-Ok.ensures.ended c.into_received.ensures.received
+    let over = subst (λ (e : Ended). (e ≡ c.talk.new.session.ended) × IsOver e) (sym c.of.ensures.ended) c.in-Ok.ensures.ended in
+    λ reader writer. exchanged c.args.side c.args.kept.now (g.R.Read.remaining c.args.reader.now.inner) _ c.talk.new.session _ _ (delivered c.of.result.received c.of.result.roster) c.of.result.ended
+    (c.in-Ok.ensures.speaks c.args.side c.args.kept.now c.new-session.ensures.standing) over c.of.ensures.received
 
 pub returns-in-Ok-clause-done : goal.returns-in-Ok-clause-done
-returns-in-Ok-clause-done g c = λ is_done. c.into_received.ensures.done (sym c.in-Ok.ensures.ended.0 ∙ is_done)
+returns-in-Ok-clause-done g c = λ is_done. c.of.ensures.done (sym c.in-Ok.ensures.ended.0 ∙ sym c.of.ensures.ended ∙ is_done)
 
 pub returns-in-Ok-clause-session : goal.returns-in-Ok-clause-session
 returns-in-Ok-clause-session g c = record {
   session = c.talk.new.session;
   heard = heard_some _ _ _ _ _ _ (c.in-Ok.ensures.speaks c.args.side c.args.kept.now c.new-session.ensures.standing);
-  is_received = c.into_received.ensures.received;
-  stands = inl c.in-Ok.ensures.ended.0;
+  is_received = c.of.ensures.received;
+  stands = inl (c.of.ensures.ended ∙ c.in-Ok.ensures.ended.0);
 }
 
 pub returns-in-Err-clause-session : goal.returns-in-Err-clause-session
 returns-in-Err-clause-session g c = record {
   session = c.talk.new.session;
   heard = heard_some _ _ _ _ _ _ (c.in-Err.ensures.part c.args.side c.args.kept.now c.new-session.ensures.standing);
-  is_received = c.into_received-in-Err.ensures.received;
-  stands = inr (inl (ap Failed c.in-Err.ensures.fault.0));
+  is_received = c.of-in-Err.ensures.received;
+  stands = inr (inl (c.of-in-Err.ensures.ended ∙ ap Failed c.in-Err.ensures.fault.0));
 }
 
 pub returns-in-Ok-clause-heard : goal.returns-in-Ok-clause-heard
@@ -58,8 +60,8 @@ returns-in-Ok-clause-heard g c =
       is_heard = spoken.1;
       sent = spoken.2;
       is_sent = spoken.3;
-      is_received = c.into_received.ensures.received;
-      stands = inl (c.in-Ok.ensures.ended.0, spoken.4);
+      is_received = c.of.ensures.received;
+      stands = inl (c.of.ensures.ended ∙ c.in-Ok.ensures.ended.0, spoken.4);
     }
 
 pub returns-in-Err-clause-heard : goal.returns-in-Err-clause-heard
@@ -72,6 +74,6 @@ returns-in-Err-clause-heard g c =
       is_heard = spoken.1;
       sent = spoken.2;
       is_sent = spoken.3;
-      is_received = c.into_received-in-Err.ensures.received;
-      stands = inr (ap Failed c.in-Err.ensures.fault.0, spoken.4);
+      is_received = c.of-in-Err.ensures.received;
+      stands = inr (c.of-in-Err.ensures.ended ∙ ap Failed c.in-Err.ensures.fault.0, spoken.4);
     }
