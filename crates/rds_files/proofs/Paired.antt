@@ -6,13 +6,12 @@ use Rattle.rds_names.specs.declared.fault.Fault.{Fault}
 use Rattle.rds_names.specs.declared.fault.Fault.TheVariants.{Device, Memory}
 use Rattle.rds_keep.specs.Counted.{one_more}
 use Rattle.rds_state.specs.Fits.{ReplicaValue}
-use Rattle.rds_state.specs.Value.{StateValue}
 use Rattle.rds_session.specs.declared.step.Ended.{Ended}
 use Rattle.rds_session.specs.declared.step.Ended.TheVariants.{Going, Done, Failed}
 use Rattle.rds_session.specs.declared.talk.Side.{Side}
 use Rattle.rds_session.specs.declared.talk.Side.TheVariants.{Client, Server}
 use Rattle.rds_session.specs.Leaving.{Leaves, StandsAs}
-use Rattle.rds_session.specs.Received.{HasChecked, IsDoneBy}
+use Rattle.rds_session.specs.Received.{Delivery, HasChecked, IsDoneBy}
 use Rattle.rds_session.specs.Session.{Nothing, Standing, course}
 use Rattle.rds_session.specs.Steps.{Continues, HasStanding, IsOver}
 use Rattle.rds_files.specs.Files.{FileValue, ReplacedValue}
@@ -41,7 +40,7 @@ begun side kept first s ended sent input is (inr out) same e = record {
 }
 
 -- one that is left as done stood so
-left_done : (s : Standing) (ended last : Ended) (received : Option StateValue) → StandsAs s ended → (last ≡ ended) ⊎ (last ≡ Failed Device) → IsDoneBy s.ended received → IsDoneBy last received
+left_done : (s : Standing) (ended last : Ended) (received : Option Delivery) → StandsAs s ended → (last ≡ ended) ⊎ (last ≡ Failed Device) → IsDoneBy s.ended received → IsDoneBy last received
 left_done s ended last received stands (inr device) done is = absurd (let bad : Done ≡ Failed Device = sym is ∙ device in cc)
 left_done s ended last received (inl same) (inl e) done is = done (sym same ∙ sym e ∙ is)
 left_done s ended last received (inr (inl device)) (inl e) done is = absurd (let bad : Done ≡ Failed Device = sym is ∙ e ∙ device in cc)
@@ -58,7 +57,7 @@ at_last Done last over going = (subst IsOver (sym (over tt)) tt, inl (over tt))
 at_last (Failed fault) last over going = (subst IsOver (sym (over tt)) tt, inl (over tt))
 
 -- an end that is left
-pub left : (side : Side) (kept : ReplicaValue) (s : Standing) (ended last : Ended) (received : Option StateValue)
+pub left : (side : Side) (kept : ReplicaValue) (s : Standing) (ended last : Ended) (received : Option Delivery)
     → IsEnd side kept s ended → received ≡ s.received → HasChecked s.kept received → IsDoneBy s.ended received → IsOver last → (last ≡ ended) ⊎ (last ≡ Failed Device) → Leaves side kept received last
 left side kept s ended last received is same checked done over e = record {
   checked = subst (λ (k : ReplicaValue). HasChecked k received) is.kept_is checked;
@@ -68,7 +67,7 @@ left side kept s ended last received is same checked done over e = record {
 }
 
 -- an end was settled, and is told of
-pub told_of : (side : Side) (file : FileValue) (received : Option StateValue) (ended : Ended) (settled : Settled) (replaced : Option ReplacedValue)
+pub told_of : (side : Side) (file : FileValue) (received : Option Delivery) (ended : Ended) (settled : Settled) (replaced : Option ReplacedValue)
     → Leaves side file.kept received ended → Settles file.path file.kept received settled replaced → Tells side file (report_text settled ended) (tells_fault settled ended)
 told_of side file received ended settled replaced leaves settles =
     record { received = received; ended = ended; leaves = leaves; settled = settled; replaced = replaced; settles = settles; text_is = refl; told_is = refl }

@@ -1,36 +1,53 @@
 -- Why a delta that was checked isn't taken.
-use Rattle.std.proofs.Common.{ℕ, List, Err, inl, inr, refl}
+use Rattle.std.proofs.Common.{◌≡◌, ◌∙◌, ℕ, List, Option, Some, None, Result, Ok, Err, IfErr, inl, inr, refl, sym, subst}
+use Rattle.rds_names.specs.Roster.{RosterValue}
 use Rattle.rds_names.specs.declared.fault.Fault.{Fault}
-use Rattle.rds_names.specs.declared.fault.Fault.TheVariants.{Memory, Conflict, OwnAhead}
-use Rattle.rds_state.specs.Ahead.{TakeGives}
+use Rattle.rds_names.specs.declared.fault.Fault.TheVariants.{Memory, Conflict, OwnAhead, WrongGroup, WrongRoster}
 use Rattle.rds_state.specs.Fits.{ReplicaValue}
+use Rattle.rds_state.specs.Grown.{OneBegins, TakeWithGives}
 use Rattle.rds_state.specs.Value.{StateValue, coordinates}
 use Rattle.rds_delta.specs.Least.{IsAbove}
 use Rattle.rds_delta.specs.Ranks.{ranks}
 use Rattle.rds_delta.proofs.LeastLaws.{above_agrees, compatible_sym}
+use Rattle.rds_session.specs.Judging.{roster_among}
+use Rattle.rds_session.specs.Received.{Delivery, IsChecked, IsLongerIfThere}
 use Rattle.rds_files.specs.Files.{IsHeldAt, IsUnkept, KeptFile}
-use Rattle.rds_files.specs.Settling.{IsJoined, IsJoinedUnkept, IsSameReplica, RefusesAt, RefusesDelta, RefusesJoin, RefusesKnown}
+use Rattle.rds_files.specs.Settling.{IsJoined, IsJoinedUnkept, IsSameReplica, RefusesAt, RefusesJoin, RefusesKnown}
+
+-- a delta comes with a roster of the replica's own group
+meet_in_group : (r s : RosterValue) → OneBegins r s → r.group ≡ s.group
+meet_in_group r s (inl begins) = begins.0
+meet_in_group r s (inr begins) = sym begins.0
+
+came_in_group : (asked : ReplicaValue) (roster : Option RosterValue) → IsLongerIfThere asked.roster roster → asked.roster.group ≡ (roster_among asked.roster roster).group
+came_in_group asked None grows = refl
+came_in_group asked (Some peers) grows = grows.begins.0
 
 -- it never conflicts where all that it has is above what is here
-refused_known : (old : ReplicaValue) (delta : StateValue) (fault : Fault) → TakeGives {T = Unit {0}} old.state old.own delta (Err fault) → IsAbove (coordinates delta) (ranks (coordinates old.state)) → RefusesKnown old delta fault
-refused_known old delta Memory gives above = refl
-refused_known old delta (OwnAhead own) gives above = gives
-refused_known old delta (Conflict r n) gives above =
+refused_known : (old : ReplicaValue) (came : RosterValue) (delta : StateValue) (fault : Fault) → old.roster.group ≡ came.group → TakeWithGives {T = Unit {0}} old.roster came old.state old.own delta (Err fault)
+    → IsAbove (coordinates delta) (ranks (coordinates old.state)) → RefusesKnown old came delta fault
+refused_known old came delta Memory group gives above = refl
+refused_known old came delta WrongGroup group gives above = absurd (gives group)
+refused_known old came delta WrongRoster group gives above = gives.1
+refused_known old came delta (OwnAhead own) group gives above = gives.1
+refused_known old came delta (Conflict r n) group gives above =
     let agrees = compatible_sym (coordinates delta) (coordinates old.state) (above_agrees (coordinates delta) (coordinates old.state) above) in
-    absurd (gives.1.here (agrees.each_dot (record { replica = r; seq = n })))
-refused_known old delta fault gives above = absurd gives.1
+    absurd (gives.1.1.here (agrees.each_dot (record { replica = r; seq = n })))
+refused_known old came delta fault group gives above = absurd gives.1.1
 
-pub refused : (old : ReplicaValue) (delta : StateValue) (fault : Fault) → TakeGives {T = Unit {0}} old.state old.own delta (Err fault) → RefusesDelta old delta fault
-refused old delta fault gives = record { gives = inr gives; above = refused_known old delta fault gives }
-
-pub refused_memory : (old : ReplicaValue) (delta : StateValue) → RefusesDelta old delta Memory
-refused_memory old delta = record { gives = inl refl; above = λ _. refl }
+pub refused : (asked held : ReplicaValue) (delta : StateValue) (roster : Option RosterValue) (came : RosterValue) (taken : Result (Unit {0}) Fault) → IsChecked asked (delta, roster) → IsSameReplica asked held → came ≡ roster_among asked.roster roster
+    → TakeWithGives held.roster came held.state held.own delta taken → IfErr taken (RefusesJoin asked held (delta, roster))
+refused asked held delta roster came (Ok x) checked same is gives = tt
+refused asked held delta roster came (Err fault) checked same is gives =
+    let gave = subst (λ (r : RosterValue). TakeWithGives {T = Unit {0}} held.roster r held.state held.own delta (Err fault)) is gives in
+    let group : held.roster.group ≡ (roster_among asked.roster roster).group = sym (meet_in_group asked.roster held.roster same.rosters) ∙ came_in_group asked roster checked.grows in
+    inr (same, record { gives = inr gave; above = refused_known held (roster_among asked.roster roster) delta fault group gave })
 
 -- what a file held under its lock doesn't take a delta
-pub refused_held : (path : List ℕ) (file : KeptFile) (asked : ReplicaValue) (delta : StateValue) (fault : Fault) → IsHeldAt path file → RefusesJoin asked file.kept delta fault → RefusesAt path asked delta fault
-refused_held path file asked delta fault held why = inr (record { held = file.kept; value = held.value; why = why })
+pub refused_held : (path : List ℕ) (file : KeptFile) (asked : ReplicaValue) (delivery : Delivery) (fault : Fault) → IsHeldAt path file → RefusesJoin asked file.kept delivery fault → RefusesAt path asked delivery fault
+refused_held path file asked delivery fault held why = inr (record { held = file.kept; value = held.value; why = why })
 
 -- what a file held under its lock took a delta, and can't be kept
-pub unkept_held : (path : List ℕ) (file : KeptFile) (asked : ReplicaValue) (delta : StateValue) (kept : ReplicaValue) (fault : Fault)
-    → IsHeldAt path file → IsSameReplica asked file.kept → IsJoined file.kept delta kept → IsUnkept kept fault → IsJoinedUnkept asked delta fault
-unkept_held path file asked delta kept fault held same joined why = record { held = file.kept; value = held.value; same = same; kept = kept; joined = joined; why = why }
+pub unkept_held : (path : List ℕ) (file : KeptFile) (asked : ReplicaValue) (delivery : Delivery) (kept : ReplicaValue) (fault : Fault)
+    → IsHeldAt path file → IsSameReplica asked file.kept → IsJoined file.kept (roster_among asked.roster delivery.1) delivery.0 kept → IsUnkept kept fault → IsJoinedUnkept asked delivery fault
+unkept_held path file asked delivery kept fault held same joined why = record { held = file.kept; value = held.value; same = same; kept = kept; joined = joined; why = why }

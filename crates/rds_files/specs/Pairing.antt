@@ -2,11 +2,11 @@
 use Rattle.std.specs.Prelude.{◌≡◌, ◌⊎◌, ℕ, Bool, ◌||◌, List, ◌++◌, Option}
 use Rattle.std.specs.Io.KnownBytes.{Appends}
 use Rattle.rds_state.specs.Fits.{ReplicaValue}
-use Rattle.rds_state.specs.Value.{StateValue}
 use Rattle.rds_session.specs.declared.step.Ended.{Ended}
 use Rattle.rds_session.specs.declared.talk.Side.{Side}
 use Rattle.rds_session.specs.declared.talk.Side.TheVariants.{Client, Server}
 use Rattle.rds_session.specs.Leaving.{HasHeard, Leaves, StandsAs}
+use Rattle.rds_session.specs.Received.{Delivery}
 use Rattle.rds_session.specs.Session.{Standing}
 use Rattle.rds_files.specs.Files.{FileValue, IsReadAt, ReplacedValue}
 use Rattle.rds_files.specs.Reports.{WritesNone, report_text, tells_fault, told_status}
@@ -26,7 +26,7 @@ StaysEnd old was new is = (side : Side) (kept : ReplicaValue) → IsEnd side kep
 -- what is told of an end, whose replica was read from this file, and whether a fault is told: what it received was
 -- settled in what the file held then
 pub record Tells (side : Side) (file : FileValue) (text : List ℕ) (told : Bool) : Type 0 where
-  pub received : Option StateValue
+  pub received : Option Delivery
   pub ended : Ended
   pub leaves : Leaves side file.kept received ended
   pub settled : Settled

@@ -3,10 +3,10 @@ use Rattle.std.specs.Prelude.{◌≡◌, ◌⊎◌, ◌≤◌, ℕ, ◌+◌, Boo
 use Rattle.std.specs.Io.KnownBytes.{Appends}
 use Rattle.rds_names.specs.declared.fault.Fault.{Fault}
 use Rattle.rds_names.specs.declared.fault.Fault.TheVariants.{Device}
-use Rattle.rds_state.specs.Value.{StateValue}
 use Rattle.rds_session.specs.declared.talk.Side.{Side}
 use Rattle.rds_session.specs.declared.talk.Side.TheVariants.{Client, Server}
 use Rattle.rds_session.specs.Leaving.{IsOfCalls, Leaves}
+use Rattle.rds_session.specs.Received.{Delivery}
 use Rattle.rds_session.specs.declared.step.Ended.{Ended}
 use Rattle.rds_session.specs.declared.step.Ended.TheVariants.{Failed}
 use Rattle.rds_files.specs.Files.{FileValue, IsReadAt, IsReadBy, IsUnread, PathValue, ReplacedValue, read_more}
@@ -21,7 +21,7 @@ use Rattle.rds_files.specs.declared.settling.Settled.TheVariants.{Nothing}
 -- held then
 pub record IsSession (side : Side) (first now before after : Option (List ℕ)) (file : FileValue) (settled : Settled)
     (ended : Ended) : Type 0 where
-  pub received : Option StateValue
+  pub received : Option Delivery
   pub leaves : Leaves side file.kept received ended
   pub heard : IsOfCalls side file.kept first now before after (Unit {0}) received ended
   pub replaced : Option ReplacedValue

@@ -1,5 +1,7 @@
 //! A new file that is written beside the one whose place it takes.
-ghost use Rattle.std.specs.Prelude.{◌≡◌, IfErr, IfOk};
+ghost use Rattle.std.specs.Prelude.{◌≡◌, ◌≤◌, length, IfErr, IfOk, OnOk};
+ghost use Rattle.rds_codec.specs.StateTexts.{snapshot_text};
+ghost use Rattle.rds_codec.specs.declared.limits.TheConstants.{LIMIT};
 ghost use Rattle.rds_files.specs.Files.{IsUnkept};
 
 use crate::disk::{Disk, note};
@@ -32,6 +34,7 @@ where
     H::File: LockFile,
     ensures kept { IfOk result (λ kept. kept ≡ replica.now) }
     ensures fault { IfErr result (IsUnkept replica.now) }
+    ensures limit { OnOk result (length (snapshot_text replica.now) ≤ LIMIT) }
 {
     let alloc = rt.alloc();
     let copy = replica.copy(alloc)?;
@@ -52,6 +55,7 @@ where
     H::File: LockFile,
     ensures kept { IfOk result (λ kept. kept ≡ replica) }
     ensures fault { IfErr result (IsUnkept replica) }
+    ensures limit { OnOk result (length (snapshot_text replica) ≤ LIMIT) }
 {
     let alloc = rt.alloc();
     let name = format!(in alloc; "{path}.new")?;
@@ -68,6 +72,7 @@ fn keep_made<H: Disk, S: DotSet>(
 ) -> Result<Kept<S>, Fault>
     ensures kept { IfOk result (λ kept. kept ≡ replica) }
     ensures fault { IfErr result (IsUnkept replica) }
+    ensures limit { OnOk result (length (snapshot_text replica) ≤ LIMIT) }
 {
     match made {
         Ok(beside) => keep_owned(rt.alloc(), replica, &mut Counted::new(beside)),

@@ -1,7 +1,8 @@
 //! Replicas in files.
-ghost use Rattle.std.specs.Prelude.{◌≡◌, true, false, Err, IfOk, IfErr};
+ghost use Rattle.std.specs.Prelude.{◌≡◌, ◌≤◌, true, false, length, Err, IfOk, IfErr, OnOk};
 ghost use Rattle.rds_names.specs.declared.fault.Fault.TheVariants.{Device, Usage};
-ghost use Rattle.rds_codec.specs.StateTexts.{IsSnapshot};
+ghost use Rattle.rds_codec.specs.StateTexts.{IsSnapshot, snapshot_text};
+ghost use Rattle.rds_codec.specs.declared.limits.TheConstants.{LIMIT};
 ghost use Rattle.rds_files.specs.Files.{IsHeldAt, IsReadAt, IsReadBy, IsUnkept, IsUnread, RefusesFile, RefusesLock, is_beside, read_more};
 
 use crate::beside::{folder_of, keep_new, keep_over};
@@ -203,6 +204,7 @@ where
         ensures replaced { IfOk result
             (λ file. file ≡ record { path = self.entry.path; before = self.entry.kept; kept = replica }) }
         ensures fault { IfErr result (IsUnkept replica) }
+        ensures limit { OnOk result (length (snapshot_text replica) ≤ LIMIT) }
     {
         let EmptiedFile { path, before, file } = self;
         let kept = keep_over(rt, replica, path, &file)?;
@@ -271,6 +273,7 @@ impl<'a, S: DotSet> CreatedFile<'a, S> {
         ensures place { IfOk result (λ _. is_beside path.now ≡ false) }
         ensures beside { is_beside path.now ≡ true → result ≡ Err Usage }
         ensures fault { IfErr result (RefusesFile replica.now) }
+        ensures limit { OnOk result (length (snapshot_text replica.now) ≤ LIMIT) }
     {
         if is_beside(path) {
             let _ = eprintln!(rt; "{path}: ends in .new, as a file that is written beside another");
@@ -358,7 +361,7 @@ fn read_kept<H: Disk, S: DotSet, R: Read>(
     match read_snapshot(rt.alloc(), &mut Counted::new(file)) {
         Ok(kept) => Ok(kept),
         Err(fault) => {
-            let _ = eprintln!(rt; "{path}: holds no replica that can be read: {fault:?}");
+            let _ = eprintln!(rt; "{path}: holds no replica that can be read: {fault}");
             Err(fault)
         }
     }

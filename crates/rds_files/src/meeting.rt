@@ -1,8 +1,10 @@
 //! A session of the replica in a file over a stream.
-ghost use Rattle.std.specs.Prelude.{◌≡◌, ◌⊎◌, Option};
+ghost use Rattle.std.specs.Prelude.{◌≡◌, ◌⊎◌, ◌-◌, Option};
 ghost use Rattle.rds_keep.specs.Counted.{HasFailed};
+ghost use Rattle.rds_keep.specs.Parts.{ConsumesAtMost};
 ghost use Rattle.rds_names.specs.declared.fault.Fault.TheVariants.{Device};
 ghost use Rattle.rds_session.specs.declared.step.Ended.TheVariants.{Failed};
+ghost use Rattle.rds_session.specs.Reads.{most_heard};
 ghost use Rattle.rds_files.specs.Settling.{Settles};
 ghost use Rattle.rds_files.specs.Syncing.{IsSession, Meets};
 ghost use Rattle.rds_files.specs.declared.settling.Settled.TheVariants.{Nothing};
@@ -128,12 +130,15 @@ where
     ensures device { result.1 ≡ Failed Device → HasFailed reader.old reader.new ⊎ HasFailed writer.old writer.new }
 {
     let exchanged = exchange(rt.alloc(), side, file.kept(), reader, writer);
-    let settlement = settle(rt, file, exchanged.received);
+    let settlement = settle(rt, file, exchanged.received, exchanged.roster);
     (settlement.settled, exchanged.ended)
 }
 
-// Reads to the end, within the reader's bound of turns.
-fn drop_rest<R: Read>(reader: &mut Counted<R>) {
+// Reads to the end, within the reader's bound of turns: no more than these give.
+fn drop_rest<R: Read>(reader: &mut Counted<R>)
+    ensures bound { ConsumesAtMost (R.remaining reader.old.inner) (R.remaining reader.new.inner)
+        (most_heard (reader.old.turns - reader.new.left)) }
+{
     let mut dropped = [0u8; PIECE];
     reader.begin_turns();
     'turns: loop {

@@ -82,8 +82,8 @@ where
         server.kept(),
         link,
     );
-    let first = settle(rt, client, left.received).settled;
-    let second = settle(rt, server, right.received).settled;
+    let first = settle(rt, client, left.received, left.roster).settled;
+    let second = settle(rt, server, right.received, right.roster).settled;
     note_report(rt, client.path(), &first, left.ended);
     note_report(rt, server.path(), &second, right.ended);
     let told = tells_fault(&first, left.ended) | tells_fault(&second, right.ended);

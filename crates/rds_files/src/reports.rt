@@ -59,7 +59,8 @@ pub fn give_up<W: Write>(writer: &mut Counted<W>, fault: Fault) -> u8
 /// Tells on standard error why what was received isn't in the file, if it isn't.
 pub fn note_settled<H: Eprint>(rt: &H, path: &str, settled: &Settled) {
     if let Settled::Refused(fault) | Settled::Unkept(fault) = settled {
-        let _ = eprintln!(rt; "{path}: what was received isn't kept: {fault:?}");
+        let _ = eprintln!(rt; "{path}: what was received isn't kept: {fault}");
+        note_apart(rt, *fault);
     }
 }
 
@@ -68,7 +69,8 @@ pub fn note_settled<H: Eprint>(rt: &H, path: &str, settled: &Settled) {
 pub fn note_report<H: Eprint>(rt: &H, path: &str, settled: &Settled, ended: Ended) {
     note_settled(rt, path, settled);
     if let Ended::Failed(fault) = ended {
-        let _ = eprintln!(rt; "{path}: the session failed: {fault:?}");
+        let _ = eprintln!(rt; "{path}: the session failed: {fault}");
+        note_apart(rt, fault);
     }
 }
 
@@ -76,9 +78,19 @@ pub fn note_report<H: Eprint>(rt: &H, path: &str, settled: &Settled, ended: Ende
 pub fn note_peer<H: Eprint, T: OpenStream>(rt: &H, stream: &T, ended: Ended) {
     if let Ended::Failed(fault) = ended {
         let _ = match stream.peer_addr() {
-            Ok(addr) => eprintln!(rt; "peer {addr}: {fault:?}"),
-            Err(_) => eprintln!(rt; "peer: {fault:?}"),
+            Ok(addr) => eprintln!(rt; "peer {addr}: {fault}"),
+            Err(_) => eprintln!(rt; "peer: {fault}"),
         };
+        note_apart(rt, fault);
+    }
+}
+
+// Tells what it means that neither of two rosters begins the other.
+fn note_apart<H: Eprint>(rt: &H, fault: Fault) {
+    if let Fault::WrongRoster = fault {
+        let _ = eprintln!(rt;
+            "the two rosters have grown apart: a group's roster is to be grown at one place"
+        );
     }
 }
 

@@ -1,15 +1,17 @@
 //! What a session leaves of the replica in its file.
 ghost use Rattle.std.specs.Prelude.{◌≡◌, ◌↔◌, None, IfErr, IsTrue, OnOk};
-ghost use Rattle.rds_session.specs.Received.{HasChecked, IsChecked};
+ghost use Rattle.rds_session.specs.Judging.{roster_among};
+ghost use Rattle.rds_session.specs.Received.{HasChecked, IsChecked, delivered};
+ghost use Rattle.rds_state.specs.Grown.{OneBegins};
 ghost use Rattle.rds_files.specs.Settling.{IsJoined, IsSameReplica, RefusesJoin, Settles, SettlesDelta};
 
 use crate::disk::Disk;
 use crate::files::{LockedFile, ReplacedFile, ReplicaFile};
 use crate::locks::LockFile;
 use rds_dots::DotSet;
-use rds_keep::Kept;
-use rds_names::Fault;
+use rds_names::{Fault, Roster};
 use rds_state::{Replica, State};
+use std::alloc::Global;
 
 /// What a session left of the replica in its file.
 #[derive(Clone, Copy, Debug, PartialEq, Eq)]
@@ -66,24 +68,27 @@ impl<S: DotSet> Settlement<'_, S> {
 
 /// Takes what a session of the replica in the file received into what the file holds now: others may have changed it
 /// since the session began, and what they did stays. The file is locked, read, joined with the delta, replaced and
-/// unlocked. A delta without components is taken and kept as any other; where nothing was received the file isn't
-/// touched.
+/// unlocked. Its roster is then the longest of three: the one that it has now, the one that the session's replica had,
+/// and the peer's where that came. A delta without components is taken and kept as any other; where nothing was
+/// received the file isn't touched.
 ///
-/// Refuses `WrongAsker` where the file holds another replica by now.
+/// Refuses `WrongAsker` where the file holds another replica by now, and `WrongRoster` where its roster and the peer's
+/// have grown apart. A file that takes nothing stays as it was, its roster too.
 pub fn settle<'a, H: Disk, S: DotSet>(
     rt: &H,
     file: &ReplicaFile<'a, S>,
     received: Option<State<S>>,
+    roster: Option<Roster>,
 ) -> Settlement<'a, S>
 where
     H::File: LockFile,
-    requires checked { HasChecked file.now.kept received }
-    ensures settles { Settles file.now.path file.now.kept received result.settled result.file }
+    requires checked { HasChecked file.now.kept (delivered received roster) }
+    ensures settles { Settles file.now.path file.now.kept (delivered received roster) result.settled result.file }
 {
-    match received {
-        Some(delta) => settle_delta(rt, file, &delta),
-        None => Settlement::without_file(Settled::Nothing),
-    }
+    let Some(delta) = received else {
+        return Settlement::without_file(Settled::Nothing);
+    };
+    settle_delta(rt, file, &delta, roster)
 }
 
 // Takes the delta into what the file holds now.
@@ -91,18 +96,20 @@ fn settle_delta<'a, H: Disk, S: DotSet>(
     rt: &H,
     asked: &ReplicaFile<'a, S>,
     delta: &State<S>,
+    roster: Option<Roster>,
 ) -> Settlement<'a, S>
 where
     H::File: LockFile,
-    requires checked { IsChecked asked.now.kept delta.now }
-    ensures settles { SettlesDelta asked.now.path asked.now.kept delta.now result.settled result.file }
+    requires checked { IsChecked asked.now.kept (delta.now, roster) }
+    ensures settles { SettlesDelta asked.now.path asked.now.kept (delta.now, roster) result.settled result.file }
 {
     let locked: LockedFile<'a, H, S> = match LockedFile::open(rt, asked.path()) {
         Ok(locked) => locked,
         Err(fault) => return Settlement::without_file(Settled::Refused(fault)),
     };
     let (mut replica, file) = locked.into_parts();
-    if let Err(fault) = take_into(&mut replica, asked.kept(), delta) {
+    let before = asked.kept().view_of();
+    if let Err(fault) = take_into(rt.alloc(), &mut replica, before, delta, roster) {
         return Settlement::without_file(Settled::Refused(fault));
     }
     match file.replace(rt, replica) {
@@ -114,26 +121,40 @@ where
     }
 }
 
-// Takes the delta into what a file held.
+// Takes the delta, and the roster that it came with, into what a file held.
+#[tactic(auto, using(crate::proofs::Takes::refused))]
 fn take_into<S: DotSet>(
+    alloc: Global,
     held: &mut Replica<S>,
-    asked: &Kept<S>,
+    asked: &Replica<S>,
     delta: &State<S>,
+    roster: Option<Roster>,
 ) -> Result<(), Fault>
-    requires { IsChecked asked.now delta.now }
+    requires { IsChecked asked.now (delta.now, roster) }
     ensures same { OnOk result (IsSameReplica asked.now held.old) }
-    ensures ok { OnOk result (IsJoined held.old delta.now held.new) }
-    ensures err { IfErr result (RefusesJoin asked.now held.old delta.now) }
+    ensures ok { OnOk result (IsJoined held.old (roster_among asked.now.roster roster) delta.now held.new) }
+    ensures err { IfErr result (RefusesJoin asked.now held.old (delta.now, roster)) }
 {
-    if !is_same_replica(asked.view_of(), held) {
+    if !is_same_replica(asked, held) {
         return Err(Fault::WrongAsker);
     }
-    held.take(delta)
+    let came = match roster {
+        Some(peers) => peers,
+        None => asked.roster().copy(alloc)?,
+    };
+    held.take_with(came, delta)
 }
 
 // Whether the two are one replica of one group, whatever they hold.
 fn is_same_replica<S: DotSet>(asked: &Replica<S>, held: &Replica<S>) -> bool
     ensures { IsTrue result ↔ IsSameReplica asked.now held.now }
 {
-    asked.own() == held.own() && asked.roster().same(held.roster())
+    asked.own() == held.own() && one_begins(asked.roster(), held.roster())
+}
+
+// Whether one of the two rosters begins the other.
+fn one_begins(roster: &Roster, other: &Roster) -> bool
+    ensures { IsTrue result ↔ OneBegins roster.now other.now }
+{
+    roster.begins(other) || other.begins(roster)
 }

@@ -126,10 +126,10 @@ where
 }
 
 /// So many sessions of the replica in the file, one after the other, as the server of peers that the listener accepts.
-/// The file is read anew for each peer, so what others did to it by then is in the session; and what the session
-/// received is settled in what the file holds at its end. Each is told as `report` does before its peer is let go; a
-/// peer that can't be accepted and a file that can't be read are sessions that failed. They end early where the file
-/// can't be kept or the output fails.
+/// The file is read anew for each peer, so what others did to it by then, and the roster that it has grown to, are in
+/// the session; and what the session received is settled in what the file holds at its end. Each is told as `report`
+/// does before its peer is let go; a peer that can't be accepted and a file that can't be read are sessions that
+/// failed. They end early where the file can't be kept or the output fails.
 pub fn serve<H: Disk + Net, W: Write>(
     rt: &H,
     path: &mut FilePath<'_>,

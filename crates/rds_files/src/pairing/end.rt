@@ -5,6 +5,7 @@ ghost use Rattle.rds_names.specs.declared.fault.Fault.TheVariants.{Device};
 ghost use Rattle.rds_session.specs.declared.step.Ended.TheVariants.{Going, Failed};
 ghost use Rattle.rds_session.specs.declared.talk.Side.{Side};
 ghost use Rattle.rds_session.specs.Leaving.{Leaves};
+ghost use Rattle.rds_session.specs.Received.{delivered};
 ghost use Rattle.rds_session.specs.Steps.{IsOver, came};
 ghost use Rattle.rds_state.specs.Fits.{ReplicaValue};
 ghost use Rattle.rds_files.specs.Ends.{HasHeardAll, HasSaid, Hears, HearsOn, HeardTheEnd, Takes};
@@ -41,7 +42,13 @@ impl<'a, T, S: DotSet> Model for End<'a, T, S> {
 
     ghost coded = { coded_end T.code };
 
-    ghost view = { λ e. record { session = e.session; stream = e.stream; pending = e.pending; ended = e.ended; is_shut = e.is_shut } };
+    ghost view = { λ e. record {
+      session = e.session;
+      stream = e.stream;
+      pending = e.pending;
+      ended = e.ended;
+      is_shut = e.is_shut;
+    } };
 }
 
 impl<'a, T: Read + Write + OpenStream + Drop, S: DotSet> End<'a, T, S> {
@@ -212,14 +219,11 @@ impl<'a, T: Read + Write + OpenStream + Drop, S: DotSet> End<'a, T, S> {
     /// What the session came to. One that goes on has failed with `Device`.
     pub fn leave(self) -> Exchanged<S>
         ensures leaves { (side : Side) (kept : ReplicaValue) → IsEnd side kept self.entry.session self.entry.ended
-            → Leaves side kept result.received result.ended }
+            → Leaves side kept (delivered result.received result.roster) result.ended }
         ensures over { IsOver self.entry.ended → result.ended ≡ self.entry.ended }
         ensures going { self.entry.ended ≡ Going → result.ended ≡ Failed Device }
     {
-        Exchanged {
-            received: self.session.into_received(),
-            ended: at_last(self.ended),
-        }
+        Exchanged::of(self.session, at_last(self.ended))
     }
 }
 
