@@ -5,7 +5,7 @@ use Rattle.std.specs.Borrow.{Bor}
 use Rattle.clap.specs.Words.{Text, built}
 use Rattle.rds_names.specs.Conditions.{and_left, and_right}
 use Rattle.rds_words.specs.declared.tasks.Task.{Task}
-use Rattle.rds_words.specs.declared.tasks.Task.TheVariants.{Join, Sim, Init, Edit, EditLines, Get, Show, ShowPretty, Status, Serve, Sync, Pair}
+use Rattle.rds_words.specs.declared.tasks.Task.TheVariants.{Join, Sim, Init, Grow, Edit, EditLines, Get, Show, ShowPretty, Status, Serve, Sync, Pair}
 use Rattle.rds_words.specs.declared.tasks.EditWords.TheVariants.{Set, Add, Del, Clear, Inc, Dec}
 use Rattle.rds_words.specs.Commands.{node_app}
 use Rattle.rds_words.specs.Entered.{Names}
@@ -13,6 +13,7 @@ use Rattle.rds_words.specs.Task.{words_in, words_of}
 use Rattle.rds_words.specs.Written.{AreData, HasNames, IsWritable, words_dashed, is_data, words_written}
 use Rattle.rds_words.proofs.CommandWords.{node_on_words}
 use Rattle.rds_words.proofs.Dashed.{Meets, undashed_fault, undashed_rows}
+use Rattle.rds_words.proofs.GrowNamed.{grow_dashed, grow_met}
 use Rattle.rds_words.proofs.InitNamed.{init_dashed, init_met}
 use Rattle.rds_words.proofs.PrettyNamed.{pretty_dashed, pretty_named, show_met}
 use Rattle.rds_words.proofs.ServeNamed.{serve_met, serve_named, sessions_named, timeout_named}
@@ -167,10 +168,16 @@ init_behind : (name file group own : Text) (names : List (Bor Text)) → (names 
 init_behind name file group own [] has = absurd (has refl)
 init_behind name file group own (n ∷ names) has = init_dashed name file group own n.now (map (λ n. n.now) names)
 
+grow_behind : (name file : Text) (names : List (Bor Text)) → (names ≡ [] → ⊥)
+    → Names (name ∷ codes "grow" ∷ codes "--" ∷ file ∷ map (λ n. n.now) names) (codes "grow" ∷ file ∷ map (λ n. n.now) names)
+grow_behind name file [] has = absurd (has refl)
+grow_behind name file (n ∷ names) has = grow_dashed name file n.now (map (λ n. n.now) names)
+
 pub task_dashed : (name : Text) (task : Task) → HasNames task → Names (name ∷ words_dashed task) (words_of task)
 task_dashed name Join has = join_dashed name
 task_dashed name Sim has = sim_dashed name
 task_dashed name (Init words) has = init_behind name words.file.now words.group.now words.own.now words.names.items has
+task_dashed name (Grow words) has = grow_behind name words.file.now words.names.items has
 task_dashed name (Edit file (Set path value)) has = set_dashed name file.now path.now value.now
 task_dashed name (Edit file (Add path value)) has = add_dashed name file.now path.now value.now
 task_dashed name (Edit file (Del path value)) has = del_dashed name file.now path.now value.now
@@ -191,6 +198,8 @@ task_written name Join is = undashed name (codes "join") [] _ join_met is.1 (joi
 task_written name Sim is = undashed name (codes "sim") [] _ sim_met is.1 (sim_dashed name)
 task_written name (Init words) is = undashed name (codes "init") (words.file.now ∷ words.group.now ∷ words.own.now ∷ map (λ n. n.now) words.names.items) _ init_met is.1
     (init_behind name words.file.now words.group.now words.own.now words.names.items is.0)
+task_written name (Grow words) is = undashed name (codes "grow") (words.file.now ∷ map (λ n. n.now) words.names.items) _ grow_met is.1
+    (grow_behind name words.file.now words.names.items is.0)
 task_written name (Edit file (Set path value)) is = undashed name (codes "set") (file.now ∷ path.now ∷ value.now ∷ []) _ set_met is.1 (set_dashed name file.now path.now value.now)
 task_written name (Edit file (Add path value)) is = undashed name (codes "add") (file.now ∷ path.now ∷ value.now ∷ []) _ add_met is.1 (add_dashed name file.now path.now value.now)
 task_written name (Edit file (Del path value)) is = undashed name (codes "del") (file.now ∷ path.now ∷ value.now ∷ []) _ del_met is.1 (del_dashed name file.now path.now value.now)

@@ -2,7 +2,9 @@ pub mod CommandWords
 pub mod Dashed
 pub mod DataWords
 pub mod EachNamed
+pub mod GrowNamed
 pub mod InitNamed
+pub mod ListedNames
 pub mod NamedTasks
 pub mod Naming
 pub mod OneMeaning

@@ -1,9 +1,9 @@
 -- The task whose words are known.
-use Rattle.std.proofs.Common.{◌≡◌, List, [], ◌∷◌, codes, Option, Some, None, option_map, refl}
+use Rattle.std.proofs.Common.{◌≡◌, ℕ, List, [], ◌∷◌, codes, Option, Some, None, option_map, refl, ap, arith}
 use Rattle.clap.specs.Words.{Text}
 use Rattle.rds_words.specs.Task.{EditsByLines, words_of}
 use Rattle.rds_words.specs.declared.tasks.Task.{Task}
-use Rattle.rds_words.specs.declared.tasks.Task.TheVariants.{Join, Sim, Init, Edit, EditLines, Get, Show, ShowPretty, Status, Serve, Sync, Pair}
+use Rattle.rds_words.specs.declared.tasks.Task.TheVariants.{Join, Sim, Init, Grow, Edit, EditLines, Get, Show, ShowPretty, Status, Serve, Sync, Pair}
 use Rattle.rds_words.specs.declared.tasks.EditWords.TheVariants.{Set, Add, Del, Clear, Inc, Dec}
 
 pub is_join : (task : Option Task) → option_map words_of task ≡ Some (codes "join" ∷ []) → task ≡ Some Join
@@ -11,6 +11,7 @@ is_join None e = absurd cc
 is_join (Some Join) e = refl
 is_join (Some Sim) e = absurd cc
 is_join (Some (Init words)) e = absurd cc
+is_join (Some (Grow words)) e = absurd cc
 is_join (Some (Edit file (Set path value))) e = absurd cc
 is_join (Some (Edit file (Add path value))) e = absurd cc
 is_join (Some (Edit file (Del path value))) e = absurd cc
@@ -31,6 +32,7 @@ is_sim None e = absurd cc
 is_sim (Some Join) e = absurd cc
 is_sim (Some Sim) e = refl
 is_sim (Some (Init words)) e = absurd cc
+is_sim (Some (Grow words)) e = absurd cc
 is_sim (Some (Edit file (Set path value))) e = absurd cc
 is_sim (Some (Edit file (Add path value))) e = absurd cc
 is_sim (Some (Edit file (Del path value))) e = absurd cc
@@ -46,11 +48,17 @@ is_sim (Some (Serve words)) e = absurd cc
 is_sim (Some (Sync words)) e = absurd cc
 is_sim (Some (Pair first second)) e = absurd cc
 
+-- the first byte of the command's name
+abbrev first_byte : Option (List Text) → ℕ
+first_byte (Some ((b ∷ bs) ∷ words)) = b
+first_byte words = 0
+
 pub is_edit : (at : Text) (task : Option Task) → option_map words_of task ≡ Some (codes "edit" ∷ at ∷ []) → EditsByLines at task
 is_edit at None e = absurd cc
 is_edit at (Some Join) e = absurd cc
 is_edit at (Some Sim) e = absurd cc
 is_edit at (Some (Init words)) e = absurd cc
+is_edit at (Some (Grow words)) e = absurd (omega (arith, ap first_byte e))
 is_edit at (Some (Edit file (Set path value))) e = absurd cc
 is_edit at (Some (Edit file (Add path value))) e = absurd cc
 is_edit at (Some (Edit file (Del path value))) e = absurd cc

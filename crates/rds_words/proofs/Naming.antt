@@ -2,8 +2,8 @@
 use Rattle.std.proofs.Common.{ℕ, List, ◌++◌, Result, Ok}
 use Rattle.rds_names.specs.declared.fault.Fault.{Fault}
 use Rattle.rds_names.specs.AndThen.{◌>>=◌}
-use Rattle.rds_words.specs.Meaning.{names_of}
+use Rattle.rds_words.specs.Meaning.{names_in}
 
 -- the names, with those that texts are
 abbrev pub names_with : List (List ℕ) → List (List ℕ) → Result (List (List ℕ)) Fault
-names_with names texts = names_of texts >>= λ ns. Ok (names ++ ns)
+names_with names texts = names_in texts >>= λ ns. Ok (names ++ ns)

@@ -78,6 +78,7 @@ commands =
     ∷ command_app (codes "sim") []
     ∷ command_app (codes "init")
     (file_rule ∷ required_rule (codes "GROUP") ∷ required_rule (codes "OWN") ∷ repeated_rule (codes "NAMES") ∷ [])
+    ∷ command_app (codes "grow") (file_rule ∷ repeated_rule (codes "NAMES") ∷ [])
     ∷ command_app (codes "set") (file_rule ∷ path_rule ∷ value_rule ∷ [])
     ∷ command_app (codes "add") (file_rule ∷ path_rule ∷ value_rule ∷ [])
     ∷ command_app (codes "del") (file_rule ∷ path_rule ∷ value_rule ∷ [])

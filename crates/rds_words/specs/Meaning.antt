@@ -18,6 +18,7 @@ use Rattle.rds_names.specs.AndThen.{◌>>=◌}
 use Rattle.rds_json.specs.Scalar.{scalar_of}
 use Rattle.rds_words.specs.declared.tasks.EditWords.{EditWords}
 use Rattle.rds_words.specs.declared.tasks.EditWords.TheVariants.{Set, Add, Del, Clear, Inc, Dec}
+use Rattle.rds_words.specs.declared.tasks.GrowWords.{GrowWords}
 use Rattle.rds_words.specs.declared.tasks.InitWords.{InitWords}
 
 abbrev pub value_from : Option Data → Result Scalar Fault
@@ -47,10 +48,14 @@ IsCommand (Clear path) r = r ≡ (path_of path.now >>= λ p. Ok (commands.Clear 
 IsCommand (Inc key by) r = IsCount commands.Inc key.now by.now r
 IsCommand (Dec key by) r = IsCount commands.Dec key.now by.now r
 
--- the names, up to the first text that is none
-abbrev pub names_of : List (List ℕ) → Result (List (List ℕ)) Fault
-names_of [] = Ok []
-names_of (text ∷ texts) = name_of text >>= λ name. names_of texts >>= λ names. Ok (name ∷ names)
+-- the names, or the fault of the first text that is none
+abbrev pub names_in : List (List ℕ) → Result (List (List ℕ)) Fault
+names_in [] = Ok []
+names_in (text ∷ texts) = name_of text >>= λ name. names_in texts >>= λ names. Ok (name ∷ names)
+
+-- the new names in the words of `grow`
+abbrev pub names_for : GrowWords → Result (List (List ℕ)) Fault
+names_for words = names_in (map (λ n. n.now) words.names.items)
 
 -- the number of a name in the roster
 abbrev pub place_in : RosterValue → List ℕ → Result (RosterValue × ℕ) Fault
@@ -63,7 +68,7 @@ place_in roster own = placed (position (bytes_eq own) roster.names)
 -- a roster and an own number, or the fault of the first word that is none
 abbrev pub roster_in : List ℕ → List ℕ → List (List ℕ) → Result (RosterValue × ℕ) Fault
 roster_in group own names =
-    key_of group >>= λ g. name_of own >>= λ o. names_of names >>= λ ns. roster_of g ns >>= λ r. place_in r o
+    key_of group >>= λ g. name_of own >>= λ o. names_in names >>= λ ns. roster_of g ns >>= λ r. place_in r o
 
 -- the same, of the words of `init`
 abbrev pub roster_for : InitWords → Result (RosterValue × ℕ) Fault

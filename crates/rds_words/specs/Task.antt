@@ -5,7 +5,7 @@ use Rattle.std.specs.Option.{option_map_or}
 use Rattle.std.specs.Str.{bytes_eq}
 use Rattle.clap.specs.Words.{Row, Text, all_of, first_of}
 use Rattle.rds_words.specs.declared.tasks.Task.{Task}
-use Rattle.rds_words.specs.declared.tasks.Task.TheVariants.{Join, Sim, Init, Edit, EditLines, Get, Show, ShowPretty, Status, Serve, Sync, Pair}
+use Rattle.rds_words.specs.declared.tasks.Task.TheVariants.{Join, Sim, Init, Grow, Edit, EditLines, Get, Show, ShowPretty, Status, Serve, Sync, Pair}
 use Rattle.rds_words.specs.declared.tasks.EditWords.{EditWords}
 use Rattle.rds_words.specs.declared.tasks.EditWords.TheVariants.{Set, Add, Del, Clear, Inc, Dec}
 
@@ -24,6 +24,7 @@ words_of Join = codes "join" ∷ []
 words_of Sim = codes "sim" ∷ []
 words_of (Init words) =
     codes "init" ∷ words.file.now ∷ words.group.now ∷ words.own.now ∷ map (λ n. n.now) words.names.items
+words_of (Grow words) = codes "grow" ∷ words.file.now ∷ map (λ n. n.now) words.names.items
 words_of (Edit file edit) = edit_words file.now edit
 words_of (EditLines file) = codes "edit" ∷ file.now ∷ []
 words_of (Get file path) = codes "get" ∷ file.now ∷ path.now ∷ []
@@ -61,10 +62,16 @@ entry_words_in = words_under (codes "FILE" ∷ codes "PATH" ∷ codes "VALUE" �
 abbrev pub counter_words_in : List Row → Option (List Text)
 counter_words_in = words_under (codes "FILE" ∷ codes "KEY" ∷ codes "BY" ∷ [])
 
+-- the words under these ids, and behind them the names
+abbrev pub words_and_names : List Text → List Row → Option (List Text)
+words_and_names ids rows =
+    option_and_then (λ words. option_map (λ names. words ++ names) (all_of (codes "NAMES") rows)) (words_under ids rows)
+
 abbrev pub init_words_in : List Row → Option (List Text)
-init_words_in rows =
-    option_and_then (λ words. option_map (λ names. words ++ names) (all_of (codes "NAMES") rows))
-    (words_under (codes "FILE" ∷ codes "GROUP" ∷ codes "OWN" ∷ []) rows)
+init_words_in = words_and_names (codes "FILE" ∷ codes "GROUP" ∷ codes "OWN" ∷ [])
+
+abbrev pub grow_words_in : List Row → Option (List Text)
+grow_words_in = words_and_names (codes "FILE" ∷ [])
 
 -- the words behind the name of a command that edits a file's replica
 abbrev pub edit_words_behind : Text → List Row → Option (List Text)
@@ -94,7 +101,7 @@ file_words_behind name rows =
     else (if bytes_eq name (codes "status") then words_under (codes "FILE" ∷ []) rows
     else session_words_behind name rows))
 
--- the words behind the name of a command but `init`
+-- the words behind the name of a command but `init` and `grow`
 abbrev pub plain_words_behind : Text → List Row → Option (List Text)
 plain_words_behind name rows =
     if bytes_eq name (codes "join") then Some []
@@ -103,7 +110,10 @@ plain_words_behind name rows =
     else file_words_behind name rows))
 
 abbrev pub words_behind : Text → List Row → Option (List Text)
-words_behind name rows = if bytes_eq name (codes "init") then init_words_in rows else plain_words_behind name rows
+words_behind name rows =
+    if bytes_eq name (codes "init") then init_words_in rows
+    else (if bytes_eq name (codes "grow") then grow_words_in rows
+    else plain_words_behind name rows)
 
 -- a command's name, and the words behind it
 abbrev pub named_words : Text → Option (List Text) → Option (List Text)

@@ -3,7 +3,7 @@ use Rattle.std.specs.Prelude.{◌≡◌, ⊤, Bool, true, not, ◌==◌, List, [
 use Rattle.std.specs.List.{list_all}
 use Rattle.clap.specs.Words.{Text}
 use Rattle.rds_words.specs.declared.tasks.Task.{Task}
-use Rattle.rds_words.specs.declared.tasks.Task.TheVariants.{Init, Serve, ShowPretty, Sync}
+use Rattle.rds_words.specs.declared.tasks.Task.TheVariants.{Grow, Init, Serve, ShowPretty, Sync}
 use Rattle.rds_words.specs.Task.{words_of}
 
 -- the word can't be taken for an option: it doesn't begin with a hyphen
@@ -38,9 +38,10 @@ words_dashed (Sync words) =
     codes "sync" ∷ (codes "--timeout=" ++ words.timeout.now) ∷ codes "--" ∷ words.file.now ∷ words.addr.now ∷ []
 words_dashed task = dashes_in (words_of task)
 
--- `init` has a name
+-- `init` and `grow` have a name
 abbrev pub HasNames : Task → Type 0
 HasNames (Init words) = words.names.items ≡ [] → ⊥
+HasNames (Grow words) = words.names.items ≡ [] → ⊥
 HasNames task = ⊤
 
 -- the words that are given behind the command, but for options without a value

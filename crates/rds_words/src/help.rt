@@ -6,6 +6,7 @@ pub enum Page {
     Join,
     Sim,
     Init,
+    Grow,
     Entry,
     Clear,
     Counter,
@@ -25,6 +26,7 @@ impl Page {
             Page::Join => JOIN_AFTER_HELP,
             Page::Sim => SIM_AFTER_HELP,
             Page::Init => INIT_AFTER_HELP,
+            Page::Grow => GROW_AFTER_HELP,
             Page::Entry => ENTRY_AFTER_HELP,
             Page::Clear => CLEAR_AFTER_HELP,
             Page::Counter => COUNTER_AFTER_HELP,
@@ -59,13 +61,14 @@ pub const JOIN_ABOUT: &str = "Joins two snapshots of one group into one";
 const JOIN_AFTER_HELP: &str = "\
 Input: two lines of hex digits, each a snapshot. The second may lack its newline.
 Output: one line of hex digits, the snapshot of all that the two have seen, with the
-roster and the own number of the first.
+own number of the first and the longer of the two rosters.
 
 Exit status: 0 where the two were joined, 2 for words that are none of these, else 1
 with the line 'fault N: Name': 12 or 13 for a line that is no snapshot, 14 where
 something follows a snapshot or the second line, 15 for a line or an answer that is
-too long, 19 for another group, 20 for other names, 9 where the two have different
-entries for one dot, 24 where the input can't be read, 1 where there is no memory.
+too long, 19 for another group, 20 where neither roster begins the other, 9 where the
+two have different entries for one dot, 24 where the input can't be read, 1 where there
+is no memory.
 
 Example: rds_node join < two_snapshots";
 
@@ -108,6 +111,29 @@ or one twice, 26 where OWN is none of NAMES, 24 where FILE can't be written, 1 w
 there is no memory.
 
 Example: rds_node init notes.a notes a a b c";
+
+pub const GROW_ABOUT: &str = "Adds replicas to the group of the replica in a file";
+
+const GROW_AFTER_HELP: &str = "\
+Puts NAMES behind the names of the roster; the numbers of the others stay. Each other
+replica grows by its next session with one that has. A new replica's own file is made by
+'init', with all the names in this order.
+Grow a roster at one file alone: two that got different names can't meet any more, fault 20.
+Reads FILE and writes it anew.
+FILE.new is made with mode 0600, gets FILE's mode, is written and synced, and then renamed
+to FILE. Another command that changes FILE meanwhile waits for its lock, at most ten
+seconds; then it is fault 24. So is a FILE without any write bit, which isn't replaced. A
+FILE whose name ends in '.new' is fault 27.
+Output: the line {\"ok\":true}.
+Standard error has a line for people beside each fault.
+
+Exit status: 0 where the file was written, 2 with the line 'fault 27: Usage' where FILE
+ends in '.new', 2 for words that are none of these, else 1 with the line
+'fault N: Name': 2 for a bad name, 12 to 15 for a file that is no snapshot, 15 too where
+the new one would be too long, 6 for names that are too many or one twice, 24 where FILE
+can't be locked, read or written, 1 where there is no memory.
+
+Example: rds_node grow notes.a d e";
 
 pub const SET_ABOUT: &str = "Writes a register of the replica in a file";
 
@@ -263,7 +289,8 @@ It says on standard error at which address it listens, so port 0, any free one, 
 used. A read or write of a peer's connection that takes longer than SECONDS (60 where it
 is left out, 0 for no limit) is a failed call, fault 24, and the next session goes on.
 Reads FILE at the start of each session. A delta that was received is taken into what FILE
-holds then, so edits made meanwhile stay, and FILE is written anew.
+holds then, so edits made meanwhile stay. Where the peer's roster is the longer one FILE
+gets that too. FILE is written anew.
 FILE.new is made with mode 0600, gets FILE's mode, is written and synced, and then renamed
 to FILE. Another command that changes FILE meanwhile waits for its lock, at most ten
 seconds; then it is fault 24. So is a FILE without any write bit, which isn't replaced. A
@@ -277,10 +304,10 @@ SECONDS is no whole number or FILE ends in '.new', 2 for words that are none of 
 else 1 with the line 'fault N: Name' of each fault: 12 to 15 for a file that is no
 snapshot, 10 where FILE is older than what its replica has sent, 11 where FILE holds
 another replica by the time that the delta is taken, 11 to 15 or 17 for a message that is
-broken or isn't meant for it, 18 for another version, 19 for another group, 20 for other
-names, 21 for the same replica at both ends, 22 for a message out of turn, 23 where the
-peer ended early, 24 where FILE can't be locked, read or written or a connection fails or
-is silent for too long, 1 where there is no memory.
+broken or isn't meant for it, 18 for another version, 19 for another group, 20 for rosters
+that have grown apart, 21 for the same replica at both ends, 22 for a message out of turn,
+23 where the peer ended early, 24 where FILE can't be locked, read or written or a
+connection fails or is silent for too long, 1 where there is no memory.
 
 Example: rds_node serve notes.a 127.0.0.1:4000 --sessions 3";
 
@@ -294,7 +321,8 @@ changes.
 A read or write of the peer's connection that takes longer than SECONDS (60 where it is
 left out, 0 for no limit) is a failed call, fault 24.
 Reads FILE at the start. A delta that was received is taken into what FILE holds then, so
-edits made meanwhile stay, and FILE is written anew.
+edits made meanwhile stay. Where the peer's roster is the longer one FILE gets that too.
+FILE is written anew.
 FILE.new is made with mode 0600, gets FILE's mode, is written and synced, and then renamed
 to FILE. Another command that changes FILE meanwhile waits for its lock, at most ten
 seconds; then it is fault 24. So is a FILE without any write bit, which isn't replaced. A
@@ -308,10 +336,10 @@ is no whole number or FILE ends in '.new', 2 for words that are none of these, e
 the line 'fault N: Name' of each fault: 12 to 15 for a file that is no snapshot, 10 where
 FILE is older than what its replica has sent, 11 where FILE holds another replica by the
 time that the delta is taken, 11 to 15 or 17 for a message that is broken or isn't meant
-for it, 18 for another version, 19 for another group, 20 for other names, 21 for the same
-replica at both ends, 22 for a message out of turn, 23 where the peer ended early, 24
-where FILE can't be locked, read or written or the connection fails or is silent for too
-long, 1 where there is no memory.
+for it, 18 for another version, 19 for another group, 20 for rosters that have grown apart,
+21 for the same replica at both ends, 22 for a message out of turn, 23 where the peer ended
+early, 24 where FILE can't be locked, read or written or the connection fails or is silent
+for too long, 1 where there is no memory.
 
 Example: rds_node sync notes.b 127.0.0.1:4000";
 
@@ -322,7 +350,8 @@ Connects to itself on 127.0.0.1, with FILE as the client and PEER as the server,
 one session: each side gets a delta, what the other has and it lacks. A session is plain
 and nobody is authenticated.
 Reads FILE, then PEER. A delta that was received is taken into what its file holds then,
-so edits made meanwhile stay, and the file is written anew, PEER as is said here of FILE.
+so edits made meanwhile stay, and so is the longer roster. The file is written anew, PEER
+as is said here of FILE.
 FILE.new is made with mode 0600, gets FILE's mode, is written and synced, and then renamed
 to FILE. Another command that changes FILE meanwhile waits for its lock, at most ten
 seconds; then it is fault 24. So is a FILE without any write bit, which isn't replaced. A
@@ -337,10 +366,10 @@ PEER ends in '.new', 2 for words that are none of these, else 1 with the line
 'fault N: Name' of each fault: 12 to 15 for a file that is no snapshot, 10 where a file
 is older than what its replica has sent, 11 where a file holds another replica by the time
 that the delta is taken, 11 to 15 or 17 for a message that is broken or isn't meant for
-the one that got it, 18 for another version, 19 for two groups, 20 for other names, 21 for
-the same replica twice, 22 for a message out of turn, 23 where the other ended early, 24
-where a file can't be locked, read or written or the connection fails, 1 where there is no
-memory.
+the one that got it, 18 for another version, 19 for two groups, 20 for rosters that have
+grown apart, 21 for the same replica twice, 22 for a message out of turn, 23 where the other
+ended early, 24 where a file can't be locked, read or written or the connection fails, 1
+where there is no memory.
 
 Example: rds_node pair notes.a notes.b";
 
@@ -352,6 +381,9 @@ pub const OWN_HELP: &str = "The name of the replica in this file";
 
 pub const NAMES_HELP: &str =
     "The names of all replicas, in order: a to z first, then a to z, 0 to 9 and '-'";
+
+pub const NEW_NAMES_HELP: &str =
+    "The names of the new replicas, in order: a to z first, then a to z, 0 to 9 and '-'";
 
 pub const PATH_HELP: &str = "Keys with '/' between them";
 

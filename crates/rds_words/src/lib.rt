@@ -11,5 +11,5 @@ mod table;
 mod tasks;
 
 pub use laws::word_laws;
-pub use meaning::{amount_of, command_of, roster_in};
-pub use tasks::{EditWords, InitWords, ServeWords, SyncWords, Task, task_of};
+pub use meaning::{amount_of, command_of, names_in, roster_in};
+pub use tasks::{EditWords, GrowWords, InitWords, ServeWords, SyncWords, Task, task_of};

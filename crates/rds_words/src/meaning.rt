@@ -2,7 +2,7 @@
 ghost use Rattle.std.specs.Prelude.{◌≡◌, ◌<◌, ◌⊎◌, Ok, Err, IfOk, length, map, MatchResult};
 ghost use Rattle.rds_names.specs.declared.fault.Fault.TheVariants.{Memory};
 ghost use Rattle.rds_json.specs.MayGive.{MayGive};
-ghost use Rattle.rds_words.specs.Meaning.{IsAmount, IsCommand, names_of, roster_in, value_of};
+ghost use Rattle.rds_words.specs.Meaning.{IsAmount, IsCommand, names_in, roster_in, value_of};
 
 use crate::tasks::EditWords;
 use rds_json::scalar;
@@ -56,7 +56,7 @@ pub fn roster_in(
 {
     let group = Key::new(alloc, group)?;
     let own = Name::new(own)?;
-    let names = names_of(alloc, names)?;
+    let names = names_in(alloc, names)?;
     let roster = Roster::new(alloc, group, names.as_slice())?;
     match roster.number_of(own) {
         Some(number) => Ok((roster, number)),
@@ -64,9 +64,10 @@ pub fn roster_in(
     }
 }
 
-fn names_of(alloc: Global, texts: &[&str]) -> Result<Vec<Name>, Fault>
-    ensures { MatchResult result (λ names. names_of (map (λ t. t.now) texts.now) ≡ Ok names.items)
-        (λ fault. (fault ≡ Memory) ⊎ (names_of (map (λ t. t.now) texts.now) ≡ Err fault)) }
+/// The names that texts are. They are judged from left to right: `BadName` for the first that is none.
+pub fn names_in(alloc: Global, texts: &[&str]) -> Result<Vec<Name>, Fault>
+    ensures { let due = names_in (map (λ t. t.now) texts.now) in
+        MatchResult result (λ names. due ≡ Ok names.items) (λ fault. (fault ≡ Memory) ⊎ (due ≡ Err fault)) }
 {
     let mut names = Vec::new(alloc);
     for text in texts {

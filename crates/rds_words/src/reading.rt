@@ -1,9 +1,9 @@
 //! From what the library found to the task.
 ghost use Rattle.std.specs.Prelude.{◌≡◌, [], ◌∷◌, codes, map, option_map, unwrap_or, IfOk};
 ghost use Rattle.clap.specs.Words.{all_of, first_of, found_of, rows_of, subcommand_rows_of};
-ghost use Rattle.rds_words.specs.Task.{edit_words_behind, file_and_path, file_words_behind, init_words_in, is_given, named_words, plain_words_behind, session_words_behind, show_words_in, words_in, words_of, words_under};
+ghost use Rattle.rds_words.specs.Task.{edit_words_behind, file_and_path, file_words_behind, grow_words_in, init_words_in, is_given, named_words, plain_words_behind, session_words_behind, show_words_in, words_in, words_of, words_under};
 
-use crate::tasks::{EditWords, InitWords, ServeWords, SyncWords, Task};
+use crate::tasks::{EditWords, GrowWords, InitWords, ServeWords, SyncWords, Task};
 use clap::ArgMatches;
 use std::alloc::{AllocError, Global};
 
@@ -18,6 +18,7 @@ pub fn named_task<'a>(
     match entered(matches) {
         None => Ok(None),
         Some(("init", inner)) => init_task(alloc, inner),
+        Some(("grow", inner)) => grow_task(alloc, inner),
         Some((name, inner)) => Ok(plain_task(name, inner)),
     }
 }
@@ -30,7 +31,7 @@ fn entered<'m, 'a>(matches: &'m ArgMatches<'a>) -> Option<(&'a str, &'m ArgMatch
     matches.subcommand()
 }
 
-// The task of a command but `init`.
+// The task of a command but `init` and `grow`.
 fn plain_task<'a>(name: &str, inner: &ArgMatches<'a>) -> Option<Task<'a>>
     ensures { option_map words_of result
         ≡ named_words name.now (plain_words_behind name.now (rows_of (found_of inner.now))) }
@@ -163,6 +164,20 @@ fn init_task<'a>(alloc: Global, inner: &ArgMatches<'a>) -> Result<Option<Task<'a
         own,
         names,
     })))
+}
+
+fn grow_task<'a>(alloc: Global, inner: &ArgMatches<'a>) -> Result<Option<Task<'a>>, AllocError>
+    ensures { IfOk result (λ task. option_map words_of task
+        ≡ named_words (codes "grow") (grow_words_in (rows_of (found_of inner.now)))) }
+{
+    let Some(file) = word_under(inner, "FILE") else {
+        return Ok(None);
+    };
+    let Some(names) = words_under(inner, "NAMES") else {
+        return Ok(None);
+    };
+    let names = Vec::from_slice(alloc, names)?;
+    Ok(Some(Task::Grow(GrowWords { file, names })))
 }
 
 // The file, and the word under this id.

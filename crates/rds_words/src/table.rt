@@ -65,6 +65,12 @@ const NAMES: Word = Word {
     kind: Kind::Repeated,
 };
 
+const NEW_NAMES: Word = Word {
+    id: "NAMES",
+    help: help::NEW_NAMES_HELP,
+    kind: Kind::Repeated,
+};
+
 const PATH: Word = Word {
     id: "PATH",
     help: help::PATH_HELP,
@@ -134,7 +140,7 @@ const PEER: Word = Word {
 };
 
 /// The commands, in the order in which help lists them.
-pub static COMMANDS: [Described; 16] = [
+pub static COMMANDS: [Described; 17] = [
     Described {
         name: "join",
         about: help::JOIN_ABOUT,
@@ -152,6 +158,12 @@ pub static COMMANDS: [Described; 16] = [
         about: help::INIT_ABOUT,
         page: Page::Init,
         words: &[FILE, GROUP, OWN, NAMES],
+    },
+    Described {
+        name: "grow",
+        about: help::GROW_ABOUT,
+        page: Page::Grow,
+        words: &[FILE, NEW_NAMES],
     },
     Described {
         name: "set",

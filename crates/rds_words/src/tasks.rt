@@ -21,6 +21,8 @@ pub enum Task<'a> {
     Sim,
     /// Makes a file that holds an empty replica.
     Init(InitWords<'a>),
+    /// Adds replicas to the group of the replica in a file.
+    Grow(GrowWords<'a>),
     /// Edits the replica in a file.
     Edit {
         /// The file.
@@ -82,6 +84,15 @@ pub struct InitWords<'a> {
     /// The replica's own name.
     pub own: &'a str,
     /// The names of all replicas, in their order.
+    pub names: Vec<&'a str>,
+}
+
+/// New replicas of a group, in words.
+#[derive(Debug, Drop)]
+pub struct GrowWords<'a> {
+    /// The file of a replica of the group.
+    pub file: &'a str,
+    /// The new names, in their order.
     pub names: Vec<&'a str>,
 }
 
