@@ -1,5 +1,5 @@
 -- Lines that edit one replica, one after the other.
-use Rattle.std.proofs.Common.{◌≡◌, ◌∙◌, ◌<◌, ◌≤◌, ◌+◌, ◌++◌, ◌||◌, ℕ, Bool, false, true, List, [], ◌∷◌, length, take, get_or, eqb, arith, Option, None, Some, Result, Ok, Err, cond, refl, sym, ap, subst, inl, inr, append-nil, append_assoc}
+use Rattle.std.proofs.Common.{◌≡◌, ◌∙◌, ◌<◌, ◌≤◌, ◌+◌, ◌++◌, ◌||◌, ℕ, Bool, false, true, List, [], ◌∷◌, length, take, get_or, eqb, arith, Option, None, Result, Ok, Err, cond, refl, sym, ap, subst, inl, inr, append-nil, append_assoc}
 use Rattle.std.specs.Io.KnownBytes.{Appends}
 use Rattle.std.proofs.KnownBytes.{Appends-nil, Appends-trans}
 use Rattle.std.specs.List.{list_any}

@@ -12,6 +12,7 @@ use Rattle.rds_dots.specs.declared.dot.Dot.{Dot}
 use Rattle.rds_dots.specs.Dots.{dot_cmp}
 use Rattle.rds_dots.specs.Order.{dots_exact, after_before}
 use Rattle.rds_life.specs.Life.{Lived, IsFirstConflict}
+use Rattle.rds_state.specs.Grown.{OneBegins}
 use Rattle.rds_state.specs.Value.{StateValue}
 use Rattle.rds_state.proofs.JoinLaws.{same_value}
 use Rattle.rds_lines.specs.Join.{line_limit, ReadsLine, IsJoined, JoinedTo, TextOfJoined, AfterBoth, AfterSecond, AfterFirst, JoinsTo}
@@ -24,8 +25,8 @@ use Rattle.rds_codec.specs.StateTexts.{snapshot_text}
 data Cases (v w : ReplicaValue) (a : Result ReplicaValue Fault) : Type 0 where
   is_joined : (both : ReplicaValue) → a ≡ Ok both → IsJoined v w both → Cases v w a
   other_groups : a ≡ Err WrongGroup → v.roster.group ≢ w.roster.group → Cases v w a
-  other_rosters : a ≡ Err WrongRoster → v.roster.group ≡ w.roster.group → v.roster.names ≢ w.roster.names → Cases v w a
-  first_conflict : (d : Dot) → a ≡ Err (Conflict d.replica d.seq) → v.roster ≡ w.roster → IsFirstConflict v.state.lives w.state.lives d → Cases v w a
+  other_rosters : a ≡ Err WrongRoster → v.roster.group ≡ w.roster.group → ¬ (OneBegins v.roster w.roster) → Cases v w a
+  first_conflict : (d : Dot) → a ≡ Err (Conflict d.replica d.seq) → OneBegins v.roster w.roster → IsFirstConflict v.state.lives w.state.lives d → Cases v w a
 
 cases : (v w : ReplicaValue) (a : Result ReplicaValue Fault) → JoinedTo v w a → Cases v w a
 cases v w (Ok both) h = is_joined both refl h
@@ -34,11 +35,8 @@ cases v w (Err WrongRoster) h = other_rosters refl h.0 h.1
 cases v w (Err (Conflict replica seq)) h = first_conflict (record { replica = replica; seq = seq }) refl h.0 h.1
 cases v w (Err fault) h = absurd h
 
-same_group : {v w : RosterValue} → v ≡ w → v.group ≡ w.group
-same_group e = ap (λ (r : RosterValue). r.group) e
-
-same_names : {v w : RosterValue} → v ≡ w → v.names ≡ w.names
-same_names e = ap (λ (r : RosterValue). r.names) e
+same_group : (r s : RosterValue) → OneBegins r s → r.group ≡ s.group
+same_group r s meet = elim meet [ inl first ↦ first.0 | inr second ↦ sym second.0 ]
 
 snapshot_of : RosterValue → ℕ → StateValue → ReplicaValue
 snapshot_of roster own state = record { roster = roster; own = own; state = state }
@@ -66,34 +64,34 @@ joined_else : (v w both : ReplicaValue) (a b : Result ReplicaValue Fault) → a 
 unfolding done
 joined_else v w both a b e h k = elim k [
   | is_joined other f j ↦ e ∙ ap done (one_joined v w both other h j) ∙ sym f
-  | other_groups f differ ↦ absurd (differ (same_group h.same_roster))
-  | other_rosters f same differ ↦ absurd (differ (same_names h.same_roster))
-  | first_conflict d f same first ↦ absurd (first.here (h.compatible.each_dot d))
+  | other_groups f differ ↦ absurd (differ (same_group v.roster w.roster h.meet))
+  | other_rosters f same differ ↦ absurd (differ h.meet)
+  | first_conflict d f meet first ↦ absurd (first.here (h.compatible.each_dot d))
 ]
 
 groups_else : (v w : ReplicaValue) (a b : Result ReplicaValue Fault) → a ≡ Err WrongGroup → v.roster.group ≢ w.roster.group → Cases v w b → a ≡ b
 groups_else v w a b e h k = elim k [
-  | is_joined other f j ↦ absurd (h (same_group j.same_roster))
+  | is_joined other f j ↦ absurd (h (same_group v.roster w.roster j.meet))
   | other_groups f differ ↦ e ∙ sym f
   | other_rosters f same differ ↦ absurd (h same)
-  | first_conflict d f same first ↦ absurd (h (same_group same))
+  | first_conflict d f meet first ↦ absurd (h (same_group v.roster w.roster meet))
 ]
 
-rosters_else : (v w : ReplicaValue) (a b : Result ReplicaValue Fault) → a ≡ Err WrongRoster → v.roster.group ≡ w.roster.group → v.roster.names ≢ w.roster.names → Cases v w b → a ≡ b
+rosters_else : (v w : ReplicaValue) (a b : Result ReplicaValue Fault) → a ≡ Err WrongRoster → v.roster.group ≡ w.roster.group → ¬ (OneBegins v.roster w.roster) → Cases v w b → a ≡ b
 rosters_else v w a b e group h k = elim k [
-  | is_joined other f j ↦ absurd (h (same_names j.same_roster))
+  | is_joined other f j ↦ absurd (h j.meet)
   | other_groups f differ ↦ absurd (differ group)
   | other_rosters f same differ ↦ e ∙ sym f
-  | first_conflict d f same first ↦ absurd (h (same_names same))
+  | first_conflict d f meet first ↦ absurd (h meet)
 ]
 
-conflict_else : (v w : ReplicaValue) (a b : Result ReplicaValue Fault) (d : Dot) → a ≡ Err (Conflict d.replica d.seq) → v.roster ≡ w.roster → IsFirstConflict v.state.lives w.state.lives d → Cases v w b → a ≡ b
+conflict_else : (v w : ReplicaValue) (a b : Result ReplicaValue Fault) (d : Dot) → a ≡ Err (Conflict d.replica d.seq) → OneBegins v.roster w.roster → IsFirstConflict v.state.lives w.state.lives d → Cases v w b → a ≡ b
 unfolding conflict_of
-conflict_else v w a b d e roster h k = elim k [
+conflict_else v w a b d e meet h k = elim k [
   | is_joined other f j ↦ absurd (h.here (j.compatible.each_dot d))
-  | other_groups f differ ↦ absurd (differ (same_group roster))
-  | other_rosters f same differ ↦ absurd (differ (same_names roster))
-  | first_conflict q f same first ↦ e ∙ ap conflict_of (one_conflict v.state.lives w.state.lives d q (dot_cmp d q) refl h first) ∙ sym f
+  | other_groups f differ ↦ absurd (differ (same_group v.roster w.roster meet))
+  | other_rosters f same differ ↦ absurd (differ meet)
+  | first_conflict q f other first ↦ e ∙ ap conflict_of (one_conflict v.state.lives w.state.lives d q (dot_cmp d q) refl h first) ∙ sym f
 ]
 
 pub joined_once : IsJoinedOnce
@@ -101,7 +99,7 @@ joined_once v w a b h k = elim (cases v w a h) [
   | is_joined both e j ↦ joined_else v w both a b e j (cases v w b k)
   | other_groups e differ ↦ groups_else v w a b e differ (cases v w b k)
   | other_rosters e same differ ↦ rosters_else v w a b e same differ (cases v w b k)
-  | first_conflict d e same first ↦ conflict_else v w a b d e same first (cases v w b k)
+  | first_conflict d e meet first ↦ conflict_else v w a b d e meet first (cases v w b k)
 ]
 
 -- a line that spells a snapshot is read as it

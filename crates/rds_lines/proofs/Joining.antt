@@ -1,16 +1,17 @@
 -- From what the parts of `join` answer to what it answers.
-use Rattle.std.proofs.Common.{◌≡◌, ◌∙◌, ℕ, ◌<◌, ◌⊎◌, inl, inr, Bool, eqb, true, false, List, [], ◌∷◌, Result, Ok, Err, refl, sym, ap, subst, ltb, length}
+use Rattle.std.proofs.Common.{◌≡◌, ◌∙◌, ℕ, ◌≤◌, ◌⊎◌, inl, inr, Bool, cond, eqb, leb, true, false, List, [], ◌∷◌, Result, Ok, Err, refl, sym, ap, subst, ltb, length, arith}
 use Rattle.std.specs.Prelude.{MatchResult, IfErr}
 use Rattle.std.specs.Global.{Vec}
-use Rattle.std.proofs.lemmas.Bool.{eqb-true, lt-ltb, le-ltb}
+use Rattle.std.proofs.lemmas.Bool.{eqb-true, leb-false, leb-true, lt-ltb, le-ltb}
 use Rattle.std.proofs.lemmas.List.{nil_from_length}
 use Rattle.rds_names.specs.declared.fault.Fault.{Fault}
 use Rattle.rds_names.specs.declared.fault.Fault.TheVariants.{Memory, TooLong}
 use Rattle.rds_names.specs.Roster.{RosterValue}
 use Rattle.rds_state.specs.Coordinates.{join}
 use Rattle.rds_state.specs.Fits.{Fits, ReplicaValue, IsReplica}
+use Rattle.rds_state.specs.Grown.{longer}
 use Rattle.rds_state.specs.Value.{StateValue, coordinates}
-use Rattle.rds_state.proofs.FitsLemmas.{join_fits}
+use Rattle.rds_state.proofs.FitsLemmas.{fits_more, join_fits}
 use Rattle.rds_codec.specs.StateTexts.{snapshot_text}
 use Rattle.rds_codec.specs.Writing.{Encodes}
 use Rattle.rds_codec.specs.declared.limits.TheConstants.{LIMIT}
@@ -43,17 +44,34 @@ join_encoded [] v w j (Err e) none joined text = elim text [
   | inr long ↦ inr (Ok j, joined, rw long.0 (text_beyond j (lt-ltb LIMIT (length (snapshot_text j)) long.1)))
 ]
 
--- the parts of a replica with another's state joined in are a replica's
-pub joined_is_replica : (v w x : ReplicaValue) (s : StateValue) → IsReplica v → Fits (length w.roster.names) (coordinates w.state) → v.roster ≡ w.roster → x.roster ≡ v.roster → x.own ≡ v.own → x.state ≡ v.state → s ≡ w.state
-    → (joined : StateValue) → coordinates joined ≡ join (coordinates x.state) (coordinates s) → (let r : ReplicaValue = record { roster = x.roster; own = x.own; state = joined } in IsReplica r)
-joined_is_replica v w x s is fits rosters roster own state other joined e =
-    let n = length v.roster.names in
-    let same : length w.roster.names ≡ n = ap (λ (r : RosterValue). length r.names) (sym rosters) in
-    let second : Fits n (coordinates s) = subst (λ (t : StateValue). Fits n (coordinates t)) (sym other) (subst (λ (k : ℕ). Fits k (coordinates w.state)) same fits) in
-    let first : Fits n (coordinates x.state) = subst (λ (t : StateValue). Fits n (coordinates t)) (sym state) is.fits in
-    let both : Fits n (coordinates joined) = subst (Fits n) (sym e) (join_fits n (coordinates x.state) (coordinates s) first second) in
-    let names : n ≡ length x.roster.names = ap (λ (r : RosterValue). length r.names) (sym roster) in
-    record { own = subst (λ (k : ℕ). x.own < k) names (subst (λ (k : ℕ). k < n) (sym own) is.own); fits = subst (λ (k : ℕ). Fits k (coordinates joined)) names both }
+first_within : (r s : RosterValue) → length r.names ≤ length (longer r s).names
+first_within r s = by_length (leb (length s.names) (length r.names)) refl
+  where
+    by_length : (t : Bool) → leb (length s.names) (length r.names) ≡ t → length r.names ≤ length (cond t r s).names
+    by_length true e = omega arith
+    by_length false e = omega (arith, leb-false (length s.names) (length r.names) e)
+
+second_within : (r s : RosterValue) → length s.names ≤ length (longer r s).names
+second_within r s = by_length (leb (length s.names) (length r.names)) refl
+  where
+    by_length : (t : Bool) → leb (length s.names) (length r.names) ≡ t → length s.names ≤ length (cond t r s).names
+    by_length true e = leb-true (length s.names) (length r.names) e
+    by_length false e = omega arith
+
+-- the longer roster, the first one's number and both states joined are a replica's parts
+pub joined_is_replica : (v w : ReplicaValue) (roster : RosterValue) (own : ℕ) (a b joined : StateValue) → IsReplica v → IsReplica w → roster ≡ longer v.roster w.roster → own ≡ v.own → a ≡ v.state → b ≡ w.state
+    → coordinates joined ≡ join (coordinates a) (coordinates b) → (let r : ReplicaValue = record { roster = roster; own = own; state = joined } in IsReplica r)
+joined_is_replica v w roster own a b joined first second rosters owns states others e =
+    let n = length (longer v.roster w.roster).names in
+    let left : Fits n (coordinates v.state) = fits_more (length v.roster.names) n (coordinates v.state) (first_within v.roster w.roster) first.fits in
+    let right : Fits n (coordinates w.state) = fits_more (length w.roster.names) n (coordinates w.state) (second_within v.roster w.roster) second.fits in
+    let both : Fits n (join (coordinates a) (coordinates b)) =
+    join_fits n (coordinates a) (coordinates b) (subst (λ (t : StateValue). Fits n (coordinates t)) (sym states) left) (subst (λ (t : StateValue). Fits n (coordinates t)) (sym others) right) in
+    let names : n ≡ length roster.names = ap (λ (r : RosterValue). length r.names) (sym rosters) in
+    record {
+      own = omega (arith, names, owns, first.own, first_within v.roster w.roster);
+      fits = subst (λ (k : ℕ). Fits k (coordinates joined)) names (subst (Fits n) (sym e) both);
+    }
 
 -- what is refused only where it isn't so isn't refused where it is
 pub not_refused : {T X : Type 0} (B : Fault → Type 0) (r : Result T Fault) (e : Fault) → MatchResult r (λ _. X) (λ f. (f ≡ e) × (¬ X)) → X → IfErr r B

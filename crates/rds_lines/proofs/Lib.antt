@@ -5,9 +5,11 @@ pub mod EndedLines
 pub mod Fronts
 pub mod JoinedOnce
 pub mod Joining
+pub mod LineByLine
 pub mod Overviews
 pub mod Pieces
 pub mod Placing
 pub mod Running
 pub mod Simulating
+pub mod Spent
 pub mod Told

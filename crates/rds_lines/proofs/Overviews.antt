@@ -1,5 +1,5 @@
 -- How much there is of a replica.
-use Rattle.std.proofs.Common.{◌≡◌, ◌+◌, ◌-◌, ℕ, List, [], ◌∷◌, length, Result, Ok, Some, ap, arith, refl}
+use Rattle.std.proofs.Common.{◌≡◌, ◌+◌, ◌-◌, ℕ, List, [], ◌∷◌, length, Result, Ok, Some, arith, refl}
 use Rattle.std.specs.Prelude.{count_by}
 use Rattle.std.specs.List.{filter_map}
 use Rattle.std.specs.FinMap as map

@@ -10,6 +10,10 @@ use Rattle.rds_lines.specs.Lines.{IsOneLine, until_newline, after_line, ReadsTex
 abbrev pub left_of : List ℕ → ℕ → ℕ
 left_of bytes reads = reads * 8193 + length bytes
 
+-- how many bytes so many reads of lines give at most
+abbrev pub most_given : ℕ → ℕ
+most_given reads = 8192 * reads
+
 -- what is still to be taken: the bytes that were read, and those that the reader holds
 abbrev pub bytes_untaken : List ℕ → Option (List ℕ) → Option (List ℕ)
 bytes_untaken bytes held = prepend_known bytes held

@@ -11,6 +11,7 @@ use Rattle.rds_codec.specs.Kinds.{snapshot_kind}
 use Rattle.rds_codec.specs.StateTexts.{snapshot_at, snapshot_text}
 use Rattle.rds_lines.specs.Lines.{until_newline, after_line}
 use Rattle.rds_state.specs.Fits.{ReplicaValue}
+use Rattle.rds_state.specs.Grown.{OneBegins, longer}
 use Rattle.rds_codec.specs.declared.limits.TheConstants.{LIMIT}
 
 abbrev pub line_limit : ℕ
@@ -29,11 +30,11 @@ LineRead line r = MatchBool (nat_lt line_limit (length line)) (r ≡ Err TooLong
 abbrev pub ReadsLine : List ℕ → Result ReplicaValue Fault → Type 0
 ReadsLine line r = (r ≢ Err Memory) × LineRead line r
 
--- the join of the states, with the first one's roster and number
+-- the join of the states, with the longer roster and the first one's number
 pub record IsJoined (first second both : ReplicaValue) : Type 0 where
-  pub same_roster : first.roster ≡ second.roster
+  pub meet : OneBegins first.roster second.roster
   pub compatible : AreCompatible (coordinates first.state) (coordinates second.state)
-  pub roster : both.roster ≡ first.roster
+  pub roster : both.roster ≡ longer first.roster second.roster
   pub own : both.own ≡ first.own
   pub state : coordinates both.state ≡ join (coordinates first.state) (coordinates second.state)
 
@@ -41,9 +42,9 @@ pub record IsJoined (first second both : ReplicaValue) : Type 0 where
 abbrev pub JoinedTo : ReplicaValue → ReplicaValue → Result ReplicaValue Fault → Type 0
 JoinedTo v w (Ok both) = IsJoined v w both
 JoinedTo v w (Err WrongGroup) = v.roster.group ≢ w.roster.group
-JoinedTo v w (Err WrongRoster) = (v.roster.group ≡ w.roster.group) × (v.roster.names ≢ w.roster.names)
+JoinedTo v w (Err WrongRoster) = (v.roster.group ≡ w.roster.group) × ¬ (OneBegins v.roster w.roster)
 JoinedTo v w (Err (Conflict replica seq)) =
-    (v.roster ≡ w.roster) × IsFirstConflict v.state.lives w.state.lives (record { replica = replica; seq = seq })
+    OneBegins v.roster w.roster × IsFirstConflict v.state.lives w.state.lives (record { replica = replica; seq = seq })
 JoinedTo v w (Err _) = ⊥
 
 -- the text of what was joined, where it is within the limit

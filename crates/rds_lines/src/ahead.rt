@@ -1,9 +1,10 @@
 //! The lines of a reader, one after the other.
-ghost use Rattle.std.specs.Prelude.{◌≡◌, ◌++◌, ◌<◌, ◌≤◌, List, ℕ, [], length, MatchBool, IfOk, IfErr, IfSome, OnOk, OnErr, OnSome};
+ghost use Rattle.std.specs.Prelude.{◌≡◌, ◌++◌, ◌-◌, ◌<◌, ◌≤◌, List, ℕ, [], length, MatchBool, IfOk, IfErr, IfSome, OnOk, OnErr, OnSome};
 ghost use Rattle.std.specs.Io.KnownBytes.{IsAtEnd, Keeps};
 ghost use Rattle.rds_names.specs.declared.fault.Fault.TheVariants.{Device};
 ghost use Rattle.rds_keep.specs.Counted.{HasFailed};
-ghost use Rattle.rds_lines.specs.Ahead.{IsHeld, IsOfSomeLine, LosesPiece, TakesLine, left_of, bytes_untaken};
+ghost use Rattle.rds_keep.specs.Parts.{ConsumesAtMost};
+ghost use Rattle.rds_lines.specs.Ahead.{IsHeld, IsOfSomeLine, LosesPiece, TakesLine, left_of, most_given, bytes_untaken};
 ghost use Rattle.rds_lines.specs.Lines.{ReadsText, after_line, until_newline};
 
 use crate::lines::split_line;
@@ -67,6 +68,9 @@ impl Ahead {
         ensures fault { IfErr result (λ e. (e ≡ Device) × HasFailed reader.old reader.new) }
         ensures piece { IfErr result (λ _. LosesPiece (bytes_untaken self.old (R.remaining reader.old.inner))
             (R.remaining reader.new.inner)) }
+        ensures bound { ConsumesAtMost (R.remaining reader.old.inner) (R.remaining reader.new.inner)
+            (most_given (reader.old.left - reader.new.left)) }
+        ensures left { reader.new.left ≤ reader.old.left }
         ensures steady { OnOk result (reader.new.failed ≡ reader.old.failed) }
         ensures falls { IfOk result
             (λ line. OnSome line (left_of self.new reader.new.left < left_of self.old reader.old.left)) }
@@ -95,6 +99,9 @@ impl Ahead {
         ensures fault { IfErr result (λ e. (e ≡ Device) × HasFailed reader.old reader.new) }
         ensures unread { OnErr result (Keeps (bytes_untaken self.old (R.remaining reader.old.inner))
             (R.remaining reader.new.inner)) }
+        ensures bound { ConsumesAtMost (R.remaining reader.old.inner) (R.remaining reader.new.inner)
+            (most_given (reader.old.left - reader.new.left)) }
+        ensures left { reader.new.left ≤ reader.old.left }
         ensures steady { OnOk result (reader.new.failed ≡ reader.old.failed) }
         ensures falls { OnOk result (left_of self.new reader.new.left ≤ left_of self.old reader.old.left) }
     {

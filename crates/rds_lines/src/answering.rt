@@ -1,7 +1,9 @@
 //! Lines that are answered one after the other.
-ghost use Rattle.std.specs.Prelude.{◌≡◌, ◌≢◌, ◌≤◌, ◌++◌, ◌∷◌, ◌||◌, ◌⊎◌, IfSome};
+ghost use Rattle.std.specs.Prelude.{◌≡◌, ◌≢◌, ◌-◌, ◌≤◌, ◌++◌, ◌∷◌, ◌||◌, ◌⊎◌, IfSome};
 ghost use Rattle.rds_names.specs.declared.fault.Fault.TheVariants.{Device};
 ghost use Rattle.rds_keep.specs.Counted.{HasFailed};
+ghost use Rattle.rds_keep.specs.Parts.{ConsumesAtMost};
+ghost use Rattle.rds_lines.specs.Ahead.{most_given};
 ghost use Rattle.rds_lines.specs.Answering.{WritesAnswers, WritesCut, WritesFront};
 ghost use Rattle.rds_lines.specs.Lines.{lines_in};
 ghost use Rattle.rds_output.specs.Output.{fault_line};
@@ -53,6 +55,8 @@ pub fn answer_lines<A: Answers, R: Read, W: Write>(
         → WritesFront (A.may_answer answers.old) (fault_line Device) (HasFailed reader.old reader.new)
         (R.remaining reader.old.inner) (R.remaining reader.new.inner)
         (W.contents writer.old.inner) (W.contents writer.new.inner) }
+    ensures bound { ConsumesAtMost (R.remaining reader.old.inner) (R.remaining reader.new.inner)
+        (most_given (reader.old.turns - reader.new.left)) }
     ensures status { result ≤ 1 }
     ensures broken { (writer.new.failed ≡ writer.old.failed) ⊎ (result ≡ 1) }
 {
@@ -62,14 +66,16 @@ pub fn answer_lines<A: Answers, R: Read, W: Write>(
     'lines: loop {
         let line = match ahead.next_line(alloc, reader) {
             Ok(Some(line)) => line,
-            Ok(None) => return if refused { 1 } else { 0 },
+            Ok(None) => return u8::from(refused),
             Err(fault) => return write_fault(writer, fault),
         };
         let answer = answers.answer(alloc, line);
         refused |= answer.is_refusal();
-        match answer.write_to(writer) {
-            Ok(()) => (),
-            Err(_) => return 1,
+        let written = answer.write_to(writer);
+        // One call lets it go, so that the proof has one way on, and not one for each kind of answer.
+        drop(answer);
+        if let Err(_) = written {
+            return 1;
         }
     }
 }

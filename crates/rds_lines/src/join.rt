@@ -4,13 +4,14 @@ ghost use Rattle.rds_names.specs.declared.fault.Fault.TheVariants.{Memory};
 ghost use Rattle.rds_lines.specs.Join.{AfterBoth, LineRead, JoinedTo, JoinsTo, MayJoinTo};
 ghost use Rattle.rds_lines.specs.JoinLaws.{AnswersSpelled, IsJoinedOnce};
 ghost use Rattle.rds_lines.specs.Refusal.{fault_of};
+ghost use Rattle.rds_state.specs.Grown.{MeetGives, longer};
 
 use crate::lines::split_line;
 use crate::refusal::Refusal;
 use rds_codec::{decode_snapshot, encode_snapshot};
 use rds_dots::DotSet;
 use rds_gaps::GapSet;
-use rds_names::Fault;
+use rds_names::{Fault, Roster};
 use rds_state::Replica;
 use std::alloc::Global;
 
@@ -18,13 +19,13 @@ use std::alloc::Global;
 const LINE_LIMIT: usize = 536_870_912;
 
 /// The text of the join of the two snapshots that the input's lines are in hex digits, of either
-/// case: the least above both (Shapiro, Preguiça, Baquero, Zawirski 2011), with the first one's
-/// roster and own number. The two own numbers may be equal.
+/// case: the least above both (Shapiro, Preguiça, Baquero, Zawirski 2011), with the first one's own
+/// number and the longer of their rosters. The two own numbers may be equal.
 ///
 /// The faults, in the order in which they are looked for: those of the first line, then those of the
 /// second (`TooLong` above 536,870,912 bytes whatever they are, `Bad` where they are no hex digits,
-/// else those of decoding); `Extra` where anything follows; `WrongGroup`; `WrongRoster`, for other
-/// names or another order; `Conflict`; `TooLong` for the text.
+/// else those of decoding); `Extra` where anything follows; `WrongGroup`; `WrongRoster`, where neither
+/// roster begins the other; `Conflict`; `TooLong` for the text.
 pub fn join(alloc: Global, input: &[u8]) -> Result<Vec<u8>, Refusal>
     ensures { MatchResult result (λ v. JoinsTo input.now (Ok v.items))
         (λ e. MayJoinTo input.now (Err (fault_of e))) }
@@ -33,7 +34,7 @@ pub fn join(alloc: Global, input: &[u8]) -> Result<Vec<u8>, Refusal>
     let first: Replica<GapSet> = read_line(alloc, line)?;
     let (line, rest) = split_line(rest);
     let second = read_line(alloc, line)?;
-    Ok(join_read(alloc, rest, first, &second)?)
+    Ok(join_read(alloc, rest, first, second)?)
 }
 
 // The text of the join of two snapshots that were read, before a rest of the input.
@@ -41,10 +42,10 @@ fn join_read<S: DotSet>(
     alloc: Global,
     rest: &[u8],
     first: Replica<S>,
-    second: &Replica<S>,
+    second: Replica<S>,
 ) -> Result<Vec<u8>, Fault>
-    ensures { MatchResult result (λ v. AfterBoth rest.now first second.now (Ok v.items))
-        (λ fault. (fault ≡ Memory) ⊎ AfterBoth rest.now first second.now (Err fault)) }
+    ensures { MatchResult result (λ v. AfterBoth rest.now first second (Ok v.items))
+        (λ fault. (fault ≡ Memory) ⊎ AfterBoth rest.now first second (Err fault)) }
 {
     if !rest.is_empty() {
         return Err(Fault::Extra);
@@ -67,21 +68,39 @@ fn read_line<S: DotSet>(alloc: Global, line: &[u8]) -> Result<Replica<S>, Fault>
     }
 }
 
-// The first one with the join of both states.
-fn joined<S: DotSet>(first: Replica<S>, second: &Replica<S>) -> Result<Replica<S>, Fault>
-    ensures ok { IfOk result (λ both. JoinedTo first second.now (Ok both)) }
-    ensures err { IfErr result (λ fault. (fault ≡ Memory)
-        ⊎ JoinedTo first second.now (Err fault)) }
+// The first one with the join of both states, in the longer roster.
+fn joined<S: DotSet>(first: Replica<S>, second: Replica<S>) -> Result<Replica<S>, Fault>
+    ensures ok { IfOk result (λ both. JoinedTo first second (Ok both)) }
+    ensures err { IfErr result (λ fault. (fault ≡ Memory) ⊎ JoinedTo first second (Err fault)) }
 {
-    if first.roster().group() != second.roster().group() {
+    may_meet(first.roster(), second.roster())?;
+    let (roster, own, mut state) = first.into_parts();
+    let (other, _, seen) = second.into_parts();
+    state.merge(&seen)?;
+    Replica::from_parts(longer(roster, other), own, state)
+}
+
+// Whether one of two rosters begins the other; else why it doesn't.
+fn may_meet(first: &Roster, second: &Roster) -> Result<(), Fault>
+    ensures { MeetGives first.now second.now result }
+{
+    if first.group() != second.group() {
         return Err(Fault::WrongGroup);
     }
-    if !first.roster().same(second.roster()) {
+    if !first.begins(second) && !second.begins(first) {
         return Err(Fault::WrongRoster);
     }
-    let (roster, own, mut state) = first.into_parts();
-    state.merge(second.state())?;
-    Replica::from_parts(roster, own, state)
+    Ok(())
+}
+
+fn longer(first: Roster, second: Roster) -> Roster
+    ensures { result ≡ longer first second }
+{
+    if second.len() <= first.len() {
+        first
+    } else {
+        second
+    }
 }
 
 /// Two snapshots are joined to one thing alone. So whatever `join` answers for the lines of two

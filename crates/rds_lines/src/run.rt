@@ -1,8 +1,9 @@
 //! Commands that read their input alone.
-ghost use Rattle.std.specs.Prelude.{◌≡◌, ◌≢◌, ◌≤◌, ◌⊎◌, Err, IfSome, IsErrAnd};
+ghost use Rattle.std.specs.Prelude.{◌≡◌, ◌≢◌, ◌-◌, ◌≤◌, ◌⊎◌, Err, IfSome, IsErrAnd};
 ghost use Rattle.rds_names.specs.declared.fault.Fault.TheVariants.{Device};
 ghost use Rattle.rds_keep.specs.Counted.{HasFailed};
-ghost use Rattle.rds_keep.specs.Parts.{AppendsFront};
+ghost use Rattle.rds_keep.specs.Parts.{AppendsFront, ConsumesAtMost};
+ghost use Rattle.rds_lines.specs.Ahead.{most_given};
 ghost use Rattle.rds_lines.specs.Answering.{WritesAnswers, WritesCut, WritesFront};
 ghost use Rattle.rds_output.specs.Output.{Writes, fault_line};
 ghost use Rattle.rds_lines.specs.Refusal.{fault_of};
@@ -42,6 +43,8 @@ pub fn run_sim<R: Read, W: Write>(
         → WritesFront MayBeSimulated (fault_line Device) (HasFailed reader.old reader.new)
         (R.remaining reader.old.inner) (R.remaining reader.new.inner)
         (W.contents writer.old.inner) (W.contents writer.new.inner) }
+    ensures bound { ConsumesAtMost (R.remaining reader.old.inner) (R.remaining reader.new.inner)
+        (most_given (reader.old.turns - reader.new.left)) }
     ensures status { result ≤ 1 }
     ensures broken { (writer.new.failed ≡ writer.old.failed) ⊎ (result ≡ 1) }
 {
@@ -65,6 +68,7 @@ pub fn run_join<R: Read, W: Write>(
         → Writes (Err Device) (W.contents writer.old.inner) (W.contents writer.new.inner) result }
     ensures unread_part { reader.new.failed ≢ reader.old.failed
         → AppendsFront (W.contents writer.old.inner) (W.contents writer.new.inner) (fault_line Device) }
+    ensures most { ConsumesAtMost (R.remaining reader.old.inner) (R.remaining reader.new.inner) 1073741827 }
     ensures status { result ≤ 2 }
     ensures broken { (writer.new.failed ≡ writer.old.failed) ⊎ (result ≡ 1) }
 {
@@ -80,6 +84,7 @@ fn join_line<R: Read>(alloc: Global, reader: &mut Counted<R>) -> Result<String, 
         (λ input. reader.new.failed ≡ 0 → IsJoinLine input result) }
     ensures unread { reader.new.failed ≢ reader.old.failed
         → IsErrAnd result (λ e. fault_of e ≡ Device) }
+    ensures most { ConsumesAtMost (R.remaining reader.old.inner) (R.remaining reader.new.inner) 1073741827 }
 {
     let input = reader.read_front(alloc, MOST)?;
     let text = join(alloc, &input)?;

@@ -69,7 +69,8 @@ impl Answers for Simulation {
     ghost use Rattle.rds_lines.specs.Sim.{Group, MeetsLines};
     ghost use Rattle.rds_lines.specs.Simulated.{IsGroup};
 
-    ghost may_answer = { λ s lines out refused. (now : Option Group) → IsGroup s.world now → MeetsLines lines now out refused };
+    ghost may_answer = { λ s lines out refused.
+        (now : Option Group) → IsGroup s.world now → MeetsLines lines now out refused };
 
     fn answer(&mut self, alloc: Global, line: Result<String, Fault>) -> Reply {
         match self.answered(alloc, line) {

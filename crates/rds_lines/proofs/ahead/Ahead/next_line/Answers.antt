@@ -5,6 +5,7 @@ use Rattle.rds_names.specs.declared.fault.Fault.{Fault}
 use Rattle.rds_lines.specs.Lines.{until_newline}
 use Rattle.rds_lines.specs.Ahead.{IsOfSomeLine, TakesLine, left_of, bytes_untaken}
 use Rattle.rds_lines.proofs.Pieces.{Walks, one_line_on, rest_shorter, walks_end, walks_first, walks_kept, walks_nothing, walks_on, walks_out}
+use Rattle.rds_lines.proofs.Spent.{read_more, unread}
 use Rattle.rds_lines.proofs.ahead.Ahead.next_line.Goals.{then-begun, else-begun+in-Ok-1, else-begun+in-Err-1}
 use Rattle.rds_lines.proofs.ahead.Ahead.next_line.Goals as goal
 
@@ -12,6 +13,8 @@ pub pieces-init : goal.pieces-init
 pieces-init g c = record {
   walks = walks_first (bytes_untaken c.args.self.now (g.R.Read.remaining c.args.reader.now.inner)) c.new.result c.new.ensures.items;
   held = ([], refl, (c.new.ensures.items, omega arith));
+  bound = unread (g.R.Read.remaining c.args.reader.now.inner) _;
+  fewer = omega arith;
   steady = refl;
   within = omega arith;
   less = λ e. absurd cc;
@@ -74,7 +77,21 @@ pieces-preserved g c =
     record {
       walks = subst (λ (a : List ℕ). Walks first (bytes_untaken a held) c.take_piece-longer.result.0 true) (sym c.take_piece-longer.ensures.rest) on;
       held = (c.pieces.invariant.held.0 ++ until_newline c.fill.new.self, one_line_on c.pieces.invariant.held.0 c.fill.new.self c.pieces.invariant.held.1, c.take_piece-longer.ensures.line c.pieces.invariant.held.0 c.pieces.invariant.held.2);
+      bound = read_more _ (g.R.Read.remaining c.pieces.reader.inner) _ _ c.pieces.reader.left _ c.pieces.invariant.bound c.fill.ensures.bound c.pieces.invariant.fewer c.fill.ensures.left;
+      fewer = omega (arith, c.fill.ensures.left, c.pieces.invariant.fewer);
       steady = c.in_ok-fill.ensures.steady ∙ c.pieces.invariant.steady;
       within = omega (arith, less);
       less = λ e. less;
     }
+
+pub returns-in_err-fill-clause-bound : goal.returns-in_err-fill-clause-bound
+returns-in_err-fill-clause-bound g c =
+    read_more _ (g.R.Read.remaining c.pieces.reader.inner) _ _ c.pieces.reader.left _ c.pieces.invariant.bound c.fill.ensures.bound c.pieces.invariant.fewer c.fill.ensures.left
+
+pub returns-then-is_empty-clause-bound : goal.returns-then-is_empty-clause-bound
+returns-then-is_empty-clause-bound g c =
+    read_more _ (g.R.Read.remaining c.pieces.reader.inner) _ _ c.pieces.reader.left _ c.pieces.invariant.bound c.fill.ensures.bound c.pieces.invariant.fewer c.fill.ensures.left
+
+pub returns-then-ended-clause-bound : goal.returns-then-ended-clause-bound
+returns-then-ended-clause-bound g c =
+    read_more _ (g.R.Read.remaining c.pieces.reader.inner) _ _ c.pieces.reader.left _ c.pieces.invariant.bound c.fill.ensures.bound c.pieces.invariant.fewer c.fill.ensures.left
