@@ -1,6 +1,7 @@
 pub mod Batches
 pub mod Entered
 pub mod Getting
+pub mod Growing
 pub mod Named
 pub mod Refused
 pub mod Replaced

@@ -1,24 +1,23 @@
 -- What commands on the replica in a file come to, and why they are refused.
 pub use Rattle.rds_lines.specs.Editing.{IsEdited, edit_refusal}
-use Rattle.std.specs.Prelude.{◌≡◌, ◌⊎◌, ℕ, false, List, Option, None, Ok, Err, IsOk, count_by}
+use Rattle.std.specs.Prelude.{◌≡◌, ◌⊎◌, ℕ, false, List, None, Ok, Err, IsOk}
 use Rattle.std.specs.FinMap as map
 use Rattle.rds_names.specs.declared.fault.Fault.{Fault}
 use Rattle.rds_names.specs.declared.fault.Fault.TheVariants.{Memory}
 use Rattle.rds_names.specs.Gives.{Refuses}
 use Rattle.rds_names.specs.Path.{path_of}
-use Rattle.rds_life.specs.Life.{live_rows}
-use Rattle.rds_state.specs.Edit.{IsDue, JoinsEffect, covers, new_dot, refusal}
+use Rattle.rds_names.specs.Roster.{grown_of}
+use Rattle.rds_state.specs.Edit.{IsDue}
 use Rattle.rds_state.specs.Fits.{ReplicaValue}
-use Rattle.rds_state.specs.Value.{coordinates}
 use Rattle.rds_state.specs.declared.command.Command.{Command}
-use Rattle.rds_output.specs.Reply.{edit_reply}
 use Rattle.rds_lines.specs.Views.{ShowsView}
 use Rattle.rds_lines.specs.declared.views.Layout.{Layout}
 use Rattle.rds_output.specs.declared.reply.Reply.{Reply}
 use Rattle.rds_output.specs.declared.reply.Reply.TheVariants.{Done}
 use Rattle.rds_files.specs.Files.{FileValue, IsReadAt, IsReplacedAt, IsUnkept, IsUnread, KeptFile, RefusesFile, RefusesLock, ReplacedValue, is_beside}
-use Rattle.rds_words.specs.Meaning.{IsCommand, roster_for}
+use Rattle.rds_words.specs.Meaning.{IsCommand, names_for, roster_for}
 use Rattle.rds_words.specs.declared.tasks.EditWords.{EditWords}
+use Rattle.rds_words.specs.declared.tasks.GrowWords.{GrowWords}
 use Rattle.rds_words.specs.declared.tasks.InitWords.{InitWords}
 
 -- ---- init
@@ -42,6 +41,41 @@ abbrev pub RefusesInit : InitWords → Fault → Type 0
 RefusesInit words fault =
     (fault ≡ Memory)
     ⊎ ((roster_for words ≡ Err fault) ⊎ ((replica : ReplicaValue) × IsNamed words replica × RefusesFile replica fault))
+
+-- ---- grow
+
+-- the same replica with these names behind those of its roster
+pub record IsGrown (names : List (List ℕ)) (before after : ReplicaValue) : Type 0 where
+  pub roster : grown_of before.roster names ≡ Ok after.roster
+  pub own : after.own ≡ before.own
+  pub state : after.state ≡ before.state
+
+-- the file of the words' path was read under its lock, and keeps what it held then with the words' names behind those of
+-- its roster, and that it was done is told
+pub record GrowsFile (words : GrowWords) (file : ReplacedValue) (answer : Reply) : Type 0 where
+  pub read : IsReplacedAt words.file.now file
+  pub names : List (List ℕ)
+  pub asked : names_for words ≡ Ok names
+  pub grown : IsGrown names file.before file.kept
+  pub told : answer ≡ Done
+
+-- a grown replica can't be kept
+abbrev pub IsGrownUnkept : List (List ℕ) → ReplicaValue → Fault → Type 0
+IsGrownUnkept names before fault = (after : ReplicaValue) × IsGrown names before after × IsUnkept after fault
+
+-- why a replica isn't grown and kept: no roster has these names too, and only where one has, that the new one can't be
+-- kept; want of memory comes only there too
+abbrev pub RefusesGrowIn : List (List ℕ) → ReplicaValue → Fault → Type 0
+RefusesGrowIn names before fault = (grown_of before.roster names ≡ Err fault) ⊎ IsGrownUnkept names before fault
+
+-- why words grow no file: they are no names; else the file can't be locked and read, or the replica in it isn't grown; or
+-- want of memory
+abbrev pub RefusesGrow : GrowWords → Fault → Type 0
+RefusesGrow words fault =
+    (fault ≡ Memory)
+    ⊎ ((names_for words ≡ Err fault)
+    ⊎ ((names : List (List ℕ)) × (names_for words ≡ Ok names)
+    × (RefusesLock words.file.now fault ⊎ ((before : ReplicaValue) × RefusesGrowIn names before fault))))
 
 -- ---- edits
 

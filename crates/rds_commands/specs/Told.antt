@@ -13,18 +13,19 @@ use Rattle.rds_lines.specs.declared.views.Layout.TheVariants.{Compact, Indented}
 use Rattle.rds_files.specs.Files.{is_beside}
 use Rattle.rds_files.specs.Pairing.{WritesPair}
 use Rattle.rds_files.specs.Syncing.{WritesServing, WritesSync}
-use Rattle.rds_commands.specs.Edits.{EditsFile, InitsFile, RefusesEdit, RefusesInit, RefusesShow, ShowsFile}
+use Rattle.rds_commands.specs.Edits.{EditsFile, GrowsFile, InitsFile, RefusesEdit, RefusesGrow, RefusesInit, RefusesShow, ShowsFile}
 use Rattle.rds_commands.specs.Looks.{WritesGet, WritesStatus}
 use Rattle.rds_commands.specs.OfFile.{WritesOfFile}
 use Rattle.rds_words.specs.Meaning.{IsAmount}
 use Rattle.rds_words.specs.Task.{words_of}
 use Rattle.rds_commands.specs.Unparsed.{unparsed_status}
 use Rattle.rds_words.specs.declared.tasks.EditWords.{EditWords}
+use Rattle.rds_words.specs.declared.tasks.GrowWords.{GrowWords}
 use Rattle.rds_words.specs.declared.tasks.InitWords.{InitWords}
 use Rattle.rds_words.specs.declared.tasks.ServeWords.{ServeWords}
 use Rattle.rds_words.specs.declared.tasks.SyncWords.{SyncWords}
 use Rattle.rds_words.specs.declared.tasks.Task.{Task}
-use Rattle.rds_words.specs.declared.tasks.Task.TheVariants.{Join, Sim, Init, Edit, EditLines, Get, Show, ShowPretty, Status, Serve, Sync, Pair}
+use Rattle.rds_words.specs.declared.tasks.Task.TheVariants.{Join, Sim, Init, Grow, Edit, EditLines, Get, Show, ShowPretty, Status, Serve, Sync, Pair}
 
 -- the answers to the lines of the input were written, and nothing else; or there was no memory to read the words
 abbrev pub WritesSim : List ℕ → Option (List ℕ) → Option (List ℕ) → ℕ → Type 0
@@ -41,6 +42,9 @@ WritesSimFront IsCut first now before after =
 
 abbrev pub WritesInit : InitWords → Option (List ℕ) → Option (List ℕ) → ℕ → Type 0
 WritesInit words = WritesOfFile (InitsFile words) (RefusesInit words)
+
+abbrev pub WritesGrow : GrowWords → Option (List ℕ) → Option (List ℕ) → ℕ → Type 0
+WritesGrow words = WritesOfFile (GrowsFile words) (RefusesGrow words)
 
 abbrev pub WritesEdit : List ℕ → EditWords → Option (List ℕ) → Option (List ℕ) → ℕ → Type 0
 WritesEdit path words = WritesOfFile (EditsFile path words) (RefusesEdit path words)
@@ -86,6 +90,7 @@ abbrev pub WritesTask : Task → Option (List ℕ) → Option (List ℕ) → ℕ
 WritesTask Join before after status = Unit {0}
 WritesTask Sim before after status = Unit {0}
 WritesTask (Init words) before after status = WritesInit words before after status
+WritesTask (Grow words) before after status = WritesGrow words before after status
 WritesTask (Edit file edit) before after status = WritesEdit file.now edit before after status
 WritesTask (EditLines file) before after status = Unit {0}
 WritesTask (Get file path) before after status = WritesGet file.now path.now before after status

@@ -1,19 +1,23 @@
 //! Commands on the replica in a file.
-ghost use Rattle.std.specs.Prelude.{◌≡◌, ◌⊎◌, None, Err, IfErr, IfOk, MatchResult, OnErr};
+ghost use Rattle.std.specs.Prelude.{◌≡◌, ◌⊎◌, None, Err, IfErr, IfOk, IsOk, MatchResult, OnErr, OnOk};
 ghost use Rattle.rds_names.specs.declared.fault.Fault.TheVariants.{Memory};
+ghost use Rattle.rds_names.specs.Gives.{Refuses};
 ghost use Rattle.rds_names.specs.Path.{path_of};
+ghost use Rattle.rds_names.specs.Roster.{grown_of};
 ghost use Rattle.rds_state.specs.Edit.{IsDue};
-ghost use Rattle.rds_commands.specs.Edits.{edit_refusal, EditsFile, InitsFile, IsEdited, RefusesEdit, RefusesEditIn, RefusesInit, RefusesShow, ShowsFile};
-ghost use Rattle.rds_words.specs.Meaning.{IsCommand, roster_for};
+ghost use Rattle.rds_commands.specs.Edits.{edit_refusal, EditsFile, GrowsFile, InitsFile, IsEdited, IsGrown, RefusesEdit, RefusesEditIn, RefusesGrow, RefusesGrowIn, RefusesInit, RefusesShow, ShowsFile};
+ghost use Rattle.rds_output.specs.declared.reply.Reply.TheVariants.{Done};
+ghost use Rattle.rds_words.specs.Meaning.{IsCommand, names_for, roster_for};
 
 use rds_dots::DotSet;
 use rds_files::{CreatedFile, Disk, LockFile, LockedFile, ReplacedFile, ReplicaFile};
 use rds_gaps::GapSet;
 use rds_lines::{Layout, shown};
-use rds_names::{Fault, Path};
+use rds_names::{Fault, Name, Path};
 use rds_output::Reply;
 use rds_state::{Command, Replica};
-use rds_words::{EditWords, InitWords, command_of, roster_in};
+use rds_words::{EditWords, GrowWords, InitWords, command_of, names_in, roster_in};
+use std::alloc::Global;
 
 /// A file as a command left it, and what the command is answered.
 #[derive(Drop)]
@@ -50,6 +54,49 @@ where
     let (roster, own) = roster_in(alloc, words.group, words.own, &words.names)?;
     let replica = Replica::new(alloc, roster, own)?;
     let file = CreatedFile::create(rt, words.file, &replica)?;
+    Ok(FileAnswer {
+        file,
+        answer: Reply::Done,
+    })
+}
+
+/// Adds replicas to the group of the replica in a file. The names are judged first, as `names_in` does; then the file is
+/// locked and read, and its replica grown and kept.
+pub fn grow_file<'a, H: Disk>(
+    rt: &H,
+    words: &GrowWords<'a>,
+) -> Result<FileAnswer<ReplacedFile<'a, GapSet>>, Fault>
+where
+    H::File: LockFile,
+    ensures grown { IfOk result (λ done. GrowsFile words.now done.file done.answer) }
+    ensures words { (fault : Fault) → names_for words.now ≡ Err fault
+        → (result ≡ Err Memory) ⊎ (result ≡ Err fault) }
+    ensures fault { IfErr result (RefusesGrow words.now) }
+{
+    let names = names_in(rt.alloc(), &words.names)?;
+    let opened = LockedFile::open(rt, words.file)?;
+    let done = grow_in(rt, opened, names.as_slice())?;
+    Ok(done)
+}
+
+/// Adds replicas to the group of the replica in the file, and answers once that is kept in its place. Refuses as
+/// growing does, and where that doesn't refuse, as keeping does.
+pub fn grow_in<'a, H: Disk>(
+    rt: &H,
+    file: LockedFile<'a, H, GapSet>,
+    names: &[Name],
+) -> Result<FileAnswer<ReplacedFile<'a, GapSet>>, Fault>
+where
+    H::File: LockFile,
+    ensures path { IfOk result (λ done. done.file.path ≡ file.entry.path) }
+    ensures before { IfOk result (λ done. done.file.before ≡ file.entry.kept) }
+    ensures grown { IfOk result (λ done. IsGrown names.now file.entry.kept done.file.kept) }
+    ensures told { IfOk result (λ done. done.answer ≡ Done) }
+    ensures fault { IfErr result (RefusesGrowIn names.now file.entry.kept) }
+{
+    let (mut replica, emptied) = file.into_parts();
+    grow(rt.alloc(), &mut replica, names)?;
+    let file = emptied.replace(rt, replica)?;
     Ok(FileAnswer {
         file,
         answer: Reply::Done,
@@ -126,4 +173,16 @@ pub fn edited<S: DotSet>(replica: &mut Replica<S>, command: Command) -> Result<R
 {
     let edited = replica.edit(command)?;
     Ok(Reply::of_edit(replica.roster(), &edited))
+}
+
+/// Puts names behind those of a replica's roster. Refuses `BadRoster` where there is none, where one stands twice and
+/// where there are more than 256 in all, and then nothing is changed.
+pub fn grow<S: DotSet>(alloc: Global, replica: &mut Replica<S>, names: &[Name]) -> Result<(), Fault>
+    ensures grown { OnOk result (IsGrown names.now replica.old replica.new) }
+    ensures refusal { let due = grown_of replica.old.roster names.now in
+        MatchResult result (λ _. IsOk due) (λ fault. Refuses fault due) }
+    ensures err { OnErr result (replica.new ≡ replica.old) }
+{
+    let roster = replica.roster().grown(alloc, names)?;
+    replica.grow(roster)
 }

@@ -16,6 +16,16 @@ pub fn note_init<H: Eprint>(rt: &H, path: &str, fault: Fault) {
     }
 }
 
+/// Tells which file `grow` was refused for, and by which fault, and of names what is wrong with them.
+pub fn note_grow<H: Eprint>(rt: &H, path: &str, fault: Fault) {
+    note_file(rt, path, fault);
+    if let Fault::BadRoster = fault {
+        let _ = eprintln!(rt;
+            "one of NAMES is in the group already or stands twice, or there are more than 256"
+        );
+    }
+}
+
 /// Tells that the input was refused, and by which fault.
 pub fn note_input<H: Eprint>(rt: &H, fault: Fault) {
     let _ = eprintln!(rt; "standard input: {fault}");

@@ -1,7 +1,9 @@
 //! The program's commands.
-ghost use Rattle.std.specs.Prelude.{◌≡◌, ◌≢◌, [], ◌≤◌, ◌⊎◌, Err, map, IfSome};
+ghost use Rattle.std.specs.Prelude.{◌≡◌, ◌≢◌, [], ◌-◌, ◌≤◌, ◌⊎◌, Err, map, IfSome};
 ghost use Rattle.rds_names.specs.declared.fault.Fault.TheVariants.{Device};
 ghost use Rattle.rds_keep.specs.Counted.{HasFailed};
+ghost use Rattle.rds_keep.specs.Parts.{ConsumesAtMost};
+ghost use Rattle.rds_lines.specs.Ahead.{most_given};
 ghost use Rattle.rds_lines.specs.Answering.{WritesAnswers, WritesCut, WritesFront};
 ghost use Rattle.rds_output.specs.Output.{Writes, fault_line};
 ghost use Rattle.rds_lines.specs.Run.{WritesJoin, WritesJoinFront};
@@ -16,7 +18,7 @@ ghost use Rattle.rds_words.specs.Entered.{Names, mistakes_in, named_in};
 use crate::batch::run_edit_lines;
 use crate::looking::{run_get, run_status};
 use crate::session_words::{run_pair, run_serve, run_sync};
-use crate::telling::{run_edit, run_init, run_show};
+use crate::telling::{run_edit, run_grow, run_init, run_show};
 use crate::unparsed::write_unparsed;
 use rds_files::{Disk, LockFile};
 use rds_keep::Counted;
@@ -67,6 +69,9 @@ where
         → WritesSimFront (HasFailed reader.old reader.new)
         (R.remaining reader.old.inner) (R.remaining reader.new.inner)
         (W.contents writer.old.inner) (W.contents writer.new.inner) }
+    ensures sim_bound { Names (map S.text words.entry.now) sim_words
+        → ConsumesAtMost (R.remaining reader.old.inner) (R.remaining reader.new.inner)
+        (most_given (reader.old.turns - reader.new.left)) }
     ensures edit { (file : Text) → Names (map S.text words.entry.now) (edit_lines_words file)
         → IfSome (R.remaining reader.old.inner)
         (λ input. reader.new.failed ≡ 0 → writer.new.failed ≡ 0
@@ -120,6 +125,9 @@ where
         → WritesFront MayBeSimulated (fault_line Device) (HasFailed reader.old reader.new)
         (R.remaining reader.old.inner) (R.remaining reader.new.inner)
         (W.contents writer.old.inner) (W.contents writer.new.inner) }
+    ensures sim_bound { task.entry ≡ Task.Sim
+        → ConsumesAtMost (R.remaining reader.old.inner) (R.remaining reader.new.inner)
+        (most_given (reader.old.turns - reader.new.left)) }
     ensures edit { (at : Bor Text) → task.entry ≡ Task.EditLines at → IfSome (R.remaining reader.old.inner)
         (λ input. reader.new.failed ≡ 0 → writer.new.failed ≡ 0
         → WritesEdits at.now input (W.contents writer.old.inner) (W.contents writer.new.inner) result) }
@@ -135,6 +143,7 @@ where
         Task::Join => run_join(rt.alloc(), reader, writer),
         Task::Sim => run_sim(rt.alloc(), reader, writer),
         Task::Init(words) => run_init(rt, &words, writer),
+        Task::Grow(words) => run_grow(rt, &words, writer),
         Task::Edit { file, edit } => run_edit(rt, file, &edit, writer),
         Task::EditLines { file } => run_edit_lines(rt, file, reader, writer),
         Task::Get { file, path } => run_get(rt, file, path, writer),

@@ -1,14 +1,14 @@
 //! Commands on the replica in a file, and what is written of them.
 ghost use Rattle.std.specs.Prelude.{◌≡◌, ◌≤◌, ◌⊎◌};
-ghost use Rattle.rds_commands.specs.Told.{WritesEdit, WritesInit, WritesShow};
+ghost use Rattle.rds_commands.specs.Told.{WritesEdit, WritesGrow, WritesInit, WritesShow};
 
-use crate::file_commands::{edit_file, init_file, show_file};
-use crate::notes::{note_edit, note_file, note_init};
+use crate::file_commands::{edit_file, grow_file, init_file, show_file};
+use crate::notes::{note_edit, note_file, note_grow, note_init};
 use rds_files::{Disk, LockFile};
 use rds_keep::Counted;
 use rds_lines::Layout;
 use rds_output::write_reply;
-use rds_words::{EditWords, InitWords};
+use rds_words::{EditWords, GrowWords, InitWords};
 use std::io::Write;
 
 /// Makes a file as `init_file` does, and writes the answer.
@@ -24,6 +24,24 @@ where
         Ok(done) => write_reply(writer, Ok(done.into_answer())),
         Err(fault) => {
             note_init(rt, words.file, fault);
+            write_reply(writer, Err(fault))
+        }
+    }
+}
+
+/// Adds replicas to a group as `grow_file` does, and writes the answer.
+pub fn run_grow<H: Disk, W: Write>(rt: &H, words: &GrowWords<'_>, writer: &mut Counted<W>) -> u8
+where
+    H::File: LockFile,
+    ensures written { writer.new.failed ≡ 0
+        → WritesGrow words.now (W.contents writer.old.inner) (W.contents writer.new.inner) result }
+    ensures status { result ≤ 2 }
+    ensures broken { (writer.new.failed ≡ writer.old.failed) ⊎ (result ≡ 1) }
+{
+    match grow_file(rt, words) {
+        Ok(done) => write_reply(writer, Ok(done.into_answer())),
+        Err(fault) => {
+            note_grow(rt, words.file, fault);
             write_reply(writer, Err(fault))
         }
     }

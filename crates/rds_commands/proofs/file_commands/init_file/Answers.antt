@@ -1,4 +1,4 @@
-use Rattle.std.proofs.Common.{inl, inr, refl, rules}
+use Rattle.std.proofs.Common.{inr, rules}
 use Rattle.std.proofs.lemmas.Result.{err_from_is_err_and}
 use Rattle.rds_commands.specs.Edits.{IsNamed}
 use Rattle.rds_commands.proofs.Named.{is_named, not_unnamed}

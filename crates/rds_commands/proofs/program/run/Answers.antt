@@ -6,6 +6,7 @@ use Rattle.rds_words.specs.Task.{EditsByLines}
 use Rattle.rds_words.specs.declared.tasks.Task.{Task}
 use Rattle.rds_commands.specs.Batch.{WritesEdits}
 use Rattle.rds_lines.proofs.Running.{memory_begun, memory_written}
+use Rattle.rds_lines.proofs.Spent.{unread}
 use Rattle.rds_words.proofs.CommandWords.{is_memory}
 use Rattle.rds_commands.proofs.Batches.{edit_named, edits_unwritten}
 use Rattle.rds_commands.proofs.Entered.{mistaken}
@@ -57,3 +58,6 @@ returns-in-Err-clause-join_part g c = λ names.
 
 pub returns-in-Err-clause-sim_part : goal.returns-in-Err-clause-sim_part
 returns-in-Err-clause-sim_part g c = λ names failed. inl (c.write_unparsed.ensures.part (c.in-Err.ensures.sim names))
+
+pub returns-in-Err-clause-sim_bound : goal.returns-in-Err-clause-sim_bound
+returns-in-Err-clause-sim_bound g c = λ names. unread (g.R.Read.remaining c.args.reader.now.inner) _

@@ -7,6 +7,9 @@ use Rattle.rds_commands.proofs.program.run_task.Goals as goal
 pub returns-in-Init-clause-written : goal.returns-in-Init-clause-written
 returns-in-Init-clause-written g c = search rules steps 1000000
 
+pub returns-in-Grow-clause-written : goal.returns-in-Grow-clause-written
+returns-in-Grow-clause-written g c = search rules steps 1000000
+
 pub returns-in-Edit-clause-written : goal.returns-in-Edit-clause-written
 returns-in-Edit-clause-written g c = search rules steps 1000000
 
