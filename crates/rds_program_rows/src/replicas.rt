@@ -1,6 +1,6 @@
 //! Rows about the replica in a file.
 ghost use Rattle.std.specs.Prelude.{IfOk};
-ghost use Rattle.rds_session.specs.Received.{HasChecked};
+ghost use Rattle.rds_session.specs.Received.{HasChecked, delivered};
 
 use crate::sessions::side_of;
 use rds_files::{CreatedFile, LockedFile, ReplacedFile, ReplicaFile, Settlement, settle};
@@ -8,8 +8,8 @@ use rds_gaps::GapSet;
 use rds_keep::{Counted, Kept};
 use rds_names::Fault;
 use rds_rows::words::{bytes_of, cut};
-use rds_session::{Side, exchange};
-use rds_state::{Replica, State};
+use rds_session::{Exchanged, Side, exchange};
+use rds_state::Replica;
 use std::alloc::Global;
 
 /// The file whose replica has the sessions.
@@ -63,7 +63,7 @@ fn components_of(kept: &Kept<GapSet>) -> u128 {
 /// `settle_nothing`: settles in the file a session that received nothing, and answers what came of it and how many
 /// components the replica has then.
 pub fn settle_nothing(rt: &HostRuntime, file: &ReplicaFile<'_, GapSet>) -> Result<String, Fault> {
-    let settlement = settle(rt, file, None);
+    let settlement = settle(rt, file, None, None);
     settlement_told(rt.alloc(), &settlement, file.kept())
 }
 
@@ -74,35 +74,29 @@ pub fn settle_received(
     row: &str,
     file: &ReplicaFile<'_, GapSet>,
 ) -> Result<String, Fault> {
-    let received = received(rt.alloc(), row, file.kept())?;
-    let settlement = settle(rt, file, received);
+    let exchanged = exchanged(rt.alloc(), row, file.kept())?;
+    let settlement = settle(rt, file, exchanged.received, exchanged.roster);
     settlement_told(rt.alloc(), &settlement, file.kept())
 }
 
-// What the session of a row receives.
-fn received(alloc: Global, row: &str, kept: &Kept<GapSet>) -> Result<Option<State<GapSet>>, Fault>
-    ensures { IfOk result (HasChecked kept.now) }
+// What the session of a row comes to.
+fn exchanged(alloc: Global, row: &str, kept: &Kept<GapSet>) -> Result<Exchanged<GapSet>, Fault>
+    ensures { IfOk result (λ exchanged. HasChecked kept.now (delivered exchanged.received exchanged.roster)) }
 {
     let (side, digits) = cut(row)?;
     let side = side_of(side)?;
     let heard = bytes_of(alloc, digits)?;
-    Ok(received_by(alloc, side, kept, &heard))
+    Ok(exchanged_with(alloc, side, kept, &heard))
 }
 
-// What a session of this replica receives, with a peer that tells these bytes.
-fn received_by(
-    alloc: Global,
-    side: Side,
-    kept: &Kept<GapSet>,
-    heard: &[u8],
-) -> Option<State<GapSet>>
-    ensures { HasChecked kept.now result }
+// What a session of this replica comes to, with a peer that tells these bytes.
+fn exchanged_with(alloc: Global, side: Side, kept: &Kept<GapSet>, heard: &[u8]) -> Exchanged<GapSet>
+    ensures { HasChecked kept.now (delivered result.received result.roster) }
 {
     let mut sent = Vec::new(alloc);
     let mut reader = Counted::new(heard);
     let mut writer = Counted::new(&mut sent);
-    let exchanged = exchange(alloc, side, kept, &mut reader, &mut writer);
-    exchanged.received
+    exchange(alloc, side, kept, &mut reader, &mut writer)
 }
 
 // What was settled, and how many components the file has then, or had where it wasn't replaced.

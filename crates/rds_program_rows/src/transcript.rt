@@ -18,6 +18,7 @@ use crate::worlds::Worlds;
 use rds_dots::ListSet;
 use rds_files::ReplicaFile;
 use rds_gaps::GapSet;
+use rds_json::lines_mean_their_spelling;
 use rds_lines::join_is_known;
 use rds_names::Fault;
 use rds_rows::told::said;
@@ -159,9 +160,10 @@ impl Table for Transcript<'_> {
     }
 }
 
-// `laws`: the functions whose contracts are the laws of joins and of words are called.
+// `laws`: the functions whose contracts are the laws of joins, of lines and of words are called.
 fn laws(alloc: Global) -> Result<String, Fault> {
     join_is_known();
+    lines_mean_their_spelling();
     word_laws();
     said(alloc, "called")
 }

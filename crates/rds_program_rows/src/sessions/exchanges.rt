@@ -1,7 +1,7 @@
 //! Sessions over a reader and a writer.
 use super::End;
 use super::named::Named;
-use super::showing::outcome_told;
+use super::showing::exchange_told;
 use rds_dots::DotSet;
 use rds_keep::Counted;
 use rds_names::Fault;
@@ -51,7 +51,7 @@ fn exchanged_told<S: DotSet>(
     exchanged: &Exchanged<S>,
     failed: (u64, u64),
 ) -> Result<String, Fault> {
-    let outcome = outcome_told(alloc, sent, exchanged.ended, exchanged.received.as_ref())?;
+    let outcome = exchange_told(alloc, sent, exchanged)?;
     let (reads, writes) = failed;
     Ok(format!(in alloc; "{outcome}, failed reads {reads}, failed writes {writes}")?)
 }

@@ -2,23 +2,25 @@
 use crate::told::{bytes_told, joined};
 use rds_codec::encode_state;
 use rds_dots::DotSet;
-use rds_names::Fault;
+use rds_names::{Fault, Roster};
 use rds_rows::told::{named, said};
-use rds_session::Ended;
+use rds_session::{Ended, Exchanged};
 use rds_state::State;
 use std::alloc::Global;
 use std::fmt::Write;
 
-/// What was sent, how the session stands, and what it received.
+/// What was sent, how the session stands, what it received, and the names of the peer's roster where that is longer.
 pub fn outcome_told<S: DotSet>(
     alloc: Global,
     sent: &[u8],
     ended: Ended,
     received: Option<&State<S>>,
+    roster: Option<&Roster>,
 ) -> Result<String, Fault> {
     let sent = bytes_told(alloc, sent)?;
     let ended = ended_told(alloc, ended)?;
     let received = received_told(alloc, received)?;
+    let roster = roster_told(alloc, roster)?;
     let parts = [
         "sent ",
         sent.as_str(),
@@ -26,8 +28,24 @@ pub fn outcome_told<S: DotSet>(
         ended.as_str(),
         ", received ",
         received.as_str(),
+        roster.as_str(),
     ];
     Ok(joined(alloc, &parts)?)
+}
+
+/// The same of a session that came to this.
+pub fn exchange_told<S: DotSet>(
+    alloc: Global,
+    sent: &[u8],
+    exchanged: &Exchanged<S>,
+) -> Result<String, Fault> {
+    outcome_told(
+        alloc,
+        sent,
+        exchanged.ended,
+        exchanged.received.as_ref(),
+        exchanged.roster.as_ref(),
+    )
 }
 
 fn received_told<S: DotSet>(alloc: Global, received: Option<&State<S>>) -> Result<String, Fault> {
@@ -35,6 +53,19 @@ fn received_told<S: DotSet>(alloc: Global, received: Option<&State<S>>) -> Resul
         Some(state) => bytes_told(alloc, &encode_state(alloc, state)?),
         None => said(alloc, "nothing"),
     }
+}
+
+fn roster_told(alloc: Global, roster: Option<&Roster>) -> Result<String, Fault> {
+    let mut told = String::new(alloc);
+    let Some(roster) = roster else {
+        return Ok(told);
+    };
+    told.push_str(", roster")?;
+    for name in roster.names() {
+        told.push_str(" ")?;
+        told.push_str(name.as_str())?;
+    }
+    Ok(told)
 }
 
 fn ended_told(alloc: Global, ended: Ended) -> Result<String, Fault> {

@@ -1,9 +1,9 @@
 //! Sessions, step by step.
 use super::End;
-use super::showing::outcome_told;
+use super::showing::{exchange_told, outcome_told};
 use rds_dots::DotSet;
 use rds_names::Fault;
-use rds_session::{Ended, Input, Session};
+use rds_session::{Ended, Exchanged, Input, Session};
 use std::alloc::Global;
 
 /// A session, what it has sent, and how it stands.
@@ -61,7 +61,14 @@ impl<'a, S: DotSet> Course<'a, S> {
 
     /// What has come of it by now.
     pub fn told(&self, alloc: Global) -> Result<String, Fault> {
-        outcome_told(alloc, &self.sent, self.ended, self.session.received())
+        let received = self.session.received();
+        outcome_told(
+            alloc,
+            &self.sent,
+            self.ended,
+            received,
+            self.session.roster(),
+        )
     }
 
     /// What has come of it.
@@ -71,8 +78,8 @@ impl<'a, S: DotSet> Course<'a, S> {
             sent,
             ended,
         } = self;
-        let received = session.into_received();
-        outcome_told(alloc, &sent, ended, received.as_ref())
+        let exchanged = Exchanged::of(session, ended);
+        exchange_told(alloc, &sent, &exchanged)
     }
 
     /// What it has sent.
