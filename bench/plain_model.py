@@ -9,6 +9,7 @@ GREATEST = 281_474_976_710_655
 # More dots than these are not held as a set here: of such a text only the decoding is compared.
 MANY = 100_000
 NAMES = {12: "Cut", 13: "Bad", 14: "Extra"} | {3: "BadKey", 4: "BadPath", 5: "BadScalar", 8: "CounterFull", 9: "Conflict"}
+NAMES |= {2: "BadName", 6: "BadRoster"}
 NAMES |= {10: "OwnAhead", 11: "WrongAsker", 17: "BadCertificate", 18: "WrongVersion", 19: "WrongGroup", 20: "WrongRoster"}
 NAMES |= {21: "SameReplica", 22: "OutOfTurn", 23: "PeerEnded", 25: "BadLine", 27: "Usage"}
 REGISTER, ELEMENT = 1, 2
@@ -79,13 +80,28 @@ class State:
 Replica = collections.namedtuple("Replica", "group names own state")
 
 
-def taken(replica, delta):
-    """A replica that takes a delta, unless that has something of its own that it lacks."""
-    own, state = replica.own, replica.state
+def longer(first, second):
+    """The longer of two rosters, of which one begins the other."""
+    few, many = sorted((first, second), key=len)
+    refuse_if(many[: len(few)] != few, 20)
+    return many
+
+
+def grown(replica, names):
+    """A replica whose roster has these names behind its own."""
+    refuse_if(any(not re.fullmatch("[a-z][a-z0-9-]{0,15}", name) for name in names), 2)
+    names = replica.names + names
+    refuse_if(len(names) > 256 or len(set(names)) < len(names), 6)
+    return replica._replace(names=names)
+
+
+def taken(replica, delta, names):
+    """A replica that takes a delta and the longer roster, unless the delta has something of its own that it lacks."""
+    own, state, names = replica.own, replica.state, longer(replica.names, names)
     refuse_if(any(dot[0] == own and dot not in state.lives for dot in delta.lives), 10)
     for at, pair in delta.numbers.items():
         refuse_if(at[1] == own and any(a > b for a, b in zip(pair, state.numbers.get(at, (0, 0)))), 10)
-    return replica._replace(state=state.joined(delta))
+    return replica._replace(names=names, state=state.joined(delta))
 
 
 def edited(replica, verb, path, scalar=None, amount=0):
@@ -429,8 +445,7 @@ def read_snapshot(text):
 def joined(first, second):
     """What `join` makes of two replicas."""
     refuse_if(first.group != second.group, 19)
-    refuse_if(first.names != second.names, 20)
-    return first._replace(state=first.state.joined(second.state))
+    return first._replace(names=longer(first.names, second.names), state=first.state.joined(second.state))
 
 
 # Sessions.
@@ -439,6 +454,7 @@ class Course:
 
     def __init__(self, replica, stream):
         self.replica, self.waits, self.digest, self.received, self.said = replica, [HELLO, DIGEST, DELTA, BYE], None, None, b""
+        self.names = replica.names
         self.fault, self.is_bye = 23, False
         try:
             self.hear(stream)
@@ -487,12 +503,12 @@ class Course:
         group, names, own = who(reader)
         reader.end()
         refuse_if(group != self.replica.group, 19)
-        refuse_if(names != self.replica.names, 20)
+        self.names = longer(self.replica.names, names)
         refuse_if(own == self.replica.own, 21)
         self.asker = own
 
     def judge_digest(self, body):
-        parts = Parts(body, len(self.replica.names))
+        parts = Parts(body, len(self.names))
         seen, live, numbers = parts.digest()
         parts.end()
         live = set_of(live)
@@ -504,7 +520,7 @@ class Course:
         self.said += b"".join(map(message, texts))
 
     def judge_delta(self, body):
-        parts = Parts(body, len(self.replica.names))
+        parts = Parts(body, len(self.names))
         asker, state = parts.replica(), parts.state()
         rows = parts.many(4, parts.certificate_row)
         parts.end()
