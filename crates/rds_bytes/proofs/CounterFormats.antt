@@ -4,11 +4,11 @@ use Rattle.std.specs.List.{AllByRecursion}
 use Rattle.std.specs.Int.{w32, w64, to_be_bytes}
 use Rattle.std.proofs.lemmas.Bool.{leb-true, ltb-true, lt-ltb}
 use Rattle.rds_counts.specs.declared.row.CountRow.{CountRow}
-use Rattle.rds_counts.specs.Counted.{Counted, counted, is_row, before_next, rows_fit, AreCountRows}
+use Rattle.rds_counts.specs.Counted.{Counted, counts_of, is_row, before_next, rows_fit, AreCountRows}
 use Rattle.rds_counts.specs.CountedLemmas.{fits_rows, rows_fit_of}
 use Rattle.rds_names.specs.Conditions.{and_true, and_left, and_right}
 use Rattle.rds_counts.specs.RowsOf.{count_rows}
-use Rattle.rds_counts.specs.RowsOfLemmas.{count_rows-counted}
+use Rattle.rds_counts.specs.RowsOfLemmas.{count_rows-counts_of}
 use Rattle.rds_bytes.specs.Values.{is_key_text, IsCountRowOf, AreCountsOf}
 use Rattle.rds_bytes.specs.Spelling.{place_text, count_row_text, count_rows_text, counters_text}
 use Rattle.rds_bytes.specs.Reading as read
@@ -134,21 +134,21 @@ module _ (replicas : ℕ) where
   AreCounts m = AreCountsOf replicas m × CanCountRows (count_rows m)
 
   same_rows : (m : Counted) (h : AreCountsOf replicas m) → count_rows m ≡ h.rows
-  same_rows m h = ap count_rows (sym h.value) ∙ count_rows-counted h.rows h.are_rows
+  same_rows m h = ap count_rows (sym h.value) ∙ count_rows-counts_of h.rows h.are_rows
 
-  there : (m : Counted) → AreCounts m → AreRead (count_rows m) × (counted (count_rows m) ≡ m)
+  there : (m : Counted) → AreCounts m → AreRead (count_rows m) × (counts_of (count_rows m) ≡ m)
   there m h =
       let same = same_rows m h.0 in
-      ((h.1, (subst AreCountRows (sym same) h.0.are_rows, subst AreOf (sym same) h.0.each_row)), ap counted same ∙ h.0.value)
+      ((h.1, (subst AreCountRows (sym same) h.0.are_rows, subst AreOf (sym same) h.0.each_row)), ap counts_of same ∙ h.0.value)
 
-  back : (rows : List CountRow) → AreRead rows → AreCounts (counted rows) × (count_rows (counted rows) ≡ rows)
+  back : (rows : List CountRow) → AreRead rows → AreCounts (counts_of rows) × (count_rows (counts_of rows) ≡ rows)
   back rows h =
-      let same = count_rows-counted rows h.1.0 in
+      let same = count_rows-counts_of rows h.1.0 in
       ((record { rows = rows; are_rows = h.1.0; each_row = h.1.1; value = refl }, subst CanCountRows (sym same) h.0), same)
 
   pub counters_format : IsFormat (read.counters_at replicas) counters_text AreCounts
   unfolding read.counters_at counters_text
-  counters_format = made_format counted count_rows _ count_rows_text AreRead AreCounts there back rows_format
+  counters_format = made_format counts_of count_rows _ count_rows_text AreRead AreCounts there back rows_format
 
   -- rows that were read are rows
   pub count_rows_read : (bytes : List ℕ) (n : ℕ) (middle : List ℕ) (rows : List CountRow) (rest : List ℕ) → IsBytes bytes

@@ -4,8 +4,8 @@ use Rattle.std.specs.Prelude.{slice_get}
 use Rattle.std.specs.List.{AllByRecursion, list_all}
 use Rattle.std.proofs.lemmas.Bool.{ltb-true}
 use Rattle.rds_counts.specs.declared.row.CountRow.{CountRow}
-use Rattle.rds_counts.specs.Counted.{Counted, counted, number, AreCountRows}
-use Rattle.rds_counts.specs.CountedLemmas.{get-counted}
+use Rattle.rds_counts.specs.Counted.{Counted, counts_of, number, AreCountRows}
+use Rattle.rds_counts.specs.CountedLemmas.{get-counts_of}
 use Rattle.rds_counts.specs.Place.{Place}
 use Rattle.rds_names.specs.Conditions.{and_true, and_left, and_right}
 use Rattle.rds_counts.specs.Below.{rows_below}
@@ -29,7 +29,7 @@ keyed_below : (replicas : ℕ) (rows : List CountRow) → AllByRecursion IsKeyed
 keyed_below replicas [] keyed below = tt
 keyed_below replicas (r ∷ rows) keyed below = ((keyed.0, ltb-true r.replica replicas (and_left _ (rows_below replicas rows) below)), keyed_below replicas rows keyed.1 (and_right _ (rows_below replicas rows) below))
 
-pub are_counts_of : (m : Counted) (rows : List CountRow) → AreCountRows rows → m ≡ counted rows → AllByRecursion IsKeyed rows → (replicas : ℕ) → ((q : Place) → 0 < number m q → q.replica < replicas) → AreCountsOf replicas m
+pub are_counts_of : (m : Counted) (rows : List CountRow) → AreCountRows rows → m ≡ counts_of rows → AllByRecursion IsKeyed rows → (replicas : ℕ) → ((q : Place) → 0 < number m q → q.replica < replicas) → AreCountsOf replicas m
 are_counts_of m rows are value keyed replicas below =
-    let small = rows_are_below replicas rows are (λ q h. below q (subst (λ n. 0 < n) (get-counted rows m (sym value) q) h)) in
+    let small = rows_are_below replicas rows are (λ q h. below q (subst (λ n. 0 < n) (get-counts_of rows m (sym value) q) h)) in
     record { rows = rows; are_rows = are; each_row = keyed_below replicas rows keyed small; value = sym value }

@@ -22,7 +22,7 @@ use Rattle.std.specs.Cmp.Lexicographic.{slice_cmp}
 use Rattle.std.specs.Ordering.{nat_cmp, ordering_then, is_lt}
 use Rattle.rds_counts.specs.declared.row.CountRow.{CountRow}
 use Rattle.rds_counts.specs.declared.row.TheConstants.{MAX_COUNT}
-use Rattle.rds_counts.specs.Counted.{Counted, counted}
+use Rattle.rds_counts.specs.Counted.{Counted, counts_of}
 use Rattle.rds_bytes.specs.declared.dots.Gap.{Gap}
 use Rattle.rds_bytes.specs.declared.dots.DotRow.{DotRow}
 use Rattle.rds_bytes.specs.Entries.{entry_of}
@@ -304,4 +304,4 @@ unfoldable pub count_rows_at : ℕ → Reader (List CountRow)
 count_rows_at replicas = list_at (number_at w32) (count_row_at replicas)
 
 unfoldable pub counters_at : ℕ → Reader Counted
-counters_at replicas = made_at counted (count_rows_at replicas)
+counters_at replicas = made_at counts_of (count_rows_at replicas)

@@ -13,7 +13,7 @@ use Rattle.rds_names.specs.declared.scalar.Scalar.TheVariants.{Null, Bool as Tru
 use Rattle.rds_dots.specs.declared.dot.Dot.{Dot}
 use Rattle.rds_dots.specs.Dots.{Dots, is_dot}
 use Rattle.rds_counts.specs.declared.row.CountRow.{CountRow}
-use Rattle.rds_counts.specs.Counted.{Counted, counted, AreCountRows}
+use Rattle.rds_counts.specs.Counted.{Counted, counts_of, AreCountRows}
 
 -- a key is text
 abbrev pub is_key_text : List ℕ → Bool
@@ -54,4 +54,4 @@ pub record AreCountsOf (replicas : ℕ) (m : Counted) : Type 0 where
   pub rows : List CountRow
   pub are_rows : AreCountRows rows
   pub each_row : AllByRecursion (IsCountRowOf replicas) rows
-  pub value : counted rows ≡ m
+  pub value : counts_of rows ≡ m

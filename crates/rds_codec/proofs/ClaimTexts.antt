@@ -21,7 +21,7 @@ use Rattle.rds_counts.specs.declared.row.CountRow.{CountRow}
 use Rattle.rds_counts.specs.declared.row.Which.{Which}
 use Rattle.rds_counts.specs.declared.row.Which.TheVariants.{P, N}
 use Rattle.rds_counts.specs.Counted.{Above, above, components, is_row, number, number_from, place}
-use Rattle.rds_counts.specs.Entries.{entries-counted}
+use Rattle.rds_counts.specs.Entries.{entries-counts_of}
 use Rattle.rds_counts.specs.Place.{Place, place_cmp}
 use Rattle.rds_counts.specs.PlaceOrder.{place_total}
 use Rattle.rds_life.specs.Life.{Life, Live, Dead, seen_of}
@@ -150,7 +150,7 @@ module _ (replicas : ℕ) where
   numbers_fit : (b : Ranks) (v : StateValue) → IsStateOf replicas v → IsAbove (coordinates v) b → AllByRecursion ClaimFits (each (number_claim b.number) (map.entries v.counts))
   numbers_fit b v is above_all =
       let es = map.entries v.counts in
-      let same : es ≡ components is.counts.rows = ap map.entries (sym is.counts.value) ∙ entries-counted is.counts.rows is.counts.are_rows.rise in
+      let same : es ≡ components is.counts.rows = ap map.entries (sym is.counts.value) ∙ entries-counts_of is.counts.rows is.counts.are_rows.rise in
       let sent = subst (AllByRecursion IsSent) (sym same) (sent_all is.counts.rows is.counts.are_rows.are is.counts.each_row) in
       let lower = each_entry place_cmp place_total es (true_of _ (map.entries_sorted v.counts)) (λ e. b.number e.0 < e.1.before + 1) (λ q a f.
       let here : number v.counts q ≡ a.before + 1 = ap number_from (map.get-entries v.counts q ∙ f) in

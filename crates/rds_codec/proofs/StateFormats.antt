@@ -5,8 +5,8 @@ use Rattle.std.specs.List.{AllByRecursion}
 use Rattle.rds_names.specs.declared.entry.Entry.{Entry}
 use Rattle.rds_dots.specs.declared.dot.Dot.{Dot}
 use Rattle.rds_dots.specs.Dots.{Dots}
-use Rattle.rds_life.specs.Life.{Lived, lived, seen_of, live_rows}
-use Rattle.rds_life.proofs.Views.{rows_of_lives, lived_of_parts, seen_of-lived, live_rows-lived}
+use Rattle.rds_life.specs.Life.{Lived, lives_of, seen_of, live_rows}
+use Rattle.rds_life.proofs.Views.{rows_of_lives, lived_of_parts, seen_of-lives_of, live_rows-lives_of}
 use Rattle.rds_codec.specs.declared.limits.TheConstants.{LIMIT}
 use Rattle.rds_counts.specs.Counted.{Counted}
 use Rattle.rds_counts.specs.RowsOf.{count_rows}
@@ -66,15 +66,15 @@ state_there replicas v h =
     let is = h.0 in
     let can = h.1 in (
       ((is.dots, can.dots), ((can.rows, (rows_of_lives v.lives, is.entries)), (is.counts, can.counts))),
-      same_state v (lived (seen_of v.lives) (live_rows v.lives)) (lived_of_parts v.lives),
+      same_state v (lives_of (seen_of v.lives) (live_rows v.lives)) (lived_of_parts v.lives),
     )
 
 state_back : (replicas : ℕ) (p : StateParts) → AreParts replicas p → FitsState replicas (texts.state_by p) × (parts_of (texts.state_by p) ≡ p)
 state_back replicas p h =
     let s = p.0 in
     let rows = p.1.0 in
-    let seen = seen_of-lived s rows in
-    let live = live_rows-lived s rows h.1.0.1.0 in
+    let seen = seen_of-lives_of s rows in
+    let live = live_rows-lives_of s rows h.1.0.1.0 in
     let dots = h.0 in
     let is : IsStateOf replicas (texts.state_by p) = record {
       dots = subst (AreDotsOf replicas) (sym seen) dots.0;

@@ -5,7 +5,7 @@ use Rattle.rds_names.specs.Roster.{RosterValue}
 use Rattle.rds_names.specs.declared.entry.Entry.{Entry}
 use Rattle.rds_dots.specs.declared.dot.Dot.{Dot}
 use Rattle.rds_dots.specs.Dots.{Dots}
-use Rattle.rds_life.specs.Life.{lived, seen_of, live_rows}
+use Rattle.rds_life.specs.Life.{lives_of, seen_of, live_rows}
 use Rattle.rds_counts.specs.Counted.{Counted}
 use Rattle.rds_state.specs.Value.{StateValue}
 use Rattle.rds_state.specs.Fits.{ReplicaValue}
@@ -27,7 +27,7 @@ abbrev pub StateParts : Type 0
 StateParts = Dots × (List (Dot × Entry) × Counted)
 
 abbrev pub state_by : StateParts → StateValue
-state_by p = record { lives = lived p.0 p.1.0; counts = p.1.1 }
+state_by p = record { lives = lives_of p.0 p.1.0; counts = p.1.1 }
 
 -- the dots, the live rows and the counters
 unfoldable pub state_at : ℕ → Reader StateValue

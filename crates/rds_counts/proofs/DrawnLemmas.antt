@@ -15,10 +15,10 @@ use Rattle.rds_counts.specs.declared.row.CountRow.{CountRow}
 use Rattle.rds_counts.specs.declared.row.TheConstants.{MAX_COUNT}
 use Rattle.rds_counts.specs.Place.{Place, place_cmp}
 use Rattle.rds_counts.specs.PlaceOrder.{place_exact}
-use Rattle.rds_counts.specs.Counted.{Counted, number, place, counted, row_cmp, is_row, rows_rise, AreCountRows}
-use Rattle.rds_counts.specs.CountedLemmas.{some, number_in, number_past, number-row, get-counted, row_total}
+use Rattle.rds_counts.specs.Counted.{Counted, number, place, counts_of, row_cmp, is_row, rows_rise, AreCountRows}
+use Rattle.rds_counts.specs.CountedLemmas.{some, number_in, number_past, number-row, get-counts_of, row_total}
 use Rattle.rds_names.specs.Conditions.{and_true, and_left, and_right, less_of, equal_of}
-use Rattle.rds_counts.specs.Drawn.{greater, drawn_onto, drawn}
+use Rattle.rds_counts.specs.Drawn.{greater, drawn_onto, greatest_rows}
 
 -- a row's own number at a place
 abbrev at : Place → CountRow → ℕ → ℕ
@@ -78,9 +78,9 @@ module _ (t : CountRow → Bool) (alike : (x y : CountRow) → t x ≡ true → 
         | Greater ↦ and_true _ _ (and_left (t y) _ all) (all-onto x rest tx h ys (and_right (t y) _ all))
       ]
 
-  all-drawn : (xs ys : List CountRow) → list_all t xs ≡ true → list_all t ys ≡ true → list_all t (drawn xs ys) ≡ true
-  all-drawn [] ys a b = b
-  all-drawn (x ∷ xs) ys a b = all-onto x (drawn xs) (and_left (t x) _ a) (λ zs h. all-drawn xs zs (and_right (t x) _ a) h) ys b
+  all-greatest_rows : (xs ys : List CountRow) → list_all t xs ≡ true → list_all t ys ≡ true → list_all t (greatest_rows xs ys) ≡ true
+  all-greatest_rows [] ys a b = b
+  all-greatest_rows (x ∷ xs) ys a b = all-onto x (greatest_rows xs) (and_left (t x) _ a) (λ zs h. all-greatest_rows xs zs (and_right (t x) _ a) h) ys b
 
 after_greater : (r x y : CountRow) → is_lt (row_cmp r x) ≡ true → is_lt (row_cmp r y) ≡ true → is_lt (row_cmp r (greater x y)) ≡ true
 after_greater r x y a b = a
@@ -103,9 +103,9 @@ rise-onto x xs rest front all asc (y ∷ ys) rise =
       | Greater ↦ λ is. and_true _ _ (all-onto (λ t. is_lt (row_cmp y t)) (after_greater y) x rest (ap is_lt (before x y is)) (λ zs h. all y zs (all_after y x (before x y is) xs front) h) ys first) again
     ] refl
 
-rise-drawn : (xs ys : List CountRow) → rows_rise xs ≡ true → rows_rise ys ≡ true → rows_rise (drawn xs ys) ≡ true
-rise-drawn [] ys a b = b
-rise-drawn (x ∷ xs) ys a b = rise-onto x xs (drawn xs) (and_left _ (rows_rise xs) a) (λ r zs. all-drawn (λ t. is_lt (row_cmp r t)) (after_greater r) xs zs) (λ zs h. rise-drawn xs zs (and_right (list_all (λ t. is_lt (row_cmp x t)) xs) _ a) h) ys b
+rise-greatest_rows : (xs ys : List CountRow) → rows_rise xs ≡ true → rows_rise ys ≡ true → rows_rise (greatest_rows xs ys) ≡ true
+rise-greatest_rows [] ys a b = b
+rise-greatest_rows (x ∷ xs) ys a b = rise-onto x xs (greatest_rows xs) (and_left _ (rows_rise xs) a) (λ r zs. all-greatest_rows (λ t. is_lt (row_cmp r t)) (after_greater r) xs zs) (λ zs h. rise-greatest_rows xs zs (and_right (list_all (λ t. is_lt (row_cmp x t)) xs) _ a) h) ys b
 
 apart : (k : List ℕ) (n : ℕ) → eq_by_cmp place_cmp (place k n P) (place k n N) ≡ false
 apart k n = rw (tied_itself nat_list_cmp_total k, tied_itself nat_cmp_total n) refl
@@ -145,22 +145,22 @@ number-onto q x xs rest front all h (y ∷ ys) rise =
           omega (arith, e, again, t, u)
     ] refl
 
-number-drawn : (q : Place) (xs ys : List CountRow) → rows_rise xs ≡ true → rows_rise ys ≡ true → number_in (drawn xs ys) q ≡ max (number_in xs q) (number_in ys q)
-number-drawn q [] ys a b = omega arith
-number-drawn q (x ∷ xs) ys a b = number-onto q x xs (drawn xs) (and_left _ (rows_rise xs) a) (λ r zs. all-drawn (λ t. is_lt (row_cmp r t)) (after_greater r) xs zs) (λ zs h. number-drawn q xs zs (and_right (list_all (λ t. is_lt (row_cmp x t)) xs) _ a) h) ys b
+number-greatest_rows : (q : Place) (xs ys : List CountRow) → rows_rise xs ≡ true → rows_rise ys ≡ true → number_in (greatest_rows xs ys) q ≡ max (number_in xs q) (number_in ys q)
+number-greatest_rows q [] ys a b = omega arith
+number-greatest_rows q (x ∷ xs) ys a b = number-onto q x xs (greatest_rows xs) (and_left _ (rows_rise xs) a) (λ r zs. all-greatest_rows (λ t. is_lt (row_cmp r t)) (after_greater r) xs zs) (λ zs h. number-greatest_rows q xs zs (and_right (list_all (λ t. is_lt (row_cmp x t)) xs) _ a) h) ys b
 
 row_both : (p n u v m i j : ℕ) → ((nat_lt 0 p || nat_lt 0 n) && nat_le p m && nat_le n m && nat_lt i 256) ≡ true → ((nat_lt 0 u || nat_lt 0 v) && nat_le u m && nat_le v m && nat_lt j 256) ≡ true → ((nat_lt 0 (max p u) || nat_lt 0 (max n v)) && nat_le (max p u) m && nat_le (max n v) m && nat_lt i 256) ≡ true
 row_both p n u v m i j a b = grind (arith, nat_tests)
 
-pub drawn_are : (xs ys : List CountRow) → AreCountRows xs → AreCountRows ys → AreCountRows (drawn xs ys)
+pub drawn_are : (xs ys : List CountRow) → AreCountRows xs → AreCountRows ys → AreCountRows (greatest_rows xs ys)
 drawn_are xs ys a b = record {
-  rise = rise-drawn xs ys a.rise b.rise;
-  are = all-drawn is_row (λ x y h k. row_both x.p x.n y.p y.n MAX_COUNT x.replica y.replica h k) xs ys a.are b.are;
+  rise = rise-greatest_rows xs ys a.rise b.rise;
+  are = all-greatest_rows is_row (λ x y h k. row_both x.p x.n y.p y.n MAX_COUNT x.replica y.replica h k) xs ys a.are b.are;
 }
 
-pub drawn_number : (xs ys : List CountRow) → AreCountRows xs → AreCountRows ys → (a b : Counted) → counted xs ≡ a → counted ys ≡ b → (q : Place) → number (counted (drawn xs ys)) q ≡ max (number a q) (number b q)
+pub drawn_number : (xs ys : List CountRow) → AreCountRows xs → AreCountRows ys → (a b : Counted) → counts_of xs ≡ a → counts_of ys ≡ b → (q : Place) → number (counts_of (greatest_rows xs ys)) q ≡ max (number a q) (number b q)
 drawn_number xs ys are_xs are_ys a b is_a is_b q =
-    sym (get-counted (drawn xs ys) (counted (drawn xs ys)) refl q)
-    ∙ number-drawn q xs ys are_xs.rise are_ys.rise
-    ∙ ap (λ n. max n (number_in ys q)) (get-counted xs a is_a q)
-    ∙ ap (max (number a q)) (get-counted ys b is_b q)
+    sym (get-counts_of (greatest_rows xs ys) (counts_of (greatest_rows xs ys)) refl q)
+    ∙ number-greatest_rows q xs ys are_xs.rise are_ys.rise
+    ∙ ap (λ n. max n (number_in ys q)) (get-counts_of xs a is_a q)
+    ∙ ap (max (number a q)) (get-counts_of ys b is_b q)

@@ -9,10 +9,10 @@ use Rattle.rds_counts.specs.declared.row.CountRow.{CountRow}
 use Rattle.rds_counts.specs.declared.row.TheConstants.{MAX_COUNT}
 use Rattle.rds_counts.specs.Place.{Place, place_cmp}
 use Rattle.rds_counts.specs.PlaceOrder.{place_exact}
-use Rattle.rds_counts.specs.Counted.{Counted, number, number_of, place, counted, pair_of, AreCountRows}
-use Rattle.rds_counts.specs.CountedLemmas.{some, number_in, number-row, number-own, both_other, pair_number, get-counted}
+use Rattle.rds_counts.specs.Counted.{Counted, number, number_of, place, counts_of, pair_of, AreCountRows}
+use Rattle.rds_counts.specs.CountedLemmas.{some, number_in, number-row, number-own, both_other, pair_number, get-counts_of}
 use Rattle.rds_names.specs.Conditions.{and_true, equal_of}
-use Rattle.rds_counts.specs.Drawn.{drawn}
+use Rattle.rds_counts.specs.Drawn.{greatest_rows}
 use Rattle.rds_counts.specs.Raised.{pair_raised, row_of}
 use Rattle.rds_counts.proofs.DrawnLemmas.{drawn_are, drawn_number}
 use Rattle.rds_counts.proofs.Totals.{number_of-none}
@@ -45,9 +45,9 @@ each_within P pair within = within.0
 each_within N pair within = within.1
 
 -- a pair that was found in rows
-module _ {rows : List CountRow} (are : AreCountRows rows) {m : Counted} (says : counted rows ≡ m) (key : List ℕ) (replica : ℕ) {old : ℕ × ℕ} (found : old ≡ pair_of rows key replica) where
+module _ {rows : List CountRow} (are : AreCountRows rows) {m : Counted} (says : counts_of rows ≡ m) (key : List ℕ) (replica : ℕ) {old : ℕ × ℕ} (found : old ≡ pair_of rows key replica) where
   pub number_found : (w : Which) → number_of w old ≡ number m (place key replica w)
-  number_found w = ap (number_of w) found ∙ pair_number rows are.rise key replica w ∙ get-counted rows m says (place key replica w)
+  number_found w = ap (number_of w) found ∙ pair_number rows are.rise key replica w ∙ get-counts_of rows m says (place key replica w)
 
   -- both numbers are 0 where a write of the pair was refused
   pub none_there : (spot : Result ℕ ℕ) → IfOk spot (λ _. false ≡ true) → IfErr spot (λ _. old ≡ (0, 0)) → (w : Which) → number m (place key replica w) ≡ 0
@@ -63,7 +63,7 @@ module _ {rows : List CountRow} (are : AreCountRows rows) {m : Counted} (says : 
     sum_within = subst (λ n. n ≤ MAX_COUNT) sum_is (each_within which pair within)
 
     -- the rows with the pair's row
-    module _ (some : ¬ (by ≡ 0)) (small : replica < 256) {new : List CountRow} (drawn_is : new ≡ drawn (row_of key replica pair ∷ []) rows) where
+    module _ (some : ¬ (by ≡ 0)) (small : replica < 256) {new : List CountRow} (drawn_is : new ≡ greatest_rows (row_of key replica pair ∷ []) rows) where
       abbrev row : CountRow
       row = row_of key replica pair
 
@@ -75,13 +75,13 @@ module _ {rows : List CountRow} (are : AreCountRows rows) {m : Counted} (says : 
       pub new_are : AreCountRows new
       new_are = subst AreCountRows (sym drawn_is) (drawn_are (row ∷ []) rows one_row are)
 
-      drawn_in : (q : Place) → number (counted new) q ≡ max (number_in (row ∷ []) q) (number m q)
+      drawn_in : (q : Place) → number (counts_of new) q ≡ max (number_in (row ∷ []) q) (number m q)
       drawn_in q =
-          ap (λ l. number (counted l) q) drawn_is
-          ∙ drawn_number (row ∷ []) rows one_row are (counted (row ∷ [])) m refl says q
-          ∙ ap (λ n. max n (number m q)) (sym (get-counted (row ∷ []) (counted (row ∷ [])) refl q))
+          ap (λ l. number (counts_of l) q) drawn_is
+          ∙ drawn_number (row ∷ []) rows one_row are (counts_of (row ∷ [])) m refl says q
+          ∙ ap (λ n. max n (number m q)) (sym (get-counts_of (row ∷ []) (counts_of (row ∷ [])) refl q))
 
-      own_number : (w : Which) → number (counted new) (place key replica w) ≡ number_of w pair
+      own_number : (w : Which) → number (counts_of new) (place key replica w) ≡ number_of w pair
       own_number w =
           drawn_in (place key replica w)
           ∙ ap (λ n. max n (number m (place key replica w))) (number-own row [] w refl)
@@ -89,19 +89,19 @@ module _ {rows : List CountRow} (are : AreCountRows rows) {m : Counted} (says : 
           ∙ subst (λ k. max (number_of w k) (number_of w old) ≡ number_of w k) (sym is) (raised_more which w old by)
 
       -- the number that is meant grows
-      pub raised-number : number (counted new) (place key replica which) ≡ number m (place key replica which) + by
+      pub raised-number : number (counts_of new) (place key replica which) ≡ number m (place key replica which) + by
       raised-number = own_number which ∙ sum_is
 
-      at_own : (w : Which) (q : Place) → q ≡ place key replica w → ¬ (q ≡ place key replica which) → number (counted new) q ≡ number m q
+      at_own : (w : Which) (q : Place) → q ≡ place key replica w → ¬ (q ≡ place key replica which) → number (counts_of new) q ≡ number m q
       at_own w q e other =
-          ap (number (counted new)) e
+          ap (number (counts_of new)) e
           ∙ own_number w
           ∙ ap (number_of w) is
           ∙ raised_else which w old by (λ same. other (e ∙ ap (place key replica) same))
           ∙ number_found w
           ∙ ap (number m) (sym e)
 
-      nowhere : (q : Place) (a b : Bool) → eq_by_cmp place_cmp q (place key replica P) ≡ a → eq_by_cmp place_cmp q (place key replica N) ≡ b → ¬ (q ≡ place key replica which) → number (counted new) q ≡ number m q
+      nowhere : (q : Place) (a b : Bool) → eq_by_cmp place_cmp q (place key replica P) ≡ a → eq_by_cmp place_cmp q (place key replica N) ≡ b → ¬ (q ≡ place key replica which) → number (counts_of new) q ≡ number m q
       nowhere q true b is _ other = at_own P q (place_exact q (place key replica P) (equal_of _ is)) other
       nowhere q false true _ is other = at_own N q (place_exact q (place key replica N) (equal_of _ is)) other
       nowhere q false false p n other =
@@ -110,5 +110,5 @@ module _ {rows : List CountRow} (are : AreCountRows rows) {m : Counted} (says : 
           ∙ omega arith
 
       -- and no other one
-      pub others-number : (q : Place) → ¬ (q ≡ place key replica which) → number (counted new) q ≡ number m q
+      pub others-number : (q : Place) → ¬ (q ≡ place key replica which) → number (counts_of new) q ≡ number m q
       others-number q other = nowhere q (eq_by_cmp place_cmp q (place key replica P)) (eq_by_cmp place_cmp q (place key replica N)) refl refl other

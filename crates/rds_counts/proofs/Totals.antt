@@ -21,8 +21,8 @@ use Rattle.rds_counts.specs.declared.row.Which.{Which}
 use Rattle.rds_counts.specs.declared.row.Which.TheVariants.{P, N}
 use Rattle.rds_counts.specs.declared.row.CountRow.{CountRow}
 use Rattle.rds_counts.specs.declared.row.TheConstants.{MAX_COUNT}
-use Rattle.rds_counts.specs.Counted.{number_of, place, counted, pair_of, row_cmp, is_row, rows_rise, AreCountRows}
-use Rattle.rds_counts.specs.CountedLemmas.{number_in, number_past, pair_number, get-counted}
+use Rattle.rds_counts.specs.Counted.{number_of, place, counts_of, pair_of, row_cmp, is_row, rows_rise, AreCountRows}
+use Rattle.rds_counts.specs.CountedLemmas.{number_in, number_past, pair_number, get-counts_of}
 use Rattle.rds_names.specs.Conditions.{and_left, and_right, less_of, equal_of}
 use Rattle.rds_counts.specs.Value.{total, first_total}
 use Rattle.rds_counts.proofs.Found.{rises_at}
@@ -195,12 +195,12 @@ sum_within w key rows are =
     subst (λ n. sum_by (λ i. number_of w (pair_of rows key i)) (range_with_len 0 256) ≤ n * MAX_COUNT) (length-range_with_len 0 256)
     (sum_by-le (λ i. number_of w (pair_of rows key i)) MAX_COUNT (range_with_len 0 256) (λ k d lt. pair_within w key _ rows are))
 
-total_sum : (w : Which) (key : List ℕ) (rows : List CountRow) → rows_rise rows ≡ true → total (counted rows) key w ≡ sum_by (λ i. number_of w (pair_of rows key i)) (range_with_len 0 256)
+total_sum : (w : Which) (key : List ℕ) (rows : List CountRow) → rows_rise rows ≡ true → total (counts_of rows) key w ≡ sum_by (λ i. number_of w (pair_of rows key i)) (range_with_len 0 256)
 unfolding total
-total_sum w key rows rise = ap (λ (f : ℕ → ℕ). sum_by f (range_with_len 0 256)) (λ k i. sym (pair_number rows rise key i w ∙ get-counted rows (counted rows) refl (place key i w)) k)
+total_sum w key rows rise = ap (λ (f : ℕ → ℕ). sum_by f (range_with_len 0 256)) (λ k i. sym (pair_number rows rise key i w ∙ get-counts_of rows (counts_of rows) refl (place key i w)) k)
 
 -- the sum over a key's first rows is that over all replicas
-pub first_total-total : (w : Which) (key : List ℕ) (rows : List CountRow) → AreCountRows rows → (from : ℕ) → from ≤ length rows → IsPartitionPoint (λ (r : CountRow). is_lt (slice_cmp nat_cmp r.key key) ≡ true) (λ r. is_lt (slice_cmp nat_cmp r.key key) ≡ false) rows from → first_total w key (take (length rows - from) (drop from rows)) ≡ total (counted rows) key w
+pub first_total-total : (w : Which) (key : List ℕ) (rows : List CountRow) → AreCountRows rows → (from : ℕ) → from ≤ length rows → IsPartitionPoint (λ (r : CountRow). is_lt (slice_cmp nat_cmp r.key key) ≡ true) (λ r. is_lt (slice_cmp nat_cmp r.key key) ≡ false) rows from → first_total w key (take (length rows - from) (drop from rows)) ≡ total (counts_of rows) key w
 first_total-total w key rows are from le part =
     let e : CountRow = record { key = key; replica = 0; p = 0; n = 0 } in
     let all : length (drop from rows) ≤ length rows - from = omega (arith, length-drop from rows) in
@@ -209,5 +209,5 @@ first_total-total w key rows are from le part =
     ∙ sym (sum_rows w key rows are.rise are.are)
     ∙ sym (total_sum w key rows are.rise)
 
-pub total_within : (w : Which) (key : List ℕ) (rows : List CountRow) → AreCountRows rows → total (counted rows) key w ≤ 256 * MAX_COUNT
+pub total_within : (w : Which) (key : List ℕ) (rows : List CountRow) → AreCountRows rows → total (counts_of rows) key w ≤ 256 * MAX_COUNT
 total_within w key rows are = subst (λ n. n ≤ 256 * MAX_COUNT) (sym (total_sum w key rows are.rise)) (sum_within w key rows are.are)

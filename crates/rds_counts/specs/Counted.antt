@@ -44,8 +44,8 @@ components [] = []
 components (r ∷ rows) = above (place r.key r.replica P) r.p ++ (above (place r.key r.replica N) r.n ++ components rows)
 
 -- the counters that rows say
-abbrev pub counted : List CountRow → Counted
-counted rows = map.from_entries (components rows)
+abbrev pub counts_of : List CountRow → Counted
+counts_of rows = map.from_entries (components rows)
 
 -- rows are ordered by key, then replica
 abbrev pub row_cmp : CountRow → CountRow → Ordering

@@ -15,7 +15,7 @@ use Rattle.rds_counts.specs.declared.row.Which.TheVariants.{P, N}
 use Rattle.rds_counts.specs.declared.row.CountRow.{CountRow}
 use Rattle.rds_counts.specs.Place.{Place, place_cmp, index_of}
 use Rattle.rds_counts.specs.PlaceOrder.{place_total, place_exact}
-use Rattle.rds_counts.specs.Counted.{Above, Counted, number, number_from, place, above, components, counted, row_cmp, is_row, rows_rise, before_next, rows_fit, pair_of, number_of, AreCountRows}
+use Rattle.rds_counts.specs.Counted.{Above, Counted, number, number_from, place, above, components, counts_of, row_cmp, is_row, rows_rise, before_next, rows_fit, pair_of, number_of, AreCountRows}
 
 pub row_total : IsTotalOrder row_cmp
 row_total = then_total (on_total (λ (r : CountRow). r.key) nat_list_cmp_total) (on_total (λ (r : CountRow). r.replica) nat_cmp_total)
@@ -161,5 +161,5 @@ pair_number (r ∷ rows) rise key replica w =
         ] refl
 
 -- the number that rows say
-pub get-counted : (rows : List CountRow) (m : Counted) → counted rows ≡ m → (q : Place) → number_in rows q ≡ number m q
-get-counted rows m is q = ap number_from (sym (map.get-from_entries place_total (components rows) q)) ∙ ap (λ x. number x q) is
+pub get-counts_of : (rows : List CountRow) (m : Counted) → counts_of rows ≡ m → (q : Place) → number_in rows q ≡ number m q
+get-counts_of rows m is q = ap number_from (sym (map.get-from_entries place_total (components rows) q)) ∙ ap (λ x. number x q) is

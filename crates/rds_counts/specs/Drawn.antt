@@ -14,6 +14,6 @@ drawn_onto x rest [] = x ∷ rest []
 drawn_onto x rest (y ∷ ys) = by_order (row_cmp x y) (x ∷ rest (y ∷ ys)) (greater x y ∷ rest ys) (y ∷ drawn_onto x rest ys)
 
 -- both lists of rows in one, in order
-abbrev pub drawn : List CountRow → List CountRow → List CountRow
-drawn [] ys = ys
-drawn (x ∷ xs) ys = drawn_onto x (drawn xs) ys
+abbrev pub greatest_rows : List CountRow → List CountRow → List CountRow
+greatest_rows [] ys = ys
+greatest_rows (x ∷ xs) ys = drawn_onto x (greatest_rows xs) ys

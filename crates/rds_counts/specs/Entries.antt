@@ -13,7 +13,7 @@ use Rattle.rds_counts.specs.declared.row.Which.TheVariants.{P, N}
 use Rattle.rds_counts.specs.declared.row.CountRow.{CountRow}
 use Rattle.rds_counts.specs.Place.{Place, place_cmp}
 use Rattle.rds_counts.specs.PlaceOrder.{place_total, place_exact}
-use Rattle.rds_counts.specs.Counted.{Above, place, above, components, counted, row_cmp, rows_rise}
+use Rattle.rds_counts.specs.Counted.{Above, place, above, components, counts_of, row_cmp, rows_rise}
 use Rattle.rds_counts.specs.CountedLemmas.{then_less}
 use Rattle.rds_names.specs.Conditions.{and_true, and_left, and_right, less_of}
 
@@ -45,7 +45,7 @@ sorted-components (r ∷ rows) rise =
     (sorted_above (place r.key r.replica N) r.n _ (below_rows r N rows all) later)
 
 -- the entries of counters are the numbers of their rows, in order
-pub entries-counted : (rows : List CountRow) → rows_rise rows ≡ true → map.entries (counted rows) ≡ components rows
-entries-counted rows rise =
-    same_entries place_cmp place_total place_exact (map.entries (counted rows)) (components rows) (map.entries_sorted (counted rows)) (subst T (sym (sorted-components rows rise)) tt)
-    (λ q. sym (map.get-entries (counted rows) q) ∙ map.get-from_entries place_total (components rows) q)
+pub entries-counts_of : (rows : List CountRow) → rows_rise rows ≡ true → map.entries (counts_of rows) ≡ components rows
+entries-counts_of rows rise =
+    same_entries place_cmp place_total place_exact (map.entries (counts_of rows)) (components rows) (map.entries_sorted (counts_of rows)) (subst T (sym (sorted-components rows rise)) tt)
+    (λ q. sym (map.get-entries (counts_of rows) q) ∙ map.get-from_entries place_total (components rows) q)

@@ -9,10 +9,10 @@ use Rattle.std.specs.Prelude.{nat_le}
 use Rattle.rds_counts.specs.declared.row.CountRow.{CountRow}
 use Rattle.rds_counts.specs.declared.row.TheConstants.{MAX_COUNT}
 use Rattle.rds_counts.specs.Place.{Place}
-use Rattle.rds_counts.specs.Counted.{Above, place, above, components, counted, row_cmp, is_row, rows_rise, before_next, AreCountRows}
+use Rattle.rds_counts.specs.Counted.{Above, place, above, components, counts_of, row_cmp, is_row, rows_rise, before_next, AreCountRows}
 use Rattle.rds_counts.specs.CountedLemmas.{row_total, all_before}
 use Rattle.rds_names.specs.Conditions.{and_left, and_right, less_of}
-use Rattle.rds_counts.specs.Entries.{entries-counted}
+use Rattle.rds_counts.specs.Entries.{entries-counts_of}
 use Rattle.rds_counts.specs.RowsOf.{row_at, both, with_row, rows_of, count_rows}
 
 with_before : (r : CountRow) (rows : List CountRow) → before_next r rows ≡ true → with_row r rows ≡ r ∷ rows
@@ -51,5 +51,5 @@ rows_of-components (r ∷ rows) rise are =
     (all_before r rows (and_left _ (rows_rise rows) rise))
 
 -- rows are found again from the counters that they say
-pub count_rows-counted : (rows : List CountRow) → AreCountRows rows → count_rows (counted rows) ≡ rows
-count_rows-counted rows are = ap rows_of (entries-counted rows are.rise) ∙ rows_of-components rows are.rise are.are
+pub count_rows-counts_of : (rows : List CountRow) → AreCountRows rows → count_rows (counts_of rows) ≡ rows
+count_rows-counts_of rows are = ap rows_of (entries-counts_of rows are.rise) ∙ rows_of-components rows are.rise are.are

@@ -3,7 +3,7 @@ ghost use Rattle.std.specs.Prelude.{◌≡◌, ◌≢◌, ◌≤◌, ◌<◌, �
 ghost use Rattle.std.specs.FinMap as map;
 ghost use Rattle.rds_names.specs.declared.fault.Fault.TheVariants.{Memory, CounterFull};
 ghost use Rattle.rds_counts.specs.Place.{Place};
-ghost use Rattle.rds_counts.specs.Counted.{number, place, counted, AreCountRows};
+ghost use Rattle.rds_counts.specs.Counted.{number, place, counts_of, AreCountRows};
 ghost use Rattle.rds_counts.specs.RowsOf.{count_rows};
 ghost use Rattle.rds_counts.specs.Value.{value_of};
 ghost use Rattle.rds_counts.specs.declared.row.Which.{Which as WhichNumber};
@@ -30,13 +30,13 @@ impl Drop for Counts {
 }
 
 impl Model for Counts {
-    ghost use Rattle.rds_counts.specs.Counted.{Counted, coded_counts, counted, AreCountRows};
+    ghost use Rattle.rds_counts.specs.Counted.{Counted, coded_counts, counts_of, AreCountRows};
 
     ghost Value = { Counted };
 
     ghost coded = { coded_counts };
 
-    ghost view = { λ c. counted c.rows.items };
+    ghost view = { λ c. counts_of c.rows.items };
 
     ghost invariant = { λ c. AreCountRows c.rows.items };
 }
@@ -55,7 +55,7 @@ impl Counts {
     /// none above `MAX_COUNT`. Takes no memory, and tests nothing.
     pub fn with_rows(rows: Vec<CountRow>) -> Counts
         requires rows { AreCountRows rows.items }
-        ensures value { result ≡ counted rows.items }
+        ensures value { result ≡ counts_of rows.items }
         ensures only { count_rows result ≡ rows.items }
     {
         Counts { rows }
@@ -65,7 +65,7 @@ impl Counts {
     /// and replica, where both numbers of a row are 0, or where one is above `MAX_COUNT`.
     pub fn from_rows(rows: Vec<CountRow>) -> Option<Counts>
         ensures { MatchOption result (¬ (AreCountRows rows.items))
-            (λ counts. AreCountRows rows.items × (counts ≡ counted rows.items)) }
+            (λ counts. AreCountRows rows.items × (counts ≡ counts_of rows.items)) }
     {
         if !are_rows(&rows) {
             return None;
@@ -76,7 +76,7 @@ impl Counts {
     /// The pairs that aren't both 0, by key, then replica.
     pub fn rows(&self) -> &[CountRow]
         ensures are_rows { AreCountRows result.now }
-        ensures value { self.now ≡ counted result.now }
+        ensures value { self.now ≡ counts_of result.now }
         ensures only { result.now ≡ count_rows self.now }
     {
         &self.rows

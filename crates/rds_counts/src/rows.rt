@@ -3,8 +3,8 @@ ghost use Rattle.std.specs.Prelude.{List, IsTrue, ◌↔◌, ◌≡◌, ◌≤�
 ghost use Rattle.std.specs.List.Sorted.{IsBinarySearchResult, IsSearchInRange};
 ghost use Rattle.rds_names.specs.declared.fault.Fault.TheVariants.{Memory, CounterFull};
 ghost use Rattle.rds_counts.specs.Place.{Place};
-ghost use Rattle.rds_counts.specs.Counted.{components, above, counted, AreCountRows, is_row as within_row, rows_fit, before_next, pair_of, number_of};
-ghost use Rattle.rds_counts.specs.Drawn.{drawn};
+ghost use Rattle.rds_counts.specs.Counted.{components, above, counts_of, AreCountRows, is_row as within_row, rows_fit, before_next, pair_of, number_of};
+ghost use Rattle.rds_counts.specs.Drawn.{greatest_rows};
 ghost use Rattle.rds_counts.specs.Raised.{row_of, pair_raised};
 ghost use Rattle.rds_counts.specs.Value.{total, first_total};
 ghost use Rattle.rds_counts.specs.Search.{IsSpot};
@@ -83,8 +83,8 @@ pub fn pair_at(rows: &[CountRow], found: Result<usize, usize>) -> (u64, u64)
 /// The sums of a key's increments and of its decrements over all replicas.
 pub fn totals(rows: &[CountRow], key: &Key) -> (u64, u64)
     requires { AreCountRows rows.now }
-    ensures p { result.0 ≡ total (counted rows.now) key.now P }
-    ensures n { result.1 ≡ total (counted rows.now) key.now N }
+    ensures p { result.0 ≡ total (counts_of rows.now) key.now P }
+    ensures n { result.1 ≡ total (counts_of rows.now) key.now N }
     ensures within { (result.0 ≤ 256 * MAX_COUNT) × (result.1 ≤ 256 * MAX_COUNT) }
 {
     let from = rows.partition_point(|row| row.key < *key);
@@ -149,7 +149,7 @@ pub fn put_row(
     requires found { IsSpot key.now replica rows.old.items found }
     requires above { ((pair_of rows.old.items key.now replica).0 ≤ pair.0)
         × ((pair_of rows.old.items key.now replica).1 ≤ pair.1) }
-    ensures ok { OnOk result (rows.new.items ≡ drawn (row_of key.now replica pair ∷ []) rows.old.items) }
+    ensures ok { OnOk result (rows.new.items ≡ greatest_rows (row_of key.now replica pair ∷ []) rows.old.items) }
     ensures err { OnErr result (rows.new.items ≡ rows.old.items) }
     ensures memory { IfErr result (λ fault. fault ≡ Memory) }
     ensures there { IfOk found (λ _. IsOk result) }
@@ -225,7 +225,7 @@ pub fn merged_rows(
     mut left: &[CountRow],
     mut right: &[CountRow],
 ) -> Result<Vec<CountRow>, Fault>
-    ensures ok { IfOk result (λ rows. rows.items ≡ drawn left.entry.now right.entry.now) }
+    ensures ok { IfOk result (λ rows. rows.items ≡ greatest_rows left.entry.now right.entry.now) }
     ensures memory { IfErr result (λ fault. fault ≡ Memory) }
 {
     let mut rows = Vec::with_capacity(alloc, left.len() + right.len())?;

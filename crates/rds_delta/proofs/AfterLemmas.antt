@@ -23,7 +23,7 @@ use Rattle.rds_delta.specs.declared.row.Row.{Row}
 use Rattle.rds_delta.specs.declared.row.Row.TheVariants as rows
 use Rattle.rds_delta.specs.Claims.{OfLive, OfDead, claim_at, life_claim, spread, goes_on, stops_before}
 use Rattle.rds_delta.specs.Grouped.{dead_front, front, grouped_onto}
-use Rattle.rds_delta.proofs.Grouping.{grouped-append, row_onto}
+use Rattle.rds_delta.proofs.Grouping.{rows_of_claims-append, row_onto}
 use Rattle.rds_delta.specs.Next.{IsGap, IsNextLive, IsNextDead}
 use Rattle.rds_delta.specs.Rest.{after_of, rows_after, is_flat}
 
@@ -180,6 +180,6 @@ step_dead peer v after r p more flat next =
     let end : r.lo + (r.hi + 1 - r.lo) ≡ r.hi + 1 = omega arith in
     ap (λ es. grouped_onto (each (life_claim peer) es) more) (after_dead v after peer r p next)
     ∙ ap (λ cs. grouped_onto cs more) (each_dead peer p r.replica r.lo (r.hi + 1 - r.lo) (after_of (Some (last_of r)) v) (λ m a b. next.rank m a (omega arith)))
-    ∙ grouped-append (spread (rows.Dead r p)) (each (life_claim peer) (after_of (Some (last_of r)) v)) more
+    ∙ rows_of_claims-append (spread (rows.Dead r p)) (each (life_claim peer) (after_of (Some (last_of r)) v)) more
     ∙ row_onto (rows.Dead r p) (rows_after peer v (Some (last_of r)) more) (full_le r.lo r.hi rises)
     (stops_list v after peer r p next (Some (last_of r)) (after_of (Some (last_of r)) v) refl more flat)

@@ -22,8 +22,8 @@ use Rattle.rds_counts.specs.declared.row.TheConstants.{MAX_COUNT}
 use Rattle.rds_counts.specs.declared.row.Which.TheVariants.{P, N}
 use Rattle.rds_counts.specs.Place.{Place, place_cmp}
 use Rattle.rds_counts.specs.PlaceOrder.{place_total, place_exact}
-use Rattle.rds_counts.specs.Counted.{Above, Counted, number, number_from, place, counted, is_row, AreCountRows}
-use Rattle.rds_counts.specs.CountedLemmas.{some, number_in, number-row, get-counted}
+use Rattle.rds_counts.specs.Counted.{Above, Counted, number, number_from, place, counts_of, is_row, AreCountRows}
+use Rattle.rds_counts.specs.CountedLemmas.{some, number_in, number-row, get-counts_of}
 use Rattle.rds_life.specs.Life.{Life, Live, Dead}
 use Rattle.rds_state.specs.Fits.{Fits}
 use Rattle.rds_state.specs.Value.{StateValue, coordinates}
@@ -96,8 +96,8 @@ most_in (r ∷ rs) all q =
     subst (λ n. n ≤ MAX_COUNT) (sym (number-row q r rs))
     (either (eq_by_cmp place_cmp q (place r.key r.replica P) && some r.p) (eq_by_cmp place_cmp q (place r.key r.replica N) && some r.n) r.p r.n (number_in rs q) MAX_COUNT most.0 most.1 (most_in rs (and_right (is_row r) _ all) q))
 
-pub number_most : (m : Counted) (rs : List CountRow) → AreCountRows rs → m ≡ counted rs → (q : Place) → number m q ≤ MAX_COUNT
-number_most m rs are is q = subst (λ n. n ≤ MAX_COUNT) (get-counted rs m (sym is) q) (most_in rs are.are q)
+pub number_most : (m : Counted) (rs : List CountRow) → AreCountRows rs → m ≡ counts_of rs → (q : Place) → number m q ≤ MAX_COUNT
+number_most m rs are is q = subst (λ n. n ≤ MAX_COUNT) (get-counts_of rs m (sym is) q) (most_in rs are.are q)
 
 most_rank : (l : Life) → life_rank (Some l) ≤ 2
 most_rank (Live e) = omega arith

@@ -16,16 +16,16 @@ use Rattle.rds_dots.specs.Dots.{dot_cmp, Dots}
 use Rattle.rds_dots.specs.Ascending.{ascends, is_above}
 use Rattle.rds_dots.specs.Order.{dots_total, dots_exact}
 use Rattle.rds_names.specs.Conditions.{and_true, and_left, and_right, equal_of}
-use Rattle.rds_life.specs.Life.{Life, Live, Dead, Lived, keys, life_of, life_in, entry_of, lived, AreRows}
-use Rattle.rds_life.proofs.LivedLemmas.{get-lived}
+use Rattle.rds_life.specs.Life.{Life, Live, Dead, Lived, keys, life_of, life_in, entry_of, lives_of, AreRows}
+use Rattle.rds_life.proofs.LivedLemmas.{get-lives_of}
 use Rattle.rds_counts.specs.declared.row.Which.{Which}
 use Rattle.rds_counts.specs.declared.row.Which.TheVariants.{P, N}
 use Rattle.rds_counts.specs.declared.row.CountRow.{CountRow}
 use Rattle.rds_counts.specs.declared.row.TheConstants.{MAX_COUNT}
 use Rattle.rds_counts.specs.Place.{Place, place_cmp}
 use Rattle.rds_counts.specs.PlaceOrder.{place_exact}
-use Rattle.rds_counts.specs.Counted.{Counted, number, place, counted, row_cmp, is_row, rows_rise, AreCountRows}
-use Rattle.rds_counts.specs.CountedLemmas.{some, number_in, number-row, number_past, get-counted}
+use Rattle.rds_counts.specs.Counted.{Counted, number, place, counts_of, row_cmp, is_row, rows_rise, AreCountRows}
+use Rattle.rds_counts.specs.CountedLemmas.{some, number_in, number-row, number_past, get-counts_of}
 use Rattle.rds_delta.specs.Ranks.{life_rank}
 use Rattle.rds_delta.specs.Digested.{DigestValue, rank_in, IsInside}
 use Rattle.rds_delta.specs.Higher.{higher, higher_row, kept_row, higher_rows, unseen_rows, is_sent}
@@ -92,9 +92,9 @@ module _ (g : DigestValue) (inside : IsInside g.live g.seen) (v : Lived) (s : Do
     seen_all = all_found (set.contains s) (unseen_rows (set.contains g.seen) rows) (λ d f. sent d ∙ sent_live (map.get v d) (set.contains g.seen d) (set.contains g.live d) (ap is_some (sym (found d)) ∙ f));
   }
 
-  pub sent_lives : (d : Dot) → map.get (lived s (unseen_rows (set.contains g.seen) rows)) d ≡ cond (nat_lt (rank_in g d) (life_rank (map.get v d))) (map.get v d) None
+  pub sent_lives : (d : Dot) → map.get (lives_of s (unseen_rows (set.contains g.seen) rows)) d ≡ cond (nat_lt (rank_in g d) (life_rank (map.get v d))) (map.get v d) None
   sent_lives d =
-      get-lived s (unseen_rows (set.contains g.seen) rows) d
+      get-lives_of s (unseen_rows (set.contains g.seen) rows) d
       ∙ ap (λ b. cond b (Some (life_in (unseen_rows (set.contains g.seen) rows) d)) None) (sent d)
       ∙ ap (λ o. cond (is_sent (map.get v d) (set.contains g.seen d) (set.contains g.live d)) (Some (life_of o)) None) (found d)
       ∙ sent_life (map.get v d) (set.contains g.seen d) (set.contains g.live d) (inside.each_dot d)
@@ -218,5 +218,5 @@ module _ (peer : Place → ℕ) where
       apart : (k : List ℕ) (n : ℕ) → eq_by_cmp place_cmp (place k n P) (place k n N) ≡ false
       apart k n = rw (tied_itself nat_list_cmp_total k, tied_itself nat_cmp_total n) refl
 
-  pub number_above : (rs : List CountRow) → AreCountRows rs → (m : Counted) → counted rs ≡ m → (q : Place) → number (counted (higher_rows peer rs)) q ≡ higher (number m q) (peer q)
-  number_above rs are m is q = sym (get-counted (higher_rows peer rs) (counted (higher_rows peer rs)) refl q) ∙ number-higher rs are.rise q ∙ ap (λ n. higher n (peer q)) (get-counted rs m is q)
+  pub number_above : (rs : List CountRow) → AreCountRows rs → (m : Counted) → counts_of rs ≡ m → (q : Place) → number (counts_of (higher_rows peer rs)) q ≡ higher (number m q) (peer q)
+  number_above rs are m is q = sym (get-counts_of (higher_rows peer rs) (counts_of (higher_rows peer rs)) refl q) ∙ number-higher rs are.rise q ∙ ap (λ n. higher n (peer q)) (get-counts_of rs m is q)

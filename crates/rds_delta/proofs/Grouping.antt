@@ -13,11 +13,11 @@ use Rattle.rds_state.specs.Value.{StateValue}
 use Rattle.rds_delta.specs.declared.row.Row.{Row}
 use Rattle.rds_delta.specs.declared.row.Row.TheVariants as rows
 use Rattle.rds_delta.specs.Claims.{Claim, OfLive, OfDead, OfCount, claims, spread, spread_all, is_full, goes_on, stops_before, are_apart, IsCertificate}
-use Rattle.rds_delta.specs.Grouped.{run_of, dead_front, front, grouped_onto, grouped}
+use Rattle.rds_delta.specs.Grouped.{run_of, dead_front, front, grouped_onto, rows_of_claims}
 
-pub grouped-append : (cs ds : List Claim) (rs : List Row) → grouped_onto (cs ++ ds) rs ≡ grouped_onto cs (grouped_onto ds rs)
-grouped-append [] ds rs = refl
-grouped-append (c ∷ cs) ds rs = ap (front c) (grouped-append cs ds rs)
+pub rows_of_claims-append : (cs ds : List Claim) (rs : List Row) → grouped_onto (cs ++ ds) rs ≡ grouped_onto cs (grouped_onto ds rs)
+rows_of_claims-append [] ds rs = refl
+rows_of_claims-append (c ∷ cs) ds rs = ap (front c) (rows_of_claims-append cs ds rs)
 
 goes : (r s p q lo hi : ℕ) → r ≡ s → p ≡ q → lo ≡ hi + 1 → ((r == s) && (p == q) && (lo == hi + 1)) ≡ true
 goes r s p q lo hi a b c = grind (arith, nat_tests)
@@ -62,16 +62,16 @@ row_onto (rows.Dead r p) rs full stops =
 row_onto (rows.Count key replica which sent peer) rs full stops = refl
 
 -- rows that are apart are those into which their claims are grouped
-pub grouped-spread : (rs : List Row) → list_all is_full rs ≡ true → are_apart rs ≡ true → grouped (spread_all rs) ≡ rs
-grouped-spread [] full apart = refl
-grouped-spread (r ∷ rs) full apart =
-    grouped-append (spread r) (spread_all rs) []
-    ∙ ap (grouped_onto (spread r)) (grouped-spread rs (and_right (is_full r) _ full) (and_right (stops_before r rs) _ apart))
+pub rows_of_claims-spread : (rs : List Row) → list_all is_full rs ≡ true → are_apart rs ≡ true → rows_of_claims (spread_all rs) ≡ rs
+rows_of_claims-spread [] full apart = refl
+rows_of_claims-spread (r ∷ rs) full apart =
+    rows_of_claims-append (spread r) (spread_all rs) []
+    ∙ ap (grouped_onto (spread r)) (rows_of_claims-spread rs (and_right (is_full r) _ full) (and_right (stops_before r rs) _ apart))
     ∙ row_onto r rs (and_left (is_full r) _ full) (and_left (stops_before r rs) _ apart)
 
 -- so a certificate has no other rows
-pub certificate_is : (b : Ranks) (v : StateValue) (rs : List Row) → IsCertificate b v rs → rs ≡ grouped (claims b v)
-certificate_is b v rs is = sym (grouped-spread rs is.full is.apart) ∙ ap grouped is.claimed
+pub certificate_is : (b : Ranks) (v : StateValue) (rs : List Row) → IsCertificate b v rs → rs ≡ rows_of_claims (claims b v)
+certificate_is b v rs is = sym (rows_of_claims-spread rs is.full is.apart) ∙ ap rows_of_claims is.claimed
 
 pub one_certificate : (b : Ranks) (v : StateValue) (rs others : List Row) → IsCertificate b v rs → IsCertificate b v others → others ≡ rs
 one_certificate b v rs others is other = certificate_is b v others other ∙ sym (certificate_is b v rs is)
@@ -151,13 +151,13 @@ is_front (OfCount q sent peer) rs full apart = record { claimed = refl; full = f
     count_apart [] h = refl
     count_apart (r ∷ rs) h = h
 
-pub grouped_is : (cs : List Claim) → record { claimed : spread_all (grouped cs) ≡ cs; full : list_all is_full (grouped cs) ≡ true; apart : are_apart (grouped cs) ≡ true }
+pub grouped_is : (cs : List Claim) → record { claimed : spread_all (rows_of_claims cs) ≡ cs; full : list_all is_full (rows_of_claims cs) ≡ true; apart : are_apart (rows_of_claims cs) ≡ true }
 grouped_is [] = record { claimed = refl; full = refl; apart = refl }
 grouped_is (c ∷ cs) =
     let h = grouped_is cs in
-    let f = is_front c (grouped cs) h.full h.apart in
+    let f = is_front c (rows_of_claims cs) h.full h.apart in
     record { claimed = f.claimed ∙ ap (λ ds. c ∷ ds) h.claimed; full = f.full; apart = f.apart }
 
 -- and grouped claims are one
-pub grouped_certificate : (b : Ranks) (v : StateValue) → IsCertificate b v (grouped (claims b v))
+pub grouped_certificate : (b : Ranks) (v : StateValue) → IsCertificate b v (rows_of_claims (claims b v))
 grouped_certificate b v = let h = grouped_is (claims b v) in record { claimed = h.claimed; full = h.full; apart = h.apart }

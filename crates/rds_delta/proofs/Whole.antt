@@ -9,30 +9,30 @@ use Rattle.rds_counts.specs.declared.row.Which.TheVariants.{P, N}
 use Rattle.rds_counts.specs.declared.row.CountRow.{CountRow}
 use Rattle.rds_counts.specs.Place.{Place, place_cmp}
 use Rattle.rds_counts.specs.PlaceOrder.{place_exact}
-use Rattle.rds_counts.specs.Counted.{Above, number, place, above, components, counted, row_cmp, rows_rise, AreCountRows}
-use Rattle.rds_counts.specs.CountedLemmas.{some, number_in, number_past, number-row, number-own, get-counted}
+use Rattle.rds_counts.specs.Counted.{Above, number, place, above, components, counts_of, row_cmp, rows_rise, AreCountRows}
+use Rattle.rds_counts.specs.CountedLemmas.{some, number_in, number_past, number-row, number-own, get-counts_of}
 use Rattle.rds_names.specs.Conditions.{and_left, and_right, equal_of}
-use Rattle.rds_counts.specs.Entries.{entries-counted}
+use Rattle.rds_counts.specs.Entries.{entries-counts_of}
 use Rattle.rds_delta.specs.Ranks.{Ranks}
 use Rattle.rds_delta.specs.Least.{IsAbove}
 use Rattle.rds_state.specs.Value.{StateValue, coordinates}
 use Rattle.rds_delta.specs.declared.row.Row.{Row}
 use Rattle.rds_delta.specs.declared.row.Row.TheVariants as rows
 use Rattle.rds_delta.specs.Claims.{claims, life_claim, number_claim, IsCertificate}
-use Rattle.rds_delta.specs.Grouped.{grouped, grouped_onto}
-use Rattle.rds_delta.proofs.Grouping.{grouped-append, certificate_is, grouped_certificate}
+use Rattle.rds_delta.specs.Grouped.{rows_of_claims, grouped_onto}
+use Rattle.rds_delta.proofs.Grouping.{rows_of_claims-append, certificate_is, grouped_certificate}
 use Rattle.rds_delta.specs.Rest.{rows_after, is_flat}
 use Rattle.rds_delta.specs.CounterRows.{number_rows, counter_rows, IsNumberAbove, AreAbove}
 use Rattle.rds_delta.specs.Claimed.{IsClaimed, IsUnclaimed}
 
 -- the claims of numbers are the count rows
-number_grouped : (peer : Place → ℕ) (q : Place) (n : ℕ) (es : List (Place × Above)) → grouped (each (number_claim peer) (above q n ++ es)) ≡ number_rows q n (peer q) ++ grouped (each (number_claim peer) es)
+number_grouped : (peer : Place → ℕ) (q : Place) (n : ℕ) (es : List (Place × Above)) → rows_of_claims (each (number_claim peer) (above q n ++ es)) ≡ number_rows q n (peer q) ++ rows_of_claims (each (number_claim peer) es)
 number_grouped peer q zero es = refl
 number_grouped peer q (suc n) es =
     let e : n + 1 ≡ suc n = omega arith in
-    ap (λ k. rows.Count q.key q.replica q.which k (peer q) ∷ grouped (each (number_claim peer) es)) e
+    ap (λ k. rows.Count q.key q.replica q.which k (peer q) ∷ rows_of_claims (each (number_claim peer) es)) e
 
-counts_grouped : (peer : Place → ℕ) (rs : List CountRow) → grouped (each (number_claim peer) (components rs)) ≡ counter_rows peer rs
+counts_grouped : (peer : Place → ℕ) (rs : List CountRow) → rows_of_claims (each (number_claim peer) (components rs)) ≡ counter_rows peer rs
 counts_grouped peer [] = refl
 counts_grouped peer (r ∷ rs) =
     let p = place r.key r.replica P in
@@ -53,10 +53,10 @@ keep_all [] = refl
 keep_all (x ∷ xs) = ap (λ l. x ∷ l) (keep_all xs)
 
 -- a certificate is the rows of the dots, then those of the numbers
-pub certificate_rows : (b : Ranks) (v : StateValue) (rs : List CountRow) → AreCountRows rs → v.counts ≡ counted rs → grouped (claims b v) ≡ rows_after b.rank v.lives None (counter_rows b.number rs)
+pub certificate_rows : (b : Ranks) (v : StateValue) (rs : List CountRow) → AreCountRows rs → v.counts ≡ counts_of rs → rows_of_claims (claims b v) ≡ rows_after b.rank v.lives None (counter_rows b.number rs)
 certificate_rows b v rs are is =
-    grouped-append (each (life_claim b.rank) (map.entries v.lives)) (each (number_claim b.number) (map.entries v.counts)) []
-    ∙ ap (λ es. grouped_onto (each (life_claim b.rank) (map.entries v.lives)) (grouped (each (number_claim b.number) es))) (ap map.entries is ∙ entries-counted rs are.rise)
+    rows_of_claims-append (each (life_claim b.rank) (map.entries v.lives)) (each (number_claim b.number) (map.entries v.counts)) []
+    ∙ ap (λ es. grouped_onto (each (life_claim b.rank) (map.entries v.lives)) (rows_of_claims (each (number_claim b.number) es))) (ap map.entries is ∙ entries-counts_of rs are.rise)
     ∙ ap (grouped_onto (each (life_claim b.rank) (map.entries v.lives))) (counts_grouped b.number rs)
     ∙ ap (λ es. grouped_onto (each (life_claim b.rank) es) (counter_rows b.number rs)) (sym (keep_all (map.entries v.lives)))
 
@@ -113,14 +113,14 @@ from_rows peer (r ∷ rs) all q =
         ]
     by_p again false x b y = at_n again b y
 
-pub above_rows : (b : Ranks) (v : StateValue) (rs : List CountRow) → AreCountRows rs → v.counts ≡ counted rs → ((q : Place) → IsNumberAbove (number v.counts q) (b.number q)) ↔ AreAbove b.number rs
+pub above_rows : (b : Ranks) (v : StateValue) (rs : List CountRow) → AreCountRows rs → v.counts ≡ counts_of rs → ((q : Place) → IsNumberAbove (number v.counts q) (b.number q)) ↔ AreAbove b.number rs
 above_rows b v rs are is = (
-  λ h. to_rows b.number rs are.rise (λ q. subst (λ n. IsNumberAbove n (b.number q)) (sym (get-counted rs v.counts (sym is) q)) (h q)),
-  λ h q. subst (λ n. IsNumberAbove n (b.number q)) (get-counted rs v.counts (sym is) q) (from_rows b.number rs h q),
+  λ h. to_rows b.number rs are.rise (λ q. subst (λ n. IsNumberAbove n (b.number q)) (sym (get-counts_of rs v.counts (sym is) q)) (h q)),
+  λ h q. subst (λ n. IsNumberAbove n (b.number q)) (get-counts_of rs v.counts (sym is) q) (from_rows b.number rs h q),
 )
 
 -- the check's two parts say that the delta is above and the rows are its certificate
-pub whole_yes : (b : Ranks) (v : StateValue) (rs : List CountRow) → AreCountRows rs → v.counts ≡ counted rs → (rows rest : List Row) → IsClaimed b.rank v.lives rows rest → AreAbove b.number rs × (rest ≡ counter_rows b.number rs) → IsAbove (coordinates v) b × IsCertificate b v rows
+pub whole_yes : (b : Ranks) (v : StateValue) (rs : List CountRow) → AreCountRows rs → v.counts ≡ counts_of rs → (rows rest : List Row) → IsClaimed b.rank v.lives rows rest → AreAbove b.number rs × (rest ≡ counter_rows b.number rs) → IsAbove (coordinates v) b × IsCertificate b v rows
 whole_yes b v rs are is rows rest claimed told =
     let flat = flat_counts b.number rs in
     let e = (claimed.left (counter_rows b.number rs) flat).1 told.1 ∙ sym (certificate_rows b v rs are is) in (
@@ -128,25 +128,25 @@ whole_yes b v rs are is rows rest claimed told =
       subst (IsCertificate b v) (sym e) (grouped_certificate b v),
     )
 
-pub whole_back : (b : Ranks) (v : StateValue) (rs : List CountRow) → AreCountRows rs → v.counts ≡ counted rs → (rows rest : List Row) → IsClaimed b.rank v.lives rows rest → IsAbove (coordinates v) b × IsCertificate b v rows → AreAbove b.number rs × (rest ≡ counter_rows b.number rs)
+pub whole_back : (b : Ranks) (v : StateValue) (rs : List CountRow) → AreCountRows rs → v.counts ≡ counts_of rs → (rows rest : List Row) → IsClaimed b.rank v.lives rows rest → IsAbove (coordinates v) b × IsCertificate b v rows → AreAbove b.number rs × (rest ≡ counter_rows b.number rs)
 whole_back b v rs are is rows rest claimed h =
     let flat = flat_counts b.number rs in (
       (above_rows b v rs are is).0 h.0.numbers,
       (claimed.left (counter_rows b.number rs) flat).0 (certificate_is b v rows h.1 ∙ certificate_rows b v rs are is),
     )
 
-flat_claims : (peer : Place → ℕ) (es : List (Place × Above)) → is_flat (grouped (each (number_claim peer) es)) ≡ true
+flat_claims : (peer : Place → ℕ) (es : List (Place × Above)) → is_flat (rows_of_claims (each (number_claim peer) es)) ≡ true
 flat_claims peer [] = refl
 flat_claims peer (e ∷ es) = refl
 
-claims_rows : (b : Ranks) (v : StateValue) → grouped (claims b v) ≡ rows_after b.rank v.lives None (grouped (each (number_claim b.number) (map.entries v.counts)))
+claims_rows : (b : Ranks) (v : StateValue) → rows_of_claims (claims b v) ≡ rows_after b.rank v.lives None (rows_of_claims (each (number_claim b.number) (map.entries v.counts)))
 claims_rows b v =
-    grouped-append (each (life_claim b.rank) (map.entries v.lives)) (each (number_claim b.number) (map.entries v.counts)) []
-    ∙ ap (λ es. grouped_onto (each (life_claim b.rank) es) (grouped (each (number_claim b.number) (map.entries v.counts)))) (sym (keep_all (map.entries v.lives)))
+    rows_of_claims-append (each (life_claim b.rank) (map.entries v.lives)) (each (number_claim b.number) (map.entries v.counts)) []
+    ∙ ap (λ es. grouped_onto (each (life_claim b.rank) es) (rows_of_claims (each (number_claim b.number) (map.entries v.counts)))) (sym (keep_all (map.entries v.lives)))
 
 pub whole_no : (b : Ranks) (v : StateValue) (rows : List Row) → IsUnclaimed b.rank v.lives rows → IsAbove (coordinates v) b × IsCertificate b v rows → ⊥
-whole_no b v rows un h = un.fails h.0.lives (grouped (each (number_claim b.number) (map.entries v.counts))) (flat_claims b.number (map.entries v.counts)) (certificate_is b v rows h.1 ∙ claims_rows b v)
+whole_no b v rows un h = un.fails h.0.lives (rows_of_claims (each (number_claim b.number) (map.entries v.counts))) (flat_claims b.number (map.entries v.counts)) (certificate_is b v rows h.1 ∙ claims_rows b v)
 
 -- the dots' rows and the numbers' are a certificate
-pub whole_certificate : (b : Ranks) (v : StateValue) (rs : List CountRow) → AreCountRows rs → v.counts ≡ counted rs → (dots : List Row) → ((more : List Row) → is_flat more ≡ true → dots ++ more ≡ rows_after b.rank v.lives None more) → IsCertificate b v (dots ++ counter_rows b.number rs)
+pub whole_certificate : (b : Ranks) (v : StateValue) (rs : List CountRow) → AreCountRows rs → v.counts ≡ counts_of rs → (dots : List Row) → ((more : List Row) → is_flat more ≡ true → dots ++ more ≡ rows_after b.rank v.lives None more) → IsCertificate b v (dots ++ counter_rows b.number rs)
 whole_certificate b v rs are is dots told = subst (IsCertificate b v) (certificate_rows b v rs are is ∙ sym (told (counter_rows b.number rs) (flat_counts b.number rs))) (grouped_certificate b v)

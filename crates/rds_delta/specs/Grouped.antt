@@ -25,5 +25,5 @@ abbrev pub grouped_onto : List Claim → List Row → List Row
 grouped_onto [] rs = rs
 grouped_onto (c ∷ cs) rs = front c (grouped_onto cs rs)
 
-abbrev pub grouped : List Claim → List Row
-grouped cs = grouped_onto cs []
+abbrev pub rows_of_claims : List Claim → List Row
+rows_of_claims cs = grouped_onto cs []

@@ -8,12 +8,12 @@ use Rattle.rds_dots.specs.declared.dot.Dot.{Dot}
 use Rattle.rds_dots.specs.declared.dot.Run.{Run}
 use Rattle.rds_dots.specs.Dots.{first_of, last_of, comes_after, leads_to}
 use Rattle.rds_names.specs.Conditions.{and_left, and_right, less_of}
-use Rattle.rds_dots.specs.Runs.{put_dot, grouped, first_after}
+use Rattle.rds_dots.specs.Runs.{put_dot, runs_of_dots, first_after}
 use Rattle.rds_dots.proofs.Parts.{all_front, all_back}
 use Rattle.rds_dots.proofs.RunWalks.{after_trans}
-use Rattle.rds_dots.specs.Drawn.{drawn, put_dots}
+use Rattle.rds_dots.specs.Drawn.{put_run, put_dots}
 
-begin_drawn : (d : Dot) (rs : List Run) → let one : Run = record { replica = d.replica; lo = d.seq; hi = d.seq } in put_dot d rs ≡ drawn one rs
+begin_drawn : (d : Dot) (rs : List Run) → let one : Run = record { replica = d.replica; lo = d.seq; hi = d.seq } in put_dot d rs ≡ put_run one rs
 begin_drawn d [] = refl
 begin_drawn d (s ∷ rs) = refl
 
@@ -60,9 +60,9 @@ pub put_dots-append : (ds es : List Dot) (rs : List Run) → put_dots (ds ++ es)
 put_dots-append [] es rs = refl
 put_dots-append (d ∷ ds) es rs = ap (put_dot d) (put_dots-append ds es rs)
 
-grouped-append : (ds es : List Dot) → grouped (ds ++ es) ≡ put_dots ds (grouped es)
-grouped-append [] es = refl
-grouped-append (d ∷ ds) es = ap (put_dot d) (grouped-append ds es)
+runs_of_dots-append : (ds es : List Dot) → runs_of_dots (ds ++ es) ≡ put_dots ds (runs_of_dots es)
+runs_of_dots-append [] es = refl
+runs_of_dots-append (d ∷ ds) es = ap (put_dot d) (runs_of_dots-append ds es)
 
 -- a run that the dot before it doesn't lead up to
 pub stop_back : (after : Option Dot) (ds : List Dot) (d : Dot) (r : Run) (rs : List Run) → list_all (λ e. not (comes_after after e)) (ds ++ d ∷ []) ≡ true → comes_after after (last_of r) ≡ true → leads_to d (first_of r) ≡ false → first_after after (put_dots (ds ++ d ∷ []) (r ∷ rs)) ≡ Some r
@@ -76,8 +76,8 @@ stop_back after ds d r rs early ends isn't =
     ∙ sym (find_first after r rs (r ∷ rs) refl ends)
 
 -- where no dot comes after the given one, no run does
-pub none_after : (after : Option Dot) (ds from whole : List Dot) → ds ++ from ≡ whole → length from ≡ 0 → list_all (λ d. not (comes_after after d)) ds ≡ true → None ≡ first_after after (grouped whole)
-none_after after ds [] whole is none early = sym (ap (λ es. first_after after (grouped es)) (sym is) ∙ ap (first_after after) (grouped-append ds []) ∙ (put_all_early after ds [] early refl).1)
+pub none_after : (after : Option Dot) (ds from whole : List Dot) → ds ++ from ≡ whole → length from ≡ 0 → list_all (λ d. not (comes_after after d)) ds ≡ true → None ≡ first_after after (runs_of_dots whole)
+none_after after ds [] whole is none early = sym (ap (λ es. first_after after (runs_of_dots es)) (sym is) ∙ ap (first_after after) (runs_of_dots-append ds []) ∙ (put_all_early after ds [] early refl).1)
 none_after after ds (e ∷ from) whole is none early = absurd (omega arith)
 
 first_is : (rs : List Run) (r : Run) → slice_get rs 0 ≡ Some r → (ts : List Run) × (rs ≡ r ∷ ts)
@@ -98,8 +98,8 @@ last_after after d hi le h =
 
 -- the run of the first dot that comes after the given one, drawn on and back
 pub some_after : (after : Option Dot) (ds from whole : List Dot) (d : Dot) (rest : List Dot) (r s : Run) → ds ++ from ≡ whole → from ≡ d ∷ rest → list_all (λ e. not (comes_after after e)) ds ≡ true → list_all (comes_after after) from ≡ true
-    → (let one : Run = record { replica = d.replica; lo = d.seq; hi = d.seq } in (first_of r ≡ first_of one) × (one.hi ≤ r.hi) × (slice_get (drawn one (grouped rest)) 0 ≡ Some r))
-    → ((rs : List Run) → list_all (λ e. not (comes_after after e)) ds ≡ true → comes_after after (last_of r) ≡ true → first_after after (put_dots ds (r ∷ rs)) ≡ Some s) → Some s ≡ first_after after (grouped whole)
+    → (let one : Run = record { replica = d.replica; lo = d.seq; hi = d.seq } in (first_of r ≡ first_of one) × (one.hi ≤ r.hi) × (slice_get (put_run one (runs_of_dots rest)) 0 ≡ Some r))
+    → ((rs : List Run) → list_all (λ e. not (comes_after after e)) ds ≡ true → comes_after after (last_of r) ≡ true → first_after after (put_dots ds (r ∷ rs)) ≡ Some s) → Some s ≡ first_after after (runs_of_dots whole)
 some_after after ds from whole d rest r s is begins early late on back =
     let first = first_is _ r on.2 in
     let le = on.1 in
@@ -107,4 +107,4 @@ some_after after ds from whole d rest r s is begins early late on back =
     let same : r.replica ≡ d.replica = ap (λ (e : Dot). e.replica) on.0 in
     let last : ℕ → Dot = λ n. record { replica = n; seq = r.hi } in
     let ends : comes_after after (last_of r) ≡ true = ap (λ n. comes_after after (last n)) same ∙ last_after after d r.hi le here in
-    sym (ap (λ es. first_after after (grouped es)) (sym is ∙ ap (λ es. ds ++ es) begins) ∙ ap (first_after after) (grouped-append ds (d ∷ rest) ∙ ap (put_dots ds) (begin_drawn d (grouped rest) ∙ first.1)) ∙ back first.0 early ends)
+    sym (ap (λ es. first_after after (runs_of_dots es)) (sym is ∙ ap (λ es. ds ++ es) begins) ∙ ap (first_after after) (runs_of_dots-append ds (d ∷ rest) ∙ ap (put_dots ds) (begin_drawn d (runs_of_dots rest) ∙ first.1)) ∙ back first.0 early ends)

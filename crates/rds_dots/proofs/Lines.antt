@@ -10,11 +10,11 @@ use Rattle.rds_dots.specs.declared.dot.Dot.{Dot}
 use Rattle.rds_dots.specs.declared.dot.Run.{Run}
 use Rattle.rds_dots.specs.Ascending.{is_above, ascends}
 use Rattle.rds_dots.specs.Dots.{first_of, last_of, leads_to}
-use Rattle.rds_dots.specs.Drawn.{drawn, leads_by}
+use Rattle.rds_dots.specs.Drawn.{put_run, leads_by}
 use Rattle.rds_dots.specs.Lacking.{dot_of}
 use Rattle.rds_dots.specs.Listed.{dots_from}
 use Rattle.rds_names.specs.Conditions.{and_left, and_right}
-use Rattle.rds_dots.specs.Runs.{put_dot, grouped}
+use Rattle.rds_dots.specs.Runs.{put_dot, runs_of_dots}
 use Rattle.rds_dots.proofs.Search.{all_at}
 
 past : (a p b q : ℕ) → is_lt (ordering_then (nat_cmp a b) (nat_cmp p q)) ≡ true → b ≡ a → p < q
@@ -76,7 +76,7 @@ pub leads_next : (r s : ℕ) → (eqb r r && eqb (s + 1) (s + 1)) ≡ true
 leads_next r s = grind (arith, nat_tests)
 
 -- a run drawn on through one dot, and through many
-draw_one : (r : Run) (rs : List Run) → let more : Run = record { replica = r.replica; lo = r.lo; hi = r.hi + 1 } in drawn r (put_dot (dot_of r.replica (r.hi + 1)) rs) ≡ drawn more rs
+draw_one : (r : Run) (rs : List Run) → let more : Run = record { replica = r.replica; lo = r.lo; hi = r.hi + 1 } in put_run r (put_dot (dot_of r.replica (r.hi + 1)) rs) ≡ put_run more rs
 draw_one r [] =
     let more : Run = record { replica = r.replica; lo = r.lo; hi = r.hi + 1 } in
     let one : Run = record { replica = r.replica; lo = r.hi + 1; hi = r.hi + 1 } in
@@ -87,20 +87,20 @@ draw_one r (s ∷ rs) =
     let long : Run = record { replica = r.replica; lo = r.hi + 1; hi = s.hi } in
     let whole : Run = record { replica = r.replica; lo = r.lo; hi = s.hi } in
     let next = leads_next r.replica r.hi in
-    elim (leads_to (dot_of r.replica (r.hi + 1)) (first_of s)) as (λ t. drawn r (cond t (long ∷ rs) (one ∷ s ∷ rs)) ≡ cond t (whole ∷ rs) (more ∷ s ∷ rs)) [
+    elim (leads_to (dot_of r.replica (r.hi + 1)) (first_of s)) as (λ t. put_run r (cond t (long ∷ rs) (one ∷ s ∷ rs)) ≡ cond t (whole ∷ rs) (more ∷ s ∷ rs)) [
       | true ↦ ap (λ t. cond t (whole ∷ rs) (r ∷ long ∷ rs)) next
       | false ↦ ap (λ t. cond t (more ∷ s ∷ rs) (r ∷ one ∷ s ∷ rs)) next
     ]
 
-draw_line : (n : ℕ) (r : Run) (ds : List Dot) → let more : Run = record { replica = r.replica; lo = r.lo; hi = r.hi + n } in drawn r (grouped (dots_from r.replica (r.hi + 1) n ++ ds)) ≡ drawn more (grouped ds)
+draw_line : (n : ℕ) (r : Run) (ds : List Dot) → let more : Run = record { replica = r.replica; lo = r.lo; hi = r.hi + n } in put_run r (runs_of_dots (dots_from r.replica (r.hi + 1) n ++ ds)) ≡ put_run more (runs_of_dots ds)
 draw_line zero r ds =
     let upto : ℕ → Run = λ hi. record { replica = r.replica; lo = r.lo; hi = hi } in
     let none : r.hi ≡ r.hi + 0 = omega arith in
-    ap (λ hi. drawn (upto hi) (grouped ds)) none
+    ap (λ hi. put_run (upto hi) (runs_of_dots ds)) none
 draw_line (suc n) r ds =
     let upto : ℕ → Run = λ hi. record { replica = r.replica; lo = r.lo; hi = hi } in
     let one : (r.hi + 1) + n ≡ r.hi + suc n = omega arith in
-    draw_one r (grouped (dots_from r.replica (r.hi + 1 + 1) n ++ ds)) ∙ draw_line n (upto (r.hi + 1)) ds ∙ ap (λ hi. drawn (upto hi) (grouped ds)) one
+    draw_one r (runs_of_dots (dots_from r.replica (r.hi + 1 + 1) n ++ ds)) ∙ draw_line n (upto (r.hi + 1)) ds ∙ ap (λ hi. put_run (upto hi) (runs_of_dots ds)) one
 
 pub of_one : (a b p q : ℕ) → (eqb a b && eqb p q) ≡ true → b ≡ a
 of_one a b p q h = grind (arith, nat_tests)
@@ -110,7 +110,7 @@ so_far a b p q h = grind (arith, nat_tests)
 
 -- a run drawn on to a dot that is as far past its last as it comes later in the list
 pub draw_to : (r : Run) (ds : List Dot) (m : ℕ) (e : Dot) (rise : ascends (last_of r ∷ ds) ≡ true) → m < length ds → leads_by (m + 1) (last_of r) (get_or ds m e) ≡ true
-    → (let more : Run = record { replica = r.replica; lo = r.lo; hi = (get_or ds m e).seq } in ((get_or ds m e).seq ≡ r.hi + (m + 1)) × (drawn more (grouped (drop (m + 1) ds)) ≡ drawn r (grouped ds)))
+    → (let more : Run = record { replica = r.replica; lo = r.lo; hi = (get_or ds m e).seq } in ((get_or ds m e).seq ≡ r.hi + (m + 1)) × (put_run more (runs_of_dots (drop (m + 1) ds)) ≡ put_run r (runs_of_dots ds)))
 draw_to r ds m e rise lt leads =
     let upto : ℕ → Run = λ hi. record { replica = r.replica; lo = r.lo; hi = hi } in
     let same = of_one r.replica (get_or ds m e).replica (r.hi + (m + 1)) (get_or ds m e).seq leads in
@@ -118,9 +118,9 @@ draw_to r ds m e rise lt leads =
     let steps : (get_or ds m e).seq ≡ r.hi + suc m = omega (arith, far) in
     let here : get_or ds m e ≡ dot_of r.replica (r.hi + suc m) = same_dot (get_or ds m e) r.replica (r.hi + suc m) same steps in
     let line = in_line (m + 1) r.replica r.hi ds m e rise lt here (omega arith) in
-    (far, ap (λ hi. drawn (upto hi) (grouped (drop (m + 1) ds))) far ∙ sym (draw_line (m + 1) r (drop (m + 1) ds)) ∙ ap (λ l. drawn r (grouped (l ++ drop (m + 1) ds))) (sym line) ∙ ap (λ l. drawn r (grouped l)) (take-append-drop (m + 1) ds))
+    (far, ap (λ hi. put_run (upto hi) (runs_of_dots (drop (m + 1) ds))) far ∙ sym (draw_line (m + 1) r (drop (m + 1) ds)) ∙ ap (λ l. put_run r (runs_of_dots (l ++ drop (m + 1) ds))) (sym line) ∙ ap (λ l. put_run r (runs_of_dots l)) (take-append-drop (m + 1) ds))
 
-stops : (r : Run) (d : Dot) (rs : List Run) → leads_to (last_of r) d ≡ false → slice_get (drawn r (put_dot d rs)) 0 ≡ Some r
+stops : (r : Run) (d : Dot) (rs : List Run) → leads_to (last_of r) d ≡ false → slice_get (put_run r (put_dot d rs)) 0 ≡ Some r
 stops r d [] isn't =
     let one : Run = record { replica = d.replica; lo = d.seq; hi = d.seq } in
     let both : Run = record { replica = r.replica; lo = r.lo; hi = d.seq } in
@@ -129,21 +129,21 @@ stops r d (s ∷ rs) isn't =
     let one : Run = record { replica = d.replica; lo = d.seq; hi = d.seq } in
     let long : Run = record { replica = d.replica; lo = d.seq; hi = s.hi } in
     let upto : ℕ → Run = λ hi. record { replica = r.replica; lo = r.lo; hi = hi } in
-    elim (leads_to d (first_of s)) as (λ t. slice_get (drawn r (cond t (long ∷ rs) (one ∷ s ∷ rs))) 0 ≡ Some r) [
+    elim (leads_to d (first_of s)) as (λ t. slice_get (put_run r (cond t (long ∷ rs) (one ∷ s ∷ rs))) 0 ≡ Some r) [
       | true ↦ ap (λ t. slice_get (cond t (upto s.hi ∷ rs) (r ∷ long ∷ rs)) 0) isn't
       | false ↦ ap (λ t. slice_get (cond t (upto d.seq ∷ s ∷ rs) (r ∷ one ∷ s ∷ rs)) 0) isn't
     ]
 
 -- a run that the next of the dots doesn't follow is drawn on no further
-pub draw_end : (r : Run) (ds : List Dot) (m : ℕ) (e : Dot) → m ≤ length ds → (m < length ds → leads_to (last_of r) (get_or ds m e) ≡ false) → slice_get (drawn r (grouped (drop m ds))) 0 ≡ Some r
+pub draw_end : (r : Run) (ds : List Dot) (m : ℕ) (e : Dot) → m ≤ length ds → (m < length ds → leads_to (last_of r) (get_or ds m e) ≡ false) → slice_get (put_run r (runs_of_dots (drop m ds))) 0 ≡ Some r
 draw_end r ds m e le apart = elim (cases_lt m (length ds)) [
-  | inl lt ↦ ap (λ l. slice_get (drawn r (grouped l)) 0) (drop-cons ds m e lt) ∙ stops r (get_or ds m e) (grouped (drop (suc m) ds)) (apart lt)
-  | inr ge ↦ (let all : m ≡ length ds = omega arith in ap (λ k. slice_get (drawn r (grouped (drop k ds))) 0) all ∙ ap (λ l. slice_get (drawn r (grouped l)) 0) (drop-length ds))
+  | inl lt ↦ ap (λ l. slice_get (put_run r (runs_of_dots l)) 0) (drop-cons ds m e lt) ∙ stops r (get_or ds m e) (runs_of_dots (drop (suc m) ds)) (apart lt)
+  | inr ge ↦ (let all : m ≡ length ds = omega arith in ap (λ k. slice_get (put_run r (runs_of_dots (drop k ds))) 0) all ∙ ap (λ l. slice_get (put_run r (runs_of_dots l)) 0) (drop-length ds))
 ]
 
 -- and so a run that was drawn on to where the dots are no more in line
-pub drawn_whole : (r s : Run) (ds : List Dot) (low high : ℕ) → first_of s ≡ first_of r → s.hi ≡ r.hi + low → drawn s (grouped (drop low ds)) ≡ drawn r (grouped ds) → low ≤ high → high ≤ low → high ≤ length ds
-    → (high < length ds → (d : Dot) → leads_by (high + 1) (last_of r) (get_or ds high d) ≡ false) → slice_get (drawn r (grouped ds)) 0 ≡ Some s
+pub drawn_whole : (r s : Run) (ds : List Dot) (low high : ℕ) → first_of s ≡ first_of r → s.hi ≡ r.hi + low → put_run s (runs_of_dots (drop low ds)) ≡ put_run r (runs_of_dots ds) → low ≤ high → high ≤ low → high ≤ length ds
+    → (high < length ds → (d : Dot) → leads_by (high + 1) (last_of r) (get_or ds high d) ≡ false) → slice_get (put_run r (runs_of_dots ds)) 0 ≡ Some s
 drawn_whole r s ds low high first last whole le ge within apart =
     let at : high ≡ low = omega arith in
     let e : Dot = first_of r in

@@ -10,9 +10,9 @@ abbrev pub leads_by : ℕ → Dot → Dot → Bool
 leads_by steps d e = (d.replica == e.replica) && (d.seq + steps == e.seq)
 
 -- a run, and runs after it, the first of which may go on where it ends
-abbrev pub drawn : Run → List Run → List Run
-drawn r [] = r ∷ []
-drawn r (s ∷ rs) = if leads_to (last_of r) (first_of s) then record { replica = r.replica; lo = r.lo; hi = s.hi } ∷ rs else (r ∷ s ∷ rs)
+abbrev pub put_run : Run → List Run → List Run
+put_run r [] = r ∷ []
+put_run r (s ∷ rs) = if leads_to (last_of r) (first_of s) then record { replica = r.replica; lo = r.lo; hi = s.hi } ∷ rs else (r ∷ s ∷ rs)
 
 -- each of the dots, the last first, put in front of the runs
 abbrev pub put_dots : List Dot → List Run → List Run

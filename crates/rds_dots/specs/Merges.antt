@@ -8,17 +8,17 @@ use Rattle.std.specs.Ordering.{is_lt}
 use Rattle.std.specs.declared.cmp.Ordering.TheVariants.{Less, Equal, Greater}
 use Rattle.rds_dots.specs.Dots.{dot_cmp}
 use Rattle.rds_dots.specs.Ascending.{is_above, ascends}
-use Rattle.rds_dots.specs.Merged.{merged, merge_onto, by_order}
+use Rattle.rds_dots.specs.Merged.{merge_of, merge_onto, by_order}
 use Rattle.rds_dots.specs.Order.{dots_total, dots_exact, after_before}
 
 -- nothing to draw in
-pub merged-[] : (xs : List Dot) → merged xs [] ≡ xs
-merged-[] [] = refl
-merged-[] (x ∷ xs) = ap (λ l. x ∷ l) (merged-[] xs)
+pub merge_of-[] : (xs : List Dot) → merge_of xs [] ≡ xs
+merge_of-[] [] = refl
+merge_of-[] (x ∷ xs) = ap (λ l. x ∷ l) (merge_of-[] xs)
 
 -- nothing more to draw in
-pub merged_end : (xs ys : List Dot) → length ys ≡ 0 → merged xs ys ≡ xs
-merged_end xs [] none = merged-[] xs
+pub merged_end : (xs ys : List Dot) → length ys ≡ 0 → merge_of xs ys ≡ xs
+merged_end xs [] none = merge_of-[] xs
 merged_end xs (y ∷ ys) none = absurd (omega arith)
 
 or_swap : (a b c : Bool) → (a || (b || c)) ≡ (b || (a || c))
@@ -53,9 +53,9 @@ module _ (p : Dot → Bool) where
         | Greater ↦ λ is. ap (λ b. p y || b) again ∙ or_swap (p y) _ _
       ] refl
 
-  pub any-merged : (xs ys : List Dot) → list_any p (merged xs ys) ≡ (list_any p xs || list_any p ys)
-  any-merged [] ys = refl
-  any-merged (x ∷ xs) ys = any-merge_onto x xs (merged xs) (any-merged xs) ys
+  pub any-merge_of : (xs ys : List Dot) → list_any p (merge_of xs ys) ≡ (list_any p xs || list_any p ys)
+  any-merge_of [] ys = refl
+  any-merge_of (x ∷ xs) ys = any-merge_onto x xs (merge_of xs) (any-merge_of xs) ys
 
   -- and what holds of both holds of it
   all-merge_onto : (x : Dot) (xs : List Dot) (rest : List Dot → List Dot) → ((ys : List Dot) → list_all p (rest ys) ≡ (list_all p xs && list_all p ys)) → (ys : List Dot) → list_all p (merge_onto x rest ys) ≡ ((p x && list_all p xs) && list_all p ys)
@@ -68,9 +68,9 @@ module _ (p : Dot → Bool) where
         | Greater ↦ λ is. ap (λ b. p y && b) again ∙ and_swap (p y) _ _
       ] refl
 
-  pub all-merged : (xs ys : List Dot) → list_all p (merged xs ys) ≡ (list_all p xs && list_all p ys)
-  all-merged [] ys = refl
-  all-merged (x ∷ xs) ys = all-merge_onto x xs (merged xs) (all-merged xs) ys
+  pub all-merge_of : (xs ys : List Dot) → list_all p (merge_of xs ys) ≡ (list_all p xs && list_all p ys)
+  all-merge_of [] ys = refl
+  all-merge_of (x ∷ xs) ys = all-merge_onto x xs (merge_of xs) (all-merge_of xs) ys
 
 pub above : (x y : Dot) → dot_cmp x y ≡ Less → is_above x y ≡ true
 above x y is = ap is_lt is
@@ -93,6 +93,6 @@ ascends-merge_onto x xs rest all asc front (y ∷ ys) rise =
     ] refl
 
 -- a merge of two lists that rise rises
-pub ascends-merged : (xs ys : List Dot) → ascends xs ≡ true → ascends ys ≡ true → ascends (merged xs ys) ≡ true
-ascends-merged [] ys a b = b
-ascends-merged (x ∷ xs) ys a b = ascends-merge_onto x xs (merged xs) (λ p. all-merged p xs) (λ zs. ascends-merged xs zs (and_right (list_all (is_above x) xs) _ a)) (and_left (list_all (is_above x) xs) _ a) ys b
+pub ascends-merge_of : (xs ys : List Dot) → ascends xs ≡ true → ascends ys ≡ true → ascends (merge_of xs ys) ≡ true
+ascends-merge_of [] ys a b = b
+ascends-merge_of (x ∷ xs) ys a b = ascends-merge_onto x xs (merge_of xs) (λ p. all-merge_of p xs) (λ zs. ascends-merge_of xs zs (and_right (list_all (is_above x) xs) _ a)) (and_left (list_all (is_above x) xs) _ a) ys b

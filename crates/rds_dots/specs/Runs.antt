@@ -6,7 +6,7 @@ use Rattle.rds_dots.specs.declared.dot.Run.{Run}
 use Rattle.rds_dots.specs.declared.dot.TheConstants.{MAX_SEQ}
 use Rattle.std.specs.FinSet as set
 use Rattle.rds_dots.specs.Dots.{Dots, in_run, first_of, last_of, leads_to, comes_after}
-use Rattle.rds_dots.specs.Merged.{merged}
+use Rattle.rds_dots.specs.Merged.{merge_of}
 
 -- whether one of the runs has the dot
 abbrev pub covers : List Run → Dot → Bool
@@ -47,18 +47,18 @@ put_dot d (r ∷ rs) =
     if leads_to d (first_of r) then record { replica = d.replica; lo = d.seq; hi = r.hi } ∷ rs else (record { replica = d.replica; lo = d.seq; hi = d.seq } ∷ r ∷ rs)
 
 -- the maximal runs of dots that rise
-abbrev pub grouped : List Dot → List Run
-grouped [] = []
-grouped (d ∷ ds) = put_dot d (grouped ds)
+abbrev pub runs_of_dots : List Dot → List Run
+runs_of_dots [] = []
+runs_of_dots (d ∷ ds) = put_dot d (runs_of_dots ds)
 
 -- dots in any order, in rising order
-abbrev pub arranged : List Dot → List Dot
-arranged [] = []
-arranged (d ∷ ds) = merged (d ∷ []) (arranged ds)
+abbrev pub dots_in_order : List Dot → List Dot
+dots_in_order [] = []
+dots_in_order (d ∷ ds) = merge_of (d ∷ []) (dots_in_order ds)
 
 -- the maximal runs of a set, in order
 unfoldable pub runs_of : Dots → List Run
-runs_of s = grouped (arranged (set.items s))
+runs_of s = runs_of_dots (dots_in_order (set.items s))
 
 -- the maximal runs of a set rise with gaps between, and have its dots and no others
 pub record AreRuns (s : Dots) (rs : List Run) : Type 0 where

@@ -13,11 +13,11 @@ use Rattle.rds_dots.specs.declared.dot.Run.{Run}
 use Rattle.rds_dots.specs.Dots.{Dots, dot_cmp, is_dot, in_run, first_of}
 use Rattle.rds_dots.specs.Ascending.{is_above, ascends}
 use Rattle.rds_dots.specs.Listed.{lists}
-use Rattle.rds_dots.specs.Merges.{any-merged, ascends-merged}
+use Rattle.rds_dots.specs.Merges.{any-merge_of, ascends-merge_of}
 use Rattle.rds_names.specs.Conditions.{and_left, and_right, and_true}
 use Rattle.rds_dots.specs.Order.{dots_total}
 use Rattle.rds_dots.specs.Sets.{contains_list, dot_limits, tied_is}
-use Rattle.rds_dots.specs.Runs.{covers, place, start, stop, begins_past, are_maximal, put_dot, grouped, arranged, runs_of}
+use Rattle.rds_dots.specs.Runs.{covers, place, start, stop, begins_past, are_maximal, put_dot, runs_of_dots, dots_in_order, runs_of}
 pub use Rattle.rds_dots.specs.Runs.{AreRuns}
 use Rattle.rds_dots.specs.RunFacts.{Bounds, Parts, parts_of, maximal_by, spans, has, lt_by, begins_later, has_past, has_none, covers_is}
 
@@ -162,15 +162,15 @@ place_below a s b t p q h = grind (arith, nat_tests)
 
 -- dots that rise, grouped
 pub record IsGrouped (ds : List Dot) : Type 0 where
-  pub maximal : are_maximal (grouped ds) ≡ true
-  pub same : (q : Dot) → covers (grouped ds) q ≡ lists ds q
+  pub maximal : are_maximal (runs_of_dots ds) ≡ true
+  pub same : (q : Dot) → covers (runs_of_dots ds) q ≡ lists ds q
 
-begins-grouped : (d : Dot) (ds : List Dot) → is_dot d ≡ true → list_all is_dot ds ≡ true → list_all (is_above d) ds ≡ true → begins_past (place d.replica d.seq) (grouped ds) ≡ true
-begins-grouped d [] is all above = refl
-begins-grouped d (e ∷ ds) is all above =
+begins-runs_of_dots : (d : Dot) (ds : List Dot) → is_dot d ≡ true → list_all is_dot ds ≡ true → list_all (is_above d) ds ≡ true → begins_past (place d.replica d.seq) (runs_of_dots ds) ≡ true
+begins-runs_of_dots d [] is all above = refl
+begins-runs_of_dots d (e ∷ ds) is all above =
     let l = dot_limits d is in
     let m = dot_limits e (and_left (is_dot e) _ all) in
-    begins-put (place d.replica d.seq) e (grouped ds) (place_below d.replica d.seq e.replica e.seq l.within m.from_one (and_left (is_above d e) _ above))
+    begins-put (place d.replica d.seq) e (runs_of_dots ds) (place_below d.replica d.seq e.replica e.seq l.within m.from_one (and_left (is_above d e) _ above))
 
 pub are_grouped : (ds : List Dot) → ascends ds ≡ true → list_all is_dot ds ≡ true → IsGrouped ds
 are_grouped [] rise all = record { maximal = refl; same = λ q. refl }
@@ -179,17 +179,17 @@ are_grouped (d ∷ ds) rise all =
     let later = and_right (is_dot d) _ all in
     let again = are_grouped ds (and_right (list_all (is_above d) ds) _ rise) later in
     record {
-      maximal = maximal-put d (grouped ds) is again.maximal (begins-grouped d ds is later (and_left (list_all (is_above d) ds) _ rise));
-      same = λ q. covers-put d (grouped ds) again.maximal q ∙ ap (λ b. eq_by_cmp dot_cmp q d || b) (again.same q);
+      maximal = maximal-put d (runs_of_dots ds) is again.maximal (begins-runs_of_dots d ds is later (and_left (list_all (is_above d) ds) _ rise));
+      same = λ q. covers-put d (runs_of_dots ds) again.maximal q ∙ ap (λ b. eq_by_cmp dot_cmp q d || b) (again.same q);
     }
 
-ascends-arranged : (ds : List Dot) → ascends (arranged ds) ≡ true
-ascends-arranged [] = refl
-ascends-arranged (d ∷ ds) = ascends-merged (d ∷ []) (arranged ds) refl (ascends-arranged ds)
+ascends-dots_in_order : (ds : List Dot) → ascends (dots_in_order ds) ≡ true
+ascends-dots_in_order [] = refl
+ascends-dots_in_order (d ∷ ds) = ascends-merge_of (d ∷ []) (dots_in_order ds) refl (ascends-dots_in_order ds)
 
-lists-arranged : (ds : List Dot) (q : Dot) → lists (arranged ds) q ≡ lists ds q
-lists-arranged [] q = refl
-lists-arranged (d ∷ ds) q = any-merged (eq_by_cmp dot_cmp q) (d ∷ []) (arranged ds) ∙ ap (λ b. b || lists (arranged ds) q) (or-false (eq_by_cmp dot_cmp q d)) ∙ ap (λ b. eq_by_cmp dot_cmp q d || b) (lists-arranged ds q)
+lists-dots_in_order : (ds : List Dot) (q : Dot) → lists (dots_in_order ds) q ≡ lists ds q
+lists-dots_in_order [] q = refl
+lists-dots_in_order (d ∷ ds) q = any-merge_of (eq_by_cmp dot_cmp q) (d ∷ []) (dots_in_order ds) ∙ ap (λ b. b || lists (dots_in_order ds) q) (or-false (eq_by_cmp dot_cmp q d)) ∙ ap (λ b. eq_by_cmp dot_cmp q d || b) (lists-dots_in_order ds q)
 
 all_of_each : (p : Dot → Bool) (ds : List Dot) → ((q : Dot) → lists ds q ≡ true → p q ≡ true) → list_all p ds ≡ true
 all_of_each p [] each = refl
@@ -199,8 +199,8 @@ pub are_runs : (s : Dots) → ((d : Dot) → set.contains s d ≡ true → is_do
 unfolding runs_of
 are_runs s within =
     let ds = set.items s in
-    let same : (q : Dot) → lists (arranged ds) q ≡ set.contains s q = λ q. lists-arranged ds q ∙ sym (set.contains-items s q) in
-    let g = are_grouped (arranged ds) (ascends-arranged ds) (all_of_each is_dot (arranged ds) (λ q h. within q (sym (same q) ∙ h))) in
+    let same : (q : Dot) → lists (dots_in_order ds) q ≡ set.contains s q = λ q. lists-dots_in_order ds q ∙ sym (set.contains-items s q) in
+    let g = are_grouped (dots_in_order ds) (ascends-dots_in_order ds) (all_of_each is_dot (dots_in_order ds) (λ q h. within q (sym (same q) ∙ h))) in
     record { maximal = g.maximal; same = λ d. g.same d ∙ same d }
 
 pub covered_is_dot : (rs : List Run) → are_maximal rs ≡ true → (d : Dot) → covers rs d ≡ true → is_dot d ≡ true
@@ -214,7 +214,7 @@ runs_are s rs are =
     runs_unique (runs_of s) rs ours.maximal are.maximal (λ d. ours.same d ∙ sym (are.same d))
 
 -- the runs of a list of dots
-pub list_runs : (ds : List Dot) → ascends ds ≡ true → list_all is_dot ds ≡ true → runs_of (set.from_list ds) ≡ grouped ds
+pub list_runs : (ds : List Dot) → ascends ds ≡ true → list_all is_dot ds ≡ true → runs_of (set.from_list ds) ≡ runs_of_dots ds
 list_runs ds rise all =
     let g = are_grouped ds rise all in
-    runs_are (set.from_list ds) (grouped ds) (record { maximal = g.maximal; same = λ d. g.same d ∙ sym (contains_list ds d) })
+    runs_are (set.from_list ds) (runs_of_dots ds) (record { maximal = g.maximal; same = λ d. g.same d ∙ sym (contains_list ds d) })

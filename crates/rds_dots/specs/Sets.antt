@@ -12,18 +12,18 @@ use Rattle.rds_dots.specs.declared.dot.Run.{Run}
 use Rattle.rds_dots.specs.declared.dot.TheConstants.{MAX_SEQ}
 use Rattle.rds_dots.specs.Dots.{dot_cmp, is_dot, in_run, IsRun}
 use Rattle.rds_dots.specs.Ascending.{is_above, ascends}
-use Rattle.rds_dots.specs.Merged.{merged}
+use Rattle.rds_dots.specs.Merged.{merge_of}
 use Rattle.rds_dots.specs.Listed.{lists, dots_from, dots_of, without}
 use Rattle.rds_dots.specs.Order.{dots_total, dots_exact}
-use Rattle.rds_dots.specs.Merges.{any-merged}
+use Rattle.rds_dots.specs.Merges.{any-merge_of}
 
 pub contains_list : (ds : List Dot) (q : Dot) → set.contains (set.from_list {R = dot_cmp} ds) q ≡ lists ds q
 contains_list ds q = set.contains-from_list dots_total ds q
 
 -- a merge is the union
-pub list-merged : (ds es : List Dot) → set.from_list {R = dot_cmp} (merged ds es) ≡ set.union (set.from_list ds) (set.from_list es)
-list-merged ds es = set.same_set dots_total dots_exact _ _ (λ q.
-    contains_list (merged ds es) q ∙ any-merged (eq_by_cmp dot_cmp q) ds es
+pub list-merge_of : (ds es : List Dot) → set.from_list {R = dot_cmp} (merge_of ds es) ≡ set.union (set.from_list ds) (set.from_list es)
+list-merge_of ds es = set.same_set dots_total dots_exact _ _ (λ q.
+    contains_list (merge_of ds es) q ∙ any-merge_of (eq_by_cmp dot_cmp q) ds es
     ∙ sym (set.contains-union dots_total (set.from_list ds) (set.from_list es) q ∙ ap (λ b. b || set.contains (set.from_list {R = dot_cmp} es) q) (contains_list ds q) ∙ ap (λ b. lists ds q || b) (contains_list es q)))
 
 -- dots that tie are one

@@ -5,10 +5,10 @@ ghost use Rattle.rds_dots.specs.declared.dot.Run.{Run};
 ghost use Rattle.rds_dots.specs.declared.dot.Dot.{Dot};
 ghost use Rattle.rds_dots.specs.Ascending.{ascends};
 ghost use Rattle.rds_dots.specs.Dots.{IsRun, comes_after, first_of, last_of};
-ghost use Rattle.rds_dots.specs.Drawn.{drawn, leads_by, put_dots};
+ghost use Rattle.rds_dots.specs.Drawn.{put_run, leads_by, put_dots};
 ghost use Rattle.rds_dots.specs.Listed.{lists, dots_of, without};
-ghost use Rattle.rds_dots.specs.Merged.{merged};
-ghost use Rattle.rds_dots.specs.Runs.{first_after, grouped};
+ghost use Rattle.rds_dots.specs.Merged.{merge_of};
+ghost use Rattle.rds_dots.specs.Runs.{first_after, runs_of_dots};
 
 use crate::dot::{Dot, Run};
 use std::alloc::{AllocError, Global};
@@ -57,7 +57,7 @@ pub(crate) fn union_of(
     mut left: &[Dot],
     mut right: &[Dot],
 ) -> Result<Vec<Dot>, AllocError>
-    ensures { IfOk result (λ dots. dots.items ≡ merged left.entry.now right.entry.now) }
+    ensures { IfOk result (λ dots. dots.items ≡ merge_of left.entry.now right.entry.now) }
 {
     let mut dots = Vec::new(alloc);
     'merging: loop {
@@ -133,7 +133,7 @@ fn drawn_on(mut run: Run, rest: &[Dot]) -> Run
     requires { IsTrue (ascends (last_of run ∷ rest.now)) }
     ensures first { first_of result ≡ first_of run }
     ensures longer { run.hi ≤ result.hi }
-    ensures whole { slice_get (drawn run (grouped rest.now)) 0 ≡ Some result }
+    ensures whole { slice_get (put_run run (runs_of_dots rest.now)) 0 ≡ Some result }
 {
     let last = run.last();
     let mut low = 0;
@@ -179,7 +179,7 @@ fn drawn_back(before: &[Dot], mut run: Run) -> Run
 /// The first maximal run whose last dot comes after the given one.
 pub(crate) fn run_after(dots: &[Dot], after: Option<Dot>) -> Option<Run>
     requires { IsTrue (ascends dots.now) }
-    ensures { result ≡ first_after after (grouped dots.now) }
+    ensures { result ≡ first_after after (runs_of_dots dots.now) }
 {
     let (before, from) = split_after(dots, after);
     let (first, rest) = from.split_first()?;

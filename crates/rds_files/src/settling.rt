@@ -1,7 +1,7 @@
 //! What a session leaves of the replica in its file.
 ghost use Rattle.std.specs.Prelude.{◌≡◌, ◌↔◌, None, IfErr, IsTrue, OnOk};
 ghost use Rattle.rds_session.specs.Judging.{roster_among};
-ghost use Rattle.rds_session.specs.Received.{HasChecked, IsChecked, delivered};
+ghost use Rattle.rds_session.specs.Received.{HasChecked, IsChecked, delivery_of};
 ghost use Rattle.rds_state.specs.Grown.{OneBegins};
 ghost use Rattle.rds_files.specs.Settling.{IsJoined, IsSameReplica, RefusesJoin, Settles, SettlesDelta};
 
@@ -82,8 +82,8 @@ pub fn settle<'a, H: Disk, S: DotSet>(
 ) -> Settlement<'a, S>
 where
     H::File: LockFile,
-    requires checked { HasChecked file.now.kept (delivered received roster) }
-    ensures settles { Settles file.now.path file.now.kept (delivered received roster) result.settled result.file }
+    requires checked { HasChecked file.now.kept (delivery_of received roster) }
+    ensures settles { Settles file.now.path file.now.kept (delivery_of received roster) result.settled result.file }
 {
     let Some(delta) = received else {
         return Settlement::without_file(Settled::Nothing);

@@ -5,7 +5,7 @@ use Rattle.rds_dots.specs.declared.dot.Run.{Run}
 use Rattle.rds_dots.specs.Runs.{start, stop, begins_past, are_maximal}
 use Rattle.rds_dots.specs.RunFacts.{Bounds, parts_of, maximal_by, spans, has, lt_of, lt_by, start_stop, begins_later}
 use Rattle.rds_gaps.specs.Operations.{IsUnion}
-use Rattle.rds_gaps.specs.Inserted.{hull, inserted}
+use Rattle.rds_gaps.specs.Inserted.{hull, insertion}
 use Rattle.rds_gaps.proofs.Facts.{ge_of, touching, or_none, or_assoc, or_last}
 
 low_of : (a b : ℕ) → 1 ≤ a → 1 ≤ b → 1 ≤ cond (ltb a b) a b
@@ -65,31 +65,31 @@ spans-hull r z b c p q n =
       ] refl)
     ] refl
 
-begins-inserted : (m : ℕ) (rs : List Run) (z : Run) → are_maximal rs ≡ true → Bounds z → begins_past m rs ≡ true → m < start z → begins_past m (inserted rs z) ≡ true
-begins-inserted m [] z max c begins lt = lt_by m (start z) lt
-begins-inserted m (r ∷ rs) z max c begins lt =
+begins-insertion : (m : ℕ) (rs : List Run) (z : Run) → are_maximal rs ≡ true → Bounds z → begins_past m rs ≡ true → m < start z → begins_past m (insertion rs z) ≡ true
+begins-insertion m [] z max c begins lt = lt_by m (start z) lt
+begins-insertion m (r ∷ rs) z max c begins lt =
     let p = parts_of r rs max in
     let first = lt_of m (start r) begins in
     let rise = start_stop r p.bounds in
-    elim (ltb (stop r + 1) (start z)) as (λ t. ltb (stop r + 1) (start z) ≡ t → begins_past m (cond t (r ∷ inserted rs z) (cond (ltb (stop z + 1) (start r)) (z ∷ r ∷ rs) (inserted rs (hull r z)))) ≡ true) [
+    elim (ltb (stop r + 1) (start z)) as (λ t. ltb (stop r + 1) (start z) ≡ t → begins_past m (cond t (r ∷ insertion rs z) (cond (ltb (stop z + 1) (start r)) (z ∷ r ∷ rs) (insertion rs (hull r z)))) ≡ true) [
       | true ↦ λ _. begins
-      | false ↦ λ low. elim (ltb (stop z + 1) (start r)) as (λ u. ltb (stop z + 1) (start r) ≡ u → begins_past m (cond u (z ∷ r ∷ rs) (inserted rs (hull r z))) ≡ true) [
+      | false ↦ λ low. elim (ltb (stop z + 1) (start r)) as (λ u. ltb (stop z + 1) (start r) ≡ u → begins_past m (cond u (z ∷ r ∷ rs) (insertion rs (hull r z))) ≡ true) [
         | true ↦ λ _. lt_by m (start z) lt
         | false ↦ λ high. (
             let same = touching r z p.bounds c (ge_of (stop r + 1) (start z) low) (ge_of (stop z + 1) (start r) high) in
-            begins-inserted m rs (hull r z) p.rest (bounds-hull r z p.bounds c) (begins_later rs m (stop r + 1) (omega arith) p.apart) (first_past m r z same first lt))
+            begins-insertion m rs (hull r z) p.rest (bounds-hull r z p.bounds c) (begins_later rs m (stop r + 1) (omega arith) p.apart) (first_past m r z same first lt))
       ] refl
     ] refl
 
-maximal-inserted : (rs : List Run) (z : Run) → are_maximal rs ≡ true → Bounds z → are_maximal (inserted rs z) ≡ true
-maximal-inserted [] z max c = maximal_by z [] c refl refl
-maximal-inserted (r ∷ rs) z max c =
+maximal-insertion : (rs : List Run) (z : Run) → are_maximal rs ≡ true → Bounds z → are_maximal (insertion rs z) ≡ true
+maximal-insertion [] z max c = maximal_by z [] c refl refl
+maximal-insertion (r ∷ rs) z max c =
     let p = parts_of r rs max in
-    elim (ltb (stop r + 1) (start z)) as (λ t. ltb (stop r + 1) (start z) ≡ t → are_maximal (cond t (r ∷ inserted rs z) (cond (ltb (stop z + 1) (start r)) (z ∷ r ∷ rs) (inserted rs (hull r z)))) ≡ true) [
-      | true ↦ λ low. maximal_by r (inserted rs z) p.bounds (begins-inserted (stop r + 1) rs z p.rest c p.apart (lt_of (stop r + 1) (start z) low)) (maximal-inserted rs z p.rest c)
-      | false ↦ λ _. elim (ltb (stop z + 1) (start r)) as (λ u. ltb (stop z + 1) (start r) ≡ u → are_maximal (cond u (z ∷ r ∷ rs) (inserted rs (hull r z))) ≡ true) [
+    elim (ltb (stop r + 1) (start z)) as (λ t. ltb (stop r + 1) (start z) ≡ t → are_maximal (cond t (r ∷ insertion rs z) (cond (ltb (stop z + 1) (start r)) (z ∷ r ∷ rs) (insertion rs (hull r z)))) ≡ true) [
+      | true ↦ λ low. maximal_by r (insertion rs z) p.bounds (begins-insertion (stop r + 1) rs z p.rest c p.apart (lt_of (stop r + 1) (start z) low)) (maximal-insertion rs z p.rest c)
+      | false ↦ λ _. elim (ltb (stop z + 1) (start r)) as (λ u. ltb (stop z + 1) (start r) ≡ u → are_maximal (cond u (z ∷ r ∷ rs) (insertion rs (hull r z))) ≡ true) [
         | true ↦ λ high. maximal_by z (r ∷ rs) c high max
-        | false ↦ λ _. maximal-inserted rs (hull r z) p.rest (bounds-hull r z p.bounds c)
+        | false ↦ λ _. maximal-insertion rs (hull r z) p.rest (bounds-hull r z p.bounds c)
       ] refl
     ] refl
 
@@ -106,26 +106,26 @@ or_turn true true c = refl
 or_turn true false c = refl
 or_turn false b c = refl
 
-has-inserted : (rs : List Run) (z : Run) → are_maximal rs ≡ true → Bounds z → (n : ℕ) → has (inserted rs z) n ≡ (has rs n || spans z n)
-has-inserted [] z max c n = or_none (spans z n)
-has-inserted (r ∷ rs) z max c n =
+has-insertion : (rs : List Run) (z : Run) → are_maximal rs ≡ true → Bounds z → (n : ℕ) → has (insertion rs z) n ≡ (has rs n || spans z n)
+has-insertion [] z max c n = or_none (spans z n)
+has-insertion (r ∷ rs) z max c n =
     let p = parts_of r rs max in
-    elim (ltb (stop r + 1) (start z)) as (λ t. ltb (stop r + 1) (start z) ≡ t → has (cond t (r ∷ inserted rs z) (cond (ltb (stop z + 1) (start r)) (z ∷ r ∷ rs) (inserted rs (hull r z)))) n ≡ (has (r ∷ rs) n || spans z n)) [
-      | true ↦ λ _. ap (λ x. spans r n || x) (has-inserted rs z p.rest c n) ∙ sym (or_assoc (spans r n) (has rs n) (spans z n))
-      | false ↦ λ low. elim (ltb (stop z + 1) (start r)) as (λ u. ltb (stop z + 1) (start r) ≡ u → has (cond u (z ∷ r ∷ rs) (inserted rs (hull r z))) n ≡ (has (r ∷ rs) n || spans z n)) [
+    elim (ltb (stop r + 1) (start z)) as (λ t. ltb (stop r + 1) (start z) ≡ t → has (cond t (r ∷ insertion rs z) (cond (ltb (stop z + 1) (start r)) (z ∷ r ∷ rs) (insertion rs (hull r z)))) n ≡ (has (r ∷ rs) n || spans z n)) [
+      | true ↦ λ _. ap (λ x. spans r n || x) (has-insertion rs z p.rest c n) ∙ sym (or_assoc (spans r n) (has rs n) (spans z n))
+      | false ↦ λ low. elim (ltb (stop z + 1) (start r)) as (λ u. ltb (stop z + 1) (start r) ≡ u → has (cond u (z ∷ r ∷ rs) (insertion rs (hull r z))) n ≡ (has (r ∷ rs) n || spans z n)) [
         | true ↦ λ _. or_back (spans r n) (has rs n) (spans z n)
         | false ↦ λ high.
-            has-inserted rs (hull r z) p.rest (bounds-hull r z p.bounds c) n
+            has-insertion rs (hull r z) p.rest (bounds-hull r z p.bounds c) n
             ∙ ap (λ x. has rs n || x) (spans-hull r z p.bounds c (ge_of (stop r + 1) (start z) low) (ge_of (stop z + 1) (start r) high) n)
             ∙ or_turn (spans r n) (has rs n) (spans z n)
       ] refl
     ] refl
 
 -- a run inserted among runs is a union with it
-pub inserted_union : (rs : List Run) (z : Run) → are_maximal rs ≡ true → Bounds z → IsUnion rs (z ∷ []) (inserted rs z)
-inserted_union rs z max c = record { maximal = maximal-inserted rs z max c; same = λ n. has-inserted rs z max c n ∙ or_last (has rs n) (spans z n) }
+pub inserted_union : (rs : List Run) (z : Run) → are_maximal rs ≡ true → Bounds z → IsUnion rs (z ∷ []) (insertion rs z)
+inserted_union rs z max c = record { maximal = maximal-insertion rs z max c; same = λ n. has-insertion rs z max c n ∙ or_last (has rs n) (spans z n) }
 
 -- inserted in or left as they were, the runs are maximal
-pub either_inserted : {T E : Type 0} (r : Result T E) (old new : List Run) (z : Run) → OnOk r (new ≡ inserted old z) → OnErr r (new ≡ old) → are_maximal old ≡ true → Bounds z → are_maximal new ≡ true
+pub either_inserted : {T E : Type 0} (r : Result T E) (old new : List Run) (z : Run) → OnOk r (new ≡ insertion old z) → OnErr r (new ≡ old) → are_maximal old ≡ true → Bounds z → are_maximal new ≡ true
 either_inserted (Ok x) old new z a b om c = ap are_maximal a ∙ (inserted_union old z om c).maximal
 either_inserted (Err x) old new z a b om c = ap are_maximal b ∙ om

@@ -4,7 +4,7 @@ use Rattle.std.proofs.lemmas.Option.{slice_get_within, slice_get-get_or}
 use Rattle.rds_dots.specs.declared.dot.Run.{Run}
 use Rattle.rds_dots.specs.Runs.{start, stop, is_run, are_maximal}
 use Rattle.rds_dots.specs.RunFacts.{parts_of, is_run_by, lt_by}
-use Rattle.rds_gaps.specs.Added.{joined, added, added_behind, last_start, last_start_behind}
+use Rattle.rds_gaps.specs.Added.{stretch_of, addition, added_behind, last_start, last_start_behind}
 use Rattle.rds_gaps.proofs.Facts.{not_lt, le_by}
 
 pub run_at : (rs : List Run) → are_maximal rs ≡ true → (d : Run) (i : ℕ) → i < length rs → is_run (get_or rs i d) ≡ true
@@ -23,12 +23,12 @@ get-final r (s ∷ rs) d = get-final s rs d
 
 push_behind : (r : Run) (rs : List Run) (z : Run) → ltb (stop (final r rs) + 1) (start z) ≡ true → (r ∷ rs) ++ z ∷ [] ≡ added_behind r rs z
 unfolding final
-push_behind r [] z is = ap (λ b. cond b (r ∷ z ∷ []) (joined r z ∷ [])) (sym is)
+push_behind r [] z is = ap (λ b. cond b (r ∷ z ∷ []) (stretch_of r z ∷ [])) (sym is)
 push_behind r (s ∷ rs) z is = ap (λ l. r ∷ l) (push_behind s rs z is)
 
-set_behind : (r : Run) (rs : List Run) (z : Run) → ltb (stop (final r rs) + 1) (start z) ≡ false → slice_set (r ∷ rs) (length rs) (joined (final r rs) z) ≡ added_behind r rs z
+set_behind : (r : Run) (rs : List Run) (z : Run) → ltb (stop (final r rs) + 1) (start z) ≡ false → slice_set (r ∷ rs) (length rs) (stretch_of (final r rs) z) ≡ added_behind r rs z
 unfolding final
-set_behind r [] z is = ap (λ b. cond b (r ∷ z ∷ []) (joined r z ∷ [])) (sym is)
+set_behind r [] z is = ap (λ b. cond b (r ∷ z ∷ []) (stretch_of r z ∷ [])) (sym is)
 set_behind r (s ∷ rs) z is = ap (λ l. r ∷ l) (set_behind s rs z is)
 
 set_final : (r : Run) (rs : List Run) → slice_set (r ∷ rs) (length rs) (final r rs) ≡ r ∷ rs
@@ -42,41 +42,41 @@ before_end r rs = omega arith
 last_is : (r : Run) (rs : List Run) (q : Run) → q ≡ get_or (r ∷ rs) (length (r ∷ rs) - 1) q → q ≡ final r rs
 last_is r rs q e = e ∙ ap (λ i. get_or (r ∷ rs) i q) (before_end r rs) ∙ get-final r rs q
 
-pub push_added : (rs : List Run) (z q : Run) → 0 < length rs → q ≡ get_or rs (length rs - 1) q → ltb (stop q + 1) (start z) ≡ true → rs ++ z ∷ [] ≡ added rs z
+pub push_added : (rs : List Run) (z q : Run) → 0 < length rs → q ≡ get_or rs (length rs - 1) q → ltb (stop q + 1) (start z) ≡ true → rs ++ z ∷ [] ≡ addition rs z
 push_added [] z q lt e is = absurd (omega arith)
 push_added (r ∷ rs) z q lt e is = push_behind r rs z (ap (λ x. ltb (stop x + 1) (start z)) (sym (last_is r rs q e)) ∙ is)
 
-pub set_added : (rs : List Run) (z q : Run) → 0 < length rs → q ≡ get_or rs (length rs - 1) q → ltb (stop q + 1) (start z) ≡ false → slice_set rs (length rs - 1) (joined q z) ≡ added rs z
+pub set_added : (rs : List Run) (z q : Run) → 0 < length rs → q ≡ get_or rs (length rs - 1) q → ltb (stop q + 1) (start z) ≡ false → slice_set rs (length rs - 1) (stretch_of q z) ≡ addition rs z
 set_added [] z q lt e is = absurd (omega arith)
 set_added (r ∷ rs) z q lt e is =
-    ap (λ i. slice_set (r ∷ rs) i (joined q z)) (before_end r rs) ∙ ap (λ x. slice_set (r ∷ rs) (length rs) (joined x z)) (last_is r rs q e)
+    ap (λ i. slice_set (r ∷ rs) i (stretch_of q z)) (before_end r rs) ∙ ap (λ x. slice_set (r ∷ rs) (length rs) (stretch_of x z)) (last_is r rs q e)
     ∙ set_behind r rs z (ap (λ x. ltb (stop x + 1) (start z)) (sym (last_is r rs q e)) ∙ is)
 
-pub same_added : (rs : List Run) (z q : Run) → 0 < length rs → q ≡ get_or rs (length rs - 1) q → ltb (stop q + 1) (start z) ≡ false → joined q z ≡ q → rs ≡ added rs z
+pub same_added : (rs : List Run) (z q : Run) → 0 < length rs → q ≡ get_or rs (length rs - 1) q → ltb (stop q + 1) (start z) ≡ false → stretch_of q z ≡ q → rs ≡ addition rs z
 same_added [] z q lt e is all = absurd (omega arith)
 same_added (r ∷ rs) z q lt e is all =
     sym (set_final r rs) ∙ ap (λ x. slice_set (r ∷ rs) (length rs) x) (sym (last_is r rs q e) ∙ sym all)
-    ∙ ap (λ x. slice_set (r ∷ rs) (length rs) (joined x z)) (last_is r rs q e) ∙ set_behind r rs z (ap (λ x. ltb (stop x + 1) (start z)) (sym (last_is r rs q e)) ∙ is)
+    ∙ ap (λ x. slice_set (r ∷ rs) (length rs) (stretch_of x z)) (last_is r rs q e) ∙ set_behind r rs z (ap (λ x. ltb (stop x + 1) (start z)) (sym (last_is r rs q e)) ∙ is)
 
-pub added_to_none : (rs : List Run) (z : Run) → length rs ≡ 0 → rs ++ z ∷ [] ≡ added rs z
+pub added_to_none : (rs : List Run) (z : Run) → length rs ≡ 0 → rs ++ z ∷ [] ≡ addition rs z
 added_to_none [] z e = refl
 added_to_none (r ∷ rs) z e = absurd (omega arith)
 
-longer_is : (q z : Run) → q.hi < z.hi → let long : Run = record { replica = q.replica; lo = q.lo; hi = z.hi } in long ≡ joined q z
+longer_is : (q z : Run) → q.hi < z.hi → let long : Run = record { replica = q.replica; lo = q.lo; hi = z.hi } in long ≡ stretch_of q z
 longer_is q z lt = let long : Run = record { replica = q.replica; lo = q.lo; hi = z.hi } in ap (λ b. cond b long q) (sym (lt_by q.hi z.hi lt))
 
-pub set_longer : (rs : List Run) (z q : Run) (n : ℕ) → n ≡ length rs → 0 < n → q ≡ get_or rs (n - 1) q → false ≡ ltb (stop q + 1) (start z) → q.hi < z.hi → let long : Run = record { replica = q.replica; lo = q.lo; hi = z.hi } in slice_set rs (n - 1) long ≡ added rs z
+pub set_longer : (rs : List Run) (z q : Run) (n : ℕ) → n ≡ length rs → 0 < n → q ≡ get_or rs (n - 1) q → false ≡ ltb (stop q + 1) (start z) → q.hi < z.hi → let long : Run = record { replica = q.replica; lo = q.lo; hi = z.hi } in slice_set rs (n - 1) long ≡ addition rs z
 set_longer rs z q n len lt e touch longer =
     let long : Run = record { replica = q.replica; lo = q.lo; hi = z.hi } in
     ap (λ m. slice_set rs (m - 1) long) len ∙ ap (λ v. slice_set rs (length rs - 1) v) (longer_is q z longer)
     ∙ set_added rs z q (omega arith) (e ∙ ap (λ m. get_or rs (m - 1) q) len) (sym touch)
 
-pub same_inside : (rs : List Run) (z q : Run) (n : ℕ) → n ≡ length rs → 0 < n → q ≡ get_or rs (n - 1) q → false ≡ ltb (stop q + 1) (start z) → z.hi ≤ q.hi → rs ≡ added rs z
+pub same_inside : (rs : List Run) (z q : Run) (n : ℕ) → n ≡ length rs → 0 < n → q ≡ get_or rs (n - 1) q → false ≡ ltb (stop q + 1) (start z) → z.hi ≤ q.hi → rs ≡ addition rs z
 same_inside rs z q n len lt e touch le =
     let long : Run = record { replica = q.replica; lo = q.lo; hi = z.hi } in
     same_added rs z q (omega arith) (e ∙ ap (λ m. get_or rs (m - 1) q) len) (sym touch) (ap (λ b. cond b long q) (not_lt q.hi z.hi le))
 
-pub push_apart : (rs : List Run) (z q : Run) (n : ℕ) → n ≡ length rs → 0 < n → q ≡ get_or rs (n - 1) q → true ≡ ltb (stop q + 1) (start z) → rs ++ z ∷ [] ≡ added rs z
+pub push_apart : (rs : List Run) (z q : Run) (n : ℕ) → n ≡ length rs → 0 < n → q ≡ get_or rs (n - 1) q → true ≡ ltb (stop q + 1) (start z) → rs ++ z ∷ [] ≡ addition rs z
 push_apart rs z q n len lt e apart = push_added rs z q (omega arith) (e ∙ ap (λ m. get_or rs (m - 1) q) len) (sym apart)
 
 start-final : (r : Run) (rs : List Run) → last_start_behind r rs ≡ start (final r rs)

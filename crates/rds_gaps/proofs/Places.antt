@@ -11,29 +11,29 @@ use Rattle.rds_dots.specs.Dots.{is_dot}
 use Rattle.rds_dots.specs.Runs.{place, start, stop, is_run, are_maximal}
 use Rattle.rds_dots.specs.RunFacts.{Bounds, bounds_of, lt_of, start_stop, covers_is}
 use Rattle.rds_dots.specs.RunsOf.{runs_unique}
-use Rattle.rds_gaps.specs.Added.{added, last_start}
+use Rattle.rds_gaps.specs.Added.{addition, last_start}
 use Rattle.rds_gaps.specs.Lookup.{IsParted}
-use Rattle.rds_gaps.specs.Inserted.{hull, inserted, IsCoalesced, Reaches}
+use Rattle.rds_gaps.specs.Inserted.{hull, insertion, IsCoalesced, Reaches}
 use Rattle.rds_gaps.proofs.Facts.{not_lt}
 use Rattle.rds_gaps.proofs.Lasts.{run_at}
 use Rattle.rds_gaps.proofs.Inserts.{bounds-hull, start-hull, inserted_union}
 use Rattle.rds_gaps.proofs.Unions.{added_union}
 
-inserted_apart : (r : Run) (rs : List Run) (z : Run) → ltb (stop r + 1) (start z) ≡ true → inserted (r ∷ rs) z ≡ r ∷ inserted rs z
-inserted_apart r rs z e = ap (λ b. cond b (r ∷ inserted rs z) (cond (ltb (stop z + 1) (start r)) (z ∷ r ∷ rs) (inserted rs (hull r z)))) e
+inserted_apart : (r : Run) (rs : List Run) (z : Run) → ltb (stop r + 1) (start z) ≡ true → insertion (r ∷ rs) z ≡ r ∷ insertion rs z
+inserted_apart r rs z e = ap (λ b. cond b (r ∷ insertion rs z) (cond (ltb (stop z + 1) (start r)) (z ∷ r ∷ rs) (insertion rs (hull r z)))) e
 
-inserted_before : (r : Run) (rs : List Run) (z : Run) → ltb (stop r + 1) (start z) ≡ false → ltb (stop z + 1) (start r) ≡ true → inserted (r ∷ rs) z ≡ z ∷ r ∷ rs
+inserted_before : (r : Run) (rs : List Run) (z : Run) → ltb (stop r + 1) (start z) ≡ false → ltb (stop z + 1) (start r) ≡ true → insertion (r ∷ rs) z ≡ z ∷ r ∷ rs
 inserted_before r rs z e f =
-    ap (λ b. cond b (r ∷ inserted rs z) (cond (ltb (stop z + 1) (start r)) (z ∷ r ∷ rs) (inserted rs (hull r z)))) e
-    ∙ ap (λ b. cond b (z ∷ r ∷ rs) (inserted rs (hull r z))) f
+    ap (λ b. cond b (r ∷ insertion rs z) (cond (ltb (stop z + 1) (start r)) (z ∷ r ∷ rs) (insertion rs (hull r z)))) e
+    ∙ ap (λ b. cond b (z ∷ r ∷ rs) (insertion rs (hull r z))) f
 
-inserted_touching : (r : Run) (rs : List Run) (z : Run) → ltb (stop r + 1) (start z) ≡ false → ltb (stop z + 1) (start r) ≡ false → inserted (r ∷ rs) z ≡ inserted rs (hull r z)
+inserted_touching : (r : Run) (rs : List Run) (z : Run) → ltb (stop r + 1) (start z) ≡ false → ltb (stop z + 1) (start r) ≡ false → insertion (r ∷ rs) z ≡ insertion rs (hull r z)
 inserted_touching r rs z e f =
-    ap (λ b. cond b (r ∷ inserted rs z) (cond (ltb (stop z + 1) (start r)) (z ∷ r ∷ rs) (inserted rs (hull r z)))) e
-    ∙ ap (λ b. cond b (z ∷ r ∷ rs) (inserted rs (hull r z))) f
+    ap (λ b. cond b (r ∷ insertion rs z) (cond (ltb (stop z + 1) (start r)) (z ∷ r ∷ rs) (insertion rs (hull r z)))) e
+    ∙ ap (λ b. cond b (z ∷ r ∷ rs) (insertion rs (hull r z))) f
 
 -- the runs that end before it stay
-pub inserted_front : (rs : List Run) (i : ℕ) (z : Run) → ((k : ℕ) (d : Run) → k < i → k < length rs → ltb (stop (get_or rs k d) + 1) (start z) ≡ true) → inserted rs z ≡ take i rs ++ inserted (drop i rs) z
+pub inserted_front : (rs : List Run) (i : ℕ) (z : Run) → ((k : ℕ) (d : Run) → k < i → k < length rs → ltb (stop (get_or rs k d) + 1) (start z) ≡ true) → insertion rs z ≡ take i rs ++ insertion (drop i rs) z
 inserted_front [] zero z each = refl
 inserted_front [] (suc i) z each = refl
 inserted_front (r ∷ rs) zero z each = refl
@@ -45,7 +45,7 @@ pub record Coalescing (rs : List Run) (from : ℕ) (z : Run) (to : ℕ) (whole :
   pub within : to ≤ length rs
   pub is : Bounds whole
   pub low : start whole ≤ start z
-  pub same : inserted (drop from rs) z ≡ inserted (drop to rs) whole
+  pub same : insertion (drop from rs) z ≡ insertion (drop to rs) whole
   pub alone : to ≡ from → whole ≡ z
 
 pub begin_coalescing : (rs : List Run) (from : ℕ) (z : Run) → from ≤ length rs → is_run z ≡ true → Coalescing rs from z from z
@@ -65,7 +65,7 @@ coalesce_more rs from z to whole none more max reach d lt touch e =
       within = omega arith;
       is = bounds-hull r whole b d.is;
       low = omega arith;
-      same = d.same ∙ ap (λ l. inserted l whole) parts ∙ inserted_touching r (drop (to + 1) rs) whole (not_lt (stop r + 1) (start whole) (omega arith)) (sym touch);
+      same = d.same ∙ ap (λ l. insertion l whole) parts ∙ inserted_touching r (drop (to + 1) rs) whole (not_lt (stop r + 1) (start whole) (omega arith)) (sym touch);
       alone = λ h. absurd (omega arith);
     } in
     subst (Coalescing rs from z (to + 1)) (sym e) all
@@ -82,7 +82,7 @@ end_coalescing rs from z to whole none max d lt apart =
     record {
       in_order = d.in_order;
       within = d.within;
-      same = d.same ∙ ap (λ l. inserted l whole) parts ∙ inserted_before r (drop (to + 1) rs) whole (not_lt (stop r + 1) (start whole) (omega arith)) (sym apart) ∙ ap (λ l. whole ∷ l) (sym parts);
+      same = d.same ∙ ap (λ l. insertion l whole) parts ∙ inserted_before r (drop (to + 1) rs) whole (not_lt (stop r + 1) (start whole) (omega arith)) (sym apart) ∙ ap (λ l. whole ∷ l) (sym parts);
       alone = d.alone;
     }
 
@@ -95,7 +95,7 @@ none_left (r ∷ rs) (suc i) le = none_left rs i (omega arith)
 pub coalesced_all : (rs : List Run) (from : ℕ) (z : Run) (to : ℕ) (whole : Run) → Coalescing rs from z to whole → length rs ≤ to → IsCoalesced rs from z to whole
 coalesced_all rs from z to whole d le =
     let none = none_left rs to le in
-    record { in_order = d.in_order; within = d.within; same = d.same ∙ ap (λ l. inserted l whole) none ∙ ap (λ l. whole ∷ l) (sym none); alone = d.alone }
+    record { in_order = d.in_order; within = d.within; same = d.same ∙ ap (λ l. insertion l whole) none ∙ ap (λ l. whole ∷ l) (sym none); alone = d.alone }
 
 -- ---- the place where the run begins to touch
 
@@ -122,14 +122,14 @@ apart_below rs max z c i p k d lt l =
     let rises = b.rises in let one = b.one in let up = c.rises in let most = c.most in
     ends_apart z.replica z.lo r.replica r.hi c.one b.most (p.below k d lt) (omega arith) (omega arith)
 
-pub inserted_placed : (rs : List Run) → are_maximal rs ≡ true → (z : Run) → Bounds z → (i : ℕ) → IsParted (Some (dot_before z)) rs i → (to : ℕ) (whole : Run) → IsCoalesced rs i z to whole → inserted rs z ≡ take i rs ++ whole ∷ drop to rs
+pub inserted_placed : (rs : List Run) → are_maximal rs ≡ true → (z : Run) → Bounds z → (i : ℕ) → IsParted (Some (dot_before z)) rs i → (to : ℕ) (whole : Run) → IsCoalesced rs i z to whole → insertion rs z ≡ take i rs ++ whole ∷ drop to rs
 inserted_placed rs max z c i p to whole d = inserted_front rs i z (apart_below rs max z c i p) ∙ ap (λ l. take i rs ++ l) d.same
 
-pub inserted_alone : (rs : List Run) → are_maximal rs ≡ true → (z : Run) → Bounds z → (i : ℕ) → IsParted (Some (dot_before z)) rs i → (to : ℕ) (whole : Run) → IsCoalesced rs i z to whole → i ≡ to → take i rs ++ z ∷ drop i rs ≡ inserted rs z
+pub inserted_alone : (rs : List Run) → are_maximal rs ≡ true → (z : Run) → Bounds z → (i : ℕ) → IsParted (Some (dot_before z)) rs i → (to : ℕ) (whole : Run) → IsCoalesced rs i z to whole → i ≡ to → take i rs ++ z ∷ drop i rs ≡ insertion rs z
 inserted_alone rs max z c i p to whole d e =
     sym (inserted_placed rs max z c i p to whole d ∙ ap (λ x. take i rs ++ x ∷ drop to rs) (d.alone (sym e)) ∙ ap (λ t. take i rs ++ z ∷ drop t rs) (sym e))
 
-pub inserted_over : (rs : List Run) → are_maximal rs ≡ true → (z : Run) → Bounds z → (i : ℕ) → IsParted (Some (dot_before z)) rs i → (to : ℕ) (whole : Run) → IsCoalesced rs i z to whole → i < to → remove_range (slice_set rs i whole) (i + 1) to ≡ inserted rs z
+pub inserted_over : (rs : List Run) → are_maximal rs ≡ true → (z : Run) → Bounds z → (i : ℕ) → IsParted (Some (dot_before z)) rs i → (to : ℕ) (whole : Run) → IsCoalesced rs i z to whole → i < to → remove_range (slice_set rs i whole) (i + 1) to ≡ insertion rs z
 inserted_over rs max z c i p to whole d lt =
     let within = d.within in
     let one : i + 1 ≡ suc i = omega arith in
@@ -140,12 +140,12 @@ inserted_over rs max z c i p to whole d lt =
     ∙ sym (inserted_placed rs max z c i p to whole d)
 
 -- behind the last of the runs, adding is the same
-pub added_is_inserted : (rs : List Run) (z : Run) → are_maximal rs ≡ true → Bounds z → last_start rs ≤ start z → added rs z ≡ inserted rs z
+pub added_is_inserted : (rs : List Run) (z : Run) → are_maximal rs ≡ true → Bounds z → last_start rs ≤ start z → addition rs z ≡ insertion rs z
 added_is_inserted rs z max c le =
     let a = added_union rs z max c le in
     let b = inserted_union rs z max c in
-    runs_unique (added rs z) (inserted rs z) a.maximal b.maximal (λ d.
-    covers_is (added rs z) a.maximal d ∙ ap (λ x. is_dot d && x) (a.same (place d.replica d.seq) ∙ sym (b.same (place d.replica d.seq))) ∙ sym (covers_is (inserted rs z) b.maximal d))
+    runs_unique (addition rs z) (insertion rs z) a.maximal b.maximal (λ d.
+    covers_is (addition rs z) a.maximal d ∙ ap (λ x. is_dot d && x) (a.same (place d.replica d.seq) ∙ sym (b.same (place d.replica d.seq))) ∙ sym (covers_is (insertion rs z) b.maximal d))
 
 pub same_on_ok : {T E : Type 0} (r : Result T E) (new a b : List Run) → OnOk r (new ≡ a) → a ≡ b → OnOk r (new ≡ b)
 same_on_ok (Ok x) new a b h e = h ∙ e

@@ -8,7 +8,7 @@ use Rattle.rds_dots.specs.Order.{dots_total, dots_exact}
 use Rattle.rds_dots.specs.Runs.{covers, place, are_maximal, first_after, runs_of}
 use Rattle.rds_dots.specs.RunFacts.{Bounds, has, covers_is, maximal_by}
 use Rattle.std.proofs.Common.{Result, Ok, Err, OnOk, OnErr}
-use Rattle.rds_gaps.specs.Added.{added}
+use Rattle.rds_gaps.specs.Added.{addition}
 use Rattle.rds_gaps.specs.Operations.{IsUnion, IsDifference}
 use Rattle.rds_gaps.specs.RunSets.{set_of, dots_of, contains-set_of, runs_of-set_of}
 
@@ -65,6 +65,6 @@ front_of [] = refl
 front_of (r ∷ rs) = refl
 
 -- added or left alone, the runs are maximal
-pub either_maximal : {T E : Type 0} (r : Result T E) (old new : List Run) (z : Run) → OnOk r (new ≡ added old z) → OnErr r (new ≡ old) → are_maximal old ≡ true → are_maximal (added old z) ≡ true → are_maximal new ≡ true
+pub either_maximal : {T E : Type 0} (r : Result T E) (old new : List Run) (z : Run) → OnOk r (new ≡ addition old z) → OnErr r (new ≡ old) → are_maximal old ≡ true → are_maximal (addition old z) ≡ true → are_maximal new ≡ true
 either_maximal (Ok x) old new z a b om am = ap are_maximal a ∙ am
 either_maximal (Err x) old new z a b om am = ap are_maximal b ∙ om

@@ -4,18 +4,18 @@ use Rattle.rds_dots.specs.declared.dot.Run.{Run}
 use Rattle.rds_dots.specs.Runs.{start, stop}
 
 -- the first of two runs, to the end of the one that ends later
-abbrev pub joined : Run → Run → Run
-joined r s = if nat_lt r.hi s.hi then record { replica = r.replica; lo = r.lo; hi = s.hi } else r
+abbrev pub stretch_of : Run → Run → Run
+stretch_of r s = if nat_lt r.hi s.hi then record { replica = r.replica; lo = r.lo; hi = s.hi } else r
 
 -- a run put behind a first run and those that follow it
 abbrev pub added_behind : Run → List Run → Run → List Run
-added_behind r [] s = if nat_lt (stop r + 1) (start s) then (r ∷ s ∷ []) else joined r s ∷ []
+added_behind r [] s = if nat_lt (stop r + 1) (start s) then (r ∷ s ∷ []) else stretch_of r s ∷ []
 added_behind r (q ∷ rs) s = r ∷ added_behind q rs s
 
 -- a run put behind runs
-abbrev pub added : List Run → Run → List Run
-added [] s = s ∷ []
-added (r ∷ rs) s = added_behind r rs s
+abbrev pub addition : List Run → Run → List Run
+addition [] s = s ∷ []
+addition (r ∷ rs) s = added_behind r rs s
 
 -- where the last of a first run and those that follow it begins
 abbrev pub last_start_behind : Run → List Run → ℕ

@@ -8,10 +8,10 @@ abbrev pub hull : Run → Run → Run
 hull r z = record { replica = z.replica; lo = if nat_lt r.lo z.lo then r.lo else z.lo; hi = if nat_lt z.hi r.hi then r.hi else z.hi }
 
 -- the run put among runs
-abbrev pub inserted : List Run → Run → List Run
-inserted [] z = z ∷ []
-inserted (r ∷ rs) z =
-    if nat_lt (stop r + 1) (start z) then r ∷ inserted rs z else (if nat_lt (stop z + 1) (start r) then z ∷ r ∷ rs else inserted rs (hull r z))
+abbrev pub insertion : List Run → Run → List Run
+insertion [] z = z ∷ []
+insertion (r ∷ rs) z =
+    if nat_lt (stop r + 1) (start z) then r ∷ insertion rs z else (if nat_lt (stop z + 1) (start r) then z ∷ r ∷ rs else insertion rs (hull r z))
 
 -- no run from a place on ends so early that dots lie between it and the run
 abbrev pub Reaches : List Run → ℕ → Run → Type 0
@@ -21,5 +21,5 @@ Reaches rs from z = (k : ℕ) (d : Run) → from ≤ k → k < length rs → sta
 pub record IsCoalesced (rs : List Run) (from : ℕ) (z : Run) (to : ℕ) (whole : Run) : Type 0 where
   pub in_order : from ≤ to
   pub within : to ≤ length rs
-  pub same : inserted (drop from rs) z ≡ whole ∷ drop to rs
+  pub same : insertion (drop from rs) z ≡ whole ∷ drop to rs
   pub alone : to ≡ from → whole ≡ z

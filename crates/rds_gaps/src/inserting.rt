@@ -4,7 +4,7 @@ ghost use Rattle.std.specs.List.{remove_range};
 ghost use Rattle.rds_dots.specs.declared.dot.Run.{Run};
 ghost use Rattle.rds_dots.specs.Runs.{start, stop, is_run, are_maximal};
 ghost use Rattle.rds_gaps.specs.Added.{last_start};
-ghost use Rattle.rds_gaps.specs.Inserted.{hull, inserted, IsCoalesced, Reaches};
+ghost use Rattle.rds_gaps.specs.Inserted.{hull, insertion, IsCoalesced, Reaches};
 
 use crate::merging::add_run;
 use crate::order::{begins_first, is_apart};
@@ -71,7 +71,7 @@ fn remove_between(runs: &mut Vec<Run>, from: usize, to: usize)
 pub(crate) fn insert_run(runs: &mut Vec<Run>, run: Run) -> Result<(), AllocError>
     requires runs_are { IsTrue (are_maximal runs.old.items) }
     requires run_is { IsTrue (is_run run) }
-    ensures ok { OnOk result (runs.new.items ≡ inserted runs.old.items run) }
+    ensures ok { OnOk result (runs.new.items ≡ insertion runs.old.items run) }
     ensures err { OnErr result (runs.new.items ≡ runs.old.items) }
 {
     if begins_last(runs, &run) {

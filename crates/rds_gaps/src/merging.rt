@@ -1,7 +1,7 @@
 //! Unions of maximal runs.
 ghost use Rattle.std.specs.Prelude.{◌≡◌, ◌+◌, ◌-◌, ◌≤◌, ◌<◌, length, true, IsTrue, IfOk, OnOk, OnErr};
 ghost use Rattle.rds_dots.specs.Runs.{is_run, are_maximal};
-ghost use Rattle.rds_gaps.specs.Added.{added, last_start, begins_from};
+ghost use Rattle.rds_gaps.specs.Added.{addition, last_start, begins_from};
 ghost use Rattle.rds_gaps.specs.Operations.{IsUnion};
 
 use crate::order::{begins_first, is_apart};
@@ -13,7 +13,7 @@ use std::alloc::{AllocError, Global};
 pub(crate) fn add_run(runs: &mut Vec<Run>, run: Run) -> Result<(), AllocError>
     requires runs_are { IsTrue (are_maximal runs.old.items) }
     requires run_is { IsTrue (is_run run) }
-    ensures ok { OnOk result (runs.new.items ≡ added runs.old.items run) }
+    ensures ok { OnOk result (runs.new.items ≡ addition runs.old.items run) }
     ensures err { OnErr result (runs.new.items ≡ runs.old.items) }
 {
     let count = runs.as_slice().len();

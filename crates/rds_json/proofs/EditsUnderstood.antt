@@ -17,7 +17,7 @@ use Rattle.rds_json.specs.Limits.{IsAmount, IsEdit, IsKey, IsPath, IsScalar}
 use Rattle.rds_json.specs.Members.{of_one, of_two}
 use Rattle.rds_json.specs.Scalar.{scalar_of}
 use Rattle.rds_json.specs.Show.{scalar_data}
-use Rattle.rds_json.specs.Spelling.{amount_data, edit_data, path_data, worded}
+use Rattle.rds_json.specs.Spelling.{amount_data, edit_data, path_data, line_of_word}
 use Rattle.rds_json.specs.Unnamed.{counted_at, edit_by, keyed_count, part_at, pathed_value, valued_at}
 use Rattle.rds_json.proofs.Outcomes.{both, bound, no_value, ok_is, there}
 use Rattle.rds_json.proofs.Proper.{IsProper}
@@ -27,7 +27,7 @@ use Rattle.rds_json.proofs.Words.{edit_word_of}
 part_member : (a : Data) (path : List (List ℕ)) → of_one path_of (as_str a) ≡ Ok path → IsPathAt a path
 part_member a path h = let m = there path_of (as_str a) path h in path_at a m.0 path m.1 m.2
 
-part_back : (word : List ℕ) (ds : List Data) (path : List (List ℕ)) → part_at (worded word ds) ≡ Ok path → (ds ≡ path_data path ∷ []) × IsPath path
+part_back : (word : List ℕ) (ds : List Data) (path : List (List ℕ)) → part_at (line_of_word word ds) ≡ Ok path → (ds ≡ path_data path ∷ []) × IsPath path
 part_back word [] path h = wrong_count 2 word [] (Err BadLine) path (λ e. omega arith) h
 part_back word (a ∷ []) path h = let m = part_member a path h in (ap (λ d. d ∷ []) m.0, m.1)
 part_back word (a ∷ b ∷ ds) path h = wrong_count 2 word (a ∷ b ∷ ds) (of_one path_of (as_str a)) path (λ e. omega arith) h
@@ -47,7 +47,7 @@ valued_parts a b x proper h =
     one_of_two (Some s) e = e
     one_of_two None e = no_value BadLine x e
 
-valued_back : (word : List ℕ) (ds : List Data) (x : ValuedAt) → ListProper ds → valued_at (worded word ds) ≡ Ok x
+valued_back : (word : List ℕ) (ds : List Data) (x : ValuedAt) → ListProper ds → valued_at (line_of_word word ds) ≡ Ok x
     → (ds ≡ path_data x.path ∷ scalar_data x.value ∷ []) × IsPath x.path × IsScalar x.value
 valued_back word [] x p h = wrong_count 3 word [] (Err BadLine) x (λ e. omega arith) h
 valued_back word (a ∷ []) x p h = wrong_count 3 word (a ∷ []) (of_two pathed_value (as_str a) None) x (λ e. omega arith) h
@@ -64,7 +64,7 @@ counted_parts a b x proper h =
     subst (λ (y : CountedAt). (a ∷ b ∷ [] ≡ string y.key ∷ amount_data y.by ∷ []) × IsKey y.key × IsAmount y.by)
     (ok_is (record { key = k.0; by = m.1 }) x k.2) (same_two key.0 by.0, key.1, by.1)
 
-counted_back : (word : List ℕ) (ds : List Data) (x : CountedAt) → ListProper ds → counted_at (worded word ds) ≡ Ok x
+counted_back : (word : List ℕ) (ds : List Data) (x : CountedAt) → ListProper ds → counted_at (line_of_word word ds) ≡ Ok x
     → (ds ≡ string x.key ∷ amount_data x.by ∷ []) × IsKey x.key × IsAmount x.by
 counted_back word [] x p h = wrong_count 3 word [] (Err BadLine) x (λ e. omega arith) h
 counted_back word (a ∷ []) x p h = wrong_count 3 word (a ∷ []) (of_two keyed_count (as_str a) None) x (λ e. omega arith) h
@@ -72,29 +72,29 @@ counted_back word (a ∷ b ∷ []) x p h = counted_parts a b x p.1.0 h
 counted_back word (a ∷ b ∷ c ∷ ds) x p h = wrong_count 3 word (a ∷ b ∷ c ∷ ds) (of_two keyed_count (as_str a) (number_in b)) x (λ e. omega arith) h
 
 abbrev IsSpelled : List ℕ → List Data → Command → Type 0
-IsSpelled word ds edit = (worded word ds ≡ edit_data edit) × IsEdit edit
+IsSpelled word ds edit = (line_of_word word ds ≡ edit_data edit) × IsEdit edit
 
-value_spelled : (word : List ℕ) (ds : List Data) (edit : ValuedAt → Command) → ((x : ValuedAt) → edit_data (edit x) ≡ worded word (path_data x.path ∷ scalar_data x.value ∷ []))
-    → ((x : ValuedAt) → IsPath x.path × IsScalar x.value → IsEdit (edit x)) → (e : Command) → ListProper ds → (valued_at (worded word ds) >>= λ at. Ok (edit at)) ≡ Ok e → IsSpelled word ds e
+value_spelled : (word : List ℕ) (ds : List Data) (edit : ValuedAt → Command) → ((x : ValuedAt) → edit_data (edit x) ≡ line_of_word word (path_data x.path ∷ scalar_data x.value ∷ []))
+    → ((x : ValuedAt) → IsPath x.path × IsScalar x.value → IsEdit (edit x)) → (e : Command) → ListProper ds → (valued_at (line_of_word word ds) >>= λ at. Ok (edit at)) ≡ Ok e → IsSpelled word ds e
 value_spelled word ds edit spelled fits e p h =
-    let a = bound (valued_at (worded word ds)) (λ at. Ok (edit at)) e h in
+    let a = bound (valued_at (line_of_word word ds)) (λ at. Ok (edit at)) e h in
     let r = valued_back word ds a.0 p a.1 in
-    subst (IsSpelled word ds) (ok_is (edit a.0) e a.2) (ap (worded word) r.0 ∙ sym (spelled a.0), fits a.0 (r.1, r.2))
+    subst (IsSpelled word ds) (ok_is (edit a.0) e a.2) (ap (line_of_word word) r.0 ∙ sym (spelled a.0), fits a.0 (r.1, r.2))
 
-count_spelled : (word : List ℕ) (ds : List Data) (edit : CountedAt → Command) → ((x : CountedAt) → edit_data (edit x) ≡ worded word (string x.key ∷ amount_data x.by ∷ []))
-    → ((x : CountedAt) → IsKey x.key × IsAmount x.by → IsEdit (edit x)) → (e : Command) → ListProper ds → (counted_at (worded word ds) >>= λ at. Ok (edit at)) ≡ Ok e → IsSpelled word ds e
+count_spelled : (word : List ℕ) (ds : List Data) (edit : CountedAt → Command) → ((x : CountedAt) → edit_data (edit x) ≡ line_of_word word (string x.key ∷ amount_data x.by ∷ []))
+    → ((x : CountedAt) → IsKey x.key × IsAmount x.by → IsEdit (edit x)) → (e : Command) → ListProper ds → (counted_at (line_of_word word ds) >>= λ at. Ok (edit at)) ≡ Ok e → IsSpelled word ds e
 count_spelled word ds edit spelled fits e p h =
-    let a = bound (counted_at (worded word ds)) (λ at. Ok (edit at)) e h in
+    let a = bound (counted_at (line_of_word word ds)) (λ at. Ok (edit at)) e h in
     let r = counted_back word ds a.0 p a.1 in
-    subst (IsSpelled word ds) (ok_is (edit a.0) e a.2) (ap (worded word) r.0 ∙ sym (spelled a.0), fits a.0 (r.1, r.2))
+    subst (IsSpelled word ds) (ok_is (edit a.0) e a.2) (ap (line_of_word word) r.0 ∙ sym (spelled a.0), fits a.0 (r.1, r.2))
 
-pub edit_back : (verb : EditVerb) (ds : List Data) (e : Command) → ListProper ds → edit_by verb (worded (edit_word_of verb) ds) ≡ Ok e → IsSpelled (edit_word_of verb) ds e
+pub edit_back : (verb : EditVerb) (ds : List Data) (e : Command) → ListProper ds → edit_by verb (line_of_word (edit_word_of verb) ds) ≡ Ok e → IsSpelled (edit_word_of verb) ds e
 edit_back edits.Set ds e p h = value_spelled _ ds (λ at. Set at.path at.value) (λ x. refl) (λ x f. f) e p h
 edit_back edits.Add ds e p h = value_spelled _ ds (λ at. Add at.path at.value) (λ x. refl) (λ x f. f) e p h
 edit_back edits.Del ds e p h = value_spelled _ ds (λ at. Del at.path at.value) (λ x. refl) (λ x f. f) e p h
 edit_back edits.Clear ds e p h =
-    let a = bound (part_at (worded (codes "clear") ds)) (λ path. Ok (Clear path)) e h in
+    let a = bound (part_at (line_of_word (codes "clear") ds)) (λ path. Ok (Clear path)) e h in
     let r = part_back (codes "clear") ds a.0 a.1 in
-    subst (IsSpelled (codes "clear") ds) (ok_is (Clear a.0) e a.2) (ap (worded (codes "clear")) r.0, r.1)
+    subst (IsSpelled (codes "clear") ds) (ok_is (Clear a.0) e a.2) (ap (line_of_word (codes "clear")) r.0, r.1)
 edit_back edits.Inc ds e p h = count_spelled _ ds (λ at. Inc at.key at.by) (λ x. refl) (λ x f. f) e p h
 edit_back edits.Dec ds e p h = count_spelled _ ds (λ at. Dec at.key at.by) (λ x. refl) (λ x f. f) e p h

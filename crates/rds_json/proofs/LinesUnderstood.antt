@@ -26,7 +26,7 @@ use Rattle.rds_json.specs.Meaning.{HasWord}
 use Rattle.rds_json.specs.Parts.{answer_at, counter_at, growth_at, number_alone, place_at, replica_at, value_at}
 use Rattle.rds_json.specs.RosterLine.{roster_at}
 use Rattle.rds_json.specs.Show.{scalar_data}
-use Rattle.rds_json.specs.Spelling.{amount_data, edit_data, edit_words, line_data, line_words, path_data, worded}
+use Rattle.rds_json.specs.Spelling.{amount_data, edit_data, edit_words, line_data, line_words, path_data, line_of_word}
 use Rattle.rds_json.specs.Verb.{verb_of}
 use Rattle.rds_json.specs.Unnamed.{edit_by, edit_in, edit_of, edit_with}
 use Rattle.rds_json.proofs.EditsUnderstood.{edit_back}
@@ -36,66 +36,66 @@ use Rattle.rds_json.proofs.Understood.{ListProper, alone_back, answer_back, coun
 use Rattle.rds_json.proofs.Words.{edit_known, edit_word_of, other_word, word_back, word_of}
 
 abbrev IsSpelled : List ℕ → List Data → Line → Type 0
-IsSpelled word ds line = (worded word ds ≡ line_data line) × IsLine line
+IsSpelled word ds line = (line_of_word word ds ≡ line_data line) × IsLine line
 
-value_spelled : (word : List ℕ) (ds : List Data) (edit : ValueAt → Command) → ((x : ValueAt) → line_data (Edit x.name (edit x)) ≡ worded word (string x.name ∷ path_data x.path ∷ scalar_data x.value ∷ []))
-    → ((x : ValueAt) → IsPath x.path × IsScalar x.value → IsEdit (edit x)) → (line : Line) → ListProper ds → (value_at (worded word ds) >>= λ at. Ok (Edit at.name (edit at))) ≡ Ok line → IsSpelled word ds line
+value_spelled : (word : List ℕ) (ds : List Data) (edit : ValueAt → Command) → ((x : ValueAt) → line_data (Edit x.name (edit x)) ≡ line_of_word word (string x.name ∷ path_data x.path ∷ scalar_data x.value ∷ []))
+    → ((x : ValueAt) → IsPath x.path × IsScalar x.value → IsEdit (edit x)) → (line : Line) → ListProper ds → (value_at (line_of_word word ds) >>= λ at. Ok (Edit at.name (edit at))) ≡ Ok line → IsSpelled word ds line
 value_spelled word ds edit spelled fits line p h =
-    let a = bound (value_at (worded word ds)) (λ at. Ok (Edit at.name (edit at))) line h in
+    let a = bound (value_at (line_of_word word ds)) (λ at. Ok (Edit at.name (edit at))) line h in
     let r = value_back word ds a.0 p a.1 in
-    subst (IsSpelled word ds) (ok_is (Edit a.0.name (edit a.0)) line a.2) (ap (worded word) r.0 ∙ sym (spelled a.0), (r.1, fits a.0 (r.2, r.3)))
+    subst (IsSpelled word ds) (ok_is (Edit a.0.name (edit a.0)) line a.2) (ap (line_of_word word) r.0 ∙ sym (spelled a.0), (r.1, fits a.0 (r.2, r.3)))
 
-count_spelled : (word : List ℕ) (ds : List Data) (edit : CounterAt → Command) → ((x : CounterAt) → line_data (Edit x.name (edit x)) ≡ worded word (string x.name ∷ string x.key ∷ amount_data x.by ∷ []))
-    → ((x : CounterAt) → IsKey x.key × IsAmount x.by → IsEdit (edit x)) → (line : Line) → ListProper ds → (counter_at (worded word ds) >>= λ at. Ok (Edit at.name (edit at))) ≡ Ok line → IsSpelled word ds line
+count_spelled : (word : List ℕ) (ds : List Data) (edit : CounterAt → Command) → ((x : CounterAt) → line_data (Edit x.name (edit x)) ≡ line_of_word word (string x.name ∷ string x.key ∷ amount_data x.by ∷ []))
+    → ((x : CounterAt) → IsKey x.key × IsAmount x.by → IsEdit (edit x)) → (line : Line) → ListProper ds → (counter_at (line_of_word word ds) >>= λ at. Ok (Edit at.name (edit at))) ≡ Ok line → IsSpelled word ds line
 count_spelled word ds edit spelled fits line p h =
-    let a = bound (counter_at (worded word ds)) (λ at. Ok (Edit at.name (edit at))) line h in
+    let a = bound (counter_at (line_of_word word ds)) (λ at. Ok (Edit at.name (edit at))) line h in
     let r = counter_back word ds a.0 p a.1 in
-    subst (IsSpelled word ds) (ok_is (Edit a.0.name (edit a.0)) line a.2) (ap (worded word) r.0 ∙ sym (spelled a.0), (r.1, fits a.0 (r.2, r.3)))
+    subst (IsSpelled word ds) (ok_is (Edit a.0.name (edit a.0)) line a.2) (ap (line_of_word word) r.0 ∙ sym (spelled a.0), (r.1, fits a.0 (r.2, r.3)))
 
-edit_line_back : (verb : EditVerb) (ds : List Data) (line : Line) → ListProper ds → edit_line verb (worded (edit_word_of verb) ds) ≡ Ok line → IsSpelled (edit_word_of verb) ds line
+edit_line_back : (verb : EditVerb) (ds : List Data) (line : Line) → ListProper ds → edit_line verb (line_of_word (edit_word_of verb) ds) ≡ Ok line → IsSpelled (edit_word_of verb) ds line
 edit_line_back edits.Set ds line p h = value_spelled _ ds (λ at. commands.Set at.path at.value) (λ x. refl) (λ x f. f) line p h
 edit_line_back edits.Add ds line p h = value_spelled _ ds (λ at. commands.Add at.path at.value) (λ x. refl) (λ x f. f) line p h
 edit_line_back edits.Del ds line p h = value_spelled _ ds (λ at. commands.Del at.path at.value) (λ x. refl) (λ x f. f) line p h
 edit_line_back edits.Clear ds line p h =
-    let a = bound (place_at (worded (codes "clear") ds)) (λ at. Ok (Edit at.name (commands.Clear at.path))) line h in
+    let a = bound (place_at (line_of_word (codes "clear") ds)) (λ at. Ok (Edit at.name (commands.Clear at.path))) line h in
     let r = place_back (codes "clear") ds a.0 a.1 in
-    subst (IsSpelled (codes "clear") ds) (ok_is (Edit a.0.name (commands.Clear a.0.path)) line a.2) (ap (worded (codes "clear")) r.0, (r.1, r.2))
+    subst (IsSpelled (codes "clear") ds) (ok_is (Edit a.0.name (commands.Clear a.0.path)) line a.2) (ap (line_of_word (codes "clear")) r.0, (r.1, r.2))
 edit_line_back edits.Inc ds line p h = count_spelled _ ds (λ at. commands.Inc at.key at.by) (λ x. refl) (λ x f. f) line p h
 edit_line_back edits.Dec ds line p h = count_spelled _ ds (λ at. commands.Dec at.key at.by) (λ x. refl) (λ x f. f) line p h
 
 -- a line of a word and a replica
-replica_spelled : (word : List ℕ) (ds : List Data) (made : List ℕ → Line) → ((n : List ℕ) → line_data (made n) ≡ worded word (string n ∷ [])) → ((n : List ℕ) → IsName n → IsLine (made n))
-    → (line : Line) → (replica_at (worded word ds) >>= λ name. Ok (made name)) ≡ Ok line → IsSpelled word ds line
+replica_spelled : (word : List ℕ) (ds : List Data) (made : List ℕ → Line) → ((n : List ℕ) → line_data (made n) ≡ line_of_word word (string n ∷ [])) → ((n : List ℕ) → IsName n → IsLine (made n))
+    → (line : Line) → (replica_at (line_of_word word ds) >>= λ name. Ok (made name)) ≡ Ok line → IsSpelled word ds line
 replica_spelled word ds made spelled fits line h =
-    let a = bound (replica_at (worded word ds)) (λ name. Ok (made name)) line h in
+    let a = bound (replica_at (line_of_word word ds)) (λ name. Ok (made name)) line h in
     let r = replica_back word ds a.0 a.1 in
-    subst (IsSpelled word ds) (ok_is (made a.0) line a.2) (ap (worded word) r.0 ∙ sym (spelled a.0), fits a.0 r.1)
+    subst (IsSpelled word ds) (ok_is (made a.0) line a.2) (ap (line_of_word word) r.0 ∙ sym (spelled a.0), fits a.0 r.1)
 
-line_back : (verb : Verb) (ds : List Data) (line : Line) → ListProper ds → line_by verb (worded (word_of verb) ds) ≡ Ok line → IsSpelled (word_of verb) ds line
+line_back : (verb : Verb) (ds : List Data) (line : Line) → ListProper ds → line_by verb (line_of_word (word_of verb) ds) ≡ Ok line → IsSpelled (word_of verb) ds line
 line_back verbs.Roster ds line p h =
-    let a = bound (roster_at (worded (codes "roster") ds)) (λ roster. Ok (Roster roster)) line h in
+    let a = bound (roster_at (line_of_word (codes "roster") ds)) (λ roster. Ok (Roster roster)) line h in
     let r = roster_back (codes "roster") ds a.0 a.1 in
-    subst (IsSpelled (codes "roster") ds) (ok_is (Roster a.0) line a.2) (ap (worded (codes "roster")) r.0, r.1)
+    subst (IsSpelled (codes "roster") ds) (ok_is (Roster a.0) line a.2) (ap (line_of_word (codes "roster")) r.0, r.1)
 line_back (verbs.Edit verb) ds line p h = edit_line_back verb ds line p h
 line_back verbs.Save ds line p h = replica_spelled _ ds (λ n. Save n) (λ n. refl) (λ n f. f) line h
 line_back verbs.Crash ds line p h = replica_spelled _ ds (λ n. Crash n) (λ n. refl) (λ n f. f) line h
 line_back verbs.Ask ds line p h = replica_spelled _ ds (λ n. Ask n) (λ n. refl) (λ n f. f) line h
 line_back verbs.Answer ds line p h =
-    let a = bound (answer_at (worded (codes "answer") ds)) (λ at. Ok (Answer at.name at.ask)) line h in
+    let a = bound (answer_at (line_of_word (codes "answer") ds)) (λ at. Ok (Answer at.name at.ask)) line h in
     let r = answer_back (codes "answer") ds a.0 p a.1 in
-    subst (IsSpelled (codes "answer") ds) (ok_is (Answer a.0.name a.0.ask) line a.2) (ap (worded (codes "answer")) r.0, (r.1, r.2))
+    subst (IsSpelled (codes "answer") ds) (ok_is (Answer a.0.name a.0.ask) line a.2) (ap (line_of_word (codes "answer")) r.0, (r.1, r.2))
 line_back verbs.Take ds line p h =
-    let a = bound (number_alone (worded (codes "take") ds)) (λ answer. Ok (Take answer)) line h in
+    let a = bound (number_alone (line_of_word (codes "take") ds)) (λ answer. Ok (Take answer)) line h in
     let r = alone_back (codes "take") ds a.0 p a.1 in
-    subst (IsSpelled (codes "take") ds) (ok_is (Take a.0) line a.2) (ap (worded (codes "take")) r.0, r.1)
+    subst (IsSpelled (codes "take") ds) (ok_is (Take a.0) line a.2) (ap (line_of_word (codes "take")) r.0, r.1)
 line_back verbs.Grow ds line p h =
-    let a = bound (growth_at (worded (codes "grow") ds)) (λ at. Ok (Grow at.name at.newcomer)) line h in
+    let a = bound (growth_at (line_of_word (codes "grow") ds)) (λ at. Ok (Grow at.name at.newcomer)) line h in
     let r = growth_back (codes "grow") ds a.0 a.1 in
-    subst (IsSpelled (codes "grow") ds) (ok_is (Grow a.0.name a.0.newcomer) line a.2) (ap (worded (codes "grow")) r.0, (r.1, r.2))
+    subst (IsSpelled (codes "grow") ds) (ok_is (Grow a.0.name a.0.newcomer) line a.2) (ap (line_of_word (codes "grow")) r.0, (r.1, r.2))
 line_back verbs.Show ds line p h =
-    let a = bound (place_at (worded (codes "show") ds)) (λ at. Ok (Show at.name at.path)) line h in
+    let a = bound (place_at (line_of_word (codes "show") ds)) (λ at. Ok (Show at.name at.path)) line h in
     let r = place_back (codes "show") ds a.0 a.1 in
-    subst (IsSpelled (codes "show") ds) (ok_is (Show a.0.name a.0.path) line a.2) (ap (worded (codes "show")) r.0, (r.1, r.2))
+    subst (IsSpelled (codes "show") ds) (ok_is (Show a.0.name a.0.path) line a.2) (ap (line_of_word (codes "show")) r.0, (r.1, r.2))
 
 -- ---- the word
 
@@ -103,7 +103,7 @@ items_forth : (ds : Items) → items_of (items_in ds) ≡ ds
 items_forth no_items = refl
 items_forth (item d ds) = ap (item d) (items_forth ds)
 
-begins : (d : Data) (word : List ℕ) → text_at 0 d ≡ Some word → (ds : List Data) × (d ≡ worded word ds)
+begins : (d : Data) (word : List ℕ) → text_at 0 d ≡ Some word → (ds : List Data) × (d ≡ line_of_word word ds)
 begins null word h = none_is word h
 begins (boolean b) word h = none_is word h
 begins (number n) word h = none_is word h
@@ -117,7 +117,7 @@ list_proper [] p = tt
 list_proper (d ∷ ds) p = (p.0, list_proper ds p.1)
 
 -- the value, as its word and what stands behind it
-split : (d : Data) (verb : Verb) (word : List ℕ) → verb_of word ≡ Some verb → text_at 0 d ≡ Some word → HasProper d → (ds : List Data) × (d ≡ worded (word_of verb) ds) × ListProper ds
+split : (d : Data) (verb : Verb) (word : List ℕ) → verb_of word ≡ Some verb → text_at 0 d ≡ Some word → HasProper d → (ds : List Data) × (d ≡ line_of_word (word_of verb) ds) × ListProper ds
 split d verb word v t p =
     let b = begins d (word_of verb) (t ∙ ap Some (word_back word verb v)) in
     (b.0, b.1, list_proper b.0 (subst HasProper b.1 p).1)

@@ -12,7 +12,7 @@ use Rattle.rds_json.specs.declared.line.Line.TheVariants.{Roster, Edit, Save, Cr
 use Rattle.rds_json.specs.Limits.{IsLine, IsEdit, IsRoster}
 use Rattle.rds_json.specs.Line.{line_in}
 use Rattle.rds_json.specs.RosterLine.{is_text, names_of, roster_at, roster_from}
-use Rattle.rds_json.specs.Spelling.{edit_data, line_data, worded}
+use Rattle.rds_json.specs.Spelling.{edit_data, line_data, line_of_word}
 use Rattle.rds_json.specs.Unnamed.{edit_in}
 use Rattle.rds_json.proofs.Names.{items_back}
 use Rattle.rds_json.proofs.Paths.{path_read, scalar_read}
@@ -30,7 +30,7 @@ names_read (n ∷ ns) h = rw (and_left (is_name n) _ h, names_read ns (and_right
 members_read : (roster : RosterValue) → IsRoster roster → roster_from (string roster.group ∷ map string roster.names) ≡ Ok roster
 members_read roster h = rw (all_texts roster.names, h.0, names_read roster.names h.1, h.2) refl
 
-roster_read : (word : List ℕ) (roster : RosterValue) → IsRoster roster → roster_at (worded word (string roster.group ∷ map string roster.names)) ≡ Ok roster
+roster_read : (word : List ℕ) (roster : RosterValue) → IsRoster roster → roster_at (line_of_word word (string roster.group ∷ map string roster.names)) ≡ Ok roster
 roster_read word roster h = ap (λ ds. roster_from (string roster.group ∷ ds)) (items_back (map string roster.names)) ∙ members_read roster h
 
 -- ---- all lines

@@ -27,7 +27,7 @@ use Rattle.rds_json.specs.Parts.{answer_at, counter_at, growth_at, named_answer,
 use Rattle.rds_json.specs.RosterLine.{is_text, names_of, roster_at, roster_from}
 use Rattle.rds_json.specs.Scalar.{scalar_of, scalar_of_integer}
 use Rattle.rds_json.specs.Show.{scalar_data}
-use Rattle.rds_json.specs.Spelling.{amount_data, path_data, worded}
+use Rattle.rds_json.specs.Spelling.{amount_data, path_data, line_of_word}
 use Rattle.rds_json.proofs.Names.{items_back}
 use Rattle.rds_json.proofs.Outcomes.{all_three, both, bound, counted, no_value, none_is, ok_is, passed, some_is, there}
 use Rattle.rds_json.proofs.Paths.{path_back}
@@ -122,15 +122,15 @@ key_back d key h = let m = there key_of (as_str d) key h in key_at d m.0 key m.1
 count_back : (o : Option ℕ) (n : ℕ) → of_one Ok o ≡ Ok n → o ≡ Some n
 count_back o n h = let m = there Ok o n h in m.1 ∙ ap Some (ok_is m.0 n m.2)
 
-pub replica_back : (word : List ℕ) (ds : List Data) (name : List ℕ) → replica_at (worded word ds) ≡ Ok name → (ds ≡ string name ∷ []) × IsName name
-replica_back word [] name h = let n = (counted 2 (worded word []) (Err BadLine) name h).0 in absurd (omega (arith, n))
+pub replica_back : (word : List ℕ) (ds : List Data) (name : List ℕ) → replica_at (line_of_word word ds) ≡ Ok name → (ds ≡ string name ∷ []) × IsName name
+replica_back word [] name h = let n = (counted 2 (line_of_word word []) (Err BadLine) name h).0 in absurd (omega (arith, n))
 replica_back word (a ∷ []) name h = let n = name_back a name h in (ap (λ d. d ∷ []) n.0, n.1)
-replica_back word (a ∷ b ∷ ds) name h = let n = (counted 2 (worded word (a ∷ b ∷ ds)) (of_one name_of (as_str a)) name h).0 in absurd (omega (arith, n))
+replica_back word (a ∷ b ∷ ds) name h = let n = (counted 2 (line_of_word word (a ∷ b ∷ ds)) (of_one name_of (as_str a)) name h).0 in absurd (omega (arith, n))
 
-pub alone_back : (word : List ℕ) (ds : List Data) (n : ℕ) → ListProper ds → number_alone (worded word ds) ≡ Ok n → (ds ≡ amount_data n ∷ []) × IsAmount n
-alone_back word [] n p h = let m = (counted 2 (worded word []) (Err BadLine) n h).0 in absurd (omega (arith, m))
+pub alone_back : (word : List ℕ) (ds : List Data) (n : ℕ) → ListProper ds → number_alone (line_of_word word ds) ≡ Ok n → (ds ≡ amount_data n ∷ []) × IsAmount n
+alone_back word [] n p h = let m = (counted 2 (line_of_word word []) (Err BadLine) n h).0 in absurd (omega (arith, m))
 alone_back word (a ∷ []) n p h = let m = amount_back a n p.0 (count_back (number_in a) n h) in (ap (λ d. d ∷ []) m.0, m.1)
-alone_back word (a ∷ b ∷ ds) n p h = let m = (counted 2 (worded word (a ∷ b ∷ ds)) (of_one Ok (number_in a)) n h).0 in absurd (omega (arith, m))
+alone_back word (a ∷ b ∷ ds) n p h = let m = (counted 2 (line_of_word word (a ∷ b ∷ ds)) (of_one Ok (number_in a)) n h).0 in absurd (omega (arith, m))
 
 -- ---- two or three of them
 
@@ -203,31 +203,31 @@ counter_parts a b c x proper h =
     (ok_is (record { name = n.0; key = k.0; by = m.2 }) x k.2) (same_three name.0 key.0 by.0, name.1, key.1, by.1)
 
 -- a line of another number of members is refused
-pub wrong_count : {X P : Type 0} (n : ℕ) (word : List ℕ) (ds : List Data) (said : Result X Fault) (x : X) → (suc (length (items_in (items_of ds))) ≡ n → ⊥) → of_count n (worded word ds) said ≡ Ok x → P
-wrong_count n word ds said x other h = absurd (other (counted n (worded word ds) said x h).0)
+pub wrong_count : {X P : Type 0} (n : ℕ) (word : List ℕ) (ds : List Data) (said : Result X Fault) (x : X) → (suc (length (items_in (items_of ds))) ≡ n → ⊥) → of_count n (line_of_word word ds) said ≡ Ok x → P
+wrong_count n word ds said x other h = absurd (other (counted n (line_of_word word ds) said x h).0)
 
-pub answer_back : (word : List ℕ) (ds : List Data) (x : AnswerAt) → ListProper ds → answer_at (worded word ds) ≡ Ok x
+pub answer_back : (word : List ℕ) (ds : List Data) (x : AnswerAt) → ListProper ds → answer_at (line_of_word word ds) ≡ Ok x
     → (ds ≡ string x.name ∷ amount_data x.ask ∷ []) × IsName x.name × IsAmount x.ask
 answer_back word [] x p h = wrong_count 3 word [] (Err BadLine) x (λ e. omega arith) h
 answer_back word (a ∷ []) x p h = wrong_count 3 word (a ∷ []) (of_two named_answer (as_str a) None) x (λ e. omega arith) h
 answer_back word (a ∷ b ∷ []) x p h = answer_parts a b x p.1.0 h
 answer_back word (a ∷ b ∷ c ∷ ds) x p h = wrong_count 3 word (a ∷ b ∷ c ∷ ds) (of_two named_answer (as_str a) (number_in b)) x (λ e. omega arith) h
 
-pub growth_back : (word : List ℕ) (ds : List Data) (x : GrowthAt) → growth_at (worded word ds) ≡ Ok x
+pub growth_back : (word : List ℕ) (ds : List Data) (x : GrowthAt) → growth_at (line_of_word word ds) ≡ Ok x
     → (ds ≡ string x.name ∷ string x.newcomer ∷ []) × IsName x.name × IsName x.newcomer
 growth_back word [] x h = wrong_count 3 word [] (Err BadLine) x (λ e. omega arith) h
 growth_back word (a ∷ []) x h = wrong_count 3 word (a ∷ []) (of_two named_growth (as_str a) None) x (λ e. omega arith) h
 growth_back word (a ∷ b ∷ []) x h = growth_parts a b x h
 growth_back word (a ∷ b ∷ c ∷ ds) x h = wrong_count 3 word (a ∷ b ∷ c ∷ ds) (of_two named_growth (as_str a) (as_str b)) x (λ e. omega arith) h
 
-pub place_back : (word : List ℕ) (ds : List Data) (x : PlaceAt) → place_at (worded word ds) ≡ Ok x
+pub place_back : (word : List ℕ) (ds : List Data) (x : PlaceAt) → place_at (line_of_word word ds) ≡ Ok x
     → (ds ≡ string x.name ∷ path_data x.path ∷ []) × IsName x.name × IsPath x.path
 place_back word [] x h = wrong_count 3 word [] (Err BadLine) x (λ e. omega arith) h
 place_back word (a ∷ []) x h = wrong_count 3 word (a ∷ []) (of_two named_place (as_str a) None) x (λ e. omega arith) h
 place_back word (a ∷ b ∷ []) x h = place_parts a b x h
 place_back word (a ∷ b ∷ c ∷ ds) x h = wrong_count 3 word (a ∷ b ∷ c ∷ ds) (of_two named_place (as_str a) (as_str b)) x (λ e. omega arith) h
 
-pub value_back : (word : List ℕ) (ds : List Data) (x : ValueAt) → ListProper ds → value_at (worded word ds) ≡ Ok x
+pub value_back : (word : List ℕ) (ds : List Data) (x : ValueAt) → ListProper ds → value_at (line_of_word word ds) ≡ Ok x
     → (ds ≡ string x.name ∷ path_data x.path ∷ scalar_data x.value ∷ []) × IsName x.name × IsPath x.path × IsScalar x.value
 value_back word [] x p h = wrong_count 4 word [] (Err BadLine) x (λ e. omega arith) h
 value_back word (a ∷ []) x p h = wrong_count 4 word (a ∷ []) (of_three named_value (as_str a) None None) x (λ e. omega arith) h
@@ -235,7 +235,7 @@ value_back word (a ∷ b ∷ []) x p h = wrong_count 4 word (a ∷ b ∷ []) (of
 value_back word (a ∷ b ∷ c ∷ []) x p h = value_parts a b c x p.1.1.0 h
 value_back word (a ∷ b ∷ c ∷ d ∷ ds) x p h = wrong_count 4 word (a ∷ b ∷ c ∷ d ∷ ds) (of_three named_value (as_str a) (as_str b) (Some c)) x (λ e. omega arith) h
 
-pub counter_back : (word : List ℕ) (ds : List Data) (x : CounterAt) → ListProper ds → counter_at (worded word ds) ≡ Ok x
+pub counter_back : (word : List ℕ) (ds : List Data) (x : CounterAt) → ListProper ds → counter_at (line_of_word word ds) ≡ Ok x
     → (ds ≡ string x.name ∷ string x.key ∷ amount_data x.by ∷ []) × IsName x.name × IsKey x.key × IsAmount x.by
 counter_back word [] x p h = wrong_count 4 word [] (Err BadLine) x (λ e. omega arith) h
 counter_back word (a ∷ []) x p h = wrong_count 4 word (a ∷ []) (of_three named_counter (as_str a) None None) x (λ e. omega arith) h
@@ -270,5 +270,5 @@ members_back (d ∷ ds) r h =
     subst (IsRosterAt (d ∷ ds)) (ok_is (record { group = k.0; names = ns.0 }) r made.1)
     (ap (λ e. e ∷ ds) key.0 ∙ ap (λ es. string k.0 ∷ es) names.0, (key.1, names.1, made.0))
 
-pub roster_back : (word : List ℕ) (ds : List Data) (r : RosterValue) → roster_at (worded word ds) ≡ Ok r → IsRosterAt ds r
+pub roster_back : (word : List ℕ) (ds : List Data) (r : RosterValue) → roster_at (line_of_word word ds) ≡ Ok r → IsRosterAt ds r
 roster_back word ds r h = members_back ds r (ap roster_from (sym (items_back ds)) ∙ h)

@@ -9,7 +9,7 @@ use Rattle.rds_state.specs.declared.command.Command.{Command}
 use Rattle.rds_json.specs.declared.line.Line.{Line}
 use Rattle.rds_json.specs.Limits.{IsEdit, IsLine}
 use Rattle.rds_json.specs.Line.{line_of}
-use Rattle.rds_json.specs.Spelling.{edit_data, edit_words, line_data, line_words, worded}
+use Rattle.rds_json.specs.Spelling.{edit_data, edit_words, line_data, line_words, line_of_word}
 use Rattle.rds_json.specs.Unnamed.{edit_of}
 
 -- the text is this line's spelling as JSON, and the line is within the limits
@@ -24,7 +24,7 @@ IsTextOfEdit text edit = (read text ≡ Some (edit_data edit)) × IsEdit edit
 pub record HasWord (words : List (List ℕ)) (text : List ℕ) : Type 0 where
   pub word : List ℕ
   pub behind : List Data
-  pub spelled : read text ≡ Some (worded word behind)
+  pub spelled : read text ≡ Some (line_of_word word behind)
   pub known : list_any (bytes_eq word) words ≡ true
 
 abbrev pub LinesMeanTheirSpelling : Type 0

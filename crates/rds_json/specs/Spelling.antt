@@ -27,29 +27,29 @@ abbrev pub amount_data : ℕ → Data
 amount_data n = number (unsigned n)
 
 -- a line: its word, then its members
-abbrev pub worded : List ℕ → List Data → Data
-worded word ds = array (items_of (string word ∷ ds))
+abbrev pub line_of_word : List ℕ → List Data → Data
+line_of_word word ds = array (items_of (string word ∷ ds))
 
 -- an edit: its word, then these members, then its own
 abbrev pub edit_behind : List Data → Command → Data
-edit_behind ds (Set path value) = worded (codes "set") (ds ++ path_data path ∷ scalar_data value ∷ [])
-edit_behind ds (Add path value) = worded (codes "add") (ds ++ path_data path ∷ scalar_data value ∷ [])
-edit_behind ds (Del path value) = worded (codes "del") (ds ++ path_data path ∷ scalar_data value ∷ [])
-edit_behind ds (Clear path) = worded (codes "clear") (ds ++ path_data path ∷ [])
-edit_behind ds (Inc key by) = worded (codes "inc") (ds ++ string key ∷ amount_data by ∷ [])
-edit_behind ds (Dec key by) = worded (codes "dec") (ds ++ string key ∷ amount_data by ∷ [])
+edit_behind ds (Set path value) = line_of_word (codes "set") (ds ++ path_data path ∷ scalar_data value ∷ [])
+edit_behind ds (Add path value) = line_of_word (codes "add") (ds ++ path_data path ∷ scalar_data value ∷ [])
+edit_behind ds (Del path value) = line_of_word (codes "del") (ds ++ path_data path ∷ scalar_data value ∷ [])
+edit_behind ds (Clear path) = line_of_word (codes "clear") (ds ++ path_data path ∷ [])
+edit_behind ds (Inc key by) = line_of_word (codes "inc") (ds ++ string key ∷ amount_data by ∷ [])
+edit_behind ds (Dec key by) = line_of_word (codes "dec") (ds ++ string key ∷ amount_data by ∷ [])
 
 -- an edit that names no replica
 abbrev pub edit_data : Command → Data
 edit_data edit = edit_behind [] edit
 
 abbrev pub line_data : Line → Data
-line_data (Roster roster) = worded (codes "roster") (string roster.group ∷ map string roster.names)
+line_data (Roster roster) = line_of_word (codes "roster") (string roster.group ∷ map string roster.names)
 line_data (Edit name edit) = edit_behind (string name ∷ []) edit
-line_data (Save name) = worded (codes "save") (string name ∷ [])
-line_data (Crash name) = worded (codes "crash") (string name ∷ [])
-line_data (Ask name) = worded (codes "ask") (string name ∷ [])
-line_data (Answer name ask) = worded (codes "answer") (string name ∷ amount_data ask ∷ [])
-line_data (Take answer) = worded (codes "take") (amount_data answer ∷ [])
-line_data (Grow name newcomer) = worded (codes "grow") (string name ∷ string newcomer ∷ [])
-line_data (Show name path) = worded (codes "show") (string name ∷ path_data path ∷ [])
+line_data (Save name) = line_of_word (codes "save") (string name ∷ [])
+line_data (Crash name) = line_of_word (codes "crash") (string name ∷ [])
+line_data (Ask name) = line_of_word (codes "ask") (string name ∷ [])
+line_data (Answer name ask) = line_of_word (codes "answer") (string name ∷ amount_data ask ∷ [])
+line_data (Take answer) = line_of_word (codes "take") (amount_data answer ∷ [])
+line_data (Grow name newcomer) = line_of_word (codes "grow") (string name ∷ string newcomer ∷ [])
+line_data (Show name path) = line_of_word (codes "show") (string name ∷ path_data path ∷ [])

@@ -4,7 +4,7 @@ ghost use Rattle.rds_names.specs.declared.fault.Fault.TheVariants.{Memory};
 ghost use Rattle.serde_json.specs.Data.{put};
 ghost use Rattle.serde_json.specs.View.{members_view, view};
 ghost use Rattle.serde_json.specs.Written.{compact_text};
-ghost use Rattle.rds_tree.specs.Shown.{shown, maps_shown};
+ghost use Rattle.rds_tree.specs.Shown.{shown_view, maps_shown};
 ghost use Rattle.rds_json.specs.Show.{IsPretty, scalar_data, scalars_data, values_data, sums_data, maps_data, data_of};
 
 use rds_names::{Fault, Key, Scalar};
@@ -91,7 +91,7 @@ fn maps_value(alloc: Global, maps: &Maps) -> Result<Value, Fault>
 
 #[cycle(showing)]
 fn view_value(alloc: Global, shape: &View) -> Result<Value, Fault>
-    ensures ok { IfOk result (λ v. view v ≡ data_of (shown shape.now)) }
+    ensures ok { IfOk result (λ v. view v ≡ data_of (shown_view shape.now)) }
     ensures memory { IfErr result (λ fault. fault ≡ Memory) }
 {
     let mut map = Map::new(alloc);
@@ -118,7 +118,7 @@ fn view_value(alloc: Global, shape: &View) -> Result<Value, Fault>
 /// and "sets". The keys ascend by their bytes, each with a view, an array of values in the view's order, or a sum;
 /// `view` of `rds_tree` makes views in which these ascend too.
 pub fn show(alloc: Global, view: &View) -> Result<String, Fault>
-    ensures ok { IfOk result (λ text. string_bytes text ≡ compact_text (data_of (shown view.now))) }
+    ensures ok { IfOk result (λ text. string_bytes text ≡ compact_text (data_of (shown_view view.now))) }
     ensures memory { IfErr result (λ fault. fault ≡ Memory) }
 {
     let value = view_value(alloc, view)?;
@@ -127,7 +127,7 @@ pub fn show(alloc: Global, view: &View) -> Result<String, Fault>
 
 /// The view as JSON on many lines, indented.
 pub fn show_pretty(alloc: Global, view: &View) -> Result<String, Fault>
-    ensures ok { IfOk result (λ text. IsPretty (string_bytes text) (data_of (shown view.now))) }
+    ensures ok { IfOk result (λ text. IsPretty (string_bytes text) (data_of (shown_view view.now))) }
     ensures memory { IfErr result (λ fault. fault ≡ Memory) }
 {
     let value = view_value(alloc, view)?;

@@ -3,7 +3,7 @@ ghost use Rattle.std.specs.Prelude.{◌≡◌, Some, IfErr, IfOk, OnOk, option_m
 ghost use Rattle.rds_names.specs.declared.fault.Fault.TheVariants.{Memory};
 ghost use Rattle.serde_json.specs.View.{view};
 ghost use Rattle.serde_json.specs.Written.{compact_text};
-ghost use Rattle.rds_tree.specs.Shown.{shown};
+ghost use Rattle.rds_tree.specs.Shown.{shown_view};
 ghost use Rattle.rds_json.specs.Standing.{counter_at, counter_data, standing_data, sum_at, values_at};
 
 use crate::showing::{put, scalars_value};
@@ -15,7 +15,7 @@ use std::alloc::Global;
 /// What stands at a key of a view, as compact JSON: an object with the members "counter" (null where there is none),
 /// "reg" and "set" (the values under the key, in the view's order).
 pub fn show_at(alloc: Global, shape: &View, key: &Key) -> Result<String, Fault>
-    ensures ok { IfOk result (λ text. string_bytes text ≡ compact_text (standing_data key.now (shown shape.now))) }
+    ensures ok { IfOk result (λ text. string_bytes text ≡ compact_text (standing_data key.now (shown_view shape.now))) }
     ensures memory { IfErr result (λ fault. fault ≡ Memory) }
 {
     let value = standing_value(alloc, shape, key)?;
@@ -23,7 +23,7 @@ pub fn show_at(alloc: Global, shape: &View, key: &Key) -> Result<String, Fault>
 }
 
 fn standing_value(alloc: Global, shape: &View, key: &Key) -> Result<Value, Fault>
-    ensures ok { IfOk result (λ v. view v ≡ standing_data key.now (shown shape.now)) }
+    ensures ok { IfOk result (λ v. view v ≡ standing_data key.now (shown_view shape.now)) }
     ensures memory { IfErr result (λ fault. fault ≡ Memory) }
 {
     let mut map = Map::new(alloc);

@@ -14,8 +14,8 @@ use Rattle.rds_dots.specs.Merges.{above, above_trans}
 use Rattle.rds_names.specs.Conditions.{and_true, and_left, and_right}
 use Rattle.rds_dots.specs.Sets.{same_dot}
 use Rattle.rds_life.specs.Life.{keys}
-use Rattle.rds_life.specs.Joined.{kept, outside, joined_onto, joined}
-use Rattle.rds_life.proofs.RowLemmas.{find_above, find-kept, all-kept, ascends-kept}
+use Rattle.rds_life.specs.Joined.{row_if, outside, joined_onto, rows_of_join}
+use Rattle.rds_life.proofs.RowLemmas.{find_above, find-row_if, all-row_if, ascends-row_if}
 
 -- what stays of the two sides' rows at one dot
 abbrev pub pick : {X : Type 0} → Bool → Bool → Option X → Option X → Option X
@@ -49,7 +49,7 @@ module _ {X : Type 0} (sl sr : Dot → Bool) (d : Dot) where
   find-outside (y ∷ ys) rise =
       let first = and_left (list_all (is_above y.0) (keys ys)) _ rise in
       let again = find-outside ys (and_right (list_all (is_above y.0) (keys ys)) _ rise) in
-      find-kept d (not (sl y.0)) y (outside sl ys)
+      find-row_if d (not (sl y.0)) y (outside sl ys)
       ∙ ap (λ o. cond (not (sl y.0)) (cond (eq_by_cmp dot_cmp d y.0) (Some y.1) o) o) again
       ∙ right_kept (eq_by_cmp dot_cmp d y.0) (sl y.0) (sl d) (sr d) y.1 None (find dot_cmp d ys) (λ is. record {
         same = ap sl (sym (same_dot d y.0 is));
@@ -59,7 +59,7 @@ module _ {X : Type 0} (sl sr : Dot → Bool) (d : Dot) where
 
   find-joined_onto : (x : Dot × X) (xs : List (Dot × X)) (rest : List (Dot × X) → List (Dot × X)) → list_all (is_above x.0) (keys xs) ≡ true → ((ys : List (Dot × X)) → ascends (keys ys) ≡ true → find dot_cmp d (rest ys) ≡ pick (sl d) (sr d) (find dot_cmp d xs) (find dot_cmp d ys)) → (ys : List (Dot × X)) → ascends (keys ys) ≡ true → find dot_cmp d (joined_onto sl sr x rest ys) ≡ pick (sl d) (sr d) (find dot_cmp d (x ∷ xs)) (find dot_cmp d ys)
   find-joined_onto x xs rest front h [] rise =
-      find-kept d (not (sr x.0)) x (rest [])
+      find-row_if d (not (sr x.0)) x (rest [])
       ∙ ap (λ o. cond (not (sr x.0)) (cond (eq_by_cmp dot_cmp d x.0) (Some x.1) o) o) (h [] refl)
       ∙ left_kept (eq_by_cmp dot_cmp d x.0) (sr x.0) (sl d) (sr d) x.1 (find dot_cmp d xs) None (λ is. record {
         same = ap sr (sym (same_dot d x.0 is));
@@ -70,9 +70,9 @@ module _ {X : Type 0} (sl sr : Dot → Bool) (d : Dot) where
       let first = and_left (list_all (is_above y.0) (keys ys)) _ rise in
       let later = and_right (list_all (is_above y.0) (keys ys)) _ rise in
       let again = find-joined_onto x xs rest front h ys later in
-      elim (dot_cmp x.0 y.0) as (λ o. dot_cmp x.0 y.0 ≡ o → find dot_cmp d (by_order o (kept (not (sr x.0)) x (rest (y ∷ ys))) (x ∷ rest ys) (kept (not (sl y.0)) y (joined_onto sl sr x rest ys))) ≡ pick (sl d) (sr d) (find dot_cmp d (x ∷ xs)) (find dot_cmp d (y ∷ ys))) [
+      elim (dot_cmp x.0 y.0) as (λ o. dot_cmp x.0 y.0 ≡ o → find dot_cmp d (by_order o (row_if (not (sr x.0)) x (rest (y ∷ ys))) (x ∷ rest ys) (row_if (not (sl y.0)) y (joined_onto sl sr x rest ys))) ≡ pick (sl d) (sr d) (find dot_cmp d (x ∷ xs)) (find dot_cmp d (y ∷ ys))) [
         | Less ↦ λ is.
-            find-kept d (not (sr x.0)) x (rest (y ∷ ys))
+            find-row_if d (not (sr x.0)) x (rest (y ∷ ys))
             ∙ ap (λ o. cond (not (sr x.0)) (cond (eq_by_cmp dot_cmp d x.0) (Some x.1) o) o) (h (y ∷ ys) rise)
             ∙ left_kept (eq_by_cmp dot_cmp d x.0) (sr x.0) (sl d) (sr d) x.1 (find dot_cmp d xs) (find dot_cmp d (y ∷ ys)) (λ e. record {
               same = ap sr (sym (same_dot d x.0 e));
@@ -83,7 +83,7 @@ module _ {X : Type 0} (sl sr : Dot → Bool) (d : Dot) where
             ap (λ o. cond (eq_by_cmp dot_cmp d x.0) (Some x.1) o) (h ys later)
             ∙ both_kept (eq_by_cmp dot_cmp d x.0) (eq_by_cmp dot_cmp d y.0) (sl d) (sr d) x.1 y.1 (find dot_cmp d xs) (find dot_cmp d ys) (ap (eq_by_cmp dot_cmp d) (dots_exact x.0 y.0 is))
         | Greater ↦ λ is.
-            find-kept d (not (sl y.0)) y (joined_onto sl sr x rest ys)
+            find-row_if d (not (sl y.0)) y (joined_onto sl sr x rest ys)
             ∙ ap (λ o. cond (not (sl y.0)) (cond (eq_by_cmp dot_cmp d y.0) (Some y.1) o) o) again
             ∙ right_kept (eq_by_cmp dot_cmp d y.0) (sl y.0) (sl d) (sr d) y.1 (find dot_cmp d (x ∷ xs)) (find dot_cmp d ys) (λ e. record {
               same = ap sl (sym (same_dot d y.0 e));
@@ -93,48 +93,48 @@ module _ {X : Type 0} (sl sr : Dot → Bool) (d : Dot) where
       ] refl
 
   -- what the rows of a join have at a dot
-  pub find-joined : (xs ys : List (Dot × X)) → ascends (keys xs) ≡ true → ascends (keys ys) ≡ true → find dot_cmp d (joined sl sr xs ys) ≡ pick (sl d) (sr d) (find dot_cmp d xs) (find dot_cmp d ys)
-  find-joined [] ys rise_xs rise_ys = find-outside ys rise_ys
-  find-joined (x ∷ xs) ys rise_xs rise_ys =
-      find-joined_onto x xs (joined sl sr xs) (and_left _ (ascends (keys xs)) rise_xs) (λ zs rise. find-joined xs zs (and_right (list_all (is_above x.0) (keys xs)) _ rise_xs) rise) ys rise_ys
+  pub find-rows_of_join : (xs ys : List (Dot × X)) → ascends (keys xs) ≡ true → ascends (keys ys) ≡ true → find dot_cmp d (rows_of_join sl sr xs ys) ≡ pick (sl d) (sr d) (find dot_cmp d xs) (find dot_cmp d ys)
+  find-rows_of_join [] ys rise_xs rise_ys = find-outside ys rise_ys
+  find-rows_of_join (x ∷ xs) ys rise_xs rise_ys =
+      find-joined_onto x xs (rows_of_join sl sr xs) (and_left _ (ascends (keys xs)) rise_xs) (λ zs rise. find-rows_of_join xs zs (and_right (list_all (is_above x.0) (keys xs)) _ rise_xs) rise) ys rise_ys
 
 module _ {X : Type 0} (sl sr : Dot → Bool) where
   all-outside : (p : Dot → Bool) (ys : List (Dot × X)) → list_all p (keys ys) ≡ true → list_all p (keys (outside sl ys)) ≡ true
   all-outside p [] all = refl
-  all-outside p (y ∷ ys) all = all-kept p (not (sl y.0)) y _ (and_left (p y.0) _ all) (all-outside p ys (and_right (p y.0) _ all))
+  all-outside p (y ∷ ys) all = all-row_if p (not (sl y.0)) y _ (and_left (p y.0) _ all) (all-outside p ys (and_right (p y.0) _ all))
 
   ascends-outside : (ys : List (Dot × X)) → ascends (keys ys) ≡ true → ascends (keys (outside sl ys)) ≡ true
   ascends-outside [] rise = refl
-  ascends-outside (y ∷ ys) rise = ascends-kept (not (sl y.0)) y _ (all-outside (is_above y.0) ys (and_left _ (ascends (keys ys)) rise)) (ascends-outside ys (and_right (list_all (is_above y.0) (keys ys)) _ rise))
+  ascends-outside (y ∷ ys) rise = ascends-row_if (not (sl y.0)) y _ (all-outside (is_above y.0) ys (and_left _ (ascends (keys ys)) rise)) (ascends-outside ys (and_right (list_all (is_above y.0) (keys ys)) _ rise))
 
   all-joined_onto : (p : Dot → Bool) (x : Dot × X) (rest : List (Dot × X) → List (Dot × X)) → p x.0 ≡ true → ((ys : List (Dot × X)) → list_all p (keys ys) ≡ true → list_all p (keys (rest ys)) ≡ true) → (ys : List (Dot × X)) → list_all p (keys ys) ≡ true → list_all p (keys (joined_onto sl sr x rest ys)) ≡ true
-  all-joined_onto p x rest px h [] all = all-kept p (not (sr x.0)) x _ px (h [] refl)
+  all-joined_onto p x rest px h [] all = all-row_if p (not (sr x.0)) x _ px (h [] refl)
   all-joined_onto p x rest px h (y ∷ ys) all =
       let again = all-joined_onto p x rest px h ys (and_right (p y.0) _ all) in
-      elim (dot_cmp x.0 y.0) as (λ o. list_all p (keys (by_order o (kept (not (sr x.0)) x (rest (y ∷ ys))) (x ∷ rest ys) (kept (not (sl y.0)) y (joined_onto sl sr x rest ys)))) ≡ true) [
-        | Less ↦ all-kept p (not (sr x.0)) x _ px (h (y ∷ ys) all)
+      elim (dot_cmp x.0 y.0) as (λ o. list_all p (keys (by_order o (row_if (not (sr x.0)) x (rest (y ∷ ys))) (x ∷ rest ys) (row_if (not (sl y.0)) y (joined_onto sl sr x rest ys)))) ≡ true) [
+        | Less ↦ all-row_if p (not (sr x.0)) x _ px (h (y ∷ ys) all)
         | Equal ↦ and_true _ _ px (h ys (and_right (p y.0) _ all))
-        | Greater ↦ all-kept p (not (sl y.0)) y _ (and_left (p y.0) _ all) again
+        | Greater ↦ all-row_if p (not (sl y.0)) y _ (and_left (p y.0) _ all) again
       ]
 
-  pub all-joined : (p : Dot → Bool) (xs ys : List (Dot × X)) → list_all p (keys xs) ≡ true → list_all p (keys ys) ≡ true → list_all p (keys (joined sl sr xs ys)) ≡ true
-  all-joined p [] ys all_xs all_ys = all-outside p ys all_ys
-  all-joined p (x ∷ xs) ys all_xs all_ys = all-joined_onto p x (joined sl sr xs) (and_left (p x.0) _ all_xs) (λ zs all. all-joined p xs zs (and_right (p x.0) _ all_xs) all) ys all_ys
+  pub all-rows_of_join : (p : Dot → Bool) (xs ys : List (Dot × X)) → list_all p (keys xs) ≡ true → list_all p (keys ys) ≡ true → list_all p (keys (rows_of_join sl sr xs ys)) ≡ true
+  all-rows_of_join p [] ys all_xs all_ys = all-outside p ys all_ys
+  all-rows_of_join p (x ∷ xs) ys all_xs all_ys = all-joined_onto p x (rows_of_join sl sr xs) (and_left (p x.0) _ all_xs) (λ zs all. all-rows_of_join p xs zs (and_right (p x.0) _ all_xs) all) ys all_ys
 
   ascends-joined_onto : (x : Dot × X) (xs : List (Dot × X)) (rest : List (Dot × X) → List (Dot × X)) → list_all (is_above x.0) (keys xs) ≡ true → ((p : Dot → Bool) (ys : List (Dot × X)) → list_all p (keys xs) ≡ true → list_all p (keys ys) ≡ true → list_all p (keys (rest ys)) ≡ true) → ((ys : List (Dot × X)) → ascends (keys ys) ≡ true → ascends (keys (rest ys)) ≡ true) → (ys : List (Dot × X)) → ascends (keys ys) ≡ true → ascends (keys (joined_onto sl sr x rest ys)) ≡ true
-  ascends-joined_onto x xs rest front all asc [] rise = ascends-kept (not (sr x.0)) x _ (all (is_above x.0) [] front refl) (asc [] refl)
+  ascends-joined_onto x xs rest front all asc [] rise = ascends-row_if (not (sr x.0)) x _ (all (is_above x.0) [] front refl) (asc [] refl)
   ascends-joined_onto x xs rest front all asc (y ∷ ys) rise =
       let first = and_left (list_all (is_above y.0) (keys ys)) _ rise in
       let later = and_right (list_all (is_above y.0) (keys ys)) _ rise in
       let again = ascends-joined_onto x xs rest front all asc ys later in
-      elim (dot_cmp x.0 y.0) as (λ o. dot_cmp x.0 y.0 ≡ o → ascends (keys (by_order o (kept (not (sr x.0)) x (rest (y ∷ ys))) (x ∷ rest ys) (kept (not (sl y.0)) y (joined_onto sl sr x rest ys)))) ≡ true) [
-        | Less ↦ λ is. ascends-kept (not (sr x.0)) x _ (all (is_above x.0) (y ∷ ys) front (and_true _ _ (above x.0 y.0 is) (above_trans x.0 y.0 is (keys ys) first))) (asc (y ∷ ys) rise)
+      elim (dot_cmp x.0 y.0) as (λ o. dot_cmp x.0 y.0 ≡ o → ascends (keys (by_order o (row_if (not (sr x.0)) x (rest (y ∷ ys))) (x ∷ rest ys) (row_if (not (sl y.0)) y (joined_onto sl sr x rest ys)))) ≡ true) [
+        | Less ↦ λ is. ascends-row_if (not (sr x.0)) x _ (all (is_above x.0) (y ∷ ys) front (and_true _ _ (above x.0 y.0 is) (above_trans x.0 y.0 is (keys ys) first))) (asc (y ∷ ys) rise)
         | Equal ↦ λ is. and_true _ _ (all (is_above x.0) ys front (ap (λ q. list_all (is_above q) (keys ys)) (dots_exact x.0 y.0 is) ∙ first)) (asc ys later)
-        | Greater ↦ λ is. ascends-kept (not (sl y.0)) y _ (all-joined_onto (is_above y.0) x rest (above y.0 x.0 (after_before x.0 y.0 is)) (λ zs h. all (is_above y.0) zs (above_trans y.0 x.0 (after_before x.0 y.0 is) (keys xs) front) h) ys first) again
+        | Greater ↦ λ is. ascends-row_if (not (sl y.0)) y _ (all-joined_onto (is_above y.0) x rest (above y.0 x.0 (after_before x.0 y.0 is)) (λ zs h. all (is_above y.0) zs (above_trans y.0 x.0 (after_before x.0 y.0 is) (keys xs) front) h) ys first) again
       ] refl
 
   -- and they rise
-  pub ascends-joined : (xs ys : List (Dot × X)) → ascends (keys xs) ≡ true → ascends (keys ys) ≡ true → ascends (keys (joined sl sr xs ys)) ≡ true
-  ascends-joined [] ys rise_xs rise_ys = ascends-outside ys rise_ys
-  ascends-joined (x ∷ xs) ys rise_xs rise_ys =
-      ascends-joined_onto x xs (joined sl sr xs) (and_left _ (ascends (keys xs)) rise_xs) (λ p zs. all-joined p xs zs) (λ zs. ascends-joined xs zs (and_right (list_all (is_above x.0) (keys xs)) _ rise_xs)) ys rise_ys
+  pub ascends-rows_of_join : (xs ys : List (Dot × X)) → ascends (keys xs) ≡ true → ascends (keys ys) ≡ true → ascends (keys (rows_of_join sl sr xs ys)) ≡ true
+  ascends-rows_of_join [] ys rise_xs rise_ys = ascends-outside ys rise_ys
+  ascends-rows_of_join (x ∷ xs) ys rise_xs rise_ys =
+      ascends-joined_onto x xs (rows_of_join sl sr xs) (and_left _ (ascends (keys xs)) rise_xs) (λ p zs. all-rows_of_join p xs zs) (λ zs. ascends-rows_of_join xs zs (and_right (list_all (is_above x.0) (keys xs)) _ rise_xs)) ys rise_ys

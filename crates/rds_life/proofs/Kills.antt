@@ -12,12 +12,12 @@ use Rattle.rds_dots.specs.Ascending.{is_above, ascends}
 use Rattle.rds_dots.specs.Order.{dots_total}
 use Rattle.rds_names.specs.Conditions.{and_true, and_left, and_right}
 use Rattle.rds_dots.specs.Sets.{same_dot}
-use Rattle.rds_life.specs.Life.{Life, Live, Dead, Lived, keys, life_of, lived, AreRows, entry_of, live_rows}
+use Rattle.rds_life.specs.Life.{Life, Live, Dead, Lived, keys, life_of, lives_of, AreRows, entry_of, live_rows}
 use Rattle.rds_life.specs.Killed.{killed_by}
 use Rattle.rds_life.proofs.Puts.{rise-put}
-use Rattle.rds_life.proofs.RowLemmas.{find_above, find-kept, same_rows}
+use Rattle.rds_life.proofs.RowLemmas.{find_above, find-row_if, same_rows}
 use Rattle.rds_life.proofs.Views.{find-live_rows, rise-live_rows}
-use Rattle.rds_life.proofs.LivedLemmas.{get-lived, find_unseen, are_rows_of}
+use Rattle.rds_life.proofs.LivedLemmas.{get-lives_of, find_unseen, are_rows_of}
 
 module _ (test : Dot → Entry → Bool) where
   abbrev pub left : List (Dot × Entry) → List (Dot × Entry)
@@ -54,7 +54,7 @@ module _ (test : Dot → Entry → Bool) where
       let again = find-left rows (and_right (list_all (is_above x.0) (keys rows)) _ rise) d in
       let none = find_above x.0 rows (and_left _ (ascends (keys rows)) rise) in
       let stays = not (test x.0 x.1) in
-      find-kept d stays x (left rows)
+      find-row_if d stays x (left rows)
       ∙ ap (λ o. cond stays (cond (eq_by_cmp dot_cmp d x.0) (Some x.1) o) o) again
       ∙ find_one (eq_by_cmp dot_cmp d x.0) stays x.1 (map.find dot_cmp d rows) d
       (λ is. ap (λ q. not (test q x.1)) (same_dot d x.0 is))
@@ -81,12 +81,12 @@ module _ (test : Dot → Entry → Bool) where
   killed_life b (Some e) d = life_left b (test d e) e d refl
 
   -- without their rows, the chosen dots are dead
-  pub get-left : (s : Dots) (rows : List (Dot × Entry)) → AreRows s rows → (v : Lived) → lived s rows ≡ v → (d : Dot) → map.get (lived s (left rows)) d ≡ killed_by test d (map.get v d)
+  pub get-left : (s : Dots) (rows : List (Dot × Entry)) → AreRows s rows → (v : Lived) → lives_of s rows ≡ v → (d : Dot) → map.get (lives_of s (left rows)) d ≡ killed_by test d (map.get v d)
   get-left s rows are v is d =
-      get-lived s (left rows) d
+      get-lives_of s (left rows) d
       ∙ ap (λ o. cond (set.contains s d) (Some (life_of o)) None) (find-left rows are.rise d)
       ∙ killed_life (set.contains s d) (map.find dot_cmp d rows) d
-      ∙ ap (killed_by test d) (sym (get-lived s rows d) ∙ ap (λ l. map.get l d) is)
+      ∙ ap (killed_by test d) (sym (get-lives_of s rows d) ∙ ap (λ l. map.get l d) is)
 
 entry_put : (b : Bool) (e : Entry) (o : Option Life) → entry_of (cond b (Some (Live e)) o) ≡ cond b (Some e) (entry_of o)
 entry_put true e o = refl

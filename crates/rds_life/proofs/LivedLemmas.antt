@@ -22,15 +22,15 @@ use Rattle.rds_dots.specs.Ascending.{ascends, is_above}
 use Rattle.rds_dots.specs.Order.{dots_total, dots_exact}
 use Rattle.rds_dots.specs.Merges.{above_trans}
 use Rattle.rds_names.specs.Conditions.{and_true, and_left, and_right, less_of}
-use Rattle.rds_life.specs.Joined.{joined}
+use Rattle.rds_life.specs.Joined.{rows_of_join}
 use Rattle.rds_life.specs.Clash.{SameIfBoth, Clashes}
-use Rattle.rds_life.specs.Life.{Life, Lived, keys, life_of, life_in, entry_of, lived, AreRows, join_life, IsJoin, Agree, IsFirstConflict, Conflicts, MergeGives}
+use Rattle.rds_life.specs.Life.{Life, Lived, keys, life_of, life_in, entry_of, lives_of, AreRows, join_life, IsJoin, Agree, IsFirstConflict, Conflicts, MergeGives}
 use Rattle.rds_life.proofs.LifeOrder.{join_none}
 use Rattle.rds_life.proofs.RowLemmas.{find_outside, find-each}
-use Rattle.rds_life.proofs.Joins.{pick, find-joined, ascends-joined}
+use Rattle.rds_life.proofs.Joins.{pick, find-rows_of_join, ascends-rows_of_join}
 
-pub get-lived : (seen : Dots) (rows : List (Dot × Entry)) (d : Dot) → map.get (lived seen rows) d ≡ cond (set.contains seen d) (Some (life_in rows d)) None
-get-lived seen rows d =
+pub get-lives_of : (seen : Dots) (rows : List (Dot × Entry)) (d : Dot) → map.get (lives_of seen rows) d ≡ cond (set.contains seen d) (Some (life_in rows d)) None
+get-lives_of seen rows d =
     map.get-from_entries dots_total (each (λ x. (x, life_in rows x)) (set.items seen)) d
     ∙ find-each (life_in rows) d (set.items seen)
     ∙ ap (λ b. cond b (Some (life_in rows d)) None) (sym (set.contains-items seen d))
@@ -74,13 +74,13 @@ joined_life false false e f he hf = refl
 
 module _ (s t : Dots) (a b : List (Dot × Entry)) (rows_a : AreRows s a) (rows_b : AreRows t b) where
   -- the rows of a join, with all that either side has seen, have at each dot the later life
-  pub get-joined : (d : Dot) → map.get (lived (set.union s t) (joined (set.contains s) (set.contains t) a b)) d ≡ join_life (map.get (lived s a) d) (map.get (lived t b) d)
-  get-joined d =
-      get-lived (set.union s t) (joined (set.contains s) (set.contains t) a b) d
-      ∙ ap (λ c. cond c (Some (life_in (joined (set.contains s) (set.contains t) a b) d)) None) (set.contains-union dots_total s t d)
-      ∙ ap (λ o. cond (set.contains s d || set.contains t d) (Some (life_of o)) None) (find-joined (set.contains s) (set.contains t) d a b rows_a.rise rows_b.rise)
+  pub get-rows_of_join : (d : Dot) → map.get (lives_of (set.union s t) (rows_of_join (set.contains s) (set.contains t) a b)) d ≡ join_life (map.get (lives_of s a) d) (map.get (lives_of t b) d)
+  get-rows_of_join d =
+      get-lives_of (set.union s t) (rows_of_join (set.contains s) (set.contains t) a b) d
+      ∙ ap (λ c. cond c (Some (life_in (rows_of_join (set.contains s) (set.contains t) a b) d)) None) (set.contains-union dots_total s t d)
+      ∙ ap (λ o. cond (set.contains s d || set.contains t d) (Some (life_of o)) None) (find-rows_of_join (set.contains s) (set.contains t) d a b rows_a.rise rows_b.rise)
       ∙ joined_life (set.contains s d) (set.contains t d) (map.find dot_cmp d a) (map.find dot_cmp d b) (find_unseen s a rows_a d) (find_unseen t b rows_b d)
-      ∙ sym (ap (λ l. join_life l (map.get (lived t b) d)) (get-lived s a d) ∙ ap (join_life (cond (set.contains s d) (Some (life_in a d)) None)) (get-lived t b d))
+      ∙ sym (ap (λ l. join_life l (map.get (lives_of t b) d)) (get-lives_of s a d) ∙ ap (join_life (cond (set.contains s d) (Some (life_in a d)) None)) (get-lives_of t b d))
 
   neither : (x y : Bool) (e f : Option Entry) → (x || y) ≡ false → (x ≡ false → e ≡ None) → (y ≡ false → f ≡ None) → pick x y e f ≡ None
   neither true y e f h he hf = absurd (false≢true (sym h))
@@ -88,22 +88,22 @@ module _ (s t : Dots) (a b : List (Dot × Entry)) (rows_a : AreRows s a) (rows_b
   neither false false e f h he hf = rw (he refl, hf refl) refl
 
   -- and they are rows
-  rows-joined : AreRows (set.union s t) (joined (set.contains s) (set.contains t) a b)
-  rows-joined = are_rows_of (set.union s t) (joined (set.contains s) (set.contains t) a b) (ascends-joined (set.contains s) (set.contains t) a b rows_a.rise rows_b.rise) (λ d fails.
-      find-joined (set.contains s) (set.contains t) d a b rows_a.rise rows_b.rise
+  rows-rows_of_join : AreRows (set.union s t) (rows_of_join (set.contains s) (set.contains t) a b)
+  rows-rows_of_join = are_rows_of (set.union s t) (rows_of_join (set.contains s) (set.contains t) a b) (ascends-rows_of_join (set.contains s) (set.contains t) a b rows_a.rise rows_b.rise) (λ d fails.
+      find-rows_of_join (set.contains s) (set.contains t) d a b rows_a.rise rows_b.rise
       ∙ neither (set.contains s d) (set.contains t d) _ _ (sym (set.contains-union dots_total s t d) ∙ fails) (find_unseen s a rows_a d) (find_unseen t b rows_b d))
 
-  pub are_joined : {u : Dots} {r : List (Dot × Entry)} → u ≡ set.union s t → r ≡ joined (set.contains s) (set.contains t) a b → AreRows u r
-  are_joined seen rows = rw (seen, rows) rows-joined
+  pub are_joined : {u : Dots} {r : List (Dot × Entry)} → u ≡ set.union s t → r ≡ rows_of_join (set.contains s) (set.contains t) a b → AreRows u r
+  are_joined seen rows = rw (seen, rows) rows-rows_of_join
 
   -- so lives of these rows and dots are the join
-  pub is_joined : (u : Dots) (r : List (Dot × Entry)) (v w : Lived) → u ≡ set.union s t → r ≡ joined (set.contains s) (set.contains t) a b → lived s a ≡ v → lived t b ≡ w → IsJoin v w (lived u r)
+  pub is_joined : (u : Dots) (r : List (Dot × Entry)) (v w : Lived) → u ≡ set.union s t → r ≡ rows_of_join (set.contains s) (set.contains t) a b → lives_of s a ≡ v → lives_of t b ≡ w → IsJoin v w (lives_of u r)
   is_joined u r v w seen rows left right = record {
     each_dot = λ d.
-        ap (λ x. map.get (lived x r) d) seen
-        ∙ ap (λ x. map.get (lived (set.union s t) x) d) rows
-        ∙ get-joined d
-        ∙ ap (λ l. join_life (map.get l d) (map.get (lived t b) d)) left
+        ap (λ x. map.get (lives_of x r) d) seen
+        ∙ ap (λ x. map.get (lives_of (set.union s t) x) d) rows
+        ∙ get-rows_of_join d
+        ∙ ap (λ l. join_life (map.get l d) (map.get (lives_of t b) d)) left
         ∙ ap (λ l. join_life (map.get v d) (map.get l d)) right;
   }
 
@@ -122,14 +122,14 @@ module _ (s t : Dots) (a b : List (Dot × Entry)) (rows_a : AreRows s a) (rows_b
   agree_to x y (Some e) None he hf h = tt
   agree_to x y None f he hf h = tt
 
-  agree : (d : Dot) → SameIfBoth (map.find dot_cmp d a) (map.find dot_cmp d b) → Agree (map.get (lived s a) d) (map.get (lived t b) d)
-  agree d h = rw (get-lived s a d, get-lived t b d) (agree_from (set.contains s d) (set.contains t d) _ _ h)
+  agree : (d : Dot) → SameIfBoth (map.find dot_cmp d a) (map.find dot_cmp d b) → Agree (map.get (lives_of s a) d) (map.get (lives_of t b) d)
+  agree d h = rw (get-lives_of s a d, get-lives_of t b d) (agree_from (set.contains s d) (set.contains t d) _ _ h)
 
-  agree_back : (d : Dot) → Agree (map.get (lived s a) d) (map.get (lived t b) d) → SameIfBoth (map.find dot_cmp d a) (map.find dot_cmp d b)
-  agree_back d h = agree_to (set.contains s d) (set.contains t d) _ _ (find_unseen s a rows_a d) (find_unseen t b rows_b d) (rw (get-lived s a d, get-lived t b d) at h)
+  agree_back : (d : Dot) → Agree (map.get (lives_of s a) d) (map.get (lives_of t b) d) → SameIfBoth (map.find dot_cmp d a) (map.find dot_cmp d b)
+  agree_back d h = agree_to (set.contains s d) (set.contains t d) _ _ (find_unseen s a rows_a d) (find_unseen t b rows_b d) (rw (get-lives_of s a d, get-lives_of t b d) at h)
 
   -- a clash of rows is a conflict of lives
-  pub conflicts : (r : Option Dot) → Clashes a b r → Conflicts (lived s a) (lived t b) r
+  pub conflicts : (r : Option Dot) → Clashes a b r → Conflicts (lives_of s a) (lives_of t b) r
   conflicts None h = record { each_dot = λ d. agree d (h d) }
   conflicts (Some d) h = record { here = λ g. h.here (agree_back d g); first = λ q lt. agree q (h.first q lt) }
 
@@ -165,9 +165,9 @@ one_answer a b (Err (Conflict i n)) (Err (Conflict j m)) one other _ _ = ap (λ 
 one_answer a b (Err (Conflict i n)) (Err f) one other _ _ = absurd other
 one_answer a b (Err f) s one other _ _ = absurd one
 
-pub lived_empty : (seen : Dots) (rows : List (Dot × Entry)) → seen ≡ set.empty → lived seen rows ≡ map.empty
+pub lived_empty : (seen : Dots) (rows : List (Dot × Entry)) → seen ≡ set.empty → lives_of seen rows ≡ map.empty
 lived_empty seen rows none = map.same_map dots_total dots_exact _ _ (λ d.
-    get-lived seen rows d ∙ ap (λ b. cond b (Some (life_in rows d)) None) (ap (λ s. set.contains s d) none ∙ set.contains-empty dot_cmp d) ∙ sym (map.get-empty dot_cmp d))
+    get-lives_of seen rows d ∙ ap (λ b. cond b (Some (life_in rows d)) None) (ap (λ s. set.contains s d) none ∙ set.contains-empty dot_cmp d) ∙ sym (map.get-empty dot_cmp d))
 
 -- so where nothing was seen, nothing is joined
 pub nothing_joined : (a b : Lived) → b ≡ map.empty → IsJoin a b a
@@ -183,15 +183,15 @@ entry-cond true None h = refl
 entry-cond false o h = sym (h refl)
 
 -- a dot that isn't unseen is in the set
-pub seen_is : (s : Dots) (rows : List (Dot × Entry)) (v : Lived) → lived s rows ≡ v → (d : Dot) → set.contains s d ≡ is_some (map.get v d)
-seen_is s rows v is d = sym (ap (λ l. is_some (map.get l d)) (sym is) ∙ ap is_some (get-lived s rows d) ∙ is_some-cond (set.contains s d) _)
+pub seen_is : (s : Dots) (rows : List (Dot × Entry)) (v : Lived) → lives_of s rows ≡ v → (d : Dot) → set.contains s d ≡ is_some (map.get v d)
+seen_is s rows v is d = sym (ap (λ l. is_some (map.get l d)) (sym is) ∙ ap is_some (get-lives_of s rows d) ∙ is_some-cond (set.contains s d) _)
 
 -- a live dot's entry is its row's
-pub entry_is : (s : Dots) (rows : List (Dot × Entry)) → AreRows s rows → (v : Lived) → lived s rows ≡ v → (d : Dot) → map.find dot_cmp d rows ≡ entry_of (map.get v d)
-entry_is s rows are v is d = sym (ap (λ l. entry_of (map.get l d)) (sym is) ∙ ap entry_of (get-lived s rows d) ∙ entry-cond (set.contains s d) _ (find_unseen s rows are d))
+pub entry_is : (s : Dots) (rows : List (Dot × Entry)) → AreRows s rows → (v : Lived) → lives_of s rows ≡ v → (d : Dot) → map.find dot_cmp d rows ≡ entry_of (map.get v d)
+entry_is s rows are v is d = sym (ap (λ l. entry_of (map.get l d)) (sym is) ∙ ap entry_of (get-lives_of s rows d) ∙ entry-cond (set.contains s d) _ (find_unseen s rows are d))
 
 -- so an unseen dot has no row
-pub no_row : (s : Dots) (rows : List (Dot × Entry)) → AreRows s rows → (v : Lived) → lived s rows ≡ v → (d : Dot) → map.get v d ≡ None → map.find dot_cmp d rows ≡ None
+pub no_row : (s : Dots) (rows : List (Dot × Entry)) → AreRows s rows → (v : Lived) → lives_of s rows ≡ v → (d : Dot) → map.get v d ≡ None → map.find dot_cmp d rows ≡ None
 no_row s rows are v is d none = entry_is s rows are v is d ∙ ap entry_of none
 
 abbrev pub ranked : Bool → Option Entry → Rank
@@ -204,8 +204,8 @@ rank-cond true (Some e) = refl
 rank-cond true None = refl
 rank-cond false o = refl
 
-pub rank_is : (s : Dots) (rows : List (Dot × Entry)) (v : Lived) → lived s rows ≡ v → (d : Dot) (b : Bool) (o : Option Entry) → set.contains s d ≡ b → map.find dot_cmp d rows ≡ o → ranked b o ≡ rank_of (map.get v d)
-rank_is s rows v is d b o eb eo = sym (ap (λ l. rank_of (map.get l d)) (sym is) ∙ ap rank_of (get-lived s rows d) ∙ rank-cond (set.contains s d) _ ∙ ap (λ x. ranked x (map.find dot_cmp d rows)) eb ∙ ap (ranked b) eo)
+pub rank_is : (s : Dots) (rows : List (Dot × Entry)) (v : Lived) → lives_of s rows ≡ v → (d : Dot) (b : Bool) (o : Option Entry) → set.contains s d ≡ b → map.find dot_cmp d rows ≡ o → ranked b o ≡ rank_of (map.get v d)
+rank_is s rows v is d b o eb eo = sym (ap (λ l. rank_of (map.get l d)) (sym is) ∙ ap rank_of (get-lives_of s rows d) ∙ rank-cond (set.contains s d) _ ∙ ap (λ x. ranked x (map.find dot_cmp d rows)) eb ∙ ap (ranked b) eo)
 
 -- rows that fit are rows
 above_next : (d : Dot) (rows : List (Dot × Entry)) → before_next d rows ≡ true → ascends (keys rows) ≡ true → list_all (is_above d) (keys rows) ≡ true

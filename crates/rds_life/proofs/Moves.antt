@@ -11,13 +11,13 @@ use Rattle.std.specs.Cmp.{tied_itself}
 use Rattle.rds_dots.specs.declared.dot.Dot.{Dot}
 use Rattle.rds_dots.specs.Dots.{dot_cmp}
 use Rattle.rds_dots.specs.Order.{dots_total, dots_exact}
-use Rattle.rds_life.specs.Joined.{kept, outside, joined}
+use Rattle.rds_life.specs.Joined.{row_if, outside, rows_of_join}
 use Rattle.rds_life.proofs.Steps.{kept_push}
 
 module _ {X : Type 0} (sl sr : Dot → Bool) (xs ys : List (Dot × X)) where
   -- the rows so far and those that are left lead to the join, and those that come are the other's unseen ones
   pub record IsMoving (out own other coming : List (Dot × X)) : Type 0 where
-    pub joins : out ++ joined sl sr own other ≡ joined sl sr xs ys
+    pub joins : out ++ rows_of_join sl sr own other ≡ rows_of_join sl sr xs ys
     pub comes : coming ≡ outside sl other
     pub known : (d : Dot) → sl d ≡ false → find dot_cmp d own ≡ None
 
@@ -30,12 +30,12 @@ module _ {X : Type 0} (sl sr : Dot → Bool) (xs ys : List (Dot × X)) where
   ] none
 
   module _ (out own other coming : List (Dot × X)) (x y : Dot × X) (is : IsMoving sl sr xs ys out (x ∷ own) (y ∷ other) coming) where
-    by : (o : Ordering) → dot_cmp x.0 y.0 ≡ o → out ++ by_order o (kept (not (sr x.0)) x (joined sl sr own (y ∷ other))) (x ∷ joined sl sr own other) (kept (not (sl y.0)) y (joined sl sr (x ∷ own) other)) ≡ joined sl sr xs ys
-    by o e = ap (λ q. out ++ by_order q (kept (not (sr x.0)) x (joined sl sr own (y ∷ other))) (x ∷ joined sl sr own other) (kept (not (sl y.0)) y (joined sl sr (x ∷ own) other))) (sym e) ∙ is.joins
+    by : (o : Ordering) → dot_cmp x.0 y.0 ≡ o → out ++ by_order o (row_if (not (sr x.0)) x (rows_of_join sl sr own (y ∷ other))) (x ∷ rows_of_join sl sr own other) (row_if (not (sl y.0)) y (rows_of_join sl sr (x ∷ own) other)) ≡ rows_of_join sl sr xs ys
+    by o e = ap (λ q. out ++ by_order q (row_if (not (sr x.0)) x (rows_of_join sl sr own (y ∷ other))) (x ∷ rows_of_join sl sr own other) (row_if (not (sl y.0)) y (rows_of_join sl sr (x ∷ own) other))) (sym e) ∙ is.joins
 
-    pub own_first : dot_cmp x.0 y.0 ≡ Less → IsMoving sl sr xs ys (out ++ kept (not (sr x.0)) x []) own (y ∷ other) coming
+    pub own_first : dot_cmp x.0 y.0 ≡ Less → IsMoving sl sr xs ys (out ++ row_if (not (sr x.0)) x []) own (y ∷ other) coming
     own_first less = record {
-      joins = kept_push out (not (sr x.0)) x (joined sl sr own (y ∷ other)) ∙ by Less less;
+      joins = kept_push out (not (sr x.0)) x (rows_of_join sl sr own (y ∷ other)) ∙ by Less less;
       comes = is.comes;
       known = λ d unseen. later_known x own d (is.known d unseen);
     }
@@ -54,8 +54,8 @@ module _ {X : Type 0} (sl sr : Dot → Bool) (xs ys : List (Dot × X)) where
 
     pub both : dot_cmp x.0 y.0 ≡ Equal → IsMoving sl sr xs ys (out ++ x ∷ []) own other coming
     both same = record {
-      joins = append_assoc out (x ∷ []) (joined sl sr own other) ∙ by Equal same;
-      comes = is.comes ∙ ap (λ b. kept (not b) y (outside sl other)) (seen same);
+      joins = append_assoc out (x ∷ []) (rows_of_join sl sr own other) ∙ by Equal same;
+      comes = is.comes ∙ ap (λ b. row_if (not b) y (outside sl other)) (seen same);
       known = λ d unseen. later_known x own d (is.known d unseen);
     }
 
@@ -65,16 +65,16 @@ module _ {X : Type 0} {sl sr : Dot → Bool} {xs ys out rows own next other late
   is_split : IsMoving sl sr xs ys out (x ∷ own) (y ∷ later) coming
   is_split = rw (← first, ← split) is
 
-  pub moves_own : {new : List (Dot × X)} → dot_cmp x.0 y.0 ≡ Less → new ≡ out ++ kept (not (sr x.0)) x [] → IsMoving sl sr xs ys new next other coming
+  pub moves_own : {new : List (Dot × X)} → dot_cmp x.0 y.0 ≡ Less → new ≡ out ++ row_if (not (sr x.0)) x [] → IsMoving sl sr xs ys new next other coming
   moves_own less made = rw (made, ← rest, split) (own_first sl sr xs ys out own later coming x y is_split less)
 
   pub moves_both : {new : List (Dot × X)} → dot_cmp x.0 y.0 ≡ Equal → new ≡ out ++ x ∷ [] → IsMoving sl sr xs ys new next later coming
   moves_both same made = rw (made, ← rest) (both sl sr xs ys out own later coming x y is_split same)
 
 -- with no own row left, those that come are the rest
-pub moves_rest : {X : Type 0} (sl sr : Dot → Bool) (xs ys out own other coming new : List (Dot × X)) → own ≡ [] → IsMoving sl sr xs ys out own other coming → new ≡ out ++ coming → new ≡ joined sl sr xs ys
+pub moves_rest : {X : Type 0} (sl sr : Dot → Bool) (xs ys out own other coming new : List (Dot × X)) → own ≡ [] → IsMoving sl sr xs ys out own other coming → new ≡ out ++ coming → new ≡ rows_of_join sl sr xs ys
 moves_rest sl sr xs ys out own other coming new none is made =
-    made ∙ ap (λ rows. out ++ rows) is.comes ∙ ap (λ rows. out ++ joined sl sr rows other) (sym none) ∙ is.joins
+    made ∙ ap (λ rows. out ++ rows) is.comes ∙ ap (λ rows. out ++ rows_of_join sl sr rows other) (sym none) ∙ is.joins
 
 empty_of : {X : Type 0} (items : List X) → length items ≡ 0 → items ≡ []
 empty_of [] none = refl

@@ -8,17 +8,17 @@ use Rattle.rds_names.specs.declared.fault.Fault.{Fault}
 use Rattle.rds_names.specs.declared.fault.Fault.TheVariants.{Memory}
 use Rattle.rds_dots.specs.declared.dot.Dot.{Dot}
 use Rattle.rds_dots.specs.Dots.{dot_cmp, Dots}
-use Rattle.rds_life.specs.Life.{Life, Live, Dead, Lived, Agree, AreCompatible, MergeGives, lived, seen_of}
-use Rattle.rds_life.proofs.Views.{seen_of-lived}
+use Rattle.rds_life.specs.Life.{Life, Live, Dead, Lived, Agree, AreCompatible, MergeGives, lives_of, seen_of}
+use Rattle.rds_life.proofs.Views.{seen_of-lives_of}
 
 no_items : {X : Type 0} (xs : List X) → length xs ≡ 0 → xs ≡ []
 no_items [] none = refl
 no_items (x ∷ xs) none = absurd (omega (arith, none))
 
-pub nothing_seen : (seen : Dots) (rows : List (Dot × Entry)) (v : Lived) → lived seen rows ≡ v → map.len v ≡ 0 → set.len seen ≡ 0
+pub nothing_seen : (seen : Dots) (rows : List (Dot × Entry)) (v : Lived) → lives_of seen rows ≡ v → map.len v ≡ 0 → set.len seen ≡ 0
 nothing_seen seen rows v is none =
     ap (λ s. set.len s)
-    (sym (seen_of-lived seen rows) ∙ ap seen_of is
+    (sym (seen_of-lives_of seen rows) ∙ ap seen_of is
     ∙ ap (λ (es : List (Dot × Life)). set.from_list (each (λ e. e.0) es)) (no_items (map.entries v) (sym (map.len-entries v) ∙ none)))
     ∙ set.len-empty dot_cmp
 

@@ -14,7 +14,7 @@ use Rattle.rds_dots.specs.Order.{dots_total, dots_exact}
 use Rattle.rds_names.specs.Conditions.{and_true, and_left, and_right, less_of, true_of}
 use Rattle.rds_dots.specs.Sets.{same_dot}
 use Rattle.rds_life.specs.Life.{keys}
-use Rattle.rds_life.specs.Joined.{kept}
+use Rattle.rds_life.specs.Joined.{row_if}
 
 module _ {X : Type 0} where
   -- a dot before all rows has none
@@ -32,17 +32,17 @@ module _ {X : Type 0} where
         | false ↦ λ _. again
       ] refl
 
-  pub find-kept : (d : Dot) (b : Bool) (r : Dot × X) (rows : List (Dot × X)) → find dot_cmp d (kept b r rows) ≡ cond b (cond (eq_by_cmp dot_cmp d r.0) (Some r.1) (find dot_cmp d rows)) (find dot_cmp d rows)
-  find-kept d true r rows = refl
-  find-kept d false r rows = refl
+  pub find-row_if : (d : Dot) (b : Bool) (r : Dot × X) (rows : List (Dot × X)) → find dot_cmp d (row_if b r rows) ≡ cond b (cond (eq_by_cmp dot_cmp d r.0) (Some r.1) (find dot_cmp d rows)) (find dot_cmp d rows)
+  find-row_if d true r rows = refl
+  find-row_if d false r rows = refl
 
-  pub all-kept : (p : Dot → Bool) (b : Bool) (r : Dot × X) (rows : List (Dot × X)) → p r.0 ≡ true → list_all p (keys rows) ≡ true → list_all p (keys (kept b r rows)) ≡ true
-  all-kept p true r rows one all = and_true _ _ one all
-  all-kept p false r rows one all = all
+  pub all-row_if : (p : Dot → Bool) (b : Bool) (r : Dot × X) (rows : List (Dot × X)) → p r.0 ≡ true → list_all p (keys rows) ≡ true → list_all p (keys (row_if b r rows)) ≡ true
+  all-row_if p true r rows one all = and_true _ _ one all
+  all-row_if p false r rows one all = all
 
-  pub ascends-kept : (b : Bool) (r : Dot × X) (rows : List (Dot × X)) → list_all (is_above r.0) (keys rows) ≡ true → ascends (keys rows) ≡ true → ascends (keys (kept b r rows)) ≡ true
-  ascends-kept true r rows first rise = and_true _ _ first rise
-  ascends-kept false r rows first rise = rise
+  pub ascends-row_if : (b : Bool) (r : Dot × X) (rows : List (Dot × X)) → list_all (is_above r.0) (keys rows) ≡ true → ascends (keys rows) ≡ true → ascends (keys (row_if b r rows)) ≡ true
+  ascends-row_if true r rows first rise = and_true _ _ first rise
+  ascends-row_if false r rows first rise = rise
 
 -- rows that rise are std's entries in order
 module _ {X : Type 0} where

@@ -13,9 +13,9 @@ use Rattle.rds_dots.specs.Ascending.{ascends, is_above}
 use Rattle.rds_dots.specs.Order.{dots_total, dots_exact}
 use Rattle.rds_names.specs.Conditions.{and_true, and_left, and_right}
 use Rattle.rds_dots.specs.Sets.{same_dot}
-use Rattle.rds_life.specs.Life.{Life, Live, Dead, Lived, keys, life_of, lived, AreRows, entry_of, seen_of, live_row, live_rows}
+use Rattle.rds_life.specs.Life.{Life, Live, Dead, Lived, keys, life_of, lives_of, AreRows, entry_of, seen_of, live_row, live_rows}
 use Rattle.rds_life.proofs.RowLemmas.{find_above, rise_of, same_rows}
-use Rattle.rds_life.proofs.LivedLemmas.{get-lived, are_rows_of, seen_is, entry_is}
+use Rattle.rds_life.proofs.LivedLemmas.{get-lives_of, are_rows_of, seen_is, entry_is}
 
 abbrev live_in : List (Dot × Life) → List (Dot × Entry)
 live_in lives = filter_map (λ x. live_row x.0 x.1) lives
@@ -76,15 +76,15 @@ whole_life (Some (Live e)) = refl
 whole_life (Some Dead) = refl
 
 -- the seen dots and the live rows are all that lives are
-pub lived_of_parts : (v : Lived) → lived (seen_of v) (live_rows v) ≡ v
+pub lived_of_parts : (v : Lived) → lives_of (seen_of v) (live_rows v) ≡ v
 lived_of_parts v = map.same_map dots_total dots_exact _ _ (λ d.
-    get-lived (seen_of v) (live_rows v) d
+    get-lives_of (seen_of v) (live_rows v) d
     ∙ ap (λ b. cond b (Some (life_of (map.find dot_cmp d (live_rows v)))) None) (contains-seen_of v d)
     ∙ ap (λ o. cond (is_some (map.get v d)) (Some (life_of o)) None) (find-live_rows v d)
     ∙ whole_life (map.get v d))
 
-pub seen_of-lived : (seen : Dots) (rows : List (Dot × Entry)) → seen_of (lived seen rows) ≡ seen
-seen_of-lived seen rows = set.same_set dots_total dots_exact _ _ (λ d. contains-seen_of (lived seen rows) d ∙ sym (seen_is seen rows (lived seen rows) refl d))
+pub seen_of-lives_of : (seen : Dots) (rows : List (Dot × Entry)) → seen_of (lives_of seen rows) ≡ seen
+seen_of-lives_of seen rows = set.same_set dots_total dots_exact _ _ (λ d. contains-seen_of (lives_of seen rows) d ∙ sym (seen_is seen rows (lives_of seen rows) refl d))
 
-pub live_rows-lived : (seen : Dots) (rows : List (Dot × Entry)) → AreRows seen rows → live_rows (lived seen rows) ≡ rows
-live_rows-lived seen rows are = same_rows _ _ (rise-live_rows (lived seen rows)) are.rise (λ d. find-live_rows (lived seen rows) d ∙ sym (entry_is seen rows are (lived seen rows) refl d))
+pub live_rows-lives_of : (seen : Dots) (rows : List (Dot × Entry)) → AreRows seen rows → live_rows (lives_of seen rows) ≡ rows
+live_rows-lives_of seen rows are = same_rows _ _ (rise-live_rows (lives_of seen rows)) are.rise (λ d. find-live_rows (lives_of seen rows) d ∙ sym (entry_is seen rows are (lives_of seen rows) refl d))

@@ -9,14 +9,14 @@ use Rattle.rds_dots.specs.Ascending.{is_above}
 use Rattle.rds_dots.specs.Dots.{Dots, dot_cmp}
 
 -- what a dot has once the other's row was added, if the dot was unseen and there is one
-abbrev pub gained : Bool → Option Entry → Option Entry → Option Entry
-gained true old other = old
-gained false old None = old
-gained false old (Some e) = Some e
+abbrev pub gain : Bool → Option Entry → Option Entry → Option Entry
+gain true old other = old
+gain false old None = old
+gain false old (Some e) = Some e
 
 -- what a dot has once the row of an unseen one was taken out
-abbrev pub dropped : Bool → Bool → Option Entry → Option Entry
-dropped seen has old = cond (not seen && has) None old
+abbrev pub loss : Bool → Bool → Option Entry → Option Entry
+loss seen has old = cond (not seen && has) None old
 
 -- whether a seen dot has no row
 abbrev pub is_gone : (Dot → Bool) → List (Dot × Entry) → Dot → Bool

@@ -29,8 +29,8 @@ abbrev pub life_in : List (Dot × Entry) → Dot → Life
 life_in rows d = life_of (map.find dot_cmp d rows)
 
 -- the seen dots, live where a row has them
-abbrev pub lived : Dots → List (Dot × Entry) → Lived
-lived seen rows = map.from_entries (each (λ d. (d, life_in rows d)) (set.items seen))
+abbrev pub lives_of : Dots → List (Dot × Entry) → Lived
+lives_of seen rows = map.from_entries (each (λ d. (d, life_in rows d)) (set.items seen))
 
 -- the dots of rows
 abbrev pub keys : {X : Type 0} → List (Dot × X) → List Dot

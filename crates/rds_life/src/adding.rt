@@ -6,7 +6,7 @@ ghost use Rattle.rds_names.specs.declared.fault.Fault.TheVariants.{Memory};
 ghost use Rattle.rds_dots.specs.declared.dot.Dot.{Dot};
 ghost use Rattle.rds_dots.specs.Ascending.{ascends};
 ghost use Rattle.rds_dots.specs.Dots.{dot_cmp};
-ghost use Rattle.rds_life.specs.Added.{IsAdded, dropped, gained};
+ghost use Rattle.rds_life.specs.Added.{IsAdded, loss, gain};
 ghost use Rattle.rds_life.specs.Life.{keys};
 
 use crate::row_map::RowMap;
@@ -26,8 +26,8 @@ pub fn join_in<S: DotSet>(
     requires seen { (d : Dot) → set.contains (S.contents seen.now) d ≡ false → map.find dot_cmp d rows.old ≡ None }
     requires rise { ascends (keys other.now) ≡ true }
     ensures ok { OnOk result ((d : Dot)
-        → map.find dot_cmp d rows.new ≡ dropped false (is_some (map.find dot_cmp d gone.now))
-        (gained (set.contains (S.contents seen.now) d) (map.find dot_cmp d rows.old) (map.find dot_cmp d other.now))) }
+        → map.find dot_cmp d rows.new ≡ loss false (is_some (map.find dot_cmp d gone.now))
+        (gain (set.contains (S.contents seen.now) d) (map.find dot_cmp d rows.old) (map.find dot_cmp d other.now))) }
     ensures err { OnErr result (rows.new ≡ rows.old) }
     ensures memory { IfErr result (λ fault. fault ≡ Memory) }
 {
@@ -48,7 +48,7 @@ fn add_unseen<S: DotSet>(
     requires rise { ascends (keys other.now) ≡ true }
     ensures ok { OnOk result ((d : Dot)
         → map.find dot_cmp d rows.new
-        ≡ gained (set.contains (S.contents seen.now) d) (map.find dot_cmp d rows.old) (map.find dot_cmp d other.now)) }
+        ≡ gain (set.contains (S.contents seen.now) d) (map.find dot_cmp d rows.old) (map.find dot_cmp d other.now)) }
     ensures err { OnErr result (rows.new ≡ rows.old) }
     ensures memory { IfErr result (λ fault. fault ≡ Memory) }
 {
@@ -71,7 +71,7 @@ fn add_each<S: DotSet>(
     requires { ascends (keys other.now) ≡ true }
     ensures ok { OnOk result ((d : Dot)
         → map.find dot_cmp d rows.new
-        ≡ gained (set.contains (S.contents seen.now) d) (map.find dot_cmp d rows.old) (map.find dot_cmp d other.now)) }
+        ≡ gain (set.contains (S.contents seen.now) d) (map.find dot_cmp d rows.old) (map.find dot_cmp d other.now)) }
     ensures some { IsAdded (set.contains (S.contents seen.now)) other.now rows.old rows.new }
     ensures memory { IfErr result (λ fault. fault ≡ Memory) }
 {
@@ -88,7 +88,7 @@ fn add_each<S: DotSet>(
 /// Takes out the rows of the other's unseen dots.
 fn drop_unseen<S: DotSet>(rows: &mut RowMap, seen: &S, other: &[(Dot, Entry)])
     ensures { (d : Dot) → map.find dot_cmp d rows.new
-        ≡ dropped (set.contains (S.contents seen.now) d) (is_some (map.find dot_cmp d other.now))
+        ≡ loss (set.contains (S.contents seen.now) d) (is_some (map.find dot_cmp d other.now))
         (map.find dot_cmp d rows.old) }
 {
     let mut rest = other;
@@ -107,7 +107,7 @@ fn drop_unseen<S: DotSet>(rows: &mut RowMap, seen: &S, other: &[(Dot, Entry)])
 /// Takes out the rows of the other's dots.
 fn drop_all(rows: &mut RowMap, other: &[(Dot, Entry)])
     ensures { (d : Dot) → map.find dot_cmp d rows.new
-        ≡ dropped false (is_some (map.find dot_cmp d other.now)) (map.find dot_cmp d rows.old) }
+        ≡ loss false (is_some (map.find dot_cmp d other.now)) (map.find dot_cmp d rows.old) }
 {
     let mut rest = other;
     'dropping: loop {

@@ -9,7 +9,7 @@ ghost use Rattle.rds_dots.specs.Dots.{dot_cmp};
 ghost use Rattle.rds_names.specs.declared.fault.Fault.TheVariants.{Memory};
 ghost use Rattle.rds_dots.specs.Ascending.{ascends};
 ghost use Rattle.rds_life.specs.Clash.{Clashes};
-ghost use Rattle.rds_life.specs.Joined.{kept, outside, joined};
+ghost use Rattle.rds_life.specs.Joined.{row_if, outside, rows_of_join};
 ghost use Rattle.rds_life.specs.Life.{keys};
 
 use crate::rows::push_row;
@@ -31,7 +31,7 @@ pub fn join_rows<S: DotSet>(
     mut right: &[(Dot, Entry)],
 ) -> Result<Vec<(Dot, Entry)>, Fault>
     ensures ok { IfOk result
-        (λ rows. rows.items ≡ joined (set.contains (S.contents left_seen.now))
+        (λ rows. rows.items ≡ rows_of_join (set.contains (S.contents left_seen.now))
         (set.contains (S.contents right_seen.now)) left.entry.now right.entry.now) }
     ensures memory { IfErr result (λ fault. fault ≡ Memory) }
 {
@@ -77,7 +77,7 @@ pub fn join_into<S: DotSet>(
 ) -> Result<(), Fault>
     requires { (d : Dot) → set.contains (S.contents seen.now) d ≡ false → map.find dot_cmp d rows.old.items ≡ None }
     ensures ok { OnOk result (rows.new.items
-        ≡ joined (set.contains (S.contents seen.now)) (set.contains (S.contents other_seen.now))
+        ≡ rows_of_join (set.contains (S.contents seen.now)) (set.contains (S.contents other_seen.now))
         rows.old.items other.now) }
     ensures err { OnErr result (rows.new.items ≡ rows.old.items) }
     ensures memory { IfErr result (λ fault. fault ≡ Memory) }
@@ -122,7 +122,7 @@ fn move_rows<S: DotSet>(
     requires seen { (d : Dot) → set.contains (S.contents seen.now) d ≡ false → map.find dot_cmp d own.items ≡ None }
     requires coming { coming.items ≡ outside (set.contains (S.contents seen.now)) other.now }
     ensures { rows.new.items
-        ≡ joined (set.contains (S.contents seen.now)) (set.contains (S.contents other_seen.now))
+        ≡ rows_of_join (set.contains (S.contents seen.now)) (set.contains (S.contents other_seen.now))
         own.items other.entry.now }
 {
     let mut mine = own.into_iter();
@@ -175,7 +175,7 @@ fn move_row(rows: &mut Vec<(Dot, Entry)>, row: (Dot, Entry))
 fn move_unseen<S: DotSet>(rows: &mut Vec<(Dot, Entry)>, other_seen: &S, row: (Dot, Entry))
     requires { vec_len rows.old < vec_capacity rows.old }
     ensures rows { rows.new.items
-        ≡ rows.old.items ++ kept (not (set.contains (S.contents other_seen.now) row.0)) row [] }
+        ≡ rows.old.items ++ row_if (not (set.contains (S.contents other_seen.now) row.0)) row [] }
     ensures len { vec_len rows.new ≤ vec_len rows.old + 1 }
     ensures capacity { vec_capacity rows.old ≤ vec_capacity rows.new }
 {
@@ -193,9 +193,9 @@ fn move_first<S: DotSet>(
 )
     requires { vec_len rows.old + into_iter_len coming.old ≤ vec_capacity rows.old }
     ensures moved { (later : List (Dot × Entry))
-        → into_iter_items coming.old ≡ kept (not (set.contains (S.contents seen.now) row.now.0)) row.now later
+        → into_iter_items coming.old ≡ row_if (not (set.contains (S.contents seen.now) row.now.0)) row.now later
         → (into_iter_items coming.new ≡ later)
-        × (rows.new.items ≡ rows.old.items ++ kept (not (set.contains (S.contents seen.now) row.now.0)) row.now []) }
+        × (rows.new.items ≡ rows.old.items ++ row_if (not (set.contains (S.contents seen.now) row.now.0)) row.now []) }
     ensures len { vec_len rows.new + into_iter_len coming.new ≤ vec_len rows.old + into_iter_len coming.old }
     ensures capacity { vec_capacity rows.old ≤ vec_capacity rows.new }
 {
@@ -227,7 +227,7 @@ fn push_unseen<S: DotSet>(
     row: &(Dot, Entry),
 ) -> Result<(), Fault>
     ensures ok { OnOk result (rows.new.items
-        ≡ rows.old.items ++ kept (not (set.contains (S.contents seen.now) row.now.0)) row.now []) }
+        ≡ rows.old.items ++ row_if (not (set.contains (S.contents seen.now) row.now.0)) row.now []) }
     ensures memory { IfErr result (λ fault. fault ≡ Memory) }
 {
     if !seen.contains(row.0) {

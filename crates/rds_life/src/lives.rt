@@ -8,7 +8,7 @@ ghost use Rattle.rds_dots.specs.declared.dot.Dot.{Dot};
 ghost use Rattle.rds_dots.specs.Ascending.{ascends};
 ghost use Rattle.rds_dots.specs.Dots.{is_dot};
 ghost use Rattle.rds_life.specs.Killed.{killed_by, but_for, is_the};
-ghost use Rattle.rds_life.specs.Life.{Live, Dead, AreRows, keys, lived, seen_of, live_of, live_rows, entry_of, is_dead, AreCompatible, Conflicts, IsJoin, IsLeastAbove, MergeGives};
+ghost use Rattle.rds_life.specs.Life.{Live, Dead, AreRows, keys, lives_of, seen_of, live_of, live_rows, entry_of, is_dead, AreCompatible, Conflicts, IsJoin, IsLeastAbove, MergeGives};
 ghost use Rattle.rds_life.specs.Past.{first_row, rows_from};
 ghost use Rattle.rds_life.specs.Rank.{rank_of};
 
@@ -45,14 +45,14 @@ impl<S: DotSet> Drop for Lives<S> {
 }
 
 impl<S: DotSet> Model for Lives<S> {
-    ghost use Rattle.rds_life.specs.Life.{Lived, lived, AreRows};
+    ghost use Rattle.rds_life.specs.Life.{Lived, lives_of, AreRows};
     ghost use Rattle.rds_life.specs.Code.{coded_lives};
 
     ghost Value = { Lived };
 
     ghost coded = { coded_lives };
 
-    ghost view = { λ l. lived (S.contents l.seen) l.rows };
+    ghost view = { λ l. lives_of (S.contents l.seen) l.rows };
 
     ghost invariant = { λ l. AreRows (S.contents l.seen) l.rows };
 }
@@ -72,7 +72,7 @@ impl<S: DotSet> Lives<S> {
     /// no memory, and tests nothing: the rows are known to ascend, each of a dot of the set.
     pub fn with_rows(seen: S, rows: Vec<(Dot, Entry)>) -> Lives<S>
         requires rows { AreRows (S.contents seen) rows.items }
-        ensures lives { result ≡ lived (S.contents seen) rows.items }
+        ensures lives { result ≡ lives_of (S.contents seen) rows.items }
         ensures seen { seen_of result ≡ S.contents seen }
         ensures live { live_rows result ≡ rows.items }
     {
@@ -88,7 +88,7 @@ impl<S: DotSet> Lives<S> {
     pub fn from_parts(seen: S, rows: Vec<(Dot, Entry)>) -> Option<Lives<S>>
         ensures exact { MatchOption result (¬ (AreRows (S.contents seen) rows.items))
             (λ _. AreRows (S.contents seen) rows.items) }
-        ensures lives { IfSome result (λ lives. lives ≡ lived (S.contents seen) rows.items) }
+        ensures lives { IfSome result (λ lives. lives ≡ lives_of (S.contents seen) rows.items) }
         ensures seen { IfSome result (λ lives. seen_of lives ≡ S.contents seen) }
         ensures live { IfSome result (λ lives. live_rows lives ≡ rows.items) }
     {

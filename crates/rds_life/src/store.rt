@@ -2,9 +2,9 @@
 ghost use Rattle.std.specs.Prelude.{◌≡◌, ◌↔◌, IsTrue, is_some, true, false, not, length, count_by, None, Some, IfOk, IfErr, OnOk, OnErr};
 ghost use Rattle.std.specs.List.{filter};
 ghost use Rattle.std.specs.FinSet as set;
-ghost use Rattle.rds_life.specs.Added.{dropped, gained};
+ghost use Rattle.rds_life.specs.Added.{loss, gain};
 ghost use Rattle.rds_life.specs.Clash.{Clashes, SameIfBoth};
-ghost use Rattle.rds_life.specs.Joined.{joined};
+ghost use Rattle.rds_life.specs.Joined.{rows_of_join};
 ghost use Rattle.rds_life.specs.Past.{first_row, rows_from};
 ghost use Rattle.std.specs.FinMap as map;
 ghost use Rattle.std.specs.Option.{option_copied, option_map};
@@ -200,7 +200,7 @@ impl Rows {
         other: &Rows,
     ) -> Result<Rows, Fault>
         ensures ok { IfOk result
-            (λ rows. rows ≡ joined (set.contains (S.contents seen.now))
+            (λ rows. rows ≡ rows_of_join (set.contains (S.contents seen.now))
             (set.contains (S.contents other_seen.now)) self.now other.now) }
         ensures memory { IfErr result (λ fault. fault ≡ Memory) }
     {
@@ -231,7 +231,7 @@ impl Rows {
         requires seen { (d : Dot) → set.contains (S.contents seen.now) d ≡ false → map.find dot_cmp d self.old ≡ None }
         requires fit { AreRows (S.contents other_seen.now) other.now }
         ensures ok { OnOk result (self.new
-            ≡ joined (set.contains (S.contents seen.now)) (set.contains (S.contents other_seen.now))
+            ≡ rows_of_join (set.contains (S.contents seen.now)) (set.contains (S.contents other_seen.now))
             self.old other.now) }
         ensures err { OnErr result (self.new ≡ self.old) }
         ensures memory { IfErr result (λ fault. fault ≡ Memory) }
@@ -253,7 +253,7 @@ impl Rows {
         requires { (d : Dot) → set.contains (S.contents seen.now) d ≡ false
             → map.find dot_cmp d target.old.items ≡ None }
         ensures ok { OnOk result (target.new.items
-            ≡ joined (set.contains (S.contents seen.now)) (set.contains (S.contents own_seen.now))
+            ≡ rows_of_join (set.contains (S.contents seen.now)) (set.contains (S.contents own_seen.now))
             target.old.items self.now) }
         ensures err { OnErr result (target.new.items ≡ target.old.items) }
         ensures memory { IfErr result (λ fault. fault ≡ Memory) }
@@ -279,7 +279,7 @@ impl Rows {
             → map.find dot_cmp d target.old ≡ None }
         requires fit { AreRows (S.contents own_seen.now) self.now }
         ensures ok { OnOk result (target.new
-            ≡ joined (set.contains (S.contents seen.now)) (set.contains (S.contents own_seen.now))
+            ≡ rows_of_join (set.contains (S.contents seen.now)) (set.contains (S.contents own_seen.now))
             target.old self.now) }
         ensures err { OnErr result (target.new ≡ target.old) }
         ensures memory { IfErr result (λ fault. fault ≡ Memory) }
@@ -303,8 +303,8 @@ impl Rows {
             → map.find dot_cmp d target.old ≡ None }
         requires rise { ascends (keys self.now) ≡ true }
         ensures ok { OnOk result ((d : Dot)
-            → map.find dot_cmp d target.new ≡ dropped false (is_some (map.find dot_cmp d gone.now))
-            (gained (set.contains (S.contents seen.now) d) (map.find dot_cmp d target.old)
+            → map.find dot_cmp d target.new ≡ loss false (is_some (map.find dot_cmp d gone.now))
+            (gain (set.contains (S.contents seen.now) d) (map.find dot_cmp d target.old)
             (map.find dot_cmp d self.now))) }
         ensures err { OnErr result (target.new ≡ target.old) }
         ensures memory { IfErr result (λ fault. fault ≡ Memory) }

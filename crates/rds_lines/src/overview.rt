@@ -5,7 +5,7 @@ ghost use Rattle.serde_json.specs.Written.{compact_text};
 ghost use Rattle.rds_keep.specs.Kept.{IsKept};
 ghost use Rattle.rds_names.specs.declared.fault.Fault.TheVariants.{Memory};
 ghost use Rattle.rds_tree.specs.Document.{sums_of};
-ghost use Rattle.rds_tree.specs.Shown.{shown};
+ghost use Rattle.rds_tree.specs.Shown.{shown_view};
 ghost use Rattle.rds_lines.specs.Overview.{AreAmounts, TellsOverview, dead_count, much_text, overview_text, own_name, sum_count};
 
 use rds_codec::encode_snapshot;
@@ -79,7 +79,7 @@ fn counter_count<S: DotSet>(alloc: Global, state: &State<S>) -> Result<u64, Faul
 
 // How many counters a view shows.
 fn sum_count(shape: &View) -> u64
-    ensures { result ≡ sum_count (shown shape.now) }
+    ensures { result ≡ sum_count (shown_view shape.now) }
 {
     match &shape.counters {
         Some(sums) => sums.rows().len() as u64,

@@ -3,7 +3,7 @@ ghost use Rattle.std.specs.Prelude.{◌≡◌, IfErr, IfOk, string_bytes};
 ghost use Rattle.rds_json.specs.Show.{data_of};
 ghost use Rattle.rds_lines.specs.Views.{IsLaidOut, Prints, PrintsAt, ShowsView, TellsAt};
 ghost use Rattle.rds_names.specs.declared.fault.Fault.TheVariants.{Memory};
-ghost use Rattle.rds_tree.specs.Shown.{shown};
+ghost use Rattle.rds_tree.specs.Shown.{shown_view};
 
 use rds_dots::DotSet;
 use rds_json::{show, show_at, show_pretty};
@@ -38,7 +38,7 @@ pub fn shown<S: DotSet>(
 
 /// Shows a view.
 pub fn printed(alloc: Global, view: &View, layout: Layout) -> Result<Reply, Fault>
-    ensures shown { IfOk result (Prints layout (shown view.now)) }
+    ensures shown { IfOk result (Prints layout (shown_view view.now)) }
     ensures memory { IfErr result (λ fault. fault ≡ Memory) }
 {
     Ok(Reply::Shown(laid_out(alloc, view, layout)?))
@@ -46,7 +46,7 @@ pub fn printed(alloc: Global, view: &View, layout: Layout) -> Result<Reply, Faul
 
 // The JSON of a view.
 fn laid_out(alloc: Global, view: &View, layout: Layout) -> Result<String, Fault>
-    ensures text { IfOk result (λ text. IsLaidOut layout (string_bytes text) (data_of (shown view.now))) }
+    ensures text { IfOk result (λ text. IsLaidOut layout (string_bytes text) (data_of (shown_view view.now))) }
     ensures memory { IfErr result (λ fault. fault ≡ Memory) }
 {
     match layout {
@@ -71,7 +71,7 @@ pub fn shown_at<S: DotSet>(
 
 // Shows what stands at a key of a view.
 fn printed_at(alloc: Global, view: &View, key: &Key) -> Result<Reply, Fault>
-    ensures shown { IfOk result (PrintsAt (shown view.now) key.now) }
+    ensures shown { IfOk result (PrintsAt (shown_view view.now) key.now) }
     ensures memory { IfErr result (λ fault. fault ≡ Memory) }
 {
     Ok(Reply::Shown(show_at(alloc, view, key)?))

@@ -1,6 +1,6 @@
 //! Rows about the replica in a file.
 ghost use Rattle.std.specs.Prelude.{IfOk};
-ghost use Rattle.rds_session.specs.Received.{HasChecked, delivered};
+ghost use Rattle.rds_session.specs.Received.{HasChecked, delivery_of};
 
 use crate::sessions::side_of;
 use rds_files::{CreatedFile, LockedFile, ReplacedFile, ReplicaFile, Settlement, settle};
@@ -81,7 +81,7 @@ pub fn settle_received(
 
 // What the session of a row comes to.
 fn exchanged(alloc: Global, row: &str, kept: &Kept<GapSet>) -> Result<Exchanged<GapSet>, Fault>
-    ensures { IfOk result (λ exchanged. HasChecked kept.now (delivered exchanged.received exchanged.roster)) }
+    ensures { IfOk result (λ exchanged. HasChecked kept.now (delivery_of exchanged.received exchanged.roster)) }
 {
     let (side, digits) = cut(row)?;
     let side = side_of(side)?;
@@ -91,7 +91,7 @@ fn exchanged(alloc: Global, row: &str, kept: &Kept<GapSet>) -> Result<Exchanged<
 
 // What a session of this replica comes to, with a peer that tells these bytes.
 fn exchanged_with(alloc: Global, side: Side, kept: &Kept<GapSet>, heard: &[u8]) -> Exchanged<GapSet>
-    ensures { HasChecked kept.now (delivered result.received result.roster) }
+    ensures { HasChecked kept.now (delivery_of result.received result.roster) }
 {
     let mut sent = Vec::new(alloc);
     let mut reader = Counted::new(heard);

@@ -17,7 +17,7 @@ use Rattle.rds_session.specs.declared.kinds.ByeCode.TheVariants as byes
 use Rattle.rds_session.specs.declared.kinds.MessageKind.{MessageKind}
 use Rattle.rds_session.specs.declared.kinds.MessageKind.TheVariants as kinds
 use Rattle.rds_session.specs.Messages.{kind_of, bye_of}
-use Rattle.rds_session.specs.Judging.{Awaited, ForHello, ForDigest, ForDelta, ForBye, Said, Greets, Learns, Receives, Finishes, accepted, bye_came, bye_judged, code_came, body_came, kind_came, hello_judged, delta_judged, read_then, other_version, one_begins, peer_of, replicas_of}
+use Rattle.rds_session.specs.Judging.{Awaited, ForHello, ForDigest, ForDelta, ForBye, Said, Greets, Learns, Receives, Finishes, verdict, bye_came, bye_judged, code_came, body_came, kind_came, hello_judged, delta_judged, read_then, other_version, one_begins, peer_of, replicas_of}
 
 abbrev pub IsActFor : Awaited → Said → Type 0
 IsActFor ForHello (Greets p) = Unit {0}
@@ -113,7 +113,7 @@ kind_suits kept turn None body = record { fits = tt }
 kind_suits kept turn (Some kind) body = body_suits kept kind turn body
 
 -- an accepted message is the one that is waited for
-pub accepted_suits : (kept : ReplicaValue) (turn : Awaited) (m : List ℕ) → Suits turn (accepted kept turn m)
-unfolding accepted
+pub accepted_suits : (kept : ReplicaValue) (turn : Awaited) (m : List ℕ) → Suits turn (verdict kept turn m)
+unfolding verdict
 accepted_suits kept turn [] = refusal_suits turn (Refused Cut)
 accepted_suits kept turn (n ∷ body) = kind_suits kept turn (kind_of n) body

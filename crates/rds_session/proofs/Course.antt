@@ -11,10 +11,10 @@ use Rattle.rds_session.specs.declared.talk.Stop.TheVariants.{Refused, Left}
 use Rattle.rds_session.specs.declared.step.Ended.{Ended}
 use Rattle.rds_session.specs.declared.step.Ended.TheVariants.{Going, Done, Failed}
 use Rattle.rds_session.specs.Chunks.{start, Scan, More, Whole, Long, byte_scanned}
-use Rattle.rds_session.specs.Judging.{Awaited, ForHello, ForDigest, ForDelta, ForBye, Said, Greets, Learns, Receives, Finishes, accepted, replies_of}
+use Rattle.rds_session.specs.Judging.{Awaited, ForHello, ForDigest, ForDelta, ForBye, Said, Greets, Learns, Receives, Finishes, verdict, replies_of}
 use Rattle.rds_session.specs.Received.{Delivery}
 use Rattle.rds_session.specs.Sending.{sending}
-use Rattle.rds_session.specs.Session.{Standing, Sent, fresh, failed, then_more, when_going, after_sending, performed, answered, message_comes, scanned, stay, byte_comes, run, opening, opened, cut_off, Heard, Nothing, So_far, All_of, heard_more, course, taken, stepped}
+use Rattle.rds_session.specs.Session.{Standing, Sent, fresh, failure, then_more, when_going, after_sending, after_said, after_verdict, message_comes, after_scan, stay, byte_comes, run, opening, after_opening, cut_off, Heard, Nothing, So_far, All_of, heard_more, course, after_input, after_step}
 use Rattle.rds_session.specs.Steps as steps
 use Rattle.rds_session.specs.Steps.{piece_of, ReceivedOnTheWay, TakesMemory, RunsOut, Steps, Continues, IsOver}
 use Rattle.rds_session.proofs.Accepting.{IsActFor, IsFor, accepted_suits}
@@ -61,11 +61,11 @@ follows_then a b c p q = record {
 not_yet : (s : Standing) → (s.turn ≡ ForBye → ⊥) → IsOrderly s → s.received ≡ None
 not_yet s h o = elim o [ inl none ↦ none | inr bye ↦ absurd (h bye) ]
 
-performed_by : (s : Standing) (turn : Awaited) (said : Said) → s.turn ≡ turn → IsActFor turn said → Follows s (performed s said)
+performed_by : (s : Standing) (turn : Awaited) (said : Said) → s.turn ≡ turn → IsActFor turn said → Follows s (after_said s said)
 performed_by s ForHello (Greets p) is h = record { begun = refl; side = refl; kept = refl; orderly = λ o. inl (not_yet s (λ e. let bad : ForHello ≡ ForBye = sym is ∙ e in cc) o); received = λ o. inr refl }
 performed_by s (ForDigest q) (Learns p g) is h = record { begun = refl; side = refl; kept = refl; orderly = λ o. inl (not_yet s (λ e. let bad : ForDigest q ≡ ForBye = sym is ∙ e in cc) o); received = λ o. inr refl }
 performed_by s (ForDelta q g) (Receives d r) is h = record { begun = refl; side = refl; kept = refl; orderly = λ o. inr refl; received = λ o. inl (not_yet s (λ e. let bad : ForDelta q g ≡ ForBye = sym is ∙ e in cc) o) }
-performed_by s ForBye Finishes is h = follows_same s (performed s Finishes) refl refl refl refl refl
+performed_by s ForBye Finishes is h = follows_same s (after_said s Finishes) refl refl refl refl refl
 performed_by s ForHello (Learns p g) is h = absurd h
 performed_by s ForHello (Receives d r) is h = absurd h
 performed_by s ForHello Finishes is h = absurd h
@@ -79,25 +79,25 @@ performed_by s ForBye (Greets p) is h = absurd h
 performed_by s ForBye (Learns p g) is h = absurd h
 performed_by s ForBye (Receives d r) is h = absurd h
 
-failed_follows : (s : Standing) (f : Fault) → Follows s (failed s f)
-failed_follows s f = follows_same s (failed s f) refl refl refl refl refl
+failed_follows : (s : Standing) (f : Fault) → Follows s (failure s f)
+failed_follows s f = follows_same s (failure s f) refl refl refl refl refl
 
 pub sending_follows : (s : Standing) (p : List ℕ × Bool) (all : Bool) → p.1 ≡ all → Follows s (after_sending s p).0
 sending_follows s p true e = rw e (follows_same s s refl refl refl refl refl)
 sending_follows s p false e = rw e (failed_follows s TooLong)
 
-answered_follows : (s : Standing) (r : Result Said Stop) → IsFor s.turn r → Follows s (answered s r).0
+answered_follows : (s : Standing) (r : Result Said Stop) → IsFor s.turn r → Follows s (after_verdict s r).0
 answered_follows s (Ok said) h =
     let p = sending (replies_of s.side s.kept s.turn said) in
-    follows_then s (performed s said) (after_sending (performed s said) p).0 (performed_by s s.turn said refl h) (sending_follows (performed s said) p p.1 refl)
+    follows_then s (after_said s said) (after_sending (after_said s said) p).0 (performed_by s s.turn said refl h) (sending_follows (after_said s said) p p.1 refl)
 answered_follows s (Err (Refused f)) h = failed_follows s f
 answered_follows s (Err (Left f)) h = failed_follows s f
 
 message_follows : (s : Standing) (m : List ℕ) → Follows s (message_comes s m).0
 unfolding message_comes
-message_follows s m = answered_follows s (accepted s.kept s.turn m) (accepted_suits s.kept s.turn m).fits
+message_follows s m = answered_follows s (verdict s.kept s.turn m) (accepted_suits s.kept s.turn m).fits
 
-scanned_follows : (s : Standing) (sc : Scan) → Follows s (scanned s sc stay).0
+scanned_follows : (s : Standing) (sc : Scan) → Follows s (after_scan s sc stay).0
 scanned_follows s (More u) = follows_same s (record s { under = u }) refl refl refl refl refl
 scanned_follows s (Whole m rest) =
     let t = record s { under = start } in
@@ -114,7 +114,7 @@ unfolding run
 run_follows [] s = follows_same s s refl refl refl refl refl
 run_follows (b ∷ bs) s = run_by s.ended s (byte_comes s b) bs (scanned_follows s (byte_scanned s.under.place s.under.held b)) (run_follows bs (byte_comes s b).0)
 
-cut_by : (e : Ended) (s : Standing) → Follows s (when_going {A = Sent} e (failed s PeerEnded, []) (s, [])).0
+cut_by : (e : Ended) (s : Standing) → Follows s (when_going {A = Sent} e (failure s PeerEnded, []) (s, [])).0
 cut_by Going s = failed_follows s PeerEnded
 cut_by Done s = follows_same s s refl refl refl refl refl
 cut_by (Failed x) s = follows_same s s refl refl refl refl refl
@@ -124,12 +124,12 @@ cut_follows s = cut_by s.ended s
 
 -- ---- the opening
 
-opened_fresh : (side : Side) (kept : ReplicaValue) → Follows (record (fresh side kept) { begun = true }) (opened (fresh side kept)).0
-unfolding opened
+opened_fresh : (side : Side) (kept : ReplicaValue) → Follows (record (fresh side kept) { begun = true }) (after_opening (fresh side kept)).0
+unfolding after_opening
 opened_fresh side kept = let p = sending (opening side kept) in sending_follows (record (fresh side kept) { begun = true }) p p.1 refl
 
-pub opened_again : (s : Standing) → s.begun ≡ true → opened s ≡ (s, [])
-unfolding opened
+pub opened_again : (s : Standing) → s.begun ≡ true → after_opening s ≡ (s, [])
+unfolding after_opening
 opened_again s e = rw e refl
 
 pub started : Side → ReplicaValue → Standing
@@ -140,69 +140,69 @@ pub course_follows : (side : Side) (kept : ReplicaValue) (h : Heard) → (h ≡ 
 unfolding course started
 course_follows side kept Nothing = inl refl
 course_follows side kept (So_far x) =
-    let o = opened (fresh side kept) in
+    let o = after_opening (fresh side kept) in
     inr (follows_then (started side kept) o.0 (run x o.0).0 (opened_fresh side kept) (run_follows x o.0))
 course_follows side kept (All_of x) =
-    let o = opened (fresh side kept) in
+    let o = after_opening (fresh side kept) in
     let r = run x o.0 in
     inr (follows_then (started side kept) r.0 (cut_off r.0).0 (follows_then (started side kept) o.0 r.0 (opened_fresh side kept) (run_follows x o.0)) (cut_follows r.0))
 
 -- ---- one step more
 
-over_cut : (e : Ended) (s : Standing) → s.ended ≡ e → IsOver (when_going {A = Sent} e (failed s PeerEnded, []) (s, [])).0.ended
+over_cut : (e : Ended) (s : Standing) → s.ended ≡ e → IsOver (when_going {A = Sent} e (failure s PeerEnded, []) (s, [])).0.ended
 over_cut Going s is = tt
 over_cut Done s is = subst IsOver (sym is) tt
 over_cut (Failed f) s is = subst IsOver (sym is) tt
 
-pub stepped_over : (s : Standing) (i : Option (List ℕ)) → IsOver s.ended → stepped s i ≡ (s, [])
-unfolding stepped
-stepped_over s i h = over_stays s.ended (then_more (opened s) (taken i)) (s, []) h
+pub stepped_over : (s : Standing) (i : Option (List ℕ)) → IsOver s.ended → after_step s i ≡ (s, [])
+unfolding after_step
+stepped_over s i h = over_stays s.ended (then_more (after_opening s) (after_input i)) (s, []) h
 
-taken_over : (e : Ended) (s : Standing) (i : Option (List ℕ)) → s.ended ≡ e → IsOver e → taken i s ≡ (s, [])
+taken_over : (e : Ended) (s : Standing) (i : Option (List ℕ)) → s.ended ≡ e → IsOver e → after_input i s ≡ (s, [])
 taken_over e s (Some piece) is h = run_over piece s (subst IsOver (sym is) h)
 taken_over Going s None is h = absurd h
 taken_over Done s None is h = rw is refl
 taken_over (Failed f) s None is h = rw is refl
 
-stepped_by : (e : Ended) (s : Standing) (i : Option (List ℕ)) → s.ended ≡ e → opened s ≡ (s, []) → when_going e (then_more (opened s) (taken i)) (s, []) ≡ taken i s
-stepped_by Going s i is o = ap (λ (p : Sent). then_more p (taken i)) o
+stepped_by : (e : Ended) (s : Standing) (i : Option (List ℕ)) → s.ended ≡ e → after_opening s ≡ (s, []) → when_going e (then_more (after_opening s) (after_input i)) (s, []) ≡ after_input i s
+stepped_by Going s i is o = ap (λ (p : Sent). then_more p (after_input i)) o
 stepped_by Done s i is o = sym (taken_over Done s i is tt)
 stepped_by (Failed f) s i is o = sym (taken_over (Failed f) s i is tt)
 
 -- a session that has begun takes the input as it is
-pub stepped_begun : (s : Standing) (i : Option (List ℕ)) → s.begun ≡ true → stepped s i ≡ taken i s
-unfolding stepped
+pub stepped_begun : (s : Standing) (i : Option (List ℕ)) → s.begun ≡ true → after_step s i ≡ after_input i s
+unfolding after_step
 stepped_begun s i h = stepped_by s.ended s i refl (opened_again s h)
 
 pub course_begun : (side : Side) (kept : ReplicaValue) (x : List ℕ) → (course side kept (So_far x)).0.begun ≡ true
 unfolding course
 course_begun side kept x =
-    let o = opened (fresh side kept) in
+    let o = after_opening (fresh side kept) in
     (run_follows x o.0).begun ∙ (opened_fresh side kept).begun
 
 pub nothing_more : (p : Sent) → then_more p (λ s. (s, [])) ≡ p
 nothing_more p = ap (λ (x : List ℕ). (p.0, x)) (append-nil p.1)
 
 abbrev pub step_on : Option (List ℕ) → Standing → Sent
-step_on i s = stepped s i
+step_on i s = after_step s i
 
 -- the course of the stream goes on by a step
 pub course_steps : (side : Side) (kept : ReplicaValue) (h : Heard) (i : Option (List ℕ)) → course side kept (heard_more h i) ≡ then_more (course side kept h) (step_on i)
 unfolding course
-course_steps side kept Nothing (Some piece) = (unfold stepped in refl)
+course_steps side kept Nothing (Some piece) = (unfold after_step in refl)
 course_steps side kept Nothing None =
-    let o = opened (fresh side kept) in
-    (unfold stepped run in ap (λ (p : Sent). then_more p cut_off) (nothing_more o))
+    let o = after_opening (fresh side kept) in
+    (unfold after_step run in ap (λ (p : Sent). then_more p cut_off) (nothing_more o))
 course_steps side kept (So_far x) (Some piece) =
-    let o = opened (fresh side kept) in
+    let o = after_opening (fresh side kept) in
     let p = then_more o (run x) in
     let one : then_more o (run (x ++ piece)) ≡ then_more p (run piece) = then_same o (run (x ++ piece)) (λ s. then_more (run x s) (run piece)) (run-append x piece o.0) ∙ ap (λ (t : List ℕ). ((run piece (run x o.0).0).0, t)) (sym (append_assoc o.1 (run x o.0).1 (run piece (run x o.0).0).1)) in
     one ∙ sym (then_same p (step_on (Some piece)) (run piece) (stepped_begun p.0 (Some piece) (course_begun side kept x)))
 course_steps side kept (So_far x) None =
-    let p = then_more (opened (fresh side kept)) (run x) in
+    let p = then_more (after_opening (fresh side kept)) (run x) in
     sym (then_same p (step_on None) cut_off (stepped_begun p.0 None (course_begun side kept x)))
 course_steps side kept (All_of x) i =
-    let r = then_more (opened (fresh side kept)) (run x) in
+    let r = then_more (after_opening (fresh side kept)) (run x) in
     let p = then_more r cut_off in
     sym (then_same p (step_on i) (λ s. (s, [])) (stepped_over p.0 i (over_cut r.0.ended r.0 refl)) ∙ nothing_more p)
 
@@ -228,8 +228,8 @@ sending_keeps : (s : Standing) (p : List ℕ × Bool) → ((after_sending s p).0
 sending_keeps s p = sending_keeps_by s p p.1 refl
 
 -- the opening receives nothing and loses nothing
-opening_keeps : (s : Standing) → ((opened s).0.received ≡ s.received) × ((opened s).0.turn ≡ s.turn)
-unfolding opened
+opening_keeps : (s : Standing) → ((after_opening s).0.received ≡ s.received) × ((after_opening s).0.turn ≡ s.turn)
+unfolding after_opening
 opening_keeps s = elim s.begun as (λ b. ((cond b (s, []) (after_sending (record s { begun = true }) (sending (opening s.side s.kept)))).0.received ≡ s.received) × ((cond b (s, []) (after_sending (record s { begun = true }) (sending (opening s.side s.kept)))).0.turn ≡ s.turn)) [
   | true ↦ (refl, refl)
   | false ↦ sending_keeps (record s { begun = true }) (sending (opening s.side s.kept))
@@ -247,7 +247,7 @@ on_the_way o piece received orderly w =
       | inr same ↦ inr (w.3 ∙ sym same ∙ ap (λ (p : Sent). p.0.received) (sym whole))
     ]
 
-cut_keeps_by : (e : Ended) (s : Standing) → (when_going {A = Sent} e (failed s PeerEnded, []) (s, [])).0.received ≡ s.received
+cut_keeps_by : (e : Ended) (s : Standing) → (when_going {A = Sent} e (failure s PeerEnded, []) (s, [])).0.received ≡ s.received
 cut_keeps_by Going s = refl
 cut_keeps_by Done s = refl
 cut_keeps_by (Failed f) s = refl
@@ -255,7 +255,7 @@ cut_keeps_by (Failed f) s = refl
 pub cut_keeps : (s : Standing) → (cut_off s).0.received ≡ s.received
 cut_keeps s = cut_keeps_by s.ended s
 
-by_input : (o : Standing) (i : Option (List ℕ)) (received : Option Delivery) → IsOrderly o → ReceivedOnTheWay o (piece_of i) received → (received ≡ None) ⊎ (received ≡ (taken i o).0.received)
+by_input : (o : Standing) (i : Option (List ℕ)) (received : Option Delivery) → IsOrderly o → ReceivedOnTheWay o (piece_of i) received → (received ≡ None) ⊎ (received ≡ (after_input i o).0.received)
 unfolding run
 by_input o (Some piece) received orderly w = on_the_way o piece received orderly w
 by_input o None received orderly w = elim (on_the_way o [] received orderly w) [
@@ -265,23 +265,23 @@ by_input o None received orderly w = elim (on_the_way o [] received orderly w) [
 
 -- what a step's contract says of a session that has the standing of a stream
 pub continues : (side : Side) (kept : ReplicaValue) (h : Heard) (i : Option (List ℕ)) (old new : Standing) (sent : List ℕ) → Steps old i new sent → old ≡ (course side kept h).0 → Continues side kept h i new sent
-unfolding stepped
+unfolding after_step
 continues side kept h i old new sent steps is =
     let c = course side kept h in
     let more : course side kept (heard_more h i) ≡ then_more c (step_on i) = course_steps side kept h i in
     elim steps [
       | inl done ↦ inl (record {
-        standing = done.0 ∙ ap (λ (s : Standing). (stepped s i).0) is ∙ ap (λ (p : Sent). p.0) (sym more);
-        beyond = ap (λ (p : Sent). p.1) more ∙ ap (λ (s : Standing). c.1 ++ (stepped s i).1) (sym is) ∙ ap (λ (x : List ℕ). c.1 ++ x) (sym done.1);
+        standing = done.0 ∙ ap (λ (s : Standing). (after_step s i).0) is ∙ ap (λ (p : Sent). p.0) (sym more);
+        beyond = ap (λ (p : Sent). p.1) more ∙ ap (λ (s : Standing). c.1 ++ (after_step s i).1) (sym is) ∙ ap (λ (x : List ℕ). c.1 ++ x) (sym done.1);
       })
       | inr out ↦
           let orderly : IsOrderly old = subst IsOrderly (sym is) (course_orderly side kept h) in
-          let o = (opened old).0 in
+          let o = (after_opening old).0 in
           let keeps = opening_keeps old in
           let orderly-now : IsOrderly o = elim orderly [ inl none ↦ inl (keeps.0 ∙ none) | inr bye ↦ inr (keeps.1 ∙ bye) ] in
-          let end : (stepped old i).0 ≡ (taken i o).0 = ap (λ (p : Sent). p.0) (going_goes old.ended (then_more (opened old) (taken i)) (old, []) out.0) in
-          let end-course : (taken i o).0.received ≡ (course side kept (heard_more h i)).0.received =
-          ap (λ (s : Standing). s.received) (sym end) ∙ ap (λ (s : Standing). (stepped s i).0.received) is ∙ ap (λ (p : Sent). p.0.received) (sym more) in
+          let end : (after_step old i).0 ≡ (after_input i o).0 = ap (λ (p : Sent). p.0) (going_goes old.ended (then_more (after_opening old) (after_input i)) (old, []) out.0) in
+          let end-course : (after_input i o).0.received ≡ (course side kept (heard_more h i)).0.received =
+          ap (λ (s : Standing). s.received) (sym end) ∙ ap (λ (s : Standing). (after_step s i).0.received) is ∙ ap (λ (p : Sent). p.0.received) (sym more) in
           inr (record {
             ended = out.1;
             received = elim (by_input o i new.received orderly-now out.2) [ inl none ↦ inl none | inr same ↦ inr (same ∙ end-course) ];
@@ -297,15 +297,15 @@ continues side kept h i old new sent steps is =
 
 -- a step was taken whole
 pub took : (old new : Standing) (i : Option (List ℕ)) (before sent : List ℕ) → old.ended ≡ Going → before ≡ []
-    → (new ≡ (then_more (opened old) (taken i)).0) × (sent ≡ before ++ (then_more (opened old) (taken i)).1) → Steps old i new sent
-unfolding stepped
+    → (new ≡ (then_more (after_opening old) (after_input i)).0) × (sent ≡ before ++ (then_more (after_opening old) (after_input i)).1) → Steps old i new sent
+unfolding after_step
 took old new i before sent going none done =
-    let go = going_goes old.ended (then_more (opened old) (taken i)) (old, []) going in
-    inl (done.0 ∙ ap (λ (p : Sent). p.0) (sym go), done.1 ∙ ap (λ (x : List ℕ). x ++ (then_more (opened old) (taken i)).1) none ∙ ap (λ (p : Sent). p.1) (sym go))
+    let go = going_goes old.ended (then_more (after_opening old) (after_input i)) (old, []) going in
+    inl (done.0 ∙ ap (λ (p : Sent). p.0) (sym go), done.1 ∙ ap (λ (x : List ℕ). x ++ (then_more (after_opening old) (after_input i)).1) none ∙ ap (λ (p : Sent). p.1) (sym go))
 
 -- memory ran out in it
-pub gave_up : (old mid new : Standing) (i : Option (List ℕ)) (sent : List ℕ) → old.ended ≡ Going → ReceivedOnTheWay (opened old).0 (piece_of i) mid.received
-    → new ≡ failed mid Memory → steps.IsLastWord sent → TakesMemory old i → Steps old i new sent
+pub gave_up : (old mid new : Standing) (i : Option (List ℕ)) (sent : List ℕ) → old.ended ≡ Going → ReceivedOnTheWay (after_opening old).0 (piece_of i) mid.received
+    → new ≡ failure mid Memory → steps.IsLastWord sent → TakesMemory old i → Steps old i new sent
 gave_up old mid new i sent going way is word takes =
     inr (going, ap (λ (s : Standing). s.ended) is, (way.0, way.1, way.2, ap (λ (s : Standing). s.received) is ∙ way.3), word, takes)
 
@@ -313,7 +313,7 @@ gave_up old mid new i sent going way is word takes =
 pub rests : (s : Standing) (i : Option (List ℕ)) (sent : List ℕ) → IsOver s.ended → sent ≡ [] → Steps s i s sent
 rests s i sent over none = let e = stepped_over s i over in inl (ap (λ (p : Sent). p.0) (sym e), none ∙ ap (λ (p : Sent). p.1) (sym e))
 
-cut_by_silent : (e : Ended) (s : Standing) → (when_going {A = Sent} e (failed s PeerEnded, []) (s, [])).1 ≡ []
+cut_by_silent : (e : Ended) (s : Standing) → (when_going {A = Sent} e (failure s PeerEnded, []) (s, [])).1 ≡ []
 cut_by_silent Going s = refl
 cut_by_silent Done s = refl
 cut_by_silent (Failed f) s = refl
@@ -322,13 +322,13 @@ cut_by_silent (Failed f) s = refl
 pub ends : (old new : Standing) (i : Option (List ℕ)) (sent : List ℕ) → Steps old i new sent → old.begun ≡ true → i ≡ None → (new ≡ (cut_off old).0) × (sent ≡ [])
 ends old new i sent steps begun none = elim steps [
   | inl done ↦
-      let e : stepped old i ≡ cut_off old = stepped_begun old i begun ∙ ap (λ (j : Option (List ℕ)). taken j old) none in
+      let e : after_step old i ≡ cut_off old = stepped_begun old i begun ∙ ap (λ (j : Option (List ℕ)). after_input j old) none in
       (done.0 ∙ ap (λ (p : Sent). p.0) e, done.1 ∙ ap (λ (p : Sent). p.1) e ∙ cut_by_silent old.ended old)
   | inr out ↦ absurd (let bad : false ≡ true = subst IsSome none (out.4 begun) in cc)
 ]
 
 -- nothing was taken yet, so what was received stayed
-pub at_first : (old : Standing) (i : Option (List ℕ)) (received : Option Delivery) → received ≡ old.received → ReceivedOnTheWay (opened old).0 (piece_of i) received
+pub at_first : (old : Standing) (i : Option (List ℕ)) (received : Option Delivery) → received ≡ old.received → ReceivedOnTheWay (after_opening old).0 (piece_of i) received
 unfolding run
 at_first old i received e = ([], piece_of i, refl, e ∙ sym (opening_keeps old).0)
 
@@ -350,7 +350,7 @@ pub received_stays : (side : Side) (kept : ReplicaValue) (h : Heard) (i : Option
 unfolding course
 received_stays side kept Nothing i = inl refl
 received_stays side kept (So_far x) (Some y) =
-    let o = opened (fresh side kept) in
+    let o = after_opening (fresh side kept) in
     let mid = (run x o.0).0 in
     let e : run (x ++ y) o.0 ≡ then_more (run x o.0) (run y) = run-append x y o.0 in
     elim ((run_follows y mid).received (course_orderly side kept (So_far x))) [

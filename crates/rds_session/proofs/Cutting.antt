@@ -4,7 +4,7 @@ use Rattle.std.specs.List.{flat_map}
 use Rattle.std.proofs.lemmas.Bool.{cases_lt}
 use Rattle.std.proofs.lemmas.List.{take_all, drop_all}
 use Rattle.std.proofs.lemmas.List.Concat.{flat_map-cons}
-use Rattle.rds_session.specs.Chunks.{cut, chunk_most, chunk_text, spelled}
+use Rattle.rds_session.specs.Chunks.{cut, chunk_most, chunk_text, message_in_chunks}
 
 empty_cut : (n : ℕ) (m : List ℕ) → length m ≡ 0 → cut n m ≡ []
 empty_cut zero m e = refl
@@ -68,13 +68,13 @@ rest_chunks kind body = refl
 
 -- its first chunk was written, and then the rest with its end
 pub message_written : (sent mid new : List ℕ) (kind : ℕ) (body front rest : List ℕ) (k : ℕ) → k ≡ min (length body) (chunk_most - 1) → front ≡ take k body → rest ≡ drop k body
-    → mid ≡ sent ++ chunk_text (kind ∷ front) → new ≡ mid ++ spelled rest → new ≡ sent ++ spelled (kind ∷ body)
-unfolding spelled
+    → mid ≡ sent ++ chunk_text (kind ∷ front) → new ≡ mid ++ message_in_chunks rest → new ≡ sent ++ message_in_chunks (kind ∷ body)
+unfolding message_in_chunks
 message_written sent mid new kind body front rest k k-is front-is rest-is first then =
     let front-now : kind ∷ front ≡ take chunk_most (kind ∷ body) = ap (λ (t : List ℕ). kind ∷ t) (front-is ∙ ap (λ (i : ℕ). take i body) k-is ∙ front_to (chunk_most - 1) body) ∙ sym (first_chunk kind body) in
     let rest-now : rest ≡ drop chunk_most (kind ∷ body) = rest-is ∙ ap (λ (i : ℕ). drop i body) k-is ∙ back_to (chunk_most - 1) body ∙ sym (rest_chunks kind body) in
     let cut-now : chunks_of (kind ∷ body) ≡ chunk_text (kind ∷ front) ++ chunks_of rest =
     ap (flat_map chunk_text) (cut_step (kind ∷ body) (omega arith)) ∙ flat_map-cons chunk_text (take chunk_most (kind ∷ body)) (cut (length (drop chunk_most (kind ∷ body))) (drop chunk_most (kind ∷ body)))
     ∙ ap (λ (t : List ℕ). chunk_text t ++ chunks_of (drop chunk_most (kind ∷ body))) (sym front-now) ∙ ap (λ (t : List ℕ). chunk_text (kind ∷ front) ++ chunks_of t) (sym rest-now) in
-    then ∙ ap (λ (t : List ℕ). t ++ spelled rest) first ∙ append_assoc sent (chunk_text (kind ∷ front)) (spelled rest)
+    then ∙ ap (λ (t : List ℕ). t ++ message_in_chunks rest) first ∙ append_assoc sent (chunk_text (kind ∷ front)) (message_in_chunks rest)
     ∙ ap (λ (t : List ℕ). sent ++ t) (sym (append_assoc (chunk_text (kind ∷ front)) (chunks_of rest) (0 ∷ 0 ∷ [])) ∙ ap (λ (t : List ℕ). t ++ 0 ∷ 0 ∷ []) (sym cut-now))

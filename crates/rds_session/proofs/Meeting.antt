@@ -11,14 +11,14 @@ use Rattle.rds_session.specs.declared.chunks.TheConstants.{MESSAGE_LIMIT}
 use Rattle.rds_session.specs.declared.talk.Side.TheVariants.{Client, Server}
 use Rattle.rds_session.specs.declared.step.Ended.TheVariants.{Going, Done}
 use Rattle.rds_session.specs.Checked.{least_state}
-use Rattle.rds_session.specs.Chunks.{Under, start, Scan, Whole, scan, spelled}
+use Rattle.rds_session.specs.Chunks.{Under, start, Scan, Whole, scan, message_in_chunks}
 use Rattle.rds_session.specs.declared.kinds.ByeCode.TheVariants as byes
-use Rattle.rds_session.specs.Judging.{Said, Greets, Learns, Receives, Finishes, accepted, longer_than, replies_of}
+use Rattle.rds_session.specs.Judging.{Said, Greets, Learns, Receives, Finishes, verdict, longer_than, replies_of}
 use Rattle.rds_session.specs.Meeting.{IsBeginningOf, CanMeet, IsItsDelta, Hear, HearAll, ReceiveDeltas, BothEnd}
 use Rattle.rds_session.specs.Messages.{hello_message, digest_message, delta_message, bye_message}
 use Rattle.rds_session.specs.Received.{Delivery}
 use Rattle.rds_session.specs.Sending.{sending, then_sent}
-use Rattle.rds_session.specs.Session.{Standing, Sent, fresh, then_more, after_sending, performed, answered, message_comes, scanned, run, opening, opened, So_far, course}
+use Rattle.rds_session.specs.Session.{Standing, Sent, fresh, then_more, after_sending, after_said, after_verdict, message_comes, after_scan, run, opening, after_opening, So_far, course}
 use Rattle.rds_session.specs.Steps.{IsOver}
 use Rattle.rds_session.proofs.Course.{run_follows, IsOrderly}
 use Rattle.rds_session.proofs.Messages.{scan_spelled}
@@ -29,7 +29,7 @@ use Rattle.rds_session.proofs.Told.{IsTold, speaker, hello_accepted, digest_acce
 
 abbrev texts : List (List ℕ) → List ℕ
 texts [] = []
-texts (m ∷ ms) = spelled m ++ texts ms
+texts (m ∷ ms) = message_in_chunks m ++ texts ms
 
 abbrev Fits : List ℕ → Type 0
 Fits m = length m ≤ MESSAGE_LIMIT
@@ -37,20 +37,20 @@ Fits m = length m ≤ MESSAGE_LIMIT
 all_sent : (ms : List (List ℕ)) → AllByRecursion Fits ms → sending ms ≡ (texts ms, true)
 unfolding sending
 all_sent [] h = refl
-all_sent (m ∷ ms) h = let fits : ltb MESSAGE_LIMIT (length m) ≡ false = le-ltb _ _ h.0 in rw fits (ap (then_sent (spelled m)) (all_sent ms h.1))
+all_sent (m ∷ ms) h = let fits : ltb MESSAGE_LIMIT (length m) ≡ false = le-ltb _ _ h.0 in rw fits (ap (then_sent (message_in_chunks m)) (all_sent ms h.1))
 
 -- ---- hearing
 
 -- a message that is accepted, all of whose answers can be sent
-hears : (s : Standing) (m more : List ℕ) (act : Said) (ms : List (List ℕ)) → s.ended ≡ Going → s.under ≡ start → Fits m → accepted s.kept s.turn m ≡ Ok act
-    → replies_of s.side s.kept s.turn act ≡ ms → AllByRecursion Fits ms → run (spelled m ++ more) s ≡ then_more (performed s act, texts ms) (run more)
+hears : (s : Standing) (m more : List ℕ) (act : Said) (ms : List (List ℕ)) → s.ended ≡ Going → s.under ≡ start → Fits m → verdict s.kept s.turn m ≡ Ok act
+    → replies_of s.side s.kept s.turn act ≡ ms → AllByRecursion Fits ms → run (message_in_chunks m ++ more) s ≡ then_more (after_said s act, texts ms) (run more)
 unfolding message_comes
 hears s m more act ms going at room ok replies fit =
-    let sc : scan (spelled m ++ more) s.under ≡ Whole m more = ap (scan (spelled m ++ more)) at ∙ scan_spelled m more room in
+    let sc : scan (message_in_chunks m ++ more) s.under ≡ Whole m more = ap (scan (message_in_chunks m ++ more)) at ∙ scan_spelled m more room in
     let here : record s { under = start } ≡ s = ap (λ (u : Under). record s { under = u }) (sym at) in
     let sent : sending (replies_of s.side s.kept s.turn act) ≡ (texts ms, true) = ap sending replies ∙ all_sent ms fit in
-    let comes : message_comes s m ≡ (performed s act, texts ms) = ap (answered s) ok ∙ ap (after_sending (performed s act)) sent in
-    run-scan (spelled m ++ more) s going ∙ ap (λ (x : Scan). scanned s x run) sc ∙ ap (λ (t : Standing). then_more (message_comes t m) (run more)) here ∙ ap (λ (p : Sent). then_more p (run more)) comes
+    let comes : message_comes s m ≡ (after_said s act, texts ms) = ap (after_verdict s) ok ∙ ap (after_sending (after_said s act)) sent in
+    run-scan (message_in_chunks m ++ more) s going ∙ ap (λ (x : Scan). after_scan s x run) sc ∙ ap (λ (t : Standing). then_more (message_comes t m) (run more)) here ∙ ap (λ (p : Sent). then_more p (run more)) comes
 
 -- ---- one message after another
 
@@ -59,12 +59,12 @@ Talks s ms t out = (more : List ℕ) → run (texts ms ++ more) s ≡ then_more 
 
 texts-append : (ms ns : List (List ℕ)) → texts (ms ++ ns) ≡ texts ms ++ texts ns
 texts-append [] ns = refl
-texts-append (m ∷ ms) ns = ap (λ (t : List ℕ). spelled m ++ t) (texts-append ms ns) ∙ sym (append_assoc (spelled m) (texts ms) (texts ns))
+texts-append (m ∷ ms) ns = ap (λ (t : List ℕ). message_in_chunks m ++ t) (texts-append ms ns) ∙ sym (append_assoc (message_in_chunks m) (texts ms) (texts ns))
 
-one_talks : (s : Standing) (m : List ℕ) (act : Said) (out : List (List ℕ)) → s.ended ≡ Going → s.under ≡ start → Fits m → accepted s.kept s.turn m ≡ Ok act
-    → replies_of s.side s.kept s.turn act ≡ out → AllByRecursion Fits out → Talks s (m ∷ []) (performed s act) out
+one_talks : (s : Standing) (m : List ℕ) (act : Said) (out : List (List ℕ)) → s.ended ≡ Going → s.under ≡ start → Fits m → verdict s.kept s.turn m ≡ Ok act
+    → replies_of s.side s.kept s.turn act ≡ out → AllByRecursion Fits out → Talks s (m ∷ []) (after_said s act) out
 one_talks s m act out going at room ok replies fit more =
-    ap (λ (t : List ℕ). run (t ++ more) s) (append-nil (spelled m)) ∙ hears s m more act out going at room ok replies fit
+    ap (λ (t : List ℕ). run (t ++ more) s) (append-nil (message_in_chunks m)) ∙ hears s m more act out going at room ok replies fit
 
 talks_then : (s t u : Standing) (ms ns out put : List (List ℕ)) → Talks s ms t out → Talks t ns u put → Talks s (ms ++ ns) u (out ++ put)
 talks_then s t u ms ns out put p q more =
@@ -85,16 +85,16 @@ greeting k = hello_message k ∷ digest_message k ∷ []
 
 -- what the client has heard before the last message, and after it
 abbrev client_told : ReplicaValue → ReplicaValue → Standing
-client_told a b = performed (performed (performed (client a) (Greets (speaker a b))) (Learns (speaker a b) (digest_of b.state))) (Receives (least_state b.state (digest_of a.state)) (longer_than a.roster b.roster))
+client_told a b = after_said (after_said (after_said (client a) (Greets (speaker a b))) (Learns (speaker a b) (digest_of b.state))) (Receives (least_state b.state (digest_of a.state)) (longer_than a.roster b.roster))
 
 abbrev client_done : ReplicaValue → ReplicaValue → Standing
-client_done a b = performed (client_told a b) Finishes
+client_done a b = after_said (client_told a b) Finishes
 
 abbrev server_asked : ReplicaValue → ReplicaValue → Standing
-server_asked b a = performed (performed (server b) (Greets (speaker b a))) (Learns (speaker b a) (digest_of a.state))
+server_asked b a = after_said (after_said (server b) (Greets (speaker b a))) (Learns (speaker b a) (digest_of a.state))
 
 abbrev server_done : ReplicaValue → ReplicaValue → Standing
-server_done b a = performed (performed (server_asked b a) (Receives (least_state a.state (digest_of b.state)) (longer_than b.roster a.roster))) Finishes
+server_done b a = after_said (after_said (server_asked b a) (Receives (least_state a.state (digest_of b.state)) (longer_than b.roster a.roster))) Finishes
 
 -- what each says, in its two turns
 abbrev server_says : ReplicaValue → ReplicaValue → List (List ℕ)
@@ -106,8 +106,8 @@ client_says a b = delta_message a b.own (digest_of b.state) ∷ bye_message byes
 abbrev last_word : List (List ℕ)
 last_word = bye_message byes.Done ∷ []
 
-opened_by : (s : Standing) (ms : List (List ℕ)) → s.begun ≡ false → opening s.side s.kept ≡ ms → AllByRecursion Fits ms → opened s ≡ (record s { begun = true }, texts ms)
-unfolding opened
+opened_by : (s : Standing) (ms : List (List ℕ)) → s.begun ≡ false → opening s.side s.kept ≡ ms → AllByRecursion Fits ms → after_opening s ≡ (record s { begun = true }, texts ms)
+unfolding after_opening
 opened_by s ms new is fit = rw new (ap (after_sending (record s { begun = true })) (ap sending is ∙ all_sent ms fit))
 
 bye_fits : Fits (bye_message byes.Done)
@@ -124,8 +124,8 @@ server_told_by a b h = record { roster = other_way h.roster; others = h.others; 
 
 client_hears : (a b : ReplicaValue) → CanMeet a b → Talks (client a) (server_says b a) (client_told a b) (client_says a b)
 client_hears a b h =
-    let c1 = performed (client a) (Greets (speaker a b)) in
-    let c2 = performed c1 (Learns (speaker a b) (digest_of b.state)) in
+    let c1 = after_said (client a) (Greets (speaker a b)) in
+    let c2 = after_said c1 (Learns (speaker a b) (digest_of b.state)) in
     talks_then (client a) c1 (client_told a b) (hello_message b ∷ []) (digest_message b ∷ delta_message b a.own (digest_of a.state) ∷ []) [] (client_says a b)
     (one_talks (client a) (hello_message b) (Greets (speaker a b)) [] refl refl h.b_room.hello (hello_accepted a b (client_told_by a b h)) refl tt)
     (talks_then c1 c2 (client_told a b) (digest_message b ∷ []) (delta_message b a.own (digest_of a.state) ∷ []) [] (client_says a b)
@@ -137,22 +137,22 @@ client_ends a b = one_talks (client_told a b) (bye_message byes.Done) Finishes [
 
 server_hears : (a b : ReplicaValue) → CanMeet a b → Talks (server b) (greeting a) (server_asked b a) (server_says b a)
 server_hears a b h =
-    let s1 = performed (server b) (Greets (speaker b a)) in
+    let s1 = after_said (server b) (Greets (speaker b a)) in
     talks_then (server b) s1 (server_asked b a) (hello_message a ∷ []) (digest_message a ∷ []) [] (server_says b a)
     (one_talks (server b) (hello_message a) (Greets (speaker b a)) [] refl refl h.a_room.hello (hello_accepted b a (server_told_by a b h)) refl tt)
     (one_talks s1 (digest_message a) (Learns (speaker b a) (digest_of a.state)) (server_says b a) refl refl h.a_room.digest (digest_accepted b a (server_told_by a b h)) refl (h.b_room.hello, (h.b_room.digest, (h.b_room.delta, tt))))
 
 server_ends : (a b : ReplicaValue) → CanMeet a b → Talks (server_asked b a) (client_says a b) (server_done b a) last_word
 server_ends a b h =
-    let s3 = performed (server_asked b a) (Receives (least_state a.state (digest_of b.state)) (longer_than b.roster a.roster)) in
+    let s3 = after_said (server_asked b a) (Receives (least_state a.state (digest_of b.state)) (longer_than b.roster a.roster)) in
     talks_then (server_asked b a) s3 (server_done b a) (delta_message a b.own (digest_of b.state) ∷ []) last_word [] last_word
     (one_talks (server_asked b a) (delta_message a b.own (digest_of b.state)) (Receives (least_state a.state (digest_of b.state)) (longer_than b.roster a.roster)) [] refl refl h.a_room.delta (delta_accepted b a (digest_of a.state) (server_told_by a b h)) refl tt)
     (one_talks s3 (bye_message byes.Done) Finishes last_word refl refl bye_fits (bye_accepted b) refl (bye_fits, tt))
 
-client_opens : (a b : ReplicaValue) → CanMeet a b → opened (fresh Client a) ≡ (client a, texts (greeting a))
+client_opens : (a b : ReplicaValue) → CanMeet a b → after_opening (fresh Client a) ≡ (client a, texts (greeting a))
 client_opens a b h = opened_by (fresh Client a) (greeting a) refl refl (h.a_room.hello, (h.a_room.digest, tt))
 
-server_opens : (b : ReplicaValue) → opened (fresh Server b) ≡ (server b, [])
+server_opens : (b : ReplicaValue) → after_opening (fresh Server b) ≡ (server b, [])
 server_opens b = opened_by (fresh Server b) [] refl refl tt
 
 -- ---- beginnings

@@ -5,9 +5,9 @@ use Rattle.rds_names.specs.declared.fault.Fault.{Fault}
 use Rattle.rds_names.specs.declared.fault.Fault.TheVariants.{TooLong}
 use Rattle.rds_session.specs.declared.step.Ended.{Ended}
 use Rattle.rds_session.specs.declared.step.Ended.TheVariants.{Going, Done, Failed}
-use Rattle.rds_session.specs.Chunks.{Under, start, spelled, Scan, More, Whole, Long, byte_scanned, goes_on, scan}
+use Rattle.rds_session.specs.Chunks.{Under, start, message_in_chunks, Scan, More, Whole, Long, byte_scanned, goes_on, scan}
 use Rattle.rds_session.specs.Messages.{bye_message, code_of}
-use Rattle.rds_session.specs.Session.{Standing, Sent, then_more, when_going, failed, refuses, message_comes, scanned, stay, byte_comes, run}
+use Rattle.rds_session.specs.Session.{Standing, Sent, then_more, when_going, failure, refuses, message_comes, after_scan, stay, byte_comes, run}
 use Rattle.rds_session.specs.Steps.{Ran, IsOver}
 
 pub over_stays : {A : Type 0} (e : Ended) (x y : A) → IsOver e → when_going e x y ≡ y
@@ -47,25 +47,25 @@ going_goes (Failed f) x y h = absurd cc
 abbrev pub with_under : Standing → Under → Standing
 with_under s u = record s { under = u }
 
-scanned_under : (s : Standing) (u : Under) (sc : Scan) → scanned (with_under s u) sc run ≡ scanned s sc run
+scanned_under : (s : Standing) (u : Under) (sc : Scan) → after_scan (with_under s u) sc run ≡ after_scan s sc run
 scanned_under s u (More v) = refl
 scanned_under s u (Whole m rest) = refl
 scanned_under s u Long = refl
 
-by_scan : (s : Standing) (b : ℕ) (bs : List ℕ) (sc : Scan) → s.ended ≡ Going → ((t : Standing) → t.ended ≡ Going → run bs t ≡ scanned t (scan bs t.under) run)
-    → then_more (scanned s sc stay) (run bs) ≡ scanned s (goes_on sc bs (scan bs)) run
+by_scan : (s : Standing) (b : ℕ) (bs : List ℕ) (sc : Scan) → s.ended ≡ Going → ((t : Standing) → t.ended ≡ Going → run bs t ≡ after_scan t (scan bs t.under) run)
+    → then_more (after_scan s sc stay) (run bs) ≡ after_scan s (goes_on sc bs (scan bs)) run
 by_scan s b bs (More u) going rec = rec (with_under s u) going ∙ scanned_under s u (scan bs u)
 by_scan s b bs (Whole m r) going rec =
     let p = message_comes (with_under s start) m in
     ap (λ (x : List ℕ). ((run bs p.0).0, x ++ (run bs p.0).1)) (append-nil p.1)
 by_scan s b bs Long going rec =
-    let t = failed s TooLong in
-    let bye = spelled (bye_message (code_of TooLong)) in
+    let t = failure s TooLong in
+    let bye = message_in_chunks (bye_message (code_of TooLong)) in
     let over : run bs t ≡ (t, []) = run_over bs t tt in
     ap (λ (q : Sent). (q.0, bye ++ q.1)) over ∙ ap (λ (x : List ℕ). (t, x)) (append-nil bye)
 
 -- bytes are scanned up to the end of a message
-pub run-scan : (bs : List ℕ) (s : Standing) → s.ended ≡ Going → run bs s ≡ scanned s (scan bs s.under) run
+pub run-scan : (bs : List ℕ) (s : Standing) → s.ended ≡ Going → run bs s ≡ after_scan s (scan bs s.under) run
 unfolding run scan
 run-scan [] s going = refl
 run-scan (b ∷ bs) s going =
@@ -104,12 +104,12 @@ ran_over s sent piece over =
 
 pub ran_more : (s : Standing) (sent piece : List ℕ) (u : Under) → s.ended ≡ Going → scan piece s.under ≡ More u → Ran s sent piece (with_under s u) sent []
 ran_more s sent piece u going e =
-    let r : run piece s ≡ (with_under s u, []) = run-scan piece s going ∙ ap (λ (sc : Scan). scanned s sc run) e in
+    let r : run piece s ≡ (with_under s u, []) = run-scan piece s going ∙ ap (λ (sc : Scan). after_scan s sc run) e in
     record { front = piece; split = sym (append-nil piece); now = ap (λ (q : Sent). q.0) (sym r); said = sym (append-nil sent) ∙ ap (λ (q : Sent). sent ++ q.1) (sym r) }
 
 pub ran_long : (s new : Standing) (sent more piece : List ℕ) → s.ended ≡ Going → scan piece s.under ≡ Long → new ≡ (refuses s TooLong).0 → more ≡ sent ++ (refuses s TooLong).1 → Ran s sent piece new more []
 ran_long s new sent more piece going e now said =
-    let r : run piece s ≡ refuses s TooLong = run-scan piece s going ∙ ap (λ (sc : Scan). scanned s sc run) e in
+    let r : run piece s ≡ refuses s TooLong = run-scan piece s going ∙ ap (λ (sc : Scan). after_scan s sc run) e in
     record { front = piece; split = sym (append-nil piece); now = now ∙ ap (λ (q : Sent). q.0) (sym r); said = said ∙ ap (λ (q : Sent). sent ++ q.1) (sym r) }
 
 pub ran_message : (s new : Standing) (sent more piece rest m : List ℕ) → s.ended ≡ Going → scan piece s.under ≡ Whole m rest
@@ -118,7 +118,7 @@ unfolding run
 ran_message s new sent more piece rest m going e now said =
     let at = scan_ends piece rest s.under m e in
     let p = message_comes (with_under s start) m in
-    let r : run at.front s ≡ p = run-scan at.front s going ∙ ap (λ (sc : Scan). scanned s sc run) at.whole ∙ ap (λ (x : List ℕ). (p.0, x)) (append-nil p.1) in
+    let r : run at.front s ≡ p = run-scan at.front s going ∙ ap (λ (sc : Scan). after_scan s sc run) at.whole ∙ ap (λ (x : List ℕ). (p.0, x)) (append-nil p.1) in
     record { front = at.front; split = at.split; now = now ∙ ap (λ (q : Sent). q.0) (sym r); said = said ∙ ap (λ (q : Sent). sent ++ q.1) (sym r) }
 
 pub rest_less : (s : Standing) (piece rest m : List ℕ) → scan piece s.under ≡ Whole m rest → length rest < length piece

@@ -15,7 +15,7 @@ use Rattle.rds_codec.specs.declared.limits.TheConstants.{LIMIT}
 use Rattle.rds_session.specs.Checked.{certificate_of, least_state}
 use Rattle.rds_session.proofs.Checks.{delta_is}
 use Rattle.rds_session.specs.declared.chunks.TheConstants.{MESSAGE_LIMIT}
-use Rattle.rds_session.specs.Chunks.{spelled}
+use Rattle.rds_session.specs.Chunks.{message_in_chunks}
 use Rattle.rds_session.specs.Sending.{sending, then_sent, IsTextOrLost, SendsOne, SendsAll}
 
 pub none_sent : (old : List ℕ) → then_sent old (sending []) ≡ (old, true)
@@ -26,11 +26,11 @@ pub first_long : (old new m : List ℕ) (ms : List (List ℕ)) → MESSAGE_LIMIT
 unfolding sending
 first_long old new m ms long e = let t : ltb MESSAGE_LIMIT (length m) ≡ true = lt-ltb _ _ long in rw (t, e) (ap (λ (t : List ℕ). (t, false)) (append-nil old))
 
-pub first_sent : (old mid m : List ℕ) (ms : List (List ℕ)) (p : List ℕ × Bool) → length m ≤ MESSAGE_LIMIT → mid ≡ old ++ spelled m → then_sent mid (sending ms) ≡ p → then_sent old (sending (m ∷ ms)) ≡ p
+pub first_sent : (old mid m : List ℕ) (ms : List (List ℕ)) (p : List ℕ × Bool) → length m ≤ MESSAGE_LIMIT → mid ≡ old ++ message_in_chunks m → then_sent mid (sending ms) ≡ p → then_sent old (sending (m ∷ ms)) ≡ p
 unfolding sending
 first_sent old mid m ms p fits e rest =
     let t : ltb MESSAGE_LIMIT (length m) ≡ false = le-ltb _ _ fits in
-    rw t (ap (λ (t : List ℕ). (t, (sending ms).1)) (sym (append_assoc old (spelled m) (sending ms).0) ∙ ap (λ (t : List ℕ). t ++ (sending ms).0) (sym e)) ∙ rest)
+    rw t (ap (λ (t : List ℕ). (t, (sending ms).1)) (sym (append_assoc old (message_in_chunks m) (sending ms).0) ∙ ap (λ (t : List ℕ). t ++ (sending ms).0) (sym e)) ∙ rest)
 
 last_by : (old new m : List ℕ) (fits : Bool) → SendsOne old new m (Ok fits) → SendsAll old new (m ∷ []) (Ok fits)
 last_by old new m true h = first_sent old new m [] (new, true) h.0 h.1 (none_sent new)
@@ -40,7 +40,7 @@ pub last_sent : (old new m : List ℕ) (r : Result Bool Fault) → SendsOne old 
 last_sent old new m (Ok fits) h = last_by old new m fits h
 last_sent old new m (Err e) h = h
 
-pub more_sent : (old mid new m : List ℕ) (ms : List (List ℕ)) (r : Result Bool Fault) → length m ≤ MESSAGE_LIMIT → mid ≡ old ++ spelled m → SendsAll mid new ms r → SendsAll old new (m ∷ ms) r
+pub more_sent : (old mid new m : List ℕ) (ms : List (List ℕ)) (r : Result Bool Fault) → length m ≤ MESSAGE_LIMIT → mid ≡ old ++ message_in_chunks m → SendsAll mid new ms r → SendsAll old new (m ∷ ms) r
 more_sent old mid new m ms (Ok all) fits e h = first_sent old mid m ms (new, all) fits e h
 more_sent old mid new m ms (Err f) fits e h = h
 

@@ -8,16 +8,16 @@ use Rattle.std.proofs.lemmas.List.Concat.{flat_map-cons}
 use Rattle.rds_session.specs.declared.chunks.Place.{Place}
 use Rattle.rds_session.specs.declared.chunks.Place.TheVariants.{First, Second, Within}
 use Rattle.rds_session.specs.Chunks.{place_of, chunk_text, message_text}
-use Rattle.rds_session.specs.Stream.{IsByte, IsChunk, AreChunks, AreSplit, joined, IsChunkFront, Splits}
+use Rattle.rds_session.specs.Stream.{IsByte, IsChunk, AreChunks, AreSplit, contents_of, IsChunkFront, Splits}
 use Rattle.rds_session.proofs.Messages.{high_low}
 use Rattle.rds_session.proofs.Splitting.{split_from, messages_of}
 
 -- what stands before the next byte in its chunk, after whole chunks
 abbrev IsFront : Place → (held front : List ℕ) (cs : List (List ℕ)) → Type 0
-IsFront First held front cs = (front ≡ []) × (held ≡ joined cs)
-IsFront (Second high) held front cs = (front ≡ high ∷ []) × (held ≡ joined cs) × (high < 256)
+IsFront First held front cs = (front ≡ []) × (held ≡ contents_of cs)
+IsFront (Second high) held front cs = (front ≡ high ∷ []) × (held ≡ contents_of cs) × (high < 256)
 IsFront (Within left) held front cs =
-    (c : List ℕ) × (n : ℕ) × (front ≡ to_be_bytes w16 n ++ c) × (held ≡ joined cs ++ c) × (n < 65536) × (0 < left) × (length c + left ≡ n)
+    (c : List ℕ) × (n : ℕ) × (front ≡ to_be_bytes w16 n ++ c) × (held ≡ contents_of cs ++ c) × (n < 65536) × (0 < left) × (length c + left ≡ n)
 
 -- bytes that are less than a message, and hold so much of it
 record IsUnderWay (place : Place) (held raw : List ℕ) : Type 0 where
@@ -35,9 +35,9 @@ flat-snoc (d ∷ cs) c =
     flat_map-cons chunk_text d (cs ++ c ∷ []) ∙ ap (λ (t : List ℕ). chunk_text d ++ t) (flat-snoc cs c) ∙ sym (append_assoc (chunk_text d) (flat_map chunk_text cs) (chunk_text c))
     ∙ ap (λ (t : List ℕ). t ++ chunk_text c) (sym (flat_map-cons chunk_text d cs))
 
-joined-snoc : (cs : List (List ℕ)) (c : List ℕ) → joined (cs ++ c ∷ []) ≡ joined cs ++ c
-joined-snoc [] c = append-nil c
-joined-snoc (d ∷ cs) c = ap (λ (t : List ℕ). d ++ t) (joined-snoc cs c) ∙ sym (append_assoc d (joined cs) c)
+contents_of-snoc : (cs : List (List ℕ)) (c : List ℕ) → contents_of (cs ++ c ∷ []) ≡ contents_of cs ++ c
+contents_of-snoc [] c = append-nil c
+contents_of-snoc (d ∷ cs) c = ap (λ (t : List ℕ). d ++ t) (contents_of-snoc cs c) ∙ sym (append_assoc d (contents_of cs) c)
 
 chunks-snoc : (cs : List (List ℕ)) (c : List ℕ) → AreChunks cs → IsChunk c → AreChunks (cs ++ c ∷ [])
 chunks-snoc [] c h one = (one, tt)
@@ -72,7 +72,7 @@ second_byte high b held raw byte some u =
         [],
         n,
         sym (append-nil (to_be_bytes w16 n) ∙ two_bytes high b u.is_front.2 byte),
-        u.is_front.1 ∙ sym (append-nil (joined u.chunks)),
+        u.is_front.1 ∙ sym (append-nil (contents_of u.chunks)),
         omega (arith, u.is_front.2),
         some,
         omega arith,
@@ -95,8 +95,8 @@ module _ (left b : ℕ) (held raw : List ℕ) (u : IsUnderWay (Within left) held
       ap (λ (t : List ℕ). t ++ b ∷ []) (u.split ∙ ap (λ (t : List ℕ). flat_map chunk_text u.chunks ++ t) u.is_front.2)
       ∙ append_assoc (flat_map chunk_text u.chunks) (to_be_bytes w16 n ++ c) (b ∷ []) ∙ ap (λ (t : List ℕ). flat_map chunk_text u.chunks ++ t) (append_assoc (to_be_bytes w16 n) c (b ∷ []))
 
-  held_now : held ++ b ∷ [] ≡ joined u.chunks ++ (c ++ b ∷ [])
-  held_now = ap (λ (t : List ℕ). t ++ b ∷ []) u.is_front.3 ∙ append_assoc (joined u.chunks) c (b ∷ [])
+  held_now : held ++ b ∷ [] ≡ contents_of u.chunks ++ (c ++ b ∷ [])
+  held_now = ap (λ (t : List ℕ). t ++ b ∷ []) u.is_front.3 ∙ append_assoc (contents_of u.chunks) c (b ∷ [])
 
   len_now : length (c ++ b ∷ []) ≡ length c + 1
   len_now = length-append c (b ∷ [])
@@ -110,7 +110,7 @@ module _ (left b : ℕ) (held raw : List ℕ) (u : IsUnderWay (Within left) held
         front = [];
         split = whole ∙ ap (λ (t : List ℕ). flat_map chunk_text u.chunks ++ t) text ∙ sym (flat-snoc u.chunks (c ++ b ∷ [])) ∙ sym (append-nil (flat_map chunk_text (u.chunks ++ (c ++ b ∷ []) ∷ [])));
         are_chunks = chunks-snoc u.chunks (c ++ b ∷ []) u.are_chunks (omega (arith, len_now), omega (arith, sym len, u.is_front.4));
-        is_front = (refl, held_now ∙ sym (joined-snoc u.chunks (c ++ b ∷ [])));
+        is_front = (refl, held_now ∙ sym (contents_of-snoc u.chunks (c ++ b ∷ [])));
       }
 
   inner_byte : 0 < left - 1 → IsUnderWay (Within (left - 1)) (held ++ b ∷ []) (raw ++ b ∷ [])
@@ -166,7 +166,7 @@ message_first high b bs held raw ms rest none u later =
       split = zeros ∙ ap (λ (t : List ℕ). message_text u.chunks ++ t) later.split ∙ sym (append_assoc (message_text u.chunks) (flat_map message_text later.cuts) rest)
           ∙ ap (λ (t : List ℕ). t ++ rest) (sym (flat_map-cons message_text u.chunks later.cuts));
       are_cuts = (u.are_chunks, later.are_cuts);
-      joined_are = ap (λ (m : List ℕ). m ∷ map joined later.cuts) (sym u.is_front.1) ∙ ap (λ (t : List (List ℕ)). held ∷ t) later.joined_are;
+      joined_are = ap (λ (m : List ℕ). m ∷ map contents_of later.cuts) (sym u.is_front.1) ∙ ap (λ (t : List (List ℕ)). held ∷ t) later.joined_are;
       part = later.part;
     }
 

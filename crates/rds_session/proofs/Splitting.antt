@@ -8,7 +8,7 @@ use Rattle.std.proofs.lemmas.List.Concat.{flat_map-cons}
 use Rattle.rds_session.specs.declared.chunks.Place.{Place}
 use Rattle.rds_session.specs.declared.chunks.Place.TheVariants.{First, Second, Within}
 use Rattle.rds_session.specs.Chunks.{place_of, chunk_text, message_text}
-use Rattle.rds_session.specs.Stream.{IsChunk, AreChunks, joined, IsChunkFront, IsPart, Splits, AreSplitOnce}
+use Rattle.rds_session.specs.Stream.{IsChunk, AreChunks, contents_of, IsChunkFront, IsPart, Splits, AreSplitOnce}
 use Rattle.rds_session.proofs.Messages.{high_low}
 
 -- each message that has ended, and the bytes since
@@ -60,7 +60,7 @@ split_chunk c more held raw h =
     ∙ rw (none, append_assoc raw (high ∷ low ∷ []) c) refl
 
 split_chunks : (cs : List (List ℕ)) (more held raw : List ℕ) → AreChunks cs
-    → split_from (flat_map chunk_text cs ++ more) First held raw ≡ split_from more First (held ++ joined cs) (raw ++ flat_map chunk_text cs)
+    → split_from (flat_map chunk_text cs ++ more) First held raw ≡ split_from more First (held ++ contents_of cs) (raw ++ flat_map chunk_text cs)
 split_chunks [] more held raw h = rw (append-nil held, append-nil raw) refl
 split_chunks (c ∷ cs) more held raw h =
     let one : flat_map chunk_text (c ∷ cs) ++ more ≡ chunk_text c ++ (flat_map chunk_text cs ++ more) =
@@ -70,17 +70,17 @@ split_chunks (c ∷ cs) more held raw h =
     ap (λ (t : List ℕ). split_from t First held raw) one
     ∙ split_chunk c (flat_map chunk_text cs ++ more) held raw h.0
     ∙ split_chunks cs more (held ++ c) (raw ++ chunk_text c) h.1
-    ∙ ap (λ (t : List ℕ). split_from more First t ((raw ++ chunk_text c) ++ flat_map chunk_text cs)) (append_assoc held c (joined cs))
-    ∙ ap (λ (t : List ℕ). split_from more First (held ++ (c ++ joined cs)) t) texts
+    ∙ ap (λ (t : List ℕ). split_from more First t ((raw ++ chunk_text c) ++ flat_map chunk_text cs)) (append_assoc held c (contents_of cs))
+    ∙ ap (λ (t : List ℕ). split_from more First (held ++ (c ++ contents_of cs)) t) texts
 
 split_end : (more held raw : List ℕ) → split_from (0 ∷ 0 ∷ more) First held raw ≡ then_message held (messages_of more)
 unfolding split_from
 split_end more held raw = refl
 
-split_message : (cs : List (List ℕ)) (more : List ℕ) → AreChunks cs → messages_of (message_text cs ++ more) ≡ then_message (joined cs) (messages_of more)
+split_message : (cs : List (List ℕ)) (more : List ℕ) → AreChunks cs → messages_of (message_text cs ++ more) ≡ then_message (contents_of cs) (messages_of more)
 split_message cs more h =
     ap messages_of (append_assoc (flat_map chunk_text cs) (0 ∷ 0 ∷ []) more)
-    ∙ split_chunks cs (0 ∷ 0 ∷ more) [] [] h ∙ split_end more (joined cs) (flat_map chunk_text cs)
+    ∙ split_chunks cs (0 ∷ 0 ∷ more) [] [] h ∙ split_end more (contents_of cs) (flat_map chunk_text cs)
 
 split_front : (front held raw : List ℕ) → IsChunkFront front → split_from front First held raw ≡ ([], raw ++ front)
 unfolding split_from
@@ -95,15 +95,15 @@ split_front (high ∷ low ∷ c) held raw h =
 
 split_part : (rest : List ℕ) → IsPart rest → messages_of rest ≡ ([], rest)
 split_part rest p =
-    ap messages_of p.split ∙ split_chunks p.chunks p.front [] [] p.are_chunks ∙ split_front p.front (joined p.chunks) (flat_map chunk_text p.chunks) p.is_front
+    ap messages_of p.split ∙ split_chunks p.chunks p.front [] [] p.are_chunks ∙ split_front p.front (contents_of p.chunks) (flat_map chunk_text p.chunks) p.is_front
     ∙ ap (λ (t : List ℕ). ([], t)) (sym p.split)
 
-split_cuts : (cuts : List (List (List ℕ))) (rest : List ℕ) → AllByRecursion AreChunks cuts → IsPart rest → messages_of (flat_map message_text cuts ++ rest) ≡ (map joined cuts, rest)
+split_cuts : (cuts : List (List (List ℕ))) (rest : List ℕ) → AllByRecursion AreChunks cuts → IsPart rest → messages_of (flat_map message_text cuts ++ rest) ≡ (map contents_of cuts, rest)
 split_cuts [] rest h p = split_part rest p
 split_cuts (cs ∷ cuts) rest h p =
     let one : flat_map message_text (cs ∷ cuts) ++ rest ≡ message_text cs ++ (flat_map message_text cuts ++ rest) =
     ap (λ (t : List ℕ). t ++ rest) (flat_map-cons message_text cs cuts) ∙ append_assoc (message_text cs) (flat_map message_text cuts) rest in
-    ap messages_of one ∙ split_message cs (flat_map message_text cuts ++ rest) h.0 ∙ ap (then_message (joined cs)) (split_cuts cuts rest h.1 p)
+    ap messages_of one ∙ split_message cs (flat_map message_text cuts ++ rest) h.0 ∙ ap (then_message (contents_of cs)) (split_cuts cuts rest h.1 p)
 
 -- what a stream is read as is what the function says
 pub splits_are : (x : List ℕ) (ms : List (List ℕ)) (rest : List ℕ) → Splits x ms rest → messages_of x ≡ (ms, rest)

@@ -19,8 +19,8 @@ use Rattle.rds_dots.specs.declared.dot.Dot.{Dot}
 use Rattle.rds_dots.specs.declared.dot.Run.{Run}
 use Rattle.rds_dots.specs.declared.dot.TheConstants.{MAX_SEQ}
 use Rattle.rds_dots.specs.Sets.{dot_limits}
-use Rattle.rds_counts.specs.Counted.{Counted, counted, is_row, number, place}
-use Rattle.rds_counts.specs.CountedLemmas.{get-counted, number-row, number_in}
+use Rattle.rds_counts.specs.Counted.{Counted, counts_of, is_row, number, place}
+use Rattle.rds_counts.specs.CountedLemmas.{get-counts_of, number-row, number_in}
 use Rattle.rds_counts.specs.Place.{Place}
 use Rattle.rds_counts.specs.declared.row.CountRow.{CountRow}
 use Rattle.rds_counts.specs.declared.row.TheConstants.{MAX_COUNT}
@@ -128,9 +128,9 @@ module _ (n : ℕ) (v : StateValue) (g : DigestValue) (h : IsStateOf n v) where
       let up = higher_row (number g.counts) r in
       counts_kept up (higher_rows (number g.counts) rs) (nat_lt 0 up.p || nat_lt 0 up.n) all.0 (each_higher rs all.1)
 
-  counts_are : counted higher_counts ≡ kept.counts
+  counts_are : counts_of higher_counts ≡ kept.counts
   counts_are =
-      let left : StateValue = record { lives = v.lives; counts = counted higher_counts } in
+      let left : StateValue = record { lives = v.lives; counts = counts_of higher_counts } in
       let right : StateValue = record { lives = v.lives; counts = kept.counts } in
       let each = λ (q : Place). number_above (number g.counts) h.counts.rows h.counts.are_rows v.counts h.counts.value q ∙ sym (kept_numbers g v q) in
       ap (λ (w : StateValue). w.counts) (same_value left right (λ i. record { life = (coordinates left).life; number = λ q. each q i }))
@@ -230,7 +230,7 @@ rows_within (r ∷ rs) are q =
     (chosen_within _ _ r.p r.n (number_in rs q) range.0 range.1.0 later)
 
 counts_within : (n : ℕ) (m : Counted) → AreCountsOf n m → (q : Place) → number m q ≤ MAX_COUNT
-counts_within n m h q = subst (λ (k : ℕ). k ≤ MAX_COUNT) (get-counted h.rows m h.value q) (rows_within h.rows h.are_rows.are q)
+counts_within n m h q = subst (λ (k : ℕ). k ≤ MAX_COUNT) (get-counts_of h.rows m h.value q) (rows_within h.rows h.are_rows.are q)
 
 -- ---- the whole answer
 

@@ -31,7 +31,7 @@ use Rattle.rds_codec.proofs.Whole.{IsReaderOf}
 use Rattle.rds_session.specs.Bodies.{hello_in, digest_in, answer_in}
 use Rattle.rds_session.specs.Checked.{certificate_of, least_state}
 use Rattle.rds_session.specs.declared.kinds.ByeCode.TheVariants as byes
-use Rattle.rds_session.specs.Judging.{ForHello, ForDigest, ForDelta, ForBye, Greets, Learns, Receives, Finishes, accepted, read_then, hello_judged, delta_judged, longer_than}
+use Rattle.rds_session.specs.Judging.{ForHello, ForDigest, ForDelta, ForBye, Greets, Learns, Receives, Finishes, verdict, read_then, hello_judged, delta_judged, longer_than}
 use Rattle.rds_session.specs.Meeting.{HasRoom, IsItsLeast}
 use Rattle.rds_session.specs.Messages.{hello_message, digest_message, delta_message, bye_message}
 use Rattle.rds_session.specs.Received.{Delivery}
@@ -67,8 +67,8 @@ hello_again from h le = read_whole hello_kind hello_at hello_reader (hello_of fr
 abbrev pub speaker : ReplicaValue → ReplicaValue → Peer
 speaker k from = record { number = from.own; roster = longer_than k.roster from.roster }
 
-pub hello_accepted : (k from : ReplicaValue) → IsTold k from → accepted k ForHello (hello_message from) ≡ Ok (Greets (speaker k from))
-unfolding accepted hello_of hello_text
+pub hello_accepted : (k from : ReplicaValue) → IsTold k from → verdict k ForHello (hello_message from) ≡ Ok (Greets (speaker k from))
+unfolding verdict hello_of hello_text
 hello_accepted k from t =
     let o : eqb from.own k.own ≡ false = ne_eqb _ _ t.others in
     let read : hello_in (hello_text (hello_of from)) ≡ Ok (hello_of from) = hello_again from t.text (omega (arith, t.room.hello)) in
@@ -93,8 +93,8 @@ own_is k from h =
 -- ---- DIGEST
 
 pub digest_accepted : (k from : ReplicaValue) → IsTold k from
-    → accepted k (ForDigest (speaker k from)) (digest_message from) ≡ Ok (Learns (speaker k from) (digest_of from.state))
-unfolding accepted digest_in
+    → verdict k (ForDigest (speaker k from)) (digest_message from) ≡ Ok (Learns (speaker k from) (digest_of from.state))
+unfolding verdict digest_in
 digest_accepted k from t =
     let n = among k from in
     let read : digest_in n (digest_text (digest_of from.state)) ≡ Ok (digest_of from.state) =
@@ -104,8 +104,8 @@ digest_accepted k from t =
 -- ---- DELTA and BYE
 
 pub delta_accepted : (k from : ReplicaValue) (digest : DigestValue) → IsTold k from
-    → accepted k (ForDelta (speaker k from) digest) (delta_message from k.own (digest_of k.state)) ≡ Ok (Receives (least_state from.state (digest_of k.state)) (longer_than k.roster from.roster))
-unfolding accepted answer_in
+    → verdict k (ForDelta (speaker k from) digest) (delta_message from k.own (digest_of k.state)) ≡ Ok (Receives (least_state from.state (digest_of k.state)) (longer_than k.roster from.roster))
+unfolding verdict answer_in
 delta_accepted k from digest t =
     let n = among k from in
     let g = digest_of k.state in
@@ -116,8 +116,8 @@ delta_accepted k from digest t =
     let own : eqb k.own k.own ≡ true = eq-eqb _ _ refl in
     ap (λ (r : Result AnswerValue Fault). read_then r (delta_judged k (speaker k from))) read ∙ rw (own, least_passes from.state g) refl
 
-pub bye_accepted : (k : ReplicaValue) → accepted k ForBye (bye_message byes.Done) ≡ Ok Finishes
-unfolding accepted
+pub bye_accepted : (k : ReplicaValue) → verdict k ForBye (bye_message byes.Done) ≡ Ok Finishes
+unfolding verdict
 bye_accepted k = refl
 
 -- ---- what is received

@@ -14,7 +14,7 @@ use Rattle.rds_state.specs.Chosen.{same_dot}
 use Rattle.rds_state.specs.Value.{StateValue, coordinates}
 use Rattle.rds_delta.specs.Claims.{IsCertificate, claims}
 use Rattle.rds_delta.specs.Digested.{DigestValue, rank_in, ranks_in}
-use Rattle.rds_delta.specs.Grouped.{grouped}
+use Rattle.rds_delta.specs.Grouped.{rows_of_claims}
 use Rattle.rds_delta.specs.Least.{IsAbove, least}
 use Rattle.rds_delta.specs.Ranks.{life_rank}
 use Rattle.rds_delta.specs.declared.row.Row.{Row}
@@ -34,7 +34,7 @@ least_state v g = record { lives = map.retain_keys v.lives (is_later g v); count
 
 -- the one certificate of a delta
 abbrev pub certificate_of : DigestValue → StateValue → List Row
-certificate_of g v = grouped (claims (ranks_in g) v)
+certificate_of g v = rows_of_claims (claims (ranks_in g) v)
 
 -- whether all that it has is above the digest's
 abbrev pub is_all_above : DigestValue → StateValue → Bool

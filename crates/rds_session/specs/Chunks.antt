@@ -68,5 +68,5 @@ cut (suc n) [] = []
 cut (suc n) (b ∷ m) = take chunk_most (b ∷ m) ∷ cut n (drop chunk_most (b ∷ m))
 
 -- how a message is sent
-unfoldable pub spelled : List ℕ → List ℕ
-spelled m = message_text (cut (length m) m)
+unfoldable pub message_in_chunks : List ℕ → List ℕ
+message_in_chunks m = message_text (cut (length m) m)

@@ -42,17 +42,17 @@ pub data Said : Type 0 where
   Receives : (delta : StateValue) (roster : Option RosterValue) → Said
   Finishes : Said
 
-abbrev pub awaited : {S : Type 0} → Turn S → Awaited
-awaited turns.Hello = ForHello
-awaited (turns.Digest peer) = ForDigest peer
-awaited (turns.Delta peer digest) = ForDelta peer digest
-awaited turns.Bye = ForBye
+abbrev pub wait_of : {S : Type 0} → Turn S → Awaited
+wait_of turns.Hello = ForHello
+wait_of (turns.Digest peer) = ForDigest peer
+wait_of (turns.Delta peer digest) = ForDelta peer digest
+wait_of turns.Bye = ForBye
 
-abbrev pub said : {S : Type 0} → Act S → Said
-said (acts.Greet peer) = Greets peer
-said (acts.Learn peer digest) = Learns peer digest
-said (acts.Receive delta roster) = Receives delta roster
-said acts.Finish = Finishes
+abbrev pub saying_of : {S : Type 0} → Act S → Said
+saying_of (acts.Greet peer) = Greets peer
+saying_of (acts.Learn peer digest) = Learns peer digest
+saying_of (acts.Receive delta roster) = Receives delta roster
+saying_of acts.Finish = Finishes
 
 -- ---- BYE
 
@@ -145,9 +145,9 @@ kind_came kept turn None body = Err (Refused Bad)
 kind_came kept turn (Some kind) body = body_came kept kind turn body
 
 -- what a whole message is taken as, or why it ends the session
-unfoldable pub accepted : ReplicaValue → Awaited → List ℕ → Result Said Stop
-accepted kept turn [] = Err (Refused Cut)
-accepted kept turn (n ∷ body) = kind_came kept turn (kind_of n) body
+unfoldable pub verdict : ReplicaValue → Awaited → List ℕ → Result Said Stop
+verdict kept turn [] = Err (Refused Cut)
+verdict kept turn (n ∷ body) = kind_came kept turn (kind_of n) body
 
 -- ---- what follows from it
 
@@ -179,5 +179,5 @@ StopsByNoDevice (Left Device) = ⊥
 StopsByNoDevice e = Unit {0}
 
 abbrev pub Judges : {S : Type 0} → Result (Act S) Stop → Result Said Stop → Type 0
-Judges (Ok act) wanted = wanted ≡ Ok (said act)
+Judges (Ok act) wanted = wanted ≡ Ok (saying_of act)
 Judges (Err e) wanted = StopsAs e wanted

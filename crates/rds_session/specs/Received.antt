@@ -17,9 +17,9 @@ abbrev pub Delivery : Type 0
 Delivery = StateValue × Option RosterValue
 
 -- what was received, of its parts
-abbrev pub delivered : Option StateValue → Option RosterValue → Option Delivery
-delivered None roster = None
-delivered (Some delta) roster = Some (delta, roster)
+abbrev pub delivery_of : Option StateValue → Option RosterValue → Option Delivery
+delivery_of None roster = None
+delivery_of (Some delta) roster = Some (delta, roster)
 
 abbrev pub delta_of : Option Delivery → Option StateValue
 delta_of None = None

@@ -7,7 +7,7 @@ use Rattle.std.specs.Global.{Vec}
 use Rattle.rds_codec.specs.Exchanged.{IsLost}
 use Rattle.rds_codec.specs.declared.limits.TheConstants.{LIMIT}
 use Rattle.rds_session.specs.declared.kinds.MessageKind.{MessageKind}
-use Rattle.rds_session.specs.Chunks.{spelled}
+use Rattle.rds_session.specs.Chunks.{message_in_chunks}
 use Rattle.rds_session.specs.Messages.{number_of}
 
 abbrev pub then_sent : List ℕ → List ℕ × Bool → List ℕ × Bool
@@ -16,12 +16,12 @@ then_sent bytes p = (bytes ++ p.0, p.1)
 -- the bytes of the messages before the first that is over the limit, and whether none is
 unfoldable pub sending : List (List ℕ) → List ℕ × Bool
 sending [] = ([], true)
-sending (m ∷ ms) = if nat_lt MESSAGE_LIMIT (length m) then ([], false) else then_sent (spelled m) (sending ms)
+sending (m ∷ ms) = if nat_lt MESSAGE_LIMIT (length m) then ([], false) else then_sent (message_in_chunks m) (sending ms)
 
 -- a message was added, or is over the limit
 abbrev pub SendsOne : List ℕ → List ℕ → List ℕ → Result Bool Fault → Type 0
 SendsOne old new m result = MatchResult result
-    (λ fits. MatchBool fits ((length m ≤ MESSAGE_LIMIT) × (new ≡ old ++ spelled m)) ((MESSAGE_LIMIT < length m) × (new ≡ old)))
+    (λ fits. MatchBool fits ((length m ≤ MESSAGE_LIMIT) × (new ≡ old ++ message_in_chunks m)) ((MESSAGE_LIMIT < length m) × (new ≡ old)))
     (λ e. e ≡ Memory)
 
 -- a text, or why it isn't there: memory ran out, or it is over its own limit

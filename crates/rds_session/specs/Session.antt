@@ -10,9 +10,9 @@ use Rattle.rds_session.specs.declared.talk.Stop.{Stop}
 use Rattle.rds_session.specs.declared.talk.Stop.TheVariants.{Refused, Left}
 use Rattle.rds_session.specs.declared.step.Ended.{Ended}
 use Rattle.rds_session.specs.declared.step.Ended.TheVariants.{Going, Done, Failed}
-use Rattle.rds_session.specs.Chunks.{Under, start, spelled, Scan, More, Whole, Long, byte_scanned}
+use Rattle.rds_session.specs.Chunks.{Under, start, message_in_chunks, Scan, More, Whole, Long, byte_scanned}
 use Rattle.rds_session.specs.Messages.{hello_message, digest_message, bye_message, code_of}
-use Rattle.rds_session.specs.Judging.{Awaited, ForHello, Said, Receives, Finishes, accepted, turn_after, replies_of}
+use Rattle.rds_session.specs.Judging.{Awaited, ForHello, Said, Receives, Finishes, verdict, turn_after, replies_of}
 use Rattle.rds_session.specs.Received.{Delivery}
 use Rattle.rds_session.specs.Sending.{sending}
 
@@ -30,8 +30,8 @@ pub record Standing : Type 0 where
 abbrev pub fresh : Side → ReplicaValue → Standing
 fresh side kept = record { side = side; kept = kept; begun = false; turn = ForHello; received = None; ended = Going; under = start }
 
-abbrev pub failed : Standing → Fault → Standing
-failed s f = record s { ended = Failed f; under = start }
+abbrev pub failure : Standing → Fault → Standing
+failure s f = record s { ended = Failed f; under = start }
 
 -- a standing, and what was sent on the way to it
 abbrev pub Sent : Type 0
@@ -45,13 +45,13 @@ when_going Going x y = x
 when_going _ x y = y
 
 abbrev pub after_sending : Standing → List ℕ × Bool → Sent
-after_sending s p = if p.1 then (s, p.0) else (failed s TooLong, p.0 ++ spelled (bye_message byes.OwnFault))
+after_sending s p = if p.1 then (s, p.0) else (failure s TooLong, p.0 ++ message_in_chunks (bye_message byes.OwnFault))
 
 abbrev pub sends : Standing → List (List ℕ) → Sent
 sends s ms = after_sending s (sending ms)
 
 abbrev pub refuses : Standing → Fault → Sent
-refuses s f = (failed s f, spelled (bye_message (code_of f)))
+refuses s f = (failure s f, message_in_chunks (bye_message (code_of f)))
 
 -- what is received, and how the session ends
 abbrev pub received_after : Option Delivery → Said → Option Delivery
@@ -62,30 +62,30 @@ abbrev pub ended_after : Ended → Said → Ended
 ended_after ended Finishes = Done
 ended_after ended _ = ended
 
-abbrev pub performed : Standing → Said → Standing
-performed s said = record s { turn = turn_after s.turn said; received = received_after s.received said; ended = ended_after s.ended said }
+abbrev pub after_said : Standing → Said → Standing
+after_said s said = record s { turn = turn_after s.turn said; received = received_after s.received said; ended = ended_after s.ended said }
 
-abbrev pub answered : Standing → Result Said Stop → Sent
-answered s (Ok said) = sends (performed s said) (replies_of s.side s.kept s.turn said)
-answered s (Err (Refused f)) = refuses s f
-answered s (Err (Left f)) = (failed s f, [])
+abbrev pub after_verdict : Standing → Result Said Stop → Sent
+after_verdict s (Ok said) = sends (after_said s said) (replies_of s.side s.kept s.turn said)
+after_verdict s (Err (Refused f)) = refuses s f
+after_verdict s (Err (Left f)) = (failure s f, [])
 
 -- a whole message comes
 unfoldable pub message_comes : Standing → List ℕ → Sent
-message_comes s m = answered s (accepted s.kept s.turn m)
+message_comes s m = after_verdict s (verdict s.kept s.turn m)
 
 -- what was scanned comes, and then the rest
-abbrev pub scanned : Standing → Scan → (List ℕ → Standing → Sent) → Sent
-scanned s (More u) go = (record s { under = u }, [])
-scanned s (Whole m rest) go = then_more (message_comes (record s { under = start }) m) (go rest)
-scanned s Long go = refuses s TooLong
+abbrev pub after_scan : Standing → Scan → (List ℕ → Standing → Sent) → Sent
+after_scan s (More u) go = (record s { under = u }, [])
+after_scan s (Whole m rest) go = then_more (message_comes (record s { under = start }) m) (go rest)
+after_scan s Long go = refuses s TooLong
 
 -- nothing more
 abbrev pub stay : List ℕ → Standing → Sent
 stay bs s = (s, [])
 
 abbrev pub byte_comes : Standing → ℕ → Sent
-byte_comes s b = scanned s (byte_scanned s.under.place s.under.held b) stay
+byte_comes s b = after_scan s (byte_scanned s.under.place s.under.held b) stay
 
 -- bytes come, one after the other
 unfoldable pub run : List ℕ → Standing → Sent
@@ -97,12 +97,12 @@ opening Client kept = hello_message kept ∷ digest_message kept ∷ []
 opening Server kept = []
 
 -- what the first step sends, whatever its input
-unfoldable pub opened : Standing → Sent
-opened s = if s.begun then (s, []) else sends (record s { begun = true }) (opening s.side s.kept)
+unfoldable pub after_opening : Standing → Sent
+after_opening s = if s.begun then (s, []) else sends (record s { begun = true }) (opening s.side s.kept)
 
 -- the input has ended
 abbrev pub cut_off : Standing → Sent
-cut_off s = when_going s.ended (failed s PeerEnded, []) (s, [])
+cut_off s = when_going s.ended (failure s PeerEnded, []) (s, [])
 
 -- ---- the stream so far
 
@@ -123,13 +123,13 @@ heard_more (All_of x) input = All_of x
 -- the standing of a stream, and all bytes that are sent for it
 unfoldable pub course : Side → ReplicaValue → Heard → Sent
 course side kept Nothing = (fresh side kept, [])
-course side kept (So_far x) = then_more (opened (fresh side kept)) (run x)
-course side kept (All_of x) = then_more (then_more (opened (fresh side kept)) (run x)) cut_off
+course side kept (So_far x) = then_more (after_opening (fresh side kept)) (run x)
+course side kept (All_of x) = then_more (then_more (after_opening (fresh side kept)) (run x)) cut_off
 
 -- one step from a standing
-abbrev pub taken : Option (List ℕ) → Standing → Sent
-taken (Some piece) s = run piece s
-taken None s = cut_off s
+abbrev pub after_input : Option (List ℕ) → Standing → Sent
+after_input (Some piece) s = run piece s
+after_input None s = cut_off s
 
-unfoldable pub stepped : Standing → Option (List ℕ) → Sent
-stepped s input = when_going s.ended (then_more (opened s) (taken input)) (s, [])
+unfoldable pub after_step : Standing → Option (List ℕ) → Sent
+after_step s input = when_going s.ended (then_more (after_opening s) (after_input input)) (s, [])

@@ -12,12 +12,12 @@ use Rattle.rds_session.specs.declared.step.Input.TheVariants.{Bytes, End}
 use Rattle.rds_session.specs.declared.chunks.TheConstants.{MESSAGE_LIMIT}
 use Rattle.rds_session.specs.declared.chunks.Scanned.{Scanned}
 use Rattle.rds_session.specs.declared.chunks.Scanned.TheVariants as code
-use Rattle.rds_session.specs.Chunks.{Under, start, spelled, Scan, More, Whole, Long}
+use Rattle.rds_session.specs.Chunks.{Under, start, message_in_chunks, Scan, More, Whole, Long}
 use Rattle.rds_session.specs.declared.talk.Stop.TheVariants.{Refused}
 use Rattle.rds_session.specs.Judging.{StopsByNoDevice}
 use Rattle.rds_session.specs.Messages.{bye_message}
 use Rattle.rds_session.specs.Received.{Delivery}
-use Rattle.rds_session.specs.Session.{Standing, Sent, then_more, run, opened, taken, stepped, Heard, heard_more, course}
+use Rattle.rds_session.specs.Session.{Standing, Sent, then_more, run, after_opening, after_input, after_step, Heard, heard_more, course}
 
 -- ---- a step, and the stream
 
@@ -36,7 +36,7 @@ ReceivedAtMost side kept heard received = (received ≡ None) ⊎ (received ≡ 
 
 -- the last bytes where memory ran out: a BYE that says so, or nothing where there is no memory for it either
 abbrev pub IsLastWord : List ℕ → Type 0
-IsLastWord sent = (sent ≡ []) ⊎ (sent ≡ spelled (bye_message byes.OwnFault))
+IsLastWord sent = (sent ≡ []) ⊎ (sent ≡ message_in_chunks (bye_message byes.OwnFault))
 
 -- a session that has the standing of a stream has that of the longer stream, and sends what is sent for it beyond
 -- what is sent for the shorter one
@@ -110,13 +110,13 @@ TakesMemory old input = old.begun ≡ true → IsSome input
 -- bytes or the end came, after the opening; or memory ran out with what was received after a front of them
 abbrev pub Works : {T : Type 0} → Standing → List ℕ → Option (List ℕ) → Standing → List ℕ → Result T Fault → Type 0
 Works old sent input new more result = MatchResult result
-    (λ _. (new ≡ (then_more (opened old) (taken input)).0) × (more ≡ sent ++ (then_more (opened old) (taken input)).1))
-    (λ e. (e ≡ Memory) × ReceivedOnTheWay (opened old).0 (piece_of input) new.received × TakesMemory old input)
+    (λ _. (new ≡ (then_more (after_opening old) (after_input input)).0) × (more ≡ sent ++ (then_more (after_opening old) (after_input input)).1))
+    (λ e. (e ≡ Memory) × ReceivedOnTheWay (after_opening old).0 (piece_of input) new.received × TakesMemory old input)
 
 abbrev pub RunsOut : Standing → Option (List ℕ) → Standing → List ℕ → Type 0
 RunsOut old input new sent =
-    (old.ended ≡ Going) × (new.ended ≡ Failed Memory) × ReceivedOnTheWay (opened old).0 (piece_of input) new.received × IsLastWord sent × TakesMemory old input
+    (old.ended ≡ Going) × (new.ended ≡ Failed Memory) × ReceivedOnTheWay (after_opening old).0 (piece_of input) new.received × IsLastWord sent × TakesMemory old input
 
 -- the step was taken; or memory ran out in it
 abbrev pub Steps : Standing → Option (List ℕ) → Standing → List ℕ → Type 0
-Steps old input new sent = ((new ≡ (stepped old input).0) × (sent ≡ (stepped old input).1)) ⊎ RunsOut old input new sent
+Steps old input new sent = ((new ≡ (after_step old input).0) × (sent ≡ (after_step old input).1)) ⊎ RunsOut old input new sent

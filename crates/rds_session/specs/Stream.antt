@@ -7,9 +7,9 @@ abbrev pub IsChunk : List ℕ → Type 0
 IsChunk c = (0 < length c) × (length c < 65536)
 
 -- the contents of chunks
-abbrev pub joined : List (List ℕ) → List ℕ
-joined [] = []
-joined (c ∷ cs) = c ++ joined cs
+abbrev pub contents_of : List (List ℕ) → List ℕ
+contents_of [] = []
+contents_of (c ∷ cs) = c ++ contents_of cs
 
 abbrev pub AreChunks : List (List ℕ) → Type 0
 AreChunks cs = AllByRecursion IsChunk cs
@@ -33,7 +33,7 @@ pub record Splits (x : List ℕ) (messages : List (List ℕ)) (rest : List ℕ) 
   pub cuts : List (List (List ℕ))
   pub split : x ≡ flat_map message_text cuts ++ rest
   pub are_cuts : AllByRecursion AreChunks cuts
-  pub joined_are : map joined cuts ≡ messages
+  pub joined_are : map contents_of cuts ≡ messages
   pub part : IsPart rest
 
 abbrev pub IsByte : ℕ → Type 0

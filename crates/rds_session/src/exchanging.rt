@@ -7,7 +7,7 @@ ghost use Rattle.rds_names.specs.declared.fault.Fault.TheVariants.{Device};
 ghost use Rattle.rds_session.specs.declared.step.Ended.TheVariants.{Going, Failed};
 ghost use Rattle.rds_session.specs.declared.talk.Side.{Side};
 ghost use Rattle.rds_session.specs.Exchange.{Exchanges};
-ghost use Rattle.rds_session.specs.Received.{HasChecked, IsDoneBy, delivered};
+ghost use Rattle.rds_session.specs.Received.{HasChecked, IsDoneBy, delivery_of};
 ghost use Rattle.rds_session.specs.Leaving.{IsOfCalls, IsOfSession, IsWrittenUnless, Speaks};
 ghost use Rattle.rds_session.specs.Reads.{most_heard};
 ghost use Rattle.rds_session.specs.Session.{Heard, Nothing};
@@ -42,11 +42,11 @@ pub struct Exchanged<S: DotSet> {
 impl<S: DotSet> Exchanged<S> {
     /// What a session received, with how it came to an end. Takes no memory.
     pub fn of(session: Session<'_, S>, ended: Ended) -> Exchanged<S>
-        ensures received { delivered result.received result.roster ≡ session.entry.received }
+        ensures received { delivery_of result.received result.roster ≡ session.entry.received }
         ensures alone { result.received ≡ None → result.roster ≡ None }
         ensures ended { result.ended ≡ ended }
-        ensures checked { HasChecked session.entry.kept (delivered result.received result.roster) }
-        ensures done { IsDoneBy session.entry.ended (delivered result.received result.roster) }
+        ensures checked { HasChecked session.entry.kept (delivery_of result.received result.roster) }
+        ensures done { IsDoneBy session.entry.ended (delivery_of result.received result.roster) }
     {
         match session.into_received() {
             None => Exchanged {
@@ -177,13 +177,13 @@ pub fn exchange<S: DotSet, R: Read, W: Write>(
     writer: &mut Counted<W>,
 ) -> Exchanged<S>
     ensures over { IsOver result.ended }
-    ensures checked { HasChecked kept.now (delivered result.received result.roster) }
-    ensures done { IsDoneBy result.ended (delivered result.received result.roster) }
+    ensures checked { HasChecked kept.now (delivery_of result.received result.roster) }
+    ensures done { IsDoneBy result.ended (delivery_of result.received result.roster) }
     ensures alone { result.received ≡ None → result.roster ≡ None }
-    ensures session { IsOfSession side kept.now (delivered result.received result.roster) result.ended }
+    ensures session { IsOfSession side kept.now (delivery_of result.received result.roster) result.ended }
     ensures heard { IsOfCalls side kept.now (R.remaining reader.old.inner) (R.remaining reader.new.inner)
         (W.contents writer.old.inner) (W.contents writer.new.inner) (HasFailed writer.old writer.new)
-        (delivered result.received result.roster) result.ended }
+        (delivery_of result.received result.roster) result.ended }
     ensures told { ((reader.new.failed ≡ reader.old.failed) × (writer.new.failed ≡ writer.old.failed))
         ⊎ (result.ended ≡ Failed Device) }
     ensures bound { ConsumesAtMost (R.remaining reader.old.inner) (R.remaining reader.new.inner)
@@ -191,7 +191,7 @@ pub fn exchange<S: DotSet, R: Read, W: Write>(
     ensures device { result.ended ≡ Failed Device → HasFailed reader.old reader.new ⊎ HasFailed writer.old writer.new }
     ensures exchange { reader.new.failed ≡ 0 → writer.new.failed ≡ 0 → IfSome (R.remaining reader.old.inner) (λ input.
         Exchanges side kept.now input (W.contents writer.old.inner) (W.contents writer.new.inner)
-        (delivered result.received result.roster) result.ended) }
+        (delivery_of result.received result.roster) result.ended) }
 {
     let mut session = Session::new(side, kept);
     match talk(alloc, &mut session, reader, writer) {

@@ -5,7 +5,7 @@ ghost use Rattle.rds_bytes.specs.Reading.{Reads};
 ghost use Rattle.rds_session.specs.Bodies.{hello_in, digest_in, answer_in};
 ghost use Rattle.rds_delta.specs.Digested.{digest_of};
 ghost use Rattle.rds_names.specs.declared.fault.Fault.TheVariants.{Memory};
-ghost use Rattle.rds_session.specs.Judging.{Awaited, StopsByNoDevice, Judges, awaited, bye_came, bye_judged, hello_came, digest_came, delta_came, body_came, accepted, other_version, one_begins, longer_than, replicas_of};
+ghost use Rattle.rds_session.specs.Judging.{Awaited, StopsByNoDevice, Judges, wait_of, bye_came, bye_judged, hello_came, digest_came, delta_came, body_came, verdict, other_version, one_begins, longer_than, replicas_of};
 ghost use Rattle.rds_session.specs.Checked.{passes};
 ghost use Rattle.rds_session.specs.Received.{Brings, KnowsPeer, IsLongerIfThere};
 ghost use Rattle.rds_codec.specs.AnswerTexts.{IsAnswerOf};
@@ -44,8 +44,8 @@ fn fault_of(code: ByeCode) -> Fault
 
 fn judge_code<S: DotSet>(turn: &Turn<S>, code: ByeCode) -> Result<Act<S>, Stop>
     ensures known { IfErr result StopsByNoDevice }
-    ensures judges { Judges result (bye_judged code (awaited turn.now)) }
-    ensures brings { (kept : ReplicaValue) → IfOk result (Brings kept (awaited turn.now)) }
+    ensures judges { Judges result (bye_judged code (wait_of turn.now)) }
+    ensures brings { (kept : ReplicaValue) → IfOk result (Brings kept (wait_of turn.now)) }
 {
     match code {
         ByeCode::Done => match turn {
@@ -58,8 +58,8 @@ fn judge_code<S: DotSet>(turn: &Turn<S>, code: ByeCode) -> Result<Act<S>, Stop>
 
 fn judge_bye<S: DotSet>(turn: &Turn<S>, body: &[u8]) -> Result<Act<S>, Stop>
     ensures known { IfErr result StopsByNoDevice }
-    ensures judges { Judges result (bye_came (awaited turn.now) body.now) }
-    ensures brings { (kept : ReplicaValue) → IfOk result (Brings kept (awaited turn.now)) }
+    ensures judges { Judges result (bye_came (wait_of turn.now) body.now) }
+    ensures brings { (kept : ReplicaValue) → IfOk result (Brings kept (wait_of turn.now)) }
 {
     match body {
         [] => Err(Stop::Refused(Fault::Cut)),
@@ -244,8 +244,8 @@ fn judge_body<S: DotSet>(
 ) -> Result<Act<S>, Stop>
     requires { length body.now ≤ LIMIT }
     ensures known { IfErr result StopsByNoDevice }
-    ensures judges { Judges result (body_came kept.now kind (awaited turn.now) body.now) }
-    ensures brings { KnowsPeer kept.now (awaited turn.now) → IfOk result (Brings kept.now (awaited turn.now)) }
+    ensures judges { Judges result (body_came kept.now kind (wait_of turn.now) body.now) }
+    ensures brings { KnowsPeer kept.now (wait_of turn.now) → IfOk result (Brings kept.now (wait_of turn.now)) }
 {
     match (kind, turn) {
         (MessageKind::Bye, _) => judge_bye(turn, body),
@@ -257,7 +257,7 @@ fn judge_body<S: DotSet>(
 }
 
 /// What a whole message is taken as, or why it ends the session.
-#[tactic(auto, unfolding(crate::specs::Judging::accepted))]
+#[tactic(auto, unfolding(crate::specs::Judging::verdict))]
 pub fn accept<S: DotSet>(
     alloc: Global,
     kept: &Replica<S>,
@@ -266,8 +266,8 @@ pub fn accept<S: DotSet>(
 ) -> Result<Act<S>, Stop>
     requires { length message.now ≤ LIMIT }
     ensures known { IfErr result StopsByNoDevice }
-    ensures judges { Judges result (accepted kept.now (awaited turn.now) message.now) }
-    ensures brings { KnowsPeer kept.now (awaited turn.now) → IfOk result (Brings kept.now (awaited turn.now)) }
+    ensures judges { Judges result (verdict kept.now (wait_of turn.now) message.now) }
+    ensures brings { KnowsPeer kept.now (wait_of turn.now) → IfOk result (Brings kept.now (wait_of turn.now)) }
 {
     match message {
         [] => Err(Stop::Refused(Fault::Cut)),

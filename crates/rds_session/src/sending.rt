@@ -1,7 +1,7 @@
 //! Sending messages.
 ghost use Rattle.std.specs.Prelude.{◌≡◌, [], ◌∷◌};
 ghost use Rattle.rds_session.specs.declared.kinds.ByeCode.TheVariants as byes;
-ghost use Rattle.rds_session.specs.Judging.{awaited, said, replies_of};
+ghost use Rattle.rds_session.specs.Judging.{wait_of, saying_of, replies_of};
 ghost use Rattle.rds_session.specs.Messages.{hello_message, digest_message, delta_message, bye_message};
 ghost use Rattle.rds_session.specs.Sending.{SendsBody, SendsOne, SendsAll};
 ghost use Rattle.rds_session.specs.Session.{opening};
@@ -136,7 +136,7 @@ pub fn send_replies<S: DotSet>(
     act: &Act<S>,
 ) -> Result<bool, Fault>
     ensures { SendsAll send.old.items send.new.items
-        (replies_of side kept.now (awaited turn.now) (said act.now)) result }
+        (replies_of side kept.now (wait_of turn.now) (saying_of act.now)) result }
 {
     match side {
         Side::Server => match act {

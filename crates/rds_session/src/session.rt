@@ -37,7 +37,7 @@ pub struct Session<'a, S: DotSet> {
 impl<'a, S: DotSet> Model for Session<'a, S> {
     ghost use Rattle.rds_session.specs.Chunks.{under_of};
     ghost use Rattle.rds_session.specs.Code.{coded_standing};
-    ghost use Rattle.rds_session.specs.Judging.{awaited};
+    ghost use Rattle.rds_session.specs.Judging.{wait_of};
     ghost use Rattle.rds_session.specs.Received.{IsSound};
     ghost use Rattle.rds_session.specs.Session.{Standing};
 
@@ -49,13 +49,13 @@ impl<'a, S: DotSet> Model for Session<'a, S> {
       side = s.side;
       kept = s.kept.now;
       begun = s.begun;
-      turn = awaited s.turn;
+      turn = wait_of s.turn;
       received = s.received;
       ended = s.ended;
       under = under_of s.under;
     } };
 
-    ghost invariant = { λ s. IsSound s.kept.now (awaited s.turn) s.ended s.received };
+    ghost invariant = { λ s. IsSound s.kept.now (wait_of s.turn) s.ended s.received };
 }
 
 impl<'a, S: DotSet> Session<'a, S> {
@@ -63,10 +63,10 @@ impl<'a, S: DotSet> Session<'a, S> {
     ghost use Rattle.rds_session.specs.declared.step.Ended.TheVariants.{Going};
     ghost use Rattle.rds_session.specs.declared.talk.Side.{Side};
     ghost use Rattle.rds_session.specs.Chunks.{scan};
-    ghost use Rattle.rds_session.specs.Judging.{StopsByNoDevice, said};
+    ghost use Rattle.rds_session.specs.Judging.{StopsByNoDevice, saying_of};
     ghost use Rattle.rds_session.specs.Received.{Brings, HasChecked, IsDoneBy, IsLongerIfThere, delta_of, roster_of};
     ghost use Rattle.rds_session.specs.declared.talk.Stop.TheVariants.{Refused};
-    ghost use Rattle.rds_session.specs.Session.{failed, performed, refuses, answered, message_comes, opened, cut_off, Heard, Nothing};
+    ghost use Rattle.rds_session.specs.Session.{failure, after_said, refuses, after_verdict, message_comes, after_opening, cut_off, Heard, Nothing};
     ghost use Rattle.rds_session.specs.Steps.{came, Continues, Does, HasScanned, HasStanding, IsLastWord, IsNoDevice, IsOver, Ran, Runs, Steps, Works};
 
     /// A session that hasn't begun. Takes no memory.
@@ -167,7 +167,7 @@ impl<'a, S: DotSet> Session<'a, S> {
 
     // Memory ran out: the peer is told, if that can be.
     fn give_up(&mut self, alloc: Global) -> Vec<u8>
-        ensures failed { self.new ≡ failed self.old Memory }
+        ensures failed { self.new ≡ failure self.old Memory }
         ensures send { IsLastWord result.items }
     {
         self.fail(Fault::Memory);
@@ -193,9 +193,9 @@ impl<'a, S: DotSet> Session<'a, S> {
         }
     }
 
-    #[tactic(auto, unfolding(crate::specs::Session::opened), using(crate::proofs::Moves::all_sent, crate::proofs::Moves::some_sent))]
+    #[tactic(auto, unfolding(crate::specs::Session::after_opening), using(crate::proofs::Moves::all_sent, crate::proofs::Moves::some_sent))]
     fn open(&mut self, alloc: Global, send: &mut Vec<u8>) -> Result<(), Fault>
-        ensures does { Does self.old send.old.items self.new send.new.items result opened }
+        ensures does { Does self.old send.old.items self.new send.new.items result after_opening }
         ensures begins { OnErr result (self.old.begun ≡ false) }
         ensures known { OnOk result (IsNoDevice self.old.ended → IsNoDevice self.new.ended) }
         ensures kept { self.new.kept ≡ self.old.kept }
@@ -304,7 +304,8 @@ impl<'a, S: DotSet> Session<'a, S> {
     #[tactic(auto, using(crate::proofs::Moves::all_sent, crate::proofs::Moves::some_sent))]
     fn answer(&mut self, alloc: Global, act: Act<S>, send: &mut Vec<u8>) -> Result<(), Fault>
         requires { Brings self.old.kept self.old.turn act }
-        ensures does { Does self.old send.old.items self.new send.new.items result (λ s. answered s (Ok (said act))) }
+        ensures does { Does self.old send.old.items self.new send.new.items result
+            (λ s. after_verdict s (Ok (saying_of act))) }
         ensures known { OnOk result (IsNoDevice self.old.ended → IsNoDevice self.new.ended) }
         ensures kept { self.new.kept ≡ self.old.kept }
     {
@@ -328,7 +329,7 @@ impl<'a, S: DotSet> Session<'a, S> {
 
     fn perform(&mut self, act: Act<S>)
         requires { Brings self.old.kept self.old.turn act }
-        ensures performed { self.new ≡ performed self.old (said act) }
+        ensures performed { self.new ≡ after_said self.old (saying_of act) }
         ensures known { IsNoDevice self.old.ended → IsNoDevice self.new.ended }
     {
         match act {
@@ -354,7 +355,7 @@ impl<'a, S: DotSet> Session<'a, S> {
     }
 
     fn fail(&mut self, fault: Fault)
-        ensures { self.new ≡ failed self.old fault }
+        ensures { self.new ≡ failure self.old fault }
     {
         self.ended = Ended::Failed(fault);
         self.under = None;

@@ -1,7 +1,7 @@
 //! Messages as they are sent: in chunks of 16,384 bytes, of which the last may be shorter.
 ghost use Rattle.std.specs.Prelude.{◌≡◌, ◌++◌, ◌∷◌, ◌<◌, length, OnOk, IfErr};
 ghost use Rattle.rds_names.specs.declared.fault.Fault.TheVariants.{Memory};
-ghost use Rattle.rds_session.specs.Chunks.{spelled, chunk_text};
+ghost use Rattle.rds_session.specs.Chunks.{message_in_chunks, chunk_text};
 ghost use Rattle.rds_session.specs.Messages.{number_of};
 ghost use Rattle.rds_session.specs.Sending.{SendsOne};
 
@@ -37,9 +37,9 @@ fn put_first(send: &mut Vec<u8>, kind: MessageKind, front: &[u8]) -> Result<(), 
 }
 
 // The rest of a message, and its end.
-#[tactic(auto, unfolding(crate::specs::Chunks::spelled))]
+#[tactic(auto, unfolding(crate::specs::Chunks::message_in_chunks))]
 fn put_chunks(send: &mut Vec<u8>, message: &[u8]) -> Result<(), Fault>
-    ensures ok { OnOk result (send.new.items ≡ send.old.items ++ spelled message.now) }
+    ensures ok { OnOk result (send.new.items ≡ send.old.items ++ message_in_chunks message.now) }
     ensures err { IfErr result (λ e. e ≡ Memory) }
 {
     let mut rest = message;
@@ -53,7 +53,7 @@ fn put_chunks(send: &mut Vec<u8>, message: &[u8]) -> Result<(), Fault>
 }
 
 /// Adds the message of this type and body, and says whether it is within the limit; one that isn't is not added.
-#[tactic(auto, unfolding(crate::specs::Chunks::spelled))]
+#[tactic(auto, unfolding(crate::specs::Chunks::message_in_chunks))]
 pub fn put_message(send: &mut Vec<u8>, kind: MessageKind, body: &[u8]) -> Result<bool, Fault>
     ensures { SendsOne send.old.items send.new.items (number_of kind ∷ body.now) result }
 {

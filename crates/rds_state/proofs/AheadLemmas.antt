@@ -12,8 +12,8 @@ use Rattle.rds_life.specs.Life.{Lived, seen_of}
 use Rattle.rds_counts.specs.declared.row.Which.TheVariants.{P, N}
 use Rattle.rds_counts.specs.declared.row.CountRow.{CountRow}
 use Rattle.rds_counts.specs.Place.{Place}
-use Rattle.rds_counts.specs.Counted.{Above, Counted, number, number_from, place, above, components, counted, AreCountRows}
-use Rattle.rds_counts.specs.Entries.{entries-counted}
+use Rattle.rds_counts.specs.Counted.{Above, Counted, number, number_from, place, above, components, counts_of, AreCountRows}
+use Rattle.rds_counts.specs.Entries.{entries-counts_of}
 use Rattle.rds_state.specs.Value.{StateValue}
 use Rattle.rds_state.specs.Ahead.{Ahead, SeqAhead, NumberAhead}
 use Rattle.rds_state.specs.RowsAhead.{rows_ahead}
@@ -40,11 +40,11 @@ module _ (here : Place → ℕ) (own : ℕ) where
       ∙ ap (cond ((r.replica == own) && nat_lt (here p) r.p) (Some (Plus r.p))) (ahead-above n r.n (components rs) ∙ ap (cond ((r.replica == own) && nat_lt (here n) r.n) (Some (Minus r.n))) (ahead-components rs))
       ∙ both (r.replica == own) (nat_lt (here p) r.p) (nat_lt (here n) r.n) (Some (Plus r.p)) (Some (Minus r.n)) (rows_ahead here own rs)
 
-rows_are_entries : (here : Place → ℕ) (own : ℕ) (d : Counted) (rs : List CountRow) → AreCountRows rs → d ≡ counted rs → first_ahead here own (map.entries d) ≡ rows_ahead here own rs
-rows_are_entries here own d rs are is = ap (first_ahead here own) (ap map.entries is ∙ entries-counted rs are.rise) ∙ ahead-components here own rs
+rows_are_entries : (here : Place → ℕ) (own : ℕ) (d : Counted) (rs : List CountRow) → AreCountRows rs → d ≡ counts_of rs → first_ahead here own (map.entries d) ≡ rows_ahead here own rs
+rows_are_entries here own d rs are is = ap (first_ahead here own) (ap map.entries is ∙ entries-counts_of rs are.rise) ∙ ahead-components here own rs
 
 -- what the search in rows finds is the first own number above
-pub rows_ahead_is : (here : Place → ℕ) (own : ℕ) (d : Counted) (rs : List CountRow) → AreCountRows rs → d ≡ counted rs → NumberAhead here own (number d) (rows_ahead here own rs)
+pub rows_ahead_is : (here : Place → ℕ) (own : ℕ) (d : Counted) (rs : List CountRow) → AreCountRows rs → d ≡ counts_of rs → NumberAhead here own (number d) (rows_ahead here own rs)
 rows_ahead_is here own d rs are is =
     let es = map.entries d in
     let listed_is : listed es ≡ (λ q. number d q) = fun_ext (λ q. ap number_from (sym (map.get-entries d q))) in

@@ -9,8 +9,8 @@ use Rattle.rds_dots.specs.declared.dot.Dot.{Dot}
 use Rattle.rds_dots.specs.Dots.{Dots, dot_cmp}
 use Rattle.rds_counts.specs.declared.row.CountRow.{CountRow}
 use Rattle.rds_counts.specs.Place.{Place, place_cmp}
-use Rattle.rds_counts.specs.Counted.{Above, Counted, number, number_from, counted, AreCountRows}
-use Rattle.rds_counts.specs.CountedLemmas.{get-counted}
+use Rattle.rds_counts.specs.Counted.{Above, Counted, number, number_from, counts_of, AreCountRows}
+use Rattle.rds_counts.specs.CountedLemmas.{get-counts_of}
 use Rattle.rds_life.specs.Life.{Life, Live, Dead, Lived, join_life, seen_of}
 use Rattle.rds_life.proofs.Views.{contains-seen_of}
 use Rattle.rds_state.specs.Coordinates.{Coordinates, join}
@@ -66,12 +66,12 @@ module _ (replicas : ℕ) (v : StateValue) (dots : Dots) (seen : dots ≡ seen_o
   pub fits_dots : Fits replicas (coordinates v) → (d : Dot) → set.contains dots d ≡ true → d.replica < replicas
   fits_dots fits d h = fits.dots d (sym (is_seen d) ∙ h)
 
-  module _ (rows : List CountRow) (are : AreCountRows rows) (value : counted rows ≡ v.counts) where
+  module _ (rows : List CountRow) (are : AreCountRows rows) (value : counts_of rows ≡ v.counts) where
     pub fits_by : ((d : Dot) → set.contains dots d ≡ true → d.replica < replicas) → rows_below replicas rows ≡ true → Fits replicas (coordinates v)
     fits_by below all = record {
       dots = λ d h. below d (is_seen d ∙ h);
-      numbers = λ q h. numbers_below replicas rows all q (subst (λ n. 0 < n) (sym (get-counted rows v.counts value q)) h);
+      numbers = λ q h. numbers_below replicas rows all q (subst (λ n. 0 < n) (sym (get-counts_of rows v.counts value q)) h);
     }
 
     pub rows_fit : Fits replicas (coordinates v) → rows_below replicas rows ≡ true
-    rows_fit fits = rows_are_below replicas rows are (λ q h. fits.numbers q (subst (λ n. 0 < n) (get-counted rows v.counts value q) h))
+    rows_fit fits = rows_are_below replicas rows are (λ q h. fits.numbers q (subst (λ n. 0 < n) (get-counts_of rows v.counts value q) h))

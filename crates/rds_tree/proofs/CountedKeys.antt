@@ -11,10 +11,10 @@ use Rattle.std.specs.FinMap.{nat_cmp-IsAntisymmetric, slice_cmp-IsAntisymmetric}
 use Rattle.rds_counts.specs.declared.row.CountRow.{CountRow}
 use Rattle.rds_counts.specs.declared.row.TheConstants.{MAX_COUNT}
 use Rattle.rds_counts.specs.Place.{Place}
-use Rattle.rds_counts.specs.Counted.{Above, Counted, counted, components, above, row_cmp, is_row, rows_rise, AreCountRows}
+use Rattle.rds_counts.specs.Counted.{Above, Counted, counts_of, components, above, row_cmp, is_row, rows_rise, AreCountRows}
 use Rattle.rds_counts.specs.Value.{value_of}
 use Rattle.rds_names.specs.Conditions.{and_left, and_right}
-use Rattle.rds_counts.specs.Entries.{entries-counted}
+use Rattle.rds_counts.specs.Entries.{entries-counts_of}
 use Rattle.rds_tree.specs.Distinct.{distinct}
 use Rattle.rds_tree.specs.Document.{key_cmp, counted_keys, sums_of}
 use Rattle.rds_tree.proofs.Distinct.{NoLess, Climbs, once_distinct}
@@ -58,10 +58,10 @@ any_key t (r ∷ rows) are =
     any-above t _ _ r.p r.n (components rows) refl (first_of (nat_lt 0 r.p || nat_lt 0 r.n) (nat_le r.p MAX_COUNT) (nat_le r.n MAX_COUNT) (nat_lt r.replica 256) (and_left (is_row r) _ are)) ∙ ap (λ b. t r.key || b) (any_key t rows (and_right (is_row r) _ are))
 
 -- the keys of counters are those of their rows, each once
-counted_keys-rows : (counts : Counted) (rows : List CountRow) → AreCountRows rows → counts ≡ counted rows → counted_keys counts ≡ distinct key_cmp None (keys_of rows)
+counted_keys-rows : (counts : Counted) (rows : List CountRow) → AreCountRows rows → counts ≡ counts_of rows → counted_keys counts ≡ distinct key_cmp None (keys_of rows)
 counted_keys-rows counts rows are is =
     once_distinct key_cmp nat_list_cmp_total (slice_cmp-IsAntisymmetric nat_cmp-IsAntisymmetric) (keys_of rows) _ (keys_climb rows are.rise) (λ t.
-    ap (λ m. list_any t (place_keys (map.entries m))) is ∙ ap (λ es. list_any t (place_keys es)) (entries-counted rows are.rise) ∙ any_key t rows are.are)
+    ap (λ m. list_any t (place_keys (map.entries m))) is ∙ ap (λ es. list_any t (place_keys es)) (entries-counts_of rows are.rise) ∙ any_key t rows are.are)
 
 no_rows : (rows : List CountRow) → length rows ≡ 0 → rows ≡ []
 no_rows [] h = refl
@@ -71,7 +71,7 @@ abbrev sums_from : Counted → Option (List ℕ) → List CountRow → List (Lis
 sums_from counts last rows = each (λ k. (k, value_of counts k)) (distinct key_cmp last (keys_of rows))
 
 -- at the end all sums are there
-pub sums_whole : (counts : Counted) (rows rest : List CountRow) (sums : List (List ℕ × ℤ)) (last : Option (List ℕ)) → AreCountRows rows → counts ≡ counted rows → length rest ≡ 0
+pub sums_whole : (counts : Counted) (rows rest : List CountRow) (sums : List (List ℕ × ℤ)) (last : Option (List ℕ)) → AreCountRows rows → counts ≡ counts_of rows → length rest ≡ 0
     → sums ++ sums_from counts last rest ≡ sums_from counts None rows → sums ≡ sums_of counts
 sums_whole counts rows rest sums last are is none told =
     sym (append-nil sums) ∙ ap (λ rs. sums ++ sums_from counts last rs) (sym (no_rows rest none)) ∙ told ∙ ap (each (λ k. (k, value_of counts k))) (sym (counted_keys-rows counts rows are is))

@@ -11,7 +11,7 @@ use Rattle.rds_names.specs.declared.entry.Entry.{Entry}
 use Rattle.rds_dots.specs.declared.dot.Dot.{Dot}
 use Rattle.rds_tree.specs.Document.{Placed, entry_placed, entries_in}
 use Rattle.rds_tree.specs.View.{below, below_path, step_into, same_key, entries_view}
-use Rattle.rds_tree.specs.Row.{Row, placed, placed_all, fits}
+use Rattle.rds_tree.specs.Row.{Row, placement, placed_all, fits}
 use Rattle.rds_tree.specs.Growing.{row_of, rows_under, Holds}
 use Rattle.rds_tree.proofs.Kids.{flip_eq}
 use Rattle.rds_tree.proofs.SameView.{SameMembers, same_below_path, same_entries_view}
@@ -29,7 +29,7 @@ any-map t f (x ∷ xs) = ap (λ b. t (f x) || b) (any-map t f xs)
 
 -- the tree's entries are those of the rows
 pub same_members : (rows : List (Dot × Entry)) (tree : List Row) → Holds rows tree → SameMembers (placed_all tree) (entries_in rows)
-same_members rows tree holds = record { any = λ t. any-map t placed tree ∙ holds.any (λ r. t (placed r)) ∙ sym (any-map t entry_placed rows) }
+same_members rows tree holds = record { any = λ t. any-map t placement tree ∙ holds.any (λ r. t (placement r)) ∙ sym (any-map t entry_placed rows) }
 
 not_any : {X : Type 0} (p : X → Bool) (xs : List X) → list_all p xs ≡ not (list_any (λ x. not (p x)) xs)
 not_any p [] = refl

@@ -18,7 +18,7 @@ use Rattle.rds_tree.specs.declared.leaf.Leaf.{Leaf}
 use Rattle.rds_tree.specs.Once.{once_is}
 use Rattle.rds_tree.specs.Document.{Placed, key_cmp}
 use Rattle.rds_tree.specs.View.{keys_in, first_key, same_key, step_into, below, below_path, children}
-use Rattle.rds_tree.specs.Row.{Row, under, at_end, rows_below, rows_of, is_full, are_full, placed, placed_all, seen, fits}
+use Rattle.rds_tree.specs.Row.{Row, under, at_end, rows_below, rows_of, is_full, are_full, placement, placed_all, placed_below, fits}
 
 abbrev heads : List Placed → List (List ℕ)
 heads es = filter_map (λ e. first_key e.path) es
@@ -48,7 +48,7 @@ any-heads t ((k, (r ∷ rows)) ∷ cs) full = any-heads-under t k (r ∷ rows) (
 below-under : (k x : List ℕ) (rows rest : List Row) (b : Bool) → same_key x k ≡ b → below k (placed_all (map (under x) rows ++ rest)) ≡ cond b (placed_all rows) [] ++ below k (placed_all rest)
 below-under k x [] rest true h = refl
 below-under k x [] rest false h = refl
-below-under k x (r ∷ rows) rest true h = rw h (ap (λ es. placed r ∷ es) (below-under k x rows rest true h))
+below-under k x (r ∷ rows) rest true h = rw h (ap (λ es. placement r ∷ es) (below-under k x rows rest true h))
 below-under k x (r ∷ rows) rest false h = rw h (below-under k x rows rest false h)
 
 pub itself : (k : List ℕ) → same_key k k ≡ true
@@ -82,11 +82,11 @@ all_at [] rise = tt
 all_at (c ∷ cs) rise =
     (below-under c.0 c.0 c.1 (rows_below cs) true (itself c.0) ∙ ap (λ es. placed_all c.1 ++ es) (none_below c.0 cs rise.0) ∙ append-nil (placed_all c.1), shifted c cs cs rise.0 (all_at cs rise.1))
 
-pairs : (f : List ℕ → List Placed) (cs : List (List ℕ × List Row)) → AllByRecursion (λ c. f c.0 ≡ placed_all c.1) cs → map (λ k. (k, f k)) (map (λ c. c.0) cs) ≡ seen cs
+pairs : (f : List ℕ → List Placed) (cs : List (List ℕ × List Row)) → AllByRecursion (λ c. f c.0 ≡ placed_all c.1) cs → map (λ k. (k, f k)) (map (λ c. c.0) cs) ≡ placed_below cs
 pairs f [] h = refl
 pairs f (c ∷ cs) h = ap (λ es. (c.0, es) ∷ map (λ k. (k, f k)) (map (λ c. c.0) cs)) h.0 ∙ ap (λ rest. (c.0, placed_all c.1) ∷ rest) (pairs f cs h.1)
 
-pub children-rows : (leaves : List Leaf) (cs : List (List ℕ × List Row)) → are_full cs ≡ true → IsStrictlySortedBy key_cmp (map (λ c. c.0) cs) → children (placed_all (rows_of leaves cs)) ≡ seen cs
+pub children-rows : (leaves : List Leaf) (cs : List (List ℕ × List Row)) → are_full cs ≡ true → IsStrictlySortedBy key_cmp (map (λ c. c.0) cs) → children (placed_all (rows_of leaves cs)) ≡ placed_below cs
 children-rows leaves cs full rise =
     let es = placed_all (rows_of leaves cs) in
     let keys : keys_in es ≡ map (λ c. c.0) cs =
@@ -138,9 +138,9 @@ le_less a n h = grind (arith, nat_tests)
 abbrev pub fit : ℕ → List Placed → Bool
 fit n es = list_all (λ e. leb (length e.path) n) es
 
-fit-placed : (n : ℕ) (rows : List Row) → fit n (placed_all rows) ≡ fits n rows
-fit-placed n [] = refl
-fit-placed n (r ∷ rows) = ap (λ b. leb (length r.path) n && b) (fit-placed n rows)
+fit-placement : (n : ℕ) (rows : List Row) → fit n (placed_all rows) ≡ fits n rows
+fit-placement n [] = refl
+fit-placement n (r ∷ rows) = ap (λ b. leb (length r.path) n && b) (fit-placement n rows)
 
 stepped : (n : ℕ) (k : List ℕ) (path : List (List ℕ)) (kind : Kind) (value : Scalar) (rest : List Placed) → leb (length path) n ≡ true → fit n rest ≡ true → fit n (cons_option (step_into k kind value path) rest) ≡ true
 stepped n k [] kind value rest h all = all
@@ -159,4 +159,4 @@ fit-below_path n [] es h = h
 fit-below_path n (k ∷ path) es h = fit-below_path n path (below k es) (fit-below n k es h)
 
 pub fits_at : (n : ℕ) (path : List (List ℕ)) (rows node : List Row) → placed_all node ≡ below_path path (placed_all rows) → fits n rows ≡ true → fits n node ≡ true
-fits_at n path rows node is h = sym (fit-placed n node) ∙ ap (fit n) is ∙ fit-below_path n path (placed_all rows) (fit-placed n rows ∙ h)
+fits_at n path rows node is h = sym (fit-placement n node) ∙ ap (fit n) is ∙ fit-below_path n path (placed_all rows) (fit-placement n rows ∙ h)

@@ -9,7 +9,7 @@ use Rattle.std.specs.declared.cmp.Ordering.TheVariants.{Less}
 use Rattle.std.specs.Cmp.{IsTotalOrder, tied_itself}
 use Rattle.std.specs.FinMap as map_of
 use Rattle.rds_names.specs.Conditions.{true_of, less_of, and_left, and_right, equal_of}
-use Rattle.rds_tree.specs.Once.{once, marked, firsts-marked}
+use Rattle.rds_tree.specs.Once.{once, marks, firsts-marks}
 use Rattle.rds_tree.proofs.Witness.{both_ways, or_left, or_right}
 
 -- some member passes
@@ -48,9 +48,9 @@ module _ {K : Type 0} {R : K → K → Ordering} (total : IsTotalOrder R) (exact
 
   member-once : (q : K) (xs : List K) → list_any (eq_by_cmp R q) (once R xs) ≡ list_any (eq_by_cmp R q) xs
   member-once q xs =
-      let m = map_of.from_entries {R = R} (marked xs) in
-      sym (map_of.Entries.is_some-find R q (map_of.entries m)) ∙ ap is_some (sym (map_of.get-entries m q) ∙ map_of.get-from_entries total (marked xs) q)
-      ∙ map_of.Entries.is_some-find R q (marked xs) ∙ ap (list_any (eq_by_cmp R q)) (firsts-marked xs)
+      let m = map_of.from_entries {R = R} (marks xs) in
+      sym (map_of.Entries.is_some-find R q (map_of.entries m)) ∙ ap is_some (sym (map_of.get-entries m q) ∙ map_of.get-from_entries total (marks xs) q)
+      ∙ map_of.Entries.is_some-find R q (marks xs) ∙ ap (list_any (eq_by_cmp R q)) (firsts-marks xs)
 
   -- the members, each once, are the same members
   pub any-once : (t : K → Bool) (xs : List K) → list_any t (once R xs) ≡ list_any t xs
@@ -70,4 +70,4 @@ module _ {K X : Type 0} (R : K → K → Ordering) where
 
 -- each once, they ascend
 pub once_rises : {K : Type 0} (R : K → K → Ordering) (xs : List K) → IsStrictlySortedBy R (once R xs)
-once_rises R xs = let m = map_of.from_entries {R = R} (marked xs) in firsts_rise R (map_of.entries m) (true_of _ (map_of.entries_sorted m))
+once_rises R xs = let m = map_of.from_entries {R = R} (marks xs) in firsts_rise R (map_of.entries m) (true_of _ (map_of.entries_sorted m))

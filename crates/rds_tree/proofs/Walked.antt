@@ -12,8 +12,8 @@ use Rattle.rds_tree.specs.declared.leaf.Leaf.{Leaf}
 use Rattle.rds_tree.specs.Document.{key_cmp}
 use Rattle.rds_tree.specs.View.{values_by_key, values_here, with_key, goes_on, shown_to, children}
 use Rattle.rds_tree.specs.Gathered.{child_maps}
-use Rattle.rds_tree.specs.Row.{Row, under, rows_below, rows_of, are_full, placed_all, seen, fits, all_fit}
-use Rattle.rds_tree.specs.Shown.{Shown, ShownMaps, maps_step, view_step, shows, no_maps, maps_of, shown, maps_shown, views_shown}
+use Rattle.rds_tree.specs.Row.{Row, under, rows_below, rows_of, are_full, placed_all, placed_below, fits, all_fit}
+use Rattle.rds_tree.specs.Shown.{Shown, ShownMaps, maps_step, view_step, shows, no_maps, maps_of, shown_view, maps_shown, views_shown}
 use Rattle.rds_tree.specs.declared.views.Maps.{Maps}
 use Rattle.rds_tree.specs.declared.views.Maps.TheViews.{roll-View}
 use Rattle.rds_tree.specs.declared.views.Maps.TheFolds.{fold-roll-View}
@@ -21,10 +21,10 @@ use Rattle.rds_tree.specs.declared.views.View.{View}
 use Rattle.rds_tree.proofs.Kids.{children-rows}
 
 pub record IsWalked (all left : List (List ℕ × List Row)) (regs sets : List (List ℕ × List Scalar)) (maps : List (List ℕ × Shown)) : Type 0 where
-  pub of_regs : regs ++ values_by_key Reg (seen left) ≡ values_by_key Reg (seen all)
-  pub of_sets : sets ++ values_by_key Elem (seen left) ≡ values_by_key Elem (seen all)
+  pub of_regs : regs ++ values_by_key Reg (placed_below left) ≡ values_by_key Reg (placed_below all)
+  pub of_sets : sets ++ values_by_key Elem (placed_below left) ≡ values_by_key Elem (placed_below all)
   pub fit : (n : ℕ) → all_fit n all ≡ true → all_fit n left ≡ true
-  pub of_maps : (n : ℕ) → all_fit n all ≡ true → maps ++ child_maps n (seen left) ≡ child_maps n (seen all)
+  pub of_maps : (n : ℕ) → all_fit n all ≡ true → maps ++ child_maps n (placed_below left) ≡ child_maps n (placed_below all)
 
 abbrev pub child_map : ℕ → List ℕ × List Row → Option (List ℕ × Shown)
 child_map n c = if goes_on (placed_all c.1) then Some (c.0, shown_to n None (placed_all c.1)) else None
@@ -40,10 +40,10 @@ pub walked_on : (all left rest : List (List ℕ × List Row)) (c : List ℕ × L
 walked_on all left rest c regs sets regs' sets' maps maps' w is r s m =
     let fit : (n : ℕ) → all_fit n all ≡ true → (fits n c.1 && all_fit n rest) ≡ true = λ n h. ap (all_fit n) (sym is) ∙ w.fit n h in
     record {
-      of_regs = ap (λ xs. xs ++ values_by_key Reg (seen rest)) r ∙ pushed regs _ _ ∙ ap (λ cs. regs ++ values_by_key Reg (seen cs)) (sym is) ∙ w.of_regs;
-      of_sets = ap (λ xs. xs ++ values_by_key Elem (seen rest)) s ∙ pushed sets _ _ ∙ ap (λ cs. sets ++ values_by_key Elem (seen cs)) (sym is) ∙ w.of_sets;
+      of_regs = ap (λ xs. xs ++ values_by_key Reg (placed_below rest)) r ∙ pushed regs _ _ ∙ ap (λ cs. regs ++ values_by_key Reg (placed_below cs)) (sym is) ∙ w.of_regs;
+      of_sets = ap (λ xs. xs ++ values_by_key Elem (placed_below rest)) s ∙ pushed sets _ _ ∙ ap (λ cs. sets ++ values_by_key Elem (placed_below cs)) (sym is) ∙ w.of_sets;
       fit = λ n h. and_right _ _ (fit n h);
-      of_maps = λ n h. ap (λ xs. xs ++ child_maps n (seen rest)) (m n (and_left _ _ (fit n h))) ∙ pushed maps (child_map n c) _ ∙ ap (λ cs. maps ++ child_maps n (seen cs)) (sym is) ∙ w.of_maps n h;
+      of_maps = λ n h. ap (λ xs. xs ++ child_maps n (placed_below rest)) (m n (and_left _ _ (fit n h))) ∙ pushed maps (child_map n c) _ ∙ ap (λ cs. maps ++ child_maps n (placed_below cs)) (sym is) ∙ w.of_maps n h;
     }
 
 pub no_fit : (a : ℕ) (b : Bool) → (leb (suc a) zero && b) ≡ true → ⊥
@@ -79,9 +79,9 @@ pub walked_whole : (n : ℕ) (counters : Option (List (List ℕ × ℤ))) (leave
     → fits n (rows_of leaves cs) ≡ true → shows (maps_of maps) regs sets counters ≡ shown_to n counters (placed_all (rows_of leaves cs))
 walked_whole zero counters leaves cs regs sets maps full rise w h =
     let none = fits_none leaves cs full h in
-    let r : regs ≡ [] = sym (append-nil regs) ∙ w.of_regs ∙ ap (λ ds. values_by_key Reg (seen ds)) none in
-    let s : sets ≡ [] = sym (append-nil sets) ∙ w.of_sets ∙ ap (λ ds. values_by_key Elem (seen ds)) none in
-    let m : maps ≡ [] = sym (append-nil maps) ∙ w.of_maps zero (ap (all_fit zero) none) ∙ ap (λ ds. child_maps zero (seen ds)) none in
+    let r : regs ≡ [] = sym (append-nil regs) ∙ w.of_regs ∙ ap (λ ds. values_by_key Reg (placed_below ds)) none in
+    let s : sets ≡ [] = sym (append-nil sets) ∙ w.of_sets ∙ ap (λ ds. values_by_key Elem (placed_below ds)) none in
+    let m : maps ≡ [] = sym (append-nil maps) ∙ w.of_maps zero (ap (all_fit zero) none) ∙ ap (λ ds. child_maps zero (placed_below ds)) none in
     ap (λ ms. shows (maps_of ms) regs sets counters) m ∙ ap (λ rs. shows no_maps rs sets counters) r ∙ ap (λ ss. shows no_maps [] ss counters) s
 walked_whole (suc n) counters leaves cs regs sets maps full rise w h =
     let kids = children-rows leaves cs full rise in
@@ -91,9 +91,9 @@ walked_whole (suc n) counters leaves cs regs sets maps full rise w h =
     ap (λ ms. shows (maps_of ms) regs sets counters) m ∙ ap (λ rs. shows (maps_of (child_maps n (children (placed_all (rows_of leaves cs))))) rs sets counters) r
     ∙ ap (λ ss. shows (maps_of (child_maps n (children (placed_all (rows_of leaves cs))))) (values_by_key Reg (children (placed_all (rows_of leaves cs)))) ss counters) s
 
-pub views_push : (xs : List (List ℕ × View)) (k : List ℕ) (v : View) → views_shown (xs ++ (k, v) ∷ []) ≡ views_shown xs ++ (k, shown v) ∷ []
+pub views_push : (xs : List (List ℕ × View)) (k : List ℕ) (v : View) → views_shown (xs ++ (k, v) ∷ []) ≡ views_shown xs ++ (k, shown_view v) ∷ []
 views_push [] k v = refl
-views_push (x ∷ xs) k v = ap (λ ys. (x.0, shown x.1) ∷ ys) (views_push xs k v)
+views_push (x ∷ xs) k v = ap (λ ys. (x.0, shown_view x.1) ∷ ys) (views_push xs k v)
 
 -- the maps after a child below which something stands, and below which nothing does
 pub with_map : (k : List ℕ) (rows : List Row) (maps : List (List ℕ × Shown)) (shows_it : Shown) → goes_on (placed_all rows) ≡ true → (n : ℕ) → shows_it ≡ shown_to n None (placed_all rows) → maps ++ (k, shows_it) ∷ [] ≡ maps ++ option_to_list (child_map n (k, rows))
@@ -106,5 +106,5 @@ pub walked_to : (all left cs : List (List ℕ × List Row)) (regs sets : List (L
 walked_to all left cs regs sets maps w is none =
     subst (λ ds. IsWalked ds [] regs sets maps) is (subst (λ ds. IsWalked all ds regs sets maps) none w)
 
-pub shown-roll : (m : Maps) (regs sets : List (List ℕ × List Scalar)) (counters : Option (List (List ℕ × ℤ))) → shown (roll-View (record { maps = m; regs = regs; sets = sets; counters = counters })) ≡ shows (maps_shown m) regs sets counters
-shown-roll m regs sets counters = fold-roll-View ShownMaps Shown maps_step view_step (record { maps = m; regs = regs; sets = sets; counters = counters })
+pub shown_view-roll : (m : Maps) (regs sets : List (List ℕ × List Scalar)) (counters : Option (List (List ℕ × ℤ))) → shown_view (roll-View (record { maps = m; regs = regs; sets = sets; counters = counters })) ≡ shows (maps_shown m) regs sets counters
+shown_view-roll m regs sets counters = fold-roll-View ShownMaps Shown maps_step view_step (record { maps = m; regs = regs; sets = sets; counters = counters })

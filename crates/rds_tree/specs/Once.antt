@@ -9,26 +9,26 @@ use Rattle.std.specs.Cmp.{IsTotalOrder}
 use Rattle.std.specs.List.Sorted.{IsStrictlySortedBy}
 use Rattle.std.specs.FinMap as map_of
 
-abbrev pub marked : {K : Type 0} → List K → List (K × Unit {0})
-marked ks = map (λ k. (k, tt)) ks
+abbrev pub marks : {K : Type 0} → List K → List (K × Unit {0})
+marks ks = map (λ k. (k, tt)) ks
 
-pub firsts-marked : {K : Type 0} (ks : List K) → map (λ e. e.0) (marked ks) ≡ ks
-firsts-marked [] = refl
-firsts-marked (k ∷ ks) = ap (λ xs. k ∷ xs) (firsts-marked ks)
+pub firsts-marks : {K : Type 0} (ks : List K) → map (λ e. e.0) (marks ks) ≡ ks
+firsts-marks [] = refl
+firsts-marks (k ∷ ks) = ap (λ xs. k ∷ xs) (firsts-marks ks)
 
 module _ {K : Type 0} (R : K → K → Ordering) where
-  below_marked : (x : K) (ks : List K) → AllByRecursion (λ y. R x y ≡ Less) ks → map_of.Entries.below_all R x (marked ks) ≡ true
+  below_marked : (x : K) (ks : List K) → AllByRecursion (λ y. R x y ≡ Less) ks → map_of.Entries.below_all R x (marks ks) ≡ true
   below_marked x [] h = refl
-  below_marked x (k ∷ ks) h = ap (λ o. is_lt o && map_of.Entries.below_all R x (marked ks)) h.0 ∙ below_marked x ks h.1
+  below_marked x (k ∷ ks) h = ap (λ o. is_lt o && map_of.Entries.below_all R x (marks ks)) h.0 ∙ below_marked x ks h.1
 
-  is_sorted-marked : (ks : List K) → IsStrictlySortedBy R ks → map_of.is_sorted R (marked ks) ≡ true
+  is_sorted-marks : (ks : List K) → IsStrictlySortedBy R ks → map_of.is_sorted R (marks ks) ≡ true
   unfolding IsStrictlySortedBy
-  is_sorted-marked [] h = refl
-  is_sorted-marked (k ∷ ks) h = ap (λ b. b && map_of.is_sorted R (marked ks)) (below_marked k ks h.0) ∙ is_sorted-marked ks h.1
+  is_sorted-marks [] h = refl
+  is_sorted-marks (k ∷ ks) h = ap (λ b. b && map_of.is_sorted R (marks ks)) (below_marked k ks h.0) ∙ is_sorted-marks ks h.1
 
 -- each member of a list once, ascending
 abbrev pub once : {K : Type 0} (R : K → K → Ordering) → List K → List K
-once R ks = map_of.keys (map_of.from_entries {R = R} (marked ks))
+once R ks = map_of.keys (map_of.from_entries {R = R} (marks ks))
 
 same_mark : (a b : Option (Unit {0})) → is_some a ≡ is_some b → a ≡ b
 same_mark None None h = refl
@@ -37,20 +37,20 @@ same_mark (Some u) None h = absurd (cc)
 same_mark (Some u) (Some v) h = refl
 
 module _ {K : Type 0} {R : K → K → Ordering} (total : IsTotalOrder R) (exact : map_of.IsAntisymmetric R) where
-  found_as : (ks vs : List K) (q : K) → list_any (eq_by_cmp R q) vs ≡ list_any (eq_by_cmp R q) ks → map_of.find R q (marked vs) ≡ map_of.find R q (marked ks)
+  found_as : (ks vs : List K) (q : K) → list_any (eq_by_cmp R q) vs ≡ list_any (eq_by_cmp R q) ks → map_of.find R q (marks vs) ≡ map_of.find R q (marks ks)
   found_as ks vs q same =
-      same_mark _ _ (map_of.Entries.is_some-find R q (marked vs) ∙ ap (list_any (eq_by_cmp R q)) (firsts-marked vs) ∙ same ∙ sym (map_of.Entries.is_some-find R q (marked ks) ∙ ap (list_any (eq_by_cmp R q)) (firsts-marked ks)))
+      same_mark _ _ (map_of.Entries.is_some-find R q (marks vs) ∙ ap (list_any (eq_by_cmp R q)) (firsts-marks vs) ∙ same ∙ sym (map_of.Entries.is_some-find R q (marks ks) ∙ ap (list_any (eq_by_cmp R q)) (firsts-marks ks)))
 
   -- a list that strictly rises lists its members once, ascending
   pub once_is : (ks vs : List K) → IsStrictlySortedBy R ks → ((q : K) → list_any (eq_by_cmp R q) vs ≡ list_any (eq_by_cmp R q) ks) → once R vs ≡ ks
   once_is ks vs rise same =
-      let sorted : T (map_of.is_sorted R (marked ks)) = subst T (sym (is_sorted-marked R ks rise)) tt in
-      let one = map_of.same_map total exact (map_of.from_entries {R = R} (marked vs)) (map_of.from_sorted {R = R} (marked ks)) (λ q.
-      map_of.get-from_entries total (marked vs) q ∙ found_as ks vs q (same q) ∙ sym (map_of.get-from_sorted R (marked ks) q sorted)) in
-      ap map_of.keys one ∙ ap (map (λ e. e.0)) (map_of.entries-from_sorted R (marked ks) sorted) ∙ firsts-marked ks
+      let sorted : T (map_of.is_sorted R (marks ks)) = subst T (sym (is_sorted-marks R ks rise)) tt in
+      let one = map_of.same_map total exact (map_of.from_entries {R = R} (marks vs)) (map_of.from_sorted {R = R} (marks ks)) (λ q.
+      map_of.get-from_entries total (marks vs) q ∙ found_as ks vs q (same q) ∙ sym (map_of.get-from_sorted R (marks ks) q sorted)) in
+      ap map_of.keys one ∙ ap (map (λ e. e.0)) (map_of.entries-from_sorted R (marks ks) sorted) ∙ firsts-marks ks
 
   -- lists with the same members
   pub once_same : (xs ys : List K) → ((q : K) → list_any (eq_by_cmp R q) xs ≡ list_any (eq_by_cmp R q) ys) → once R xs ≡ once R ys
   once_same xs ys same =
-      ap map_of.keys (map_of.same_map total exact (map_of.from_entries {R = R} (marked xs)) (map_of.from_entries {R = R} (marked ys)) (λ q.
-      map_of.get-from_entries total (marked xs) q ∙ found_as ys xs q (same q) ∙ sym (map_of.get-from_entries total (marked ys) q)))
+      ap map_of.keys (map_of.same_map total exact (map_of.from_entries {R = R} (marks xs)) (map_of.from_entries {R = R} (marks ys)) (λ q.
+      map_of.get-from_entries total (marks xs) q ∙ found_as ys xs q (same q) ∙ sym (map_of.get-from_entries total (marks ys) q)))

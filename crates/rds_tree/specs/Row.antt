@@ -39,15 +39,15 @@ weight [] = 0
 weight (r ∷ rows) = suc (length r.path) + weight rows
 
 -- the row without its dot
-abbrev pub placed : Row → Placed
-placed r = record { path = r.path; kind = r.leaf.kind; value = r.leaf.value }
+abbrev pub placement : Row → Placed
+placement r = record { path = r.path; kind = r.leaf.kind; value = r.leaf.value }
 
 abbrev pub placed_all : List Row → List Placed
-placed_all rows = map placed rows
+placed_all rows = map placement rows
 
 -- each child with what stands there, without dots
-abbrev pub seen : List (List ℕ × List Row) → List (List ℕ × List Placed)
-seen cs = map (λ c. (c.0, placed_all c.1)) cs
+abbrev pub placed_below : List (List ℕ × List Row) → List (List ℕ × List Placed)
+placed_below cs = map (λ c. (c.0, placed_all c.1)) cs
 
 -- whether no path has more than n keys
 abbrev pub fits : ℕ → List Row → Bool

@@ -25,11 +25,11 @@ view_step v = shows v.maps v.regs v.sets v.counters
 abbrev pub maps_step : Maps-F ShownMaps Shown → ShownMaps
 maps_step m = maps_of m.maps.items
 
-abbrev pub shown : View → Shown
-shown = fold-View ShownMaps Shown maps_step view_step
+abbrev pub shown_view : View → Shown
+shown_view = fold-View ShownMaps Shown maps_step view_step
 
 abbrev pub maps_shown : Maps → ShownMaps
 maps_shown = fold-Maps ShownMaps Shown maps_step view_step
 
 abbrev pub views_shown : List (List ℕ × View) → List (List ℕ × Shown)
-views_shown rows = map (λ r. (r.0, shown r.1)) rows
+views_shown rows = map (λ r. (r.0, shown_view r.1)) rows

@@ -4,7 +4,7 @@ ghost use Rattle.rds_names.specs.declared.fault.Fault.TheVariants.{Memory};
 ghost use Rattle.rds_tree.specs.Document.{document, sums_of};
 ghost use Rattle.rds_tree.specs.Growing.{Holds, rows_under};
 ghost use Rattle.rds_tree.specs.Row.{row_at, Adds};
-ghost use Rattle.rds_tree.specs.Shown.{shown};
+ghost use Rattle.rds_tree.specs.Shown.{shown_view};
 ghost use Rattle.rds_tree.specs.View.{counters_at, view_of};
 ghost use Rattle.rds_tree.specs.declared.leaf.Leaf.{Leaf};
 
@@ -23,7 +23,7 @@ use std::alloc::Global;
 /// sets under each key there that has some, in ascending order and each once. At the root alone it
 /// shows the counters of which some number is above 0. A path at which nothing stands shows nothing.
 pub fn view<S: DotSet>(alloc: Global, state: &State<S>, path: &Path) -> Result<View, Fault>
-    ensures shown { IfOk result (λ view. shown view ≡ view_of (document state.now) path.now) }
+    ensures shown { IfOk result (λ view. shown_view view ≡ view_of (document state.now) path.now) }
     ensures memory { IfErr result (λ fault. fault ≡ Memory) }
 {
     let counters = counters_at(alloc, state.counts(), path)?;

@@ -10,7 +10,7 @@ ghost use Rattle.rds_state.specs.Grown.{longer, GrowGives, TakeWithGives};
 ghost use Rattle.rds_state.specs.Value.{coordinates, size};
 ghost use Rattle.rds_tree.specs.Document.{document};
 ghost use Rattle.rds_tree.specs.Growing.{Holds};
-ghost use Rattle.rds_tree.specs.Shown.{shown};
+ghost use Rattle.rds_tree.specs.Shown.{shown_view};
 ghost use Rattle.rds_tree.specs.View.{view_of};
 
 use crate::document::{counters_at, tree_of};
@@ -82,7 +82,7 @@ impl<S: DotSet> Index<S> {
 
     /// What the replica's document shows at the path, as [`view`](crate::view) says.
     pub fn view(&self, path: &Path) -> Result<View, Fault>
-        ensures shown { IfOk result (λ view. shown view ≡ view_of (document self.now.state) path.now) }
+        ensures shown { IfOk result (λ view. shown_view view ≡ view_of (document self.now.state) path.now) }
         ensures memory { IfErr result (λ fault. fault ≡ Memory) }
     {
         let counters = counters_at(self.alloc, self.replica.state().counts(), path)?;

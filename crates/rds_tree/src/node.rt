@@ -50,7 +50,7 @@ impl Model for Node {
 
 impl Node {
     ghost use Rattle.rds_tree.specs.Row.{is_full, placed_all, fits, row_at, Adds};
-    ghost use Rattle.rds_tree.specs.Shown.{shown};
+    ghost use Rattle.rds_tree.specs.Shown.{shown_view};
 
     /// A tree without leaves. Takes no memory.
     pub fn new(alloc: Global) -> Node
@@ -207,7 +207,7 @@ impl Node {
         counters: Option<Sums>,
     ) -> Result<View, Fault>
         ensures ok { IfOk result
-            (λ view. fits 8 self.now ≡ true → shown view ≡ entries_view counters path.now (placed_all self.now)) }
+            (λ view. fits 8 self.now ≡ true → shown_view view ≡ entries_view counters path.now (placed_all self.now)) }
         ensures memory { IfErr result (λ fault. fault ≡ Memory) }
     {
         if let Some(node) = self.at(path) {
@@ -237,7 +237,7 @@ impl Node {
     /// The view of what stands below, with these counters.
     pub fn view(&self, alloc: Global, counters: Option<Sums>) -> Result<View, Fault>
         ensures ok { IfOk result
-            (λ view. (n : ℕ) → fits n self.now ≡ true → shown view ≡ shown_to n counters (placed_all self.now)) }
+            (λ view. (n : ℕ) → fits n self.now ≡ true → shown_view view ≡ shown_to n counters (placed_all self.now)) }
         ensures memory { IfErr result (λ fault. fault ≡ Memory) }
     {
         let mut maps = Vec::new(alloc);

@@ -5,7 +5,7 @@ ghost use Rattle.rds_codec.specs.StateTexts.{snapshot_text};
 ghost use Rattle.rds_codec.specs.declared.limits.TheConstants.{LIMIT};
 ghost use Rattle.rds_names.specs.Roster.{Begins};
 ghost use Rattle.rds_names.specs.declared.fault.Fault.TheVariants.{Memory, NoSuch, TooLong};
-ghost use Rattle.rds_tree.specs.Shown.{shown};
+ghost use Rattle.rds_tree.specs.Shown.{shown_view};
 ghost use Rattle.rds_world.specs.Shows.{IsNoSuch, ShowsAt};
 ghost use Rattle.rds_world.specs.Simulation.{HasNoReplicas};
 ghost use Rattle.rds_world.specs.Stands.{Stands, IsNew, AreNew, IsWhole};
@@ -138,7 +138,7 @@ impl<S: DotSet> World<S> {
     /// What the document of the replica with this number has in memory at a path. In its index it walks only what it
     /// shows.
     pub fn view(&self, number: u8, path: &Path) -> Result<View, Fault>
-        ensures shown { IfOk result (λ view. ShowsAt self.now.memory number path.now (shown view)) }
+        ensures shown { IfOk result (λ view. ShowsAt self.now.memory number path.now (shown_view view)) }
         ensures absent { slice_get self.now.memory number ≡ None → result ≡ Err NoSuch }
         ensures refused { IfErr result (λ fault. (fault ≡ Memory) ⊎ IsNoSuch self.now.memory number fault) }
     {

@@ -5,7 +5,7 @@ ghost use Rattle.rds_names.specs.declared.fault.Fault.TheVariants.{Device};
 ghost use Rattle.rds_session.specs.declared.step.Ended.TheVariants.{Going, Failed};
 ghost use Rattle.rds_session.specs.declared.talk.Side.{Side};
 ghost use Rattle.rds_session.specs.Leaving.{Leaves};
-ghost use Rattle.rds_session.specs.Received.{delivered};
+ghost use Rattle.rds_session.specs.Received.{delivery_of};
 ghost use Rattle.rds_session.specs.Steps.{IsOver, came};
 ghost use Rattle.rds_state.specs.Fits.{ReplicaValue};
 ghost use Rattle.rds_files.specs.Ends.{HasHeardAll, HasSaid, Hears, HearsOn, HeardTheEnd, Takes};
@@ -219,7 +219,7 @@ impl<'a, T: Read + Write + OpenStream + Drop, S: DotSet> End<'a, T, S> {
     /// What the session came to. One that goes on has failed with `Device`.
     pub fn leave(self) -> Exchanged<S>
         ensures leaves { (side : Side) (kept : ReplicaValue) → IsEnd side kept self.entry.session self.entry.ended
-            → Leaves side kept (delivered result.received result.roster) result.ended }
+            → Leaves side kept (delivery_of result.received result.roster) result.ended }
         ensures over { IsOver self.entry.ended → result.ended ≡ self.entry.ended }
         ensures going { self.entry.ended ≡ Going → result.ended ≡ Failed Device }
     {

@@ -4,7 +4,7 @@ ghost use Rattle.rds_names.specs.declared.fault.Fault.TheVariants.{Device};
 ghost use Rattle.rds_session.specs.declared.step.Ended.TheVariants.{Going};
 ghost use Rattle.rds_session.specs.declared.talk.Side.TheVariants.{Client, Server};
 ghost use Rattle.rds_session.specs.Leaving.{Leaves};
-ghost use Rattle.rds_session.specs.Received.{delivered};
+ghost use Rattle.rds_session.specs.Received.{delivery_of};
 ghost use Rattle.rds_session.specs.Steps.{IsOver};
 ghost use Rattle.rds_files.specs.Pairing.{StaysEnd};
 
@@ -66,8 +66,8 @@ pub fn meet<T: Read + Write + OpenStream + Drop, S: DotSet>(
     second: &Kept<S>,
     link: Link<T>,
 ) -> (Exchanged<S>, Exchanged<S>)
-    ensures client { Leaves Client first.now (delivered result.0.received result.0.roster) result.0.ended }
-    ensures server { Leaves Server second.now (delivered result.1.received result.1.roster) result.1.ended }
+    ensures client { Leaves Client first.now (delivery_of result.0.received result.0.roster) result.0.ended }
+    ensures server { Leaves Server second.now (delivery_of result.1.received result.1.roster) result.1.ended }
 {
     let mut client = End::begin(alloc, Side::Client, first, link.client);
     let mut server = End::begin(alloc, Side::Server, second, link.server);

@@ -5,7 +5,7 @@ use Rattle.std.specs.FinMap as map
 use Rattle.rds_dots.specs.declared.dot.Dot.{Dot}
 use Rattle.rds_dots.specs.Dots.{is_dot}
 use Rattle.rds_life.specs.Life.{Lived}
-use Rattle.rds_counts.specs.Counted.{Counted, number, counted}
+use Rattle.rds_counts.specs.Counted.{Counted, number, counts_of}
 use Rattle.rds_counts.proofs.Nothing.{no_rows}
 use Rattle.rds_delta.specs.declared.row.Row.{Row}
 use Rattle.rds_delta.specs.Digested.{rank_in, ranks_in}
@@ -23,7 +23,7 @@ returns-clause-ok g c =
     let v = c.args.delta.now in
     let rs = c.rows.result.now in
     let dots = c.in_ok-rows.rows.items in
-    let is : v.counts ≡ counted rs = sym c.counts-2.ensures ∙ c.rows.ensures.value in
+    let is : v.counts ≡ counts_of rs = sym c.counts-2.ensures ∙ c.rows.ensures.value in
     let told = subst (λ (l : Lived). (more : List Row) → is_flat more ≡ true → dots ++ more ≡ rows_after (rank_in c.args.digest.now) l None more) c.lives.ensures c.in_ok-rows.ensures.ok in
     let all : c.push_counts.new.rows.items ≡ dots ++ counter_rows b.number rs = c.in_ok-push_counts.ensures.ok ∙ ap (λ (m : Counted). dots ++ counter_rows (number m) rs) c.counts.ensures in
     subst (IsCertificate b v) (sym (c.new.ensures ∙ all)) (whole_certificate b v rs c.rows.ensures.are_rows is dots told)
@@ -36,7 +36,7 @@ returns-clause-within g c = λ replicas fits above.
     let b = ranks_in c.args.digest.now in
     let v = c.args.delta.now in
     let rs = c.rows.result.now in
-    let is : v.counts ≡ counted rs = sym c.counts-2.ensures ∙ c.rows.ensures.value in
+    let is : v.counts ≡ counts_of rs = sym c.counts-2.ensures ∙ c.rows.ensures.value in
     let dots = subst (λ (l : Lived). (d : Dot) → is_some (map.get l d) ≡ true → is_dot d ≡ true) c.lives.ensures (c.in_ok-rows.ensures.dots refl) in
     certificate_within replicas b v dots (number_most v.counts rs c.rows.ensures.are_rows is) fits above c.new.result (returns-clause-ok g c)
 
@@ -49,6 +49,6 @@ pub returns-in_err-push_counts-clause-nothing : goal.returns-in_err-push_counts-
 returns-in_err-push_counts-clause-nothing g c = λ none.
     let v = c.args.delta.now in
     let rs = c.rows.result.now in
-    let is : v.counts ≡ counted rs = sym c.counts-2.ensures ∙ c.rows.ensures.value in
+    let is : v.counts ≡ counts_of rs = sym c.counts-2.ensures ∙ c.rows.ensures.value in
     let second : map.len v.counts ≡ 0 = omega (arith, none) in
     absurd (false≢true (c.in_err-push_counts.ensures.nothing (no_rows rs v.counts c.rows.ensures.are_rows (sym is) second)))

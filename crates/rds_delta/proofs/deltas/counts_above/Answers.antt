@@ -1,6 +1,6 @@
 use Rattle.std.proofs.Common.{◌∙◌, sym, ap, subst}
 use mathlib.Core.Bool.{false≢true}
-use Rattle.rds_counts.specs.Counted.{Counted, number, counted, AreCountRows}
+use Rattle.rds_counts.specs.Counted.{Counted, number, counts_of, AreCountRows}
 use Rattle.rds_counts.proofs.Nothing.{rows_of_zeros}
 use Rattle.rds_delta.specs.Higher.{higher_rows}
 use Rattle.rds_delta.proofs.DeltaLemmas.{higher_are, number_above}
@@ -19,5 +19,5 @@ returns-in_err-rows-clause-nothing c = λ none.
 
 pub returns-clause-ok : goal.returns-clause-ok
 returns-clause-ok c = λ q.
-    ap (λ (m : Counted). number m q) (c.with_rows.ensures.value ∙ ap counted c.in_ok-rows.ensures.ok)
+    ap (λ (m : Counted). number m q) (c.with_rows.ensures.value ∙ ap counts_of c.in_ok-rows.ensures.ok)
     ∙ number_above (number c.args.peer.now) c.rows.result.now c.rows.ensures.are_rows c.args.counts.now (sym c.rows.ensures.value) q

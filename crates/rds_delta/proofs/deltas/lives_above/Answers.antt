@@ -3,7 +3,7 @@ use mathlib.Core.Bool.{false≢true}
 use Rattle.std.specs.FinMap as map
 use Rattle.std.specs.FinSet as set
 use Rattle.rds_dots.specs.Dots.{Dots}
-use Rattle.rds_life.specs.Life.{Lived, lived, live_rows, AreRows}
+use Rattle.rds_life.specs.Life.{Lived, lives_of, live_rows, AreRows}
 use Rattle.rds_life.proofs.Views.{rise-live_rows, find-live_rows}
 use Rattle.rds_delta.specs.Higher.{unseen_rows}
 use Rattle.rds_delta.proofs.DeltaLemmas.{sent_rows, sent_lives}
@@ -40,5 +40,5 @@ returns-clause-ok g c = λ d.
     let s = g.S.DotSet.contents c.in_ok-seen.seen in
     let rows = c.in_ok-rows.rows.items in
     let sent : rows ≡ unseen_rows (set.contains digest.seen) (live_rows v) = c.in_ok-rows.ensures.ok ∙ ap (λ (t : Dots). unseen_rows (set.contains t) (live_rows v)) c.seen-known.ensures.dots in
-    ap (λ (l : Lived). map.get l d) (c.with_rows.ensures.lives ∙ ap (lived s) sent)
+    ap (λ (l : Lived). map.get l d) (c.with_rows.ensures.lives ∙ ap (lives_of s) sent)
     ∙ sent_lives digest c.seen-known.ensures.inside v s c.in_ok-seen.ensures.ok (live_rows v) (rise-live_rows v) (find-live_rows v) d

@@ -2,8 +2,8 @@ use Rattle.std.proofs.Common.{◌≡◌, ◌+◌, ◌-◌, ◌/◌, ◌<◌, tru
 use Rattle.rds_dots.specs.declared.dot.Dot.{Dot}
 use Rattle.rds_dots.specs.declared.dot.Run.{Run}
 use Rattle.rds_dots.specs.Dots.{last_of}
-use Rattle.rds_dots.specs.Drawn.{drawn, leads_by}
-use Rattle.rds_dots.specs.Runs.{grouped}
+use Rattle.rds_dots.specs.Drawn.{put_run, leads_by}
+use Rattle.rds_dots.specs.Runs.{runs_of_dots}
 use Rattle.rds_dots.proofs.Lines.{draw_to, drawn_whole}
 use Rattle.rds_dots.proofs.lists.drawn_on.Goals as goal
 
@@ -23,7 +23,7 @@ searching-preserved-then-is_ahead c =
       within = i.within;
       first = i.first;
       last = to.0;
-      whole = ap (λ d. drawn (from d) (grouped (drop (at + 1) rest))) i.first ∙ to.1;
+      whole = ap (λ d. put_run (from d) (runs_of_dots (drop (at + 1) rest))) i.first ∙ to.1;
       apart = i.apart;
     }
 

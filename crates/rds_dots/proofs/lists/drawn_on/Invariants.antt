@@ -1,8 +1,8 @@
 use Rattle.std.proofs.Common.{◌≡◌, ◌+◌, ◌-◌, ◌≤◌, ◌<◌, false, drop, get_or, length}
 use Rattle.rds_dots.specs.declared.dot.Dot.{Dot}
 use Rattle.rds_dots.specs.Dots.{first_of, last_of}
-use Rattle.rds_dots.specs.Drawn.{drawn, leads_by}
-use Rattle.rds_dots.specs.Runs.{grouped}
+use Rattle.rds_dots.specs.Drawn.{put_run, leads_by}
+use Rattle.rds_dots.specs.Runs.{runs_of_dots}
 use Rattle.rds_dots.proofs.lists.drawn_on.Given as goal
 
 -- the run is drawn on through the dots before low, and that at high isn't in line
@@ -12,7 +12,7 @@ invariant-searching l = record {
   within : l.high ≤ length l.rest;
   first : first_of l.run ≡ first_of l.fn.run;
   last : l.run.hi ≡ l.fn.run.hi + l.low;
-  whole : drawn l.run (grouped (drop l.low l.rest)) ≡ drawn l.fn.run (grouped l.rest);
+  whole : put_run l.run (runs_of_dots (drop l.low l.rest)) ≡ put_run l.fn.run (runs_of_dots l.rest);
   apart : l.high < length l.rest → (d : Dot) → leads_by (l.high + 1) (last_of l.fn.run) (get_or l.rest l.high d) ≡ false;
 }
 

@@ -1,11 +1,11 @@
 use Rattle.std.proofs.Common.{rules}
-use Rattle.rds_session.specs.Received.{delivered}
+use Rattle.rds_session.specs.Received.{delivery_of}
 use Rattle.rds_files.proofs.Heard.{any_call}
 use Rattle.rds_files.proofs.meeting.exchange_over.Goals as goal
 
 pub returns-clause-session : goal.returns-clause-session
 returns-clause-session g c = record {
-  received = delivered c.exchange-exchanged.result.received c.exchange-exchanged.result.roster;
+  received = delivery_of c.exchange-exchanged.result.received c.exchange-exchanged.result.roster;
   leaves = search rules steps 1000000;
   heard = rw (← c.kept.ensures) (any_call _ _ _ _ _ _ _ _ _ c.exchange-exchanged.ensures.heard);
   replaced = c.settle-settlement.result.file;

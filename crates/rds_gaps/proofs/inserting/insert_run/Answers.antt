@@ -2,8 +2,8 @@ use Rattle.std.proofs.Common.{List, ap, sym, ◌∙◌, subst, arith, leb}
 use Rattle.rds_dots.specs.declared.dot.Run.{Run}
 use Rattle.rds_dots.specs.Runs.{start}
 use Rattle.rds_dots.specs.RunFacts.{bounds_of}
-use Rattle.rds_gaps.specs.Added.{added, last_start}
-use Rattle.rds_gaps.specs.Inserted.{inserted, IsCoalesced}
+use Rattle.rds_gaps.specs.Added.{addition, last_start}
+use Rattle.rds_gaps.specs.Inserted.{insertion, IsCoalesced}
 use Rattle.rds_gaps.proofs.Places.{parted_at, inserted_alone, inserted_over, added_is_inserted, same_on_ok}
 use Rattle.rds_gaps.proofs.Facts.{le_of}
 use Rattle.rds_gaps.proofs.inserting.insert_run.Goals as goal
@@ -12,7 +12,7 @@ pub returns-then-begins_last-clause-ok : goal.returns-then-begins_last-clause-ok
 returns-then-begins_last-clause-ok c =
     let old = c.args.runs.now.items in
     let le = le_of (last_start old) (start c.args.run) (ap (λ (rs : List Run). leb (last_start rs) (start c.args.run)) (sym c.deref.ensures.value) ∙ sym c.if-begins_last.ensures) in
-    same_on_ok c.add_run.result c.add_run.new.runs.items (added old c.args.run) (inserted old c.args.run) c.add_run.ensures.ok (added_is_inserted old c.args.run c.requires.runs_are (bounds_of c.args.run c.requires.run_is) le)
+    same_on_ok c.add_run.result c.add_run.new.runs.items (addition old c.args.run) (insertion old c.args.run) c.add_run.ensures.ok (added_is_inserted old c.args.run c.requires.runs_are (bounds_of c.args.run c.requires.run_is) le)
 
 pub returns-in_ok-insert-clause-ok : goal.returns-in_ok-insert-clause-ok
 returns-in_ok-insert-clause-ok c =

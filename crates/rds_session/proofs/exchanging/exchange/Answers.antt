@@ -2,7 +2,7 @@ use Rattle.std.proofs.Common.{◌≡◌, ap, sym, inl, inr, ◌∙◌, subst}
 use Rattle.rds_state.specs.Fits.{ReplicaValue}
 use Rattle.rds_session.specs.declared.step.Ended.TheVariants.{Failed}
 use Rattle.rds_session.specs.declared.talk.Side.{Side}
-use Rattle.rds_session.specs.Received.{HasChecked, delivered}
+use Rattle.rds_session.specs.Received.{HasChecked, delivery_of}
 use Rattle.rds_session.specs.Session.{Standing, Nothing, course}
 use Rattle.rds_session.specs.declared.step.Ended.{Ended}
 use Rattle.rds_session.specs.Steps.{HasStanding, IsOver}
@@ -18,17 +18,17 @@ kept_at_first side kept s is = ap (λ (t : Standing). t.kept) is
 pub returns-in-Ok-clause-checked : goal.returns-in-Ok-clause-checked
 returns-in-Ok-clause-checked g c =
     let kept = c.talk.ensures.kept ∙ kept_at_first c.args.side c.args.kept.now _ c.new-session.ensures.standing in
-    subst (λ k. HasChecked k (delivered c.of.result.received c.of.result.roster)) kept c.of.ensures.checked
+    subst (λ k. HasChecked k (delivery_of c.of.result.received c.of.result.roster)) kept c.of.ensures.checked
 
 pub returns-in-Err-clause-checked : goal.returns-in-Err-clause-checked
 returns-in-Err-clause-checked g c =
     let kept = c.talk.ensures.kept ∙ kept_at_first c.args.side c.args.kept.now _ c.new-session.ensures.standing in
-    subst (λ k. HasChecked k (delivered c.of-in-Err.result.received c.of-in-Err.result.roster)) kept c.of-in-Err.ensures.checked
+    subst (λ k. HasChecked k (delivery_of c.of-in-Err.result.received c.of-in-Err.result.roster)) kept c.of-in-Err.ensures.checked
 
 pub returns-in-Ok-clause-exchange : goal.returns-in-Ok-clause-exchange
 returns-in-Ok-clause-exchange g c =
     let over = subst (λ (e : Ended). (e ≡ c.talk.new.session.ended) × IsOver e) (sym c.of.ensures.ended) c.in-Ok.ensures.ended in
-    λ reader writer. exchanged c.args.side c.args.kept.now (g.R.Read.remaining c.args.reader.now.inner) _ c.talk.new.session _ _ (delivered c.of.result.received c.of.result.roster) c.of.result.ended
+    λ reader writer. exchanged c.args.side c.args.kept.now (g.R.Read.remaining c.args.reader.now.inner) _ c.talk.new.session _ _ (delivery_of c.of.result.received c.of.result.roster) c.of.result.ended
     (c.in-Ok.ensures.speaks c.args.side c.args.kept.now c.new-session.ensures.standing) over c.of.ensures.received
 
 pub returns-in-Ok-clause-done : goal.returns-in-Ok-clause-done

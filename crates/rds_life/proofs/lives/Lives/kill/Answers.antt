@@ -1,9 +1,9 @@
 use Rattle.std.proofs.Common.{◌∙◌, sym, ap, refl}
 use mathlib.Core.Bool.{false≢true}
 use Rattle.std.specs.FinMap as map
-use Rattle.rds_life.specs.Life.{Dead, lived}
+use Rattle.rds_life.specs.Life.{Dead, lives_of}
 use Rattle.rds_life.proofs.LivedLemmas.{seen_is}
-use Rattle.rds_life.proofs.Changes.{lived-without, rows-without, lived-insert, rows-insert}
+use Rattle.rds_life.proofs.Changes.{lives_of-without, rows-without, lives_of-insert, rows-insert}
 use Rattle.rds_life.proofs.lives.Lives.kill.Goals as goal
 
 pub invariant_of-self : goal.invariant_of-self
@@ -13,8 +13,8 @@ invariant_of-self g c =
 pub returns-then-contains-clause-ok : goal.returns-then-contains-clause-ok
 returns-then-contains-clause-ok g c =
     let s = g.S.DotSet.contents c.self.inside.seen in
-    ap (lived s) c.remove.ensures
-    ∙ lived-without s c.self.inside.rows c.args.dot c.self.invariant (sym c.if-contains.ensures)
+    ap (lives_of s) c.remove.ensures
+    ∙ lives_of-without s c.self.inside.rows c.args.dot c.self.invariant (sym c.if-contains.ensures)
     ∙ ap (λ v. map.insert v c.args.dot Dead) c.self.view_is
 
 pub invariant_of-self-2 : goal.invariant_of-self-2
@@ -25,7 +25,7 @@ pub returns-clause-ok : goal.returns-clause-ok
 returns-clause-ok g c =
     let s = g.S.DotSet.contents c.self.inside.seen in
     rw c.in_ok-insert_dot.ensures.ok
-    (lived-insert s c.self.inside.rows c.args.dot c.self.invariant (sym c.if-contains.ensures)
+    (lives_of-insert s c.self.inside.rows c.args.dot c.self.invariant (sym c.if-contains.ensures)
     ∙ ap (λ v. map.insert v c.args.dot Dead) c.self.view_is)
 
 pub returns-clause-seen : goal.returns-clause-seen

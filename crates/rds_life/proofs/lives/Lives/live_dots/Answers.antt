@@ -4,7 +4,7 @@ use Rattle.std.specs.List.{list_all}
 use Rattle.rds_dots.specs.Dots.{is_dot}
 use Rattle.rds_life.specs.Life.{keys, live_of}
 use Rattle.rds_life.proofs.Deaths.{all_rows}
-use Rattle.rds_life.proofs.Views.{live_rows-lived}
+use Rattle.rds_life.proofs.Views.{live_rows-lives_of}
 use Rattle.rds_life.proofs.lives.Lives.live_dots.Goals as goal
 
 pub dots_of-requires : goal.dots_of-requires
@@ -14,5 +14,5 @@ dots_of-requires g c =
 
 pub returns-clause-dots : goal.returns-clause-dots
 returns-clause-dots g c =
-    c.in_ok-live.ensures.ok ∙ ap (λ r. set.from_list (keys r)) (c.iter.ensures.rows ∙ sym (live_rows-lived (g.S.DotSet.contents c.self.inside.seen) c.self.inside.rows c.self.invariant))
+    c.in_ok-live.ensures.ok ∙ ap (λ r. set.from_list (keys r)) (c.iter.ensures.rows ∙ sym (live_rows-lives_of (g.S.DotSet.contents c.self.inside.seen) c.self.inside.rows c.self.invariant))
     ∙ ap live_of c.self.view_is

@@ -3,7 +3,7 @@ use Rattle.std.specs.FinMap as map
 use Rattle.rds_life.specs.Life.{Live}
 use Rattle.rds_life.proofs.LivedLemmas.{no_row}
 use Rattle.rds_life.proofs.Puts.{rise-put, without-put}
-use Rattle.rds_life.proofs.Changes.{lived-put, rows-put}
+use Rattle.rds_life.proofs.Changes.{lives_of-put, rows-put}
 use Rattle.rds_life.proofs.lives.Lives.put_live.Goals as goal
 
 pub insert-requires-clause-absent : goal.insert-requires-clause-absent
@@ -31,4 +31,4 @@ invariant_of-self-in_default g c =
 pub returns-clause-ok : goal.returns-clause-ok
 returns-clause-ok g c =
     rw (c.in_default.ensures.ok, c.in_ok-insert.ensures.ok)
-    (lived-put (g.S.DotSet.contents c.self.inside.seen) c.self.inside.rows c.args.dot c.self.invariant c.args.entry ∙ ap (λ v. map.insert v c.args.dot (Live c.args.entry)) c.self.view_is)
+    (lives_of-put (g.S.DotSet.contents c.self.inside.seen) c.self.inside.rows c.args.dot c.self.invariant c.args.entry ∙ ap (λ v. map.insert v c.args.dot (Live c.args.entry)) c.self.view_is)

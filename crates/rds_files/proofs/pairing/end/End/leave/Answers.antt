@@ -1,11 +1,11 @@
-use Rattle.rds_session.specs.Received.{delivered}
+use Rattle.rds_session.specs.Received.{delivery_of}
 use Rattle.rds_files.proofs.Paired.{at_last, left}
 use Rattle.rds_files.proofs.pairing.end.End.leave.Goals as goal
 
 pub returns-clause-leaves : goal.returns-clause-leaves
 returns-clause-leaves g c =
     let last = at_last c.self.inside.ended c.of.result.ended (rw c.of.ensures.ended c.at_last.ensures.over) (rw c.of.ensures.ended c.at_last.ensures.going) in
-    rw (← c.self.view_is) (λ side kept is. left side kept c.self.inside.session c.self.inside.ended c.of.result.ended (delivered c.of.result.received c.of.result.roster) is c.of.ensures.received c.of.ensures.checked c.of.ensures.done last.0 last.1)
+    rw (← c.self.view_is) (λ side kept is. left side kept c.self.inside.session c.self.inside.ended c.of.result.ended (delivery_of c.of.result.received c.of.result.roster) is c.of.ensures.received c.of.ensures.checked c.of.ensures.done last.0 last.1)
 
 pub returns-clause-over : goal.returns-clause-over
 returns-clause-over g c = rw (← c.self.view_is) (λ over. rw c.of.ensures.ended (c.at_last.ensures.over over))
