@@ -5,7 +5,8 @@ ghost use Rattle.rds_bytes.specs.Values.{is_key_text};
 ghost use Rattle.rds_bytes.specs.Spelling.{short_text};
 ghost use Rattle.rds_bytes.specs.Writing.{Adds};
 
-use crate::strings::{put_short, read_short};
+use crate::numbers::{put, put_byte};
+use crate::strings::read_short;
 use rds_names::{Fault, Key};
 use std::alloc::{AllocError, Global};
 
@@ -28,12 +29,13 @@ pub fn key_length(key: &Key) -> usize
     ensures most { result ≤ 65 }
     ensures is_key { is_key_text key.now ≡ true }
 {
-    1 + key.as_str().len()
+    1 + key.as_bytes().len()
 }
 
 /// A key.
 pub fn put_key(out: &mut Vec<u8>, key: &Key) -> Result<(), AllocError>
     ensures { Adds out.old.items out.new.items (short_text key.now) result }
 {
-    put_short(out, key.as_str())
+    put_byte(out, key.as_bytes().len() as u8)?;
+    put(out, key.as_bytes())
 }

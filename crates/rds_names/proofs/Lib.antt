@@ -1,5 +1,6 @@
 mod Differ
 mod Made
 mod Padding
+mod Room
 pub mod Ascii
 pub mod Orders

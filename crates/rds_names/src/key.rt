@@ -1,5 +1,6 @@
 //! A key of a map.
-ghost use Rattle.std.specs.Prelude.{◌≡◌, ◌↔◌, IsTrue, IfOk, IfErr};
+ghost use Rattle.std.specs.Prelude.{◌≡◌, ◌≤◌, ◌↔◌, length, true, IsTrue, IfOk, IfErr};
+ghost use Rattle.std.specs.Str.{is_utf8};
 ghost use Rattle.rds_names.specs.declared.fault.Fault.TheVariants.{Memory};
 ghost use Rattle.rds_names.specs.Gives.{Gives};
 ghost use Rattle.rds_names.specs.Key.{is_key, key_of};
@@ -14,28 +15,41 @@ use std::rc::RcStr;
 /// The most bytes of a key.
 const MOST_BYTES: usize = 64;
 
+/// The most bytes of a key that takes no memory of its own.
+const MOST_INLINE: usize = 22;
+
+/// Where a key's bytes stand.
+#[derive(Debug, Drop)]
+enum Form {
+    /// In the key itself: the first of these, as many as the number says.
+    Inline([u8; MOST_INLINE], u8),
+    /// On the heap, where copies share them.
+    Shared(RcStr),
+}
+
 /// A text of 1 to 64 bytes without '/'. Keys are ordered by their bytes.
 #[derive(Debug)]
 pub struct Key {
-    text: RcStr,
+    form: Form,
 }
 
 impl Drop for Key {
     fn drop(self) {
-        let Key { text: _text } = self;
+        let Key { form: _form } = self;
     }
 }
 
 impl Model for Key {
     ghost use Rattle.std.specs.Prelude.{ℕ, List, IsTrue};
-    ghost use Rattle.std.specs.Rc.{rc_str_bytes};
     ghost use Rattle.rds_names.specs.Key.{is_key};
 
     ghost Value = { List ℕ };
 
-    ghost view = { λ k. rc_str_bytes k.text };
+    ghost use Rattle.rds_names.specs.Forms.{bytes_in, is_kept};
 
-    ghost invariant = { λ k. IsTrue (is_key (rc_str_bytes k.text)) };
+    ghost view = { λ k. bytes_in k.form };
+
+    ghost invariant = { λ k. IsTrue (is_key (bytes_in k.form)) × IsTrue (is_kept k.form) };
 }
 
 impl Key {
@@ -46,9 +60,26 @@ impl Key {
         if !Key::is_key(text) {
             return Err(Fault::BadKey);
         }
+        if text.len() <= MOST_INLINE {
+            return Ok(Key::new_inline(text));
+        }
         Ok(Key {
-            text: RcStr::from_str(alloc, text)?,
+            form: Form::Shared(RcStr::from_str(alloc, text)?),
         })
+    }
+
+    /// The key with a text that is a key and has room in it.
+    fn new_inline(text: &str) -> Key
+        requires key { is_key text.now ≡ true }
+        requires short { length text.now ≤ 22 }
+        ensures { result ≡ text.now }
+    {
+        let text = text.as_bytes();
+        let mut bytes = [0u8; MOST_INLINE];
+        bytes[..text.len()].copy_from_slice(text);
+        Key {
+            form: Form::Inline(bytes, text.len() as u8),
+        }
     }
 
     /// Whether a text is a key, which is what `new` tests.
@@ -63,17 +94,34 @@ impl Key {
         ensures text { result.now ≡ self.now }
         ensures within { IsTrue (is_key self.now) }
     {
-        self.text.as_str()
+        match &self.form {
+            Form::Inline(bytes, len) => text_of(&bytes[..usize::from(*len)]),
+            Form::Shared(text) => text.as_str(),
+        }
     }
 
-    /// An equal key, which shares the text.
+    /// The text's bytes. They aren't tested to be a text, as `as_str` tests those of a short key.
+    pub fn as_bytes(&self) -> &[u8]
+        ensures bytes { result.now ≡ self.now }
+        ensures within { IsTrue (is_key self.now) }
+        ensures utf8 { IsTrue (is_utf8 self.now) }
+    {
+        match &self.form {
+            Form::Inline(bytes, len) => &bytes[..usize::from(*len)],
+            Form::Shared(text) => text.as_str().as_bytes(),
+        }
+    }
+
+    /// An equal key. A short one takes no memory, a longer one shares its own.
     pub fn copy(&self, _alloc: Global) -> Result<Key, Fault>
         ensures ok { IfOk result (λ key. key ≡ self.now) }
         ensures memory { IfErr result (λ fault. fault ≡ Memory) }
     {
-        Ok(Key {
-            text: self.text.clone()?,
-        })
+        let form = match &self.form {
+            Form::Inline(bytes, len) => Form::Inline(*bytes, *len),
+            Form::Shared(text) => Form::Shared(text.clone()?),
+        };
+        Ok(Key { form })
     }
 }
 
@@ -90,7 +138,7 @@ impl PartialEq for Key {
         ensures value { result ≡ bytes_eq self.now other.now }
         ensures same { IsTrue result ↔ (self.now ≡ other.now) }
     {
-        self.text == other.text
+        self.as_bytes() == other.as_bytes()
     }
 }
 
@@ -128,7 +176,7 @@ impl Ord for Key {
     ghost matches_eq = { texts_ties };
 
     fn cmp(&self, other: &Key) -> Ordering {
-        self.text.cmp(&other.text)
+        self.as_bytes().cmp(other.as_bytes())
     }
 }
 
@@ -143,5 +191,16 @@ impl Hash for Key {
 
     fn hash<H: Hasher>(&self, state: &mut H) {
         self.as_str().hash(state);
+    }
+}
+
+/// The text of bytes that were a text's.
+fn text_of(bytes: &[u8]) -> &str
+    requires { is_utf8 bytes.now ≡ true }
+    ensures { result.now ≡ bytes.now }
+{
+    match str::from_utf8(bytes) {
+        Ok(text) => text,
+        Err(_) => unreachable!(),
     }
 }

@@ -1,0 +1,6 @@
+use Rattle.std.proofs.lemmas.Str.{IsUtf8-from_is_utf8}
+use Rattle.rds_names.proofs.key.text_of.Goals as goal
+
+-- a text's bytes are never refused
+pub unreachable-requires : goal.unreachable-requires
+unreachable-requires c = c.in-Err.ensures.cases.0 (IsUtf8-from_is_utf8 c.args.bytes.now c.requires)
