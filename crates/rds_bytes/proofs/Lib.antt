@@ -1,6 +1,7 @@
 mod Adding
 pub mod CounterFormats
 pub mod DotFormats
+pub mod DotRowSteps
 mod EntryFormats
 mod EntryParts
 pub mod Format
@@ -18,3 +19,4 @@ mod RowsRead
 mod RunSteps
 pub mod Sequences
 mod SetRowLemmas
+pub mod SteadyRows

@@ -41,7 +41,7 @@ turn true true c = refl
 turn true false c = refl
 turn false b c = refl
 
-fails_by : {Y : Type 0} (e : Fault) (r : Result Y Fault) → r ≡ Err e → Fails e r
+pub fails_by : {Y : Type 0} (e : Fault) (r : Result Y Fault) → r ≡ Err e → Fails e r
 fails_by fault.Memory r h = tt
 fails_by _ r h = h
 

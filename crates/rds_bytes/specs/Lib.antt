@@ -5,5 +5,8 @@ pub mod Reading
 pub mod RowDots
 pub mod SetRows
 pub mod Spelling
+pub mod Steady
+pub mod SteadyLaws
+pub mod SteadyParts
 pub mod Values
 pub mod Writing

@@ -25,6 +25,7 @@ use Rattle.rds_counts.specs.declared.row.TheConstants.{MAX_COUNT}
 use Rattle.rds_counts.specs.Counted.{Counted, counts_of}
 use Rattle.rds_bytes.specs.declared.dots.Gap.{Gap}
 use Rattle.rds_bytes.specs.declared.dots.DotRow.{DotRow}
+use Rattle.rds_bytes.specs.declared.dot_rows.RowHead.{RowHead}
 use Rattle.rds_bytes.specs.Entries.{entry_of}
 use Rattle.rds_bytes.specs.RowDots.{dots_of_rows}
 use Rattle.rds_bytes.specs.Spelling.{magic}
@@ -194,6 +195,22 @@ is_next_replica replicas least n = nat_le least n && nat_lt n replicas
 unfoldable pub dot_row_at : ℕ → List DotRow → Reader DotRow
 dot_row_at replicas before =
     made_at dot_row_by (pair_at (when_at (is_next_replica replicas (least_replica (last before))) byte_at) numbers_at)
+
+-- a row in two steps: what it begins with, and its gaps
+abbrev pub row_head_by : ℕ × (ℕ × ℕ) → RowHead
+row_head_by p = record { replica = p.0; top = p.1.0; gaps = p.1.1 }
+
+unfoldable pub row_head_at : ℕ → ℕ → Reader RowHead
+row_head_at replicas least =
+    made_at row_head_by
+    (pair_at (when_at (is_next_replica replicas least) byte_at)
+    (pair_at (when_at (is_between 1 MAX_SEQ) (number_at w64)) (number_at w32)))
+
+abbrev pub row_gaps_at : ℕ → ℕ → Reader (List Gap)
+row_gaps_at top count = rows_after (λ before. gap_at top (last before)) [] count
+
+abbrev pub row_by : RowHead × List Gap → DotRow
+row_by p = record { replica = p.0.replica; top = p.0.top; gaps = p.1 }
 
 unfoldable pub dot_rows_at : ℕ → Reader (List DotRow)
 dot_rows_at replicas = list_at (number_at w16) (dot_row_at replicas)

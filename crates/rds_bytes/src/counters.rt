@@ -6,6 +6,7 @@ ghost use Rattle.rds_counts.specs.Counted.{AreCountRows, number};
 ghost use Rattle.rds_counts.specs.Place.{Place};
 ghost use Rattle.rds_counts.specs.RowsOf.{count_rows};
 ghost use Rattle.rds_bytes.specs.Reading.{Reads, ReadsExactly, number_at, when_at, last, comes_after_row as is_after_row, is_count as is_count_of, is_second, place_at, counts_at, count_row_at, count_rows_at, counters_at};
+ghost use Rattle.rds_bytes.specs.SteadyParts.{count_row_steady};
 ghost use Rattle.rds_bytes.specs.Values.{AreCountsOf, IsKeyed};
 ghost use Rattle.rds_bytes.specs.Spelling.{count_row_text, counters_text, place_text, counts_text, count_rows_text};
 ghost use Rattle.rds_bytes.specs.Writing.{Adds};
@@ -56,8 +57,8 @@ fn read_counts(bytes: &[u8]) -> Result<((u64, u64), &[u8]), Fault>
 
 /// Reads the rows of counters, which ascend by key, then replica, each of one of so many replicas.
 #[derive(Drop)]
-struct CountRowReader {
-    replicas: u16,
+pub struct CountRowReader {
+    pub replicas: u16,
 }
 
 impl CountRowReader {
@@ -82,6 +83,8 @@ impl CountRowReader {
 #[tactic(auto, unfolding(crate::specs::Reading::count_row_at))]
 impl PartReader<CountRow> for CountRowReader {
     ghost reader = { λ r before. count_row_at r.replicas before };
+
+    ghost steady = { λ r before. count_row_steady r.replicas before };
 
     fn read<'b>(
         &self,

@@ -32,8 +32,9 @@ pub struct Gap {
 }
 
 /// Gaps in their order.
+#[derive(Drop)]
 pub struct Gaps {
-    gaps: Vec<Gap>,
+    pub gaps: Vec<Gap>,
 }
 
 impl Model for Gaps {
@@ -45,7 +46,8 @@ impl Model for Gaps {
     ghost view = { λ g. g.gaps.items };
 }
 
-/// The dots of one replica: the numbers from 1 to the top, but for the gaps. Specs speak of rows; none is kept.
+/// The dots of one replica: the numbers from 1 to the top, but for the gaps. A set is read and written without any.
+#[derive(Drop)]
 pub struct DotRow {
     pub replica: u8,
     pub top: u64,
@@ -64,7 +66,7 @@ fn least_lo(before: Option<Gap>) -> u128
 
 /// The next gap below a top, with a dot between it and the one before it.
 #[tactic(auto, unfolding(crate::specs::Reading::gap_at))]
-fn read_gap(top: u64, before: Option<Gap>, bytes: &[u8]) -> Result<(Gap, &[u8]), Fault>
+pub fn read_gap(top: u64, before: Option<Gap>, bytes: &[u8]) -> Result<(Gap, &[u8]), Fault>
     ensures read { ReadsExactly (λ x. (x.0, x.1.now)) result (gap_at top before bytes.now) }
     ensures rises { IfOk result (λ x. x.0.lo ≤ x.0.hi) }
     ensures below { IfOk result (λ x. x.0.hi < top) }
@@ -137,7 +139,8 @@ fn read_gaps<'a, S: DotSet>(
     Ok(rest)
 }
 
-fn read_top(bytes: &[u8]) -> Result<(u64, &[u8]), Fault>
+/// A top: the number of a dot.
+pub fn read_top(bytes: &[u8]) -> Result<(u64, &[u8]), Fault>
     ensures read { ReadsExactly (λ x. (x.0, x.1.now)) result
         (when_at (is_between 1 MAX_SEQ) (number_at w64) bytes.now) }
     ensures from_one { IfOk result (λ x. 1 ≤ x.0) }
@@ -166,7 +169,7 @@ fn read_numbers<'a, S: DotSet>(
 }
 
 /// The replica of the next row: one of so many, from a least one on.
-fn read_replica(replicas: u16, least: u16, bytes: &[u8]) -> Result<(u8, &[u8]), Fault>
+pub fn read_replica(replicas: u16, least: u16, bytes: &[u8]) -> Result<(u8, &[u8]), Fault>
     ensures { ReadsExactly (λ x. (x.0, x.1.now)) result
         (when_at (is_next_replica replicas least) byte_at bytes.now) }
 {

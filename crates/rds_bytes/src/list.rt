@@ -1,7 +1,8 @@
-//! Reading a list of parts.
+//! Reading a list of parts. What a reader says of the bytes that are there holds for all that may follow them.
 ghost use Rattle.std.specs.Prelude.{◌≡◌, ℕ, List, [], Result};
 ghost use Rattle.rds_names.specs.declared.fault.Fault.{Fault};
 ghost use Rattle.rds_bytes.specs.Reading.{Reads, rows_after};
+ghost use Rattle.rds_bytes.specs.Steady.{IsSteady};
 
 use rds_names::Fault;
 use std::alloc::Global;
@@ -13,6 +14,9 @@ pub trait PartReader<T> {
     /// The next part, where these stand before it, and the bytes after it; or the fault of a part that is cut or bad.
     fn read<'a>(&self, alloc: Global, before: &[T], bytes: &'a [u8]) -> Result<(T, &'a [u8]), Fault>
         ensures { Reads (λ x. (x.0, x.1.now)) result (reader self.now before.now bytes.now) };
+
+    /// What is read stays read whatever follows, and a fault other than `Cut` stays that fault.
+    ghost steady: { (r : Self) (before : List T) → IsSteady (reader r before) };
 }
 
 /// As many parts as are asked for. Room is made for each as it comes.

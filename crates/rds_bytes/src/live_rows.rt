@@ -4,6 +4,7 @@ ghost use Rattle.std.specs.List.{flat_map, AllByRecursion};
 ghost use Rattle.rds_dots.specs.Dots.{comes_after};
 ghost use Rattle.rds_life.specs.Life.{AreRows, live_rows};
 ghost use Rattle.rds_bytes.specs.Reading.{Reads, ReadsExactly, dot_at, live_row_at, live_rows_at, dot_of_row, last};
+ghost use Rattle.rds_bytes.specs.SteadyParts.{live_row_steady};
 ghost use Rattle.rds_bytes.specs.Values.{IsLiveRow};
 ghost use Rattle.rds_bytes.specs.Spelling.{live_row_text, live_rows_text};
 ghost use Rattle.rds_bytes.specs.Writing.{Adds};
@@ -32,8 +33,8 @@ fn comes_after(after: Option<Dot>, dot: Dot) -> bool
 
 /// Reads the rows of live dots, which ascend, each of a seen dot.
 #[derive(Drop)]
-struct LiveRowReader<'a, S: DotSet> {
-    seen: &'a S,
+pub struct LiveRowReader<'a, S: DotSet> {
+    pub seen: &'a S,
 }
 
 impl<S: DotSet> LiveRowReader<'_, S> {
@@ -59,6 +60,8 @@ impl<S: DotSet> LiveRowReader<'_, S> {
 #[tactic(auto, unfolding(crate::specs::Reading::live_row_at))]
 impl<S: DotSet> PartReader<(Dot, Entry)> for LiveRowReader<'_, S> {
     ghost reader = { λ r before. live_row_at (S.contents r.seen.now) before };
+
+    ghost steady = { λ r before. live_row_steady (S.contents r.seen.now) before };
 
     fn read<'b>(
         &self,

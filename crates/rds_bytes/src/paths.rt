@@ -2,6 +2,7 @@
 ghost use Rattle.std.specs.Prelude.{◌≡◌, true, ◌≤◌, length};
 ghost use Rattle.std.specs.List.{flat_map, list_all};
 ghost use Rattle.rds_bytes.specs.Reading.{Reads, key_at, path_at};
+ghost use Rattle.rds_bytes.specs.SteadyParts.{key_steady};
 ghost use Rattle.rds_bytes.specs.Values.{is_key_text};
 ghost use Rattle.rds_bytes.specs.Spelling.{short_text};
 ghost use Rattle.rds_bytes.specs.Writing.{Adds};
@@ -18,6 +19,8 @@ struct KeyReader;
 
 impl PartReader<Key> for KeyReader {
     ghost reader = { λ _ before. key_at };
+
+    ghost steady = { λ _ before. key_steady };
 
     fn read<'a>(
         &self,

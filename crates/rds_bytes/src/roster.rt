@@ -6,6 +6,7 @@ ghost use Rattle.rds_names.specs.declared.fault.Fault.TheVariants.{Bad};
 ghost use Rattle.rds_names.specs.Name.{is_name};
 ghost use Rattle.rds_names.specs.Roster.{are_names};
 ghost use Rattle.rds_bytes.specs.Reading.{Reads, ReadsExactly, is_new as is_new_name, name_at, new_name_at, names_at, roster_at, replica_at, member_at, when_at, is_between, number_at};
+ghost use Rattle.rds_bytes.specs.SteadyParts.{new_name_steady};
 ghost use Rattle.rds_bytes.specs.Values.{IsMember};
 ghost use Rattle.rds_bytes.specs.Spelling.{names_text, member_text};
 ghost use Rattle.rds_bytes.specs.Writing.{Adds};
@@ -28,6 +29,16 @@ fn name_of(text: &str) -> Result<Name, Fault>
     }
 }
 
+/// A name.
+#[tactic(auto, unfolding(crate::specs::Reading::name_at))]
+pub fn read_name(bytes: &[u8]) -> Result<(Name, &[u8]), Fault>
+    ensures { ReadsExactly (λ x. (x.0, x.1.now)) result (name_at bytes.now) }
+{
+    let (text, after) = read_short(1, 16, bytes)?;
+    let name = name_of(text)?;
+    Ok((name, after))
+}
+
 /// Whether no name before it equals the name.
 fn is_new(before: &[Name], name: &Name) -> bool
     ensures { result ≡ is_new_name before.now name.now }
@@ -37,11 +48,13 @@ fn is_new(before: &[Name], name: &Name) -> bool
 
 /// Reads the names of a roster, no two of which are equal.
 #[derive(Drop)]
-struct NameReader;
+pub struct NameReader;
 
 #[tactic(auto, unfolding(crate::specs::Reading::new_name_at, crate::specs::Reading::name_at))]
 impl PartReader<Name> for NameReader {
     ghost reader = { λ _ before. new_name_at before };
+
+    ghost steady = { λ _ before. new_name_steady before };
 
     fn read<'a>(
         &self,
@@ -77,8 +90,9 @@ fn read_names(alloc: Global, bytes: &[u8]) -> Result<(Vec<Name>, &[u8]), Fault>
     Ok((names, rest))
 }
 
+/// A roster: the group, and the names of its replicas.
 #[tactic(auto, unfolding(crate::specs::Reading::roster_at))]
-fn read_roster(alloc: Global, bytes: &[u8]) -> Result<(Roster, &[u8]), Fault>
+pub fn read_roster(alloc: Global, bytes: &[u8]) -> Result<(Roster, &[u8]), Fault>
     ensures { Reads (λ x. (x.0, x.1.now)) result (roster_at bytes.now) }
 {
     let (group, rest) = read_key(alloc, bytes)?;

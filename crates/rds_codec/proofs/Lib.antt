@@ -1,6 +1,7 @@
 pub mod AnswerFormats
-mod CertificateFormats
+pub mod CertificateFormats
 mod ClaimTexts
+mod DecodedOnce
 pub mod DigestFormats
 pub mod ExchangeLemmas
 mod HaveTexts
@@ -9,7 +10,7 @@ pub mod Longer
 pub mod Replicas
 mod SmallTexts
 mod SnapshotFormats
-mod StateFormats
+pub mod StateFormats
 mod Texts
 pub mod Whole
 mod Within

@@ -29,7 +29,7 @@ reader_of kind read F format is fits = record {
 }
 
 -- a failure is that of reading, or of memory
-fails_is : {V : Type 0} (e : Fault) (r : Result V Fault) → Fails e r → (e ≡ Memory) ⊎ (r ≡ Err e)
+pub fails_is : {V : Type 0} (e : Fault) (r : Result V Fault) → Fails e r → (e ≡ Memory) ⊎ (r ≡ Err e)
 fails_is Memory r h = inl refl
 fails_is _ r h = inr h
 

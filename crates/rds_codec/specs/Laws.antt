@@ -1,7 +1,10 @@
--- The law of the texts of a kind.
-use Rattle.std.specs.Prelude.{◌≡◌, ◌≤◌, ℕ, List, ◌++◌, length}
+-- The laws of the texts of a kind.
+use Rattle.std.specs.Prelude.{◌≡◌, ◌≤◌, ℕ, List, ◌++◌, ◌⊎◌, length, Result, Err}
+use Rattle.rds_names.specs.declared.fault.Fault.{Fault}
+use Rattle.rds_names.specs.declared.fault.Fault.TheVariants.{Memory}
+use Rattle.rds_bytes.specs.Reading.{Reader}
 use Rattle.rds_codec.specs.declared.limits.TheConstants.{LIMIT}
-use Rattle.rds_codec.specs.Decoding.{IsTextOf}
+use Rattle.rds_codec.specs.Decoding.{IsTextOf, Decodes, ReadsAll}
 use Rattle.rds_codec.specs.Kinds.{Kind}
 
 -- the value has a text, which is within the limit
@@ -19,3 +22,9 @@ StandApart {V} kind =
 abbrev pub IsSameAmongMore : {V : Type 0} → (ℕ → Kind V) → Type 0
 IsSameAmongMore {V} kind =
     (few more : ℕ) (bytes : List ℕ) (v : V) → few ≤ more → IsTextOf (kind few) bytes v → IsTextOf (kind more) bytes v
+
+-- two answers for the same bytes are one, unless memory ran out
+abbrev pub DecodesOnce : {V : Type 0} → Kind V → Reader V → Type 0
+DecodesOnce {V} kind reader =
+    (bytes : List ℕ) (r s : Result V Fault) → Decodes kind bytes r → ReadsAll reader bytes r
+    → Decodes kind bytes s → ReadsAll reader bytes s → (r ≡ s) ⊎ ((r ≡ Err Memory) ⊎ (s ≡ Err Memory))

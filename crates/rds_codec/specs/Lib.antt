@@ -8,4 +8,5 @@ pub mod HelloTexts
 pub mod Kinds
 pub mod Laws
 pub mod StateTexts
+pub mod SteadyTexts
 pub mod Writing

@@ -4,6 +4,7 @@ ghost use Rattle.std.specs.Int.{w32, w64};
 ghost use Rattle.std.specs.List.{flat_map, AllByRecursion};
 ghost use Rattle.rds_codec.specs.CertificateTexts.{IsHeldRow, RowFits, IsCertificateOf, run_text, which_byte, claim_text, row_text, certificate_text, claimed_dot_at, ends_at, run_at, dead_at, which_at, amount_at, claim_at, counter_at, number_claim_at, tagged_row_at, row_at, certificate_at, certificate_kind};
 ghost use Rattle.rds_codec.specs.Decoding.{Decodes, ReadsAll, all_of};
+ghost use Rattle.rds_codec.specs.SteadyTexts.{row_steady};
 ghost use Rattle.rds_bytes.specs.Reading.{Reads, ReadsExactly, byte_at, number_at, when_at, is_between};
 ghost use Rattle.rds_bytes.specs.Spelling.{byte_text, dot_text};
 ghost use Rattle.rds_codec.specs.Writing.{Encodes};
@@ -142,15 +143,30 @@ fn read_tagged(alloc: Global, replicas: u16, tag: u8, bytes: &[u8]) -> Result<(R
     }
 }
 
-/// Reads the rows of a certificate, in any order.
-#[derive(Drop)]
-struct RowReader {
+/// A row of a certificate, of so many replicas.
+#[tactic(auto, unfolding(crate::specs::CertificateTexts::row_at))]
+pub fn read_certificate_row(
+    alloc: Global,
     replicas: u16,
+    bytes: &[u8],
+) -> Result<(Row, &[u8]), Fault>
+    ensures { Reads (λ x. (x.0, x.1.now)) result (row_at replicas bytes.now) }
+{
+    let (tag, rest) = read_byte(bytes)?;
+    let (row, rest) = read_tagged(alloc, replicas, tag, rest)?;
+    Ok((row, rest))
 }
 
-#[tactic(auto, unfolding(crate::specs::CertificateTexts::row_at))]
-impl PartReader<Row> for RowReader {
+/// Reads the rows of a certificate, in any order, each of so many replicas.
+#[derive(Drop)]
+pub struct CertificateRowReader {
+    pub replicas: u16,
+}
+
+impl PartReader<Row> for CertificateRowReader {
     ghost reader = { λ r before. row_at r.replicas };
+
+    ghost steady = { λ r before. row_steady r.replicas };
 
     fn read<'b>(
         &self,
@@ -158,9 +174,7 @@ impl PartReader<Row> for RowReader {
         _before: &[Row],
         bytes: &'b [u8],
     ) -> Result<(Row, &'b [u8]), Fault> {
-        let (tag, rest) = read_byte(bytes)?;
-        let (row, rest) = read_tagged(alloc, self.replicas, tag, rest)?;
-        Ok((row, rest))
+        read_certificate_row(alloc, self.replicas, bytes)
     }
 }
 
@@ -174,7 +188,7 @@ pub fn read_certificate<'a>(
     ensures { Reads (λ x. (x.0, x.1.now)) result (certificate_at replicas bytes.now) }
 {
     let (count, rest) = read_u32(bytes)?;
-    let (rows, rest) = read_parts(alloc, &RowReader { replicas }, count, rest)?;
+    let (rows, rest) = read_parts(alloc, &CertificateRowReader { replicas }, count, rest)?;
     Ok((Certificate::new(rows), rest))
 }
 

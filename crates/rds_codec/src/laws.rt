@@ -1,11 +1,12 @@
 //! The laws of texts.
 ghost use Rattle.std.specs.Prelude.{◌≡◌, ℕ};
-ghost use Rattle.rds_codec.specs.AnswerTexts.{answer_kind};
-ghost use Rattle.rds_codec.specs.CertificateTexts.{certificate_kind};
-ghost use Rattle.rds_codec.specs.DigestTexts.{digest_kind};
-ghost use Rattle.rds_codec.specs.HelloTexts.{hello_kind};
+ghost use Rattle.rds_codec.specs.AnswerTexts.{answer_kind, answer_at};
+ghost use Rattle.rds_codec.specs.CertificateTexts.{certificate_kind, certificate_at};
+ghost use Rattle.rds_codec.specs.DigestTexts.{digest_kind, digest_at};
+ghost use Rattle.rds_codec.specs.HelloTexts.{hello_kind, hello_at};
 ghost use Rattle.rds_codec.specs.Kinds.{state_kind, snapshot_kind};
-ghost use Rattle.rds_codec.specs.Laws.{IsSameAmongMore, StandApart};
+ghost use Rattle.rds_codec.specs.Laws.{DecodesOnce, IsSameAmongMore, StandApart};
+ghost use Rattle.rds_codec.specs.StateTexts.{state_at, snapshot_at};
 ghost use Rattle.rds_codec.specs.declared.hellos.TheConstants.{VERSION};
 ghost use Rattle.rds_codec.specs.declared.limits.TheConstants.{LIMIT};
 
@@ -18,6 +19,17 @@ pub fn texts_stand_apart()
     ensures certificates { (replicas : ℕ) → StandApart (certificate_kind replicas) }
     ensures answers { (replicas : ℕ) → StandApart (answer_kind replicas) }
     ensures hellos { StandApart hello_kind }
+{}
+
+/// What decoding promises leaves one answer to the same bytes, but for want of memory: which of `Cut` and `Bad` a
+/// refusal is follows from the bytes. The function does nothing: its contract is these laws.
+pub fn decoding_has_one_result()
+    ensures states { (replicas : ℕ) → DecodesOnce (state_kind replicas) (state_at replicas) }
+    ensures snapshots { DecodesOnce snapshot_kind snapshot_at }
+    ensures digests { (replicas : ℕ) → DecodesOnce (digest_kind replicas) (digest_at replicas) }
+    ensures certificates { (replicas : ℕ) → DecodesOnce (certificate_kind replicas) (certificate_at replicas) }
+    ensures answers { (replicas : ℕ) → DecodesOnce (answer_kind replicas) (answer_at replicas) }
+    ensures hellos { DecodesOnce hello_kind hello_at }
 {}
 
 /// A text whose reader knows a roster by its length is, under a longer roster, still the text of the same value. So

@@ -2,7 +2,8 @@
 //! value has one text, and no text of a kind begins another.
 //!
 //! To be read in this order: `limits`; the kinds of texts, `states`, `snapshots`, `digests`, `certificates`, `answers`
-//! and `hellos`; `exchanges`, which brings them from one replica to another; `laws`.
+//! and `hellos`; `exchanges`, which brings them from one replica to another; `laws`, and `steady`, the law of reading
+//! texts as their bytes come, for which the readers of the parts are public here too.
 #![tactic(auto)]
 
 mod answers;
@@ -14,13 +15,23 @@ mod laws;
 mod limits;
 mod snapshots;
 mod states;
+mod steady;
 
 pub use answers::{Answer, decode_answer, encode_answer};
-pub use certificates::{decode_certificate, encode_certificate};
+pub use certificates::{
+    CertificateRowReader, decode_certificate, encode_certificate, read_certificate_row,
+};
 pub use digests::{decode_digest, encode_digest};
 pub use exchanges::{answer, ask, pull, take_certified};
 pub use hellos::{Hello, VERSION, decode_hello, encode_hello};
-pub use laws::{limits_of_texts, texts_outlive_growth, texts_stand_apart};
+pub use laws::{decoding_has_one_result, limits_of_texts, texts_outlive_growth, texts_stand_apart};
 pub use limits::LIMIT;
+pub use rds_bytes::{
+    CountRowReader, DotRow, DotRowReader, Gap, GapReader, Gaps, LiveRowReader, NameReader,
+    PartReader, RowHead, parts_are_taken_one_by_one, read_counters, read_dots, read_entry,
+    read_gap, read_header, read_key, read_live_rows, read_member, read_name, read_replica,
+    read_roster, read_row_head, read_scalar, readers_are_steady, rows_are_read_in_steps,
+};
 pub use snapshots::{decode_snapshot, encode_snapshot};
 pub use states::{decode_state, encode_state};
+pub use steady::texts_are_read_steadily;
