@@ -46,7 +46,8 @@ impl<T> Model for Counted<T> {
 impl<T> Counted<T> {
     /// Counts from 0, with the usual bound of turns: 2,147,483,648.
     pub fn new(inner: T) -> Counted<T>
-        ensures { result ≡ record { inner = inner; failed = 0; turns = 2147483648; left = 2147483648; renamed = false } }
+        ensures { result
+            ≡ record { inner = inner; failed = 0; turns = 2147483648; left = 2147483648; renamed = false } }
     {
         Counted::with_turns(inner, TURNS)
     }

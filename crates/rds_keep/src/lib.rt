@@ -3,15 +3,22 @@
 #![tactic(auto)]
 
 mod counted;
+mod fed;
+mod feeding;
+mod feeds;
 mod keeping;
 mod kept;
 mod owned;
 mod place;
 mod reading;
 mod snapshots;
+mod texts;
 mod writing;
 
 pub use counted::Counted;
+pub use fed::Fed;
+pub use feeding::read_fed;
+pub use feeds::Feed;
 pub use keeping::keep_in;
 pub use kept::Kept;
 pub use owned::{keep_owned, write_owned};

@@ -1,0 +1,5 @@
+mod DotRows
+mod Lists
+mod Pieces
+mod Runs
+mod Times

@@ -1,0 +1,61 @@
+-- Rows of counters that were read are rows.
+use Rattle.std.proofs.Common.{◌≡◌, ℕ, ◌<◌, true, ltb, ◌&&◌, ◌||◌, List, [], ◌∷◌, ◌++◌, Option, Some, refl, sym, ap, subst, ◌∙◌, append_assoc}
+use Rattle.std.specs.Int.{w64}
+use Rattle.std.proofs.lemmas.Bool.{lt-ltb}
+use Rattle.rds_names.specs.Conditions.{and_true, and_left, and_right}
+use Rattle.rds_counts.specs.declared.row.CountRow.{CountRow}
+use Rattle.rds_counts.specs.Counted.{is_row, before_next, rows_fit, AreCountRows}
+use Rattle.rds_counts.specs.CountedLemmas.{fits_rows, rows_fit_of}
+use Rattle.rds_bytes.specs.Reading.{Reader, pair_at, when_at, key_at, byte_at, number_at, last, comes_after_row, is_next_place, place_at, is_count, is_second, counts_at, count_row_by, count_row_at}
+use Rattle.rds_bytes.proofs.Format.{pair_format, byte_format}
+use Rattle.rds_bytes.proofs.PartFormats.{key_format, last-push}
+use Rattle.rds_feeds.specs.Parts.{WasRead}
+use Rattle.rds_feeds.specs.WasRead.{made_read, then_read, when_read}
+
+fit_push : (rows pre : List CountRow) (row : CountRow) → rows_fit rows ≡ true → is_row row ≡ true → comes_after_row (last (pre ++ rows)) row.key row.replica ≡ true → rows_fit (rows ++ row ∷ []) ≡ true
+fit_push [] pre row fit is after = and_true _ _ (and_true _ _ is refl) refl
+fit_push (r ∷ []) pre row fit is after =
+    let next : comes_after_row (Some r) row.key row.replica ≡ true = ap (λ (o : Option CountRow). comes_after_row o row.key row.replica) (sym (last-push pre r)) ∙ after in
+    let had = and_left (is_row r) true (and_left (is_row r && true) true fit) in
+    and_true _ _ (and_true _ _ had next) (and_true _ _ (and_true _ _ is refl) refl)
+fit_push (r ∷ (s ∷ rows)) pre row fit is after =
+    let front = and_left (is_row r && before_next r (s ∷ rows)) (rows_fit (s ∷ rows)) fit in
+    let later = and_right (is_row r && before_next r (s ∷ rows)) (rows_fit (s ∷ rows)) fit in
+    let again : comes_after_row (last ((pre ++ r ∷ []) ++ (s ∷ rows))) row.key row.replica ≡ true =
+    ap (λ (rs : List CountRow). comes_after_row (last rs) row.key row.replica) (append_assoc pre (r ∷ []) (s ∷ rows)) ∙ after in
+    and_true _ _ front (fit_push (s ∷ rows) (pre ++ r ∷ []) row later is again)
+
+-- it comes next, and its numbers are within their limits
+abbrev IsNextRow : List CountRow → CountRow → Type 0
+IsNextRow before row = (comes_after_row (last before) row.key row.replica ≡ true) × (is_row row ≡ true)
+
+abbrev second_at : ℕ → Reader ℕ
+second_at p = when_at (is_second p) (number_at w64)
+
+are_numbers : (p n replica : ℕ) → is_count p ≡ true → is_second p n ≡ true → replica < 256 → ((ltb 0 p || ltb 0 n) && is_count p && is_count n && ltb replica 256) ≡ true
+are_numbers p n replica first second small =
+    let some = and_right (is_count n) (ltb 0 p || ltb 0 n) second in
+    let most = and_left (is_count n) (ltb 0 p || ltb 0 n) second in
+    and_true _ _ (and_true _ _ (and_true _ _ some first) most) (lt-ltb replica 256 small)
+
+next_read : (replicas : ℕ) (before : List CountRow) (row : CountRow) → WasRead (count_row_at replicas before) row → IsNextRow before row
+unfolding count_row_at place_at counts_at
+next_read replicas before row read =
+    let made = made_read count_row_by (pair_at (place_at replicas before) counts_at) read.0 row read.1 read.2 in
+    let both = then_read (place_at replicas before) (λ _. counts_at) read.0 made.0 read.1 made.1 in
+    let place = when_read (is_next_place replicas before) (pair_at key_at byte_at) read.0 both.first both.middle both.first_is in
+    let small = ((pair_format _ _ _ _ _ _ key_format byte_format).takes read.0 (both.first, both.middle) read.3 place.0).1.1 in
+    let numbers = then_read (when_at is_count (number_at w64)) second_at both.middle both.second read.1 both.second_is in
+    let p = when_read is_count (number_at w64) both.middle numbers.first numbers.middle numbers.first_is in
+    let n = when_read (is_second numbers.first) (number_at w64) numbers.middle numbers.second read.1 numbers.second_is in
+    let after = and_left (comes_after_row (last before) both.first.0 both.first.1) (ltb both.first.1 replicas) place.1 in
+    let same : count_row_by (both.first, (numbers.first, numbers.second)) ≡ row = ap (λ (x : ℕ × ℕ). count_row_by (both.first, x)) numbers.are ∙ ap count_row_by both.are ∙ made.2 in
+    subst (IsNextRow before) same (after, are_numbers numbers.first numbers.second both.first.1 p.1 n.1 small)
+
+pub no_count_rows : AreCountRows []
+no_count_rows = record { rise = refl; are = refl }
+
+pub count_rows_go_on : (replicas : ℕ) (rows : List CountRow) (row : CountRow) → AreCountRows rows → WasRead (count_row_at replicas rows) row → AreCountRows (rows ++ row ∷ [])
+count_rows_go_on replicas rows row are read =
+    let next = next_read replicas rows row read in
+    fits_rows (rows ++ row ∷ []) (fit_push rows [] row (rows_fit_of rows are) next.1 next.0)

@@ -1,0 +1,329 @@
+//! A set of dots, which is read gap by gap.
+ghost use Rattle.std.specs.Prelude.{◌≡◌, ℕ, List, [], ◌∷◌, ◌++◌, Result, Ok, IfOk, IfErr, OnOk, ◌≤◌, ◌||◌};
+ghost use Rattle.std.specs.FinSet as set;
+ghost use Rattle.rds_names.specs.declared.fault.Fault.{Fault};
+ghost use Rattle.rds_names.specs.declared.fault.Fault.TheVariants.{Memory};
+ghost use Rattle.rds_dots.specs.Dots.{Dots};
+ghost use Rattle.rds_bytes.specs.RowDots.{first_after_gap, run_before};
+ghost use Rattle.rds_bytes.specs.Reading.{Reads, made_at, row_head_at, gap_at, dots_at};
+ghost use Rattle.rds_bytes.specs.SteadyParts.{row_head_steady, gap_steady};
+ghost use Rattle.rds_feeds.specs.SeenDots.{RowsValue, GapsValue, IsBelowTop, with_runs, begin_row, add_gap, end_row, last_run, gaps_of, next_row};
+
+use crate::made::{Made, Making};
+use crate::many::{CountWidth, Many, Repeating};
+use crate::once::{Once, Part};
+use crate::then::{Following, Then};
+use crate::unfinished::{Progress, Unfinished};
+use rds_bytes::{Gap, RowHead, read_gap, read_row_head};
+use rds_dots::{DotSet, MAX_SEQ, Run};
+use rds_names::Fault;
+use std::alloc::Global;
+use std::marker::Model;
+
+/// A set of dots that was read.
+#[derive(Drop)]
+pub struct SeenDots<S: DotSet> {
+    pub dots: S,
+}
+
+impl<S: DotSet> Model for SeenDots<S> {
+    ghost use Rattle.rds_dots.specs.Dots.{Dots};
+    ghost use Rattle.rds_feeds.specs.SeenDots.{coded_dots};
+
+    ghost Value = { Dots };
+
+    ghost coded = { coded_dots };
+
+    ghost view = { λ s. S.contents s.dots };
+}
+
+impl<S: DotSet> SeenDots<S> {
+    /// The set itself.
+    pub fn into_set(self) -> S
+        ensures { S.contents result ≡ self }
+    {
+        let SeenDots { dots } = self;
+        dots
+    }
+}
+
+/// The dots of whole rows of so many replicas, and from which replica on the next one may be.
+#[derive(Drop)]
+pub struct RowsSoFar<S: DotSet> {
+    replicas: u16,
+    least: u16,
+    seen: S,
+}
+
+impl<S: DotSet> Model for RowsSoFar<S> {
+    ghost use Rattle.rds_feeds.specs.SeenDots.{RowsValue, coded_rows};
+
+    ghost Value = { RowsValue };
+
+    ghost coded = { coded_rows };
+
+    ghost view = { λ r. record { replicas = r.replicas; least = r.least; seen = S.contents r.seen } };
+}
+
+/// The dots of whole rows, with those of a row up to the last gap of it that was read.
+#[derive(Drop)]
+pub struct GapsSoFar<S: DotSet> {
+    replicas: u16,
+    replica: u8,
+    top: u64,
+    before: Option<Gap>,
+    seen: S,
+}
+
+impl<S: DotSet> Model for GapsSoFar<S> {
+    ghost use Rattle.rds_feeds.specs.SeenDots.{GapsValue, IsBelowTop, coded_gaps};
+
+    ghost Value = { GapsValue };
+
+    ghost coded = { coded_gaps };
+
+    ghost view = { λ g. record {
+      replicas = g.replicas;
+      replica = g.replica;
+      top = g.top;
+      before = g.before;
+      seen = S.contents g.seen;
+    } };
+
+    ghost invariant = { λ g. IsBelowTop (record {
+      replicas = g.replicas;
+      replica = g.replica;
+      top = g.top;
+      before = g.before;
+      seen = S.contents g.seen;
+    }) };
+}
+
+impl<S: DotSet> Part for RowsSoFar<S> {
+    type Read = RowHead;
+
+    type Whole = (u32, GapsSoFar<S>);
+
+    ghost reader = { λ r. row_head_at r.replicas r.least };
+
+    ghost made = { begin_row };
+
+    fn read<'a>(&self, _alloc: Global, bytes: &'a [u8]) -> Result<(RowHead, &'a [u8]), Fault> {
+        let (head, rest) = read_row_head(self.replicas, self.least, bytes)?;
+        Ok((head, rest))
+    }
+
+    fn make(self, part: RowHead) -> Result<(u32, GapsSoFar<S>), Fault> {
+        let RowsSoFar {
+            replicas,
+            least: _,
+            seen,
+        } = self;
+        let begun = GapsSoFar {
+            replicas,
+            replica: part.replica,
+            top: part.top,
+            before: None,
+            seen,
+        };
+        Ok((part.gaps, begun))
+    }
+
+    ghost steady = { λ r. row_head_steady r.replicas r.least };
+}
+
+/// The number at which the dots after a gap begin.
+fn first_after(before: Option<Gap>) -> u64
+    requires { first_after_gap before ≤ MAX_SEQ }
+    ensures { result ≡ first_after_gap before }
+{
+    match before {
+        Some(gap) => gap.hi + 1,
+        None => 1,
+    }
+}
+
+/// Puts the numbers from a least one on, before a gap, into the set.
+fn insert_before<S: DotSet>(seen: &mut S, replica: u8, least: u64, lo: u64) -> Result<(), Fault>
+    requires from_one { 1 ≤ least }
+    requires within { lo ≤ MAX_SEQ }
+    ensures ok { OnOk result (S.contents seen.new ≡ with_runs (run_before replica least lo []) (S.contents seen.old)) }
+    ensures memory { IfErr result (λ fault. fault ≡ Memory) }
+{
+    if least < lo {
+        seen.insert_run(Run {
+            replica,
+            lo: least,
+            hi: lo - 1,
+        })?;
+    }
+    Ok(())
+}
+
+impl<S: DotSet> Part for GapsSoFar<S> {
+    type Read = Gap;
+
+    type Whole = GapsSoFar<S>;
+
+    ghost reader = { λ g. gap_at g.top g.before };
+
+    ghost made = { add_gap };
+
+    fn read<'a>(&self, _alloc: Global, bytes: &'a [u8]) -> Result<(Gap, &'a [u8]), Fault> {
+        let (gap, rest) = read_gap(self.top, self.before, bytes)?;
+        Ok((gap, rest))
+    }
+
+    fn make(self, part: Gap) -> Result<GapsSoFar<S>, Fault> {
+        let GapsSoFar {
+            replicas,
+            replica,
+            top,
+            before,
+            mut seen,
+        } = self;
+        insert_before(&mut seen, replica, first_after(before), part.lo)?;
+        Ok(GapsSoFar {
+            replicas,
+            replica,
+            top,
+            before: Some(part),
+            seen,
+        })
+    }
+
+    ghost steady = { λ g. gap_steady g.top g.before };
+}
+
+/// The gaps of a row that is begun.
+#[derive(Drop)]
+pub struct GapsFollow {}
+
+impl<S: DotSet> Following<(u32, GapsSoFar<S>)> for GapsFollow {
+    type Next = Many<Once<GapsSoFar<S>>, GapsSoFar<S>>;
+
+    ghost after = { λ _ first. gaps_of first };
+
+    fn start(
+        self,
+        _alloc: Global,
+        first: (u32, GapsSoFar<S>),
+    ) -> Result<Many<Once<GapsSoFar<S>>, GapsSoFar<S>>, Fault> {
+        let (left, gaps) = first;
+        Ok(Many::Rows(left, gaps))
+    }
+}
+
+/// The dots after the last gap of a row.
+#[derive(Drop)]
+pub struct RowEnds {}
+
+impl<S: DotSet> Making<GapsSoFar<S>> for RowEnds {
+    type Made = RowsSoFar<S>;
+
+    ghost made = { λ _ g. Ok (end_row g) };
+
+    fn make(self, whole: GapsSoFar<S>) -> Result<RowsSoFar<S>, Fault> {
+        let GapsSoFar {
+            replicas,
+            replica,
+            top,
+            before,
+            mut seen,
+        } = whole;
+        seen.insert_run(Run {
+            replica,
+            lo: first_after(before),
+            hi: top,
+        })?;
+        Ok(RowsSoFar {
+            replicas,
+            least: u16::from(replica) + 1,
+            seen,
+        })
+    }
+}
+
+/// A row: its replica and top, and then its gaps.
+pub type Row<S> = Made<
+    Then<Once<RowsSoFar<S>>, GapsFollow, Many<Once<GapsSoFar<S>>, GapsSoFar<S>>>,
+    RowEnds,
+>;
+
+impl<S: DotSet> Repeating
+    for Made<
+        Then<Once<RowsSoFar<S>>, GapsFollow, Many<Once<GapsSoFar<S>>, GapsSoFar<S>>>,
+        RowEnds,
+    > {
+    ghost next = { next_row };
+
+    fn again(rows: RowsSoFar<S>) -> Row<S> {
+        Made {
+            from: Then::First(Once { part: rows }, GapsFollow {}),
+            maker: RowEnds {},
+        }
+    }
+}
+
+/// The set that has the dots of all rows.
+#[derive(Drop)]
+pub struct RowsEnd {}
+
+impl<S: DotSet> Making<RowsSoFar<S>> for RowsEnd {
+    type Made = SeenDots<S>;
+
+    ghost made = { λ _ r. Ok r.seen };
+
+    fn make(self, whole: RowsSoFar<S>) -> Result<SeenDots<S>, Fault> {
+        let RowsSoFar {
+            replicas: _,
+            least: _,
+            seen,
+        } = whole;
+        Ok(SeenDots { dots: seen })
+    }
+}
+
+type DotsParts<S> = Made<Many<Row<S>, RowsSoFar<S>>, RowsEnd>;
+
+/// A set of dots that is being read. However many gaps a row has, no more than one is held.
+#[derive(Drop)]
+pub struct UnfinishedDots<S: DotSet> {
+    parts: DotsParts<S>,
+}
+
+impl<S: DotSet> Unfinished for UnfinishedDots<S> {
+    type Whole = SeenDots<S>;
+
+    ghost finish = { λ u. ⟦<DotsParts<S> as Unfinished>⟧.finish u.parts };
+
+    fn read_on<'a>(
+        self,
+        alloc: Global,
+        bytes: &'a [u8],
+    ) -> Result<(Progress<Self, SeenDots<S>>, &'a [u8]), Fault> {
+        let (progress, rest) = self.parts.read_on(alloc, bytes)?;
+        match progress {
+            Progress::More(parts) => Ok((Progress::More(UnfinishedDots { parts }), rest)),
+            Progress::Whole(dots) => Ok((Progress::Whole(dots), rest)),
+        }
+    }
+}
+
+/// A set of dots of so many replicas, of which nothing was read.
+pub fn unfinished_dots<S: DotSet>(alloc: Global, replicas: u16) -> UnfinishedDots<S>
+    ensures { (bytes : List ℕ) → ⟦<UnfinishedDots<S> as Unfinished>⟧.finish result bytes
+        ≡ dots_at replicas bytes }
+{
+    let rows = RowsSoFar {
+        replicas,
+        least: 0,
+        seen: S::empty(alloc),
+    };
+    UnfinishedDots {
+        parts: Made {
+            from: Many::Count(CountWidth::Two, rows),
+            maker: RowsEnd {},
+        },
+    }
+}

@@ -1,0 +1,30 @@
+//! Values that are read as their bytes come, put together from few kinds.
+//!
+//! To be read in this order: `unfinished`, what each kind promises, and `laws`, what follows from it; `once`, `many`,
+//! `then`, `made` and `beside`, the kinds; `listed`, rows that are kept in a list; `dots`, `lives` and `counters`, which
+//! are put together from these.
+#![tactic(auto)]
+
+mod beside;
+mod counters;
+mod dots;
+mod laws;
+mod listed;
+mod lives;
+mod made;
+mod many;
+mod once;
+mod then;
+mod unfinished;
+
+pub use beside::{Also, Beside, Pair, pair};
+pub use counters::{UnfinishedCounters, unfinished_counters};
+pub use dots::{SeenDots, UnfinishedDots, unfinished_dots};
+pub use laws::pieces_are_read_as_one;
+pub use listed::{Listed, RowReader, Rows, rows};
+pub use lives::{UnfinishedLives, UnfinishedSeen, unfinished_lives, unfinished_seen};
+pub use made::{Made, Making};
+pub use many::{CountWidth, Many, Repeating};
+pub use once::{Once, Part};
+pub use then::{Following, Then};
+pub use unfinished::{Progress, Unfinished};

@@ -1,0 +1,12 @@
+//! Texts that are read as their bytes come, put together from their parts.
+#![tactic(auto)]
+
+mod answers;
+mod certificates;
+mod digests;
+mod states;
+
+pub use answers::{UnfinishedAnswer, unfinished_answer};
+pub use certificates::{UnfinishedCertificate, unfinished_certificate};
+pub use digests::{UnfinishedDigest, unfinished_digest};
+pub use states::{UnfinishedState, unfinished_state};
