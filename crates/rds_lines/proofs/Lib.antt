@@ -13,3 +13,4 @@ pub mod Running
 pub mod Simulating
 pub mod Spent
 pub mod Told
+pub mod UpdatesShown

@@ -8,5 +8,6 @@ pub mod Overview
 pub mod Refusal
 pub mod Run
 pub mod Sim
+pub mod SimLaws
 pub mod Simulated
 pub mod Views

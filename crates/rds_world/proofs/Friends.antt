@@ -17,7 +17,7 @@ module _ (w : World) (i : IsCoherent w) where
   store_in Kept r = of_kept r
 
   -- what a replica has kept has all that another one's states have of its own
-  kept_known : (x : Store) (r s : ℕ) → r ≢ s → KnowsItsOwn s (w.kept s) (state_in w x r)
+  pub kept_known : (x : Store) (r s : ℕ) → r ≢ s → KnowsItsOwn s (w.kept s) (state_in w x r)
   kept_known Memory r s n = i.in_memory r s n
   kept_known Kept r s n = i.in_kept r s
 

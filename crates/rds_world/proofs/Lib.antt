@@ -1,5 +1,6 @@
 pub mod Answering
 pub mod Answered
+pub mod Brought
 pub mod Certified
 pub mod Coherent
 pub mod Counters
@@ -13,6 +14,7 @@ pub mod Joins
 mod Grown
 pub mod Meeting
 pub mod Sendings
+pub mod OneResult
 pub mod Openings
 pub mod Performed
 pub mod Readings

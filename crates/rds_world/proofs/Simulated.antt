@@ -40,7 +40,7 @@ take_roster : (w : World) (o : Option Reply) → (after_take w o).roster ≡ w.r
 take_roster w None = refl
 take_roster w (Some m) = refl
 
-roster_goes_on : (roster : RosterValue) (w : World) (e : Event) → roster_in roster (after w e) ≡ roster_after (roster_in roster w) e
+pub roster_goes_on : (roster : RosterValue) (w : World) (e : Event) → roster_in roster (after w e) ≡ roster_after (roster_in roster w) e
 roster_goes_on roster w (Edit r c) = refl
 roster_goes_on roster w (Save r) = refl
 roster_goes_on roster w (Crash r) = refl
@@ -127,10 +127,10 @@ module _ (roster : RosterValue) (es : List Event) (v : WorldValue) (r : Reaches 
   abbrev names : List (List ℕ)
   names = roster.names
 
-  accepted : Accepted es (start names)
+  pub accepted : Accepted es (start names)
   accepted = accepted_by_model roster es (start names) r.happened
 
-  stored : (x : Store) (k : ℕ) (m : ReplicaValue) → slice_get (replicas_in v x) k ≡ Some m → state_in (world_after names es) x k ≡ coordinates m.state
+  pub stored : (x : Store) (k : ℕ) (m : ReplicaValue) → slice_get (replicas_in v x) k ≡ Some m → state_in (world_after names es) x k ≡ coordinates m.state
   stored Memory k m e = r.stands.memory k ∙ ap state_of e
   stored Kept k m e = r.stands.kept k ∙ ap state_of e
 

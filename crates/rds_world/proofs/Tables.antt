@@ -2,7 +2,7 @@
 use Rattle.std.proofs.Common.{◌≡◌, ◌<◌, ◌≤◌, ◌∙◌, ℕ, suc, zero, Bool, true, false, cond, List, [], ◌∷◌, ◌++◌, refl, sym, subst, inl, inr, ◌⊎◌, arith, ◌==◌, length, Option, Some, None, slice_get, slice_index_or}
 use Rattle.std.specs.List.{AllZip}
 use Rattle.std.proofs.lemmas.Bool.Decides.{nat_tests}
-use Rattle.std.proofs.lemmas.Option.{slice_get_past, slice_get_read}
+use Rattle.std.proofs.lemmas.Option.{slice_get_cases, slice_get_past, slice_get_read}
 use Rattle.rds_world.specs.World.{put}
 
 pub is_same : (i n : ℕ) → (i == n) ≡ true → i ≡ n
@@ -60,6 +60,13 @@ pub together_some : {A C : Type 0} (P : A → C → Type 0) (x : Option A) (y : 
 together_some P None y m t e = cc
 together_some P (Some n) None m t e = absurd t
 together_some P (Some n) (Some a) m t e = (a, refl, subst (λ z. P z a) (same_some n m e) t)
+
+-- below the length there is a member
+pub member_there : {A : Type 0} (xs : List A) (r : ℕ) → r < length xs → (m : A) × (slice_get xs r ≡ Some m)
+member_there xs r below = elim (slice_get_cases xs r).1 [
+  | inl found ↦ (found.0, found.2)
+  | inr past ↦ absurd (omega (arith, below, past.0))
+]
 
 -- what is read at a place below the length stands there
 pub read_there : {A : Type 0} (xs : List A) (at n : ℕ) (x : A) → at ≡ n → n < length xs → x ≡ slice_index_or xs at x → slice_get xs n ≡ Some x

@@ -1,7 +1,8 @@
 -- What a step does to all worlds of the model that a value stands for.
-use Rattle.std.specs.Prelude.{◌≡◌, ◌<◌, ℕ, List, Some, None, length, slice_get}
+use Rattle.std.specs.Prelude.{◌≡◌, ◌≢◌, ◌<◌, ℕ, List, Some, None, Result, Err, MatchResult, length, slice_get}
 use Rattle.rds_names.specs.Roster.{RosterValue}
 use Rattle.rds_names.specs.declared.fault.Fault.{Fault}
+use Rattle.rds_names.specs.declared.fault.Fault.TheVariants.{Memory}
 use Rattle.rds_state.specs.Fits.{ReplicaValue}
 use Rattle.rds_world.specs.declared.event.Event.{Event}
 use Rattle.rds_world.specs.declared.event.Done.{Done}
@@ -29,3 +30,12 @@ pub record MayGrow (v : WorldValue) (r : ℕ) (name : List ℕ) (roster : Roster
 pub record IsStopped (old : WorldValue) (e : Event) (fault : Fault) (new : WorldValue) : Type 0 where
   pub refused : (w : World) → Stands old w → Refuses old w e fault
   pub same : new ≡ old
+
+-- what a step ensures of its answer and of the world after it
+abbrev pub IsStepped : WorldValue → Event → Result Done Fault → WorldValue → Type 0
+IsStepped old e answer new = MatchResult answer (λ done. IsStep old e done new) (λ fault. IsStopped old e fault new)
+
+-- where there is memory, no second answer and no second world after it meet that
+abbrev pub StepsHaveOneResult : Type 0
+StepsHaveOneResult = (v x y : WorldValue) (w : World) (e : Event) (r s : Result Done Fault) → Stands v w
+    → IsStepped v e r x → IsStepped v e s y → r ≢ Err Memory → s ≢ Err Memory → (r ≡ s) × (x ≡ y)

@@ -26,6 +26,7 @@ ghost use Rattle.rds_world.specs.Law.{
 };
 ghost use Rattle.rds_world.specs.Example.{add_to_s, three, lost_and_again};
 ghost use Rattle.rds_world.specs.Stands.{WorldsHaveOneValue};
+ghost use Rattle.rds_world.specs.Steps.{StepsHaveOneResult};
 ghost use Rattle.rds_world.specs.World.{World, start, run, Accepted};
 ghost use Rattle.rds_world.specs.declared.event.Event.{Event};
 
@@ -62,6 +63,13 @@ pub fn coherent_replicas_are_friends()
 /// said of the one there is. The function does nothing: its contract is this law.
 pub fn worlds_have_one_value()
     ensures { WorldsHaveOneValue }
+{}
+
+/// What [`World::step`](crate::World::step) says of its answer and of the world after it is met by no second pair, but
+/// that memory may run out. So its contract refuses each wrong result. The function does nothing: its contract is this
+/// law.
+pub fn a_step_has_one_result()
+    ensures { StepsHaveOneResult }
 {}
 
 /// What an edit does is determined by its command and the state on which it runs. The function does nothing: its

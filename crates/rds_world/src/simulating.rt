@@ -3,7 +3,7 @@ ghost use Rattle.std.specs.Prelude.{◌≡◌, ◌≤◌, IfOk, IfErr, MatchResu
 ghost use Rattle.rds_names.specs.Roster.{Begins};
 ghost use Rattle.rds_world.specs.Law.{IsCoherentAfter, HasRostersAfter, AreFriendsAfter, EachIsTheJoin, EachDotIsExplained, EachShowsItsUpdates, SameUpdatesSameState, EachAnswerBringsWhatWasKept};
 ghost use Rattle.rds_world.specs.Replies.{EachAnswerIsCertified};
-ghost use Rattle.rds_world.specs.Simulation.{Reaches, Stops, Throughout, ReplicasAreJoins, ReplicasShowTheirUpdates, SameUpdatesSameReplicas};
+ghost use Rattle.rds_world.specs.Simulation.{Reaches, Stops, Throughout, AnswersBringTheirAskers, ReplicasAreCoherent, ReplicasAreJoins, ReplicasExplainTheirDots, ReplicasShowTheirUpdates, ReplicasStayFriends, SameUpdatesSameReplicas};
 
 use crate::event::Event;
 use crate::world::World;
@@ -15,8 +15,9 @@ use std::alloc::Global;
 /// and why. Where there is no memory for the replicas: a world without any, and `Memory`.
 ///
 /// Each state in memory and as kept is the join of the effects of exactly the updates that it holds, as these follow
-/// from the events alone, and its document is theirs, whatever was lost in crashes, came late, twice or never. The
-/// bytes of each answer bring a certificate that is accepted against what those of its ask bring.
+/// from the events alone, and its document is theirs, whatever was lost in crashes, came late, twice or never. Every
+/// two replicas are friends. The bytes of each answer bring a certificate that is accepted against what those of its
+/// ask bring, and a delta that gives what its asker has in memory the join with what its maker had kept.
 pub fn simulate<S: DotSet>(
     alloc: Global,
     roster: Roster,
@@ -28,6 +29,10 @@ pub fn simulate<S: DotSet>(
     ensures joins { IfOk result (λ world. ReplicasAreJoins roster.names events.now world) }
     ensures documents { IfOk result (λ world. ReplicasShowTheirUpdates roster.names events.now world) }
     ensures same { IfOk result (λ world. SameUpdatesSameReplicas roster.names events.now world) }
+    ensures dots { IfOk result (λ world. ReplicasExplainTheirDots roster.names events.now world) }
+    ensures answers { IfOk result (λ world. AnswersBringTheirAskers roster.names events.now world) }
+    ensures coherent { MatchResult result ReplicasAreCoherent (λ e. ReplicasAreCoherent e.0) }
+    ensures friends { MatchResult result ReplicasStayFriends (λ e. ReplicasStayFriends e.0) }
     ensures certified { MatchResult result EachAnswerIsCertified (λ e. EachAnswerIsCertified e.0) }
     ensures coherent_throughout { Throughout roster.names events.now IsCoherentAfter }
     ensures friends_throughout { Throughout roster.names events.now AreFriendsAfter }
