@@ -26,31 +26,31 @@ undashed name command words result meets are behind = (undashed_fault (built nod
 
 -- ---- behind dashes
 
-join_dashed : (name : Text) → Names (name ∷ codes "join" ∷ codes "--" ∷ []) (codes "join" ∷ [])
+pub join_dashed : (name : Text) → Names (name ∷ codes "join" ∷ codes "--" ∷ []) (codes "join" ∷ [])
 unfolding node_on_words
 join_dashed name = (refl, refl)
 
-sim_dashed : (name : Text) → Names (name ∷ codes "sim" ∷ codes "--" ∷ []) (codes "sim" ∷ [])
+pub sim_dashed : (name : Text) → Names (name ∷ codes "sim" ∷ codes "--" ∷ []) (codes "sim" ∷ [])
 unfolding node_on_words
 sim_dashed name = (refl, refl)
 
-show_dashed : (name file path : Text) → Names (name ∷ codes "show" ∷ codes "--" ∷ file ∷ path ∷ []) (codes "show" ∷ file ∷ path ∷ [])
+pub show_dashed : (name file path : Text) → Names (name ∷ codes "show" ∷ codes "--" ∷ file ∷ path ∷ []) (codes "show" ∷ file ∷ path ∷ [])
 unfolding node_on_words
 show_dashed name file path = (refl, refl)
 
-edit_lines_dashed : (name file : Text) → Names (name ∷ codes "edit" ∷ codes "--" ∷ file ∷ []) (codes "edit" ∷ file ∷ [])
+pub edit_lines_dashed : (name file : Text) → Names (name ∷ codes "edit" ∷ codes "--" ∷ file ∷ []) (codes "edit" ∷ file ∷ [])
 unfolding node_on_words
 edit_lines_dashed name file = (refl, refl)
 
-get_dashed : (name file path : Text) → Names (name ∷ codes "get" ∷ codes "--" ∷ file ∷ path ∷ []) (codes "get" ∷ file ∷ path ∷ [])
+pub get_dashed : (name file path : Text) → Names (name ∷ codes "get" ∷ codes "--" ∷ file ∷ path ∷ []) (codes "get" ∷ file ∷ path ∷ [])
 unfolding node_on_words
 get_dashed name file path = (refl, refl)
 
-status_dashed : (name file : Text) → Names (name ∷ codes "status" ∷ codes "--" ∷ file ∷ []) (codes "status" ∷ file ∷ [])
+pub status_dashed : (name file : Text) → Names (name ∷ codes "status" ∷ codes "--" ∷ file ∷ []) (codes "status" ∷ file ∷ [])
 unfolding node_on_words
 status_dashed name file = (refl, refl)
 
-sync_dashed : (name file addr timeout : Text) → Names (name ∷ codes "sync" ∷ (codes "--timeout=" ++ timeout) ∷ codes "--" ∷ file ∷ addr ∷ []) (codes "sync" ∷ file ∷ addr ∷ timeout ∷ [])
+pub sync_dashed : (name file addr timeout : Text) → Names (name ∷ codes "sync" ∷ (codes "--timeout=" ++ timeout) ∷ codes "--" ∷ file ∷ addr ∷ []) (codes "sync" ∷ file ∷ addr ∷ timeout ∷ [])
 unfolding node_on_words
 sync_dashed name file addr timeout = (refl, refl)
 
@@ -58,35 +58,35 @@ pub sync_alone_dashed : (name file addr : Text) → Names (name ∷ codes "sync"
 unfolding node_on_words
 sync_alone_dashed name file addr = (refl, refl)
 
-pair_dashed : (name first second : Text) → Names (name ∷ codes "pair" ∷ codes "--" ∷ first ∷ second ∷ []) (codes "pair" ∷ first ∷ second ∷ [])
+pub pair_dashed : (name first second : Text) → Names (name ∷ codes "pair" ∷ codes "--" ∷ first ∷ second ∷ []) (codes "pair" ∷ first ∷ second ∷ [])
 unfolding node_on_words
 pair_dashed name first second = (refl, refl)
 
-set_dashed : (name file path value : Text) → Names (name ∷ codes "set" ∷ codes "--" ∷ file ∷ path ∷ value ∷ []) (codes "set" ∷ file ∷ path ∷ value ∷ [])
+pub set_dashed : (name file path value : Text) → Names (name ∷ codes "set" ∷ codes "--" ∷ file ∷ path ∷ value ∷ []) (codes "set" ∷ file ∷ path ∷ value ∷ [])
 unfolding node_on_words
 set_dashed name file path value = (refl, refl)
 
-add_dashed : (name file path value : Text) → Names (name ∷ codes "add" ∷ codes "--" ∷ file ∷ path ∷ value ∷ []) (codes "add" ∷ file ∷ path ∷ value ∷ [])
+pub add_dashed : (name file path value : Text) → Names (name ∷ codes "add" ∷ codes "--" ∷ file ∷ path ∷ value ∷ []) (codes "add" ∷ file ∷ path ∷ value ∷ [])
 unfolding node_on_words
 add_dashed name file path value = (refl, refl)
 
-del_dashed : (name file path value : Text) → Names (name ∷ codes "del" ∷ codes "--" ∷ file ∷ path ∷ value ∷ []) (codes "del" ∷ file ∷ path ∷ value ∷ [])
+pub del_dashed : (name file path value : Text) → Names (name ∷ codes "del" ∷ codes "--" ∷ file ∷ path ∷ value ∷ []) (codes "del" ∷ file ∷ path ∷ value ∷ [])
 unfolding node_on_words
 del_dashed name file path value = (refl, refl)
 
-clear_dashed : (name file path : Text) → Names (name ∷ codes "clear" ∷ codes "--" ∷ file ∷ path ∷ []) (codes "clear" ∷ file ∷ path ∷ [])
+pub clear_dashed : (name file path : Text) → Names (name ∷ codes "clear" ∷ codes "--" ∷ file ∷ path ∷ []) (codes "clear" ∷ file ∷ path ∷ [])
 unfolding node_on_words
 clear_dashed name file path = (refl, refl)
 
-inc_dashed : (name file key by : Text) → Names (name ∷ codes "inc" ∷ codes "--" ∷ file ∷ key ∷ by ∷ []) (codes "inc" ∷ file ∷ key ∷ by ∷ [])
+pub inc_dashed : (name file key by : Text) → Names (name ∷ codes "inc" ∷ codes "--" ∷ file ∷ key ∷ by ∷ []) (codes "inc" ∷ file ∷ key ∷ by ∷ [])
 unfolding node_on_words
 inc_dashed name file key by = (refl, refl)
 
-dec_dashed : (name file key by : Text) → Names (name ∷ codes "dec" ∷ codes "--" ∷ file ∷ key ∷ by ∷ []) (codes "dec" ∷ file ∷ key ∷ by ∷ [])
+pub dec_dashed : (name file key by : Text) → Names (name ∷ codes "dec" ∷ codes "--" ∷ file ∷ key ∷ by ∷ []) (codes "dec" ∷ file ∷ key ∷ by ∷ [])
 unfolding node_on_words
 dec_dashed name file key by = (refl, refl)
 
-serve_dashed : (name file addr sessions timeout : Text) → Names (name ∷ codes "serve" ∷ (codes "--sessions=" ++ sessions) ∷ (codes "--timeout=" ++ timeout) ∷ codes "--" ∷ file ∷ addr ∷ [])
+pub serve_dashed : (name file addr sessions timeout : Text) → Names (name ∷ codes "serve" ∷ (codes "--sessions=" ++ sessions) ∷ (codes "--timeout=" ++ timeout) ∷ codes "--" ∷ file ∷ addr ∷ [])
     (codes "serve" ∷ file ∷ addr ∷ sessions ∷ timeout ∷ [])
 unfolding node_on_words
 serve_dashed name file addr sessions timeout = (refl, refl)
@@ -99,65 +99,65 @@ pub timeout_alone_dashed : (name file addr timeout : Text) → Names (name ∷ c
 unfolding node_on_words
 timeout_alone_dashed name file addr timeout = (refl, refl)
 
-once_dashed : (name file addr : Text) → Names (name ∷ codes "serve" ∷ codes "--" ∷ file ∷ addr ∷ []) (codes "serve" ∷ file ∷ addr ∷ codes "1" ∷ codes "60" ∷ [])
+pub once_dashed : (name file addr : Text) → Names (name ∷ codes "serve" ∷ codes "--" ∷ file ∷ addr ∷ []) (codes "serve" ∷ file ∷ addr ∷ codes "1" ∷ codes "60" ∷ [])
 unfolding node_on_words
 once_dashed name file addr = (refl, refl)
 
-show_root_dashed : (name file : Text) → Names (name ∷ codes "show" ∷ codes "--" ∷ file ∷ []) (codes "show" ∷ file ∷ [] ∷ [])
+pub show_root_dashed : (name file : Text) → Names (name ∷ codes "show" ∷ codes "--" ∷ file ∷ []) (codes "show" ∷ file ∷ [] ∷ [])
 unfolding node_on_words
 show_root_dashed name file = (refl, refl)
 
-clear_root_dashed : (name file : Text) → Names (name ∷ codes "clear" ∷ codes "--" ∷ file ∷ []) (codes "clear" ∷ file ∷ [] ∷ [])
+pub clear_root_dashed : (name file : Text) → Names (name ∷ codes "clear" ∷ codes "--" ∷ file ∷ []) (codes "clear" ∷ file ∷ [] ∷ [])
 unfolding node_on_words
 clear_root_dashed name file = (refl, refl)
 
 -- ---- where the walk over the words meets each command
 
-join_met : Meets (built node_app) (codes "join")
+pub join_met : Meets (built node_app) (codes "join")
 unfolding node_on_words
 join_met = (refl, refl)
 
-sim_met : Meets (built node_app) (codes "sim")
+pub sim_met : Meets (built node_app) (codes "sim")
 unfolding node_on_words
 sim_met = (refl, refl)
 
-edit_lines_met : Meets (built node_app) (codes "edit")
+pub edit_lines_met : Meets (built node_app) (codes "edit")
 unfolding node_on_words
 edit_lines_met = (refl, refl)
 
-get_met : Meets (built node_app) (codes "get")
+pub get_met : Meets (built node_app) (codes "get")
 unfolding node_on_words
 get_met = (refl, refl)
 
-status_met : Meets (built node_app) (codes "status")
+pub status_met : Meets (built node_app) (codes "status")
 unfolding node_on_words
 status_met = (refl, refl)
 
-pair_met : Meets (built node_app) (codes "pair")
+pub pair_met : Meets (built node_app) (codes "pair")
 unfolding node_on_words
 pair_met = (refl, refl)
 
-set_met : Meets (built node_app) (codes "set")
+pub set_met : Meets (built node_app) (codes "set")
 unfolding node_on_words
 set_met = (refl, refl)
 
-add_met : Meets (built node_app) (codes "add")
+pub add_met : Meets (built node_app) (codes "add")
 unfolding node_on_words
 add_met = (refl, refl)
 
-del_met : Meets (built node_app) (codes "del")
+pub del_met : Meets (built node_app) (codes "del")
 unfolding node_on_words
 del_met = (refl, refl)
 
-clear_met : Meets (built node_app) (codes "clear")
+pub clear_met : Meets (built node_app) (codes "clear")
 unfolding node_on_words
 clear_met = (refl, refl)
 
-inc_met : Meets (built node_app) (codes "inc")
+pub inc_met : Meets (built node_app) (codes "inc")
 unfolding node_on_words
 inc_met = (refl, refl)
 
-dec_met : Meets (built node_app) (codes "dec")
+pub dec_met : Meets (built node_app) (codes "dec")
 unfolding node_on_words
 dec_met = (refl, refl)
 

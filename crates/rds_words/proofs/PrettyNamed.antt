@@ -51,19 +51,19 @@ flag_steps = (refl, refl)
 
 flagged_file_steps : (file : Text) → is_data file ≡ true → Steps show_shape (at flagged idle 1 false) file (at (flagged_file file) idle 2 false)
 unfolding flagged flagged_file node_on_words
-flagged_file_steps file are = (data_next show_shape.rules flagged idle 1 file are, data_turn show_shape flagged idle 1 file are)
+flagged_file_steps file are = (data_next show_shape.rules flagged idle 1 file are refl, data_turn show_shape flagged idle 1 file are refl)
 
 flagged_path_steps : (file path : Text) → is_data path ≡ true → Steps show_shape (at (flagged_file file) idle 2 false) path (at (flagged_path file path) idle 3 false)
 unfolding flagged_file flagged_path node_on_words
-flagged_path_steps file path are = (data_next show_shape.rules (flagged_file file) idle 2 path are, data_turn show_shape (flagged_file file) idle 2 path are)
+flagged_path_steps file path are = (data_next show_shape.rules (flagged_file file) idle 2 path are refl, data_turn show_shape (flagged_file file) idle 2 path are refl)
 
 file_steps : (file : Text) → is_data file ≡ true → Steps show_shape (walk_from nothing_held) file (at (with_file file) idle 2 false)
 unfolding with_file node_on_words
-file_steps file are = (data_next show_shape.rules nothing_held idle 1 file are, data_turn show_shape nothing_held idle 1 file are)
+file_steps file are = (data_next show_shape.rules nothing_held idle 1 file are refl, data_turn show_shape nothing_held idle 1 file are refl)
 
 path_steps : (file path : Text) → is_data path ≡ true → Steps show_shape (at (with_file file) idle 2 false) path (at (with_path file path) idle 3 false)
 unfolding with_file with_path node_on_words
-path_steps file path are = (data_next show_shape.rules (with_file file) idle 2 path are, data_turn show_shape (with_file file) idle 2 path are)
+path_steps file path are = (data_next show_shape.rules (with_file file) idle 2 path are refl, data_turn show_shape (with_file file) idle 2 path are refl)
 
 file_flag_steps : (file : Text) → Steps show_shape (at (with_file file) idle 2 false) (codes "--pretty") (at (file_flagged file) idle 2 false)
 unfolding with_file file_flagged node_on_words

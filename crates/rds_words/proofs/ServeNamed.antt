@@ -26,11 +26,11 @@ with_both file addr sessions values = record {
 
 file_steps : (file : Text) → is_data file ≡ true → Steps serve_shape (walk_from nothing_held) file (at (with_file file) idle 2 false)
 unfolding with_file node_on_words
-file_steps file are = (data_next serve_shape.rules nothing_held idle 1 file are, data_turn serve_shape nothing_held idle 1 file are)
+file_steps file are = (data_next serve_shape.rules nothing_held idle 1 file are refl, data_turn serve_shape nothing_held idle 1 file are refl)
 
 address_steps : (file addr : Text) → is_data addr ≡ true → Steps serve_shape (at (with_file file) idle 2 false) addr (at (with_address file addr) idle 3 false)
 unfolding with_file with_address node_on_words
-address_steps file addr are = (data_next serve_shape.rules (with_file file) idle 2 addr are, data_turn serve_shape (with_file file) idle 2 addr are)
+address_steps file addr are = (data_next serve_shape.rules (with_file file) idle 2 addr are refl, data_turn serve_shape (with_file file) idle 2 addr are refl)
 
 sessions_steps : (file addr : Text)
     → Steps serve_shape (at (with_address file addr) idle 3 false) (codes "--sessions") (at (with_option file addr (codes "SESSIONS") []) (option (codes "SESSIONS")) 3 false)
@@ -43,7 +43,7 @@ unfolding with_option node_on_words
 count_steps file addr sessions are =
     let held = with_option file addr (codes "SESSIONS") [] in
     let waiting = option (codes "SESSIONS") in
-    (data_next serve_shape.rules held waiting 3 sessions are, data_turn serve_shape held waiting 3 sessions are)
+    (data_next serve_shape.rules held waiting 3 sessions are refl, data_turn serve_shape held waiting 3 sessions are refl)
 
 timeout_steps : (file addr sessions : Text)
     → Steps serve_shape (at (with_option file addr (codes "SESSIONS") (sessions ∷ [])) idle 3 false) (codes "--timeout") (at (with_both file addr sessions []) (option (codes "TIMEOUT")) 3 false)
@@ -56,7 +56,7 @@ unfolding with_both node_on_words
 seconds_steps file addr sessions timeout are =
     let held = with_both file addr sessions [] in
     let waiting = option (codes "TIMEOUT") in
-    (data_next serve_shape.rules held waiting 3 timeout are, data_turn serve_shape held waiting 3 timeout are)
+    (data_next serve_shape.rules held waiting 3 timeout are refl, data_turn serve_shape held waiting 3 timeout are refl)
 
 alone_steps : (file addr : Text)
     → Steps serve_shape (at (with_address file addr) idle 3 false) (codes "--timeout") (at (with_option file addr (codes "TIMEOUT") []) (option (codes "TIMEOUT")) 3 false)
@@ -69,7 +69,7 @@ unfolding with_option node_on_words
 alone_seconds_steps file addr timeout are =
     let held = with_option file addr (codes "TIMEOUT") [] in
     let waiting = option (codes "TIMEOUT") in
-    (data_next serve_shape.rules held waiting 3 timeout are, data_turn serve_shape held waiting 3 timeout are)
+    (data_next serve_shape.rules held waiting 3 timeout are refl, data_turn serve_shape held waiting 3 timeout are refl)
 
 -- ---- to the end
 

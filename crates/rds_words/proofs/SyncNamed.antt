@@ -16,11 +16,11 @@ sync_shape = shape_behind (codes "sync")
 
 file_steps : (file : Text) → is_data file ≡ true → Steps sync_shape (walk_from nothing_held) file (at (with_file file) idle 2 false)
 unfolding with_file node_on_words
-file_steps file are = (data_next sync_shape.rules nothing_held idle 1 file are, data_turn sync_shape nothing_held idle 1 file are)
+file_steps file are = (data_next sync_shape.rules nothing_held idle 1 file are refl, data_turn sync_shape nothing_held idle 1 file are refl)
 
 address_steps : (file addr : Text) → is_data addr ≡ true → Steps sync_shape (at (with_file file) idle 2 false) addr (at (with_address file addr) idle 3 false)
 unfolding with_file with_address node_on_words
-address_steps file addr are = (data_next sync_shape.rules (with_file file) idle 2 addr are, data_turn sync_shape (with_file file) idle 2 addr are)
+address_steps file addr are = (data_next sync_shape.rules (with_file file) idle 2 addr are refl, data_turn sync_shape (with_file file) idle 2 addr are refl)
 
 option_steps : (file addr : Text)
     → Steps sync_shape (at (with_address file addr) idle 3 false) (codes "--timeout") (at (with_option file addr (codes "TIMEOUT") []) (option (codes "TIMEOUT")) 3 false)
@@ -33,7 +33,7 @@ unfolding with_option node_on_words
 value_steps file addr timeout are =
     let held = with_option file addr (codes "TIMEOUT") [] in
     let waiting = option (codes "TIMEOUT") in
-    (data_next sync_shape.rules held waiting 3 timeout are, data_turn sync_shape held waiting 3 timeout are)
+    (data_next sync_shape.rules held waiting 3 timeout are refl, data_turn sync_shape held waiting 3 timeout are refl)
 
 end_passes : (file addr timeout : Text) → end_fault sync_shape (with_option file addr (codes "TIMEOUT") (timeout ∷ [])) ≡ []
 unfolding with_option node_on_words

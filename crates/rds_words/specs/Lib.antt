@@ -2,5 +2,6 @@ pub mod Commands
 pub mod Described
 pub mod Entered
 pub mod Meaning
+pub mod Spelling
 pub mod Task
 pub mod Written

@@ -1,15 +1,16 @@
 -- How a task is written on the command line.
-use Rattle.std.specs.Prelude.{◌≡◌, ⊤, Bool, true, not, ◌==◌, List, [], ◌∷◌, ◌++◌, codes, drop}
+use Rattle.std.specs.Prelude.{◌≡◌, ⊤, Bool, true, not, ◌==◌, ◌&&◌, List, [], ◌∷◌, ◌++◌, codes, drop, is_some, slice_get}
 use Rattle.std.specs.List.{list_all}
+use Rattle.std.specs.Str.{chars}
 use Rattle.clap.specs.Words.{Text}
 use Rattle.rds_words.specs.declared.tasks.Task.{Task}
 use Rattle.rds_words.specs.declared.tasks.Task.TheVariants.{Grow, Init, Serve, ShowPretty, Sync}
 use Rattle.rds_words.specs.Task.{words_of}
 
--- the word can't be taken for an option: it doesn't begin with a hyphen
+-- the word can't be taken for an option: it doesn't begin with a hyphen and a character behind it
 abbrev pub is_data : Text → Bool
 is_data [] = true
-is_data (b ∷ bs) = not (b == 45)
+is_data (b ∷ bs) = not (b == 45 && is_some (slice_get (chars bs) 0))
 
 abbrev pub AreData : List Text → Type 0
 AreData words = list_all is_data words ≡ true

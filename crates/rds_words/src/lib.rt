@@ -10,6 +10,6 @@ mod reading;
 mod table;
 mod tasks;
 
-pub use laws::word_laws;
+pub use laws::{word_laws, words_mean_their_spelling};
 pub use meaning::{amount_of, command_of, names_in, roster_in};
 pub use tasks::{EditWords, GrowWords, InitWords, ServeWords, SyncWords, Task, task_of};
