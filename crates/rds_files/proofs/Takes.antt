@@ -1,8 +1,10 @@
 -- Why a delta that was checked isn't taken.
-use Rattle.std.proofs.Common.{◌≡◌, ◌∙◌, ℕ, List, Option, Some, None, Result, Ok, Err, IfErr, inl, inr, refl, sym, subst}
+use Rattle.std.proofs.Common.{◌≡◌, ◌∙◌, ◌<◌, ℕ, length, List, Option, Some, None, Result, Ok, Err, IfErr, inl, inr, refl, sym, subst}
 use Rattle.rds_names.specs.Roster.{RosterValue}
 use Rattle.rds_names.specs.declared.fault.Fault.{Fault}
-use Rattle.rds_names.specs.declared.fault.Fault.TheVariants.{Memory, Conflict, OwnAhead, WrongGroup, WrongRoster}
+use Rattle.rds_names.specs.declared.fault.Fault.TheVariants.{Memory, Conflict, OwnAhead, TooLong, WrongGroup, WrongRoster}
+use Rattle.rds_codec.specs.StateTexts.{snapshot_text}
+use Rattle.rds_codec.specs.declared.limits.TheConstants.{LIMIT}
 use Rattle.rds_state.specs.Fits.{ReplicaValue}
 use Rattle.rds_state.specs.Grown.{OneBegins, TakeWithGives}
 use Rattle.rds_state.specs.Value.{StateValue, coordinates}
@@ -47,7 +49,13 @@ refused asked held delta roster came (Err fault) checked same is gives =
 pub refused_held : (path : List ℕ) (file : KeptFile) (asked : ReplicaValue) (delivery : Delivery) (fault : Fault) → IsHeldAt path file → RefusesJoin asked file.kept delivery fault → RefusesAt path asked delivery fault
 refused_held path file asked delivery fault held why = inr (record { held = file.kept; value = held.value; why = why })
 
+-- an answer has one fault
+one_fault : {T : Type 0} (result : Result T Fault) (e f : Fault) → result ≡ Err e → result ≡ Err f → e ≡ f
+one_fault result e f one other = cc
+
 -- what a file held under its lock took a delta, and can't be kept
-pub unkept_held : (path : List ℕ) (file : KeptFile) (asked : ReplicaValue) (delivery : Delivery) (kept : ReplicaValue) (fault : Fault)
-    → IsHeldAt path file → IsSameReplica asked file.kept → IsJoined file.kept (roster_among asked.roster delivery.1) delivery.0 kept → IsUnkept kept fault → IsJoinedUnkept asked delivery fault
-unkept_held path file asked delivery kept fault held same joined why = record { held = file.kept; value = held.value; same = same; kept = kept; joined = joined; why = why }
+pub unkept_held : {T : Type 0} (path : List ℕ) (file : KeptFile) (asked : ReplicaValue) (delivery : Delivery) (kept : ReplicaValue) (result : Result T Fault) (fault : Fault)
+    → IsHeldAt path file → IsSameReplica asked file.kept → IsJoined file.kept (roster_among asked.roster delivery.1) delivery.0 kept → IsUnkept kept fault
+    → result ≡ Err fault → (LIMIT < length (snapshot_text kept) → result ≡ Err TooLong) → IsJoinedUnkept asked delivery fault
+unkept_held path file asked delivery kept result fault held same joined why is long =
+    record { held = file.kept; value = held.value; same = same; kept = kept; joined = joined; why = why; long = λ above. one_fault result fault TooLong is (long above) }

@@ -1,5 +1,5 @@
 -- Replicas in files.
-use Rattle.std.specs.Prelude.{◌≡◌, ◌==◌, ◌⊎◌, ◌<◌, ℕ, Bool, true, false, List, length, codes, refl}
+use Rattle.std.specs.Prelude.{◌≡◌, ◌==◌, ◌⊎◌, ◌<◌, ℕ, Bool, true, false, List, length, codes, refl, Option, IfSome}
 use Rattle.std.specs.List.{ends_with}
 use Rattle.std.specs.Coded.{Coded, code_by, coded×, coded_list, coded_ℕ}
 use Rattle.rds_names.specs.declared.fault.Fault.{Fault}
@@ -93,6 +93,10 @@ pub record IsReplacedAt (path : List ℕ) (file : ReplacedValue) : Type 0 where
 abbrev pub IsUnread : Fault → Type 0
 IsUnread fault = (fault ≡ Device) ⊎ IsOtherFault fault
 
+-- there is a file that holds more than a text may have, where it is known what it holds
+abbrev pub HoldsTooMuch : {F : Type 0} → (F → Option (List ℕ)) → Type 0
+HoldsTooMuch {F} remaining = (file : F) × IfSome (remaining file) (λ input. LIMIT < length input)
+
 -- why a file can't be locked and read: by its path; or it gives no replica
 abbrev pub RefusesLock : List ℕ → Fault → Type 0
 RefusesLock path fault = ((fault ≡ Usage) × (is_beside path ≡ true)) ⊎ IsUnread fault
@@ -101,6 +105,10 @@ RefusesLock path fault = ((fault ≡ Usage) × (is_beside path ≡ true)) ⊎ Is
 abbrev pub IsUnkept : ReplicaValue → Fault → Type 0
 IsUnkept replica fault =
     (fault ≡ Memory) ⊎ ((fault ≡ Device) ⊎ ((fault ≡ TooLong) × (LIMIT < length (snapshot_text replica))))
+
+-- why no file can be made at a path, whatever it is to keep: by the path, since something is there, or since a call failed
+abbrev pub IsNoPlace : Fault → Type 0
+IsNoPlace fault = (fault ≡ Usage) ⊎ (fault ≡ Device)
 
 -- why no file is made for a replica: by its path, or since something is there; or the replica can't be kept
 abbrev pub RefusesFile : ReplicaValue → Fault → Type 0

@@ -1,9 +1,10 @@
 -- What becomes of what a session received for the replica in a file.
-use Rattle.std.specs.Prelude.{◌≡◌, ◌⊎◌, Bool, true, false, List, ℕ, Option, Some, None, Err}
+use Rattle.std.specs.Prelude.{◌≡◌, ◌⊎◌, ◌<◌, Bool, true, false, List, ℕ, length, Option, Some, None, Err}
 use Rattle.rds_names.specs.Roster.{RosterValue}
 use Rattle.rds_names.specs.declared.fault.Fault.{Fault}
-use Rattle.rds_names.specs.declared.fault.Fault.TheVariants.{Memory, OwnAhead, WrongAsker, WrongRoster}
-use Rattle.rds_codec.specs.StateTexts.{IsSnapshot}
+use Rattle.rds_names.specs.declared.fault.Fault.TheVariants.{Memory, OwnAhead, TooLong, WrongAsker, WrongRoster}
+use Rattle.rds_codec.specs.StateTexts.{IsSnapshot, snapshot_text}
+use Rattle.rds_codec.specs.declared.limits.TheConstants.{LIMIT}
 use Rattle.rds_delta.specs.Least.{IsAbove}
 use Rattle.rds_delta.specs.Ranks.{ranks}
 use Rattle.rds_session.specs.Judging.{roster_among}
@@ -67,7 +68,7 @@ pub record RefusesHeld (asked : ReplicaValue) (delivery : Delivery) (fault : Fau
 abbrev pub RefusesAt : List ℕ → ReplicaValue → Delivery → Fault → Type 0
 RefusesAt path asked delivery fault = RefusesLock path fault ⊎ RefusesHeld asked delivery fault
 
--- what a file held took a delta, and can't be kept
+-- what a file held took a delta, and can't be kept: TooLong exactly where its text is above the limit
 pub record IsJoinedUnkept (asked : ReplicaValue) (delivery : Delivery) (fault : Fault) : Type 0 where
   pub held : ReplicaValue
   pub value : IsSnapshot held
@@ -75,6 +76,7 @@ pub record IsJoinedUnkept (asked : ReplicaValue) (delivery : Delivery) (fault : 
   pub kept : ReplicaValue
   pub joined : IsJoined held (roster_among asked.roster delivery.1) delivery.0 kept
   pub why : IsUnkept kept fault
+  pub long : LIMIT < length (snapshot_text kept) → fault ≡ TooLong
 
 -- what became of a delta: the file took it and was replaced, or it wasn't taken, or the file couldn't be replaced
 abbrev pub SettlesDelta : List ℕ → ReplicaValue → Delivery → Settled → Option ReplacedValue → Type 0

@@ -1,15 +1,18 @@
 //! A new file that is written beside the one whose place it takes.
-ghost use Rattle.std.specs.Prelude.{◌≡◌, ◌≤◌, length, IfErr, IfOk, OnOk};
+ghost use Rattle.std.specs.Prelude.{◌≡◌, ◌≤◌, ◌<◌, length, Err, IfErr, IfOk, OnOk};
+ghost use Rattle.rds_names.specs.declared.fault.Fault.TheVariants.{TooLong};
 ghost use Rattle.rds_codec.specs.StateTexts.{snapshot_text};
 ghost use Rattle.rds_codec.specs.declared.limits.TheConstants.{LIMIT};
 ghost use Rattle.rds_files.specs.Files.{IsUnkept};
 
 use crate::disk::{Disk, note};
 use crate::locks::LockFile;
+use rds_codec::encode_snapshot;
 use rds_dots::DotSet;
-use rds_keep::{Counted, Kept, Place, keep_owned};
+use rds_keep::{Counted, Kept, Place, keep_in, keep_owned};
 use rds_names::Fault;
 use rds_state::Replica;
+use std::alloc::Global;
 use std::fs::{OpenFile, OpenOptions};
 use std::io::{ErrorKind, Write};
 use std::os::unix::fs::OpenOptionsExt;
@@ -35,12 +38,16 @@ where
     ensures kept { IfOk result (λ kept. kept ≡ replica.now) }
     ensures fault { IfErr result (IsUnkept replica.now) }
     ensures limit { OnOk result (length (snapshot_text replica.now) ≤ LIMIT) }
+    ensures long { LIMIT < length (snapshot_text replica.now) → result ≡ Err TooLong }
 {
     let alloc = rt.alloc();
-    let copy = replica.copy(alloc)?;
-    let name = format!(in alloc; "{path}.new")?;
-    let made = Beside::create(rt, name.as_str(), path, NEW_MODE);
-    keep_made(rt, copy, name.as_str(), made)
+    let Ok(name) = format!(in alloc; "{path}.new") else {
+        return Err(first_due(alloc, replica, Fault::Memory));
+    };
+    match Beside::create(rt, name.as_str(), path, NEW_MODE) {
+        Ok(beside) => keep_in(alloc, replica, &mut Counted::new(beside)),
+        Err(error) => Err(unmade(rt, replica, name.as_str(), &error)),
+    }
 }
 
 /// Keeps the replica in the file of this path in place of what it holds, as `keep_new` does; FILE.new gets the mode of
@@ -56,30 +63,36 @@ where
     ensures kept { IfOk result (λ kept. kept ≡ replica) }
     ensures fault { IfErr result (IsUnkept replica) }
     ensures limit { OnOk result (length (snapshot_text replica) ≤ LIMIT) }
+    ensures long { LIMIT < length (snapshot_text replica) → result ≡ Err TooLong }
 {
     let alloc = rt.alloc();
-    let name = format!(in alloc; "{path}.new")?;
-    let made = Beside::create_like(rt, name.as_str(), path, old);
-    keep_made(rt, replica, name.as_str(), made)
+    let Ok(name) = format!(in alloc; "{path}.new") else {
+        return Err(first_due(alloc, &replica, Fault::Memory));
+    };
+    match Beside::create_like(rt, name.as_str(), path, old) {
+        Ok(beside) => keep_owned(alloc, replica, &mut Counted::new(beside)),
+        Err(error) => Err(unmade(rt, &replica, name.as_str(), &error)),
+    }
 }
 
-// Keeps the replica in a file beside another, which takes its place.
-fn keep_made<H: Disk, S: DotSet>(
-    rt: &H,
-    replica: Replica<S>,
-    name: &str,
-    made: io::Result<Beside<'_, H>>,
-) -> Result<Kept<S>, Fault>
-    ensures kept { IfOk result (λ kept. kept ≡ replica) }
-    ensures fault { IfErr result (IsUnkept replica) }
-    ensures limit { OnOk result (length (snapshot_text replica) ≤ LIMIT) }
+// Tells that FILE.new can't be made, and answers by which fault the replica isn't kept then.
+fn unmade<H: Disk, S: DotSet>(rt: &H, replica: &Replica<S>, name: &str, error: &io::Error) -> Fault
+    ensures fault { IsUnkept replica.now result }
+    ensures long { LIMIT < length (snapshot_text replica.now) → result ≡ TooLong }
 {
-    match made {
-        Ok(beside) => keep_owned(rt.alloc(), replica, &mut Counted::new(beside)),
-        Err(error) => {
-            note(rt, "cannot make", name, &error);
-            Err(Fault::Device)
-        }
+    note(rt, "cannot make", name, error);
+    first_due(rt.alloc(), replica, Fault::Device)
+}
+
+// The first fault that is due where this one came before the replica's text was measured: `TooLong` goes before all
+// others.
+fn first_due<S: DotSet>(alloc: Global, replica: &Replica<S>, fault: Fault) -> Fault
+    ensures within { length (snapshot_text replica.now) ≤ LIMIT → result ≡ fault }
+    ensures long { LIMIT < length (snapshot_text replica.now) → result ≡ TooLong }
+{
+    match encode_snapshot(alloc, replica) {
+        Err(Fault::TooLong) => Fault::TooLong,
+        _ => fault,
     }
 }
 

@@ -1,9 +1,9 @@
 //! Replicas in files.
-ghost use Rattle.std.specs.Prelude.{◌≡◌, ◌≤◌, true, false, length, Err, IfOk, IfErr, OnOk};
-ghost use Rattle.rds_names.specs.declared.fault.Fault.TheVariants.{Device, Usage};
+ghost use Rattle.std.specs.Prelude.{◌≡◌, ◌≤◌, ◌<◌, ◌⊎◌, true, false, length, Err, IfOk, IfErr, IfSome, OnOk};
+ghost use Rattle.rds_names.specs.declared.fault.Fault.TheVariants.{Device, TooLong, Usage};
 ghost use Rattle.rds_codec.specs.StateTexts.{IsSnapshot, snapshot_text};
 ghost use Rattle.rds_codec.specs.declared.limits.TheConstants.{LIMIT};
-ghost use Rattle.rds_files.specs.Files.{IsHeldAt, IsReadAt, IsReadBy, IsUnkept, IsUnread, RefusesFile, RefusesLock, is_beside, read_more};
+ghost use Rattle.rds_files.specs.Files.{HoldsTooMuch, IsHeldAt, IsNoPlace, IsReadAt, IsReadBy, IsUnkept, IsUnread, RefusesFile, RefusesLock, is_beside, read_more};
 
 use crate::beside::{folder_of, keep_new, keep_over};
 use crate::disk::{Disk, note};
@@ -56,6 +56,7 @@ impl<'a> FilePath<'a> {
         ensures read { IfOk result (IsReadBy self.old) }
         ensures counted { self.new ≡ read_more self.old }
         ensures fault { IfErr result IsUnread }
+        ensures long { IfErr result (λ fault. fault ≡ TooLong → HoldsTooMuch H.File.remaining) }
     {
         let nth = self.reads;
         self.reads = self.reads.saturating_add(1);
@@ -92,6 +93,7 @@ impl<'a, S: DotSet> ReplicaFile<'a, S> {
     pub fn open<H: Disk>(rt: &H, path: &'a str) -> Result<ReplicaFile<'a, S>, Fault>
         ensures read { IfOk result (IsReadAt path.now) }
         ensures fault { IfErr result IsUnread }
+        ensures long { IfErr result (λ fault. fault ≡ TooLong → HoldsTooMuch H.File.remaining) }
     {
         FilePath::new(path).read(rt)
     }
@@ -142,6 +144,7 @@ where
         ensures held { IfOk result (IsHeldAt path.now) }
         ensures beside { is_beside path.now ≡ true → result ≡ Err Usage }
         ensures fault { IfErr result (RefusesLock path.now) }
+        ensures long { IfErr result (λ fault. fault ≡ TooLong → HoldsTooMuch H.File.remaining) }
     {
         if is_beside(path) {
             return Err(Fault::Usage);
@@ -197,14 +200,15 @@ where
     /// anew, with the mode of FILE, synced and renamed to FILE, and the folder is synced. A FILE.new that was left
     /// behind is removed first.
     ///
-    /// Refuses `TooLong` where the replica's text is above the limit, and `Device` where a file can't be removed, made,
-    /// given its mode, written, synced or renamed. FILE is then as it was, but where only the folder couldn't be
-    /// synced.
+    /// Refuses `TooLong` exactly where the replica's text is above the limit, and else `Device` where a file can't be
+    /// removed, made, given its mode, written, synced or renamed. FILE is then as it was, but where only the folder
+    /// couldn't be synced.
     pub fn replace(self, rt: &H, replica: Replica<S>) -> Result<ReplacedFile<'a, S>, Fault>
         ensures replaced { IfOk result
             (λ file. file ≡ record { path = self.entry.path; before = self.entry.kept; kept = replica }) }
         ensures fault { IfErr result (IsUnkept replica) }
         ensures limit { OnOk result (length (snapshot_text replica) ≤ LIMIT) }
+        ensures long { LIMIT < length (snapshot_text replica) → result ≡ Err TooLong }
     {
         let EmptiedFile { path, before, file } = self;
         let kept = keep_over(rt, replica, path, &file)?;
@@ -274,6 +278,8 @@ impl<'a, S: DotSet> CreatedFile<'a, S> {
         ensures beside { is_beside path.now ≡ true → result ≡ Err Usage }
         ensures fault { IfErr result (RefusesFile replica.now) }
         ensures limit { OnOk result (length (snapshot_text replica.now) ≤ LIMIT) }
+        ensures long { LIMIT < length (snapshot_text replica.now)
+            → IfErr result (λ fault. (fault ≡ TooLong) ⊎ IsNoPlace fault) }
     {
         if is_beside(path) {
             let _ = eprintln!(rt; "{path}: ends in .new, as a file that is written beside another");
@@ -357,6 +363,8 @@ fn read_kept<H: Disk, S: DotSet, R: Read>(
 ) -> Result<Kept<S>, Fault>
     ensures value { IfOk result (λ kept. IsSnapshot kept) }
     ensures fault { IfErr result IsUnread }
+    ensures long { IfErr result
+        (λ fault. fault ≡ TooLong → IfSome (R.remaining file.old) (λ input. LIMIT < length input)) }
 {
     match read_snapshot(rt.alloc(), &mut Counted::new(file)) {
         Ok(kept) => Ok(kept),

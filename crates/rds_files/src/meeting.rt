@@ -13,7 +13,7 @@ use crate::disk::{Disk, note};
 use crate::files::ReplicaFile;
 use crate::locks::LockFile;
 use crate::reports::note_peer;
-use crate::settling::{Settled, settle};
+use crate::settling::{Settled, settle_exchanged};
 use rds_dots::DotSet;
 use rds_keep::Counted;
 use rds_names::Fault;
@@ -130,8 +130,9 @@ where
     ensures device { result.1 ≡ Failed Device → HasFailed reader.old reader.new ⊎ HasFailed writer.old writer.new }
 {
     let exchanged = exchange(rt.alloc(), side, file.kept(), reader, writer);
-    let settlement = settle(rt, file, exchanged.received, exchanged.roster);
-    (settlement.settled, exchanged.ended)
+    let ended = exchanged.ended;
+    let settlement = settle_exchanged(rt, file, exchanged);
+    (settlement.settled, ended)
 }
 
 // Reads to the end, within the reader's bound of turns: no more than these give.

@@ -14,7 +14,7 @@ use crate::disk::Disk;
 use crate::files::ReplicaFile;
 use crate::locks::LockFile;
 use crate::reports::{give_up, note_report, tells_fault, write_report};
-use crate::settling::{Settled, settle};
+use crate::settling::{Settled, settle_exchanged};
 pub use meeting::Link;
 use meeting::{connect, meet};
 use rds_dots::DotSet;
@@ -82,13 +82,14 @@ where
         server.kept(),
         link,
     );
-    let first = settle(rt, client, left.received, left.roster).settled;
-    let second = settle(rt, server, right.received, right.roster).settled;
-    note_report(rt, client.path(), &first, left.ended);
-    note_report(rt, server.path(), &second, right.ended);
-    let told = tells_fault(&first, left.ended) | tells_fault(&second, right.ended);
+    let (first_ended, second_ended) = (left.ended, right.ended);
+    let first = settle_exchanged(rt, client, left).settled;
+    let second = settle_exchanged(rt, server, right).settled;
+    note_report(rt, client.path(), &first, first_ended);
+    note_report(rt, server.path(), &second, second_ended);
+    let told = tells_fault(&first, first_ended) | tells_fault(&second, second_ended);
     status_of(
-        write_both(writer, &first, left.ended, &second, right.ended),
+        write_both(writer, &first, first_ended, &second, second_ended),
         u8::from(told),
     )
 }

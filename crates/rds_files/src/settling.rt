@@ -2,7 +2,6 @@
 ghost use Rattle.std.specs.Prelude.{◌≡◌, ◌↔◌, None, IfErr, IsTrue, OnOk};
 ghost use Rattle.rds_session.specs.Judging.{roster_among};
 ghost use Rattle.rds_session.specs.Received.{HasChecked, IsChecked, delivery_of};
-ghost use Rattle.rds_state.specs.Grown.{OneBegins};
 ghost use Rattle.rds_files.specs.Settling.{IsJoined, IsSameReplica, RefusesJoin, Settles, SettlesDelta};
 
 use crate::disk::Disk;
@@ -10,6 +9,7 @@ use crate::files::{LockedFile, ReplacedFile, ReplicaFile};
 use crate::locks::LockFile;
 use rds_dots::DotSet;
 use rds_names::{Fault, Roster};
+use rds_session::{Exchanged, one_begins};
 use rds_state::{Replica, State};
 use std::alloc::Global;
 
@@ -45,12 +45,21 @@ impl Settled {
 }
 
 /// What a session left, with the file that was replaced for it.
-#[derive(Drop)]
 pub struct Settlement<'a, S: DotSet> {
     /// What it left.
     pub settled: Settled,
     /// The file, where a delta was taken.
     pub file: Option<ReplacedFile<'a, S>>,
+}
+
+// Written out, so that where it is let go a caller's proof has one call, and not a step for each part of its parts.
+impl<'a, S: DotSet> Drop for Settlement<'a, S> {
+    fn drop(self) {
+        let Settlement {
+            settled: _,
+            file: _file,
+        } = self;
+    }
 }
 
 impl<S: DotSet> Settlement<'_, S> {
@@ -89,6 +98,22 @@ where
         return Settlement::without_file(Settled::Nothing);
     };
     settle_delta(rt, file, &delta, roster)
+}
+
+/// Settles what a session of the replica in the file came to, as `settle` does.
+pub fn settle_exchanged<'a, H: Disk, S: DotSet>(
+    rt: &H,
+    file: &ReplicaFile<'a, S>,
+    exchanged: Exchanged<S>,
+) -> Settlement<'a, S>
+where
+    H::File: LockFile,
+    requires checked { HasChecked file.now.kept (delivery_of exchanged.received exchanged.roster) }
+    ensures settles { Settles file.now.path file.now.kept (delivery_of exchanged.received exchanged.roster)
+        result.settled result.file }
+{
+    let (received, roster) = exchanged.into_received();
+    settle(rt, file, received, roster)
 }
 
 // Takes the delta into what the file holds now.
@@ -150,11 +175,4 @@ fn is_same_replica<S: DotSet>(asked: &Replica<S>, held: &Replica<S>) -> bool
     ensures { IsTrue result ↔ IsSameReplica asked.now held.now }
 {
     asked.own() == held.own() && one_begins(asked.roster(), held.roster())
-}
-
-// Whether one of the two rosters begins the other.
-fn one_begins(roster: &Roster, other: &Roster) -> bool
-    ensures { IsTrue result ↔ OneBegins roster.now other.now }
-{
-    roster.begins(other) || other.begins(roster)
 }

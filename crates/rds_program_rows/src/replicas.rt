@@ -74,8 +74,8 @@ pub fn settle_received(
     row: &str,
     file: &ReplicaFile<'_, GapSet>,
 ) -> Result<String, Fault> {
-    let exchanged = exchanged(rt.alloc(), row, file.kept())?;
-    let settlement = settle(rt, file, exchanged.received, exchanged.roster);
+    let (received, roster) = exchanged(rt.alloc(), row, file.kept())?.into_received();
+    let settlement = settle(rt, file, received, roster);
     settlement_told(rt.alloc(), &settlement, file.kept())
 }
 

@@ -28,7 +28,6 @@ use std::io::{Read, Write};
 const PIECE: usize = 16_384;
 
 /// What a session over a reader and a writer came to.
-#[derive(Drop)]
 pub struct Exchanged<S: DotSet> {
     /// The delta that was received.
     pub received: Option<State<S>>,
@@ -37,6 +36,17 @@ pub struct Exchanged<S: DotSet> {
     pub roster: Option<Roster>,
     /// How the session ended.
     pub ended: Ended,
+}
+
+// Written out, so that where it is let go a caller's proof has one call, and not a step for each part of its parts.
+impl<S: DotSet> Drop for Exchanged<S> {
+    fn drop(self) {
+        let Exchanged {
+            received: _received,
+            roster: _roster,
+            ended: _,
+        } = self;
+    }
 }
 
 impl<S: DotSet> Exchanged<S> {
@@ -60,6 +70,19 @@ impl<S: DotSet> Exchanged<S> {
                 ended,
             },
         }
+    }
+
+    /// The delta that was received, and the peer's roster where it came. Takes no memory.
+    pub fn into_received(self) -> (Option<State<S>>, Option<Roster>)
+        ensures received { result.0 ≡ self.received }
+        ensures roster { result.1 ≡ self.roster }
+    {
+        let Exchanged {
+            received,
+            roster,
+            ended: _,
+        } = self;
+        (received, roster)
     }
 }
 

@@ -13,9 +13,8 @@ ghost use Rattle.rds_delta.specs.Claims.{IsCertificate};
 ghost use Rattle.rds_delta.specs.Least.{IsAbove};
 ghost use Rattle.rds_delta.specs.Ranks.{ranks};
 ghost use Rattle.rds_state.specs.Fits.{ReplicaValue};
+ghost use Rattle.rds_state.specs.Grown.{OneBegins};
 ghost use Rattle.rds_state.specs.Value.{coordinates};
-ghost use Rattle.std.specs.List.{starts_with};
-ghost use Rattle.std.specs.Str.{bytes_eq};
 ghost use Rattle.rds_session.specs.Messages.{fault_of};
 ghost use Rattle.rds_session.specs.declared.talk.Stop.TheVariants.{Left, Refused};
 
@@ -108,20 +107,19 @@ fn read_answer<S: DotSet>(alloc: Global, replicas: u16, body: &[u8]) -> Result<A
     decode_answer(alloc, replicas, body)
 }
 
-// Whether the names of a roster are the first ones of another of the same group.
-fn begins(roster: &Roster, other: &Roster) -> bool
-    requires { roster.now.group ≡ other.now.group }
-    ensures { result ≡ starts_with bytes_eq other.now.names roster.now.names }
+/// Whether one of the two rosters begins the other: they are equal, or one of them has grown since.
+pub fn one_begins(roster: &Roster, other: &Roster) -> bool
+    ensures { IsTrue result ↔ OneBegins roster.now other.now }
 {
-    roster.begins(other)
+    roster.begins(other) || other.begins(roster)
 }
 
-// Whether one of two rosters of one group begins the other.
-fn one_begins(hello: &Roster, kept: &Roster) -> bool
+// The same of two rosters of one group, whose names alone say it.
+fn names_begin(hello: &Roster, kept: &Roster) -> bool
     requires { hello.now.group ≡ kept.now.group }
     ensures { result ≡ one_begins hello.now.names kept.now.names }
 {
-    begins(hello, kept) || begins(kept, hello)
+    one_begins(hello, kept)
 }
 
 // The other roster, where it has more names than the own one.
@@ -158,7 +156,7 @@ fn judge_hello<S: DotSet>(alloc: Global, kept: &Replica<S>, body: &[u8]) -> Resu
     if hello.roster.group() != kept.roster().group() {
         return Err(Stop::Refused(Fault::WrongGroup));
     }
-    if !one_begins(&hello.roster, kept.roster()) {
+    if !names_begin(&hello.roster, kept.roster()) {
         return Err(Stop::Refused(Fault::WrongRoster));
     }
     if hello.own == kept.own() {

@@ -13,6 +13,7 @@ mod talk;
 mod writing;
 
 pub use exchanging::{Exchanged, exchange};
+pub use judging::one_begins;
 pub use laws::{
     a_course_is_by_messages, limit_of_messages, streams_are_split_once, two_sessions,
     values_are_least,

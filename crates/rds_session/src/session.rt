@@ -23,7 +23,6 @@ use std::marker::Model;
 /// One of the two rosters begins the other: they are equal, or one of them has grown since. What the peer tells is read
 /// as of the replicas of the longer one, so that a peer whose roster has grown may tell of replicas that aren't named
 /// here yet.
-#[derive(Drop)]
 pub struct Session<'a, S: DotSet> {
     side: Side,
     kept: &'a Kept<S>,
@@ -32,6 +31,22 @@ pub struct Session<'a, S: DotSet> {
     received: Option<(State<S>, Option<Roster>)>,
     ended: Ended,
     under: Option<Chunks>,
+}
+
+// Written out, so that where a session is let go a caller's proof has one call, and not a step for each part of its
+// parts.
+impl<'a, S: DotSet> Drop for Session<'a, S> {
+    fn drop(self) {
+        let Session {
+            side: _,
+            kept: _,
+            begun: _,
+            turn: _turn,
+            received: _received,
+            ended: _,
+            under: _under,
+        } = self;
+    }
 }
 
 impl<'a, S: DotSet> Model for Session<'a, S> {
@@ -113,12 +128,21 @@ impl<'a, S: DotSet> Session<'a, S> {
 
     /// The delta that was received, and the peer's roster where that is longer than the own one, taken out of the
     /// session. Takes no memory.
-    pub fn into_received(mut self) -> Option<(State<S>, Option<Roster>)>
+    pub fn into_received(self) -> Option<(State<S>, Option<Roster>)>
         ensures received { result ≡ self.entry.received }
         ensures checked { HasChecked self.entry.kept result }
         ensures done { IsDoneBy self.entry.ended result }
     {
-        self.received.take()
+        let Session {
+            side: _,
+            kept: _,
+            begun: _,
+            turn: _turn,
+            received: delivery,
+            ended: _,
+            under: _under,
+        } = self;
+        delivery
     }
 
     /// Takes the next bytes of the stream, or its end, and answers what is to be sent, and how the session stands.
@@ -193,7 +217,7 @@ impl<'a, S: DotSet> Session<'a, S> {
         }
     }
 
-    #[tactic(auto, unfolding(crate::specs::Session::after_opening), using(crate::proofs::Moves::all_sent, crate::proofs::Moves::some_sent))]
+    #[tactic(auto, unfolding(crate::specs::Session::after_opening), using(crate::proofs::Moves::all_sent, crate::proofs::Moves::some_sent),)]
     fn open(&mut self, alloc: Global, send: &mut Vec<u8>) -> Result<(), Fault>
         ensures does { Does self.old send.old.items self.new send.new.items result after_opening }
         ensures begins { OnErr result (self.old.begun ≡ false) }

@@ -8,5 +8,5 @@ returns-in-Err-take_into g c = record {
 
 pub returns-in-Err-replace : goal.returns-in-Err-replace
 returns-in-Err-replace g c = record {
-  settles = rw (c.without_file-in-Err-replace.ensures.settled, c.without_file-in-Err-replace.ensures.file) (unkept_held c.args.asked.now.path c.in-Ok.locked c.args.asked.now.kept (c.args.delta.now, c.args.roster) c.take_into.new.held c.in-Err-replace.fault (rw (← c.path.ensures) c.in-Ok.ensures.held) (rw (← c.kept.ensures, ← c.view_of-before.ensures.replica, ← c.into_parts-replica.ensures.replica) c.in_default.ensures.same) (rw (← c.kept.ensures, ← c.view_of-before.ensures.replica, ← c.into_parts-replica.ensures.replica) c.in_default.ensures.ok) c.in-Err-replace.ensures.fault);
+  settles = rw (c.without_file-in-Err-replace.ensures.settled, c.without_file-in-Err-replace.ensures.file) (unkept_held c.args.asked.now.path c.in-Ok.locked c.args.asked.now.kept (c.args.delta.now, c.args.roster) c.take_into.new.held c.replace.result c.in-Err-replace.fault (rw (← c.path.ensures) c.in-Ok.ensures.held) (rw (← c.kept.ensures, ← c.view_of-before.ensures.replica, ← c.into_parts-replica.ensures.replica) c.in_default.ensures.same) (rw (← c.kept.ensures, ← c.view_of-before.ensures.replica, ← c.into_parts-replica.ensures.replica) c.in_default.ensures.ok) c.in-Err-replace.ensures.fault c.in-Err-replace.is c.replace.ensures.long);
 }
