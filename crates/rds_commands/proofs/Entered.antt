@@ -2,31 +2,33 @@
 use Rattle.std.proofs.Common.{◌≡◌, ℕ, List, Option, Ok, Err, subst, inl, inr, arith}
 use Rattle.clap.specs.Words.{HasKind, Kinds, kind_of}
 use Rattle.clap.specs.declared.error.Error.{Error}
+use Rattle.clap.specs.declared.error.kind.ErrorKind.{ErrorKind}
 use Rattle.clap.specs.declared.error.kind.ErrorKind.TheVariants.{OutOfMemory}
 use Rattle.rds_names.specs.declared.fault.Fault.{Fault}
 use Rattle.rds_names.specs.declared.fault.Fault.TheVariants.{Memory}
-use Rattle.rds_keep.specs.Counted.{CountedValue}
+use Rattle.rds_keep.specs.Counted.{CountedValue, HasFailed}
 use Rattle.rds_output.specs.Reply.{WritesReply}
-use Rattle.rds_output.specs.Output.{AnswersStatus, Writes}
+use Rattle.rds_output.specs.Output.{Writes}
 use Rattle.rds_output.specs.declared.reply.Reply.{Reply}
 use Rattle.rds_commands.specs.OfFile.{WritesOfFile}
 use Rattle.rds_commands.specs.Told.{AnswersMistake}
-use Rattle.rds_commands.specs.Unparsed.{unparsed_status}
+use Rattle.rds_commands.specs.Unparsed.{WritesUnparsed}
 
--- where no call of the writer failed, the status is the one that is due
-pub due_status : {T : Type 0} (old new : CountedValue T) (due status : ℕ) → AnswersStatus old new due status → new.failed ≡ 0 → status ≡ due
-due_status old new due status answers wrote = elim answers [
-  | inl steady ↦ steady.1
-  | inr broken ↦ elim broken.0 [ inl more ↦ absurd (omega (arith, more, wrote)) | inr full ↦ absurd (omega (arith, full, wrote)) ]
-]
+-- a count that is 0 tells that no call failed
+pub none_failed : {T : Type 0} (old new : CountedValue T) → new.failed ≡ 0 → HasFailed old new → ⊥
+none_failed old new wrote failed = elim failed [ inl more ↦ absurd (omega (arith, more, wrote)) | inr full ↦ absurd (omega (arith, full, wrote)) ]
+
+-- want of memory was written
+pub memory_told : {T : Type 0} (e : Error) (before after : Option (List ℕ)) (status : ℕ) (old new : CountedValue T)
+    → ((HasFailed old new → ⊥) → WritesUnparsed (kind_of e) before after status) → kind_of e ≡ OutOfMemory → new.failed ≡ 0 → Writes (Err Memory) before after status
+memory_told e before after status old new told is wrote = subst (λ (kind : ErrorKind). WritesUnparsed kind before after status) is (told (none_failed old new wrote))
 
 -- words that are none of the program's
-pub mistaken : {T : Type 0} (kinds : Kinds) (e : Error) (before after : Option (List ℕ)) (status : ℕ) (old new : CountedValue T) → HasKind kinds e
-    → (kind_of e ≡ OutOfMemory → new.failed ≡ 0 → Writes (Err Memory) before after status) → AnswersStatus old new (unparsed_status (kind_of e)) status
-    → new.failed ≡ 0 → AnswersMistake kinds before after status
-mistaken kinds e before after status old new has memory answers wrote = elim has [
-  | inl is ↦ inl (memory is wrote)
-  | inr among ↦ inr (kind_of e, among, due_status old new (unparsed_status (kind_of e)) status answers wrote)
+pub mistaken : (kinds : Kinds) (e : Error) (before after : Option (List ℕ)) (status : ℕ) → HasKind kinds e → WritesUnparsed (kind_of e) before after status
+    → AnswersMistake kinds before after status
+mistaken kinds e before after status has told = elim has [
+  | inl is ↦ inl (subst (λ (kind : ErrorKind). WritesUnparsed kind before after status) is told)
+  | inr among ↦ inr (kind_of e, among, told)
 ]
 
 -- the answer that came with a file

@@ -18,7 +18,7 @@ use Rattle.rds_commands.specs.Looks.{WritesGet, WritesStatus}
 use Rattle.rds_commands.specs.OfFile.{WritesOfFile}
 use Rattle.rds_words.specs.Meaning.{IsAmount}
 use Rattle.rds_words.specs.Task.{words_of}
-use Rattle.rds_commands.specs.Unparsed.{unparsed_status}
+use Rattle.rds_commands.specs.Unparsed.{WritesUnparsed}
 use Rattle.rds_words.specs.declared.tasks.EditWords.{EditWords}
 use Rattle.rds_words.specs.declared.tasks.GrowWords.{GrowWords}
 use Rattle.rds_words.specs.declared.tasks.InitWords.{InitWords}
@@ -112,8 +112,8 @@ abbrev pub MayWriteNamed : Option (List Text) → Option (List ℕ) → Option (
 MayWriteNamed named before after status =
     Writes (Err Memory) before after status ⊎ WritesNamed named before after status
 
--- the status is that of a way in which words are none of the program's, or there was no memory to read them
+-- what is due was written for a way in which words are none of the program's, or that there was no memory to read them
 abbrev pub AnswersMistake : Kinds → Option (List ℕ) → Option (List ℕ) → ℕ → Type 0
 AnswersMistake kinds before after status =
     Writes (Err Memory) before after status
-    ⊎ ((kind : ErrorKind) × IsAmong kind kinds × (status ≡ unparsed_status kind))
+    ⊎ ((kind : ErrorKind) × IsAmong kind kinds × WritesUnparsed kind before after status)

@@ -2,7 +2,7 @@
 ghost use Rattle.std.specs.Prelude.{◌≡◌, ◌≢◌, [], ◌-◌, ◌≤◌, ◌⊎◌, Err, map, IfSome};
 ghost use Rattle.rds_names.specs.declared.fault.Fault.TheVariants.{Device};
 ghost use Rattle.rds_keep.specs.Counted.{HasFailed};
-ghost use Rattle.rds_keep.specs.Parts.{ConsumesAtMost};
+ghost use Rattle.rds_keep.specs.Parts.{ConsumesAtMost, Grows};
 ghost use Rattle.rds_lines.specs.Ahead.{most_given};
 ghost use Rattle.rds_lines.specs.Answering.{WritesAnswers, WritesCut, WritesFront};
 ghost use Rattle.rds_output.specs.Output.{Writes, fault_line};
@@ -82,9 +82,11 @@ where
     ensures task { mistakes_in (map S.text words.entry.now) ≡ [] → writer.new.failed ≡ 0
         → MayWriteNamed (named_in (map S.text words.entry.now))
         (W.contents writer.old.inner) (W.contents writer.new.inner) result }
-    ensures mistake { mistakes_in (map S.text words.entry.now) ≢ [] → writer.new.failed ≡ 0
+    ensures mistake { mistakes_in (map S.text words.entry.now) ≢ [] → (HasFailed writer.old writer.new → ⊥)
         → AnswersMistake (mistakes_in (map S.text words.entry.now))
         (W.contents writer.old.inner) (W.contents writer.new.inner) result }
+    ensures mistake_part { mistakes_in (map S.text words.entry.now) ≢ []
+        → Grows (W.contents writer.old.inner) (W.contents writer.new.inner) }
     ensures status { result ≤ 2 }
     ensures broken { (writer.new.failed ≡ writer.old.failed) ⊎ (result ≡ 1) }
 {

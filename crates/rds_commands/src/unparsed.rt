@@ -1,31 +1,32 @@
 //! Words that are none of the program's.
-ghost use Rattle.std.specs.Prelude.{◌≡◌, ◌≤◌, Err, OnOk, OnErr};
+ghost use Rattle.std.specs.Prelude.{◌≡◌, ◌≤◌, OnOk, OnErr};
 ghost use Rattle.clap.specs.Words.{kind_of};
-ghost use Rattle.rds_names.specs.declared.fault.Fault.TheVariants.{Memory};
-ghost use Rattle.rds_keep.specs.Counted.{one_more};
-ghost use Rattle.rds_keep.specs.Parts.{AppendsFront};
-ghost use Rattle.rds_output.specs.Output.{AnswersStatus, Writes, fault_line};
-ghost use Rattle.rds_commands.specs.Unparsed.{unparsed_status};
+ghost use Rattle.rds_names.specs.declared.fault.Fault.TheVariants.{Memory, Usage};
+ghost use Rattle.rds_keep.specs.Counted.{HasFailed, one_more};
+ghost use Rattle.rds_keep.specs.Parts.{AppendsFront, Grows};
+ghost use Rattle.rds_output.specs.Output.{AnswersStatus, fault_line};
+ghost use Rattle.rds_commands.specs.Unparsed.{AppendsBehind, WritesUnparsed, unparsed_status};
 
 use clap::Error;
 use clap::error::ErrorKind;
 use rds_keep::Counted;
 use rds_names::Fault;
-use rds_output::{status_of, write_fault, write_fault_line};
+use rds_output::{status_of, write_fault_line};
 use std::io::Write;
 
 /// Writes why the words of the command line gave no task, and answers the status. Help and the version are
 /// their text alone, with 0; want of memory is its fault. Else the text follows the line of `Usage`, with 2.
 pub fn write_unparsed<W: Write>(writer: &mut Counted<W>, error: &Error) -> u8
-    ensures memory { kind_of error.now ≡ ErrorKind.OutOfMemory → writer.new.failed ≡ 0
-        → Writes (Err Memory) (W.contents writer.old.inner) (W.contents writer.new.inner) result }
+    ensures written { (HasFailed writer.old writer.new → ⊥)
+        → WritesUnparsed (kind_of error.now) (W.contents writer.old.inner) (W.contents writer.new.inner) result }
     ensures part { kind_of error.now ≡ ErrorKind.OutOfMemory
         → AppendsFront (W.contents writer.old.inner) (W.contents writer.new.inner) (fault_line Memory) }
+    ensures kept { Grows (W.contents writer.old.inner) (W.contents writer.new.inner) }
     ensures status { AnswersStatus writer.old writer.new (unparsed_status (kind_of error.now)) result }
     ensures within { result ≤ 2 }
 {
     match error.kind() {
-        ErrorKind::OutOfMemory => write_fault(writer, Fault::Memory),
+        ErrorKind::OutOfMemory => status_of(write_fault_line(writer, Fault::Memory), 1),
         ErrorKind::DisplayHelp | ErrorKind::DisplayVersion => status_of(
             writer.write_shown(error),
             0,
@@ -34,7 +35,11 @@ pub fn write_unparsed<W: Write>(writer: &mut Counted<W>, error: &Error) -> u8
     }
 }
 
+// Writes the line of `Usage`, and behind it the library's text.
 fn write_usage<W: Write>(writer: &mut Counted<W>, error: &Error) -> Result<(), Fault>
+    ensures bytes { OnOk result (AppendsBehind (W.contents writer.old.inner)
+        (W.contents writer.new.inner) (fault_line Usage)) }
+    ensures kept { Grows (W.contents writer.old.inner) (W.contents writer.new.inner) }
     ensures steady { OnOk result (writer.new.failed ≡ writer.old.failed) }
     ensures counted { OnErr result (writer.new.failed ≡ one_more writer.old.failed) }
 {

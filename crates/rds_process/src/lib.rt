@@ -1,15 +1,24 @@
 //! A run of the program as a process: its words, its standard input and output, and its exit status.
 #![tactic(auto)]
 
-ghost use Rattle.std.specs.Prelude.{◌≡◌, ◌≤◌, ◌⊎◌, false, IfErr};
+ghost use Rattle.std.specs.Prelude.{◌≡◌, ◌≢◌, ◌≤◌, ◌⊎◌, [], Err, false, map, IfOk, IfErr, IfSome};
 ghost use Rattle.std.specs.Process.{exit_status};
 ghost use Rattle.rds_names.specs.declared.fault.Fault.TheVariants.{Memory, Usage};
+ghost use Rattle.rds_keep.specs.Counted.{HasFailed};
+ghost use Rattle.rds_output.specs.Output.{Writes};
+ghost use Rattle.rds_lines.specs.Run.{WritesJoin};
+ghost use Rattle.rds_words.specs.Commands.{join_words, sim_words};
+ghost use Rattle.rds_words.specs.Entered.{Names, mistakes_in, named_in};
+ghost use Rattle.rds_commands.specs.Told.{AnswersMistake, MayWriteNamed, WritesSim};
 
 use rds_commands::run;
+use rds_files::{Disk, LockFile};
 use rds_keep::Counted;
 use rds_names::Fault;
 use rds_output::write_fault;
-use std::io::ErrorKind;
+use std::convert::AsStr;
+use std::io::{ErrorKind, Read, Write};
+use std::net::Net;
 use std::process::ExitCode;
 use std::{env, io};
 
@@ -19,10 +28,46 @@ pub fn run_process(rt: &HostRuntime) -> ExitCode
 {
     let mut reader = counted(rt.reader());
     let mut writer = counted(io::writer(rt));
-    code_of(match words(rt) {
-        Ok(words) => run(rt, words.as_slice(), &mut reader, &mut writer),
-        Err(fault) => write_fault(&mut writer, fault),
-    })
+    match words(rt) {
+        Ok(words) => run_words(rt, Ok(words.as_slice()), &mut reader, &mut writer),
+        Err(fault) => run_words::<_, _, _, String>(rt, Err(fault), &mut reader, &mut writer),
+    }
+}
+
+/// Runs the program on these words, and answers the exit code: its status is the one that goes with what was written.
+/// Where there are no words, their fault is written.
+pub fn run_words<H: Disk + Net, R: Read, W: Write, S: AsStr>(
+    rt: &H,
+    words: Result<&[S], Fault>,
+    reader: &mut Counted<R>,
+    writer: &mut Counted<W>,
+) -> ExitCode
+where
+    H::File: LockFile,
+    ensures unread { IfErr words.entry (λ fault. writer.new.failed ≡ 0
+        → Writes (Err fault) (W.contents writer.old.inner) (W.contents writer.new.inner) (exit_status result)) }
+    ensures join { IfOk words.entry (λ words. Names (map S.text words.now) join_words
+        → IfSome (R.remaining reader.old.inner)
+        (λ input. reader.new.failed ≡ 0 → writer.new.failed ≡ 0
+        → WritesJoin input (W.contents writer.old.inner) (W.contents writer.new.inner) (exit_status result))) }
+    ensures sim { IfOk words.entry (λ words. Names (map S.text words.now) sim_words
+        → IfSome (R.remaining reader.old.inner)
+        (λ input. reader.new.failed ≡ 0 → writer.new.failed ≡ 0
+        → WritesSim input (W.contents writer.old.inner) (W.contents writer.new.inner) (exit_status result))) }
+    ensures task { IfOk words.entry (λ words. mistakes_in (map S.text words.now) ≡ [] → writer.new.failed ≡ 0
+        → MayWriteNamed (named_in (map S.text words.now))
+        (W.contents writer.old.inner) (W.contents writer.new.inner) (exit_status result)) }
+    ensures mistake { IfOk words.entry (λ words. mistakes_in (map S.text words.now) ≢ []
+        → (HasFailed writer.old writer.new → ⊥)
+        → AnswersMistake (mistakes_in (map S.text words.now))
+        (W.contents writer.old.inner) (W.contents writer.new.inner) (exit_status result)) }
+    ensures broken { (writer.new.failed ≡ writer.old.failed) ⊎ (exit_status result ≡ 1) }
+    ensures status { exit_status result ≤ 2 }
+{
+    match words {
+        Ok(words) => code_of(run(rt, words, reader, writer)),
+        Err(fault) => code_of(write_fault(writer, fault)),
+    }
 }
 
 // The program ends with this status.

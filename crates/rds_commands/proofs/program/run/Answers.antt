@@ -9,27 +9,33 @@ use Rattle.rds_lines.proofs.Running.{memory_begun, memory_written}
 use Rattle.rds_lines.proofs.Spent.{unread}
 use Rattle.rds_words.proofs.CommandWords.{is_memory}
 use Rattle.rds_commands.proofs.Batches.{edit_named, edits_unwritten}
-use Rattle.rds_commands.proofs.Entered.{mistaken}
+use Rattle.rds_commands.proofs.Entered.{memory_told, mistaken}
 use Rattle.rds_commands.proofs.SimTold.{sim_unwritten}
 use Rattle.rds_commands.proofs.program.run.Goals as goal
 
 pub returns-in-Err-clause-join : goal.returns-in-Err-clause-join
 returns-in-Err-clause-join g c = λ names.
     memory_written (g.R.Read.remaining c.args.reader.now.inner) (g.W.Write.contents c.args.writer.now.inner) (g.W.Write.contents c.write_unparsed.new.writer.inner) _ _ _
-    (c.write_unparsed.ensures.memory (c.in-Err.ensures.join names))
+    (memory_told c.in-Err.error (g.W.Write.contents c.args.writer.now.inner) (g.W.Write.contents c.write_unparsed.new.writer.inner) c.write_unparsed.result c.args.writer.now c.write_unparsed.new.writer
+    c.write_unparsed.ensures.written (c.in-Err.ensures.join names))
 
 pub returns-in-Err-clause-sim : goal.returns-in-Err-clause-sim
 returns-in-Err-clause-sim g c = λ names.
     sim_unwritten (g.R.Read.remaining c.args.reader.now.inner) (g.W.Write.contents c.args.writer.now.inner) (g.W.Write.contents c.write_unparsed.new.writer.inner) _ _ _
-    (c.write_unparsed.ensures.memory (c.in-Err.ensures.sim names))
+    (memory_told c.in-Err.error (g.W.Write.contents c.args.writer.now.inner) (g.W.Write.contents c.write_unparsed.new.writer.inner) c.write_unparsed.result c.args.writer.now c.write_unparsed.new.writer
+    c.write_unparsed.ensures.written (c.in-Err.ensures.sim names))
 
 pub returns-in-Err-clause-task : goal.returns-in-Err-clause-task
-returns-in-Err-clause-task g c = λ none wrote. inl (c.write_unparsed.ensures.memory (is_memory _ c.in-Err.error none c.in-Err.ensures.kinds) wrote)
+returns-in-Err-clause-task g c = λ none wrote. inl (memory_told c.in-Err.error (g.W.Write.contents c.args.writer.now.inner) (g.W.Write.contents c.write_unparsed.new.writer.inner) c.write_unparsed.result c.args.writer.now c.write_unparsed.new.writer
+    c.write_unparsed.ensures.written (is_memory _ c.in-Err.error none c.in-Err.ensures.kinds) wrote)
 
 pub returns-in-Err-clause-mistake : goal.returns-in-Err-clause-mistake
 returns-in-Err-clause-mistake g c = λ some wrote.
-    mistaken _ c.in-Err.error (g.W.Write.contents c.args.writer.now.inner) (g.W.Write.contents c.write_unparsed.new.writer.inner) c.write_unparsed.result c.args.writer.now c.write_unparsed.new.writer
-    c.in-Err.ensures.kinds c.write_unparsed.ensures.memory c.write_unparsed.ensures.status wrote
+    mistaken _ c.in-Err.error (g.W.Write.contents c.args.writer.now.inner) (g.W.Write.contents c.write_unparsed.new.writer.inner) c.write_unparsed.result
+    c.in-Err.ensures.kinds (c.write_unparsed.ensures.written wrote)
+
+pub returns-in-Err-clause-mistake_part : goal.returns-in-Err-clause-mistake_part
+returns-in-Err-clause-mistake_part g c = λ some. c.write_unparsed.ensures.kept
 
 pub returns-in-Ok-None-clause-task : goal.returns-in-Ok-None-clause-task
 returns-in-Ok-None-clause-task g c = search rules steps 1000000
@@ -37,7 +43,8 @@ returns-in-Ok-None-clause-task g c = search rules steps 1000000
 pub returns-in-Err-clause-edit : goal.returns-in-Err-clause-edit
 returns-in-Err-clause-edit g c = λ file names.
     edits_unwritten file (g.R.Read.remaining c.args.reader.now.inner) (g.W.Write.contents c.args.writer.now.inner) (g.W.Write.contents c.write_unparsed.new.writer.inner) _ _ _
-    (c.write_unparsed.ensures.memory (c.in-Err.ensures.edit file names))
+    (memory_told c.in-Err.error (g.W.Write.contents c.args.writer.now.inner) (g.W.Write.contents c.write_unparsed.new.writer.inner) c.write_unparsed.result c.args.writer.now c.write_unparsed.new.writer
+    c.write_unparsed.ensures.written (c.in-Err.ensures.edit file names))
 
 pub returns-in-Ok-Some-clause-edit : goal.returns-in-Ok-Some-clause-edit
 returns-in-Ok-Some-clause-edit g c = λ file names.
