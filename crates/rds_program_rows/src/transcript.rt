@@ -19,12 +19,12 @@ use rds_dots::ListSet;
 use rds_files::ReplicaFile;
 use rds_gaps::GapSet;
 use rds_json::lines_mean_their_spelling;
-use rds_lines::join_is_known;
+use rds_lines::{join_is_known, sim_shows_updates};
 use rds_names::Fault;
 use rds_rows::told::said;
 use rds_rows::words::first;
 use rds_rows::{Both, Table};
-use rds_words::word_laws;
+use rds_words::{word_laws, words_mean_their_spelling};
 use std::alloc::Global;
 
 /// What rows have made so far.
@@ -164,7 +164,9 @@ impl Table for Transcript<'_> {
 fn laws(alloc: Global) -> Result<String, Fault> {
     join_is_known();
     lines_mean_their_spelling();
+    sim_shows_updates();
     word_laws();
+    words_mean_their_spelling();
     said(alloc, "called")
 }
 

@@ -1,6 +1,9 @@
 //! The snapshot that is held from row to row.
 use crate::{exchanges, places, reading, texts};
-use rds_codec::{limits_of_texts, texts_outlive_growth, texts_stand_apart};
+use rds_codec::{
+    decoding_has_one_result, limits_of_texts, readers_are_steady, rows_are_read_in_steps,
+    texts_are_read_steadily, texts_outlive_growth, texts_stand_apart,
+};
 use rds_dots::DotSet;
 use rds_names::Fault;
 use rds_rows::Table;
@@ -52,5 +55,9 @@ fn laws(alloc: Global) -> Result<String, Fault> {
     texts_stand_apart();
     texts_outlive_growth();
     limits_of_texts();
+    decoding_has_one_result();
+    readers_are_steady();
+    rows_are_read_in_steps();
+    texts_are_read_steadily();
     said(alloc, "called")
 }

@@ -9,6 +9,7 @@ mod devices;
 mod exchanges;
 mod forms;
 mod held;
+mod pieces;
 mod places;
 mod reading;
 mod texts;

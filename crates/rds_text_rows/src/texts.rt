@@ -1,5 +1,6 @@
 //! Rows that try texts.
 use crate::forms::{again, state_again};
+use crate::pieces::{cuts, drops};
 use rds_dots::DotSet;
 use rds_names::Fault;
 use rds_rows::told::digits_of;
@@ -12,6 +13,8 @@ pub fn answer<S: DotSet>(alloc: Global, name: &str, rest: &str) -> Result<String
         "again" => read_and_written::<S>(alloc, rest),
         "beginnings" => beginnings::<S>(alloc, rest),
         "bytes" => bytes::<S>(alloc, rest),
+        "cuts" => cuts::<S>(alloc, rest),
+        "drops" => drops::<S>(alloc, rest),
         "state-of" => state_of::<S>(alloc, rest),
         "zeros" => zeros::<S>(alloc, rest),
         _ => Err(Fault::Usage),
