@@ -81,7 +81,11 @@ impl<S: DotSet> Digest<S> {
     /// The digest of these parts. Takes no memory, and tests nothing: each live dot is known to be among the seen ones.
     pub fn with_parts(seen: S, live: S, counts: Counts) -> Digest<S>
         requires inside { IsInside (S.contents live) (S.contents seen) }
-        ensures value { let parts : DigestValue = record { seen = S.contents seen; live = S.contents live; counts = counts } in
+        ensures value { let parts : DigestValue = record {
+          seen = S.contents seen;
+          live = S.contents live;
+          counts = counts;
+        } in
             result ≡ parts }
     {
         Digest { seen, live, counts }
@@ -92,7 +96,11 @@ impl<S: DotSet> Digest<S> {
     pub fn from_parts(seen: S, live: S, counts: Counts) -> Option<Digest<S>>
         ensures exact { MatchOption result (¬ (IsInside (S.contents live) (S.contents seen)))
             (λ _. IsInside (S.contents live) (S.contents seen)) }
-        ensures value { let parts : DigestValue = record { seen = S.contents seen; live = S.contents live; counts = counts } in
+        ensures value { let parts : DigestValue = record {
+          seen = S.contents seen;
+          live = S.contents live;
+          counts = counts;
+        } in
             IfSome result (λ digest. digest ≡ parts) }
     {
         if !is_inside(&live, &seen) {
