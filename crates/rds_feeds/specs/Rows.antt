@@ -6,7 +6,7 @@ use Rattle.rds_feeds.specs.declared.many.CountWidth.{CountWidth}
 use Rattle.rds_feeds.specs.declared.many.CountWidth.TheVariants.{Two, Four}
 use Rattle.rds_feeds.specs.declared.many.Many.{Many}
 use Rattle.rds_feeds.specs.declared.many.Many.TheVariants.{Count, Rows, Row}
-use Rattle.rds_feeds.specs.Chained.{chained}
+use Rattle.rds_feeds.specs.Chained.{chain}
 
 abbrev pub width_of : CountWidth → Width
 width_of Two = w16
@@ -19,9 +19,9 @@ times next (suc n) rows bytes = next rows bytes >>= λ x. times next n x.0 x.1
 
 -- a count, and that many rows
 abbrev pub many : {V : Type 0} → Width → (V → Reader V) → V → Reader V
-many width next rows = chained (number_at width) (λ n. times next n rows)
+many width next rows = chain (number_at width) (λ n. times next n rows)
 
 abbrev pub many_finish : {U V : Type 0} → (U → Reader V) → (V → Reader V) → Many U V → Reader V
 many_finish row next (Count width rows) = many (width_of width) next rows
 many_finish row next (Rows left rows) = times next left rows
-many_finish row next (Row u left) = chained (row u) (times next left)
+many_finish row next (Row u left) = chain (row u) (times next left)

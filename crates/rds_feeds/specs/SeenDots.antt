@@ -12,7 +12,7 @@ use Rattle.rds_bytes.specs.declared.dots.DotRow.{DotRow}
 use Rattle.rds_bytes.specs.declared.dot_rows.RowHead.{RowHead}
 use Rattle.rds_bytes.specs.Reading.{Reader, made_at, gap_at, row_head_at}
 use Rattle.rds_bytes.specs.RowDots.{first_after_gap, run_before, row_runs, dots_of_runs}
-use Rattle.rds_feeds.specs.Chained.{chained}
+use Rattle.rds_feeds.specs.Chained.{chain}
 use Rattle.rds_feeds.specs.Parts.{makes}
 use Rattle.rds_feeds.specs.Rows.{times}
 
@@ -89,9 +89,9 @@ next_gap g = made_at (add_gap g) (gap_at g.top g.before)
 abbrev pub gaps_of : ℕ × GapsValue → Reader GapsValue
 gaps_of x = times next_gap x.0 x.1
 
-abbrev pub ended : GapsValue → Result RowsValue Fault
-ended g = Ok (end_row g)
+abbrev pub whole_row : GapsValue → Result RowsValue Fault
+whole_row g = Ok (end_row g)
 
 -- how the next row is read, and its dots are put in
 abbrev pub next_row : RowsValue → Reader RowsValue
-next_row r = makes (chained (made_at (begin_row r) (row_head_at r.replicas r.least)) gaps_of) ended
+next_row r = makes (chain (made_at (begin_row r) (row_head_at r.replicas r.least)) gaps_of) whole_row

@@ -50,12 +50,12 @@ made_read {A} {B} make f bytes b rest e =
     let q : (make x.0.0, x.0.1) ≡ (b, rest) = ok_is _ _ x.2 in
     (x.0.0, x.1 ∙ ap (λ (r : List ℕ). Ok (x.0.0, r)) (ap (λ (z : B × List ℕ). z.1) q), ap (λ (z : B × List ℕ). z.0) q)
 
-abbrev passed : {A : Type 0} → (A → Bool) → A × List ℕ → Result (A × List ℕ) Fault
-passed test a = cond (test a.0) (Ok a) (Err Bad)
+abbrev value_tested : {A : Type 0} → (A → Bool) → A × List ℕ → Result (A × List ℕ) Fault
+value_tested test a = cond (test a.0) (Ok a) (Err Bad)
 
 pub when_read : {A : Type 0} (test : A → Bool) (f : Reader A) (bytes : List ℕ) (a : A) (rest : List ℕ) → when_at test f bytes ≡ Ok (a, rest) → (f bytes ≡ Ok (a, rest)) × (test a ≡ true)
 when_read {A} test f bytes a rest e =
-    let x = bind_ok (f bytes) (passed test) (a, rest) e in
+    let x = bind_ok (f bytes) (value_tested test) (a, rest) e in
     elim (chosen (test x.0.0) (Ok x.0) (Err Bad) (Ok (a, rest)) x.2) [
       | inl is ↦ (let q : x.0 ≡ (a, rest) = ok_is _ _ is.1 in (x.1 ∙ is.1, sym (ap (λ (z : A × List ℕ). test z.0) q) ∙ is.0))
       | inr other ↦ absurd (let wrong : Err Bad ≡ Ok (a, rest) = other.1 in cc)
