@@ -37,8 +37,9 @@ fn read_version(bytes: &[u8]) -> Result<(u8, &[u8]), Fault>
     Ok((version, rest))
 }
 
+/// A hello, and the bytes after it.
 #[tactic(auto, unfolding(crate::specs::HelloTexts::hello_at))]
-fn read_hello(alloc: Global, bytes: &[u8]) -> Result<(Hello, &[u8]), Fault>
+pub fn read_hello(alloc: Global, bytes: &[u8]) -> Result<(Hello, &[u8]), Fault>
     ensures { Reads (λ x. (x.0, x.1.now)) result (hello_at bytes.now) }
 {
     let (version, rest) = read_version(bytes)?;

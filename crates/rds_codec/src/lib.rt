@@ -23,7 +23,7 @@ pub use certificates::{
 };
 pub use digests::{decode_digest, encode_digest};
 pub use exchanges::{answer, ask, pull, take_certified};
-pub use hellos::{Hello, VERSION, decode_hello, encode_hello};
+pub use hellos::{Hello, VERSION, decode_hello, encode_hello, read_hello};
 pub use laws::{decoding_has_one_result, limits_of_texts, texts_outlive_growth, texts_stand_apart};
 pub use limits::LIMIT;
 pub use rds_bytes::{
