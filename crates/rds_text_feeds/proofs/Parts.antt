@@ -21,6 +21,11 @@ use Rattle.rds_codec.specs.DigestTexts.{DigestParts, digest_by, are_seen, live_d
 use Rattle.rds_feeds.specs.LiveRows.{lives_by}
 use Rattle.rds_feeds.specs.Parts.{makes, RefusesValue}
 
+-- a part as it is
+pub same_part : {A : Type 0} (x : Result (A × List ℕ) Fault) → (x >>= λ a. Ok (a.0, a.1)) ≡ x
+same_part (Ok a) = refl
+same_part (Err e) = refl
+
 -- a reader in another's place
 module _ {A B : Type 0} (f f' : Reader A) (g g' : Reader B) (first : (bytes : List ℕ) → f bytes ≡ f' bytes) (second : (bytes : List ℕ) → g bytes ≡ g' bytes) where
   abbrev beside : A → B × List ℕ → Result ((A × B) × List ℕ) Fault
@@ -224,10 +229,6 @@ module _ {R : Type 0} (r : R) (reader : Reader (List Row)) where
 abbrev pub answer_of : ℕ × (StateValue × List Row) → Result AnswerValue Fault
 answer_of p = Ok (answer p.0 p.1.0 p.1.1)
 
-same_asker : (x : Result (ℕ × List ℕ) Fault) → (x >>= λ a. Ok (a.0, a.1)) ≡ x
-same_asker (Ok a) = refl
-same_asker (Err e) = refl
-
 module _ (replicas : ℕ) where
   abbrev asker_at : Reader ℕ
   asker_at = made_at (λ r. r) (replica_at replicas)
@@ -243,5 +244,5 @@ module _ (replicas : ℕ) where
   answer_read state certificate delta all first second third are bytes =
       ap (λ (x : Result ((ℕ × (StateValue × List Row)) × List ℕ) Fault). x >>= answer_made)
       (are bytes
-      ∙ pair_same asker_at (replica_at replicas) delta (pair_at (state_at replicas) (certificate_at replicas)) (λ b. same_asker (replica_at replicas b))
+      ∙ pair_same asker_at (replica_at replicas) delta (pair_at (state_at replicas) (certificate_at replicas)) (λ b. same_part (replica_at replicas b))
       (λ b. third b ∙ pair_same state (state_at replicas) certificate (certificate_at replicas) first second b) bytes)

@@ -4,9 +4,11 @@
 mod answers;
 mod certificates;
 mod digests;
+mod hellos;
 mod states;
 
 pub use answers::{UnfinishedAnswer, unfinished_answer};
 pub use certificates::{UnfinishedCertificate, unfinished_certificate};
 pub use digests::{UnfinishedDigest, unfinished_digest};
+pub use hellos::{UnfinishedHello, unfinished_hello};
 pub use states::{UnfinishedState, unfinished_state};
