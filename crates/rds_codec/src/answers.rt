@@ -132,11 +132,8 @@ fn put_answer<S: DotSet>(
     put_certificate(out, certificate)
 }
 
-/// The text of an answer with these parts. It is read again where the asker and the delta's replicas are below the
-/// roster's length, and the rows of the certificate lie in the ranges of the format, as those of the delta's own
-/// certificate do. Above the limit it is refused (`TooLong`) before any memory is taken; then all memory that the text
-/// needs is taken at once.
-pub fn encode_answer<S: DotSet>(
+/// The text of an answer with these parts, as [`encode_answer`] gives it, and what its measure shows of them.
+pub fn text_of_answer<S: DotSet>(
     alloc: Global,
     asker: u8,
     state: &State<S>,
@@ -156,4 +153,33 @@ pub fn encode_answer<S: DotSet>(
     let mut out = room_for(alloc, length)?;
     put_answer(&mut out, asker, state, rows, certificate)?;
     Ok(out)
+}
+
+/// The text of an answer with these parts. Above the limit it is refused (`TooLong`) before any memory is taken; then
+/// all memory that the text needs is taken at once.
+pub fn encode_answer<S: DotSet>(
+    alloc: Global,
+    asker: u8,
+    state: &State<S>,
+    certificate: &Certificate,
+) -> Result<Vec<u8>, Fault>
+    ensures text { Encodes (answer_text (answer asker state.now certificate.now)) result }
+{
+    text_of_answer(alloc, asker, state, certificate)
+}
+
+/// The text of an answer with these parts is read again where the asker and the delta's replicas are below the roster's
+/// length, and the rows of the certificate lie in the ranges of the format, as those of the delta's own certificate do.
+/// The function only measures: its contract is this law.
+pub fn answers_have_texts<S: DotSet>(asker: u8, state: &State<S>, certificate: &Certificate)
+    ensures dots { (replicas : ℕ) → Fits replicas (coordinates state.now)
+        → AreDotsOf replicas (seen_of state.now.lives) }
+    ensures value { (replicas : ℕ) → asker < replicas → Fits replicas (coordinates state.now)
+        → AllByRecursion (RowFits replicas) certificate.now
+        → IsAnswerOf replicas (answer asker state.now certificate.now) }
+    ensures certified { (replicas : ℕ) (peer : Ranks) → asker < replicas → Fits replicas (coordinates state.now)
+        → IsAbove (coordinates state.now) peer → IsCertificate peer state.now certificate.now
+        → IsAnswerOf replicas (answer asker state.now certificate.now) }
+{
+    measure(asker, state, certificate);
 }

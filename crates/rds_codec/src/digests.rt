@@ -113,9 +113,8 @@ fn put_digest<S: DotSet>(
     put_counters(out, digest.counts())
 }
 
-/// The digest's text. Above the limit it is refused (`TooLong`) before any memory is taken; then all memory that
-/// the text needs is taken at once.
-pub fn encode_digest<S: DotSet>(alloc: Global, digest: &Digest<S>) -> Result<Vec<u8>, Fault>
+/// The digest's text, as [`encode_digest`] gives it, and what its measure shows of the digest.
+pub fn text_of_digest<S: DotSet>(alloc: Global, digest: &Digest<S>) -> Result<Vec<u8>, Fault>
     ensures text { Encodes (digest_text digest.now) result }
     ensures dots { (replicas : ℕ) → DigestFits replicas digest.now → AreDotsOf replicas digest.now.seen }
     ensures value { (replicas : ℕ) → DigestFits replicas digest.now → IsDigestOf replicas digest.now }
@@ -124,4 +123,21 @@ pub fn encode_digest<S: DotSet>(alloc: Global, digest: &Digest<S>) -> Result<Vec
     let mut out = room_for(alloc, length)?;
     put_digest(&mut out, digest, seen_rows, live_rows)?;
     Ok(out)
+}
+
+/// The digest's text. Above the limit it is refused (`TooLong`) before any memory is taken; then all memory that
+/// the text needs is taken at once.
+pub fn encode_digest<S: DotSet>(alloc: Global, digest: &Digest<S>) -> Result<Vec<u8>, Fault>
+    ensures text { Encodes (digest_text digest.now) result }
+{
+    text_of_digest(alloc, digest)
+}
+
+/// The text of a digest that fits so many replicas is read again by a roster of these. The function only measures: its
+/// contract is this law.
+pub fn digests_have_texts<S: DotSet>(digest: &Digest<S>)
+    ensures dots { (replicas : ℕ) → DigestFits replicas digest.now → AreDotsOf replicas digest.now.seen }
+    ensures value { (replicas : ℕ) → DigestFits replicas digest.now → IsDigestOf replicas digest.now }
+{
+    measure(digest);
 }

@@ -12,8 +12,8 @@ ghost use Rattle.rds_codec.specs.DigestTexts.{digest_text, digest_kind};
 ghost use Rattle.rds_codec.specs.Exchanged.{CanExchange, CanRead, IsAnswerTo, IsAskOf, IsCertified, IsLongAnswer, IsLongDigest, IsLost, IsRefusal, IsReplyTo, IsWithin, PassesCheck, TakesCertified, replicas_of_both};
 ghost use Rattle.rds_codec.specs.declared.limits.TheConstants.{LIMIT};
 
-use crate::answers::{Answer, decode_answer, encode_answer};
-use crate::digests::{decode_digest, encode_digest};
+use crate::answers::{Answer, decode_answer, text_of_answer};
+use crate::digests::{decode_digest, text_of_digest};
 use rds_delta::{Digest, certificate, check, delta};
 use rds_dots::DotSet;
 use rds_names::{Fault, Roster};
@@ -27,7 +27,7 @@ pub fn ask<S: DotSet>(alloc: Global, asked: &State<S>) -> Result<Vec<u8>, Fault>
     ensures fault { IfErr result (IsLost (IsLongDigest asked.now)) }
 {
     let digest = Digest::of(alloc, asked)?;
-    encode_digest(alloc, &digest)
+    text_of_digest(alloc, &digest)
 }
 
 /// The text of the answer to a digest: the least delta of a state, and its certificate. Also how many components the
@@ -43,7 +43,7 @@ pub fn answer<S: DotSet>(
 {
     let delta = delta(alloc, held, digest)?;
     let certificate = certificate(alloc, digest, &delta)?;
-    let bytes = encode_answer(alloc, asker, &delta, &certificate)?;
+    let bytes = text_of_answer(alloc, asker, &delta, &certificate)?;
     Ok((bytes, delta.components()))
 }
 

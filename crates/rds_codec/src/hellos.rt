@@ -93,14 +93,20 @@ fn measure(hello: &Hello) -> u128
     1 + member_length(&hello.roster, hello.own) as u128
 }
 
-/// The hello's text, which is read again where its version is [`VERSION`] and its own number is below the roster's
-/// length. It is short, so nothing but want of memory is a hindrance.
+/// The hello's text. It is short, so nothing but want of memory is a hindrance.
 pub fn encode_hello(alloc: Global, hello: &Hello) -> Result<Vec<u8>, Fault>
     ensures text { Encodes (hello_text hello.now) result }
     ensures memory { IfErr result (λ fault. fault ≡ Memory) }
-    ensures value { hello.now.version ≡ VERSION → hello.now.own < length hello.now.roster.names → IsHello hello.now }
 {
     let mut out = room_for(alloc, measure(hello))?;
     put_hello(&mut out, hello)?;
     Ok(out)
+}
+
+/// The text of a hello is read again where its version is [`VERSION`] and its own number is below the roster's length.
+/// The function only measures: its contract is this law.
+pub fn hellos_have_texts(hello: &Hello)
+    ensures value { hello.now.version ≡ VERSION → hello.now.own < length hello.now.roster.names → IsHello hello.now }
+{
+    measure(hello);
 }

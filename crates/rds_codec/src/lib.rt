@@ -17,13 +17,14 @@ mod snapshots;
 mod states;
 mod steady;
 
-pub use answers::{Answer, decode_answer, encode_answer};
+pub use answers::{Answer, answers_have_texts, decode_answer, encode_answer};
 pub use certificates::{
-    CertificateRowReader, decode_certificate, encode_certificate, read_certificate_row,
+    CertificateRowReader, certificates_have_texts, decode_certificate, encode_certificate,
+    read_certificate_row,
 };
-pub use digests::{decode_digest, encode_digest};
+pub use digests::{decode_digest, digests_have_texts, encode_digest};
 pub use exchanges::{answer, ask, pull, take_certified};
-pub use hellos::{Hello, VERSION, decode_hello, encode_hello, read_hello};
+pub use hellos::{Hello, VERSION, decode_hello, encode_hello, hellos_have_texts, read_hello};
 pub use laws::{decoding_has_one_result, limits_of_texts, texts_outlive_growth, texts_stand_apart};
 pub use limits::LIMIT;
 pub use rds_bytes::{
@@ -32,6 +33,6 @@ pub use rds_bytes::{
     read_gap, read_header, read_key, read_live_rows, read_member, read_name, read_replica,
     read_roster, read_row_head, read_scalar, readers_are_steady, rows_are_read_in_steps,
 };
-pub use snapshots::{decode_snapshot, encode_snapshot};
-pub use states::{decode_state, encode_state};
+pub use snapshots::{decode_snapshot, encode_snapshot, snapshots_have_texts};
+pub use states::{decode_state, encode_state, states_have_texts};
 pub use steady::texts_are_read_steadily;

@@ -97,3 +97,13 @@ pub fn encode_snapshot<S: DotSet>(alloc: Global, replica: &Replica<S>) -> Result
     put_snapshot(&mut out, replica, rows)?;
     Ok(out)
 }
+
+/// The text of a replica's snapshot is read again, and that of a replica without components is within the limit. The
+/// function only measures: its contract is this law.
+pub fn snapshots_have_texts<S: DotSet>(replica: &Replica<S>)
+    ensures small { replica.now.state.lives ≡ map.empty → replica.now.state.counts ≡ map.empty
+        → length (snapshot_text replica.now) ≤ LIMIT }
+    ensures value { IsSnapshot replica.now }
+{
+    measure(replica);
+}

@@ -105,12 +105,19 @@ pub fn decode_state<S: DotSet>(
 /// that the text needs is taken at once.
 pub fn encode_state<S: DotSet>(alloc: Global, state: &State<S>) -> Result<Vec<u8>, Fault>
     ensures text { Encodes (state_text state.now) result }
-    ensures dots { (replicas : ℕ) → Fits replicas (coordinates state.now)
-        → AreDotsOf replicas (seen_of state.now.lives) }
-    ensures value { (replicas : ℕ) → Fits replicas (coordinates state.now) → IsStateOf replicas state.now }
 {
     let (rows, length) = measure_state(state);
     let mut out = room_for(alloc, length)?;
     put_state(&mut out, state, rows)?;
     Ok(out)
+}
+
+/// The text of a state that fits so many replicas is read again by a roster of these. The function only measures: its
+/// contract is this law.
+pub fn states_have_texts<S: DotSet>(state: &State<S>)
+    ensures dots { (replicas : ℕ) → Fits replicas (coordinates state.now)
+        → AreDotsOf replicas (seen_of state.now.lives) }
+    ensures value { (replicas : ℕ) → Fits replicas (coordinates state.now) → IsStateOf replicas state.now }
+{
+    measure_state(state);
 }
