@@ -9,7 +9,7 @@ pub mod HelloFormats
 pub mod Longer
 pub mod Replicas
 mod SmallTexts
-mod SnapshotFormats
+pub mod SnapshotFormats
 pub mod StateFormats
 mod Texts
 pub mod Whole

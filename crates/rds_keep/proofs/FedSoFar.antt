@@ -1,17 +1,17 @@
 -- What was read of an input and fed so far.
-use Rattle.std.proofs.Common.{◌≡◌, ℕ, ◌+◌, ◌-◌, ◌<◌, ◌≤◌, inl, inr, false, ltb, List, [], ◌++◌, length, take, Option, Some, None, Result, Ok, Err, sym, ap, ◌∙◌, refl, subst, append_assoc, arith}
-use Rattle.std.specs.Prelude.{IfErr, IfSome}
+use Rattle.std.proofs.Common.{◌≡◌, ℕ, ◌+◌, ◌-◌, ◌<◌, ◌≤◌, ◌⊎◌, inl, inr, false, ltb, List, [], ◌++◌, length, take, Option, Some, None, Result, Ok, Err, sym, ap, ◌∙◌, refl, subst, append_assoc, arith}
+use Rattle.std.specs.Prelude.{IfOk, IfErr, IfSome}
 use Rattle.std.specs.Io.KnownBytes.{Consumes, IsAtEnd}
 use Rattle.std.proofs.KnownBytes.{Consumes-trans}
 use Rattle.std.proofs.lemmas.List.{append-nil, length-append, length-take, take-append-le}
 use Rattle.rds_names.specs.declared.fault.Fault.{Fault}
 use Rattle.rds_names.specs.declared.fault.Fault.TheVariants.{Memory, TooLong, Device}
 use Rattle.rds_bytes.specs.Reading.{Reader, Reads}
-use Rattle.rds_codec.specs.Decoding.{IsOtherFault, all_of}
+use Rattle.rds_codec.specs.Decoding.{Decodes, IsOtherFault, all_of}
 use Rattle.rds_codec.specs.Kinds.{Kind}
 use Rattle.rds_codec.specs.declared.limits.TheConstants.{LIMIT}
 use Rattle.rds_keep.specs.Counted.{CountedValue, most_read}
-use Rattle.rds_keep.specs.Feeding.{FeedValue, AreBytes, DecodesTexts, StandsFor, StandsOrFails, Adds, Refuses, IsDecoded, IsReadAs, IsRefused, Takes, Feeds, decoding}
+use Rattle.rds_keep.specs.Feeding.{FeedValue, AreBytes, DecodesTexts, HasText, StandsFor, StandsOrFails, Adds, Refuses, IsDecoded, IsReadAs, IsRefused, Takes, Feeds, decoding}
 use Rattle.rds_keep.proofs.FeedSteps.{as_it_is, bytes-append}
 use Rattle.std.proofs.lemmas.Bool.{le-ltb}
 use Rattle.rds_keep.specs.Parts.{ConsumesAtMost}
@@ -144,17 +144,30 @@ module _ {U V : Type 0} (finish : U → Reader V) where
       subst (λ (t : List ℕ). IsReadAs kind reader (came ++ t) r) (sym all)
       (inl (end_decoded kind reader new (came ++ fed.given) r law (fed.takes reader came (inl stands)) fits (read (came ++ fed.given)) again))
 
+  -- a text was read, or decoding refuses so
+  pub has_text : (kind : Kind V) (bytes : List ℕ) (r : Result V Fault) → Decodes kind bytes r → IfOk r (HasText kind)
+  has_text kind bytes (Ok v) decoded =
+      record { is_value = decoded.value.1.is_value; within = subst (λ (t : List ℕ). length t ≤ LIMIT) decoded.value.1.spelled decoded.value.0 }
+  has_text kind bytes (Err e) decoded = tt
+
+  pub is_known : (kind : Kind V) (bytes : List ℕ) (r : Result V Fault) → Decodes kind bytes r → IfErr r (λ e. (e ≡ Device) ⊎ IsOtherFault e)
+  is_known kind bytes (Ok v) decoded = tt
+  is_known kind bytes (Err e) decoded = inr decoded.other
+
   no_call : IsOtherFault Device → ⊥
   no_call other = elim other [
     | inl a ↦ cc
     | inr b ↦ elim b [ inl c ↦ cc | inr d ↦ elim d [ inl e ↦ cc | inr f ↦ elim f [ inl g ↦ cc | inr h ↦ cc ] ] ]
   ]
 
-  -- its end is no call that failed
-  pub no_failure : (kind : Kind V) (reader : Reader V) (begun new : FeedValue U V) (came : List ℕ) (before after : Option (List ℕ)) (count : ℕ) (r : Result V Fault) → Feeds finish begun new before after count
+  -- what decoding all that came gives
+  pub all_decoded : (kind : Kind V) (reader : Reader V) (begun new : FeedValue U V) (came : List ℕ) (before after : Option (List ℕ)) (count : ℕ) (r : Result V Fault) → (fed : Feeds finish begun new before after count)
       → StandsFor finish reader begun came → count ≤ begun.left → DecodesTexts kind reader
-      → ((bytes : List ℕ) → StandsFor finish reader new bytes → Reads (λ v. v) r (decoding reader bytes)) → IfErr new.progress (λ e. r ≡ Err e) → r ≡ Err Device → ⊥
-  no_failure kind reader begun new came before after count r fed stands within law read again is =
+      → ((bytes : List ℕ) → StandsFor finish reader new bytes → Reads (λ v. v) r (decoding reader bytes)) → IfErr new.progress (λ e. r ≡ Err e) → Decodes kind (came ++ fed.given) r
+  all_decoded kind reader begun new came before after count r fed stands within law read again =
       let fits : length (came ++ fed.given) ≤ LIMIT = omega (arith, within, stands.room, fed.counted, length-append came fed.given) in
-      let decoded = end_decoded kind reader new (came ++ fed.given) r law (fed.takes reader came (inl stands)) fits (read (came ++ fed.given)) again in
-      no_call (rw is at decoded.0.other)
+      (end_decoded kind reader new (came ++ fed.given) r law (fed.takes reader came (inl stands)) fits (read (came ++ fed.given)) again).0
+
+  -- its end is no call that failed
+  pub no_failure : (kind : Kind V) (bytes : List ℕ) (r : Result V Fault) → Decodes kind bytes r → r ≡ Err Device → ⊥
+  no_failure kind bytes r decoded is = no_call (rw is at decoded.other)

@@ -1,78 +1,89 @@
--- A front of an input, one byte longer than a text may be, is decoded as the whole input is.
-use Rattle.std.proofs.Common.{◌≡◌, ℕ, ◌+◌, ◌<◌, ◌≤◌, inl, inr, ◌⊎◌, List, [], ◌++◌, length, Option, Some, None, Result, Err, refl, sym, ap, ◌∙◌, subst, arith}
+-- An input that begins as a snapshot does, and then is fed, is decoded as a whole.
+use Rattle.std.proofs.Common.{◌≡◌, ℕ, ◌+◌, ◌-◌, ◌<◌, ◌≤◌, inl, inr, ◌⊎◌, List, [], ◌++◌, length, Option, Some, None, Result, Ok, Err, ap, sym, subst, ◌∙◌, arith}
 use Rattle.std.specs.Prelude.{IfSome}
-use Rattle.std.specs.Io.KnownBytes.{Consumes, IsAtEnd}
-use Rattle.std.proofs.lemmas.Bool.{cases_lt}
-use Rattle.std.proofs.lemmas.List.{append-nil, length-append}
+use Rattle.std.specs.Io.KnownBytes.{Consumes}
+use Rattle.std.proofs.lemmas.List.{length-append}
 use Rattle.rds_names.specs.declared.fault.Fault.{Fault}
-use Rattle.rds_names.specs.declared.fault.Fault.TheVariants.{Memory, Bad, TooLong, Device}
+use Rattle.rds_names.specs.declared.fault.Fault.TheVariants.{Memory, Cut, Bad, Device}
 use Rattle.rds_state.specs.Fits.{ReplicaValue}
-use Rattle.rds_codec.specs.Decoding.{Decodes}
+use Rattle.rds_bytes.specs.Spelling.{magic}
 use Rattle.rds_codec.specs.Kinds.{snapshot_kind}
+use Rattle.rds_codec.specs.StateTexts.{snapshot_text, snapshot_at}
 use Rattle.rds_codec.specs.declared.limits.TheConstants.{LIMIT}
-use Rattle.rds_keep.specs.Counted.{most_read}
-use Rattle.rds_keep.specs.Snapshots.{IsForeign, IsDecoded, IsAnswerTo, IsUnread, ReadsWhole, WantsMoreReads}
-use Rattle.rds_keep.proofs.Foreign.{foreign_is_bad, whole_is_own}
+use Rattle.rds_bytes.specs.Reading.{Reader}
+use Rattle.rds_keep.specs.Counted.{CountedValue, HasFailed, most_read}
+use Rattle.rds_keep.specs.Feeding.{FeedValue, StandsFor, Refuses, IsReadAs}
+use Rattle.rds_keep.specs.Snapshots.{IsForeign, IsShort, IsDecoded, IsUnread, ReadsWhole, WantsMoreReads}
+use Rattle.rds_keep.proofs.Foreign.{foreign_is_bad, short_is_cut, own_begins, not_hopeless}
 
--- bytes above the limit are refused, whatever they hold
-decodes_long : (bytes : List ℕ) → LIMIT < length bytes → Decodes snapshot_kind bytes (Err TooLong)
-decodes_long bytes lt = record {
-  value = tt;
-  found = λ v le is. absurd (omega arith);
-  long = λ _. refl;
-  long_only = λ _. lt;
-  extra = λ le has. absurd (omega arith);
-  extra_only = λ e. absurd cc;
-  other = inr (inl refl);
-}
+-- ---- an input that doesn't begin as a snapshot does
 
-long_front : (front rest : List ℕ) (result : Result ReplicaValue Fault) → LIMIT < length front → Decodes snapshot_kind front result → IsDecoded (front ++ rest) result
-long_front front rest result lt decoded =
-    let same = length-append front rest in
-    (subst (Decodes snapshot_kind (front ++ rest)) (sym (decoded.long lt)) (decodes_long (front ++ rest) (omega arith)), λ le. absurd (omega arith))
+refused : (input : List ℕ) (turns : ℕ) (e : Fault) → (e ≡ Bad → IsForeign input) → (e ≡ Cut → IsShort turns input) → (e ≡ Bad) ⊎ ((e ≡ Cut) ⊎ ((e ≡ Memory) ⊎ (e ≡ Device))) → ReadsWhole input (Err e)
+refused input turns e foreign short (inl bad) = inl (rw bad (foreign_is_bad input (foreign bad)))
+refused input turns e foreign short (inr (inl cut)) = inl (rw cut (let is = short cut in short_is_cut input is.0))
+refused input turns e foreign short (inr (inr other)) = inr (elim other [ inl memory ↦ inl (ap Err memory) | inr device ↦ inr (ap Err device) ])
 
-answered : (input front rest : List ℕ) (result : Result ReplicaValue Fault) → input ≡ front ++ rest → (length front < LIMIT + 1 → rest ≡ []) → (IsForeign front → ⊥) → IsDecoded input result
-    → IsAnswerTo input result
-answered input front rest result same end own decoded =
-    let not_foreign : IsForeign input → ⊥ = whole_is_own input front rest same (λ short. end (omega (arith, short))) own in
-    record { foreign = λ is. absurd (not_foreign is); own = λ _. decoded; within = λ _. decoded }
+pub input_refused : (known : Option (List ℕ)) (turns : ℕ) (e : Fault) → (e ≡ Bad → IfSome known IsForeign) → (e ≡ Cut → IfSome known (IsShort turns))
+    → (e ≡ Bad) ⊎ ((e ≡ Cut) ⊎ ((e ≡ Memory) ⊎ (e ≡ Device))) → IfSome known (λ input. ReadsWhole input (Err e))
+input_refused None turns e foreign short why = tt
+input_refused (Some input) turns e foreign short why = refused input turns e foreign short why
 
-pub front_decoded : (first now : Option (List ℕ)) (front : List ℕ) (result : Result ReplicaValue Fault) → Consumes first now front → (length front < LIMIT + 1 → IsAtEnd now) → (IsForeign front → ⊥)
-    → IsDecoded front result → IfSome first (λ input. ReadsWhole input result)
-front_decoded None now front result p end own decoded = tt
-front_decoded (Some xs) None front result p end own decoded = absurd p
-front_decoded (Some xs) (Some ys) front result p end own decoded = inl (answered xs front ys result p end own (elim (cases_lt (length front) (LIMIT + 1)) [
-  | inl short ↦ subst (λ (l : List ℕ). IsDecoded l result) (sym (p ∙ ap (λ (l : List ℕ). front ++ l) (end short) ∙ append-nil front)) decoded
-  | inr long ↦ subst (λ (l : List ℕ). IsDecoded l result) (sym p) (long_front front ys result (omega arith) decoded.0)
-]))
+pub input_unread : (known : Option (List ℕ)) (turns : ℕ) (e : Fault) → (e ≡ Bad → IfSome known IsForeign) → (e ≡ Cut → IfSome known (IsShort turns))
+    → (e ≡ Bad) ⊎ ((e ≡ Cut) ⊎ ((e ≡ Memory) ⊎ (e ≡ Device))) → IfSome known (λ input. WantsMoreReads turns input → IsUnread (Err e))
+input_unread None turns e foreign short why = tt
+input_unread (Some input) turns e foreign short (inl bad) = λ more. absurd (more.own (foreign bad))
+input_unread (Some input) turns e foreign short (inr (inl cut)) = λ more. absurd (let is = short cut in let few = is.1 in let all = more.all in omega (arith, few, all))
+input_unread (Some input) turns e foreign short (inr (inr other)) = λ _. elim other [ inl memory ↦ inl (ap Err memory) | inr device ↦ inr (ap Err device) ]
 
-refused : (input : List ℕ) (e : Fault) → (e ≡ Bad → IsForeign input) → (e ≡ Bad) ⊎ ((e ≡ Memory) ⊎ (e ≡ Device)) → ReadsWhole input (Err e)
-refused input e foreign (inl bad) = inl (rw bad (foreign_is_bad input (foreign bad)))
-refused input e foreign (inr other) = inr (elim other [ inl memory ↦ inl (ap Err memory) | inr device ↦ inr (ap Err device) ])
+-- ---- one that does
 
--- an input that wasn't read is foreign, or memory ran out or a call failed
-pub input_refused : (known : Option (List ℕ)) (e : Fault) → (e ≡ Bad → IfSome known IsForeign) → (e ≡ Bad) ⊎ ((e ≡ Memory) ⊎ (e ≡ Device)) → IfSome known (λ input. ReadsWhole input (Err e))
-input_refused None e foreign why = tt
-input_refused (Some input) e foreign why = refused input e foreign why
+pub each_known : {P : List ℕ → Type 0} (known : Option (List ℕ)) → ((input : List ℕ) → P input) → IfSome known P
+each_known None each = tt
+each_known (Some input) each = each input
 
--- what was read of an input took no more reads than there were
-read_within : (input front rest : List ℕ) (reads : ℕ) → input ≡ front ++ rest → (length front < LIMIT + 1 → rest ≡ []) → length front ≤ most_read reads → WantsMoreReads reads input → ⊥
-read_within input front rest reads same end le more = elim (cases_lt (length front) (LIMIT + 1)) [
-  | inl short ↦ (
-      let whole : input ≡ front = same ∙ ap (λ (l : List ℕ). front ++ l) (end short) ∙ append-nil front in
-      let all = more.all in omega (arith, le, all, ap length whole))
-  | inr long ↦ let within = more.within in omega (arith, le, within, long)
+-- the first four bytes are refused only where memory runs out
+pub magic_refused : {U : Type 0} (finish : U → Reader ReplicaValue) (feed : FeedValue U ReplicaValue) (piece : List ℕ) (e : Fault) → piece ≡ magic → StandsFor finish snapshot_at feed [] → Refuses finish feed piece e → e ≡ Memory
+magic_refused finish feed piece e is stands refuses = elim refuses [
+  | inl memory ↦ memory
+  | inr never ↦ absurd (not_hopeless e (rw is at (never snapshot_at [] stands)))
 ]
 
-pub front_within : (first now : Option (List ℕ)) (front : List ℕ) (reads : ℕ) (result : Result ReplicaValue Fault) → Consumes first now front → (length front < LIMIT + 1 → IsAtEnd now)
-    → length front ≤ most_read reads → IfSome first (λ input. WantsMoreReads reads input → IsUnread result)
-front_within None now front reads result p end le = tt
-front_within (Some xs) None front reads result p end le = absurd p
-front_within (Some xs) (Some ys) front reads result p end le = λ more. absurd (read_within xs front ys reads p end le more)
+answered : (input rest : List ℕ) (r : Result ReplicaValue Fault) → input ≡ magic ++ rest → IsReadAs snapshot_kind snapshot_at (magic ++ rest) r → ReadsWhole input r
+answered input rest r same read = elim read [
+  | inl decoded ↦ (
+      let all : IsDecoded input r = subst (λ (t : List ℕ). IsDecoded t r) (sym same) decoded in
+      inl (record { foreign = λ is. absurd (own_begins input rest same is); own = λ _. all; within = λ _. all }))
+  | inr unread ↦ inr unread
+]
 
--- an input that isn't foreign wasn't read since memory ran out or a call failed
-pub own_refused : (known : Option (List ℕ)) (e : Fault) (reads : ℕ) → (e ≡ Bad → IfSome known IsForeign) → (e ≡ Bad) ⊎ ((e ≡ Memory) ⊎ (e ≡ Device))
-    → IfSome known (λ input. WantsMoreReads reads input → IsUnread (Err e))
-own_refused None e reads foreign why = tt
-own_refused (Some input) e reads foreign (inl bad) = λ more. absurd (more.own (foreign bad))
-own_refused (Some input) e reads foreign (inr other) = λ _. elim other [ inl memory ↦ inl (ap Err memory) | inr device ↦ inr (ap Err device) ]
+pub input_read : (first mid : Option (List ℕ)) (r : Result ReplicaValue Fault) → Consumes first mid magic → IfSome mid (λ input. IsReadAs snapshot_kind snapshot_at (magic ++ input) r) → IfSome first (λ input. ReadsWhole input r)
+input_read None mid r taken read = tt
+input_read (Some xs) None r taken read = absurd taken
+input_read (Some xs) (Some ys) r taken read = answered xs ys r taken read
+
+-- its text
+text_is : (input rest : List ℕ) (v : ReplicaValue) → input ≡ magic ++ rest → IsReadAs snapshot_kind snapshot_at (magic ++ rest) (Ok v) → input ≡ snapshot_text v
+text_is input rest v same read = elim read [
+  | inl decoded ↦ (let value = decoded.0.value in same ∙ value.1.spelled)
+  | inr unread ↦ absurd (elim unread [ inl memory ↦ cc | inr device ↦ cc ])
+]
+
+pub input_spelled : (first mid : Option (List ℕ)) (v : ReplicaValue) → Consumes first mid magic → IfSome mid (λ input. IsReadAs snapshot_kind snapshot_at (magic ++ input) (Ok v)) → IfSome first (λ input. input ≡ snapshot_text v)
+input_spelled None mid v taken read = tt
+input_spelled (Some xs) None v taken read = absurd taken
+input_spelled (Some xs) (Some ys) v taken read = text_is xs ys v taken read
+
+-- the reads that are left after the first give neither all of the rest, nor more of it than may still come
+pub input_bound : (first mid : Option (List ℕ)) (turns left room : ℕ) (r : Result ReplicaValue Fault) → Consumes first mid magic → left ≤ turns → 4 ≤ most_read (turns - left) → 4 + room ≡ LIMIT
+    → IfSome mid (λ input. most_read left < length input → most_read left ≤ room → IsUnread r) → IfSome first (λ input. WantsMoreReads turns input → IsUnread r)
+input_bound None mid turns left room r taken fewer some all unread = tt
+input_bound (Some xs) None turns left room r taken fewer some all unread = absurd taken
+input_bound (Some xs) (Some ys) turns left room r taken fewer some all unread = λ more.
+    let many = more.all in
+    let within = more.within in
+    let same = ap length taken ∙ length-append magic ys in
+    unread (omega (arith, many, same, fewer, some)) (omega (arith, within, fewer, some, all))
+
+-- a call that failed later
+pub failed_later : {T : Type 0} (old mid new : CountedValue T) → mid.failed ≡ old.failed → HasFailed mid new → HasFailed old new
+failed_later old mid new same failed = elim failed [ inl more ↦ inl (subst (λ (n : ℕ). n < new.failed) same more) | inr full ↦ inr full ]

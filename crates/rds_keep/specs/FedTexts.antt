@@ -1,6 +1,5 @@
 -- To read all of some bytes as a kind's reader does is to decode them.
 use Rattle.std.proofs.Common.{arith}
-use Rattle.std.specs.Prelude.{◌<◌, ◌≤◌, ℕ, List, length}
 use Rattle.rds_bytes.specs.Reading.{Reader}
 use Rattle.rds_codec.specs.Kinds.{Kind}
 use Rattle.rds_codec.proofs.Whole.{IsReaderOf, decodes}

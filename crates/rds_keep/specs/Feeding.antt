@@ -121,3 +121,8 @@ IsUnread result = (result ≡ Err Memory) ⊎ (result ≡ Err Device)
 -- what decoding all of the bytes gives, unless not all was read
 abbrev pub IsReadAs : {V : Type 0} → Kind V → Reader V → List ℕ → Result V Fault → Type 0
 IsReadAs kind reader bytes result = IsDecoded kind reader bytes result ⊎ IsUnread result
+
+-- a value of the kind whose text is within the limit
+pub record HasText {V : Type 0} (kind : Kind V) (v : V) : Type 0 where
+  pub is_value : kind.is_value v
+  pub within : length (kind.text v) ≤ LIMIT

@@ -22,6 +22,10 @@ RefusesText text old new e = ⊥
 abbrev pub IsForeign : List ℕ → Type 0
 IsForeign input = (4 ≤ length input) × (take 4 input ≢ magic)
 
+-- it has fewer than four bytes, and no more than so many reads give
+abbrev pub IsShort : ℕ → List ℕ → Type 0
+IsShort reads input = (length input < 4) × (length input ≤ most_read reads)
+
 -- what decoding the whole input answers
 abbrev pub IsDecoded : List ℕ → Result ReplicaValue Fault → Type 0
 IsDecoded input result = Decodes snapshot_kind input result × ReadsAll snapshot_at input result

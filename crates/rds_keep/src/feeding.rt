@@ -3,8 +3,9 @@ ghost use Rattle.std.specs.Prelude.{◌≡◌, ◌≢◌, ℕ, ◌-◌, ◌<◌,
 ghost use Rattle.std.specs.Prelude.{Err, IfSome, IfOk, IfErr, OnOk};
 ghost use Rattle.std.specs.Io.KnownBytes.{IsAtEnd};
 ghost use Rattle.rds_names.specs.declared.fault.Fault.TheVariants.{Memory, Device};
+ghost use Rattle.rds_codec.specs.Decoding.{IsOtherFault};
 ghost use Rattle.rds_keep.specs.Counted.{HasFailed, most_read};
-ghost use Rattle.rds_keep.specs.Feeding.{Feeds, IsReadAs, IsUnread, StandsFor, Takes};
+ghost use Rattle.rds_keep.specs.Feeding.{Adds, Feeds, HasText, IsReadAs, IsUnread, Refuses, StandsFor, Takes};
 ghost use Rattle.rds_keep.specs.Parts.{ConsumesAtMost};
 
 use crate::counted::Counted;
@@ -72,6 +73,16 @@ impl<R: Read> Counted<R> {
     }
 }
 
+/// The feed, with the next bytes.
+pub(crate) fn fed_with<U: Unfinished>(feed: Feed<U>, piece: &[u8]) -> Result<Feed<U>, Fault>
+    ensures adds { IfOk result (λ new. Adds U.finish feed new piece.now) }
+    ensures refuses { IfErr result (Refuses U.finish feed piece.now) }
+{
+    let mut feed = feed;
+    feed.feed(piece)?;
+    Ok(feed)
+}
+
 /// Reads all that the reader holds through a feed, behind what the feed was given before: the value whose text these
 /// bytes are. It spends turns of a loop that its caller began, and holds no more of the text than the feed does.
 ///
@@ -81,9 +92,13 @@ pub fn read_fed<U: Fed, R: Read>(feed: Feed<U>, reader: &mut Counted<R>) -> Resu
     ensures whole { (replicas : ℕ) (came : List ℕ) → StandsFor U.finish (U.reader replicas) feed came
         → IfSome (R.remaining reader.old.inner)
         (λ input. IsReadAs (U.kind replicas) (U.reader replicas) (came ++ input) result) }
+    ensures value { (replicas : ℕ) (came : List ℕ) → StandsFor U.finish (U.reader replicas) feed came
+        → IfOk result (HasText (U.kind replicas)) }
     ensures bound { IfSome (R.remaining reader.old.inner) (λ input. most_read reader.old.left < length input
         → most_read reader.old.left ≤ feed.left → IsUnread result) }
     ensures end { OnOk result (IsAtEnd (R.remaining reader.new.inner)) }
+    ensures fault { (replicas : ℕ) (came : List ℕ) → StandsFor U.finish (U.reader replicas) feed came
+        → IfErr result (λ e. (e ≡ Device) ⊎ IsOtherFault e) }
     ensures counted { (replicas : ℕ) (came : List ℕ) → StandsFor U.finish (U.reader replicas) feed came
         → result ≡ Err Device → HasFailed reader.old reader.new }
     ensures steady { result ≢ Err Device → reader.new.failed ≡ reader.old.failed }

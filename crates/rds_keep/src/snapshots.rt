@@ -1,19 +1,22 @@
 //! Snapshots, written and read whole.
-ghost use Rattle.std.specs.Prelude.{◌≡◌, ◌≢◌, ◌+◌, ◌<◌, ◌≤◌, ◌⊎◌, length, Err, IfOk, IfErr, IfSome, OnOk, OnErr};
+ghost use Rattle.std.specs.Prelude.{◌≡◌, ◌≢◌, ◌-◌, ◌≤◌, ◌⊎◌, length, Err, IfOk, IfErr, IfSome, OnOk, OnErr};
 ghost use Rattle.std.specs.FinMap as map;
 ghost use Rattle.std.specs.Io.KnownBytes.{Appends, Consumes, IsAtEnd};
-ghost use Rattle.rds_names.specs.declared.fault.Fault.TheVariants.{Memory, Bad, Device};
+ghost use Rattle.rds_names.specs.declared.fault.Fault.TheVariants.{Memory, Cut, Bad, Device};
+ghost use Rattle.rds_bytes.specs.Spelling.{magic};
 ghost use Rattle.rds_codec.specs.Decoding.{IsOtherFault};
 ghost use Rattle.rds_codec.specs.StateTexts.{snapshot_text, IsSnapshot};
 ghost use Rattle.rds_codec.specs.declared.limits.TheConstants.{LIMIT};
 ghost use Rattle.rds_keep.specs.Counted.{HasFailed, most_read};
 ghost use Rattle.rds_keep.specs.Parts.{AppendsPart, ConsumesAtMost};
-ghost use Rattle.rds_keep.specs.Snapshots.{IsForeign, IsUnread, ReadsWhole, RefusesText, WantsMoreReads};
+ghost use Rattle.rds_keep.specs.Snapshots.{IsForeign, IsShort, IsUnread, ReadsWhole, RefusesText, WantsMoreReads};
 
 use crate::counted::Counted;
+use crate::feeding::{fed_with, read_fed};
+use crate::feeds::Feed;
 use crate::kept::Kept;
 use rds_bytes::MAGIC;
-use rds_codec::{LIMIT, decode_snapshot, encode_snapshot};
+use rds_codec::encode_snapshot;
 use rds_dots::DotSet;
 use rds_names::Fault;
 use rds_state::Replica;
@@ -50,39 +53,37 @@ pub fn write_snapshot<S: DotSet, W: Write>(
     Ok(kept)
 }
 
-/// All that the reader holds, or one byte more of it than a text may have.
+/// Reads the first four bytes of all that the reader holds, which are those of every snapshot.
 ///
-/// Refuses `Bad` where the first four bytes are those of no snapshot, and reads no more than these.
-fn read_input<R: Read>(alloc: Global, reader: &mut Counted<R>) -> Result<Vec<u8>, Fault>
-    ensures bytes { IfOk result (λ v. Consumes (R.remaining reader.old.inner)
-        (R.remaining reader.new.inner) v.items) }
-    ensures end { IfOk result (λ v. length v.items < LIMIT + 1
-        → IsAtEnd (R.remaining reader.new.inner)) }
-    ensures bound { IfOk result (λ v. length v.items ≤ most_read reader.old.turns) }
-    ensures own { IfOk result (λ v. IsForeign v.items → ⊥) }
+/// Refuses `Cut` where there are fewer, and `Bad` where they are others.
+fn read_magic<R: Read>(alloc: Global, reader: &mut Counted<R>) -> Result<(), Fault>
+    ensures magic { OnOk result (Consumes (R.remaining reader.old.inner) (R.remaining reader.new.inner) magic) }
+    ensures bound { OnOk result (4 ≤ most_read (reader.old.turns - reader.new.left)) }
     ensures bad { IfErr result (λ e. e ≡ Bad → IfSome (R.remaining reader.old.inner) IsForeign) }
+    ensures cut { IfErr result (λ e. e ≡ Cut → IfSome (R.remaining reader.old.inner)
+        (IsShort reader.old.turns)) }
     ensures foreign { IfSome (R.remaining reader.old.inner) (λ input. IsForeign input
         → ConsumesAtMost (R.remaining reader.old.inner) (R.remaining reader.new.inner) 4) }
-    ensures fault { IfErr result (λ e. (e ≡ Bad) ⊎ ((e ≡ Memory) ⊎ (e ≡ Device))) }
+    ensures fault { IfErr result (λ e. (e ≡ Bad) ⊎ ((e ≡ Cut) ⊎ ((e ≡ Memory) ⊎ (e ≡ Device)))) }
     ensures counted { result ≡ Err Device → HasFailed reader.old reader.new }
     ensures steady { result ≢ Err Device → reader.new.failed ≡ reader.old.failed }
+    ensures left { reader.new.left ≤ reader.old.turns }
     ensures turns { reader.new.turns ≡ reader.old.turns }
     ensures renamed { reader.new.renamed ≡ reader.old.renamed }
 {
-    let mut input = reader.read_front(alloc, MAGIC.len())?;
-    if input.len() < MAGIC.len() {
-        return Ok(input);
+    let front = reader.read_front(alloc, MAGIC.len())?;
+    if front.len() < MAGIC.len() {
+        return Err(Fault::Cut);
     }
-    if input.as_slice() != MAGIC.as_slice() {
+    if front.as_slice() != MAGIC.as_slice() {
         return Err(Fault::Bad);
     }
-    reader.read_on(&mut input, LIMIT + 1)?;
-    Ok(input)
+    Ok(())
 }
 
 /// Reads all that the reader holds: the replica whose snapshot it is.
 ///
-/// Refuses as decoding does for the whole input, of which it holds no more than a text may have. But
+/// Refuses as decoding does for the whole input, of which it holds no more than the replica and a part. But
 /// an input whose first four bytes are those of no snapshot is `Bad` however long it is, and no more
 /// than these are read of it. A read that fails, and more reads than the reader's bound of turns, are
 /// `Device`.
@@ -105,7 +106,8 @@ pub fn read_snapshot<S: DotSet, R: Read>(
     ensures turns { reader.new.turns ≡ reader.old.turns }
     ensures renamed { reader.new.renamed ≡ reader.old.renamed }
 {
-    let input = read_input(alloc, reader)?;
-    let replica = decode_snapshot(alloc, input.as_slice())?;
+    read_magic(alloc, reader)?;
+    let feed = fed_with(Feed::snapshot(alloc), MAGIC.as_slice())?;
+    let replica = read_fed(feed, reader)?;
     Ok(Kept::new(replica))
 }

@@ -1,12 +1,14 @@
 //! Rows on texts whose bytes come in pieces.
 use crate::forms::REPLICAS;
-use rds_codec::{encode_answer, encode_certificate, encode_digest, encode_state};
+use rds_codec::{
+    encode_answer, encode_certificate, encode_digest, encode_hello, encode_snapshot, encode_state,
+};
 use rds_dots::DotSet;
 use rds_keep::{Fed, Feed};
 use rds_names::Fault;
 use rds_rows::told::{fault_text, named, said};
 use rds_rows::words::{bytes_of, cut};
-use rds_text_feeds::{UnfinishedAnswer, UnfinishedCertificate, UnfinishedDigest, UnfinishedState};
+use rds_text_feeds::{UnfinishedAnswer, UnfinishedDigest, UnfinishedSnapshot, UnfinishedState};
 use std::alloc::Global;
 
 /// `cuts FORM DIGITS`: of how many places at which the text is cut in two the pieces are read as it, and of how many.
@@ -32,24 +34,50 @@ fn again<S: DotSet>(
     back: &[u8],
 ) -> Result<Vec<u8>, Fault> {
     match form {
-        "state" => encode_state(alloc, &fed::<UnfinishedState<S>>(alloc, front, back)?),
-        "digest" => encode_digest(alloc, &fed::<UnfinishedDigest<S>>(alloc, front, back)?),
-        "certificate" => encode_certificate(
-            alloc,
-            &fed::<UnfinishedCertificate>(alloc, front, back)?,
-        ),
+        "snapshot" => snapshot_again::<S>(alloc, front, back),
+        "state" => state_again::<S>(alloc, front, back),
+        "digest" => digest_again::<S>(alloc, front, back),
+        "certificate" => certificate_again(alloc, front, back),
         "answer" => answer_again::<S>(alloc, front, back),
+        "hello" => hello_again(alloc, front, back),
         _ => Err(Fault::Usage),
     }
 }
 
+fn snapshot_again<S: DotSet>(alloc: Global, front: &[u8], back: &[u8]) -> Result<Vec<u8>, Fault> {
+    let feed: Feed<UnfinishedSnapshot<S>> = Feed::snapshot(alloc);
+    encode_snapshot(alloc, &fed(feed, front, back)?)
+}
+
+fn state_again<S: DotSet>(alloc: Global, front: &[u8], back: &[u8]) -> Result<Vec<u8>, Fault> {
+    let feed: Feed<UnfinishedState<S>> = Feed::state(alloc, REPLICAS);
+    encode_state(alloc, &fed(feed, front, back)?)
+}
+
+fn digest_again<S: DotSet>(alloc: Global, front: &[u8], back: &[u8]) -> Result<Vec<u8>, Fault> {
+    let feed: Feed<UnfinishedDigest<S>> = Feed::digest(alloc, REPLICAS);
+    encode_digest(alloc, &fed(feed, front, back)?)
+}
+
+fn certificate_again(alloc: Global, front: &[u8], back: &[u8]) -> Result<Vec<u8>, Fault> {
+    encode_certificate(
+        alloc,
+        &fed(Feed::certificate(alloc, REPLICAS), front, back)?,
+    )
+}
+
 fn answer_again<S: DotSet>(alloc: Global, front: &[u8], back: &[u8]) -> Result<Vec<u8>, Fault> {
-    let answer = fed::<UnfinishedAnswer<S>>(alloc, front, back)?;
+    let feed: Feed<UnfinishedAnswer<S>> = Feed::answer(alloc, REPLICAS);
+    let answer = fed(feed, front, back)?;
     encode_answer(alloc, answer.asker, &answer.state, &answer.certificate)
 }
 
-fn fed<U: Fed>(alloc: Global, front: &[u8], back: &[u8]) -> Result<U::Whole, Fault> {
-    let mut feed: Feed<U> = Feed::new(alloc, REPLICAS);
+fn hello_again(alloc: Global, front: &[u8], back: &[u8]) -> Result<Vec<u8>, Fault> {
+    encode_hello(alloc, &fed(Feed::hello(alloc), front, back)?)
+}
+
+fn fed<U: Fed>(feed: Feed<U>, front: &[u8], back: &[u8]) -> Result<U::Whole, Fault> {
+    let mut feed = feed;
     feed.feed(front)?;
     feed.feed(back)?;
     feed.end()
@@ -60,16 +88,18 @@ pub fn drops<S: DotSet>(alloc: Global, rest: &str) -> Result<String, Fault> {
     let (form, digits) = cut(rest)?;
     let bytes = bytes_of(alloc, digits)?;
     match form {
-        "state" => dropped::<UnfinishedState<S>>(alloc, &bytes),
-        "digest" => dropped::<UnfinishedDigest<S>>(alloc, &bytes),
-        "certificate" => dropped::<UnfinishedCertificate>(alloc, &bytes),
-        "answer" => dropped::<UnfinishedAnswer<S>>(alloc, &bytes),
+        "snapshot" => dropped::<UnfinishedSnapshot<S>>(alloc, Feed::snapshot(alloc), &bytes),
+        "state" => dropped::<UnfinishedState<S>>(alloc, Feed::state(alloc, REPLICAS), &bytes),
+        "digest" => dropped::<UnfinishedDigest<S>>(alloc, Feed::digest(alloc, REPLICAS), &bytes),
+        "certificate" => dropped(alloc, Feed::certificate(alloc, REPLICAS), &bytes),
+        "answer" => dropped::<UnfinishedAnswer<S>>(alloc, Feed::answer(alloc, REPLICAS), &bytes),
+        "hello" => dropped(alloc, Feed::hello(alloc), &bytes),
         _ => Err(Fault::Usage),
     }
 }
 
-fn dropped<U: Fed>(alloc: Global, bytes: &[u8]) -> Result<String, Fault> {
-    let mut feed: Feed<U> = Feed::new(alloc, REPLICAS);
+fn dropped<U: Fed>(alloc: Global, feed: Feed<U>, bytes: &[u8]) -> Result<String, Fault> {
+    let mut feed = feed;
     let mut count = 0u64;
     for byte in bytes {
         count = count.saturating_add(1);
