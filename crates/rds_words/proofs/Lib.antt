@@ -19,5 +19,6 @@ pub mod PrettyNamed
 pub mod Refusing
 pub mod RuleFacts
 pub mod ServeNamed
+pub mod ShownExactly
 pub mod Splitting
 pub mod SyncNamed

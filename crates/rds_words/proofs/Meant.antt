@@ -1,16 +1,17 @@
 -- Words mean what is spelled, and other words are refused.
-use Rattle.std.proofs.Common.{◌≡◌, ◌⊎◌, ◌∙◌, Bool, List, [], ◌∷◌, true, false, Option, Some, option_map, refl, sym, subst, inl, inr}
+use Rattle.std.proofs.Common.{◌≡◌, ◌⊎◌, ◌∙◌, Bool, List, [], ◌∷◌, codes, true, false, Option, Some, option_map, refl, sym, subst, inl, inr}
 use Rattle.std.specs.Prelude.{⊤, find, if◌then◌else◌}
 use Rattle.std.specs.Str.{bytes_eq}
 use Rattle.std.proofs.lemmas.Slice.Eq.{bytes_eq-Decides}
 use Rattle.clap.specs.Words.{Shape, Text}
 use Rattle.rds_words.specs.Entered.{Names, mistakes_in}
-use Rattle.rds_words.specs.Spelling.{AreSpelled, AreWordsOf, Count, IsCounted, OtherCommandsAreRefused, OtherWordsAreRefused, OtherWordsWithoutOptions, WordsMeanTheirSpelling, WordsWithoutOptions, count_in, counts, option_counts}
+use Rattle.rds_words.specs.Spelling.{AreShowWordsOf, AreSpelled, AreWordsOf, Count, IsCounted, OtherCommandsAreRefused, OtherShowsAreRefused, OtherWordsAreRefused, OtherWordsWithoutOptions, ShowMeansItsSpelling, WordsMeanTheirSpelling, WordsWithoutOptions, count_in, counts, option_counts, or_root}
 use Rattle.rds_words.proofs.Counting.{IsCountedCommand, refused_isnt}
 use Rattle.rds_words.proofs.OptionCommands as options
 use Rattle.rds_words.proofs.OtherCommands.{command_or_not}
 use Rattle.rds_words.proofs.PlainCommands as plain
 use Rattle.rds_words.proofs.Refusing.{HasRequestsAlone}
+use Rattle.rds_words.proofs.ShownExactly.{option_unmistaken, pretty_named}
 use Rattle.rds_words.proofs.Splitting.{HasOption, IsCommand, mistaken_alike, named_alike, option_mistaken, split}
 
 -- what is known of a command
@@ -140,6 +141,21 @@ each_plain = (
 each_known : Each IsKnown option_counts
 each_known = (known _ _ _ options.show_is options.show_counted, (known _ _ _ options.serve_is options.serve_counted, (known _ _ _ options.sync_is options.sync_counted, tt)))
 
+-- ---- show
+
+show_known : IsKnown (codes "show") (or_root 2)
+show_known = known (codes "show") (or_root 2) _ options.show_is options.show_counted
+
+show_named : (called : Text) (behind words : List Text) → AreShowWordsOf behind words → Names (called ∷ codes "show" ∷ behind) (codes "show" ∷ words)
+show_named called behind words (inl plain) = given_names (codes "show") (or_root 2) show_known called plain.0 behind words plain.1 plain.2
+show_named called behind words (inr pretty) = pretty_named called behind words pretty
+
+show_unmistaken : (called : Text) (behind : List Text) → mistakes_in (called ∷ codes "show" ∷ behind) ≡ [] → (words : List Text) × AreShowWordsOf behind words
+show_unmistaken called behind none = elim (split behind) [
+  | inl spelled ↦ let counted = given_counted (codes "show") (or_root 2) show_known called spelled.0 behind spelled.1 none in (counted.0, inl (spelled.0, spelled.1, counted.1))
+  | inr option ↦ let found = option_unmistaken called behind option none in (found.0, inr found.1)
+]
+
 -- ---- the laws
 
 pub words_spelled : WordsMeanTheirSpelling
@@ -161,6 +177,17 @@ pub others_without_options : OtherWordsWithoutOptions
 others_without_options called command count is given behind spelled other none =
     let found = given_counted command count (found_in IsKnown option_counts each_known command count is) called given behind spelled none in
     other found.0 found.1
+
+pub show_spelled : ShowMeansItsSpelling
+show_spelled called behind words = (
+  λ names.
+      let found = show_unmistaken called behind names.0 in
+      subst (AreShowWordsOf behind) (same_words (sym (show_named called behind found.0 found.1).1 ∙ names.1)) found.1,
+  show_named called behind words,
+)
+
+pub other_shows_refused : OtherShowsAreRefused
+other_shows_refused called behind other none = (let found = show_unmistaken called behind none in other found.0 found.1)
 
 pub no_command_refused : OtherCommandsAreRefused
 no_command_refused entered other none = elim (command_or_not entered) [ inl has ↦ other has | inr is ↦ refused_isnt _ is none ]

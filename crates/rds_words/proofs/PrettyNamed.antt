@@ -25,51 +25,51 @@ flag_row = record { id = codes "PRETTY"; values = codes "true" ∷ []; count = N
 
 -- ---- what is held
 
-unfoldable flagged : Held
+unfoldable pub flagged : Held
 flagged = record { rows = flag_row ∷ []; pending = None; skip = 0 }
 
-unfoldable flagged_file : Text → Held
+unfoldable pub flagged_file : Text → Held
 flagged_file file = record { rows = flag_row ∷ []; pending = Some (codes "FILE", file ∷ []); skip = 0 }
 
-unfoldable flagged_path : Text → Text → Held
+unfoldable pub flagged_path : Text → Text → Held
 flagged_path file path = record { rows = flag_row ∷ row (codes "FILE") (file ∷ []) ∷ []; pending = Some (codes "PATH", path ∷ []); skip = 0 }
 
-unfoldable with_path : Text → Text → Held
+unfoldable pub with_path : Text → Text → Held
 with_path file path = record { rows = row (codes "FILE") (file ∷ []) ∷ []; pending = Some (codes "PATH", path ∷ []); skip = 0 }
 
-unfoldable file_flagged : Text → Held
+unfoldable pub file_flagged : Text → Held
 file_flagged file = record { rows = row (codes "FILE") (file ∷ []) ∷ flag_row ∷ []; pending = None; skip = 0 }
 
-unfoldable path_flagged : Text → Text → Held
+unfoldable pub path_flagged : Text → Text → Held
 path_flagged file path = record { rows = row (codes "FILE") (file ∷ []) ∷ row (codes "PATH") (path ∷ []) ∷ flag_row ∷ []; pending = None; skip = 0 }
 
 -- ---- word by word
 
-flag_steps : Steps show_shape (walk_from nothing_held) (codes "--pretty") (at flagged idle 1 false)
+pub flag_steps : Steps show_shape (walk_from nothing_held) (codes "--pretty") (at flagged idle 1 false)
 unfolding flagged node_on_words
 flag_steps = (refl, refl)
 
-flagged_file_steps : (file : Text) → is_data file ≡ true → Steps show_shape (at flagged idle 1 false) file (at (flagged_file file) idle 2 false)
+pub flagged_file_steps : (file : Text) → is_data file ≡ true → Steps show_shape (at flagged idle 1 false) file (at (flagged_file file) idle 2 false)
 unfolding flagged flagged_file node_on_words
 flagged_file_steps file are = (data_next show_shape.rules flagged idle 1 file are refl, data_turn show_shape flagged idle 1 file are refl)
 
-flagged_path_steps : (file path : Text) → is_data path ≡ true → Steps show_shape (at (flagged_file file) idle 2 false) path (at (flagged_path file path) idle 3 false)
+pub flagged_path_steps : (file path : Text) → is_data path ≡ true → Steps show_shape (at (flagged_file file) idle 2 false) path (at (flagged_path file path) idle 3 false)
 unfolding flagged_file flagged_path node_on_words
 flagged_path_steps file path are = (data_next show_shape.rules (flagged_file file) idle 2 path are refl, data_turn show_shape (flagged_file file) idle 2 path are refl)
 
-file_steps : (file : Text) → is_data file ≡ true → Steps show_shape (walk_from nothing_held) file (at (with_file file) idle 2 false)
+pub file_steps : (file : Text) → is_data file ≡ true → Steps show_shape (walk_from nothing_held) file (at (with_file file) idle 2 false)
 unfolding with_file node_on_words
 file_steps file are = (data_next show_shape.rules nothing_held idle 1 file are refl, data_turn show_shape nothing_held idle 1 file are refl)
 
-path_steps : (file path : Text) → is_data path ≡ true → Steps show_shape (at (with_file file) idle 2 false) path (at (with_path file path) idle 3 false)
+pub path_steps : (file path : Text) → is_data path ≡ true → Steps show_shape (at (with_file file) idle 2 false) path (at (with_path file path) idle 3 false)
 unfolding with_file with_path node_on_words
 path_steps file path are = (data_next show_shape.rules (with_file file) idle 2 path are refl, data_turn show_shape (with_file file) idle 2 path are refl)
 
-file_flag_steps : (file : Text) → Steps show_shape (at (with_file file) idle 2 false) (codes "--pretty") (at (file_flagged file) idle 2 false)
+pub file_flag_steps : (file : Text) → Steps show_shape (at (with_file file) idle 2 false) (codes "--pretty") (at (file_flagged file) idle 2 false)
 unfolding with_file file_flagged node_on_words
 file_flag_steps file = (refl, refl)
 
-path_flag_steps : (file path : Text) → Steps show_shape (at (with_path file path) idle 3 false) (codes "--pretty") (at (path_flagged file path) idle 3 false)
+pub path_flag_steps : (file path : Text) → Steps show_shape (at (with_path file path) idle 3 false) (codes "--pretty") (at (path_flagged file path) idle 3 false)
 unfolding with_path path_flagged node_on_words
 path_flag_steps file path = (refl, refl)
 

@@ -1,5 +1,5 @@
 -- Words that a command refuses: options that it doesn't have, and requests for help or the version.
-use Rattle.std.proofs.Common.{◌≡◌, ◌&&◌, ◌==◌, ℕ, Bool, List, [], ◌∷◌, ◌++◌, codes, true, false, not, Option, Some, None, length, suc, refl, sym, subst}
+use Rattle.std.proofs.Common.{◌≡◌, ◌⊎◌, ◌&&◌, ◌==◌, ℕ, Bool, List, [], ◌∷◌, ◌++◌, codes, true, false, not, Option, Some, None, length, suc, refl, sym, subst, inl, inr}
 use Rattle.std.specs.Prelude.{⊤, drop, encode_utf8, is_some, slice_get}
 use Rattle.std.specs.Str.{bytes_eq, chars}
 use Rattle.std.proofs.lemmas.Bool.{eqb-true}
@@ -34,15 +34,19 @@ abbrev pub IsRequest : Shape → Option Rule → Type 0
 IsRequest s None = ⊤
 IsRequest s (Some a) = (takes_values a ≡ false) × ((rows : List Row) → IsRefused (use_fault s.args_override_self a [] rows))
 
+-- each short option is one of these
+abbrev pub HasShortRequests : Shape → Type 0
+HasShortRequests s = (character : ℕ) → IsRequest s (arg_by_short s.rules character)
+
 pub record HasRequestsAlone (s : Shape) : Type 0 where
   pub long : (name : Text) → IsRequest s (arg_by_long s.rules name)
-  pub short : (character : ℕ) → IsRequest s (arg_by_short s.rules character)
+  pub short : HasShortRequests s
 
 -- what is pending is used before
 used_up : (s : Shape) (a : Rule) (h : Held) → IsRefused (use_fault s.args_override_self a [] (settled s.rules h).rows) → IsRefused (react_fault s.rules s.args_override_self a [] h)
 used_up s a h is = refused_then (settle_fault s.rules s.args_override_self h) (use_fault s.args_override_self a [] (settled s.rules h).rows) is
 
-long_refused : (s : Shape) (a : Option Rule) → IsRequest s a → (v : Option Text) (h : Held) → IsRefused (long_fault s.rules s.args_override_self a v h)
+pub long_refused : (s : Shape) (a : Option Rule) → IsRequest s a → (v : Option Text) (h : Held) → IsRefused (long_fault s.rules s.args_override_self a v h)
 unfolding IsRefused
 long_refused s None is v h = tt
 long_refused s (Some a) is (Some v) h = rw is.0 tt
@@ -53,12 +57,12 @@ unfolding IsRefused
 short_refused s None is rest h next = tt
 short_refused s (Some a) is rest h next = rw is.0 (refused_first (react_fault s.rules s.args_override_self a [] h) (next (reacted s.rules a [] h)) (used_up s a h (is.1 (settled s.rules h).rows)))
 
-flags_refused : (s : Shape) → HasRequestsAlone s → (flags : Text) (found : Option ℕ) → slice_get (chars flags) 0 ≡ found → is_some found ≡ true → (k : ℕ) (h : Held)
+flags_refused : (s : Shape) → HasShortRequests s → (flags : Text) (found : Option ℕ) → slice_get (chars flags) 0 ≡ found → is_some found ≡ true → (k : ℕ) (h : Held)
     → IsRefused (flags_fault s.rules s.args_override_self (suc k) flags 0 h)
 unfolding flags_fault
-flags_refused s has flags None is some k h = absurd cc
-flags_refused s has flags (Some x) is some k h =
-    rw is (short_refused s (arg_by_short s.rules x) (has.short x) (drop (length (encode_utf8 x)) flags) h (flags_fault s.rules s.args_override_self k (drop (length (encode_utf8 x)) flags) 0))
+flags_refused s short flags None is some k h = absurd cc
+flags_refused s short flags (Some x) is some k h =
+    rw is (short_refused s (arg_by_short s.rules x) (short x) (drop (length (encode_utf8 x)) flags) h (flags_fault s.rules s.args_override_self k (drop (length (encode_utf8 x)) flags) 0))
 
 -- ---- a word that may be taken for an option
 
@@ -86,9 +90,9 @@ lone_long x xs e = rw e refl
 lone_short : (x : ℕ) (xs : Text) → (x == 45) ≡ false → short_of (45 ∷ x ∷ xs) ≡ Some (x ∷ xs)
 lone_short x xs e = rw e refl
 
-short_option : (s : Shape) → HasRequestsAlone s → (x : ℕ) (xs : Text) (h : Held) → (x == 45) ≡ false → has_character (x ∷ xs) ≡ true → h.skip ≡ 0 → IsRefused (other_fault s None (45 ∷ x ∷ xs) h)
-short_option s has x xs h lone character skip =
-    rw (lone_dashes x xs lone, lone_long x xs lone, lone_short x xs lone, skip) (flags_refused s has (x ∷ xs) (slice_get (chars (x ∷ xs)) 0) refl character (length xs) (record h { skip = 0 }))
+short_option : (s : Shape) → HasShortRequests s → (x : ℕ) (xs : Text) (h : Held) → (x == 45) ≡ false → has_character (x ∷ xs) ≡ true → h.skip ≡ 0 → IsRefused (other_fault s None (45 ∷ x ∷ xs) h)
+short_option s short x xs h lone character skip =
+    rw (lone_dashes x xs lone, lone_long x xs lone, lone_short x xs lone, skip) (flags_refused s short (x ∷ xs) (slice_get (chars (x ∷ xs)) 0) refl character (length xs) (record h { skip = 0 }))
 
 option_behind : (s : Shape) → HasRequestsAlone s → (bs : Text) (h : Held) → has_character bs ≡ true → bytes_eq (45 ∷ bs) (codes "--") ≡ false → h.skip ≡ 0 → IsRefused (other_fault s None (45 ∷ bs) h)
 unfolding chars
@@ -97,7 +101,35 @@ option_behind s has (x ∷ xs) h character other skip = of (x == 45) refl
   where
     of : (b : Bool) → (x == 45) ≡ b → IsRefused (other_fault s None (45 ∷ x ∷ xs) h)
     of true e = subst (λ y. bytes_eq (45 ∷ y ∷ xs) (45 ∷ 45 ∷ []) ≡ false → IsRefused (other_fault s None (45 ∷ y ∷ xs) h)) (sym (eqb-true x 45 e)) (long_option s has xs h) other
-    of false e = short_option s has x xs h e character skip
+    of false e = short_option s has.short x xs h e character skip
+
+-- the word is two hyphens and more
+abbrev pub IsLong : Text → Type 0
+IsLong word = (y : ℕ) × (ys : Text) × (word ≡ 45 ∷ 45 ∷ y ∷ ys)
+
+long_or : (s : Shape) → HasShortRequests s → (bs : Text) (h : Held) → has_character bs ≡ true → bytes_eq (45 ∷ bs) (codes "--") ≡ false → h.skip ≡ 0
+    → IsRefused (other_fault s None (45 ∷ bs) h) ⊎ IsLong (45 ∷ bs)
+unfolding chars
+long_or s short [] h character other skip = absurd cc
+long_or s short (x ∷ xs) h character other skip = of (x == 45) refl
+  where
+    more : (xs : Text) → bytes_eq (45 ∷ 45 ∷ xs) (codes "--") ≡ false → IsRefused (other_fault s None (45 ∷ 45 ∷ xs) h) ⊎ IsLong (45 ∷ 45 ∷ xs)
+    more [] none = absurd cc
+    more (y ∷ ys) none = inr (y, ys, refl)
+
+    of : (b : Bool) → (x == 45) ≡ b → IsRefused (other_fault s None (45 ∷ x ∷ xs) h) ⊎ IsLong (45 ∷ x ∷ xs)
+    of true e = subst (λ y. bytes_eq (45 ∷ y ∷ xs) (codes "--") ≡ false → IsRefused (other_fault s None (45 ∷ y ∷ xs) h) ⊎ IsLong (45 ∷ y ∷ xs)) (sym (eqb-true x 45 e)) (more xs) other
+    of false e = inl (short_option s short x xs h e character skip)
+
+-- where all short options are requests, an option is refused, or it is a long one
+pub long_or_refused : (s : Shape) → HasShortRequests s → (word : Text) (h : Held) → IsOption word → h.skip ≡ 0 → IsRefused (other_fault s None word h) ⊎ IsLong word
+long_or_refused s short [] h is skip = absurd (not_so is.taken)
+  where
+    not_so : true ≡ false → ⊥
+    not_so e = absurd cc
+long_or_refused s short (b ∷ bs) h is skip =
+    let parts = no_data (b == 45) (has_character bs) is.taken in
+    subst (λ y. bytes_eq (y ∷ bs) (codes "--") ≡ false → IsRefused (other_fault s None (y ∷ bs) h) ⊎ IsLong (y ∷ bs)) (sym (eqb-true b 45 parts.0)) (λ other. long_or s short bs h parts.1 other skip) is.other
 
 pub option_refused : (s : Shape) → HasRequestsAlone s → (word : Text) (h : Held) → IsOption word → h.skip ≡ 0 → IsRefused (other_fault s None word h)
 option_refused s has [] h is skip = absurd (cc' is.taken)

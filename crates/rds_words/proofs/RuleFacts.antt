@@ -3,6 +3,7 @@ use Rattle.std.proofs.Common.{◌≡◌, ◌⊎◌, ◌&&◌, ◌==◌, Bool, Li
 use Rattle.std.specs.Prelude.{⊤, find, if◌then◌else◌, is_some}
 use Rattle.std.specs.List.{list_all}
 use Rattle.std.specs.Option.{option_map_or}
+use Rattle.std.proofs.lemmas.Bool.{cases_Bool}
 use Rattle.clap.specs.Words.{Rule, Shape}
 use Rattle.clap.specs.Walk.{has_long, has_short}
 use Rattle.rds_names.specs.Conditions.{and_left, and_right}
@@ -44,6 +45,32 @@ request_one s p a rest (inr is) on = of (not (is_some a.index) && p a)
 request_found : (s : Shape) (p : Rule → Bool) (c : List Rule) → EachRequest s c → IsRequest s (find (λ a. not (is_some a.index) && p a) c)
 request_found s p [] each = tt
 request_found s p (a ∷ c) each = request_one s p a (find (λ a. not (is_some a.index) && p a) c) each.0 (request_found s p c each.1)
+
+-- each rule is that of a positional, or of a request, or what passes the test has this property
+abbrev pub EachOther : Shape → (Rule → Bool) → Type 0 → List Rule → Type 0
+EachOther s p P [] = ⊤
+EachOther s p P (a ∷ c) = ((is_some a.index ≡ true) ⊎ (IsRequest s (Some a) ⊎ (p a ≡ true → P))) × EachOther s p P c
+
+other_one : (s : Shape) (p : Rule → Bool) (P : Type 0) (a : Rule) (rest : Option Rule) → (is_some a.index ≡ true) ⊎ (IsRequest s (Some a) ⊎ (p a ≡ true → P)) → P ⊎ IsRequest s rest
+    → P ⊎ IsRequest s (if not (is_some a.index) && p a then Some a else rest)
+other_one s p P a rest (inl is) on = rw is on
+other_one s p P a rest (inr (inl is)) on = of (not (is_some a.index) && p a)
+  where
+    of : (b : Bool) → P ⊎ IsRequest s (if b then Some a else rest)
+    of true = inr is
+    of false = on
+other_one s p P a rest (inr (inr is)) on = elim (cases_Bool (p a)) [
+  | inl passes ↦ inl (is passes)
+  | inr fails ↦ rw fails (of (not (is_some a.index)))
+]
+  where
+    of : (b : Bool) → P ⊎ IsRequest s (if b && false then Some a else rest)
+    of true = on
+    of false = on
+
+pub found_other : (s : Shape) (p : Rule → Bool) (P : Type 0) (c : List Rule) → EachOther s p P c → P ⊎ IsRequest s (find (λ a. not (is_some a.index) && p a) c)
+found_other s p P [] each = inr tt
+found_other s p P (a ∷ c) each = other_one s p P a (find (λ a. not (is_some a.index) && p a) c) each.0 (found_other s p P c each.1)
 
 pub requests_alone : (s : Shape) → EachRequest s s.rules → HasRequestsAlone s
 requests_alone s each = record {

@@ -110,14 +110,14 @@ none_above : (command : Text) (words : List Text) (below : Kinds) (rows : Text �
 unfolding node_on_words
 none_above command words below rows is = rw is refl
 
-words_mistaken : (called command : Text) (s : Shape) (words : List Text) → IsCommand command s → mistakes_in (called ∷ command ∷ words) ≡ words_fault s words
+pub words_mistaken : (called command : Text) (s : Shape) (words : List Text) → IsCommand command s → mistakes_in (called ∷ command ∷ words) ≡ words_fault s words
 unfolding node_on_words
 words_mistaken called command s words is =
     command_fault (built node_app) command words is.met
     ∙ ap (λ (below : Kinds). comes_to (built node_app) [] below (stopped_at command words)) (fault_below command s words is)
     ∙ none_above command words (level_fault s [] nothing_held words false []) (rows_at s words) (rows_below command s words is)
 
-words_named : (called command : Text) (s : Shape) (words : List Text) → IsCommand command s → named_in (called ∷ command ∷ words) ≡ words_in (Some (rows_at s words))
+pub words_named : (called command : Text) (s : Shape) (words : List Text) → IsCommand command s → named_in (called ∷ command ∷ words) ≡ words_in (Some (rows_at s words))
 unfolding node_on_words
 words_named called command s words is =
     ap words_in (command_rows (built node_app) command words is.met) ∙ ap words_in (rows_below command s words is)

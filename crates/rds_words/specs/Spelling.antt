@@ -98,5 +98,31 @@ OtherWordsWithoutOptions =
     → (given behind : List Text) → AreSpelled given behind
     → ((words : List Text) → IsCounted count given words → ⊥) → mistakes_in (called ∷ command ∷ behind) ≢ []
 
+-- such words, with the option `--pretty` once among them, which stands before any two dashes
+abbrev pub AreSpelledPretty : List Text → List Text → Type 0
+AreSpelledPretty words behind =
+    (before : List Text) × (after : List Text) × (spelled : List Text) × (behind ≡ before ++ codes "--pretty" ∷ after)
+    × AreData before × AreSpelled spelled after × (words ≡ before ++ spelled)
+
+-- they name the task that shows with indents
+abbrev pub ArePrettyWordsOf : List Text → List Text → Type 0
+ArePrettyWordsOf behind words =
+    (given : List Text) × (shown : List Text) × AreSpelledPretty given behind × IsCounted (or_root 2) given shown
+    × (words ≡ shown ++ codes "--pretty" ∷ [])
+
+-- what stands behind `show` names the task of these words
+abbrev pub AreShowWordsOf : List Text → List Text → Type 0
+AreShowWordsOf behind words = AreWordsOf (or_root 2) behind words ⊎ ArePrettyWordsOf behind words
+
+abbrev pub ShowMeansItsSpelling : Type 0
+ShowMeansItsSpelling =
+    (called : Text) (behind words : List Text)
+    → Names (called ∷ codes "show" ∷ behind) (codes "show" ∷ words) ↔ AreShowWordsOf behind words
+
+abbrev pub OtherShowsAreRefused : Type 0
+OtherShowsAreRefused =
+    (called : Text) (behind : List Text) → ((words : List Text) → AreShowWordsOf behind words → ⊥)
+    → mistakes_in (called ∷ codes "show" ∷ behind) ≢ []
+
 abbrev pub OtherCommandsAreRefused : Type 0
 OtherCommandsAreRefused = (entered : List Text) → (HasCommand entered → ⊥) → mistakes_in entered ≢ []
