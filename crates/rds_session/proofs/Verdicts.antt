@@ -4,8 +4,7 @@ use Rattle.std.specs.Prelude.{IfErr}
 use Rattle.rds_names.specs.declared.fault.Fault.{Fault}
 use Rattle.rds_names.specs.declared.fault.Fault.TheVariants.{Memory, WrongVersion}
 use Rattle.rds_state.specs.Fits.{ReplicaValue}
-use Rattle.rds_delta.specs.Digested.{DigestValue}
-use Rattle.rds_bytes.specs.Reading.{Reader, Fails, Reads}
+use Rattle.rds_bytes.specs.Reading.{Reader, Fails}
 use Rattle.rds_codec.specs.AnswerTexts.{IsAnswerOf, answer_at, answer_kind}
 use Rattle.rds_codec.specs.AnswerValues.{AnswerValue}
 use Rattle.rds_codec.specs.Decoding.{all_of}
@@ -22,7 +21,7 @@ use Rattle.rds_keep.specs.FedTexts.{decodes_texts}
 use Rattle.rds_keep.specs.Feeding.{AreBytes}
 use Rattle.rds_session.specs.Bodies.{hello_in, digest_in, answer_in}
 use Rattle.rds_session.specs.Contents.{ContentValue, OfHello, OfDigest, OfDelta, OfBye, IsRead, IsReadFor, body_read, bye_read, code_read, content_judged, expected_of, hello_read, kind_read, message_read, read_as}
-use Rattle.rds_session.specs.Judging.{Awaited, ForHello, ForDigest, ForDelta, ForBye, Said, Learns, Judges, StopsAs, StopsByNoDevice, body_came, bye_came, code_came, delta_judged, hello_came, hello_judged, kind_came, other_version, read_then, replicas_of, verdict}
+use Rattle.rds_session.specs.Judging.{Awaited, ForHello, ForDigest, ForDelta, ForBye, Said, Judges, StopsAs, StopsByNoDevice, body_came, bye_came, code_came, kind_came, other_version, read_then, replicas_of, verdict}
 use Rattle.rds_session.specs.Messages.{bye_of, kind_of}
 use Rattle.rds_session.specs.declared.content.Expected.{Expected}
 use Rattle.rds_session.specs.declared.content.Expected.TheVariants as expecteds

@@ -1,6 +1,5 @@
-use Rattle.std.proofs.Common.{ℕ, List, ◌++◌, Result, inl, inr, subst}
+use Rattle.std.proofs.Common.{Result, inl, inr, subst}
 use Rattle.rds_names.specs.declared.fault.Fault.{Fault}
-use Rattle.rds_bytes.specs.Reading.{Reader}
 use Rattle.rds_keep.specs.Feeding.{FeedValue}
 use Rattle.rds_session.specs.Coming.{HoldsText}
 use Rattle.rds_session.proofs.coming.fed_with.Goals as goal

@@ -1,12 +1,11 @@
 -- `add` has nothing to do in memory: what it borrowed is given back at the longer list. It is proved by hand, as no code
 -- gives that list.
-use Rattle.std.proofs.Common.{List, [], ◌∷◌, ◌++◌, length, refl}
+use Rattle.std.proofs.Common.{List, [], ◌∷◌, ◌++◌, refl}
 use Rattle.std.proofs.raw_atomic.Walks.{proved}
 use base.Fml.{ftrue, flft}
 use base.Logic.{id⊢}
 use mir.Syntax.{named}
 use mir.Val.{Val, vunit}
-use contract.Running.{tables}
 use types.Kit.{‵, ◌⊛◌, ◌$◌, ◌∵◌, !, qed, move, keep, drop, use1, split, join, fsplit, fsplit3, fjoin, fjoin3, feq_i, suffices, frame, done}
 use types.Run.{unit_lit, of_opd, returns, enter}
 use types.ByLocal.{alloc_all, pass_all, free_all, look_at, sets}
