@@ -110,41 +110,35 @@ impl<S: DotSet> Chunks<S> {
         let mut count = count;
         let mut message = message;
         let mut rest = piece;
-        'bytes: loop {
-            match rest {
-                [] => {
-                    return Ok(Scanned::More(Chunks {
-                        place,
-                        count,
-                        message,
-                    }));
+        'bytes: while let Some((byte, more)) = rest.split_first() {
+            let bytes = rest;
+            rest = more;
+            match place {
+                Place::First => place = Place::Second(*byte),
+                Place::Second(high) => {
+                    let left = u16::from(high) * 256 + u16::from(*byte);
+                    if left == 0 {
+                        return Ok(Scanned::Whole(message, rest));
+                    }
+                    place = Place::Within(left);
                 }
-                [byte, more @ ..] => match place {
-                    Place::First => {
-                        place = Place::Second(*byte);
-                        rest = more;
+                Place::Within(left) => {
+                    let length = usize::from(left).min(bytes.len());
+                    if MESSAGE_LIMIT - count < length {
+                        return Ok(Scanned::Long);
                     }
-                    Place::Second(high) => {
-                        let left = u16::from(high) * 256 + u16::from(*byte);
-                        if left == 0 {
-                            return Ok(Scanned::Whole(message, more));
-                        }
-                        place = Place::Within(left);
-                        rest = more;
-                    }
-                    Place::Within(left) => {
-                        let length = usize::from(left).min(rest.len());
-                        if MESSAGE_LIMIT - count < length {
-                            return Ok(Scanned::Long);
-                        }
-                        let (run, behind) = rest.split_at(length);
-                        message = message.add(alloc, run)?;
-                        count += length;
-                        place = place_of(left - length as u16);
-                        rest = behind;
-                    }
-                },
+                    let (run, behind) = bytes.split_at(length);
+                    message = message.add(alloc, run)?;
+                    count += length;
+                    place = place_of(left - length as u16);
+                    rest = behind;
+                }
             }
         }
+        Ok(Scanned::More(Chunks {
+            place,
+            count,
+            message,
+        }))
     }
 }
