@@ -16,8 +16,8 @@ use rds_rows::Table;
 use rds_rows::told::said;
 use rds_rows::words::first;
 use rds_session::{
-    Input, Side, a_course_is_by_messages, limit_of_messages, streams_are_split_once, two_sessions,
-    values_are_least,
+    Input, Side, a_course_is_by_messages, a_step_of_a_session_has_one_result, limit_of_messages,
+    streams_are_split_once, two_sessions, values_are_least,
 };
 use showing::chunks_told;
 use std::alloc::Global;
@@ -154,6 +154,7 @@ fn chunks_sent<S: DotSet>(alloc: Global, end: &End<S>, heard: &[u8]) -> Result<S
 fn laws(alloc: Global) -> Result<String, Fault> {
     streams_are_split_once();
     a_course_is_by_messages();
+    a_step_of_a_session_has_one_result();
     two_sessions();
     values_are_least();
     limit_of_messages();

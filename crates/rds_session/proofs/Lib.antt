@@ -1,4 +1,5 @@
 pub mod Accepting
+pub mod Began
 pub mod Checks
 pub mod Course
 pub mod Cutting
@@ -18,3 +19,4 @@ pub mod Talking
 pub mod Tellings
 pub mod Told
 pub mod Turns
+pub mod Verdicts

@@ -5,7 +5,7 @@ use Rattle.std.proofs.lemmas.List.{append-nil, take-append-drop, length-take}
 use Rattle.rds_session.specs.declared.chunks.TheConstants.{MESSAGE_LIMIT}
 use Rattle.rds_session.specs.declared.chunks.Place.{Place}
 use Rattle.rds_session.specs.declared.chunks.Place.TheVariants.{Within}
-use Rattle.rds_session.specs.Scanning.{IsPlace, IsHeld}
+use Rattle.rds_session.specs.Arriving.{IsPlace, IsHeld}
 use Rattle.rds_session.specs.Chunks.{Under, Scan, Long, place_of, scan}
 
 abbrev pub at-place : Place → List ℕ → Under

@@ -1,5 +1,5 @@
 -- Messages on a stream: chunks of a length and that many bytes, up to a chunk of length 0.
-use Rattle.std.specs.Prelude.{ℕ, zero, suc, ◌+◌, ◌-◌, ◌*◌, ◌==◌, nat_lt, List, [], ◌∷◌, ◌++◌, length, take, drop, Option, Some, None, if◌then◌else◌}
+use Rattle.std.specs.Prelude.{ℕ, zero, suc, ◌+◌, ◌-◌, ◌*◌, ◌==◌, nat_lt, List, [], ◌∷◌, ◌++◌, length, take, drop, if◌then◌else◌}
 use Rattle.std.specs.List.{flat_map}
 use Rattle.std.specs.Int.{w16, to_be_bytes}
 use Rattle.rds_session.specs.declared.chunks.TheConstants.{MESSAGE_LIMIT}
@@ -15,11 +15,6 @@ pub record Under : Type 0 where
 
 abbrev pub start : Under
 start = record { place = First; held = [] }
-
--- where nothing is held, no message is under way
-abbrev pub under_of : Option Under → Under
-under_of None = start
-under_of (Some u) = u
 
 -- what the next bytes make of a message that has begun
 pub data Scan : Type 0 where

@@ -1,5 +1,5 @@
 -- What a step of a session does.
-use Rattle.std.specs.Prelude.{◌≡◌, ◌⊎◌, ◌≤◌, ℕ, length, true, List, [], ◌++◌, Option, Some, None, IsSome, Result, MatchResult}
+use Rattle.std.specs.Prelude.{◌≡◌, ◌⊎◌, ℕ, true, List, [], ◌++◌, Option, Some, None, IsSome, Result, MatchResult}
 use Rattle.rds_names.specs.declared.fault.Fault.{Fault}
 use Rattle.rds_names.specs.declared.fault.Fault.TheVariants.{Memory}
 use Rattle.rds_state.specs.Fits.{ReplicaValue}
@@ -9,10 +9,7 @@ use Rattle.rds_session.specs.declared.step.Ended.{Ended}
 use Rattle.rds_session.specs.declared.step.Ended.TheVariants.{Going, Failed}
 use Rattle.rds_session.specs.declared.step.Input.{Input}
 use Rattle.rds_session.specs.declared.step.Input.TheVariants.{Bytes, End}
-use Rattle.rds_session.specs.declared.chunks.TheConstants.{MESSAGE_LIMIT}
-use Rattle.rds_session.specs.declared.chunks.Scanned.{Scanned}
-use Rattle.rds_session.specs.declared.chunks.Scanned.TheVariants as code
-use Rattle.rds_session.specs.Chunks.{Under, start, message_in_chunks, Scan, More, Whole, Long}
+use Rattle.rds_session.specs.Chunks.{message_in_chunks}
 use Rattle.rds_session.specs.declared.talk.Stop.TheVariants.{Refused}
 use Rattle.rds_session.specs.Judging.{StopsByNoDevice}
 use Rattle.rds_session.specs.Messages.{bye_message}
@@ -75,12 +72,6 @@ abbrev pub Does : {T : Type 0} → Standing → List ℕ → Standing → List �
 Does old sent new more result go = MatchResult result
     (λ _. (new ≡ (go old).0) × (more ≡ sent ++ (go old).1))
     (λ e. (e ≡ Memory) × (new.received ≡ old.received))
-
--- what bytes made of the message under way, and what is held of it now
-abbrev pub HasScanned : Scan → Standing → Standing → Scanned → Type 0
-HasScanned wanted old new code.More = (u : Under) × (wanted ≡ More u) × (new ≡ record old { under = u })
-HasScanned wanted old new (code.Whole message rest) = (wanted ≡ Whole message.items rest.now) × (new ≡ record old { under = start }) × (length message.items ≤ MESSAGE_LIMIT)
-HasScanned wanted old new code.Long = (wanted ≡ Long) × (new ≡ record old { under = start })
 
 -- a front of the bytes came, and this rest is left
 pub record Ran (old : Standing) (sent piece : List ℕ) (new : Standing) (more rest : List ℕ) : Type 0 where

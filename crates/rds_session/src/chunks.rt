@@ -2,9 +2,12 @@
 //! of length 0.
 ghost use Rattle.std.specs.Prelude.{◌≡◌, IfOk, IfErr};
 ghost use Rattle.rds_names.specs.declared.fault.Fault.TheVariants.{Memory};
-ghost use Rattle.rds_session.specs.Chunks.{place_of, under_of};
+ghost use Rattle.rds_session.specs.Chunks.{place_of};
 
+use crate::content::Expected;
+use crate::message::Message;
 use rds_codec::LIMIT;
+use rds_dots::DotSet;
 use rds_names::Fault;
 use std::alloc::Global;
 use std::marker::Model;
@@ -23,31 +26,44 @@ pub enum Place {
     Within(u16),
 }
 
-/// What has come of a message: the place in its chunk, and its bytes.
-#[derive(Debug, Drop)]
-pub struct Chunks {
+/// What has come of a message: the place in its chunk, how many of its bytes came, and what they are read as.
+pub struct Chunks<S: DotSet> {
     place: Place,
-    held: Vec<u8>,
+    count: usize,
+    message: Message<S>,
 }
 
-impl Model for Chunks {
-    ghost use Rattle.rds_session.specs.Chunks.{Under};
-    ghost use Rattle.rds_session.specs.Scanning.{IsPlace, IsHeld};
+// Written out, so that where it is let go a caller's proof has one call.
+impl<S: DotSet> Drop for Chunks<S> {
+    fn drop(self) {
+        let Chunks {
+            place: _,
+            count: _,
+            message: _message,
+        } = self;
+    }
+}
 
-    ghost Value = { Under };
+impl<S: DotSet> Model for Chunks<S> {
+    ghost use Rattle.std.specs.Prelude.{◌≡◌, length};
+    ghost use Rattle.rds_session.specs.Arriving.{Reading, IsPlace, IsHeld};
 
-    ghost view = { λ c. record { place = c.place; held = c.held.items } };
+    ghost Value = { Reading };
 
-    ghost invariant = { λ c. IsPlace c.place × IsHeld c.held.items };
+    ghost view = { λ c. record {
+      expected = c.message.expected;
+      under = record { place = c.place; held = c.message.came };
+    } };
+
+    ghost invariant = { λ c. IsPlace c.place × IsHeld c.message.came × (c.count ≡ length c.message.came) };
 }
 
 /// What bytes made of a message.
-#[derive(Debug, Drop)]
-pub enum Scanned<'a> {
+pub enum Scanned<'a, S: DotSet> {
     /// All of them belong to it, and more are to come.
-    More,
+    More(Chunks<S>),
     /// It has ended. These bytes follow it.
-    Whole(Vec<u8>, &'a [u8]),
+    Whole(Message<S>, &'a [u8]),
     /// It passed the limit.
     Long,
 }
@@ -63,74 +79,66 @@ fn place_of(left: u16) -> Place
     }
 }
 
-/// What has come of a message, which is nothing where nothing is held.
-pub fn chunks_of(alloc: Global, under: Option<Chunks>) -> Chunks
-    ensures { result ≡ under_of under }
-{
-    match under {
-        Some(chunks) => chunks,
-        None => Chunks::new(alloc),
-    }
-}
-
-impl Chunks {
+impl<S: DotSet> Chunks<S> {
     ghost use Rattle.rds_session.specs.Chunks.{start, scan};
     ghost use Rattle.rds_session.specs.Scanning.{IsScan, IsWithin};
 
     /// Nothing of a message. Takes no memory.
-    pub fn new(alloc: Global) -> Chunks
-        ensures { result ≡ start }
+    pub fn new(expected: Expected) -> Chunks<S>
+        ensures { result ≡ record { expected = expected; under = start } }
     {
         Chunks {
             place: Place::First,
-            held: Vec::new(alloc),
+            count: 0,
+            message: Message::new(expected),
         }
     }
 
     /// Takes bytes up to the end of a message, or to the byte by which it passes the limit.
     #[tactic(auto, unfolding(crate::specs::Chunks::scan))]
-    pub fn take<'a>(&mut self, alloc: Global, piece: &'a [u8]) -> Result<Scanned<'a>, Fault>
-        ensures ok { IfOk result (IsScan (scan piece.now self.old) self.new) }
+    pub fn take<'a>(self, alloc: Global, piece: &'a [u8]) -> Result<Scanned<'a, S>, Fault>
+        ensures ok { IfOk result (IsScan self.expected (scan piece.now self.under)) }
         ensures within { IfOk result IsWithin }
         ensures err { IfErr result (λ e. e ≡ Memory) }
     {
+        let Chunks {
+            place,
+            count,
+            message,
+        } = self;
+        let mut place = place;
+        let mut count = count;
+        let mut message = message;
         let mut rest = piece;
-        'bytes: loop {
-            match self.place {
-                Place::First => match rest {
-                    [] => return Ok(Scanned::More),
-                    [high, more @ ..] => {
-                        self.place = Place::Second(*high);
-                        rest = more;
+        'bytes: while let Some((byte, more)) = rest.split_first() {
+            let bytes = rest;
+            rest = more;
+            match place {
+                Place::First => place = Place::Second(*byte),
+                Place::Second(high) => {
+                    let left = u16::from(high) * 256 + u16::from(*byte);
+                    if left == 0 {
+                        return Ok(Scanned::Whole(message, rest));
                     }
-                },
-                Place::Second(high) => match rest {
-                    [] => return Ok(Scanned::More),
-                    [low, more @ ..] => {
-                        let left = u16::from(high) * 256 + u16::from(*low);
-                        if left == 0 {
-                            self.place = Place::First;
-                            let message = std::mem::replace(&mut self.held, Vec::new(alloc));
-                            return Ok(Scanned::Whole(message, more));
-                        }
-                        self.place = Place::Within(left);
-                        rest = more;
-                    }
-                },
-                Place::Within(_) if rest.is_empty() => return Ok(Scanned::More),
+                    place = Place::Within(left);
+                }
                 Place::Within(left) => {
-                    let count = usize::from(left).min(rest.len());
-                    if MESSAGE_LIMIT - self.held.len() < count {
-                        self.place = Place::First;
-                        self.held = Vec::new(alloc);
+                    let length = usize::from(left).min(bytes.len());
+                    if MESSAGE_LIMIT - count < length {
                         return Ok(Scanned::Long);
                     }
-                    let (run, more) = rest.split_at(count);
-                    self.held.extend_from_slice(run)?;
-                    self.place = place_of(left - count as u16);
-                    rest = more;
+                    let (run, behind) = bytes.split_at(length);
+                    message = message.add(alloc, run)?;
+                    count += length;
+                    place = place_of(left - length as u16);
+                    rest = behind;
                 }
             }
         }
+        Ok(Scanned::More(Chunks {
+            place,
+            count,
+            message,
+        }))
     }
 }

@@ -1,14 +1,12 @@
 //! Judging a whole message.
-ghost use Rattle.std.specs.Prelude.{◌≡◌, ◌↔◌, ◌≤◌, IsTrue, true, length, IfOk, IfErr};
+ghost use Rattle.std.specs.Prelude.{◌≡◌, ◌↔◌, ◌≤◌, IsTrue, true, length, Ok, IfOk, IfErr};
 ghost use Rattle.rds_codec.specs.declared.limits.TheConstants.{LIMIT};
-ghost use Rattle.rds_bytes.specs.Reading.{Reads};
-ghost use Rattle.rds_session.specs.Bodies.{hello_in, digest_in, answer_in};
 ghost use Rattle.rds_delta.specs.Digested.{digest_of};
 ghost use Rattle.rds_names.specs.declared.fault.Fault.TheVariants.{Memory};
-ghost use Rattle.rds_session.specs.Judging.{Awaited, StopsByNoDevice, Judges, wait_of, bye_came, bye_judged, hello_came, digest_came, delta_came, body_came, verdict, other_version, one_begins, longer_than, replicas_of};
+ghost use Rattle.rds_session.specs.Contents.{IsRead, IsReadFor, content_judged, content_value, expected_of};
+ghost use Rattle.rds_session.specs.Judging.{Awaited, Learns, StopsByNoDevice, Judges, wait_of, bye_judged, hello_judged, delta_judged, verdict, one_begins, longer_than, replicas_of};
 ghost use Rattle.rds_session.specs.Checked.{passes};
 ghost use Rattle.rds_session.specs.Received.{Brings, KnowsPeer, IsLongerIfThere};
-ghost use Rattle.rds_codec.specs.AnswerTexts.{IsAnswerOf};
 ghost use Rattle.rds_delta.specs.Claims.{IsCertificate};
 ghost use Rattle.rds_delta.specs.Least.{IsAbove};
 ghost use Rattle.rds_delta.specs.Ranks.{ranks};
@@ -18,9 +16,11 @@ ghost use Rattle.rds_state.specs.Value.{coordinates};
 ghost use Rattle.rds_session.specs.Messages.{fault_of};
 ghost use Rattle.rds_session.specs.declared.talk.Stop.TheVariants.{Left, Refused};
 
-use crate::kinds::{ByeCode, MessageKind};
+use crate::content::{Content, Expected};
+use crate::kinds::ByeCode;
+use crate::message::Message;
 use crate::talk::{Act, Peer, Stop, Turn, copy_of};
-use rds_codec::{Answer, Hello, VERSION, decode_answer, decode_digest, decode_hello};
+use rds_codec::{Answer, Hello};
 use rds_delta::{Certificate, Digest, check};
 use rds_dots::DotSet;
 use rds_names::{Fault, Roster};
@@ -53,58 +53,6 @@ fn judge_code<S: DotSet>(turn: &Turn<S>, code: ByeCode) -> Result<Act<S>, Stop>
         },
         code => Err(Stop::Left(fault_of(code))),
     }
-}
-
-fn judge_bye<S: DotSet>(turn: &Turn<S>, body: &[u8]) -> Result<Act<S>, Stop>
-    ensures known { IfErr result StopsByNoDevice }
-    ensures judges { Judges result (bye_came (wait_of turn.now) body.now) }
-    ensures brings { (kept : ReplicaValue) → IfOk result (Brings kept (wait_of turn.now)) }
-{
-    match body {
-        [] => Err(Stop::Refused(Fault::Cut)),
-        [byte, rest @ ..] => match ByeCode::from_byte(*byte) {
-            Some(code) if rest.is_empty() => judge_code(turn, code),
-            Some(_) => Err(Stop::Refused(Fault::Extra)),
-            None => Err(Stop::Refused(Fault::Bad)),
-        },
-    }
-}
-
-fn is_other_version(body: &[u8]) -> bool
-    ensures { result ≡ other_version body.now }
-{
-    match body {
-        [] => false,
-        [version, ..] => *version != VERSION,
-    }
-}
-
-#[tactic(auto, unfolding(crate::specs::Bodies::hello_in))]
-fn read_hello(alloc: Global, body: &[u8]) -> Result<Hello, Fault>
-    requires { length body.now ≤ LIMIT }
-    ensures known { IfErr result (λ fault. StopsByNoDevice (Refused fault)) }
-    ensures read { Reads (λ hello. hello) result (hello_in body.now) }
-{
-    decode_hello(alloc, body)
-}
-
-#[tactic(auto, unfolding(crate::specs::Bodies::digest_in))]
-fn read_digest<S: DotSet>(alloc: Global, replicas: u16, body: &[u8]) -> Result<Digest<S>, Fault>
-    requires { length body.now ≤ LIMIT }
-    ensures known { IfErr result (λ fault. StopsByNoDevice (Refused fault)) }
-    ensures read { Reads (λ digest. digest) result (digest_in replicas body.now) }
-{
-    decode_digest(alloc, replicas, body)
-}
-
-#[tactic(auto, unfolding(crate::specs::Bodies::answer_in))]
-fn read_answer<S: DotSet>(alloc: Global, replicas: u16, body: &[u8]) -> Result<Answer<S>, Fault>
-    requires { length body.now ≤ LIMIT }
-    ensures known { IfErr result (λ fault. StopsByNoDevice (Refused fault)) }
-    ensures read { Reads (λ answer. answer) result (answer_in replicas body.now) }
-    ensures value { IfOk result (IsAnswerOf replicas) }
-{
-    decode_answer(alloc, replicas, body)
 }
 
 /// Whether one of the two rosters begins the other: they are equal, or one of them has grown since.
@@ -143,16 +91,27 @@ fn replicas_of<S: DotSet>(kept: &Replica<S>, longer: &Option<Roster>) -> u16
     }
 }
 
-fn judge_hello<S: DotSet>(alloc: Global, kept: &Replica<S>, body: &[u8]) -> Result<Act<S>, Stop>
-    requires { length body.now ≤ LIMIT }
+/// The message that is waited for.
+pub fn expected_of<S: DotSet>(kept: &Replica<S>, turn: &Turn<S>) -> Expected
+    ensures { result ≡ expected_of kept.now (wait_of turn.now) }
+{
+    match turn {
+        Turn::Hello => Expected::Hello,
+        Turn::Digest { peer } => Expected::Digest {
+            replicas: replicas_of(kept, &peer.roster),
+        },
+        Turn::Delta { peer, .. } => Expected::Delta {
+            replicas: replicas_of(kept, &peer.roster),
+        },
+        Turn::Bye => Expected::Bye,
+    }
+}
+
+fn judge_hello<S: DotSet>(kept: &Replica<S>, hello: Hello) -> Result<Act<S>, Stop>
     ensures known { IfErr result StopsByNoDevice }
-    ensures judges { Judges result (hello_came kept.now body.now) }
+    ensures judges { Judges result (hello_judged kept.now hello) }
     ensures brings { (turn : Awaited) → IfOk result (Brings kept.now turn) }
 {
-    if is_other_version(body) {
-        return Err(Stop::Refused(Fault::WrongVersion));
-    }
-    let hello = read_hello(alloc, body)?;
     if hello.roster.group() != kept.roster().group() {
         return Err(Stop::Refused(Fault::WrongGroup));
     }
@@ -168,19 +127,12 @@ fn judge_hello<S: DotSet>(alloc: Global, kept: &Replica<S>, body: &[u8]) -> Resu
     }))
 }
 
-fn judge_digest<S: DotSet>(
-    alloc: Global,
-    kept: &Replica<S>,
-    peer: &Peer,
-    body: &[u8],
-) -> Result<Act<S>, Stop>
-    requires { length body.now ≤ LIMIT }
+fn judge_digest<S: DotSet>(alloc: Global, peer: &Peer, digest: Digest<S>) -> Result<Act<S>, Stop>
     ensures known { IfErr result StopsByNoDevice }
-    ensures judges { Judges result (digest_came kept.now peer.now body.now) }
-    ensures brings { IsLongerIfThere kept.now.roster peer.now.roster
-        → (turn : Awaited) → IfOk result (Brings kept.now turn) }
+    ensures judges { Judges result (Ok (Learns peer.now digest)) }
+    ensures brings { (kept : ReplicaValue) (turn : Awaited) → IsLongerIfThere kept.roster peer.now.roster
+        → IfOk result (Brings kept turn) }
 {
-    let digest = read_digest(alloc, replicas_of(kept, &peer.roster), body)?;
     let roster = copy_of(alloc, &peer.roster)?;
     Ok(Act::Learn(
         Peer {
@@ -213,15 +165,13 @@ fn judge_delta<S: DotSet>(
     alloc: Global,
     kept: &Replica<S>,
     peer: &Peer,
-    body: &[u8],
+    answer: Answer<S>,
 ) -> Result<Act<S>, Stop>
-    requires { length body.now ≤ LIMIT }
     ensures known { IfErr result StopsByNoDevice }
-    ensures judges { Judges result (delta_came kept.now peer.now body.now) }
-    ensures brings { IsLongerIfThere kept.now.roster peer.now.roster
-        → (turn : Awaited) → IfOk result (Brings kept.now turn) }
+    ensures judges { Judges result (delta_judged kept.now peer.now answer) }
+    ensures brings { (turn : Awaited) → IsLongerIfThere kept.now.roster peer.now.roster
+        → IsRead (replicas_of kept.now peer.now.roster) answer → IfOk result (Brings kept.now turn) }
 {
-    let answer = read_answer(alloc, replicas_of(kept, &peer.roster), body)?;
     if answer.asker != kept.own() {
         return Err(Stop::Refused(Fault::WrongAsker));
     }
@@ -233,45 +183,48 @@ fn judge_delta<S: DotSet>(
 }
 
 // A BYE may come at any time, another message where it is waited for.
-fn judge_body<S: DotSet>(
+fn judge_content<S: DotSet>(
     alloc: Global,
     kept: &Replica<S>,
-    kind: MessageKind,
     turn: &Turn<S>,
-    body: &[u8],
+    content: Content<S>,
 ) -> Result<Act<S>, Stop>
-    requires { length body.now ≤ LIMIT }
     ensures known { IfErr result StopsByNoDevice }
-    ensures judges { Judges result (body_came kept.now kind (wait_of turn.now) body.now) }
-    ensures brings { KnowsPeer kept.now (wait_of turn.now) → IfOk result (Brings kept.now (wait_of turn.now)) }
+    ensures judges { Judges result (content_judged kept.now (wait_of turn.now) (content_value content)) }
+    ensures brings { KnowsPeer kept.now (wait_of turn.now)
+        → IsReadFor kept.now (wait_of turn.now) (content_value content)
+        → IfOk result (Brings kept.now (wait_of turn.now)) }
 {
-    match (kind, turn) {
-        (MessageKind::Bye, _) => judge_bye(turn, body),
-        (MessageKind::Hello, Turn::Hello) => judge_hello(alloc, kept, body),
-        (MessageKind::Digest, Turn::Digest { peer }) => judge_digest(alloc, kept, peer, body),
-        (MessageKind::Delta, Turn::Delta { peer, .. }) => judge_delta(alloc, kept, peer, body),
-        _ => Err(Stop::Refused(Fault::OutOfTurn)),
+    match content {
+        Content::Bye(code) => judge_code(turn, code),
+        Content::Hello(hello) => match turn {
+            Turn::Hello => judge_hello(kept, hello),
+            _ => Err(Stop::Refused(Fault::OutOfTurn)),
+        },
+        Content::Digest(digest) => match turn {
+            Turn::Digest { peer } => judge_digest(alloc, peer, digest),
+            _ => Err(Stop::Refused(Fault::OutOfTurn)),
+        },
+        Content::Delta(answer) => match turn {
+            Turn::Delta { peer, .. } => judge_delta(alloc, kept, peer, answer),
+            _ => Err(Stop::Refused(Fault::OutOfTurn)),
+        },
     }
 }
 
 /// What a whole message is taken as, or why it ends the session.
-#[tactic(auto, unfolding(crate::specs::Judging::verdict))]
 pub fn accept<S: DotSet>(
     alloc: Global,
     kept: &Replica<S>,
     turn: &Turn<S>,
-    message: &[u8],
+    message: Message<S>,
 ) -> Result<Act<S>, Stop>
-    requires { length message.now ≤ LIMIT }
+    requires within { length message.came ≤ LIMIT }
+    requires expected { message.expected ≡ expected_of kept.now (wait_of turn.now) }
     ensures known { IfErr result StopsByNoDevice }
-    ensures judges { Judges result (verdict kept.now (wait_of turn.now) message.now) }
+    ensures judges { Judges result (verdict kept.now (wait_of turn.now) message.came) }
     ensures brings { KnowsPeer kept.now (wait_of turn.now) → IfOk result (Brings kept.now (wait_of turn.now)) }
 {
-    match message {
-        [] => Err(Stop::Refused(Fault::Cut)),
-        [number, body @ ..] => match MessageKind::from_number(*number) {
-            Some(kind) => judge_body(alloc, kept, kind, turn, body),
-            None => Err(Stop::Refused(Fault::Bad)),
-        },
-    }
+    let content = message.end()?;
+    judge_content(alloc, kept, turn, content)
 }

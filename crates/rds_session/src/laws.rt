@@ -2,6 +2,7 @@
 ghost use Rattle.std.specs.Prelude.{◌≡◌};
 ghost use Rattle.rds_session.specs.ByMessages.{IsByMessages, IsQuiet};
 ghost use Rattle.rds_session.specs.Checked.{IsLeastDelta, IsOwnCertificate, PassesExactly};
+ghost use Rattle.rds_session.specs.OneResult.{HasOneResult};
 ghost use Rattle.rds_session.specs.Meeting.{BothEnd, KeepsAtEnd, ReceiveDeltas};
 ghost use Rattle.rds_session.specs.Stream.{AreSplit, AreSplitOnce};
 ghost use Rattle.rds_session.specs.declared.chunks.TheConstants.{MESSAGE_LIMIT};
@@ -30,6 +31,12 @@ pub fn two_sessions()
     ensures receive { ReceiveDeltas }
     ensures end { BothEnd }
     ensures cut { KeepsAtEnd }
+{}
+
+/// Two results of a step of a session that has the standing of a stream, where memory ran out in neither, are one: the
+/// same new standing, and the same bytes sent. The function does nothing: its contract is this law.
+pub fn a_step_of_a_session_has_one_result()
+    ensures { HasOneResult }
 {}
 
 /// What a session sends and judges as values is what the laws of deltas speak of: the least delta, its certificate, and

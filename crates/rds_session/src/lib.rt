@@ -1,11 +1,15 @@
 //! The session of two replicas, as a machine over a stream of bytes: each tells what it has, and gets what it lacks.
 #![tactic(auto)]
 
+mod came;
 mod chunks;
+mod coming;
+mod content;
 mod exchanging;
 mod judging;
 mod kinds;
 mod laws;
+mod message;
 mod sending;
 mod session;
 mod step;
@@ -15,8 +19,8 @@ mod writing;
 pub use exchanging::{Exchanged, exchange};
 pub use judging::one_begins;
 pub use laws::{
-    a_course_is_by_messages, limit_of_messages, streams_are_split_once, two_sessions,
-    values_are_least,
+    a_course_is_by_messages, a_step_of_a_session_has_one_result, limit_of_messages,
+    streams_are_split_once, two_sessions, values_are_least,
 };
 pub use session::Session;
 pub use step::{Ended, Input, Output};

@@ -4,9 +4,10 @@ ghost use Rattle.std.specs.Prelude.{◌≡◌, ◌<◌, ◌≤◌, [], true, fal
 ghost use Rattle.std.specs.Option.{option_copied};
 ghost use Rattle.rds_names.specs.declared.fault.Fault.TheVariants.{Memory};
 
-use crate::chunks::{Chunks, Scanned, chunks_of};
-use crate::judging::accept;
+use crate::chunks::{Chunks, Scanned};
+use crate::judging::{accept, expected_of};
 use crate::kinds::ByeCode;
+use crate::message::Message;
 use crate::sending::{send_bye, send_opening, send_replies};
 use crate::step::{Ended, Input, Output};
 use crate::talk::{Act, Side, Stop, Turn, code_of};
@@ -30,7 +31,7 @@ pub struct Session<'a, S: DotSet> {
     turn: Turn<S>,
     received: Option<(State<S>, Option<Roster>)>,
     ended: Ended,
-    under: Option<Chunks>,
+    under: Option<Chunks<S>>,
 }
 
 // Written out, so that where a session is let go a caller's proof has one call, and not a step for each part of its
@@ -50,8 +51,8 @@ impl<'a, S: DotSet> Drop for Session<'a, S> {
 }
 
 impl<'a, S: DotSet> Model for Session<'a, S> {
-    ghost use Rattle.rds_session.specs.Chunks.{under_of};
     ghost use Rattle.rds_session.specs.Code.{coded_standing};
+    ghost use Rattle.rds_session.specs.Expecting.{IsExpecting, under_of};
     ghost use Rattle.rds_session.specs.Judging.{wait_of};
     ghost use Rattle.rds_session.specs.Received.{IsSound};
     ghost use Rattle.rds_session.specs.Session.{Standing};
@@ -70,19 +71,21 @@ impl<'a, S: DotSet> Model for Session<'a, S> {
       under = under_of s.under;
     } };
 
-    ghost invariant = { λ s. IsSound s.kept.now (wait_of s.turn) s.ended s.received };
+    ghost invariant = { λ s. IsSound s.kept.now (wait_of s.turn) s.ended s.received
+        × IsExpecting s.kept.now (wait_of s.turn) s.under };
 }
 
 impl<'a, S: DotSet> Session<'a, S> {
     ghost use Rattle.rds_state.specs.Fits.{ReplicaValue};
     ghost use Rattle.rds_session.specs.declared.step.Ended.TheVariants.{Going};
     ghost use Rattle.rds_session.specs.declared.talk.Side.{Side};
-    ghost use Rattle.rds_session.specs.Chunks.{scan};
+    ghost use Rattle.rds_session.specs.Chunks.{start};
+    ghost use Rattle.rds_session.specs.Contents.{expected_of};
     ghost use Rattle.rds_session.specs.Judging.{StopsByNoDevice, saying_of};
     ghost use Rattle.rds_session.specs.Received.{Brings, HasChecked, IsDoneBy, IsLongerIfThere, delta_of, roster_of};
     ghost use Rattle.rds_session.specs.declared.talk.Stop.TheVariants.{Refused};
     ghost use Rattle.rds_session.specs.Session.{failure, after_said, refuses, after_verdict, message_comes, after_opening, cut_off, Heard, Nothing};
-    ghost use Rattle.rds_session.specs.Steps.{came, Continues, Does, HasScanned, HasStanding, IsLastWord, IsNoDevice, IsOver, Ran, Runs, Steps, Works};
+    ghost use Rattle.rds_session.specs.Steps.{came, Continues, Does, HasStanding, IsLastWord, IsNoDevice, IsOver, Ran, Runs, Steps, Works};
 
     /// A session that hasn't begun. Takes no memory.
     #[tactic(auto, unfolding(crate::specs::Session::course))]
@@ -273,10 +276,13 @@ impl<'a, S: DotSet> Session<'a, S> {
             Ended::Going => {}
             Ended::Done | Ended::Failed(_) => return Ok(&[]),
         }
-        match self.scan(alloc, piece)? {
-            Scanned::More => Ok(&[]),
+        match self.under_way().take(alloc, piece)? {
+            Scanned::More(chunks) => {
+                self.under = Some(chunks);
+                Ok(&[])
+            }
             Scanned::Whole(message, rest) => {
-                self.message(alloc, &message, send)?;
+                self.message(alloc, message, send)?;
                 Ok(rest)
             }
             Scanned::Long => {
@@ -286,28 +292,28 @@ impl<'a, S: DotSet> Session<'a, S> {
         }
     }
 
-    // Scans bytes up to the end of a message. What has come of a message that goes on is held.
-    fn scan<'p>(&mut self, alloc: Global, piece: &'p [u8]) -> Result<Scanned<'p>, Fault>
-        ensures ok { IfOk result (HasScanned (scan piece.now self.old.under) self.old self.new) }
-        ensures ended { OnOk result (self.new.ended ≡ self.old.ended) }
-        ensures kept { self.new.kept ≡ self.old.kept }
-        ensures err { IfErr result (λ e. (e ≡ Memory) × (self.new.received ≡ self.old.received)) }
+    // Takes what has come of a message out of the session.
+    fn under_way(&mut self) -> Chunks<S>
+        ensures taken { self.new ≡ record self.old { under = start } }
+        ensures chunks { result ≡ record { expected = expected_of self.old.kept self.old.turn; under = self.old.under } }
     {
-        let mut chunks = chunks_of(alloc, self.under.take());
-        match chunks.take(alloc, piece)? {
-            Scanned::More => {
-                self.under = Some(chunks);
-                Ok(Scanned::More)
-            }
-            Scanned::Whole(message, rest) => Ok(Scanned::Whole(message, rest)),
-            Scanned::Long => Ok(Scanned::Long),
+        match self.under.take() {
+            Some(chunks) => chunks,
+            None => Chunks::new(expected_of(self.kept.view_of(), &self.turn)),
         }
     }
 
     #[tactic(auto, unfolding(crate::specs::Session::message_comes))]
-    fn message(&mut self, alloc: Global, message: &[u8], send: &mut Vec<u8>) -> Result<(), Fault>
-        requires { length message.now ≤ MESSAGE_LIMIT }
-        ensures does { Does self.old send.old.items self.new send.new.items result (λ s. message_comes s message.now) }
+    fn message(
+        &mut self,
+        alloc: Global,
+        message: Message<S>,
+        send: &mut Vec<u8>,
+    ) -> Result<(), Fault>
+        requires within { length message.came ≤ MESSAGE_LIMIT }
+        requires expected { message.expected ≡ expected_of self.old.kept self.old.turn }
+        ensures does { Does (record self.old { under = start }) send.old.items self.new send.new.items result
+            (λ s. message_comes s message.came) }
         ensures known { OnOk result (IsNoDevice self.old.ended → IsNoDevice self.new.ended) }
         ensures kept { self.new.kept ≡ self.old.kept }
     {
@@ -328,7 +334,7 @@ impl<'a, S: DotSet> Session<'a, S> {
     #[tactic(auto, using(crate::proofs::Moves::all_sent, crate::proofs::Moves::some_sent))]
     fn answer(&mut self, alloc: Global, act: Act<S>, send: &mut Vec<u8>) -> Result<(), Fault>
         requires { Brings self.old.kept self.old.turn act }
-        ensures does { Does self.old send.old.items self.new send.new.items result
+        ensures does { Does (record self.old { under = start }) send.old.items self.new send.new.items result
             (λ s. after_verdict s (Ok (saying_of act))) }
         ensures known { OnOk result (IsNoDevice self.old.ended → IsNoDevice self.new.ended) }
         ensures kept { self.new.kept ≡ self.old.kept }
@@ -353,9 +359,10 @@ impl<'a, S: DotSet> Session<'a, S> {
 
     fn perform(&mut self, act: Act<S>)
         requires { Brings self.old.kept self.old.turn act }
-        ensures performed { self.new ≡ after_said self.old (saying_of act) }
+        ensures performed { self.new ≡ after_said (record self.old { under = start }) (saying_of act) }
         ensures known { IsNoDevice self.old.ended → IsNoDevice self.new.ended }
     {
+        self.under = None;
         match act {
             Act::Greet(peer) => self.turn = Turn::Digest { peer },
             Act::Learn(peer, digest) => self.turn = Turn::Delta { peer, digest },

@@ -7,7 +7,7 @@ use Rattle.rds_session.proofs.judging.judge_hello.Goals as goal
 pub returns-clause-brings : goal.returns-clause-brings
 returns-clause-brings g c = λ turn.
     let own = c.args.kept.now.roster in
-    let other = c.in_ok-hello.hello.roster in
+    let other = c.args.hello.roster in
     let group : other.group ≡ own.group = search rules in
     let names : one_begins other.names own.names ≡ true = search rules in
     let is : c.longer_than.result ≡ longer_than own other = search rules in

@@ -1,10 +1,10 @@
-use Rattle.std.proofs.Common.{length}
+use Rattle.std.proofs.Common.{◌≡◌, length}
 use Rattle.rds_session.specs.Chunks.{scan}
 use Rattle.rds_session.proofs.Scans.{IsScanning}
 use Rattle.rds_session.proofs.chunks.Chunks.take.Given as goal
 
 abbrev pub invariant-bytes : goal.invariant-bytes
-invariant-bytes l = IsScanning (scan l.fn.piece l.fn.self) l.rest l.self-inside.place l.self-inside.held.items
+invariant-bytes g l = IsScanning (scan l.fn.piece l.fn.self.under) l.rest l.place l.message.came × (l.count ≡ length l.message.came) × (l.message.expected ≡ l.fn.self.expected)
 
 abbrev pub decreases-bytes : goal.decreases-bytes
-decreases-bytes l = length l.rest
+decreases-bytes g l = length l.rest

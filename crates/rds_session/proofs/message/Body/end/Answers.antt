@@ -1,0 +1,46 @@
+use Rattle.std.proofs.Common.{inl, inr, Ok, Err}
+use Rattle.std.proofs.lemmas.Result.{err_from_is_err_and}
+use Rattle.rds_session.proofs.Began.{greeting_said, parting_said, bye_said, refused_said, hello_said, digest_said, delta_said}
+use Rattle.rds_session.proofs.message.Body.end.Goals as goal
+
+pub returns-in-Greeting : goal.returns-in-Greeting
+returns-in-Greeting g c = λ expected came holds within. elim c.in-Greeting.is [
+  | inl is ↦ (let h = rw is at holds in greeting_said expected came h.0 h.1)
+  | inr is ↦ parting_said expected came (rw is at holds)
+]
+
+pub returns-in-Bye : goal.returns-in-Bye
+returns-in-Bye g c = λ expected came holds within. (let h = rw c.in-Bye.is at holds in bye_said expected came c.in-Bye.code h.0 h.1 h.2)
+
+pub returns-in-Refused : goal.returns-in-Refused
+returns-in-Refused g c = λ expected came holds within. refused_said expected came c.in-Refused.fault (rw c.in-Refused.is at holds)
+
+pub returns-in_ok-end-in-Hello : goal.returns-in_ok-end-in-Hello
+returns-in_ok-end-in-Hello g c = λ expected came holds within.
+    (let h = rw c.in-Hello.is at holds in hello_said expected came within c.in-Hello.text (Ok c.in_ok-end-in-Hello.field-0) h.0 h.1 h.2 c.in_ok-end-in-Hello.ensures.read)
+
+pub returns-in_ok-end-in-Digest : goal.returns-in_ok-end-in-Digest
+returns-in_ok-end-in-Digest g c = λ expected came holds within.
+    (let h = rw c.in-Digest.is at holds in digest_said expected came within c.in-Digest.text (Ok c.in_ok-end-in-Digest.field-0) h.0 h.1 c.in_ok-end-in-Digest.ensures.read)
+
+pub returns-in_ok-end-in-Delta : goal.returns-in_ok-end-in-Delta
+returns-in_ok-end-in-Delta g c = λ expected came holds within.
+    (let h = rw c.in-Delta.is at holds in delta_said expected came within c.in-Delta.text (Ok c.in_ok-end-in-Delta.field-0) h.0 h.1 c.in_ok-end-in-Delta.ensures.read)
+
+pub returns-in_err-end-in-Hello : goal.returns-in_err-end-in-Hello
+returns-in_err-end-in-Hello g c =
+    let p = err_from_is_err_and c.from_residual.result c.from_residual.ensures.1 in
+    rw (p.1, p.2) (λ expected came holds within.
+    (let h = rw c.in-Hello.is at holds in hello_said expected came within c.in-Hello.text (Err c.in_err-end-in-Hello.field-0.0) h.0 h.1 h.2 c.in_err-end-in-Hello.ensures.read))
+
+pub returns-in_err-end-in-Digest : goal.returns-in_err-end-in-Digest
+returns-in_err-end-in-Digest g c =
+    let p = err_from_is_err_and c.from_residual-in_err-end-in-Digest.result c.from_residual-in_err-end-in-Digest.ensures.1 in
+    rw (p.1, p.2) (λ expected came holds within.
+    (let h = rw c.in-Digest.is at holds in digest_said expected came within c.in-Digest.text (Err c.in_err-end-in-Digest.field-0.0) h.0 h.1 c.in_err-end-in-Digest.ensures.read))
+
+pub returns-in_err-end-in-Delta : goal.returns-in_err-end-in-Delta
+returns-in_err-end-in-Delta g c =
+    let p = err_from_is_err_and c.from_residual-in_err-end-in-Delta.result c.from_residual-in_err-end-in-Delta.ensures.1 in
+    rw (p.1, p.2) (λ expected came holds within.
+    (let h = rw c.in-Delta.is at holds in delta_said expected came within c.in-Delta.text (Err c.in_err-end-in-Delta.field-0.0) h.0 h.1 c.in_err-end-in-Delta.ensures.read))

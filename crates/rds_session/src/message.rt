@@ -1,0 +1,257 @@
+//! What has come of a message.
+ghost use Rattle.std.specs.Prelude.{◌≡◌, ◌≤◌, ℕ, List, [], ◌∷◌, ◌++◌, length, Some, IfOk, IfErr};
+ghost use Rattle.rds_names.specs.declared.fault.Fault.TheVariants.{Memory};
+ghost use Rattle.rds_bytes.specs.Reading.{Reads};
+ghost use Rattle.rds_codec.specs.declared.limits.TheConstants.{LIMIT};
+ghost use Rattle.rds_keep.specs.Feeding.{AreBytes};
+ghost use Rattle.rds_session.specs.declared.content.Expected.{Expected};
+ghost use Rattle.rds_session.specs.declared.content.Expected.TheVariants as expecteds;
+ghost use Rattle.rds_session.specs.declared.kinds.MessageKind.TheVariants as kinds;
+ghost use Rattle.rds_session.specs.Begun.{Holds, HoldsBody};
+ghost use Rattle.rds_session.specs.Contents.{content_value, message_read};
+ghost use Rattle.rds_session.specs.Messages.{bye_of, number_of};
+
+use crate::came::Came;
+use crate::coming::Coming;
+use crate::content::{Content, Expected};
+use crate::kinds::{ByeCode, MessageKind};
+use rds_codec::VERSION;
+use rds_dots::DotSet;
+use rds_names::Fault;
+use rds_text_feeds::{UnfinishedAnswer, UnfinishedDigest, UnfinishedHello};
+use std::alloc::Global;
+use std::marker::Model;
+
+/// What has come of a message of which a byte has come.
+pub enum Body<S: DotSet> {
+    /// It is a HELLO, of which no version has come.
+    Greeting,
+    /// It is a HELLO of the version that is spoken.
+    Hello(Coming<UnfinishedHello>),
+    /// It is a DIGEST.
+    Digest(Coming<UnfinishedDigest<S>>),
+    /// It is a DELTA.
+    Delta(Coming<UnfinishedAnswer<S>>),
+    /// It is a BYE, of which no code has come.
+    Parting,
+    /// It is a BYE with this code.
+    Bye(ByeCode),
+    /// It is refused, however it goes on.
+    Refused(Fault),
+}
+
+// Written out, so that where it is let go a caller's proof has one call.
+impl<S: DotSet> Drop for Body<S> {
+    fn drop(self) {
+        match self {
+            Body::Greeting | Body::Parting | Body::Bye(_) | Body::Refused(_) => {}
+            Body::Hello(_text) => {}
+            Body::Digest(_text) => {}
+            Body::Delta(_text) => {}
+        }
+    }
+}
+
+// What a HELLO is with the first bytes of its body. Another version is refused whatever follows it.
+fn greeting<S: DotSet>(alloc: Global, run: &[u8]) -> Result<Body<S>, Fault>
+    ensures ok { IfOk result (λ new. HoldsBody expecteds.Hello new (number_of kinds.Hello ∷ run.now)) }
+    ensures memory { IfErr result (λ e. e ≡ Memory) }
+{
+    match run {
+        [] => Ok(Body::Greeting),
+        [version, ..] => {
+            if *version != VERSION {
+                return Ok(Body::Refused(Fault::WrongVersion));
+            }
+            Ok(Body::Hello(Coming::new(alloc, 0).add(run)?))
+        }
+    }
+}
+
+// What a BYE is with the first bytes of its body, which is its code.
+fn parting<S: DotSet>(run: &[u8]) -> Body<S>
+    ensures { (expected : Expected) → HoldsBody expected result (number_of kinds.Bye ∷ run.now) }
+{
+    match run {
+        [] => Body::Parting,
+        [byte, rest @ ..] => match ByeCode::from_byte(*byte) {
+            None => Body::Refused(Fault::Bad),
+            Some(code) if rest.is_empty() => Body::Bye(code),
+            Some(_) => Body::Refused(Fault::Extra),
+        },
+    }
+}
+
+// What a BYE with this code is with the next bytes, of which it has none.
+fn parted<S: DotSet>(code: ByeCode, run: &[u8]) -> Body<S>
+    ensures { (expected : Expected) (byte : ℕ) → bye_of byte ≡ Some code
+        → HoldsBody expected result (number_of kinds.Bye ∷ byte ∷ run.now) }
+{
+    match run {
+        [] => Body::Bye(code),
+        [_, ..] => Body::Refused(Fault::Extra),
+    }
+}
+
+impl<S: DotSet> Body<S> {
+    // What a message is whose first byte has come.
+    fn new(alloc: Global, expected: Expected, number: u8) -> Body<S>
+        ensures { HoldsBody expected result (number ∷ []) }
+    {
+        match MessageKind::from_number(number) {
+            None => Body::Refused(Fault::Bad),
+            Some(MessageKind::Bye) => Body::Parting,
+            Some(MessageKind::Hello) => match expected {
+                Expected::Hello => Body::Greeting,
+                _ => Body::Refused(Fault::OutOfTurn),
+            },
+            Some(MessageKind::Digest) => match expected {
+                Expected::Digest { replicas } => Body::Digest(Coming::new(alloc, replicas)),
+                _ => Body::Refused(Fault::OutOfTurn),
+            },
+            Some(MessageKind::Delta) => match expected {
+                Expected::Delta { replicas } => Body::Delta(Coming::new(alloc, replicas)),
+                _ => Body::Refused(Fault::OutOfTurn),
+            },
+        }
+    }
+
+    fn add(self, alloc: Global, run: &[u8]) -> Result<Body<S>, Fault>
+        ensures ok { IfOk result (λ new. (expected : Expected) (came : List ℕ) → HoldsBody expected self came
+            → HoldsBody expected new (came ++ run.now)) }
+        ensures memory { IfErr result (λ e. e ≡ Memory) }
+    {
+        match self {
+            Body::Greeting => greeting(alloc, run),
+            Body::Hello(text) => Ok(Body::Hello(text.add(run)?)),
+            Body::Digest(text) => Ok(Body::Digest(text.add(run)?)),
+            Body::Delta(text) => Ok(Body::Delta(text.add(run)?)),
+            Body::Parting => Ok(parting(run)),
+            Body::Bye(code) => Ok(parted(code, run)),
+            Body::Refused(fault) => Ok(Body::Refused(fault)),
+        }
+    }
+
+    fn end(self) -> Result<Content<S>, Fault>
+        ensures { (expected : Expected) (came : List ℕ) → HoldsBody expected self came → length came ≤ LIMIT
+            → Reads content_value result (message_read expected came) }
+    {
+        match self {
+            Body::Greeting | Body::Parting => Err(Fault::Cut),
+            Body::Hello(text) => Ok(Content::Hello(text.end()?)),
+            Body::Digest(text) => Ok(Content::Digest(text.end()?)),
+            Body::Delta(text) => Ok(Content::Delta(text.end()?)),
+            Body::Bye(code) => Ok(Content::Bye(code)),
+            Body::Refused(fault) => Err(fault),
+        }
+    }
+}
+
+// What a message is with the next bytes, the first of which is its type where none came before.
+fn with_run<S: DotSet>(
+    alloc: Global,
+    expected: Expected,
+    body: Option<Body<S>>,
+    run: &[u8],
+) -> Result<Option<Body<S>>, Fault>
+    ensures ok { IfOk result (λ new. (came : List ℕ) → Holds expected body came
+        → Holds expected new (came ++ run.now)) }
+    ensures memory { IfErr result (λ e. e ≡ Memory) }
+{
+    match body {
+        Some(body) => {
+            let body = body.add(alloc, run)?;
+            Ok(Some(body))
+        }
+        None => match run {
+            [] => Ok(None),
+            [number, rest @ ..] => {
+                let body = Body::new(alloc, expected, *number).add(alloc, rest)?;
+                Ok(Some(body))
+            }
+        },
+    }
+}
+
+/// What has come of a message. No more of it is held than what was read of its text, and the next part of that.
+pub struct Message<S: DotSet> {
+    expected: Expected,
+    body: Option<Body<S>>,
+    came: Came,
+}
+
+// Written out, so that where it is let go a caller's proof has one call.
+impl<S: DotSet> Drop for Message<S> {
+    fn drop(self) {
+        let Message {
+            expected: _,
+            body: _body,
+            came: _came,
+        } = self;
+    }
+}
+
+impl<S: DotSet> Model for Message<S> {
+    ghost use Rattle.rds_keep.specs.Feeding.{AreBytes};
+    ghost use Rattle.rds_session.specs.Begun.{Holds, MessageValue};
+
+    ghost Value = { MessageValue };
+
+    ghost view = { λ m. record { expected = m.expected; came = m.came.bytes } };
+
+    ghost invariant = { λ m. Holds m.expected m.body m.came.bytes × AreBytes m.came.bytes };
+}
+
+impl<S: DotSet> Message<S> {
+    /// Nothing of a message. Takes no memory.
+    pub fn new(expected: Expected) -> Message<S>
+        ensures { result ≡ record { expected = expected; came = [] } }
+    {
+        Message {
+            expected,
+            body: None,
+            came: Came::nothing(),
+        }
+    }
+
+    /// The same with the next bytes. What it can't become is refused at its end, and its bytes aren't held.
+    pub fn add(self, alloc: Global, run: &[u8]) -> Result<Message<S>, Fault>
+        ensures ok { IfOk result (λ new. new
+            ≡ record { expected = self.expected; came = self.came ++ run.now }) }
+        ensures memory { IfErr result (λ e. e ≡ Memory) }
+    {
+        let Message {
+            expected,
+            body,
+            came,
+        } = self;
+        let mut came = came;
+        came.add(run);
+        let body = with_run(alloc, expected, body, run)?;
+        Ok(Message {
+            expected,
+            body,
+            came,
+        })
+    }
+
+    /// What the whole message says, before it is judged.
+    pub fn end(self) -> Result<Content<S>, Fault>
+        ensures read { length self.came ≤ LIMIT
+            → Reads content_value result (message_read self.expected self.came) }
+        ensures bytes { AreBytes self.came }
+    {
+        let Message {
+            expected: _,
+            body,
+            came: _came,
+        } = self;
+        match body {
+            None => Err(Fault::Cut),
+            Some(body) => {
+                let content = body.end()?;
+                Ok(content)
+            }
+        }
+    }
+}
