@@ -6,6 +6,7 @@ pub mod DataWords
 pub mod EachNamed
 pub mod GrowNamed
 pub mod InitNamed
+pub mod Leading
 pub mod ListedNames
 pub mod Meant
 pub mod NamedTasks
@@ -22,3 +23,4 @@ pub mod ServeNamed
 pub mod ShownExactly
 pub mod Splitting
 pub mod SyncNamed
+pub mod SyncedExactly

@@ -5,13 +5,15 @@ use Rattle.std.specs.Str.{bytes_eq}
 use Rattle.std.proofs.lemmas.Slice.Eq.{bytes_eq-Decides}
 use Rattle.clap.specs.Words.{Shape, Text}
 use Rattle.rds_words.specs.Entered.{Names, mistakes_in}
-use Rattle.rds_words.specs.Spelling.{AreShowWordsOf, AreSpelled, AreWordsOf, Count, IsCounted, OtherCommandsAreRefused, OtherShowsAreRefused, OtherWordsAreRefused, OtherWordsWithoutOptions, ShowMeansItsSpelling, WordsMeanTheirSpelling, WordsWithoutOptions, count_in, counts, option_counts, or_root}
+use Rattle.rds_words.specs.Spelling.{AreShowWordsOf, AreSpelled, AreSyncWordsOf, AreWordsOf, Count, IsCounted, OtherCommandsAreRefused, OtherShowsAreRefused, OtherSyncsAreRefused, OtherWordsAreRefused, OtherWordsWithoutOptions, ShowMeansItsSpelling, SyncMeansItsSpelling, WordsMeanTheirSpelling, WordsWithoutOptions, before, count_in, counts, option_counts, or_root}
 use Rattle.rds_words.proofs.Counting.{IsCountedCommand, refused_isnt}
 use Rattle.rds_words.proofs.OptionCommands as options
 use Rattle.rds_words.proofs.OtherCommands.{command_or_not}
 use Rattle.rds_words.proofs.PlainCommands as plain
 use Rattle.rds_words.proofs.Refusing.{HasRequestsAlone}
 use Rattle.rds_words.proofs.ShownExactly.{option_unmistaken, pretty_named}
+use Rattle.rds_words.proofs.SyncedExactly as synced
+use Rattle.rds_words.proofs.SyncedExactly.{timed_named}
 use Rattle.rds_words.proofs.Splitting.{HasOption, IsCommand, mistaken_alike, named_alike, option_mistaken, split}
 
 -- what is known of a command
@@ -156,6 +158,23 @@ show_unmistaken called behind none = elim (split behind) [
   | inr option ↦ let found = option_unmistaken called behind option none in (found.0, inr found.1)
 ]
 
+-- ---- sync
+
+sync_known : IsKnown (codes "sync") (before 2 (codes "60" ∷ []))
+sync_known = known (codes "sync") (before 2 (codes "60" ∷ [])) _ options.sync_is options.sync_counted
+
+sync_named : (called : Text) (behind words : List Text) → AreSyncWordsOf behind words → Names (called ∷ codes "sync" ∷ behind) (codes "sync" ∷ words)
+sync_named called behind words (inl plain) = given_names (codes "sync") (before 2 (codes "60" ∷ [])) sync_known called plain.0 behind words plain.1 plain.2
+sync_named called behind words (inr timed) = timed_named called behind words timed
+
+sync_unmistaken : (called : Text) (behind : List Text) → mistakes_in (called ∷ codes "sync" ∷ behind) ≡ [] → (words : List Text) × AreSyncWordsOf behind words
+sync_unmistaken called behind none = elim (split behind) [
+  | inl spelled ↦
+      let counted = given_counted (codes "sync") (before 2 (codes "60" ∷ [])) sync_known called spelled.0 behind spelled.1 none in
+      (counted.0, inl (spelled.0, spelled.1, counted.1))
+  | inr option ↦ let found = synced.option_unmistaken called behind option none in (found.0, inr found.1)
+]
+
 -- ---- the laws
 
 pub words_spelled : WordsMeanTheirSpelling
@@ -188,6 +207,17 @@ show_spelled called behind words = (
 
 pub other_shows_refused : OtherShowsAreRefused
 other_shows_refused called behind other none = (let found = show_unmistaken called behind none in other found.0 found.1)
+
+pub sync_spelled : SyncMeansItsSpelling
+sync_spelled called behind words = (
+  λ names.
+      let found = sync_unmistaken called behind names.0 in
+      subst (AreSyncWordsOf behind) (same_words (sym (sync_named called behind found.0 found.1).1 ∙ names.1)) found.1,
+  sync_named called behind words,
+)
+
+pub other_syncs_refused : OtherSyncsAreRefused
+other_syncs_refused called behind other none = (let found = sync_unmistaken called behind none in other found.0 found.1)
 
 pub no_command_refused : OtherCommandsAreRefused
 no_command_refused entered other none = elim (command_or_not entered) [ inl has ↦ other has | inr is ↦ refused_isnt _ is none ]

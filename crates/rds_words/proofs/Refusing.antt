@@ -107,29 +107,32 @@ option_behind s has (x ∷ xs) h character other skip = of (x == 45) refl
 abbrev pub IsLong : Text → Type 0
 IsLong word = (y : ℕ) × (ys : Text) × (word ≡ 45 ∷ 45 ∷ y ∷ ys)
 
-long_or : (s : Shape) → HasShortRequests s → (bs : Text) (h : Held) → has_character bs ≡ true → bytes_eq (45 ∷ bs) (codes "--") ≡ false → h.skip ≡ 0
-    → IsRefused (other_fault s None (45 ∷ bs) h) ⊎ IsLong (45 ∷ bs)
+-- it is refused, whatever is held
+abbrev pub IsAlwaysRefused : Shape → Text → Type 0
+IsAlwaysRefused s word = (h : Held) → h.skip ≡ 0 → IsRefused (other_fault s None word h)
+
+long_or : (s : Shape) → HasShortRequests s → (bs : Text) → has_character bs ≡ true → bytes_eq (45 ∷ bs) (codes "--") ≡ false → IsAlwaysRefused s (45 ∷ bs) ⊎ IsLong (45 ∷ bs)
 unfolding chars
-long_or s short [] h character other skip = absurd cc
-long_or s short (x ∷ xs) h character other skip = of (x == 45) refl
+long_or s short [] character other = absurd cc
+long_or s short (x ∷ xs) character other = of (x == 45) refl
   where
-    more : (xs : Text) → bytes_eq (45 ∷ 45 ∷ xs) (codes "--") ≡ false → IsRefused (other_fault s None (45 ∷ 45 ∷ xs) h) ⊎ IsLong (45 ∷ 45 ∷ xs)
+    more : (xs : Text) → bytes_eq (45 ∷ 45 ∷ xs) (codes "--") ≡ false → IsAlwaysRefused s (45 ∷ 45 ∷ xs) ⊎ IsLong (45 ∷ 45 ∷ xs)
     more [] none = absurd cc
     more (y ∷ ys) none = inr (y, ys, refl)
 
-    of : (b : Bool) → (x == 45) ≡ b → IsRefused (other_fault s None (45 ∷ x ∷ xs) h) ⊎ IsLong (45 ∷ x ∷ xs)
-    of true e = subst (λ y. bytes_eq (45 ∷ y ∷ xs) (codes "--") ≡ false → IsRefused (other_fault s None (45 ∷ y ∷ xs) h) ⊎ IsLong (45 ∷ y ∷ xs)) (sym (eqb-true x 45 e)) (more xs) other
-    of false e = inl (short_option s short x xs h e character skip)
+    of : (b : Bool) → (x == 45) ≡ b → IsAlwaysRefused s (45 ∷ x ∷ xs) ⊎ IsLong (45 ∷ x ∷ xs)
+    of true e = subst (λ y. bytes_eq (45 ∷ y ∷ xs) (codes "--") ≡ false → IsAlwaysRefused s (45 ∷ y ∷ xs) ⊎ IsLong (45 ∷ y ∷ xs)) (sym (eqb-true x 45 e)) (more xs) other
+    of false e = inl (λ h skip. short_option s short x xs h e character skip)
 
 -- where all short options are requests, an option is refused, or it is a long one
-pub long_or_refused : (s : Shape) → HasShortRequests s → (word : Text) (h : Held) → IsOption word → h.skip ≡ 0 → IsRefused (other_fault s None word h) ⊎ IsLong word
-long_or_refused s short [] h is skip = absurd (not_so is.taken)
+pub long_or_refused : (s : Shape) → HasShortRequests s → (word : Text) → IsOption word → IsAlwaysRefused s word ⊎ IsLong word
+long_or_refused s short [] is = absurd (not_so is.taken)
   where
     not_so : true ≡ false → ⊥
     not_so e = absurd cc
-long_or_refused s short (b ∷ bs) h is skip =
+long_or_refused s short (b ∷ bs) is =
     let parts = no_data (b == 45) (has_character bs) is.taken in
-    subst (λ y. bytes_eq (y ∷ bs) (codes "--") ≡ false → IsRefused (other_fault s None (y ∷ bs) h) ⊎ IsLong (y ∷ bs)) (sym (eqb-true b 45 parts.0)) (λ other. long_or s short bs h parts.1 other skip) is.other
+    subst (λ y. bytes_eq (y ∷ bs) (codes "--") ≡ false → IsAlwaysRefused s (y ∷ bs) ⊎ IsLong (y ∷ bs)) (sym (eqb-true b 45 parts.0)) (λ other. long_or s short bs parts.1 other) is.other
 
 pub option_refused : (s : Shape) → HasRequestsAlone s → (word : Text) (h : Held) → IsOption word → h.skip ≡ 0 → IsRefused (other_fault s None word h)
 option_refused s has [] h is skip = absurd (cc' is.taken)

@@ -1,30 +1,27 @@
 -- The words of `show`, wherever its option stands among them.
-use Rattle.std.proofs.Common.{◌≡◌, ◌⊎◌, ◌∙◌, ◌==◌, ◌||◌, ◌+◌, ℕ, Bool, true, false, not, List, [], ◌∷◌, ◌++◌, codes, take, suc, Option, Some, None, refl, sym, ap, ap₂, subst, inl, inr, arith}
-use Rattle.std.specs.Prelude.{fold}
+use Rattle.std.proofs.Common.{◌≡◌, ◌⊎◌, ◌∙◌, ◌==◌, ◌||◌, ◌+◌, ℕ, Bool, true, false, not, List, [], ◌∷◌, ◌++◌, codes, take, suc, Option, Some, None, refl, sym, ap, subst, inl, inr, arith}
 use Rattle.std.specs.List.{before_first, prefix_len}
 use Rattle.std.specs.Str.{bytes_eq}
 use Rattle.std.proofs.lemmas.Bool.{cases_Bool, false≢true}
 use Rattle.std.proofs.lemmas.Slice.Eq.{bytes_eq-Decides}
 use Rattle.clap.specs.Lexer.{has_byte, name_and_value}
 use Rattle.clap.specs.Words.{Kinds, Shape, Text}
-use Rattle.clap.specs.Kinds.{or_else}
 use Rattle.clap.specs.Faults.{long_fault, other_fault, turn_fault, walk_fault}
-use Rattle.clap.specs.Walk.{Held, Walk, arg_by_long, arg_by_short, finished, has_long, has_short, idle, nothing_held, walk_from, walked}
+use Rattle.clap.specs.Walk.{Held, Walk, arg_by_long, arg_by_short, has_long, has_short, idle, nothing_held, walk_from, walked}
 use Rattle.rds_words.specs.Entered.{Names, mistakes_in, named_in}
 use Rattle.rds_words.specs.Spelling.{ArePrettyWordsOf, AreSpelled, IsCounted, or_root}
-use Rattle.rds_words.specs.Task.{words_in}
 use Rattle.rds_words.specs.Written.{AreData, is_data}
 use Rattle.rds_names.specs.Conditions.{and_left, and_right}
-use Rattle.rds_words.proofs.Behind.{Alike, dashes_among}
 use Rattle.rds_words.proofs.CommandWords.{node_on_words, shape_behind}
 use Rattle.rds_words.proofs.Counting.{refused_isnt}
-use Rattle.rds_words.proofs.Dashed.{at, data_next, data_turn, fault_alike, held_alike}
+use Rattle.rds_words.proofs.Dashed.{at, data_next, data_turn}
+use Rattle.rds_words.proofs.Leading.{IsFrom, Leads, comes_from, leads_on, mistakes_from, named_from, refused_from}
 use Rattle.rds_words.proofs.OptionCommands.{show_is}
-use Rattle.rds_words.proofs.Passing.{Steps, end_fault, with_file}
+use Rattle.rds_words.proofs.Passing.{Steps, with_file}
 use Rattle.rds_words.proofs.PrettyNamed.{file_flag_steps, file_flagged, file_steps, flag_steps, flagged, flagged_file, flagged_file_steps, flagged_path, flagged_path_steps, path_flag_steps, path_flagged, path_steps, with_path}
 use Rattle.rds_words.proofs.Refusing.{IsOption, IsRefused, IsRequest, long_or_refused, long_refused, refused_first, refused_then}
 use Rattle.rds_words.proofs.RuleFacts.{found_other}
-use Rattle.rds_words.proofs.Splitting.{HasOption, IsSplit, split, words_mistaken, words_named}
+use Rattle.rds_words.proofs.Splitting.{HasOption, IsSplit, split}
 
 abbrev show : Text
 show = codes "show"
@@ -37,7 +34,7 @@ s = shape_behind show
 
 -- ---- another option than this is refused, wherever it stands
 
-or_false : (b : Bool) → (b || false) ≡ b
+pub or_false : (b : Bool) → (b || false) ≡ b
 or_false true = refl
 or_false false = refl
 
@@ -61,19 +58,19 @@ short_known character =
       | inr is ↦ is
     ]
 
-or_left : (a b : Bool) → (a || b) ≡ false → a ≡ false
+pub or_left : (a b : Bool) → (a || b) ≡ false → a ≡ false
 or_left true b e = absurd cc
 or_left false b e = refl
 
-or_right : (a b : Bool) → (a || b) ≡ false → b ≡ false
+pub or_right : (a b : Bool) → (a || b) ≡ false → b ≡ false
 or_right true b e = absurd cc
 or_right false b e = e
 
-cut_one : (n x : ℕ) (xs : Text) → take (1 + n) (x ∷ xs) ≡ x ∷ take n xs
+pub cut_one : (n x : ℕ) (xs : Text) → take (1 + n) (x ∷ xs) ≡ x ∷ take n xs
 cut_one n x xs = (let e : 1 + n ≡ suc n = omega arith in ap (λ k. take k (x ∷ xs)) e)
 
 -- a text without `=` is a name alone
-no_cut : (xs : Text) → has_byte 61 xs ≡ false → before_first (λ x. x == 61) xs ≡ xs
+pub no_cut : (xs : Text) → has_byte 61 xs ≡ false → before_first (λ x. x == 61) xs ≡ xs
 no_cut [] none = refl
 no_cut (x ∷ xs) none =
     rw (or_left (x == 61) _ none) (cut_one (prefix_len (λ y. not (y == 61)) xs) x xs ∙ ap (λ ys. x ∷ ys) (no_cut xs (or_right (x == 61) _ none)))
@@ -94,8 +91,8 @@ long_told xs h = elim (long_known (before_first (λ x. x == 61) xs)) [
 
 -- an option is this one, or is refused
 told : (word : Text) (h : Held) → IsOption word → h.skip ≡ 0 → (word ≡ pretty) ⊎ IsRefused (other_fault s None word h)
-told word h is skip = elim (long_or_refused s short_known word h is skip) [
-  | inl refused ↦ inr refused
+told word h is skip = elim (long_or_refused s short_known word is) [
+  | inl refused ↦ inr (refused h skip)
   | inr long ↦ elim (long_told (long.0 ∷ long.1) h) [
     | inl name ↦ inl (long.2 ∙ ap (λ xs. 45 ∷ 45 ∷ xs) name)
     | inr refused ↦ inr (subst (λ (w : Text). IsRefused (other_fault s None w h)) (sym long.2) refused)
@@ -225,49 +222,10 @@ option_from_path a b words has =
 
 -- ---- from the first word on
 
--- what the words come to is what others come to from a standing behind dashes
-abbrev Leads : Walk → List Text → Walk → List Text → Type 0
-Leads from words to rest = (fold (walked s.rules []) from words ≡ fold (walked s.rules []) to rest) × (walk_fault s [] from words ≡ walk_fault s [] to rest)
-
-leads_on : (from mid to : Walk) (word : Text) (words rest : List Text) → Steps s from word mid → Leads mid words to rest → Leads from (word ∷ words) to rest
-unfolding walk_fault
-leads_on from mid to word words rest step on = (
-  ap (λ (w : Walk). fold (walked s.rules []) w words) step.0 ∙ on.0,
-  ap₂ (λ (k : Kinds) (w : Walk). or_else k (walk_fault s [] w words)) step.1 step.0 ∙ on.1,
-)
-
-abbrev kinds_of : Kinds → Held → Kinds
-kinds_of k h = or_else (or_else k (or_else [] (end_fault s h))) []
-
--- the mistakes and the task in words, from a standing behind dashes
-abbrev mistakes_from : Held → ℕ → List Text → Kinds
-mistakes_from h position given = kinds_of (walk_fault s [] (at h idle position true) given) (fold (walked s.rules []) (at h idle position true) given).held
-
-abbrev named_from : Held → ℕ → List Text → Option (List Text)
-named_from h position given = words_in (Some (s.name, finished s.rules (fold (walked s.rules []) (at h idle position true) given).held))
-
-alike_at : (h : Held) (position : ℕ) (given words : List Text) → h.skip ≡ 0 → AreSpelled given words → Alike s show_is.short words given (at h idle position false) (at h idle position true)
-alike_at h position given words skip (inl all) =
-    rw all.0 (held_alike s.rules given all.1 h idle position false refl skip, fault_alike s given all.1 h idle position false refl skip)
-alike_at h position given words skip (inr some) = rw (some.2, some.4) (dashes_among s show_is.short some.0 some.1 some.3 h idle position refl skip)
-
-abbrev IsFrom : Text → List Text → Held → ℕ → List Text → Type 0
-IsFrom called words h position given = (mistakes_in (called ∷ show ∷ words) ≡ mistakes_from h position given) × (named_in (called ∷ show ∷ words) ≡ named_from h position given)
-
-comes_from : (called : Text) (words after given : List Text) (h : Held) (position : ℕ) → h.skip ≡ 0 → AreSpelled given after → Leads (walk_from nothing_held) words (at h idle position false) after
-    → IsFrom called words h position given
-comes_from called words after given h position skip spelled leads =
-    let alike = alike_at h position given after skip spelled in
-    let held = ap (λ (w : Walk). w.held) leads.0 ∙ alike.0 in (
-      words_mistaken called show s words show_is ∙ ap₂ kinds_of (leads.1 ∙ alike.1) held,
-      words_named called show s words show_is ∙ ap (λ (h : Held). words_in (Some (s.name, finished s.rules h))) held,
-    )
-
-refused_from : (called : Text) (words after : List Text) (h : Held) (position : ℕ) → Leads (walk_from nothing_held) words (at h idle position false) after → IsBadFrom h position after
+refused_behind : (called : Text) (words after : List Text) (h : Held) (position : ℕ) → Leads s (walk_from nothing_held) words (at h idle position false) after → IsBadFrom h position after
     → IsRefused (mistakes_in (called ∷ show ∷ words))
-refused_from called words after h position leads bad =
-    subst IsRefused (sym (words_mistaken called show s words show_is))
-    (refused_first _ [] (refused_first _ _ (subst IsRefused (sym leads.1) bad)))
+refused_behind called words after h position leads bad =
+    refused_from show s show_is called words after (at h idle position false) leads (refused_first _ [] (refused_first _ _ bad))
 
 -- ---- what comes of words with the option among them
 
@@ -284,80 +242,80 @@ none_counted : (shown : List Text) → IsCounted (or_root 2) [] shown → ⊥
 none_counted shown (inl is) = absurd (omega (arith, is.0))
 none_counted shown (inr is) = absurd (omega (arith, is.0))
 
-from_start : (given : List Text) → Outcome (mistakes_from flagged 1 given) (named_from flagged 1 given) given
+from_start : (given : List Text) → Outcome (mistakes_from s (at flagged idle 1 true) given) (named_from s (at flagged idle 1 true) given) given
 unfolding IsRefused flagged node_on_words
 from_start [] = inl (tt, none_counted)
 from_start (a ∷ []) = inr (a ∷ [] ∷ [], inr (refl, refl), refl, refl)
 from_start (a ∷ b ∷ []) = inr (a ∷ b ∷ [], inl (refl, refl), refl, refl)
 from_start (a ∷ b ∷ c ∷ more) = inl (tt, too_many a b c more)
 
-from_file : (a : Text) (given : List Text) → Outcome (mistakes_from (file_flagged a) 2 given) (named_from (file_flagged a) 2 given) (a ∷ given)
+from_file : (a : Text) (given : List Text) → Outcome (mistakes_from s (at (file_flagged a) idle 2 true) given) (named_from s (at (file_flagged a) idle 2 true) given) (a ∷ given)
 unfolding IsRefused file_flagged node_on_words
 from_file a [] = inr (a ∷ [] ∷ [], inr (refl, refl), refl, refl)
 from_file a (b ∷ []) = inr (a ∷ b ∷ [], inl (refl, refl), refl, refl)
 from_file a (b ∷ c ∷ more) = inl (tt, too_many a b c more)
 
-from_path : (a b : Text) (given : List Text) → Outcome (mistakes_from (path_flagged a b) 3 given) (named_from (path_flagged a b) 3 given) (a ∷ b ∷ given)
+from_path : (a b : Text) (given : List Text) → Outcome (mistakes_from s (at (path_flagged a b) idle 3 true) given) (named_from s (at (path_flagged a b) idle 3 true) given) (a ∷ b ∷ given)
 unfolding IsRefused path_flagged node_on_words
 from_path a b [] = inr (a ∷ b ∷ [], inl (refl, refl), refl, refl)
 from_path a b (c ∷ more) = inl (tt, too_many a b c more)
 
-leads_start : (after : List Text) → Leads (walk_from nothing_held) (pretty ∷ after) (at flagged idle 1 false) after
-leads_start after = leads_on (walk_from nothing_held) (at flagged idle 1 false) (at flagged idle 1 false) pretty after after flag_steps (refl, refl)
+leads_start : (after : List Text) → Leads s (walk_from nothing_held) (pretty ∷ after) (at flagged idle 1 false) after
+leads_start after = leads_on s (walk_from nothing_held) (at flagged idle 1 false) (at flagged idle 1 false) pretty after after flag_steps (refl, refl)
 
-leads_file : (a : Text) (after : List Text) → is_data a ≡ true → Leads (walk_from nothing_held) (a ∷ pretty ∷ after) (at (file_flagged a) idle 2 false) after
+leads_file : (a : Text) (after : List Text) → is_data a ≡ true → Leads s (walk_from nothing_held) (a ∷ pretty ∷ after) (at (file_flagged a) idle 2 false) after
 leads_file a after are =
-    leads_on (walk_from nothing_held) (at (with_file a) idle 2 false) (at (file_flagged a) idle 2 false) a (pretty ∷ after) after (file_steps a are)
-    (leads_on (at (with_file a) idle 2 false) (at (file_flagged a) idle 2 false) (at (file_flagged a) idle 2 false) pretty after after (file_flag_steps a) (refl, refl))
+    leads_on s (walk_from nothing_held) (at (with_file a) idle 2 false) (at (file_flagged a) idle 2 false) a (pretty ∷ after) after (file_steps a are)
+    (leads_on s (at (with_file a) idle 2 false) (at (file_flagged a) idle 2 false) (at (file_flagged a) idle 2 false) pretty after after (file_flag_steps a) (refl, refl))
 
-leads_path : (a b : Text) (after : List Text) → is_data a ≡ true → is_data b ≡ true → Leads (walk_from nothing_held) (a ∷ b ∷ pretty ∷ after) (at (path_flagged a b) idle 3 false) after
+leads_path : (a b : Text) (after : List Text) → is_data a ≡ true → is_data b ≡ true → Leads s (walk_from nothing_held) (a ∷ b ∷ pretty ∷ after) (at (path_flagged a b) idle 3 false) after
 leads_path a b after are is =
-    leads_on (walk_from nothing_held) (at (with_file a) idle 2 false) (at (path_flagged a b) idle 3 false) a (b ∷ pretty ∷ after) after (file_steps a are)
-    (leads_on (at (with_file a) idle 2 false) (at (with_path a b) idle 3 false) (at (path_flagged a b) idle 3 false) b (pretty ∷ after) after (path_steps a b is)
-    (leads_on (at (with_path a b) idle 3 false) (at (path_flagged a b) idle 3 false) (at (path_flagged a b) idle 3 false) pretty after after (path_flag_steps a b) (refl, refl)))
+    leads_on s (walk_from nothing_held) (at (with_file a) idle 2 false) (at (path_flagged a b) idle 3 false) a (b ∷ pretty ∷ after) after (file_steps a are)
+    (leads_on s (at (with_file a) idle 2 false) (at (with_path a b) idle 3 false) (at (path_flagged a b) idle 3 false) b (pretty ∷ after) after (path_steps a b is)
+    (leads_on s (at (with_path a b) idle 3 false) (at (path_flagged a b) idle 3 false) (at (path_flagged a b) idle 3 false) pretty after after (path_flag_steps a b) (refl, refl)))
 
-outcome_as : (called : Text) (words given all : List Text) (h : Held) (position : ℕ) → IsFrom called words h position given → Outcome (mistakes_from h position given) (named_from h position given) all
+outcome_as : (called : Text) (words given all : List Text) (h : Held) (position : ℕ) → IsFrom show s show_is called words (at h idle position true) given → Outcome (mistakes_from s (at h idle position true) given) (named_from s (at h idle position true) given) all
     → Outcome (mistakes_in (called ∷ show ∷ words)) (named_in (called ∷ show ∷ words)) all
 outcome_as called words given all h position from outcome =
-    subst (λ (k : Kinds). Outcome k (named_in (called ∷ show ∷ words)) all) (sym from.0) (subst (λ (n : Option (List Text)). Outcome (mistakes_from h position given) n all) (sym from.1) outcome)
+    subst (λ (k : Kinds). Outcome k (named_in (called ∷ show ∷ words)) all) (sym from.0) (subst (λ (n : Option (List Text)). Outcome (mistakes_from s (at h idle position true) given) n all) (sym from.1) outcome)
 
 -- three words are refused before the option comes
 refused_early : (called a b c : Text) (before words : List Text) → AreData (a ∷ b ∷ c ∷ before) → IsRefused (mistakes_in (called ∷ show ∷ a ∷ b ∷ c ∷ words))
 refused_early called a b c before words are =
     let behind = and_right (is_data a) _ are in
-    refused_from called (a ∷ b ∷ c ∷ words) (c ∷ words) (with_path a b) 3
-    (leads_on (walk_from nothing_held) (at (with_file a) idle 2 false) (at (with_path a b) idle 3 false) a (b ∷ c ∷ words) (c ∷ words) (file_steps a (and_left (is_data a) _ are))
-    (leads_on (at (with_file a) idle 2 false) (at (with_path a b) idle 3 false) (at (with_path a b) idle 3 false) b (c ∷ words) (c ∷ words) (path_steps a b (and_left (is_data b) _ behind)) (refl, refl)))
+    refused_behind called (a ∷ b ∷ c ∷ words) (c ∷ words) (with_path a b) 3
+    (leads_on s (walk_from nothing_held) (at (with_file a) idle 2 false) (at (with_path a b) idle 3 false) a (b ∷ c ∷ words) (c ∷ words) (file_steps a (and_left (is_data a) _ are))
+    (leads_on s (at (with_file a) idle 2 false) (at (with_path a b) idle 3 false) (at (with_path a b) idle 3 false) b (c ∷ words) (c ∷ words) (path_steps a b (and_left (is_data b) _ behind)) (refl, refl)))
     (refused_stray (with_path a b) c words (and_left (is_data c) _ (and_right (is_data b) _ behind)) (skips_path a b).0)
 
 outcome : (called : Text) (before after given : List Text) → AreData before → AreSpelled given after
     → Outcome (mistakes_in (called ∷ show ∷ (before ++ pretty ∷ after))) (named_in (called ∷ show ∷ (before ++ pretty ∷ after))) (before ++ given)
 outcome called [] after given are spelled =
-    outcome_as called (pretty ∷ after) given given flagged 1 (comes_from called (pretty ∷ after) after given flagged 1 skips.1 spelled (leads_start after)) (from_start given)
+    outcome_as called (pretty ∷ after) given given flagged 1 (comes_from show s show_is called (pretty ∷ after) after given flagged 1 skips.1 spelled (leads_start after)) (from_start given)
 outcome called (a ∷ []) after given are spelled =
     outcome_as called (a ∷ pretty ∷ after) given (a ∷ given) (file_flagged a) 2
-    (comes_from called (a ∷ pretty ∷ after) after given (file_flagged a) 2 (skips_file a).1.1 spelled (leads_file a after (and_left (is_data a) _ are))) (from_file a given)
+    (comes_from show s show_is called (a ∷ pretty ∷ after) after given (file_flagged a) 2 (skips_file a).1.1 spelled (leads_file a after (and_left (is_data a) _ are))) (from_file a given)
 outcome called (a ∷ b ∷ []) after given are spelled =
     outcome_as called (a ∷ b ∷ pretty ∷ after) given (a ∷ b ∷ given) (path_flagged a b) 3
-    (comes_from called (a ∷ b ∷ pretty ∷ after) after given (path_flagged a b) 3 (skips_path a b).1.1.0 spelled
+    (comes_from show s show_is called (a ∷ b ∷ pretty ∷ after) after given (path_flagged a b) 3 (skips_path a b).1.1.0 spelled
     (leads_path a b after (and_left (is_data a) _ are) (and_left (is_data b) _ (and_right (is_data a) _ are)))) (from_path a b given)
 outcome called (a ∷ b ∷ c ∷ before) after given are spelled =
     inl (refused_early called a b c before (before ++ pretty ∷ after) are, too_many a b c (before ++ given))
 
 -- the option, and another behind it
 refused_twice : (called : Text) (before after : List Text) → AreData before → HasOption after → IsRefused (mistakes_in (called ∷ show ∷ (before ++ pretty ∷ after)))
-refused_twice called [] after are has = refused_from called (pretty ∷ after) after flagged 1 (leads_start after) (option_from_start after has)
+refused_twice called [] after are has = refused_behind called (pretty ∷ after) after flagged 1 (leads_start after) (option_from_start after has)
 refused_twice called (a ∷ []) after are has =
-    refused_from called (a ∷ pretty ∷ after) after (file_flagged a) 2 (leads_file a after (and_left (is_data a) _ are)) (option_from_file a after has)
+    refused_behind called (a ∷ pretty ∷ after) after (file_flagged a) 2 (leads_file a after (and_left (is_data a) _ are)) (option_from_file a after has)
 refused_twice called (a ∷ b ∷ []) after are has =
-    refused_from called (a ∷ b ∷ pretty ∷ after) after (path_flagged a b) 3 (leads_path a b after (and_left (is_data a) _ are) (and_left (is_data b) _ (and_right (is_data a) _ are))) (option_from_path a b after has)
+    refused_behind called (a ∷ b ∷ pretty ∷ after) after (path_flagged a b) 3 (leads_path a b after (and_left (is_data a) _ are) (and_left (is_data b) _ (and_right (is_data a) _ are))) (option_from_path a b after has)
 refused_twice called (a ∷ b ∷ c ∷ before) after are has = refused_early called a b c before (before ++ pretty ∷ after) are
 
 -- another option
 refused_other : (called : Text) (before after : List Text) (word : Text) → AreData before → ((h : Held) → h.skip ≡ 0 → IsRefused (other_fault s None word h))
     → IsRefused (mistakes_in (called ∷ show ∷ (before ++ word ∷ after)))
 refused_other called before after word are bad =
-    refused_from called (before ++ word ∷ after) (before ++ word ∷ after) nothing_held 1 (refl, refl)
+    refused_behind called (before ++ word ∷ after) (before ++ word ∷ after) nothing_held 1 (refl, refl)
     (bad_at_1 word after nothing_held with_file with_path file_steps path_steps (λ a b. (skips_path a b).0) (bad nothing_held refl) (λ a. bad (with_file a) (skips_file a).0) (λ a b. bad (with_path a b) (skips_path a b).0) before are)
 
 -- ---- all words

@@ -5,7 +5,7 @@ use Rattle.std.specs.Str.{bytes_eq}
 use Rattle.clap.specs.Words.{Text}
 use Rattle.rds_words.specs.Commands.{commands}
 use Rattle.rds_words.specs.Entered.{Names, mistakes_in}
-use Rattle.rds_words.specs.Written.{AreData}
+use Rattle.rds_words.specs.Written.{AreData, is_data}
 
 -- the words, of which none can be taken for an option; or such words, two dashes, and any words
 abbrev pub AreSpelled : List Text → List Text → Type 0
@@ -123,6 +123,41 @@ abbrev pub OtherShowsAreRefused : Type 0
 OtherShowsAreRefused =
     (called : Text) (behind : List Text) → ((words : List Text) → AreShowWordsOf behind words → ⊥)
     → mistakes_in (called ∷ codes "show" ∷ behind) ≢ []
+
+-- an option with this value stands before these words: the value behind it as a word that can't be taken for an option,
+-- or in one word with it, behind `=`
+abbrev pub IsOptionWith : Text → Text → List Text → List Text → Type 0
+IsOptionWith option value words behind =
+    ((words ≡ option ∷ value ∷ behind) × (is_data value ≡ true)) ⊎ (words ≡ (option ++ codes "=" ++ value) ∷ behind)
+
+-- two words, with the option `--timeout` once among them, which stands before any two dashes, name the task that has
+-- its value
+pub record AreTimedWordsOf (behind words : List Text) : Type 0 where
+  pub front : List Text
+  pub timeout : Text
+  pub option : List Text
+  pub back : List Text
+  pub spelled : List Text
+  pub behind_is : behind ≡ front ++ option
+  pub are_data : AreData front
+  pub is_option : IsOptionWith (codes "--timeout") timeout option back
+  pub is_spelled : AreSpelled spelled back
+  pub two : length (front ++ spelled) ≡ 2
+  pub words_are : words ≡ (front ++ spelled) ++ timeout ∷ []
+
+-- what stands behind `sync` names the task of these words
+abbrev pub AreSyncWordsOf : List Text → List Text → Type 0
+AreSyncWordsOf behind words = AreWordsOf (before 2 (codes "60" ∷ [])) behind words ⊎ AreTimedWordsOf behind words
+
+abbrev pub SyncMeansItsSpelling : Type 0
+SyncMeansItsSpelling =
+    (called : Text) (behind words : List Text)
+    → Names (called ∷ codes "sync" ∷ behind) (codes "sync" ∷ words) ↔ AreSyncWordsOf behind words
+
+abbrev pub OtherSyncsAreRefused : Type 0
+OtherSyncsAreRefused =
+    (called : Text) (behind : List Text) → ((words : List Text) → AreSyncWordsOf behind words → ⊥)
+    → mistakes_in (called ∷ codes "sync" ∷ behind) ≢ []
 
 abbrev pub OtherCommandsAreRefused : Type 0
 OtherCommandsAreRefused = (entered : List Text) → (HasCommand entered → ⊥) → mistakes_in entered ≢ []
