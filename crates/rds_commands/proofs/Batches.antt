@@ -40,15 +40,15 @@ whole_input path input before after status writes = elim writes [
     all_taken input few = take_all (MOST + 1) input (omega (arith, few, length-take (MOST + 1) input))
 
 -- the words weren't read
-pub edits_unwritten : (path : List ℕ) (o a b : Option (List ℕ)) (read wrote status : ℕ) → (wrote ≡ 0 → Writes (Err Memory) a b status) → IfSome o (λ input. read ≡ 0 → wrote ≡ 0 → WritesEdits path input a b status)
-edits_unwritten path None a b read wrote status h = tt
-edits_unwritten path (Some input) a b read wrote status h = λ steady written. inr (inr (h written))
+pub edits_unwritten : (path : List ℕ) (o a b : Option (List ℕ)) (Steady Written : Type 0) (status : ℕ) → (Written → Writes (Err Memory) a b status) → IfSome o (λ input. Steady → Written → WritesEdits path input a b status)
+edits_unwritten path None a b Steady Written status h = tt
+edits_unwritten path (Some input) a b Steady Written status h = λ steady written. inr (inr (h written))
 
 -- what is said of the first bytes of an input is said of all of it
-pub input_written : (path : List ℕ) (o a b : Option (List ℕ)) (front seen : List ℕ) (read wrote status : ℕ) → IfSome o (λ input. front ≡ take (MOST + 1) input) → seen ≡ front → (wrote ≡ 0 → WritesEdits path seen a b status)
-    → IfSome o (λ input. read ≡ 0 → wrote ≡ 0 → WritesEdits path input a b status)
-input_written path None a b front seen read wrote status is same h = tt
-input_written path (Some input) a b front seen read wrote status is same h = λ steady written.
+pub input_written : (path : List ℕ) (o a b : Option (List ℕ)) (front seen : List ℕ) (Steady Written : Type 0) (status : ℕ) → IfSome o (λ input. front ≡ take (MOST + 1) input) → seen ≡ front → (Written → WritesEdits path seen a b status)
+    → IfSome o (λ input. Steady → Written → WritesEdits path input a b status)
+input_written path None a b front seen Steady Written status is same h = tt
+input_written path (Some input) a b front seen Steady Written status is same h = λ steady written.
     whole_input path input a b status (subst (λ (i : List ℕ). WritesEdits path i a b status) (same ∙ is) (h written))
 
 -- what is said of the file of a task is said of the file that was named
@@ -80,17 +80,17 @@ pub answers_written : (path input : List ℕ) (before after : Option (List ℕ))
 answers_written path input before after status file answers seen few edited same written = inl (few, inl (file, answers, edited, rw (← same) written))
 
 -- the input isn't read
-module _ {T : Type 0} (old new : CountedValue T) (fault : Fault) (a b : Option (List ℕ)) (wrote status : ℕ) (h : ((fault ≡ Memory) × (new.failed ≡ old.failed)) ⊎ ((fault ≡ Device) × HasFailed old new)) (told : wrote ≡ 0 → Writes (Err fault) a b status) where
+module _ {T : Type 0} (old new : CountedValue T) (fault : Fault) (a b : Option (List ℕ)) (Written : Type 0) (status : ℕ) (h : ((fault ≡ Memory) × (new.failed ≡ old.failed)) ⊎ ((fault ≡ Device) × HasFailed old new)) (told : Written → Writes (Err fault) a b status) where
   -- there is no memory for it
-  pub unread_edits : (path : List ℕ) (o : Option (List ℕ)) → IfSome o (λ input. new.failed ≡ 0 → wrote ≡ 0 → WritesEdits path input a b status)
+  pub unread_edits : (path : List ℕ) (o : Option (List ℕ)) → IfSome o (λ input. (HasFailed old new → ⊥) → Written → WritesEdits path input a b status)
   unread_edits path None = tt
   unread_edits path (Some input) = λ steady written. elim h [
     | inl memory ↦ inr (inr (subst (λ (f : Fault). Writes (Err f) a b status) memory.0 (told written)))
-    | inr device ↦ elim device.1 [ inl more ↦ absurd (omega (arith, more, steady)) | inr full ↦ absurd (omega (arith, full, steady)) ]
+    | inr device ↦ absurd (steady device.1)
   ]
 
   -- the reader fails
-  pub unread_told : new.failed ≢ old.failed → wrote ≡ 0 → Writes (Err Device) a b status
+  pub unread_told : new.failed ≢ old.failed → Written → Writes (Err Device) a b status
   unread_told failed written = elim h [
     | inl memory ↦ absurd (failed memory.1)
     | inr device ↦ subst (λ (f : Fault). Writes (Err f) a b status) device.0 (told written)

@@ -1,5 +1,5 @@
 -- From what was entered to what is told.
-use Rattle.std.proofs.Common.{◌≡◌, ℕ, List, Option, Ok, Err, subst, inl, inr, arith}
+use Rattle.std.proofs.Common.{◌≡◌, ℕ, List, Option, Ok, Err, subst, inl, inr}
 use Rattle.clap.specs.Words.{HasKind, Kinds, kind_of}
 use Rattle.clap.specs.declared.error.Error.{Error}
 use Rattle.clap.specs.declared.error.kind.ErrorKind.{ErrorKind}
@@ -14,14 +14,10 @@ use Rattle.rds_commands.specs.OfFile.{WritesOfFile}
 use Rattle.rds_commands.specs.Told.{AnswersMistake}
 use Rattle.rds_commands.specs.Unparsed.{WritesUnparsed}
 
--- a count that is 0 tells that no call failed
-pub none_failed : {T : Type 0} (old new : CountedValue T) → new.failed ≡ 0 → HasFailed old new → ⊥
-none_failed old new wrote failed = elim failed [ inl more ↦ absurd (omega (arith, more, wrote)) | inr full ↦ absurd (omega (arith, full, wrote)) ]
-
 -- want of memory was written
 pub memory_told : {T : Type 0} (e : Error) (before after : Option (List ℕ)) (status : ℕ) (old new : CountedValue T)
-    → ((HasFailed old new → ⊥) → WritesUnparsed (kind_of e) before after status) → kind_of e ≡ OutOfMemory → new.failed ≡ 0 → Writes (Err Memory) before after status
-memory_told e before after status old new told is wrote = subst (λ (kind : ErrorKind). WritesUnparsed kind before after status) is (told (none_failed old new wrote))
+    → ((HasFailed old new → ⊥) → WritesUnparsed (kind_of e) before after status) → kind_of e ≡ OutOfMemory → (HasFailed old new → ⊥) → Writes (Err Memory) before after status
+memory_told e before after status old new told is wrote = subst (λ (kind : ErrorKind). WritesUnparsed kind before after status) is (told wrote)
 
 -- words that are none of the program's
 pub mistaken : (kinds : Kinds) (e : Error) (before after : Option (List ℕ)) (status : ℕ) → HasKind kinds e → WritesUnparsed (kind_of e) before after status

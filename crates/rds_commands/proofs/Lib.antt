@@ -1,5 +1,6 @@
 pub mod Batches
 pub mod Entered
+pub mod Events
 pub mod Getting
 pub mod Growing
 pub mod Named

@@ -1,6 +1,7 @@
 //! Many edits of the replica in a file, which is read and written once.
 ghost use Rattle.std.specs.Prelude.{◌≡◌, ◌≢◌, ◌≤◌, ◌⊎◌, Err, IfErr, IfOk, IfSome};
 ghost use Rattle.rds_names.specs.declared.fault.Fault.TheVariants.{Device, Memory};
+ghost use Rattle.rds_keep.specs.Counted.{HasFailed};
 ghost use Rattle.rds_lines.specs.Editing.{EditsLines};
 ghost use Rattle.rds_lines.specs.Lines.{lines_in};
 ghost use Rattle.rds_output.specs.Output.{Writes};
@@ -79,9 +80,9 @@ pub fn run_edit_lines<H: Disk, R: Read, W: Write>(
 where
     H::File: LockFile,
     ensures edits { IfSome (R.remaining reader.old.inner)
-        (λ input. reader.new.failed ≡ 0 → writer.new.failed ≡ 0
+        (λ input. (HasFailed reader.old reader.new → ⊥) → (HasFailed writer.old writer.new → ⊥)
         → WritesEdits path.now input (W.contents writer.old.inner) (W.contents writer.new.inner) result) }
-    ensures unread { reader.new.failed ≢ reader.old.failed → writer.new.failed ≡ 0
+    ensures unread { reader.new.failed ≢ reader.old.failed → (HasFailed writer.old writer.new → ⊥)
         → Writes (Err Device) (W.contents writer.old.inner) (W.contents writer.new.inner) result }
     ensures status { result ≤ 2 }
     ensures broken { (writer.new.failed ≡ writer.old.failed) ⊎ (result ≡ 1) }
@@ -99,7 +100,7 @@ where
 fn edit_by<H: Disk, W: Write>(rt: &H, path: &str, input: &[u8], writer: &mut Counted<W>) -> u8
 where
     H::File: LockFile,
-    ensures written { writer.new.failed ≡ 0
+    ensures written { (HasFailed writer.old writer.new → ⊥)
         → WritesEdits path.now input.now (W.contents writer.old.inner) (W.contents writer.new.inner) result }
     ensures status { result ≤ 2 }
     ensures broken { (writer.new.failed ≡ writer.old.failed) ⊎ (result ≡ 1) }

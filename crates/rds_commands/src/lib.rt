@@ -1,9 +1,10 @@
 //! The program's commands: words in, what is written and the exit status out. Read from above: `program`, `telling`,
-//! `file_commands`, `batch`, `looking`, `session_words`, `notes` and `unparsed`.
+//! `file_commands`, `batch`, `looking`, `session_words`, `notes`, `unparsed` and `laws`.
 #![tactic(auto)]
 
 mod batch;
 mod file_commands;
+mod laws;
 mod looking;
 mod notes;
 mod program;
@@ -11,4 +12,5 @@ mod session_words;
 mod telling;
 mod unparsed;
 
+pub use laws::sessions_are_events;
 pub use program::run;

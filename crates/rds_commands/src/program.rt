@@ -47,20 +47,20 @@ where
     H::File: LockFile,
     ensures join { Names (map S.text words.entry.now) join_words
         → IfSome (R.remaining reader.old.inner)
-        (λ input. reader.new.failed ≡ 0 → writer.new.failed ≡ 0
+        (λ input. (HasFailed reader.old reader.new → ⊥) → (HasFailed writer.old writer.new → ⊥)
         → WritesJoin input (W.contents writer.old.inner) (W.contents writer.new.inner) result) }
     ensures join_part { Names (map S.text words.entry.now) join_words
-        → IfSome (R.remaining reader.old.inner) (λ input. reader.new.failed ≡ 0
+        → IfSome (R.remaining reader.old.inner) (λ input. (HasFailed reader.old reader.new → ⊥)
         → WritesJoinFront input (W.contents writer.old.inner) (W.contents writer.new.inner)) }
     ensures unread { Names (map S.text words.entry.now) join_words
-        → reader.new.failed ≢ reader.old.failed → writer.new.failed ≡ 0
+        → reader.new.failed ≢ reader.old.failed → (HasFailed writer.old writer.new → ⊥)
         → Writes (Err Device) (W.contents writer.old.inner) (W.contents writer.new.inner) result }
     ensures sim { Names (map S.text words.entry.now) sim_words
         → IfSome (R.remaining reader.old.inner)
-        (λ input. reader.new.failed ≡ 0 → writer.new.failed ≡ 0
+        (λ input. (HasFailed reader.old reader.new → ⊥) → (HasFailed writer.old writer.new → ⊥)
         → WritesSim input (W.contents writer.old.inner) (W.contents writer.new.inner) result) }
     ensures cut { Names (map S.text words.entry.now) sim_words
-        → reader.new.failed ≢ reader.old.failed → writer.new.failed ≡ 0
+        → reader.new.failed ≢ reader.old.failed → (HasFailed writer.old writer.new → ⊥)
         → WritesCut MayBeSimulated (fault_line Device)
         (R.remaining reader.old.inner) (R.remaining reader.new.inner)
         (W.contents writer.old.inner) (W.contents writer.new.inner) × (result ≡ 1) }
@@ -74,12 +74,12 @@ where
         (most_given (reader.old.turns - reader.new.left)) }
     ensures edit { (file : Text) → Names (map S.text words.entry.now) (edit_lines_words file)
         → IfSome (R.remaining reader.old.inner)
-        (λ input. reader.new.failed ≡ 0 → writer.new.failed ≡ 0
+        (λ input. (HasFailed reader.old reader.new → ⊥) → (HasFailed writer.old writer.new → ⊥)
         → WritesEdits file input (W.contents writer.old.inner) (W.contents writer.new.inner) result) }
     ensures unread_edit { (file : Text) → Names (map S.text words.entry.now) (edit_lines_words file)
-        → reader.new.failed ≢ reader.old.failed → writer.new.failed ≡ 0
+        → reader.new.failed ≢ reader.old.failed → (HasFailed writer.old writer.new → ⊥)
         → Writes (Err Device) (W.contents writer.old.inner) (W.contents writer.new.inner) result }
-    ensures task { mistakes_in (map S.text words.entry.now) ≡ [] → writer.new.failed ≡ 0
+    ensures task { mistakes_in (map S.text words.entry.now) ≡ [] → (HasFailed writer.old writer.new → ⊥)
         → MayWriteNamed (named_in (map S.text words.entry.now))
         (W.contents writer.old.inner) (W.contents writer.new.inner) result }
     ensures mistake { mistakes_in (map S.text words.entry.now) ≢ [] → (HasFailed writer.old writer.new → ⊥)
@@ -107,19 +107,20 @@ fn run_task<H: Disk + Net, R: Read, W: Write>(
 where
     H::File: LockFile,
     ensures join { task.entry ≡ Task.Join → IfSome (R.remaining reader.old.inner)
-        (λ input. reader.new.failed ≡ 0 → writer.new.failed ≡ 0
+        (λ input. (HasFailed reader.old reader.new → ⊥) → (HasFailed writer.old writer.new → ⊥)
         → WritesJoin input (W.contents writer.old.inner) (W.contents writer.new.inner) result) }
-    ensures join_part { task.entry ≡ Task.Join → IfSome (R.remaining reader.old.inner) (λ input. reader.new.failed ≡ 0
+    ensures join_part { task.entry ≡ Task.Join → IfSome (R.remaining reader.old.inner)
+        (λ input. (HasFailed reader.old reader.new → ⊥)
         → WritesJoinFront input (W.contents writer.old.inner) (W.contents writer.new.inner)) }
     ensures unread { task.entry ≡ Task.Join
-        → reader.new.failed ≢ reader.old.failed → writer.new.failed ≡ 0
+        → reader.new.failed ≢ reader.old.failed → (HasFailed writer.old writer.new → ⊥)
         → Writes (Err Device) (W.contents writer.old.inner) (W.contents writer.new.inner) result }
     ensures sim { task.entry ≡ Task.Sim → IfSome (R.remaining reader.old.inner)
-        (λ input. reader.new.failed ≡ 0 → writer.new.failed ≡ 0
+        (λ input. (HasFailed reader.old reader.new → ⊥) → (HasFailed writer.old writer.new → ⊥)
         → WritesAnswers (IsSimOutput input)
         (W.contents writer.old.inner) (W.contents writer.new.inner) result) }
     ensures cut { task.entry ≡ Task.Sim
-        → reader.new.failed ≢ reader.old.failed → writer.new.failed ≡ 0
+        → reader.new.failed ≢ reader.old.failed → (HasFailed writer.old writer.new → ⊥)
         → WritesCut MayBeSimulated (fault_line Device)
         (R.remaining reader.old.inner) (R.remaining reader.new.inner)
         (W.contents writer.old.inner) (W.contents writer.new.inner) × (result ≡ 1) }
@@ -131,12 +132,12 @@ where
         → ConsumesAtMost (R.remaining reader.old.inner) (R.remaining reader.new.inner)
         (most_given (reader.old.turns - reader.new.left)) }
     ensures edit { (at : Bor Text) → task.entry ≡ Task.EditLines at → IfSome (R.remaining reader.old.inner)
-        (λ input. reader.new.failed ≡ 0 → writer.new.failed ≡ 0
+        (λ input. (HasFailed reader.old reader.new → ⊥) → (HasFailed writer.old writer.new → ⊥)
         → WritesEdits at.now input (W.contents writer.old.inner) (W.contents writer.new.inner) result) }
     ensures unread_edit { (at : Bor Text) → task.entry ≡ Task.EditLines at
-        → reader.new.failed ≢ reader.old.failed → writer.new.failed ≡ 0
+        → reader.new.failed ≢ reader.old.failed → (HasFailed writer.old writer.new → ⊥)
         → Writes (Err Device) (W.contents writer.old.inner) (W.contents writer.new.inner) result }
-    ensures written { writer.new.failed ≡ 0
+    ensures written { (HasFailed writer.old writer.new → ⊥)
         → WritesTask task.entry (W.contents writer.old.inner) (W.contents writer.new.inner) result }
     ensures status { result ≤ 2 }
     ensures broken { (writer.new.failed ≡ writer.old.failed) ⊎ (result ≡ 1) }

@@ -1,6 +1,7 @@
 //! The words of commands that make sessions.
 ghost use Rattle.std.specs.Prelude.{◌≡◌, ◌≤◌, ◌⊎◌, ◌||◌, true, Err};
 ghost use Rattle.rds_names.specs.declared.fault.Fault.TheVariants.{Usage};
+ghost use Rattle.rds_keep.specs.Counted.{HasFailed};
 ghost use Rattle.rds_commands.specs.Told.{RefusesServe, RefusesSync, WritesPairing, WritesServe, WritesSyncing, sessions_asked};
 ghost use Rattle.rds_files.specs.Files.{is_beside};
 ghost use Rattle.rds_output.specs.Output.{Writes};
@@ -24,9 +25,9 @@ pub fn run_serve<H: Disk + Net, W: Write>(
 ) -> u8
 where
     H::File: LockFile,
-    ensures written { writer.new.failed ≡ 0
+    ensures written { (HasFailed writer.old writer.new → ⊥)
         → WritesServe words.entry (W.contents writer.old.inner) (W.contents writer.new.inner) result }
-    ensures refused { RefusesServe words.entry → writer.new.failed ≡ 0
+    ensures refused { RefusesServe words.entry → (HasFailed writer.old writer.new → ⊥)
         → Writes (Err Usage) (W.contents writer.old.inner) (W.contents writer.new.inner) result }
     ensures status { result ≤ 2 }
     ensures broken { (writer.new.failed ≡ writer.old.failed) ⊎ (result ≡ 1) }
@@ -56,9 +57,9 @@ pub fn run_sync<H: Disk + Net, W: Write>(
 ) -> u8
 where
     H::File: LockFile,
-    ensures written { writer.new.failed ≡ 0
+    ensures written { (HasFailed writer.old writer.new → ⊥)
         → WritesSyncing words.entry (W.contents writer.old.inner) (W.contents writer.new.inner) result }
-    ensures refused { RefusesSync words.entry → writer.new.failed ≡ 0
+    ensures refused { RefusesSync words.entry → (HasFailed writer.old writer.new → ⊥)
         → Writes (Err Usage) (W.contents writer.old.inner) (W.contents writer.new.inner) result }
     ensures status { result ≤ 2 }
     ensures broken { (writer.new.failed ≡ writer.old.failed) ⊎ (result ≡ 1) }
@@ -83,7 +84,7 @@ pub fn run_pair<H: Disk + Net, W: Write>(
 ) -> u8
 where
     H::File: LockFile,
-    ensures written { writer.new.failed ≡ 0
+    ensures written { (HasFailed writer.old writer.new → ⊥)
         → WritesPairing first.now second.now (W.contents writer.old.inner) (W.contents writer.new.inner) result }
     ensures status { result ≤ 2 }
     ensures broken { (writer.new.failed ≡ writer.old.failed) ⊎ (result ≡ 1) }

@@ -1,5 +1,6 @@
 //! Commands on the replica in a file, and what is written of them.
 ghost use Rattle.std.specs.Prelude.{◌≡◌, ◌≤◌, ◌⊎◌};
+ghost use Rattle.rds_keep.specs.Counted.{HasFailed};
 ghost use Rattle.rds_commands.specs.Told.{WritesEdit, WritesGrow, WritesInit, WritesShow};
 
 use crate::file_commands::{edit_file, grow_file, init_file, show_file};
@@ -15,7 +16,7 @@ use std::io::Write;
 pub fn run_init<H: Disk, W: Write>(rt: &H, words: &InitWords<'_>, writer: &mut Counted<W>) -> u8
 where
     H::File: LockFile,
-    ensures written { writer.new.failed ≡ 0
+    ensures written { (HasFailed writer.old writer.new → ⊥)
         → WritesInit words.now (W.contents writer.old.inner) (W.contents writer.new.inner) result }
     ensures status { result ≤ 2 }
     ensures broken { (writer.new.failed ≡ writer.old.failed) ⊎ (result ≡ 1) }
@@ -33,7 +34,7 @@ where
 pub fn run_grow<H: Disk, W: Write>(rt: &H, words: &GrowWords<'_>, writer: &mut Counted<W>) -> u8
 where
     H::File: LockFile,
-    ensures written { writer.new.failed ≡ 0
+    ensures written { (HasFailed writer.old writer.new → ⊥)
         → WritesGrow words.now (W.contents writer.old.inner) (W.contents writer.new.inner) result }
     ensures status { result ≤ 2 }
     ensures broken { (writer.new.failed ≡ writer.old.failed) ⊎ (result ≡ 1) }
@@ -56,7 +57,7 @@ pub fn run_edit<H: Disk, W: Write>(
 ) -> u8
 where
     H::File: LockFile,
-    ensures written { writer.new.failed ≡ 0
+    ensures written { (HasFailed writer.old writer.new → ⊥)
         → WritesEdit path.now words.now (W.contents writer.old.inner) (W.contents writer.new.inner) result }
     ensures status { result ≤ 2 }
     ensures broken { (writer.new.failed ≡ writer.old.failed) ⊎ (result ≡ 1) }
@@ -78,7 +79,7 @@ pub fn run_show<H: Disk, W: Write>(
     layout: Layout,
     writer: &mut Counted<W>,
 ) -> u8
-    ensures written { writer.new.failed ≡ 0
+    ensures written { (HasFailed writer.old writer.new → ⊥)
         → WritesShow layout path.now text.now (W.contents writer.old.inner) (W.contents writer.new.inner) result }
     ensures status { result ≤ 2 }
     ensures broken { (writer.new.failed ≡ writer.old.failed) ⊎ (result ≡ 1) }

@@ -1,10 +1,11 @@
 -- The ends of a pair.
-use Rattle.std.proofs.Common.{◌≡◌, ◌∙◌, ◌⊎◌, ◌||◌, ◌++◌, ℕ, Bool, List, Option, inl, inr, refl, sym, ap, subst, arith}
+use Rattle.std.proofs.Common.{◌≡◌, ◌<◌, ◌-◌, ◌^◌, ◌∙◌, ◌⊎◌, ◌||◌, ◌++◌, ℕ, Bool, List, Option, inl, inr, refl, sym, ap, subst, arith}
 use Rattle.std.specs.Prelude.{Result, Ok, Err, OnOk, OnErr, MatchResult}
 use Rattle.std.specs.Io.KnownBytes.{Appends}
 use Rattle.rds_names.specs.declared.fault.Fault.{Fault}
 use Rattle.rds_names.specs.declared.fault.Fault.TheVariants.{Device, Memory}
 use Rattle.rds_keep.specs.Counted.{one_more}
+use Rattle.rds_output.proofs.Failing.{failed_by}
 use Rattle.rds_state.specs.Fits.{ReplicaValue}
 use Rattle.rds_session.specs.declared.step.Ended.{Ended}
 use Rattle.rds_session.specs.declared.step.Ended.TheVariants.{Going, Done, Failed}
@@ -83,8 +84,8 @@ told_both client server before after first second first_told second_told status 
 pub both_written : (client server : FileValue) (before after : Option (List ℕ)) (first second : List ℕ) (first_told second_told : Bool) (old new due status : ℕ) (written : Result (Unit {0}) Fault)
     → Tells Client client first first_told → Tells Server server second second_told
     → OnOk written (Appends before after (first ++ second)) → OnErr written (new ≡ one_more old) → due ≡ told_status (first_told || second_told) → MatchResult written (λ _. status ≡ due) (λ _. status ≡ 1)
-    → new ≡ 0 → WritesBoth client server before after status
+    → ((old < new) ⊎ (new ≡ 2 ^ 64 - 1) → ⊥) → WritesBoth client server before after status
 both_written client server before after first second first_told second_told old new due status (Ok u) one two wrote counted e s =
     λ steady. told_both client server before after first second first_told second_told status one two wrote (s ∙ e)
 both_written client server before after first second first_told second_told old new due status (Err fault) one two wrote counted e s =
-    λ steady. absurd (omega (arith, counted, steady))
+    λ steady. absurd (steady (failed_by old old new refl counted))

@@ -2,7 +2,7 @@
 ghost use Rattle.std.specs.Prelude.{◌≡◌, ◌≤◌, ◌⊎◌, ◌++◌, IfErr, OnOk, OnErr};
 ghost use Rattle.std.specs.Io.KnownBytes.{Appends};
 ghost use Rattle.rds_names.specs.declared.fault.Fault.TheVariants.{Device};
-ghost use Rattle.rds_keep.specs.Counted.{one_more};
+ghost use Rattle.rds_keep.specs.Counted.{HasFailed, one_more};
 ghost use Rattle.rds_files.specs.Pairing.{WritesBoth, WritesPair};
 ghost use Rattle.rds_files.specs.Reports.{report_text};
 
@@ -38,7 +38,7 @@ pub fn pair_files<H: Disk + Net, W: Write>(
 ) -> u8
 where
     H::File: LockFile,
-    ensures written { writer.new.failed ≡ 0
+    ensures written { (HasFailed writer.old writer.new → ⊥)
         → WritesPair first.now second.now (W.contents writer.old.inner) (W.contents writer.new.inner) result }
     ensures status { result ≤ 1 }
     ensures broken { (writer.new.failed ≡ writer.old.failed) ⊎ (result ≡ 1) }
@@ -70,7 +70,7 @@ pub fn pair<H: Disk + Net, S: DotSet, W: Write>(
 ) -> u8
 where
     H::File: LockFile,
-    ensures written { writer.new.failed ≡ 0
+    ensures written { (HasFailed writer.old writer.new → ⊥)
         → WritesBoth client.now server.now (W.contents writer.old.inner) (W.contents writer.new.inner) result }
     ensures status { result ≤ 1 }
     ensures broken { (writer.new.failed ≡ writer.old.failed) ⊎ (result ≡ 1) }

@@ -2,7 +2,7 @@
 ghost use Rattle.std.specs.Prelude.{◌≡◌, ◌≤◌, ◌⊎◌, IfErr, OnOk, OnErr};
 ghost use Rattle.std.specs.Io.KnownBytes.{Appends};
 ghost use Rattle.rds_names.specs.declared.fault.Fault.TheVariants.{Device};
-ghost use Rattle.rds_keep.specs.Counted.{one_more};
+ghost use Rattle.rds_keep.specs.Counted.{HasFailed, one_more};
 ghost use Rattle.rds_keep.specs.Parts.{AppendsPart};
 ghost use Rattle.rds_files.specs.Reports.{WritesFault, WritesReport, ended_text, report_text, settled_text, tells_fault};
 
@@ -18,7 +18,7 @@ use std::net::OpenStream;
 /// its file, or why it wasn't, then why the session failed, if it did. The status is 1 where a fault
 /// is told, else 0; where the output fails it is 1.
 pub fn report<W: Write>(writer: &mut Counted<W>, settled: &Settled, ended: Ended) -> u8
-    ensures written { writer.new.failed ≡ 0 → WritesReport settled.now ended
+    ensures written { (HasFailed writer.old writer.new → ⊥) → WritesReport settled.now ended
         (W.contents writer.old.inner) (W.contents writer.new.inner) result }
     ensures within { result ≤ 1 }
     ensures broken { (writer.new.failed ≡ writer.old.failed) ⊎ (result ≡ 1) }
@@ -49,7 +49,7 @@ pub fn write_report<W: Write>(
 
 /// Writes the line of the fault by which there is no session, and answers 1.
 pub fn give_up<W: Write>(writer: &mut Counted<W>, fault: Fault) -> u8
-    ensures written { writer.new.failed ≡ 0
+    ensures written { (HasFailed writer.old writer.new → ⊥)
         → WritesFault fault (W.contents writer.old.inner) (W.contents writer.new.inner) result }
     ensures status { result ≡ 1 }
 {

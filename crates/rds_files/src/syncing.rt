@@ -1,5 +1,6 @@
 //! Sessions of the replica in a file, over the network.
 ghost use Rattle.std.specs.Prelude.{◌≡◌, ◌≤◌, ◌⊎◌};
+ghost use Rattle.rds_keep.specs.Counted.{HasFailed};
 ghost use Rattle.rds_session.specs.declared.talk.Side.TheVariants.{Client, Server};
 ghost use Rattle.rds_files.specs.Syncing.{MeetsPeer, WritesServing, WritesSession, WritesSessionsOf, WritesSync};
 
@@ -34,7 +35,7 @@ pub fn sync_file<H: Disk + Net, W: Write>(
 ) -> u8
 where
     H::File: LockFile,
-    ensures written { writer.new.failed ≡ 0
+    ensures written { (HasFailed writer.old writer.new → ⊥)
         → WritesSync path.now (W.contents writer.old.inner) (W.contents writer.new.inner) result }
     ensures status { result ≤ 1 }
     ensures broken { (writer.new.failed ≡ writer.old.failed) ⊎ (result ≡ 1) }
@@ -66,7 +67,7 @@ pub fn serve_file<H: Disk + Net, W: Write>(
 ) -> u8
 where
     H::File: LockFile,
-    ensures written { writer.new.failed ≡ 0
+    ensures written { (HasFailed writer.old writer.new → ⊥)
         → WritesServing path.now sessions (W.contents writer.old.inner) (W.contents writer.new.inner) result }
     ensures status { result ≤ 1 }
     ensures broken { (writer.new.failed ≡ writer.old.failed) ⊎ (result ≡ 1) }
@@ -112,7 +113,7 @@ pub fn sync<H: Disk, S: DotSet, T: Read + Write + OpenStream + Drop, W: Write>(
 ) -> u8
 where
     H::File: LockFile,
-    ensures written { writer.new.failed ≡ 0
+    ensures written { (HasFailed writer.old writer.new → ⊥)
         → WritesSession Client (T.remaining stream) file.now
         (W.contents writer.old.inner) (W.contents writer.new.inner) result }
     ensures status { result ≤ 1 }
@@ -140,7 +141,7 @@ pub fn serve<H: Disk + Net, W: Write>(
 ) -> u8
 where
     H::File: LockFile,
-    ensures written { writer.new.failed ≡ 0
+    ensures written { (HasFailed writer.old writer.new → ⊥)
         → WritesSessionsOf Server path.old path.new sessions
         (W.contents writer.old.inner) (W.contents writer.new.inner) result }
     ensures status { result ≤ 1 }

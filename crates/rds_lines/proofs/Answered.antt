@@ -52,12 +52,12 @@ module _ {A : Type 0} (may : A → List (List ℕ) → List ℕ → Bool → Typ
   )
 
   -- no line is left
-  pub runs_last : (first now next before after : Option (List ℕ)) (opening state : A) (refused : Bool) (read wrote status : ℕ) → Runs first now before after opening state refused → TakesLine now next None
-      → ((a : A) → may a [] [] false) → status ≡ cond refused 1 0 → IfSome first (λ xs. read ≡ 0 → wrote ≡ 0 → WritesAnswers (may opening (lines_in xs)) before after status)
-  runs_last None now next before after opening state refused read wrote status r t ends s = tt
-  runs_last (Some xs) None next before after opening state refused read wrote status r t ends s = absurd r
-  runs_last (Some xs) (Some ys) None before after opening state refused read wrote status r t ends s = absurd t
-  runs_last (Some xs) (Some ys) (Some zs) before after opening state refused read wrote status r t ends s = λ _ _.
+  pub runs_last : (first now next before after : Option (List ℕ)) (opening state : A) (refused : Bool) (Steady Written : Type 0) (status : ℕ) → Runs first now before after opening state refused → TakesLine now next None
+      → ((a : A) → may a [] [] false) → status ≡ cond refused 1 0 → IfSome first (λ xs. Steady → Written → WritesAnswers (may opening (lines_in xs)) before after status)
+  runs_last None now next before after opening state refused Steady Written status r t ends s = tt
+  runs_last (Some xs) None next before after opening state refused Steady Written status r t ends s = absurd r
+  runs_last (Some xs) (Some ys) None before after opening state refused Steady Written status r t ends s = absurd t
+  runs_last (Some xs) (Some ys) (Some zs) before after opening state refused Steady Written status r t ends s = λ _ _.
       let none : may state (lines_in ys) [] false = subst (λ (l : List ℕ). may state (lines_in l) [] false) (sym t.0) (ends state) in
       let all : may opening (lines_in xs) r.0 refused =
       subst (λ (o : List ℕ). may opening (lines_in xs) o refused) (append-nil r.0) (subst (λ (b : Bool). may opening (lines_in xs) (r.0 ++ []) b) (or_false refused) (r.2 [] false none)) in

@@ -11,15 +11,15 @@ use Rattle.rds_lines.specs.Run.{IsJoinLine, WritesJoinFront}
 use Rattle.rds_lines.specs.declared.refusal.Refusal.{Refusal}
 
 -- the digits of what was joined
-pub line_begun : (o a b : Option (List ℕ)) (line : String Global) (failed : ℕ) → IfSome o (λ input. failed ≡ 0 → IsJoinLine input (Ok line)) → AppendsFront a b (string_bytes line ++ 10 ∷ [])
-    → IfSome o (λ input. failed ≡ 0 → WritesJoinFront input a b)
-line_begun None a b line failed h front = tt
-line_begun (Some input) a b line failed h front = λ steady.
+pub line_begun : (o a b : Option (List ℕ)) (line : String Global) (Steady : Type 0) → IfSome o (λ input. Steady → IsJoinLine input (Ok line)) → AppendsFront a b (string_bytes line ++ 10 ∷ [])
+    → IfSome o (λ input. Steady → WritesJoinFront input a b)
+line_begun None a b line Steady h front = tt
+line_begun (Some input) a b line Steady h front = λ steady.
     let answer = h steady in
     (Ok answer.0, inr answer.1, subst (λ (t : List ℕ). AppendsFront a b (t ++ 10 ∷ [])) answer.2 front)
 
 -- the line of a fault
-pub fault_begun : (o a b : Option (List ℕ)) (e : Refusal) (f : Fault) (failed : ℕ) → f ≡ fault_of e → IfSome o (λ input. failed ≡ 0 → IsJoinLine input (Err e)) → AppendsFront a b (fault_line f)
-    → IfSome o (λ input. failed ≡ 0 → WritesJoinFront input a b)
-fault_begun None a b e f failed is h front = tt
-fault_begun (Some input) a b e f failed is h front = λ steady. (Err f, subst (λ (x : Fault). MayJoinTo input (Err x)) (sym is) (h steady), front)
+pub fault_begun : (o a b : Option (List ℕ)) (e : Refusal) (f : Fault) (Steady : Type 0) → f ≡ fault_of e → IfSome o (λ input. Steady → IsJoinLine input (Err e)) → AppendsFront a b (fault_line f)
+    → IfSome o (λ input. Steady → WritesJoinFront input a b)
+fault_begun None a b e f Steady is h front = tt
+fault_begun (Some input) a b e f Steady is h front = λ steady. (Err f, subst (λ (x : Fault). MayJoinTo input (Err x)) (sym is) (h steady), front)

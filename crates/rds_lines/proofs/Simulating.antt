@@ -146,11 +146,11 @@ first_met bytes lines out refused result new now m later = record {
 
 -- ---- a whole run
 
-pub sim_written : (o a b : Option (List ℕ)) (world : Option WorldValue) (read wrote status : ℕ) → world ≡ None
-    → IfSome o (λ input. read ≡ 0 → wrote ≡ 0 → WritesAnswers (λ out refused. (now : Option Group) → IsGroup world now → MeetsLines (lines_in input) now out refused) a b status)
-    → IfSome o (λ input. read ≡ 0 → wrote ≡ 0 → WritesAnswers (IsSimOutput input) a b status)
-sim_written None a b world read wrote status none h = tt
-sim_written (Some input) a b world read wrote status none h = λ steady written.
+pub sim_written : (o a b : Option (List ℕ)) (world : Option WorldValue) (Steady Written : Type 0) (status : ℕ) → world ≡ None
+    → IfSome o (λ input. Steady → Written → WritesAnswers (λ out refused. (now : Option Group) → IsGroup world now → MeetsLines (lines_in input) now out refused) a b status)
+    → IfSome o (λ input. Steady → Written → WritesAnswers (IsSimOutput input) a b status)
+sim_written None a b world Steady Written status none h = tt
+sim_written (Some input) a b world Steady Written status none h = λ steady written.
     let p = h steady written in
     (p.0, p.1, p.2 None (subst (λ (w : Option WorldValue). IsGroup w None) (sym none) tt), p.3, p.4)
 

@@ -1,6 +1,7 @@
 -- What was written by when a reader or a writer fails.
 use Rattle.std.proofs.Common.{◌≡◌, ◌⊎◌, ℕ, ◌-◌, ◌^◌, ◌<◌, Bool, false, ◌||◌, List, [], ◌∷◌, ◌++◌, Option, Some, None, Result, Err, refl, sym, ap, ◌∙◌, append_assoc, subst, inl, inr, arith, String}
 use Rattle.std.specs.Global.{Global}
+use Rattle.std.specs.Prelude.{IfSome}
 use Rattle.std.specs.Io.KnownBytes.{Appends, Consumes, IsAtEnd, prepend_known}
 use Rattle.std.proofs.KnownBytes.{Appends-nil, Appends-trans, Consumes-nil, Consumes-trans}
 use Rattle.std.proofs.lemmas.List.{append-nil}
@@ -242,3 +243,12 @@ module _ {A : Type 0} (may : A → List (List ℕ) → List ℕ → Bool → Typ
         answered = subst (λ (o : List ℕ). may opening (t.lines ++ one.bytes ∷ []) (t.out ++ o) (refused || (refusal || false))) (append-nil text) here;
         is_written = inl (front_after before after later t.out text t.written (part.0, omega (arith, part.1), part.2));
       }
+
+-- nothing is said where a call failed
+pub never_read : (o : Option (List ℕ)) (Failed Written : Type 0) (X : List ℕ → Type 0) → Failed → IfSome o (λ xs. (Failed → ⊥) → Written → X xs)
+never_read None Failed Written X failed = tt
+never_read (Some xs) Failed Written X failed = λ steady written. absurd (steady failed)
+
+pub never_written : (o : Option (List ℕ)) (Steady Failed : Type 0) (X : List ℕ → Type 0) → Failed → IfSome o (λ xs. Steady → (Failed → ⊥) → X xs)
+never_written None Steady Failed X failed = tt
+never_written (Some xs) Steady Failed X failed = λ steady written. absurd (written failed)

@@ -44,10 +44,10 @@ pub fn answer_lines<A: Answers, R: Read, W: Write>(
     writer: &mut Counted<W>,
 ) -> u8
     ensures answered { IfSome (R.remaining reader.old.inner)
-        (λ input. reader.new.failed ≡ 0 → writer.new.failed ≡ 0
+        (λ input. (HasFailed reader.old reader.new → ⊥) → (HasFailed writer.old writer.new → ⊥)
         → WritesAnswers (A.may_answer answers.old (lines_in input))
         (W.contents writer.old.inner) (W.contents writer.new.inner) result) }
-    ensures unread { reader.new.failed ≢ reader.old.failed → writer.new.failed ≡ 0
+    ensures unread { reader.new.failed ≢ reader.old.failed → (HasFailed writer.old writer.new → ⊥)
         → WritesCut (A.may_answer answers.old) (fault_line Device)
         (R.remaining reader.old.inner) (R.remaining reader.new.inner)
         (W.contents writer.old.inner) (W.contents writer.new.inner) × (result ≡ 1) }

@@ -1,6 +1,7 @@
 //! Lines that edit one replica, one after the other.
 ghost use Rattle.std.specs.Prelude.{◌≡◌, ◌≢◌, ◌≤◌, ◌⊎◌, true, false, Ok, IfErr, IfOk, None, OnErr, MatchResult};
 ghost use Rattle.rds_names.specs.declared.fault.Fault.TheVariants.{BadLine, Memory};
+ghost use Rattle.rds_keep.specs.Counted.{HasFailed};
 ghost use Rattle.rds_lines.specs.Editing.{EditsLines, IsEdited, MeetsEdit, WritesAll, edit_of_bytes, edit_refusal};
 ghost use Rattle.rds_lines.specs.Lines.{is_text_line, lines_in};
 ghost use Rattle.rds_lines.specs.Simulated.{reply_of};
@@ -75,7 +76,7 @@ fn text_of(line: &[u8]) -> Result<&str, Fault>
 
 /// Writes answers, a line each, and answers the status: 0, or 1 where one is a refusal or a call of the writer fails.
 pub fn write_replies<W: Write>(writer: &mut Counted<W>, answers: &[Reply]) -> u8
-    ensures written { writer.new.failed ≡ 0
+    ensures written { (HasFailed writer.old writer.new → ⊥)
         → WritesAll answers.now (W.contents writer.old.inner) (W.contents writer.new.inner) result }
     ensures status { result ≤ 1 }
     ensures broken { (writer.new.failed ≡ writer.old.failed) ⊎ (result ≡ 1) }

@@ -32,10 +32,10 @@ pub fn run_sim<R: Read, W: Write>(
     writer: &mut Counted<W>,
 ) -> u8
     ensures sim { IfSome (R.remaining reader.old.inner)
-        (λ input. reader.new.failed ≡ 0 → writer.new.failed ≡ 0
+        (λ input. (HasFailed reader.old reader.new → ⊥) → (HasFailed writer.old writer.new → ⊥)
         → WritesAnswers (IsSimOutput input)
         (W.contents writer.old.inner) (W.contents writer.new.inner) result) }
-    ensures cut { reader.new.failed ≢ reader.old.failed → writer.new.failed ≡ 0
+    ensures cut { reader.new.failed ≢ reader.old.failed → (HasFailed writer.old writer.new → ⊥)
         → WritesCut MayBeSimulated (fault_line Device)
         (R.remaining reader.old.inner) (R.remaining reader.new.inner)
         (W.contents writer.old.inner) (W.contents writer.new.inner) × (result ≡ 1) }
@@ -60,11 +60,11 @@ pub fn run_join<R: Read, W: Write>(
     writer: &mut Counted<W>,
 ) -> u8
     ensures join { IfSome (R.remaining reader.old.inner)
-        (λ input. reader.new.failed ≡ 0 → writer.new.failed ≡ 0
+        (λ input. (HasFailed reader.old reader.new → ⊥) → (HasFailed writer.old writer.new → ⊥)
         → WritesJoin input (W.contents writer.old.inner) (W.contents writer.new.inner) result) }
-    ensures part { IfSome (R.remaining reader.old.inner) (λ input. reader.new.failed ≡ 0
+    ensures part { IfSome (R.remaining reader.old.inner) (λ input. (HasFailed reader.old reader.new → ⊥)
         → WritesJoinFront input (W.contents writer.old.inner) (W.contents writer.new.inner)) }
-    ensures unread { reader.new.failed ≢ reader.old.failed → writer.new.failed ≡ 0
+    ensures unread { reader.new.failed ≢ reader.old.failed → (HasFailed writer.old writer.new → ⊥)
         → Writes (Err Device) (W.contents writer.old.inner) (W.contents writer.new.inner) result }
     ensures unread_part { reader.new.failed ≢ reader.old.failed
         → AppendsFront (W.contents writer.old.inner) (W.contents writer.new.inner) (fault_line Device) }
@@ -81,7 +81,7 @@ pub fn run_join<R: Read, W: Write>(
 // The line that `join` answers for all that the reader holds.
 fn join_line<R: Read>(alloc: Global, reader: &mut Counted<R>) -> Result<String, Refusal>
     ensures line { IfSome (R.remaining reader.old.inner)
-        (λ input. reader.new.failed ≡ 0 → IsJoinLine input result) }
+        (λ input. (HasFailed reader.old reader.new → ⊥) → IsJoinLine input result) }
     ensures unread { reader.new.failed ≢ reader.old.failed
         → IsErrAnd result (λ e. fault_of e ≡ Device) }
     ensures most { ConsumesAtMost (R.remaining reader.old.inner) (R.remaining reader.new.inner) 1073741827 }

@@ -1,3 +1,4 @@
 pub mod Beginnings
 pub mod DigitsSoFar
+pub mod Failing
 pub mod ReplyPieces

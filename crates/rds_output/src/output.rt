@@ -2,7 +2,7 @@
 ghost use Rattle.std.specs.Prelude.{◌≡◌, ◌≤◌, ◌⊎◌, Err, IfErr, OnOk, OnErr, MatchResult};
 ghost use Rattle.std.specs.Io.KnownBytes.{Appends};
 ghost use Rattle.rds_names.specs.declared.fault.Fault.TheVariants.{Device};
-ghost use Rattle.rds_keep.specs.Counted.{one_more};
+ghost use Rattle.rds_keep.specs.Counted.{HasFailed, one_more};
 ghost use Rattle.rds_keep.specs.Parts.{AppendsFront, AppendsPart};
 ghost use Rattle.rds_output.specs.Reply.{WritesReply, line_for};
 ghost use Rattle.rds_output.specs.Output.{AnswersStatus, Writes, fault_line, fault_status};
@@ -17,7 +17,7 @@ use std::io::Write;
 /// is written.
 #[tactic(auto, using(crate::proofs::Beginnings::front_written))]
 pub fn write_fault<W: Write>(writer: &mut Counted<W>, fault: Fault) -> u8
-    ensures written { writer.new.failed ≡ 0
+    ensures written { (HasFailed writer.old writer.new → ⊥)
         → Writes (Err fault) (W.contents writer.old.inner) (W.contents writer.new.inner) result }
     ensures part { AppendsFront (W.contents writer.old.inner) (W.contents writer.new.inner) (fault_line fault) }
     ensures status { AnswersStatus writer.old writer.new (fault_status fault) result }
@@ -28,7 +28,7 @@ pub fn write_fault<W: Write>(writer: &mut Counted<W>, fault: Fault) -> u8
 
 /// Writes a reply's line, with 0, or a fault's line. Where a call fails, a beginning of the line is written.
 pub fn write_reply<W: Write>(writer: &mut Counted<W>, reply: Result<Reply, Fault>) -> u8
-    ensures written { writer.new.failed ≡ 0
+    ensures written { (HasFailed writer.old writer.new → ⊥)
         → WritesReply reply (W.contents writer.old.inner) (W.contents writer.new.inner) result }
     ensures part { AppendsFront (W.contents writer.old.inner) (W.contents writer.new.inner) (line_for reply) }
     ensures within { result ≤ 2 }

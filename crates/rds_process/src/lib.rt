@@ -44,17 +44,18 @@ pub fn run_words<H: Disk + Net, R: Read, W: Write, S: AsStr>(
 ) -> ExitCode
 where
     H::File: LockFile,
-    ensures unread { IfErr words.entry (λ fault. writer.new.failed ≡ 0
+    ensures unread { IfErr words.entry (λ fault. (HasFailed writer.old writer.new → ⊥)
         → Writes (Err fault) (W.contents writer.old.inner) (W.contents writer.new.inner) (exit_status result)) }
     ensures join { IfOk words.entry (λ words. Names (map S.text words.now) join_words
         → IfSome (R.remaining reader.old.inner)
-        (λ input. reader.new.failed ≡ 0 → writer.new.failed ≡ 0
+        (λ input. (HasFailed reader.old reader.new → ⊥) → (HasFailed writer.old writer.new → ⊥)
         → WritesJoin input (W.contents writer.old.inner) (W.contents writer.new.inner) (exit_status result))) }
     ensures sim { IfOk words.entry (λ words. Names (map S.text words.now) sim_words
         → IfSome (R.remaining reader.old.inner)
-        (λ input. reader.new.failed ≡ 0 → writer.new.failed ≡ 0
+        (λ input. (HasFailed reader.old reader.new → ⊥) → (HasFailed writer.old writer.new → ⊥)
         → WritesSim input (W.contents writer.old.inner) (W.contents writer.new.inner) (exit_status result))) }
-    ensures task { IfOk words.entry (λ words. mistakes_in (map S.text words.now) ≡ [] → writer.new.failed ≡ 0
+    ensures task { IfOk words.entry (λ words. mistakes_in (map S.text words.now) ≡ []
+        → (HasFailed writer.old writer.new → ⊥)
         → MayWriteNamed (named_in (map S.text words.now))
         (W.contents writer.old.inner) (W.contents writer.new.inner) (exit_status result)) }
     ensures mistake { IfOk words.entry (λ words. mistakes_in (map S.text words.now) ≢ []

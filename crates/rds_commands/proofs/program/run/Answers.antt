@@ -4,6 +4,7 @@ use Rattle.rds_names.specs.declared.fault.Fault.TheVariants.{Device}
 use Rattle.rds_output.specs.Output.{Writes}
 use Rattle.rds_words.specs.Task.{EditsByLines}
 use Rattle.rds_words.specs.declared.tasks.Task.{Task}
+use Rattle.rds_keep.specs.Counted.{HasFailed}
 use Rattle.rds_commands.specs.Batch.{WritesEdits}
 use Rattle.rds_lines.proofs.Running.{memory_begun, memory_written}
 use Rattle.rds_lines.proofs.Spent.{unread}
@@ -48,13 +49,13 @@ returns-in-Err-clause-edit g c = λ file names.
 
 pub returns-in-Ok-Some-clause-edit : goal.returns-in-Ok-Some-clause-edit
 returns-in-Ok-Some-clause-edit g c = λ file names.
-    edit_named (λ (p : List ℕ). IfSome (g.R.Read.remaining c.args.reader.now.inner) (λ input. c.run_task.new.reader.failed ≡ 0 → c.run_task.new.writer.failed ≡ 0
+    edit_named (λ (p : List ℕ). IfSome (g.R.Read.remaining c.args.reader.now.inner) (λ input. (HasFailed c.args.reader.now c.run_task.new.reader → ⊥) → (HasFailed c.args.writer.now c.run_task.new.writer → ⊥)
     → WritesEdits p input (g.W.Write.contents c.args.writer.now.inner) (g.W.Write.contents c.run_task.new.writer.inner) c.run_task.result))
     file c.in-Ok-Some.task (subst (λ (t : Option Task). EditsByLines file t) c.in-Ok-Some.field-0-is (c.in-Ok-Some.ensures.edit file names)) c.run_task.ensures.edit
 
 pub returns-in-Ok-Some-clause-unread_edit : goal.returns-in-Ok-Some-clause-unread_edit
 returns-in-Ok-Some-clause-unread_edit g c = λ file names.
-    edit_named (λ (p : List ℕ). c.run_task.new.reader.failed ≢ c.args.reader.now.failed → c.run_task.new.writer.failed ≡ 0
+    edit_named (λ (p : List ℕ). c.run_task.new.reader.failed ≢ c.args.reader.now.failed → (HasFailed c.args.writer.now c.run_task.new.writer → ⊥)
     → Writes (Err Device) (g.W.Write.contents c.args.writer.now.inner) (g.W.Write.contents c.run_task.new.writer.inner) c.run_task.result)
     file c.in-Ok-Some.task (subst (λ (t : Option Task). EditsByLines file t) c.in-Ok-Some.field-0-is (c.in-Ok-Some.ensures.edit file names)) c.run_task.ensures.unread_edit
 

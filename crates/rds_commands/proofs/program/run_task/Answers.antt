@@ -1,5 +1,6 @@
 use Rattle.std.proofs.Common.{◌≡◌, ℕ, List, rules}
 use Rattle.std.specs.Prelude.{IfSome}
+use Rattle.rds_keep.specs.Counted.{HasFailed}
 use Rattle.rds_commands.specs.Batch.{WritesEdits}
 use Rattle.rds_commands.proofs.Batches.{edit_of}
 use Rattle.rds_commands.proofs.program.run_task.Goals as goal
@@ -48,7 +49,7 @@ returns-in-Status-clause-written g c = search rules steps 1000000
 
 pub returns-in-EditLines-clause-edit : goal.returns-in-EditLines-clause-edit
 returns-in-EditLines-clause-edit g c = λ at is.
-    edit_of (λ (p : List ℕ). IfSome (g.R.Read.remaining c.args.reader.now.inner) (λ input. c.run_edit_lines.new.reader.failed ≡ 0 → c.run_edit_lines.new.writer.failed ≡ 0
+    edit_of (λ (p : List ℕ). IfSome (g.R.Read.remaining c.args.reader.now.inner) (λ input. (HasFailed c.args.reader.now c.run_edit_lines.new.reader → ⊥) → (HasFailed c.args.writer.now c.run_edit_lines.new.writer → ⊥)
     → WritesEdits p input (g.W.Write.contents c.args.writer.now.inner) (g.W.Write.contents c.run_edit_lines.new.writer.inner) c.run_edit_lines.result))
     c.args.task c.in-EditLines.file at c.in-EditLines.is is c.run_edit_lines.ensures.edits
 

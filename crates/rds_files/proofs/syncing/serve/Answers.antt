@@ -1,5 +1,6 @@
 use Rattle.std.proofs.Common.{◌≡◌, refl, sym, ◌∙◌, arith, rules}
 use Rattle.rds_session.specs.declared.talk.Side.TheVariants.{Server}
+use Rattle.rds_output.proofs.Failing.{failed_by}
 use Rattle.rds_files.proofs.Serving.{none_served, more_served, last_served, all_served}
 use Rattle.rds_files.proofs.syncing.serve.Goals as goal
 
@@ -27,3 +28,7 @@ pub returns-clause-written : goal.returns-clause-written
 returns-clause-written g c = λ _.
     let count : c.sessions.counter ≡ c.args.sessions = omega arith in
     all_served Server c.args.sessions c.args.path.now c.sessions.path c.sessions.told (g.W.Write.contents c.args.writer.now.inner) (g.W.Write.contents c.sessions.writer.inner) c.from.result (rw (← count) c.sessions.invariant.served) (search rules)
+
+pub returns-in-Err-clause-written : goal.returns-in-Err-clause-written
+returns-in-Err-clause-written g c = λ wrote.
+    absurd (wrote (failed_by c.args.writer.now.failed c.sessions.writer.failed c.write_report.new.writer.failed c.sessions.invariant.steady c.in-Err.ensures.counted))

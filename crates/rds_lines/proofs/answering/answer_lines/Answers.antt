@@ -1,9 +1,10 @@
 use Rattle.std.proofs.Common.{◌∙◌, subst, refl, arith}
 use Rattle.rds_lines.specs.Ahead.{TakesLine, bytes_untaken}
+use Rattle.rds_output.proofs.Failing.{failed_by}
 use Rattle.rds_lines.proofs.Answered.{runs_last}
 use Rattle.rds_lines.proofs.LineByLine.{after_answer, at_first, byte_is, line_found}
 use Rattle.rds_lines.proofs.Spent.{read_more, unread}
-use Rattle.rds_lines.proofs.Told.{failed_since, told_cut, told_cut_front, told_front}
+use Rattle.rds_lines.proofs.Told.{failed_since, never_read, never_written, told_cut, told_cut_front, told_front}
 use Rattle.rds_lines.proofs.answering.answer_lines.Goals as goal
 
 pub lines-init : goal.lines-init
@@ -22,11 +23,25 @@ returns-in-Ok-None-clause-answered g c =
     runs_last g.A.Answers.may_answer (g.R.Read.remaining c.args.reader.now.inner) now next (g.W.Write.contents c.args.writer.now.inner) (g.W.Write.contents c.lines.writer.inner) c.args.answers.now c.lines.answers c.lines.refused _ _ c.from.result
     c.lines.invariant.standing.runs (subst (TakesLine now next) c.in-Ok-None.field-0-is c.in-Ok-None.ensures.taken) g.met.A.Answers.ends (c.from.ensures ∙ byte_is c.lines.refused)
 
+pub returns-in-Err-clause-answered : goal.returns-in-Err-clause-answered
+returns-in-Err-clause-answered g c =
+    never_read (g.R.Read.remaining c.args.reader.now.inner) _ _ _ (failed_since c.args.reader.now c.lines.reader c.next_line.new.reader c.lines.invariant.read c.in-Err.ensures.fault.1)
+
+pub returns-in-Err-written-clause-answered : goal.returns-in-Err-written-clause-answered
+returns-in-Err-written-clause-answered g c =
+    never_written (g.R.Read.remaining c.args.reader.now.inner) _ _ _
+    (failed_by c.args.writer.now.failed c.lines.writer.failed c.write_to-written.new.writer.failed c.lines.invariant.wrote c.in-Err-written.ensures.counted)
+
+pub returns-in-Err-written-clause-unread : goal.returns-in-Err-written-clause-unread
+returns-in-Err-written-clause-unread g c = λ read wrote.
+    absurd (wrote (failed_by c.args.writer.now.failed c.lines.writer.failed c.write_to-written.new.writer.failed c.lines.invariant.wrote c.in-Err-written.ensures.counted))
+
 pub returns-in-Err-clause-unread : goal.returns-in-Err-clause-unread
 returns-in-Err-clause-unread g c = λ read wrote.
     told_cut g.A.Answers.may_answer (g.R.Read.remaining c.args.reader.now.inner) (bytes_untaken c.lines.ahead (g.R.Read.remaining c.lines.reader.inner)) (g.R.Read.remaining c.next_line.new.reader.inner)
     (g.W.Write.contents c.args.writer.now.inner) (g.W.Write.contents c.lines.writer.inner) (g.W.Write.contents c.write_fault.new.writer.inner) c.args.answers.now c.lines.answers c.lines.refused
-    c.in-Err.fault c.write_fault.result c.lines.invariant.standing.told g.met.A.Answers.ends c.in-Err.ensures.piece c.in-Err.ensures.fault.0 (c.write_fault.ensures.written wrote)
+    c.in-Err.fault c.write_fault.result c.lines.invariant.standing.told g.met.A.Answers.ends c.in-Err.ensures.piece c.in-Err.ensures.fault.0
+    (c.write_fault.ensures.written (λ failed. wrote (failed_since c.args.writer.now c.lines.writer c.write_fault.new.writer c.lines.invariant.wrote failed)))
 
 pub returns-in-Err-clause-part : goal.returns-in-Err-clause-part
 returns-in-Err-clause-part g c = λ wrote.

@@ -1,4 +1,5 @@
 use Rattle.std.proofs.Common.{◌∙◌, sym}
+use Rattle.rds_output.proofs.Failing.{failed_by}
 use Rattle.rds_lines.proofs.EditedLines.{some_next}
 use Rattle.rds_lines.proofs.editing.write_replies.Goals as goal
 
@@ -9,3 +10,7 @@ answers-preserved g c = record {
       c.in-Ok.ensures.bytes;
   wrote = c.in-Ok.ensures.steady ∙ c.answers.invariant.wrote;
 }
+
+pub returns-in-Err-clause-written : goal.returns-in-Err-clause-written
+returns-in-Err-clause-written g c = λ wrote.
+    absurd (wrote (failed_by c.args.writer.now.failed c.answers.writer.failed c.write_to.new.writer.failed c.answers.invariant.wrote c.in-Err.ensures.counted))

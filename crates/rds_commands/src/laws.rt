@@ -1,0 +1,12 @@
+//! The law of sessions of files.
+ghost use Rattle.rds_commands.specs.Sessions.{SessionsAreAnswered, SettlingsAreTakes};
+
+/// A session of two files is events of the model of all replicas, where the replicas that the files hold are what the
+/// model's have kept. One asks and the other answers, and what the one receives is that answer, as
+/// [`two_sessions`](rds_session::two_sessions) says. Where its file then takes it, whatever happened meanwhile, the
+/// replica was read, took the answer, and was saved: the file holds what the model's replica has kept by now. So the
+/// law over every list of events holds of sessions too. The function does nothing: its contract is these laws.
+pub fn sessions_are_events()
+    ensures asks { SessionsAreAnswered }
+    ensures takes { SettlingsAreTakes }
+{}
