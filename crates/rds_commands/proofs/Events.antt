@@ -1,5 +1,5 @@
 -- A session whose delta is settled in a file, as events of the model.
-use Rattle.std.proofs.Common.{◌≡◌, ◌≢◌, ◌<◌, ◌≤◌, ◌∙◌, ◌∷◌, ◌++◌, [], ℕ, Bool, true, false, max, length, ltb, Some, refl, sym, ap, subst, arith, slice_get, inl, inr}
+use Rattle.std.proofs.Common.{◌≡◌, ◌≢◌, ◌<◌, ◌≤◌, ◌∙◌, ◌∷◌, ◌++◌, [], ℕ, List, Bool, true, false, max, length, ltb, Some, refl, sym, ap, subst, arith, slice_get, inl, inr}
 use Rattle.std.specs.Prelude.{is_some}
 use Rattle.std.proofs.lemmas.Bool.{cases_lt, lt-ltb, le-ltb}
 use Rattle.rds_names.specs.Roster.{RosterValue}
