@@ -4,6 +4,7 @@ use Rattle.rds_names.specs.declared.fault.Fault.TheVariants.{Device}
 use Rattle.rds_output.specs.Output.{Writes}
 use Rattle.rds_words.specs.Task.{EditsByLines}
 use Rattle.rds_words.specs.declared.tasks.Task.{Task}
+use Rattle.rds_words.specs.declared.tasks.Task.TheVariants.{Sim}
 use Rattle.rds_keep.specs.Counted.{HasFailed}
 use Rattle.rds_commands.specs.Batch.{WritesEdits}
 use Rattle.rds_lines.proofs.Running.{memory_begun, memory_written}
@@ -11,7 +12,7 @@ use Rattle.rds_lines.proofs.Spent.{unread}
 use Rattle.rds_words.proofs.CommandWords.{is_memory}
 use Rattle.rds_commands.proofs.Batches.{edit_named, edits_unwritten}
 use Rattle.rds_commands.proofs.Entered.{memory_told, mistaken}
-use Rattle.rds_commands.proofs.SimTold.{sim_unwritten}
+use Rattle.rds_commands.proofs.SimTold.{sim_unwritten, sim_written, task_is, task_written}
 use Rattle.rds_commands.proofs.program.run.Goals as goal
 
 pub returns-in-Err-clause-join : goal.returns-in-Err-clause-join
@@ -69,3 +70,16 @@ returns-in-Err-clause-sim_part g c = λ names failed. inl (c.write_unparsed.ensu
 
 pub returns-in-Err-clause-sim_bound : goal.returns-in-Err-clause-sim_bound
 returns-in-Err-clause-sim_bound g c = λ names. unread (g.R.Read.remaining c.args.reader.now.inner) _
+
+pub returns-in-Ok-Some-clause-sim : goal.returns-in-Ok-Some-clause-sim
+returns-in-Ok-Some-clause-sim g c = λ names.
+    sim_written (g.R.Read.remaining c.args.reader.now.inner) (g.W.Write.contents c.args.writer.now.inner) (g.W.Write.contents c.run_task.new.writer.inner) _ _ c.run_task.result
+    (c.run_task.ensures.sim (task_is _ c.in-Ok-Some.task Sim c.in-Ok-Some.field-0-is (c.in-Ok-Some.ensures.sim names)))
+
+pub returns-in-Ok-Some-clause-cut : goal.returns-in-Ok-Some-clause-cut
+returns-in-Ok-Some-clause-cut g c = λ names. c.run_task.ensures.cut (task_is _ c.in-Ok-Some.task Sim c.in-Ok-Some.field-0-is (c.in-Ok-Some.ensures.sim names))
+
+pub returns-in-Ok-Some-clause-task : goal.returns-in-Ok-Some-clause-task
+returns-in-Ok-Some-clause-task g c = λ none wrote.
+    task_written _ c.in-Ok-Some.task _ (g.W.Write.contents c.args.writer.now.inner) (g.W.Write.contents c.run_task.new.writer.inner) c.run_task.result c.in-Ok-Some.field-0-is c.in-Ok-Some.ensures.task
+    (c.run_task.ensures.written wrote)
