@@ -3,8 +3,10 @@
 //! and `rds_bench fresh N` what one lacks that has none of them. `rds_bench index N` takes ten dots into an index of
 //! one set of N elements, adds ten elements and deletes these. It prints a line of figures, and nothing where it was
 //! called by no words. Then it waits until its input ends, so that who called it can see how much memory it had.
+//! `rds_bench answer` reads an answer from its input, as a session does.
 #![tactic(auto)]
 
+mod answers;
 mod deltas;
 mod indexes;
 mod samples;
@@ -22,6 +24,7 @@ fn main(rt: HostRuntime) -> io::Result<()> {
     let mut words = env::args(&rt)?;
     let _name = words.next();
     match (words.next(), words.next()) {
+        (Some(what), None) if what.as_str() == "answer" => answers::read(&rt),
         (Some(what), Some(size)) => {
             time(&rt, what.as_str(), size.as_str())?;
             wait(&rt)
