@@ -14,7 +14,9 @@ use Rattle.rds_names.specs.declared.entry.Kind.TheVariants.{Reg, Elem}
 use Rattle.rds_names.specs.declared.scalar.Scalar.{Scalar}
 use Rattle.rds_names.specs.declared.scalar.Scalar.TheVariants.{Null, Bool as Truth, Int, Text}
 use Rattle.rds_names.specs.Conditions.{and_true, and_left, and_right}
-use Rattle.rds_bytes.specs.Entries.{Parts, parts_of, entry_where, entry_of}
+use Rattle.rds_names.specs.Entry.{entry_where}
+use Rattle.rds_names.proofs.Entries.{entry_of_parts}
+use Rattle.rds_bytes.specs.Entries.{Parts, parts_of, entry_of}
 use Rattle.rds_bytes.specs.Spelling.{byte_text, kind_byte, text_text, scalar_text, path_text, entry_text}
 use Rattle.rds_bytes.specs.Reading as read
 use Rattle.rds_bytes.specs.Reading.{byte_at, made_at, when_at, pair_at, is_between, tagged_at, int_scalar, text_scalar}
@@ -22,7 +24,6 @@ use Rattle.rds_bytes.specs.Values.{is_key_text, IsScalar, IsEntry}
 use Rattle.rds_bytes.proofs.Format.{IsFormat, IsBytes, Takes, Takes-then, CutOrBad, bind_ok, bind_err, chosen, err_is, ok_is, done, failed, byte_format, number16, number64, pair_format, made_format, drawn_format, when_format, refit}
 use Rattle.rds_bytes.proofs.Lists.{AllAfter, list_format, string_format}
 use Rattle.rds_bytes.proofs.PartFormats.{key_format}
-use Rattle.rds_bytes.proofs.EntryParts.{entry_of_parts}
 
 -- ---- kinds
 
@@ -209,9 +210,9 @@ abbrev AreParts : Parts → Type 0
 AreParts p = IsPath p.0 × (Unit {0} × IsScalar p.1.1)
 
 entry_there : (e : Entry) → IsEntry e → AreParts (parts_of e) × (entry_of (parts_of e) ≡ Some e)
-entry_there e is = (((and_true _ _ (le-leb 1 (length e.path) e.below_root) (le-leb (length e.path) 8 e.within), is.0), (tt, is.1)), entry_of_parts e)
+entry_there e is = (((and_true _ _ (le-leb 1 (length e.path) e.below_root) (le-leb (length e.path) 8 e.within), is.0), (tt, is.1)), entry_of_parts _ _ _ e (record { at = refl; stands = refl; holds = refl }))
 
-parts_where : (p : Parts) (some few : Bool) (a : leb 1 (length p.0) ≡ some) (b : leb (length p.0) 8 ≡ few) (e : Entry) → entry_where p some few a b ≡ Some e → parts_of e ≡ p
+parts_where : (p : Parts) (some few : Bool) (a : leb 1 (length p.0) ≡ some) (b : leb (length p.0) 8 ≡ few) (e : Entry) → entry_where p.0 p.1.0 p.1.1 some few a b ≡ Some e → parts_of e ≡ p
 parts_where p true true a b e is =
     let made : Entry = record { path = p.0; kind = p.1.0; value = p.1.1; below_root = leb-true 1 (length p.0) a; within = leb-true (length p.0) 8 b } in
     let some : ◌≡◌ {A = Option Entry} (Some made) (Some e) = is in

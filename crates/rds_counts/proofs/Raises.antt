@@ -9,18 +9,18 @@ use Rattle.rds_counts.specs.declared.row.CountRow.{CountRow}
 use Rattle.rds_counts.specs.declared.row.TheConstants.{MAX_COUNT}
 use Rattle.rds_counts.specs.Place.{Place, place_cmp}
 use Rattle.rds_counts.specs.PlaceOrder.{place_exact}
-use Rattle.rds_counts.specs.Counted.{Counted, number, number_of, place, counts_of, pair_of, AreCountRows}
+use Rattle.rds_counts.specs.Counted.{Counted, number, number_in_pair, place, counts_of, pair_of, AreCountRows}
 use Rattle.rds_counts.specs.CountedLemmas.{some, number_in, number-row, number-own, both_other, pair_number, get-counts_of}
 use Rattle.rds_names.specs.Conditions.{and_true, equal_of}
 use Rattle.rds_counts.specs.Drawn.{greatest_rows}
 use Rattle.rds_counts.specs.Raised.{pair_raised, row_of}
 use Rattle.rds_counts.proofs.DrawnLemmas.{drawn_are, drawn_number}
-use Rattle.rds_counts.proofs.Totals.{number_of-none}
+use Rattle.rds_counts.proofs.Totals.{number_in_pair-none}
 
 row_is : (p n i m : ℕ) → 0 < p + n → p ≤ m → n ≤ m → i < 256 → ((nat_lt 0 p || nat_lt 0 n) && nat_le p m && nat_le n m && nat_lt i 256) ≡ true
 row_is p n i m some first second within = grind (arith, nat_tests)
 
-raised_more : (which w : Which) (old : ℕ × ℕ) (by : ℕ) → max (number_of w (pair_raised old which by)) (number_of w old) ≡ number_of w (pair_raised old which by)
+raised_more : (which w : Which) (old : ℕ × ℕ) (by : ℕ) → max (number_in_pair w (pair_raised old which by)) (number_in_pair w old) ≡ number_in_pair w (pair_raised old which by)
 raised_more P P old by = omega arith
 raised_more P N old by = omega arith
 raised_more N P old by = omega arith
@@ -30,34 +30,34 @@ raised_some : (which : Which) (old : ℕ × ℕ) (by : ℕ) → ¬ (by ≡ 0) �
 raised_some P old by some = omega arith
 raised_some N old by some = omega arith
 
-raised_own : (which : Which) (old : ℕ × ℕ) (by : ℕ) → number_of which (pair_raised old which by) ≡ number_of which old + by
+raised_own : (which : Which) (old : ℕ × ℕ) (by : ℕ) → number_in_pair which (pair_raised old which by) ≡ number_in_pair which old + by
 raised_own P old by = refl
 raised_own N old by = refl
 
-raised_else : (which w : Which) (old : ℕ × ℕ) (by : ℕ) → ¬ (w ≡ which) → number_of w (pair_raised old which by) ≡ number_of w old
+raised_else : (which w : Which) (old : ℕ × ℕ) (by : ℕ) → ¬ (w ≡ which) → number_in_pair w (pair_raised old which by) ≡ number_in_pair w old
 raised_else P P old by other = absurd (other refl)
 raised_else P N old by other = refl
 raised_else N P old by other = refl
 raised_else N N old by other = absurd (other refl)
 
-each_within : (which : Which) (pair : ℕ × ℕ) → (pair.0 ≤ MAX_COUNT) × (pair.1 ≤ MAX_COUNT) → number_of which pair ≤ MAX_COUNT
+each_within : (which : Which) (pair : ℕ × ℕ) → (pair.0 ≤ MAX_COUNT) × (pair.1 ≤ MAX_COUNT) → number_in_pair which pair ≤ MAX_COUNT
 each_within P pair within = within.0
 each_within N pair within = within.1
 
 -- a pair that was found in rows
 module _ {rows : List CountRow} (are : AreCountRows rows) {m : Counted} (says : counts_of rows ≡ m) (key : List ℕ) (replica : ℕ) {old : ℕ × ℕ} (found : old ≡ pair_of rows key replica) where
-  pub number_found : (w : Which) → number_of w old ≡ number m (place key replica w)
-  number_found w = ap (number_of w) found ∙ pair_number rows are.rise key replica w ∙ get-counts_of rows m says (place key replica w)
+  pub number_found : (w : Which) → number_in_pair w old ≡ number m (place key replica w)
+  number_found w = ap (number_in_pair w) found ∙ pair_number rows are.rise key replica w ∙ get-counts_of rows m says (place key replica w)
 
   -- both numbers are 0 where a write of the pair was refused
   pub none_there : (spot : Result ℕ ℕ) → IfOk spot (λ _. false ≡ true) → IfErr spot (λ _. old ≡ (0, 0)) → (w : Which) → number m (place key replica w) ≡ 0
   none_there (Ok at) there nowhere w = absurd (cc there)
-  none_there (Err at) there nowhere w = sym (number_found w) ∙ ap (number_of w) nowhere ∙ number_of-none w
+  none_there (Err at) there nowhere w = sym (number_found w) ∙ ap (number_in_pair w) nowhere ∙ number_in_pair-none w
 
   -- the pair with the amount
   module _ {pair : ℕ × ℕ} (which : Which) (by : ℕ) (is : pair ≡ pair_raised old which by) (within : (pair.0 ≤ MAX_COUNT) × (pair.1 ≤ MAX_COUNT)) where
-    sum_is : number_of which pair ≡ number m (place key replica which) + by
-    sum_is = ap (number_of which) is ∙ raised_own which old by ∙ ap (λ n. n + by) (number_found which)
+    sum_is : number_in_pair which pair ≡ number m (place key replica which) + by
+    sum_is = ap (number_in_pair which) is ∙ raised_own which old by ∙ ap (λ n. n + by) (number_found which)
 
     pub sum_within : number m (place key replica which) + by ≤ MAX_COUNT
     sum_within = subst (λ n. n ≤ MAX_COUNT) sum_is (each_within which pair within)
@@ -81,12 +81,12 @@ module _ {rows : List CountRow} (are : AreCountRows rows) {m : Counted} (says : 
           ∙ drawn_number (row ∷ []) rows one_row are (counts_of (row ∷ [])) m refl says q
           ∙ ap (λ n. max n (number m q)) (sym (get-counts_of (row ∷ []) (counts_of (row ∷ [])) refl q))
 
-      own_number : (w : Which) → number (counts_of new) (place key replica w) ≡ number_of w pair
+      own_number : (w : Which) → number (counts_of new) (place key replica w) ≡ number_in_pair w pair
       own_number w =
           drawn_in (place key replica w)
           ∙ ap (λ n. max n (number m (place key replica w))) (number-own row [] w refl)
-          ∙ ap (max (number_of w pair)) (sym (number_found w))
-          ∙ subst (λ k. max (number_of w k) (number_of w old) ≡ number_of w k) (sym is) (raised_more which w old by)
+          ∙ ap (max (number_in_pair w pair)) (sym (number_found w))
+          ∙ subst (λ k. max (number_in_pair w k) (number_in_pair w old) ≡ number_in_pair w k) (sym is) (raised_more which w old by)
 
       -- the number that is meant grows
       pub raised-number : number (counts_of new) (place key replica which) ≡ number m (place key replica which) + by
@@ -96,7 +96,7 @@ module _ {rows : List CountRow} (are : AreCountRows rows) {m : Counted} (says : 
       at_own w q e other =
           ap (number (counts_of new)) e
           ∙ own_number w
-          ∙ ap (number_of w) is
+          ∙ ap (number_in_pair w) is
           ∙ raised_else which w old by (λ same. other (e ∙ ap (place key replica) same))
           ∙ number_found w
           ∙ ap (number m) (sym e)

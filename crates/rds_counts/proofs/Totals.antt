@@ -21,16 +21,16 @@ use Rattle.rds_counts.specs.declared.row.Which.{Which}
 use Rattle.rds_counts.specs.declared.row.Which.TheVariants.{P, N}
 use Rattle.rds_counts.specs.declared.row.CountRow.{CountRow}
 use Rattle.rds_counts.specs.declared.row.TheConstants.{MAX_COUNT}
-use Rattle.rds_counts.specs.Counted.{number_of, place, counts_of, pair_of, row_cmp, is_row, rows_rise, AreCountRows}
+use Rattle.rds_counts.specs.Counted.{number_in_pair, place, counts_of, pair_of, row_cmp, is_row, rows_rise, AreCountRows}
 use Rattle.rds_counts.specs.CountedLemmas.{number_in, number_past, pair_number, get-counts_of}
 use Rattle.rds_names.specs.Conditions.{and_left, and_right, less_of, equal_of}
-use Rattle.rds_counts.specs.Value.{total, first_total}
+use Rattle.rds_counts.specs.Value.{total, total_by, first_total}
 use Rattle.rds_counts.proofs.Found.{rises_at}
 
 -- the sum over all rows of a key
 abbrev pub row_total : Which → List ℕ → List CountRow → ℕ
 row_total w key [] = 0
-row_total w key (r ∷ rows) = cond (bytes_eq r.key key) (number_of w (r.p, r.n)) 0 + row_total w key rows
+row_total w key (r ∷ rows) = cond (bytes_eq r.key key) (number_in_pair w (r.p, r.n)) 0 + row_total w key rows
 
 key_is : (xs ys : List ℕ) → bytes_eq xs ys ≡ true → xs ≡ ys
 key_is xs ys h = exact_bytes xs ys (equal_of _ (is_eq-slice_cmp xs ys ∙ h))
@@ -78,13 +78,13 @@ sum_zeros (suc n) a =
     let c = sum_by-cons (λ _. 0) a (range_with_len (a + 1) n) in
     omega (arith, again, c)
 
-number_of-cond : (w : Which) (b : Bool) (x y : ℕ × ℕ) → number_of w (cond b x y) ≡ cond b (number_of w x) (number_of w y)
-number_of-cond w true x y = refl
-number_of-cond w false x y = refl
+number_in_pair-cond : (w : Which) (b : Bool) (x y : ℕ × ℕ) → number_in_pair w (cond b x y) ≡ cond b (number_in_pair w x) (number_in_pair w y)
+number_in_pair-cond w true x y = refl
+number_in_pair-cond w false x y = refl
 
-pub number_of-none : (w : Which) → number_of w (0, 0) ≡ 0
-number_of-none P = refl
-number_of-none N = refl
+pub number_in_pair-none : (w : Which) → number_in_pair w (0, 0) ≡ 0
+number_in_pair-none P = refl
+number_in_pair-none N = refl
 
 is_eq-then : (x y : Ordering) → is_eq (ordering_then x y) ≡ (is_eq x && is_eq y)
 is_eq-then Less y = refl
@@ -95,40 +95,40 @@ row_within : (p n i m : ℕ) → ((nat_lt 0 p || nat_lt 0 n) && nat_le p m && na
 row_within p n i m is = (grind (arith, nat_tests), grind (arith, nat_tests), grind (arith, nat_tests))
 
 -- a row's number at a replica, or that of later rows
-pair_first : (w : Which) (key : List ℕ) (r : CountRow) (rows : List CountRow) (i : ℕ) → number_of w (pair_of (r ∷ rows) key i) ≡ cond (bytes_eq r.key key && is_eq (nat_cmp r.replica i)) (number_of w (r.p, r.n)) (number_of w (pair_of rows key i))
+pair_first : (w : Which) (key : List ℕ) (r : CountRow) (rows : List CountRow) (i : ℕ) → number_in_pair w (pair_of (r ∷ rows) key i) ≡ cond (bytes_eq r.key key && is_eq (nat_cmp r.replica i)) (number_in_pair w (r.p, r.n)) (number_in_pair w (pair_of rows key i))
 pair_first w key r rows i =
-    number_of-cond w (is_eq (ordering_then (slice_cmp nat_cmp r.key key) (nat_cmp r.replica i))) (r.p, r.n) (pair_of rows key i)
-    ∙ ap (λ b. cond b (number_of w (r.p, r.n)) (number_of w (pair_of rows key i)))
+    number_in_pair-cond w (is_eq (ordering_then (slice_cmp nat_cmp r.key key) (nat_cmp r.replica i))) (r.p, r.n) (pair_of rows key i)
+    ∙ ap (λ b. cond b (number_in_pair w (r.p, r.n)) (number_in_pair w (pair_of rows key i)))
     (is_eq-then (slice_cmp nat_cmp r.key key) (nat_cmp r.replica i) ∙ ap (λ b. b && is_eq (nat_cmp r.replica i)) (is_eq-slice_cmp r.key key))
 
-sum_first : (w : Which) (key : List ℕ) (r : CountRow) (rows : List CountRow) → list_all (λ t. is_lt (row_cmp r t)) rows ≡ true → rows_rise rows ≡ true → r.replica < 256 → (b : Bool) → bytes_eq r.key key ≡ b → sum_by (λ i. number_of w (pair_of (r ∷ rows) key i)) (range_with_len 0 256) ≡ cond b (number_of w (r.p, r.n)) 0 + sum_by (λ i. number_of w (pair_of rows key i)) (range_with_len 0 256)
+sum_first : (w : Which) (key : List ℕ) (r : CountRow) (rows : List CountRow) → list_all (λ t. is_lt (row_cmp r t)) rows ≡ true → rows_rise rows ≡ true → r.replica < 256 → (b : Bool) → bytes_eq r.key key ≡ b → sum_by (λ i. number_in_pair w (pair_of (r ∷ rows) key i)) (range_with_len 0 256) ≡ cond b (number_in_pair w (r.p, r.n)) 0 + sum_by (λ i. number_in_pair w (pair_of rows key i)) (range_with_len 0 256)
 sum_first w key r rows first rise within true is =
-    sum_one (λ i. number_of w (pair_of rows key i)) (λ i. number_of w (pair_of (r ∷ rows) key i)) r.replica (number_of w (r.p, r.n))
-    (λ i. pair_first w key r rows i ∙ ap (λ b. cond (b && is_eq (nat_cmp r.replica i)) (number_of w (r.p, r.n)) (number_of w (pair_of rows key i))) is)
+    sum_one (λ i. number_in_pair w (pair_of rows key i)) (λ i. number_in_pair w (pair_of (r ∷ rows) key i)) r.replica (number_in_pair w (r.p, r.n))
+    (λ i. pair_first w key r rows i ∙ ap (λ b. cond (b && is_eq (nat_cmp r.replica i)) (number_in_pair w (r.p, r.n)) (number_in_pair w (pair_of rows key i))) is)
     (pair_number rows rise key r.replica w ∙ ap (λ k. number_in rows (place k r.replica w)) (sym (key_is r.key key is)) ∙ number_past r w rows first)
     256 0 (omega arith) (omega arith)
 sum_first w key r rows first rise within false is =
-    ap (λ (f : ℕ → ℕ). sum_by f (range_with_len 0 256)) (λ k i. (pair_first w key r rows i ∙ ap (λ b. cond (b && is_eq (nat_cmp r.replica i)) (number_of w (r.p, r.n)) (number_of w (pair_of rows key i))) is) k)
+    ap (λ (f : ℕ → ℕ). sum_by f (range_with_len 0 256)) (λ k i. (pair_first w key r rows i ∙ ap (λ b. cond (b && is_eq (nat_cmp r.replica i)) (number_in_pair w (r.p, r.n)) (number_in_pair w (pair_of rows key i))) is) k)
     ∙ omega arith
 
-sum_rows : (w : Which) (key : List ℕ) (rows : List CountRow) → rows_rise rows ≡ true → list_all is_row rows ≡ true → sum_by (λ i. number_of w (pair_of rows key i)) (range_with_len 0 256) ≡ row_total w key rows
-sum_rows w key [] rise are = ap (λ n. sum_by (λ _. n) (range_with_len 0 256)) (number_of-none w) ∙ sum_zeros 256 0
+sum_rows : (w : Which) (key : List ℕ) (rows : List CountRow) → rows_rise rows ≡ true → list_all is_row rows ≡ true → sum_by (λ i. number_in_pair w (pair_of rows key i)) (range_with_len 0 256) ≡ row_total w key rows
+sum_rows w key [] rise are = ap (λ n. sum_by (λ _. n) (range_with_len 0 256)) (number_in_pair-none w) ∙ sum_zeros 256 0
 sum_rows w key (r ∷ rows) rise are =
     sum_first w key r rows (and_left (list_all (λ t. is_lt (row_cmp r t)) rows) _ rise) (and_right (list_all (λ t. is_lt (row_cmp r t)) rows) _ rise) (row_within r.p r.n r.replica MAX_COUNT (and_left (is_row r) _ are)).2 _ refl
-    ∙ ap (λ n. cond (bytes_eq r.key key) (number_of w (r.p, r.n)) 0 + n) (sum_rows w key rows (and_right (list_all (λ t. is_lt (row_cmp r t)) rows) _ rise) (and_right (is_row r) _ are))
+    ∙ ap (λ n. cond (bytes_eq r.key key) (number_in_pair w (r.p, r.n)) 0 + n) (sum_rows w key rows (and_right (list_all (λ t. is_lt (row_cmp r t)) rows) _ rise) (and_right (is_row r) _ are))
 
 -- what comes after a greater key has a greater key
 none_after : (w : Which) (key : List ℕ) (r : CountRow) (rows : List CountRow) → list_all (λ t. is_lt (row_cmp r t)) rows ≡ true → slice_cmp nat_cmp r.key key ≡ Greater → row_total w key rows ≡ 0
 none_after w key r [] first over = refl
 none_after w key r (s ∷ rows) first over = by (bytes_eq s.key key) refl ∙ none_after w key r rows (and_right (is_lt (row_cmp r s)) _ first) over
   where
-    by : (b : Bool) → bytes_eq s.key key ≡ b → cond (bytes_eq s.key key) (number_of w (s.p, s.n)) 0 + row_total w key rows ≡ row_total w key rows
+    by : (b : Bool) → bytes_eq s.key key ≡ b → cond (bytes_eq s.key key) (number_in_pair w (s.p, s.n)) 0 + row_total w key rows ≡ row_total w key rows
     by true is =
         let same : slice_cmp nat_cmp r.key s.key ≡ Greater = ap (slice_cmp nat_cmp r.key) (key_is s.key key is) ∙ over in
         let less : row_cmp r s ≡ Less = less_of (row_cmp r s) (and_left (is_lt (row_cmp r s)) _ first) in
         let greater : row_cmp r s ≡ Greater = ap (λ o. ordering_then o (nat_cmp r.replica s.replica)) same in
         absurd (cc)
-    by false is = ap (λ b. cond b (number_of w (s.p, s.n)) 0 + row_total w key rows) is ∙ omega arith
+    by false is = ap (λ b. cond b (number_in_pair w (s.p, s.n)) 0 + row_total w key rows) is ∙ omega arith
 
 greater_of : (o : Ordering) → is_lt o ≡ false → is_eq o ≡ false → o ≡ Greater
 greater_of Less h k = absurd (cc)
@@ -147,20 +147,20 @@ first_total-drop w key e [] rise (suc from) le below over = absurd (omega arith)
 first_total-drop w key e (r ∷ rows) rise (suc from) le below over =
     let apart : bytes_eq r.key key ≡ false = sym (is_eq-slice_cmp r.key key) ∙ not_equal _ (below 0 (omega arith)) in
     let again = first_total-drop w key e rows (and_right (list_all (λ t. is_lt (row_cmp r t)) rows) _ rise) from (omega arith) (λ k lt. below (suc k) (omega arith)) (λ k ge lt. over (suc k) (omega arith) (omega arith)) in
-    again ∙ sym (ap (λ b. cond b (number_of w (r.p, r.n)) 0 + row_total w key rows) apart ∙ omega arith)
+    again ∙ sym (ap (λ b. cond b (number_in_pair w (r.p, r.n)) 0 + row_total w key rows) apart ∙ omega arith)
 first_total-drop w key e (r ∷ rows) rise zero le below over =
     by (bytes_eq r.key key) refl (first_total-drop w key e rows (and_right (list_all (λ t. is_lt (row_cmp r t)) rows) _ rise) 0 (omega arith) (λ k lt. absurd (omega arith)) (λ k ge lt. over (suc k) (omega arith) (omega arith)))
   where
-    by : (b : Bool) → bytes_eq r.key key ≡ b → first_total w key rows ≡ row_total w key rows → cond (bytes_eq r.key key) (number_of w (r.p, r.n) + first_total w key rows) 0 ≡ cond (bytes_eq r.key key) (number_of w (r.p, r.n)) 0 + row_total w key rows
+    by : (b : Bool) → bytes_eq r.key key ≡ b → first_total w key rows ≡ row_total w key rows → cond (bytes_eq r.key key) (number_in_pair w (r.p, r.n) + first_total w key rows) 0 ≡ cond (bytes_eq r.key key) (number_in_pair w (r.p, r.n)) 0 + row_total w key rows
     by true is again =
-        ap (λ b. cond b (number_of w (r.p, r.n) + first_total w key rows) 0) is
-        ∙ ap (λ n. number_of w (r.p, r.n) + n) again
-        ∙ sym (ap (λ b. cond b (number_of w (r.p, r.n)) 0 + row_total w key rows) is)
+        ap (λ b. cond b (number_in_pair w (r.p, r.n) + first_total w key rows) 0) is
+        ∙ ap (λ n. number_in_pair w (r.p, r.n) + n) again
+        ∙ sym (ap (λ b. cond b (number_in_pair w (r.p, r.n)) 0 + row_total w key rows) is)
     by false is again =
         let over_key : slice_cmp nat_cmp r.key key ≡ Greater = greater_of _ (over 0 (omega arith) (omega arith)) (is_eq-slice_cmp r.key key ∙ is) in
         let none = none_after w key r rows (and_left (list_all (λ t. is_lt (row_cmp r t)) rows) _ rise) over_key in
-        ap (λ b. cond b (number_of w (r.p, r.n) + first_total w key rows) 0) is
-        ∙ sym (ap (λ b. cond b (number_of w (r.p, r.n)) 0 + row_total w key rows) is ∙ ap (λ n. 0 + n) none ∙ omega arith)
+        ap (λ b. cond b (number_in_pair w (r.p, r.n) + first_total w key rows) 0) is
+        ∙ sym (ap (λ b. cond b (number_in_pair w (r.p, r.n)) 0 + row_total w key rows) is ∙ ap (λ n. 0 + n) none ∙ omega arith)
 
 before_key : (a b key : List ℕ) (o : Ordering) → ordering_then (slice_cmp nat_cmp a b) o ≡ Less → is_lt (slice_cmp nat_cmp b key) ≡ true → is_lt (slice_cmp nat_cmp a key) ≡ true
 before_key a b key o less lt = by (slice_cmp nat_cmp a b) refl
@@ -177,12 +177,12 @@ keys_part key rows rise i j e le within lt = elim (cases_lt i j) [
   | inr from ↦ let same : i ≡ j = omega arith in ap (λ k. is_lt (slice_cmp nat_cmp (get_or rows k e).key key)) same ∙ lt
 ]
 
-chosen : (w : Which) (b : Bool) (x y : ℕ × ℕ) → x.0 ≤ MAX_COUNT → x.1 ≤ MAX_COUNT → number_of w y ≤ MAX_COUNT → number_of w (cond b x y) ≤ MAX_COUNT
+chosen : (w : Which) (b : Bool) (x y : ℕ × ℕ) → x.0 ≤ MAX_COUNT → x.1 ≤ MAX_COUNT → number_in_pair w y ≤ MAX_COUNT → number_in_pair w (cond b x y) ≤ MAX_COUNT
 chosen P true x y p n h = p
 chosen N true x y p n h = n
 chosen w false x y p n h = h
 
-pair_within : (w : Which) (key : List ℕ) (replica : ℕ) (rows : List CountRow) → list_all is_row rows ≡ true → number_of w (pair_of rows key replica) ≤ MAX_COUNT
+pair_within : (w : Which) (key : List ℕ) (replica : ℕ) (rows : List CountRow) → list_all is_row rows ≡ true → number_in_pair w (pair_of rows key replica) ≤ MAX_COUNT
 pair_within P key replica [] are = omega arith
 pair_within N key replica [] are = omega arith
 pair_within w key replica (r ∷ rows) are =
@@ -190,13 +190,13 @@ pair_within w key replica (r ∷ rows) are =
     chosen w (is_eq (ordering_then (slice_cmp nat_cmp r.key key) (nat_cmp r.replica replica))) (r.p, r.n) (pair_of rows key replica) own.0 own.1 (pair_within w key replica rows (and_right (is_row r) _ are))
 
 -- the sum of a key's numbers stays small
-sum_within : (w : Which) (key : List ℕ) (rows : List CountRow) → list_all is_row rows ≡ true → sum_by (λ i. number_of w (pair_of rows key i)) (range_with_len 0 256) ≤ 256 * MAX_COUNT
+sum_within : (w : Which) (key : List ℕ) (rows : List CountRow) → list_all is_row rows ≡ true → sum_by (λ i. number_in_pair w (pair_of rows key i)) (range_with_len 0 256) ≤ 256 * MAX_COUNT
 sum_within w key rows are =
-    subst (λ n. sum_by (λ i. number_of w (pair_of rows key i)) (range_with_len 0 256) ≤ n * MAX_COUNT) (length-range_with_len 0 256)
-    (sum_by-le (λ i. number_of w (pair_of rows key i)) MAX_COUNT (range_with_len 0 256) (λ k d lt. pair_within w key _ rows are))
+    subst (λ n. sum_by (λ i. number_in_pair w (pair_of rows key i)) (range_with_len 0 256) ≤ n * MAX_COUNT) (length-range_with_len 0 256)
+    (sum_by-le (λ i. number_in_pair w (pair_of rows key i)) MAX_COUNT (range_with_len 0 256) (λ k d lt. pair_within w key _ rows are))
 
-total_sum : (w : Which) (key : List ℕ) (rows : List CountRow) → rows_rise rows ≡ true → total (counts_of rows) key w ≡ sum_by (λ i. number_of w (pair_of rows key i)) (range_with_len 0 256)
-unfolding total
+total_sum : (w : Which) (key : List ℕ) (rows : List CountRow) → rows_rise rows ≡ true → total (counts_of rows) key w ≡ sum_by (λ i. number_in_pair w (pair_of rows key i)) (range_with_len 0 256)
+unfolding total_by
 total_sum w key rows rise = ap (λ (f : ℕ → ℕ). sum_by f (range_with_len 0 256)) (λ k i. sym (pair_number rows rise key i w ∙ get-counts_of rows (counts_of rows) refl (place key i w)) k)
 
 -- the sum over a key's first rows is that over all replicas

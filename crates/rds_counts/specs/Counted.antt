@@ -71,9 +71,9 @@ rows_fit [] = true
 rows_fit (r ∷ rows) = is_row r && before_next r rows && rows_fit rows
 
 -- one of two numbers
-abbrev pub number_of : Which → ℕ × ℕ → ℕ
-number_of P pair = pair.0
-number_of N pair = pair.1
+abbrev pub number_in_pair : Which → ℕ × ℕ → ℕ
+number_in_pair P pair = pair.0
+number_in_pair N pair = pair.1
 
 -- both numbers of a key and a replica
 abbrev pub pair_of : List CountRow → List ℕ → ℕ → ℕ × ℕ

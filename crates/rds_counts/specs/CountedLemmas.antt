@@ -15,7 +15,7 @@ use Rattle.rds_counts.specs.declared.row.Which.TheVariants.{P, N}
 use Rattle.rds_counts.specs.declared.row.CountRow.{CountRow}
 use Rattle.rds_counts.specs.Place.{Place, place_cmp, index_of}
 use Rattle.rds_counts.specs.PlaceOrder.{place_total, place_exact}
-use Rattle.rds_counts.specs.Counted.{Above, Counted, number, number_from, place, above, components, counts_of, row_cmp, is_row, rows_rise, before_next, rows_fit, pair_of, number_of, AreCountRows}
+use Rattle.rds_counts.specs.Counted.{Above, Counted, number, number_from, place, above, components, counts_of, row_cmp, is_row, rows_rise, before_next, rows_fit, pair_of, number_in_pair, AreCountRows}
 
 pub row_total : IsTotalOrder row_cmp
 row_total = then_total (on_total (λ (r : CountRow). r.key) nat_list_cmp_total) (on_total (λ (r : CountRow). r.replica) nat_cmp_total)
@@ -109,7 +109,7 @@ own_n false true p (suc n) rest x y z = refl
 own_n false false p n rest x y z = absurd (false≢true y)
 
 -- a row's own numbers
-pub number-own : (r : CountRow) (rows : List CountRow) (w : Which) → list_all (λ t. is_lt (row_cmp r t)) rows ≡ true → number_in (r ∷ rows) (place r.key r.replica w) ≡ number_of w (r.p, r.n)
+pub number-own : (r : CountRow) (rows : List CountRow) (w : Which) → list_all (λ t. is_lt (row_cmp r t)) rows ≡ true → number_in (r ∷ rows) (place r.key r.replica w) ≡ number_in_pair w (r.p, r.n)
 number-own r rows P all =
     number-row (place r.key r.replica P) r rows
     ∙ own_p _ (eq_by_cmp place_cmp (place r.key r.replica P) (place r.key r.replica N)) r.p r.n _ (ap is_eq (tied_itself place_total (place r.key r.replica P))) (apart r.key r.replica) (number_past r P rows all)
@@ -129,16 +129,16 @@ both_other false true x y p n rest h k = absurd (false≢true (sym k))
 both_other false false x y p n rest h k = refl
 
 -- what a look through the rows finds is the number
-pub pair_number : (rows : List CountRow) → rows_rise rows ≡ true → (key : List ℕ) (replica : ℕ) (w : Which) → number_of w (pair_of rows key replica) ≡ number_in rows (place key replica w)
+pub pair_number : (rows : List CountRow) → rows_rise rows ≡ true → (key : List ℕ) (replica : ℕ) (w : Which) → number_in_pair w (pair_of rows key replica) ≡ number_in rows (place key replica w)
 pair_number [] rise key replica P = refl
 pair_number [] rise key replica N = refl
 pair_number (r ∷ rows) rise key replica w =
     let again = pair_number rows (and_right (list_all (λ t. is_lt (row_cmp r t)) rows) _ rise) key replica w in
     let all = and_left (list_all (λ t. is_lt (row_cmp r t)) rows) _ rise in
-    elim (is_eq (ordering_then (slice_cmp nat_cmp r.key key) (nat_cmp r.replica replica))) as (λ b. is_eq (ordering_then (slice_cmp nat_cmp r.key key) (nat_cmp r.replica replica)) ≡ b → number_of w (cond b (r.p, r.n) (pair_of rows key replica)) ≡ number_in (r ∷ rows) (place key replica w)) [
+    elim (is_eq (ordering_then (slice_cmp nat_cmp r.key key) (nat_cmp r.replica replica))) as (λ b. is_eq (ordering_then (slice_cmp nat_cmp r.key key) (nat_cmp r.replica replica)) ≡ b → number_in_pair w (cond b (r.p, r.n) (pair_of rows key replica)) ≡ number_in (r ∷ rows) (place key replica w)) [
       | true ↦ λ is.
           let same : place r.key r.replica w ≡ place key replica w = place_exact _ _ (tie (slice_cmp nat_cmp r.key key) (nat_cmp r.replica replica) _ (equal_of _ is) (tied_itself nat_cmp_total (index_of w))) in
-          subst (λ q. number_of w (r.p, r.n) ≡ number_in (r ∷ rows) q) same (sym (number-own r rows w all))
+          subst (λ q. number_in_pair w (r.p, r.n) ≡ number_in (r ∷ rows) q) same (sym (number-own r rows w all))
       | false ↦ λ isnt. again ∙ sym (number-row (place key replica w) r rows ∙ both_other _ _ _ _ r.p r.n _ (other isnt P) (other isnt N))
     ] refl
   where

@@ -4,11 +4,11 @@ use Rattle.std.specs.Ordering.{is_eq}
 use Rattle.std.specs.FinMap as map
 use Rattle.rds_counts.specs.declared.row.CountRow.{CountRow}
 use Rattle.rds_counts.specs.Place.{Place}
-use Rattle.rds_counts.specs.Counted.{Above, Counted, number_of, row_cmp}
+use Rattle.rds_counts.specs.Counted.{Above, Counted, number_in_pair, row_cmp}
 
 -- a row with this number, and 0 for the other
 abbrev pub row_at : Place → ℕ → CountRow
-row_at q n = record { key = q.key; replica = q.replica; p = number_of q.which (n, 0); n = number_of q.which (0, n) }
+row_at q n = record { key = q.key; replica = q.replica; p = number_in_pair q.which (n, 0); n = number_in_pair q.which (0, n) }
 
 -- both rows' numbers
 abbrev pub both : CountRow → CountRow → CountRow

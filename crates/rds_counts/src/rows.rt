@@ -3,7 +3,7 @@ ghost use Rattle.std.specs.Prelude.{List, IsTrue, ◌↔◌, ◌≡◌, ◌≤�
 ghost use Rattle.std.specs.List.Sorted.{IsBinarySearchResult, IsSearchInRange};
 ghost use Rattle.rds_names.specs.declared.fault.Fault.TheVariants.{Memory, CounterFull};
 ghost use Rattle.rds_counts.specs.Place.{Place};
-ghost use Rattle.rds_counts.specs.Counted.{components, above, counts_of, AreCountRows, is_row as within_row, rows_fit, before_next, pair_of, number_of};
+ghost use Rattle.rds_counts.specs.Counted.{components, above, counts_of, AreCountRows, is_row as within_row, rows_fit, before_next, pair_of, number_in_pair};
 ghost use Rattle.rds_counts.specs.Drawn.{greatest_rows};
 ghost use Rattle.rds_counts.specs.Raised.{row_of, pair_raised};
 ghost use Rattle.rds_counts.specs.Value.{total, first_total};
@@ -117,7 +117,7 @@ pub fn raised_pair(pair: (u64, u64), which: Which, by: u64) -> Result<(u64, u64)
     requires { (pair.0 ≤ MAX_COUNT) × (pair.1 ≤ MAX_COUNT) }
     ensures ok { IfOk result (λ sum. sum ≡ pair_raised pair which by) }
     ensures within { IfOk result (λ sum. (sum.0 ≤ MAX_COUNT) × (sum.1 ≤ MAX_COUNT)) }
-    ensures full { IfErr result (λ fault. (fault ≡ CounterFull) × (MAX_COUNT < number_of which pair + by)) }
+    ensures full { IfErr result (λ fault. (fault ≡ CounterFull) × (MAX_COUNT < number_in_pair which pair + by)) }
 {
     let (p, n) = pair;
     match which {

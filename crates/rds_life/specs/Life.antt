@@ -93,14 +93,15 @@ IsNoLater (Some Dead) (Some (Live f)) = ⊥
 IsNoLater (Some Dead) (Some Dead) = Unit {0}
 
 -- no dot's life is later in the first
-pub record AtMost (a b : Lived) : Type 0 where
-  pub each_dot : (d : Dot) → IsNoLater (map.get a d) (map.get b d)
+abbrev pub AreNoLater : (Dot → Option Life) → (Dot → Option Life) → Type 0
+AreNoLater a b = (d : Dot) → IsNoLater (a d) (b d)
 
 -- above both, and at most all that is above both
 pub record IsLeastAbove (a b c : Lived) : Type 0 where
-  pub left : AtMost a c
-  pub right : AtMost b c
-  pub least : (d : Lived) → AtMost a d → AtMost b d → AtMost c d
+  pub left : AreNoLater (map.get a) (map.get c)
+  pub right : AreNoLater (map.get b) (map.get c)
+  pub least : (d : Lived) → AreNoLater (map.get a) (map.get d) → AreNoLater (map.get b) (map.get d)
+    → AreNoLater (map.get c) (map.get d)
 
 -- where both live, the entries are equal
 abbrev pub Agree : Option Life → Option Life → Type 0

@@ -1,10 +1,8 @@
 -- What the lines of `sim` are answered, over the model of all replicas.
 use Rattle.std.specs.Prelude.{◌≡◌, ◌⊎◌, ◌||◌, ◌≤◌, ℕ, Bool, false, List, [], ◌∷◌, ◌++◌, Option, Some, None, Result, Ok, Err, if◌then◌else◌}
-use Rattle.std.specs.List.{position}
-use Rattle.std.specs.Str.{bytes_eq}
 use Rattle.rds_names.specs.declared.fault.Fault.{Fault}
 use Rattle.rds_names.specs.declared.fault.Fault.TheVariants.{Memory, BadLine, BadRoster, NoSuch}
-use Rattle.rds_names.specs.Roster.{RosterValue}
+use Rattle.rds_names.specs.Roster.{RosterValue, number_named}
 use Rattle.rds_state.specs.Value.{StateValue, coordinates}
 use Rattle.rds_json.specs.Line.{line_of}
 use Rattle.rds_names.specs.AndThen.{◌>>=◌}
@@ -81,16 +79,8 @@ abbrev pub MeetsShow : Group → ℕ → List (List ℕ) → Reply → Option Gr
 MeetsShow g number path answer next =
     ((g.world.replicas ≤ number) × IsRefused (Some g) NoSuch answer next) ⊎ IsShown g number path answer next
 
-abbrev pub number_found : Option ℕ → Result ℕ Fault
-number_found (Some number) = Ok number
-number_found None = Err NoSuch
-
--- the number of a name in the roster
-abbrev pub number_of : RosterValue → List ℕ → Result ℕ Fault
-number_of roster name = number_found (position (bytes_eq name) roster.names)
-
 abbrev pub event_of : RosterValue → List ℕ → (ℕ → Event) → Result Request Fault
-event_of roster name event = number_of roster name >>= λ number. Ok (requests.Event (event number))
+event_of roster name event = number_named roster name >>= λ number. Ok (requests.Event (event number))
 
 -- what a line asks of replicas that are there: no other roster, and names of theirs alone
 abbrev pub request_of : RosterValue → Line → Result Request Fault
@@ -102,7 +92,7 @@ request_of roster (lines.Ask name) = event_of roster name events.Ask
 request_of roster (lines.Answer name k) = event_of roster name (λ number. events.Answer number k)
 request_of roster (lines.Take k) = Ok (requests.Event (events.Take k))
 request_of roster (lines.Grow name newcomer) = event_of roster name (λ number. events.Grow number newcomer)
-request_of roster (lines.Show name path) = number_of roster name >>= λ number. Ok (requests.Show number path)
+request_of roster (lines.Show name path) = number_named roster name >>= λ number. Ok (requests.Show number path)
 
 abbrev pub MeetsRequest : Group → Result Request Fault → Reply → Option Group → Type 0
 MeetsRequest g (Ok (requests.Event event)) answer next = MeetsEvent g event answer next

@@ -3,7 +3,8 @@ ghost use Rattle.std.specs.Prelude.{◌≡◌, ◌⊎◌, List, ℕ, Ok, Err, So
 ghost use Rattle.rds_names.specs.declared.fault.Fault.TheVariants.{Memory, NoSuch};
 ghost use Rattle.rds_lines.specs.Views.{ShowsView};
 ghost use Rattle.rds_lines.specs.Lines.{ReadsText};
-ghost use Rattle.rds_lines.specs.Sim.{Group, MeetsBytes, done_reply, number_of, request_of};
+ghost use Rattle.rds_names.specs.Roster.{number_named};
+ghost use Rattle.rds_lines.specs.Sim.{Group, MeetsBytes, done_reply, request_of};
 ghost use Rattle.rds_lines.specs.Simulated.{IsGroup, LeadsTo, LineLeadsTo, reply_of};
 ghost use Rattle.rds_state.specs.Fits.{ReplicaValue};
 
@@ -123,7 +124,7 @@ fn request_of(roster: &Roster, line: Line) -> Result<Request, Fault>
 }
 
 fn number_of(roster: &Roster, name: Name) -> Result<u8, Fault>
-    ensures { result ≡ number_of roster.now name }
+    ensures { result ≡ number_named roster.now name }
 {
     match roster.number_of(name) {
         Some(number) => Ok(number),

@@ -3,4 +3,5 @@ mod Made
 mod Padding
 mod Room
 pub mod Ascii
+pub mod Entries
 pub mod Orders

@@ -2,7 +2,7 @@
 use Rattle.std.specs.Prelude.{◌≡◌, ℕ, ◌≤◌, ◌<◌, true, max, Option, is_some}
 use Rattle.rds_dots.specs.declared.dot.Dot.{Dot}
 use Rattle.rds_counts.specs.Place.{Place}
-use Rattle.rds_life.specs.Life.{Life, IsNoLater, Agree, join_life}
+use Rattle.rds_life.specs.Life.{Life, AreNoLater, Agree, join_life}
 
 pub record Coordinates : Type 0 where
   pub life : Dot → Option Life
@@ -10,7 +10,7 @@ pub record Coordinates : Type 0 where
 
 -- at each coordinate the first is at most the second
 pub record AtMost (a b : Coordinates) : Type 0 where
-  pub lives : (d : Dot) → IsNoLater (a.life d) (b.life d)
+  pub lives : AreNoLater a.life b.life
   pub numbers : (q : Place) → a.number q ≤ b.number q
 
 -- no dot is live in both with different entries

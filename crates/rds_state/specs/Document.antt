@@ -1,11 +1,10 @@
 -- The document of a state: the entries that are live, and the counters with their values.
-use Rattle.std.specs.Prelude.{◌≡◌, ℕ, ◌<◌, ℤ, pos, ◌-ℤ◌, List, Some}
-use Rattle.std.specs.List.{sum_by, range_with_len}
+use Rattle.std.specs.Prelude.{◌≡◌, ℕ, ◌<◌, ℤ, List, Some}
 use Rattle.rds_names.specs.declared.entry.Entry.{Entry}
 use Rattle.rds_dots.specs.declared.dot.Dot.{Dot}
 use Rattle.rds_counts.specs.declared.row.Which.{Which}
-use Rattle.rds_counts.specs.declared.row.Which.TheVariants.{P, N}
 use Rattle.rds_counts.specs.Counted.{place}
+use Rattle.rds_counts.specs.Value.{value_by}
 use Rattle.rds_life.specs.Life.{Live}
 use Rattle.rds_state.specs.Coordinates.{Coordinates}
 
@@ -17,10 +16,6 @@ IsShown a e = (d : Dot) × (a.life d ≡ Some (Live e))
 abbrev pub IsCounted : Coordinates → List ℕ → Type 0
 IsCounted a key = (replica : ℕ) × (which : Which) × (0 < a.number (place key replica which))
 
--- the sum of a key's numbers over all replicas, 0 to 255
-unfoldable pub total_in : Coordinates → List ℕ → Which → ℕ
-total_in a key which = sum_by (λ replica. a.number (place key replica which)) (range_with_len 0 256)
-
--- all increments less all decrements
+-- what the key's counter stands at
 abbrev pub value_in : Coordinates → List ℕ → ℤ
-value_in a key = pos (total_in a key P) -ℤ pos (total_in a key N)
+value_in a = value_by a.number

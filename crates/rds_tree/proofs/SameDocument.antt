@@ -1,6 +1,6 @@
 -- The same document shows the same.
 use Rattle.std.proofs.Common.{◌≡◌, ℕ, ◌<◌, Bool, true, ◌||◌, List, [], ◌∷◌, map as each, refl, sym, ◌∙◌, ap, arith}
-use Rattle.std.specs.Prelude.{Option, Some, None, pos, ◌-ℤ◌}
+use Rattle.std.specs.Prelude.{Option, Some, None}
 use Rattle.std.specs.List.{list_any}
 use Rattle.std.specs.Ordering.{eq_by_cmp}
 use Rattle.std.specs.FinMap as map
@@ -13,10 +13,8 @@ use Rattle.rds_life.specs.Life.{Life, Live, Dead, Lived, live_row, live_rows}
 use Rattle.rds_counts.specs.Place.{Place}
 use Rattle.rds_counts.specs.PlaceOrder.{place_total, place_exact}
 use Rattle.rds_counts.specs.Counted.{Above, number_from, place}
-use Rattle.rds_counts.specs.declared.row.Which.{Which}
-use Rattle.rds_counts.specs.declared.row.Which.TheVariants.{P, N}
-use Rattle.rds_counts.specs.Value.{total, value_of}
-use Rattle.rds_state.specs.Document.{IsCounted, IsShown, total_in, value_in}
+use Rattle.rds_counts.specs.Value.{value_of}
+use Rattle.rds_state.specs.Document.{IsCounted, IsShown, value_in}
 use Rattle.rds_state.specs.Value.{StateValue, coordinates}
 use Rattle.rds_tree.specs.Once.{once_same}
 use Rattle.rds_tree.specs.Document.{Placed, entry_placed, entries_in, key_cmp, counted_keys, sums_of, document}
@@ -101,13 +99,9 @@ same_keys v w same = once_same nat_list_cmp_total (slice_cmp-IsAntisymmetric nat
     (λ h. counted_passes t v (same_counts t w v (λ k. (same.counted k).1) (some_counts t w h)))
     ∙ sym (any-map t (λ e. e.0.key) (map.entries w.counts)))
 
-total_is : (v : StateValue) (key : List ℕ) (which : Which) → total_in (coordinates v) key which ≡ total v.counts key which
-unfolding total_in total
-total_is v key which = refl
-
 -- the sum in the document is what the counter stands at
 pub value_is : (v : StateValue) (key : List ℕ) → value_in (coordinates v) key ≡ value_of v.counts key
-value_is v key i = pos (total_is v key P i) -ℤ pos (total_is v key N i)
+value_is v key = refl
 
 same_sums : (v w : StateValue) → AreSameDocument v w → sums_of v.counts ≡ sums_of w.counts
 same_sums v w same = (λ i. each (λ k. (k, (sym (value_is v k) ∙ same.sums k ∙ value_is w k) i)) (counted_keys v.counts)) ∙ ap (each (λ k. (k, value_of w.counts k))) (same_keys v w same)

@@ -8,7 +8,8 @@ use Rattle.rds_counts.specs.declared.row.Which.TheVariants.{P, N}
 use Rattle.rds_counts.specs.Place.{Place}
 use Rattle.rds_counts.specs.Counted.{place}
 use Rattle.rds_state.specs.Coordinates.{Coordinates}
-use Rattle.rds_state.specs.Document.{IsCounted, total_in, value_in}
+use Rattle.rds_counts.specs.Value.{total_by}
+use Rattle.rds_state.specs.Document.{IsCounted, value_in}
 use Rattle.rds_world.specs.World.{World}
 use Rattle.rds_world.specs.Held.{Update, Holdings, amount, share, IsChanged, total_of, value_of}
 use Rattle.rds_world.specs.Coherent.{Store, state_in}
@@ -165,8 +166,8 @@ share_over T S key which R i lt =
     sum_same (λ s. share T (of_replica T S s) key which i) (λ s. cond (s == (T i).replica) (share T S key which i) 0) R (λ s. one_share (S i) (T i).replica s (amount (T i).command key which))
     ∙ sum_one (T i).replica (share T S key which i) R lt
 
-total_is : (a : Coordinates) (key : List ℕ) (which : Which) (R : ℕ) → R ≡ 256 → total_in a key which ≡ sum_by (λ s. a.number (place key s which)) (range_with_len 0 R)
-unfolding total_in
+total_is : (a : Coordinates) (key : List ℕ) (which : Which) (R : ℕ) → R ≡ 256 → total_by a.number key which ≡ sum_by (λ s. a.number (place key s which)) (range_with_len 0 R)
+unfolding total_by
 total_is a key which R e = ap (λ n. sum_by (λ s. a.number (place key s which)) (range_with_len 0 n)) (sym e)
 
 parts_of_share : (a : Bool) (n : ℕ) → 0 < cond a n 0 → (a ≡ true) × (0 < n)
@@ -182,7 +183,7 @@ module _ (T : ℕ → Update) (B : ℕ → Coordinates) (h : Holdings) (w : Worl
       ∙ (sum_swap (λ i s. share T (of_replica T (held_in h x r) s) key which i) h.size R
       ∙ sum_within (λ i. sum_below (λ s. share T (of_replica T (held_in h x r) s) key which i) R) (share T (held_in h x r) key which) h.size (λ i lt. share_over T (held_in h x r) key which R i (let p = l.placed i lt in omega (arith, p, le))))
 
-  store_total : (R : ℕ) → R ≡ 256 → w.replicas ≤ R → (which : Which) → total_in (state_in w x r) key which ≡ total_of T h.size (held_in h x r) key which
+  store_total : (R : ℕ) → R ≡ 256 → w.replicas ≤ R → (which : Which) → total_by (state_in w x r).number key which ≡ total_of T h.size (held_in h x r) key which
   store_total R e le which =
       total_is (state_in w x r) key which R e
       ∙ sum_is (λ s. (state_in w x r).number (place key s which)) R
