@@ -1,6 +1,6 @@
 -- An entry by its parts.
 use Rattle.std.specs.Prelude.{ℕ, List, Option}
-use Rattle.rds_names.specs.Entry.{entry_with}
+use Rattle.rds_names.specs.Entry.{entry_from_parts}
 use Rattle.rds_names.specs.declared.entry.Entry.{Entry}
 use Rattle.rds_names.specs.declared.entry.Kind.{Kind}
 use Rattle.rds_names.specs.declared.scalar.Scalar.{Scalar}
@@ -14,4 +14,4 @@ parts_of e = (e.path, (e.kind, e.value))
 
 -- the entry, where the path has one key at least and 8 at most
 abbrev pub entry_of : Parts → Option Entry
-entry_of p = entry_with p.0 p.1.0 p.1.1
+entry_of p = entry_from_parts p.0 p.1.0 p.1.1

@@ -6,7 +6,7 @@ use Rattle.std.proofs.lemmas.Bool.{le-leb, leb-true}
 use Rattle.rds_names.specs.declared.entry.Entry.{Entry}
 use Rattle.rds_names.specs.declared.entry.Kind.{Kind}
 use Rattle.rds_names.specs.declared.scalar.Scalar.{Scalar}
-use Rattle.rds_names.specs.Entry.{HasParts, entry_where, entry_with}
+use Rattle.rds_names.specs.Entry.{HasParts, entry_where, entry_from_parts}
 
 -- the ghost fields are the same, however they were proved
 entry_where_is : (e : Entry) (some few : Bool) (p : nat_le 1 (length e.path) ≡ some) (q : nat_le (length e.path) 8 ≡ few) → some ≡ true → few ≡ true
@@ -23,7 +23,7 @@ entry_where_is e true false p q one most = absurd cc
 entry_where_is e false few p q one most = absurd cc
 
 pub entry_of_parts : (path : List (List ℕ)) (kind : Kind) (value : Scalar) (e : Entry) → HasParts path kind value e
-    → entry_with path kind value ≡ Some e
+    → entry_from_parts path kind value ≡ Some e
 entry_of_parts path kind value e h =
-    (λ i. entry_with (sym h.at i) (sym h.stands i) (sym h.holds i))
+    (λ i. entry_from_parts (sym h.at i) (sym h.stands i) (sym h.holds i))
     ∙ entry_where_is e _ _ refl refl (le-leb _ _ e.below_root) (le-leb _ _ e.within)

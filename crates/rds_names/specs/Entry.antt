@@ -20,5 +20,5 @@ entry_where path kind value true false some few = None
 entry_where path kind value false few some _ = None
 
 -- the entry of these parts, where the path has one key at least and 8 at most
-abbrev pub entry_with : List (List ℕ) → Kind → Scalar → Option Entry
-entry_with path kind value = entry_where path kind value (nat_le 1 (length path)) (nat_le (length path) 8) refl refl
+abbrev pub entry_from_parts : List (List ℕ) → Kind → Scalar → Option Entry
+entry_from_parts path kind value = entry_where path kind value (nat_le 1 (length path)) (nat_le (length path) 8) refl refl
