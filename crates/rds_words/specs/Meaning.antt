@@ -1,17 +1,15 @@
 -- What the words of commands on files mean.
 use Rattle.std.specs.Prelude.{◌≡◌, ℕ, List, [], ◌∷◌, Option, Some, None, Result, Ok, Err, IfErr, MatchResult, map}
-use Rattle.std.specs.List.{position}
-use Rattle.std.specs.Str.{bytes_eq}
 use Rattle.std.specs.Str.Parse.{ParsesUnsigned}
 use Rattle.serde_json.specs.Data.{Data}
 use Rattle.serde_json.specs.Read.{read}
 use Rattle.rds_names.specs.declared.fault.Fault.{Fault}
-use Rattle.rds_names.specs.declared.fault.Fault.TheVariants.{BadLine, NoSuch, Usage}
+use Rattle.rds_names.specs.declared.fault.Fault.TheVariants.{BadLine, Usage}
 use Rattle.rds_names.specs.declared.scalar.Scalar.{Scalar}
 use Rattle.rds_names.specs.Key.{key_of}
 use Rattle.rds_names.specs.Name.{name_of}
 use Rattle.rds_names.specs.Path.{path_of}
-use Rattle.rds_names.specs.Roster.{RosterValue, roster_of}
+use Rattle.rds_names.specs.Roster.{RosterValue, number_named, roster_of}
 use Rattle.rds_state.specs.declared.command.Command.{Command}
 use Rattle.rds_state.specs.declared.command.Command.TheVariants as commands
 use Rattle.rds_names.specs.AndThen.{◌>>=◌}
@@ -57,18 +55,11 @@ names_in (text ∷ texts) = name_of text >>= λ name. names_in texts >>= λ name
 abbrev pub names_for : GrowWords → Result (List (List ℕ)) Fault
 names_for words = names_in (map (λ n. n.now) words.names.items)
 
--- the number of a name in the roster
-abbrev pub place_in : RosterValue → List ℕ → Result (RosterValue × ℕ) Fault
-place_in roster own = placed (position (bytes_eq own) roster.names)
-  where
-    placed : Option ℕ → Result (RosterValue × ℕ) Fault
-    placed (Some number) = Ok (roster, number)
-    placed None = Err NoSuch
-
 -- a roster and an own number, or the fault of the first word that is none
 abbrev pub roster_in : List ℕ → List ℕ → List (List ℕ) → Result (RosterValue × ℕ) Fault
 roster_in group own names =
-    key_of group >>= λ g. name_of own >>= λ o. names_in names >>= λ ns. roster_of g ns >>= λ r. place_in r o
+    key_of group >>= λ g. name_of own >>= λ o. names_in names >>= λ ns. roster_of g ns >>= λ r.
+    number_named r o >>= λ number. Ok (r, number)
 
 -- the same, of the words of `init`
 abbrev pub roster_for : InitWords → Result (RosterValue × ℕ) Fault
