@@ -10,6 +10,7 @@ ghost use Rattle.rds_keep.specs.Snapshots.{RefusesText};
 use crate::counted::Counted;
 use crate::kept::Kept;
 use crate::place::Place;
+use crate::snapshots::text_can_be_kept;
 use rds_codec::encode_snapshot;
 use rds_dots::DotSet;
 use rds_names::Fault;
@@ -38,6 +39,7 @@ pub fn write_owned<S: DotSet, W: Write>(
         → length (snapshot_text replica) ≤ LIMIT }
 {
     let text = encode_snapshot(alloc, &replica)?;
+    text_can_be_kept(&replica, text.as_slice());
     let kept = Kept::new(replica);
     writer.write_all(text.as_slice())?;
     Ok(kept)

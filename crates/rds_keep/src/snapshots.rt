@@ -1,13 +1,14 @@
 //! Snapshots, written and read whole.
-ghost use Rattle.std.specs.Prelude.{◌≡◌, ◌≢◌, ◌-◌, ◌≤◌, ◌⊎◌, length, Err, IfOk, IfErr, IfSome, OnOk, OnErr};
+ghost use Rattle.std.specs.Prelude.{◌≡◌, ◌≢◌, ◌-◌, ◌≤◌, ◌⊎◌, length, Ok, Err, IfOk, IfErr, IfSome, OnOk, OnErr};
 ghost use Rattle.std.specs.FinMap as map;
 ghost use Rattle.std.specs.Io.KnownBytes.{Appends, Consumes, IsAtEnd};
 ghost use Rattle.rds_names.specs.declared.fault.Fault.TheVariants.{Memory, Cut, Bad, Device};
 ghost use Rattle.rds_bytes.specs.Spelling.{magic};
-ghost use Rattle.rds_codec.specs.Decoding.{IsOtherFault};
-ghost use Rattle.rds_codec.specs.StateTexts.{snapshot_text, IsSnapshot};
+ghost use Rattle.rds_codec.specs.Decoding.{IsOtherFault, all_of};
+ghost use Rattle.rds_codec.specs.StateTexts.{snapshot_at, snapshot_text, IsSnapshot};
 ghost use Rattle.rds_codec.specs.declared.limits.TheConstants.{LIMIT};
 ghost use Rattle.rds_keep.specs.Counted.{HasFailed, most_read};
+ghost use Rattle.rds_keep.specs.Kept.{IsKept};
 ghost use Rattle.rds_keep.specs.Parts.{AppendsPart, ConsumesAtMost};
 ghost use Rattle.rds_keep.specs.Snapshots.{IsForeign, IsShort, IsUnread, ReadsWhole, RefusesText, WantsMoreReads};
 
@@ -22,6 +23,15 @@ use rds_names::Fault;
 use rds_state::Replica;
 use std::alloc::Global;
 use std::io::{Read, Write};
+
+/// A replica whose text, read again, is this very replica can be kept. The function does nothing: its
+/// contract is this law.
+pub(crate) fn text_can_be_kept<S: DotSet>(replica: &Replica<S>, text: &[u8])
+    requires text { text.now ≡ snapshot_text replica.now }
+    requires within { length (snapshot_text replica.now) ≤ LIMIT }
+    requires again { all_of snapshot_at text.now ≡ Ok replica.now }
+    ensures { IsKept replica.now }
+{}
 
 /// Writes the replica's snapshot. The kept replica equals the one that was lent, with memory of its
 /// own.
@@ -48,6 +58,7 @@ pub fn write_snapshot<S: DotSet, W: Write>(
         → length (snapshot_text replica.now) ≤ LIMIT }
 {
     let text = encode_snapshot(alloc, replica)?;
+    text_can_be_kept(replica, text.as_slice());
     let kept = Kept::new(replica.copy(alloc)?);
     writer.write_all(text.as_slice())?;
     Ok(kept)
