@@ -1,4 +1,4 @@
--- The counters are a format.
+-- The counters are a format, for each format of their keys.
 use Rattle.std.proofs.Common.{◌≡◌, ℕ, ◌^◌, ◌<◌, Bool, true, ltb, ◌&&◌, ◌||◌, List, [], ◌∷◌, ◌++◌, length, Ok, Option, Some, None, refl, sym, ap, subst, ◌∙◌, arith}
 use Rattle.std.specs.List.{AllByRecursion}
 use Rattle.std.specs.Int.{w32, w64, to_be_bytes}
@@ -9,12 +9,12 @@ use Rattle.rds_counts.specs.CountedLemmas.{fits_rows, rows_fit_of}
 use Rattle.rds_names.specs.Conditions.{and_true, and_left, and_right}
 use Rattle.rds_counts.specs.RowsOf.{count_rows}
 use Rattle.rds_counts.specs.RowsOfLemmas.{count_rows-counts_of}
-use Rattle.rds_bytes.specs.Values.{is_key_text, IsCountRowOf, AreCountsOf}
-use Rattle.rds_bytes.specs.Spelling.{place_text, count_row_text, count_rows_text, counters_text}
+use Rattle.rds_bytes.specs.Values.{is_key_text, IsKeyText, HasKey, IsCountRowOf, AreCountsOf}
+use Rattle.rds_bytes.specs.Spelling.{short_text, keyed_place_text, keyed_count_row_text, keyed_count_rows_text, keyed_counters_text, counters_text}
 use Rattle.rds_bytes.specs.Reading as read
-use Rattle.rds_bytes.specs.Reading.{number_at, rows_after, last, comes_after_row, is_next_place, is_count, is_second}
+use Rattle.rds_bytes.specs.Reading.{Reader, number_at, rows_after, last, comes_after_row, is_next_place, is_count, is_second}
 use Rattle.rds_bytes.proofs.Format.{IsFormat, IsBytes, byte_format, number32, number64, then_format, pair_format, made_format, when_format, refit}
-use Rattle.rds_bytes.proofs.Lists.{AllAfter, list_format}
+use Rattle.rds_bytes.proofs.Lists.{AllAfter, all_both, both_all, list_format}
 use Rattle.rds_bytes.proofs.PartFormats.{key_format, last-push}
 use Rattle.rds_bytes.proofs.RowsRead.{list_found}
 
@@ -22,10 +22,6 @@ use Rattle.rds_bytes.proofs.RowsRead.{list_found}
 
 abbrev ArePlaced : ℕ → List CountRow → List ℕ × ℕ → Type 0
 ArePlaced replicas before p = ((is_key_text p.0 ≡ true) × (p.1 < 256)) × (is_next_place replicas before p ≡ true)
-
-place_format : (replicas : ℕ) (before : List CountRow) → IsFormat (read.place_at replicas before) (λ p. place_text p.0 p.1) (ArePlaced replicas before)
-unfolding read.place_at
-place_format replicas before = when_format (is_next_place replicas before) _ _ _ (pair_format _ _ _ _ _ _ key_format byte_format)
 
 abbrev ArePair : ℕ × ℕ → Type 0
 ArePair x = ((x.0 < 2 ^ 64) × (is_count x.0 ≡ true)) × ((x.1 < 2 ^ 64) × (is_second x.0 x.1 ≡ true))
@@ -64,12 +60,6 @@ row_back replicas before x h =
     let n = and_left (is_count x.1.1) _ h.1.1.1 in
     let some = and_right (is_count x.1.1) _ h.1.1.1 in
     (record { next = h.0.1; key = h.0.0.0; is = and_true _ _ (and_true _ _ (and_true _ _ some h.1.0.1) n) (lt-ltb x.0.1 256 h.0.0.1) }, refl)
-
-row_format : (replicas : ℕ) (before : List CountRow) → IsFormat (read.count_row_at replicas before) count_row_text (IsRowAfter replicas before)
-unfolding read.count_row_at
-row_format replicas before =
-    made_format read.count_row_by row_parts _ _ _ (IsRowAfter replicas before) (row_there replicas before) (row_back replicas before)
-    (pair_format _ _ _ _ _ _ (place_format replicas before) counts_format)
 
 -- ---- rows
 
@@ -120,14 +110,6 @@ module _ (replicas : ℕ) where
   abbrev AreRead : List CountRow → Type 0
   AreRead rows = CanCountRows rows × (AreCountRows rows × AreOf rows)
 
-  rows_format : IsFormat (read.count_rows_at replicas) count_rows_text AreRead
-  unfolding read.count_rows_at
-  rows_format =
-      refit _ _ _ AreRead
-      (λ rows h. (let is = rows_of rows [] h.1 in (h.0, (fits_rows rows is.0.1, is.1))))
-      (λ rows h. (h.0, of_rows rows [] (follows_none rows) (rows_fit_of rows h.1.0) h.1.1))
-      (list_format _ _ _ (row_format replicas) _ _ _ number32)
-
   -- ---- the counters
 
   abbrev pub AreCounts : Counted → Type 0
@@ -146,13 +128,77 @@ module _ (replicas : ℕ) where
       let same = count_rows-counts_of rows h.1.0 in
       ((record { rows = rows; are_rows = h.1.0; each_row = h.1.1; value = refl }, subst CanCountRows (sym same) h.0), same)
 
-  pub counters_format : IsFormat (read.counters_at replicas) counters_text AreCounts
-  unfolding read.counters_at counters_text
-  counters_format = made_format counts_of count_rows _ count_rows_text AreRead AreCounts there back rows_format
+-- ---- rows and counters, for a format of their keys
 
-  -- rows that were read are rows
-  pub count_rows_read : (bytes : List ℕ) (n : ℕ) (middle : List ℕ) (rows : List CountRow) (rest : List ℕ) → IsBytes bytes
-      → number_at w32 bytes ≡ Ok (n, middle) → rows_after (read.count_row_at replicas) [] n middle ≡ Ok (rows, rest) → AreCountRows rows
-  unfolding read.count_rows_at
-  count_rows_read bytes n middle rows rest fits p q =
-      (rows_format.takes bytes (rows, rest) fits (list_found (number_at w32) (read.count_row_at replicas) bytes n middle rows rest p q)).1.1.0
+abbrev IsPlaceOf : (List ℕ → Type 0) → ℕ → List CountRow → List ℕ × ℕ → Type 0
+IsPlaceOf IsKey replicas before p = (IsKey p.0 × (p.1 < 256)) × (is_next_place replicas before p ≡ true)
+
+abbrev IsRowOf : (List ℕ → Type 0) → ℕ → List CountRow → CountRow → Type 0
+IsRowOf IsKey replicas before r = IsRowAfter replicas before r × HasKey IsKey r
+
+abbrev ArePartsOf : (List ℕ → Type 0) → ℕ → List CountRow → (List ℕ × ℕ) × (ℕ × ℕ) → Type 0
+ArePartsOf IsKey replicas before x = IsPlaceOf IsKey replicas before x.0 × ArePair x.1
+
+abbrev AreReadOf : (List ℕ → Type 0) → ℕ → List CountRow → Type 0
+AreReadOf IsKey replicas rows = AreRead replicas rows × AllByRecursion (HasKey IsKey) rows
+
+abbrev pub AreCountsWith : (List ℕ → Type 0) → ℕ → Counted → Type 0
+AreCountsWith IsKey replicas m = AreCounts replicas m × AllByRecursion (HasKey IsKey) (count_rows m)
+
+module _ (key : Reader (List ℕ)) (key_text : List ℕ → List ℕ) (IsKey : List ℕ → Type 0) (are_texts : (k : List ℕ) → IsKey k → IsKeyText k) (key_is : IsFormat key key_text IsKey) (replicas : ℕ) where
+  place_format : (before : List CountRow) → IsFormat (read.keyed_place_at key replicas before) (λ p. keyed_place_text key_text p.0 p.1) (IsPlaceOf IsKey replicas before)
+  unfolding read.keyed_place_at
+  place_format before = when_format (is_next_place replicas before) _ _ _ (pair_format _ _ _ _ _ _ key_is byte_format)
+
+  row_of_there : (before : List CountRow) (r : CountRow) → IsRowOf IsKey replicas before r → ArePartsOf IsKey replicas before (row_parts r) × (r ≡ r)
+  row_of_there before r h = (let t = row_there replicas before r h.0 in ((((h.1, t.0.0.0.1), t.0.0.1), t.0.1), refl))
+
+  row_of_back : (before : List CountRow) (x : (List ℕ × ℕ) × (ℕ × ℕ)) → ArePartsOf IsKey replicas before x → IsRowOf IsKey replicas before (read.count_row_by x) × (x ≡ x)
+  row_of_back before x h = (let b = row_back replicas before x (((are_texts x.0.0 h.0.0.0, h.0.0.1), h.0.1), h.1) in ((b.0, h.0.0.0), refl))
+
+  row_format : (before : List CountRow) → IsFormat (read.keyed_count_row_at key replicas before) (keyed_count_row_text key_text) (IsRowOf IsKey replicas before)
+  unfolding read.keyed_count_row_at
+  row_format before =
+      made_format read.count_row_by row_parts _ _ _ (IsRowOf IsKey replicas before) (row_of_there before) (row_of_back before)
+      (pair_format _ _ _ _ _ _ (place_format before) counts_format)
+
+  rows_format : IsFormat (read.keyed_count_rows_at key replicas) (keyed_count_rows_text key_text) (AreReadOf IsKey replicas)
+  unfolding read.keyed_count_rows_at
+  rows_format =
+      refit _ _ _ (AreReadOf IsKey replicas)
+      (λ rows h. (let both = all_both (IsRowAfter replicas) (HasKey IsKey) [] rows h.1 in let is = rows_of replicas rows [] both.0 in ((h.0, (fits_rows rows is.0.1, is.1)), both.1)))
+      (λ rows h. (h.0.0, both_all (IsRowAfter replicas) (HasKey IsKey) [] rows (of_rows replicas rows [] (follows_none rows) (rows_fit_of rows h.0.1.0) h.0.1.1) h.1))
+      (list_format _ _ _ row_format _ _ _ number32)
+
+  counts_there : (m : Counted) → AreCountsWith IsKey replicas m → AreReadOf IsKey replicas (count_rows m) × (counts_of (count_rows m) ≡ m)
+  counts_there m h = (let t = there replicas m h.0 in ((t.0, h.1), t.1))
+
+  counts_back : (rows : List CountRow) → AreReadOf IsKey replicas rows → AreCountsWith IsKey replicas (counts_of rows) × (count_rows (counts_of rows) ≡ rows)
+  counts_back rows h = (let b = back replicas rows h.0 in ((b.0, subst (AllByRecursion (HasKey IsKey)) (sym b.1) h.1), b.1))
+
+  pub keyed_counters_format : IsFormat (read.keyed_counters_at key replicas) (keyed_counters_text key_text) (AreCountsWith IsKey replicas)
+  unfolding read.keyed_counters_at keyed_counters_text
+  keyed_counters_format = made_format counts_of count_rows _ _ (AreReadOf IsKey replicas) (AreCountsWith IsKey replicas) counts_there counts_back rows_format
+
+-- ---- counters of which each key is a short text
+
+have_texts : (replicas : ℕ) (rows : List CountRow) → AllByRecursion (IsCountRowOf replicas) rows → AllByRecursion (HasKey IsKeyText) rows
+have_texts replicas [] h = tt
+have_texts replicas (r ∷ rows) h = (h.0.0, have_texts replicas rows h.1)
+
+counts_texts : (replicas : ℕ) (m : Counted) → AreCounts replicas m → AllByRecursion (HasKey IsKeyText) (count_rows m)
+counts_texts replicas m h = have_texts replicas (count_rows m) (there replicas m h).0.1.1
+
+pub counters_format : (replicas : ℕ) → IsFormat (read.counters_at replicas) counters_text (AreCounts replicas)
+unfolding read.counters_at read.count_rows_at read.count_row_at read.place_at read.keyed_counters_at read.keyed_count_rows_at read.keyed_count_row_at read.keyed_place_at counters_text keyed_counters_text
+counters_format replicas =
+    refit _ _ _ (AreCounts replicas) (λ m h. h.0) (λ m h. (h, counts_texts replicas m h))
+    (keyed_counters_format read.key_at short_text IsKeyText (λ k h. h) key_format replicas)
+
+-- rows that were read are rows
+pub count_rows_read : (replicas : ℕ) (bytes : List ℕ) (n : ℕ) (middle : List ℕ) (rows : List CountRow) (rest : List ℕ) → IsBytes bytes
+    → number_at w32 bytes ≡ Ok (n, middle) → rows_after (read.count_row_at replicas) [] n middle ≡ Ok (rows, rest) → AreCountRows rows
+unfolding read.count_row_at read.place_at read.keyed_count_rows_at read.keyed_count_row_at read.keyed_place_at
+count_rows_read replicas bytes n middle rows rest fits p q =
+    ((rows_format read.key_at short_text IsKeyText (λ k h. h) key_format replicas).takes bytes (rows, rest) fits
+    (list_found (number_at w32) (read.count_row_at replicas) bytes n middle rows rest p q)).1.0.1.0
