@@ -20,3 +20,6 @@ mod RunSteps
 pub mod Sequences
 mod SetRowLemmas
 pub mod SteadyRows
+pub mod TableFormats
+pub mod TabledFormats
+pub mod Tables

@@ -1,6 +1,7 @@
 pub mod DotRows
 pub mod Entries
 pub mod Inserting
+pub mod OneText
 pub mod Reading
 pub mod RowDots
 pub mod SetRows
@@ -8,5 +9,9 @@ pub mod Spelling
 pub mod Steady
 pub mod SteadyLaws
 pub mod SteadyParts
+pub mod SteadyTables
+pub mod Table
+pub mod TableTexts
+pub mod Tabled
 pub mod Values
 pub mod Writing

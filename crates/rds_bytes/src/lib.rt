@@ -2,8 +2,8 @@
 //!
 //! To be read in this order: `numbers` and `strings`; `list`, by which parts are read one after the other; `keys`,
 //! `paths`, `scalars`, `entries` and `live_rows`; `counters`; `roster` and `header`; `dots`, and `dot_rows` for
-//! sets of which a row comes in pieces; `laws`, which has the text of sets in their own words, and of each reader that
-//! what it says stays said, whatever follows.
+//! sets of which a row comes in pieces; `laws`, which has the text of sets in their own words, of each reader that what
+//! it says stays said, whatever follows, and the laws of tables, which number the keys of rows.
 #![tactic(auto)]
 
 mod counters;
@@ -29,7 +29,7 @@ pub use header::{MAGIC, put_header, read_header};
 pub use keys::{key_length, read_key};
 pub use laws::{
     parts_are_taken_one_by_one, readers_are_steady, rows_are_read_in_steps,
-    sets_are_spelled_by_rows,
+    sets_are_spelled_by_rows, tables_are_met_in_turn, tables_are_steady, tables_have_one_text,
 };
 pub use list::{PartReader, read_parts};
 pub use live_rows::{LiveRowReader, live_rows_length, put_live_rows, read_live_rows};
