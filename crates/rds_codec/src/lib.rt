@@ -10,6 +10,7 @@ mod answers;
 mod certificates;
 mod digests;
 mod exchanges;
+mod formats;
 mod hellos;
 mod laws;
 mod limits;
@@ -24,8 +25,12 @@ pub use certificates::{
 };
 pub use digests::{decode_digest, digests_have_texts, encode_digest};
 pub use exchanges::{answer, ask, pull, take_certified};
+pub use formats::Format;
 pub use hellos::{Hello, VERSION, decode_hello, encode_hello, hellos_have_texts, read_hello};
-pub use laws::{decoding_has_one_result, limits_of_texts, texts_outlive_growth, texts_stand_apart};
+pub use laws::{
+    decoding_has_one_result, decoding_has_one_result_in_each_format, formats_outlive_growth,
+    formats_stand_apart, limits_of_texts, texts_outlive_growth, texts_stand_apart,
+};
 pub use limits::LIMIT;
 pub use rds_bytes::{
     CountRowReader, DotRow, DotRowReader, Gap, GapReader, Gaps, LiveRowReader, NameReader,
@@ -35,4 +40,4 @@ pub use rds_bytes::{
 };
 pub use snapshots::{decode_snapshot, encode_snapshot, snapshots_have_texts};
 pub use states::{decode_state, encode_state, states_have_texts};
-pub use steady::texts_are_read_steadily;
+pub use steady::{formats_are_read_steadily, texts_are_read_steadily};
