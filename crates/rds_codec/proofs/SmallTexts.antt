@@ -1,10 +1,12 @@
 -- The text of a replica without components is short.
-use Rattle.std.proofs.Common.{filter_map, ◌≡◌, ◌≤◌, false, List, [], length, refl, sym, ◌∙◌, ap, arith}
+use Rattle.std.proofs.Common.{filter_map, ◌≡◌, ℕ, ◌≤◌, inl, inr, false, List, [], length, refl, sym, ◌∙◌, ap, arith}
 use Rattle.std.specs.Prelude.{is_some}
 use Rattle.std.proofs.lemmas.List.{nil_from_length}
 use Rattle.std.specs.List.{flat_map}
 use Rattle.std.specs.FinMap as map
 use Rattle.std.specs.FinSet as set
+use Rattle.rds_names.specs.declared.fault.Fault.{Fault}
+use Rattle.rds_names.specs.declared.fault.Fault.TheVariants.{Memory}
 use Rattle.rds_counts.specs.Counted.{Above, Counted}
 use Rattle.rds_counts.specs.Place.{Place, place_cmp}
 use Rattle.rds_counts.specs.RowsOf.{rows_of}
@@ -20,6 +22,7 @@ use Rattle.rds_state.specs.Value.{StateValue}
 use Rattle.rds_bytes.specs.DotRows.{rows_from}
 use Rattle.rds_bytes.specs.Spelling.{dot_rows_text, dots_text, live_row_text, count_rows_text, counters_text, member_text}
 use Rattle.rds_codec.specs.StateTexts.{state_text, snapshot_text}
+use Rattle.rds_codec.specs.Writing.{IsUnwritten}
 use Rattle.rds_codec.specs.declared.limits.TheConstants.{LIMIT}
 use Rattle.rds_codec.proofs.Texts.{state_length, snapshot_length}
 
@@ -56,3 +59,7 @@ small_snapshot v few lives counts =
     let whole = snapshot_length v in
     let state = empty_length v.state lives counts in
     omega (arith, few, whole, state)
+
+-- a text within the limit wants nothing but memory
+pub wants_memory : (n : ℕ) (e : Fault) → n ≤ LIMIT → IsUnwritten n e → e ≡ Memory
+wants_memory n e within h = elim h [ inl memory ↦ memory.0 | inr long ↦ absurd (let above = long.1 in omega (arith, within, above)) ]

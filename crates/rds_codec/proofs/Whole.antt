@@ -140,3 +140,10 @@ stand_apart {V} kind reader laws v w x y p q e =
     let both : done (v, x) ≡ done (w, y) = sym (laws.again v x p.is_value p.within) ∙ ap reader e ∙ laws.again w y q.is_value q.within in
     let is = ok_is (v, x) (w, y) both in
     (ap (λ (r : V × List ℕ). r.0) is, ap (λ (r : V × List ℕ). r.1) is)
+
+-- a value's text, all of it, is read as this value
+pub text_again : {V : Type 0} (kind : Kind V) (reader : Reader V) → IsReaderOf kind reader → (v : V) → kind.is_value v → length (kind.text v) ≤ LIMIT
+    → all_of reader (kind.text v) ≡ Ok v
+text_again kind reader laws v is within =
+    let got : reader (kind.text v) ≡ Ok (v, []) = ap reader (sym (append-nil (kind.text v))) ∙ laws.again v [] is within in
+    rw got refl

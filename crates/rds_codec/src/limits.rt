@@ -8,7 +8,7 @@ use std::alloc::Global;
 /// The greatest length of a text, in bytes.
 pub const LIMIT: usize = 268_435_456;
 
-/// No bytes, with room for a text of this length.
+/// No bytes, with room for a text of this length and no longer one.
 pub fn room_for(alloc: Global, length: u128) -> Result<Vec<u8>, Fault>
     ensures { HasRoom length result }
 {

@@ -1,6 +1,7 @@
 //! The text of a snapshot: the roster, the replica's own number, and its state.
-ghost use Rattle.std.specs.Prelude.{◌≡◌, ◌≤◌, length};
+ghost use Rattle.std.specs.Prelude.{◌≡◌, ◌≤◌, length, Ok, IfOk, IfErr};
 ghost use Rattle.std.specs.FinMap as map;
+ghost use Rattle.rds_names.specs.declared.fault.Fault.TheVariants.{Memory};
 ghost use Rattle.rds_codec.specs.Decoding.{Decodes, ReadsAll, all_of};
 ghost use Rattle.rds_bytes.specs.DotRows.{rows_from};
 ghost use Rattle.rds_codec.specs.Kinds.{snapshot_kind};
@@ -85,12 +86,13 @@ fn put_snapshot<S: DotSet>(
 }
 
 /// The text of the replica's snapshot. Above the limit it is refused (`TooLong`) before any memory is taken;
-/// then all memory that the text needs is taken at once.
+/// then all memory that the text needs is taken at once. All of the text, read again, is this very replica. Nothing
+/// but want of memory hinders that of a replica without components.
 pub fn encode_snapshot<S: DotSet>(alloc: Global, replica: &Replica<S>) -> Result<Vec<u8>, Fault>
     ensures text { Encodes (snapshot_text replica.now) result }
+    ensures again { IfOk result (λ bytes. all_of snapshot_at bytes.items ≡ Ok replica.now) }
     ensures small { replica.now.state.lives ≡ map.empty → replica.now.state.counts ≡ map.empty
-        → length (snapshot_text replica.now) ≤ LIMIT }
-    ensures value { IsSnapshot replica.now }
+        → IfErr result (λ fault. fault ≡ Memory) }
 {
     let (rows, length) = measure(replica);
     let mut out = room_for(alloc, length)?;

@@ -26,7 +26,8 @@ state_after member = made_at (λ (state : StateValue). (member, state)) (state_a
 -- all replica numbers of the state are below this one
 abbrev pub is_within : ℕ → StateValue → Bool
 is_within replicas v =
-    list_all (λ (d : Dot). nat_lt d.replica replicas) (map.keys v.lives) && list_all (λ (q : Place). nat_lt q.replica replicas) (map.keys v.counts)
+    list_all (λ (d : Dot). nat_lt d.replica replicas) (map.keys v.lives)
+    && list_all (λ (q : Place). nat_lt q.replica replicas) (map.keys v.counts)
 
 -- the own number and those of the state are below the roster's length
 unfoldable pub is_replica : ReplicaValue → Bool
