@@ -178,7 +178,7 @@ tabled_reader replicas =
 -- ---- a table and a state that were read
 
 -- each key of a state that was read by a table is one of it
-keys_are_had : (replicas : ℕ) (bytes : List ℕ) (table : List (List ℕ)) (middle : List ℕ) (v : StateValue) (rest : List ℕ) → IsBytes bytes → table_at bytes ≡ Ok (table, middle)
+pub keys_are_had : (replicas : ℕ) (bytes : List ℕ) (table : List (List ℕ)) (middle : List ℕ) (v : StateValue) (rest : List ℕ) → IsBytes bytes → table_at bytes ≡ Ok (table, middle)
     → texts.body_at (numbered_at table) replicas middle ≡ Ok (v, rest) → AreIn table (keys_in v)
 keys_are_had replicas bytes table middle v rest fits p q =
     let first = table_format.takes bytes (table, middle) fits p in

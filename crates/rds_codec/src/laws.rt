@@ -1,6 +1,9 @@
 //! The laws of texts.
 ghost use Rattle.std.specs.Prelude.{◌≡◌, ℕ, List, ◌++◌};
 ghost use Rattle.rds_state.specs.Fits.{ReplicaValue};
+ghost use Rattle.rds_state.specs.Value.{StateValue};
+ghost use Rattle.rds_bytes.specs.Reading.{key_at};
+ghost use Rattle.rds_bytes.specs.Spelling.{short_text};
 ghost use Rattle.rds_codec.specs.AnswerTexts.{answer_kind, answer_at};
 ghost use Rattle.rds_codec.specs.CertificateTexts.{certificate_kind, certificate_at};
 ghost use Rattle.rds_codec.specs.DigestTexts.{digest_kind, digest_at};
@@ -8,7 +11,8 @@ ghost use Rattle.rds_codec.specs.FormatTexts.{state_kind_in, state_at_in, answer
 ghost use Rattle.rds_codec.specs.HelloTexts.{hello_kind, hello_at};
 ghost use Rattle.rds_codec.specs.Kinds.{state_kind, snapshot_kind};
 ghost use Rattle.rds_codec.specs.Laws.{DecodesOnce, IsSameAmongMore, StandApart};
-ghost use Rattle.rds_codec.specs.StateTexts.{state_at, snapshot_at};
+ghost use Rattle.rds_codec.specs.StateTexts.{state_at, state_text, snapshot_at};
+ghost use Rattle.rds_codec.specs.TabledTexts.{body_at, body_text};
 ghost use Rattle.rds_codec.specs.declared.formats.Format.{Format};
 ghost use Rattle.rds_codec.specs.declared.formats.Format.TheVariants.{One, Two};
 ghost use Rattle.rds_codec.specs.declared.hellos.TheConstants.{VERSION};
@@ -34,6 +38,13 @@ pub fn formats_stand_apart()
     ensures snapshots { StandApart snapshot_kind_in }
     ensures formats { (v w : ReplicaValue) (x y : List ℕ)
         → snapshot_text_in One v ++ x ≡ snapshot_text_in Two w ++ y → ⊥ }
+{}
+
+/// The parts of a state of format 2 are those of format 1, but for how their keys are spelled and read. The function does
+/// nothing: its contract is this law.
+pub fn formats_have_the_same_parts()
+    ensures texts { (v : StateValue) → body_text short_text v ≡ state_text v }
+    ensures readers { (replicas : ℕ) → body_at key_at replicas ≡ state_at replicas }
 {}
 
 /// What decoding promises leaves one answer to the same bytes, but for want of memory: which of `Cut` and `Bad` a
