@@ -1,5 +1,5 @@
 -- An entry is the one of its parts.
-use Rattle.std.proofs.Common.{◌≡◌, ℕ, Bool, true, false, List, [], length, Some, Option, Ok, refl, sym, ap, ◌∙◌}
+use Rattle.std.proofs.Common.{◌≡◌, ℕ, Bool, true, false, List, length, Some, Option, Ok, refl, sym, ap, ◌∙◌}
 use Rattle.std.proofs.Math.Bridge.{le_prop}
 use Rattle.std.specs.Prelude.{nat_le}
 use Rattle.std.proofs.lemmas.Bool.{le-leb, leb-true}
@@ -8,9 +8,7 @@ use Rattle.rds_names.specs.declared.entry.Kind.{Kind}
 use Rattle.rds_names.specs.declared.scalar.Scalar.{Scalar}
 use Rattle.rds_names.specs.Entry.{HasParts}
 use Rattle.rds_bytes.specs.Entries.{parts_of, entry_where, entry_of}
-use Rattle.rds_names.specs.declared.fault.Fault.{Fault}
-use Rattle.rds_bytes.specs.Reading.{Reader, Fails, pair_at, drawn_at, when_at, rows_after, is_between, byte_at, path_with}
-use Rattle.rds_bytes.proofs.Loops.{fails_on}
+use Rattle.rds_bytes.specs.Reading.{Reader, pair_at, drawn_at}
 
 -- the ghost fields are the same, however they were proved
 entry_where_is : (e : Entry) (some few : Bool) (p : nat_le 1 (length e.path) ≡ some) (q : nat_le (length e.path) 8 ≡ few) → some ≡ true → few ≡ true → entry_where (parts_of e) some few p q ≡ Some e
@@ -36,7 +34,3 @@ pair_found f g bytes a middle b rest p q = rw (p, q) refl
 
 pub drawn_found : {A B : Type 0} (make : A → Option B) (f : Reader A) (bytes : List ℕ) (a : A) (rest : List ℕ) (b : B) → f bytes ≡ Ok (a, rest) → make a ≡ Some b → drawn_at make f bytes ≡ Ok (b, rest)
 drawn_found make f bytes a rest b p q = rw (p, q) refl
-
--- a path fails as its keys do
-pub keys_fail : (key : Reader (List ℕ)) (bytes : List ℕ) (n : ℕ) (middle : List ℕ) (e : Fault) → when_at (is_between 1 8) byte_at bytes ≡ Ok (n, middle) → Fails e (rows_after (λ _. key) [] n middle) → Fails e (path_with key bytes)
-keys_fail key bytes n middle e p h = fails_on e (rows_after (λ _. key) [] n middle) (path_with key bytes) (λ is. rw (p, is) refl) h

@@ -39,11 +39,14 @@ dot_format s dots before =
     refit _ _ _ (λ d. is_next_dot s before d ≡ true) (λ d h. h.1) (λ d h. (has_numbers d (dots d (and_right (comes_after (dot_of_row (last before)) d) _ h)), h))
     (when_format (is_next_dot s before) _ _ _ (made_format read.dot_by (λ d. (d.replica, d.seq)) _ _ _ AreNumbers (λ d h. (h, refl)) (λ p h. (h, refl)) (pair_format _ _ _ _ _ _ byte_format number64)))
 
+abbrev pub IsDotAfter : Dots → List (Dot × Entry) → Dot × Entry → Type 0
+IsDotAfter s before row = is_next_dot s before row.0 ≡ true
+
 abbrev IsRowAfter : Dots → List (Dot × Entry) → Dot × Entry → Type 0
-IsRowAfter s before row = (is_next_dot s before row.0 ≡ true) × IsEntry row.1
+IsRowAfter s before row = IsDotAfter s before row × IsEntry row.1
 
 -- the first of the rows comes after a dot
-abbrev follows : Option Dot → List (Dot × Entry) → Bool
+abbrev pub follows : Option Dot → List (Dot × Entry) → Bool
 follows after [] = true
 follows after (row ∷ rows) = comes_after after row.0
 
@@ -54,15 +57,18 @@ next_is d (row ∷ rows) = refl
 abbrev pub AreLive : Dots → List (Dot × Entry) → Type 0
 AreLive s rows = AreRows s rows × AllByRecursion IsLiveRow rows
 
-rows_of : (s : Dots) (rows before : List (Dot × Entry)) → AllAfter (IsRowAfter s) before rows → ((follows (dot_of_row (last before)) rows ≡ true) × (fits (set.contains s) rows ≡ true)) × AllByRecursion IsLiveRow rows
-rows_of s [] before h = ((refl, refl), tt)
-rows_of s (row ∷ rows) before h =
-    let again = rows_of s rows (before ++ row ∷ []) h.1 in
+pub dots_fit : (s : Dots) (rows before : List (Dot × Entry)) → AllAfter (IsDotAfter s) before rows → (follows (dot_of_row (last before)) rows ≡ true) × (fits (set.contains s) rows ≡ true)
+dots_fit s [] before h = (refl, refl)
+dots_fit s (row ∷ rows) before h =
+    let again = dots_fit s rows (before ++ row ∷ []) h.1 in
     let d = row.0 in
-    let next : before_next d rows ≡ true = sym (next_is d rows) ∙ ap (λ (o : Option (Dot × Entry)). follows (dot_of_row o) rows) (sym (last-push before row)) ∙ again.0.0 in
-    let after = and_left (comes_after (dot_of_row (last before)) d) _ h.0.0 in
-    let seen = and_right (comes_after (dot_of_row (last before)) d) _ h.0.0 in
-    ((after, and_true _ _ (and_true _ _ seen next) again.0.1), (h.0.1, again.1))
+    let next : before_next d rows ≡ true = sym (next_is d rows) ∙ ap (λ (o : Option (Dot × Entry)). follows (dot_of_row o) rows) (sym (last-push before row)) ∙ again.0 in
+    (and_left (comes_after (dot_of_row (last before)) d) _ h.0, and_true _ _ (and_true _ _ (and_right (comes_after (dot_of_row (last before)) d) _ h.0) next) again.1)
+
+rows_of : (s : Dots) (rows : List (Dot × Entry)) → AllAfter (IsRowAfter s) [] rows → AreLive s rows
+rows_of s rows h =
+    let both = all_both (IsDotAfter s) IsLiveRow [] rows h in
+    (fits_rows s rows (dots_fit s rows [] both.0).1, both.1)
 
 of_rows : (s : Dots) (rows before : List (Dot × Entry)) → follows (dot_of_row (last before)) rows ≡ true → fits (set.contains s) rows ≡ true → AllByRecursion IsLiveRow rows → AllAfter (IsRowAfter s) before rows
 of_rows s [] before first fit each = tt
@@ -96,7 +102,7 @@ module _ (key : Reader (List ℕ)) (key_text : List ℕ → List ℕ) (IsKey : L
   unfolding read.keyed_live_rows_at
   keyed_live_format s dots =
       refit _ _ _ (AreLiveOf IsKey s)
-      (λ rows h. (let both = all_both (IsRowAfter s) (HasKeys IsKey) [] rows h.1 in let is = rows_of s rows [] both.0 in ((h.0, (fits_rows s rows is.0.1, is.1)), both.1)))
+      (λ rows h. (let both = all_both (IsRowAfter s) (HasKeys IsKey) [] rows h.1 in ((h.0, rows_of s rows both.0), both.1)))
       (λ rows h. (h.0.0, both_all (IsRowAfter s) (HasKeys IsKey) [] rows (of_rows s rows [] (follows_none rows) (rows_fit s rows h.0.1.0) h.0.1.1) h.1))
       (list_format _ _ _ (row_format s dots) _ _ _ number32)
 

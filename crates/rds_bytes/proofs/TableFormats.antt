@@ -11,7 +11,7 @@ use Rattle.rds_bytes.specs.Values.{is_key_text}
 use Rattle.rds_bytes.proofs.Format.{IsFormat, number32, drawn_format, when_format, refit}
 use Rattle.rds_bytes.proofs.Lists.{list_format}
 use Rattle.rds_bytes.proofs.PartFormats.{IsNewOf, key_format, all_pass, differ_of, new_of}
-use Rattle.rds_bytes.proofs.Tables.{has_at, number_at_place, key_at_number, number_below}
+use Rattle.rds_bytes.proofs.TableLaws.{has_at, number_at_place, key_at_number, number_below}
 
 new_key_format : (before : List (List ℕ)) → IsFormat (texts.new_key_at before) short_text (IsNewOf is_key_text before)
 unfolding texts.new_key_at

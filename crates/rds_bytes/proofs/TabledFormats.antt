@@ -16,7 +16,7 @@ use Rattle.rds_bytes.proofs.CounterFormats.{AreCountsWith, keyed_counters_format
 use Rattle.rds_bytes.proofs.Format.{IsFormat, refit}
 use Rattle.rds_bytes.proofs.LiveFormats.{AreOnlyDots, AreLiveOf, keyed_live_format}
 use Rattle.rds_bytes.proofs.TableFormats.{table_format, numbered_format}
-use Rattle.rds_bytes.proofs.Tables.{same_key, head_has}
+use Rattle.rds_bytes.proofs.TableLaws.{same_key, head_has}
 
 -- what all keys of a table pass, each of them passes
 pub has_all : (P : List ℕ → Bool) (table : List (List ℕ)) (k : List ℕ) → list_all P table ≡ true → has_key table k ≡ true → P k ≡ true

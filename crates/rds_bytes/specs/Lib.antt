@@ -5,6 +5,7 @@ pub mod OneText
 pub mod Reading
 pub mod RowDots
 pub mod SetRows
+pub mod Sources
 pub mod Spelling
 pub mod Steady
 pub mod SteadyLaws
@@ -12,6 +13,7 @@ pub mod SteadyParts
 pub mod SteadyTables
 pub mod Table
 pub mod TableTexts
+pub mod TableValue
 pub mod Tabled
 pub mod Values
 pub mod Writing

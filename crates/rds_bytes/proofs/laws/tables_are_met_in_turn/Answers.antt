@@ -1,4 +1,4 @@
-use Rattle.rds_bytes.proofs.Tables.{is_table, meets_all}
+use Rattle.rds_bytes.proofs.TableLaws.{is_table, meets_all}
 use Rattle.rds_bytes.proofs.laws.tables_are_met_in_turn.Goals as goal
 
 pub returns : goal.returns

@@ -93,7 +93,7 @@ not_had table k = ap not (sym (has_turned table k))
 pub differ_push : (table : List (List ℕ)) (k : List ℕ) → all_differ (table ++ k ∷ []) ≡ (all_differ table && not (has_key table k))
 differ_push table k = differ-push table k ∙ ap (λ b. all_differ table && b) (sym (not_had table k))
 
-has_push : (xs : List (List ℕ)) (y k : List ℕ) → has_key (xs ++ y ∷ []) k ≡ (has_key xs k || bytes_eq k y)
+pub has_push : (xs : List (List ℕ)) (y k : List ℕ) → has_key (xs ++ y ∷ []) k ≡ (has_key xs k || bytes_eq k y)
 has_push xs y k = list_any-append (bytes_eq k) xs (y ∷ []) ∙ ap (λ b. has_key xs k || b) (none_new (bytes_eq k y))
 
 -- what holds of a table, and of it with a new key, holds of it with a key
