@@ -15,6 +15,7 @@ pub mod SnapshotFormats
 pub mod StateFormats
 pub mod StateKeys
 pub mod TabledAnswers
+pub mod TabledRead
 pub mod TabledStates
 mod Texts
 pub mod Whole

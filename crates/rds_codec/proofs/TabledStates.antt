@@ -21,7 +21,7 @@ use Rattle.rds_bytes.proofs.DotFormats.{AreDots, dots_format}
 use Rattle.rds_bytes.proofs.Format.{IsFormat, IsBytes, pair_format, then_format, made_format, when_format}
 use Rattle.rds_bytes.proofs.TableFormats.{table_format}
 use Rattle.rds_bytes.proofs.TabledFormats.{tabled_rows_format, tabled_counters_format}
-use Rattle.rds_bytes.proofs.Tables.{table_differs, table_has, table_all}
+use Rattle.rds_bytes.proofs.TableLaws.{table_differs, table_has, table_all}
 use Rattle.rds_codec.specs.declared.limits.TheConstants.{LIMIT}
 use Rattle.rds_codec.specs.StateTexts.{StateParts, IsStateOf, state_by}
 use Rattle.rds_codec.specs.FormatTexts.{state_kind_in}
