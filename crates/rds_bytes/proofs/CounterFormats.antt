@@ -1,4 +1,4 @@
--- The counters are a format.
+-- The counters are a format, for each format of their keys.
 use Rattle.std.proofs.Common.{◌≡◌, ℕ, ◌^◌, ◌<◌, Bool, true, ltb, ◌&&◌, ◌||◌, List, [], ◌∷◌, ◌++◌, length, Ok, Option, Some, None, refl, sym, ap, subst, ◌∙◌, arith}
 use Rattle.std.specs.List.{AllByRecursion}
 use Rattle.std.specs.Int.{w32, w64, to_be_bytes}
@@ -9,23 +9,15 @@ use Rattle.rds_counts.specs.CountedLemmas.{fits_rows, rows_fit_of}
 use Rattle.rds_names.specs.Conditions.{and_true, and_left, and_right}
 use Rattle.rds_counts.specs.RowsOf.{count_rows}
 use Rattle.rds_counts.specs.RowsOfLemmas.{count_rows-counts_of}
-use Rattle.rds_bytes.specs.Values.{is_key_text, IsCountRowOf, AreCountsOf}
-use Rattle.rds_bytes.specs.Spelling.{place_text, count_row_text, count_rows_text, counters_text}
+use Rattle.rds_bytes.specs.Values.{is_key_text, IsKeyText, HasKey, IsCountRowOf, AreCountsOf}
+use Rattle.rds_bytes.specs.Spelling.{short_text, keyed_place_text, keyed_count_row_text, keyed_count_rows_text, keyed_counters_text, counters_text}
 use Rattle.rds_bytes.specs.Reading as read
-use Rattle.rds_bytes.specs.Reading.{number_at, rows_after, last, comes_after_row, is_next_place, is_count, is_second}
+use Rattle.rds_bytes.specs.Reading.{Reader, number_at, rows_after, last, comes_after_row, is_next_place, is_count, is_second}
 use Rattle.rds_bytes.proofs.Format.{IsFormat, IsBytes, byte_format, number32, number64, then_format, pair_format, made_format, when_format, refit}
-use Rattle.rds_bytes.proofs.Lists.{AllAfter, list_format}
+use Rattle.rds_bytes.proofs.Lists.{AllAfter, all_both, both_all, list_format}
 use Rattle.rds_bytes.proofs.PartFormats.{key_format, last-push}
-use Rattle.rds_bytes.proofs.RowsRead.{list_found}
 
 -- ---- a row
-
-abbrev ArePlaced : ℕ → List CountRow → List ℕ × ℕ → Type 0
-ArePlaced replicas before p = ((is_key_text p.0 ≡ true) × (p.1 < 256)) × (is_next_place replicas before p ≡ true)
-
-place_format : (replicas : ℕ) (before : List CountRow) → IsFormat (read.place_at replicas before) (λ p. place_text p.0 p.1) (ArePlaced replicas before)
-unfolding read.place_at
-place_format replicas before = when_format (is_next_place replicas before) _ _ _ (pair_format _ _ _ _ _ _ key_format byte_format)
 
 abbrev ArePair : ℕ × ℕ → Type 0
 ArePair x = ((x.0 < 2 ^ 64) × (is_count x.0 ≡ true)) × ((x.1 < 2 ^ 64) × (is_second x.0 x.1 ≡ true))
@@ -35,46 +27,48 @@ unfolding read.counts_at
 counts_format =
     then_format _ _ _ (λ p. to_be_bytes w64) _ (λ p n. (n < 2 ^ 64) × (is_second p n ≡ true)) (when_format is_count _ _ _ number64) (λ p fits. when_format (is_second p) _ _ _ number64)
 
--- it comes next, and its key and replica and numbers are within their limits
-record IsRowAfter (replicas : ℕ) (before : List CountRow) (r : CountRow) : Type 0 where
-  next : is_next_place replicas before (r.key, r.replica) ≡ true
-  key : is_key_text r.key ≡ true
-  is : is_row r ≡ true
+-- it comes next, and its replica and numbers are within their limits
+pub record IsRowAfter (replicas : ℕ) (before : List CountRow) (r : CountRow) : Type 0 where
+  pub next : is_next_place replicas before (r.key, r.replica) ≡ true
+  pub is : is_row r ≡ true
 
 abbrev row_parts : CountRow → (List ℕ × ℕ) × (ℕ × ℕ)
 row_parts r = ((r.key, r.replica), (r.p, r.n))
 
-abbrev AreRowParts : ℕ → List CountRow → (List ℕ × ℕ) × (ℕ × ℕ) → Type 0
-AreRowParts replicas before x = ArePlaced replicas before x.0 × ArePair x.1
+abbrev IsPlaceOf : (List ℕ → Type 0) → ℕ → List CountRow → List ℕ × ℕ → Type 0
+IsPlaceOf IsKey replicas before p = (IsKey p.0 × (p.1 < 256)) × (is_next_place replicas before p ≡ true)
 
-row_there : (replicas : ℕ) (before : List CountRow) (r : CountRow) → IsRowAfter replicas before r → AreRowParts replicas before (row_parts r) × (r ≡ r)
-row_there replicas before r h =
+abbrev ArePartsOf : (List ℕ → Type 0) → ℕ → List CountRow → (List ℕ × ℕ) × (ℕ × ℕ) → Type 0
+ArePartsOf IsKey replicas before x = IsPlaceOf IsKey replicas before x.0 × ArePair x.1
+
+abbrev IsRowOf : (List ℕ → Type 0) → ℕ → List CountRow → CountRow → Type 0
+IsRowOf IsKey replicas before r = IsRowAfter replicas before r × HasKey IsKey r
+
+row_there : (IsKey : List ℕ → Type 0) (replicas : ℕ) (before : List CountRow) (r : CountRow) → IsRowOf IsKey replicas before r → ArePartsOf IsKey replicas before (row_parts r) × (r ≡ r)
+row_there IsKey replicas before r h =
     let some = ltb 0 r.p || ltb 0 r.n in
-    let below = ltb-true r.replica 256 (and_right (some && is_count r.p && is_count r.n) _ h.is) in
-    let both = and_left (some && is_count r.p && is_count r.n) _ h.is in
+    let below = ltb-true r.replica 256 (and_right (some && is_count r.p && is_count r.n) _ h.0.is) in
+    let both = and_left (some && is_count r.p && is_count r.n) _ h.0.is in
     let n = and_right (some && is_count r.p) (is_count r.n) both in
     let front = and_left (some && is_count r.p) (is_count r.n) both in
     let p = and_right some (is_count r.p) front in
     let p_most = leb-true r.p 281474976710655 p in
     let n_most = leb-true r.n 281474976710655 n in
-    ((((h.key, below), h.next), ((omega arith, p), (omega arith, and_true _ _ n (and_left some (is_count r.p) front)))), refl)
+    ((((h.1, below), h.0.next), ((omega arith, p), (omega arith, and_true _ _ n (and_left some (is_count r.p) front)))), refl)
 
-row_back : (replicas : ℕ) (before : List CountRow) (x : (List ℕ × ℕ) × (ℕ × ℕ)) → AreRowParts replicas before x → IsRowAfter replicas before (read.count_row_by x) × (x ≡ x)
-row_back replicas before x h =
-    let n = and_left (is_count x.1.1) _ h.1.1.1 in
-    let some = and_right (is_count x.1.1) _ h.1.1.1 in
-    (record { next = h.0.1; key = h.0.0.0; is = and_true _ _ (and_true _ _ (and_true _ _ some h.1.0.1) n) (lt-ltb x.0.1 256 h.0.0.1) }, refl)
+pub row_is : (p n replica : ℕ) → is_count p ≡ true → is_second p n ≡ true → replica < 256 → ((ltb 0 p || ltb 0 n) && is_count p && is_count n && ltb replica 256) ≡ true
+row_is p n replica first second small =
+    let some = and_right (is_count n) (ltb 0 p || ltb 0 n) second in
+    let most = and_left (is_count n) (ltb 0 p || ltb 0 n) second in
+    and_true _ _ (and_true _ _ (and_true _ _ some first) most) (lt-ltb replica 256 small)
 
-row_format : (replicas : ℕ) (before : List CountRow) → IsFormat (read.count_row_at replicas before) count_row_text (IsRowAfter replicas before)
-unfolding read.count_row_at
-row_format replicas before =
-    made_format read.count_row_by row_parts _ _ _ (IsRowAfter replicas before) (row_there replicas before) (row_back replicas before)
-    (pair_format _ _ _ _ _ _ (place_format replicas before) counts_format)
+row_back : (IsKey : List ℕ → Type 0) (replicas : ℕ) (before : List CountRow) (x : (List ℕ × ℕ) × (ℕ × ℕ)) → ArePartsOf IsKey replicas before x → IsRowOf IsKey replicas before (read.count_row_by x) × (x ≡ x)
+row_back IsKey replicas before x h = ((record { next = h.0.1; is = row_is x.1.0 x.1.1 x.0.1 h.1.0.1 h.1.1.1 h.0.0.1 }, h.0.0.0), refl)
 
 -- ---- rows
 
 -- the first of the rows comes after a row
-abbrev follows : Option CountRow → List CountRow → Bool
+abbrev pub follows : Option CountRow → List CountRow → Bool
 follows after [] = true
 follows after (r ∷ rows) = comes_after_row after r.key r.replica
 
@@ -89,44 +83,49 @@ follows_none (r ∷ rows) = refl
 next_pushed : (r : CountRow) (rows before : List CountRow) → follows (last (before ++ r ∷ [])) rows ≡ before_next r rows
 next_pushed r rows before = ap (λ (o : Option CountRow). follows o rows) (last-push before r) ∙ next_is r rows
 
+abbrev IsReplicaOf : ℕ → CountRow → Type 0
+IsReplicaOf replicas r = r.replica < replicas
+
 module _ (replicas : ℕ) where
   abbrev AreOf : List CountRow → Type 0
   AreOf rows = AllByRecursion (IsCountRowOf replicas) rows
 
+  abbrev AreBelow : List CountRow → Type 0
+  AreBelow rows = AllByRecursion (IsReplicaOf replicas) rows
+
   abbrev IsNext : List CountRow → CountRow → Type 0
   IsNext = IsRowAfter replicas
 
-  rows_of : (rows before : List CountRow) → AllAfter IsNext before rows → ((follows (last before) rows ≡ true) × (rows_fit rows ≡ true)) × AreOf rows
+  pub rows_of : (rows before : List CountRow) → AllAfter IsNext before rows → ((follows (last before) rows ≡ true) × (rows_fit rows ≡ true)) × AreBelow rows
   rows_of [] before h = ((refl, refl), tt)
   rows_of (r ∷ rows) before h =
       let again = rows_of rows (before ++ r ∷ []) h.1 in
       let next : before_next r rows ≡ true = sym (next_pushed r rows before) ∙ again.0.0 in
       let after = and_left (comes_after_row (last before) r.key r.replica) _ h.0.next in
       let below = ltb-true r.replica replicas (and_right (comes_after_row (last before) r.key r.replica) _ h.0.next) in
-      ((after, and_true _ _ (and_true _ _ h.0.is next) again.0.1), ((h.0.key, below), again.1))
+      ((after, and_true _ _ (and_true _ _ h.0.is next) again.0.1), (below, again.1))
 
-  of_rows : (rows before : List CountRow) → follows (last before) rows ≡ true → rows_fit rows ≡ true → AreOf rows → AllAfter IsNext before rows
+  of_rows : (rows before : List CountRow) → follows (last before) rows ≡ true → rows_fit rows ≡ true → AreBelow rows → AllAfter IsNext before rows
   of_rows [] before first fit each = tt
   of_rows (r ∷ rows) before first fit each =
       let front = and_left (is_row r && before_next r rows) (rows_fit rows) fit in
-      let next : follows (last (before ++ r ∷ [])) rows ≡ true = next_pushed r rows before ∙ and_right (is_row r) _ front in (
-        record { next = and_true _ _ first (lt-ltb r.replica replicas each.0.1); key = each.0.0; is = and_left (is_row r) _ front },
-        of_rows rows (before ++ r ∷ []) next (and_right (is_row r && before_next r rows) _ fit) each.1,
-      )
+      let next : follows (last (before ++ r ∷ [])) rows ≡ true = next_pushed r rows before ∙ and_right (is_row r) _ front in
+      (record { next = and_true _ _ first (lt-ltb r.replica replicas each.0); is = and_left (is_row r) _ front }, of_rows rows (before ++ r ∷ []) next (and_right (is_row r && before_next r rows) _ fit) each.1)
+
+  -- of texts, and of so many replicas
+  of_both : (IsKey : List ℕ → Type 0) → ((k : List ℕ) → IsKey k → IsKeyText k) → (rows : List CountRow) → AllByRecursion (HasKey IsKey) rows → AreBelow rows → AreOf rows
+  of_both IsKey texts [] keys below = tt
+  of_both IsKey texts (r ∷ rows) keys below = ((texts r.key keys.0, below.0), of_both IsKey texts rows keys.1 below.1)
+
+  are_below : (rows : List CountRow) → AreOf rows → AreBelow rows
+  are_below [] h = tt
+  are_below (r ∷ rows) h = (h.0.1, are_below rows h.1)
 
   abbrev CanCountRows : List CountRow → Type 0
   CanCountRows rows = length rows < 2 ^ 32
 
   abbrev AreRead : List CountRow → Type 0
   AreRead rows = CanCountRows rows × (AreCountRows rows × AreOf rows)
-
-  rows_format : IsFormat (read.count_rows_at replicas) count_rows_text AreRead
-  unfolding read.count_rows_at
-  rows_format =
-      refit _ _ _ AreRead
-      (λ rows h. (let is = rows_of rows [] h.1 in (h.0, (fits_rows rows is.0.1, is.1))))
-      (λ rows h. (h.0, of_rows rows [] (follows_none rows) (rows_fit_of rows h.1.0) h.1.1))
-      (list_format _ _ _ (row_format replicas) _ _ _ number32)
 
   -- ---- the counters
 
@@ -146,13 +145,54 @@ module _ (replicas : ℕ) where
       let same = count_rows-counts_of rows h.1.0 in
       ((record { rows = rows; are_rows = h.1.0; each_row = h.1.1; value = refl }, subst CanCountRows (sym same) h.0), same)
 
-  pub counters_format : IsFormat (read.counters_at replicas) counters_text AreCounts
-  unfolding read.counters_at counters_text
-  counters_format = made_format counts_of count_rows _ count_rows_text AreRead AreCounts there back rows_format
+-- ---- rows and counters, for a format of their keys
 
-  -- rows that were read are rows
-  pub count_rows_read : (bytes : List ℕ) (n : ℕ) (middle : List ℕ) (rows : List CountRow) (rest : List ℕ) → IsBytes bytes
-      → number_at w32 bytes ≡ Ok (n, middle) → rows_after (read.count_row_at replicas) [] n middle ≡ Ok (rows, rest) → AreCountRows rows
-  unfolding read.count_rows_at
-  count_rows_read bytes n middle rows rest fits p q =
-      (rows_format.takes bytes (rows, rest) fits (list_found (number_at w32) (read.count_row_at replicas) bytes n middle rows rest p q)).1.1.0
+abbrev AreReadOf : (List ℕ → Type 0) → ℕ → List CountRow → Type 0
+AreReadOf IsKey replicas rows = AreRead replicas rows × AllByRecursion (HasKey IsKey) rows
+
+abbrev pub AreCountsWith : (List ℕ → Type 0) → ℕ → Counted → Type 0
+AreCountsWith IsKey replicas m = AreCounts replicas m × AllByRecursion (HasKey IsKey) (count_rows m)
+
+module _ (key : Reader (List ℕ)) (key_text : List ℕ → List ℕ) (IsKey : List ℕ → Type 0) (are_texts : (k : List ℕ) → IsKey k → IsKeyText k) (key_is : IsFormat key key_text IsKey) (replicas : ℕ) where
+  place_format : (before : List CountRow) → IsFormat (read.keyed_place_at key replicas before) (λ p. keyed_place_text key_text p.0 p.1) (IsPlaceOf IsKey replicas before)
+  unfolding read.keyed_place_at
+  place_format before = when_format (is_next_place replicas before) _ _ _ (pair_format _ _ _ _ _ _ key_is byte_format)
+
+  row_format : (before : List CountRow) → IsFormat (read.keyed_count_row_at key replicas before) (keyed_count_row_text key_text) (IsRowOf IsKey replicas before)
+  unfolding read.keyed_count_row_at
+  row_format before =
+      made_format read.count_row_by row_parts _ _ _ (IsRowOf IsKey replicas before) (row_there IsKey replicas before) (row_back IsKey replicas before)
+      (pair_format _ _ _ _ _ _ (place_format before) counts_format)
+
+  rows_format : IsFormat (read.keyed_count_rows_at key replicas) (keyed_count_rows_text key_text) (AreReadOf IsKey replicas)
+  unfolding read.keyed_count_rows_at
+  rows_format =
+      refit _ _ _ (AreReadOf IsKey replicas)
+      (λ rows h. (let both = all_both (IsRowAfter replicas) (HasKey IsKey) [] rows h.1 in let is = rows_of replicas rows [] both.0 in ((h.0, (fits_rows rows is.0.1, of_both replicas IsKey are_texts rows both.1 is.1)), both.1)))
+      (λ rows h. (h.0.0, both_all (IsRowAfter replicas) (HasKey IsKey) [] rows (of_rows replicas rows [] (follows_none rows) (rows_fit_of rows h.0.1.0) (are_below replicas rows h.0.1.1)) h.1))
+      (list_format _ _ _ row_format _ _ _ number32)
+
+  counts_there : (m : Counted) → AreCountsWith IsKey replicas m → AreReadOf IsKey replicas (count_rows m) × (counts_of (count_rows m) ≡ m)
+  counts_there m h = (let t = there replicas m h.0 in ((t.0, h.1), t.1))
+
+  counts_back : (rows : List CountRow) → AreReadOf IsKey replicas rows → AreCountsWith IsKey replicas (counts_of rows) × (count_rows (counts_of rows) ≡ rows)
+  counts_back rows h = (let b = back replicas rows h.0 in ((b.0, subst (AllByRecursion (HasKey IsKey)) (sym b.1) h.1), b.1))
+
+  pub keyed_counters_format : IsFormat (read.keyed_counters_at key replicas) (keyed_counters_text key_text) (AreCountsWith IsKey replicas)
+  unfolding read.keyed_counters_at keyed_counters_text
+  keyed_counters_format = made_format counts_of count_rows _ _ (AreReadOf IsKey replicas) (AreCountsWith IsKey replicas) counts_there counts_back rows_format
+
+-- ---- counters of which each key is a short text
+
+have_texts : (replicas : ℕ) (rows : List CountRow) → AllByRecursion (IsCountRowOf replicas) rows → AllByRecursion (HasKey IsKeyText) rows
+have_texts replicas [] h = tt
+have_texts replicas (r ∷ rows) h = (h.0.0, have_texts replicas rows h.1)
+
+counts_texts : (replicas : ℕ) (m : Counted) → AreCounts replicas m → AllByRecursion (HasKey IsKeyText) (count_rows m)
+counts_texts replicas m h = have_texts replicas (count_rows m) (there replicas m h).0.1.1
+
+pub counters_format : (replicas : ℕ) → IsFormat (read.counters_at replicas) counters_text (AreCounts replicas)
+unfolding read.counters_at read.count_rows_at read.count_row_at read.place_at read.keyed_counters_at read.keyed_count_rows_at read.keyed_count_row_at read.keyed_place_at counters_text keyed_counters_text
+counters_format replicas =
+    refit _ _ _ (AreCounts replicas) (λ m h. h.0) (λ m h. (h, counts_texts replicas m h))
+    (keyed_counters_format read.key_at short_text IsKeyText (λ k h. h) key_format replicas)

@@ -1,7 +1,7 @@
 -- The entries of a snapshot are formats.
 use Rattle.std.proofs.Common.{◌≡◌, ℕ, ◌^◌, ◌<◌, ◌≤◌, ◌⊎◌, inl, inr, Bool, true, false, cond, eqb, leb, ◌||◌, List, [], ◌∷◌, ◌++◌, length, Result, Ok, Err, Option, Some, None, ℤ, refl, sym, ap, subst, ◌∙◌, arith, rules}
 use Rattle.std.specs.Prelude.{FitsSigned}
-use Rattle.std.specs.List.{list_all}
+use Rattle.std.specs.List.{list_all, AllByRecursion}
 use Rattle.std.specs.Str.{is_utf8}
 use Rattle.std.specs.Int.{w64, to_be_bytes, cast_signed, cast_unsigned}
 use Rattle.std.proofs.lemmas.Bool.{eqb-true, leb-true, le-leb}
@@ -13,17 +13,16 @@ use Rattle.rds_names.specs.declared.entry.Kind.{Kind}
 use Rattle.rds_names.specs.declared.entry.Kind.TheVariants.{Reg, Elem}
 use Rattle.rds_names.specs.declared.scalar.Scalar.{Scalar}
 use Rattle.rds_names.specs.declared.scalar.Scalar.TheVariants.{Null, Bool as Truth, Int, Text}
-use Rattle.rds_names.specs.Conditions.{and_true, and_left, and_right}
+use Rattle.rds_names.specs.Conditions.{and_true, and_right}
 use Rattle.rds_names.specs.Entry.{entry_where}
 use Rattle.rds_names.proofs.Entries.{entry_of_parts}
 use Rattle.rds_bytes.specs.Entries.{Parts, parts_of, entry_of}
-use Rattle.rds_bytes.specs.Spelling.{byte_text, kind_byte, text_text, scalar_text, path_text, entry_text}
+use Rattle.rds_bytes.specs.Spelling.{byte_text, kind_byte, text_text, scalar_text, keyed_path_text, keyed_entry_text}
 use Rattle.rds_bytes.specs.Reading as read
-use Rattle.rds_bytes.specs.Reading.{byte_at, made_at, when_at, pair_at, is_between, tagged_at, int_scalar, text_scalar}
-use Rattle.rds_bytes.specs.Values.{is_key_text, IsScalar, IsEntry}
+use Rattle.rds_bytes.specs.Reading.{Reader, byte_at, made_at, when_at, pair_at, is_between, tagged_at, int_scalar, text_scalar}
+use Rattle.rds_bytes.specs.Values.{is_key_text, IsKeyText, IsScalar, IsEntry}
 use Rattle.rds_bytes.proofs.Format.{IsFormat, IsBytes, Takes, Takes-then, CutOrBad, bind_ok, bind_err, chosen, err_is, ok_is, done, failed, byte_format, number16, number64, pair_format, made_format, drawn_format, when_format, refit}
 use Rattle.rds_bytes.proofs.Lists.{AllAfter, list_format, string_format}
-use Rattle.rds_bytes.proofs.PartFormats.{key_format}
 
 -- ---- kinds
 
@@ -182,29 +181,10 @@ scalar_faults bytes e fits h =
 scalar_format : IsFormat read.scalar_at scalar_text IsScalar
 scalar_format = record { takes = scalar_takes; again = scalar_again; faults = scalar_faults }
 
--- ---- paths and entries
+-- ---- paths and entries, for a format of their keys
 
-abbrev IsKeyAfter : List (List ℕ) → List ℕ → Type 0
-IsKeyAfter before t = is_key_text t ≡ true
-
-all_keys : (keys before : List (List ℕ)) → AllAfter IsKeyAfter before keys → list_all is_key_text keys ≡ true
-all_keys [] before h = refl
-all_keys (k ∷ keys) before h = and_true (is_key_text k) _ h.0 (all_keys keys (before ++ k ∷ []) h.1)
-
-keys_all : (keys before : List (List ℕ)) → list_all is_key_text keys ≡ true → AllAfter IsKeyAfter before keys
-keys_all [] before h = tt
-keys_all (k ∷ keys) before h = (and_left (is_key_text k) _ h, keys_all keys (before ++ k ∷ []) (and_right (is_key_text k) _ h))
-
-abbrev IsPath : List (List ℕ) → Type 0
+abbrev pub IsPath : List (List ℕ) → Type 0
 IsPath keys = (is_between 1 8 (length keys) ≡ true) × (list_all is_key_text keys ≡ true)
-
-path_format : IsFormat read.path_at path_text IsPath
-unfolding read.path_at
-path_format =
-    refit _ _ _ IsPath
-    (λ keys h. (h.0.0.1, all_keys keys [] h.0.1))
-    (λ keys h. (let few = and_right (leb 1 (length keys)) _ h.0 in let le = leb-true (length keys) 8 few in (((omega arith, h.0), keys_all keys [] h.1), few)))
-    (when_format (λ keys. leb (length keys) 8) _ _ _ (list_format _ _ IsKeyAfter (λ _. key_format) _ _ _ (when_format (is_between 1 8) _ _ _ byte_format)))
 
 abbrev AreParts : Parts → Type 0
 AreParts p = IsPath p.0 × (Unit {0} × IsScalar p.1.1)
@@ -230,6 +210,45 @@ entry_back p e h is =
     let same = parts_where p _ _ refl refl e is in
     ((ap (λ (q : Parts). list_all is_key_text q.0) same ∙ h.0.1, subst (λ (q : Parts). IsScalar q.1.1) (sym same) h.1.1), same)
 
-pub entry_format : IsFormat read.entry_at entry_text IsEntry
-unfolding read.entry_at
-entry_format = drawn_format entry_of parts_of _ _ _ IsEntry entry_there entry_back (pair_format _ _ _ _ _ _ path_format (pair_format _ _ _ _ _ _ kind_format scalar_format))
+all_texts : (IsKey : List ℕ → Type 0) → ((k : List ℕ) → IsKey k → IsKeyText k) → (keys : List (List ℕ)) → AllByRecursion IsKey keys → list_all is_key_text keys ≡ true
+all_texts IsKey texts [] h = refl
+all_texts IsKey texts (k ∷ keys) h = and_true _ _ (texts k h.0) (all_texts IsKey texts keys h.1)
+
+-- a key is such a one, whatever stands before it
+abbrev IsKeyAfter : (List ℕ → Type 0) → List (List ℕ) → List ℕ → Type 0
+IsKeyAfter IsKey before k = IsKey k
+
+each_of : (IsKey : List ℕ → Type 0) (before keys : List (List ℕ)) → AllAfter (IsKeyAfter IsKey) before keys → AllByRecursion IsKey keys
+each_of IsKey before [] h = tt
+each_of IsKey before (k ∷ keys) h = (h.0, each_of IsKey (before ++ k ∷ []) keys h.1)
+
+of_each : (IsKey : List ℕ → Type 0) (before keys : List (List ℕ)) → AllByRecursion IsKey keys → AllAfter (IsKeyAfter IsKey) before keys
+of_each IsKey before [] h = tt
+of_each IsKey before (k ∷ keys) h = (h.0, of_each IsKey (before ++ k ∷ []) keys h.1)
+
+abbrev pub IsEntryOf : (List ℕ → Type 0) → Entry → Type 0
+IsEntryOf IsKey e = IsEntry e × AllByRecursion IsKey e.path
+
+abbrev ArePartsOf : (List ℕ → Type 0) → Parts → Type 0
+ArePartsOf IsKey p = (IsPath p.0 × AllByRecursion IsKey p.0) × (Unit {0} × IsScalar p.1.1)
+
+entry_of_there : (IsKey : List ℕ → Type 0) (e : Entry) → IsEntryOf IsKey e → ArePartsOf IsKey (parts_of e) × (entry_of (parts_of e) ≡ Some e)
+entry_of_there IsKey e is = (let t = entry_there e is.0 in (((t.0.0, is.1), t.0.1), t.1))
+
+entry_of_back : (IsKey : List ℕ → Type 0) (p : Parts) (e : Entry) → ArePartsOf IsKey p → entry_of p ≡ Some e → IsEntryOf IsKey e × (parts_of e ≡ p)
+entry_of_back IsKey p e h is = (let b = entry_back p e (h.0.0, h.1) is in ((b.0, subst (λ (q : Parts). AllByRecursion IsKey q.0) (sym b.1) h.0.1), b.1))
+
+module _ (key : Reader (List ℕ)) (key_text : List ℕ → List ℕ) (IsKey : List ℕ → Type 0) (are_texts : (k : List ℕ) → IsKey k → IsKeyText k) (key_is : IsFormat key key_text IsKey) where
+  path_format : IsFormat (read.keyed_path_at key) (keyed_path_text key_text) (λ keys. IsPath keys × AllByRecursion IsKey keys)
+  unfolding read.keyed_path_at
+  path_format =
+      refit _ _ _ (λ keys. IsPath keys × AllByRecursion IsKey keys)
+      (λ keys h. (let each = each_of IsKey [] keys h.0.1 in ((h.0.0.1, all_texts IsKey are_texts keys each), each)))
+      (λ keys h. (let few = and_right (leb 1 (length keys)) _ h.0.0 in let le = leb-true (length keys) 8 few in (((omega arith, h.0.0), of_each IsKey [] keys h.1), few)))
+      (when_format (λ keys. leb (length keys) 8) _ _ _ (list_format _ _ (IsKeyAfter IsKey) (λ _. key_is) _ _ _ (when_format (is_between 1 8) _ _ _ byte_format)))
+
+  pub entry_format : IsFormat (read.keyed_entry_at key) (keyed_entry_text key_text) (IsEntryOf IsKey)
+  unfolding read.keyed_entry_at
+  entry_format =
+      drawn_format entry_of parts_of _ _ _ (IsEntryOf IsKey) (entry_of_there IsKey) (entry_of_back IsKey)
+      (pair_format _ _ _ _ _ _ path_format (pair_format _ _ _ _ _ _ kind_format scalar_format))

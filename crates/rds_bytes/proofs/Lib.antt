@@ -6,6 +6,7 @@ mod EntryFormats
 mod EntryParts
 pub mod Format
 mod HaveTexts
+mod KeyLoops
 pub mod Lengths
 pub mod Lists
 pub mod LiveFormats
@@ -14,9 +15,13 @@ pub mod PartFormats
 mod RowAlgebra
 mod RowLoops
 mod RowSets
-mod RowsLive
+mod RowsFound
 mod RowsRead
 mod RunSteps
 pub mod Sequences
 mod SetRowLemmas
+pub mod ShortKeys
 pub mod SteadyRows
+pub mod TableFormats
+pub mod TableLaws
+pub mod TabledFormats

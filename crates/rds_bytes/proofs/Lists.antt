@@ -1,6 +1,6 @@
 -- Lists of parts are formats.
 use Rattle.std.proofs.Common.{◌≡◌, ℕ, zero, suc, List, [], ◌∷◌, ◌++◌, length, Result, Ok, Err, refl, sym, ap, subst, ◌∙◌, append_assoc, inl, inr}
-use Rattle.std.specs.List.{flat_map}
+use Rattle.std.specs.List.{flat_map, AllByRecursion}
 use Rattle.std.proofs.lemmas.List.{append-nil}
 use Rattle.std.proofs.lemmas.List.Concat.{flat_map-cons}
 use Rattle.rds_names.specs.declared.fault.Fault.{Fault}
@@ -11,6 +11,15 @@ use Rattle.rds_bytes.proofs.Format.{IsFormat, IsBytes, Takes, Takes-then, CutOrB
 abbrev pub AllAfter : {A : Type 0} → (List A → A → Type 0) → List A → List A → Type 0
 AllAfter F before [] = Unit {0}
 AllAfter F before (a ∷ es) = F before a × AllAfter F (before ++ a ∷ []) es
+
+-- each part fits after those before it, and is one of these
+pub all_both : {A : Type 0} (F : List A → A → Type 0) (G : A → Type 0) (before xs : List A) → AllAfter (λ b a. F b a × G a) before xs → AllAfter F before xs × AllByRecursion G xs
+all_both F G before [] h = (tt, tt)
+all_both F G before (x ∷ xs) h = (let more = all_both F G (before ++ x ∷ []) xs h.1 in ((h.0.0, more.0), (h.0.1, more.1)))
+
+pub both_all : {A : Type 0} (F : List A → A → Type 0) (G : A → Type 0) (before xs : List A) → AllAfter F before xs → AllByRecursion G xs → AllAfter (λ b a. F b a × G a) before xs
+both_all F G before [] f g = tt
+both_all F G before (x ∷ xs) f g = ((f.0, g.0), both_all F G (before ++ x ∷ []) xs f.1 g.1)
 
 push_onto : {A : Type 0} (before : List A) (a : A) (es : List A) → (before ++ a ∷ []) ++ es ≡ before ++ a ∷ es
 push_onto before a es = append_assoc before (a ∷ []) es

@@ -18,7 +18,7 @@ module _ {A : Type 0} (f : List A → Reader A) (before : List A) (count i : ℕ
       let one : rows_after f before (count - i) bytes ≡ rows_after f (before ++ a ∷ []) (count - (i + 1)) after = rw (k, h) refl in
       sym one ∙ so_far
 
-  fault_ends : (e : Fault) → i < count → f before bytes ≡ Err e → rows_after f before (count - i) bytes ≡ total → total ≡ Err e
+  pub fault_ends : (e : Fault) → i < count → f before bytes ≡ Err e → rows_after f before (count - i) bytes ≡ total → total ≡ Err e
   unfolding rows_after
   fault_ends e lt h so_far =
       let k : count - i ≡ suc (count - (i + 1)) = omega arith in

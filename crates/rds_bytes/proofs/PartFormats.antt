@@ -47,35 +47,7 @@ key_format =
     (((below_byte 1 64 (length t) (omega arith) len, len), and_left (is_utf8 t) (is_key t) h), key)))
     (when_format is_key _ _ _ (short_format 1 64))
 
-starts_some : (t : List ℕ) → starts_with_letter t ≡ true → leb 1 (length t) ≡ true
-starts_some [] h = absurd (false≢true h)
-starts_some (b ∷ t) h = le-leb 1 (suc (length t)) (omega arith)
-
-abbrev IsNew : List (List ℕ) → List ℕ → Type 0
-IsNew before n = (is_name n ≡ true) × (read.is_new before n ≡ true)
-
-name_parts : (n : List ℕ) → is_name n ≡ true → IsLength 1 16 (length n) × (is_utf8 n ≡ true)
-name_parts n h =
-    let front = and_left (starts_with_letter n && leb (length n) 16) (list_all is_name_byte n) h in
-    let some = starts_some n (and_left (starts_with_letter n) (leb (length n) 16) front) in
-    let few = and_right (starts_with_letter n) (leb (length n) 16) front in
-    let len : is_between 1 16 (length n) ≡ true = and_true _ _ some few in
-    ((below_byte 1 16 (length n) (omega arith) len, len), is_utf8-from_IsUtf8 n (name_is_text n h))
-
-pub name_most : (n : List ℕ) → is_name n ≡ true → length n ≤ 16
-name_most n h = leb-true (length n) 16 (and_right (leb 1 (length n)) _ (name_parts n h).0.1)
-
-new_name_format : (before : List (List ℕ)) → IsFormat (read.new_name_at before) short_text (IsNew before)
-unfolding read.new_name_at read.name_at
-new_name_format before =
-    refit _ _ _ (IsNew before) (λ n h. (h.0.1, h.1)) (λ n h. ((name_parts n h.0, h.0), h.1))
-    (when_format (read.is_new before) _ _ _ (when_format is_name _ _ _ (short_format 1 16)))
-
--- ---- names, no two of which are equal
-
-all_names : (names before : List (List ℕ)) → AllAfter IsNew before names → list_all is_name names ≡ true
-all_names [] before h = refl
-all_names (n ∷ names) before h = and_true (is_name n) _ h.0.0 (all_names names (before ++ n ∷ []) h.1)
+-- ---- texts, no two of which are equal
 
 abbrev has : List (List ℕ) → List ℕ → Bool
 has names n = list_any (λ m. bytes_eq m n) names
@@ -91,7 +63,7 @@ or_none : (a : Bool) → (a || false) ≡ a
 or_none true = refl
 or_none false = refl
 
-differ-push : (xs : List (List ℕ)) (y : List ℕ) → all_differ (xs ++ y ∷ []) ≡ (all_differ xs && read.is_new xs y)
+pub differ-push : (xs : List (List ℕ)) (y : List ℕ) → all_differ (xs ++ y ∷ []) ≡ (all_differ xs && read.is_new xs y)
 differ-push [] y = refl
 differ-push (x ∷ xs) y =
     let front : has (xs ++ y ∷ []) x ≡ (has xs x || bytes_eq x y) =
@@ -111,29 +83,63 @@ differ_first (x ∷ xs) ys h =
 push_more : {A : Type 0} (xs : List A) (y : A) (ys : List A) → (xs ++ y ∷ []) ++ ys ≡ xs ++ y ∷ ys
 push_more xs y ys = append_assoc xs (y ∷ []) ys
 
-differ_of : (names before : List (List ℕ)) → all_differ before ≡ true → AllAfter IsNew before names → all_differ (before ++ names) ≡ true
-differ_of [] before all h = ap all_differ (append-nil before) ∙ all
-differ_of (n ∷ names) before all h =
-    ap all_differ (sym (push_more before n names)) ∙ differ_of names (before ++ n ∷ []) (differ-push before n ∙ and_true _ _ all h.0.1) h.1
+module _ (test : List ℕ → Bool) where
+  -- it passes the test, and none before it equals it
+  abbrev pub IsNewOf : List (List ℕ) → List ℕ → Type 0
+  IsNewOf before t = (test t ≡ true) × (read.is_new before t ≡ true)
 
-new_of : (names before : List (List ℕ)) → all_differ (before ++ names) ≡ true → list_all is_name names ≡ true → AllAfter IsNew before names
-new_of [] before all each = tt
-new_of (n ∷ names) before all each =
-    let pushed : all_differ ((before ++ n ∷ []) ++ names) ≡ true = ap all_differ (push_more before n names) ∙ all in
-    let first = sym (differ-push before n) ∙ differ_first (before ++ n ∷ []) names pushed in
-    ((and_left (is_name n) _ each, and_right (all_differ before) _ first), new_of names (before ++ n ∷ []) pushed (and_right (is_name n) _ each))
+  pub all_pass : (texts before : List (List ℕ)) → AllAfter IsNewOf before texts → list_all test texts ≡ true
+  all_pass [] before h = refl
+  all_pass (t ∷ texts) before h = and_true (test t) _ h.0.0 (all_pass texts (before ++ t ∷ []) h.1)
+
+  pub differ_of : (texts before : List (List ℕ)) → all_differ before ≡ true → AllAfter IsNewOf before texts → all_differ (before ++ texts) ≡ true
+  differ_of [] before all h = ap all_differ (append-nil before) ∙ all
+  differ_of (t ∷ texts) before all h =
+      ap all_differ (sym (push_more before t texts)) ∙ differ_of texts (before ++ t ∷ []) (differ-push before t ∙ and_true _ _ all h.0.1) h.1
+
+  pub new_of : (texts before : List (List ℕ)) → all_differ (before ++ texts) ≡ true → list_all test texts ≡ true → AllAfter IsNewOf before texts
+  new_of [] before all each = tt
+  new_of (t ∷ texts) before all each =
+      let pushed : all_differ ((before ++ t ∷ []) ++ texts) ≡ true = ap all_differ (push_more before t texts) ∙ all in
+      let first = sym (differ-push before t) ∙ differ_first (before ++ t ∷ []) texts pushed in
+      ((and_left (test t) _ each, and_right (all_differ before) _ first), new_of texts (before ++ t ∷ []) pushed (and_right (test t) _ each))
+
+-- ---- names
+
+starts_some : (t : List ℕ) → starts_with_letter t ≡ true → leb 1 (length t) ≡ true
+starts_some [] h = absurd (false≢true h)
+starts_some (b ∷ t) h = le-leb 1 (suc (length t)) (omega arith)
+
+name_parts : (n : List ℕ) → is_name n ≡ true → IsLength 1 16 (length n) × (is_utf8 n ≡ true)
+name_parts n h =
+    let front = and_left (starts_with_letter n && leb (length n) 16) (list_all is_name_byte n) h in
+    let some = starts_some n (and_left (starts_with_letter n) (leb (length n) 16) front) in
+    let few = and_right (starts_with_letter n) (leb (length n) 16) front in
+    let len : is_between 1 16 (length n) ≡ true = and_true _ _ some few in
+    ((below_byte 1 16 (length n) (omega arith) len, len), is_utf8-from_IsUtf8 n (name_is_text n h))
+
+pub name_most : (n : List ℕ) → is_name n ≡ true → length n ≤ 16
+name_most n h = leb-true (length n) 16 (and_right (leb 1 (length n)) _ (name_parts n h).0.1)
+
+new_name_format : (before : List (List ℕ)) → IsFormat (read.new_name_at before) short_text (IsNewOf is_name before)
+unfolding read.new_name_at read.name_at
+new_name_format before =
+    refit _ _ _ (IsNewOf is_name before) (λ n h. (h.0.1, h.1)) (λ n h. ((name_parts n h.0, h.0), h.1))
+    (when_format (read.is_new before) _ _ _ (when_format is_name _ _ _ (short_format 1 16)))
+
+-- ---- names, no two of which are equal
 
 abbrev AreNames : List (List ℕ) → Type 0
 AreNames names = (list_all is_name names ≡ true) × (are_names names ≡ true)
 
-names_there : (names : List (List ℕ)) → ((length names < 2 ^ 16) × (is_between 1 256 (length names) ≡ true)) × AllAfter IsNew [] names → AreNames names
-names_there names h = (all_names names [] h.1, and_true _ _ h.0.1 (differ_of names [] refl h.1))
+names_there : (names : List (List ℕ)) → ((length names < 2 ^ 16) × (is_between 1 256 (length names) ≡ true)) × AllAfter (IsNewOf is_name) [] names → AreNames names
+names_there names h = (all_pass is_name names [] h.1, and_true _ _ h.0.1 (differ_of is_name names [] refl h.1))
 
-names_back : (names : List (List ℕ)) → AreNames names → ((length names < 2 ^ 16) × (is_between 1 256 (length names) ≡ true)) × AllAfter IsNew [] names
+names_back : (names : List (List ℕ)) → AreNames names → ((length names < 2 ^ 16) × (is_between 1 256 (length names) ≡ true)) × AllAfter (IsNewOf is_name) [] names
 names_back names h =
     let len : is_between 1 256 (length names) ≡ true = and_left (is_between 1 256 (length names)) (all_differ names) h.1 in
     let few = leb-true (length names) 256 (and_right (leb 1 (length names)) _ len) in
-    ((omega arith, len), new_of names [] (and_right (is_between 1 256 (length names)) _ h.1) h.0)
+    ((omega arith, len), new_of is_name names [] (and_right (is_between 1 256 (length names)) _ h.1) h.0)
 
 names_format : IsFormat read.names_at names_text AreNames
 unfolding read.names_at

@@ -259,14 +259,6 @@ tagged_at tag rest =
 unfoldable pub scalar_at : Reader Scalar
 scalar_at bytes = byte_at bytes >>= λ tag. tagged_at tag.0 tag.1
 
--- the number of keys was judged where it was read, so the test, which is that of every path, never fails here
-unfoldable pub path_at : Reader (List (List ℕ))
-path_at = when_at (λ keys. nat_le (length keys) 8) (list_at (when_at (is_between 1 8) byte_at) (λ _. key_at))
-
--- a path that was read has 1 to 8 keys, so these parts are always an entry
-unfoldable pub entry_at : Reader Entry
-entry_at = drawn_at entry_of (pair_at path_at (pair_at kind_at scalar_at))
-
 abbrev pub dot_by : ℕ × ℕ → Dot
 dot_by p = record { replica = p.0; seq = p.1 }
 
@@ -281,13 +273,20 @@ is_next_dot seen before d = comes_after (dot_of_row (last before)) d && set.cont
 unfoldable pub dot_at : Dots → List (Dot × Entry) → Reader Dot
 dot_at seen before = when_at (is_next_dot seen before) (made_at dot_by (pair_at byte_at (number_at w64)))
 
-unfoldable pub live_row_at : Dots → List (Dot × Entry) → Reader (Dot × Entry)
-live_row_at seen before = pair_at (dot_at seen before) entry_at
+-- a path of such keys; their number was judged where it was read, so the test, which is that of every path, never
+-- fails here
+abbrev pub path_with : Reader (List ℕ) → Reader (List (List ℕ))
+path_with key = when_at (λ keys. nat_le (length keys) 8) (list_at (when_at (is_between 1 8) byte_at) (λ _. key))
 
-unfoldable pub live_rows_at : Dots → Reader (List (Dot × Entry))
-live_rows_at seen = list_at (number_at w32) (live_row_at seen)
+-- an entry with such a path; one that was read has 1 to 8 keys, so these parts are always an entry
+abbrev pub entry_with : Reader (List (List ℕ)) → Reader Entry
+entry_with path = drawn_at entry_of (pair_at path (pair_at kind_at scalar_at))
 
--- ---- counters
+-- the next row with such an entry
+abbrev pub live_row_with : Reader Entry → Dots → List (Dot × Entry) → Reader (Dot × Entry)
+live_row_with entry seen before = pair_at (dot_at seen before) entry
+
+-- ---- rows of counters
 
 -- a key and a replica that come after those of the row before
 abbrev pub comes_after_row : Option CountRow → List ℕ → ℕ → Bool
@@ -298,8 +297,9 @@ comes_after_row (Some r) key replica = is_lt (ordering_then (slice_cmp nat_cmp r
 abbrev pub is_next_place : ℕ → List CountRow → List ℕ × ℕ → Bool
 is_next_place replicas before p = comes_after_row (last before) p.0 p.1 && nat_lt p.1 replicas
 
-unfoldable pub place_at : ℕ → List CountRow → Reader (List ℕ × ℕ)
-place_at replicas before = when_at (is_next_place replicas before) (pair_at key_at byte_at)
+-- the next place with such a key
+abbrev pub place_with : Reader (List ℕ) → ℕ → List CountRow → Reader (List ℕ × ℕ)
+place_with key replicas before = when_at (is_next_place replicas before) (pair_at key byte_at)
 
 abbrev pub is_count : ℕ → Bool
 is_count n = nat_le n MAX_COUNT
@@ -314,8 +314,56 @@ counts_at = then_at (when_at is_count (number_at w64)) (λ p. when_at (is_second
 abbrev pub count_row_by : (List ℕ × ℕ) × (ℕ × ℕ) → CountRow
 count_row_by x = record { key = x.0.0; replica = x.0.1; p = x.1.0; n = x.1.1 }
 
+-- a row of such a place
+abbrev pub count_row_with : Reader (List ℕ × ℕ) → Reader CountRow
+count_row_with place = made_at count_row_by (pair_at place counts_at)
+
+-- ---- rows, for any reader of their keys
+
+module _ (key : Reader (List ℕ)) where
+  unfoldable pub keyed_path_at : Reader (List (List ℕ))
+  keyed_path_at = path_with key
+
+  unfoldable pub keyed_entry_at : Reader Entry
+  keyed_entry_at = entry_with keyed_path_at
+
+  unfoldable pub keyed_live_row_at : Dots → List (Dot × Entry) → Reader (Dot × Entry)
+  keyed_live_row_at seen before = live_row_with keyed_entry_at seen before
+
+  unfoldable pub keyed_live_rows_at : Dots → Reader (List (Dot × Entry))
+  keyed_live_rows_at seen = list_at (number_at w32) (keyed_live_row_at seen)
+
+  unfoldable pub keyed_place_at : ℕ → List CountRow → Reader (List ℕ × ℕ)
+  keyed_place_at replicas before = place_with key replicas before
+
+  unfoldable pub keyed_count_row_at : ℕ → List CountRow → Reader CountRow
+  keyed_count_row_at replicas before = count_row_with (keyed_place_at replicas before)
+
+  unfoldable pub keyed_count_rows_at : ℕ → Reader (List CountRow)
+  keyed_count_rows_at replicas = list_at (number_at w32) (keyed_count_row_at replicas)
+
+  unfoldable pub keyed_counters_at : ℕ → Reader Counted
+  keyed_counters_at replicas = made_at counts_of (keyed_count_rows_at replicas)
+
+-- ---- rows of which each key is a short text
+
+unfoldable pub path_at : Reader (List (List ℕ))
+path_at = path_with key_at
+
+unfoldable pub entry_at : Reader Entry
+entry_at = entry_with path_at
+
+unfoldable pub live_row_at : Dots → List (Dot × Entry) → Reader (Dot × Entry)
+live_row_at seen before = live_row_with entry_at seen before
+
+unfoldable pub live_rows_at : Dots → Reader (List (Dot × Entry))
+live_rows_at seen = list_at (number_at w32) (live_row_at seen)
+
+unfoldable pub place_at : ℕ → List CountRow → Reader (List ℕ × ℕ)
+place_at replicas before = place_with key_at replicas before
+
 unfoldable pub count_row_at : ℕ → List CountRow → Reader CountRow
-count_row_at replicas before = made_at count_row_by (pair_at (place_at replicas before) counts_at)
+count_row_at replicas before = count_row_with (place_at replicas before)
 
 unfoldable pub count_rows_at : ℕ → Reader (List CountRow)
 count_rows_at replicas = list_at (number_at w32) (count_row_at replicas)

@@ -74,33 +74,62 @@ scalar_text (Truth true) = 2 ∷ []
 scalar_text (Int z) = 3 ∷ to_be_bytes w64 (cast_unsigned w64 z)
 scalar_text (Text t) = 4 ∷ text_text t
 
-abbrev pub path_text : List (List ℕ) → List ℕ
-path_text keys = byte_text (length keys) ++ flat_map short_text keys
-
-abbrev pub entry_text : Entry → List ℕ
-entry_text e = path_text e.path ++ (byte_text (kind_byte e.kind) ++ scalar_text e.value)
-
 abbrev pub dot_text : Dot → List ℕ
 dot_text d = byte_text d.replica ++ to_be_bytes w64 d.seq
-
-abbrev pub live_row_text : Dot × Entry → List ℕ
-live_row_text row = dot_text row.0 ++ entry_text row.1
-
-abbrev pub live_rows_text : List (Dot × Entry) → List ℕ
-live_rows_text rows = to_be_bytes w32 (length rows) ++ flat_map live_row_text rows
-
-abbrev pub place_text : List ℕ → ℕ → List ℕ
-place_text key replica = short_text key ++ byte_text replica
 
 abbrev pub counts_text : ℕ → ℕ → List ℕ
 counts_text p n = to_be_bytes w64 p ++ to_be_bytes w64 n
 
+-- ---- rows, for any spelling of their keys
+
+module _ (key_text : List ℕ → List ℕ) where
+  abbrev pub keyed_path_text : List (List ℕ) → List ℕ
+  keyed_path_text keys = byte_text (length keys) ++ flat_map key_text keys
+
+  abbrev pub keyed_entry_text : Entry → List ℕ
+  keyed_entry_text e = keyed_path_text e.path ++ (byte_text (kind_byte e.kind) ++ scalar_text e.value)
+
+  abbrev pub keyed_live_row_text : Dot × Entry → List ℕ
+  keyed_live_row_text row = dot_text row.0 ++ keyed_entry_text row.1
+
+  abbrev pub keyed_live_rows_text : List (Dot × Entry) → List ℕ
+  keyed_live_rows_text rows = to_be_bytes w32 (length rows) ++ flat_map keyed_live_row_text rows
+
+  abbrev pub keyed_place_text : List ℕ → ℕ → List ℕ
+  keyed_place_text key replica = key_text key ++ byte_text replica
+
+  abbrev pub keyed_count_row_text : CountRow → List ℕ
+  keyed_count_row_text r = keyed_place_text r.key r.replica ++ counts_text r.p r.n
+
+  abbrev pub keyed_count_rows_text : List CountRow → List ℕ
+  keyed_count_rows_text rows = to_be_bytes w32 (length rows) ++ flat_map keyed_count_row_text rows
+
+  -- a row for each key and replica of which a number isn't 0
+  unfoldable pub keyed_counters_text : Counted → List ℕ
+  keyed_counters_text m = keyed_count_rows_text (count_rows m)
+
+-- ---- rows of which each key is a short text
+
+abbrev pub path_text : List (List ℕ) → List ℕ
+path_text keys = keyed_path_text short_text keys
+
+abbrev pub entry_text : Entry → List ℕ
+entry_text e = keyed_entry_text short_text e
+
+abbrev pub live_row_text : Dot × Entry → List ℕ
+live_row_text row = keyed_live_row_text short_text row
+
+abbrev pub live_rows_text : List (Dot × Entry) → List ℕ
+live_rows_text rows = keyed_live_rows_text short_text rows
+
+abbrev pub place_text : List ℕ → ℕ → List ℕ
+place_text key replica = keyed_place_text short_text key replica
+
 abbrev pub count_row_text : CountRow → List ℕ
-count_row_text r = place_text r.key r.replica ++ counts_text r.p r.n
+count_row_text r = keyed_count_row_text short_text r
 
 abbrev pub count_rows_text : List CountRow → List ℕ
-count_rows_text rows = to_be_bytes w32 (length rows) ++ flat_map count_row_text rows
+count_rows_text rows = keyed_count_rows_text short_text rows
 
--- a row for each key and replica of which a number isn't 0
 unfoldable pub counters_text : Counted → List ℕ
 counters_text m = count_rows_text (count_rows m)

@@ -11,7 +11,7 @@ use Rattle.rds_bytes.specs.declared.dots.Gap.{Gap}
 use Rattle.rds_bytes.specs.declared.dots.DotRow.{DotRow}
 use Rattle.rds_bytes.specs.Entries.{entry_of}
 use Rattle.rds_bytes.specs.RowDots.{dots_of_rows}
-use Rattle.rds_bytes.specs.Reading.{last, magic_at, short_at, key_at, name_at, new_name_at, names_at, roster_by, roster_at, replica_at, member_at, header_at, gap_by, gap_at, gaps_at, numbers_at, dot_row_by, dot_row_at, dot_rows_at, dots_at, row_head_by, row_head_at, row_gaps_at, kind_by, kind_at, int_at, text_at, int_scalar, text_scalar, text_scalar_at, tagged_at, scalar_at, path_at, entry_at, dot_by, dot_at, live_row_at, live_rows_at, place_at, counts_at, count_row_by, count_row_at, count_rows_at, counters_at}
+use Rattle.rds_bytes.specs.Reading.{Reader, last, magic_at, short_at, key_at, name_at, new_name_at, names_at, roster_by, roster_at, replica_at, member_at, header_at, gap_by, gap_at, gaps_at, numbers_at, dot_row_by, dot_row_at, dot_rows_at, dots_at, row_head_by, row_head_at, row_gaps_at, kind_by, kind_at, int_at, text_at, int_scalar, text_scalar, text_scalar_at, tagged_at, scalar_at, dot_by, dot_at, counts_at, count_row_by, keyed_path_at, keyed_entry_at, keyed_live_row_at, keyed_live_rows_at, keyed_place_at, keyed_count_row_at, keyed_count_rows_at, keyed_counters_at, path_at, entry_at, live_row_at, live_rows_at, place_at, count_row_at, count_rows_at, counters_at}
 use Rattle.rds_bytes.specs.Steady.{IsSteady}
 use Rattle.rds_bytes.specs.SteadyLaws.{agrees_bind, made_steady, then_steady, pair_steady, when_steady, drawn_steady, chosen_steady, given_steady, bad_steady, rows_steady, list_steady, byte_steady, number_steady, bytes_steady, string_steady}
 
@@ -120,44 +120,67 @@ pub scalar_steady : IsSteady scalar_at
 unfolding scalar_at
 scalar_steady bytes more = agrees_bind more _ _ (λ tag. tagged_at tag.0 tag.1) (byte_steady bytes more) (λ tag rest. tagged_steady tag rest more)
 
-pub path_steady : IsSteady path_at
-unfolding path_at
-path_steady = when_steady _ _ (list_steady _ _ (when_steady _ _ byte_steady) (λ _. key_steady))
-
-pub entry_steady : IsSteady entry_at
-unfolding entry_at
-entry_steady = drawn_steady entry_of _ (pair_steady _ _ path_steady (pair_steady _ _ kind_steady scalar_steady))
-
 pub dot_steady : (seen : Dots) (before : List (Dot × Entry)) → IsSteady (dot_at seen before)
 unfolding dot_at
 dot_steady seen before = when_steady _ _ (made_steady dot_by _ (pair_steady _ _ byte_steady (number_steady w64)))
-
-pub live_row_steady : (seen : Dots) (before : List (Dot × Entry)) → IsSteady (live_row_at seen before)
-unfolding live_row_at
-live_row_steady seen before = pair_steady _ _ (dot_steady seen before) entry_steady
-
-pub live_rows_steady : (seen : Dots) → IsSteady (live_rows_at seen)
-unfolding live_rows_at
-live_rows_steady seen = list_steady _ _ (number_steady w32) (live_row_steady seen)
-
--- ---- counters
-
-pub place_steady : (replicas : ℕ) (before : List CountRow) → IsSteady (place_at replicas before)
-unfolding place_at
-place_steady replicas before = when_steady _ _ (pair_steady _ _ key_steady byte_steady)
 
 pub counts_steady : IsSteady counts_at
 unfolding counts_at
 counts_steady = then_steady _ _ (when_steady _ _ (number_steady w64)) (λ p. when_steady _ _ (number_steady w64))
 
-pub count_row_steady : (replicas : ℕ) (before : List CountRow) → IsSteady (count_row_at replicas before)
-unfolding count_row_at
-count_row_steady replicas before = made_steady count_row_by _ (pair_steady _ _ (place_steady replicas before) counts_steady)
+-- ---- rows, for any steady reader of their keys
 
-pub count_rows_steady : (replicas : ℕ) → IsSteady (count_rows_at replicas)
-unfolding count_rows_at
-count_rows_steady replicas = list_steady _ _ (number_steady w32) (count_row_steady replicas)
+module _ (key : Reader (List ℕ)) (key_is : IsSteady key) where
+  pub keyed_path_steady : IsSteady (keyed_path_at key)
+  unfolding keyed_path_at
+  keyed_path_steady = when_steady _ _ (list_steady _ _ (when_steady _ _ byte_steady) (λ _. key_is))
+
+  pub keyed_entry_steady : IsSteady (keyed_entry_at key)
+  unfolding keyed_entry_at
+  keyed_entry_steady = drawn_steady entry_of _ (pair_steady _ _ keyed_path_steady (pair_steady _ _ kind_steady scalar_steady))
+
+  pub keyed_live_row_steady : (seen : Dots) (before : List (Dot × Entry)) → IsSteady (keyed_live_row_at key seen before)
+  unfolding keyed_live_row_at
+  keyed_live_row_steady seen before = pair_steady _ _ (dot_steady seen before) keyed_entry_steady
+
+  pub keyed_live_rows_steady : (seen : Dots) → IsSteady (keyed_live_rows_at key seen)
+  unfolding keyed_live_rows_at
+  keyed_live_rows_steady seen = list_steady _ _ (number_steady w32) (keyed_live_row_steady seen)
+
+  pub keyed_place_steady : (replicas : ℕ) (before : List CountRow) → IsSteady (keyed_place_at key replicas before)
+  unfolding keyed_place_at
+  keyed_place_steady replicas before = when_steady _ _ (pair_steady _ _ key_is byte_steady)
+
+  pub keyed_count_row_steady : (replicas : ℕ) (before : List CountRow) → IsSteady (keyed_count_row_at key replicas before)
+  unfolding keyed_count_row_at
+  keyed_count_row_steady replicas before = made_steady count_row_by _ (pair_steady _ _ (keyed_place_steady replicas before) counts_steady)
+
+  pub keyed_count_rows_steady : (replicas : ℕ) → IsSteady (keyed_count_rows_at key replicas)
+  unfolding keyed_count_rows_at
+  keyed_count_rows_steady replicas = list_steady _ _ (number_steady w32) (keyed_count_row_steady replicas)
+
+  pub keyed_counters_steady : (replicas : ℕ) → IsSteady (keyed_counters_at key replicas)
+  unfolding keyed_counters_at
+  keyed_counters_steady replicas = made_steady counts_of _ (keyed_count_rows_steady replicas)
+
+-- ---- rows of which each key is a short text
+
+pub entry_steady : IsSteady entry_at
+unfolding entry_at path_at keyed_entry_at keyed_path_at
+entry_steady = keyed_entry_steady key_at key_steady
+
+pub live_row_steady : (seen : Dots) (before : List (Dot × Entry)) → IsSteady (live_row_at seen before)
+unfolding live_row_at entry_at path_at keyed_live_row_at keyed_entry_at keyed_path_at
+live_row_steady = keyed_live_row_steady key_at key_steady
+
+pub live_rows_steady : (seen : Dots) → IsSteady (live_rows_at seen)
+unfolding live_rows_at live_row_at entry_at path_at keyed_live_rows_at keyed_live_row_at keyed_entry_at keyed_path_at
+live_rows_steady = keyed_live_rows_steady key_at key_steady
+
+pub count_row_steady : (replicas : ℕ) (before : List CountRow) → IsSteady (count_row_at replicas before)
+unfolding count_row_at place_at keyed_count_row_at keyed_place_at
+count_row_steady = keyed_count_row_steady key_at key_steady
 
 pub counters_steady : (replicas : ℕ) → IsSteady (counters_at replicas)
-unfolding counters_at
-counters_steady replicas = made_steady counts_of _ (count_rows_steady replicas)
+unfolding counters_at count_rows_at count_row_at place_at keyed_counters_at keyed_count_rows_at keyed_count_row_at keyed_place_at
+counters_steady = keyed_counters_steady key_at key_steady

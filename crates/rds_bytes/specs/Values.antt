@@ -19,6 +19,9 @@ use Rattle.rds_counts.specs.Counted.{Counted, counts_of, AreCountRows}
 abbrev pub is_key_text : List ℕ → Bool
 is_key_text t = is_utf8 t && is_key t
 
+abbrev pub IsKeyText : List ℕ → Type 0
+IsKeyText t = is_key_text t ≡ true
+
 -- the roster holds a key and different names, and the replica is one of it
 pub record IsMember (roster : RosterValue) (own : ℕ) : Type 0 where
   pub group : is_key_text roster.group ≡ true
@@ -48,6 +51,16 @@ IsKeyed r = is_key_text r.key ≡ true
 -- of a key and one of so many replicas
 abbrev pub IsCountRowOf : ℕ → CountRow → Type 0
 IsCountRowOf replicas r = IsKeyed r × (r.replica < replicas)
+
+-- ---- rows of which each key is such a one
+
+abbrev pub HasKeys : (List ℕ → Type 0) → Dot × Entry → Type 0
+HasKeys IsKey row = AllByRecursion IsKey row.1.path
+
+abbrev pub HasKey : (List ℕ → Type 0) → CountRow → Type 0
+HasKey IsKey r = IsKey r.key
+
+-- ---- the values of counters
 
 -- the numbers of rows, each of a key and one of so many replicas
 pub record AreCountsOf (replicas : ℕ) (m : Counted) : Type 0 where

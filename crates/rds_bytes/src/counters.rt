@@ -1,19 +1,21 @@
 //! The counters of a snapshot: a row for each key and replica.
-ghost use Rattle.std.specs.Prelude.{◌≡◌, ◌<◌, ◌^◌, length, IfOk, ℕ, ◌*◌, ◌≤◌};
+ghost use Rattle.std.specs.Prelude.{◌≡◌, ◌<◌, ◌^◌, [], length, IfOk, ℕ, ◌*◌, ◌≤◌};
 ghost use Rattle.std.specs.Int.{w64};
 ghost use Rattle.std.specs.List.{flat_map, AllByRecursion};
 ghost use Rattle.rds_counts.specs.Counted.{AreCountRows, number};
 ghost use Rattle.rds_counts.specs.Place.{Place};
 ghost use Rattle.rds_counts.specs.RowsOf.{count_rows};
-ghost use Rattle.rds_bytes.specs.Reading.{Reads, ReadsExactly, number_at, when_at, last, comes_after_row as is_after_row, is_count as is_count_of, is_second, place_at, counts_at, count_row_at, count_rows_at, counters_at};
+ghost use Rattle.rds_bytes.specs.Reading.{Reads, ReadsExactly, rows_after, number_at, when_at, last, comes_after_row as is_after_row, is_count as is_count_of, is_second, counts_at, count_row_at, counters_at, keyed_place_at, keyed_count_row_at, keyed_count_rows_at, keyed_counters_at};
+ghost use Rattle.rds_bytes.specs.Sources.{after_counts};
 ghost use Rattle.rds_bytes.specs.SteadyParts.{count_row_steady};
 ghost use Rattle.rds_bytes.specs.Values.{AreCountsOf, IsKeyed};
 ghost use Rattle.rds_bytes.specs.Spelling.{count_row_text, counters_text, place_text, counts_text, count_rows_text};
 ghost use Rattle.rds_bytes.specs.Writing.{Adds};
 
-use crate::keys::{key_length, put_key, read_key};
-use crate::list::{PartReader, read_parts};
+use crate::keys::{key_length, put_key};
+use crate::list::PartReader;
 use crate::numbers::{put_byte, put_u32, put_u64, read_byte, read_u32, read_u64};
+use crate::sources::{KeySource, SpelledKeys};
 use rds_counts::{CountRow, Counts, MAX_COUNT};
 use rds_names::{Fault, Key};
 use std::alloc::{AllocError, Global};
@@ -55,32 +57,52 @@ fn read_counts(bytes: &[u8]) -> Result<((u64, u64), &[u8]), Fault>
     Ok(((p, n), rest))
 }
 
-/// Reads the rows of counters, which ascend by key, then replica, each of one of so many replicas.
+/// The key and the replica of the next row, wherever the key comes from.
+#[tactic(auto, unfolding(crate::specs::Reading::keyed_place_at))]
+fn read_place<'a, K: KeySource>(
+    alloc: Global,
+    keys: &mut K,
+    replicas: u16,
+    before: &[CountRow],
+    bytes: &'a [u8],
+) -> Result<((Key, u8), &'a [u8]), Fault>
+    ensures read { Reads (λ x. (x.0, x.1.now)) result (keyed_place_at (K.reader keys.old) replicas before.now bytes.now) }
+    ensures after { IfOk result (λ x. keys.new ≡ K.after keys.old x.0.0) }
+{
+    let (key, rest) = keys.read(alloc, bytes)?;
+    let (replica, rest) = read_byte(rest)?;
+    if !comes_after_row(before, &key, replica) || replicas <= u16::from(replica) {
+        return Err(Fault::Bad);
+    }
+    Ok(((key, replica), rest))
+}
+
+/// The next row, wherever its key comes from.
+#[tactic(auto, unfolding(crate::specs::Reading::keyed_count_row_at))]
+fn read_keyed_row<'a, K: KeySource>(
+    alloc: Global,
+    keys: &mut K,
+    replicas: u16,
+    before: &[CountRow],
+    bytes: &'a [u8],
+) -> Result<(CountRow, &'a [u8]), Fault>
+    ensures read { Reads (λ x. (x.0, x.1.now)) result
+        (keyed_count_row_at (K.reader keys.old) replicas before.now bytes.now) }
+    ensures after { IfOk result (λ x. keys.new ≡ K.after keys.old x.0.key) }
+    ensures byte { IfOk result (λ x. x.0.replica < 256) }
+{
+    let ((key, replica), rest) = read_place(alloc, keys, replicas, before, bytes)?;
+    let ((p, n), rest) = read_counts(rest)?;
+    Ok((CountRow { key, replica, p, n }, rest))
+}
+
+/// Reads the rows of counters, which ascend by key, then replica, each of one of so many replicas. Each key is a short
+/// text.
 #[derive(Drop)]
 pub struct CountRowReader {
     pub replicas: u16,
 }
 
-impl CountRowReader {
-    #[tactic(auto, unfolding(crate::specs::Reading::place_at))]
-    fn read_place<'b>(
-        &self,
-        alloc: Global,
-        before: &[CountRow],
-        bytes: &'b [u8],
-    ) -> Result<((Key, u8), &'b [u8]), Fault>
-        ensures { Reads (λ x. (x.0, x.1.now)) result (place_at self.now.replicas before.now bytes.now) }
-    {
-        let (key, rest) = read_key(alloc, bytes)?;
-        let (replica, rest) = read_byte(rest)?;
-        if !comes_after_row(before, &key, replica) || self.replicas <= u16::from(replica) {
-            return Err(Fault::Bad);
-        }
-        Ok(((key, replica), rest))
-    }
-}
-
-#[tactic(auto, unfolding(crate::specs::Reading::count_row_at))]
 impl PartReader<CountRow> for CountRowReader {
     ghost reader = { λ r before. count_row_at r.replicas before };
 
@@ -92,29 +114,68 @@ impl PartReader<CountRow> for CountRowReader {
         before: &[CountRow],
         bytes: &'b [u8],
     ) -> Result<(CountRow, &'b [u8]), Fault> {
-        let ((key, replica), rest) = self.read_place(alloc, before, bytes)?;
-        let ((p, n), rest) = read_counts(rest)?;
-        Ok((CountRow { key, replica, p, n }, rest))
+        let mut keys = SpelledKeys;
+        read_keyed_row(alloc, &mut keys, self.replicas, before, bytes)
     }
 }
 
-#[tactic(auto, unfolding(crate::specs::Reading::count_rows_at))]
-fn read_count_rows<'a>(
+/// As many rows as are asked for. Room is made for each as it comes.
+fn read_rows<'a, K: KeySource>(
     alloc: Global,
+    keys: &mut K,
     replicas: u16,
+    count: u32,
     bytes: &'a [u8],
 ) -> Result<(Vec<CountRow>, &'a [u8]), Fault>
-    ensures read { Reads (λ x. (x.0.items, x.1.now)) result (count_rows_at replicas bytes.now) }
-    ensures rows { IfOk result (λ x. AreCountRows x.0.items) }
+    ensures read { Reads (λ x. (x.0.items, x.1.now)) result
+        (rows_after (keyed_count_row_at (K.reader keys.old) replicas) [] count bytes.now) }
+    ensures after { IfOk result (λ x. keys.new ≡ after_counts K.after keys.old x.0.items) }
+    ensures bytes { IfOk result (λ x. AllByRecursion (λ r. r.replica < 256) x.0.items) }
 {
-    let (count, rest) = read_u32(bytes)?;
-    let (rows, rest) = read_parts(alloc, &CountRowReader { replicas }, count, rest)?;
+    let mut rows = Vec::new(alloc);
+    let mut rest = bytes;
+    for _ in 0..count {
+        let (row, after) = read_keyed_row(alloc, keys, replicas, &rows, rest)?;
+        rows.push(row)?;
+        rest = after;
+    }
     Ok((rows, rest))
 }
 
-/// The counters, whose rows ascend by key, then replica. Each row is of one of so many replicas, and has two
-/// numbers within `MAX_COUNT` that aren't both 0.
-#[tactic(auto, unfolding(crate::specs::Reading::counters_at))]
+/// The rows, after their number.
+#[tactic(auto, unfolding(crate::specs::Reading::keyed_count_rows_at))]
+fn read_count_rows<'a, K: KeySource>(
+    alloc: Global,
+    keys: &mut K,
+    replicas: u16,
+    bytes: &'a [u8],
+) -> Result<(Vec<CountRow>, &'a [u8]), Fault>
+    ensures read { Reads (λ x. (x.0.items, x.1.now)) result (keyed_count_rows_at (K.reader keys.old) replicas bytes.now) }
+    ensures after { IfOk result (λ x. keys.new ≡ after_counts K.after keys.old x.0.items) }
+    ensures rows { IfOk result (λ x. AreCountRows x.0.items) }
+{
+    let (count, rest) = read_u32(bytes)?;
+    let (rows, rest) = read_rows(alloc, keys, replicas, count, rest)?;
+    Ok((rows, rest))
+}
+
+/// The counters, wherever their keys come from. Their rows ascend by key, then replica. Each row is of one of so many
+/// replicas, and has two numbers within `MAX_COUNT` that aren't both 0.
+#[tactic(auto, unfolding(crate::specs::Reading::keyed_counters_at))]
+pub fn read_keyed_counters<'a, K: KeySource>(
+    alloc: Global,
+    keys: &mut K,
+    replicas: u16,
+    bytes: &'a [u8],
+) -> Result<(Counts, &'a [u8]), Fault>
+    ensures read { Reads (λ x. (x.0, x.1.now)) result (keyed_counters_at (K.reader keys.old) replicas bytes.now) }
+    ensures after { IfOk result (λ x. keys.new ≡ after_counts K.after keys.old (count_rows x.0)) }
+{
+    let (rows, rest) = read_count_rows(alloc, keys, replicas, bytes)?;
+    Ok((Counts::with_rows(rows), rest))
+}
+
+/// The counters, of which each key is a short text.
 pub fn read_counters<'a>(
     alloc: Global,
     replicas: u16,
@@ -122,8 +183,8 @@ pub fn read_counters<'a>(
 ) -> Result<(Counts, &'a [u8]), Fault>
     ensures { Reads (λ x. (x.0, x.1.now)) result (counters_at replicas bytes.now) }
 {
-    let (rows, rest) = read_count_rows(alloc, replicas, bytes)?;
-    Ok((Counts::with_rows(rows), rest))
+    let mut keys = SpelledKeys;
+    read_keyed_counters(alloc, &mut keys, replicas, bytes)
 }
 
 fn count_rows_length(rows: &[CountRow]) -> u128

@@ -1,6 +1,6 @@
 //! An entry: its path, its kind and its value.
-ghost use Rattle.std.specs.Prelude.{◌≡◌, ◌≤◌, length};
-ghost use Rattle.rds_bytes.specs.Reading.{Reads, ReadsExactly, kind_at, entry_at};
+ghost use Rattle.std.specs.Prelude.{◌≡◌, ◌≤◌, length, fold, IfOk};
+ghost use Rattle.rds_bytes.specs.Reading.{Reads, ReadsExactly, kind_at, entry_at, keyed_entry_at};
 ghost use Rattle.rds_bytes.specs.Values.{IsEntry};
 ghost use Rattle.rds_bytes.specs.Spelling.{entry_text, byte_text, kind_byte};
 ghost use Rattle.rds_bytes.specs.Writing.{Adds};
@@ -8,6 +8,7 @@ ghost use Rattle.rds_bytes.specs.Writing.{Adds};
 use crate::numbers::{put_byte, read_byte};
 use crate::paths::{keys_length, put_keys, read_path};
 use crate::scalars::{put_scalar, read_scalar, scalar_length};
+use crate::sources::{KeySource, SpelledKeys};
 use rds_names::{Entry, Fault, Kind};
 use std::alloc::{AllocError, Global};
 
@@ -23,18 +24,31 @@ fn read_kind(bytes: &[u8]) -> Result<(Kind, &[u8]), Fault>
     }
 }
 
-/// An entry.
-#[tactic(auto, unfolding(crate::specs::Reading::entry_at))]
-pub fn read_entry(alloc: Global, bytes: &[u8]) -> Result<(Entry, &[u8]), Fault>
-    ensures { Reads (λ x. (x.0, x.1.now)) result (entry_at bytes.now) }
+/// An entry, wherever its keys come from.
+#[tactic(auto, unfolding(crate::specs::Reading::keyed_entry_at))]
+pub fn read_keyed_entry<'a, K: KeySource>(
+    alloc: Global,
+    keys: &mut K,
+    bytes: &'a [u8],
+) -> Result<(Entry, &'a [u8]), Fault>
+    ensures read { Reads (λ x. (x.0, x.1.now)) result (keyed_entry_at (K.reader keys.old) bytes.now) }
+    ensures after { IfOk result (λ x. keys.new ≡ fold K.after keys.old x.0.path) }
 {
-    let (path, rest) = read_path(alloc, bytes)?;
+    let (path, rest) = read_path(alloc, keys, bytes)?;
     let (kind, rest) = read_kind(rest)?;
     let (value, rest) = read_scalar(alloc, rest)?;
     match Entry::new(path, kind, value) {
         Ok(entry) => Ok((entry, rest)),
         Err(_) => Err(Fault::Bad),
     }
+}
+
+/// An entry of which each key is a short text.
+pub fn read_entry(alloc: Global, bytes: &[u8]) -> Result<(Entry, &[u8]), Fault>
+    ensures { Reads (λ x. (x.0, x.1.now)) result (entry_at bytes.now) }
+{
+    let mut keys = SpelledKeys;
+    read_keyed_entry(alloc, &mut keys, bytes)
 }
 
 /// The length of an entry.

@@ -1,5 +1,5 @@
-//! Laws of the texts of sets, and of reading.
-ghost use Rattle.std.specs.Prelude.{◌≡◌, ◌≢◌, ℕ, ◌+◌, List, [], ◌∷◌, ◌++◌, Option, Ok, Err};
+//! Laws of the texts of sets and of tables, and of reading.
+ghost use Rattle.std.specs.Prelude.{◌≡◌, ◌≢◌, ◌↔◌, ℕ, ◌+◌, true, List, [], ◌∷◌, ◌++◌, length, fold, Option, Some, Ok, Err};
 ghost use Rattle.rds_names.specs.declared.fault.Fault.{Fault};
 ghost use Rattle.rds_names.specs.declared.fault.Fault.TheVariants.{Cut};
 ghost use Rattle.rds_names.specs.declared.entry.Entry.{Entry};
@@ -8,11 +8,16 @@ ghost use Rattle.rds_dots.specs.Dots.{Dots};
 ghost use Rattle.rds_counts.specs.declared.row.CountRow.{CountRow};
 ghost use Rattle.rds_bytes.specs.declared.dots.DotRow.{DotRow};
 ghost use Rattle.rds_bytes.specs.declared.dots.Gap.{Gap};
-ghost use Rattle.rds_bytes.specs.Reading.{then_at, made_at, rows_after, last, least_replica, row_head_at, row_gaps_at, row_by, key_at, name_at, roster_at, replica_at, member_at, header_at, gap_at, dot_row_at, dots_at, scalar_at, entry_at, live_row_at, live_rows_at, count_row_at, counters_at};
+ghost use Rattle.rds_bytes.specs.Reading.{Reader, keyed_live_rows_at, keyed_counters_at, then_at, made_at, rows_after, last, least_replica, row_head_at, row_gaps_at, row_by, key_at, name_at, roster_at, replica_at, member_at, header_at, gap_at, dot_row_at, dots_at, scalar_at, entry_at, live_row_at, live_rows_at, count_row_at, counters_at};
+ghost use Rattle.rds_names.specs.Roster.{all_differ};
+ghost use Rattle.rds_bytes.specs.OneText.{HasOneText};
 ghost use Rattle.rds_bytes.specs.RowDots.{dots_of_rows};
 ghost use Rattle.rds_bytes.specs.SetRows.{AreRowsOf, IsSpelledByRows, RowsStand};
-ghost use Rattle.rds_bytes.specs.Spelling.{dots_text, dot_rows_text};
+ghost use Rattle.rds_bytes.specs.Spelling.{dots_text, dot_rows_text, keyed_live_rows_text, keyed_counters_text};
 ghost use Rattle.rds_bytes.specs.Steady.{IsSteady};
+ghost use Rattle.rds_bytes.specs.Table.{AreIn, table_of, after_key};
+ghost use Rattle.rds_bytes.specs.TableTexts.{table_text, number_text, table_at, numbered_at};
+ghost use Rattle.rds_bytes.specs.Tabled.{IsShortTable, IsKeyOf, AreTabledRows, AreTabledCounts};
 ghost use Rattle.rds_bytes.specs.Values.{AreDotsOf};
 
 use crate::list::PartReader;
@@ -67,4 +72,34 @@ pub fn parts_are_taken_one_by_one<T: Drop, R: PartReader<T>>()
     ensures refused { (r : R) (before : List T) (n : ℕ) (rest : List ℕ) (fault : Fault) → fault ≢ Cut
         → rows_after (R.reader r) before n rest ≡ Err fault → (more : List ℕ)
         → rows_after (R.reader r) before n (rest ++ more) ≡ Err fault }
+{}
+
+/// A table is that of keys exactly where their numbers come in turn, each at most as great as the number of keys met
+/// before it, and meet all of it. The function does nothing: its contract is the law.
+pub fn tables_are_met_in_turn()
+    ensures { (table keys : List (List ℕ)) → all_differ table ≡ true → AreIn table keys
+        → (table_of keys ≡ table) ↔ (fold (after_key table) (Some 0) keys ≡ Some (length table)) }
+{}
+
+/// A table has one text, and so has each of its keys as its number. Rows and counters have one text each over the
+/// numbers of a table's keys. The function does nothing: its contract is the law.
+pub fn tables_have_one_text()
+    ensures table { HasOneText table_at table_text IsShortTable }
+    ensures number { (table : List (List ℕ)) → IsShortTable table
+        → HasOneText (numbered_at table) (number_text table) (IsKeyOf table) }
+    ensures live_rows { (table : List (List ℕ)) → IsShortTable table → (seen : Dots) → AreDotsOf 256 seen
+        → HasOneText (keyed_live_rows_at (numbered_at table) seen) (keyed_live_rows_text (number_text table))
+        (AreTabledRows table seen) }
+    ensures counters { (table : List (List ℕ)) → IsShortTable table → (replicas : ℕ)
+        → HasOneText (keyed_counters_at (numbered_at table) replicas) (keyed_counters_text (number_text table))
+        (AreTabledCounts table replicas) }
+{}
+
+/// The readers of tables, and of keys by their numbers, are steady. So are those of live rows and of counters, for each
+/// steady reader of their keys. The function does nothing: its contract is the law.
+pub fn tables_are_steady()
+    ensures table { IsSteady table_at }
+    ensures number { (table : List (List ℕ)) → IsSteady (numbered_at table) }
+    ensures live_rows { (key : Reader (List ℕ)) → IsSteady key → (seen : Dots) → IsSteady (keyed_live_rows_at key seen) }
+    ensures counters { (key : Reader (List ℕ)) → IsSteady key → (replicas : ℕ) → IsSteady (keyed_counters_at key replicas) }
 {}

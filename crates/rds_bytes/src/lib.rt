@@ -1,9 +1,10 @@
 //! The parts of texts as bytes. Each part is read, measured and written in one module.
 //!
-//! To be read in this order: `numbers` and `strings`; `list`, by which parts are read one after the other; `keys`,
-//! `paths`, `scalars`, `entries` and `live_rows`; `counters`; `roster` and `header`; `dots`, and `dot_rows` for
-//! sets of which a row comes in pieces; `laws`, which has the text of sets in their own words, and of each reader that
-//! what it says stays said, whatever follows.
+//! To be read in this order: `numbers` and `strings`; `list`, by which parts are read one after the other; `keys`, and
+//! `sources`, which say where the keys of rows come from; `paths`, `scalars`, `entries` and `live_rows`; `counters`;
+//! `tables`, which number the keys of rows; `roster` and `header`; `dots`, and `dot_rows` for sets of which a row comes
+//! in pieces; `laws`, which has the text of sets in their own words, of each reader that what it says stays said,
+//! whatever follows, and the laws of tables.
 #![tactic(auto)]
 
 mod counters;
@@ -19,9 +20,13 @@ mod numbers;
 mod paths;
 mod roster;
 mod scalars;
+mod sources;
 mod strings;
+mod tables;
 
-pub use counters::{CountRowReader, counters_length, put_counters, put_place, read_counters};
+pub use counters::{
+    CountRowReader, counters_length, put_counters, put_place, read_counters, read_keyed_counters,
+};
 pub use dot_rows::{DotRowReader, GapReader, RowHead, read_row_head};
 pub use dots::{DotRow, Gap, Gaps, measure_dots, put_dots, read_dots, read_gap};
 pub use entries::read_entry;
@@ -29,10 +34,12 @@ pub use header::{MAGIC, put_header, read_header};
 pub use keys::{key_length, read_key};
 pub use laws::{
     parts_are_taken_one_by_one, readers_are_steady, rows_are_read_in_steps,
-    sets_are_spelled_by_rows,
+    sets_are_spelled_by_rows, tables_are_met_in_turn, tables_are_steady, tables_have_one_text,
 };
 pub use list::{PartReader, read_parts};
-pub use live_rows::{LiveRowReader, live_rows_length, put_live_rows, read_live_rows};
+pub use live_rows::{
+    LiveRowReader, live_rows_length, put_live_rows, read_keyed_live_rows, read_live_rows,
+};
 pub use numbers::{
     put_byte, put_u32, put_u64, read_byte, read_length, read_u16, read_u32, read_u64,
 };
@@ -40,3 +47,5 @@ pub use roster::{
     NameReader, member_length, put_member, read_member, read_name, read_replica, read_roster,
 };
 pub use scalars::read_scalar;
+pub use sources::{KeySource, SpelledKeys};
+pub use tables::{Table, read_table};

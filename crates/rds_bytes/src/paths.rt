@@ -1,45 +1,50 @@
 //! A path: how many keys it has, and the keys.
-ghost use Rattle.std.specs.Prelude.{◌≡◌, true, ◌≤◌, length};
+ghost use Rattle.std.specs.Prelude.{◌≡◌, true, ◌≤◌, [], length, fold, IfOk};
 ghost use Rattle.std.specs.List.{flat_map, list_all};
-ghost use Rattle.rds_bytes.specs.Reading.{Reads, key_at, path_at};
-ghost use Rattle.rds_bytes.specs.SteadyParts.{key_steady};
+ghost use Rattle.rds_bytes.specs.Reading.{Reads, rows_after, keyed_path_at};
 ghost use Rattle.rds_bytes.specs.Values.{is_key_text};
 ghost use Rattle.rds_bytes.specs.Spelling.{short_text};
 ghost use Rattle.rds_bytes.specs.Writing.{Adds};
 
-use crate::keys::{key_length, put_key, read_key};
-use crate::list::{PartReader, read_parts};
+use crate::keys::{key_length, put_key};
 use crate::numbers::read_length;
+use crate::sources::KeySource;
 use rds_names::{Fault, Key, Path};
 use std::alloc::{AllocError, Global};
 
-/// Reads the keys of a path.
-#[derive(Drop)]
-struct KeyReader;
-
-impl PartReader<Key> for KeyReader {
-    ghost reader = { λ _ before. key_at };
-
-    ghost steady = { λ _ before. key_steady };
-
-    fn read<'a>(
-        &self,
-        alloc: Global,
-        _before: &[Key],
-        bytes: &'a [u8],
-    ) -> Result<(Key, &'a [u8]), Fault> {
-        read_key(alloc, bytes)
+/// As many keys as are asked for. Room is made for each as it comes.
+fn read_keys<'a, K: KeySource>(
+    alloc: Global,
+    keys: &mut K,
+    count: u8,
+    bytes: &'a [u8],
+) -> Result<(Vec<Key>, &'a [u8]), Fault>
+    ensures read { Reads (λ x. (x.0.items, x.1.now)) result (rows_after (λ _. K.reader keys.old) [] count bytes.now) }
+    ensures after { IfOk result (λ x. keys.new ≡ fold K.after keys.old x.0.items) }
+{
+    let mut found = Vec::new(alloc);
+    let mut rest = bytes;
+    for _ in 0..count {
+        let (key, after) = keys.read(alloc, rest)?;
+        found.push(key)?;
+        rest = after;
     }
+    Ok((found, rest))
 }
 
 /// A path of 1 to 8 keys.
-#[tactic(auto, unfolding(crate::specs::Reading::path_at))]
-pub fn read_path(alloc: Global, bytes: &[u8]) -> Result<(Path, &[u8]), Fault>
-    ensures { Reads (λ x. (x.0, x.1.now)) result (path_at bytes.now) }
+#[tactic(auto, unfolding(crate::specs::Reading::keyed_path_at))]
+pub fn read_path<'a, K: KeySource>(
+    alloc: Global,
+    keys: &mut K,
+    bytes: &'a [u8],
+) -> Result<(Path, &'a [u8]), Fault>
+    ensures read { Reads (λ x. (x.0, x.1.now)) result (keyed_path_at (K.reader keys.old) bytes.now) }
+    ensures after { IfOk result (λ x. keys.new ≡ fold K.after keys.old x.0) }
 {
     let (count, rest) = read_length(1, 8, bytes)?;
-    let (keys, rest) = read_parts(alloc, &KeyReader, u32::from(count), rest)?;
-    match Path::from_keys(keys) {
+    let (found, rest) = read_keys(alloc, keys, count, rest)?;
+    match Path::from_keys(found) {
         Ok(path) => Ok((path, rest)),
         Err(Fault::Memory) => Err(Fault::Memory),
         Err(_) => Err(Fault::Bad),

@@ -6,31 +6,36 @@ use Rattle.rds_codec.specs.declared.limits.TheConstants.{LIMIT}
 use Rattle.rds_codec.specs.AnswerTexts.{AnswerParts, IsAnswerOf, answer_by, answer_text, answer_at, answer_kind}
 use Rattle.rds_codec.specs.AnswerValues.{AnswerValue}
 use Rattle.rds_codec.specs.CertificateTexts.{IsReplicaOf, certificate_text, certificate_at}
-use Rattle.rds_bytes.specs.Reading.{Reader, pair_at, replica_at}
-use Rattle.rds_codec.specs.StateTexts.{state_at, state_text}
+use Rattle.rds_bytes.specs.Reading.{Reader, pair_at, made_at, replica_at}
+use Rattle.rds_codec.specs.StateTexts.{IsStateOf, state_at, state_text}
 use Rattle.rds_bytes.specs.Spelling.{byte_text}
 use Rattle.rds_bytes.proofs.Format.{IsFormat, pair_format, made_format}
 use Rattle.rds_codec.proofs.CertificateFormats.{FitsCertificate, certificate_format, certificate_within}
 use Rattle.rds_bytes.proofs.PartFormats.{replica_format}
 use Rattle.rds_bytes.proofs.Sequences.{three_lengths, three_added}
-use Rattle.rds_codec.proofs.StateFormats.{CanCountState, FitsState, state_format, state_within}
+use Rattle.rds_codec.proofs.StateFormats.{CanCountState, state_format, state_within}
 use Rattle.rds_codec.proofs.Whole.{IsReaderOf, reader_of}
 
-module _ (replicas : ℕ) where
+-- ---- for a format of its state
+
+module _ (replicas : ℕ) (read_state : Reader StateValue) (state_text_by : StateValue → List ℕ) (CanCount : StateValue → Type 0) (state_is : IsFormat read_state state_text_by (λ v. IsStateOf replicas v × CanCount v)) where
   abbrev Sent : Type 0
   Sent = StateValue × List Row
 
   abbrev sent_at : Reader Sent
-  sent_at = pair_at (state_at replicas) (certificate_at replicas)
+  sent_at = pair_at read_state (certificate_at replicas)
 
   abbrev sent_text : Sent → List ℕ
-  sent_text p = state_text p.0 ++ certificate_text p.1
+  sent_text p = state_text_by p.0 ++ certificate_text p.1
+
+  abbrev IsSentState : StateValue → Type 0
+  IsSentState v = IsStateOf replicas v × CanCount v
 
   abbrev IsSent : Sent → Type 0
-  IsSent p = FitsState replicas p.0 × FitsCertificate replicas p.1
+  IsSent p = IsSentState p.0 × FitsCertificate replicas p.1
 
   sent_format : IsFormat sent_at sent_text IsSent
-  sent_format = pair_format (state_at replicas) (certificate_at replicas) state_text certificate_text (FitsState replicas) (FitsCertificate replicas) (state_format replicas) (certificate_format replicas)
+  sent_format = pair_format read_state (certificate_at replicas) state_text_by certificate_text IsSentState (FitsCertificate replicas) state_is (certificate_format replicas)
 
   abbrev parts_text : AnswerParts → List ℕ
   parts_text p = byte_text p.0 ++ sent_text p.1
@@ -45,7 +50,7 @@ module _ (replicas : ℕ) where
   parts_of a = (a.asker, (a.state, a.certificate))
 
   abbrev FitsAnswer : AnswerValue → Type 0
-  FitsAnswer a = IsAnswerOf replicas a × (CanCountState a.state × (length a.certificate < 2 ^ 32))
+  FitsAnswer a = IsAnswerOf replicas a × (CanCount a.state × (length a.certificate < 2 ^ 32))
 
   there : (a : AnswerValue) → FitsAnswer a → AreParts (parts_of a) × (answer_by (parts_of a) ≡ a)
   there a h = ((h.0.asker, ((h.0.state, h.1.0), (h.1.1, h.0.certificate))), refl)
@@ -53,9 +58,17 @@ module _ (replicas : ℕ) where
   back : (p : AnswerParts) → AreParts p → FitsAnswer (answer_by p) × (parts_of (answer_by p) ≡ p)
   back p h = ((record { asker = h.0; state = h.1.0.0; certificate = h.1.1.1 }, (h.1.0.1, h.1.1.0)), refl)
 
-  answer_format : IsFormat (answer_at replicas) answer_text FitsAnswer
-  unfolding answer_at answer_text
-  answer_format = made_format answer_by parts_of _ parts_text AreParts FitsAnswer there back parts_format
+  pub answer_parts_format : IsFormat (made_at answer_by (pair_at (replica_at replicas) sent_at)) (λ a. parts_text (parts_of a)) FitsAnswer
+  answer_parts_format = made_format answer_by parts_of _ parts_text AreParts FitsAnswer there back parts_format
+
+-- ---- format 1
+
+abbrev FitsSpelled : ℕ → AnswerValue → Type 0
+FitsSpelled replicas a = IsAnswerOf replicas a × (CanCountState a.state × (length a.certificate < 2 ^ 32))
+
+answer_format : (replicas : ℕ) → IsFormat (answer_at replicas) answer_text (FitsSpelled replicas)
+unfolding answer_at answer_text
+answer_format replicas = answer_parts_format replicas (state_at replicas) state_text CanCountState (state_format replicas)
 
 -- its rows can be counted in their fields
 pub answer_within : (a : AnswerValue) → length (answer_text a) ≤ LIMIT → CanCountState a.state × (length a.certificate < 2 ^ 32)
@@ -67,7 +80,7 @@ answer_within a le =
 
 pub answer_reader : (replicas : ℕ) → IsReaderOf (answer_kind replicas) (answer_at replicas)
 answer_reader replicas =
-    reader_of (answer_kind replicas) (answer_at replicas) (FitsAnswer replicas) (answer_format replicas) (λ a h. h.0) (λ a is le. (is, answer_within a le))
+    reader_of (answer_kind replicas) (answer_at replicas) (FitsSpelled replicas) (answer_format replicas) (λ a h. h.0) (λ a is le. (is, answer_within a le))
 
 -- ---- its text, part after part
 

@@ -1,4 +1,5 @@
 pub mod AnswerFormats
+pub mod BothSnapshots
 pub mod CertificateFormats
 mod ClaimTexts
 mod DecodedOnce
@@ -6,11 +7,16 @@ pub mod DigestFormats
 pub mod ExchangeLemmas
 mod HaveTexts
 pub mod HelloFormats
+pub mod InFormats
 pub mod Longer
 pub mod Replicas
 mod SmallTexts
 pub mod SnapshotFormats
 pub mod StateFormats
+pub mod StateKeys
+pub mod TabledAnswers
+pub mod TabledRead
+pub mod TabledStates
 mod Texts
 pub mod Whole
 mod Within

@@ -24,7 +24,7 @@ use Rattle.rds_bytes.proofs.DotFormats.{CanCountDots, AreDots, dots_format}
 use Rattle.rds_bytes.proofs.CounterFormats.{AreCounts, counters_format}
 use Rattle.rds_bytes.proofs.LiveFormats.{AreLive, CanCountRows, live_format}
 
-abbrev Tail : Type 0
+abbrev pub Tail : Type 0
 Tail = List (Dot × Entry) × Counted
 
 abbrev tail_text : Dots → Tail → List ℕ
@@ -39,14 +39,14 @@ tail_format replicas s fits = pair_format _ _ _ _ _ _ (live_format s (λ d h. (f
 abbrev parts_text : StateParts → List ℕ
 parts_text b = dots_text b.0 ++ tail_text b.0 b.1
 
-abbrev AreParts : ℕ → StateParts → Type 0
+abbrev pub AreParts : ℕ → StateParts → Type 0
 AreParts replicas b = AreDots replicas b.0 × IsTail replicas b.0 b.1
 
 parts_format : (replicas : ℕ) → IsFormat (then_at (read.dots_at replicas) (λ seen. pair_at (read.live_rows_at seen) (read.counters_at replicas))) parts_text (AreParts replicas)
 parts_format replicas =
     then_format (read.dots_at replicas) (λ (s : Dots). pair_at (read.live_rows_at s) (read.counters_at replicas)) dots_text tail_text (AreDots replicas) (IsTail replicas) (dots_format replicas) (tail_format replicas)
 
-abbrev parts_of : StateValue → StateParts
+abbrev pub parts_of : StateValue → StateParts
 parts_of v = (seen_of v.lives, (live_rows v.lives, v.counts))
 
 -- its rows can be counted in their fields
@@ -61,7 +61,7 @@ FitsState replicas v = IsStateOf replicas v × CanCountState v
 same_state : (v : StateValue) (l : Lived) → l ≡ v.lives → (let w : StateValue = record { lives = l; counts = v.counts } in w) ≡ v
 same_state v l e i = record { lives = e i; counts = v.counts }
 
-state_there : (replicas : ℕ) (v : StateValue) → FitsState replicas v → AreParts replicas (parts_of v) × (texts.state_by (parts_of v) ≡ v)
+pub state_there : (replicas : ℕ) (v : StateValue) → FitsState replicas v → AreParts replicas (parts_of v) × (texts.state_by (parts_of v) ≡ v)
 state_there replicas v h =
     let is = h.0 in
     let can = h.1 in (
@@ -69,7 +69,7 @@ state_there replicas v h =
       same_state v (lives_of (seen_of v.lives) (live_rows v.lives)) (lived_of_parts v.lives),
     )
 
-state_back : (replicas : ℕ) (p : StateParts) → AreParts replicas p → FitsState replicas (texts.state_by p) × (parts_of (texts.state_by p) ≡ p)
+pub state_back : (replicas : ℕ) (p : StateParts) → AreParts replicas p → FitsState replicas (texts.state_by p) × (parts_of (texts.state_by p) ≡ p)
 state_back replicas p h =
     let s = p.0 in
     let rows = p.1.0 in

@@ -4,9 +4,12 @@ pub mod CertificateTexts
 pub mod Decoding
 pub mod DigestTexts
 pub mod Exchanged
+pub mod FormatTexts
 pub mod HelloTexts
 pub mod Kinds
 pub mod Laws
 pub mod StateTexts
+pub mod SteadyTabled
 pub mod SteadyTexts
+pub mod TabledTexts
 pub mod Writing

@@ -1,21 +1,25 @@
 //! The texts of values, format 1, and what is asked, answered and taken by them. All numbers are big-endian, a
-//! value has one text, and no text of a kind begins another.
+//! value has one text, and no text of a kind begins another. States and answers have a text of format 2 too, which has
+//! their keys by the numbers of a table.
 //!
 //! To be read in this order: `limits`; the kinds of texts, `states`, `snapshots`, `digests`, `certificates`, `answers`
-//! and `hellos`; `exchanges`, which brings them from one replica to another; `laws`, and `steady`, the law of reading
-//! texts as their bytes come, for which the readers of the parts are public here too.
+//! and `hellos`; `tabled`, which has format 2, and `formats`, which has both; `exchanges`, which brings texts from one
+//! replica to another; `laws`, and `steady`, the law of reading texts as their bytes come, for which the readers of the
+//! parts are public here too.
 #![tactic(auto)]
 
 mod answers;
 mod certificates;
 mod digests;
 mod exchanges;
+mod formats;
 mod hellos;
 mod laws;
 mod limits;
 mod snapshots;
 mod states;
 mod steady;
+mod tabled;
 
 pub use answers::{Answer, answers_have_texts, decode_answer, encode_answer};
 pub use certificates::{
@@ -24,8 +28,13 @@ pub use certificates::{
 };
 pub use digests::{decode_digest, digests_have_texts, encode_digest};
 pub use exchanges::{answer, ask, pull, take_certified};
+pub use formats::{Format, decode_answer_in, decode_state_in};
 pub use hellos::{Hello, VERSION, decode_hello, encode_hello, hellos_have_texts, read_hello};
-pub use laws::{decoding_has_one_result, limits_of_texts, texts_outlive_growth, texts_stand_apart};
+pub use laws::{
+    decoding_has_one_result, decoding_has_one_result_in_each_format, formats_have_the_same_parts,
+    formats_outlive_growth, formats_stand_apart, limits_of_texts, texts_outlive_growth,
+    texts_stand_apart,
+};
 pub use limits::LIMIT;
 pub use rds_bytes::{
     CountRowReader, DotRow, DotRowReader, Gap, GapReader, Gaps, LiveRowReader, NameReader,
@@ -35,4 +44,4 @@ pub use rds_bytes::{
 };
 pub use snapshots::{decode_snapshot, encode_snapshot, snapshots_have_texts};
 pub use states::{decode_state, encode_state, states_have_texts};
-pub use steady::texts_are_read_steadily;
+pub use steady::{formats_are_read_steadily, texts_are_read_steadily};

@@ -1,15 +1,6 @@
-use Rattle.rds_bytes.specs.Entries.{entry_of}
-use Rattle.rds_bytes.specs.Reading.{entry_at, path_at, kind_at, scalar_at, pair_at}
-use Rattle.rds_names.proofs.Entries.{entry_of_parts}
-use Rattle.rds_bytes.proofs.EntryParts.{pair_found, drawn_found}
+use Rattle.std.proofs.Common.{sym}
+use Rattle.rds_bytes.proofs.ShortKeys.{entry_is}
 use Rattle.rds_bytes.proofs.entries.read_entry.Goals as goal
 
-pub returns-in-Ok : goal.returns-in-Ok
-unfolding entry_at
-returns-in-Ok c =
-    let path = c.in_ok-path.path in
-    let kind = c.in_ok-kind.kind in
-    let value = c.in_ok-value.value in
-    let last = pair_found kind_at scalar_at c.in_ok-path.rest.now kind c.in_ok-kind.rest.now value c.in_ok-value.rest.now c.in_ok-kind.ensures c.in_ok-value.ensures in
-    let all = pair_found path_at (pair_at kind_at scalar_at) c.args.bytes.now path c.in_ok-path.rest.now (kind, value) c.in_ok-value.rest.now c.in_ok-path.ensures last in
-    drawn_found entry_of (pair_at path_at (pair_at kind_at scalar_at)) c.args.bytes.now (path, (kind, value)) c.in_ok-value.rest.now c.in-Ok.entry all (entry_of_parts path kind value c.in-Ok.entry c.in-Ok.ensures)
+pub returns : goal.returns
+returns c = rw (sym (entry_is)) c.read_keyed_entry.ensures.read

@@ -1,0 +1,141 @@
+//! Tables of keys: reading one, and then keys by their numbers in it.
+ghost use Rattle.std.specs.Prelude.{◌≡◌, ◌↔◌, ◌⊎◌, ◌<◌, ◌^◌, [], true, Some, None, length, slice_get, IsTrue, IfOk, IfErr, refl};
+ghost use Rattle.rds_names.specs.declared.fault.Fault.TheVariants.{Memory, Bad};
+ghost use Rattle.rds_names.specs.Roster.{all_differ};
+ghost use Rattle.rds_bytes.specs.Reading.{Reads, rows_after};
+ghost use Rattle.rds_bytes.specs.Table.{number_of, after_number};
+ghost use Rattle.rds_bytes.specs.TableTexts.{new_key_at, table_at, numbered_at};
+ghost use Rattle.rds_bytes.specs.TableValue.{meeting};
+
+use crate::keys::read_key;
+use crate::numbers::read_u32;
+use crate::sources::KeySource;
+use rds_names::{Fault, Key};
+use std::alloc::Global;
+use std::collections::BTreeSet;
+use std::marker::Model;
+
+/// The keys of a table, no two of which are equal, and how many of them have been met in turn.
+#[derive(Drop)]
+pub struct Table {
+    keys: Vec<Key>,
+    met: Option<usize>,
+}
+
+impl Model for Table {
+    ghost use Rattle.std.specs.Prelude.{◌≡◌, true};
+    ghost use Rattle.rds_names.specs.Roster.{all_differ};
+    ghost use Rattle.rds_bytes.specs.TableValue.{TableValue, coded_table};
+
+    ghost Value = { TableValue };
+
+    ghost coded = { coded_table };
+
+    ghost view = { λ t. record { keys = t.keys.items; met = t.met } };
+
+    ghost invariant = { λ t. all_differ t.keys.items ≡ true };
+}
+
+/// What was met, after a number of one that is within.
+fn after(met: Option<usize>, number: usize) -> Option<usize>
+    requires { number < 2 ^ 63 }
+    ensures { result ≡ after_number met number }
+{
+    let known = met?;
+    if known < number {
+        return None;
+    }
+    if number == known {
+        return Some(known + 1);
+    }
+    Some(known)
+}
+
+impl Table {
+    /// The table of these keys, none of which has been met.
+    fn new(keys: Vec<Key>) -> Table
+        requires { all_differ keys.items ≡ true }
+        ensures { result ≡ record { keys = keys.items; met = Some 0 } }
+    {
+        Table { keys, met: Some(0) }
+    }
+
+    /// A copy of the key of a number.
+    fn find(&self, alloc: Global, number: usize) -> Result<Key, Fault>
+        ensures found { IfOk result (λ key. slice_get self.now.keys number ≡ Some key) }
+        ensures place { IfOk result (λ key. number_of self.now.keys key ≡ number) }
+        ensures none { IfErr result (λ fault. (fault ≡ Memory)
+            ⊎ ((fault ≡ Bad) × (slice_get self.now.keys number ≡ None))) }
+    {
+        match self.keys.get(number) {
+            Some(found) => found.copy(alloc),
+            None => Err(Fault::Bad),
+        }
+    }
+
+    /// Notes that the key of a number was met.
+    fn meet(&mut self, number: usize)
+        requires { number < 2 ^ 63 }
+        ensures { self.new ≡ record { keys = self.old.keys; met = after_number self.old.met number } }
+    {
+        self.met = after(self.met, number);
+    }
+
+    /// Whether all of its keys have been met, and in turn.
+    pub fn is_met(&self) -> bool
+        ensures { IsTrue result ↔ (self.now.met ≡ Some (length self.now.keys)) }
+    {
+        self.met == Some(self.keys.as_slice().len())
+    }
+}
+
+#[tactic(auto, unfolding(crate::specs::TableTexts::numbered_at))]
+impl KeySource for Table {
+    ghost reader = { λ t. numbered_at t.keys };
+
+    ghost after = { meeting };
+
+    ghost steady = { λ s key. refl };
+
+    fn read<'a>(&mut self, alloc: Global, bytes: &'a [u8]) -> Result<(Key, &'a [u8]), Fault> {
+        let (number, rest) = read_u32(bytes)?;
+        let key = self.find(alloc, number as usize)?;
+        self.meet(number as usize);
+        Ok((key, rest))
+    }
+}
+
+/// As many keys as are asked for, no two of which are equal. Room is made for each as it comes.
+fn read_new_keys<'a>(
+    alloc: Global,
+    count: u32,
+    bytes: &'a [u8],
+) -> Result<(Vec<Key>, &'a [u8]), Fault>
+    ensures read { Reads (λ x. (x.0.items, x.1.now)) result (rows_after new_key_at [] count bytes.now) }
+    ensures differ { IfOk result (λ x. all_differ x.0.items ≡ true) }
+{
+    let mut keys = Vec::new(alloc);
+    let mut known = BTreeSet::new(alloc);
+    let mut rest = bytes;
+    for _ in 0..count {
+        let (key, after) = read_key(alloc, rest)?;
+        let is_new = known.insert(key.copy(alloc)?)?;
+        if !is_new {
+            return Err(Fault::Bad);
+        }
+        keys.push(key)?;
+        rest = after;
+    }
+    Ok((keys, rest))
+}
+
+/// A table of keys, none of which has been met. A key that stands twice is refused where it stands again.
+#[tactic(auto, unfolding(crate::specs::TableTexts::table_at))]
+pub fn read_table(alloc: Global, bytes: &[u8]) -> Result<(Table, &[u8]), Fault>
+    ensures read { Reads (λ x. (x.0.keys, x.1.now)) result (table_at bytes.now) }
+    ensures met { IfOk result (λ x. x.0.met ≡ Some 0) }
+{
+    let (count, rest) = read_u32(bytes)?;
+    let (keys, rest) = read_new_keys(alloc, count, rest)?;
+    Ok((Table::new(keys), rest))
+}
