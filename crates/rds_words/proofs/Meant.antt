@@ -5,15 +5,18 @@ use Rattle.std.specs.Str.{bytes_eq}
 use Rattle.std.proofs.lemmas.Slice.Eq.{bytes_eq-Decides}
 use Rattle.clap.specs.Words.{Shape, Text}
 use Rattle.rds_words.specs.Entered.{Names, mistakes_in}
-use Rattle.rds_words.specs.Spelling.{AreShowWordsOf, AreSpelled, AreSyncWordsOf, AreWordsOf, Count, IsCounted, OtherCommandsAreRefused, OtherShowsAreRefused, OtherSyncsAreRefused, OtherWordsAreRefused, OtherWordsWithoutOptions, ShowMeansItsSpelling, SyncMeansItsSpelling, WordsMeanTheirSpelling, WordsWithoutOptions, before, count_in, counts, option_counts, or_root}
+use Rattle.rds_words.specs.Spelling.{AreShowWordsOf, AreSpelled, AreWordsOf, Count, IsCounted, OtherCommandsAreRefused, OtherShowsAreRefused, OtherServesAreRefused, OtherSyncsAreRefused, OtherWordsAreRefused, OtherWordsWithoutOptions, ServeMeansItsSpelling, ShowMeansItsSpelling, SyncMeansItsSpelling, WordsMeanTheirSpelling, WordsWithoutOptions, count_in, counts, option_counts, or_root, serve_options, sync_options}
 use Rattle.rds_words.proofs.Counting.{IsCountedCommand, refused_isnt}
 use Rattle.rds_words.proofs.OptionCommands as options
+use Rattle.rds_words.proofs.OptionsMeant.{means_two_with, refuses_others, same_words}
 use Rattle.rds_words.proofs.OtherCommands.{command_or_not}
 use Rattle.rds_words.proofs.PlainCommands as plain
 use Rattle.rds_words.proofs.Refusing.{HasRequestsAlone}
 use Rattle.rds_words.proofs.ShownExactly.{option_unmistaken, pretty_named}
-use Rattle.rds_words.proofs.SyncedExactly as synced
-use Rattle.rds_words.proofs.SyncedExactly.{timed_named}
+use Rattle.rds_words.proofs.ServeOptions as serve
+use Rattle.rds_words.proofs.ServeOptions.{ServeOption}
+use Rattle.rds_words.proofs.SyncOptions as sync
+use Rattle.rds_words.proofs.SyncOptions.{SyncOption}
 use Rattle.rds_words.proofs.Splitting.{HasOption, IsCommand, mistaken_alike, named_alike, option_mistaken, split}
 
 -- what is known of a command
@@ -32,9 +35,6 @@ record IsPlain (command : Text) (count : Count) : Type 0 where
 
 plainly : (command : Text) (count : Count) (s : Shape) → IsCommand command s → HasRequestsAlone s → IsCountedCommand command count → IsPlain command count
 plainly command count s is requests counted = record { known = known command count s is counted; requests = requests }
-
-same_words : {command : Text} {a b : List Text} → ◌≡◌ {A = Option (List Text)} (Some (command ∷ a)) (Some (command ∷ b)) → a ≡ b
-same_words e = cc
 
 module _ (command : Text) (count : Count) (is : IsKnown command count) where
   given_names : (called : Text) (given behind words : List Text) → AreSpelled given behind → IsCounted count given words → Names (called ∷ command ∷ behind) (command ∷ words)
@@ -158,23 +158,6 @@ show_unmistaken called behind none = elim (split behind) [
   | inr option ↦ let found = option_unmistaken called behind option none in (found.0, inr found.1)
 ]
 
--- ---- sync
-
-sync_known : IsKnown (codes "sync") (before 2 (codes "60" ∷ []))
-sync_known = known (codes "sync") (before 2 (codes "60" ∷ [])) _ options.sync_is options.sync_counted
-
-sync_named : (called : Text) (behind words : List Text) → AreSyncWordsOf behind words → Names (called ∷ codes "sync" ∷ behind) (codes "sync" ∷ words)
-sync_named called behind words (inl plain) = given_names (codes "sync") (before 2 (codes "60" ∷ [])) sync_known called plain.0 behind words plain.1 plain.2
-sync_named called behind words (inr timed) = timed_named called behind words timed
-
-sync_unmistaken : (called : Text) (behind : List Text) → mistakes_in (called ∷ codes "sync" ∷ behind) ≡ [] → (words : List Text) × AreSyncWordsOf behind words
-sync_unmistaken called behind none = elim (split behind) [
-  | inl spelled ↦
-      let counted = given_counted (codes "sync") (before 2 (codes "60" ∷ [])) sync_known called spelled.0 behind spelled.1 none in
-      (counted.0, inl (spelled.0, spelled.1, counted.1))
-  | inr option ↦ let found = synced.option_unmistaken called behind option none in (found.0, inr found.1)
-]
-
 -- ---- the laws
 
 pub words_spelled : WordsMeanTheirSpelling
@@ -208,16 +191,17 @@ show_spelled called behind words = (
 pub other_shows_refused : OtherShowsAreRefused
 other_shows_refused called behind other none = (let found = show_unmistaken called behind none in other found.0 found.1)
 
+pub serve_spelled : ServeMeansItsSpelling
+serve_spelled = means_two_with (codes "serve") _ (codes "ADDR") serve_options ServeOption serve.name_of serve.id_of serve.serve_takes
+
+pub other_serves_refused : OtherServesAreRefused
+other_serves_refused = refuses_others (codes "serve") _ (codes "ADDR") serve_options ServeOption serve.name_of serve.id_of serve.serve_takes
+
 pub sync_spelled : SyncMeansItsSpelling
-sync_spelled called behind words = (
-  λ names.
-      let found = sync_unmistaken called behind names.0 in
-      subst (AreSyncWordsOf behind) (same_words (sym (sync_named called behind found.0 found.1).1 ∙ names.1)) found.1,
-  sync_named called behind words,
-)
+sync_spelled = means_two_with (codes "sync") _ (codes "ADDR") sync_options SyncOption sync.name_of sync.id_of sync.sync_takes
 
 pub other_syncs_refused : OtherSyncsAreRefused
-other_syncs_refused called behind other none = (let found = sync_unmistaken called behind none in other found.0 found.1)
+other_syncs_refused = refuses_others (codes "sync") _ (codes "ADDR") sync_options SyncOption sync.name_of sync.id_of sync.sync_takes
 
 pub no_command_refused : OtherCommandsAreRefused
 no_command_refused entered other none = elim (command_or_not entered) [ inl has ↦ other has | inr is ↦ refused_isnt _ is none ]

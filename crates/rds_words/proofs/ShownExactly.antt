@@ -1,6 +1,6 @@
 -- The words of `show`, wherever its option stands among them.
-use Rattle.std.proofs.Common.{◌≡◌, ◌⊎◌, ◌∙◌, ◌==◌, ◌||◌, ◌+◌, ℕ, Bool, true, false, not, List, [], ◌∷◌, ◌++◌, codes, take, suc, Option, Some, None, refl, sym, ap, subst, inl, inr, arith}
-use Rattle.std.specs.List.{before_first, prefix_len}
+use Rattle.std.proofs.Common.{◌≡◌, ◌⊎◌, ◌∙◌, ◌==◌, ℕ, true, false, List, [], ◌∷◌, ◌++◌, codes, Option, Some, None, refl, sym, ap, subst, inl, inr, arith}
+use Rattle.std.specs.List.{before_first}
 use Rattle.std.specs.Str.{bytes_eq}
 use Rattle.std.proofs.lemmas.Bool.{cases_Bool, false≢true}
 use Rattle.std.proofs.lemmas.Slice.Eq.{bytes_eq-Decides}
@@ -17,6 +17,7 @@ use Rattle.rds_words.proofs.Counting.{refused_isnt}
 use Rattle.rds_words.proofs.Dashed.{at, data_next, data_turn}
 use Rattle.rds_words.proofs.Leading.{IsFrom, Leads, comes_from, leads_on, mistakes_from, named_from, refused_from}
 use Rattle.rds_words.proofs.OptionCommands.{show_is}
+use Rattle.rds_words.proofs.OptionNames.{is_name, is_none, no_cut}
 use Rattle.rds_words.proofs.Passing.{Steps, with_file}
 use Rattle.rds_words.proofs.PrettyNamed.{file_flag_steps, file_flagged, file_steps, flag_steps, flagged, flagged_file, flagged_file_steps, flagged_path, flagged_path_steps, path_flag_steps, path_flagged, path_steps, with_path}
 use Rattle.rds_words.proofs.Refusing.{IsOption, IsRefused, IsRequest, long_or_refused, long_refused, refused_first, refused_then}
@@ -34,21 +35,11 @@ s = shape_behind show
 
 -- ---- another option than this is refused, wherever it stands
 
-pub or_false : (b : Bool) → (b || false) ≡ b
-or_false true = refl
-or_false false = refl
-
-is_name : (name : Text) → (bytes_eq (codes "pretty") name || false) ≡ true → name ≡ codes "pretty"
-is_name name e = sym ((bytes_eq-Decides (codes "pretty") name).0 (sym (or_false (bytes_eq (codes "pretty") name)) ∙ e))
-
-is_none : false ≡ true → ⊥
-is_none e = absurd cc
-
 long_known : (name : Text) → (name ≡ codes "pretty") ⊎ IsRequest s (arg_by_long s.rules name)
 unfolding IsRefused node_on_words
 long_known name =
     found_other s (λ a. has_long a name) (name ≡ codes "pretty") s.rules
-    (inl refl, (inl refl, (inr (inr (is_name name)), (inr (inl (refl, λ rows. tt)), tt))))
+    (inl refl, (inl refl, (inr (inr (is_name (codes "pretty") name)), (inr (inl (refl, λ rows. tt)), tt))))
 
 short_known : (character : ℕ) → IsRequest s (arg_by_short s.rules character)
 unfolding IsRefused node_on_words
@@ -57,23 +48,6 @@ short_known character =
       | inl none ↦ absurd none
       | inr is ↦ is
     ]
-
-pub or_left : (a b : Bool) → (a || b) ≡ false → a ≡ false
-or_left true b e = absurd cc
-or_left false b e = refl
-
-pub or_right : (a b : Bool) → (a || b) ≡ false → b ≡ false
-or_right true b e = absurd cc
-or_right false b e = e
-
-pub cut_one : (n x : ℕ) (xs : Text) → take (1 + n) (x ∷ xs) ≡ x ∷ take n xs
-cut_one n x xs = (let e : 1 + n ≡ suc n = omega arith in ap (λ k. take k (x ∷ xs)) e)
-
--- a text without `=` is a name alone
-pub no_cut : (xs : Text) → has_byte 61 xs ≡ false → before_first (λ x. x == 61) xs ≡ xs
-no_cut [] none = refl
-no_cut (x ∷ xs) none =
-    rw (or_left (x == 61) _ none) (cut_one (prefix_len (λ y. not (y == 61)) xs) x xs ∙ ap (λ ys. x ∷ ys) (no_cut xs (or_right (x == 61) _ none)))
 
 -- the option has no value
 valued : (value : Text) (h : Held) → IsRefused (long_fault s.rules s.args_override_self (arg_by_long s.rules (codes "pretty")) (Some value) h)

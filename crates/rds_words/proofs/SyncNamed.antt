@@ -14,11 +14,11 @@ use Rattle.rds_words.proofs.Passing.{Passes, Steps, at_end, end_fault, go_on, no
 abbrev sync_shape : Shape
 sync_shape = shape_behind (codes "sync")
 
-pub file_steps : (file : Text) → is_data file ≡ true → Steps sync_shape (walk_from nothing_held) file (at (with_file file) idle 2 false)
+file_steps : (file : Text) → is_data file ≡ true → Steps sync_shape (walk_from nothing_held) file (at (with_file file) idle 2 false)
 unfolding with_file node_on_words
 file_steps file are = (data_next sync_shape.rules nothing_held idle 1 file are refl, data_turn sync_shape nothing_held idle 1 file are refl)
 
-pub address_steps : (file addr : Text) → is_data addr ≡ true → Steps sync_shape (at (with_file file) idle 2 false) addr (at (with_address file addr) idle 3 false)
+address_steps : (file addr : Text) → is_data addr ≡ true → Steps sync_shape (at (with_file file) idle 2 false) addr (at (with_address file addr) idle 3 false)
 unfolding with_file with_address node_on_words
 address_steps file addr are = (data_next sync_shape.rules (with_file file) idle 2 addr are refl, data_turn sync_shape (with_file file) idle 2 addr are refl)
 

@@ -5,7 +5,8 @@ use Rattle.std.specs.Str.{bytes_eq}
 use Rattle.clap.specs.Words.{Text}
 use Rattle.rds_words.specs.Commands.{commands}
 use Rattle.rds_words.specs.Entered.{Names, mistakes_in}
-use Rattle.rds_words.specs.Written.{AreData, is_data}
+use Rattle.rds_words.specs.Parts.{AreTwoWith}
+use Rattle.rds_words.specs.Written.{AreData}
 
 -- the words, of which none can be taken for an option; or such words, two dashes, and any words
 abbrev pub AreSpelled : List Text → List Text → Type 0
@@ -124,40 +125,37 @@ OtherShowsAreRefused =
     (called : Text) (behind : List Text) → ((words : List Text) → AreShowWordsOf behind words → ⊥)
     → mistakes_in (called ∷ codes "show" ∷ behind) ≢ []
 
--- an option with this value stands before these words: the value behind it as a word that can't be taken for an option,
--- or in one word with it, behind `=`
-abbrev pub IsOptionWith : Text → Text → List Text → List Text → Type 0
-IsOptionWith option value words behind =
-    ((words ≡ option ∷ value ∷ behind) × (is_data value ≡ true)) ⊎ (words ≡ (option ++ codes "=" ++ value) ∷ behind)
+-- behind a command that has these options, just what is spelled so names the task of these words
+abbrev pub MeansTwoWith : Text → List (Text × Text) → Type 0
+MeansTwoWith command options =
+    (called : Text) (behind words : List Text)
+    → Names (called ∷ command ∷ behind) (command ∷ words) ↔ AreTwoWith options behind words
 
--- two words, with the option `--timeout` once among them, which stands before any two dashes, name the task that has
--- its value
-pub record AreTimedWordsOf (behind words : List Text) : Type 0 where
-  pub front : List Text
-  pub timeout : Text
-  pub option : List Text
-  pub back : List Text
-  pub spelled : List Text
-  pub behind_is : behind ≡ front ++ option
-  pub are_data : AreData front
-  pub is_option : IsOptionWith (codes "--timeout") timeout option back
-  pub is_spelled : AreSpelled spelled back
-  pub two : length (front ++ spelled) ≡ 2
-  pub words_are : words ≡ (front ++ spelled) ++ timeout ∷ []
+-- and all else is refused there
+abbrev pub RefusesOthersThanTwoWith : Text → List (Text × Text) → Type 0
+RefusesOthersThanTwoWith command options =
+    (called : Text) (behind : List Text) → ((words : List Text) → AreTwoWith options behind words → ⊥)
+    → mistakes_in (called ∷ command ∷ behind) ≢ []
 
--- what stands behind `sync` names the task of these words
-abbrev pub AreSyncWordsOf : List Text → List Text → Type 0
-AreSyncWordsOf behind words = AreWordsOf (before 2 (codes "60" ∷ [])) behind words ⊎ AreTimedWordsOf behind words
+-- the options of `serve`, and the value of each where it isn't given
+abbrev pub serve_options : List (Text × Text)
+serve_options = (codes "--sessions", codes "1") ∷ (codes "--timeout", codes "60") ∷ []
+
+abbrev pub ServeMeansItsSpelling : Type 0
+ServeMeansItsSpelling = MeansTwoWith (codes "serve") serve_options
+
+abbrev pub OtherServesAreRefused : Type 0
+OtherServesAreRefused = RefusesOthersThanTwoWith (codes "serve") serve_options
+
+-- the option of `sync`, and its value where it isn't given
+abbrev pub sync_options : List (Text × Text)
+sync_options = (codes "--timeout", codes "60") ∷ []
 
 abbrev pub SyncMeansItsSpelling : Type 0
-SyncMeansItsSpelling =
-    (called : Text) (behind words : List Text)
-    → Names (called ∷ codes "sync" ∷ behind) (codes "sync" ∷ words) ↔ AreSyncWordsOf behind words
+SyncMeansItsSpelling = MeansTwoWith (codes "sync") sync_options
 
 abbrev pub OtherSyncsAreRefused : Type 0
-OtherSyncsAreRefused =
-    (called : Text) (behind : List Text) → ((words : List Text) → AreSyncWordsOf behind words → ⊥)
-    → mistakes_in (called ∷ codes "sync" ∷ behind) ≢ []
+OtherSyncsAreRefused = RefusesOthersThanTwoWith (codes "sync") sync_options
 
 abbrev pub OtherCommandsAreRefused : Type 0
 OtherCommandsAreRefused = (entered : List Text) → (HasCommand entered → ⊥) → mistakes_in entered ≢ []

@@ -3,7 +3,7 @@ ghost use Rattle.std.specs.Prelude.{[], ◌∷◌, ◌++◌, codes};
 ghost use Rattle.clap.specs.Words.{Text};
 ghost use Rattle.rds_words.specs.declared.tasks.Task.{Task};
 ghost use Rattle.rds_words.specs.Entered.{Names};
-ghost use Rattle.rds_words.specs.Spelling.{OtherCommandsAreRefused, OtherShowsAreRefused, OtherSyncsAreRefused, OtherWordsAreRefused, OtherWordsWithoutOptions, ShowMeansItsSpelling, SyncMeansItsSpelling, WordsMeanTheirSpelling, WordsWithoutOptions};
+ghost use Rattle.rds_words.specs.Spelling.{OtherCommandsAreRefused, OtherServesAreRefused, OtherShowsAreRefused, OtherSyncsAreRefused, OtherWordsAreRefused, OtherWordsWithoutOptions, ServeMeansItsSpelling, ShowMeansItsSpelling, SyncMeansItsSpelling, WordsMeanTheirSpelling, WordsWithoutOptions};
 ghost use Rattle.rds_words.specs.Task.{words_of};
 ghost use Rattle.rds_words.specs.Written.{AreData, HasNames, IsWritable, words_dashed, words_written};
 
@@ -61,9 +61,9 @@ pub fn word_laws()
 /// Of a command without options, which all are but `show`, `serve` and `sync`: what stands behind it names a task just
 /// where it is spelled so, the task's words in their order, as many as the command takes. They stand by themselves
 /// where none can be taken for an option, or with two dashes before some that may be anything. All else is refused
-/// there. The same holds of those three where no option is given, and of `show` and `sync` with their option too: it
-/// stands once among the words, before any two dashes. What begins with no command's name is refused. The function does
-/// nothing: its contract is these laws.
+/// there. The same holds of those three where no option is given, and with their options too. These stand among the
+/// words, in any order, each at most once, before any two dashes. What begins with no command's name is refused. The
+/// function does nothing: its contract is these laws.
 pub fn words_mean_their_spelling()
     ensures words { WordsMeanTheirSpelling }
     ensures other_words { OtherWordsAreRefused }
@@ -71,6 +71,8 @@ pub fn words_mean_their_spelling()
     ensures other_without_options { OtherWordsWithoutOptions }
     ensures show { ShowMeansItsSpelling }
     ensures other_shows { OtherShowsAreRefused }
+    ensures serve { ServeMeansItsSpelling }
+    ensures other_serves { OtherServesAreRefused }
     ensures sync { SyncMeansItsSpelling }
     ensures other_syncs { OtherSyncsAreRefused }
     ensures other_commands { OtherCommandsAreRefused }
