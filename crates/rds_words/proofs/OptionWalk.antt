@@ -1,30 +1,27 @@
 -- The walk over words among which there are options with values, of a command with two other words.
-use Rattle.std.proofs.Common.{◌≡◌, ◌⊎◌, ◌∙◌, ◌&&◌, ◌||◌, ℕ, Bool, true, false, not, List, [], ◌∷◌, ◌++◌, codes, length, Option, Some, None, refl, sym, ap, ap₂, subst, inl, inr}
+use Rattle.std.proofs.Common.{◌≡◌, ◌⊎◌, ◌∙◌, ◌&&◌, ◌||◌, ℕ, Bool, true, false, not, List, [], ◌∷◌, ◌++◌, codes, Option, Some, None, refl, sym, ap, ap₂, subst, inl, inr}
 use Rattle.std.specs.Prelude.{⊤, fold, if◌then◌else◌, option_and_then, option_map}
 use Rattle.std.specs.List.{list_any}
 use Rattle.std.specs.Option.{option_map_or}
 use Rattle.std.specs.Str.{bytes_eq}
-use Rattle.std.proofs.lemmas.Bool.{cases_Bool}
-use Rattle.std.proofs.lemmas.List.{append-nil, append_assoc}
+use Rattle.std.proofs.lemmas.List.{append-nil}
 use Rattle.std.proofs.lemmas.Slice.Eq.{bytes_eq-Decides}
 use Rattle.clap.specs.Words.{Kinds, Row, Rule, Shape, Text}
 use Rattle.clap.specs.Facts.{explicit_source}
 use Rattle.clap.specs.Kinds.{check_kinds, or_else}
-use Rattle.clap.specs.Faults.{check_fault, defaults_fault, other_fault, settle_fault, step_fault, turn_fault, walk_fault}
-use Rattle.clap.specs.Walk.{Held, Waiting, Walk, arg_by_index, has_row, idle, is_multiple, is_pending, more_values, next_position, nothing_held, option, positional, positional_held, pushed, settled, takes_several, to_positional, value, walked, with_default, with_values, without}
+use Rattle.clap.specs.Faults.{check_fault, defaults_fault, other_fault, settle_fault, step_fault, turn_fault}
+use Rattle.clap.specs.Walk.{Held, arg_by_index, has_row, idle, is_multiple, is_pending, more_values, next_position, nothing_held, option, positional, positional_held, settled, takes_several, to_positional, value, walked, with_default, with_values, without}
 use Rattle.clap.specs.declared.error.kind.ErrorKind.TheVariants as kind
 use Rattle.clap.specs.declared.parser.matches.ValueSource.TheVariants.{CommandLine}
-use Rattle.rds_words.specs.Entered.{mistakes_in, named_in}
-use Rattle.rds_words.specs.Parts.{AreTwoWith, AreTyped, AreValues, HaveOptionsOf, IsOptionWith, IsRest, IsValueOr, Part, typed_option, typed_word, values_among, words_among}
+use Rattle.rds_words.specs.Parts.{AreValues, IsValueOr}
 use Rattle.rds_words.specs.Task.{words_in}
-use Rattle.rds_words.specs.Written.{AreData, is_data}
+use Rattle.rds_words.specs.Written.{is_data}
 use Rattle.rds_words.proofs.CommandWords.{row}
 use Rattle.rds_words.proofs.Dashed.{at, data_turn, value_next}
 use Rattle.rds_words.proofs.Defaulted.{AreQuiet, HasNoDefault}
-use Rattle.rds_words.proofs.Leading.{Leads, kinds_of, leads_on, mistakes_from, named_from, refused_at, refused_step}
-use Rattle.rds_words.proofs.Passing.{Steps, end_fault}
-use Rattle.rds_words.proofs.Refusing.{IsAlwaysRefused, IsOption, IsRefused, refused_first, refused_then}
-use Rattle.rds_words.proofs.RowsById.{at_no_row, no_row, one_row, row_at, row_new, row_other, row_with, without_none}
+use Rattle.rds_words.proofs.Passing.{Steps}
+use Rattle.rds_words.proofs.Refusing.{IsAlwaysRefused, IsOption, IsRefused}
+use Rattle.rds_words.proofs.RowsById.{at_no_row, no_row, row_at, row_new, row_other, row_with, without_none}
 use Rattle.rds_words.proofs.Splitting.{IsCommand}
 
 abbrev pub settles : Shape → Held → Kinds
@@ -61,12 +58,15 @@ IsThis name word = (word ≡ name) ⊎ ((v : Text) × (word ≡ name ++ codes "=
 -- an option of this name
 pub record IsNamedOption (s : Shape) (name id : Text) : Type 0 where
   pub once : IsUsedOnce s id
+  -- it can't do without a value
   pub bare : (rows : List Row) → IsRefused (settles s (held rows (Some (id, []))))
+  -- its value is the next word
   pub waits : (h : Held) (position : ℕ) → walked s.rules [] (at h idle position false) name ≡ at (with_pending (settled s.rules h) id []) (option id) position false
   pub turn : (h : Held) (position : ℕ) → turn_fault s [] (at h idle position false) name ≡ or_else (settles s h) []
   pub other : (h : Held) → IsRefused (settles s h) → IsRefused (other_fault s None name h)
   pub takes : (rows : List Row) (position : ℕ) (v : Text) → is_data v ≡ true
       → Steps s (at (held rows (Some (id, []))) (option id) position false) v (at (held rows (Some (id, v ∷ []))) idle position false)
+  -- its value stands in the same word
   pub valued : (h : Held) (position : ℕ) (v : Text)
       → walked s.rules [] (at h idle position false) (name ++ codes "=" ++ v) ≡ at (settled s.rules (with_pending (settled s.rules h) id (v ∷ []))) idle position false
   pub valued_turn : (h : Held) (position : ℕ) (v : Text)
@@ -102,16 +102,19 @@ pub record IsApart (last id : Text) : Type 0 where
 pub record TakesOptions (command : Text) (s : Shape) (last : Text) (listed : List (Text × Text)) (Opt : Type 0) (name id : Opt → Text) : Type 0 where
   pub is : IsCommand command s
   pub options : (o : Opt) → IsNamedOption s (name o) (id o)
+  -- no other word is an option
   pub told : (word : Text) → IsOption word → ((o : Opt) × IsThis (name o) word) ⊎ IsAlwaysRefused s word
   pub file_once : IsUsedOnce s (codes "FILE")
   pub last_once : IsUsedOnce s last
   pub file_place : IsPlace s 1 2 (codes "FILE")
   pub last_place : IsPlace s 2 3 last
+  -- a third word is refused
   pub third : (h : Held) → IsRefused (step_fault s 3 h value)
   pub file_last : bytes_eq (codes "FILE") last ≡ false
   pub last_file : bytes_eq last (codes "FILE") ≡ false
   pub apart : (o : Opt) → IsApart last (id o)
   pub same_or : (o p : Opt) → (o ≡ p) ⊎ ((bytes_eq (id o) (id p) ≡ false) × (bytes_eq (name o) (name p) ≡ false))
+  -- what is wrong at the end, and what the rows mean there
   pub checks : (rows : List Row) → check_fault s rows false ≡ check_kinds false false (not (is_there (row_at (codes "FILE") rows)) || (not (is_there (row_at last rows)) || false))
   pub quiet : AreQuiet s.rules
   pub no_default : HasNoDefault last s.rules

@@ -10,7 +10,7 @@ use Rattle.clap.specs.Words.{Kinds, Row, Shape, Text}
 use Rattle.clap.specs.Kinds.{check_kinds, or_else}
 use Rattle.clap.specs.Faults.{check_fault, defaults_fault, other_fault, step_fault, turn_fault, walk_fault}
 use Rattle.clap.specs.Walk.{Held, Waiting, Walk, finished, has_row, idle, option, nothing_held, settled, value, walk_from, walked, with_default}
-use Rattle.rds_words.specs.Entered.{Names, mistakes_in, named_in}
+use Rattle.rds_words.specs.Entered.{Names, mistakes_in}
 use Rattle.rds_words.specs.Parts.{AreTwoWith, AreTyped, AreValues, HaveOptionsOf, IsOptionWith, IsRest, Part, typed_option, typed_word, values_among, words_among}
 use Rattle.rds_words.specs.Spelling.{AreSpelled, MeansTwoWith, RefusesOthersThanTwoWith}
 use Rattle.rds_words.specs.Task.{words_in}
@@ -19,10 +19,10 @@ use Rattle.rds_words.proofs.CommandWords.{row}
 use Rattle.rds_words.proofs.Counting.{refused_isnt}
 use Rattle.rds_words.proofs.Dashed.{at, data_turn}
 use Rattle.rds_words.proofs.Defaulted.{quiet, row_kept, row_missing}
-use Rattle.rds_words.proofs.Leading.{IsFrom, Leads, comes_from, kinds_of, leads_on, mistakes_from, named_from, refused_at, refused_from, refused_step}
-use Rattle.rds_words.proofs.Passing.{Steps, end_fault}
-use Rattle.rds_words.proofs.Refusing.{IsAlwaysRefused, IsOption, IsRefused, refused_first, refused_then}
-use Rattle.rds_words.proofs.OptionWalk.{AtMostOne, AtMostTwo, IsGood, IsThis, TakesOptions, file_behind, file_next, good_as, good_start, held, held_skip, is_there, last_behind, last_next, one_more, option_good, pending_is, place, place_fault, rows_are, rows_fault, settled_good, settles, valued_steps, waits_steps, with_pending}
+use Rattle.rds_words.proofs.Leading.{Leads, comes_from, kinds_of, leads_on, mistakes_from, named_from, refused_at, refused_from, refused_step}
+use Rattle.rds_words.proofs.Passing.{Steps}
+use Rattle.rds_words.proofs.Refusing.{IsOption, IsRefused, refused_first, refused_then}
+use Rattle.rds_words.proofs.OptionWalk.{AtMostOne, AtMostTwo, IsGood, TakesOptions, file_behind, file_next, good_as, good_start, held, held_skip, is_there, last_behind, last_next, one_more, option_good, pending_is, place, place_fault, rows_are, rows_fault, settled_good, settles, valued_steps, waits_steps, with_pending}
 use Rattle.rds_words.proofs.RowsById.{one_row, row_at, row_with}
 
 pub same_words : {command : Text} {a b : List Text} → ◌≡◌ {A = Option (List Text)} (Some (command ∷ a)) (Some (command ∷ b)) → a ≡ b

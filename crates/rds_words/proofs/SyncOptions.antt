@@ -1,30 +1,25 @@
 -- The option of `sync`.
-use Rattle.std.proofs.Common.{◌≡◌, ◌⊎◌, ◌∙◌, ◌&&◌, ◌||◌, ℕ, Bool, true, false, not, List, [], ◌∷◌, ◌++◌, codes, Option, Some, None, refl, sym, ap, subst, inl, inr}
-use Rattle.std.specs.Prelude.{fold, if◌then◌else◌, unwrap_or}
+use Rattle.std.proofs.Common.{◌≡◌, ◌⊎◌, ◌∙◌, ◌||◌, true, false, not, List, [], ◌∷◌, ◌++◌, codes, Some, refl, sym, ap, inl, inr}
+use Rattle.std.specs.Prelude.{fold, unwrap_or}
 use Rattle.std.specs.List.{list_any}
-use Rattle.std.specs.Option.{option_map_or}
 use Rattle.std.specs.Str.{bytes_eq}
-use Rattle.clap.specs.Words.{Kinds, Row, Shape, Text, first_of}
-use Rattle.clap.specs.Facts.{explicit_source}
-use Rattle.clap.specs.Kinds.{check_kinds, or_else}
-use Rattle.clap.specs.Faults.{check_fault, defaults_fault, other_fault, step_fault}
-use Rattle.clap.specs.Walk.{Held, arg_by_index, arg_by_long, arg_by_short, has_long, has_row, has_short, idle, more_values, option, settled, value, with_default, with_values, without}
-use Rattle.clap.specs.declared.error.kind.ErrorKind.TheVariants as kind
-use Rattle.clap.specs.declared.parser.matches.ValueSource.TheVariants.{CommandLine}
+use Rattle.clap.specs.Words.{Row, Shape, Text}
+use Rattle.clap.specs.Kinds.{check_kinds}
+use Rattle.clap.specs.Faults.{check_fault, step_fault}
+use Rattle.clap.specs.Walk.{Held, arg_by_index, arg_by_long, has_long, has_short, option, value, with_default}
 use Rattle.rds_words.specs.Commands.{file_rule}
 use Rattle.rds_words.specs.Parts.{AreValues}
 use Rattle.rds_words.specs.Spelling.{sync_options}
 use Rattle.rds_words.specs.Task.{named_words, words_in}
 use Rattle.rds_words.proofs.CommandWords.{node_on_words, row, shape_behind}
-use Rattle.rds_words.proofs.Dashed.{at, data_next, data_turn}
-use Rattle.rds_words.proofs.Defaulted.{first_kept, first_value, quiet, row_kept, row_missing}
+use Rattle.rds_words.proofs.Dashed.{data_next, data_turn}
+use Rattle.rds_words.proofs.Defaulted.{first_kept, first_value}
 use Rattle.rds_words.proofs.OptionCommands.{sync_is}
 use Rattle.rds_words.proofs.OptionNames.{is_name, is_none, or_false, told}
-use Rattle.std.proofs.lemmas.Bool.{cases_Bool}
 use Rattle.std.proofs.lemmas.Slice.Eq.{bytes_eq-Decides}
-use Rattle.rds_words.proofs.OptionWalk.{AtMostOne, IsApart, IsNamedOption, IsPlace, IsUsedOnce, TakesOptions, held, is_there, joined, once_by, rows_fault, settles, value_once, value_or}
-use Rattle.rds_words.proofs.Refusing.{HasShortRequests, IsRefused, IsRequest, refused_first, refused_then}
-use Rattle.rds_words.proofs.RowsById.{at_no_row, row_at, row_with, without_none}
+use Rattle.rds_words.proofs.OptionWalk.{AtMostOne, IsApart, IsNamedOption, IsPlace, IsUsedOnce, TakesOptions, held, is_there, joined, once_by, settles, value_once, value_or}
+use Rattle.rds_words.proofs.Refusing.{HasShortRequests, IsRefused, IsRequest, refused_first}
+use Rattle.rds_words.proofs.RowsById.{row_at, row_with}
 use Rattle.rds_words.proofs.RuleFacts.{found_other}
 
 abbrev s : Shape
