@@ -11,7 +11,11 @@ pub mod Lengths
 pub mod Lists
 pub mod LiveFormats
 mod Loops
+pub mod MetKeys
+pub mod NumberLaws
+pub mod NumberedTexts
 pub mod PartFormats
+mod PlaceLaws
 mod RowAlgebra
 mod RowLoops
 mod RowSets
