@@ -3,14 +3,14 @@ use Rattle.std.proofs.Common.{◌≡◌, ℕ, Bool, true, false, not, cond, ◌|
 use Rattle.std.specs.Prelude.{fold}
 use Rattle.std.specs.List.{list_any}
 use Rattle.std.specs.Str.{bytes_eq}
-use Rattle.std.specs.Ordering.{nat_cmp, is_eq}
-use Rattle.std.specs.declared.cmp.Ordering.{Ordering}
-use Rattle.std.specs.Cmp.Lexicographic.{slice_cmp, texts_ties, nat_list_eq_equiv}
+use Rattle.std.specs.Ordering.{is_eq}
+use Rattle.std.specs.Cmp.Lexicographic.{texts_ties, nat_list_eq_equiv}
 use Rattle.std.specs.BTreeMap.{is_at}
 use Rattle.std.specs.BTreeSet.{BTreeSet, contains, Updates}
 use Rattle.rds_names.specs.declared.fault.Fault.{Fault}
 use Rattle.rds_names.specs.declared.fault.Fault.TheVariants.{Bad}
 use Rattle.rds_bytes.specs.Reading.{Fails, key_at}
+use Rattle.rds_bytes.specs.Numbers.{key_cmp}
 use Rattle.rds_bytes.specs.Table.{has_key}
 use Rattle.rds_bytes.specs.TableTexts.{new_key_at}
 use Rattle.rds_bytes.proofs.Loops.{fails_on}
@@ -52,9 +52,6 @@ module _ (table : List (List ℕ)) (bytes : List ℕ) where
 
 -- ---- the keys of a list as a set
 
-abbrev pub key_cmp : List ℕ → List ℕ → Ordering
-key_cmp = slice_cmp nat_cmp
-
 -- the set has the keys of the list
 abbrev pub Knows : BTreeSet (List ℕ) → List (List ℕ) → Type 0
 Knows known keys = (q : List ℕ) → contains key_cmp known q ≡ has_key keys q
@@ -62,7 +59,7 @@ Knows known keys = (q : List ℕ) → contains key_cmp known q ≡ has_key keys 
 pub none_known : (known : BTreeSet (List ℕ)) → known.keys ≡ [] → Knows known []
 none_known known e q = ap (list_any (is_at (key_cmp q))) e
 
-ties : (key q : List ℕ) → is_eq (key_cmp key q) ≡ bytes_eq q key
+pub ties : (key q : List ℕ) → is_eq (key_cmp key q) ≡ bytes_eq q key
 ties key q = sym (texts_ties key q) ∙ nat_list_eq_equiv.symm key q
 
 or_cond : (a b : Bool) → cond a true b ≡ (b || a)

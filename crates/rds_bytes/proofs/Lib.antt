@@ -11,7 +11,10 @@ pub mod Lengths
 pub mod Lists
 pub mod LiveFormats
 mod Loops
+pub mod NumberLaws
+pub mod NumberedTexts
 pub mod PartFormats
+mod PlaceLaws
 mod RowAlgebra
 mod RowLoops
 mod RowSets

@@ -9,16 +9,13 @@ use Rattle.rds_dots.specs.Runs.{covers}
 use Rattle.rds_bytes.specs.Inserting.{IsInserted}
 use Rattle.rds_bytes.specs.declared.dots.DotRow.{DotRow}
 use Rattle.rds_bytes.specs.RowDots.{row_runs, dots_of_rows}
-use Rattle.rds_bytes.specs.Reading.{Reader, rows_after, list_at, dot_rows_at, dots_at}
+use Rattle.rds_bytes.specs.Reading.{dot_rows_at, dots_at}
 use Rattle.rds_bytes.proofs.Format.{IsBytes}
 use Rattle.rds_bytes.proofs.DotFormats.{rows_format}
 use Rattle.rds_bytes.specs.SetRows.{RowsStand}
 use Rattle.rds_bytes.proofs.RowAlgebra.{rows_opens}
-use Rattle.rds_bytes.proofs.RowLoops.{or_none, list_is}
+use Rattle.rds_bytes.proofs.RowLoops.{or_none}
 use Rattle.rds_bytes.proofs.RowSets.{numbers, few, contains-runs}
-
-pub list_found : {A : Type 0} (count : Reader ℕ) (f : List A → Reader A) (bytes : List ℕ) (n : ℕ) (middle : List ℕ) (xs : List A) (rest : List ℕ) → count bytes ≡ Ok (n, middle) → rows_after f [] n middle ≡ Ok (xs, rest) → list_at count f bytes ≡ Ok (xs, rest)
-list_found count f bytes n middle xs rest p q = list_is count f bytes n middle p ∙ q
 
 rows_read : (replicas : ℕ) → (bytes : List ℕ) (rows : List DotRow) (rest : List ℕ) → IsBytes bytes → dot_rows_at replicas bytes ≡ Ok (rows, rest) → RowsStand (numbers replicas) 0 rows
 rows_read replicas bytes rows rest fits e = ((rows_format replicas).takes bytes (rows, rest) fits e).1.0

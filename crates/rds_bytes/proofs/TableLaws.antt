@@ -18,7 +18,7 @@ use Rattle.rds_bytes.specs.Table.{has_key, AreIn, add_key, table_of, number_of, 
 pub same_key : (a b : List ℕ) → bytes_eq a b ≡ true → a ≡ b
 same_key a b h = (bytes_eq-Decides a b).0 h
 
-is_same : (a : List ℕ) → bytes_eq a a ≡ true
+pub is_same : (a : List ℕ) → bytes_eq a a ≡ true
 is_same a = (bytes_eq-Decides a a).1 refl
 
 no_some : {A B : Type 0} (x : A) → ◌≡◌ {A = Option A} None (Some x) → B
@@ -144,7 +144,7 @@ pub table_all : (P : List ℕ → Bool) (keys : List (List ℕ)) → list_all P 
 unfolding table_of
 table_all P keys h = fold_all P keys [] refl h
 
-number_push : (xs : List (List ℕ)) (y k : List ℕ) → has_key xs k ≡ true → number_of (xs ++ y ∷ []) k ≡ number_of xs k
+pub number_push : (xs : List (List ℕ)) (y k : List ℕ) → has_key xs k ≡ true → number_of (xs ++ y ∷ []) k ≡ number_of xs k
 number_push [] y k h = absurd (false≢true h)
 number_push (x ∷ xs) y k h = by (bytes_eq k x) refl (λ more. number_push xs y k more)
   where
@@ -152,13 +152,22 @@ number_push (x ∷ xs) y k h = by (bytes_eq k x) refl (λ more. number_push xs y
     by true e later = head_number true x (xs ++ y ∷ []) k e ∙ sym (head_number true x xs k e)
     by false e later = head_number false x (xs ++ y ∷ []) k e ∙ ap (λ m. 1 + m) (later (sym (head_has false x xs k e) ∙ h)) ∙ sym (head_number false x xs k e)
 
-number_last : (xs : List (List ℕ)) (k : List ℕ) → has_key xs k ≡ false → number_of (xs ++ k ∷ []) k ≡ number_of xs k
+pub number_last : (xs : List (List ℕ)) (k : List ℕ) → has_key xs k ≡ false → number_of (xs ++ k ∷ []) k ≡ number_of xs k
 number_last [] k h = head_number true k [] k (is_same k)
 number_last (x ∷ xs) k h = by (bytes_eq k x) refl (λ more. number_last xs k more)
   where
     by : (b : Bool) → bytes_eq k x ≡ b → (has_key xs k ≡ false → number_of (xs ++ k ∷ []) k ≡ number_of xs k) → number_of ((x ∷ xs) ++ k ∷ []) k ≡ number_of (x ∷ xs) k
     by true e later = head_number true x (xs ++ k ∷ []) k e ∙ sym (head_number true x xs k e)
     by false e later = head_number false x (xs ++ k ∷ []) k e ∙ ap (λ m. 1 + m) (later (sym (head_has false x xs k e) ∙ h)) ∙ sym (head_number false x xs k e)
+
+-- what a key that isn't there has for its number
+pub number_none : (xs : List (List ℕ)) (k : List ℕ) → has_key xs k ≡ false → number_of xs k ≡ length xs
+number_none [] k h = refl
+number_none (x ∷ xs) k h = by (bytes_eq k x) refl (λ more. number_none xs k more)
+  where
+    by : (b : Bool) → bytes_eq k x ≡ b → (has_key xs k ≡ false → number_of xs k ≡ length xs) → number_of (x ∷ xs) k ≡ suc (length xs)
+    by true e later = absurd (false≢true (sym h ∙ head_has true x xs k e))
+    by false e later = next_number _ (length xs) (head_number false x xs k e ∙ ap (λ m. 1 + m) (later (sym (head_has false x xs k e) ∙ h)))
 
 -- a key keeps its number when another is added, and has it before it is added
 pub number_kept : (table : List (List ℕ)) (j k : List ℕ) → has_key table k ≡ true → number_of (add_key table j) k ≡ number_of table k

@@ -218,7 +218,8 @@ pub fn put_place(out: &mut Vec<u8>, key: &Key, replica: u8) -> Result<(), AllocE
     put_byte(out, replica)
 }
 
-fn put_counts(out: &mut Vec<u8>, p: u64, n: u64) -> Result<(), AllocError>
+/// Two numbers.
+pub fn put_counts(out: &mut Vec<u8>, p: u64, n: u64) -> Result<(), AllocError>
     ensures { Adds out.old.items out.new.items (counts_text p n) result }
 {
     put_u64(out, p)?;

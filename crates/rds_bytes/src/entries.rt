@@ -60,7 +60,8 @@ pub fn entry_length(entry: &Entry) -> usize
     2 + keys_length(entry.path.keys()) + scalar_length(&entry.value)
 }
 
-fn put_kind(out: &mut Vec<u8>, kind: Kind) -> Result<(), AllocError>
+/// A kind.
+pub fn put_kind(out: &mut Vec<u8>, kind: Kind) -> Result<(), AllocError>
     ensures { Adds out.old.items out.new.items (byte_text (kind_byte kind)) result }
 {
     match kind {

@@ -2,9 +2,10 @@
 //!
 //! To be read in this order: `numbers` and `strings`; `list`, by which parts are read one after the other; `keys`, and
 //! `sources`, which say where the keys of rows come from; `paths`, `scalars`, `entries` and `live_rows`; `counters`;
-//! `tables`, which number the keys of rows; `roster` and `header`; `dots`, and `dot_rows` for sets of which a row comes
-//! in pieces; `laws`, which has the text of sets in their own words, of each reader that what it says stays said,
-//! whatever follows, and the laws of tables.
+//! `tables`, which are read and then give the keys of rows by their numbers; `numbering`, which numbers the keys that
+//! rows use, and `numbered`, which writes a table and rows over numbers; `roster` and `header`; `dots`, and `dot_rows`
+//! for sets of which a row comes in pieces; `laws`, which has the text of sets in their own words, of each reader that
+//! what it says stays said, whatever follows, and the laws of tables.
 #![tactic(auto)]
 
 mod counters;
@@ -16,6 +17,8 @@ mod keys;
 mod laws;
 mod list;
 mod live_rows;
+mod numbered;
+mod numbering;
 mod numbers;
 mod paths;
 mod roster;
@@ -40,6 +43,10 @@ pub use list::{PartReader, read_parts};
 pub use live_rows::{
     LiveRowReader, live_rows_length, put_live_rows, read_keyed_live_rows, read_live_rows,
 };
+pub use numbered::{
+    numbered_counters_length, numbered_lives_length, put_numbered, put_table, table_length,
+};
+pub use numbering::{NumberedKeys, number_keys};
 pub use numbers::{
     put_byte, put_u32, put_u64, read_byte, read_length, read_u16, read_u32, read_u64,
 };

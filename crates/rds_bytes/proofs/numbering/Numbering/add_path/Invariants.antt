@@ -1,0 +1,15 @@
+use Rattle.std.proofs.Common.{◌≡◌, ◌++◌, length}
+use Rattle.std.specs.Prelude.{fold}
+use Rattle.rds_bytes.specs.Numbers.{AreNumbered, numbers_from}
+use Rattle.rds_bytes.specs.Table.{add_key}
+use Rattle.rds_bytes.proofs.numbering.Numbering.add_path.Given as goal
+
+-- what is still numbered ends as all would
+abbrev pub invariant-numbering : goal.invariant-numbering
+invariant-numbering l =
+    (fold add_key l.self.keys.items l.keys ≡ fold add_key l.fn.self.keys.items l.fn.keys)
+    × ((l.self.numbers.items ++ numbers_from l.self.keys.items l.keys ≡ l.fn.self.numbers.items ++ numbers_from l.fn.self.keys.items l.fn.keys)
+    × AreNumbered l.self.places l.self.keys.items)
+
+abbrev pub decreases-numbering : goal.decreases-numbering
+decreases-numbering l = length l.keys

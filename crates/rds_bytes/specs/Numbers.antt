@@ -1,0 +1,62 @@
+-- The numbers of keys, as they come.
+use Rattle.std.specs.Prelude.{◌≡◌, ℕ, ◌+◌, ◌*◌, true, if◌then◌else◌, List, [], ◌∷◌, ◌++◌, length, take, drop, Option, Some, None}
+use Rattle.std.specs.List.{flat_map}
+use Rattle.std.specs.Int.{w32, to_be_bytes}
+use Rattle.std.specs.Ordering.{nat_cmp}
+use Rattle.std.specs.declared.cmp.Ordering.{Ordering}
+use Rattle.std.specs.Cmp.Lexicographic.{slice_cmp}
+use Rattle.std.specs.BTreeMap.{BTreeMap, get}
+use Rattle.rds_names.specs.Roster.{all_differ}
+use Rattle.rds_names.specs.declared.entry.Entry.{Entry}
+use Rattle.rds_dots.specs.declared.dot.Dot.{Dot}
+use Rattle.rds_counts.specs.declared.row.CountRow.{CountRow}
+use Rattle.rds_bytes.specs.Spelling.{byte_text, kind_byte, scalar_text, dot_text, counts_text}
+use Rattle.rds_bytes.specs.Table.{has_key, add_key, number_of}
+
+-- the number of each key in the table as it is when the key comes
+abbrev pub numbers_from : List (List ℕ) → List (List ℕ) → List ℕ
+numbers_from table [] = []
+numbers_from table (k ∷ keys) = number_of table k ∷ numbers_from (add_key table k) keys
+
+-- the number of a key, where the table has it
+abbrev pub place_in : List (List ℕ) → List ℕ → Option ℕ
+place_in table key = if has_key table key then Some (number_of table key) else None
+
+abbrev pub key_cmp : List ℕ → List ℕ → Ordering
+key_cmp = slice_cmp nat_cmp
+
+-- the map has the number of each key, and no key stands twice
+pub record AreNumbered (places : BTreeMap (List ℕ) ℕ) (keys : List (List ℕ)) : Type 0 where
+  pub place : (key : List ℕ) → get key_cmp places key ≡ place_in keys key
+  pub differ : all_differ keys ≡ true
+
+-- ---- texts of rows with given numbers in place of their keys
+
+abbrev pub numbers_text : List ℕ → List ℕ
+numbers_text numbers = flat_map (to_be_bytes w32) numbers
+
+abbrev pub numbered_row_text : Dot × Entry → List ℕ → List ℕ
+numbered_row_text row numbers =
+    dot_text row.0 ++ ((byte_text (length row.1.path) ++ numbers_text numbers) ++ (byte_text (kind_byte row.1.kind) ++ scalar_text row.1.value))
+
+-- rows, each with as many of the numbers as it has keys
+abbrev pub numbered_rows_text : List (Dot × Entry) → List ℕ → List ℕ
+numbered_rows_text [] numbers = []
+numbered_rows_text (row ∷ rows) numbers =
+    numbered_row_text row (take (length row.1.path) numbers) ++ numbered_rows_text rows (drop (length row.1.path) numbers)
+
+-- how many keys rows have
+abbrev pub keys_in : List (Dot × Entry) → ℕ
+keys_in [] = 0
+keys_in (row ∷ rows) = length row.1.path + keys_in rows
+
+-- rows of counters, each with one of the numbers
+abbrev pub numbered_counts_text : List CountRow → List ℕ → List ℕ
+numbered_counts_text [] numbers = []
+numbered_counts_text (r ∷ rows) [] = []
+numbered_counts_text (r ∷ rows) (n ∷ numbers) = ((to_be_bytes w32 n ++ byte_text r.replica) ++ counts_text r.p r.n) ++ numbered_counts_text rows numbers
+
+-- the length of rows with numbers in place of their keys
+abbrev pub numbered_length : List (Dot × Entry) → ℕ
+numbered_length [] = 0
+numbered_length (row ∷ rows) = (11 + 4 * length row.1.path + length (scalar_text row.1.value)) + numbered_length rows

@@ -1,0 +1,190 @@
+//! Numbering the keys that rows use, in the order in which they come.
+ghost use Rattle.std.specs.Prelude.{◌≡◌, ◌++◌, ◌∷◌, [], false, length, fold, map as each, slice_get, Some, IsTrue, OnOk, IfOk, IfErr};
+ghost use Rattle.rds_names.specs.declared.fault.Fault.TheVariants.{Memory};
+ghost use Rattle.rds_life.specs.Life.{live_rows};
+ghost use Rattle.rds_counts.specs.RowsOf.{count_rows};
+ghost use Rattle.rds_bytes.specs.Numbers.{AreNumbered, numbers_from, place_in};
+ghost use Rattle.rds_bytes.specs.Table.{has_key, add_key, number_of, table_of, live_keys, counter_keys, used_keys};
+
+use rds_counts::{CountRow, Counts};
+use rds_dots::DotSet;
+use rds_life::Lives;
+use rds_names::{Fault, Key};
+use std::alloc::Global;
+use std::collections::BTreeMap;
+
+/// The keys that rows use, each once in the order of first use, and the number of each use.
+#[derive(Drop)]
+pub struct NumberedKeys {
+    pub keys: Vec<Key>,
+    pub numbers: Vec<usize>,
+}
+
+/// Keys, each once in the order of first use, with the number of each; and the number of each use.
+#[derive(Drop)]
+struct Numbering {
+    places: BTreeMap<Key, usize>,
+    keys: Vec<Key>,
+    numbers: Vec<usize>,
+}
+
+impl Numbering {
+    /// Whether the key has this number.
+    fn has_at(&self, number: usize, key: &Key) -> bool
+        ensures { IsTrue result → slice_get self.now.keys.items number ≡ Some key.now }
+    {
+        match self.keys.get(number) {
+            Some(known) => *known == *key,
+            None => false,
+        }
+    }
+
+    /// The number of a key that has one. Where the key has the number that is guessed, nothing is looked up.
+    fn find(&self, guess: usize, key: &Key) -> Option<usize>
+        requires { AreNumbered self.now.places self.now.keys.items }
+        ensures { result ≡ place_in self.now.keys.items key.now }
+    {
+        if self.has_at(guess, key) {
+            return Some(guess);
+        }
+        self.places.get(key).copied()
+    }
+
+    /// Gives a new key the next number.
+    fn add_new(&mut self, alloc: Global, key: &Key) -> Result<usize, Fault>
+        requires numbered { AreNumbered self.old.places self.old.keys.items }
+        requires new { has_key self.old.keys.items key.now ≡ false }
+        ensures numbered { OnOk result (AreNumbered self.new.places self.new.keys.items) }
+        ensures keys { OnOk result (self.new.keys.items ≡ self.old.keys.items ++ key.now ∷ []) }
+        ensures number { IfOk result (λ number. number ≡ length self.old.keys.items) }
+        ensures numbers { self.new.numbers.items ≡ self.old.numbers.items }
+        ensures memory { IfErr result (λ fault. fault ≡ Memory) }
+    {
+        let number = self.keys.len();
+        self.places.insert(key.copy(alloc)?, number)?;
+        self.keys.push(key.copy(alloc)?)?;
+        Ok(number)
+    }
+
+    /// Notes the number of a key.
+    fn add(&mut self, alloc: Global, guess: usize, key: &Key) -> Result<(), Fault>
+        requires { AreNumbered self.old.places self.old.keys.items }
+        ensures numbered { OnOk result (AreNumbered self.new.places self.new.keys.items) }
+        ensures keys { OnOk result (self.new.keys.items ≡ add_key self.old.keys.items key.now) }
+        ensures numbers { OnOk result (self.new.numbers.items
+            ≡ self.old.numbers.items ++ number_of self.old.keys.items key.now ∷ []) }
+        ensures memory { IfErr result (λ fault. fault ≡ Memory) }
+    {
+        if let Some(number) = self.find(guess, key) {
+            self.numbers.push(number)?;
+            return Ok(());
+        }
+        let number = self.add_new(alloc, key)?;
+        self.numbers.push(number)?;
+        Ok(())
+    }
+
+    /// What was noted at a place, as a guess.
+    fn noted(&self, at: usize) -> usize {
+        self.numbers.get(at).copied().unwrap_or(0)
+    }
+
+    /// Notes the numbers of the keys of a path. From `last` on stand those of the path before, which are the guesses.
+    fn add_path(&mut self, alloc: Global, last: usize, mut keys: &[Key]) -> Result<(), Fault>
+        requires { AreNumbered self.old.places self.old.keys.items }
+        ensures numbered { OnOk result (AreNumbered self.new.places self.new.keys.items) }
+        ensures keys { OnOk result (self.new.keys.items ≡ fold add_key self.old.keys.items keys.entry.now) }
+        ensures numbers { OnOk result (self.new.numbers.items
+            ≡ self.old.numbers.items ++ numbers_from self.old.keys.items keys.entry.now) }
+        ensures memory { IfErr result (λ fault. fault ≡ Memory) }
+    {
+        let mut near = last;
+        'numbering: loop {
+            let (key, later) = match keys.split_first() {
+                Some(parts) => parts,
+                None => return Ok(()),
+            };
+            let guess = self.noted(near);
+            self.add(alloc, guess, key)?;
+            near = near.saturating_add(1);
+            keys = later;
+        }
+    }
+
+    fn add_lives<S: DotSet>(&mut self, alloc: Global, lives: &Lives<S>) -> Result<(), Fault>
+        requires { AreNumbered self.old.places self.old.keys.items }
+        ensures numbered { OnOk result (AreNumbered self.new.places self.new.keys.items) }
+        ensures keys { OnOk result (self.new.keys.items
+            ≡ fold add_key self.old.keys.items (live_keys (live_rows lives.now))) }
+        ensures numbers { OnOk result (self.new.numbers.items
+            ≡ self.old.numbers.items ++ numbers_from self.old.keys.items (live_keys (live_rows lives.now))) }
+        ensures memory { IfErr result (λ fault. fault ≡ Memory) }
+    {
+        let mut last = 0;
+        for (_dot, entry) in lives.live() {
+            let next = self.numbers.len();
+            self.add_path(alloc, last, entry.path.keys())?;
+            last = next;
+        }
+        Ok(())
+    }
+
+    /// Notes the numbers of the keys of rows of counters. The key of the row before is the guess.
+    fn add_counts(&mut self, alloc: Global, mut rows: &[CountRow]) -> Result<(), Fault>
+        requires { AreNumbered self.old.places self.old.keys.items }
+        ensures numbered { OnOk result (AreNumbered self.new.places self.new.keys.items) }
+        ensures keys { OnOk result (self.new.keys.items
+            ≡ fold add_key self.old.keys.items (counter_keys rows.entry.now)) }
+        ensures numbers { OnOk result (self.new.numbers.items
+            ≡ self.old.numbers.items ++ numbers_from self.old.keys.items (counter_keys rows.entry.now)) }
+        ensures memory { IfErr result (λ fault. fault ≡ Memory) }
+    {
+        'numbering: loop {
+            let (row, later) = match rows.split_first() {
+                Some(parts) => parts,
+                None => return Ok(()),
+            };
+            let guess = self.noted(self.numbers.len().saturating_sub(1));
+            self.add(alloc, guess, &row.key)?;
+            rows = later;
+        }
+    }
+}
+
+/// Nothing that is numbered.
+fn no_keys(alloc: Global) -> Numbering
+    ensures numbered { AreNumbered result.places result.keys.items }
+    ensures keys { result.keys.items ≡ [] }
+    ensures numbers { result.numbers.items ≡ [] }
+{
+    Numbering {
+        places: BTreeMap::new(alloc),
+        keys: Vec::new(alloc),
+        numbers: Vec::new(alloc),
+    }
+}
+
+/// The keys of live rows and of counters, numbered in the order of first use: over the live rows as they stand, each
+/// path from its first key to its last, and then over the rows of counters.
+pub fn number_keys<S: DotSet>(
+    alloc: Global,
+    lives: &Lives<S>,
+    counts: &Counts,
+) -> Result<NumberedKeys, Fault>
+    ensures keys { IfOk result (λ n. n.keys.items
+        ≡ table_of (used_keys (live_rows lives.now) (count_rows counts.now))) }
+    ensures numbers { IfOk result (λ n. n.numbers.items
+        ≡ each (number_of (table_of (used_keys (live_rows lives.now) (count_rows counts.now))))
+        (used_keys (live_rows lives.now) (count_rows counts.now))) }
+    ensures memory { IfErr result (λ fault. fault ≡ Memory) }
+{
+    let mut numbering = no_keys(alloc);
+    numbering.add_lives(alloc, lives)?;
+    numbering.add_counts(alloc, counts.rows())?;
+    let Numbering {
+        places: _places,
+        keys,
+        numbers,
+    } = numbering;
+    Ok(NumberedKeys { keys, numbers })
+}
