@@ -11,6 +11,7 @@ pub mod Lengths
 pub mod Lists
 pub mod LiveFormats
 mod Loops
+pub mod MetKeys
 pub mod NumberLaws
 pub mod NumberedTexts
 pub mod PartFormats

@@ -48,6 +48,10 @@ counter_keys counts = each (λ r. r.key) counts
 abbrev pub used_keys : List (Dot × Entry) → List CountRow → List (List ℕ)
 used_keys rows counts = live_keys rows ++ counter_keys counts
 
+-- the table of the keys that rows use
+abbrev pub rows_table : List (Dot × Entry) → List CountRow → List (List ℕ)
+rows_table rows counts = table_of (used_keys rows counts)
+
 -- whether a table has exactly these keys, in the order of first use
 abbrev pub is_tabled : List (List ℕ) → List (List ℕ) → Bool
 is_tabled table keys = pointwise bytes_eq (table_of keys) table

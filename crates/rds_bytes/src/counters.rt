@@ -66,7 +66,8 @@ fn read_place<'a, K: KeySource>(
     before: &[CountRow],
     bytes: &'a [u8],
 ) -> Result<((Key, u8), &'a [u8]), Fault>
-    ensures read { Reads (λ x. (x.0, x.1.now)) result (keyed_place_at (K.reader keys.old) replicas before.now bytes.now) }
+    ensures read { Reads (λ x. (x.0, x.1.now)) result
+        (keyed_place_at (K.reader keys.old) replicas before.now bytes.now) }
     ensures after { IfOk result (λ x. keys.new ≡ K.after keys.old x.0.0) }
 {
     let (key, rest) = keys.read(alloc, bytes)?;
@@ -150,7 +151,8 @@ fn read_count_rows<'a, K: KeySource>(
     replicas: u16,
     bytes: &'a [u8],
 ) -> Result<(Vec<CountRow>, &'a [u8]), Fault>
-    ensures read { Reads (λ x. (x.0.items, x.1.now)) result (keyed_count_rows_at (K.reader keys.old) replicas bytes.now) }
+    ensures read { Reads (λ x. (x.0.items, x.1.now)) result
+        (keyed_count_rows_at (K.reader keys.old) replicas bytes.now) }
     ensures after { IfOk result (λ x. keys.new ≡ after_counts K.after keys.old x.0.items) }
     ensures rows { IfOk result (λ x. AreCountRows x.0.items) }
 {

@@ -9,16 +9,19 @@ ghost use Rattle.rds_counts.specs.declared.row.CountRow.{CountRow};
 ghost use Rattle.rds_bytes.specs.declared.dots.DotRow.{DotRow};
 ghost use Rattle.rds_bytes.specs.declared.dots.Gap.{Gap};
 ghost use Rattle.rds_bytes.specs.Reading.{Reader, keyed_live_rows_at, keyed_counters_at, then_at, made_at, rows_after, last, least_replica, row_head_at, row_gaps_at, row_by, key_at, name_at, roster_at, replica_at, member_at, header_at, gap_at, dot_row_at, dots_at, scalar_at, entry_at, live_row_at, live_rows_at, count_row_at, counters_at};
+ghost use Rattle.std.specs.List.{list_all};
 ghost use Rattle.rds_names.specs.Roster.{all_differ};
 ghost use Rattle.rds_bytes.specs.OneText.{HasOneText};
 ghost use Rattle.rds_bytes.specs.RowDots.{dots_of_rows};
 ghost use Rattle.rds_bytes.specs.SetRows.{AreRowsOf, IsSpelledByRows, RowsStand};
+ghost use Rattle.rds_bytes.specs.Sources.{after_rows, after_counts};
 ghost use Rattle.rds_bytes.specs.Spelling.{dots_text, dot_rows_text, keyed_live_rows_text, keyed_counters_text};
 ghost use Rattle.rds_bytes.specs.Steady.{IsSteady};
-ghost use Rattle.rds_bytes.specs.Table.{AreIn, table_of, after_key};
+ghost use Rattle.rds_bytes.specs.Table.{AreIn, IsTable, table_of, after_key, used_keys, is_tabled};
 ghost use Rattle.rds_bytes.specs.TableTexts.{table_text, number_text, table_at, numbered_at};
+ghost use Rattle.rds_bytes.specs.TableValue.{TableValue, meeting};
 ghost use Rattle.rds_bytes.specs.Tabled.{IsShortTable, IsKeyOf, AreTabledRows, AreTabledCounts};
-ghost use Rattle.rds_bytes.specs.Values.{AreDotsOf};
+ghost use Rattle.rds_bytes.specs.Values.{AreDotsOf, is_key_text};
 
 use crate::list::PartReader;
 
@@ -100,6 +103,25 @@ pub fn tables_have_one_text()
 pub fn tables_are_steady()
     ensures table { IsSteady table_at }
     ensures number { (table : List (List ℕ)) → IsSteady (numbered_at table) }
-    ensures live_rows { (key : Reader (List ℕ)) → IsSteady key → (seen : Dots) → IsSteady (keyed_live_rows_at key seen) }
-    ensures counters { (key : Reader (List ℕ)) → IsSteady key → (replicas : ℕ) → IsSteady (keyed_counters_at key replicas) }
+    ensures live_rows { (key : Reader (List ℕ)) → IsSteady key → (seen : Dots)
+        → IsSteady (keyed_live_rows_at key seen) }
+    ensures counters { (key : Reader (List ℕ)) → IsSteady key → (replicas : ℕ)
+        → IsSteady (keyed_counters_at key replicas) }
+{}
+
+/// The table of keys has each of them, once, and has them in the order of first use. The function does nothing: its
+/// contract is the law.
+pub fn keys_have_a_table()
+    ensures table { (keys : List (List ℕ)) → list_all is_key_text keys ≡ true → IsTable (table_of keys) }
+    ensures has { (keys : List (List ℕ)) → AreIn (table_of keys) keys }
+    ensures tabled { (keys : List (List ℕ)) → is_tabled (table_of keys) keys ≡ true }
+{}
+
+/// A table that gave the keys of live rows and of counters has met all of its keys in turn exactly where it has the
+/// keys that they use and no others, in the order of first use. The function does nothing: its contract is the law.
+pub fn rows_meet_their_table()
+    ensures { (t : TableValue) (rows : List (Dot × Entry)) (counts : List CountRow) → all_differ t.keys ≡ true
+        → t.met ≡ Some 0 → AreIn t.keys (used_keys rows counts)
+        → (is_tabled t.keys (used_keys rows counts) ≡ true)
+        ↔ ((after_counts meeting (after_rows meeting t rows) counts).met ≡ Some (length t.keys)) }
 {}

@@ -36,8 +36,9 @@ pub use entries::read_entry;
 pub use header::{MAGIC, put_header, read_header};
 pub use keys::{key_length, read_key};
 pub use laws::{
-    parts_are_taken_one_by_one, readers_are_steady, rows_are_read_in_steps,
-    sets_are_spelled_by_rows, tables_are_met_in_turn, tables_are_steady, tables_have_one_text,
+    keys_have_a_table, parts_are_taken_one_by_one, readers_are_steady, rows_are_read_in_steps,
+    rows_meet_their_table, sets_are_spelled_by_rows, tables_are_met_in_turn, tables_are_steady,
+    tables_have_one_text,
 };
 pub use list::{PartReader, read_parts};
 pub use live_rows::{

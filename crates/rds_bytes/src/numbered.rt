@@ -5,7 +5,7 @@ ghost use Rattle.rds_life.specs.Life.{live_rows};
 ghost use Rattle.rds_counts.specs.RowsOf.{count_rows};
 ghost use Rattle.rds_bytes.specs.Numbers.{numbers_text, numbered_row_text, numbered_rows_text, numbered_counts_text, keys_in, numbered_length};
 ghost use Rattle.rds_bytes.specs.Spelling.{short_text, keyed_live_rows_text, keyed_counters_text};
-ghost use Rattle.rds_bytes.specs.Table.{number_of, table_of, used_keys};
+ghost use Rattle.rds_bytes.specs.Table.{number_of, rows_table, used_keys};
 ghost use Rattle.rds_bytes.specs.TableTexts.{table_text, number_text};
 ghost use Rattle.rds_bytes.specs.Values.{IsKeyText, IsLiveRow};
 ghost use Rattle.rds_bytes.specs.Writing.{Adds};
@@ -179,14 +179,14 @@ pub fn put_numbered<S: DotSet>(
     counts: &Counts,
     numbers: &[usize],
 ) -> Result<(), AllocError>
-    requires numbers { numbers.now ≡ each (number_of (table_of (used_keys (live_rows lives.now) (count_rows counts.now))))
+    requires numbers { numbers.now ≡ each (number_of (rows_table (live_rows lives.now) (count_rows counts.now)))
         (used_keys (live_rows lives.now) (count_rows counts.now)) }
-    requires few { length (table_of (used_keys (live_rows lives.now) (count_rows counts.now))) < 2 ^ 32 }
+    requires few { length (rows_table (live_rows lives.now) (count_rows counts.now)) < 2 ^ 32 }
     requires rows { length (live_rows lives.now) < 2 ^ 32 }
     requires counts { length (count_rows counts.now) < 2 ^ 32 }
-    ensures { Adds out.old.items out.new.items
-        (keyed_live_rows_text (number_text (table_of (used_keys (live_rows lives.now) (count_rows counts.now)))) (live_rows lives.now)
-        ++ keyed_counters_text (number_text (table_of (used_keys (live_rows lives.now) (count_rows counts.now)))) counts.now) result }
+    ensures { let number_text = number_text (rows_table (live_rows lives.now) (count_rows counts.now)) in
+        Adds out.old.items out.new.items (keyed_live_rows_text number_text (live_rows lives.now)
+        ++ keyed_counters_text number_text counts.now) result }
 {
     put_u32(out, lives.live_len() as u32)?;
     let left = put_rows(out, lives, numbers)?;

@@ -4,7 +4,7 @@ ghost use Rattle.rds_names.specs.declared.fault.Fault.TheVariants.{Memory};
 ghost use Rattle.rds_life.specs.Life.{live_rows};
 ghost use Rattle.rds_counts.specs.RowsOf.{count_rows};
 ghost use Rattle.rds_bytes.specs.Numbers.{AreNumbered, numbers_from, place_in};
-ghost use Rattle.rds_bytes.specs.Table.{has_key, add_key, number_of, table_of, live_keys, counter_keys, used_keys};
+ghost use Rattle.rds_bytes.specs.Table.{has_key, add_key, number_of, rows_table, live_keys, counter_keys, used_keys};
 
 use rds_counts::{CountRow, Counts};
 use rds_dots::DotSet;
@@ -171,10 +171,9 @@ pub fn number_keys<S: DotSet>(
     lives: &Lives<S>,
     counts: &Counts,
 ) -> Result<NumberedKeys, Fault>
-    ensures keys { IfOk result (λ n. n.keys.items
-        ≡ table_of (used_keys (live_rows lives.now) (count_rows counts.now))) }
+    ensures keys { IfOk result (λ n. n.keys.items ≡ rows_table (live_rows lives.now) (count_rows counts.now)) }
     ensures numbers { IfOk result (λ n. n.numbers.items
-        ≡ each (number_of (table_of (used_keys (live_rows lives.now) (count_rows counts.now))))
+        ≡ each (number_of (rows_table (live_rows lives.now) (count_rows counts.now)))
         (used_keys (live_rows lives.now) (count_rows counts.now))) }
     ensures memory { IfErr result (λ fault. fault ≡ Memory) }
 {
