@@ -1,4 +1,4 @@
-use Rattle.std.proofs.Common.{◌≡◌, ℕ, ◌+◌, List, length, ap, sym, ◌∙◌}
+use Rattle.std.proofs.Common.{ℕ, ◌+◌, List, length, ap, sym, ◌∙◌}
 use Rattle.rds_dots.specs.Dots.{Dots}
 use Rattle.rds_life.specs.Life.{Lived, seen_of, live_rows}
 use Rattle.rds_counts.specs.Counted.{Counted}
