@@ -1,7 +1,7 @@
 -- The counters are a format, for each format of their keys.
-use Rattle.std.proofs.Common.{◌≡◌, ℕ, ◌^◌, ◌<◌, Bool, true, ltb, ◌&&◌, ◌||◌, List, [], ◌∷◌, ◌++◌, length, Ok, Option, Some, None, refl, sym, ap, subst, ◌∙◌, arith}
+use Rattle.std.proofs.Common.{◌≡◌, ℕ, ◌^◌, ◌<◌, Bool, true, ltb, ◌&&◌, ◌||◌, List, [], ◌∷◌, ◌++◌, length, Option, Some, None, refl, sym, ap, subst, ◌∙◌, arith}
 use Rattle.std.specs.List.{AllByRecursion}
-use Rattle.std.specs.Int.{w32, w64, to_be_bytes}
+use Rattle.std.specs.Int.{w64, to_be_bytes}
 use Rattle.std.proofs.lemmas.Bool.{leb-true, ltb-true, lt-ltb}
 use Rattle.rds_counts.specs.declared.row.CountRow.{CountRow}
 use Rattle.rds_counts.specs.Counted.{Counted, counts_of, is_row, before_next, rows_fit, AreCountRows}
@@ -9,11 +9,11 @@ use Rattle.rds_counts.specs.CountedLemmas.{fits_rows, rows_fit_of}
 use Rattle.rds_names.specs.Conditions.{and_true, and_left, and_right}
 use Rattle.rds_counts.specs.RowsOf.{count_rows}
 use Rattle.rds_counts.specs.RowsOfLemmas.{count_rows-counts_of}
-use Rattle.rds_bytes.specs.Values.{is_key_text, IsKeyText, HasKey, IsCountRowOf, AreCountsOf}
+use Rattle.rds_bytes.specs.Values.{IsKeyText, HasKey, IsCountRowOf, AreCountsOf}
 use Rattle.rds_bytes.specs.Spelling.{short_text, keyed_place_text, keyed_count_row_text, keyed_count_rows_text, keyed_counters_text, counters_text}
 use Rattle.rds_bytes.specs.Reading as read
-use Rattle.rds_bytes.specs.Reading.{Reader, number_at, rows_after, last, comes_after_row, is_next_place, is_count, is_second}
-use Rattle.rds_bytes.proofs.Format.{IsFormat, IsBytes, byte_format, number32, number64, then_format, pair_format, made_format, when_format, refit}
+use Rattle.rds_bytes.specs.Reading.{Reader, last, comes_after_row, is_next_place, is_count, is_second}
+use Rattle.rds_bytes.proofs.Format.{IsFormat, byte_format, number32, number64, then_format, pair_format, made_format, when_format, refit}
 use Rattle.rds_bytes.proofs.Lists.{AllAfter, all_both, both_all, list_format}
 use Rattle.rds_bytes.proofs.PartFormats.{key_format, last-push}
 

@@ -17,7 +17,7 @@ use Rattle.rds_names.specs.Conditions.{and_true, and_right}
 use Rattle.rds_bytes.specs.Entries.{Parts, parts_of, entry_where, entry_of}
 use Rattle.rds_bytes.specs.Spelling.{byte_text, kind_byte, text_text, scalar_text, keyed_path_text, keyed_entry_text}
 use Rattle.rds_bytes.specs.Reading as read
-use Rattle.rds_bytes.specs.Reading.{Reader, byte_at, made_at, when_at, pair_at, is_between, tagged_at, int_scalar, text_scalar}
+use Rattle.rds_bytes.specs.Reading.{Reader, byte_at, made_at, when_at, is_between, tagged_at, int_scalar, text_scalar}
 use Rattle.rds_bytes.specs.Values.{is_key_text, IsKeyText, IsScalar, IsEntry}
 use Rattle.rds_bytes.proofs.Format.{IsFormat, IsBytes, Takes, Takes-then, CutOrBad, bind_ok, bind_err, chosen, err_is, ok_is, done, failed, byte_format, number16, number64, pair_format, made_format, drawn_format, when_format, refit}
 use Rattle.rds_bytes.proofs.Lists.{AllAfter, list_format, string_format}

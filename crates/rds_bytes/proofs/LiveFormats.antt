@@ -13,7 +13,7 @@ use Rattle.rds_life.proofs.LivedLemmas.{fits_rows, rows_fit}
 use Rattle.rds_bytes.specs.Values.{is_key_text, IsKeyText, IsEntry, IsLiveRow, HasKeys}
 use Rattle.rds_bytes.specs.Spelling.{short_text, dot_text, keyed_live_row_text, keyed_live_rows_text, live_rows_text}
 use Rattle.rds_bytes.specs.Reading as read
-use Rattle.rds_bytes.specs.Reading.{Reader, byte_at, number_at, pair_at, when_at, last, dot_of_row, is_next_dot}
+use Rattle.rds_bytes.specs.Reading.{Reader, last, dot_of_row, is_next_dot}
 use Rattle.rds_bytes.proofs.Format.{IsFormat, byte_format, number32, number64, pair_format, made_format, when_format, refit}
 use Rattle.rds_bytes.proofs.Lists.{AllAfter, all_both, both_all, list_format}
 use Rattle.rds_bytes.proofs.PartFormats.{key_format, last-push}

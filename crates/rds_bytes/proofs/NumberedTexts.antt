@@ -1,5 +1,5 @@
 -- The texts of rows with numbers in place of their keys, and their lengths.
-use Rattle.std.proofs.Common.{◌≡◌, ℕ, zero, suc, ◌+◌, ◌*◌, ◌<◌, ◌≤◌, ◌^◌, true, List, [], ◌∷◌, ◌++◌, length, take, drop, refl, sym, ap, ◌∙◌, arith, append_assoc, length-append, map as each}
+use Rattle.std.proofs.Common.{◌≡◌, ℕ, suc, ◌+◌, ◌*◌, ◌<◌, ◌≤◌, ◌^◌, List, [], ◌∷◌, ◌++◌, length, take, drop, refl, sym, ap, ◌∙◌, arith, append_assoc, length-append, map as each}
 use Rattle.std.specs.List.{flat_map, AllByRecursion}
 use Rattle.std.specs.Int.{w32, to_be_bytes}
 use Rattle.std.proofs.lemmas.List.Concat.{flat_map-cons}
@@ -8,8 +8,8 @@ use Rattle.rds_dots.specs.declared.dot.Dot.{Dot}
 use Rattle.rds_counts.specs.declared.row.CountRow.{CountRow}
 use Rattle.rds_counts.specs.Counted.{Counted}
 use Rattle.rds_counts.specs.RowsOf.{count_rows}
-use Rattle.rds_bytes.specs.Spelling.{byte_text, kind_byte, scalar_text, dot_text, counts_text, keyed_live_row_text, keyed_live_rows_text, keyed_count_row_text, keyed_count_rows_text, keyed_counters_text}
-use Rattle.rds_bytes.specs.Table.{has_key, AreIn, table_of, number_of, live_keys, counter_keys, used_keys}
+use Rattle.rds_bytes.specs.Spelling.{byte_text, kind_byte, scalar_text, dot_text, keyed_live_row_text, keyed_live_rows_text, keyed_count_row_text, keyed_count_rows_text, keyed_counters_text}
+use Rattle.rds_bytes.specs.Table.{AreIn, table_of, number_of, live_keys, counter_keys, used_keys}
 use Rattle.rds_bytes.specs.TableTexts.{number_text}
 use Rattle.rds_bytes.specs.Numbers.{numbers_text, numbered_row_text, numbered_rows_text, numbered_counts_text, keys_in, numbered_length}
 use Rattle.rds_bytes.proofs.NumberLaws.{paths_more}

@@ -17,7 +17,7 @@ use Rattle.rds_names.proofs.Ascii.{name_is_text}
 use Rattle.rds_bytes.specs.Spelling as spell
 use Rattle.rds_bytes.specs.Spelling.{byte_text, short_text, names_text, roster_text, magic}
 use Rattle.rds_bytes.specs.Reading as read
-use Rattle.rds_bytes.specs.Reading.{byte_at, number_at, bytes_at, string_at, pair_at, then_at, made_at, drawn_at, when_at, list_at, is_between, last}
+use Rattle.rds_bytes.specs.Reading.{byte_at, when_at, is_between, last}
 use Rattle.rds_bytes.specs.Values.{is_key_text}
 use Rattle.rds_bytes.proofs.Format.{IsFormat, byte_format, number16, known_format, then_format, pair_format, made_format, drawn_format, when_format, refit}
 use Rattle.rds_bytes.proofs.Lists.{AllAfter, list_format, string_format}

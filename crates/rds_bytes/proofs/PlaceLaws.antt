@@ -1,12 +1,10 @@
 -- A map of keys to their numbers.
-use Rattle.std.proofs.Common.{◌≡◌, ℕ, suc, ◌+◌, Bool, true, false, not, cond, ◌||◌, List, [], ◌∷◌, ◌++◌, length, Option, Some, None, refl, sym, ap, subst, ◌∙◌}
+use Rattle.std.proofs.Common.{◌≡◌, ℕ, ◌+◌, Bool, true, false, not, cond, ◌||◌, List, [], ◌∷◌, ◌++◌, length, Option, Some, None, refl, sym, ap, subst, ◌∙◌}
 use Rattle.std.specs.Prelude.{slice_get}
 use Rattle.std.specs.Str.{bytes_eq}
-use Rattle.std.specs.Ordering.{is_eq}
-use Rattle.std.specs.BTreeMap.{BTreeMap, get, is_at, Updates}
+use Rattle.std.specs.BTreeMap.{BTreeMap, is_at, Updates}
 use Rattle.std.specs.Map.{lookup}
 use Rattle.rds_names.specs.Conditions.{and_true}
-use Rattle.rds_names.specs.Roster.{all_differ}
 use Rattle.rds_bytes.specs.Numbers.{AreNumbered, place_in, key_cmp}
 use Rattle.rds_bytes.specs.Table.{has_key, number_of}
 use Rattle.rds_bytes.proofs.KeyLoops.{ties}

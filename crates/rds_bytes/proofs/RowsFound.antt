@@ -1,26 +1,21 @@
 -- What rows that were read are known to be, whatever read their keys.
-use Rattle.std.proofs.Common.{◌≡◌, ℕ, zero, suc, ◌<◌, Bool, true, cond, ◌⊎◌, inl, inr, ◌&&◌, ◌||◌, List, [], ◌∷◌, ◌++◌, Ok, Option, Some, None, refl, sym, ap, subst, ◌∙◌, append_assoc}
+use Rattle.std.proofs.Common.{◌≡◌, ℕ, zero, suc, ◌<◌, Bool, true, cond, inl, inr, List, [], ◌∷◌, ◌++◌, Ok, sym, ap, subst, ◌∙◌, append_assoc}
 use Rattle.std.specs.List.{AllByRecursion}
-use Rattle.std.specs.FinSet as set
 use Rattle.std.specs.Int.{w64}
 use Rattle.std.proofs.lemmas.List.{append-nil}
-use Rattle.std.proofs.lemmas.Bool.{lt-ltb}
-use Rattle.rds_names.specs.Conditions.{and_true, and_left, and_right}
 use Rattle.rds_names.specs.declared.fault.Fault.TheVariants.{Bad}
 use Rattle.rds_names.specs.declared.entry.Entry.{Entry}
 use Rattle.rds_dots.specs.declared.dot.Dot.{Dot}
-use Rattle.rds_dots.specs.Dots.{Dots, comes_after}
-use Rattle.rds_life.specs.Fits.{fits, before_next}
+use Rattle.rds_dots.specs.Dots.{Dots}
 use Rattle.rds_life.specs.Life.{AreRows}
 use Rattle.rds_life.proofs.LivedLemmas.{fits_rows}
 use Rattle.rds_counts.specs.declared.row.CountRow.{CountRow}
-use Rattle.rds_counts.specs.Counted.{is_row, rows_fit, before_next as before_next_row, AreCountRows}
+use Rattle.rds_counts.specs.Counted.{AreCountRows}
 use Rattle.rds_counts.specs.CountedLemmas.{fits_rows as fits_counts}
-use Rattle.rds_bytes.specs.Reading.{Reader, keyed_entry_at, keyed_live_row_at, keyed_place_at, keyed_count_row_at, pair_at, when_at, list_at, rows_after, number_at, last, dot_of_row, is_next_dot, comes_after_row, is_next_place, is_count, is_second}
+use Rattle.rds_bytes.specs.Reading.{Reader, keyed_entry_at, keyed_live_row_at, keyed_place_at, keyed_count_row_at, pair_at, when_at, rows_after, number_at, is_next_dot, is_next_place, is_count, is_second}
 use Rattle.rds_bytes.specs.Reading as read
 use Rattle.rds_bytes.proofs.Format.{bind_ok, chosen, ok_is, failed}
 use Rattle.rds_bytes.proofs.Lists.{AllAfter}
-use Rattle.rds_bytes.proofs.PartFormats.{last-push}
 use Rattle.rds_bytes.proofs.LiveFormats.{IsDotAfter, dots_fit}
 use Rattle.rds_bytes.proofs.CounterFormats.{IsRowAfter, row_is, rows_of}
 

@@ -1,5 +1,5 @@
 -- What rows that were read are known to be.
-use Rattle.std.proofs.Common.{◌≡◌, ℕ, ◌||◌, List, [], Ok, refl, sym, ap, ◌∙◌}
+use Rattle.std.proofs.Common.{◌≡◌, ℕ, ◌||◌, List, Ok, refl, sym, ap, ◌∙◌}
 use Rattle.std.specs.List.{flat_map}
 use Rattle.std.specs.FinSet as set
 use Rattle.rds_dots.specs.declared.dot.Dot.{Dot}

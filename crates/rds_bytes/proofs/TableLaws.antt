@@ -1,8 +1,8 @@
 -- Tables of keys: each key has one number, the table of keys has each of them once, and a table is that of keys
 -- exactly where their numbers come in turn and meet all of it.
-use Rattle.std.proofs.Common.{◌≡◌, ℕ, zero, suc, ◌+◌, ◌<◌, ◌≤◌, Bool, true, false, not, cond, ltb, eqb, ◌&&◌, ◌||◌, List, [], ◌∷◌, ◌++◌, length, take, Option, Some, None, refl, sym, ap, subst, ◌∙◌, ◌⊎◌, inl, inr, arith, append_assoc, length-append, length-take}
+use Rattle.std.proofs.Common.{◌≡◌, ℕ, zero, suc, ◌+◌, ◌<◌, ◌≤◌, Bool, true, false, not, cond, ltb, eqb, ◌&&◌, ◌||◌, List, [], ◌∷◌, ◌++◌, length, take, Option, Some, None, refl, sym, ap, subst, ◌∙◌, arith, length-take}
 use Rattle.std.specs.Prelude.{slice_get, fold}
-use Rattle.std.specs.List.{list_any, list_all, position_or_len, AllByRecursion}
+use Rattle.std.specs.List.{list_any, list_all}
 use Rattle.std.specs.Str.{bytes_eq}
 use Rattle.std.specs.Cmp.Lexicographic.{nat_list_eq_equiv}
 use Rattle.std.proofs.lemmas.Bool.{false≢true, ltb-true, ltb-false, eqb-true}
@@ -13,7 +13,7 @@ use Rattle.rds_names.specs.Conditions.{and_true, and_left, and_right}
 use Rattle.rds_names.specs.Roster.{all_differ}
 use Rattle.rds_bytes.specs.Reading.{is_new}
 use Rattle.rds_bytes.proofs.PartFormats.{differ-push}
-use Rattle.rds_bytes.specs.Table.{has_key, AreIn, add_key, table_of, number_of, after_number, after_key}
+use Rattle.rds_bytes.specs.Table.{has_key, AreIn, add_key, table_of, number_of, after_key}
 
 pub same_key : (a b : List ℕ) → bytes_eq a b ≡ true → a ≡ b
 same_key a b h = (bytes_eq-Decides a b).0 h

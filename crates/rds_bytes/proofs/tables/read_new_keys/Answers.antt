@@ -1,7 +1,6 @@
-use Rattle.std.proofs.Common.{◌≡◌, [], ◌∷◌, ◌++◌, ◌∙◌, ap, sym, subst, ℕ, List, true, false, not}
+use Rattle.std.proofs.Common.{◌≡◌, [], ◌∷◌, ◌++◌, ◌∙◌, ap, sym, subst, ℕ, List, not}
 use Rattle.std.proofs.lemmas.Result.{err_from_is_err_and}
 use Rattle.rds_names.specs.Conditions.{and_true}
-use Rattle.rds_names.specs.Roster.{all_differ}
 use Rattle.rds_names.specs.declared.fault.Fault.TheVariants.{Bad}
 use Rattle.rds_bytes.specs.Reading.{rows_after}
 use Rattle.rds_bytes.specs.Table.{has_key}

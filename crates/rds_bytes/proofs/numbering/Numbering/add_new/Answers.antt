@@ -1,4 +1,4 @@
-use Rattle.std.proofs.Common.{◌≡◌, List, ℕ, length, rules}
+use Rattle.std.proofs.Common.{◌≡◌, length, rules}
 use Rattle.rds_bytes.proofs.PlaceLaws.{one_numbered_more}
 use Rattle.rds_bytes.proofs.numbering.Numbering.add_new.Goals as goal
 
