@@ -1,10 +1,10 @@
 -- What decoding promises leaves one answer to the same bytes, but for want of memory.
-use Rattle.std.proofs.Common.{◌≡◌, ℕ, ◌<◌, ◌≤◌, ◌⊎◌, inl, inr, List, length, Result, Ok, Err, sym, ap, ◌∙◌, arith}
+use Rattle.std.proofs.Common.{◌≡◌, ◌⊎◌, inl, inr, length, Result, Ok, Err, sym, ap, ◌∙◌}
 use Rattle.std.proofs.lemmas.Bool.{cases_lt}
 use Rattle.rds_names.specs.declared.fault.Fault.{Fault}
 use Rattle.rds_names.specs.declared.fault.Fault.TheVariants.{Memory}
 use Rattle.rds_codec.specs.declared.limits.TheConstants.{LIMIT}
-use Rattle.rds_codec.specs.Decoding.{Decodes, ReadsAll, all_of}
+use Rattle.rds_codec.specs.Decoding.{all_of}
 use Rattle.rds_codec.specs.Kinds.{Kind}
 use Rattle.rds_codec.specs.Laws.{DecodesOnce}
 use Rattle.rds_codec.proofs.Whole.{fails_is}

@@ -17,6 +17,7 @@ pub mod StateKeys
 pub mod TabledAnswers
 pub mod TabledRead
 pub mod TabledStates
+pub mod TabledWritten
 mod Texts
 pub mod Whole
 mod Within

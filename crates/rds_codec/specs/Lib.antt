@@ -5,6 +5,7 @@ pub mod Decoding
 pub mod DigestTexts
 pub mod Exchanged
 pub mod FormatTexts
+pub mod FormatWriting
 pub mod HelloTexts
 pub mod Kinds
 pub mod Laws

@@ -2,12 +2,15 @@
 ghost use Rattle.std.specs.Prelude.{◌≡◌, ◌≤◌};
 ghost use Rattle.rds_bytes.specs.Reading.{Reads};
 ghost use Rattle.rds_codec.specs.Decoding.{Decodes, ReadsAll, all_of};
-ghost use Rattle.rds_codec.specs.FormatTexts.{state_at_in, state_kind_in, answer_at_in, answer_kind_in};
+ghost use Rattle.rds_codec.specs.AnswerTexts.{answer};
+ghost use Rattle.rds_codec.specs.FormatTexts.{state_text_in, state_at_in, state_kind_in, answer_text_in, answer_at_in, answer_kind_in};
+ghost use Rattle.rds_codec.specs.FormatWriting.{EncodesIn};
 
-use crate::answers::{Answer, read_answer};
+use crate::answers::{Answer, encode_answer, read_answer};
 use crate::limits::LIMIT;
-use crate::states::read_state;
-use crate::tabled::{read_tabled, read_tabled_answer};
+use crate::states::{encode_state, read_state};
+use crate::tabled::{encode_tabled, encode_tabled_answer, read_tabled, read_tabled_answer};
+use rds_delta::Certificate;
 use rds_dots::DotSet;
 use rds_names::Fault;
 use rds_state::State;
@@ -70,6 +73,21 @@ pub fn decode_state_in<S: DotSet>(
     read_all_of_state(alloc, format, replicas, bytes)
 }
 
+/// The text of the state in a format. Above the limit it is refused (`TooLong`): in format 1 before any memory is taken,
+/// in format 2 after memory was taken to number its keys.
+pub fn encode_state_in<S: DotSet>(
+    alloc: Global,
+    format: Format,
+    state: &State<S>,
+) -> Result<Vec<u8>, Fault>
+    ensures text { EncodesIn format (state_text_in format state.now) result }
+{
+    match format {
+        Format::One => encode_state(alloc, state),
+        Format::Two => encode_tabled(alloc, state),
+    }
+}
+
 /// An answer of so many replicas, in a format.
 fn read_answer_in<'a, S: DotSet>(
     alloc: Global,
@@ -117,4 +135,21 @@ pub fn decode_answer_in<S: DotSet>(
         return Err(Fault::TooLong);
     }
     read_all_of_answer(alloc, format, replicas, bytes)
+}
+
+/// The text of an answer with these parts, in a format. It is refused as that of the delta is
+/// ([`encode_state_in`](crate::encode_state_in)).
+pub fn encode_answer_in<S: DotSet>(
+    alloc: Global,
+    format: Format,
+    asker: u8,
+    state: &State<S>,
+    certificate: &Certificate,
+) -> Result<Vec<u8>, Fault>
+    ensures text { EncodesIn format (answer_text_in format (answer asker state.now certificate.now)) result }
+{
+    match format {
+        Format::One => encode_answer(alloc, asker, state, certificate),
+        Format::Two => encode_tabled_answer(alloc, asker, state, certificate),
+    }
 }

@@ -1,16 +1,18 @@
 //! The laws of texts.
-ghost use Rattle.std.specs.Prelude.{◌≡◌, ℕ, List, ◌++◌};
+ghost use Rattle.std.specs.Prelude.{◌≡◌, ℕ, List, ◌++◌, Ok};
 ghost use Rattle.rds_state.specs.Fits.{ReplicaValue};
 ghost use Rattle.rds_state.specs.Value.{StateValue};
 ghost use Rattle.rds_bytes.specs.Reading.{key_at};
 ghost use Rattle.rds_bytes.specs.Spelling.{short_text};
 ghost use Rattle.rds_codec.specs.AnswerTexts.{answer_kind, answer_at};
+ghost use Rattle.rds_codec.specs.AnswerValues.{AnswerValue};
 ghost use Rattle.rds_codec.specs.CertificateTexts.{certificate_kind, certificate_at};
+ghost use Rattle.rds_codec.specs.Decoding.{all_of};
 ghost use Rattle.rds_codec.specs.DigestTexts.{digest_kind, digest_at};
-ghost use Rattle.rds_codec.specs.FormatTexts.{state_kind_in, state_at_in, answer_kind_in, answer_at_in, snapshot_text_in, snapshot_kind_in, snapshot_in_at};
+ghost use Rattle.rds_codec.specs.FormatTexts.{state_kind_in, state_text_in, state_at_in, answer_kind_in, answer_text_in, answer_at_in, Snapshot, snapshot_text_in, snapshot_kind_in, snapshot_in_at};
 ghost use Rattle.rds_codec.specs.HelloTexts.{hello_kind, hello_at};
 ghost use Rattle.rds_codec.specs.Kinds.{state_kind, snapshot_kind};
-ghost use Rattle.rds_codec.specs.Laws.{DecodesOnce, IsSameAmongMore, StandApart};
+ghost use Rattle.rds_codec.specs.Laws.{DecodesOnce, HasText, IsSameAmongMore, StandApart};
 ghost use Rattle.rds_codec.specs.StateTexts.{state_at, state_text, snapshot_at};
 ghost use Rattle.rds_codec.specs.TabledTexts.{body_at, body_text};
 ghost use Rattle.rds_codec.specs.declared.formats.Format.{Format};
@@ -45,6 +47,17 @@ pub fn formats_stand_apart()
 pub fn formats_have_the_same_parts()
     ensures texts { (v : StateValue) → body_text short_text v ≡ state_text v }
     ensures readers { (replicas : ℕ) → body_at key_at replicas ≡ state_at replicas }
+{}
+
+/// In each format all of a value's text within the limit is read as this value, and a snapshot as this replica in this
+/// format. The function does nothing: its contract is these laws.
+pub fn formats_are_read_again()
+    ensures states { (format : Format) (replicas : ℕ) (v : StateValue) → HasText (state_kind_in format replicas) v
+        → all_of (state_at_in format replicas) (state_text_in format v) ≡ Ok v }
+    ensures answers { (format : Format) (replicas : ℕ) (a : AnswerValue) → HasText (answer_kind_in format replicas) a
+        → all_of (answer_at_in format replicas) (answer_text_in format a) ≡ Ok a }
+    ensures snapshots { (s : Snapshot) → HasText snapshot_kind_in s
+        → all_of snapshot_in_at (snapshot_text_in s.0 s.1) ≡ Ok s }
 {}
 
 /// What decoding promises leaves one answer to the same bytes, but for want of memory: which of `Cut` and `Bad` a

@@ -28,12 +28,12 @@ pub use certificates::{
 };
 pub use digests::{decode_digest, digests_have_texts, encode_digest};
 pub use exchanges::{answer, ask, pull, take_certified};
-pub use formats::{Format, decode_answer_in, decode_state_in};
+pub use formats::{Format, decode_answer_in, decode_state_in, encode_answer_in, encode_state_in};
 pub use hellos::{Hello, VERSION, decode_hello, encode_hello, hellos_have_texts, read_hello};
 pub use laws::{
-    decoding_has_one_result, decoding_has_one_result_in_each_format, formats_have_the_same_parts,
-    formats_outlive_growth, formats_stand_apart, limits_of_texts, texts_outlive_growth,
-    texts_stand_apart,
+    decoding_has_one_result, decoding_has_one_result_in_each_format, formats_are_read_again,
+    formats_have_the_same_parts, formats_outlive_growth, formats_stand_apart, limits_of_texts,
+    texts_outlive_growth, texts_stand_apart,
 };
 pub use limits::LIMIT;
 pub use rds_bytes::{

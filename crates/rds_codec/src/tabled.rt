@@ -1,21 +1,34 @@
 //! The text of a state in format 2: a table of its keys, and then its parts, which have the keys by their numbers.
-ghost use Rattle.std.specs.Prelude.{◌≡◌, IfOk, fold};
+ghost use Rattle.std.specs.Prelude.{◌≡◌, ◌≤◌, ◌^◌, IfOk, IfErr, fold, length, map as each};
+ghost use Rattle.rds_names.specs.declared.fault.Fault.TheVariants.{Memory};
+ghost use Rattle.rds_dots.specs.Runs.{runs_of};
+ghost use Rattle.rds_life.specs.Life.{seen_of};
+ghost use Rattle.rds_bytes.specs.DotRows.{rows_from};
 ghost use Rattle.rds_bytes.specs.Reading.{Reads};
+ghost use Rattle.rds_bytes.specs.Table.{number_of};
 ghost use Rattle.rds_bytes.specs.TableTexts.{numbered_at};
 ghost use Rattle.rds_bytes.specs.TableValue.{meeting};
-ghost use Rattle.rds_codec.specs.FormatTexts.{tabled_answer_at};
-ghost use Rattle.rds_codec.specs.TabledTexts.{keys_in, body_at, tabled_at};
+ghost use Rattle.rds_bytes.specs.Writing.{Adds};
+ghost use Rattle.rds_codec.specs.AnswerTexts.{answer};
+ghost use Rattle.rds_codec.specs.FormatTexts.{tabled_answer_at, tabled_answer_text};
+ghost use Rattle.rds_codec.specs.FormatWriting.{EncodesTabled};
+ghost use Rattle.rds_codec.specs.TabledTexts.{keys_in, table_in, body_at, tabled_at, tabled_text};
+ghost use Rattle.rds_codec.specs.declared.limits.TheConstants.{LIMIT};
 
 use crate::answers::Answer;
-use crate::certificates::read_certificate;
+use crate::certificates::{certificate_length, put_certificate, read_certificate};
+use crate::limits::room_for;
 use rds_bytes::{
-    Table, read_dots, read_keyed_counters, read_keyed_live_rows, read_replica, read_table,
+    NumberedKeys, Table, measure_dots, number_keys, numbered_counters_length,
+    numbered_lives_length, put_byte, put_dots, put_numbered, put_table, read_dots,
+    read_keyed_counters, read_keyed_live_rows, read_replica, read_table, table_length,
 };
+use rds_delta::Certificate;
 use rds_dots::DotSet;
 use rds_life::Lives;
-use rds_names::Fault;
+use rds_names::{Fault, Key};
 use rds_state::State;
-use std::alloc::Global;
+use std::alloc::{AllocError, Global};
 
 /// The dots, the live rows and the counters, by the numbers of a table; and the table, after their keys were met.
 #[tactic(auto, unfolding(crate::specs::TabledTexts::body_at))]
@@ -52,6 +65,63 @@ pub fn read_tabled<'a, S: DotSet>(
     Ok((state, rest))
 }
 
+/// The keys of the state, numbered in the order of first use.
+fn number_state<S: DotSet>(alloc: Global, state: &State<S>) -> Result<NumberedKeys, Fault>
+    ensures keys { IfOk result (λ numbered. numbered.keys.items ≡ table_in state.now) }
+    ensures numbers { IfOk result (λ numbered. numbered.numbers.items
+        ≡ each (number_of (table_in state.now)) (keys_in state.now)) }
+    ensures memory { IfErr result (λ fault. fault ≡ Memory) }
+{
+    number_keys(alloc, state.lives(), state.counts())
+}
+
+/// The number of rows of the seen dots, and the length of the text, whose table has these keys.
+fn measure_tabled<S: DotSet>(state: &State<S>, keys: &[Key]) -> (u16, u128)
+    requires { keys.now ≡ table_in state.now }
+    ensures rows { result.0 ≡ length (rows_from 0 (runs_of (seen_of state.now.lives))) }
+    ensures length { result.1 ≡ length (tabled_text state.now) }
+    ensures few { result.1 ≤ 2 ^ 101 }
+{
+    let lives = state.lives();
+    let (rows, dots_length) = measure_dots(lives.seen());
+    let live_length = numbered_lives_length(lives);
+    (
+        rows,
+        table_length(keys) + dots_length + live_length + numbered_counters_length(state.counts()),
+    )
+}
+
+/// The table, the dots, the live rows and the counters.
+fn put_tabled<S: DotSet>(
+    out: &mut Vec<u8>,
+    state: &State<S>,
+    rows: u16,
+    numbered: &NumberedKeys,
+) -> Result<(), AllocError>
+    requires rows { rows ≡ length (rows_from 0 (runs_of (seen_of state.now.lives))) }
+    requires keys { numbered.now.keys.items ≡ table_in state.now }
+    requires numbers { numbered.now.numbers.items ≡ each (number_of (table_in state.now)) (keys_in state.now) }
+    requires within { length (tabled_text state.now) ≤ LIMIT }
+    ensures { Adds out.old.items out.new.items (tabled_text state.now) result }
+{
+    let lives = state.lives();
+    put_table(out, &numbered.keys)?;
+    put_dots(out, lives.seen(), rows)?;
+    put_numbered(out, lives, state.counts(), &numbered.numbers)
+}
+
+/// The text of the state. Its keys are numbered first, which takes memory. Above the limit the text is refused then
+/// (`TooLong`); within it all memory that it needs is taken at once.
+pub fn encode_tabled<S: DotSet>(alloc: Global, state: &State<S>) -> Result<Vec<u8>, Fault>
+    ensures text { EncodesTabled (tabled_text state.now) result }
+{
+    let numbered = number_state(alloc, state)?;
+    let (rows, length) = measure_tabled(state, &numbered.keys);
+    let mut out = room_for(alloc, length)?;
+    put_tabled(&mut out, state, rows, &numbered)?;
+    Ok(out)
+}
+
 /// An answer of so many replicas, whose delta has its keys by the numbers of a table.
 #[tactic(auto, unfolding(crate::specs::FormatTexts::tabled_answer_at))]
 pub fn read_tabled_answer<'a, S: DotSet>(
@@ -70,4 +140,55 @@ pub fn read_tabled_answer<'a, S: DotSet>(
         certificate,
     };
     Ok((answer, rest))
+}
+
+/// The number of rows of the delta's seen dots, and the length of the text, whose table has these keys.
+fn measure_tabled_answer<S: DotSet>(
+    asker: u8,
+    state: &State<S>,
+    keys: &[Key],
+    certificate: &Certificate,
+) -> (u16, u128)
+    requires { keys.now ≡ table_in state.now }
+    ensures rows { result.0 ≡ length (rows_from 0 (runs_of (seen_of state.now.lives))) }
+    ensures length { result.1 ≡ length (tabled_answer_text (answer asker state.now certificate.now)) }
+{
+    let (rows, state_length) = measure_tabled(state, keys);
+    (rows, 1 + state_length + certificate_length(certificate))
+}
+
+/// The asker, the delta and the certificate.
+fn put_tabled_answer<S: DotSet>(
+    out: &mut Vec<u8>,
+    asker: u8,
+    state: &State<S>,
+    rows: u16,
+    numbered: &NumberedKeys,
+    certificate: &Certificate,
+) -> Result<(), AllocError>
+    requires rows { rows ≡ length (rows_from 0 (runs_of (seen_of state.now.lives))) }
+    requires keys { numbered.now.keys.items ≡ table_in state.now }
+    requires numbers { numbered.now.numbers.items ≡ each (number_of (table_in state.now)) (keys_in state.now) }
+    requires within { length (tabled_answer_text (answer asker state.now certificate.now)) ≤ LIMIT }
+    ensures { Adds out.old.items out.new.items (tabled_answer_text (answer asker state.now certificate.now)) result }
+{
+    put_byte(out, asker)?;
+    put_tabled(out, state, rows, numbered)?;
+    put_certificate(out, certificate)
+}
+
+/// The text of an answer with these parts. Memory is taken as for that of the delta.
+pub fn encode_tabled_answer<S: DotSet>(
+    alloc: Global,
+    asker: u8,
+    state: &State<S>,
+    certificate: &Certificate,
+) -> Result<Vec<u8>, Fault>
+    ensures text { EncodesTabled (tabled_answer_text (answer asker state.now certificate.now)) result }
+{
+    let numbered = number_state(alloc, state)?;
+    let (rows, length) = measure_tabled_answer(asker, state, &numbered.keys, certificate);
+    let mut out = room_for(alloc, length)?;
+    put_tabled_answer(&mut out, asker, state, rows, &numbered, certificate)?;
+    Ok(out)
 }

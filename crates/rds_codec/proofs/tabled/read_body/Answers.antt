@@ -10,7 +10,8 @@ use Rattle.rds_bytes.specs.Reading.{Fails, keyed_counters_at}
 use Rattle.rds_bytes.specs.Sources.{after_rows, after_counts}
 use Rattle.rds_bytes.specs.TableTexts.{numbered_at}
 use Rattle.rds_bytes.specs.TableValue.{meeting}
-use Rattle.rds_codec.proofs.TabledRead.{body_fails, body_found, keys_met_of, rows_keep}
+use Rattle.rds_bytes.proofs.MetKeys.{used_folded}
+use Rattle.rds_codec.proofs.TabledRead.{body_fails, body_found, rows_keep}
 use Rattle.rds_codec.proofs.tabled.read_body.Goals as goal
 
 pub returns-in_err-counts-clause-read : goal.returns-in_err-counts-clause-read
@@ -41,4 +42,4 @@ returns-clause-met g c =
     ∙ ap (λ t. after_counts meeting t (count_rows c.in_ok-counts.counts)) c.in_ok-rows.ensures.after
     ∙ ap (λ (rows : List (Dot × Entry)). after_counts meeting (after_rows meeting table rows) (count_rows c.in_ok-counts.counts)) live
     ∙ ap (λ (m : Counted). after_counts meeting (after_rows meeting table (live_rows v.lives)) (count_rows m)) counts
-    ∙ sym (keys_met_of table v)
+    ∙ sym (used_folded meeting table (live_rows v.lives) (count_rows v.counts))

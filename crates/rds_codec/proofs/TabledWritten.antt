@@ -1,0 +1,48 @@
+-- The texts of format 2, part after part.
+use Rattle.std.proofs.Common.{◌≡◌, ℕ, ◌+◌, List, ◌++◌, length, ap, ◌∙◌, append_assoc, length-append, arith}
+use Rattle.rds_life.specs.Life.{seen_of, live_rows}
+use Rattle.rds_state.specs.Value.{StateValue}
+use Rattle.rds_bytes.specs.Spelling.{byte_text, dots_text, keyed_live_rows_text, keyed_counters_text}
+use Rattle.rds_bytes.specs.TableTexts.{table_text, number_text}
+use Rattle.rds_bytes.proofs.Sequences.{three_lengths, three_added}
+use Rattle.rds_codec.specs.AnswerValues.{AnswerValue}
+use Rattle.rds_codec.specs.CertificateTexts.{certificate_text}
+use Rattle.rds_codec.specs.FormatTexts.{tabled_answer_text}
+use Rattle.rds_codec.specs.TabledTexts.{table_in, body_text, tabled_text}
+
+-- the live rows and the counters, by the numbers of the keys
+abbrev pub numbered_rows_text : StateValue → List ℕ
+numbered_rows_text v = keyed_live_rows_text (number_text (table_in v)) (live_rows v.lives)
+
+abbrev pub numbered_counters_text : StateValue → List ℕ
+numbered_counters_text v = keyed_counters_text (number_text (table_in v)) v.counts
+
+pub tabled_length : (v : StateValue) → length (tabled_text v) ≡ length (table_text (table_in v)) + length (dots_text (seen_of v.lives)) + length (numbered_rows_text v) + length (numbered_counters_text v)
+unfolding tabled_text body_text
+tabled_length v =
+    let table = table_text (table_in v) in
+    let dots = dots_text (seen_of v.lives) in
+    let rows = numbered_rows_text v in
+    let counts = numbered_counters_text v in
+    let a = length-append table (dots ++ (rows ++ counts)) in
+    let b = length-append dots (rows ++ counts) in
+    let c = length-append rows counts in
+    omega (arith, a, b, c)
+
+pub tabled_parts : (v : StateValue) (a b c d : List ℕ) → b ≡ a ++ table_text (table_in v) → c ≡ b ++ dots_text (seen_of v.lives) → d ≡ c ++ (numbered_rows_text v ++ numbered_counters_text v) → d ≡ a ++ tabled_text v
+unfolding tabled_text body_text
+tabled_parts v a b c d p q r =
+    let table = table_text (table_in v) in
+    let dots = dots_text (seen_of v.lives) in
+    let rest = numbered_rows_text v ++ numbered_counters_text v in
+    r ∙ ap (λ (t : List ℕ). t ++ rest) q ∙ append_assoc b dots rest ∙ ap (λ (t : List ℕ). t ++ (dots ++ rest)) p ∙ append_assoc a table (dots ++ rest)
+
+-- ---- an answer
+
+pub tabled_answer_length : (a : AnswerValue) → length (tabled_answer_text a) ≡ 1 + length (tabled_text a.state) + length (certificate_text a.certificate)
+unfolding tabled_answer_text
+tabled_answer_length a = three_lengths (byte_text a.asker) (tabled_text a.state) (certificate_text a.certificate)
+
+pub tabled_answer_parts : (v : AnswerValue) (a b c d : List ℕ) → b ≡ a ++ byte_text v.asker → c ≡ b ++ tabled_text v.state → d ≡ c ++ certificate_text v.certificate → d ≡ a ++ tabled_answer_text v
+unfolding tabled_answer_text
+tabled_answer_parts v a b c d p q r = three_added a b c d (byte_text v.asker) (tabled_text v.state) (certificate_text v.certificate) p q r
