@@ -295,7 +295,8 @@ impl<'a, S: DotSet> Session<'a, S> {
     // Takes what has come of a message out of the session.
     fn under_way(&mut self) -> Chunks<S>
         ensures taken { self.new ≡ record self.old { under = start } }
-        ensures chunks { result ≡ record { expected = expected_of self.old.kept self.old.turn; under = self.old.under } }
+        ensures chunks { result
+            ≡ record { expected = expected_of self.old.kept self.old.turn; under = self.old.under } }
     {
         match self.under.take() {
             Some(chunks) => chunks,
