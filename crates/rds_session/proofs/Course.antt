@@ -1,6 +1,5 @@
 -- A session's course, step by step.
-use Rattle.std.specs.Prelude.{OnErr}
-use Rattle.std.proofs.Common.{◌≡◌, ℕ, Bool, true, false, cond, List, [], ◌∷◌, ◌++◌, Option, Some, None, Result, Ok, Err, refl, sym, ap, ◌∙◌, append_assoc, subst, ◌⊎◌, inl, inr, ◌<◌, length, arith}
+use Rattle.std.proofs.Common.{◌≡◌, ℕ, Bool, true, false, cond, List, [], ◌∷◌, ◌++◌, Option, Some, None, Result, Ok, Err, refl, sym, ap, ◌∙◌, append_assoc, subst, ◌⊎◌, inl, inr}
 use Rattle.std.proofs.lemmas.List.{append-nil}
 use Rattle.rds_names.specs.declared.fault.Fault.{Fault}
 use Rattle.rds_names.specs.declared.fault.Fault.TheVariants.{Memory, TooLong, PeerEnded}
@@ -17,7 +16,7 @@ use Rattle.rds_session.specs.Received.{Delivery}
 use Rattle.rds_session.specs.Sending.{sending}
 use Rattle.rds_session.specs.Session.{Standing, Sent, fresh, failure, then_more, when_going, after_sending, after_said, after_verdict, message_comes, after_scan, stay, byte_comes, run, opening, after_opening, cut_off, Heard, Nothing, So_far, All_of, heard_more, course, after_input, after_step}
 use Rattle.rds_session.specs.Steps as steps
-use Rattle.rds_session.specs.Steps.{piece_of, ReceivedOnTheWay, TakesNoMemory, TakesMemory, Runs, RunsOut, Steps, Works, Continues, IsOver}
+use Rattle.rds_session.specs.Steps.{piece_of, ReceivedOnTheWay, TakesNoMemory, TakesMemory, RunsOut, Steps, Continues, IsOver}
 use Rattle.rds_session.proofs.Accepting.{IsActFor, IsFor, accepted_suits}
 use Rattle.rds_session.proofs.Runs.{going_goes, over_stays, run_over, run-append, then_same}
 
@@ -341,23 +340,6 @@ client_begins s i first = λ nothing. elim nothing.1 [
   | inl begun ↦ absurd (let bad : false ≡ true = sym first.0 ∙ begun in cc)
   | inr server ↦ absurd (let bad : Client ≡ Server = sym first.1 ∙ server in cc)
 ]
-
-no_bytes : (piece : List ℕ) → 0 < length piece → piece ≡ [] → ⊥
-no_bytes piece some none = omega (arith, some, ap length none)
-
--- bytes came after the opening
-pub worked : {T : Type 0} (old mid new : Standing) (sent between more piece : List ℕ) (r : Result T Fault) → (mid ≡ (after_opening old).0) × (between ≡ sent ++ (after_opening old).1)
-    → Runs mid between piece new more r → OnErr r (0 < length piece) → Works old sent (Some piece) new more r
-worked old mid new sent between more piece (Ok x) opened ran some = (
-  ran.0 ∙ ap (λ (s : Standing). (run piece s).0) opened.0,
-  ran.1 ∙ ap (λ (t : List ℕ). t ++ (run piece mid).1) opened.1 ∙ append_assoc sent (after_opening old).1 (run piece mid).1
-      ∙ ap (λ (s : Standing). sent ++ ((after_opening old).1 ++ (run piece s).1)) opened.0,
-)
-worked old mid new sent between more piece (Err e) opened ran some = (
-  ran.0,
-  subst (λ (s : Standing). ReceivedOnTheWay s piece new.received) opened.0 ran.1,
-  λ nothing. no_bytes piece some nothing.0,
-)
 
 -- ---- after the end
 
