@@ -1,6 +1,5 @@
 pub mod Heard
 pub mod Hearing
-pub mod Limits
 pub mod Paired
 pub mod Reported
 pub mod Serving

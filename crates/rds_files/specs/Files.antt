@@ -106,7 +106,8 @@ abbrev pub IsUnkept : ReplicaValue → Fault → Type 0
 IsUnkept replica fault =
     (fault ≡ Memory) ⊎ ((fault ≡ Device) ⊎ ((fault ≡ TooLong) × (LIMIT < length (snapshot_text replica))))
 
--- why no file can be made at a path, whatever it is to keep: by the path, since something is there, or since a call failed
+-- why no file can be made at a path, whatever it is to keep: by the path, since something is there, or since a call
+-- failed
 abbrev pub IsNoPlace : Fault → Type 0
 IsNoPlace fault = (fault ≡ Usage) ⊎ (fault ≡ Device)
 

@@ -1,11 +1,11 @@
 -- A session's course, step by step.
-use Rattle.std.specs.Prelude.{IsSome}
 use Rattle.std.proofs.Common.{◌≡◌, ℕ, Bool, true, false, cond, List, [], ◌∷◌, ◌++◌, Option, Some, None, Result, Ok, Err, refl, sym, ap, ◌∙◌, append_assoc, subst, ◌⊎◌, inl, inr}
 use Rattle.std.proofs.lemmas.List.{append-nil}
 use Rattle.rds_names.specs.declared.fault.Fault.{Fault}
 use Rattle.rds_names.specs.declared.fault.Fault.TheVariants.{Memory, TooLong, PeerEnded}
 use Rattle.rds_state.specs.Fits.{ReplicaValue}
 use Rattle.rds_session.specs.declared.talk.Side.{Side}
+use Rattle.rds_session.specs.declared.talk.Side.TheVariants.{Client, Server}
 use Rattle.rds_session.specs.declared.talk.Stop.{Stop}
 use Rattle.rds_session.specs.declared.talk.Stop.TheVariants.{Refused, Left}
 use Rattle.rds_session.specs.declared.step.Ended.{Ended}
@@ -16,7 +16,7 @@ use Rattle.rds_session.specs.Received.{Delivery}
 use Rattle.rds_session.specs.Sending.{sending}
 use Rattle.rds_session.specs.Session.{Standing, Sent, fresh, failure, then_more, when_going, after_sending, after_said, after_verdict, message_comes, after_scan, stay, byte_comes, run, opening, after_opening, cut_off, Heard, Nothing, So_far, All_of, heard_more, course, after_input, after_step}
 use Rattle.rds_session.specs.Steps as steps
-use Rattle.rds_session.specs.Steps.{piece_of, ReceivedOnTheWay, TakesMemory, RunsOut, Steps, Continues, IsOver}
+use Rattle.rds_session.specs.Steps.{piece_of, ReceivedOnTheWay, TakesNoMemory, TakesMemory, RunsOut, Steps, Continues, IsOver}
 use Rattle.rds_session.proofs.Accepting.{IsActFor, IsFor, accepted_suits}
 use Rattle.rds_session.proofs.Runs.{going_goes, over_stays, run_over, run-append, then_same}
 
@@ -318,19 +318,28 @@ cut_by_silent Going s = refl
 cut_by_silent Done s = refl
 cut_by_silent (Failed f) s = refl
 
+-- nothing comes, and the step takes no memory
+pub takes_none : (old new : Standing) (i : Option (List ℕ)) (sent : List ℕ) → Steps old i new sent → TakesNoMemory old i → (new ≡ (after_step old i).0) × (sent ≡ (after_step old i).1)
+takes_none old new i sent steps nothing = elim steps [ inl done ↦ done | inr out ↦ absurd (out.4 nothing) ]
+
 -- the end comes to a session that has begun
 pub ends : (old new : Standing) (i : Option (List ℕ)) (sent : List ℕ) → Steps old i new sent → old.begun ≡ true → i ≡ None → (new ≡ (cut_off old).0) × (sent ≡ [])
-ends old new i sent steps begun none = elim steps [
-  | inl done ↦
-      let e : after_step old i ≡ cut_off old = stepped_begun old i begun ∙ ap (λ (j : Option (List ℕ)). after_input j old) none in
-      (done.0 ∙ ap (λ (p : Sent). p.0) e, done.1 ∙ ap (λ (p : Sent). p.1) e ∙ cut_by_silent old.ended old)
-  | inr out ↦ absurd (let bad : false ≡ true = subst IsSome none (out.4 begun) in cc)
-]
+ends old new i sent steps begun none =
+    let done = takes_none old new i sent steps (ap piece_of none, inl begun) in
+    let e : after_step old i ≡ cut_off old = stepped_begun old i begun ∙ ap (λ (j : Option (List ℕ)). after_input j old) none in
+    (done.0 ∙ ap (λ (p : Sent). p.0) e, done.1 ∙ ap (λ (p : Sent). p.1) e ∙ cut_by_silent old.ended old)
 
 -- nothing was taken yet, so what was received stayed
 pub at_first : (old : Standing) (i : Option (List ℕ)) (received : Option Delivery) → received ≡ old.received → ReceivedOnTheWay (after_opening old).0 (piece_of i) received
 unfolding run
 at_first old i received e = ([], piece_of i, refl, e ∙ sym (opening_keeps old).0)
+
+-- a client begins, which takes memory
+pub client_begins : (s : Standing) (i : Option (List ℕ)) → (s.begun ≡ false) × (s.side ≡ Client) → TakesMemory s i
+client_begins s i first = λ nothing. elim nothing.1 [
+  | inl begun ↦ absurd (let bad : false ≡ true = sym first.0 ∙ begun in cc)
+  | inr server ↦ absurd (let bad : Client ≡ Server = sym first.1 ∙ server in cc)
+]
 
 -- ---- after the end
 

@@ -1,6 +1,5 @@
 -- No fault of a message is that of a device.
-use Rattle.std.proofs.Common.{◌≡◌, inl, inr, sym, subst, Result, Ok, Err}
-use Rattle.std.specs.Prelude.{IfErr}
+use Rattle.std.proofs.Common.{◌≡◌, inl, inr, sym, subst}
 use Rattle.rds_names.specs.declared.fault.Fault.{Fault}
 use Rattle.rds_names.specs.declared.fault.Fault.TheVariants.{Memory, Cut, Bad, Extra, TooLong}
 use Rattle.rds_codec.specs.Decoding.{IsOtherFault}
@@ -24,7 +23,3 @@ known_fault e h = elim h [
     ]
   ]
 ]
-
-pub known_other : {T : Type 0} (r : Result T Fault) → IfErr r IsOtherFault → IfErr r (λ e. StopsByNoDevice (Refused e))
-known_other (Ok x) h = h
-known_other (Err e) h = known_fault e h

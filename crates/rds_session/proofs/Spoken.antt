@@ -9,11 +9,13 @@ use Rattle.rds_names.specs.declared.fault.Fault.{Fault}
 use Rattle.rds_names.specs.declared.fault.Fault.TheVariants.{Memory, Device}
 use Rattle.rds_state.specs.Fits.{ReplicaValue}
 use Rattle.rds_session.specs.declared.talk.Side.{Side}
+use Rattle.rds_session.specs.declared.step.Ended.{Ended}
 use Rattle.rds_session.specs.declared.step.Ended.TheVariants.{Going, Failed}
 use Rattle.rds_session.specs.Exchange.{IsHeard}
+use Rattle.rds_session.specs.Received.{Delivery}
 use Rattle.rds_session.specs.Session.{Standing, Heard, Nothing, So_far, All_of, heard_more, course}
 use Rattle.rds_session.specs.Steps.{HasStanding, Continues}
-use Rattle.rds_session.specs.Leaving.{HasBegun, HasHeard, HasSent, IsWrittenUnless, Speaks}
+use Rattle.rds_session.specs.Leaving.{HasBegun, HasHeard, HasSent, IsOfCalls, IsWrittenUnless, Speaks}
 use Rattle.rds_session.proofs.Turns.{Came, appends_none, appends_then, consumes_none, heard_kept, heard_on}
 
 -- bytes were written, and then a beginning of more
@@ -142,3 +144,23 @@ heard_some side kept first now s IsWritten (heard, is_heard, sent, has, written,
 pub on_failed : {T : Type 0} (r : Result T Fault) (A Failure B : Type 0) → OnErr r A → IfErr r (λ e. (e ≡ Device) × Failure) → (A → Failure → B) → OnErr r B
 on_failed (Ok x) A Failure B h failed f = h
 on_failed (Err e) A Failure B h failed f = f h failed.1
+
+-- what was spoken over a reader and a writer is what a session came to: it ended as it says, or by a call that failed
+pub of_calls : (side : Side) (kept : ReplicaValue) (first now before after : Option (List ℕ)) (s : Standing) (IsWritten : List ℕ → Type 0) (WriteFailed : Type 0) (received : Option Delivery) (ended : Ended)
+    → Speaks side kept first now s IsWritten → received ≡ s.received
+    → ((sent : List ℕ) → IsWritten sent → ((ended ≡ s.ended) × Appends before after sent) ⊎ ((ended ≡ Failed Device) × IsWrittenUnless WriteFailed before after sent))
+    → IsOfCalls side kept first now before after WriteFailed received ended
+of_calls side kept first now before after s IsWritten WriteFailed received ended (heard, is_heard, sent, has, written, begun) got stands = record {
+  session = s;
+  heard = heard;
+  begun = begun;
+  is_heard = is_heard;
+  sent = sent;
+  is_sent = has;
+  is_received = got;
+  stands = stands sent written;
+}
+
+-- a call failed: so nothing is owed of runs in which neither did
+pub one_failed : (Read Written Owed : Type 0) → Read ⊎ Written → (Read → ⊥) → (Written → ⊥) → Owed
+one_failed Read Written Owed failed read written = elim failed [ inl r ↦ absurd (read r) | inr w ↦ absurd (written w) ]

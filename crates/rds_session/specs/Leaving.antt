@@ -35,7 +35,8 @@ abbrev pub HasBegun : Heard → Type 0
 HasBegun Nothing = ⊥
 HasBegun _ = Unit {0}
 
--- it does so for what its reader held at first and doesn't hold now: each byte once, in order; and this was written of what it sent
+-- it does so for what its reader held at first and doesn't hold now: each byte once, in order; and this was written of
+-- what it sent
 abbrev pub Speaks : Side → ReplicaValue → Option (List ℕ) → Option (List ℕ) → Standing → (List ℕ → Type 0) → Type 0
 Speaks side kept first now s IsWritten = (heard : Heard) × IsHeard first now heard × (sent : List ℕ) × HasSent side kept heard s sent × IsWritten sent × HasBegun heard
 
@@ -54,9 +55,9 @@ pub record IsOfSession (side : Side) (kept : ReplicaValue) (received : Option De
   pub is_received : received ≡ session.received
   pub stands : StandsAs session ended
 
--- what a session came to over a reader and a writer: it took a step, it heard the bytes that the reader held at first and doesn't
--- hold now, each once and in order, this is what it received, and all that it sent was written and it ended so; or a call failed,
--- and all that it sent was written, or where that call was a write a beginning of it
+-- what a session came to over a reader and a writer: it took a step, it heard the bytes that the reader held at first
+-- and doesn't hold now, each once and in order, and this is what it received; all that it sent was written and it ended
+-- so; or a call failed, and all that it sent was written, or where that call was a write a beginning of it
 pub record IsOfCalls (side : Side) (kept : ReplicaValue) (first now before after : Option (List ℕ)) (WriteFailed : Type 0) (received : Option Delivery) (ended : Ended) : Type 0 where
   pub session : Standing
   pub heard : Heard
@@ -67,7 +68,8 @@ pub record IsOfCalls (side : Side) (kept : ReplicaValue) (first now before after
   pub is_received : received ≡ session.received
   pub stands : ((ended ≡ session.ended) × Appends before after sent) ⊎ ((ended ≡ Failed Device) × IsWrittenUnless WriteFailed before after sent)
 
--- what an end came to: it is over, has received nothing or what it checked, and that where it is done, as a session does for some stream
+-- what an end came to: it is over, has received nothing or what it checked, and that where it is done, as a session
+-- does for some stream
 pub record Leaves (side : Side) (kept : ReplicaValue) (received : Option Delivery) (ended : Ended) : Type 0 where
   pub checked : HasChecked kept received
   pub done : IsDoneBy ended received

@@ -1,10 +1,11 @@
 -- What a step of a session does.
-use Rattle.std.specs.Prelude.{◌≡◌, ◌⊎◌, ℕ, true, List, [], ◌++◌, Option, Some, None, IsSome, Result, MatchResult}
+use Rattle.std.specs.Prelude.{◌≡◌, ◌⊎◌, ℕ, true, List, [], ◌++◌, Option, Some, None, Result, MatchResult}
 use Rattle.rds_names.specs.declared.fault.Fault.{Fault}
 use Rattle.rds_names.specs.declared.fault.Fault.TheVariants.{Memory}
 use Rattle.rds_state.specs.Fits.{ReplicaValue}
 use Rattle.rds_session.specs.declared.kinds.ByeCode.TheVariants as byes
 use Rattle.rds_session.specs.declared.talk.Side.{Side}
+use Rattle.rds_session.specs.declared.talk.Side.TheVariants.{Server}
 use Rattle.rds_session.specs.declared.step.Ended.{Ended}
 use Rattle.rds_session.specs.declared.step.Ended.TheVariants.{Going, Failed}
 use Rattle.rds_session.specs.declared.step.Input.{Input}
@@ -94,9 +95,13 @@ abbrev pub piece_of : Option (List ℕ) → List ℕ
 piece_of None = []
 piece_of (Some piece) = piece
 
--- a step takes memory where the session begins, or bytes come; the end of one that has begun takes none
+-- no bytes come, and no client begins
+abbrev pub TakesNoMemory : Standing → Option (List ℕ) → Type 0
+TakesNoMemory old input = (piece_of input ≡ []) × ((old.begun ≡ true) ⊎ (old.side ≡ Server))
+
+-- a step takes memory only where bytes come, or a client begins
 abbrev pub TakesMemory : Standing → Option (List ℕ) → Type 0
-TakesMemory old input = old.begun ≡ true → IsSome input
+TakesMemory old input = TakesNoMemory old input → ⊥
 
 -- bytes or the end came, after the opening; or memory ran out with what was received after a front of them
 abbrev pub Works : {T : Type 0} → Standing → List ℕ → Option (List ℕ) → Standing → List ℕ → Result T Fault → Type 0

@@ -212,8 +212,9 @@ pub fn exchange<S: DotSet, R: Read, W: Write>(
     ensures bound { ConsumesAtMost (R.remaining reader.old.inner) (R.remaining reader.new.inner)
         (most_heard (reader.old.turns - reader.new.left)) }
     ensures device { result.ended ≡ Failed Device → HasFailed reader.old reader.new ⊎ HasFailed writer.old writer.new }
-    ensures exchange { reader.new.failed ≡ 0 → writer.new.failed ≡ 0 → IfSome (R.remaining reader.old.inner) (λ input.
-        Exchanges side kept.now input (W.contents writer.old.inner) (W.contents writer.new.inner)
+    ensures exchange { (HasFailed reader.old reader.new → ⊥) → (HasFailed writer.old writer.new → ⊥)
+        → IfSome (R.remaining reader.old.inner) (λ input. Exchanges side kept.now input
+        (W.contents writer.old.inner) (W.contents writer.new.inner)
         (delivery_of result.received result.roster) result.ended) }
 {
     let mut session = Session::new(side, kept);

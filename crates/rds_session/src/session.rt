@@ -79,13 +79,14 @@ impl<'a, S: DotSet> Session<'a, S> {
     ghost use Rattle.rds_state.specs.Fits.{ReplicaValue};
     ghost use Rattle.rds_session.specs.declared.step.Ended.TheVariants.{Going};
     ghost use Rattle.rds_session.specs.declared.talk.Side.{Side};
+    ghost use Rattle.rds_session.specs.declared.talk.Side.TheVariants.{Client};
     ghost use Rattle.rds_session.specs.Chunks.{start};
     ghost use Rattle.rds_session.specs.Contents.{expected_of};
     ghost use Rattle.rds_session.specs.Judging.{StopsByNoDevice, saying_of};
     ghost use Rattle.rds_session.specs.Received.{Brings, HasChecked, IsDoneBy, IsLongerIfThere, delta_of, roster_of};
     ghost use Rattle.rds_session.specs.declared.talk.Stop.TheVariants.{Refused};
-    ghost use Rattle.rds_session.specs.Session.{failure, after_said, refuses, after_verdict, message_comes, after_opening, cut_off, Heard, Nothing};
-    ghost use Rattle.rds_session.specs.Steps.{came, Continues, Does, HasStanding, IsLastWord, IsNoDevice, IsOver, Ran, Runs, Steps, Works};
+    ghost use Rattle.rds_session.specs.Session.{failure, after_said, refuses, after_verdict, message_comes, after_opening, after_step, cut_off, Heard, Nothing};
+    ghost use Rattle.rds_session.specs.Steps.{came, TakesNoMemory, Continues, Does, HasStanding, IsLastWord, IsNoDevice, IsOver, Ran, Runs, Steps, Works};
 
     /// A session that hasn't begun. Takes no memory.
     #[tactic(auto, unfolding(crate::specs::Session::course))]
@@ -152,8 +153,8 @@ impl<'a, S: DotSet> Session<'a, S> {
     /// What it sends in all, how it ends and what it receives doesn't depend on how the stream is cut into steps.
     ///
     /// The first step of a client sends what it begins with, whatever comes in it. After the end each step answers
-    /// that end and sends nothing. Where memory runs out the session fails (`Memory`), and what it received stays. The
-    /// end of the stream takes no memory once the session has begun.
+    /// that end and sends nothing. Where memory runs out the session fails (`Memory`), and what it received stays. A
+    /// step without bytes takes no memory, but a client's first.
     pub fn step(&mut self, alloc: Global, input: Input<'_>) -> Output
         ensures course { (side : Side) (kept : ReplicaValue) (heard : Heard) → HasStanding side kept heard self.old
             → Continues side kept heard (came input.entry) self.new result.send.items }
@@ -161,6 +162,9 @@ impl<'a, S: DotSet> Session<'a, S> {
         ensures over { IsOver self.old.ended → (self.new ≡ self.old) × (result.send.items ≡ []) }
         ensures end { self.old.begun ≡ true → came input.entry ≡ None → (self.new ≡ (cut_off self.old).0)
             × (result.send.items ≡ []) }
+        ensures nothing { TakesNoMemory self.old (came input.entry)
+            → (self.new ≡ (after_step self.old (came input.entry)).0)
+            × (result.send.items ≡ (after_step self.old (came input.entry)).1) }
         ensures device { IsNoDevice self.old.ended → IsNoDevice self.new.ended }
         ensures kept { self.new.kept ≡ self.old.kept }
     {
@@ -223,7 +227,7 @@ impl<'a, S: DotSet> Session<'a, S> {
     #[tactic(auto, unfolding(crate::specs::Session::after_opening), using(crate::proofs::Moves::all_sent, crate::proofs::Moves::some_sent),)]
     fn open(&mut self, alloc: Global, send: &mut Vec<u8>) -> Result<(), Fault>
         ensures does { Does self.old send.old.items self.new send.new.items result after_opening }
-        ensures begins { OnErr result (self.old.begun ≡ false) }
+        ensures begins { OnErr result ((self.old.begun ≡ false) × (self.old.side ≡ Client)) }
         ensures known { OnOk result (IsNoDevice self.old.ended → IsNoDevice self.new.ended) }
         ensures kept { self.new.kept ≡ self.old.kept }
     {
@@ -248,6 +252,7 @@ impl<'a, S: DotSet> Session<'a, S> {
 
     fn run(&mut self, alloc: Global, piece: &[u8], send: &mut Vec<u8>) -> Result<(), Fault>
         ensures runs { Runs self.old send.old.items piece.now self.new send.new.items result }
+        ensures some { OnErr result (0 < length piece.now) }
         ensures known { OnOk result (IsNoDevice self.old.ended → IsNoDevice self.new.ended) }
         ensures kept { self.new.kept ≡ self.old.kept }
     {
@@ -295,7 +300,8 @@ impl<'a, S: DotSet> Session<'a, S> {
     // Takes what has come of a message out of the session.
     fn under_way(&mut self) -> Chunks<S>
         ensures taken { self.new ≡ record self.old { under = start } }
-        ensures chunks { result ≡ record { expected = expected_of self.old.kept self.old.turn; under = self.old.under } }
+        ensures chunks { result
+            ≡ record { expected = expected_of self.old.kept self.old.turn; under = self.old.under } }
     {
         match self.under.take() {
             Some(chunks) => chunks,

@@ -6,7 +6,7 @@ use Rattle.rds_session.specs.Received.{HasChecked, delivery_of}
 use Rattle.rds_session.specs.Session.{Standing, Nothing, course}
 use Rattle.rds_session.specs.declared.step.Ended.{Ended}
 use Rattle.rds_session.specs.Steps.{HasStanding, IsOver}
-use Rattle.rds_session.proofs.Spoken.{heard_some}
+use Rattle.rds_session.proofs.Spoken.{heard_some, of_calls, one_failed}
 use Rattle.rds_session.proofs.Turns.{exchanged}
 use Rattle.rds_session.proofs.exchanging.exchange.Goals as goal
 
@@ -31,6 +31,9 @@ returns-in-Ok-clause-exchange g c =
     λ reader writer. exchanged c.args.side c.args.kept.now (g.R.Read.remaining c.args.reader.now.inner) _ c.talk.new.session _ _ (delivery_of c.of.result.received c.of.result.roster) c.of.result.ended
     (c.in-Ok.ensures.speaks c.args.side c.args.kept.now c.new-session.ensures.standing) over c.of.ensures.received
 
+pub returns-in-Err-clause-exchange : goal.returns-in-Err-clause-exchange
+returns-in-Err-clause-exchange g c = one_failed _ _ _ c.in-Err.ensures.fault.1
+
 pub returns-in-Ok-clause-done : goal.returns-in-Ok-clause-done
 returns-in-Ok-clause-done g c = λ is_done. c.of.ensures.done (sym c.in-Ok.ensures.ended.0 ∙ sym c.of.ensures.ended ∙ is_done)
 
@@ -52,28 +55,10 @@ returns-in-Err-clause-session g c = record {
 
 pub returns-in-Ok-clause-heard : goal.returns-in-Ok-clause-heard
 returns-in-Ok-clause-heard g c =
-    let spoken = c.in-Ok.ensures.speaks c.args.side c.args.kept.now c.new-session.ensures.standing in
-    record {
-      session = c.talk.new.session;
-      heard = spoken.0;
-      begun = spoken.5;
-      is_heard = spoken.1;
-      sent = spoken.2;
-      is_sent = spoken.3;
-      is_received = c.of.ensures.received;
-      stands = inl (c.of.ensures.ended ∙ c.in-Ok.ensures.ended.0, spoken.4);
-    }
+    of_calls _ _ _ _ _ _ c.talk.new.session _ _ _ _ (c.in-Ok.ensures.speaks c.args.side c.args.kept.now c.new-session.ensures.standing) c.of.ensures.received
+    (λ sent written. inl (c.of.ensures.ended ∙ c.in-Ok.ensures.ended.0, written))
 
 pub returns-in-Err-clause-heard : goal.returns-in-Err-clause-heard
 returns-in-Err-clause-heard g c =
-    let spoken = c.in-Err.ensures.part c.args.side c.args.kept.now c.new-session.ensures.standing in
-    record {
-      session = c.talk.new.session;
-      heard = spoken.0;
-      begun = spoken.5;
-      is_heard = spoken.1;
-      sent = spoken.2;
-      is_sent = spoken.3;
-      is_received = c.of-in-Err.ensures.received;
-      stands = inr (c.of-in-Err.ensures.ended ∙ ap Failed c.in-Err.ensures.fault.0, spoken.4);
-    }
+    of_calls _ _ _ _ _ _ c.talk.new.session _ _ _ _ (c.in-Err.ensures.part c.args.side c.args.kept.now c.new-session.ensures.standing) c.of-in-Err.ensures.received
+    (λ sent written. inr (c.of-in-Err.ensures.ended ∙ ap Failed c.in-Err.ensures.fault.0, written))

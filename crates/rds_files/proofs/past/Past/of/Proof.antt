@@ -1,4 +1,5 @@
--- `of` makes a struct without bytes, with the value that its clause names. It is proved by hand, as no code gives that value.
+-- `of` makes a struct without bytes, with the value that its clause names. It is proved by hand, as no code gives that
+-- value.
 use Rattle.std.proofs.Common.{List, [], ◌∷◌, ◌++◌, refl}
 use seplogic.Ra.Ura.{Ura}
 use mir.Syntax.{Fn, Args, a_type}

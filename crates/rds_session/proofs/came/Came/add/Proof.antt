@@ -1,5 +1,5 @@
--- `add` has nothing to do in memory: what it borrowed is given back at the longer list. It is proved by hand, as no code
--- gives that list.
+-- `add` has nothing to do in memory: what it borrowed is given back at the longer list. It is proved by hand, as no
+-- code gives that list.
 use Rattle.std.proofs.Common.{List, [], ◌∷◌, ◌++◌, refl}
 use Rattle.std.proofs.raw_atomic.Walks.{proved}
 use base.Fml.{ftrue, flft}
