@@ -23,7 +23,8 @@ table_in v = table_of (keys_in v)
 -- the dots, the live rows and the counters, for a spelling of their keys
 unfoldable pub body_text : (List ℕ → List ℕ) → StateValue → List ℕ
 body_text key_text v =
-    dots_text (seen_of v.lives) ++ (keyed_live_rows_text key_text (live_rows v.lives) ++ keyed_counters_text key_text v.counts)
+    dots_text (seen_of v.lives)
+    ++ (keyed_live_rows_text key_text (live_rows v.lives) ++ keyed_counters_text key_text v.counts)
 
 -- the table, and the parts by its numbers
 unfoldable pub tabled_text : StateValue → List ℕ

@@ -73,8 +73,8 @@ pub fn decode_state_in<S: DotSet>(
     read_all_of_state(alloc, format, replicas, bytes)
 }
 
-/// The text of the state in a format. Above the limit it is refused (`TooLong`): in format 1 before any memory is taken,
-/// in format 2 after memory was taken to number its keys.
+/// The text of the state in a format. Above the limit it is refused (`TooLong`). In format 1 it is so before any memory
+/// is taken, in format 2 after memory was taken to number its keys.
 pub fn encode_state_in<S: DotSet>(
     alloc: Global,
     format: Format,

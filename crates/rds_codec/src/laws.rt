@@ -32,7 +32,7 @@ pub fn texts_stand_apart()
 {}
 
 /// The same of states and answers, within each format. Of snapshots it holds of both formats together: one text has one
-/// value and one format, and no snapshot of one format begins one of the other, however long they are. The function does
+/// value and one format. No snapshot of one format begins one of the other, however long they are. The function does
 /// nothing: its contract is these laws.
 pub fn formats_stand_apart()
     ensures states { (format : Format) (replicas : ℕ) → StandApart (state_kind_in format replicas) }
@@ -42,8 +42,8 @@ pub fn formats_stand_apart()
         → snapshot_text_in One v ++ x ≡ snapshot_text_in Two w ++ y → ⊥ }
 {}
 
-/// The parts of a state of format 2 are those of format 1, but for how their keys are spelled and read. The function does
-/// nothing: its contract is this law.
+/// The parts of a state of format 2 are those of format 1, but for how their keys are spelled and read. The function
+/// does nothing: its contract is this law.
 pub fn formats_have_the_same_parts()
     ensures texts { (v : StateValue) → body_text short_text v ≡ state_text v }
     ensures readers { (replicas : ℕ) → body_at key_at replicas ≡ state_at replicas }

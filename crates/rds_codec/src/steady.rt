@@ -22,8 +22,8 @@ pub fn texts_are_read_steadily()
     ensures hellos { IsSteady hello_at }
 {}
 
-/// The same of states and answers in each format, and of snapshots in either. The function does nothing: its contract is
-/// the law.
+/// The same of states and answers in each format, and of snapshots in either. The function does nothing: its contract
+/// is the law.
 pub fn formats_are_read_steadily()
     ensures states { (format : Format) (replicas : ℕ) → IsSteady (state_at_in format replicas) }
     ensures answers { (format : Format) (replicas : ℕ) → IsSteady (answer_at_in format replicas) }
