@@ -1,8 +1,9 @@
 //! The forms of text.
 use rds_codec::{
-    Answer, decode_answer, decode_certificate, decode_digest, decode_hello, decode_snapshot,
-    decode_state, encode_answer, encode_certificate, encode_digest, encode_hello, encode_snapshot,
-    encode_state,
+    Answer, Format, decode_answer, decode_answer_in, decode_certificate, decode_digest,
+    decode_hello, decode_snapshot, decode_state, decode_state_in, encode_answer, encode_answer_in,
+    encode_certificate, encode_digest, encode_hello, encode_snapshot, encode_state,
+    encode_state_in,
 };
 use rds_delta::Digest;
 use rds_dots::DotSet;
@@ -18,9 +19,11 @@ pub fn again<S: DotSet>(alloc: Global, form: &str, bytes: &[u8]) -> Result<Vec<u
     match form {
         "snapshot" => snapshot_again::<S>(alloc, bytes),
         "state" => state_again::<S>(alloc, REPLICAS, bytes),
+        "state-2" => state_from::<S>(alloc, Format::Two, Format::Two, bytes),
         "digest" => digest_again::<S>(alloc, bytes),
         "certificate" => certificate_again(alloc, bytes),
         "answer" => answer_again::<S>(alloc, bytes),
+        "answer-2" => tabled_answer_again::<S>(alloc, bytes),
         "hello" => hello_again(alloc, bytes),
         _ => Err(Fault::Usage),
     }
@@ -34,6 +37,17 @@ pub fn state_again<S: DotSet>(
 ) -> Result<Vec<u8>, Fault> {
     let state: State<S> = decode_state(alloc, replicas, bytes)?;
     encode_state(alloc, &state)
+}
+
+/// The same, of a state that is read in one format and written in another.
+pub fn state_from<S: DotSet>(
+    alloc: Global,
+    from: Format,
+    to: Format,
+    bytes: &[u8],
+) -> Result<Vec<u8>, Fault> {
+    let state: State<S> = decode_state_in(alloc, from, REPLICAS, bytes)?;
+    encode_state_in(alloc, to, &state)
 }
 
 fn snapshot_again<S: DotSet>(alloc: Global, bytes: &[u8]) -> Result<Vec<u8>, Fault> {
@@ -54,6 +68,17 @@ fn certificate_again(alloc: Global, bytes: &[u8]) -> Result<Vec<u8>, Fault> {
 fn answer_again<S: DotSet>(alloc: Global, bytes: &[u8]) -> Result<Vec<u8>, Fault> {
     let answer: Answer<S> = decode_answer(alloc, REPLICAS, bytes)?;
     encode_answer(alloc, answer.asker, &answer.state, &answer.certificate)
+}
+
+fn tabled_answer_again<S: DotSet>(alloc: Global, bytes: &[u8]) -> Result<Vec<u8>, Fault> {
+    let answer: Answer<S> = decode_answer_in(alloc, Format::Two, REPLICAS, bytes)?;
+    encode_answer_in(
+        alloc,
+        Format::Two,
+        answer.asker,
+        &answer.state,
+        &answer.certificate,
+    )
 }
 
 fn hello_again(alloc: Global, bytes: &[u8]) -> Result<Vec<u8>, Fault> {

@@ -1,6 +1,7 @@
 //! Rows that try texts.
-use crate::forms::{again, state_again};
+use crate::forms::{again, state_again, state_from};
 use crate::pieces::{cuts, drops};
+use rds_codec::Format;
 use rds_dots::DotSet;
 use rds_names::Fault;
 use rds_rows::told::digits_of;
@@ -16,6 +17,8 @@ pub fn answer<S: DotSet>(alloc: Global, name: &str, rest: &str) -> Result<String
         "cuts" => cuts::<S>(alloc, rest),
         "drops" => drops::<S>(alloc, rest),
         "state-of" => state_of::<S>(alloc, rest),
+        "tabled" => rewritten::<S>(alloc, Format::One, Format::Two, rest),
+        "untabled" => rewritten::<S>(alloc, Format::Two, Format::One, rest),
         "zeros" => zeros::<S>(alloc, rest),
         _ => Err(Fault::Usage),
     }
@@ -106,6 +109,18 @@ fn state_of<S: DotSet>(alloc: Global, rest: &str) -> Result<String, Fault> {
     };
     let text = bytes_of(alloc, digits)?;
     let written = state_again::<S>(alloc, replicas, &text)?;
+    digits_of(alloc, &written)
+}
+
+/// `tabled DIGITS`: the state of format 1, written in format 2; `untabled DIGITS`: that of format 2, written in format 1.
+fn rewritten<S: DotSet>(
+    alloc: Global,
+    from: Format,
+    to: Format,
+    rest: &str,
+) -> Result<String, Fault> {
+    let text = bytes_of(alloc, rest)?;
+    let written = state_from::<S>(alloc, from, to, &text)?;
     digits_of(alloc, &written)
 }
 
