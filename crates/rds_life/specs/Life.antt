@@ -101,7 +101,7 @@ pub record IsLeastAbove (a b c : Lived) : Type 0 where
   pub left : AreNoLater (map.get a) (map.get c)
   pub right : AreNoLater (map.get b) (map.get c)
   pub least : (d : Lived) → AreNoLater (map.get a) (map.get d) → AreNoLater (map.get b) (map.get d)
-    → AreNoLater (map.get c) (map.get d)
+      → AreNoLater (map.get c) (map.get d)
 
 -- where both live, the entries are equal
 abbrev pub Agree : Option Life → Option Life → Type 0
