@@ -23,14 +23,24 @@ const MOST: u64 = 1_000_000;
 fn main(rt: HostRuntime) -> io::Result<()> {
     let mut words = env::args(&rt)?;
     let _name = words.next();
-    match (words.next(), words.next()) {
-        (Some(what), None) if what.as_str() == "answer" => answers::read(&rt),
-        (Some(what), Some(size)) => {
+    let Some(what) = words.next() else {
+        return Ok(());
+    };
+    match words.next() {
+        Some(size) => {
             time(&rt, what.as_str(), size.as_str())?;
             wait(&rt)
         }
-        _ => Ok(()),
+        None => read(&rt, what.as_str()),
     }
+}
+
+/// Reads what the word names, if anything.
+fn read(rt: &HostRuntime, what: &str) -> io::Result<()> {
+    if what == "answer" {
+        return answers::read(rt);
+    }
+    Ok(())
 }
 
 /// Runs what the words name, and says which fault it ended by, if any.
