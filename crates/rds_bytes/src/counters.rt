@@ -80,7 +80,7 @@ fn read_place<'a, K: KeySource>(
 
 /// The next row, wherever its key comes from.
 #[tactic(auto, unfolding(crate::specs::Reading::keyed_count_row_at))]
-fn read_keyed_row<'a, K: KeySource>(
+pub fn read_keyed_count_row<'a, K: KeySource>(
     alloc: Global,
     keys: &mut K,
     replicas: u16,
@@ -116,7 +116,7 @@ impl PartReader<CountRow> for CountRowReader {
         bytes: &'b [u8],
     ) -> Result<(CountRow, &'b [u8]), Fault> {
         let mut keys = SpelledKeys;
-        read_keyed_row(alloc, &mut keys, self.replicas, before, bytes)
+        read_keyed_count_row(alloc, &mut keys, self.replicas, before, bytes)
     }
 }
 
@@ -136,7 +136,7 @@ fn read_rows<'a, K: KeySource>(
     let mut rows = Vec::new(alloc);
     let mut rest = bytes;
     for _ in 0..count {
-        let (row, after) = read_keyed_row(alloc, keys, replicas, &rows, rest)?;
+        let (row, after) = read_keyed_count_row(alloc, keys, replicas, &rows, rest)?;
         rows.push(row)?;
         rest = after;
     }

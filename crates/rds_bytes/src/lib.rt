@@ -28,7 +28,8 @@ mod strings;
 mod tables;
 
 pub use counters::{
-    CountRowReader, counters_length, put_counters, put_place, read_counters, read_keyed_counters,
+    CountRowReader, counters_length, put_counters, put_place, read_counters, read_keyed_count_row,
+    read_keyed_counters,
 };
 pub use dot_rows::{DotRowReader, GapReader, RowHead, read_row_head};
 pub use dots::{DotRow, Gap, Gaps, measure_dots, put_dots, read_dots, read_gap};
@@ -42,7 +43,8 @@ pub use laws::{
 };
 pub use list::{PartReader, read_parts};
 pub use live_rows::{
-    LiveRowReader, live_rows_length, put_live_rows, read_keyed_live_rows, read_live_rows,
+    LiveRowReader, live_rows_length, put_live_rows, read_keyed_live_row, read_keyed_live_rows,
+    read_live_rows,
 };
 pub use numbered::{
     numbered_counters_length, numbered_lives_length, put_numbered, put_table, table_length,
@@ -56,4 +58,4 @@ pub use roster::{
 };
 pub use scalars::read_scalar;
 pub use sources::{KeySource, SpelledKeys};
-pub use tables::{Table, read_table};
+pub use tables::{Table, TableKeys, read_table};

@@ -53,7 +53,7 @@ fn read_dot<'a, S: DotSet>(
 
 /// The next row, wherever its keys come from.
 #[tactic(auto, unfolding(crate::specs::Reading::keyed_live_row_at))]
-fn read_keyed_row<'a, K: KeySource, S: DotSet>(
+pub fn read_keyed_live_row<'a, K: KeySource, S: DotSet>(
     alloc: Global,
     keys: &mut K,
     seen: &S,
@@ -87,7 +87,7 @@ impl<S: DotSet> PartReader<(Dot, Entry)> for LiveRowReader<'_, S> {
         bytes: &'b [u8],
     ) -> Result<((Dot, Entry), &'b [u8]), Fault> {
         let mut keys = SpelledKeys;
-        read_keyed_row(alloc, &mut keys, self.seen, before, bytes)
+        read_keyed_live_row(alloc, &mut keys, self.seen, before, bytes)
     }
 }
 
@@ -106,7 +106,7 @@ fn read_rows<'a, K: KeySource, S: DotSet>(
     let mut rows = Vec::new(alloc);
     let mut rest = bytes;
     for _ in 0..count {
-        let (row, after) = read_keyed_row(alloc, keys, seen, &rows, rest)?;
+        let (row, after) = read_keyed_live_row(alloc, keys, seen, &rows, rest)?;
         rows.push(row)?;
         rest = after;
     }
@@ -116,7 +116,7 @@ fn read_rows<'a, K: KeySource, S: DotSet>(
 /// The live rows, where the set has the dots that were seen, wherever their keys come from. Their dots ascend, and are
 /// seen.
 #[tactic(auto, unfolding(crate::specs::Reading::keyed_live_rows_at))]
-pub fn read_keyed_live_rows<'a, K: KeySource, S: DotSet>(
+pub pub fn read_keyed_live_rows<'a, K: KeySource, S: DotSet>(
     alloc: Global,
     keys: &mut K,
     seen: &S,

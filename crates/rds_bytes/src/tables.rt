@@ -15,25 +15,68 @@ use std::alloc::Global;
 use std::collections::BTreeSet;
 use std::marker::Model;
 
-/// The keys of a table, no two of which are equal, and how many of them have been met in turn.
+/// The keys of a table, no two of which are equal.
 #[derive(Drop)]
 pub struct Table {
     keys: Vec<Key>,
-    met: Option<usize>,
 }
 
 impl Model for Table {
-    ghost use Rattle.std.specs.Prelude.{◌≡◌, true};
+    ghost use Rattle.std.specs.Prelude.{◌≡◌, ℕ, true, List};
     ghost use Rattle.rds_names.specs.Roster.{all_differ};
+
+    ghost Value = { List (List ℕ) };
+
+    ghost view = { λ t. t.keys.items };
+
+    ghost invariant = { λ t. all_differ t.keys.items ≡ true };
+}
+
+impl Table {
+    /// The table of these keys.
+    pub fn with_keys(keys: Vec<Key>) -> Table
+        requires { all_differ keys.items ≡ true }
+        ensures { result ≡ keys.items }
+    {
+        Table { keys }
+    }
+
+    /// Its keys by their numbers, where so many of them have been met in turn.
+    pub fn keys(&self, met: Option<usize>) -> TableKeys<'_>
+        ensures { result ≡ record { keys = self.now; met = met } }
+    {
+        TableKeys { table: self, met }
+    }
+
+    /// A copy of the key of a number.
+    fn find(&self, alloc: Global, number: usize) -> Result<Key, Fault>
+        ensures found { IfOk result (λ key. slice_get self.now number ≡ Some key) }
+        ensures place { IfOk result (λ key. number_of self.now key ≡ number) }
+        ensures none { IfErr result (λ fault. (fault ≡ Memory)
+            ⊎ ((fault ≡ Bad) × (slice_get self.now number ≡ None))) }
+    {
+        match self.keys.get(number) {
+            Some(found) => found.copy(alloc),
+            None => Err(Fault::Bad),
+        }
+    }
+}
+
+/// The keys of a table by their numbers, and how many of them have been met in turn.
+#[derive(Drop)]
+pub struct TableKeys<'a> {
+    table: &'a Table,
+    met: Option<usize>,
+}
+
+impl<'a> Model for TableKeys<'a> {
     ghost use Rattle.rds_bytes.specs.TableValue.{TableValue, coded_table};
 
     ghost Value = { TableValue };
 
     ghost coded = { coded_table };
 
-    ghost view = { λ t. record { keys = t.keys.items; met = t.met } };
-
-    ghost invariant = { λ t. all_differ t.keys.items ≡ true };
+    ghost view = { λ t. record { keys = t.table.now; met = t.met } };
 }
 
 /// What was met, after a number of one that is within.
@@ -51,26 +94,20 @@ fn after(met: Option<usize>, number: usize) -> Option<usize>
     Some(known)
 }
 
-impl Table {
-    /// The table of these keys, none of which has been met.
-    fn new(keys: Vec<Key>) -> Table
-        requires { all_differ keys.items ≡ true }
-        ensures { result ≡ record { keys = keys.items; met = Some 0 } }
+impl TableKeys<'_> {
+    /// How many keys have been met in turn, or nothing where one was met out of turn.
+    pub fn into_met(self) -> Option<usize>
+        ensures { result ≡ self.met }
     {
-        Table { keys, met: Some(0) }
+        let TableKeys { table: _, met } = self;
+        met
     }
 
-    /// A copy of the key of a number.
-    fn find(&self, alloc: Global, number: usize) -> Result<Key, Fault>
-        ensures found { IfOk result (λ key. slice_get self.now.keys number ≡ Some key) }
-        ensures place { IfOk result (λ key. number_of self.now.keys key ≡ number) }
-        ensures none { IfErr result (λ fault. (fault ≡ Memory)
-            ⊎ ((fault ≡ Bad) × (slice_get self.now.keys number ≡ None))) }
+    /// Whether all keys of the table have been met, and in turn.
+    pub fn is_met(&self) -> bool
+        ensures { IsTrue result ↔ (self.now.met ≡ Some (length self.now.keys)) }
     {
-        match self.keys.get(number) {
-            Some(found) => found.copy(alloc),
-            None => Err(Fault::Bad),
-        }
+        self.met == Some(self.table.keys.as_slice().len())
     }
 
     /// Notes that the key of a number was met.
@@ -80,17 +117,10 @@ impl Table {
     {
         self.met = after(self.met, number);
     }
-
-    /// Whether all of its keys have been met, and in turn.
-    pub fn is_met(&self) -> bool
-        ensures { IsTrue result ↔ (self.now.met ≡ Some (length self.now.keys)) }
-    {
-        self.met == Some(self.keys.as_slice().len())
-    }
 }
 
 #[tactic(auto, unfolding(crate::specs::TableTexts::numbered_at))]
-impl KeySource for Table {
+impl KeySource for TableKeys<'_> {
     ghost reader = { λ t. numbered_at t.keys };
 
     ghost after = { meeting };
@@ -99,7 +129,7 @@ impl KeySource for Table {
 
     fn read<'a>(&mut self, alloc: Global, bytes: &'a [u8]) -> Result<(Key, &'a [u8]), Fault> {
         let (number, rest) = read_u32(bytes)?;
-        let key = self.find(alloc, number as usize)?;
+        let key = self.table.find(alloc, number as usize)?;
         self.meet(number as usize);
         Ok((key, rest))
     }
@@ -129,13 +159,12 @@ fn read_new_keys<'a>(
     Ok((keys, rest))
 }
 
-/// A table of keys, none of which has been met. A key that stands twice is refused where it stands again.
+/// A table of keys. A key that stands twice is refused where it stands again.
 #[tactic(auto, unfolding(crate::specs::TableTexts::table_at))]
 pub fn read_table(alloc: Global, bytes: &[u8]) -> Result<(Table, &[u8]), Fault>
-    ensures read { Reads (λ x. (x.0.keys, x.1.now)) result (table_at bytes.now) }
-    ensures met { IfOk result (λ x. x.0.met ≡ Some 0) }
+    ensures { Reads (λ x. (x.0, x.1.now)) result (table_at bytes.now) }
 {
     let (count, rest) = read_u32(bytes)?;
     let (keys, rest) = read_new_keys(alloc, count, rest)?;
-    Ok((Table::new(keys), rest))
+    Ok((Table::with_keys(keys), rest))
 }

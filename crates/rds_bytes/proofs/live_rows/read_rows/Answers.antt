@@ -26,7 +26,7 @@ loop-preserved g c =
     rw c.in_ok-push.ensures.items (
       goes_on f c.loop.rows.items c.args.count c.loop.counter c.loop.rest.now (rows_after f [] c.args.count c.args.bytes.now) row c.in_ok-row.after.now c.loop-test.true read c.loop.invariant.0,
       (
-        noted (λ k (r : Dot × Entry). fold g.K.KeySource.after k r.1.path) c.args.keys.now c.loop.keys c.read_keyed_row.new.keys c.loop.rows.items row c.loop.invariant.1.0 c.in_ok-row.ensures.after,
+        noted (λ k (r : Dot × Entry). fold g.K.KeySource.after k r.1.path) c.args.keys.now c.loop.keys c.read_keyed_live_row.new.keys c.loop.rows.items row c.loop.invariant.1.0 c.in_ok-row.ensures.after,
         ap g.K.KeySource.reader c.in_ok-row.ensures.after ∙ all_keep g.K.KeySource.after g.K.KeySource.reader g.met.K.KeySource.steady row.1.path c.loop.keys ∙ c.loop.invariant.1.1,
       ),
     )

@@ -3,7 +3,6 @@ use Rattle.std.specs.Prelude.{IfOk, slice_get}
 use Rattle.std.proofs.lemmas.Bool.{ltb-true}
 use Rattle.std.proofs.lemmas.Option.{slice_get-get_or}
 use Rattle.rds_bytes.specs.Table.{number_of}
-use Rattle.rds_bytes.specs.TableValue.{TableValue}
 use Rattle.rds_bytes.proofs.TableLaws.{number_at_place}
 use Rattle.rds_bytes.proofs.tables.Table.find.Goals as goal
 
@@ -17,7 +16,7 @@ returns-in-Some-clause-place c =
     let number = c.args.number in
     let keys = c.self.inside.keys.items in
     let shown = c.deref.result.now in
-    let same : c.args.self.now.keys ≡ keys = sym (ap (λ (t : TableValue). t.keys) c.self.view_is) in
+    let same : c.args.self.now ≡ keys = sym c.self.view_is in
     let slice : shown ≡ keys = c.deref.ensures.value in
     let there = c.in-Some.ensures.lookup in
     let at : slice_get shown number ≡ Some found = slice_get-get_or shown number found (ltb-true number (length shown) (sym there.0)) ∙ ap (λ (k : List ℕ). Some k) (sym there.1) in
