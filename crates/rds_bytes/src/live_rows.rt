@@ -116,7 +116,7 @@ fn read_rows<'a, K: KeySource, S: DotSet>(
 /// The live rows, where the set has the dots that were seen, wherever their keys come from. Their dots ascend, and are
 /// seen.
 #[tactic(auto, unfolding(crate::specs::Reading::keyed_live_rows_at))]
-pub pub fn read_keyed_live_rows<'a, K: KeySource, S: DotSet>(
+pub fn read_keyed_live_rows<'a, K: KeySource, S: DotSet>(
     alloc: Global,
     keys: &mut K,
     seen: &S,

@@ -97,7 +97,7 @@ fn after(met: Option<usize>, number: usize) -> Option<usize>
 impl TableKeys<'_> {
     /// How many keys have been met in turn, or nothing where one was met out of turn.
     pub fn into_met(self) -> Option<usize>
-        ensures { result ≡ self.met }
+        ensures { result ≡ self.entry.met }
     {
         let TableKeys { table: _, met } = self;
         met
@@ -107,7 +107,8 @@ impl TableKeys<'_> {
     pub fn is_met(&self) -> bool
         ensures { IsTrue result ↔ (self.now.met ≡ Some (length self.now.keys)) }
     {
-        self.met == Some(self.table.keys.as_slice().len())
+        let table = self.table;
+        self.met == Some(table.keys.as_slice().len())
     }
 
     /// Notes that the key of a number was met.
