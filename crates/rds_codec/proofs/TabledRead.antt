@@ -51,42 +51,46 @@ module _ (key : Reader (List ℕ)) (replicas : ℕ) (bytes : List ℕ) (s : Dots
 
 -- ---- the table and the parts
 
-module _ (replicas : ℕ) (bytes : List ℕ) (fits : IsBytes bytes) (table : TableValue) (none_met : table.met ≡ Some 0) (middle : List ℕ) (v : StateValue) (rest : List ℕ) (p : table_at bytes ≡ Ok (table.keys, middle)) (q : body_at (numbered_at table.keys) replicas middle ≡ Ok (v, rest)) (now : TableValue) (after : now ≡ fold meeting table (keys_in v)) where
-  when_tabled : has_its_table (table.keys, v) ≡ true → tabled_at replicas bytes ≡ Ok (v, rest)
+-- a table, none of whose keys was met
+abbrev unmet : List (List ℕ) → TableValue
+unmet keys = record { keys = keys; met = Some 0 }
+
+module _ (replicas : ℕ) (bytes : List ℕ) (fits : IsBytes bytes) (table : List (List ℕ)) (middle : List ℕ) (v : StateValue) (rest : List ℕ) (p : table_at bytes ≡ Ok (table, middle)) (q : body_at (numbered_at table) replicas middle ≡ Ok (v, rest)) (now : TableValue) (after : now ≡ fold meeting (unmet table) (keys_in v)) where
+  when_tabled : has_its_table (table, v) ≡ true → tabled_at replicas bytes ≡ Ok (v, rest)
   unfolding tabled_at
   when_tabled e = rw (p, q, e) refl
 
-  where_not : has_its_table (table.keys, v) ≡ false → tabled_at replicas bytes ≡ Err Bad
+  where_not : has_its_table (table, v) ≡ false → tabled_at replicas bytes ≡ Err Bad
   unfolding tabled_at
   where_not e = rw (p, q, e) refl
 
-  differ : all_differ table.keys ≡ true
-  differ = (table_format.takes bytes (table.keys, middle) fits p).1.1.differ
+  differ : all_differ table ≡ true
+  differ = (table_format.takes bytes (table, middle) fits p).1.1.differ
 
-  had : AreIn table.keys (keys_in v)
-  had = keys_are_had replicas bytes table.keys middle v rest fits p q
+  had : AreIn table (keys_in v)
+  had = keys_are_had replicas bytes table middle v rest fits p q
 
-  same_keys : now.keys ≡ table.keys
-  same_keys = ap (λ (t : TableValue). t.keys) (after ∙ table_after (keys_in v) table)
+  same_keys : now.keys ≡ table
+  same_keys = ap (λ (t : TableValue). t.keys) (after ∙ table_after (keys_in v) (unmet table))
 
-  all_keys : Some (length now.keys) ≡ Some (length table.keys)
+  all_keys : Some (length now.keys) ≡ Some (length table)
   all_keys = ap (λ (keys : List (List ℕ)). Some (length keys)) same_keys
 
-  same_met : now.met ≡ (after_counts meeting (after_rows meeting table (live_rows v.lives)) (count_rows v.counts)).met
-  same_met = ap (λ (t : TableValue). t.met) (after ∙ used_folded meeting table (live_rows v.lives) (count_rows v.counts))
+  same_met : now.met ≡ (after_counts meeting (after_rows meeting (unmet table) (live_rows v.lives)) (count_rows v.counts)).met
+  same_met = ap (λ (t : TableValue). t.met) (after ∙ used_folded meeting (unmet table) (live_rows v.lives) (count_rows v.counts))
 
   -- it met all of its keys in turn exactly where they are those of the state
-  meets : (has_its_table (table.keys, v) ≡ true) ↔ (now.met ≡ Some (length now.keys))
+  meets : (has_its_table (table, v) ≡ true) ↔ (now.met ≡ Some (length now.keys))
   meets =
-      let rows = rows_meet table (live_rows v.lives) (count_rows v.counts) differ none_met had in
+      let rows = rows_meet (unmet table) (live_rows v.lives) (count_rows v.counts) differ refl had in
       (λ tabled. same_met ∙ rows.0 tabled ∙ sym all_keys, λ met. rows.1 (sym same_met ∙ met ∙ all_keys))
 
   pub tabled_found : now.met ≡ Some (length now.keys) → tabled_at replicas bytes ≡ Ok (v, rest)
   tabled_found met = when_tabled (meets.1 met)
 
-  unmet_by : (b : Bool) → has_its_table (table.keys, v) ≡ b → (now.met ≡ Some (length now.keys) → ⊥) → b ≡ false
-  unmet_by true e unmet = absurd (unmet (meets.0 e))
-  unmet_by false e unmet = refl
+  refused_by : (b : Bool) → has_its_table (table, v) ≡ b → (now.met ≡ Some (length now.keys) → ⊥) → b ≡ false
+  refused_by true e not_met = absurd (not_met (meets.0 e))
+  refused_by false e not_met = refl
 
   pub tabled_refused : (now.met ≡ Some (length now.keys) → ⊥) → tabled_at replicas bytes ≡ Err Bad
-  tabled_refused unmet = where_not (unmet_by (has_its_table (table.keys, v)) refl unmet)
+  tabled_refused not_met = where_not (refused_by (has_its_table (table, v)) refl not_met)

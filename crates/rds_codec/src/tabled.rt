@@ -19,7 +19,7 @@ use crate::answers::Answer;
 use crate::certificates::{certificate_length, put_certificate, read_certificate};
 use crate::limits::room_for;
 use rds_bytes::{
-    NumberedKeys, Table, measure_dots, number_keys, numbered_counters_length,
+    NumberedKeys, TableKeys, measure_dots, number_keys, numbered_counters_length,
     numbered_lives_length, put_byte, put_dots, put_numbered, put_table, read_dots,
     read_keyed_counters, read_keyed_live_rows, read_replica, read_table, table_length,
 };
@@ -30,20 +30,20 @@ use rds_names::{Fault, Key};
 use rds_state::State;
 use std::alloc::{AllocError, Global};
 
-/// The dots, the live rows and the counters, by the numbers of a table; and the table, after their keys were met.
+/// The dots, the live rows and the counters, by the numbers of a table, whose keys note what was met of them.
 #[tactic(auto, unfolding(crate::specs::TabledTexts::body_at))]
 fn read_body<'a, S: DotSet>(
     alloc: Global,
-    table: &mut Table,
+    keys: &mut TableKeys<'_>,
     replicas: u16,
     bytes: &'a [u8],
 ) -> Result<(State<S>, &'a [u8]), Fault>
-    ensures read { Reads (λ x. (x.0, x.1.now)) result (body_at (numbered_at table.old.keys) replicas bytes.now) }
-    ensures met { IfOk result (λ x. table.new ≡ fold meeting table.old (keys_in x.0)) }
+    ensures read { Reads (λ x. (x.0, x.1.now)) result (body_at (numbered_at keys.old.keys) replicas bytes.now) }
+    ensures met { IfOk result (λ x. keys.new ≡ fold meeting keys.old (keys_in x.0)) }
 {
     let (seen, rest) = read_dots::<S>(alloc, replicas, bytes)?;
-    let (rows, rest) = read_keyed_live_rows(alloc, table, &seen, rest)?;
-    let (counts, rest) = read_keyed_counters(alloc, table, replicas, rest)?;
+    let (rows, rest) = read_keyed_live_rows(alloc, keys, &seen, rest)?;
+    let (counts, rest) = read_keyed_counters(alloc, keys, replicas, rest)?;
     let lives = Lives::with_rows(seen, rows);
     Ok((State::from_parts(lives, counts), rest))
 }
@@ -57,9 +57,10 @@ pub fn read_tabled<'a, S: DotSet>(
 ) -> Result<(State<S>, &'a [u8]), Fault>
     ensures { Reads (λ x. (x.0, x.1.now)) result (tabled_at replicas bytes.now) }
 {
-    let (mut table, rest) = read_table(alloc, bytes)?;
-    let (state, rest) = read_body::<S>(alloc, &mut table, replicas, rest)?;
-    if !table.is_met() {
+    let (table, rest) = read_table(alloc, bytes)?;
+    let mut keys = table.keys(Some(0));
+    let (state, rest) = read_body::<S>(alloc, &mut keys, replicas, rest)?;
+    if !keys.is_met() {
         return Err(Fault::Bad);
     }
     Ok((state, rest))

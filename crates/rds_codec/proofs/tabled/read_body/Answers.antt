@@ -16,7 +16,7 @@ use Rattle.rds_codec.proofs.tabled.read_body.Goals as goal
 
 pub returns-in_err-counts-clause-read : goal.returns-in_err-counts-clause-read
 returns-in_err-counts-clause-read g c =
-    let table = c.args.table.now in
+    let table = c.args.keys.now in
     let p = err_from_is_err_and c.from_residual-in_err-counts.result c.from_residual-in_err-counts.ensures.1 in
     let same : c.read_keyed_live_rows.new.keys.keys ≡ table.keys = ap (λ t. t.keys) c.in_ok-rows.ensures.after ∙ rows_keep c.in_ok-rows.rows.items table in
     let fails = subst (λ (keys : List (List ℕ)). Fails c.in_err-counts.field-0.0 (keyed_counters_at (numbered_at keys) c.args.replicas c.in_ok-rows.rest.now)) same c.in_err-counts.ensures.read in
@@ -24,7 +24,7 @@ returns-in_err-counts-clause-read g c =
 
 pub returns-clause-read : goal.returns-clause-read
 returns-clause-read g c =
-    let table = c.args.table.now in
+    let table = c.args.keys.now in
     let v : StateValue = c.from_parts.result in
     let same : c.read_keyed_live_rows.new.keys.keys ≡ table.keys = ap (λ t. t.keys) c.in_ok-rows.ensures.after ∙ rows_keep c.in_ok-rows.rows.items table in
     let counts = subst (λ (keys : List (List ℕ)). keyed_counters_at (numbered_at keys) c.args.replicas c.in_ok-rows.rest.now ≡ Ok (c.in_ok-counts.counts, c.in_ok-counts.rest.now)) same c.in_ok-counts.ensures.read in
@@ -34,7 +34,7 @@ returns-clause-read g c =
 
 pub returns-clause-met : goal.returns-clause-met
 returns-clause-met g c =
-    let table = c.args.table.now in
+    let table = c.args.keys.now in
     let v : StateValue = c.from_parts.result in
     let live : c.in_ok-rows.rows.items ≡ live_rows v.lives = sym c.with_rows-lives.ensures.live ∙ ap live_rows (sym c.from_parts.ensures.lives) in
     let counts : c.in_ok-counts.counts ≡ v.counts = sym c.from_parts.ensures.counts in
