@@ -1,15 +1,17 @@
--- The text of a replica without components is short.
-use Rattle.std.proofs.Common.{filter_map, ◌≡◌, ℕ, ◌≤◌, inl, inr, false, List, [], length, refl, sym, ◌∙◌, ap, arith}
+-- The text of a replica without components is short, in each format.
+use Rattle.std.proofs.Common.{filter_map, ◌≡◌, ℕ, ◌+◌, ◌≤◌, inl, inr, false, List, [], length, refl, sym, ◌∙◌, ap, arith}
 use Rattle.std.specs.Prelude.{is_some}
 use Rattle.std.proofs.lemmas.List.{nil_from_length}
 use Rattle.std.specs.List.{flat_map}
 use Rattle.std.specs.FinMap as map
 use Rattle.std.specs.FinSet as set
+use Rattle.rds_names.specs.declared.entry.Entry.{Entry}
 use Rattle.rds_names.specs.declared.fault.Fault.{Fault}
 use Rattle.rds_names.specs.declared.fault.Fault.TheVariants.{Memory}
 use Rattle.rds_counts.specs.Counted.{Above, Counted}
 use Rattle.rds_counts.specs.Place.{Place, place_cmp}
-use Rattle.rds_counts.specs.RowsOf.{rows_of}
+use Rattle.rds_counts.specs.declared.row.CountRow.{CountRow}
+use Rattle.rds_counts.specs.RowsOf.{count_rows, rows_of}
 use Rattle.rds_dots.specs.declared.dot.Dot.{Dot}
 use Rattle.rds_dots.specs.declared.dot.Run.{Run}
 use Rattle.rds_dots.specs.Dots.{dot_cmp}
@@ -20,10 +22,15 @@ use Rattle.rds_life.proofs.Views.{contains-seen_of}
 use Rattle.rds_state.specs.Fits.{ReplicaValue}
 use Rattle.rds_state.specs.Value.{StateValue}
 use Rattle.rds_bytes.specs.DotRows.{rows_from}
-use Rattle.rds_bytes.specs.Spelling.{dot_rows_text, dots_text, live_row_text, count_rows_text, counters_text, member_text}
+use Rattle.rds_bytes.specs.Spelling.{dot_rows_text, dots_text, live_row_text, keyed_live_rows_text, count_rows_text, keyed_count_rows_text, counters_text, keyed_counters_text, member_text}
+use Rattle.rds_bytes.specs.Table.{table_of, rows_table}
+use Rattle.rds_bytes.specs.TableTexts.{table_text, number_text}
+use Rattle.rds_codec.specs.FormatTexts.{tabled_snapshot_text}
 use Rattle.rds_codec.specs.StateTexts.{state_text, snapshot_text}
 use Rattle.rds_codec.specs.Writing.{IsUnwritten}
 use Rattle.rds_codec.specs.declared.limits.TheConstants.{LIMIT}
+use Rattle.rds_codec.specs.TabledTexts.{table_in, tabled_text}
+use Rattle.rds_codec.proofs.TabledWritten.{numbered_rows_text, numbered_counters_text, tabled_length, tabled_snapshot_length}
 use Rattle.rds_codec.proofs.Texts.{state_length, snapshot_length}
 
 none_seen : (d : Dot) → set.contains (seen_of map.empty) d ≡ false
@@ -54,10 +61,48 @@ empty_length v lives counts =
     sym (state_length v 2 0 4 (sym (ap (λ (l : Lived). length (dots_text (seen_of l))) lives ∙ no_dots))
     (sym (ap (λ (l : Lived). length (flat_map live_row_text (live_rows l))) lives ∙ no_live)) (sym (ap (λ (m : Counted). length (counters_text m)) counts ∙ no_counters)))
 
+-- ---- in format 2
+
+no_rows : live_rows map.empty ≡ []
+no_rows = ap (λ (es : List (Dot × Life)). filter_map (λ x. live_row x.0 x.1) es) no_lives
+
+no_count_rows : count_rows map.empty ≡ []
+no_count_rows = ap rows_of no_counts
+
+-- the table of no keys, no rows and no rows of counters
+nothing_length : length (table_text (rows_table [] [])) + length (keyed_live_rows_text (number_text (rows_table [] [])) []) + length (keyed_count_rows_text (number_text (rows_table [] [])) []) ≡ 12
+unfolding table_of table_text
+nothing_length = refl
+
+abbrev lengths : List (Dot × Entry) → List CountRow → ℕ
+lengths rows counts =
+    length (table_text (rows_table rows counts)) + length (keyed_live_rows_text (number_text (rows_table rows counts)) rows) + length (keyed_count_rows_text (number_text (rows_table rows counts)) counts)
+
+lengths_are : (v : StateValue) → length (table_text (table_in v)) + length (numbered_rows_text v) + length (numbered_counters_text v) ≡ lengths (live_rows v.lives) (count_rows v.counts)
+unfolding keyed_counters_text
+lengths_are v = refl
+
+empty_tabled_length : (v : StateValue) → v.lives ≡ map.empty → v.counts ≡ map.empty → length (tabled_text v) ≡ 14
+empty_tabled_length v lives counts =
+    let whole = tabled_length v in
+    let dots = ap (λ (l : Lived). length (dots_text (seen_of l))) lives ∙ no_dots in
+    let rows = ap live_rows lives ∙ no_rows in
+    let counted = ap count_rows counts ∙ no_count_rows in
+    let rest = lengths_are v ∙ (λ i. lengths (rows i) (counted i)) ∙ nothing_length in
+    omega (arith, whole, dots, rest)
+
+-- ---- a snapshot
+
 pub small_snapshot : (v : ReplicaValue) → length (member_text v.roster v.own) ≤ 4420 → v.state.lives ≡ map.empty → v.state.counts ≡ map.empty → length (snapshot_text v) ≤ LIMIT
 small_snapshot v few lives counts =
     let whole = snapshot_length v in
     let state = empty_length v.state lives counts in
+    omega (arith, few, whole, state)
+
+pub small_tabled_snapshot : (v : ReplicaValue) → length (member_text v.roster v.own) ≤ 4420 → v.state.lives ≡ map.empty → v.state.counts ≡ map.empty → length (tabled_snapshot_text v) ≤ LIMIT
+small_tabled_snapshot v few lives counts =
+    let whole = tabled_snapshot_length v in
+    let state = empty_tabled_length v.state lives counts in
     omega (arith, few, whole, state)
 
 -- a text within the limit wants nothing but memory

@@ -1,5 +1,6 @@
 -- The keys that a state uses.
-use Rattle.std.proofs.Common.{◌≡◌, ℕ, true, List, [], ◌∷◌, ◌++◌, refl, sym, ap, subst, ◌∙◌, map as each}
+use Rattle.std.proofs.Common.{◌≡◌, ℕ, Bool, true, false, ◌||◌, List, [], ◌∷◌, ◌++◌, refl, sym, ap, subst, ◌∙◌, map as each}
+use Rattle.std.specs.Str.{bytes_eq}
 use Rattle.std.specs.List.{AllByRecursion, flat_map, list_all}
 use Rattle.std.proofs.lemmas.List.Concat.{flat_map-cons}
 use Rattle.rds_names.specs.Conditions.{and_true, and_left, and_right}
@@ -11,9 +12,11 @@ use Rattle.rds_counts.specs.Counted.{Counted}
 use Rattle.rds_counts.specs.RowsOf.{count_rows}
 use Rattle.rds_counts.specs.RowsOfLemmas.{count_rows-counts_of}
 use Rattle.rds_state.specs.Value.{StateValue}
+use Rattle.rds_bytes.specs.Table.{has_key, AreIn}
+use Rattle.rds_bytes.proofs.TableLaws.{same_key, head_has, table_has}
 use Rattle.rds_bytes.specs.Values.{is_key_text, IsKeyText, HasKeys, HasKey, IsLiveRow, IsCountRowOf, AreCountsOf}
 use Rattle.rds_codec.specs.StateTexts.{IsStateOf}
-use Rattle.rds_codec.specs.TabledTexts.{keys_in}
+use Rattle.rds_codec.specs.TabledTexts.{keys_in, table_in}
 
 -- each key of its rows is such a key
 pub record HasStateKeys (IsKey : List ℕ → Type 0) (v : StateValue) : Type 0 where
@@ -92,3 +95,21 @@ keys_are_texts replicas v is =
     path_text (keys_in v)
     (keys_have IsKeyText v
     (record { rows = text_rows (live_rows v.lives) is.entries; counts = text_counts replicas (count_rows v.counts) (counts_are replicas v.counts is.counts) }))
+
+-- ---- they are text where those of the table are
+
+had_by : (b : Bool) (k x : List ℕ) (xs : List (List ℕ)) → bytes_eq k x ≡ b → IsKeyText x → (has_key xs k ≡ true → IsKeyText k) → (b || has_key xs k) ≡ true → IsKeyText k
+had_by true k x xs e text later h = subst IsKeyText (sym (same_key k x e)) text
+had_by false k x xs e text later h = later h
+
+had_is_text : (table : List (List ℕ)) → AllByRecursion IsKeyText table → (k : List ℕ) → has_key table k ≡ true → IsKeyText k
+had_is_text [] texts k h = absurd cc
+had_is_text (x ∷ xs) texts k h =
+    had_by (bytes_eq k x) k x xs refl texts.0 (had_is_text xs texts.1 k) (sym (head_has (bytes_eq k x) x xs k refl) ∙ h)
+
+all_had : (table : List (List ℕ)) → AllByRecursion IsKeyText table → (keys : List (List ℕ)) → AreIn table keys → AllByRecursion IsKeyText keys
+all_had table texts [] h = tt
+all_had table texts (k ∷ keys) h = (had_is_text table texts k h.0, all_had table texts keys h.1)
+
+pub by_table : (v : StateValue) → AllByRecursion IsKeyText (table_in v) → HasStateKeys IsKeyText v
+by_table v texts = rows_have IsKeyText v (all_had (table_in v) texts (keys_in v) (table_has (keys_in v)))

@@ -1,13 +1,15 @@
 -- The texts of format 2, part after part.
 use Rattle.std.proofs.Common.{◌≡◌, ℕ, ◌+◌, List, ◌++◌, length, ap, ◌∙◌, append_assoc, length-append, arith}
 use Rattle.rds_life.specs.Life.{seen_of, live_rows}
+use Rattle.rds_state.specs.Fits.{ReplicaValue}
 use Rattle.rds_state.specs.Value.{StateValue}
-use Rattle.rds_bytes.specs.Spelling.{byte_text, dots_text, keyed_live_rows_text, keyed_counters_text}
+use Rattle.rds_bytes.specs.Spelling.{byte_text, member_text, dots_text, keyed_live_rows_text, keyed_counters_text}
 use Rattle.rds_bytes.specs.TableTexts.{table_text, number_text}
 use Rattle.rds_bytes.proofs.Sequences.{three_lengths, three_added}
 use Rattle.rds_codec.specs.AnswerValues.{AnswerValue}
 use Rattle.rds_codec.specs.CertificateTexts.{certificate_text}
-use Rattle.rds_codec.specs.FormatTexts.{tabled_answer_text}
+use Rattle.rds_codec.specs.FormatTexts.{magic_of, tabled_answer_text, tabled_snapshot_text}
+use Rattle.rds_codec.specs.declared.formats.Format.TheVariants.{Two}
 use Rattle.rds_codec.specs.TabledTexts.{table_in, body_text, tabled_text}
 
 -- the live rows and the counters, by the numbers of the keys
@@ -46,3 +48,13 @@ tabled_answer_length a = three_lengths (byte_text a.asker) (tabled_text a.state)
 pub tabled_answer_parts : (v : AnswerValue) (a b c d : List ℕ) → b ≡ a ++ byte_text v.asker → c ≡ b ++ tabled_text v.state → d ≡ c ++ certificate_text v.certificate → d ≡ a ++ tabled_answer_text v
 unfolding tabled_answer_text
 tabled_answer_parts v a b c d p q r = three_added a b c d (byte_text v.asker) (tabled_text v.state) (certificate_text v.certificate) p q r
+
+-- ---- a snapshot
+
+pub tabled_snapshot_length : (v : ReplicaValue) → length (tabled_snapshot_text v) ≡ 4 + length (member_text v.roster v.own) + length (tabled_text v.state)
+unfolding tabled_snapshot_text
+tabled_snapshot_length v = three_lengths (magic_of Two) (member_text v.roster v.own) (tabled_text v.state)
+
+pub tabled_snapshot_parts : (v : ReplicaValue) (a b c d : List ℕ) → b ≡ a ++ magic_of Two → c ≡ b ++ member_text v.roster v.own → d ≡ c ++ tabled_text v.state → d ≡ a ++ tabled_snapshot_text v
+unfolding tabled_snapshot_text
+tabled_snapshot_parts v a b c d p q r = three_added a b c d (magic_of Two) (member_text v.roster v.own) (tabled_text v.state) p q r

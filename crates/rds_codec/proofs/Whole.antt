@@ -1,5 +1,7 @@
 -- From reading a text at the front to decoding all of the bytes, for each kind of text.
 use Rattle.std.proofs.Common.{rules, ◌≡◌, ◌≢◌, ℕ, ◌<◌, ◌≤◌, ◌⊎◌, inl, inr, false, cond, eqb, List, [], ◌∷◌, ◌++◌, length, Result, Ok, Err, refl, sym, ap, ◌∙◌, subst, arith, length-append}
+use Rattle.std.specs.Prelude.{IfOk, OnOk, MatchResult}
+use Rattle.std.specs.Global.{Vec}
 use Rattle.std.proofs.lemmas.Bool.{eqb-true}
 use Rattle.std.proofs.lemmas.List.{append-nil, nil_from_length}
 use Rattle.rds_names.specs.declared.fault.Fault.{Fault}
@@ -147,3 +149,9 @@ pub text_again : {V : Type 0} (kind : Kind V) (reader : Reader V) → IsReaderOf
 text_again kind reader laws v is within =
     let got : reader (kind.text v) ≡ Ok (v, []) = ap reader (sym (append-nil (kind.text v))) ∙ laws.again v [] is within in
     rw got refl
+
+-- what has a value's text is read as this value
+pub is_read_again : {V : Type 0} (kind : Kind V) (reader : Reader V) → IsReaderOf kind reader → (v : V) (result : Result (Vec ℕ) Fault) (E : Fault → Type 0) → OnOk result (kind.is_value v)
+    → MatchResult result (λ b. (b.items ≡ kind.text v) × (length (kind.text v) ≤ LIMIT)) E → IfOk result (λ b. all_of reader b.items ≡ Ok v)
+is_read_again kind reader laws v (Ok b) E is h = rw h.0 (text_again kind reader laws v is h.1)
+is_read_again kind reader laws v (Err e) E is h = tt

@@ -1,19 +1,26 @@
-//! The formats of texts that hold a state, and states and answers in each.
-ghost use Rattle.std.specs.Prelude.{◌≡◌, ◌≤◌};
-ghost use Rattle.rds_bytes.specs.Reading.{Reads};
+//! The formats of texts that hold a state, and states, answers and snapshots in each.
+ghost use Rattle.std.specs.Prelude.{◌≡◌, ◌≤◌, Ok, IfOk, IfErr};
+ghost use Rattle.std.specs.FinMap as map;
+ghost use Rattle.rds_names.specs.declared.fault.Fault.TheVariants.{Memory};
+ghost use Rattle.rds_bytes.specs.Reading.{Reads, ReadsExactly};
 ghost use Rattle.rds_codec.specs.Decoding.{Decodes, ReadsAll, all_of};
 ghost use Rattle.rds_codec.specs.AnswerTexts.{answer};
-ghost use Rattle.rds_codec.specs.FormatTexts.{state_text_in, state_at_in, state_kind_in, answer_text_in, answer_at_in, answer_kind_in};
+ghost use Rattle.rds_codec.specs.FormatTexts.{state_text_in, state_at_in, state_kind_in, answer_text_in, answer_at_in, answer_kind_in, format_at, snapshot_text_in, snapshot_in_at, snapshot_kind_in};
 ghost use Rattle.rds_codec.specs.FormatWriting.{EncodesIn};
 
 use crate::answers::{Answer, encode_answer, read_answer};
 use crate::limits::LIMIT;
+use crate::snapshots::text_of_snapshot;
 use crate::states::{encode_state, read_state};
-use crate::tabled::{encode_tabled, encode_tabled_answer, read_tabled, read_tabled_answer};
+use crate::tabled::{
+    TABLED_MAGIC, encode_tabled, encode_tabled_answer, encode_tabled_snapshot, read_tabled,
+    read_tabled_answer,
+};
+use rds_bytes::{MAGIC, read_member};
 use rds_delta::Certificate;
 use rds_dots::DotSet;
 use rds_names::Fault;
-use rds_state::State;
+use rds_state::{Replica, State};
 use std::alloc::Global;
 
 /// How the keys of a state are written.
@@ -151,5 +158,88 @@ pub fn encode_answer_in<S: DotSet>(
     match format {
         Format::One => encode_answer(alloc, asker, state, certificate),
         Format::Two => encode_tabled_answer(alloc, asker, state, certificate),
+    }
+}
+
+/// The format that the four bytes in front of a snapshot say.
+#[tactic(auto, unfolding(crate::specs::FormatTexts::format_at))]
+fn read_format(bytes: &[u8]) -> Result<(Format, &[u8]), Fault>
+    ensures { ReadsExactly (λ x. (x.0, x.1.now)) result (format_at bytes.now) }
+{
+    if bytes.len() < 4 {
+        return Err(Fault::Cut);
+    }
+    let (front, rest) = bytes.split_at(4);
+    if front == MAGIC.as_slice() {
+        return Ok((Format::One, rest));
+    }
+    if front == TABLED_MAGIC.as_slice() {
+        return Ok((Format::Two, rest));
+    }
+    Err(Fault::Bad)
+}
+
+/// A snapshot in either format, and which it is.
+#[tactic(auto, unfolding(crate::specs::FormatTexts::snapshot_in_at, crate::specs::FormatTexts::member_state_at))]
+fn read_snapshot_in<S: DotSet>(
+    alloc: Global,
+    bytes: &[u8],
+) -> Result<((Format, Replica<S>), &[u8]), Fault>
+    ensures { Reads (λ x. (x.0, x.1.now)) result (snapshot_in_at bytes.now) }
+{
+    let (format, rest) = read_format(bytes)?;
+    let ((roster, own), rest) = read_member(alloc, rest)?;
+    let (state, rest) = read_state_in(alloc, format, roster.len(), rest)?;
+    match Replica::from_parts(roster, own, state) {
+        Ok(replica) => Ok(((format, replica), rest)),
+        Err(_) => Err(Fault::Bad),
+    }
+}
+
+fn read_all_of_snapshot<S: DotSet>(
+    alloc: Global,
+    bytes: &[u8],
+) -> Result<(Format, Replica<S>), Fault>
+    ensures { Reads (λ x. x) result (all_of snapshot_in_at bytes.now) }
+{
+    let (snapshot, rest) = read_snapshot_in(alloc, bytes)?;
+    if !rest.is_empty() {
+        return Err(Fault::Extra);
+    }
+    Ok(snapshot)
+}
+
+/// The replica whose snapshot the bytes are, and the format that it is in, which the first four bytes say. Refused are
+/// bytes as [`decode_snapshot`](crate::decode_snapshot) refuses them, and in format 2 also as
+/// [`decode_state_in`](crate::decode_state_in) does.
+pub fn decode_snapshot_with_format<S: DotSet>(
+    alloc: Global,
+    bytes: &[u8],
+) -> Result<(Format, Replica<S>), Fault>
+    ensures text { Decodes snapshot_kind_in bytes.now result }
+    ensures read { ReadsAll snapshot_in_at bytes.now result }
+{
+    if LIMIT < bytes.len() {
+        return Err(Fault::TooLong);
+    }
+    read_all_of_snapshot(alloc, bytes)
+}
+
+/// The text of the replica's snapshot in a format. It is refused as that of the state is
+/// ([`encode_state_in`](crate::encode_state_in)). All of the text, read again, is this very replica in this format.
+/// Nothing but want of memory hinders that of a replica without components.
+pub fn encode_snapshot_in<S: DotSet>(
+    alloc: Global,
+    format: Format,
+    replica: &Replica<S>,
+) -> Result<Vec<u8>, Fault>
+    ensures text { EncodesIn format (snapshot_text_in format replica.now) result }
+    ensures again { IfOk result (λ bytes. all_of snapshot_in_at bytes.items ≡ Ok (format, replica.now)) }
+    ensures small { replica.now.state.lives ≡ map.empty → replica.now.state.counts ≡ map.empty
+        → IfErr result (λ fault. fault ≡ Memory) }
+{
+    match format {
+        Format::One => text_of_snapshot(alloc, replica),
+        Format::Two => encode_tabled_snapshot(alloc, replica),
     }
 }

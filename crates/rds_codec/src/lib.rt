@@ -28,7 +28,10 @@ pub use certificates::{
 };
 pub use digests::{decode_digest, digests_have_texts, encode_digest};
 pub use exchanges::{answer, ask, pull, take_certified};
-pub use formats::{Format, decode_answer_in, decode_state_in, encode_answer_in, encode_state_in};
+pub use formats::{
+    Format, decode_answer_in, decode_snapshot_with_format, decode_state_in, encode_answer_in,
+    encode_snapshot_in, encode_state_in,
+};
 pub use hellos::{Hello, VERSION, decode_hello, encode_hello, hellos_have_texts, read_hello};
 pub use laws::{
     decoding_has_one_result, decoding_has_one_result_in_each_format, formats_are_read_again,

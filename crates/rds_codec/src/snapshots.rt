@@ -1,5 +1,5 @@
 //! The text of a snapshot: the roster, the replica's own number, and its state.
-ghost use Rattle.std.specs.Prelude.{◌≡◌, ◌≤◌, length, Ok, IfOk, IfErr};
+ghost use Rattle.std.specs.Prelude.{◌≡◌, ◌≤◌, length, Ok, IfOk, IfErr, OnOk};
 ghost use Rattle.std.specs.FinMap as map;
 ghost use Rattle.rds_names.specs.declared.fault.Fault.TheVariants.{Memory};
 ghost use Rattle.rds_codec.specs.Decoding.{Decodes, ReadsAll, all_of};
@@ -85,6 +85,19 @@ fn put_snapshot<S: DotSet>(
     put_state(out, replica.state(), rows)
 }
 
+/// The text of the replica's snapshot, as [`encode_snapshot`] gives it, and that it is one which is read again.
+pub fn text_of_snapshot<S: DotSet>(alloc: Global, replica: &Replica<S>) -> Result<Vec<u8>, Fault>
+    ensures text { Encodes (snapshot_text replica.now) result }
+    ensures small { replica.now.state.lives ≡ map.empty → replica.now.state.counts ≡ map.empty
+        → IfErr result (λ fault. fault ≡ Memory) }
+    ensures value { OnOk result (IsSnapshot replica.now) }
+{
+    let (rows, length) = measure(replica);
+    let mut out = room_for(alloc, length)?;
+    put_snapshot(&mut out, replica, rows)?;
+    Ok(out)
+}
+
 /// The text of the replica's snapshot. Above the limit it is refused (`TooLong`) before any memory is taken;
 /// then all memory that the text needs is taken at once. All of the text, read again, is this very replica. Nothing
 /// but want of memory hinders that of a replica without components.
@@ -94,10 +107,7 @@ pub fn encode_snapshot<S: DotSet>(alloc: Global, replica: &Replica<S>) -> Result
     ensures small { replica.now.state.lives ≡ map.empty → replica.now.state.counts ≡ map.empty
         → IfErr result (λ fault. fault ≡ Memory) }
 {
-    let (rows, length) = measure(replica);
-    let mut out = room_for(alloc, length)?;
-    put_snapshot(&mut out, replica, rows)?;
-    Ok(out)
+    text_of_snapshot(alloc, replica)
 }
 
 /// The text of a replica's snapshot is read again, and that of a replica without components is within the limit. The

@@ -1,5 +1,6 @@
 //! The text of a state in format 2: a table of its keys, and then its parts, which have the keys by their numbers.
-ghost use Rattle.std.specs.Prelude.{◌≡◌, ◌≤◌, ◌^◌, IfOk, IfErr, fold, length, map as each};
+ghost use Rattle.std.specs.Prelude.{◌≡◌, ℕ, ◌≤◌, ◌^◌, IfOk, IfErr, OnOk, fold, length, map as each};
+ghost use Rattle.std.specs.FinMap as map;
 ghost use Rattle.rds_names.specs.declared.fault.Fault.TheVariants.{Memory};
 ghost use Rattle.rds_dots.specs.Runs.{runs_of};
 ghost use Rattle.rds_life.specs.Life.{seen_of};
@@ -10,24 +11,27 @@ ghost use Rattle.rds_bytes.specs.TableTexts.{numbered_at};
 ghost use Rattle.rds_bytes.specs.TableValue.{meeting};
 ghost use Rattle.rds_bytes.specs.Writing.{Adds};
 ghost use Rattle.rds_codec.specs.AnswerTexts.{answer};
-ghost use Rattle.rds_codec.specs.FormatTexts.{tabled_answer_at, tabled_answer_text};
+ghost use Rattle.rds_codec.specs.FormatTexts.{tabled_answer_at, tabled_answer_text, tabled_snapshot_text};
 ghost use Rattle.rds_codec.specs.FormatWriting.{EncodesTabled};
+ghost use Rattle.rds_codec.specs.StateTexts.{IsStateOf, IsSnapshot};
 ghost use Rattle.rds_codec.specs.TabledTexts.{keys_in, table_in, body_at, tabled_at, tabled_text};
 ghost use Rattle.rds_codec.specs.declared.limits.TheConstants.{LIMIT};
+ghost use Rattle.rds_state.specs.Fits.{Fits};
+ghost use Rattle.rds_state.specs.Value.{coordinates};
 
 use crate::answers::Answer;
 use crate::certificates::{certificate_length, put_certificate, read_certificate};
 use crate::limits::room_for;
 use rds_bytes::{
-    NumberedKeys, TableKeys, measure_dots, number_keys, numbered_counters_length,
-    numbered_lives_length, put_byte, put_dots, put_numbered, put_table, read_dots,
+    NumberedKeys, TableKeys, measure_dots, member_length, number_keys, numbered_counters_length,
+    numbered_lives_length, put_byte, put_dots, put_member, put_numbered, put_table, read_dots,
     read_keyed_counters, read_keyed_live_rows, read_replica, read_table, table_length,
 };
 use rds_delta::Certificate;
 use rds_dots::DotSet;
 use rds_life::Lives;
 use rds_names::{Fault, Key};
-use rds_state::State;
+use rds_state::{Replica, State};
 use std::alloc::{AllocError, Global};
 
 /// The dots, the live rows and the counters, by the numbers of a table, whose keys note what was met of them.
@@ -82,13 +86,17 @@ fn measure_tabled<S: DotSet>(state: &State<S>, keys: &[Key]) -> (u16, u128)
     ensures rows { result.0 ≡ length (rows_from 0 (runs_of (seen_of state.now.lives))) }
     ensures length { result.1 ≡ length (tabled_text state.now) }
     ensures few { result.1 ≤ 2 ^ 101 }
+    ensures value { (replicas : ℕ) → Fits replicas (coordinates state.now) → IsStateOf replicas state.now }
 {
     let lives = state.lives();
+    let counts = state.counts();
+    // That the rows of counters are within their limits shows where they are at hand.
+    let _rows = counts.rows();
     let (rows, dots_length) = measure_dots(lives.seen());
     let live_length = numbered_lives_length(lives);
     (
         rows,
-        table_length(keys) + dots_length + live_length + numbered_counters_length(state.counts()),
+        table_length(keys) + dots_length + live_length + numbered_counters_length(counts),
     )
 }
 
@@ -191,5 +199,60 @@ pub fn encode_tabled_answer<S: DotSet>(
     let (rows, length) = measure_tabled_answer(asker, state, &numbered.keys, certificate);
     let mut out = room_for(alloc, length)?;
     put_tabled_answer(&mut out, asker, state, rows, &numbered, certificate)?;
+    Ok(out)
+}
+
+/// What a snapshot of format 2 begins with.
+pub const TABLED_MAGIC: &[u8; 4] = b"RDS2";
+
+/// The number of rows of the seen dots, and the length of the text, whose table has these keys.
+fn measure_tabled_snapshot<S: DotSet>(replica: &Replica<S>, keys: &[Key]) -> (u16, u128)
+    requires { keys.now ≡ table_in replica.now.state }
+    ensures rows { result.0 ≡ length (rows_from 0 (runs_of (seen_of replica.now.state.lives))) }
+    ensures length { result.1 ≡ length (tabled_snapshot_text replica.now) }
+    ensures small { replica.now.state.lives ≡ map.empty → replica.now.state.counts ≡ map.empty
+        → length (tabled_snapshot_text replica.now) ≤ LIMIT }
+    ensures value { IsSnapshot replica.now }
+{
+    let (rows, state_length) = measure_tabled(replica.state(), keys);
+    (
+        rows,
+        4 + member_length(replica.roster(), replica.own()) as u128 + state_length,
+    )
+}
+
+/// The bytes in front, the roster and the own number, and the state.
+fn put_tabled_snapshot<S: DotSet>(
+    out: &mut Vec<u8>,
+    replica: &Replica<S>,
+    rows: u16,
+    numbered: &NumberedKeys,
+) -> Result<(), AllocError>
+    requires rows { rows ≡ length (rows_from 0 (runs_of (seen_of replica.now.state.lives))) }
+    requires keys { numbered.now.keys.items ≡ table_in replica.now.state }
+    requires numbers { numbered.now.numbers.items
+        ≡ each (number_of (table_in replica.now.state)) (keys_in replica.now.state) }
+    requires within { length (tabled_snapshot_text replica.now) ≤ LIMIT }
+    ensures { Adds out.old.items out.new.items (tabled_snapshot_text replica.now) result }
+{
+    out.extend_from_slice(TABLED_MAGIC)?;
+    put_member(out, replica.roster(), replica.own())?;
+    put_tabled(out, replica.state(), rows, numbered)
+}
+
+/// The text of the replica's snapshot, and that it is one which is read again. Memory is taken as for that of the state.
+pub fn encode_tabled_snapshot<S: DotSet>(
+    alloc: Global,
+    replica: &Replica<S>,
+) -> Result<Vec<u8>, Fault>
+    ensures text { EncodesTabled (tabled_snapshot_text replica.now) result }
+    ensures small { replica.now.state.lives ≡ map.empty → replica.now.state.counts ≡ map.empty
+        → IfErr result (λ fault. fault ≡ Memory) }
+    ensures value { OnOk result (IsSnapshot replica.now) }
+{
+    let numbered = number_state(alloc, replica.state())?;
+    let (rows, length) = measure_tabled_snapshot(replica, &numbered.keys);
+    let mut out = room_for(alloc, length)?;
+    put_tabled_snapshot(&mut out, replica, rows, &numbered)?;
     Ok(out)
 }

@@ -1,10 +1,18 @@
-use Rattle.std.proofs.Common.{ℕ, ◌+◌, List, length, ap, sym, ◌∙◌}
+use Rattle.std.proofs.Common.{◌≡◌, ℕ, ◌<◌, ◌+◌, List, length, ap, sym, subst, ◌∙◌}
+use Rattle.std.specs.FinSet as set
+use Rattle.std.specs.List.{AllByRecursion}
+use Rattle.rds_dots.specs.declared.dot.Dot.{Dot}
 use Rattle.rds_dots.specs.Dots.{Dots}
 use Rattle.rds_life.specs.Life.{Lived, seen_of, live_rows}
-use Rattle.rds_counts.specs.Counted.{Counted}
+use Rattle.rds_counts.specs.declared.row.CountRow.{CountRow}
+use Rattle.rds_counts.specs.Counted.{Counted, counts_of}
+use Rattle.rds_counts.specs.RowsOf.{count_rows}
 use Rattle.rds_bytes.specs.Spelling.{dots_text, keyed_live_rows_text, keyed_counters_text}
 use Rattle.rds_bytes.specs.TableTexts.{table_text, number_text}
+use Rattle.rds_bytes.specs.Values.{IsKeyText, IsKeyed, IsLiveRow}
 use Rattle.rds_codec.specs.TabledTexts.{table_in}
+use Rattle.rds_codec.proofs.HaveTexts.{are_counts_of, is_state_of}
+use Rattle.rds_codec.proofs.StateKeys.{by_table}
 use Rattle.rds_codec.proofs.TabledWritten.{tabled_length}
 use Rattle.rds_codec.proofs.tabled.measure_tabled.Goals as goal
 
@@ -15,5 +23,18 @@ returns-clause-length g c =
     let table = c.table_length.ensures.length ∙ ap (λ (keys : List (List ℕ)). length (table_text keys)) c.requires in
     let dots = c.measure_dots-rows.ensures.length ∙ ap (λ (s : Dots). length (dots_text s)) (c.seen.ensures ∙ ap seen_of c.lives-lives.ensures) in
     let rows = c.numbered_lives_length-live_length.ensures.length (table_in v) ∙ ap (λ (l : Lived). length (keyed_live_rows_text key (live_rows l))) c.lives-lives.ensures in
-    let counts = c.numbered_counters_length.ensures.length (table_in v) ∙ ap (λ (m : Counted). length (keyed_counters_text key m)) c.counts.ensures in
+    let counts = c.numbered_counters_length.ensures.length (table_in v) ∙ ap (λ (m : Counted). length (keyed_counters_text key m)) c.counts-counts.ensures in
     (λ i. table i + dots i + rows i + counts i) ∙ sym (tabled_length v)
+
+pub returns-clause-value : goal.returns-clause-value
+returns-clause-value g c =
+    let v = c.args.state.now in
+    let seen = c.seen.ensures ∙ ap seen_of c.lives-lives.ensures in
+    let rows = c.rows-rows.result.now in
+    let value = sym c.counts-counts.ensures ∙ c.rows-rows.ensures.value in
+    let only : count_rows v.counts ≡ rows = sym (c.rows-rows.ensures.only ∙ ap count_rows c.counts-counts.ensures) in
+    let texts = subst (AllByRecursion IsKeyText) c.requires c.table_length.ensures.texts in
+    is_state_of v
+    (λ d h. g.met.S.DotSet.within c.seen.result.now d (ap (λ (s : Dots). set.contains s d) seen ∙ h))
+    (subst (λ (l : Lived). AllByRecursion IsLiveRow (live_rows l)) c.lives-lives.ensures c.numbered_lives_length-live_length.ensures.are_entries)
+    (are_counts_of v.counts rows c.rows-rows.ensures.are_rows value (subst (AllByRecursion IsKeyed) only (by_table v texts).counts))
