@@ -1,6 +1,7 @@
 -- States and answers in each format are what their readers read.
-use Rattle.std.specs.Prelude.{ℕ}
-use Rattle.rds_codec.specs.FormatTexts.{state_kind_in, state_at_in, answer_kind_in, answer_at_in}
+use Rattle.std.proofs.Common.{◌≡◌, ℕ, refl}
+use Rattle.rds_codec.specs.AnswerTexts.{answer_at, answer_with_at}
+use Rattle.rds_codec.specs.FormatTexts.{state_kind_in, state_at_in, answer_kind_in, answer_at_in, tabled_answer_at}
 use Rattle.rds_codec.specs.declared.formats.Format.{Format}
 use Rattle.rds_codec.specs.declared.formats.Format.TheVariants.{One, Two}
 use Rattle.rds_codec.proofs.AnswerFormats.{answer_reader}
@@ -16,3 +17,9 @@ state_in_reader Two = tabled_reader
 pub answer_in_reader : (format : Format) (replicas : ℕ) → IsReaderOf (answer_kind_in format replicas) (answer_at_in format replicas)
 answer_in_reader One = answer_reader
 answer_in_reader Two = tabled_answer_reader
+
+-- an answer in a format is its parts, with the delta in it
+pub answer_in_parts : (format : Format) (replicas : ℕ) → answer_with_at (state_at_in format replicas) replicas ≡ answer_at_in format replicas
+unfolding answer_at tabled_answer_at
+answer_in_parts One replicas = refl
+answer_in_parts Two replicas = refl

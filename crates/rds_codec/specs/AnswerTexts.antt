@@ -22,9 +22,13 @@ AnswerParts = ℕ × (StateValue × List Row)
 abbrev pub answer_by : AnswerParts → AnswerValue
 answer_by p = answer p.0 p.1.0 p.1.1
 
+-- for a reader of the delta
+abbrev pub answer_with_at : Reader StateValue → ℕ → Reader AnswerValue
+answer_with_at state replicas =
+    made_at answer_by (pair_at (replica_at replicas) (pair_at state (certificate_at replicas)))
+
 unfoldable pub answer_at : ℕ → Reader AnswerValue
-answer_at replicas =
-    made_at answer_by (pair_at (replica_at replicas) (pair_at (state_at replicas) (certificate_at replicas)))
+answer_at replicas = answer_with_at (state_at replicas) replicas
 
 -- the asker is one of so many replicas, and so are those of the parts
 pub record IsAnswerOf (replicas : ℕ) (a : AnswerValue) : Type 0 where

@@ -4,11 +4,11 @@ use Rattle.std.specs.Str.{bytes_eq}
 use Rattle.rds_names.specs.Roster.{RosterValue}
 use Rattle.rds_state.specs.Fits.{ReplicaValue}
 use Rattle.rds_state.specs.Value.{StateValue}
-use Rattle.rds_bytes.specs.Reading.{Reader, then_at, pair_at, made_at, drawn_at, bytes_at, replica_at, member_at}
+use Rattle.rds_bytes.specs.Reading.{Reader, then_at, made_at, drawn_at, bytes_at, member_at}
 use Rattle.rds_bytes.specs.Spelling.{byte_text, member_text}
-use Rattle.rds_codec.specs.AnswerTexts.{IsAnswerOf, answer_by, answer_text, answer_at}
+use Rattle.rds_codec.specs.AnswerTexts.{IsAnswerOf, answer_text, answer_with_at, answer_at}
 use Rattle.rds_codec.specs.AnswerValues.{AnswerValue}
-use Rattle.rds_codec.specs.CertificateTexts.{certificate_text, certificate_at}
+use Rattle.rds_codec.specs.CertificateTexts.{certificate_text}
 use Rattle.rds_codec.specs.Kinds.{Kind}
 use Rattle.rds_codec.specs.StateTexts.{IsSnapshot, IsStateOf, snapshot_by, snapshot_text, state_at, state_text}
 use Rattle.rds_codec.specs.TabledTexts.{tabled_at, tabled_text}
@@ -40,8 +40,7 @@ answer_text_in One = answer_text
 answer_text_in Two = tabled_answer_text
 
 unfoldable pub tabled_answer_at : ℕ → Reader AnswerValue
-tabled_answer_at replicas =
-    made_at answer_by (pair_at (replica_at replicas) (pair_at (tabled_at replicas) (certificate_at replicas)))
+tabled_answer_at replicas = answer_with_at (tabled_at replicas) replicas
 
 abbrev pub answer_at_in : Format → ℕ → Reader AnswerValue
 answer_at_in One = answer_at

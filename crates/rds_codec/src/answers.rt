@@ -10,17 +10,18 @@ ghost use Rattle.rds_dots.specs.Runs.{runs_of};
 ghost use Rattle.rds_life.specs.Life.{seen_of};
 ghost use Rattle.rds_codec.specs.AnswerTexts.{IsAnswerOf, answer, answer_text, answer_at, answer_kind};
 ghost use Rattle.rds_codec.specs.CertificateTexts.{RowFits};
-ghost use Rattle.rds_codec.specs.Decoding.{Decodes, ReadsAll, all_of};
+ghost use Rattle.rds_codec.specs.Decoding.{Decodes, ReadsAll};
 ghost use Rattle.rds_bytes.specs.DotRows.{rows_from};
-ghost use Rattle.rds_bytes.specs.Reading.{Reads};
 ghost use Rattle.rds_bytes.specs.Values.{AreDotsOf};
 ghost use Rattle.rds_codec.specs.Writing.{Encodes};
 ghost use Rattle.rds_bytes.specs.Writing.{Adds};
+ghost use Rattle.rds_codec.specs.declared.limits.TheConstants.{LIMIT};
 
-use crate::certificates::{certificate_length, put_certificate, read_certificate};
-use crate::limits::{LIMIT, room_for};
-use crate::states::{measure_state, put_state, read_state};
-use rds_bytes::{put_byte, read_replica};
+use crate::certificates::{certificate_length, put_certificate};
+use crate::formats::{Format, decode_answer_in};
+use crate::limits::room_for;
+use crate::states::{measure_state, put_state};
+use rds_bytes::put_byte;
 use rds_delta::Certificate;
 use rds_dots::DotSet;
 use rds_names::Fault;
@@ -49,36 +50,6 @@ impl<S: DotSet> Model for Answer<S> {
     ghost view = { λ a. record { asker = a.asker; state = a.state; certificate = a.certificate } };
 }
 
-/// An answer of so many replicas.
-#[tactic(auto, unfolding(crate::specs::AnswerTexts::answer_at))]
-pub fn read_answer<'a, S: DotSet>(
-    alloc: Global,
-    replicas: u16,
-    bytes: &'a [u8],
-) -> Result<(Answer<S>, &'a [u8]), Fault>
-    ensures { Reads (λ x. (x.0, x.1.now)) result (answer_at replicas bytes.now) }
-{
-    let (asker, rest) = read_replica(replicas, bytes)?;
-    let (state, rest) = read_state(alloc, replicas, rest)?;
-    let (certificate, rest) = read_certificate(alloc, replicas, rest)?;
-    let answer = Answer {
-        asker,
-        state,
-        certificate,
-    };
-    Ok((answer, rest))
-}
-
-fn read_all<S: DotSet>(alloc: Global, replicas: u16, bytes: &[u8]) -> Result<Answer<S>, Fault>
-    ensures { Reads (λ x. x) result (all_of (answer_at replicas) bytes.now) }
-{
-    let (answer, rest) = read_answer(alloc, replicas, bytes)?;
-    if !rest.is_empty() {
-        return Err(Fault::Extra);
-    }
-    Ok(answer)
-}
-
 /// The answer whose text the bytes are, of a roster of so many replicas. Whether its certificate is that of its
 /// delta isn't judged: that is what `check` does.
 ///
@@ -93,10 +64,7 @@ pub fn decode_answer<S: DotSet>(
     ensures text { Decodes (answer_kind replicas) bytes.now result }
     ensures read { ReadsAll (answer_at replicas) bytes.now result }
 {
-    if LIMIT < bytes.len() {
-        return Err(Fault::TooLong);
-    }
-    read_all(alloc, replicas, bytes)
+    decode_answer_in(alloc, Format::One, replicas, bytes)
 }
 
 /// The number of rows of the delta's seen dots, and the length of the text.

@@ -4,19 +4,19 @@ ghost use Rattle.std.specs.FinMap as map;
 ghost use Rattle.rds_names.specs.declared.fault.Fault.TheVariants.{Memory};
 ghost use Rattle.rds_bytes.specs.Reading.{Reads, ReadsExactly};
 ghost use Rattle.rds_codec.specs.Decoding.{Decodes, ReadsAll, all_of};
-ghost use Rattle.rds_codec.specs.AnswerTexts.{answer};
+ghost use Rattle.rds_codec.specs.AnswerTexts.{answer, answer_with_at};
 ghost use Rattle.rds_codec.specs.FormatTexts.{state_text_in, state_at_in, state_kind_in, answer_text_in, answer_at_in, answer_kind_in, format_at, snapshot_text_in, snapshot_in_at, snapshot_kind_in};
 ghost use Rattle.rds_codec.specs.FormatWriting.{EncodesIn};
 
-use crate::answers::{Answer, encode_answer, read_answer};
+use crate::answers::{Answer, encode_answer};
+use crate::certificates::read_certificate;
 use crate::limits::LIMIT;
 use crate::snapshots::text_of_snapshot;
 use crate::states::{encode_state, read_state};
 use crate::tabled::{
     TABLED_MAGIC, encode_tabled, encode_tabled_answer, encode_tabled_snapshot, read_tabled,
-    read_tabled_answer,
 };
-use rds_bytes::{MAGIC, read_member};
+use rds_bytes::{MAGIC, read_member, read_replica};
 use rds_delta::Certificate;
 use rds_dots::DotSet;
 use rds_names::Fault;
@@ -95,19 +95,24 @@ pub fn encode_state_in<S: DotSet>(
     }
 }
 
-/// An answer of so many replicas, in a format.
+/// An answer of so many replicas, whose delta is in a format.
 fn read_answer_in<'a, S: DotSet>(
     alloc: Global,
     format: Format,
     replicas: u16,
     bytes: &'a [u8],
 ) -> Result<(Answer<S>, &'a [u8]), Fault>
-    ensures { Reads (λ x. (x.0, x.1.now)) result (answer_at_in format replicas bytes.now) }
+    ensures { Reads (λ x. (x.0, x.1.now)) result (answer_with_at (state_at_in format replicas) replicas bytes.now) }
 {
-    match format {
-        Format::One => read_answer(alloc, replicas, bytes),
-        Format::Two => read_tabled_answer(alloc, replicas, bytes),
-    }
+    let (asker, rest) = read_replica(replicas, bytes)?;
+    let (state, rest) = read_state_in(alloc, format, replicas, rest)?;
+    let (certificate, rest) = read_certificate(alloc, replicas, rest)?;
+    let answer = Answer {
+        asker,
+        state,
+        certificate,
+    };
+    Ok((answer, rest))
 }
 
 fn read_all_of_answer<S: DotSet>(
@@ -116,7 +121,7 @@ fn read_all_of_answer<S: DotSet>(
     replicas: u16,
     bytes: &[u8],
 ) -> Result<Answer<S>, Fault>
-    ensures { Reads (λ x. x) result (all_of (answer_at_in format replicas) bytes.now) }
+    ensures { Reads (λ x. x) result (all_of (answer_with_at (state_at_in format replicas) replicas) bytes.now) }
 {
     let (answer, rest) = read_answer_in(alloc, format, replicas, bytes)?;
     if !rest.is_empty() {

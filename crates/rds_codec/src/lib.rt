@@ -1,6 +1,6 @@
 //! The texts of values, format 1, and what is asked, answered and taken by them. All numbers are big-endian, a
-//! value has one text, and no text of a kind begins another. States and answers have a text of format 2 too, which has
-//! their keys by the numbers of a table.
+//! value has one text, and no text of a kind begins another. States, answers and snapshots have a text of format 2 too,
+//! which has their keys by the numbers of a table.
 //!
 //! To be read in this order: `limits`; the kinds of texts, `states`, `snapshots`, `digests`, `certificates`, `answers`
 //! and `hellos`; `tabled`, which has format 2, and `formats`, which has both; `exchanges`, which brings texts from one

@@ -2,7 +2,7 @@
 ghost use Rattle.std.specs.Prelude.{◌≡◌, ℕ, ◌≤◌, ◌^◌, length};
 ghost use Rattle.rds_dots.specs.Runs.{runs_of};
 ghost use Rattle.rds_life.specs.Life.{seen_of};
-ghost use Rattle.rds_codec.specs.Decoding.{Decodes, ReadsAll, all_of};
+ghost use Rattle.rds_codec.specs.Decoding.{Decodes, ReadsAll};
 ghost use Rattle.rds_codec.specs.Kinds.{state_kind};
 ghost use Rattle.rds_bytes.specs.DotRows.{rows_from};
 ghost use Rattle.rds_bytes.specs.Reading.{Reads};
@@ -12,8 +12,10 @@ ghost use Rattle.rds_state.specs.Fits.{Fits};
 ghost use Rattle.rds_state.specs.Value.{coordinates};
 ghost use Rattle.rds_codec.specs.Writing.{Encodes};
 ghost use Rattle.rds_bytes.specs.Writing.{Adds};
+ghost use Rattle.rds_codec.specs.declared.limits.TheConstants.{LIMIT};
 
-use crate::limits::{LIMIT, room_for};
+use crate::formats::{Format, decode_state_in};
+use crate::limits::room_for;
 use rds_bytes::{
     counters_length, live_rows_length, measure_dots, put_counters, put_dots, put_live_rows,
     read_counters, read_dots, read_live_rows,
@@ -74,16 +76,6 @@ pub fn put_state<S: DotSet>(
     put_counters(out, state.counts())
 }
 
-fn read_all<S: DotSet>(alloc: Global, replicas: u16, bytes: &[u8]) -> Result<State<S>, Fault>
-    ensures { Reads (λ x. x) result (all_of (state_at replicas) bytes.now) }
-{
-    let (state, rest) = read_state(alloc, replicas, bytes)?;
-    if !rest.is_empty() {
-        return Err(Fault::Extra);
-    }
-    Ok(state)
-}
-
 /// The state whose text the bytes are, where the roster has so many replicas. Refused are bytes as
 /// [`decode_snapshot`](crate::decode_snapshot) refuses them; a replica's number that isn't below the roster's
 /// length is `Bad`.
@@ -95,10 +87,7 @@ pub fn decode_state<S: DotSet>(
     ensures text { Decodes (state_kind replicas) bytes.now result }
     ensures read { ReadsAll (state_at replicas) bytes.now result }
 {
-    if LIMIT < bytes.len() {
-        return Err(Fault::TooLong);
-    }
-    read_all(alloc, replicas, bytes)
+    decode_state_in(alloc, Format::One, replicas, bytes)
 }
 
 /// The text of the state. Above the limit it is refused (`TooLong`) before any memory is taken; then all memory

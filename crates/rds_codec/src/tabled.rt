@@ -11,7 +11,7 @@ ghost use Rattle.rds_bytes.specs.TableTexts.{numbered_at};
 ghost use Rattle.rds_bytes.specs.TableValue.{meeting};
 ghost use Rattle.rds_bytes.specs.Writing.{Adds};
 ghost use Rattle.rds_codec.specs.AnswerTexts.{answer};
-ghost use Rattle.rds_codec.specs.FormatTexts.{tabled_answer_at, tabled_answer_text, tabled_snapshot_text};
+ghost use Rattle.rds_codec.specs.FormatTexts.{tabled_answer_text, tabled_snapshot_text};
 ghost use Rattle.rds_codec.specs.FormatWriting.{EncodesTabled};
 ghost use Rattle.rds_codec.specs.StateTexts.{IsStateOf, IsSnapshot};
 ghost use Rattle.rds_codec.specs.TabledTexts.{keys_in, table_in, body_at, tabled_at, tabled_text};
@@ -19,13 +19,12 @@ ghost use Rattle.rds_codec.specs.declared.limits.TheConstants.{LIMIT};
 ghost use Rattle.rds_state.specs.Fits.{Fits};
 ghost use Rattle.rds_state.specs.Value.{coordinates};
 
-use crate::answers::Answer;
-use crate::certificates::{certificate_length, put_certificate, read_certificate};
+use crate::certificates::{certificate_length, put_certificate};
 use crate::limits::room_for;
 use rds_bytes::{
     NumberedKeys, TableKeys, measure_dots, member_length, number_keys, numbered_counters_length,
     numbered_lives_length, put_byte, put_dots, put_member, put_numbered, put_table, read_dots,
-    read_keyed_counters, read_keyed_live_rows, read_replica, read_table, table_length,
+    read_keyed_counters, read_keyed_live_rows, read_table, table_length,
 };
 use rds_delta::Certificate;
 use rds_dots::DotSet;
@@ -129,26 +128,6 @@ pub fn encode_tabled<S: DotSet>(alloc: Global, state: &State<S>) -> Result<Vec<u
     let mut out = room_for(alloc, length)?;
     put_tabled(&mut out, state, rows, &numbered)?;
     Ok(out)
-}
-
-/// An answer of so many replicas, whose delta has its keys by the numbers of a table.
-#[tactic(auto, unfolding(crate::specs::FormatTexts::tabled_answer_at))]
-pub fn read_tabled_answer<'a, S: DotSet>(
-    alloc: Global,
-    replicas: u16,
-    bytes: &'a [u8],
-) -> Result<(Answer<S>, &'a [u8]), Fault>
-    ensures { Reads (λ x. (x.0, x.1.now)) result (tabled_answer_at replicas bytes.now) }
-{
-    let (asker, rest) = read_replica(replicas, bytes)?;
-    let (state, rest) = read_tabled(alloc, replicas, rest)?;
-    let (certificate, rest) = read_certificate(alloc, replicas, rest)?;
-    let answer = Answer {
-        asker,
-        state,
-        certificate,
-    };
-    Ok((answer, rest))
 }
 
 /// The number of rows of the delta's seen dots, and the length of the text, whose table has these keys.
