@@ -1,8 +1,4 @@
-use Rattle.std.proofs.Common.{sym, subst, ◌≡◌, Ok}
-use Rattle.std.specs.Prelude.{IfOk}
-use Rattle.rds_codec.specs.Decoding.{all_of}
 use Rattle.rds_codec.specs.FormatTexts.{snapshot_in_at, snapshot_kind_in}
-use Rattle.rds_codec.specs.declared.formats.Format.{Format}
 use Rattle.rds_codec.specs.declared.formats.Format.TheVariants.{One, Two}
 use Rattle.rds_codec.proofs.BothSnapshots.{snapshot_in_reader}
 use Rattle.rds_codec.proofs.Whole.{is_read_again}

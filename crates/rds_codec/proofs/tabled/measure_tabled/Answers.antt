@@ -1,11 +1,9 @@
-use Rattle.std.proofs.Common.{◌≡◌, ℕ, ◌<◌, ◌+◌, List, length, ap, sym, subst, ◌∙◌}
+use Rattle.std.proofs.Common.{◌≡◌, ℕ, ◌+◌, List, length, ap, sym, subst, ◌∙◌}
 use Rattle.std.specs.FinSet as set
 use Rattle.std.specs.List.{AllByRecursion}
-use Rattle.rds_dots.specs.declared.dot.Dot.{Dot}
 use Rattle.rds_dots.specs.Dots.{Dots}
 use Rattle.rds_life.specs.Life.{Lived, seen_of, live_rows}
-use Rattle.rds_counts.specs.declared.row.CountRow.{CountRow}
-use Rattle.rds_counts.specs.Counted.{Counted, counts_of}
+use Rattle.rds_counts.specs.Counted.{Counted}
 use Rattle.rds_counts.specs.RowsOf.{count_rows}
 use Rattle.rds_bytes.specs.Spelling.{dots_text, keyed_live_rows_text, keyed_counters_text}
 use Rattle.rds_bytes.specs.TableTexts.{table_text, number_text}
