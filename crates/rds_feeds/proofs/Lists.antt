@@ -1,8 +1,9 @@
 -- Rows that are added to a value are those of a list.
-use Rattle.std.proofs.Common.{◌≡◌, ℕ, zero, suc, List, [], ◌∷◌, ◌++◌, Result, Ok, Err, refl, ap, ◌∙◌}
+use Rattle.std.proofs.Common.{◌≡◌, ℕ, zero, suc, List, [], ◌∷◌, ◌++◌, Option, Result, Ok, Err, refl, ap, ◌∙◌}
 use Rattle.std.specs.Int.{Width}
 use Rattle.rds_names.specs.declared.fault.Fault.{Fault}
 use Rattle.rds_bytes.specs.Reading.{◌>>=◌, Reader, made_at, rows_after, list_at, number_at}
+use Rattle.rds_feeds.specs.Numbered.{with_met}
 use Rattle.rds_feeds.specs.Parts.{makes}
 use Rattle.rds_feeds.specs.Rows.{times, many}
 
@@ -63,6 +64,36 @@ module _ {A R : Type 0} (reader : R → List A → Reader A) (r : R) where
   pub listed : (width : Width) (bytes : List ℕ)
       → many width (λ (l : R × List A). made_at (with_row l) (reader l.0 l.1)) (r, []) bytes ≡ made_at (λ rows. (r, rows)) (list_at (number_at width) (reader r)) bytes
   listed width bytes = many_are_list (reader r) (λ l. made_at (with_row l) (reader l.0 l.1)) (λ rows. (r, rows)) (λ before bytes. refl) width bytes
+
+-- what is made in two steps is made in one
+module _ {A B C : Type 0} (g : B → C) (f : A → B) where
+  abbrev first_made : A × List ℕ → Result (B × List ℕ) Fault
+  first_made a = Ok (f a.0, a.1)
+
+  abbrev then_second : B × List ℕ → Result (C × List ℕ) Fault
+  then_second b = Ok (g b.0, b.1)
+
+  abbrev both_made : A × List ℕ → Result (C × List ℕ) Fault
+  both_made a = Ok (g (f a.0), a.1)
+
+  twice : (x : Result (A × List ℕ) Fault) → ((x >>= first_made) >>= then_second) ≡ (x >>= both_made)
+  twice (Ok a) = refl
+  twice (Err e) = refl
+
+  pub made_twice : (reader : Reader A) (bytes : List ℕ) → made_at g (made_at f reader) bytes ≡ made_at (λ a. g (f a)) reader bytes
+  made_twice reader bytes = twice (reader bytes)
+
+-- rows in a list, beside what reads them; each is read with what it meets
+module _ {A R : Type 0} (reader : R → List A → Reader A) (met_by : R → List A → Option ℕ) (r : R) where
+  abbrev with_read : R × List A → A × Option ℕ → R × List A
+  with_read l x = (l.0, l.1 ++ x.0 ∷ [])
+
+  abbrev next_met : R × List A → Reader (R × List A)
+  next_met l = made_at (with_read l) (made_at (with_met (met_by l.0) l.1) (reader l.0 l.1))
+
+  pub met_listed : (width : Width) (bytes : List ℕ) → many width next_met (r, []) bytes ≡ made_at (λ rows. (r, rows)) (list_at (number_at width) (reader r)) bytes
+  met_listed width bytes =
+      many_are_list (reader r) next_met (λ rows. (r, rows)) (λ before bytes. made_twice (with_read (r, before)) (with_met (met_by r) before) (reader r before) bytes) width bytes
 
 -- what is made of rows beside what reads them is made of the rows
 module _ {A R V : Type 0} (make : R × List A → V) (reader : Reader (List A)) (r : R) where

@@ -1,8 +1,10 @@
 pub mod Chained
 pub mod CountRows
 pub mod LiveRows
+pub mod Numbered
 pub mod Parts
 pub mod Pieces
 pub mod Rows
 pub mod SeenDots
+pub mod TableKeys
 pub mod WasRead

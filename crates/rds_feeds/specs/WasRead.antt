@@ -1,5 +1,5 @@
 -- What is known of a part that was read.
-use Rattle.std.proofs.Common.{◌≡◌, ℕ, ◌<◌, ◌≤◌, inl, inr, Bool, true, cond, leb, ltb, List, Option, Result, Ok, Err, sym, ap, subst, ◌∙◌}
+use Rattle.std.proofs.Common.{◌≡◌, ℕ, ◌<◌, ◌≤◌, inl, inr, Bool, true, cond, leb, ltb, List, Option, Some, None, Result, Ok, Err, sym, ap, subst, ◌∙◌}
 use Rattle.std.specs.Prelude.{nat_le}
 use Rattle.std.specs.Int.{w32, w64}
 use Rattle.std.proofs.lemmas.Bool.{leb-true, ltb-true}
@@ -9,8 +9,8 @@ use Rattle.rds_names.specs.Conditions.{and_left, and_right}
 use Rattle.rds_dots.specs.declared.dot.TheConstants.{MAX_SEQ}
 use Rattle.rds_bytes.specs.declared.dots.Gap.{Gap}
 use Rattle.rds_bytes.specs.declared.dot_rows.RowHead.{RowHead}
-use Rattle.rds_bytes.specs.Reading.{◌>>=◌, Reader, then_at, pair_at, made_at, when_at, number_at, byte_at, is_between, is_end, is_next_replica, least_lo, gap_by, gap_at, row_head_by, row_head_at}
-use Rattle.rds_bytes.proofs.Format.{bind_ok, chosen, ok_is}
+use Rattle.rds_bytes.specs.Reading.{◌>>=◌, Reader, then_at, pair_at, made_at, or_bad, drawn_at, when_at, number_at, byte_at, is_between, is_end, is_next_replica, least_lo, gap_by, gap_at, row_head_by, row_head_at}
+use Rattle.rds_bytes.proofs.Format.{bind_ok, chosen, failed, ok_is}
 
 -- one part, and another after it
 pub record AreRead {A B : Type 0} (f : Reader A) (g : A → Reader B) (bytes : List ℕ) (p : A × B) (rest : List ℕ) : Type 0 where
@@ -49,6 +49,15 @@ made_read {A} {B} make f bytes b rest e =
     let x = bind_ok (f bytes) (made_of make) (b, rest) e in
     let q : (make x.0.0, x.0.1) ≡ (b, rest) = ok_is _ _ x.2 in
     (x.0.0, x.1 ∙ ap (λ (r : List ℕ). Ok (x.0.0, r)) (ap (λ (z : B × List ℕ). z.1) q), ap (λ (z : B × List ℕ). z.0) q)
+
+drawn_is : {B : Type 0} (o : Option B) (rest : List ℕ) (x : B × List ℕ) → or_bad o rest ≡ Ok x → rest ≡ x.1
+drawn_is {B} None rest x e = absurd (let wrong : failed {A = B × List ℕ} Bad ≡ Ok x = e in cc)
+drawn_is {B} (Some b) rest x e = ap (λ (y : B × List ℕ). y.1) (ok_is {A = B × List ℕ} (b, rest) x e)
+
+pub drawn_read : {A B : Type 0} (make : A → Option B) (f : Reader A) (bytes : List ℕ) (b : B) (rest : List ℕ) → drawn_at make f bytes ≡ Ok (b, rest) → (a : A) × (f bytes ≡ Ok (a, rest))
+drawn_read {A} {B} make f bytes b rest e =
+    let x = bind_ok (f bytes) (λ a. or_bad (make a.0) a.1) (b, rest) e in
+    (x.0.0, x.1 ∙ ap (λ (r : List ℕ). Ok (x.0.0, r)) (drawn_is (make x.0.0) x.0.1 (b, rest) x.2))
 
 abbrev value_tested : {A : Type 0} → (A → Bool) → A × List ℕ → Result (A × List ℕ) Fault
 value_tested test a = cond (test a.0) (Ok a) (Err Bad)

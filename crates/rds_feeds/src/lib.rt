@@ -2,7 +2,7 @@
 //!
 //! To be read in this order: `unfinished`, what each kind promises, and `laws`, what follows from it; `once`, `many`,
 //! `then`, `made` and `beside`, the kinds; `listed`, rows that are kept in a list; `dots`, `lives` and `counters`, which
-//! are put together from these.
+//! are put together from these; `tables`, `meeting` and `numbered`, for rows whose keys are numbers of a table.
 #![tactic(auto)]
 
 mod beside;
@@ -13,7 +13,10 @@ mod listed;
 mod lives;
 mod made;
 mod many;
+mod meeting;
+mod numbered;
 mod once;
+mod tables;
 mod then;
 mod unfinished;
 
@@ -25,6 +28,12 @@ pub use listed::{Listed, RowReader, Rows, rows};
 pub use lives::{UnfinishedLives, UnfinishedSeen, unfinished_lives, unfinished_seen};
 pub use made::{Made, Making};
 pub use many::{CountWidth, Many, Repeating};
+pub use meeting::{MeetingReader, MeetingRows, MetRows, meeting_rows};
+pub use numbered::{
+    NumberedLives, NumberedParts, UnfinishedNumberedCounters, UnfinishedNumberedLives,
+    unfinished_numbered_counters, unfinished_numbered_lives,
+};
 pub use once::{Once, Part};
+pub use tables::{UnfinishedTable, unfinished_table};
 pub use then::{Following, Then};
 pub use unfinished::{Progress, Unfinished};
