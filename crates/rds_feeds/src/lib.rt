@@ -2,7 +2,8 @@
 //!
 //! To be read in this order: `unfinished`, what each kind promises, and `laws`, what follows from it; `once`, `many`,
 //! `then`, `made` and `beside`, the kinds; `listed`, rows that are kept in a list; `dots`, `lives` and `counters`, which
-//! are put together from these; `tables`, `meeting` and `numbered`, for rows whose keys are numbers of a table.
+//! are put together from these. For rows whose keys are numbers of a table: `tables`, the table; `meeting`, rows beside
+//! what they meet of it; `numbered`, lives and counters by it.
 #![tactic(auto)]
 
 mod beside;
@@ -28,7 +29,6 @@ pub use listed::{Listed, RowReader, Rows, rows};
 pub use lives::{UnfinishedLives, UnfinishedSeen, unfinished_lives, unfinished_seen};
 pub use made::{Made, Making};
 pub use many::{CountWidth, Many, Repeating};
-pub use meeting::{MeetingReader, MeetingRows, MetRows, meeting_rows};
 pub use numbered::{
     NumberedLives, NumberedParts, UnfinishedNumberedCounters, UnfinishedNumberedLives,
     unfinished_numbered_counters, unfinished_numbered_lives,

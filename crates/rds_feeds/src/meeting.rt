@@ -1,8 +1,7 @@
 //! Rows whose keys are numbers of a table, kept in one list beside what they met of it.
-ghost use Rattle.std.specs.Prelude.{◌≡◌, ℕ, List, [], ◌∷◌, ◌++◌, Option, Result, IfOk, IfErr};
+ghost use Rattle.std.specs.Prelude.{◌≡◌, ℕ, List, [], ◌∷◌, ◌++◌, Option, Result};
 ghost use Rattle.std.specs.Int.{w32};
 ghost use Rattle.rds_names.specs.declared.fault.Fault.{Fault};
-ghost use Rattle.rds_names.specs.declared.fault.Fault.TheVariants.{Memory};
 ghost use Rattle.rds_bytes.specs.Reading.{Reads, made_at, list_at, number_at};
 ghost use Rattle.rds_bytes.specs.Steady.{IsSteady};
 ghost use Rattle.rds_bytes.specs.SteadyLaws.{made_steady};

@@ -1,5 +1,5 @@
 //! Lives and counters whose keys are numbers of a table, read row by row.
-ghost use Rattle.std.specs.Prelude.{◌≡◌, ℕ, List, [], ◌∷◌, ◌++◌, true, false, MatchOption, IfSome, Ok};
+ghost use Rattle.std.specs.Prelude.{◌≡◌, ℕ, List, true, false, MatchOption, IfSome, Ok};
 ghost use Rattle.rds_life.specs.Life.{AreRows, lives_of, live_rows};
 ghost use Rattle.rds_counts.specs.Counted.{AreCountRows, counts_of};
 ghost use Rattle.rds_counts.specs.RowsOf.{count_rows};
@@ -10,7 +10,7 @@ ghost use Rattle.rds_bytes.specs.Table.{live_keys, used_keys};
 ghost use Rattle.rds_bytes.specs.TableTexts.{numbered_at};
 ghost use Rattle.rds_feeds.specs.CountRows.{no_count_rows, numbered_counts_go_on};
 ghost use Rattle.rds_feeds.specs.LiveRows.{no_live_rows, keyed_rows_go_on};
-ghost use Rattle.rds_feeds.specs.Numbered.{met_of, keys_of, has_own_table};
+ghost use Rattle.rds_feeds.specs.Numbered.{met_of, has_own_table};
 
 use crate::made::{Made, Making};
 use crate::meeting::{MeetingReader, MeetingRows, MetRows, meeting_rows};

@@ -1,11 +1,7 @@
 //! A table of keys, which is read key by key.
-ghost use Rattle.std.specs.Prelude.{◌≡◌, ℕ, List, [], ◌∷◌, ◌++◌, Result, Ok, IfOk, IfErr};
-ghost use Rattle.rds_names.specs.declared.fault.Fault.{Fault};
-ghost use Rattle.rds_names.specs.declared.fault.Fault.TheVariants.{Memory};
-ghost use Rattle.rds_bytes.specs.Reading.{Reads};
+ghost use Rattle.std.specs.Prelude.{◌≡◌, ℕ, List, [], ◌∷◌, ◌++◌, Ok};
 ghost use Rattle.rds_bytes.specs.SteadyTables.{new_key_steady};
 ghost use Rattle.rds_bytes.specs.TableTexts.{new_key_at, table_at};
-ghost use Rattle.rds_feeds.specs.Parts.{WasRead};
 
 use crate::made::{Made, Making};
 use crate::many::{CountWidth, Many};
