@@ -15,8 +15,12 @@ use Rattle.rds_delta.specs.Digested.{DigestValue, IsInside}
 use Rattle.rds_bytes.specs.Reading.{◌>>=◌, Reader, then_at, pair_at, made_at, replica_at, dots_at, live_rows_at, counters_at}
 use Rattle.rds_codec.specs.StateTexts.{StateParts, state_by, state_at}
 use Rattle.rds_codec.specs.AnswerValues.{AnswerValue}
-use Rattle.rds_codec.specs.AnswerTexts.{answer, answer_at}
+use Rattle.rds_codec.specs.AnswerTexts.{answer, answer_by, answer_at}
 use Rattle.rds_codec.specs.CertificateTexts.{certificate_at}
+use Rattle.rds_codec.specs.FormatTexts.{state_at_in, tabled_answer_at, answer_at_in}
+use Rattle.rds_codec.specs.TabledTexts.{tabled_at}
+use Rattle.rds_codec.specs.declared.formats.Format.{Format}
+use Rattle.rds_codec.specs.declared.formats.Format.TheVariants.{One, Two}
 use Rattle.rds_codec.specs.DigestTexts.{DigestParts, digest_by, are_seen, live_dots_at, digest_at}
 use Rattle.rds_feeds.specs.LiveRows.{lives_by}
 use Rattle.rds_feeds.specs.Parts.{makes, RefusesValue}
@@ -236,13 +240,34 @@ module _ (replicas : ℕ) where
   abbrev answer_made : (ℕ × (StateValue × List Row)) × List ℕ → Result (AnswerValue × List ℕ) Fault
   answer_made = made_one answer_of
 
+  -- for any reader of its delta
+  answer_from : (whole state : Reader StateValue) (certificate : Reader (List Row)) (delta : Reader (StateValue × List Row)) (all : Reader (ℕ × (StateValue × List Row)))
+      → ((bytes : List ℕ) → state bytes ≡ whole bytes) → ((bytes : List ℕ) → certificate bytes ≡ certificate_at replicas bytes)
+      → ((bytes : List ℕ) → delta bytes ≡ pair_at state certificate bytes) → ((bytes : List ℕ) → all bytes ≡ pair_at asker_at delta bytes)
+      → (bytes : List ℕ) → makes all answer_of bytes ≡ made_at answer_by (pair_at (replica_at replicas) (pair_at whole (certificate_at replicas))) bytes
+  answer_from whole state certificate delta all first second third are bytes =
+      ap (λ (x : Result ((ℕ × (StateValue × List Row)) × List ℕ) Fault). x >>= answer_made)
+      (are bytes
+      ∙ pair_same asker_at (replica_at replicas) delta (pair_at whole (certificate_at replicas)) (λ b. same_part (replica_at replicas b))
+      (λ b. third b ∙ pair_same state whole certificate (certificate_at replicas) first second b) bytes)
+
   pub answer_read : (state : Reader StateValue) (certificate : Reader (List Row)) (delta : Reader (StateValue × List Row)) (all : Reader (ℕ × (StateValue × List Row)))
       → ((bytes : List ℕ) → state bytes ≡ state_at replicas bytes) → ((bytes : List ℕ) → certificate bytes ≡ certificate_at replicas bytes)
       → ((bytes : List ℕ) → delta bytes ≡ pair_at state certificate bytes) → ((bytes : List ℕ) → all bytes ≡ pair_at asker_at delta bytes)
       → (bytes : List ℕ) → makes all answer_of bytes ≡ answer_at replicas bytes
   unfolding answer_at
-  answer_read state certificate delta all first second third are bytes =
-      ap (λ (x : Result ((ℕ × (StateValue × List Row)) × List ℕ) Fault). x >>= answer_made)
-      (are bytes
-      ∙ pair_same asker_at (replica_at replicas) delta (pair_at (state_at replicas) (certificate_at replicas)) (λ b. same_part (replica_at replicas b))
-      (λ b. third b ∙ pair_same state (state_at replicas) certificate (certificate_at replicas) first second b) bytes)
+  answer_read = answer_from (state_at replicas)
+
+  tabled_answer_read : (state : Reader StateValue) (certificate : Reader (List Row)) (delta : Reader (StateValue × List Row)) (all : Reader (ℕ × (StateValue × List Row)))
+      → ((bytes : List ℕ) → state bytes ≡ tabled_at replicas bytes) → ((bytes : List ℕ) → certificate bytes ≡ certificate_at replicas bytes)
+      → ((bytes : List ℕ) → delta bytes ≡ pair_at state certificate bytes) → ((bytes : List ℕ) → all bytes ≡ pair_at asker_at delta bytes)
+      → (bytes : List ℕ) → makes all answer_of bytes ≡ tabled_answer_at replicas bytes
+  unfolding tabled_answer_at
+  tabled_answer_read = answer_from (tabled_at replicas)
+
+  pub answer_in_read : (format : Format) (state : Reader StateValue) (certificate : Reader (List Row)) (delta : Reader (StateValue × List Row)) (all : Reader (ℕ × (StateValue × List Row)))
+      → ((bytes : List ℕ) → state bytes ≡ state_at_in format replicas bytes) → ((bytes : List ℕ) → certificate bytes ≡ certificate_at replicas bytes)
+      → ((bytes : List ℕ) → delta bytes ≡ pair_at state certificate bytes) → ((bytes : List ℕ) → all bytes ≡ pair_at asker_at delta bytes)
+      → (bytes : List ℕ) → makes all answer_of bytes ≡ answer_at_in format replicas bytes
+  answer_in_read One = answer_read
+  answer_in_read Two = tabled_answer_read

@@ -19,8 +19,12 @@ use Rattle.rds_counts.specs.PlaceOrder.{place_total, place_exact}
 use Rattle.rds_counts.specs.Counted.{Above, number_from}
 use Rattle.rds_state.specs.Value.{StateValue, coordinates}
 use Rattle.rds_state.specs.Fits.{Fits, ReplicaValue, IsReplica}
+use Rattle.rds_bytes.specs.Reading.{◌>>=◌}
+use Rattle.rds_codec.specs.FormatTexts.{Snapshot}
 use Rattle.rds_codec.specs.StateTexts.{snapshot_by}
+use Rattle.rds_codec.specs.declared.formats.Format.{Format}
 use Rattle.rds_feeds.specs.Parts.{RefusesValue}
+use Rattle.rds_text_feeds.specs.Openings.{Opening, snapshot_of_parts}
 use Rattle.rds_text_feeds.specs.Replicas.{Member, is_within, is_replica, replica_of}
 
 or_left : (a b : Bool) → a ≡ true → (a || b) ≡ true
@@ -110,4 +114,24 @@ made_of_parts p v is same = made_replica p is ∙ (λ i. ok (record { roster = s
 pub no_replica : (p : Member × StateValue) → (IsReplica (snapshot_by p) → ⊥) → RefusesValue (replica_of p) Bad
 no_replica p other =
     let test : is_replica (snapshot_by p) ≡ false = is_none (snapshot_by p) other (is_replica (snapshot_by p)) refl in
+    inr (bad_is_not_cut, rw test refl)
+
+-- ---- what is made of an opening and a state
+
+abbrev beside_format : Format → ReplicaValue → Result Snapshot Fault
+beside_format f v = Ok (f, v)
+
+abbrev opened : Format → Result ReplicaValue Fault → Result Snapshot Fault
+opened f r = r >>= beside_format f
+
+pub opened_replica : (p : Opening × StateValue) → IsReplica (snapshot_by (p.0.1, p.1)) → snapshot_of_parts p ≡ Ok (p.0.0, snapshot_by (p.0.1, p.1))
+opened_replica p is = ap (opened p.0.0) (made_replica (p.0.1, p.1) is)
+
+pub opened_of_parts : (p : Opening × StateValue) (v : ReplicaValue) → IsReplica (snapshot_by (p.0.1, p.1)) → (v.roster ≡ p.0.1.0) × ((v.own ≡ p.0.1.1) × (v.state ≡ p.1))
+    → snapshot_of_parts p ≡ Ok (p.0.0, v)
+opened_of_parts p v is same = ap (opened p.0.0) (made_of_parts (p.0.1, p.1) v is same)
+
+pub none_opened : (p : Opening × StateValue) → (IsReplica (snapshot_by (p.0.1, p.1)) → ⊥) → RefusesValue (snapshot_of_parts p) Bad
+none_opened p other =
+    let test : is_replica (snapshot_by (p.0.1, p.1)) ≡ false = is_none (snapshot_by (p.0.1, p.1)) other (is_replica (snapshot_by (p.0.1, p.1))) refl in
     inr (bad_is_not_cut, rw test refl)

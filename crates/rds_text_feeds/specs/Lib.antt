@@ -1,1 +1,4 @@
+pub mod Either
+pub mod Openings
 pub mod Replicas
+pub mod Tabled

@@ -1,0 +1,10 @@
+use Rattle.rds_text_feeds.proofs.ReplicaTests.{opened_of_parts, none_opened}
+use Rattle.rds_text_feeds.proofs.snapshots_with_format.PartsAreSnapshotMakingTuple2OpenedState.make.Goals as goal
+
+pub returns-in-Ok-clause-ok : goal.returns-in-Ok-clause-ok
+returns-in-Ok-clause-ok g c =
+    let same = c.in-Ok.ensures.ok in
+    opened_of_parts c.args.whole c.in-Ok.replica c.in-Ok.ensures.exact (same.0, (same.1, same.2))
+
+pub returns-in-Err-clause-err : goal.returns-in-Err-clause-err
+returns-in-Err-clause-err g c = none_opened c.args.whole (λ is. c.in-Err.ensures.exact.1 is)
