@@ -1,6 +1,7 @@
 pub mod AnswerTexts
 pub mod AnswerValues
 pub mod CertificateTexts
+pub mod DecodedSnapshots
 pub mod Decoding
 pub mod DigestTexts
 pub mod Exchanged

@@ -5,6 +5,7 @@ ghost use Rattle.rds_names.specs.declared.fault.Fault.TheVariants.{Memory};
 ghost use Rattle.rds_bytes.specs.Reading.{Reads, ReadsExactly};
 ghost use Rattle.rds_codec.specs.Decoding.{Decodes, ReadsAll, all_of};
 ghost use Rattle.rds_codec.specs.AnswerTexts.{answer, answer_with_at};
+ghost use Rattle.rds_codec.specs.DecodedSnapshots.{DecodesSnapshot};
 ghost use Rattle.rds_codec.specs.FormatTexts.{state_text_in, state_at_in, state_kind_in, answer_text_in, answer_at_in, answer_kind_in, format_at, snapshot_text_in, snapshot_in_at, snapshot_kind_in};
 ghost use Rattle.rds_codec.specs.FormatWriting.{EncodesIn};
 
@@ -168,7 +169,7 @@ pub fn encode_answer_in<S: DotSet>(
 
 /// The format that the four bytes in front of a snapshot say.
 #[tactic(auto, unfolding(crate::specs::FormatTexts::format_at))]
-fn read_format(bytes: &[u8]) -> Result<(Format, &[u8]), Fault>
+pub fn read_format(bytes: &[u8]) -> Result<(Format, &[u8]), Fault>
     ensures { ReadsExactly (λ x. (x.0, x.1.now)) result (format_at bytes.now) }
 {
     if bytes.len() < 4 {
@@ -214,9 +215,12 @@ fn read_all_of_snapshot<S: DotSet>(
     Ok(snapshot)
 }
 
-/// The replica whose snapshot the bytes are, and the format that it is in, which the first four bytes say. Refused are
-/// bytes as [`decode_snapshot`](crate::decode_snapshot) refuses them, and in format 2 also as
-/// [`decode_state_in`](crate::decode_state_in) does.
+/// The replica whose snapshot the bytes are, and the format that it is in, which the first four bytes say.
+///
+/// They are read from the left, and each part is judged as soon as it is there. Refused are bytes above the
+/// limit (`TooLong`, before anything is read); bytes that go on after a text (`Extra`); and other bytes that are no
+/// text: `Cut` where they end inside a part, `Bad` where a part that is there is none. In format 2 the state is
+/// refused as [`decode_state_in`](crate::decode_state_in) does.
 pub fn decode_snapshot_with_format<S: DotSet>(
     alloc: Global,
     bytes: &[u8],
@@ -228,6 +232,15 @@ pub fn decode_snapshot_with_format<S: DotSet>(
         return Err(Fault::TooLong);
     }
     read_all_of_snapshot(alloc, bytes)
+}
+
+/// The replica whose snapshot the bytes are, in whichever format. Refused are bytes as [`decode_snapshot_with_format`]
+/// refuses them.
+pub fn decode_snapshot<S: DotSet>(alloc: Global, bytes: &[u8]) -> Result<Replica<S>, Fault>
+    ensures { DecodesSnapshot bytes.now result }
+{
+    let (_format, replica) = decode_snapshot_with_format(alloc, bytes)?;
+    Ok(replica)
 }
 
 /// The text of the replica's snapshot in a format. It is refused as that of the state is

@@ -29,8 +29,8 @@ pub use certificates::{
 pub use digests::{decode_digest, digests_have_texts, encode_digest};
 pub use exchanges::{answer, ask, pull, take_certified};
 pub use formats::{
-    Format, decode_answer_in, decode_snapshot_with_format, decode_state_in, encode_answer_in,
-    encode_snapshot_in, encode_state_in,
+    Format, decode_answer_in, decode_snapshot, decode_snapshot_with_format, decode_state_in,
+    encode_answer_in, encode_snapshot_in, encode_state_in, read_format,
 };
 pub use hellos::{Hello, VERSION, decode_hello, encode_hello, hellos_have_texts, read_hello};
 pub use laws::{
@@ -45,6 +45,6 @@ pub use rds_bytes::{
     read_gap, read_header, read_key, read_live_rows, read_member, read_name, read_replica,
     read_roster, read_row_head, read_scalar, readers_are_steady, rows_are_read_in_steps,
 };
-pub use snapshots::{decode_snapshot, encode_snapshot, snapshots_have_texts};
+pub use snapshots::{encode_snapshot, snapshots_have_texts};
 pub use states::{decode_state, encode_state, states_have_texts};
 pub use steady::{formats_are_read_steadily, texts_are_read_steadily};

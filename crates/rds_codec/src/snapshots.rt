@@ -1,11 +1,9 @@
-//! The text of a snapshot: the roster, the replica's own number, and its state.
+//! The text of a snapshot of format 1: the roster, the replica's own number, and its state.
 ghost use Rattle.std.specs.Prelude.{◌≡◌, ◌≤◌, length, Ok, IfOk, IfErr, OnOk};
 ghost use Rattle.std.specs.FinMap as map;
 ghost use Rattle.rds_names.specs.declared.fault.Fault.TheVariants.{Memory};
-ghost use Rattle.rds_codec.specs.Decoding.{Decodes, ReadsAll, all_of};
+ghost use Rattle.rds_codec.specs.Decoding.{all_of};
 ghost use Rattle.rds_bytes.specs.DotRows.{rows_from};
-ghost use Rattle.rds_codec.specs.Kinds.{snapshot_kind};
-ghost use Rattle.rds_bytes.specs.Reading.{Reads};
 ghost use Rattle.rds_codec.specs.StateTexts.{snapshot_at, snapshot_text, IsSnapshot};
 ghost use Rattle.rds_codec.specs.Writing.{Encodes};
 ghost use Rattle.rds_bytes.specs.Writing.{Adds};
@@ -13,49 +11,12 @@ ghost use Rattle.rds_dots.specs.Runs.{runs_of};
 ghost use Rattle.rds_life.specs.Life.{seen_of};
 
 use crate::limits::{LIMIT, room_for};
-use crate::states::{measure_state, put_state, read_state};
-use rds_bytes::{member_length, put_header, read_header};
+use crate::states::{measure_state, put_state};
+use rds_bytes::{member_length, put_header};
 use rds_dots::DotSet;
 use rds_names::Fault;
 use rds_state::Replica;
 use std::alloc::{AllocError, Global};
-
-#[tactic(auto, unfolding(crate::specs::StateTexts::snapshot_at))]
-fn read_snapshot<S: DotSet>(alloc: Global, bytes: &[u8]) -> Result<(Replica<S>, &[u8]), Fault>
-    ensures { Reads (λ x. (x.0, x.1.now)) result (snapshot_at bytes.now) }
-{
-    let ((roster, own), rest) = read_header(alloc, bytes)?;
-    let (state, rest) = read_state(alloc, roster.len(), rest)?;
-    match Replica::from_parts(roster, own, state) {
-        Ok(replica) => Ok((replica, rest)),
-        Err(_) => Err(Fault::Bad),
-    }
-}
-
-fn read_all<S: DotSet>(alloc: Global, bytes: &[u8]) -> Result<Replica<S>, Fault>
-    ensures { Reads (λ x. x) result (all_of snapshot_at bytes.now) }
-{
-    let (replica, rest) = read_snapshot(alloc, bytes)?;
-    if !rest.is_empty() {
-        return Err(Fault::Extra);
-    }
-    Ok(replica)
-}
-
-/// The replica whose snapshot the bytes are.
-///
-/// They are read from the left, and each part is judged as soon as it is there. Refused are bytes above the
-/// limit (`TooLong`, before anything is read); bytes that go on after a text (`Extra`); and other bytes that are no
-/// text: `Cut` where they end inside a part, `Bad` where a part that is there is none.
-pub fn decode_snapshot<S: DotSet>(alloc: Global, bytes: &[u8]) -> Result<Replica<S>, Fault>
-    ensures text { Decodes snapshot_kind bytes.now result }
-    ensures read { ReadsAll snapshot_at bytes.now result }
-{
-    if LIMIT < bytes.len() {
-        return Err(Fault::TooLong);
-    }
-    read_all(alloc, bytes)
-}
 
 /// The number of rows of the seen dots, and the length of the text.
 fn measure<S: DotSet>(replica: &Replica<S>) -> (u16, u128)
