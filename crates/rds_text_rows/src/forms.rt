@@ -1,9 +1,9 @@
 //! The forms of text.
 use rds_codec::{
     Answer, Format, decode_answer, decode_answer_in, decode_certificate, decode_digest,
-    decode_hello, decode_snapshot, decode_state, decode_state_in, encode_answer, encode_answer_in,
-    encode_certificate, encode_digest, encode_hello, encode_snapshot, encode_state,
-    encode_state_in,
+    decode_hello, decode_snapshot, decode_snapshot_with_format, decode_state, decode_state_in,
+    encode_answer, encode_answer_in, encode_certificate, encode_digest, encode_hello,
+    encode_snapshot, encode_snapshot_in, encode_state, encode_state_in,
 };
 use rds_delta::Digest;
 use rds_dots::DotSet;
@@ -14,10 +14,13 @@ use std::alloc::Global;
 /// How many replicas the group has.
 pub const REPLICAS: u16 = 3;
 
-/// What the bytes are read as, written again.
+/// What the bytes are read as, written again. A snapshot is read in either format. It is written in format 1, as
+/// `snapshot-2` in format 2, and as `snapshot-in` in its own.
 pub fn again<S: DotSet>(alloc: Global, form: &str, bytes: &[u8]) -> Result<Vec<u8>, Fault> {
     match form {
         "snapshot" => snapshot_again::<S>(alloc, bytes),
+        "snapshot-2" => tabled_snapshot::<S>(alloc, bytes),
+        "snapshot-in" => snapshot_in_its_format::<S>(alloc, bytes),
         "state" => state_again::<S>(alloc, REPLICAS, bytes),
         "state-2" => state_from::<S>(alloc, Format::Two, Format::Two, bytes),
         "digest" => digest_again::<S>(alloc, bytes),
@@ -53,6 +56,16 @@ pub fn state_from<S: DotSet>(
 fn snapshot_again<S: DotSet>(alloc: Global, bytes: &[u8]) -> Result<Vec<u8>, Fault> {
     let replica: Replica<S> = decode_snapshot(alloc, bytes)?;
     encode_snapshot(alloc, &replica)
+}
+
+fn tabled_snapshot<S: DotSet>(alloc: Global, bytes: &[u8]) -> Result<Vec<u8>, Fault> {
+    let replica: Replica<S> = decode_snapshot(alloc, bytes)?;
+    encode_snapshot_in(alloc, Format::Two, &replica)
+}
+
+fn snapshot_in_its_format<S: DotSet>(alloc: Global, bytes: &[u8]) -> Result<Vec<u8>, Fault> {
+    let (format, replica) = decode_snapshot_with_format::<S>(alloc, bytes)?;
+    encode_snapshot_in(alloc, format, &replica)
 }
 
 fn digest_again<S: DotSet>(alloc: Global, bytes: &[u8]) -> Result<Vec<u8>, Fault> {

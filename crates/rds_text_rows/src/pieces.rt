@@ -1,14 +1,20 @@
 //! Rows on texts whose bytes come in pieces.
 use crate::forms::REPLICAS;
 use rds_codec::{
-    encode_answer, encode_certificate, encode_digest, encode_hello, encode_snapshot, encode_state,
+    Answer, Format, encode_answer, encode_answer_in, encode_certificate, encode_digest,
+    encode_hello, encode_snapshot_in, encode_state, encode_state_in,
 };
 use rds_dots::DotSet;
+use rds_feeds::{Progress, Unfinished};
 use rds_keep::{Fed, Feed};
 use rds_names::Fault;
 use rds_rows::told::{fault_text, named, said};
 use rds_rows::words::{bytes_of, cut};
-use rds_text_feeds::{UnfinishedAnswer, UnfinishedDigest, UnfinishedSnapshot, UnfinishedState};
+use rds_state::State;
+use rds_text_feeds::{
+    UnfinishedAnswer, UnfinishedDigest, UnfinishedSnapshot, UnfinishedState, unfinished_answer_in,
+    unfinished_state_in,
+};
 use std::alloc::Global;
 
 /// `cuts FORM DIGITS`: of how many places at which the text is cut in two the pieces are read as it, and of how many.
@@ -36,9 +42,11 @@ fn again<S: DotSet>(
     match form {
         "snapshot" => snapshot_again::<S>(alloc, front, back),
         "state" => state_again::<S>(alloc, front, back),
+        "state-2" => tabled_state_again::<S>(alloc, front, back),
         "digest" => digest_again::<S>(alloc, front, back),
         "certificate" => certificate_again(alloc, front, back),
         "answer" => answer_again::<S>(alloc, front, back),
+        "answer-2" => tabled_answer_again::<S>(alloc, front, back),
         "hello" => hello_again(alloc, front, back),
         _ => Err(Fault::Usage),
     }
@@ -46,12 +54,23 @@ fn again<S: DotSet>(
 
 fn snapshot_again<S: DotSet>(alloc: Global, front: &[u8], back: &[u8]) -> Result<Vec<u8>, Fault> {
     let feed: Feed<UnfinishedSnapshot<S>> = Feed::snapshot(alloc);
-    encode_snapshot(alloc, &fed(feed, front, back)?)
+    let (format, replica) = fed(feed, front, back)?;
+    encode_snapshot_in(alloc, format, &replica)
 }
 
 fn state_again<S: DotSet>(alloc: Global, front: &[u8], back: &[u8]) -> Result<Vec<u8>, Fault> {
     let feed: Feed<UnfinishedState<S>> = Feed::state(alloc, REPLICAS);
     encode_state(alloc, &fed(feed, front, back)?)
+}
+
+fn tabled_state_again<S: DotSet>(
+    alloc: Global,
+    front: &[u8],
+    back: &[u8],
+) -> Result<Vec<u8>, Fault> {
+    let unfinished = unfinished_state_in(alloc, Format::Two, REPLICAS);
+    let state: State<S> = read_in_two(alloc, unfinished, front, back)?;
+    encode_state_in(alloc, Format::Two, &state)
 }
 
 fn digest_again<S: DotSet>(alloc: Global, front: &[u8], back: &[u8]) -> Result<Vec<u8>, Fault> {
@@ -72,6 +91,17 @@ fn answer_again<S: DotSet>(alloc: Global, front: &[u8], back: &[u8]) -> Result<V
     encode_answer(alloc, answer.asker, &answer.state, &answer.certificate)
 }
 
+fn tabled_answer_again<S: DotSet>(
+    alloc: Global,
+    front: &[u8],
+    back: &[u8],
+) -> Result<Vec<u8>, Fault> {
+    let unfinished = unfinished_answer_in(alloc, Format::Two, REPLICAS);
+    let answer: Answer<S> = read_in_two(alloc, unfinished, front, back)?;
+    let (state, certificate) = (&answer.state, &answer.certificate);
+    encode_answer_in(alloc, Format::Two, answer.asker, state, certificate)
+}
+
 fn hello_again(alloc: Global, front: &[u8], back: &[u8]) -> Result<Vec<u8>, Fault> {
     encode_hello(alloc, &fed(Feed::hello(alloc), front, back)?)
 }
@@ -81,6 +111,37 @@ fn fed<U: Fed>(feed: Feed<U>, front: &[u8], back: &[u8]) -> Result<U::Whole, Fau
     feed.feed(front)?;
     feed.feed(back)?;
     feed.end()
+}
+
+/// The value of two pieces, of which the second is read behind what the first leaves.
+fn read_in_two<U: Unfinished>(
+    alloc: Global,
+    unfinished: U,
+    front: &[u8],
+    back: &[u8],
+) -> Result<U::Whole, Fault> {
+    let (progress, rest) = unfinished.read_on(alloc, front)?;
+    match progress {
+        Progress::More(later) => {
+            let mut bytes = Vec::from_slice(alloc, rest)?;
+            bytes.extend_from_slice(back)?;
+            let (progress, rest) = later.read_on(alloc, &bytes)?;
+            whole_alone::<U>(progress, rest)
+        }
+        Progress::Whole(_) => Err(Fault::Extra),
+    }
+}
+
+/// The value that is whole, where nothing follows it.
+fn whole_alone<U: Unfinished>(
+    progress: Progress<U, U::Whole>,
+    rest: &[u8],
+) -> Result<U::Whole, Fault> {
+    match progress {
+        Progress::More(_) => Err(Fault::Cut),
+        Progress::Whole(_) if !rest.is_empty() => Err(Fault::Extra),
+        Progress::Whole(whole) => Ok(whole),
+    }
 }
 
 /// `drops FORM DIGITS`: whether the bytes, one by one, are a text, or which byte is refused how, and how they end.
