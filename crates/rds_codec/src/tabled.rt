@@ -1,4 +1,5 @@
-//! The text of a state in format 2: a table of its keys, and then its parts, which have the keys by their numbers.
+//! The text of a state in format 2: a table of its keys, and then its parts, which have the keys by their numbers. And
+//! the texts of answers and snapshots that hold such a state.
 ghost use Rattle.std.specs.Prelude.{◌≡◌, ℕ, ◌≤◌, ◌^◌, IfOk, IfErr, OnOk, fold, length, map as each};
 ghost use Rattle.std.specs.FinMap as map;
 ghost use Rattle.rds_names.specs.declared.fault.Fault.TheVariants.{Memory};
