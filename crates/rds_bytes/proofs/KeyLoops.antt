@@ -1,20 +1,23 @@
 -- Reading keys one after the other, as a loop does.
-use Rattle.std.proofs.Common.{◌≡◌, ℕ, Bool, true, false, not, cond, ◌||◌, List, [], ◌∷◌, ◌++◌, Result, Ok, Err, refl, sym, ap, ◌∙◌}
+use Rattle.std.proofs.Common.{◌≡◌, ℕ, Bool, true, false, not, cond, ◌&&◌, ◌||◌, List, [], ◌∷◌, ◌++◌, Result, Ok, Err, refl, sym, ap, subst, ◌∙◌}
 use Rattle.std.specs.Prelude.{fold}
 use Rattle.std.specs.List.{list_any}
 use Rattle.std.specs.Str.{bytes_eq}
-use Rattle.std.specs.Ordering.{is_eq}
+use Rattle.std.specs.declared.cmp.Ordering.{Ordering}
+use Rattle.std.specs.Ordering.{is_eq, nat_cmp, ordering_then}
+use Rattle.std.specs.Cmp.{nat_cmp_total, tied_itself, tied_then}
 use Rattle.std.specs.Cmp.Lexicographic.{texts_ties, nat_list_eq_equiv}
 use Rattle.std.specs.BTreeMap.{is_at}
-use Rattle.std.specs.BTreeSet.{BTreeSet, contains, Updates}
+use Rattle.std.specs.BTreeSet.{BTreeSet, contains, contains_by, Updates}
 use Rattle.rds_names.specs.declared.fault.Fault.{Fault}
 use Rattle.rds_names.specs.declared.fault.Fault.TheVariants.{Bad}
 use Rattle.rds_bytes.specs.Reading.{Fails, key_at}
-use Rattle.rds_bytes.specs.Numbers.{key_cmp}
+use Rattle.rds_bytes.specs.Marks.{mark}
+use Rattle.rds_bytes.specs.Numbers.{key_cmp, marked_cmp}
 use Rattle.rds_bytes.specs.Table.{has_key}
 use Rattle.rds_bytes.specs.TableTexts.{new_key_at}
 use Rattle.rds_bytes.proofs.Loops.{fails_on}
-use Rattle.rds_bytes.proofs.TableLaws.{has_turned, has_push}
+use Rattle.rds_bytes.proofs.TableLaws.{has_turned, has_push, same_key}
 
 fold_push : {A K : Type 0} (f : K → A → K) (k : K) (xs : List A) (x : A) → fold f k (xs ++ x ∷ []) ≡ f (fold f k xs) x
 fold_push f k [] x = refl
@@ -52,15 +55,34 @@ module _ (table : List (List ℕ)) (bytes : List ℕ) where
 
 -- ---- the keys of a list as a set
 
+-- a key with its mark, against another with its own
+abbrev pub pair_cmp : ℕ × List ℕ → ℕ × List ℕ → Ordering
+pair_cmp a b = ordering_then (nat_cmp a.0 b.0) (key_cmp a.1 b.1)
+
 -- the set has the keys of the list
-abbrev pub Knows : BTreeSet (List ℕ) → List (List ℕ) → Type 0
-Knows known keys = (q : List ℕ) → contains key_cmp known q ≡ has_key keys q
+abbrev pub Knows : BTreeSet (ℕ × List ℕ) → List (List ℕ) → Type 0
+Knows known keys = (q : List ℕ) → contains_by (λ k. marked_cmp q k.0 k.1) known ≡ has_key keys q
 
-pub none_known : (known : BTreeSet (List ℕ)) → known.keys ≡ [] → Knows known []
-none_known known e q = ap (list_any (is_at (key_cmp q))) e
+pub none_known : (known : BTreeSet (ℕ × List ℕ)) → known.keys ≡ [] → Knows known []
+none_known known e q = ap (list_any (is_at (λ k. marked_cmp q k.0 k.1))) e
 
-pub ties : (key q : List ℕ) → is_eq (key_cmp key q) ≡ bytes_eq q key
-ties key q = sym (texts_ties key q) ∙ nat_list_eq_equiv.symm key q
+ties_alone : (key q : List ℕ) → is_eq (key_cmp key q) ≡ bytes_eq q key
+ties_alone key q = sym (texts_ties key q) ∙ nat_list_eq_equiv.symm key q
+
+and_false : (a : Bool) → (a && false) ≡ false
+and_false true = refl
+and_false false = refl
+
+-- two keys with their marks are equal where the keys are
+pub ties : (key q : List ℕ) → is_eq (marked_cmp key (mark q) q) ≡ bytes_eq q key
+ties key q = sym (tied_then (nat_cmp (mark key) (mark q)) (key_cmp key q)) ∙ by (bytes_eq q key) refl
+  where
+    level : q ≡ key → is_eq (nat_cmp (mark key) (mark q)) ≡ true
+    level same = subst (λ (k : List ℕ). is_eq (nat_cmp (mark key) (mark k)) ≡ true) (sym same) (ap is_eq (tied_itself nat_cmp_total (mark key)))
+
+    by : (b : Bool) → bytes_eq q key ≡ b → (is_eq (nat_cmp (mark key) (mark q)) && is_eq (key_cmp key q)) ≡ b
+    by true e = λ i. level (same_key q key e) i && (ties_alone key q ∙ e) i
+    by false e = (λ i. is_eq (nat_cmp (mark key) (mark q)) && (ties_alone key q ∙ e) i) ∙ and_false _
 
 or_cond : (a b : Bool) → cond a true b ≡ (b || a)
 or_cond true true = refl
@@ -68,21 +90,25 @@ or_cond true false = refl
 or_cond false true = refl
 or_cond false false = refl
 
-pub one_known : (known next : BTreeSet (List ℕ)) (keys : List (List ℕ)) (key : List ℕ) → Updates key_cmp known next key true → Knows known keys → Knows next (keys ++ key ∷ [])
-one_known known next keys key updates had q =
-    updates.0 q ∙ or_cond (is_eq (key_cmp key q)) (contains key_cmp known q) ∙ (λ i. had q i || ties key q i) ∙ sym (has_push keys key q)
+module _ (known : BTreeSet (ℕ × List ℕ)) (keys : List (List ℕ)) (m : ℕ) (key : List ℕ) (marked : m ≡ mark key) where
+  pub one_known : (next : BTreeSet (ℕ × List ℕ)) → Updates pair_cmp known next (m, key) true → Knows known keys → Knows next (keys ++ key ∷ [])
+  one_known next updates had q =
+      updates.0 (mark q, q) ∙ or_cond (is_eq (pair_cmp (m, key) (mark q, q))) (contains pair_cmp known (mark q, q)) ∙ (λ i. had q i || is_eq (pair_cmp (marked i, key) (mark q, q))) ∙ (λ i. has_key keys q || ties key q i) ∙ sym (has_push keys key q)
 
--- whether a key was put in says whether the list lacks it
-pub was_old : (known : BTreeSet (List ℕ)) (keys : List (List ℕ)) (key : List ℕ) (is_new : Bool) → Knows known keys → is_new ≡ not (contains key_cmp known key) → is_new ≡ false → has_key keys key ≡ true
-was_old known keys key is_new had said is = sym (had key) ∙ by (contains key_cmp known key) (sym said ∙ is)
-  where
-    by : (b : Bool) → not b ≡ false → b ≡ true
-    by true e = refl
-    by false e = absurd (let none : ◌≡◌ {A = Bool} true false = e in cc)
+  had_key : Knows known keys → contains pair_cmp known (m, key) ≡ has_key keys key
+  had_key had = (λ i. contains pair_cmp known (marked i, key)) ∙ had key
 
-pub was_new : (known : BTreeSet (List ℕ)) (keys : List (List ℕ)) (key : List ℕ) (is_new : Bool) → Knows known keys → is_new ≡ not (contains key_cmp known key) → is_new ≡ true → has_key keys key ≡ false
-was_new known keys key is_new had said is = sym (had key) ∙ by (contains key_cmp known key) (sym said ∙ is)
-  where
-    by : (b : Bool) → not b ≡ true → b ≡ false
-    by false e = refl
-    by true e = absurd (let none : ◌≡◌ {A = Bool} false true = e in cc)
+  -- whether a key was put in says whether the list lacks it
+  pub was_old : (is_new : Bool) → Knows known keys → is_new ≡ not (contains pair_cmp known (m, key)) → is_new ≡ false → has_key keys key ≡ true
+  was_old is_new had said is = sym (had_key had) ∙ by (contains pair_cmp known (m, key)) (sym said ∙ is)
+    where
+      by : (b : Bool) → not b ≡ false → b ≡ true
+      by true e = refl
+      by false e = absurd (let none : ◌≡◌ {A = Bool} true false = e in cc)
+
+  pub was_new : (is_new : Bool) → Knows known keys → is_new ≡ not (contains pair_cmp known (m, key)) → is_new ≡ true → has_key keys key ≡ false
+  was_new is_new had said is = sym (had_key had) ∙ by (contains pair_cmp known (m, key)) (sym said ∙ is)
+    where
+      by : (b : Bool) → not b ≡ true → b ≡ false
+      by false e = refl
+      by true e = absurd (let none : ◌≡◌ {A = Bool} false true = e in cc)

@@ -1,17 +1,25 @@
 -- A map of keys to their numbers.
-use Rattle.std.proofs.Common.{◌≡◌, ℕ, ◌+◌, Bool, true, false, not, cond, ◌||◌, List, [], ◌∷◌, ◌++◌, length, Option, Some, None, refl, sym, ap, subst, ◌∙◌}
-use Rattle.std.specs.Prelude.{slice_get}
+use Rattle.std.proofs.Common.{◌≡◌, ℕ, ◌+◌, Bool, true, false, not, cond, ◌||◌, List, [], ◌∷◌, ◌++◌, length, Option, Some, None, Result, Ok, Err, refl, sym, ap, subst, ◌∙◌}
+use Rattle.std.specs.Prelude.{slice_get, OnOk, IfOk}
 use Rattle.std.specs.Str.{bytes_eq}
+use Rattle.std.specs.Borrow.{Bor}
 use Rattle.std.specs.BTreeMap.{BTreeMap, is_at, Updates}
+use Rattle.std.specs.declared.cmp.Ordering.{Ordering}
+use Rattle.std.specs.Ordering.{is_eq, nat_cmp, ordering_then}
 use Rattle.std.specs.Map.{lookup}
 use Rattle.rds_names.specs.Conditions.{and_true}
-use Rattle.rds_bytes.specs.Numbers.{AreNumbered, place_in, key_cmp}
-use Rattle.rds_bytes.specs.Table.{has_key, number_of}
+use Rattle.rds_bytes.specs.Numbers.{AreNumbered, place_in, key_cmp, marked_cmp}
+use Rattle.rds_bytes.specs.Marks.{mark}
+use Rattle.rds_bytes.specs.Table.{has_key, add_key, number_of}
 use Rattle.rds_bytes.proofs.KeyLoops.{ties}
 use Rattle.rds_bytes.proofs.TableLaws.{same_key, is_same, has_at, has_push, differ_push, number_at_place, number_push, number_last, number_none}
 
 place_where : (b : Bool) (keys : List (List ℕ)) (q : List ℕ) → has_key keys q ≡ b → place_in keys q ≡ cond b (Some (number_of keys q)) None
 place_where b keys q e = ap (λ t. cond t (Some (number_of keys q)) None) e
+
+-- a borrowed key with its mark, against another with its own
+abbrev pub lent_cmp : ℕ × Bor (List ℕ) → ℕ × Bor (List ℕ) → Ordering
+lent_cmp a b = ordering_then (nat_cmp a.0 b.0) (key_cmp a.1.now b.1.now)
 
 abbrev some : ℕ → Option ℕ
 some n = Some n
@@ -32,18 +40,30 @@ module _ (keys : List (List ℕ)) (key : List ℕ) (new : has_key keys key ≡ f
           place_where true (keys ++ key ∷ []) q (has_push keys key q ∙ (λ i. had i || e i)) ∙ ap (λ (n : ℕ). Some n) (number_push keys key q had) ∙ sym (place_where true keys q had)
       by false e false had = place_where false (keys ++ key ∷ []) q (has_push keys key q ∙ (λ i. had i || e i)) ∙ sym (place_where false keys q had)
 
-  pub one_numbered_more : (places next : BTreeMap (List ℕ) ℕ) → AreNumbered places keys → Updates key_cmp places next key (Some (length keys)) → AreNumbered next (keys ++ key ∷ [])
-  one_numbered_more places next are updates = record {
-    place = λ q. updates.0 q ∙ (λ i. cond (ties key q i) (Some (length keys)) (are.place q i)) ∙ sym (place_push q);
+  pub one_numbered_more : (places next : BTreeMap (ℕ × Bor (List ℕ)) ℕ) (m : ℕ) (lent : Bor (List ℕ)) → m ≡ mark key → lent.now ≡ key → AreNumbered places keys → Updates lent_cmp places next (m, lent) (Some (length keys))
+      → AreNumbered next (keys ++ key ∷ [])
+  one_numbered_more places next m lent marked is are updates = record {
+    place = λ q.
+        updates.0 (mark q, record { ref_ptr = lent.ref_ptr; now = q })
+        ∙ (λ i. cond (is_eq (ordering_then (nat_cmp (marked i) (mark q)) (key_cmp (is i) q))) (Some (length keys)) (are.place q i))
+        ∙ (λ i. cond (ties key q i) (Some (length keys)) (place_in keys q))
+        ∙ sym (place_push q);
     differ = differ_push keys key ∙ and_true _ _ are.differ (ap not new);
   }
 
-pub none_numbered : (places : BTreeMap (List ℕ) ℕ) → places.entries ≡ [] → AreNumbered places []
-none_numbered places e = record { place = λ q. ap (lookup (is_at (key_cmp q))) e; differ = refl }
+pub none_numbered : (places : BTreeMap (ℕ × Bor (List ℕ)) ℕ) → places.entries ≡ [] → AreNumbered places []
+none_numbered places e = record { place = λ q. ap (lookup (is_at (λ k. marked_cmp q k.0 k.1.now))) e; differ = refl }
 
--- what a look-up says
-pub at_place : (places : BTreeMap (List ℕ) ℕ) (keys : List (List ℕ)) (n : ℕ) (key : List ℕ) → AreNumbered places keys → slice_get keys n ≡ Some key → Some n ≡ place_in keys key
-at_place places keys n key are at = sym (place_where true keys key (has_at keys n key at) ∙ ap (λ (m : ℕ). Some m) (number_at_place keys n key are.differ at))
+-- a key that stands at a place is in the table, and has the place for its number
+pub at_stays : (keys : List (List ℕ)) (n : ℕ) (key : List ℕ) → slice_get keys n ≡ Some key → keys ≡ add_key keys key
+at_stays keys n key at = sym (ap (λ b. cond b keys (keys ++ key ∷ [])) (has_at keys n key at))
+
+pub at_number : (places : BTreeMap (ℕ × Bor (List ℕ)) ℕ) (keys : List (List ℕ)) (n : ℕ) (key : List ℕ) → AreNumbered places keys → slice_get keys n ≡ Some key → n ≡ number_of keys key
+at_number places keys n key are at = sym (number_at_place keys n key are.differ at)
+
+-- a new key is the last of the table
+pub new_pushes : (keys : List (List ℕ)) (key : List ℕ) → has_key keys key ≡ false → keys ++ key ∷ [] ≡ add_key keys key
+new_pushes keys key new = sym (ap (λ b. cond b keys (keys ++ key ∷ [])) new)
 
 -- a key that has no number isn't in the table
 pub lacks_place : (keys : List (List ℕ)) (key : List ℕ) → place_in keys key ≡ None → has_key keys key ≡ false
@@ -52,3 +72,12 @@ lacks_place keys key is = by (has_key keys key) refl
     by : (b : Bool) → has_key keys key ≡ b → b ≡ false
     by true e = absurd (let none : some (number_of keys key) ≡ None = sym (place_where true keys key e) ∙ is in cc)
     by false e = refl
+
+-- what was found says more
+pub on_ok : {A E P Q : Type 0} (r : Result A E) → (P → Q) → OnOk r P → OnOk r Q
+on_ok (Ok x) f p = f p
+on_ok (Err e) f p = tt
+
+pub if_ok : {A E : Type 0} {P Q : A → Type 0} (r : Result A E) → ((x : A) → P x → Q x) → IfOk r P → IfOk r Q
+if_ok (Ok x) f p = f x p
+if_ok (Err e) f p = tt

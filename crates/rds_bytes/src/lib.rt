@@ -17,6 +17,7 @@ mod keys;
 mod laws;
 mod list;
 mod live_rows;
+mod marks;
 mod numbered;
 mod numbering;
 mod numbers;
@@ -46,6 +47,7 @@ pub use live_rows::{
     LiveRowReader, live_rows_length, put_live_rows, read_keyed_live_row, read_keyed_live_rows,
     read_live_rows,
 };
+pub use marks::mark_of;
 pub use numbered::{
     numbered_counters_length, numbered_lives_length, put_numbered, put_table, table_length,
 };

@@ -3,9 +3,11 @@ ghost use Rattle.std.specs.Prelude.{◌≡◌, ◌++◌, ◌∷◌, [], false, l
 ghost use Rattle.rds_names.specs.declared.fault.Fault.TheVariants.{Memory};
 ghost use Rattle.rds_life.specs.Life.{live_rows};
 ghost use Rattle.rds_counts.specs.RowsOf.{count_rows};
+ghost use Rattle.rds_bytes.specs.Marks.{mark as mark_of};
 ghost use Rattle.rds_bytes.specs.Numbers.{AreNumbered, numbers_from, place_in};
 ghost use Rattle.rds_bytes.specs.Table.{has_key, add_key, number_of, rows_table, live_keys, counter_keys, used_keys};
 
+use crate::marks::mark_of;
 use rds_counts::{CountRow, Counts};
 use rds_dots::DotSet;
 use rds_life::Lives;
@@ -20,15 +22,16 @@ pub struct NumberedKeys {
     pub numbers: Vec<usize>,
 }
 
-/// Keys, each once in the order of first use, with the number of each; and the number of each use.
+/// Keys, each once in the order of first use, with the number of each; and the number of each use. Strangers choose the
+/// keys, so they stand in a map by order, where most are told apart by their marks.
 #[derive(Drop)]
-struct Numbering {
-    places: BTreeMap<Key, usize>,
+struct Numbering<'a> {
+    places: BTreeMap<(u64, &'a Key), usize>,
     keys: Vec<Key>,
     numbers: Vec<usize>,
 }
 
-impl Numbering {
+impl<'a> Numbering<'a> {
     /// Whether the key has this number.
     fn has_at(&self, number: usize, key: &Key) -> bool
         ensures { IsTrue result → slice_get self.now.keys.items number ≡ Some key.now }
@@ -39,20 +42,10 @@ impl Numbering {
         }
     }
 
-    /// The number of a key that has one. Where the key has the number that is guessed, nothing is looked up.
-    fn find(&self, guess: usize, key: &Key) -> Option<usize>
-        requires { AreNumbered self.now.places self.now.keys.items }
-        ensures { result ≡ place_in self.now.keys.items key.now }
-    {
-        if self.has_at(guess, key) {
-            return Some(guess);
-        }
-        self.places.get(key).copied()
-    }
-
     /// Gives a new key the next number.
-    fn add_new(&mut self, alloc: Global, key: &Key) -> Result<usize, Fault>
+    fn add_new(&mut self, alloc: Global, mark: u64, key: &'a Key) -> Result<usize, Fault>
         requires numbered { AreNumbered self.old.places self.old.keys.items }
+        requires marked { mark ≡ mark_of key.now }
         requires new { has_key self.old.keys.items key.now ≡ false }
         ensures numbered { OnOk result (AreNumbered self.new.places self.new.keys.items) }
         ensures keys { OnOk result (self.new.keys.items ≡ self.old.keys.items ++ key.now ∷ []) }
@@ -61,13 +54,41 @@ impl Numbering {
         ensures memory { IfErr result (λ fault. fault ≡ Memory) }
     {
         let number = self.keys.len();
-        self.places.insert(key.copy(alloc)?, number)?;
+        self.places.insert((mark, key), number)?;
         self.keys.push(key.copy(alloc)?)?;
         Ok(number)
     }
 
+    /// The number of a key that has one.
+    fn find(&self, mark: u64, key: &'a Key) -> Option<usize>
+        requires numbered { AreNumbered self.now.places self.now.keys.items }
+        requires marked { mark ≡ mark_of key.now }
+        ensures { result ≡ place_in self.now.keys.items key.now }
+    {
+        self.places.get(&(mark, key)).copied()
+    }
+
+    /// The number of a key, which is the next one where it has none. Where the guess is right, nothing is looked up.
+    fn number(&mut self, alloc: Global, guess: usize, key: &'a Key) -> Result<usize, Fault>
+        requires { AreNumbered self.old.places self.old.keys.items }
+        ensures numbered { OnOk result (AreNumbered self.new.places self.new.keys.items) }
+        ensures keys { OnOk result (self.new.keys.items ≡ add_key self.old.keys.items key.now) }
+        ensures number { IfOk result (λ number. number ≡ number_of self.old.keys.items key.now) }
+        ensures numbers { self.new.numbers.items ≡ self.old.numbers.items }
+        ensures memory { IfErr result (λ fault. fault ≡ Memory) }
+    {
+        if self.has_at(guess, key) {
+            return Ok(guess);
+        }
+        let mark = mark_of(key);
+        if let Some(number) = self.find(mark, key) {
+            return Ok(number);
+        }
+        self.add_new(alloc, mark, key)
+    }
+
     /// Notes the number of a key.
-    fn add(&mut self, alloc: Global, guess: usize, key: &Key) -> Result<(), Fault>
+    fn add(&mut self, alloc: Global, guess: usize, key: &'a Key) -> Result<(), Fault>
         requires { AreNumbered self.old.places self.old.keys.items }
         ensures numbered { OnOk result (AreNumbered self.new.places self.new.keys.items) }
         ensures keys { OnOk result (self.new.keys.items ≡ add_key self.old.keys.items key.now) }
@@ -75,11 +96,7 @@ impl Numbering {
             ≡ self.old.numbers.items ++ number_of self.old.keys.items key.now ∷ []) }
         ensures memory { IfErr result (λ fault. fault ≡ Memory) }
     {
-        if let Some(number) = self.find(guess, key) {
-            self.numbers.push(number)?;
-            return Ok(());
-        }
-        let number = self.add_new(alloc, key)?;
+        let number = self.number(alloc, guess, key)?;
         self.numbers.push(number)?;
         Ok(())
     }
@@ -90,7 +107,7 @@ impl Numbering {
     }
 
     /// Notes the numbers of the keys of a path. From `last` on stand those of the path before, which are the guesses.
-    fn add_path(&mut self, alloc: Global, last: usize, mut keys: &[Key]) -> Result<(), Fault>
+    fn add_path(&mut self, alloc: Global, last: usize, mut keys: &'a [Key]) -> Result<(), Fault>
         requires { AreNumbered self.old.places self.old.keys.items }
         ensures numbered { OnOk result (AreNumbered self.new.places self.new.keys.items) }
         ensures keys { OnOk result (self.new.keys.items ≡ fold add_key self.old.keys.items keys.entry.now) }
@@ -111,7 +128,7 @@ impl Numbering {
         }
     }
 
-    fn add_lives<S: DotSet>(&mut self, alloc: Global, lives: &Lives<S>) -> Result<(), Fault>
+    fn add_lives<S: DotSet>(&mut self, alloc: Global, lives: &'a Lives<S>) -> Result<(), Fault>
         requires { AreNumbered self.old.places self.old.keys.items }
         ensures numbered { OnOk result (AreNumbered self.new.places self.new.keys.items) }
         ensures keys { OnOk result (self.new.keys.items
@@ -130,7 +147,7 @@ impl Numbering {
     }
 
     /// Notes the numbers of the keys of rows of counters. The key of the row before is the guess.
-    fn add_counts(&mut self, alloc: Global, mut rows: &[CountRow]) -> Result<(), Fault>
+    fn add_counts(&mut self, alloc: Global, mut rows: &'a [CountRow]) -> Result<(), Fault>
         requires { AreNumbered self.old.places self.old.keys.items }
         ensures numbered { OnOk result (AreNumbered self.new.places self.new.keys.items) }
         ensures keys { OnOk result (self.new.keys.items
@@ -152,7 +169,7 @@ impl Numbering {
 }
 
 /// Nothing that is numbered.
-fn no_keys(alloc: Global) -> Numbering
+fn no_keys<'a>(alloc: Global) -> Numbering<'a>
     ensures numbered { AreNumbered result.places result.keys.items }
     ensures keys { result.keys.items ≡ [] }
     ensures numbers { result.numbers.items ≡ [] }

@@ -8,6 +8,7 @@ ghost use Rattle.rds_bytes.specs.TableTexts.{new_key_at, table_at, numbered_at};
 ghost use Rattle.rds_bytes.specs.TableValue.{meeting};
 
 use crate::keys::read_key;
+use crate::marks::mark_of;
 use crate::numbers::read_u32;
 use crate::sources::KeySource;
 use rds_names::{Fault, Key};
@@ -150,7 +151,7 @@ fn read_new_keys<'a>(
     let mut rest = bytes;
     for _ in 0..count {
         let (key, after) = read_key(alloc, rest)?;
-        let is_new = known.insert(key.copy(alloc)?)?;
+        let is_new = known.insert((mark_of(&key), key.copy(alloc)?))?;
         if !is_new {
             return Err(Fault::Bad);
         }

@@ -2,6 +2,7 @@ use Rattle.std.proofs.Common.{◌≡◌, [], ◌∷◌, ◌++◌, ◌∙◌, ap,
 use Rattle.std.proofs.lemmas.Result.{err_from_is_err_and}
 use Rattle.rds_names.specs.Conditions.{and_true}
 use Rattle.rds_names.specs.declared.fault.Fault.TheVariants.{Bad}
+use Rattle.rds_bytes.specs.Marks.{mark}
 use Rattle.rds_bytes.specs.Reading.{rows_after}
 use Rattle.rds_bytes.specs.Table.{has_key}
 use Rattle.rds_bytes.specs.TableTexts.{new_key_at}
@@ -23,8 +24,9 @@ returns-then-not-is_new-clause-read c =
     let key = c.in_ok-key.key in
     let copied : List ℕ = c.in_ok-copy.field-0 in
     let same : copied ≡ key = c.in_ok-copy.ensures.ok in
+    let marked : c.mark_of.result ≡ mark copied = c.mark_of.ensures ∙ ap mark (sym same) in
     let total = rows_after new_key_at [] c.args.count c.args.bytes.now in
-    let old = ap (has_key keys) (sym same) ∙ was_old c.loop.known keys copied c.in_ok-is_new.is_new c.loop.invariant.1.1 c.in_ok-is_new.ensures.added c.if-not-is_new.true in
+    let old = ap (has_key keys) (sym same) ∙ was_old c.loop.known keys c.mark_of.result copied marked c.in_ok-is_new.is_new c.loop.invariant.1.1 c.in_ok-is_new.ensures.added c.if-not-is_new.true in
     fault_ends new_key_at keys c.args.count c.loop.counter c.loop.rest.now total Bad c.loop-test.true (key_is_old keys c.loop.rest.now key c.in_ok-key.after.now c.in_ok-key.ensures old) c.loop.invariant.0
 
 pub loop-preserved : goal.loop-preserved
@@ -33,10 +35,11 @@ loop-preserved c =
     let key = c.in_ok-key.key in
     let copied : List ℕ = c.in_ok-copy.field-0 in
     let same : copied ≡ key = c.in_ok-copy.ensures.ok in
+    let marked : c.mark_of.result ≡ mark copied = c.mark_of.ensures ∙ ap mark (sym same) in
     let total = rows_after new_key_at [] c.args.count c.args.bytes.now in
-    let new = ap (has_key keys) (sym same) ∙ was_new c.loop.known keys copied c.in_ok-is_new.is_new c.loop.invariant.1.1 c.in_ok-is_new.ensures.added c.if-not-is_new.false in
+    let new = ap (has_key keys) (sym same) ∙ was_new c.loop.known keys c.mark_of.result copied marked c.in_ok-is_new.is_new c.loop.invariant.1.1 c.in_ok-is_new.ensures.added c.if-not-is_new.false in
     let knows : Knows c.insert.new.self (keys ++ key ∷ []) =
-    subst (λ (k : List ℕ). Knows c.insert.new.self (keys ++ k ∷ [])) same (one_known c.loop.known c.insert.new.self keys copied c.in_ok-is_new.ensures.updates c.loop.invariant.1.1) in
+    subst (λ (k : List ℕ). Knows c.insert.new.self (keys ++ k ∷ [])) same (one_known c.loop.known keys c.mark_of.result copied marked c.insert.new.self c.in_ok-is_new.ensures.updates c.loop.invariant.1.1) in
     rw c.in_ok-push.ensures.items (
       goes_on new_key_at keys c.args.count c.loop.counter c.loop.rest.now total key c.in_ok-key.after.now c.loop-test.true (key_is_new keys c.loop.rest.now key c.in_ok-key.after.now c.in_ok-key.ensures new) c.loop.invariant.0,
       (differ_push keys key ∙ and_true _ _ c.loop.invariant.1.0 (ap not new), knows),

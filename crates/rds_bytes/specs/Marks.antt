@@ -1,0 +1,16 @@
+-- Marks of keys: a number made of all bytes of a key, by which most keys are told apart at once.
+use Rattle.std.specs.Prelude.{ℕ, ◌*◌, ◌/◌, ◌%◌, ◌^◌, List, length, drop, bit_xor, fold}
+use Rattle.std.specs.Int.{w64, from_le_bytes}
+use Rattle.std.specs.Simd.{first_chunks}
+use Rattle.std.specs.Ordering.{nat_cmp, ordering_then}
+use Rattle.std.specs.declared.cmp.Ordering.{Ordering}
+use Rattle.std.specs.Cmp.Lexicographic.{slice_cmp}
+
+-- a number, with another mixed in
+unfoldable pub mixed : ℕ → ℕ → ℕ
+mixed mark word = (let z = bit_xor mark word * 0x9e3779b97f4a7c15 % 2 ^ 64 in bit_xor z (z / 2 ^ 32))
+
+-- eight bytes at a time are mixed in, and then those that are left
+unfoldable pub mark : List ℕ → ℕ
+mark bytes =
+    fold mixed (fold (λ m word. mixed m (from_le_bytes w64 word)) 0 (first_chunks 8 (length bytes / 8) bytes)) (drop (length bytes / 8 * 8) bytes)
