@@ -6,7 +6,7 @@ mod EntryFormats
 mod EntryParts
 pub mod Format
 mod HaveTexts
-mod KeyLoops
+pub mod KeyLoops
 pub mod Lengths
 pub mod Lists
 pub mod LiveFormats

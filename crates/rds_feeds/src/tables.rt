@@ -7,18 +7,19 @@ use crate::made::{Made, Making};
 use crate::many::{CountWidth, Many};
 use crate::once::{Once, Part};
 use crate::unfinished::{Progress, Unfinished};
-use rds_bytes::{Table, read_key};
+use rds_bytes::{Table, mark_of, read_key};
 use rds_names::{Fault, Key};
 use std::alloc::Global;
 use std::collections::BTreeSet;
 use std::marker::Model;
 
-/// The keys of a table that were read, in turn and as a set.
+/// The keys of a table that were read, in turn and as a set. Strangers choose the keys, so the set is by order, where most
+/// are told apart by their marks.
 #[derive(Drop)]
 pub struct KeysSoFar {
     alloc: Global,
     keys: Vec<Key>,
-    known: BTreeSet<Key>,
+    known: BTreeSet<(u64, Key)>,
 }
 
 impl Model for KeysSoFar {
@@ -43,9 +44,11 @@ impl Part for KeysSoFar {
 
     fn read<'a>(&self, alloc: Global, bytes: &'a [u8]) -> Result<(Key, &'a [u8]), Fault> {
         let (key, rest) = read_key(alloc, bytes)?;
-        if self.known.contains(&key) {
+        let marked = (mark_of(&key), key);
+        if self.known.contains(&marked) {
             return Err(Fault::Bad);
         }
+        let (_, key) = marked;
         Ok((key, rest))
     }
 
@@ -55,7 +58,7 @@ impl Part for KeysSoFar {
             mut keys,
             mut known,
         } = self;
-        known.insert(part.copy(alloc)?)?;
+        known.insert((mark_of(&part), part.copy(alloc)?))?;
         keys.push(part)?;
         Ok(KeysSoFar { alloc, keys, known })
     }

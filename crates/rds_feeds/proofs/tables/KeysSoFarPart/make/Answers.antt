@@ -10,4 +10,4 @@ invariant_of-result c =
     let key = c.args.part in
     let copied : c.in_ok-copy.field-0 ≡ key = c.in_ok-copy.ensures.ok in
     let read = subst (λ (ks : List (List ℕ)). WasRead (new_key_at ks) key) (sym c.self.view_is) c.requires in
-    rw c.in_ok-push.ensures.items (keys_go_on keys key c.self.inside.known c.insert.new.self c.self.invariant read (rw copied at c.in_ok-insert.ensures.updates))
+    rw c.in_ok-push.ensures.items (keys_go_on keys c.mark_of.result key c.self.inside.known c.insert.new.self c.mark_of.ensures c.self.invariant read (rw copied at c.in_ok-insert.ensures.updates))
