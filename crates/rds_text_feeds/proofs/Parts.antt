@@ -124,7 +124,7 @@ is_outside : (seen live : Dots) → (IsInside live seen → ⊥) → (b : Bool) 
 is_outside seen live outside true e = absurd (outside (record { each_dot = set.is_subset-contains dots_total live seen e }))
 is_outside seen live outside false e = e
 
-bad_is_not_cut : Bad ≡ Cut → ⊥
+pub bad_is_not_cut : Bad ≡ Cut → ⊥
 bad_is_not_cut h = absurd cc
 
 pub unmarked : (s l : Dots) (p : Dots × Dots) → s ≡ p.0 → l ≡ p.1 → (IsInside l s → ⊥) → RefusesValue (marked p) Bad

@@ -9,7 +9,7 @@ use Rattle.std.specs.Cmp.{IsTotalOrder, eq_by_cmp_equiv}
 use Rattle.std.specs.FinMap as map
 use Rattle.std.proofs.lemmas.Bool.{lt-ltb, ltb-true}
 use Rattle.rds_names.specs.declared.fault.Fault.{Fault}
-use Rattle.rds_names.specs.declared.fault.Fault.TheVariants.{Bad, Cut}
+use Rattle.rds_names.specs.declared.fault.Fault.TheVariants.{Bad}
 use Rattle.rds_names.specs.Conditions.{and_true, and_left, and_right, equal_of}
 use Rattle.rds_dots.specs.declared.dot.Dot.{Dot}
 use Rattle.rds_dots.specs.Dots.{dot_cmp}
@@ -19,13 +19,12 @@ use Rattle.rds_counts.specs.PlaceOrder.{place_total, place_exact}
 use Rattle.rds_counts.specs.Counted.{Above, number_from}
 use Rattle.rds_state.specs.Value.{StateValue, coordinates}
 use Rattle.rds_state.specs.Fits.{Fits, ReplicaValue, IsReplica}
-use Rattle.rds_bytes.specs.Reading.{◌>>=◌}
 use Rattle.rds_codec.specs.FormatTexts.{Snapshot}
-use Rattle.rds_codec.specs.StateTexts.{snapshot_by}
 use Rattle.rds_codec.specs.declared.formats.Format.{Format}
 use Rattle.rds_feeds.specs.Parts.{RefusesValue}
-use Rattle.rds_text_feeds.specs.Openings.{Opening, snapshot_of_parts}
-use Rattle.rds_text_feeds.specs.Replicas.{Member, is_within, is_replica, replica_of}
+use Rattle.rds_text_feeds.specs.Openings.{Opening, replica_by, snapshot_of_parts}
+use Rattle.rds_text_feeds.specs.Replicas.{is_within, is_replica}
+use Rattle.rds_text_feeds.proofs.Parts.{bad_is_not_cut}
 
 or_left : (a b : Bool) → a ≡ true → (a || b) ≡ true
 or_left true b h = refl
@@ -82,7 +81,7 @@ module _ (replicas : ℕ) where
       and_true _ _ (keys_pass dot_cmp dots_total dots_exact dot_below v.lives (λ d has. lt-ltb d.replica replicas (fits.dots d has)))
       (keys_pass place_cmp place_total place_exact place_below v.counts (λ q has. lt-ltb q.replica replicas (fits.numbers q (is_counted (map.get v.counts q) has))))
 
-pub is_one : (v : ReplicaValue) → IsReplica v → is_replica v ≡ true
+is_one : (v : ReplicaValue) → IsReplica v → is_replica v ≡ true
 unfolding is_replica
 is_one v is = and_true _ _ (lt-ltb v.own (length v.roster.names) is.own) (fits_within (length v.roster.names) v.state is.fits)
 
@@ -97,41 +96,18 @@ is_none : (v : ReplicaValue) → (IsReplica v → ⊥) → (b : Bool) → is_rep
 is_none v other true e = absurd (other (one_is v e))
 is_none v other false e = e
 
-bad_is_not_cut : Bad ≡ Cut → ⊥
-bad_is_not_cut h = absurd cc
-
--- ---- what is made of a header and a state
-
-pub made_replica : (p : Member × StateValue) → IsReplica (snapshot_by p) → replica_of p ≡ Ok (snapshot_by p)
-made_replica p is = let test : is_replica (snapshot_by p) ≡ true = is_one (snapshot_by p) is in rw test refl
-
-abbrev ok : ReplicaValue → Result ReplicaValue Fault
-ok v = Ok v
-
-pub made_of_parts : (p : Member × StateValue) (v : ReplicaValue) → IsReplica (snapshot_by p) → (v.roster ≡ p.0.0) × ((v.own ≡ p.0.1) × (v.state ≡ p.1)) → replica_of p ≡ Ok v
-made_of_parts p v is same = made_replica p is ∙ (λ i. ok (record { roster = sym same.0 i; own = sym same.1.0 i; state = sym same.1.1 i }))
-
-pub no_replica : (p : Member × StateValue) → (IsReplica (snapshot_by p) → ⊥) → RefusesValue (replica_of p) Bad
-no_replica p other =
-    let test : is_replica (snapshot_by p) ≡ false = is_none (snapshot_by p) other (is_replica (snapshot_by p)) refl in
-    inr (bad_is_not_cut, rw test refl)
-
 -- ---- what is made of an opening and a state
 
-abbrev beside_format : Format → ReplicaValue → Result Snapshot Fault
-beside_format f v = Ok (f, v)
+pub made_replica : (p : Opening × StateValue) → IsReplica (replica_by p) → snapshot_of_parts p ≡ Ok (p.0.0, replica_by p)
+made_replica p is = let test : is_replica (replica_by p) ≡ true = is_one (replica_by p) is in rw test refl
 
-abbrev opened : Format → Result ReplicaValue Fault → Result Snapshot Fault
-opened f r = r >>= beside_format f
+abbrev beside : Format → ReplicaValue → Result Snapshot Fault
+beside f v = Ok (f, v)
 
-pub opened_replica : (p : Opening × StateValue) → IsReplica (snapshot_by (p.0.1, p.1)) → snapshot_of_parts p ≡ Ok (p.0.0, snapshot_by (p.0.1, p.1))
-opened_replica p is = ap (opened p.0.0) (made_replica (p.0.1, p.1) is)
+pub made_of_parts : (p : Opening × StateValue) (v : ReplicaValue) → IsReplica (replica_by p) → (v.roster ≡ p.0.1.0) × ((v.own ≡ p.0.1.1) × (v.state ≡ p.1)) → snapshot_of_parts p ≡ Ok (p.0.0, v)
+made_of_parts p v is same = made_replica p is ∙ (λ i. beside p.0.0 (record { roster = sym same.0 i; own = sym same.1.0 i; state = sym same.1.1 i }))
 
-pub opened_of_parts : (p : Opening × StateValue) (v : ReplicaValue) → IsReplica (snapshot_by (p.0.1, p.1)) → (v.roster ≡ p.0.1.0) × ((v.own ≡ p.0.1.1) × (v.state ≡ p.1))
-    → snapshot_of_parts p ≡ Ok (p.0.0, v)
-opened_of_parts p v is same = ap (opened p.0.0) (made_of_parts (p.0.1, p.1) v is same)
-
-pub none_opened : (p : Opening × StateValue) → (IsReplica (snapshot_by (p.0.1, p.1)) → ⊥) → RefusesValue (snapshot_of_parts p) Bad
-none_opened p other =
-    let test : is_replica (snapshot_by (p.0.1, p.1)) ≡ false = is_none (snapshot_by (p.0.1, p.1)) other (is_replica (snapshot_by (p.0.1, p.1))) refl in
+pub no_replica : (p : Opening × StateValue) → (IsReplica (replica_by p) → ⊥) → RefusesValue (snapshot_of_parts p) Bad
+no_replica p other =
+    let test : is_replica (replica_by p) ≡ false = is_none (replica_by p) other (is_replica (replica_by p)) refl in
     inr (bad_is_not_cut, rw test refl)

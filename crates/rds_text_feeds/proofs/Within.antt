@@ -32,11 +32,11 @@ use Rattle.rds_bytes.specs.TableTexts.{table_at, numbered_at}
 use Rattle.rds_bytes.proofs.Format.{bind_ok, ok_is}
 use Rattle.rds_codec.specs.FormatTexts.{state_at_in}
 use Rattle.rds_codec.specs.StateTexts.{state_by, state_at}
-use Rattle.rds_codec.specs.TabledTexts.{TabledParts, has_its_table, tabled_by, body_at, tabled_at}
+use Rattle.rds_codec.specs.TabledTexts.{has_its_table, tabled_by, body_at, tabled_at}
 use Rattle.rds_codec.specs.declared.formats.Format.{Format}
 use Rattle.rds_codec.specs.declared.formats.Format.TheVariants.{One, Two}
 use Rattle.rds_feeds.specs.WasRead.{made_read, then_read, when_read}
-use Rattle.rds_text_feeds.specs.Replicas.{Member}
+use Rattle.rds_text_feeds.specs.Openings.{Member}
 
 -- rows of which each passes a test when it is read
 module _ {A : Type 0} (f : List A → Reader A) (p : A → Bool) (passes : (before : List A) (bytes : List ℕ) (a : A) (rest : List ℕ) → f before bytes ≡ Ok (a, rest) → p a ≡ true) where
@@ -155,7 +155,7 @@ module _ (replicas : ℕ) where
   -- ---- a state
 
   -- the states that it reads have replicas below
-  abbrev pub ReadsFit : Reader StateValue → Type 0
+  abbrev ReadsFit : Reader StateValue → Type 0
   ReadsFit f = (bytes : List ℕ) (v : StateValue) (rest : List ℕ) → f bytes ≡ Ok (v, rest) → Fits replicas (coordinates v)
 
   parts_fit : (live : Dots → Reader (List (Dot × Entry))) (counters : Reader Counted) → ReadsBelow counters
@@ -172,7 +172,7 @@ module _ (replicas : ℕ) where
         numbers = λ q has. below rows.middle rows.second rest rows.second_is q has;
       })
 
-  pub state_fits : ReadsFit (state_at replicas)
+  state_fits : ReadsFit (state_at replicas)
   unfolding state_at
   state_fits = parts_fit live_rows_at (counters_at replicas) counters_below
 
@@ -196,7 +196,7 @@ module _ (replicas : ℕ) where
 
 -- ---- a roster, and the own number
 
-abbrev pub IsBelow : Member → Type 0
+abbrev IsBelow : Member → Type 0
 IsBelow m = m.1 < length m.0.names
 
 pub own_is_below : (bytes : List ℕ) (m : Member) (rest : List ℕ) → member_at bytes ≡ Ok (m, rest) → IsBelow m

@@ -1,34 +1,10 @@
 //! What a snapshot in either format begins with: four bytes that say the format, and then the roster and the own number.
-ghost use Rattle.rds_bytes.specs.Reading.{ReadsExactly};
-ghost use Rattle.rds_codec.specs.FormatTexts.{format_at};
 ghost use Rattle.rds_text_feeds.specs.Openings.{opening_at, opening_steady};
 
-use rds_bytes::{MAGIC, read_member};
-use rds_codec::Format;
+use rds_codec::{Format, read_format, read_member};
 use rds_feeds::Part;
 use rds_names::{Fault, Roster};
 use std::alloc::Global;
-
-/// What the text of a snapshot of format 2 begins with.
-const MAGIC_OF_TWO: &[u8; 4] = b"RDS2";
-
-/// The format that the first four bytes say.
-#[tactic(auto, unfolding(rds_codec::specs::FormatTexts::format_at))]
-fn read_format(bytes: &[u8]) -> Result<(Format, &[u8]), Fault>
-    ensures { ReadsExactly (λ x. (x.0, x.1.now)) result (format_at bytes.now) }
-{
-    if bytes.len() < 4 {
-        return Err(Fault::Cut);
-    }
-    let (front, rest) = bytes.split_at(4);
-    if front == MAGIC.as_slice() {
-        return Ok((Format::One, rest));
-    }
-    if front == MAGIC_OF_TWO.as_slice() {
-        return Ok((Format::Two, rest));
-    }
-    Err(Fault::Bad)
-}
 
 /// The format, the roster and the own number. They are short, and read as one part.
 #[derive(Drop)]

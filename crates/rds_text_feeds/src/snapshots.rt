@@ -1,128 +1,108 @@
-//! A snapshot: a header, and then a state of as many replicas as its roster has names.
+//! A snapshot in either format: an opening that says which, and then a state in it, of as many replicas as the roster
+//! has names.
 ghost use Rattle.std.specs.Prelude.{◌≡◌, ℕ, List};
-ghost use Rattle.rds_bytes.specs.Reading.{header_at};
-ghost use Rattle.rds_bytes.specs.SteadyParts.{header_steady};
-ghost use Rattle.rds_codec.specs.StateTexts.{snapshot_at};
+ghost use Rattle.rds_codec.specs.FormatTexts.{snapshot_in_at};
 ghost use Rattle.rds_feeds.specs.Chained.{then_finish};
 ghost use Rattle.rds_feeds.specs.Parts.{makes};
-ghost use Rattle.rds_text_feeds.specs.Replicas.{header_as_it_is, state_after, replica_of};
+ghost use Rattle.rds_text_feeds.specs.Openings.{opening_as_it_is, state_after_opening, snapshot_of_parts};
 
-use crate::states::{UnfinishedState, unfinished_state};
-use rds_codec::read_header;
+use crate::formats::{UnfinishedStateIn, unfinished_state_in};
+use crate::openings::Opening;
+use rds_codec::Format;
 use rds_dots::DotSet;
-use rds_feeds::{Beside, Following, Made, Making, Once, Part, Progress, Then, Unfinished};
+use rds_feeds::{Beside, Following, Made, Making, Once, Progress, Then, Unfinished};
 use rds_names::{Fault, Roster};
 use rds_state::{Replica, State};
 use std::alloc::Global;
 use std::marker::PhantomData;
 
-/// What a snapshot begins with: the roster and the own number. It is short, and read as one part.
-#[derive(Drop)]
-pub struct Header {}
+type Opened = (Format, (Roster, u8));
 
-impl Part for Header {
-    type Read = (Roster, u8);
+type OpenedState<S> = Beside<Opened, UnfinishedStateIn<S>>;
 
-    type Whole = (Roster, u8);
-
-    ghost reader = { λ _. header_at };
-
-    ghost made = { λ _ member. member };
-
-    fn read<'a>(&self, alloc: Global, bytes: &'a [u8]) -> Result<((Roster, u8), &'a [u8]), Fault> {
-        read_header(alloc, bytes)
-    }
-
-    fn make(self, part: (Roster, u8)) -> Result<(Roster, u8), Fault> {
-        Ok(part)
-    }
-
-    ghost steady = { λ _. header_steady };
-}
-
-/// The state after a header, of as many replicas as the roster has names.
+/// The state after an opening, in its format, of as many replicas as the roster has names.
 #[derive(Drop)]
 pub struct StateFollows<S: DotSet> {
     set: PhantomData<S>,
 }
 
-impl<S: DotSet> Following<(Roster, u8)> for StateFollows<S> {
-    type Next = Beside<(Roster, u8), UnfinishedState<S>>;
+impl<S: DotSet> Following<Opened> for StateFollows<S> {
+    type Next = OpenedState<S>;
 
-    ghost after = { λ _ member. state_after member };
+    ghost after = { λ _ o. state_after_opening o };
 
-    fn start(
-        self,
-        alloc: Global,
-        first: (Roster, u8),
-    ) -> Result<Beside<(Roster, u8), UnfinishedState<S>>, Fault> {
-        let read = unfinished_state(alloc, first.0.len());
+    fn start(self, alloc: Global, first: Opened) -> Result<OpenedState<S>, Fault> {
+        let (format, member) = first;
+        let read = unfinished_state_in(alloc, format, member.0.len());
         Ok(Beside {
-            carried: first,
+            carried: (format, member),
             read,
         })
     }
 }
 
-/// The replica of a header and a state.
+/// The replica of an opening and a state, beside the format.
 #[derive(Drop)]
-pub struct PartsAreReplica {}
+pub struct PartsAreSnapshot {}
 
-impl<S: DotSet> Making<((Roster, u8), State<S>)> for PartsAreReplica {
-    type Made = Replica<S>;
+impl<S: DotSet> Making<(Opened, State<S>)> for PartsAreSnapshot {
+    type Made = (Format, Replica<S>);
 
-    ghost made = { λ _ p. replica_of p };
+    ghost made = { λ _ p. snapshot_of_parts p };
 
-    fn make(self, whole: ((Roster, u8), State<S>)) -> Result<Replica<S>, Fault> {
-        let (member, state) = whole;
+    fn make(self, whole: (Opened, State<S>)) -> Result<(Format, Replica<S>), Fault> {
+        let (opened, state) = whole;
+        let (format, member) = opened;
         let (roster, own) = member;
         match Replica::from_parts(roster, own, state) {
-            Ok(replica) => Ok(replica),
+            Ok(replica) => Ok((format, replica)),
             Err(_) => Err(Fault::Bad),
         }
     }
 }
 
 type SnapshotParts<S> = Made<
-    Then<Once<Header>, StateFollows<S>, Beside<(Roster, u8), UnfinishedState<S>>>,
-    PartsAreReplica,
+    Then<Once<Opening>, StateFollows<S>, OpenedState<S>>,
+    PartsAreSnapshot,
 >;
 
-/// A snapshot that is being read. No more than its header, or one row or gap, is held.
+/// A snapshot that is being read, in either format. No more than what stands before its state, or one row or gap, is
+/// held, and in format 2 the table of the state.
 #[derive(Drop)]
 pub struct UnfinishedSnapshot<S: DotSet> {
     parts: SnapshotParts<S>,
 }
 
 impl<S: DotSet> Unfinished for UnfinishedSnapshot<S> {
-    type Whole = Replica<S>;
+    type Whole = (Format, Replica<S>);
 
-    ghost finish = { λ u. makes (then_finish (λ _. header_as_it_is) (λ _ member. state_after member)
-        ⟦<Beside<(Roster, u8), UnfinishedState<S>> as Unfinished>⟧.finish u.parts.from) replica_of };
+    ghost finish = { λ u. makes (then_finish (λ _. opening_as_it_is) (λ _ o. state_after_opening o)
+        ⟦<OpenedState<S> as Unfinished>⟧.finish u.parts.from) snapshot_of_parts };
 
     fn read_on<'a>(
         self,
         alloc: Global,
         bytes: &'a [u8],
-    ) -> Result<(Progress<Self, Replica<S>>, &'a [u8]), Fault> {
+    ) -> Result<(Progress<Self, (Format, Replica<S>)>, &'a [u8]), Fault> {
         let (progress, rest) = self.parts.read_on(alloc, bytes)?;
         match progress {
             Progress::More(parts) => Ok((Progress::More(UnfinishedSnapshot { parts }), rest)),
-            Progress::Whole(replica) => Ok((Progress::Whole(replica), rest)),
+            Progress::Whole(snapshot) => Ok((Progress::Whole(snapshot), rest)),
         }
     }
 }
 
-/// A snapshot of which nothing was read.
+/// A snapshot of which nothing was read: which format it is in, its first four bytes say.
 pub fn unfinished_snapshot<S: DotSet>() -> UnfinishedSnapshot<S>
-    ensures { (bytes : List ℕ) → ⟦<UnfinishedSnapshot<S> as Unfinished>⟧.finish result bytes ≡ snapshot_at bytes }
+    ensures { (bytes : List ℕ) → ⟦<UnfinishedSnapshot<S> as Unfinished>⟧.finish result bytes
+        ≡ snapshot_in_at bytes }
 {
-    let header = Once { part: Header {} };
+    let opening = Once { part: Opening {} };
     let state = StateFollows { set: PhantomData };
     UnfinishedSnapshot {
         parts: Made {
-            from: Then::First(header, state),
-            maker: PartsAreReplica {},
+            from: Then::First(opening, state),
+            maker: PartsAreSnapshot {},
         },
     }
 }

@@ -5,13 +5,11 @@ use Rattle.rds_state.specs.Value.{StateValue}
 use Rattle.rds_state.specs.Fits.{IsReplica}
 use Rattle.rds_bytes.specs.Reading.{◌>>=◌, member_at}
 use Rattle.rds_codec.specs.FormatTexts.{Snapshot, format_at, state_at_in, member_state_at, snapshot_of, snapshot_in_at}
-use Rattle.rds_codec.specs.StateTexts.{snapshot_by}
 use Rattle.rds_codec.specs.declared.formats.Format.{Format}
 use Rattle.rds_feeds.specs.Chained.{chain}
 use Rattle.rds_feeds.specs.Parts.{makes}
-use Rattle.rds_text_feeds.specs.Openings.{Opening, opening_as_it_is, state_after_opening, snapshot_of_parts}
-use Rattle.rds_text_feeds.specs.Replicas.{Member}
-use Rattle.rds_text_feeds.proofs.ReplicaTests.{opened_replica}
+use Rattle.rds_text_feeds.specs.Openings.{Member, Opening, opening_as_it_is, state_after_opening, replica_by, snapshot_of_parts}
+use Rattle.rds_text_feeds.proofs.ReplicaTests.{made_replica}
 use Rattle.rds_text_feeds.proofs.Within.{own_is_below, state_in_fits}
 
 -- as they are read one after the other
@@ -49,9 +47,9 @@ format_then f = member_state_at f.0 f.1 >>= format_beside f.0
 abbrev by_parts : (Format × (Member × StateValue)) × List ℕ → Result (Snapshot × List ℕ) Fault
 by_parts p = Ok (snapshot_of p.0, p.1)
 
-after_state : (f : Format) (m : Member) (s : Result (StateValue × List ℕ) Fault) → ((v : StateValue) (rest : List ℕ) → s ≡ Ok (v, rest) → IsReplica (snapshot_by (m, v)))
+after_state : (f : Format) (m : Member) (s : Result (StateValue × List ℕ) Fault) → ((v : StateValue) (rest : List ℕ) → s ≡ Ok (v, rest) → IsReplica (replica_by ((f, m), v)))
     → ((s >>= with_state (f, m)) >>= snapshot_made) ≡ (((s >>= state_beside m) >>= format_beside f) >>= by_parts)
-after_state f m (Ok s) is = ap (λ (r : Result Snapshot Fault). r >>= λ w. Ok (w, s.1)) (opened_replica ((f, m), s.0) (is s.0 s.1 refl))
+after_state f m (Ok s) is = ap (λ (r : Result Snapshot Fault). r >>= λ w. Ok (w, s.1)) (made_replica ((f, m), s.0) (is s.0 s.1 refl))
 after_state f m (Err e) is = refl
 
 after_member : (f : Format) (bytes : List ℕ) (m : Result (Member × List ℕ) Fault) → member_at bytes ≡ m

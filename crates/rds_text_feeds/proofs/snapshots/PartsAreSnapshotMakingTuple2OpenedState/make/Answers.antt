@@ -1,5 +1,5 @@
 use Rattle.rds_text_feeds.proofs.ReplicaTests.{made_of_parts, no_replica}
-use Rattle.rds_text_feeds.proofs.snapshots.PartsAreReplicaMakingTuple2Tuple2RosterU8State.make.Goals as goal
+use Rattle.rds_text_feeds.proofs.snapshots.PartsAreSnapshotMakingTuple2OpenedState.make.Goals as goal
 
 pub returns-in-Ok-clause-ok : goal.returns-in-Ok-clause-ok
 returns-in-Ok-clause-ok g c =
