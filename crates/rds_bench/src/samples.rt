@@ -56,9 +56,23 @@ pub fn span(alloc: Global, lo: u64, hi: u64, living: Living) -> Result<State<Gap
     requires some { lo ≤ hi }
     requires most { hi ≤ 1000020 }
 {
+    seen_with(alloc, lo, hi, rows(alloc, lo, hi, living)?)
+}
+
+/// A state that has seen these dots of replica 0, and has these rows of live ones.
+pub fn seen_with(
+    alloc: Global,
+    lo: u64,
+    hi: u64,
+    rows: Vec<(Dot, Entry)>,
+) -> Result<State<GapSet>, Fault>
+    requires least { 1 ≤ lo }
+    requires some { lo ≤ hi }
+    requires most { hi ≤ 1000020 }
+{
     let mut seen = GapSet::empty(alloc);
     seen.insert_run(Run { replica: 0, lo, hi })?;
-    match Lives::from_parts(seen, rows(alloc, lo, hi, living)?) {
+    match Lives::from_parts(seen, rows) {
         Some(lives) => Ok(State::from_parts(lives, Counts::empty(alloc))),
         None => Err(Fault::Bad),
     }
