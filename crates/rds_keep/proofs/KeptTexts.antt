@@ -1,10 +1,11 @@
--- A replica whose text is read again can be kept.
+-- A replica whose text of format 1 is read again can be kept.
 use Rattle.std.proofs.Common.{◌≡◌, ℕ, ◌≤◌, List, length, Ok, sym, subst}
 use Rattle.rds_state.specs.Fits.{ReplicaValue}
 use Rattle.rds_bytes.proofs.Format.{IsBytes}
 use Rattle.rds_codec.specs.Decoding.{all_of}
 use Rattle.rds_codec.specs.Kinds.{snapshot_kind}
 use Rattle.rds_codec.specs.StateTexts.{snapshot_text, snapshot_at}
+use Rattle.rds_codec.specs.declared.formats.Format.TheVariants.{One}
 use Rattle.rds_codec.specs.declared.limits.TheConstants.{LIMIT}
 use Rattle.rds_codec.proofs.SnapshotFormats.{snapshot_reader}
 use Rattle.rds_codec.proofs.Whole.{decodes}
@@ -14,4 +15,4 @@ pub is_kept : (v : ReplicaValue) (bytes : List ℕ) → IsBytes bytes → bytes 
 is_kept v bytes fits text within again =
     let short = subst (λ (t : List ℕ). length t ≤ LIMIT) (sym text) within in
     let decoded = decodes snapshot_kind snapshot_at snapshot_reader bytes fits short (Ok v) again in
-    record { within = within; value = decoded.value.1.is_value }
+    record { format = One; within = within; value = decoded.value.1.is_value }

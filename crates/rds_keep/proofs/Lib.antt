@@ -2,6 +2,7 @@ mod FedSoFar
 mod FeedSteps
 mod Foreign
 mod FrontSoFar
+mod Fronts
 mod KeptTexts
 pub mod PiecesSoFar
 mod ReadWhole

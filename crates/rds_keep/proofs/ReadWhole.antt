@@ -1,20 +1,20 @@
 -- An input that begins as a snapshot does, and then is fed, is decoded as a whole.
-use Rattle.std.proofs.Common.{◌≡◌, ℕ, ◌+◌, ◌-◌, ◌<◌, ◌≤◌, inl, inr, ◌⊎◌, List, [], ◌++◌, length, Option, Some, None, Result, Ok, Err, ap, sym, subst, ◌∙◌, arith}
+use Rattle.std.proofs.Common.{◌≡◌, ℕ, ◌+◌, ◌-◌, ◌<◌, ◌≤◌, inl, inr, ◌⊎◌, List, [], ◌++◌, length, Option, Some, None, Result, Ok, Err, refl, ap, sym, subst, ◌∙◌, arith}
 use Rattle.std.specs.Prelude.{IfSome}
 use Rattle.std.specs.Io.KnownBytes.{Consumes}
 use Rattle.std.proofs.lemmas.List.{length-append}
 use Rattle.rds_names.specs.declared.fault.Fault.{Fault}
 use Rattle.rds_names.specs.declared.fault.Fault.TheVariants.{Memory, Cut, Bad, Device}
-use Rattle.rds_state.specs.Fits.{ReplicaValue}
-use Rattle.rds_bytes.specs.Spelling.{magic}
-use Rattle.rds_codec.specs.Kinds.{snapshot_kind}
-use Rattle.rds_codec.specs.StateTexts.{snapshot_text, snapshot_at}
+use Rattle.rds_codec.specs.DecodedSnapshots.{DecodesSnapshot, replica_in}
+use Rattle.rds_codec.specs.FormatTexts.{Snapshot, snapshot_in_at, snapshot_kind_in, snapshot_text_in}
+use Rattle.rds_codec.specs.declared.formats.Format.{Format}
 use Rattle.rds_codec.specs.declared.limits.TheConstants.{LIMIT}
 use Rattle.rds_bytes.specs.Reading.{Reader}
 use Rattle.rds_keep.specs.Counted.{CountedValue, HasFailed, most_read}
 use Rattle.rds_keep.specs.Feeding.{FeedValue, StandsFor, Refuses, IsReadAs}
-use Rattle.rds_keep.specs.Snapshots.{IsForeign, IsShort, IsDecoded, IsUnread, ReadsWhole, WantsMoreReads}
-use Rattle.rds_keep.proofs.Foreign.{foreign_is_bad, short_is_cut, own_begins, not_hopeless}
+use Rattle.rds_keep.specs.Snapshots.{IsForeign, IsMagic, IsShort, IsUnread, ReadsWhole, WantsMoreReads}
+use Rattle.rds_keep.proofs.Foreign.{foreign_is_bad, short_is_cut, not_hopeless}
+use Rattle.rds_keep.proofs.Fronts.{begins_own, magic_is_four}
 
 -- ---- an input that doesn't begin as a snapshot does
 
@@ -42,47 +42,59 @@ each_known None each = tt
 each_known (Some input) each = each input
 
 -- the first four bytes are refused only where memory runs out
-pub magic_refused : {U : Type 0} (finish : U → Reader ReplicaValue) (feed : FeedValue U ReplicaValue) (piece : List ℕ) (e : Fault) → piece ≡ magic → StandsFor finish snapshot_at feed [] → Refuses finish feed piece e → e ≡ Memory
-magic_refused finish feed piece e is stands refuses = elim refuses [
+pub magic_refused : {U : Type 0} (finish : U → Reader Snapshot) (feed : FeedValue U Snapshot) (piece front : List ℕ) (e : Fault) → piece ≡ front → IsMagic front → StandsFor finish snapshot_in_at feed []
+    → Refuses finish feed piece e → e ≡ Memory
+magic_refused finish feed piece front e is own stands refuses = elim refuses [
   | inl memory ↦ memory
-  | inr never ↦ absurd (not_hopeless e (rw is at (never snapshot_at [] stands)))
+  | inr never ↦ absurd (not_hopeless own.0 e (rw (is ∙ own.1) at (never snapshot_in_at [] stands)))
 ]
 
-answered : (input rest : List ℕ) (r : Result ReplicaValue Fault) → input ≡ magic ++ rest → IsReadAs snapshot_kind snapshot_at (magic ++ rest) r → ReadsWhole input r
-answered input rest r same read = elim read [
+-- what was read of an input, and of the rest of it behind its first bytes
+abbrev ReadAs : List ℕ → List ℕ → Result Snapshot Fault → Type 0
+ReadAs front rest r = IsReadAs snapshot_kind_in snapshot_in_at (front ++ rest) r
+
+unread : (r : Result Snapshot Fault) → (r ≡ Err Memory) ⊎ (r ≡ Err Device) → IsUnread (replica_in r)
+unread r why = elim why [ inl memory ↦ inl (ap replica_in memory) | inr device ↦ inr (ap replica_in device) ]
+
+answered : (input rest front : List ℕ) (r : Result Snapshot Fault) → IsMagic front → input ≡ front ++ rest → ReadAs front rest r → ReadsWhole input (replica_in r)
+answered input rest front r own same read = elim read [
   | inl decoded ↦ (
-      let all : IsDecoded input r = subst (λ (t : List ℕ). IsDecoded t r) (sym same) decoded in
-      inl (record { foreign = λ is. absurd (own_begins input rest same is); own = λ _. all; within = λ _. all }))
-  | inr unread ↦ inr unread
+      let all : DecodesSnapshot input (replica_in r) = subst (λ (t : List ℕ). DecodesSnapshot t (replica_in r)) (sym same) (r, decoded.0, decoded.1, refl) in
+      inl (record { foreign = λ is. absurd (begins_own input front rest own same is); own = λ _. all; within = λ _. all }))
+  | inr why ↦ inr (unread r why)
 ]
 
-pub input_read : (first mid : Option (List ℕ)) (r : Result ReplicaValue Fault) → Consumes first mid magic → IfSome mid (λ input. IsReadAs snapshot_kind snapshot_at (magic ++ input) r) → IfSome first (λ input. ReadsWhole input r)
-input_read None mid r taken read = tt
-input_read (Some xs) None r taken read = absurd taken
-input_read (Some xs) (Some ys) r taken read = answered xs ys r taken read
+pub input_read : (first mid : Option (List ℕ)) (front : List ℕ) (r : Result Snapshot Fault) → IsMagic front → Consumes first mid front → IfSome mid (λ input. ReadAs front input r)
+    → IfSome first (λ input. ReadsWhole input (replica_in r))
+input_read None mid front r own taken read = tt
+input_read (Some xs) None front r own taken read = absurd taken
+input_read (Some xs) (Some ys) front r own taken read = answered xs ys front r own taken read
 
 -- its text
-text_is : (input rest : List ℕ) (v : ReplicaValue) → input ≡ magic ++ rest → IsReadAs snapshot_kind snapshot_at (magic ++ rest) (Ok v) → input ≡ snapshot_text v
-text_is input rest v same read = elim read [
+text_is : (input rest front : List ℕ) (s : Snapshot) → input ≡ front ++ rest → ReadAs front rest (Ok s) → input ≡ snapshot_text_in s.0 s.1
+text_is input rest front s same read = elim read [
   | inl decoded ↦ (let value = decoded.0.value in same ∙ value.1.spelled)
   | inr unread ↦ absurd (elim unread [ inl memory ↦ cc | inr device ↦ cc ])
 ]
 
-pub input_spelled : (first mid : Option (List ℕ)) (v : ReplicaValue) → Consumes first mid magic → IfSome mid (λ input. IsReadAs snapshot_kind snapshot_at (magic ++ input) (Ok v)) → IfSome first (λ input. input ≡ snapshot_text v)
-input_spelled None mid v taken read = tt
-input_spelled (Some xs) None v taken read = absurd taken
-input_spelled (Some xs) (Some ys) v taken read = text_is xs ys v taken read
+pub input_spelled : (first mid : Option (List ℕ)) (front : List ℕ) (s : Snapshot) → Consumes first mid front → IfSome mid (λ input. ReadAs front input (Ok s))
+    → IfSome first (λ input. (f : Format) × (input ≡ snapshot_text_in f s.1))
+input_spelled None mid front s taken read = tt
+input_spelled (Some xs) None front s taken read = absurd taken
+input_spelled (Some xs) (Some ys) front s taken read = (s.0, text_is xs ys front s taken read)
 
 -- the reads that are left after the first give neither all of the rest, nor more of it than may still come
-pub input_bound : (first mid : Option (List ℕ)) (turns left room : ℕ) (r : Result ReplicaValue Fault) → Consumes first mid magic → left ≤ turns → 4 ≤ most_read (turns - left) → 4 + room ≡ LIMIT
-    → IfSome mid (λ input. most_read left < length input → most_read left ≤ room → IsUnread r) → IfSome first (λ input. WantsMoreReads turns input → IsUnread r)
-input_bound None mid turns left room r taken fewer some all unread = tt
-input_bound (Some xs) None turns left room r taken fewer some all unread = absurd taken
-input_bound (Some xs) (Some ys) turns left room r taken fewer some all unread = λ more.
+pub input_bound : (first mid : Option (List ℕ)) (front : List ℕ) (turns left room : ℕ) (r : Result Snapshot Fault) → IsMagic front → Consumes first mid front → left ≤ turns → 4 ≤ most_read (turns - left)
+    → length front + room ≡ LIMIT → IfSome mid (λ input. most_read left < length input → most_read left ≤ room → (r ≡ Err Memory) ⊎ (r ≡ Err Device))
+    → IfSome first (λ input. WantsMoreReads turns input → IsUnread (replica_in r))
+input_bound None mid front turns left room r own taken fewer some all why = tt
+input_bound (Some xs) None front turns left room r own taken fewer some all why = absurd taken
+input_bound (Some xs) (Some ys) front turns left room r own taken fewer some all why = λ more.
     let many = more.all in
     let within = more.within in
-    let same = ap length taken ∙ length-append magic ys in
-    unread (omega (arith, many, same, fewer, some)) (omega (arith, within, fewer, some, all))
+    let four = magic_is_four front own in
+    let same = ap length taken ∙ length-append front ys in
+    unread r (why (omega (arith, many, same, four, fewer, some)) (omega (arith, within, four, fewer, some, all)))
 
 -- a call that failed later
 pub failed_later : {T : Type 0} (old mid new : CountedValue T) → mid.failed ≡ old.failed → HasFailed mid new → HasFailed old new

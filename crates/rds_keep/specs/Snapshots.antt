@@ -1,12 +1,11 @@
 -- What writing and reading a snapshot answer.
-use Rattle.std.specs.Prelude.{◌≡◌, ◌≢◌, ℕ, ◌<◌, ◌≤◌, ◌⊎◌, List, length, take, Result, Err}
+use Rattle.std.specs.Prelude.{◌≡◌, ℕ, ◌<◌, ◌≤◌, ◌⊎◌, List, length, take, None, Result, Err}
 use Rattle.rds_names.specs.declared.fault.Fault.{Fault}
 use Rattle.rds_names.specs.declared.fault.Fault.TheVariants.{Memory, Bad, TooLong, Device}
 use Rattle.rds_state.specs.Fits.{ReplicaValue}
-use Rattle.rds_bytes.specs.Spelling.{magic}
-use Rattle.rds_codec.specs.Decoding.{Decodes, ReadsAll}
-use Rattle.rds_codec.specs.Kinds.{snapshot_kind}
-use Rattle.rds_codec.specs.StateTexts.{snapshot_at}
+use Rattle.rds_codec.specs.DecodedSnapshots.{DecodesSnapshot}
+use Rattle.rds_codec.specs.FormatTexts.{format_of, magic_of}
+use Rattle.rds_codec.specs.declared.formats.Format.{Format}
 use Rattle.rds_codec.specs.declared.limits.TheConstants.{LIMIT}
 use Rattle.rds_keep.specs.Counted.{CountedValue, HasFailed, most_read}
 
@@ -18,24 +17,24 @@ RefusesText text old new Memory = (length text ≤ LIMIT) × (new ≡ old)
 RefusesText text old new Device = (length text ≤ LIMIT) × HasFailed old new
 RefusesText text old new e = ⊥
 
--- its first four bytes are there, and aren't those that every snapshot begins with
+-- what snapshots of a format begin with
+abbrev pub IsMagic : List ℕ → Type 0
+IsMagic bytes = (format : Format) × (bytes ≡ magic_of format)
+
+-- its first four bytes are there, and are those of no format
 abbrev pub IsForeign : List ℕ → Type 0
-IsForeign input = (4 ≤ length input) × (take 4 input ≢ magic)
+IsForeign input = (4 ≤ length input) × (format_of (take 4 input) ≡ None)
 
 -- it has fewer than four bytes, and no more than so many reads give
 abbrev pub IsShort : ℕ → List ℕ → Type 0
 IsShort reads input = (length input < 4) × (length input ≤ most_read reads)
 
--- what decoding the whole input answers
-abbrev pub IsDecoded : List ℕ → Result ReplicaValue Fault → Type 0
-IsDecoded input result = Decodes snapshot_kind input result × ReadsAll snapshot_at input result
-
 -- A foreign input is Bad, however long it is. Of one that isn't, and of each within the limit, it is what decoding
 -- the whole input answers.
 pub record IsAnswerTo (input : List ℕ) (result : Result ReplicaValue Fault) : Type 0 where
   pub foreign : IsForeign input → result ≡ Err Bad
-  pub own : (IsForeign input → ⊥) → IsDecoded input result
-  pub within : length input ≤ LIMIT → IsDecoded input result
+  pub own : (IsForeign input → ⊥) → DecodesSnapshot input result
+  pub within : length input ≤ LIMIT → DecodesSnapshot input result
 
 -- why an input wasn't read: memory ran out, or a call failed
 abbrev pub IsUnread : Result ReplicaValue Fault → Type 0

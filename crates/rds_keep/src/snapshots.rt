@@ -1,23 +1,24 @@
-//! Snapshots, written and read whole.
+//! Snapshots, written in format 1 and read whole in either.
 ghost use Rattle.std.specs.Prelude.{◌≡◌, ◌≢◌, ◌-◌, ◌≤◌, ◌⊎◌, length, Ok, Err, IfOk, IfErr, IfSome, OnOk, OnErr};
 ghost use Rattle.std.specs.FinMap as map;
 ghost use Rattle.std.specs.Io.KnownBytes.{Appends, Consumes, IsAtEnd};
 ghost use Rattle.rds_names.specs.declared.fault.Fault.TheVariants.{Memory, Cut, Bad, Device};
-ghost use Rattle.rds_bytes.specs.Spelling.{magic};
 ghost use Rattle.rds_codec.specs.Decoding.{IsOtherFault, all_of};
+ghost use Rattle.rds_codec.specs.FormatTexts.{snapshot_text_in};
 ghost use Rattle.rds_codec.specs.StateTexts.{snapshot_at, snapshot_text, IsSnapshot};
+ghost use Rattle.rds_codec.specs.declared.formats.Format.{Format};
 ghost use Rattle.rds_codec.specs.declared.limits.TheConstants.{LIMIT};
 ghost use Rattle.rds_keep.specs.Counted.{HasFailed, most_read};
 ghost use Rattle.rds_keep.specs.Kept.{IsKept};
 ghost use Rattle.rds_keep.specs.Parts.{AppendsPart, ConsumesAtMost};
-ghost use Rattle.rds_keep.specs.Snapshots.{IsForeign, IsShort, IsUnread, ReadsWhole, RefusesText, WantsMoreReads};
+ghost use Rattle.rds_keep.specs.Snapshots.{IsForeign, IsMagic, IsShort, IsUnread, ReadsWhole, RefusesText, WantsMoreReads};
 
 use crate::counted::Counted;
 use crate::feeding::{fed_with, read_fed};
 use crate::feeds::Feed;
 use crate::kept::Kept;
 use rds_bytes::MAGIC;
-use rds_codec::encode_snapshot;
+use rds_codec::{encode_snapshot, read_format};
 use rds_dots::DotSet;
 use rds_names::Fault;
 use rds_state::Replica;
@@ -64,11 +65,13 @@ pub fn write_snapshot<S: DotSet, W: Write>(
     Ok(kept)
 }
 
-/// Reads the first four bytes of all that the reader holds, which are those of every snapshot.
+/// Reads the first four bytes of all that the reader holds, by which a snapshot says its format.
 ///
-/// Refuses `Cut` where there are fewer, and `Bad` where they are others.
-fn read_magic<R: Read>(alloc: Global, reader: &mut Counted<R>) -> Result<(), Fault>
-    ensures magic { OnOk result (Consumes (R.remaining reader.old.inner) (R.remaining reader.new.inner) magic) }
+/// Refuses `Cut` where there are fewer, and `Bad` where they are those of no format.
+fn read_magic<R: Read>(alloc: Global, reader: &mut Counted<R>) -> Result<Vec<u8>, Fault>
+    ensures magic { IfOk result (λ front. IsMagic front.items) }
+    ensures bytes { IfOk result (λ front. Consumes (R.remaining reader.old.inner)
+        (R.remaining reader.new.inner) front.items) }
     ensures bound { OnOk result (4 ≤ most_read (reader.old.turns - reader.new.left)) }
     ensures bad { IfErr result (λ e. e ≡ Bad → IfSome (R.remaining reader.old.inner) IsForeign) }
     ensures cut { IfErr result (λ e. e ≡ Cut → IfSome (R.remaining reader.old.inner)
@@ -83,27 +86,24 @@ fn read_magic<R: Read>(alloc: Global, reader: &mut Counted<R>) -> Result<(), Fau
     ensures renamed { reader.new.renamed ≡ reader.old.renamed }
 {
     let front = reader.read_front(alloc, MAGIC.len())?;
-    if front.len() < MAGIC.len() {
-        return Err(Fault::Cut);
-    }
-    if front.as_slice() != MAGIC.as_slice() {
-        return Err(Fault::Bad);
-    }
-    Ok(())
+    let (_format, _rest) = read_format(front.as_slice())?;
+    Ok(front)
 }
 
-/// Reads all that the reader holds: the replica whose snapshot it is.
+/// Reads all that the reader holds: the replica whose snapshot it is, in either format.
 ///
-/// Refuses as decoding does for the whole input, of which it holds no more than the replica and a part. But
-/// an input whose first four bytes are those of no snapshot is `Bad` however long it is, and no more
-/// than these are read of it. A read that fails, and more reads than the reader's bound of turns, are
-/// `Device`.
+/// Refuses as decoding does for the whole input, of which it holds no more than the replica and a part, and in
+/// format 2 the table of its keys. But an input whose first four bytes are those of no format is `Bad` however long
+/// it is, and no more than these are read of it. A read that fails, and more reads than the reader's bound of turns,
+/// are `Device`.
+///
+/// What was read in format 2 may have too long a text in format 1, which is what is written.
 pub fn read_snapshot<S: DotSet, R: Read>(
     alloc: Global,
     reader: &mut Counted<R>,
 ) -> Result<Kept<S>, Fault>
     ensures text { IfOk result (λ kept. IfSome (R.remaining reader.old.inner)
-        (λ input. input ≡ snapshot_text kept)) }
+        (λ input. (format : Format) × (input ≡ snapshot_text_in format kept))) }
     ensures value { IfOk result (λ kept. IsSnapshot kept) }
     ensures whole { IfSome (R.remaining reader.old.inner) (λ input. ReadsWhole input result) }
     ensures bound { IfSome (R.remaining reader.old.inner) (λ input. WantsMoreReads reader.old.turns input
@@ -117,8 +117,8 @@ pub fn read_snapshot<S: DotSet, R: Read>(
     ensures turns { reader.new.turns ≡ reader.old.turns }
     ensures renamed { reader.new.renamed ≡ reader.old.renamed }
 {
-    read_magic(alloc, reader)?;
-    let feed = fed_with(Feed::snapshot(alloc), MAGIC.as_slice())?;
-    let replica = read_fed(feed, reader)?;
+    let front = read_magic(alloc, reader)?;
+    let feed = fed_with(Feed::snapshot(alloc), front.as_slice())?;
+    let (_format, replica) = read_fed(feed, reader)?;
     Ok(Kept::new(replica))
 }

@@ -4,13 +4,14 @@ ghost use Rattle.rds_codec.specs.AnswerTexts.{answer_kind, answer_at};
 ghost use Rattle.rds_codec.specs.CertificateTexts.{certificate_kind, certificate_at};
 ghost use Rattle.rds_codec.specs.DigestTexts.{digest_kind, digest_at};
 ghost use Rattle.rds_codec.specs.HelloTexts.{hello_kind, hello_at};
-ghost use Rattle.rds_codec.specs.Kinds.{state_kind, snapshot_kind};
-ghost use Rattle.rds_codec.specs.StateTexts.{state_at, snapshot_at};
+ghost use Rattle.rds_codec.specs.FormatTexts.{snapshot_in_at, snapshot_kind_in};
+ghost use Rattle.rds_codec.specs.Kinds.{state_kind};
+ghost use Rattle.rds_codec.specs.StateTexts.{state_at};
 ghost use Rattle.rds_codec.proofs.AnswerFormats.{answer_reader};
+ghost use Rattle.rds_codec.proofs.BothSnapshots.{snapshot_in_reader};
 ghost use Rattle.rds_codec.proofs.CertificateFormats.{certificate_reader};
 ghost use Rattle.rds_codec.proofs.DigestFormats.{digest_reader};
 ghost use Rattle.rds_codec.proofs.HelloFormats.{hello_reader};
-ghost use Rattle.rds_codec.proofs.SnapshotFormats.{snapshot_reader};
 ghost use Rattle.rds_codec.proofs.StateFormats.{state_reader};
 ghost use Rattle.rds_keep.specs.Feeding.{StandsFor};
 ghost use Rattle.rds_keep.specs.FedTexts.{decodes_texts};
@@ -87,15 +88,15 @@ impl Fed for UnfinishedHello {
 }
 
 impl<S: DotSet> Fed for UnfinishedSnapshot<S> {
-    ghost kind = { λ _. snapshot_kind };
+    ghost kind = { λ _. snapshot_kind_in };
 
-    ghost reader = { λ _. snapshot_at };
+    ghost reader = { λ _. snapshot_in_at };
 
     fn begin(_alloc: Global, _replicas: u16) -> UnfinishedSnapshot<S> {
         unfinished_snapshot()
     }
 
-    ghost decodes = { λ _. decodes_texts snapshot_kind snapshot_at snapshot_reader };
+    ghost decodes = { λ _. decodes_texts snapshot_kind_in snapshot_in_at snapshot_in_reader };
 }
 
 impl<S: DotSet> Feed<UnfinishedState<S>> {
@@ -144,9 +145,10 @@ impl Feed<UnfinishedHello> {
 }
 
 impl<S: DotSet> Feed<UnfinishedSnapshot<S>> {
-    /// A feed of a snapshot, that was given no bytes yet. Takes no memory.
+    /// A feed of a snapshot in either format, that was given no bytes yet. It ends as the replica and its format. Takes
+    /// no memory.
     pub fn snapshot(alloc: Global) -> Feed<UnfinishedSnapshot<S>>
-        ensures { StandsFor ⟦<UnfinishedSnapshot<S> as Unfinished>⟧.finish snapshot_at result [] }
+        ensures { StandsFor ⟦<UnfinishedSnapshot<S> as Unfinished>⟧.finish snapshot_in_at result [] }
     {
         Feed::of(alloc, unfinished_snapshot())
     }
