@@ -33,6 +33,14 @@ fn measure<S: DotSet>(replica: &Replica<S>) -> (u16, u128)
     )
 }
 
+/// The length of the text of the replica's snapshot in format 1, be it within the limit or not.
+pub fn snapshot_length<S: DotSet>(replica: &Replica<S>) -> u128
+    ensures { result ≡ length (snapshot_text replica.now) }
+{
+    let (_rows, length) = measure(replica);
+    length
+}
+
 fn put_snapshot<S: DotSet>(
     out: &mut Vec<u8>,
     replica: &Replica<S>,

@@ -2,13 +2,12 @@
 ghost use Rattle.std.specs.Prelude.{◌≡◌, IfErr, IfOk, length, string_bytes};
 ghost use Rattle.serde_json.specs.Data.{string};
 ghost use Rattle.serde_json.specs.Written.{compact_text};
-ghost use Rattle.rds_keep.specs.Kept.{IsKept};
 ghost use Rattle.rds_names.specs.declared.fault.Fault.TheVariants.{Memory};
 ghost use Rattle.rds_tree.specs.Document.{sums_of};
 ghost use Rattle.rds_tree.specs.Shown.{shown_view};
 ghost use Rattle.rds_lines.specs.Overview.{AreAmounts, TellsOverview, dead_count, much_text, overview_text, own_name, sum_count};
 
-use rds_codec::encode_snapshot;
+use rds_codec::snapshot_length;
 use rds_dots::DotSet;
 use rds_json::{show_names, show_text};
 use rds_keep::Kept;
@@ -26,11 +25,11 @@ pub struct Amounts {
     dead: u64,
     counters: u64,
     components: u128,
-    bytes: u64,
+    bytes: u128,
 }
 
 /// Tells whose replica this is and how much there is of it: its live entries, dots of dead ones, counters and
-/// components, and the bytes of its snapshot.
+/// components, and the bytes of its snapshot in format 1.
 pub fn describe<S: DotSet>(alloc: Global, kept: &Kept<S>) -> Result<Reply, Fault>
     ensures told { IfOk result (TellsOverview kept.now) }
     ensures memory { IfErr result (λ fault. fault ≡ Memory) }
@@ -40,13 +39,11 @@ pub fn describe<S: DotSet>(alloc: Global, kept: &Kept<S>) -> Result<Reply, Fault
     Ok(Reply::Shown(overview_line(alloc, replica, amounts)?))
 }
 
-// How much there is of a replica that can be kept.
+// How much there is of a replica.
 fn amounts_of<S: DotSet>(alloc: Global, replica: &Replica<S>) -> Result<Amounts, Fault>
-    requires { IsKept replica.now }
     ensures are { IfOk result (AreAmounts replica.now) }
     ensures memory { IfErr result (λ fault. fault ≡ Memory) }
 {
-    let text = encode_snapshot(alloc, replica)?;
     let state = replica.state();
     let live = state.lives().live_len() as u64;
     Ok(Amounts {
@@ -54,7 +51,7 @@ fn amounts_of<S: DotSet>(alloc: Global, replica: &Replica<S>) -> Result<Amounts,
         dead: dead_count(state.lives()),
         counters: counter_count(alloc, state)?,
         components: state.components(),
-        bytes: text.len() as u64,
+        bytes: snapshot_length(replica),
     })
 }
 
