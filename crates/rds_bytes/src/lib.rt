@@ -2,10 +2,10 @@
 //!
 //! To be read in this order: `numbers` and `strings`; `list`, by which parts are read one after the other; `keys`, and
 //! `sources`, which say where the keys of rows come from; `paths`, `scalars`, `entries` and `live_rows`; `counters`;
-//! `tables`, which are read and then give the keys of rows by their numbers; `numbering`, which numbers the keys that
-//! rows use, and `numbered`, which writes a table and rows over numbers; `roster` and `header`; `dots`, and `dot_rows`
-//! for sets of which a row comes in pieces; `laws`, which has the text of sets in their own words, of each reader that
-//! what it says stays said, whatever follows, and the laws of tables.
+//! `marks`, by which most keys are told apart; `tables`, which are read and then give the keys of rows by their numbers;
+//! `numbering`, which numbers the keys that rows use, and `numbered`, which writes a table and rows over numbers;
+//! `roster` and `header`; `dots`, and `dot_rows` for sets of which a row comes in pieces; `laws`, which has the text of
+//! sets in their own words, of each reader that what it says stays said, whatever follows, and the laws of tables.
 #![tactic(auto)]
 
 mod counters;

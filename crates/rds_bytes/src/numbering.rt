@@ -1,11 +1,10 @@
 //! Numbering the keys that rows use, in the order in which they come.
-ghost use Rattle.std.specs.Prelude.{◌≡◌, ◌++◌, ◌∷◌, [], false, length, fold, map as each, slice_get, Some, IsTrue, OnOk, IfOk, IfErr};
+ghost use Rattle.std.specs.Prelude.{◌≡◌, ◌++◌, ◌∷◌, [], fold, map as each, slice_get, Some, IsTrue, OnOk, IfOk, IfErr};
 ghost use Rattle.rds_names.specs.declared.fault.Fault.TheVariants.{Memory};
 ghost use Rattle.rds_life.specs.Life.{live_rows};
 ghost use Rattle.rds_counts.specs.RowsOf.{count_rows};
-ghost use Rattle.rds_bytes.specs.Marks.{mark as mark_of};
-ghost use Rattle.rds_bytes.specs.Numbers.{AreNumbered, numbers_from, place_in};
-ghost use Rattle.rds_bytes.specs.Table.{has_key, add_key, number_of, rows_table, live_keys, counter_keys, used_keys};
+ghost use Rattle.rds_bytes.specs.Numbers.{AreNumbered, numbers_from};
+ghost use Rattle.rds_bytes.specs.Table.{add_key, number_of, rows_table, live_keys, counter_keys, used_keys};
 
 use crate::marks::mark_of;
 use rds_counts::{CountRow, Counts};
@@ -42,30 +41,21 @@ impl<'a> Numbering<'a> {
         }
     }
 
-    /// Gives a new key the next number.
-    fn add_new(&mut self, alloc: Global, mark: u64, key: &'a Key) -> Result<usize, Fault>
-        requires numbered { AreNumbered self.old.places self.old.keys.items }
-        requires marked { mark ≡ mark_of key.now }
-        requires new { has_key self.old.keys.items key.now ≡ false }
+    /// The number of a key by a look-up, which gives a new key the next number.
+    fn look_up(&mut self, alloc: Global, key: &'a Key) -> Result<usize, Fault>
+        requires { AreNumbered self.old.places self.old.keys.items }
         ensures numbered { OnOk result (AreNumbered self.new.places self.new.keys.items) }
-        ensures keys { OnOk result (self.new.keys.items ≡ self.old.keys.items ++ key.now ∷ []) }
-        ensures number { IfOk result (λ number. number ≡ length self.old.keys.items) }
+        ensures keys { OnOk result (self.new.keys.items ≡ add_key self.old.keys.items key.now) }
+        ensures number { IfOk result (λ number. number ≡ number_of self.old.keys.items key.now) }
         ensures numbers { self.new.numbers.items ≡ self.old.numbers.items }
         ensures memory { IfErr result (λ fault. fault ≡ Memory) }
     {
-        let number = self.keys.len();
-        self.places.insert((mark, key), number)?;
-        self.keys.push(key.copy(alloc)?)?;
+        let next = self.keys.len();
+        let number = *self.places.entry((mark_of(key), key))?.or_insert(next);
+        if number == next {
+            self.keys.push(key.copy(alloc)?)?;
+        }
         Ok(number)
-    }
-
-    /// The number of a key that has one.
-    fn find(&self, mark: u64, key: &'a Key) -> Option<usize>
-        requires numbered { AreNumbered self.now.places self.now.keys.items }
-        requires marked { mark ≡ mark_of key.now }
-        ensures { result ≡ place_in self.now.keys.items key.now }
-    {
-        self.places.get(&(mark, key)).copied()
     }
 
     /// The number of a key, which is the next one where it has none. Where the guess is right, nothing is looked up.
@@ -80,11 +70,7 @@ impl<'a> Numbering<'a> {
         if self.has_at(guess, key) {
             return Ok(guess);
         }
-        let mark = mark_of(key);
-        if let Some(number) = self.find(mark, key) {
-            return Ok(number);
-        }
-        self.add_new(alloc, mark, key)
+        self.look_up(alloc, key)
     }
 
     /// Notes the number of a key.
