@@ -28,6 +28,21 @@ struct Numbering<'a> {
     places: BTreeMap<(u64, &'a Key), usize>,
     keys: Vec<Key>,
     numbers: Vec<usize>,
+    /// By the number of a key, that of the key which last came where this one was guessed.
+    followers: Vec<usize>,
+}
+
+/// Notes what came where a key was guessed. Keys get their numbers in turn, so a new one has the next place.
+fn follow(followers: &mut Vec<usize>, guess: usize, number: usize) -> Result<(), Fault>
+    ensures { IfErr result (λ fault. fault ≡ Memory) }
+{
+    if number == followers.len() {
+        followers.push(number)?;
+    }
+    if let Some(last) = followers.get_mut(guess) {
+        *last = number;
+    }
+    Ok(())
 }
 
 impl<'a> Numbering<'a> {
@@ -58,7 +73,13 @@ impl<'a> Numbering<'a> {
         Ok(number)
     }
 
-    /// The number of a key, which is the next one where it has none. Where the guess is right, nothing is looked up.
+    /// What last came where a key was guessed, as a guess.
+    fn follower(&self, guess: usize) -> usize {
+        self.followers.get(guess).copied().unwrap_or(0)
+    }
+
+    /// The number of a key, which is the next one where it has none. Where a guess is right, nothing is looked up. The
+    /// second guess is what last came where the first one was wrong.
     fn number(&mut self, alloc: Global, guess: usize, key: &'a Key) -> Result<usize, Fault>
         requires { AreNumbered self.old.places self.old.keys.items }
         ensures numbered { OnOk result (AreNumbered self.new.places self.new.keys.items) }
@@ -70,7 +91,13 @@ impl<'a> Numbering<'a> {
         if self.has_at(guess, key) {
             return Ok(guess);
         }
-        self.look_up(alloc, key)
+        let second = self.follower(guess);
+        if self.has_at(second, key) {
+            return Ok(second);
+        }
+        let number = self.look_up(alloc, key)?;
+        follow(&mut self.followers, guess, number)?;
+        Ok(number)
     }
 
     /// Notes the number of a key.
@@ -164,6 +191,7 @@ fn no_keys<'a>(alloc: Global) -> Numbering<'a>
         places: BTreeMap::new(alloc),
         keys: Vec::new(alloc),
         numbers: Vec::new(alloc),
+        followers: Vec::new(alloc),
     }
 }
 
@@ -187,6 +215,7 @@ pub fn number_keys<S: DotSet>(
         places: _places,
         keys,
         numbers,
+        followers: _followers,
     } = numbering;
     Ok(NumberedKeys { keys, numbers })
 }
