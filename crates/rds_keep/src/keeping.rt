@@ -1,7 +1,8 @@
 //! A replica that takes its old text's place.
-ghost use Rattle.std.specs.Prelude.{◌≡◌, true, false, is_ok, IfOk, IfErr, OnOk, OnErr};
+ghost use Rattle.std.specs.Prelude.{◌≡◌, ◌≤◌, true, false, is_ok, length, IfOk, IfErr, OnOk, OnErr};
 ghost use Rattle.std.specs.Io.KnownBytes.{Appends};
 ghost use Rattle.rds_codec.specs.StateTexts.{snapshot_text};
+ghost use Rattle.rds_codec.specs.declared.limits.TheConstants.{LIMIT};
 ghost use Rattle.rds_keep.specs.Parts.{AppendsFront};
 ghost use Rattle.rds_keep.specs.Snapshots.{RefusesText};
 
@@ -33,6 +34,7 @@ pub fn keep_in<S: DotSet, P: Place>(
     ensures renamed { place.new.renamed ≡ is_ok result }
     ensures front { OnErr result (AppendsFront (P.contents place.old.inner)
         (P.contents place.new.inner) (snapshot_text replica.now)) }
+    ensures limit { OnOk result (length (snapshot_text replica.now) ≤ LIMIT) }
     ensures refused { IfErr result (RefusesText (snapshot_text replica.now) place.old place.new) }
     ensures steady { OnOk result (place.new.failed ≡ place.old.failed) }
     ensures turns { place.new.turns ≡ place.old.turns }

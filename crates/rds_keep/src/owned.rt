@@ -31,6 +31,7 @@ pub fn write_owned<S: DotSet, W: Write>(
         (W.contents writer.new.inner) (snapshot_text replica)) }
     ensures part { OnErr result (AppendsPart (W.contents writer.old.inner)
         (W.contents writer.new.inner) (snapshot_text replica)) }
+    ensures limit { OnOk result (length (snapshot_text replica) ≤ LIMIT) }
     ensures refused { IfErr result (RefusesText (snapshot_text replica) writer.old writer.new) }
     ensures steady { OnOk result (writer.new.failed ≡ writer.old.failed) }
     ensures turns { writer.new.turns ≡ writer.old.turns }
@@ -61,6 +62,7 @@ pub fn keep_owned<S: DotSet, P: Place>(
     ensures renamed { place.new.renamed ≡ is_ok result }
     ensures front { OnErr result (AppendsFront (P.contents place.old.inner)
         (P.contents place.new.inner) (snapshot_text replica)) }
+    ensures limit { OnOk result (length (snapshot_text replica) ≤ LIMIT) }
     ensures refused { IfErr result (RefusesText (snapshot_text replica) place.old place.new) }
     ensures steady { OnOk result (place.new.failed ≡ place.old.failed) }
     ensures turns { place.new.turns ≡ place.old.turns }

@@ -51,6 +51,7 @@ pub fn write_snapshot<S: DotSet, W: Write>(
         (W.contents writer.new.inner) (snapshot_text replica.now)) }
     ensures part { OnErr result (AppendsPart (W.contents writer.old.inner)
         (W.contents writer.new.inner) (snapshot_text replica.now)) }
+    ensures limit { OnOk result (length (snapshot_text replica.now) ≤ LIMIT) }
     ensures refused { IfErr result (RefusesText (snapshot_text replica.now) writer.old writer.new) }
     ensures steady { OnOk result (writer.new.failed ≡ writer.old.failed) }
     ensures turns { writer.new.turns ≡ writer.old.turns }
