@@ -1,6 +1,7 @@
 -- The first bytes of an input, by which a snapshot says its format.
 use Rattle.std.proofs.Common.{◌≡◌, ℕ, ◌-◌, ◌<◌, ◌≤◌, inl, inr, ◌⊎◌, Bool, true, false, cond, ltb, List, ◌++◌, length, take, drop, Option, Some, None, Result, Ok, Err, refl, sym, ap, subst, ◌∙◌, arith}
 use Rattle.std.specs.Prelude.{IfSome, if◌then◌else◌}
+use Rattle.std.specs.Io.KnownBytes.{Consumes}
 use Rattle.std.specs.Str.{bytes_eq}
 use Rattle.std.proofs.lemmas.Bool.{ltb-true, ltb-false}
 use Rattle.std.proofs.lemmas.Slice.Eq.{bytes_eq-Decides}
@@ -133,3 +134,8 @@ none_foreign f t same none = let says = ap format_of same ∙ magic_says f in le
 pub begins_own : (input front rest : List ℕ) → IsMagic front → input ≡ front ++ rest → IsForeign input → ⊥
 begins_own input front rest is same foreign =
     none_foreign is.0 (take 4 input) (ap (take 4) (same ∙ ap (λ (t : List ℕ). t ++ rest) is.1) ∙ begins is.0 rest) foreign.1
+
+pub never_foreign : (Q : Type 0) (first mid : Option (List ℕ)) (front : List ℕ) → IsMagic front → Consumes first mid front → IfSome first (λ input. IsForeign input → Q)
+never_foreign Q None mid front is taken = tt
+never_foreign Q (Some xs) None front is taken = absurd taken
+never_foreign Q (Some xs) (Some ys) front is taken = λ foreign. absurd (begins_own xs front ys is taken foreign)

@@ -2,7 +2,9 @@ use Rattle.std.proofs.Common.{◌≡◌, [], Ok, Err, ap, inl, inr, refl}
 use Rattle.std.proofs.lemmas.Result.{err_from_is_err_and}
 use Rattle.rds_names.specs.declared.fault.Fault.TheVariants.{Memory, Device}
 use Rattle.rds_codec.specs.FormatTexts.{snapshot_in_at}
+use Rattle.rds_keep.specs.Parts.{ConsumesAtMost}
 use Rattle.rds_keep.specs.Snapshots.{IsUnread, ReadsWhole, WantsMoreReads}
+use Rattle.rds_keep.proofs.Fronts.{never_foreign}
 use Rattle.rds_keep.proofs.ReadWhole.{input_refused, each_known, magic_refused, input_read, input_spelled, input_bound, failed_later}
 use Rattle.rds_keep.proofs.snapshots.read_snapshot.Goals as goal
 
@@ -66,6 +68,11 @@ returns-in_err-_format-clause-counted g c =
     rw (p.1, p.2) (λ is. failed_later c.args.reader.now c.read_magic.new.reader c.read_fed.new.reader (c.in_ok-front.ensures.steady (λ wrong. absurd cc))
     (c.in_err-_format.ensures.counted 0 c.in_ok-front.front.items stands (let same : c.in_err-_format.field-0.0 ≡ Device = cc in ap Err same)))
 
+pub returns-in_err-_format-clause-foreign : goal.returns-in_err-_format-clause-foreign
+returns-in_err-_format-clause-foreign g c =
+    never_foreign (ConsumesAtMost (g.R.Read.remaining c.args.reader.now.inner) (g.R.Read.remaining c.read_fed.new.reader.inner) 4) (g.R.Read.remaining c.args.reader.now.inner)
+    (g.R.Read.remaining c.read_magic.new.reader.inner) c.in_ok-front.front.items c.in_ok-front.ensures.magic c.in_ok-front.ensures.bytes
+
 -- ---- it is read
 
 pub new-requires : goal.new-requires
@@ -90,3 +97,8 @@ returns-clause-bound g c =
     let stands = rw c.as_slice.ensures.value at (c.in_ok-feed.ensures.adds snapshot_in_at [] c.snapshot.ensures) in
     rw c.new.ensures (input_bound (g.R.Read.remaining c.args.reader.now.inner) (g.R.Read.remaining c.read_magic.new.reader.inner) c.in_ok-front.front.items c.args.reader.now.turns c.read_magic.new.reader.left c.in_ok-feed.feed.left
     (Ok (c.in_ok-_format._format, c.in_ok-_format.replica)) c.in_ok-front.ensures.magic c.in_ok-front.ensures.bytes c.in_ok-front.ensures.left c.in_ok-front.ensures.bound stands.room c.in_ok-_format.ensures.bound)
+
+pub returns-clause-foreign : goal.returns-clause-foreign
+returns-clause-foreign g c =
+    never_foreign (ConsumesAtMost (g.R.Read.remaining c.args.reader.now.inner) (g.R.Read.remaining c.read_fed.new.reader.inner) 4) (g.R.Read.remaining c.args.reader.now.inner)
+    (g.R.Read.remaining c.read_magic.new.reader.inner) c.in_ok-front.front.items c.in_ok-front.ensures.magic c.in_ok-front.ensures.bytes
