@@ -1,5 +1,5 @@
 -- Two snapshots are joined to one thing alone, so the answer to their lines is known.
-use Rattle.std.proofs.Common.{◌≡◌, ◌≢◌, ℕ, inl, inr, false, List, length, Result, Ok, Err, refl, sym, ap, ◌∙◌, subst, ltb, arith}
+use Rattle.std.proofs.Common.{◌≡◌, ◌≢◌, ◌≤◌, ℕ, inl, inr, false, List, length, Result, Ok, Err, refl, sym, ap, ◌∙◌, subst, ltb, arith}
 use Rattle.std.specs.Ordering.{is_lt}
 use Rattle.std.specs.declared.cmp.Ordering.{Ordering}
 use Rattle.std.specs.declared.cmp.Ordering.TheVariants.{Less, Equal, Greater}
@@ -7,7 +7,7 @@ use Rattle.std.proofs.lemmas.Bool.{le-ltb}
 use Rattle.hex.proofs.HexLemmas.{decode_of-ok}
 use Rattle.rds_names.specs.Roster.{RosterValue}
 use Rattle.rds_names.specs.declared.fault.Fault.{Fault}
-use Rattle.rds_names.specs.declared.fault.Fault.TheVariants.{Conflict, WrongGroup, WrongRoster}
+use Rattle.rds_names.specs.declared.fault.Fault.TheVariants.{Memory, Conflict, WrongGroup, WrongRoster}
 use Rattle.rds_dots.specs.declared.dot.Dot.{Dot}
 use Rattle.rds_dots.specs.Dots.{dot_cmp}
 use Rattle.rds_dots.specs.Order.{dots_exact, after_before}
@@ -19,7 +19,11 @@ use Rattle.rds_lines.specs.Join.{line_limit, ReadsLine, IsJoined, JoinedTo, Text
 use Rattle.rds_lines.specs.JoinLaws.{SpellsLine, SpellsBoth, IsJoinedOnce, AnswersSpelled}
 use Rattle.rds_lines.specs.Lines.{until_newline, after_line}
 use Rattle.rds_state.specs.Fits.{ReplicaValue}
-use Rattle.rds_codec.specs.StateTexts.{snapshot_text}
+use Rattle.rds_codec.specs.DecodedSnapshots.{replica_in, DecodesSnapshot}
+use Rattle.rds_codec.specs.FormatTexts.{Snapshot, snapshot_text_in}
+use Rattle.rds_codec.specs.StateTexts.{IsSnapshot}
+use Rattle.rds_codec.specs.declared.formats.Format.{Format}
+use Rattle.rds_codec.specs.declared.limits.TheConstants.{LIMIT}
 
 -- what two snapshots may be joined to
 data Cases (v w : ReplicaValue) (a : Result ReplicaValue Fault) : Type 0 where
@@ -102,16 +106,23 @@ joined_once v w a b h k = elim (cases v w a h) [
   | first_conflict d e meet first ↦ conflict_else v w a b d e meet first (cases v w b k)
 ]
 
--- a line that spells a snapshot is read as it
+-- what reads the bytes of a snapshot in a format reads this snapshot
+decoded_spelled : (format : Format) (v : ReplicaValue) (bytes : List ℕ) (r : Result ReplicaValue Fault) → IsSnapshot v → bytes ≡ snapshot_text_in format v → length bytes ≤ LIMIT → r ≢ Err Memory → DecodesSnapshot bytes r → r ≡ Ok v
+decoded_spelled format v bytes r is_snapshot spelled within memory decoded =
+    let read : Result Snapshot Fault = decoded.0 in
+    let same : r ≡ replica_in read = decoded.3 in
+    elim (decoded.1.found (format, v) within (record { is_value = is_snapshot; spelled = spelled })) [
+      | inl is ↦ same ∙ ap replica_in is
+      | inr none ↦ absurd (memory (same ∙ ap replica_in none))
+    ]
+
+-- a line that spells a snapshot in either format is read as it
 read_spelled : (line : List ℕ) (v : ReplicaValue) (r : Result ReplicaValue Fault) → SpellsLine line v → ReadsLine line r → r ≡ Ok v
 read_spelled line v r spells reads =
-    let long = (decode_of-ok line (snapshot_text v) spells.digits).2 in
+    let text = snapshot_text_in spells.format v in
+    let long = (decode_of-ok line text spells.digits).2 in
     let short : ltb line_limit (length line) ≡ false = le-ltb line_limit (length line) (omega (arith, long, spells.within)) in
-    let read = rw (short, spells.digits) at reads.1 in
-    elim (read.0.found v spells.within (record { is_value = spells.is_snapshot; spelled = refl })) [
-      | inl is ↦ is
-      | inr memory ↦ absurd (reads.0 memory)
-    ]
+    decoded_spelled spells.format v text r spells.is_snapshot refl spells.within reads.0 (rw (short, spells.digits) at reads.1)
 
 spelled : (input : List ℕ) (v w : ReplicaValue) (joined : Result ReplicaValue Fault) (r : Result (List ℕ) Fault) → SpellsBoth input v w → JoinedTo v w joined → JoinsTo input r → TextOfJoined joined r
 spelled input v w joined r both is h =

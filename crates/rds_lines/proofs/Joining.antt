@@ -4,6 +4,7 @@ use Rattle.std.specs.Prelude.{MatchResult, IfErr}
 use Rattle.std.specs.Global.{Vec}
 use Rattle.std.proofs.lemmas.Bool.{eqb-true, leb-false, leb-true, lt-ltb, le-ltb}
 use Rattle.std.proofs.lemmas.List.{nil_from_length}
+use Rattle.hex.specs.Hex.{decode_of}
 use Rattle.rds_names.specs.declared.fault.Fault.{Fault}
 use Rattle.rds_names.specs.declared.fault.Fault.TheVariants.{Memory, TooLong}
 use Rattle.rds_names.specs.Roster.{RosterValue}
@@ -12,16 +13,23 @@ use Rattle.rds_state.specs.Fits.{Fits, ReplicaValue, IsReplica}
 use Rattle.rds_state.specs.Grown.{longer}
 use Rattle.rds_state.specs.Value.{StateValue, coordinates}
 use Rattle.rds_state.proofs.FitsLemmas.{fits_more, join_fits}
+use Rattle.rds_codec.specs.DecodedSnapshots.{DecodesSnapshot}
 use Rattle.rds_codec.specs.StateTexts.{snapshot_text}
 use Rattle.rds_codec.specs.Writing.{Encodes}
 use Rattle.rds_codec.specs.declared.limits.TheConstants.{LIMIT}
-use Rattle.rds_lines.specs.Join.{JoinedTo, TextOfJoined, AfterBoth}
+use Rattle.rds_lines.specs.Join.{line_limit, LineRead, JoinedTo, TextOfJoined, AfterBoth}
 
 abbrev done : {A : Type 0} → A → Result A Fault
 done v = Ok v
 
 abbrev failed : {A : Type 0} → Fault → Result A Fault
 failed e = Err e
+
+-- the digits' bytes are decoded as the line is read
+pub line_decoded : (line bytes items : List ℕ) (r : Result ReplicaValue Fault) → length line ≤ line_limit → decode_of line ≡ Ok items → bytes ≡ items → DecodesSnapshot bytes r → LineRead line r
+line_decoded line bytes items r short digits same decoded =
+    let within : ltb line_limit (length line) ≡ false = le-ltb line_limit (length line) short in
+    rw (within, digits) (subst (λ (b : List ℕ). DecodesSnapshot b r) same decoded)
 
 -- a join that was refused is the answer
 pub join_refused : (rest : List ℕ) (v w : ReplicaValue) (e : Fault) → rest ≡ [] → (e ≡ Memory) ⊎ JoinedTo v w (Err e) → (e ≡ Memory) ⊎ AfterBoth rest v w (Err e)

@@ -6,9 +6,8 @@ use Rattle.rds_names.specs.declared.fault.Fault.TheVariants.{Memory, Conflict, B
 use Rattle.rds_life.specs.Life.{IsFirstConflict}
 use Rattle.rds_state.specs.Coordinates.{AreCompatible, join}
 use Rattle.rds_state.specs.Value.{coordinates}
-use Rattle.rds_codec.specs.Decoding.{Decodes, ReadsAll}
-use Rattle.rds_codec.specs.Kinds.{snapshot_kind}
-use Rattle.rds_codec.specs.StateTexts.{snapshot_at, snapshot_text}
+use Rattle.rds_codec.specs.DecodedSnapshots.{DecodesSnapshot}
+use Rattle.rds_codec.specs.StateTexts.{snapshot_text}
 use Rattle.rds_lines.specs.Lines.{until_newline, after_line}
 use Rattle.rds_state.specs.Fits.{ReplicaValue}
 use Rattle.rds_state.specs.Grown.{OneBegins, longer}
@@ -17,9 +16,9 @@ use Rattle.rds_codec.specs.declared.limits.TheConstants.{LIMIT}
 abbrev pub line_limit : ℕ
 line_limit = 536870912
 
--- the bytes of the digits are read from the left, or there are other characters
+-- the bytes of the digits are read from the left, in the format that they say, or there are other characters
 abbrev pub DigitsRead : {E : Type 0} → Result (List ℕ) E → Result ReplicaValue Fault → Type 0
-DigitsRead (Ok bytes) r = Decodes snapshot_kind bytes r × ReadsAll snapshot_at bytes r
+DigitsRead (Ok bytes) r = DecodesSnapshot bytes r
 DigitsRead (Err e) r = r ≡ Err Bad
 
 -- a line over the limit is too long, whatever it holds
@@ -47,7 +46,7 @@ JoinedTo v w (Err (Conflict replica seq)) =
     OneBegins v.roster w.roster × IsFirstConflict v.state.lives w.state.lives (record { replica = replica; seq = seq })
 JoinedTo v w (Err _) = ⊥
 
--- the text of what was joined, where it is within the limit
+-- the text of what was joined in format 1, where it is within the limit
 abbrev pub TextOfJoined : Result ReplicaValue Fault → Result (List ℕ) Fault → Type 0
 TextOfJoined (Ok both) r =
     MatchBool (nat_lt LIMIT (length (snapshot_text both))) (r ≡ Err TooLong) (r ≡ Ok (snapshot_text both))

@@ -3,17 +3,20 @@ use Rattle.std.specs.Prelude.{◌≡◌, ◌≤◌, ◌⊎◌, ℕ, List, [], le
 use Rattle.hex.specs.Hex.{decode_of}
 use Rattle.rds_names.specs.declared.fault.Fault.{Fault}
 use Rattle.rds_names.specs.declared.fault.Fault.TheVariants.{Memory}
-use Rattle.rds_codec.specs.StateTexts.{IsSnapshot, snapshot_text}
+use Rattle.rds_codec.specs.FormatTexts.{snapshot_text_in}
+use Rattle.rds_codec.specs.StateTexts.{IsSnapshot}
 use Rattle.rds_lines.specs.Join.{JoinedTo, MayJoinTo, TextOfJoined}
 use Rattle.rds_lines.specs.Lines.{until_newline, after_line}
 use Rattle.rds_state.specs.Fits.{ReplicaValue}
+use Rattle.rds_codec.specs.declared.formats.Format.{Format}
 use Rattle.rds_codec.specs.declared.limits.TheConstants.{LIMIT}
 
--- a line is the snapshot's text in hex digits of either case
+-- a line is the snapshot's text in one of the formats, in hex digits of either case
 pub record SpellsLine (line : List ℕ) (v : ReplicaValue) : Type 0 where
   pub is_snapshot : IsSnapshot v
-  pub digits : decode_of line ≡ Ok (snapshot_text v)
-  pub within : length (snapshot_text v) ≤ LIMIT
+  pub format : Format
+  pub digits : decode_of line ≡ Ok (snapshot_text_in format v)
+  pub within : length (snapshot_text_in format v) ≤ LIMIT
 
 -- the input is the lines of two snapshots, and nothing more
 pub record SpellsBoth (input : List ℕ) (v w : ReplicaValue) : Type 0 where

@@ -18,9 +18,10 @@ use std::alloc::Global;
 /// The most bytes of a line.
 const LINE_LIMIT: usize = 536_870_912;
 
-/// The text of the join of the two snapshots that the input's lines are in hex digits, of either
-/// case: the least above both (Shapiro, Preguiça, Baquero, Zawirski 2011), with the first one's own
-/// number and the longer of their rosters. The two own numbers may be equal.
+/// The text in format 1 of the join of the two snapshots that the input's lines are in hex digits, of
+/// either case. Each line may be of format 1 or 2. The join is the least above both (Shapiro, Preguiça,
+/// Baquero, Zawirski 2011), with the first one's own number and the longer of their rosters. The two
+/// own numbers may be equal.
 ///
 /// The faults, in the order in which they are looked for: those of the first line, then those of the
 /// second (`TooLong` above 536,870,912 bytes whatever they are, `Bad` where they are no hex digits,
@@ -54,7 +55,7 @@ fn join_read<S: DotSet>(
     encode_snapshot(alloc, &both)
 }
 
-// The snapshot that a line of hex digits is.
+// The snapshot that a line of hex digits is, of either format.
 fn read_line<S: DotSet>(alloc: Global, line: &[u8]) -> Result<Replica<S>, Fault>
     ensures { (result ≡ Err Memory) ⊎ LineRead line.now result }
 {
@@ -104,7 +105,8 @@ fn longer(first: Roster, second: Roster) -> Roster
 }
 
 /// Two snapshots are joined to one thing alone. So whatever `join` answers for the lines of two
-/// snapshots is the text of their join, or why there is none, or want of memory.
+/// snapshots, each in either format, is the text of their join in format 1, or why there is none, or
+/// want of memory.
 pub fn join_is_known()
     ensures once { IsJoinedOnce }
     ensures answers { AnswersSpelled }
