@@ -14,10 +14,11 @@ use Rattle.rds_codec.specs.declared.limits.TheConstants.{LIMIT}
 use Rattle.rds_codec.specs.declared.formats.Format.{Format}
 use Rattle.rds_codec.specs.declared.formats.Format.TheVariants.{One, Two}
 use Rattle.rds_codec.specs.FormatTexts as texts
-use Rattle.rds_codec.specs.FormatTexts.{state_text_in, state_at_in, magic_of, format_of, Snapshot, snapshot_of, snapshot_text_in, tabled_snapshot_text, snapshot_kind_in}
+use Rattle.rds_codec.specs.FormatTexts.{state_text_in, state_at_in, magic_of, format_of, Snapshot, snapshot_of, snapshot_text_in, snapshot_kind_in}
 use Rattle.rds_codec.specs.StateTexts.{IsStateOf, IsSnapshot, snapshot_text}
+use Rattle.rds_codec.specs.SpelledTexts.{spelled_snapshot_text}
 use Rattle.rds_codec.proofs.Replicas.{state_fits}
-use Rattle.rds_codec.proofs.StateFormats.{CanCountState, state_format, state_within}
+use Rattle.rds_codec.proofs.SpelledStates.{CanCountState, spelled_format, spelled_within}
 use Rattle.rds_codec.proofs.TabledStates.{CanCountTabled, tabled_format, tabled_within}
 use Rattle.rds_codec.proofs.Whole.{IsReaderOf, reader_of}
 
@@ -55,11 +56,11 @@ abbrev FitsIn : Format → ℕ → StateValue → Type 0
 FitsIn f n v = IsStateOf n v × CanCountIn f v
 
 state_in_format : (f : Format) (n : ℕ) → IsFormat (state_at_in f n) (state_text_in f) (FitsIn f n)
-state_in_format One = state_format
+state_in_format One = spelled_format
 state_in_format Two = tabled_format
 
 state_in_within : (f : Format) (v : StateValue) → length (state_text_in f v) ≤ LIMIT → CanCountIn f v
-state_in_within One = state_within
+state_in_within One = spelled_within
 state_in_within Two = tabled_within
 
 -- ---- the roster, the own number and the state
@@ -114,7 +115,7 @@ back p h = ((record { member = of_member_pair p.1.0 h.1.0; state = h.1.1.0 }, h.
 
 -- what each format spells is the same four bytes, and the same parts
 pub text_parts : (f : Format) (v : ReplicaValue) → parts_text (parts_of (f, v)) ≡ snapshot_text_in f v
-unfolding snapshot_text tabled_snapshot_text
+unfolding spelled_snapshot_text snapshot_text
 text_parts One v = refl
 text_parts Two v = refl
 
@@ -148,7 +149,7 @@ differ n one two = omega (arith, one, two)
 
 -- no snapshot of one format begins one of the other
 pub formats_differ : (v w : ReplicaValue) (x y : List ℕ) → snapshot_text_in One v ++ x ≡ snapshot_text_in Two w ++ y → ⊥
-unfolding snapshot_text tabled_snapshot_text
+unfolding spelled_snapshot_text snapshot_text
 formats_differ v w x y e = differ 49 refl (ap (λ (t : List ℕ). get_or t 3 0) e)
 
 -- ---- what was read

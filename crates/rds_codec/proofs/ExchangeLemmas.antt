@@ -23,13 +23,17 @@ use Rattle.rds_delta.specs.Ranks.{Ranks, ranks}
 use Rattle.rds_delta.proofs.Digests.{ranks_of_digest}
 use Rattle.rds_delta.proofs.Exchanges.{least_fits, least_is_taken}
 use Rattle.rds_delta.proofs.LeastLaws.{grown_delta, least_above}
-use Rattle.rds_codec.specs.AnswerTexts.{IsAnswerOf, answer, answer_kind, answer_text}
+use Rattle.rds_codec.specs.AnswerTexts.{IsAnswerOf, answer, answer_kind}
 use Rattle.rds_codec.specs.AnswerValues.{AnswerValue}
 use Rattle.rds_codec.specs.declared.limits.TheConstants.{LIMIT}
 use Rattle.rds_codec.specs.Decoding.{Answers, IsTextOf, Decodes}
 use Rattle.rds_codec.specs.DigestTexts.{DigestFits, IsDigestOf, digest_text, digest_kind}
-use Rattle.rds_codec.specs.Exchanged.{CanExchange, CanRead, IsAnswerTo, IsAskOf, IsCertified, IsLongAnswer, IsLongDigest, IsLost, IsRefusal, IsReplyTo, Untaken, replicas_of_both}
+use Rattle.rds_codec.specs.Exchanged.{CanExchange, CanRead, IsAnswerTo, IsAskOf, IsCertified, IsLongAnswerIn, IsLongDigest, IsLost, IsRefusal, IsReplyIn, Untaken, replicas_of_both}
 use Rattle.rds_codec.specs.Kinds.{Kind}
+use Rattle.rds_codec.specs.FormatTexts.{answer_text_in}
+use Rattle.rds_codec.specs.FormatWriting.{EncodesIn}
+use Rattle.rds_codec.specs.declared.formats.Format.{Format}
+use Rattle.rds_codec.specs.declared.formats.Format.TheVariants.{One, Two}
 use Rattle.rds_bytes.specs.Values.{AreDotsOf}
 use Rattle.rds_codec.specs.Writing.{Encodes, IsUnwritten}
 use Rattle.rds_codec.proofs.Replicas.{state_fits}
@@ -150,23 +154,34 @@ module _ (digest : DigestValue) (asker : ℕ) (held : StateValue) (a : AnswerVal
 
 -- ---- the text of an answer
 
-module _ (digest : DigestValue) (asker : ℕ) (held delta : StateValue) (rows : List Row) (is : IsAnswerTo digest asker held (answer asker delta rows)) where
-  pub is_reply : (bytes : List ℕ) (components : ℕ) → bytes ≡ answer_text (answer asker delta rows) → length (answer_text (answer asker delta rows)) ≤ LIMIT → components ≡ size delta
+-- what encoding in a format answers: the text within the limit, or why it isn't written
+written_in : (format : Format) (text : List ℕ) (bytes : Vec ℕ) → EncodesIn format text (Ok bytes) → (bytes.items ≡ text) × (length text ≤ LIMIT)
+written_in One text bytes h = h
+written_in Two text bytes h = h
+
+unwritten_in : (format : Format) (text : List ℕ) (fault : Fault) (IsLong : Type 0) → (LIMIT < length text → IsLong) → EncodesIn format text (Err fault) → IsLost IsLong fault
+unwritten_in One text fault IsLong long h = unwritten (length text) fault IsLong long h
+unwritten_in Two text fault IsLong long h = elim h [ inl m ↦ inl m | inr l ↦ inr (l.0, long l.1) ]
+
+module _ (format : Format) (digest : DigestValue) (asker : ℕ) (held delta : StateValue) (rows : List Row) (is : IsAnswerTo digest asker held (answer asker delta rows)) where
+  pub is_reply : (bytes : Vec ℕ) (components : ℕ) → EncodesIn format (answer_text_in format (answer asker delta rows)) (Ok bytes) → components ≡ size delta
       → ((n : ℕ) → Fits n (coordinates delta) → AreDotsOf n (seen_of delta.lives))
       → ((n : ℕ) (peer : Ranks) → asker < n → Fits n (coordinates delta) → IsAbove (coordinates delta) peer → IsCertificate peer delta rows → IsAnswerOf n (answer asker delta rows))
-      → IsReplyTo digest asker held bytes components
-  is_reply bytes components text within sized dots again = record {
-    value = answer asker delta rows;
-    answers = is;
-    text = text;
-    within = subst (λ (t : List ℕ). length t ≤ LIMIT) (sym text) within;
-    sized = sized;
-    dots = λ n fits. dots n (answer_fits digest asker held (answer asker delta rows) is n fits);
-    again = λ n below fits. again n (ranks_in digest) below (answer_fits digest asker held (answer asker delta rows) is n fits) (answer_is_above digest asker held (answer asker delta rows) is) is.certificate;
-  }
+      → IsReplyIn format digest asker held bytes.items components
+  is_reply bytes components encodes sized dots again =
+      let text = written_in format (answer_text_in format (answer asker delta rows)) bytes encodes in record {
+        value = answer asker delta rows;
+        answers = is;
+        text = text.0;
+        within = subst (λ (t : List ℕ). length t ≤ LIMIT) (sym text.0) text.1;
+        sized = sized;
+        dots = λ n fits. dots n (answer_fits digest asker held (answer asker delta rows) is n fits);
+        again = λ n below fits. again n (ranks_in digest) below (answer_fits digest asker held (answer asker delta rows) is n fits) (answer_is_above digest asker held (answer asker delta rows) is) is.certificate;
+      }
 
-  pub no_reply : (e : Fault) → IsUnwritten (length (answer_text (answer asker delta rows))) e → IsLost (IsLongAnswer digest asker held) e
-  no_reply e text = unwritten (length (answer_text (answer asker delta rows))) e (IsLongAnswer digest asker held) (λ long. record { value = answer asker delta rows; answers = is; long = long }) text
+  pub no_reply : (e : Fault) → EncodesIn format (answer_text_in format (answer asker delta rows)) (Err e) → IsLost (IsLongAnswerIn format digest asker held) e
+  no_reply e encodes =
+      unwritten_in format (answer_text_in format (answer asker delta rows)) e (IsLongAnswerIn format digest asker held) (λ long. record { value = answer asker delta rows; answers = is; long = long }) encodes
 
 -- ---- a take
 

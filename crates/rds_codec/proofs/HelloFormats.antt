@@ -1,5 +1,5 @@
 -- A hello is a format.
-use Rattle.std.proofs.Common.{◌≡◌, ℕ, ◌+◌, ◌<◌, true, List, ◌++◌, length, refl, arith}
+use Rattle.std.proofs.Common.{◌≡◌, ◌==◌, ◌||◌, ℕ, Bool, ◌+◌, ◌<◌, true, false, List, ◌++◌, length, refl, arith}
 use Rattle.std.proofs.lemmas.Bool.{eqb-true}
 use Rattle.rds_codec.specs.declared.hellos.Hello.{Hello}
 use Rattle.rds_codec.specs.HelloTexts.{HelloParts, IsHello, is_version, hello_by, hello_text, version_at, hello_at, hello_kind}
@@ -22,18 +22,24 @@ parts_of h = (h.version, (h.roster, h.own))
 abbrev AreParts : HelloParts → Type 0
 AreParts p = IsVersion p.0 × IsMemberPair p.1
 
-is_one : (b : ℕ) → b ≡ 1 → IsVersion b
-is_one b e = rw e (omega arith, refl)
+-- a version is one or two
+or_two : (one two : Bool) (b : ℕ) → b == 1 ≡ one → b == 2 ≡ two → one || two ≡ true → b < 256
+or_two true two b e f h = let is : b ≡ 1 = eqb-true b 1 e in omega (arith, is)
+or_two false true b e f h = let is : b ≡ 2 = eqb-true b 2 f in omega (arith, is)
+or_two false false b e f h = absurd (let no : ⊥ = cc in no)
+
+is_byte : (b : ℕ) → is_version b ≡ true → IsVersion b
+is_byte b h = (or_two (b == 1) (b == 2) b refl refl h, h)
 
 there : (h : Hello) → IsHello h → AreParts (parts_of h) × (hello_by (parts_of h) ≡ h)
 there h is =
     let m = is.member in
-    ((is_one h.version is.version, (record { group = m.group; each_name = m.each_name; names = m.names }, m.own_number)), refl)
+    ((is_byte h.version is.version, (record { group = m.group; each_name = m.each_name; names = m.names }, m.own_number)), refl)
 
 back : (p : HelloParts) → AreParts p → IsHello (hello_by p) × (parts_of (hello_by p) ≡ p)
 back p h =
     let roster = h.1.0 in
-    (record { version = eqb-true p.0 1 h.0.1; member = record { group = roster.group; each_name = roster.each_name; names = roster.names; own_number = h.1.1 } }, refl)
+    (record { version = h.0.1; member = record { group = roster.group; each_name = roster.each_name; names = roster.names; own_number = h.1.1 } }, refl)
 
 hello_format : IsFormat hello_at hello_text IsHello
 unfolding hello_at hello_text

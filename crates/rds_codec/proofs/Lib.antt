@@ -1,4 +1,3 @@
-pub mod AnswerFormats
 pub mod BothSnapshots
 pub mod CertificateFormats
 mod ClaimTexts
@@ -11,8 +10,8 @@ pub mod InFormats
 pub mod Longer
 pub mod Replicas
 mod SmallTexts
-pub mod SnapshotFormats
-pub mod StateFormats
+pub mod SpelledAnswers
+pub mod SpelledStates
 pub mod StateKeys
 pub mod TabledAnswers
 pub mod TabledRead

@@ -25,13 +25,12 @@ use Rattle.rds_bytes.specs.DotRows.{rows_from}
 use Rattle.rds_bytes.specs.Spelling.{dot_rows_text, dots_text, live_row_text, keyed_live_rows_text, count_rows_text, keyed_count_rows_text, counters_text, keyed_counters_text, member_text}
 use Rattle.rds_bytes.specs.Table.{table_of, rows_table}
 use Rattle.rds_bytes.specs.TableTexts.{table_text, number_text}
-use Rattle.rds_codec.specs.FormatTexts.{tabled_snapshot_text}
-use Rattle.rds_codec.specs.StateTexts.{state_text, snapshot_text}
+use Rattle.rds_codec.specs.SpelledTexts.{spelled_text, spelled_snapshot_text}
+use Rattle.rds_codec.specs.StateTexts.{snapshot_text, table_in, state_text}
 use Rattle.rds_codec.specs.Writing.{IsUnwritten}
 use Rattle.rds_codec.specs.declared.limits.TheConstants.{LIMIT}
-use Rattle.rds_codec.specs.TabledTexts.{table_in, tabled_text}
 use Rattle.rds_codec.proofs.TabledWritten.{numbered_rows_text, numbered_counters_text, tabled_length, tabled_snapshot_length}
-use Rattle.rds_codec.proofs.Texts.{state_length, snapshot_length}
+use Rattle.rds_codec.proofs.Texts.{spelled_length, snapshot_length}
 
 none_seen : (d : Dot) → set.contains (seen_of map.empty) d ≡ false
 none_seen d = contains-seen_of map.empty d ∙ ap is_some (map.get-empty {X = Life} dot_cmp d)
@@ -56,9 +55,9 @@ no_counters : length (counters_text map.empty) ≡ 4
 unfolding counters_text
 no_counters = ap (λ (es : List (Place × Above)). length (count_rows_text (rows_of es))) no_counts
 
-empty_length : (v : StateValue) → v.lives ≡ map.empty → v.counts ≡ map.empty → length (state_text v) ≡ 10
+empty_length : (v : StateValue) → v.lives ≡ map.empty → v.counts ≡ map.empty → length (spelled_text v) ≡ 10
 empty_length v lives counts =
-    sym (state_length v 2 0 4 (sym (ap (λ (l : Lived). length (dots_text (seen_of l))) lives ∙ no_dots))
+    sym (spelled_length v 2 0 4 (sym (ap (λ (l : Lived). length (dots_text (seen_of l))) lives ∙ no_dots))
     (sym (ap (λ (l : Lived). length (flat_map live_row_text (live_rows l))) lives ∙ no_live)) (sym (ap (λ (m : Counted). length (counters_text m)) counts ∙ no_counters)))
 
 -- ---- in format 2
@@ -82,7 +81,7 @@ lengths_are : (v : StateValue) → length (table_text (table_in v)) + length (nu
 unfolding keyed_counters_text
 lengths_are v = refl
 
-empty_tabled_length : (v : StateValue) → v.lives ≡ map.empty → v.counts ≡ map.empty → length (tabled_text v) ≡ 14
+empty_tabled_length : (v : StateValue) → v.lives ≡ map.empty → v.counts ≡ map.empty → length (state_text v) ≡ 14
 empty_tabled_length v lives counts =
     let whole = tabled_length v in
     let dots = ap (λ (l : Lived). length (dots_text (seen_of l))) lives ∙ no_dots in
@@ -93,13 +92,13 @@ empty_tabled_length v lives counts =
 
 -- ---- a snapshot
 
-pub small_snapshot : (v : ReplicaValue) → length (member_text v.roster v.own) ≤ 4420 → v.state.lives ≡ map.empty → v.state.counts ≡ map.empty → length (snapshot_text v) ≤ LIMIT
-small_snapshot v few lives counts =
+pub small_spelled_snapshot : (v : ReplicaValue) → length (member_text v.roster v.own) ≤ 4420 → v.state.lives ≡ map.empty → v.state.counts ≡ map.empty → length (spelled_snapshot_text v) ≤ LIMIT
+small_spelled_snapshot v few lives counts =
     let whole = snapshot_length v in
     let state = empty_length v.state lives counts in
     omega (arith, few, whole, state)
 
-pub small_tabled_snapshot : (v : ReplicaValue) → length (member_text v.roster v.own) ≤ 4420 → v.state.lives ≡ map.empty → v.state.counts ≡ map.empty → length (tabled_snapshot_text v) ≤ LIMIT
+pub small_tabled_snapshot : (v : ReplicaValue) → length (member_text v.roster v.own) ≤ 4420 → v.state.lives ≡ map.empty → v.state.counts ≡ map.empty → length (snapshot_text v) ≤ LIMIT
 small_tabled_snapshot v few lives counts =
     let whole = tabled_snapshot_length v in
     let state = empty_tabled_length v.state lives counts in

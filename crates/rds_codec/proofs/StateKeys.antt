@@ -15,8 +15,7 @@ use Rattle.rds_state.specs.Value.{StateValue}
 use Rattle.rds_bytes.specs.Table.{has_key, AreIn}
 use Rattle.rds_bytes.proofs.TableLaws.{same_key, head_has, table_has}
 use Rattle.rds_bytes.specs.Values.{is_key_text, IsKeyText, HasKeys, HasKey, IsLiveRow, IsCountRowOf, AreCountsOf}
-use Rattle.rds_codec.specs.StateTexts.{IsStateOf}
-use Rattle.rds_codec.specs.TabledTexts.{keys_in, table_in}
+use Rattle.rds_codec.specs.StateTexts.{IsStateOf, keys_in, table_in}
 
 -- each key of its rows is such a key
 pub record HasStateKeys (IsKey : List ℕ → Type 0) (v : StateValue) : Type 0 where

@@ -1,15 +1,15 @@
 -- An answer of format 2 is a format.
 use Rattle.std.proofs.Common.{ℕ, ◌^◌, ◌<◌, ◌≤◌, ◌++◌, length, arith, length-append}
 use Rattle.rds_codec.specs.declared.limits.TheConstants.{LIMIT}
-use Rattle.rds_codec.specs.AnswerTexts.{IsAnswerOf}
+use Rattle.rds_codec.specs.AnswerTexts.{IsAnswerOf, answer_text, answer_at}
 use Rattle.rds_codec.specs.AnswerValues.{AnswerValue}
 use Rattle.rds_codec.specs.CertificateTexts.{certificate_text}
-use Rattle.rds_codec.specs.FormatTexts.{tabled_answer_text, tabled_answer_at, answer_kind_in}
-use Rattle.rds_codec.specs.TabledTexts.{tabled_at, tabled_text}
+use Rattle.rds_codec.specs.FormatTexts.{answer_kind_in}
+use Rattle.rds_codec.specs.StateTexts.{state_at, state_text}
 use Rattle.rds_codec.specs.declared.formats.Format.TheVariants.{Two}
 use Rattle.rds_bytes.specs.Spelling.{byte_text}
 use Rattle.rds_bytes.proofs.Format.{IsFormat}
-use Rattle.rds_codec.proofs.AnswerFormats.{answer_parts_format}
+use Rattle.rds_codec.proofs.SpelledAnswers.{answer_parts_format}
 use Rattle.rds_codec.proofs.CertificateFormats.{certificate_within}
 use Rattle.rds_codec.proofs.TabledStates.{CanCountTabled, tabled_format, tabled_within}
 use Rattle.rds_codec.proofs.Whole.{IsReaderOf, reader_of}
@@ -17,18 +17,18 @@ use Rattle.rds_codec.proofs.Whole.{IsReaderOf, reader_of}
 abbrev FitsTabledAnswer : ℕ → AnswerValue → Type 0
 FitsTabledAnswer replicas a = IsAnswerOf replicas a × (CanCountTabled a.state × (length a.certificate < 2 ^ 32))
 
-tabled_answer_format : (replicas : ℕ) → IsFormat (tabled_answer_at replicas) tabled_answer_text (FitsTabledAnswer replicas)
-unfolding tabled_answer_at tabled_answer_text
-tabled_answer_format replicas = answer_parts_format replicas (tabled_at replicas) tabled_text CanCountTabled (tabled_format replicas)
+tabled_answer_format : (replicas : ℕ) → IsFormat (answer_at replicas) answer_text (FitsTabledAnswer replicas)
+unfolding answer_at answer_text
+tabled_answer_format replicas = answer_parts_format replicas (state_at replicas) state_text CanCountTabled (tabled_format replicas)
 
 -- its rows and its keys can be counted in their fields
-pub tabled_answer_within : (a : AnswerValue) → length (tabled_answer_text a) ≤ LIMIT → CanCountTabled a.state × (length a.certificate < 2 ^ 32)
-unfolding tabled_answer_text
+pub tabled_answer_within : (a : AnswerValue) → length (answer_text a) ≤ LIMIT → CanCountTabled a.state × (length a.certificate < 2 ^ 32)
+unfolding answer_text
 tabled_answer_within a le =
-    let sent = length-append (tabled_text a.state) (certificate_text a.certificate) in
-    let all = length-append (byte_text a.asker) (tabled_text a.state ++ certificate_text a.certificate) in
+    let sent = length-append (state_text a.state) (certificate_text a.certificate) in
+    let all = length-append (byte_text a.asker) (state_text a.state ++ certificate_text a.certificate) in
     (tabled_within a.state (omega arith), certificate_within a.certificate (omega arith))
 
-pub tabled_answer_reader : (replicas : ℕ) → IsReaderOf (answer_kind_in Two replicas) (tabled_answer_at replicas)
+pub tabled_answer_reader : (replicas : ℕ) → IsReaderOf (answer_kind_in Two replicas) (answer_at replicas)
 tabled_answer_reader replicas =
-    reader_of (answer_kind_in Two replicas) (tabled_answer_at replicas) (FitsTabledAnswer replicas) (tabled_answer_format replicas) (λ a h. h.0) (λ a is le. (is, tabled_answer_within a le))
+    reader_of (answer_kind_in Two replicas) (answer_at replicas) (FitsTabledAnswer replicas) (tabled_answer_format replicas) (λ a h. h.0) (λ a is le. (is, tabled_answer_within a le))

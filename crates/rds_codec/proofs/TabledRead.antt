@@ -20,8 +20,7 @@ use Rattle.rds_bytes.specs.TableValue.{TableValue, meeting}
 use Rattle.rds_bytes.proofs.Format.{IsBytes}
 use Rattle.rds_bytes.proofs.MetKeys.{used_folded, table_after, rows_meet}
 use Rattle.rds_bytes.proofs.TableFormats.{table_format}
-use Rattle.rds_codec.specs.StateTexts.{state_by}
-use Rattle.rds_codec.specs.TabledTexts.{keys_in, body_at, tabled_at, has_its_table}
+use Rattle.rds_codec.specs.StateTexts.{state_by, keys_in, body_at, state_at, has_its_table}
 use Rattle.rds_codec.proofs.TabledStates.{keys_are_had}
 
 -- ---- a table that gives keys keeps its own
@@ -56,12 +55,12 @@ abbrev unmet : List (List ℕ) → TableValue
 unmet keys = record { keys = keys; met = Some 0 }
 
 module _ (replicas : ℕ) (bytes : List ℕ) (fits : IsBytes bytes) (table : List (List ℕ)) (middle : List ℕ) (v : StateValue) (rest : List ℕ) (p : table_at bytes ≡ Ok (table, middle)) (q : body_at (numbered_at table) replicas middle ≡ Ok (v, rest)) (now : TableValue) (after : now ≡ fold meeting (unmet table) (keys_in v)) where
-  when_tabled : has_its_table (table, v) ≡ true → tabled_at replicas bytes ≡ Ok (v, rest)
-  unfolding tabled_at
+  when_tabled : has_its_table (table, v) ≡ true → state_at replicas bytes ≡ Ok (v, rest)
+  unfolding state_at
   when_tabled e = rw (p, q, e) refl
 
-  where_not : has_its_table (table, v) ≡ false → tabled_at replicas bytes ≡ Err Bad
-  unfolding tabled_at
+  where_not : has_its_table (table, v) ≡ false → state_at replicas bytes ≡ Err Bad
+  unfolding state_at
   where_not e = rw (p, q, e) refl
 
   differ : all_differ table ≡ true
@@ -85,12 +84,12 @@ module _ (replicas : ℕ) (bytes : List ℕ) (fits : IsBytes bytes) (table : Lis
       let rows = rows_meet (unmet table) (live_rows v.lives) (count_rows v.counts) differ refl had in
       (λ tabled. same_met ∙ rows.0 tabled ∙ sym all_keys, λ met. rows.1 (sym same_met ∙ met ∙ all_keys))
 
-  pub tabled_found : now.met ≡ Some (length now.keys) → tabled_at replicas bytes ≡ Ok (v, rest)
+  pub tabled_found : now.met ≡ Some (length now.keys) → state_at replicas bytes ≡ Ok (v, rest)
   tabled_found met = when_tabled (meets.1 met)
 
   refused_by : (b : Bool) → has_its_table (table, v) ≡ b → (now.met ≡ Some (length now.keys) → ⊥) → b ≡ false
   refused_by true e not_met = absurd (not_met (meets.0 e))
   refused_by false e not_met = refl
 
-  pub tabled_refused : (now.met ≡ Some (length now.keys) → ⊥) → tabled_at replicas bytes ≡ Err Bad
+  pub tabled_refused : (now.met ≡ Some (length now.keys) → ⊥) → state_at replicas bytes ≡ Err Bad
   tabled_refused not_met = where_not (refused_by (has_its_table (table, v)) refl not_met)

@@ -23,12 +23,10 @@ use Rattle.rds_bytes.proofs.TableFormats.{table_format}
 use Rattle.rds_bytes.proofs.TabledFormats.{tabled_rows_format, tabled_counters_format}
 use Rattle.rds_bytes.proofs.TableLaws.{table_differs, table_has, table_all}
 use Rattle.rds_codec.specs.declared.limits.TheConstants.{LIMIT}
-use Rattle.rds_codec.specs.StateTexts.{StateParts, IsStateOf, state_by}
+use Rattle.rds_codec.specs.StateTexts.{StateParts, IsStateOf, state_by, keys_in, table_in, body_text, state_text, TabledParts, has_its_table, tabled_by, body_at, state_at}
 use Rattle.rds_codec.specs.FormatTexts.{state_kind_in}
-use Rattle.rds_codec.specs.TabledTexts as texts
-use Rattle.rds_codec.specs.TabledTexts.{keys_in, table_in, body_text, tabled_text, TabledParts, has_its_table, tabled_by}
 use Rattle.rds_codec.specs.declared.formats.Format.TheVariants.{Two}
-use Rattle.rds_codec.proofs.StateFormats.{Tail, CanCountState, FitsState, parts_of, state_there, state_back}
+use Rattle.rds_codec.proofs.SpelledStates.{Tail, CanCountState, FitsState, parts_of, state_there, state_back}
 use Rattle.rds_codec.proofs.StateKeys.{HasStateKeys, rows_have, keys_have, keys_are_texts}
 use Rattle.rds_codec.proofs.Whole.{IsReaderOf, reader_of}
 use Rattle.rds_codec.proofs.Within.{longer, dots_within}
@@ -89,8 +87,8 @@ module _ (table : List (List ℕ)) (is : IsShortTable table) (replicas : ℕ) wh
         b.1,
       )
 
-  pub body_format : IsFormat (texts.body_at (numbered_at table) replicas) (body_text (number_text table)) (FitsIn table replicas)
-  unfolding texts.body_at body_text
+  pub body_format : IsFormat (body_at (numbered_at table) replicas) (body_text (number_text table)) (FitsIn table replicas)
+  unfolding body_at body_text
   body_format = made_format state_by parts_of _ body_parts_text AreBodyParts (FitsIn table replicas) body_there body_back parts_format
 
 -- ---- a table, and the parts
@@ -110,7 +108,7 @@ abbrev AreTabledParts : ℕ → TabledParts → Type 0
 AreTabledParts replicas p = IsShortTable p.0 × FitsIn p.0 replicas p.1
 
 abbrev body_of : ℕ → List (List ℕ) → Reader StateValue
-body_of replicas table = texts.body_at (numbered_at table) replicas
+body_of replicas table = body_at (numbered_at table) replicas
 
 tabled_parts_format : (replicas : ℕ) → IsFormat (then_at table_at (body_of replicas)) tabled_parts_text (AreTabledParts replicas)
 tabled_parts_format replicas =
@@ -135,8 +133,8 @@ tabled_back replicas p h =
     let fits = h.0.1.fits in
     ((fits.0, record { state = fits.1; keys = subst CanCount (sym same) h.0.0.0 }), (λ i. (same i, p.1)))
 
-pub tabled_format : (replicas : ℕ) → IsFormat (texts.tabled_at replicas) tabled_text (FitsTabled replicas)
-unfolding texts.tabled_at tabled_text
+pub tabled_format : (replicas : ℕ) → IsFormat (state_at replicas) state_text (FitsTabled replicas)
+unfolding state_at state_text
 tabled_format replicas =
     made_format tabled_by with_table (when_at has_its_table (then_at table_at (body_of replicas))) tabled_parts_text (λ p. AreTabledParts replicas p × (has_its_table p ≡ true)) (FitsTabled replicas) (tabled_there replicas)
     (tabled_back replicas) (when_format has_its_table _ _ _ (tabled_parts_format replicas))
@@ -165,21 +163,21 @@ body_within key_text v le =
     let b = length-append rows counts in
     record { dots = dots_within (seen_of v.lives) (omega arith); rows = rows_within key_text (live_rows v.lives) (omega arith); counts = counts_within key_text v.counts (omega arith) }
 
-pub tabled_within : (v : StateValue) → length (tabled_text v) ≤ LIMIT → CanCountTabled v
-unfolding tabled_text
+pub tabled_within : (v : StateValue) → length (state_text v) ≤ LIMIT → CanCountTabled v
+unfolding state_text
 tabled_within v le =
     let a = length-append (table_text (table_in v)) (body_text (number_text (table_in v)) v) in
     record { state = body_within (number_text (table_in v)) v (omega arith); keys = keys_within (table_in v) (omega arith) }
 
-pub tabled_reader : (replicas : ℕ) → IsReaderOf (state_kind_in Two replicas) (texts.tabled_at replicas)
+pub tabled_reader : (replicas : ℕ) → IsReaderOf (state_kind_in Two replicas) (state_at replicas)
 tabled_reader replicas =
-    reader_of (state_kind_in Two replicas) (texts.tabled_at replicas) (FitsTabled replicas) (tabled_format replicas) (λ v h. h.0) (λ v is le. (is, tabled_within v le))
+    reader_of (state_kind_in Two replicas) (state_at replicas) (FitsTabled replicas) (tabled_format replicas) (λ v h. h.0) (λ v is le. (is, tabled_within v le))
 
 -- ---- a table and a state that were read
 
 -- each key of a state that was read by a table is one of it
 pub keys_are_had : (replicas : ℕ) (bytes : List ℕ) (table : List (List ℕ)) (middle : List ℕ) (v : StateValue) (rest : List ℕ) → IsBytes bytes → table_at bytes ≡ Ok (table, middle)
-    → texts.body_at (numbered_at table) replicas middle ≡ Ok (v, rest) → AreIn table (keys_in v)
+    → body_at (numbered_at table) replicas middle ≡ Ok (v, rest) → AreIn table (keys_in v)
 keys_are_had replicas bytes table middle v rest fits p q =
     let first = table_format.takes bytes (table, middle) fits p in
     let second = (body_format table first.1 replicas).takes middle (v, rest) first.0.rest_fits q in

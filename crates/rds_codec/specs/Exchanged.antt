@@ -16,6 +16,9 @@ use Rattle.rds_codec.specs.AnswerTexts.{IsAnswerOf, answer_text}
 use Rattle.rds_codec.specs.AnswerValues.{AnswerValue}
 use Rattle.rds_codec.specs.Decoding.{IsTextOf}
 use Rattle.rds_codec.specs.DigestTexts.{IsDigestOf, digest_text, digest_kind}
+use Rattle.rds_codec.specs.FormatTexts.{answer_text_in}
+use Rattle.rds_codec.specs.declared.formats.Format.{Format}
+use Rattle.rds_codec.specs.declared.formats.Format.TheVariants.{Two}
 use Rattle.rds_bytes.specs.Values.{AreDotsOf}
 use Rattle.rds_codec.specs.declared.limits.TheConstants.{LIMIT}
 
@@ -32,25 +35,33 @@ pub record IsAskOf (asked : StateValue) (bytes : List ℕ) : Type 0 where
   pub dots : (replicas : ℕ) → Fits replicas (coordinates asked) → AreDotsOf replicas (seen_of asked.lives)
   pub again : (replicas : ℕ) → Fits replicas (coordinates asked) → IsDigestOf replicas (digest_of asked)
 
--- The bytes are the text of the answer, of so many components, which is read again.
-pub record IsReplyTo (digest : DigestValue) (asker : ℕ) (held : StateValue) (bytes : List ℕ)
+-- The bytes are the text of the answer in a format, of so many components, which is read again.
+pub record IsReplyIn (format : Format) (digest : DigestValue) (asker : ℕ) (held : StateValue) (bytes : List ℕ)
     (components : ℕ) : Type 0 where
   pub value : AnswerValue
   pub answers : IsAnswerTo digest asker held value
-  pub text : bytes ≡ answer_text value
+  pub text : bytes ≡ answer_text_in format value
   pub within : length bytes ≤ LIMIT
   pub sized : components ≡ size value.state
   pub dots : (replicas : ℕ) → Fits replicas (coordinates held) → AreDotsOf replicas (seen_of value.state.lives)
   pub again : (replicas : ℕ) → asker < replicas → Fits replicas (coordinates held) → IsAnswerOf replicas value
 
+-- in the format that is written
+abbrev pub IsReplyTo : DigestValue → ℕ → StateValue → List ℕ → ℕ → Type 0
+IsReplyTo = IsReplyIn Two
+
 abbrev pub IsLongDigest : StateValue → Type 0
 IsLongDigest asked = LIMIT < length (digest_text (digest_of asked))
 
--- the text of the answer is above the limit
-pub record IsLongAnswer (digest : DigestValue) (asker : ℕ) (held : StateValue) : Type 0 where
+-- the text of the answer in a format is above the limit
+pub record IsLongAnswerIn (format : Format) (digest : DigestValue) (asker : ℕ) (held : StateValue) : Type 0 where
   pub value : AnswerValue
   pub answers : IsAnswerTo digest asker held value
-  pub long : LIMIT < length (answer_text value)
+  pub long : LIMIT < length (answer_text_in format value)
+
+-- in the format that is written
+abbrev pub IsLongAnswer : DigestValue → ℕ → StateValue → Type 0
+IsLongAnswer = IsLongAnswerIn Two
 
 -- the delta is above the digest, and the certificate is that of the delta against it
 abbrev pub IsCertified : DigestValue → AnswerValue → Type 0

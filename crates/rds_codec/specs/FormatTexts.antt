@@ -1,29 +1,27 @@
 -- States, answers and snapshots in each format: their texts, how they are read, and which values have one.
-use Rattle.std.specs.Prelude.{ℕ, List, ◌++◌, length, codes, Option, Some, None, if◌then◌else◌}
+use Rattle.std.specs.Prelude.{ℕ, List, length, codes, Option, Some, None, if◌then◌else◌}
 use Rattle.std.specs.Str.{bytes_eq}
 use Rattle.rds_names.specs.Roster.{RosterValue}
 use Rattle.rds_state.specs.Fits.{ReplicaValue}
 use Rattle.rds_state.specs.Value.{StateValue}
 use Rattle.rds_bytes.specs.Reading.{Reader, then_at, made_at, drawn_at, bytes_at, member_at}
-use Rattle.rds_bytes.specs.Spelling.{byte_text, member_text}
-use Rattle.rds_codec.specs.AnswerTexts.{IsAnswerOf, answer_text, answer_with_at, answer_at}
+use Rattle.rds_codec.specs.AnswerTexts.{IsAnswerOf, answer_at, answer_text}
 use Rattle.rds_codec.specs.AnswerValues.{AnswerValue}
-use Rattle.rds_codec.specs.CertificateTexts.{certificate_text}
 use Rattle.rds_codec.specs.Kinds.{Kind}
+use Rattle.rds_codec.specs.SpelledTexts.{spelled_at, spelled_text, spelled_snapshot_text, spelled_answer_at, spelled_answer_text}
 use Rattle.rds_codec.specs.StateTexts.{IsSnapshot, IsStateOf, snapshot_by, snapshot_text, state_at, state_text}
-use Rattle.rds_codec.specs.TabledTexts.{tabled_at, tabled_text}
 use Rattle.rds_codec.specs.declared.formats.Format.{Format}
 use Rattle.rds_codec.specs.declared.formats.Format.TheVariants.{One, Two}
 
 -- ---- states
 
 abbrev pub state_text_in : Format → StateValue → List ℕ
-state_text_in One = state_text
-state_text_in Two = tabled_text
+state_text_in One = spelled_text
+state_text_in Two = state_text
 
 abbrev pub state_at_in : Format → ℕ → Reader StateValue
-state_at_in One = state_at
-state_at_in Two = tabled_at
+state_at_in One = spelled_at
+state_at_in Two = state_at
 
 -- a state of so many replicas
 abbrev pub state_kind_in : Format → ℕ → Kind StateValue
@@ -31,20 +29,13 @@ state_kind_in format replicas = record { is_value = IsStateOf replicas; text = s
 
 -- ---- answers
 
--- who asked, the delta in format 2, and its certificate
-unfoldable pub tabled_answer_text : AnswerValue → List ℕ
-tabled_answer_text a = byte_text a.asker ++ (tabled_text a.state ++ certificate_text a.certificate)
-
 abbrev pub answer_text_in : Format → AnswerValue → List ℕ
-answer_text_in One = answer_text
-answer_text_in Two = tabled_answer_text
-
-unfoldable pub tabled_answer_at : ℕ → Reader AnswerValue
-tabled_answer_at replicas = answer_with_at (tabled_at replicas) replicas
+answer_text_in One = spelled_answer_text
+answer_text_in Two = answer_text
 
 abbrev pub answer_at_in : Format → ℕ → Reader AnswerValue
-answer_at_in One = answer_at
-answer_at_in Two = tabled_answer_at
+answer_at_in One = spelled_answer_at
+answer_at_in Two = answer_at
 
 -- an answer of so many replicas
 abbrev pub answer_kind_in : Format → ℕ → Kind AnswerValue
@@ -57,13 +48,9 @@ abbrev pub magic_of : Format → List ℕ
 magic_of One = codes "RDS1"
 magic_of Two = codes "RDS2"
 
--- the bytes of format 2, the roster and the own number, and the state in format 2
-unfoldable pub tabled_snapshot_text : ReplicaValue → List ℕ
-tabled_snapshot_text v = magic_of Two ++ (member_text v.roster v.own ++ tabled_text v.state)
-
 abbrev pub snapshot_text_in : Format → ReplicaValue → List ℕ
-snapshot_text_in One = snapshot_text
-snapshot_text_in Two = tabled_snapshot_text
+snapshot_text_in One = spelled_snapshot_text
+snapshot_text_in Two = snapshot_text
 
 abbrev pub format_of : List ℕ → Option Format
 format_of t = if bytes_eq (magic_of One) t then Some One else (if bytes_eq (magic_of Two) t then Some Two else None)

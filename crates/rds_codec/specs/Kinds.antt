@@ -1,8 +1,7 @@
 -- The kinds of texts.
 use Rattle.std.specs.Prelude.{ℕ, List}
-use Rattle.rds_state.specs.Fits.{ReplicaValue}
 use Rattle.rds_state.specs.Value.{StateValue}
-use Rattle.rds_codec.specs.StateTexts.{state_text, snapshot_text, IsStateOf, IsSnapshot}
+use Rattle.rds_codec.specs.StateTexts.{state_text, IsStateOf}
 
 -- which values have a text, and what it is
 pub record Kind (V : Type 0) : Type 1 where
@@ -12,6 +11,3 @@ pub record Kind (V : Type 0) : Type 1 where
 -- a state of so many replicas
 abbrev pub state_kind : ℕ → Kind StateValue
 state_kind replicas = record { is_value = IsStateOf replicas; text = state_text }
-
-abbrev pub snapshot_kind : Kind ReplicaValue
-snapshot_kind = record { is_value = IsSnapshot; text = snapshot_text }

@@ -10,8 +10,8 @@ pub mod FormatWriting
 pub mod HelloTexts
 pub mod Kinds
 pub mod Laws
+pub mod SpelledTexts
 pub mod StateTexts
 pub mod SteadyTabled
 pub mod SteadyTexts
-pub mod TabledTexts
 pub mod Writing

@@ -1,5 +1,6 @@
--- The texts of states and snapshots, how they are read, and which have one.
-use Rattle.std.specs.Prelude.{ℕ, List, ◌++◌, length}
+-- The texts of states and snapshots, how states are read, and which have one. A table of the state's keys comes first,
+-- and then its parts, which have the keys by their numbers.
+use Rattle.std.specs.Prelude.{ℕ, Bool, List, ◌++◌, codes, length}
 use Rattle.std.specs.List.{AllByRecursion}
 use Rattle.rds_names.specs.Roster.{RosterValue}
 use Rattle.rds_names.specs.declared.entry.Entry.{Entry}
@@ -7,19 +8,38 @@ use Rattle.rds_dots.specs.declared.dot.Dot.{Dot}
 use Rattle.rds_dots.specs.Dots.{Dots}
 use Rattle.rds_life.specs.Life.{lives_of, seen_of, live_rows}
 use Rattle.rds_counts.specs.Counted.{Counted}
+use Rattle.rds_counts.specs.RowsOf.{count_rows}
 use Rattle.rds_state.specs.Value.{StateValue}
 use Rattle.rds_state.specs.Fits.{ReplicaValue}
-use Rattle.rds_bytes.specs.Reading.{Reader, then_at, pair_at, made_at, header_at, dots_at, live_rows_at, counters_at}
-use Rattle.rds_bytes.specs.Spelling.{header_text, dots_text, live_rows_text, counters_text}
+use Rattle.rds_bytes.specs.Reading.{Reader, then_at, pair_at, made_at, when_at, dots_at, keyed_live_rows_at, keyed_counters_at}
+use Rattle.rds_bytes.specs.Spelling.{member_text, dots_text, keyed_live_rows_text, keyed_counters_text}
+use Rattle.rds_bytes.specs.Table.{table_of, used_keys, is_tabled}
+use Rattle.rds_bytes.specs.TableTexts.{table_text, number_text, table_at, numbered_at}
 use Rattle.rds_bytes.specs.Values.{AreDotsOf, AreCountsOf, IsLiveRow, IsMember}
+
+-- the keys of its live rows, each path from its first key to its last, and then those of its rows of counters
+abbrev pub keys_in : StateValue → List (List ℕ)
+keys_in v = used_keys (live_rows v.lives) (count_rows v.counts)
+
+-- the same, each once, in the order of first use
+abbrev pub table_in : StateValue → List (List ℕ)
+table_in v = table_of (keys_in v)
 
 -- ---- spelling
 
-unfoldable pub state_text : StateValue → List ℕ
-state_text v = dots_text (seen_of v.lives) ++ (live_rows_text (live_rows v.lives) ++ counters_text v.counts)
+-- the dots, the live rows and the counters, for a spelling of their keys
+unfoldable pub body_text : (List ℕ → List ℕ) → StateValue → List ℕ
+body_text key_text v =
+    dots_text (seen_of v.lives)
+    ++ (keyed_live_rows_text key_text (live_rows v.lives) ++ keyed_counters_text key_text v.counts)
 
+-- the table, and the parts by its numbers
+unfoldable pub state_text : StateValue → List ℕ
+state_text v = table_text (table_in v) ++ body_text (number_text (table_in v)) v
+
+-- four bytes that say the format, the roster and the own number, and the state
 unfoldable pub snapshot_text : ReplicaValue → List ℕ
-snapshot_text v = header_text v.roster v.own ++ state_text v.state
+snapshot_text v = codes "RDS2" ++ (member_text v.roster v.own ++ state_text v.state)
 
 -- ---- reading
 
@@ -29,16 +49,29 @@ StateParts = Dots × (List (Dot × Entry) × Counted)
 abbrev pub state_by : StateParts → StateValue
 state_by p = record { lives = lives_of p.0 p.1.0; counts = p.1.1 }
 
--- the dots, the live rows and the counters
+-- the parts, for a reader of their keys
+unfoldable pub body_at : Reader (List ℕ) → ℕ → Reader StateValue
+body_at key replicas =
+    made_at state_by
+    (then_at (dots_at replicas) (λ seen. pair_at (keyed_live_rows_at key seen) (keyed_counters_at key replicas)))
+
+abbrev pub TabledParts : Type 0
+TabledParts = List (List ℕ) × StateValue
+
+-- whether the table has exactly the keys of the state, in the order of first use
+abbrev pub has_its_table : TabledParts → Bool
+has_its_table p = is_tabled p.0 (keys_in p.1)
+
+abbrev pub tabled_by : TabledParts → StateValue
+tabled_by p = p.1
+
+-- a table, the parts by its numbers, and then the test that the table is theirs
 unfoldable pub state_at : ℕ → Reader StateValue
 state_at replicas =
-    made_at state_by (then_at (dots_at replicas) (λ seen. pair_at (live_rows_at seen) (counters_at replicas)))
+    made_at tabled_by (when_at has_its_table (then_at table_at (λ table. body_at (numbered_at table) replicas)))
 
 abbrev pub snapshot_by : (RosterValue × ℕ) × StateValue → ReplicaValue
 snapshot_by p = record { roster = p.0.0; own = p.0.1; state = p.1 }
-
-unfoldable pub snapshot_at : Reader ReplicaValue
-snapshot_at = made_at snapshot_by (then_at header_at (λ header. state_at (length header.0.names)))
 
 -- ---- which have a text
 

@@ -9,11 +9,12 @@ ghost use Rattle.rds_delta.specs.Digested.{digest_of};
 ghost use Rattle.rds_codec.specs.AnswerTexts.{answer_text};
 ghost use Rattle.rds_codec.specs.Decoding.{IsTextOf};
 ghost use Rattle.rds_codec.specs.DigestTexts.{digest_text, digest_kind};
-ghost use Rattle.rds_codec.specs.Exchanged.{CanExchange, CanRead, IsAnswerTo, IsAskOf, IsCertified, IsLongAnswer, IsLongDigest, IsLost, IsRefusal, IsReplyTo, IsWithin, PassesCheck, TakesCertified, replicas_of_both};
+ghost use Rattle.rds_codec.specs.Exchanged.{CanExchange, CanRead, IsAnswerTo, IsAskOf, IsCertified, IsLongAnswer, IsLongAnswerIn, IsLongDigest, IsLost, IsRefusal, IsReplyIn, IsReplyTo, IsWithin, PassesCheck, TakesCertified, replicas_of_both};
 ghost use Rattle.rds_codec.specs.declared.limits.TheConstants.{LIMIT};
 
-use crate::answers::{Answer, decode_answer, text_of_answer};
+use crate::answers::{Answer, decode_answer};
 use crate::digests::{decode_digest, text_of_digest};
+use crate::formats::{Format, text_of_answer_in};
 use rds_delta::{Digest, certificate, check, delta};
 use rds_dots::DotSet;
 use rds_names::{Fault, Roster};
@@ -30,8 +31,25 @@ pub fn ask<S: DotSet>(alloc: Global, asked: &State<S>) -> Result<Vec<u8>, Fault>
     text_of_digest(alloc, &digest)
 }
 
-/// The text of the answer to a digest: the least delta of a state, and its certificate. Also how many components the
-/// delta has. Refused is a text above the limit (`TooLong`); else memory may run out (`Memory`).
+/// The text, in a format, of the answer to a digest: the least delta of a state, and its certificate. Also how many
+/// components the delta has. Refused is a text above the limit (`TooLong`); else memory may run out (`Memory`).
+pub fn answer_in<S: DotSet>(
+    alloc: Global,
+    format: Format,
+    asker: u8,
+    held: &State<S>,
+    digest: &Digest<S>,
+) -> Result<(Vec<u8>, u128), Fault>
+    ensures ok { IfOk result (λ p. IsReplyIn format digest.now asker held.now p.0.items p.1) }
+    ensures fault { IfErr result (IsLost (IsLongAnswerIn format digest.now asker held.now)) }
+{
+    let delta = delta(alloc, held, digest)?;
+    let certificate = certificate(alloc, digest, &delta)?;
+    let bytes = text_of_answer_in(alloc, format, asker, &delta, &certificate)?;
+    Ok((bytes, delta.components()))
+}
+
+/// The same in format 2.
 pub fn answer<S: DotSet>(
     alloc: Global,
     asker: u8,
@@ -41,10 +59,7 @@ pub fn answer<S: DotSet>(
     ensures ok { IfOk result (λ p. IsReplyTo digest.now asker held.now p.0.items p.1) }
     ensures fault { IfErr result (IsLost (IsLongAnswer digest.now asker held.now)) }
 {
-    let delta = delta(alloc, held, digest)?;
-    let certificate = certificate(alloc, digest, &delta)?;
-    let bytes = text_of_answer(alloc, asker, &delta, &certificate)?;
-    Ok((bytes, delta.components()))
+    answer_in(alloc, Format::Two, asker, held, digest)
 }
 
 /// Joins the delta of an answer into a replica, with the roster of the one that answered. Refused as `BadCertificate`

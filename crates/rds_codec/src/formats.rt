@@ -1,19 +1,28 @@
 //! The formats of texts that hold a state, and states, answers and snapshots in each.
-ghost use Rattle.std.specs.Prelude.{◌≡◌, ◌≤◌, Ok, IfOk, IfErr};
+ghost use Rattle.std.specs.Prelude.{◌≡◌, ◌<◌, ℕ, Ok, IfOk, IfErr, OnOk};
 ghost use Rattle.std.specs.FinMap as map;
 ghost use Rattle.rds_names.specs.declared.fault.Fault.TheVariants.{Memory};
+ghost use Rattle.rds_life.specs.Life.{seen_of};
+ghost use Rattle.rds_state.specs.Fits.{Fits};
+ghost use Rattle.rds_state.specs.Value.{coordinates};
+ghost use Rattle.rds_delta.specs.Claims.{IsCertificate};
+ghost use Rattle.rds_delta.specs.Least.{IsAbove};
+ghost use Rattle.rds_delta.specs.Ranks.{Ranks};
+ghost use Rattle.rds_bytes.specs.Values.{AreDotsOf};
 ghost use Rattle.rds_bytes.specs.Reading.{Reads, ReadsExactly};
 ghost use Rattle.rds_codec.specs.Decoding.{Decodes, ReadsAll, all_of};
-ghost use Rattle.rds_codec.specs.AnswerTexts.{answer, answer_with_at};
+ghost use Rattle.rds_codec.specs.AnswerTexts.{IsAnswerOf, answer, answer_with_at};
 ghost use Rattle.rds_codec.specs.DecodedSnapshots.{DecodesSnapshot};
 ghost use Rattle.rds_codec.specs.FormatTexts.{state_text_in, state_at_in, state_kind_in, answer_text_in, answer_at_in, answer_kind_in, format_at, snapshot_text_in, snapshot_in_at, snapshot_kind_in};
 ghost use Rattle.rds_codec.specs.FormatWriting.{EncodesIn};
+ghost use Rattle.rds_codec.specs.HelloTexts.{format_spoken, version_of};
 
-use crate::answers::{Answer, encode_answer};
+use crate::answers::Answer;
 use crate::certificates::read_certificate;
 use crate::limits::LIMIT;
-use crate::snapshots::text_of_snapshot;
-use crate::states::{encode_state, read_state};
+use crate::spelled::{
+    encode_spelled, encode_spelled_answer, encode_spelled_snapshot, read_spelled,
+};
 use crate::tabled::{
     TABLED_MAGIC, encode_tabled, encode_tabled_answer, encode_tabled_snapshot, read_tabled,
 };
@@ -33,6 +42,29 @@ pub enum Format {
     Two,
 }
 
+impl Format {
+    /// The version that a hello says, whose session speaks in this format.
+    pub fn version(self) -> u8
+        ensures { result ≡ version_of self }
+    {
+        match self {
+            Format::One => 1,
+            Format::Two => 2,
+        }
+    }
+
+    /// The format in which a session speaks whose hello says this version.
+    pub fn of_version(version: u8) -> Option<Format>
+        ensures { result ≡ format_spoken version }
+    {
+        match version {
+            1 => Some(Format::One),
+            2 => Some(Format::Two),
+            _ => None,
+        }
+    }
+}
+
 /// A state of so many replicas, in a format.
 fn read_state_in<'a, S: DotSet>(
     alloc: Global,
@@ -43,7 +75,7 @@ fn read_state_in<'a, S: DotSet>(
     ensures { Reads (λ x. (x.0, x.1.now)) result (state_at_in format replicas bytes.now) }
 {
     match format {
-        Format::One => read_state(alloc, replicas, bytes),
+        Format::One => read_spelled(alloc, replicas, bytes),
         Format::Two => read_tabled(alloc, replicas, bytes),
     }
 }
@@ -64,7 +96,7 @@ fn read_all_of_state<S: DotSet>(
 }
 
 /// The state whose text in a format the bytes are, where the roster has so many replicas. Refused are bytes as
-/// [`decode_state`](crate::decode_state) refuses them. In format 2 these are `Bad` too: a number outside the table, and
+/// [`decode_snapshot`] does. In format 2 these are `Bad` too: a number outside the table, and
 /// a table that hasn't exactly the keys of the state, each once in the order of first use.
 pub fn decode_state_in<S: DotSet>(
     alloc: Global,
@@ -91,7 +123,7 @@ pub fn encode_state_in<S: DotSet>(
     ensures text { EncodesIn format (state_text_in format state.now) result }
 {
     match format {
-        Format::One => encode_state(alloc, state),
+        Format::One => encode_spelled(alloc, state),
         Format::Two => encode_tabled(alloc, state),
     }
 }
@@ -132,7 +164,7 @@ fn read_all_of_answer<S: DotSet>(
 }
 
 /// The answer whose text in a format the bytes are, of a roster of so many replicas. Refused are bytes as
-/// [`decode_answer`](crate::decode_answer) refuses them, and in format 2 also as
+/// [`decode_snapshot`] does, and in format 2 also as
 /// [`decode_state_in`](crate::decode_state_in) does. Whether its certificate is that of its delta isn't judged: that is
 /// what `check` does.
 pub fn decode_answer_in<S: DotSet>(
@@ -150,6 +182,27 @@ pub fn decode_answer_in<S: DotSet>(
     read_all_of_answer(alloc, format, replicas, bytes)
 }
 
+/// The text of an answer with these parts, as [`encode_answer_in`] gives it, and what its measure shows of them.
+pub fn text_of_answer_in<S: DotSet>(
+    alloc: Global,
+    format: Format,
+    asker: u8,
+    state: &State<S>,
+    certificate: &Certificate,
+) -> Result<Vec<u8>, Fault>
+    ensures text { EncodesIn format (answer_text_in format (answer asker state.now certificate.now)) result }
+    ensures dots { OnOk result ((replicas : ℕ) → Fits replicas (coordinates state.now)
+        → AreDotsOf replicas (seen_of state.now.lives)) }
+    ensures certified { OnOk result ((replicas : ℕ) (peer : Ranks) → asker < replicas
+        → Fits replicas (coordinates state.now) → IsAbove (coordinates state.now) peer
+        → IsCertificate peer state.now certificate.now → IsAnswerOf replicas (answer asker state.now certificate.now)) }
+{
+    match format {
+        Format::One => encode_spelled_answer(alloc, asker, state, certificate),
+        Format::Two => encode_tabled_answer(alloc, asker, state, certificate),
+    }
+}
+
 /// The text of an answer with these parts, in a format. It is refused as that of the delta is
 /// ([`encode_state_in`](crate::encode_state_in)).
 pub fn encode_answer_in<S: DotSet>(
@@ -161,10 +214,7 @@ pub fn encode_answer_in<S: DotSet>(
 ) -> Result<Vec<u8>, Fault>
     ensures text { EncodesIn format (answer_text_in format (answer asker state.now certificate.now)) result }
 {
-    match format {
-        Format::One => encode_answer(alloc, asker, state, certificate),
-        Format::Two => encode_tabled_answer(alloc, asker, state, certificate),
-    }
+    text_of_answer_in(alloc, format, asker, state, certificate)
 }
 
 /// The format that the four bytes in front of a snapshot say.
@@ -257,7 +307,7 @@ pub fn encode_snapshot_in<S: DotSet>(
         → IfErr result (λ fault. fault ≡ Memory) }
 {
     match format {
-        Format::One => text_of_snapshot(alloc, replica),
+        Format::One => encode_spelled_snapshot(alloc, replica),
         Format::Two => encode_tabled_snapshot(alloc, replica),
     }
 }

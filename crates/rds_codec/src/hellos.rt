@@ -1,19 +1,20 @@
 //! The text of a hello, by which a session begins.
-ghost use Rattle.std.specs.Prelude.{◌≡◌, ◌<◌, ◌≤◌, length, IfErr};
+ghost use Rattle.std.specs.Prelude.{◌≡◌, ◌<◌, ◌≤◌, true, length, IfErr};
 ghost use Rattle.rds_names.specs.declared.fault.Fault.TheVariants.{Memory};
 ghost use Rattle.rds_codec.specs.Decoding.{Decodes, ReadsAll, all_of};
-ghost use Rattle.rds_codec.specs.HelloTexts.{IsHello, hello_text, version_at, hello_at, hello_kind};
+ghost use Rattle.rds_codec.specs.HelloTexts.{IsHello, is_version, hello_text, version_at, hello_at, hello_kind};
 ghost use Rattle.rds_bytes.specs.Reading.{Reads, ReadsExactly};
 ghost use Rattle.rds_codec.specs.Writing.{Encodes};
 ghost use Rattle.rds_bytes.specs.Writing.{Adds};
 
+use crate::formats::Format;
 use crate::limits::{LIMIT, room_for};
 use rds_bytes::{member_length, put_byte, put_member, read_byte, read_member};
 use rds_names::{Fault, Roster};
 use std::alloc::{AllocError, Global};
 
-/// The version of the texts that are spoken.
-pub const VERSION: u8 = 1;
+/// The version that a session begins with: that of format 2.
+pub const VERSION: u8 = 2;
 
 /// What a session begins with: the version of the texts that follow, the roster, and the replica's own number.
 #[derive(Drop)]
@@ -31,10 +32,10 @@ fn read_version(bytes: &[u8]) -> Result<(u8, &[u8]), Fault>
     ensures { ReadsExactly (λ x. (x.0, x.1.now)) result (version_at bytes.now) }
 {
     let (version, rest) = read_byte(bytes)?;
-    if version != VERSION {
-        return Err(Fault::Bad);
+    match Format::of_version(version) {
+        Some(_) => Ok((version, rest)),
+        None => Err(Fault::Bad),
     }
-    Ok((version, rest))
 }
 
 /// A hello, and the bytes after it.
@@ -62,7 +63,7 @@ fn read_all(alloc: Global, bytes: &[u8]) -> Result<Hello, Fault>
     Ok(hello)
 }
 
-/// The hello whose text the bytes are. Another version than [`VERSION`] is refused (`Bad`).
+/// The hello whose text the bytes are. A version of no format is refused (`Bad`).
 ///
 /// The bytes are read from the left, and each part is judged as soon as it is there. Refused are bytes above the
 /// limit (`TooLong`, before anything is read); bytes that go on after a text (`Extra`); and other bytes that are no
@@ -88,7 +89,7 @@ fn put_hello(out: &mut Vec<u8>, hello: &Hello) -> Result<(), AllocError>
 fn measure(hello: &Hello) -> u128
     ensures length { result ≡ length (hello_text hello.now) }
     ensures most { result ≤ 4421 }
-    ensures value { hello.now.version ≡ VERSION → hello.now.own < length hello.now.roster.names → IsHello hello.now }
+    ensures value { is_version hello.now.version ≡ true → hello.now.own < length hello.now.roster.names → IsHello hello.now }
 {
     1 + member_length(&hello.roster, hello.own) as u128
 }
@@ -103,10 +104,10 @@ pub fn encode_hello(alloc: Global, hello: &Hello) -> Result<Vec<u8>, Fault>
     Ok(out)
 }
 
-/// The text of a hello is read again where its version is [`VERSION`] and its own number is below the roster's length.
+/// The text of a hello is read again where its version is that of a format and its own number is below the roster's length.
 /// The function only measures: its contract is this law.
 pub fn hellos_have_texts(hello: &Hello)
-    ensures value { hello.now.version ≡ VERSION → hello.now.own < length hello.now.roster.names → IsHello hello.now }
+    ensures value { is_version hello.now.version ≡ true → hello.now.own < length hello.now.roster.names → IsHello hello.now }
 {
     measure(hello);
 }

@@ -1,11 +1,11 @@
-//! The texts of values, format 1, and what is asked, answered and taken by them. All numbers are big-endian, a
-//! value has one text, and no text of a kind begins another. States, answers and snapshots have a text of format 2 too,
-//! which has their keys by the numbers of a table.
+//! The texts of values, and what is asked, answered and taken by them. All numbers are big-endian, a value has one text,
+//! and no text of a kind begins another. States, answers and snapshots have a text in either of two formats. What isn't
+//! told a format is of format 2, which has their keys by the numbers of a table.
 //!
-//! To be read in this order: `limits`; the kinds of texts, `states`, `snapshots`, `digests`, `certificates`, `answers`
-//! and `hellos`; `tabled`, which has format 2, and `formats`, which has both; `exchanges`, which brings texts from one
-//! replica to another; `laws`, and `steady`, the law of reading texts as their bytes come, for which the readers of the
-//! parts are public here too.
+//! To be read in this order: `limits`; `digests`, `certificates`; `spelled`, which has format 1, `tabled`, which has
+//! format 2, and `formats`, which has both; the kinds of texts, `states`, `snapshots`, `answers` and `hellos`;
+//! `exchanges`, which brings texts from one replica to another; `laws`, and `steady`, the law of reading texts as their
+//! bytes come, for which the readers of the parts are public here too.
 #![tactic(auto)]
 
 mod answers;
@@ -17,6 +17,7 @@ mod hellos;
 mod laws;
 mod limits;
 mod snapshots;
+mod spelled;
 mod states;
 mod steady;
 mod tabled;
@@ -27,15 +28,14 @@ pub use certificates::{
     read_certificate_row,
 };
 pub use digests::{decode_digest, digests_have_texts, encode_digest};
-pub use exchanges::{answer, ask, pull, take_certified};
+pub use exchanges::{answer, answer_in, ask, pull, take_certified};
 pub use formats::{
     Format, decode_answer_in, decode_snapshot, decode_snapshot_with_format, decode_state_in,
     encode_answer_in, encode_snapshot_in, encode_state_in, read_format,
 };
 pub use hellos::{Hello, VERSION, decode_hello, encode_hello, hellos_have_texts, read_hello};
 pub use laws::{
-    decoding_has_one_result, decoding_has_one_result_in_each_format, formats_are_read_again,
-    formats_have_the_same_parts, formats_outlive_growth, formats_stand_apart, limits_of_texts,
+    decoding_has_one_result, formats_are_read_again, formats_have_the_same_parts, limits_of_texts,
     texts_outlive_growth, texts_stand_apart,
 };
 pub use limits::LIMIT;
@@ -47,4 +47,4 @@ pub use rds_bytes::{
 };
 pub use snapshots::{encode_snapshot, snapshot_length, snapshots_have_texts};
 pub use states::{decode_state, encode_state, states_have_texts};
-pub use steady::{formats_are_read_steadily, texts_are_read_steadily};
+pub use steady::texts_are_read_steadily;

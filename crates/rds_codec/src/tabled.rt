@@ -1,21 +1,23 @@
-//! The text of a state in format 2: a table of its keys, and then its parts, which have the keys by their numbers. And
+//! The text of a state of format 2: a table of its keys, and then its parts, which have the keys by their numbers. And
 //! the texts of answers and snapshots that hold such a state.
-ghost use Rattle.std.specs.Prelude.{◌≡◌, ℕ, ◌≤◌, ◌^◌, IfOk, IfErr, OnOk, fold, length, map as each};
+ghost use Rattle.std.specs.Prelude.{◌≡◌, ℕ, ◌<◌, ◌≤◌, ◌^◌, IfOk, IfErr, OnOk, fold, length, map as each};
 ghost use Rattle.std.specs.FinMap as map;
 ghost use Rattle.rds_names.specs.declared.fault.Fault.TheVariants.{Memory};
 ghost use Rattle.rds_dots.specs.Runs.{runs_of};
 ghost use Rattle.rds_life.specs.Life.{seen_of};
+ghost use Rattle.rds_delta.specs.Claims.{IsCertificate};
+ghost use Rattle.rds_delta.specs.Least.{IsAbove};
+ghost use Rattle.rds_delta.specs.Ranks.{Ranks};
 ghost use Rattle.rds_bytes.specs.DotRows.{rows_from};
 ghost use Rattle.rds_bytes.specs.Reading.{Reads};
 ghost use Rattle.rds_bytes.specs.Table.{number_of};
 ghost use Rattle.rds_bytes.specs.TableTexts.{numbered_at};
 ghost use Rattle.rds_bytes.specs.TableValue.{meeting};
+ghost use Rattle.rds_bytes.specs.Values.{AreDotsOf};
 ghost use Rattle.rds_bytes.specs.Writing.{Adds};
-ghost use Rattle.rds_codec.specs.AnswerTexts.{answer};
-ghost use Rattle.rds_codec.specs.FormatTexts.{tabled_answer_text, tabled_snapshot_text};
+ghost use Rattle.rds_codec.specs.AnswerTexts.{IsAnswerOf, answer, answer_text};
 ghost use Rattle.rds_codec.specs.FormatWriting.{EncodesTabled};
-ghost use Rattle.rds_codec.specs.StateTexts.{IsStateOf, IsSnapshot};
-ghost use Rattle.rds_codec.specs.TabledTexts.{keys_in, table_in, body_at, tabled_at, tabled_text};
+ghost use Rattle.rds_codec.specs.StateTexts.{IsStateOf, IsSnapshot, body_at, keys_in, snapshot_text, state_at, state_text, table_in};
 ghost use Rattle.rds_codec.specs.declared.limits.TheConstants.{LIMIT};
 ghost use Rattle.rds_state.specs.Fits.{Fits};
 ghost use Rattle.rds_state.specs.Value.{coordinates};
@@ -35,7 +37,7 @@ use rds_state::{Replica, State};
 use std::alloc::{AllocError, Global};
 
 /// The dots, the live rows and the counters, by the numbers of a table, whose keys note what was met of them.
-#[tactic(auto, unfolding(crate::specs::TabledTexts::body_at))]
+#[tactic(auto, unfolding(crate::specs::StateTexts::body_at))]
 fn read_body<'a, S: DotSet>(
     alloc: Global,
     keys: &mut TableKeys<'_>,
@@ -53,13 +55,13 @@ fn read_body<'a, S: DotSet>(
 }
 
 /// A state of so many replicas, whose table has exactly its keys, in the order of first use.
-#[tactic(auto, unfolding(crate::specs::TabledTexts::tabled_at))]
+#[tactic(auto, unfolding(crate::specs::StateTexts::state_at))]
 pub fn read_tabled<'a, S: DotSet>(
     alloc: Global,
     replicas: u16,
     bytes: &'a [u8],
 ) -> Result<(State<S>, &'a [u8]), Fault>
-    ensures { Reads (λ x. (x.0, x.1.now)) result (tabled_at replicas bytes.now) }
+    ensures { Reads (λ x. (x.0, x.1.now)) result (state_at replicas bytes.now) }
 {
     let (table, rest) = read_table(alloc, bytes)?;
     let mut keys = table.keys(Some(0));
@@ -84,7 +86,7 @@ fn number_state<S: DotSet>(alloc: Global, state: &State<S>) -> Result<NumberedKe
 fn measure_tabled<S: DotSet>(state: &State<S>, keys: &[Key]) -> (u16, u128)
     requires { keys.now ≡ table_in state.now }
     ensures rows { result.0 ≡ length (rows_from 0 (runs_of (seen_of state.now.lives))) }
-    ensures length { result.1 ≡ length (tabled_text state.now) }
+    ensures length { result.1 ≡ length (state_text state.now) }
     ensures few { result.1 ≤ 2 ^ 101 }
     ensures value { (replicas : ℕ) → Fits replicas (coordinates state.now) → IsStateOf replicas state.now }
 {
@@ -110,8 +112,8 @@ fn put_tabled<S: DotSet>(
     requires rows { rows ≡ length (rows_from 0 (runs_of (seen_of state.now.lives))) }
     requires keys { numbered.now.keys.items ≡ table_in state.now }
     requires numbers { numbered.now.numbers.items ≡ each (number_of (table_in state.now)) (keys_in state.now) }
-    requires within { length (tabled_text state.now) ≤ LIMIT }
-    ensures { Adds out.old.items out.new.items (tabled_text state.now) result }
+    requires within { length (state_text state.now) ≤ LIMIT }
+    ensures { Adds out.old.items out.new.items (state_text state.now) result }
 {
     let lives = state.lives();
     put_table(out, &numbered.keys)?;
@@ -122,7 +124,7 @@ fn put_tabled<S: DotSet>(
 /// The text of the state. Its keys are numbered first, which takes memory. Above the limit the text is refused then
 /// (`TooLong`); within it all memory that it needs is taken at once.
 pub fn encode_tabled<S: DotSet>(alloc: Global, state: &State<S>) -> Result<Vec<u8>, Fault>
-    ensures text { EncodesTabled (tabled_text state.now) result }
+    ensures text { EncodesTabled (state_text state.now) result }
 {
     let numbered = number_state(alloc, state)?;
     let (rows, length) = measure_tabled(state, &numbered.keys);
@@ -140,7 +142,12 @@ fn measure_tabled_answer<S: DotSet>(
 ) -> (u16, u128)
     requires { keys.now ≡ table_in state.now }
     ensures rows { result.0 ≡ length (rows_from 0 (runs_of (seen_of state.now.lives))) }
-    ensures length { result.1 ≡ length (tabled_answer_text (answer asker state.now certificate.now)) }
+    ensures length { result.1 ≡ length (answer_text (answer asker state.now certificate.now)) }
+    ensures dots { (replicas : ℕ) → Fits replicas (coordinates state.now)
+        → AreDotsOf replicas (seen_of state.now.lives) }
+    ensures certified { (replicas : ℕ) (peer : Ranks) → asker < replicas → Fits replicas (coordinates state.now)
+        → IsAbove (coordinates state.now) peer → IsCertificate peer state.now certificate.now
+        → IsAnswerOf replicas (answer asker state.now certificate.now) }
 {
     let (rows, state_length) = measure_tabled(state, keys);
     (rows, 1 + state_length + certificate_length(certificate))
@@ -158,22 +165,27 @@ fn put_tabled_answer<S: DotSet>(
     requires rows { rows ≡ length (rows_from 0 (runs_of (seen_of state.now.lives))) }
     requires keys { numbered.now.keys.items ≡ table_in state.now }
     requires numbers { numbered.now.numbers.items ≡ each (number_of (table_in state.now)) (keys_in state.now) }
-    requires within { length (tabled_answer_text (answer asker state.now certificate.now)) ≤ LIMIT }
-    ensures { Adds out.old.items out.new.items (tabled_answer_text (answer asker state.now certificate.now)) result }
+    requires within { length (answer_text (answer asker state.now certificate.now)) ≤ LIMIT }
+    ensures { Adds out.old.items out.new.items (answer_text (answer asker state.now certificate.now)) result }
 {
     put_byte(out, asker)?;
     put_tabled(out, state, rows, numbered)?;
     put_certificate(out, certificate)
 }
 
-/// The text of an answer with these parts. Memory is taken as for that of the delta.
+/// The text of an answer with these parts, and what its measure shows of them. Memory is taken as for that of the delta.
 pub fn encode_tabled_answer<S: DotSet>(
     alloc: Global,
     asker: u8,
     state: &State<S>,
     certificate: &Certificate,
 ) -> Result<Vec<u8>, Fault>
-    ensures text { EncodesTabled (tabled_answer_text (answer asker state.now certificate.now)) result }
+    ensures text { EncodesTabled (answer_text (answer asker state.now certificate.now)) result }
+    ensures dots { OnOk result ((replicas : ℕ) → Fits replicas (coordinates state.now)
+        → AreDotsOf replicas (seen_of state.now.lives)) }
+    ensures certified { OnOk result ((replicas : ℕ) (peer : Ranks) → asker < replicas
+        → Fits replicas (coordinates state.now) → IsAbove (coordinates state.now) peer
+        → IsCertificate peer state.now certificate.now → IsAnswerOf replicas (answer asker state.now certificate.now)) }
 {
     let numbered = number_state(alloc, state)?;
     let (rows, length) = measure_tabled_answer(asker, state, &numbered.keys, certificate);
@@ -189,9 +201,9 @@ pub const TABLED_MAGIC: &[u8; 4] = b"RDS2";
 fn measure_tabled_snapshot<S: DotSet>(replica: &Replica<S>, keys: &[Key]) -> (u16, u128)
     requires { keys.now ≡ table_in replica.now.state }
     ensures rows { result.0 ≡ length (rows_from 0 (runs_of (seen_of replica.now.state.lives))) }
-    ensures length { result.1 ≡ length (tabled_snapshot_text replica.now) }
+    ensures length { result.1 ≡ length (snapshot_text replica.now) }
     ensures small { replica.now.state.lives ≡ map.empty → replica.now.state.counts ≡ map.empty
-        → length (tabled_snapshot_text replica.now) ≤ LIMIT }
+        → length (snapshot_text replica.now) ≤ LIMIT }
     ensures value { IsSnapshot replica.now }
 {
     let (rows, state_length) = measure_tabled(replica.state(), keys);
@@ -199,6 +211,16 @@ fn measure_tabled_snapshot<S: DotSet>(replica: &Replica<S>, keys: &[Key]) -> (u1
         rows,
         4 + member_length(replica.roster(), replica.own()) as u128 + state_length,
     )
+}
+
+/// The length of the text of the replica's snapshot, be it within the limit or not. To number its keys takes memory.
+pub fn tabled_snapshot_length<S: DotSet>(alloc: Global, replica: &Replica<S>) -> Result<u128, Fault>
+    ensures length { IfOk result (λ found. found ≡ length (snapshot_text replica.now)) }
+    ensures memory { IfErr result (λ fault. fault ≡ Memory) }
+{
+    let numbered = number_state(alloc, replica.state())?;
+    let (_rows, length) = measure_tabled_snapshot(replica, &numbered.keys);
+    Ok(length)
 }
 
 /// The bytes in front, the roster and the own number, and the state.
@@ -212,8 +234,8 @@ fn put_tabled_snapshot<S: DotSet>(
     requires keys { numbered.now.keys.items ≡ table_in replica.now.state }
     requires numbers { numbered.now.numbers.items
         ≡ each (number_of (table_in replica.now.state)) (keys_in replica.now.state) }
-    requires within { length (tabled_snapshot_text replica.now) ≤ LIMIT }
-    ensures { Adds out.old.items out.new.items (tabled_snapshot_text replica.now) result }
+    requires within { length (snapshot_text replica.now) ≤ LIMIT }
+    ensures { Adds out.old.items out.new.items (snapshot_text replica.now) result }
 {
     out.extend_from_slice(TABLED_MAGIC)?;
     put_member(out, replica.roster(), replica.own())?;
@@ -225,7 +247,7 @@ pub fn encode_tabled_snapshot<S: DotSet>(
     alloc: Global,
     replica: &Replica<S>,
 ) -> Result<Vec<u8>, Fault>
-    ensures text { EncodesTabled (tabled_snapshot_text replica.now) result }
+    ensures text { EncodesTabled (snapshot_text replica.now) result }
     ensures small { replica.now.state.lives ≡ map.empty → replica.now.state.counts ≡ map.empty
         → IfErr result (λ fault. fault ≡ Memory) }
     ensures value { OnOk result (IsSnapshot replica.now) }

@@ -6,8 +6,8 @@ use Rattle.rds_codec.proofs.formats.encode_snapshot_in.Goals as goal
 
 pub returns-in-One-clause-again : goal.returns-in-One-clause-again
 returns-in-One-clause-again g c =
-    let text = c.text_of_snapshot.ensures in
-    rw c.in-One.is (is_read_again snapshot_kind_in snapshot_in_at snapshot_in_reader (One, c.args.replica.now) c.text_of_snapshot.result _ text.value text.text)
+    let text = c.encode_spelled_snapshot.ensures in
+    rw c.in-One.is (is_read_again snapshot_kind_in snapshot_in_at snapshot_in_reader (One, c.args.replica.now) c.encode_spelled_snapshot.result _ text.value text.text)
 
 pub returns-in-Two-clause-again : goal.returns-in-Two-clause-again
 returns-in-Two-clause-again g c =

@@ -8,7 +8,7 @@ use Rattle.rds_counts.specs.RowsOf.{count_rows}
 use Rattle.rds_bytes.specs.Spelling.{dots_text, keyed_live_rows_text, keyed_counters_text}
 use Rattle.rds_bytes.specs.TableTexts.{table_text, number_text}
 use Rattle.rds_bytes.specs.Values.{IsKeyText, IsKeyed, IsLiveRow}
-use Rattle.rds_codec.specs.TabledTexts.{table_in}
+use Rattle.rds_codec.specs.StateTexts.{table_in}
 use Rattle.rds_codec.proofs.HaveTexts.{are_counts_of, is_state_of}
 use Rattle.rds_codec.proofs.StateKeys.{by_table}
 use Rattle.rds_codec.proofs.TabledWritten.{tabled_length}

@@ -3,7 +3,7 @@ use Rattle.std.specs.Prelude.{fold}
 use Rattle.std.proofs.lemmas.Bool.{false≢true}
 use Rattle.rds_bytes.specs.TableTexts.{numbered_at}
 use Rattle.rds_bytes.specs.TableValue.{TableValue, meeting}
-use Rattle.rds_codec.specs.TabledTexts.{keys_in, body_at}
+use Rattle.rds_codec.specs.StateTexts.{keys_in, body_at}
 use Rattle.rds_codec.proofs.TabledRead.{tabled_found, tabled_refused}
 use Rattle.rds_codec.proofs.tabled.read_tabled.Goals as goal
 
