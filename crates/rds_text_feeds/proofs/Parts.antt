@@ -13,12 +13,12 @@ use Rattle.rds_state.specs.Value.{StateValue}
 use Rattle.rds_delta.specs.declared.row.Row.{Row}
 use Rattle.rds_delta.specs.Digested.{DigestValue, IsInside}
 use Rattle.rds_bytes.specs.Reading.{◌>>=◌, Reader, then_at, pair_at, made_at, replica_at, dots_at, live_rows_at, counters_at}
+use Rattle.rds_codec.specs.SpelledTexts.{spelled_at, spelled_answer_at}
 use Rattle.rds_codec.specs.StateTexts.{StateParts, state_by, state_at}
 use Rattle.rds_codec.specs.AnswerValues.{AnswerValue}
 use Rattle.rds_codec.specs.AnswerTexts.{answer, answer_by, answer_at}
 use Rattle.rds_codec.specs.CertificateTexts.{certificate_at}
-use Rattle.rds_codec.specs.FormatTexts.{state_at_in, tabled_answer_at, answer_at_in}
-use Rattle.rds_codec.specs.TabledTexts.{tabled_at}
+use Rattle.rds_codec.specs.FormatTexts.{state_at_in, answer_at_in}
 use Rattle.rds_codec.specs.declared.formats.Format.{Format}
 use Rattle.rds_codec.specs.declared.formats.Format.TheVariants.{One, Two}
 use Rattle.rds_codec.specs.DigestTexts.{DigestParts, digest_by, are_seen, live_dots_at, digest_at}
@@ -103,11 +103,11 @@ module _ (replicas : ℕ) where
   after_dots (Ok s) = after_rows s.0 (live_rows_at s.0 s.1)
   after_dots (Err e) = refl
 
-  pub state_read : (lives : Reader Lived) (counters : Reader Counted) → ((bytes : List ℕ) → lives bytes ≡ made_at lives_by (then_at (dots_at replicas) live_rows_at) bytes)
+  pub spelled_read : (lives : Reader Lived) (counters : Reader Counted) → ((bytes : List ℕ) → lives bytes ≡ made_at lives_by (then_at (dots_at replicas) live_rows_at) bytes)
       → ((bytes : List ℕ) → counters bytes ≡ counters_at replicas bytes) → (pairs : Reader (Lived × Counted)) → ((bytes : List ℕ) → pairs bytes ≡ pair_at lives counters bytes)
-      → (bytes : List ℕ) → makes pairs state_of bytes ≡ state_at replicas bytes
-  unfolding state_at
-  state_read lives counters first second pairs are bytes =
+      → (bytes : List ℕ) → makes pairs state_of bytes ≡ spelled_at replicas bytes
+  unfolding spelled_at
+  spelled_read lives counters first second pairs are bytes =
       ap (λ (x : Result ((Lived × Counted) × List ℕ) Fault). x >>= state_made)
       (are bytes ∙ pair_same lives (made_at lives_by (then_at (dots_at replicas) live_rows_at)) counters (counters_at replicas) first second bytes)
       ∙ after_dots (dots_at replicas bytes)
@@ -251,23 +251,23 @@ module _ (replicas : ℕ) where
       ∙ pair_same asker_at (replica_at replicas) delta (pair_at whole (certificate_at replicas)) (λ b. same_part (replica_at replicas b))
       (λ b. third b ∙ pair_same state whole certificate (certificate_at replicas) first second b) bytes)
 
-  pub answer_read : (state : Reader StateValue) (certificate : Reader (List Row)) (delta : Reader (StateValue × List Row)) (all : Reader (ℕ × (StateValue × List Row)))
+  spelled_answer_read : (state : Reader StateValue) (certificate : Reader (List Row)) (delta : Reader (StateValue × List Row)) (all : Reader (ℕ × (StateValue × List Row)))
+      → ((bytes : List ℕ) → state bytes ≡ spelled_at replicas bytes) → ((bytes : List ℕ) → certificate bytes ≡ certificate_at replicas bytes)
+      → ((bytes : List ℕ) → delta bytes ≡ pair_at state certificate bytes) → ((bytes : List ℕ) → all bytes ≡ pair_at asker_at delta bytes)
+      → (bytes : List ℕ) → makes all answer_of bytes ≡ spelled_answer_at replicas bytes
+  unfolding spelled_answer_at
+  spelled_answer_read = answer_from (spelled_at replicas)
+
+  answer_read : (state : Reader StateValue) (certificate : Reader (List Row)) (delta : Reader (StateValue × List Row)) (all : Reader (ℕ × (StateValue × List Row)))
       → ((bytes : List ℕ) → state bytes ≡ state_at replicas bytes) → ((bytes : List ℕ) → certificate bytes ≡ certificate_at replicas bytes)
       → ((bytes : List ℕ) → delta bytes ≡ pair_at state certificate bytes) → ((bytes : List ℕ) → all bytes ≡ pair_at asker_at delta bytes)
       → (bytes : List ℕ) → makes all answer_of bytes ≡ answer_at replicas bytes
   unfolding answer_at
   answer_read = answer_from (state_at replicas)
 
-  tabled_answer_read : (state : Reader StateValue) (certificate : Reader (List Row)) (delta : Reader (StateValue × List Row)) (all : Reader (ℕ × (StateValue × List Row)))
-      → ((bytes : List ℕ) → state bytes ≡ tabled_at replicas bytes) → ((bytes : List ℕ) → certificate bytes ≡ certificate_at replicas bytes)
-      → ((bytes : List ℕ) → delta bytes ≡ pair_at state certificate bytes) → ((bytes : List ℕ) → all bytes ≡ pair_at asker_at delta bytes)
-      → (bytes : List ℕ) → makes all answer_of bytes ≡ tabled_answer_at replicas bytes
-  unfolding tabled_answer_at
-  tabled_answer_read = answer_from (tabled_at replicas)
-
   pub answer_in_read : (format : Format) (state : Reader StateValue) (certificate : Reader (List Row)) (delta : Reader (StateValue × List Row)) (all : Reader (ℕ × (StateValue × List Row)))
       → ((bytes : List ℕ) → state bytes ≡ state_at_in format replicas bytes) → ((bytes : List ℕ) → certificate bytes ≡ certificate_at replicas bytes)
       → ((bytes : List ℕ) → delta bytes ≡ pair_at state certificate bytes) → ((bytes : List ℕ) → all bytes ≡ pair_at asker_at delta bytes)
       → (bytes : List ℕ) → makes all answer_of bytes ≡ answer_at_in format replicas bytes
-  answer_in_read One = answer_read
-  answer_in_read Two = tabled_answer_read
+  answer_in_read One = spelled_answer_read
+  answer_in_read Two = answer_read

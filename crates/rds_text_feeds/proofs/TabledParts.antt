@@ -10,8 +10,7 @@ use Rattle.rds_counts.specs.Counted.{Counted}
 use Rattle.rds_state.specs.Value.{StateValue}
 use Rattle.rds_bytes.specs.Reading.{◌>>=◌, Reader, pair_at, dots_at, keyed_live_rows_at, keyed_counters_at}
 use Rattle.rds_bytes.specs.TableTexts.{table_at, numbered_at}
-use Rattle.rds_codec.specs.StateTexts.{StateParts, state_by}
-use Rattle.rds_codec.specs.TabledTexts.{TabledParts as TextParts, has_its_table, tabled_by, body_at, tabled_at}
+use Rattle.rds_codec.specs.StateTexts.{StateParts, TabledParts as TextParts, state_by, has_its_table, tabled_by, body_at, state_at}
 use Rattle.rds_feeds.specs.Chained.{chain}
 use Rattle.rds_feeds.specs.Numbered.{TabledLives, TabledParts, has_own_table}
 use Rattle.rds_feeds.specs.Parts.{makes}
@@ -114,7 +113,7 @@ module _ (replicas : ℕ) where
 
   pub tabled_read : (table : Reader Table) (dots : Reader Dots) (keys : Reader (Table × Dots)) → ((bytes : List ℕ) → table bytes ≡ table_at bytes)
       → ((bytes : List ℕ) → dots bytes ≡ dots_at replicas bytes) → ((bytes : List ℕ) → keys bytes ≡ pair_at table dots bytes)
-      → (bytes : List ℕ) → makes (chain (chain keys lives_after) (counters_after replicas)) tabled_of bytes ≡ tabled_at replicas bytes
-  unfolding tabled_at
+      → (bytes : List ℕ) → makes (chain (chain keys lives_after) (counters_after replicas)) tabled_of bytes ≡ state_at replicas bytes
+  unfolding state_at
   tabled_read table dots keys first second are bytes =
       ap after_keys (are bytes ∙ pair_same table table_at dots (dots_at replicas) first second bytes) ∙ after_table (table_at bytes)

@@ -31,8 +31,8 @@ use Rattle.rds_bytes.specs.Reading.{Reader, then_at, pair_at, made_at, when_at, 
 use Rattle.rds_bytes.specs.TableTexts.{table_at, numbered_at}
 use Rattle.rds_bytes.proofs.Format.{bind_ok, ok_is}
 use Rattle.rds_codec.specs.FormatTexts.{state_at_in}
-use Rattle.rds_codec.specs.StateTexts.{state_by, state_at}
-use Rattle.rds_codec.specs.TabledTexts.{has_its_table, tabled_by, body_at, tabled_at}
+use Rattle.rds_codec.specs.SpelledTexts.{spelled_at}
+use Rattle.rds_codec.specs.StateTexts.{state_by, has_its_table, tabled_by, body_at, state_at}
 use Rattle.rds_codec.specs.declared.formats.Format.{Format}
 use Rattle.rds_codec.specs.declared.formats.Format.TheVariants.{One, Two}
 use Rattle.rds_feeds.specs.WasRead.{made_read, then_read, when_read}
@@ -172,17 +172,17 @@ module _ (replicas : ℕ) where
         numbers = λ q has. below rows.middle rows.second rest rows.second_is q has;
       })
 
-  state_fits : ReadsFit (state_at replicas)
-  unfolding state_at
-  state_fits = parts_fit live_rows_at (counters_at replicas) counters_below
+  spelled_fits : ReadsFit (spelled_at replicas)
+  unfolding spelled_at
+  spelled_fits = parts_fit live_rows_at (counters_at replicas) counters_below
 
   body_fits : (key : Reader (List ℕ)) → ReadsFit (body_at key replicas)
   unfolding body_at
   body_fits key = parts_fit (keyed_live_rows_at key) (keyed_counters_at key replicas) (keyed_counters_below key)
 
-  tabled_fits : ReadsFit (tabled_at replicas)
-  unfolding tabled_at
-  tabled_fits bytes v rest e =
+  state_fits : ReadsFit (state_at replicas)
+  unfolding state_at
+  state_fits bytes v rest e =
       let body = λ (table : List (List ℕ)). body_at (numbered_at table) replicas in
       let made = made_read tabled_by (when_at has_its_table (then_at table_at body)) bytes v rest e in
       let has = when_read has_its_table (then_at table_at body) bytes made.0 rest made.1 in
@@ -191,8 +191,8 @@ module _ (replicas : ℕ) where
       subst (λ (w : StateValue). Fits replicas (coordinates w)) same (body_fits (numbered_at both.first) both.middle both.second rest both.second_is)
 
   pub state_in_fits : (format : Format) → ReadsFit (state_at_in format replicas)
-  state_in_fits One = state_fits
-  state_in_fits Two = tabled_fits
+  state_in_fits One = spelled_fits
+  state_in_fits Two = state_fits
 
 -- ---- a roster, and the own number
 

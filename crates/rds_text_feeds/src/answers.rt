@@ -2,11 +2,10 @@
 ghost use Rattle.std.specs.Prelude.{◌≡◌, ℕ, List, Ok};
 ghost use Rattle.rds_bytes.specs.Reading.{replica_at};
 ghost use Rattle.rds_bytes.specs.SteadyParts.{replica_steady};
-ghost use Rattle.rds_codec.specs.AnswerTexts.{answer, answer_at};
+ghost use Rattle.rds_codec.specs.AnswerTexts.{answer};
 ghost use Rattle.rds_codec.specs.FormatTexts.{answer_at_in};
 
 use crate::certificates::{UnfinishedCertificate, unfinished_certificate};
-use crate::formats::{UnfinishedStateIn, unfinished_state_in};
 use crate::states::{UnfinishedState, unfinished_state};
 use rds_bytes::read_replica;
 use rds_codec::{Answer, Format};
@@ -68,7 +67,8 @@ type DeltaParts<S> = Pair<UnfinishedState<S>, UnfinishedCertificate>;
 
 type AnswerParts<S> = Made<Pair<Once<Asker>, DeltaParts<S>>, PartsAreAnswer>;
 
-/// An answer that is being read. No more than one row or gap is held.
+/// An answer in a format, which is being read. No more than one row or gap is held, and in format 2 the table of the
+/// delta.
 #[derive(Drop)]
 pub struct UnfinishedAnswer<S: DotSet> {
     parts: AnswerParts<S>,
@@ -92,68 +92,20 @@ impl<S: DotSet> Unfinished for UnfinishedAnswer<S> {
     }
 }
 
-/// An answer of so many replicas, of which nothing was read.
-pub fn unfinished_answer<S: DotSet>(alloc: Global, replicas: u16) -> UnfinishedAnswer<S>
-    ensures { (bytes : List ℕ) → ⟦<UnfinishedAnswer<S> as Unfinished>⟧.finish result bytes
-        ≡ answer_at replicas bytes }
-{
-    let state = unfinished_state(alloc, replicas);
-    let certificate = unfinished_certificate(alloc, replicas);
-    let asker = Once {
-        part: Asker { replicas },
-    };
-    let delta = pair(state, certificate);
-    UnfinishedAnswer {
-        parts: Made {
-            from: pair(asker, delta),
-            maker: PartsAreAnswer {},
-        },
-    }
-}
-
-type DeltaPartsIn<S> = Pair<UnfinishedStateIn<S>, UnfinishedCertificate>;
-
-type AnswerPartsIn<S> = Made<Pair<Once<Asker>, DeltaPartsIn<S>>, PartsAreAnswer>;
-
-/// An answer in a format, which is being read. No more than one row or gap is held, and in format 2 the table of the
-/// delta.
-#[derive(Drop)]
-pub struct UnfinishedAnswerIn<S: DotSet> {
-    parts: AnswerPartsIn<S>,
-}
-
-impl<S: DotSet> Unfinished for UnfinishedAnswerIn<S> {
-    type Whole = Answer<S>;
-
-    ghost finish = { λ u. ⟦<AnswerPartsIn<S> as Unfinished>⟧.finish u.parts };
-
-    fn read_on<'a>(
-        self,
-        alloc: Global,
-        bytes: &'a [u8],
-    ) -> Result<(Progress<Self, Answer<S>>, &'a [u8]), Fault> {
-        let (progress, rest) = self.parts.read_on(alloc, bytes)?;
-        match progress {
-            Progress::More(parts) => Ok((Progress::More(UnfinishedAnswerIn { parts }), rest)),
-            Progress::Whole(answer) => Ok((Progress::Whole(answer), rest)),
-        }
-    }
-}
-
 /// An answer of so many replicas in a format, of which nothing was read.
-pub fn unfinished_answer_in<S: DotSet>(
+pub fn unfinished_answer<S: DotSet>(
     alloc: Global,
     format: Format,
     replicas: u16,
-) -> UnfinishedAnswerIn<S>
-    ensures { (bytes : List ℕ) → ⟦<UnfinishedAnswerIn<S> as Unfinished>⟧.finish result bytes
+) -> UnfinishedAnswer<S>
+    ensures { (bytes : List ℕ) → ⟦<UnfinishedAnswer<S> as Unfinished>⟧.finish result bytes
         ≡ answer_at_in format replicas bytes }
 {
-    let state = unfinished_state_in(alloc, format, replicas);
+    let state = unfinished_state(alloc, format, replicas);
     let certificate = unfinished_certificate(alloc, replicas);
     let asker = Asker { replicas };
     let delta = pair(state, certificate);
-    UnfinishedAnswerIn {
+    UnfinishedAnswer {
         parts: Made {
             from: pair(Once { part: asker }, delta),
             maker: PartsAreAnswer {},

@@ -6,8 +6,8 @@ ghost use Rattle.rds_feeds.specs.Chained.{then_finish};
 ghost use Rattle.rds_feeds.specs.Parts.{makes};
 ghost use Rattle.rds_text_feeds.specs.Openings.{opening_as_it_is, state_after_opening, snapshot_of_parts};
 
-use crate::formats::{UnfinishedStateIn, unfinished_state_in};
 use crate::openings::Opening;
+use crate::states::{UnfinishedState, unfinished_state};
 use rds_codec::Format;
 use rds_dots::DotSet;
 use rds_feeds::{Beside, Following, Made, Making, Once, Progress, Then, Unfinished};
@@ -18,7 +18,7 @@ use std::marker::PhantomData;
 
 type Opened = (Format, (Roster, u8));
 
-type OpenedState<S> = Beside<Opened, UnfinishedStateIn<S>>;
+type OpenedState<S> = Beside<Opened, UnfinishedState<S>>;
 
 /// The state after an opening, in its format, of as many replicas as the roster has names.
 #[derive(Drop)]
@@ -33,7 +33,7 @@ impl<S: DotSet> Following<Opened> for StateFollows<S> {
 
     fn start(self, alloc: Global, first: Opened) -> Result<OpenedState<S>, Fault> {
         let (format, member) = first;
-        let read = unfinished_state_in(alloc, format, member.0.len());
+        let read = unfinished_state(alloc, format, member.0.len());
         Ok(Beside {
             carried: (format, member),
             read,

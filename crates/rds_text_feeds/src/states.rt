@@ -1,45 +1,29 @@
-//! A state, which is read row by row.
-ghost use Rattle.std.specs.Prelude.{◌≡◌, ℕ, List, Ok};
-ghost use Rattle.rds_codec.specs.StateTexts.{state_at};
+//! A state in either format.
+ghost use Rattle.std.specs.Prelude.{◌≡◌, ℕ, List};
+ghost use Rattle.rds_codec.specs.FormatTexts.{state_at_in};
 
-use rds_counts::Counts;
+use crate::either::Either;
+use crate::spelled::{UnfinishedSpelled, unfinished_spelled};
+use crate::tabled::{UnfinishedTabled, unfinished_tabled};
+use rds_codec::Format;
 use rds_dots::DotSet;
-use rds_feeds::{
-    Made, Making, Pair, Progress, Unfinished, UnfinishedCounters, UnfinishedSeen, pair,
-    unfinished_counters, unfinished_seen,
-};
-use rds_life::Lives;
+use rds_feeds::{Progress, Unfinished};
 use rds_names::Fault;
 use rds_state::State;
 use std::alloc::Global;
 
-/// The state of lives and counters.
-#[derive(Drop)]
-pub struct PartsAreState {}
+type FormatParts<S> = Either<UnfinishedSpelled<S>, UnfinishedTabled<S>>;
 
-impl<S: DotSet> Making<(Lives<S>, Counts)> for PartsAreState {
-    type Made = State<S>;
-
-    ghost made = { λ _ p. Ok (record { lives = p.0; counts = p.1 }) };
-
-    fn make(self, whole: (Lives<S>, Counts)) -> Result<State<S>, Fault> {
-        let (lives, counts) = whole;
-        Ok(State::from_parts(lives, counts))
-    }
-}
-
-type StateParts<S> = Made<Pair<UnfinishedSeen<S>, UnfinishedCounters>, PartsAreState>;
-
-/// A state that is being read. No more than one row or gap is held.
+/// A state in a format, which is being read. No more than one row or gap is held, and in format 2 the table.
 #[derive(Drop)]
 pub struct UnfinishedState<S: DotSet> {
-    parts: StateParts<S>,
+    parts: FormatParts<S>,
 }
 
 impl<S: DotSet> Unfinished for UnfinishedState<S> {
     type Whole = State<S>;
 
-    ghost finish = { λ u. ⟦<StateParts<S> as Unfinished>⟧.finish u.parts };
+    ghost finish = { λ u. ⟦<FormatParts<S> as Unfinished>⟧.finish u.parts };
 
     fn read_on<'a>(
         self,
@@ -54,17 +38,21 @@ impl<S: DotSet> Unfinished for UnfinishedState<S> {
     }
 }
 
-/// A state of so many replicas, of which nothing was read.
-pub fn unfinished_state<S: DotSet>(alloc: Global, replicas: u16) -> UnfinishedState<S>
+/// A state of so many replicas in a format, of which nothing was read.
+pub fn unfinished_state<S: DotSet>(
+    alloc: Global,
+    format: Format,
+    replicas: u16,
+) -> UnfinishedState<S>
     ensures { (bytes : List ℕ) → ⟦<UnfinishedState<S> as Unfinished>⟧.finish result bytes
-        ≡ state_at replicas bytes }
+        ≡ state_at_in format replicas bytes }
 {
-    let seen = unfinished_seen(alloc, replicas);
-    let counters = unfinished_counters(alloc, replicas);
-    UnfinishedState {
-        parts: Made {
-            from: pair(seen, counters),
-            maker: PartsAreState {},
+    match format {
+        Format::One => UnfinishedState {
+            parts: Either::First(unfinished_spelled(alloc, replicas)),
+        },
+        Format::Two => UnfinishedState {
+            parts: Either::Second(unfinished_tabled(alloc, replicas)),
         },
     }
 }

@@ -1,6 +1,6 @@
 //! A state of format 2: a table of keys, and then its parts, which have the keys by their numbers.
 ghost use Rattle.std.specs.Prelude.{◌≡◌, ℕ, List};
-ghost use Rattle.rds_codec.specs.TabledTexts.{tabled_at};
+ghost use Rattle.rds_codec.specs.StateTexts.{state_at};
 ghost use Rattle.rds_feeds.specs.Chained.{then_finish};
 ghost use Rattle.rds_feeds.specs.Parts.{makes};
 ghost use Rattle.rds_text_feeds.specs.Tabled.{lives_after, counters_after, tabled_of};
@@ -136,7 +136,7 @@ impl<S: DotSet> Unfinished for UnfinishedTabled<S> {
 /// A state of format 2 of so many replicas, of which nothing was read.
 pub fn unfinished_tabled<S: DotSet>(alloc: Global, replicas: u16) -> UnfinishedTabled<S>
     ensures { (bytes : List ℕ) → ⟦<UnfinishedTabled<S> as Unfinished>⟧.finish result bytes
-        ≡ tabled_at replicas bytes }
+        ≡ state_at replicas bytes }
 {
     let keys = pair(unfinished_table(alloc), unfinished_dots(alloc, replicas));
     let lives = UnfinishedTabledLives {
