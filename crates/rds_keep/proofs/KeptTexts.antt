@@ -1,18 +1,18 @@
--- A replica whose text of format 1 is read again can be kept.
+-- A replica whose text is read again can be kept.
 use Rattle.std.proofs.Common.{◌≡◌, ℕ, ◌≤◌, List, length, Ok, sym, subst}
 use Rattle.rds_state.specs.Fits.{ReplicaValue}
 use Rattle.rds_bytes.proofs.Format.{IsBytes}
 use Rattle.rds_codec.specs.Decoding.{all_of}
-use Rattle.rds_codec.specs.Kinds.{snapshot_kind}
-use Rattle.rds_codec.specs.StateTexts.{snapshot_text, snapshot_at}
-use Rattle.rds_codec.specs.declared.formats.Format.TheVariants.{One}
+use Rattle.rds_codec.specs.FormatTexts.{snapshot_in_at, snapshot_kind_in}
+use Rattle.rds_codec.specs.StateTexts.{snapshot_text}
+use Rattle.rds_codec.specs.declared.formats.Format.TheVariants.{Two}
 use Rattle.rds_codec.specs.declared.limits.TheConstants.{LIMIT}
-use Rattle.rds_codec.proofs.SnapshotFormats.{snapshot_reader}
+use Rattle.rds_codec.proofs.BothSnapshots.{snapshot_in_reader}
 use Rattle.rds_codec.proofs.Whole.{decodes}
 use Rattle.rds_keep.specs.Kept.{IsKept}
 
-pub is_kept : (v : ReplicaValue) (bytes : List ℕ) → IsBytes bytes → bytes ≡ snapshot_text v → length (snapshot_text v) ≤ LIMIT → all_of snapshot_at bytes ≡ Ok v → IsKept v
+pub is_kept : (v : ReplicaValue) (bytes : List ℕ) → IsBytes bytes → bytes ≡ snapshot_text v → length (snapshot_text v) ≤ LIMIT → all_of snapshot_in_at bytes ≡ Ok (Two, v) → IsKept v
 is_kept v bytes fits text within again =
     let short = subst (λ (t : List ℕ). length t ≤ LIMIT) (sym text) within in
-    let decoded = decodes snapshot_kind snapshot_at snapshot_reader bytes fits short (Ok v) again in
-    record { format = One; within = within; value = decoded.value.1.is_value }
+    let decoded = decodes snapshot_kind_in snapshot_in_at snapshot_in_reader bytes fits short (Ok (Two, v)) again in
+    record { format = Two; within = within; value = decoded.value.1.is_value }

@@ -9,11 +9,11 @@ use Rattle.rds_codec.specs.declared.formats.Format.{Format}
 use Rattle.rds_codec.specs.declared.limits.TheConstants.{LIMIT}
 use Rattle.rds_keep.specs.Counted.{CountedValue, HasFailed, most_read}
 
--- why a text wasn't written: TooLong exactly where it is above the limit, and Memory, both with the writer
+-- why a text wasn't written: TooLong only where it is above the limit, or memory ran out, both with the writer
 -- untouched; Device only where a call failed
 abbrev pub RefusesText : {T : Type 0} → List ℕ → CountedValue T → CountedValue T → Fault → Type 0
 RefusesText text old new TooLong = (LIMIT < length text) × (new ≡ old)
-RefusesText text old new Memory = (length text ≤ LIMIT) × (new ≡ old)
+RefusesText text old new Memory = new ≡ old
 RefusesText text old new Device = (length text ≤ LIMIT) × HasFailed old new
 RefusesText text old new e = ⊥
 

@@ -4,6 +4,7 @@ ghost use Rattle.std.specs.Prelude.{Err, IfSome, IfOk, IfErr, OnOk};
 ghost use Rattle.std.specs.Io.KnownBytes.{IsAtEnd};
 ghost use Rattle.rds_names.specs.declared.fault.Fault.TheVariants.{Memory, Device};
 ghost use Rattle.rds_codec.specs.Decoding.{IsOtherFault};
+ghost use Rattle.rds_codec.specs.declared.formats.Format.{Format};
 ghost use Rattle.rds_keep.specs.Counted.{HasFailed, most_read};
 ghost use Rattle.rds_keep.specs.Feeding.{Adds, Feeds, HasText, IsReadAs, IsUnread, Refuses, StandsFor, Takes};
 ghost use Rattle.rds_keep.specs.Parts.{ConsumesAtMost};
@@ -89,17 +90,21 @@ pub(crate) fn fed_with<U: Unfinished>(feed: Feed<U>, piece: &[u8]) -> Result<Fee
 /// Refuses as decoding does for all of the bytes: they are read to their end, or to one more than a text may have, also
 /// where the feed refuses them earlier. A read that fails, and more reads than the reader has turns, are `Device`.
 pub fn read_fed<U: Fed, R: Read>(feed: Feed<U>, reader: &mut Counted<R>) -> Result<U::Whole, Fault>
-    ensures whole { (replicas : ℕ) (came : List ℕ) → StandsFor U.finish (U.reader replicas) feed came
+    ensures whole { (format : Format) (replicas : ℕ) (came : List ℕ)
+        → StandsFor U.finish (U.reader format replicas) feed came
         → IfSome (R.remaining reader.old.inner)
-        (λ input. IsReadAs (U.kind replicas) (U.reader replicas) (came ++ input) result) }
-    ensures value { (replicas : ℕ) (came : List ℕ) → StandsFor U.finish (U.reader replicas) feed came
-        → IfOk result (HasText (U.kind replicas)) }
+        (λ input. IsReadAs (U.kind format replicas) (U.reader format replicas) (came ++ input) result) }
+    ensures value { (format : Format) (replicas : ℕ) (came : List ℕ)
+        → StandsFor U.finish (U.reader format replicas) feed came
+        → IfOk result (HasText (U.kind format replicas)) }
     ensures bound { IfSome (R.remaining reader.old.inner) (λ input. most_read reader.old.left < length input
         → most_read reader.old.left ≤ feed.left → IsUnread result) }
     ensures end { OnOk result (IsAtEnd (R.remaining reader.new.inner)) }
-    ensures fault { (replicas : ℕ) (came : List ℕ) → StandsFor U.finish (U.reader replicas) feed came
+    ensures fault { (format : Format) (replicas : ℕ) (came : List ℕ)
+        → StandsFor U.finish (U.reader format replicas) feed came
         → IfErr result (λ e. (e ≡ Device) ⊎ IsOtherFault e) }
-    ensures counted { (replicas : ℕ) (came : List ℕ) → StandsFor U.finish (U.reader replicas) feed came
+    ensures counted { (format : Format) (replicas : ℕ) (came : List ℕ)
+        → StandsFor U.finish (U.reader format replicas) feed came
         → result ≡ Err Device → HasFailed reader.old reader.new }
     ensures steady { result ≢ Err Device → reader.new.failed ≡ reader.old.failed }
     ensures turns { reader.new.turns ≡ reader.old.turns }

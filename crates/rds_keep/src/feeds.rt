@@ -6,10 +6,11 @@ ghost use Rattle.rds_names.specs.declared.fault.Fault.{Fault};
 ghost use Rattle.rds_names.specs.declared.fault.Fault.TheVariants.{Memory, Extra};
 ghost use Rattle.rds_bytes.specs.Reading.{Reads, Reader};
 ghost use Rattle.rds_codec.specs.Decoding.{Decodes, all_of};
+ghost use Rattle.rds_codec.specs.declared.formats.Format.{Format};
 ghost use Rattle.rds_keep.specs.Feeding.{Adds, Ends, GoesOn, Refuses, StandsFor, decoding, read_on};
 
 use crate::fed::Fed;
-use rds_codec::LIMIT;
+use rds_codec::{Format, LIMIT};
 use rds_feeds::{Progress, Unfinished};
 use rds_names::Fault;
 use std::alloc::Global;
@@ -181,17 +182,17 @@ impl<U: Unfinished> Feed<U> {
 }
 
 impl<U: Fed> Feed<U> {
-    /// A feed of texts of a roster of so many replicas, that was given no bytes yet. Takes no memory.
-    pub fn new(alloc: Global, replicas: u16) -> Feed<U>
-        ensures { StandsFor U.finish (U.reader replicas) result [] }
+    /// A feed of texts in a format, of a roster of so many replicas, that was given no bytes yet. Takes no memory.
+    pub fn new(alloc: Global, format: Format, replicas: u16) -> Feed<U>
+        ensures { StandsFor U.finish (U.reader format replicas) result [] }
     {
-        Feed::of(alloc, U::begin(alloc, replicas))
+        Feed::of(alloc, U::begin(alloc, format, replicas))
     }
 
     /// The value whose text the bytes are, or the fault that decoding gives of them. After a fault it is that one.
     pub fn end(self) -> Result<U::Whole, Fault>
-        ensures text { (replicas : ℕ) (came : List ℕ) → StandsFor U.finish (U.reader replicas) self came
-            → Decodes (U.kind replicas) came result }
+        ensures text { (format : Format) (replicas : ℕ) (came : List ℕ)
+            → StandsFor U.finish (U.reader format replicas) self came → Decodes (U.kind format replicas) came result }
         ensures read { (reader : Reader U.Whole) (came : List ℕ) → StandsFor U.finish reader self came
             → Reads (λ v. v) result (decoding reader came) }
         ensures again { IfErr self.progress (λ e. result ≡ Err e) }

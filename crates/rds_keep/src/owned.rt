@@ -1,7 +1,8 @@
 //! Replicas that their callers give up to be kept: nothing of them is copied.
-ghost use Rattle.std.specs.Prelude.{◌≡◌, ◌≤◌, true, false, is_ok, length, IfOk, IfErr, OnOk, OnErr};
+ghost use Rattle.std.specs.Prelude.{◌≡◌, ◌≤◌, ◌⊎◌, true, false, is_ok, length, IfOk, IfErr, OnOk, OnErr};
 ghost use Rattle.std.specs.FinMap as map;
 ghost use Rattle.std.specs.Io.KnownBytes.{Appends};
+ghost use Rattle.rds_names.specs.declared.fault.Fault.TheVariants.{Memory, Device};
 ghost use Rattle.rds_codec.specs.StateTexts.{snapshot_text};
 ghost use Rattle.rds_codec.specs.declared.limits.TheConstants.{LIMIT};
 ghost use Rattle.rds_keep.specs.Parts.{AppendsFront, AppendsPart};
@@ -37,7 +38,7 @@ pub fn write_owned<S: DotSet, W: Write>(
     ensures turns { writer.new.turns ≡ writer.old.turns }
     ensures renamed { writer.new.renamed ≡ writer.old.renamed }
     ensures small { replica.state.lives ≡ map.empty → replica.state.counts ≡ map.empty
-        → length (snapshot_text replica) ≤ LIMIT }
+        → IfErr result (λ fault. (fault ≡ Memory) ⊎ (fault ≡ Device)) }
 {
     let text = encode_snapshot(alloc, &replica)?;
     text_can_be_kept(&replica, text.as_slice());

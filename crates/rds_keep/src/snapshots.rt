@@ -1,12 +1,13 @@
-//! Snapshots, written in format 1 and read whole in either.
+//! Snapshots, written in format 2 and read whole in either.
 ghost use Rattle.std.specs.Prelude.{◌≡◌, ◌≢◌, ◌-◌, ◌≤◌, ◌⊎◌, length, Ok, Err, IfOk, IfErr, IfSome, OnOk, OnErr};
 ghost use Rattle.std.specs.FinMap as map;
 ghost use Rattle.std.specs.Io.KnownBytes.{Appends, Consumes, IsAtEnd};
 ghost use Rattle.rds_names.specs.declared.fault.Fault.TheVariants.{Memory, Cut, Bad, Device};
 ghost use Rattle.rds_codec.specs.Decoding.{IsOtherFault, all_of};
-ghost use Rattle.rds_codec.specs.FormatTexts.{snapshot_text_in};
-ghost use Rattle.rds_codec.specs.StateTexts.{snapshot_at, snapshot_text, IsSnapshot};
+ghost use Rattle.rds_codec.specs.FormatTexts.{snapshot_in_at, snapshot_text_in};
+ghost use Rattle.rds_codec.specs.StateTexts.{snapshot_text, IsSnapshot};
 ghost use Rattle.rds_codec.specs.declared.formats.Format.{Format};
+ghost use Rattle.rds_codec.specs.declared.formats.Format.TheVariants.{Two};
 ghost use Rattle.rds_codec.specs.declared.limits.TheConstants.{LIMIT};
 ghost use Rattle.rds_keep.specs.Counted.{HasFailed, most_read};
 ghost use Rattle.rds_keep.specs.Kept.{IsKept};
@@ -30,15 +31,15 @@ use std::io::{Read, Write};
 pub(crate) fn text_can_be_kept<S: DotSet>(replica: &Replica<S>, text: &[u8])
     requires text { text.now ≡ snapshot_text replica.now }
     requires within { length (snapshot_text replica.now) ≤ LIMIT }
-    requires again { all_of snapshot_at text.now ≡ Ok replica.now }
+    requires again { all_of snapshot_in_at text.now ≡ Ok (Two, replica.now) }
     ensures { IsKept replica.now }
 {}
 
 /// Writes the replica's snapshot. The kept replica equals the one that was lent, with memory of its
 /// own.
 ///
-/// Refuses `TooLong` where the text is above the limit, and takes all its memory before it writes the
-/// first byte. A call of the writer that fails, or that takes no byte, is `Device`: then a beginning
+/// Refuses `TooLong` where the text is above the limit, which to find takes memory. It takes all its memory before it
+/// writes the first byte. A call of the writer that fails, or that takes no byte, is `Device`: then a beginning
 /// of the text is written. The writer isn't flushed.
 #[tactic(auto, using(crate::proofs::TextParts::refused_before))]
 pub fn write_snapshot<S: DotSet, W: Write>(
@@ -57,7 +58,7 @@ pub fn write_snapshot<S: DotSet, W: Write>(
     ensures turns { writer.new.turns ≡ writer.old.turns }
     ensures renamed { writer.new.renamed ≡ writer.old.renamed }
     ensures small { replica.now.state.lives ≡ map.empty → replica.now.state.counts ≡ map.empty
-        → length (snapshot_text replica.now) ≤ LIMIT }
+        → IfErr result (λ fault. (fault ≡ Memory) ⊎ (fault ≡ Device)) }
 {
     let text = encode_snapshot(alloc, replica)?;
     text_can_be_kept(replica, text.as_slice());
@@ -98,7 +99,7 @@ fn read_magic<R: Read>(alloc: Global, reader: &mut Counted<R>) -> Result<Vec<u8>
 /// it is, and no more than these are read of it. A read that fails, and more reads than the reader's bound of turns,
 /// are `Device`.
 ///
-/// What was read in format 2 may have too long a text in format 1, which is what is written.
+/// What was read in format 1 may have too long a text in format 2, which is what is written.
 pub fn read_snapshot<S: DotSet, R: Read>(
     alloc: Global,
     reader: &mut Counted<R>,

@@ -1,23 +1,23 @@
 //! Feeds of the kinds of texts.
 ghost use Rattle.std.specs.Prelude.{◌≡◌, ℕ, List, [], Result};
-ghost use Rattle.rds_codec.specs.AnswerTexts.{answer_kind, answer_at};
+ghost use Rattle.rds_codec.specs.AnswerTexts.{answer_at};
 ghost use Rattle.rds_codec.specs.CertificateTexts.{certificate_kind, certificate_at};
 ghost use Rattle.rds_codec.specs.DigestTexts.{digest_kind, digest_at};
+ghost use Rattle.rds_codec.specs.FormatTexts.{answer_at_in, answer_kind_in, snapshot_in_at, snapshot_kind_in, state_at_in, state_kind_in};
 ghost use Rattle.rds_codec.specs.HelloTexts.{hello_kind, hello_at};
-ghost use Rattle.rds_codec.specs.FormatTexts.{snapshot_in_at, snapshot_kind_in};
-ghost use Rattle.rds_codec.specs.Kinds.{state_kind};
 ghost use Rattle.rds_codec.specs.StateTexts.{state_at};
-ghost use Rattle.rds_codec.proofs.AnswerFormats.{answer_reader};
+ghost use Rattle.rds_codec.specs.declared.formats.Format.{Format};
 ghost use Rattle.rds_codec.proofs.BothSnapshots.{snapshot_in_reader};
 ghost use Rattle.rds_codec.proofs.CertificateFormats.{certificate_reader};
 ghost use Rattle.rds_codec.proofs.DigestFormats.{digest_reader};
 ghost use Rattle.rds_codec.proofs.HelloFormats.{hello_reader};
-ghost use Rattle.rds_codec.proofs.StateFormats.{state_reader};
+ghost use Rattle.rds_codec.proofs.InFormats.{answer_in_reader, state_in_reader};
 ghost use Rattle.rds_keep.specs.Feeding.{StandsFor};
 ghost use Rattle.rds_keep.specs.FedTexts.{decodes_texts};
 
 use crate::fed::Fed;
 use crate::feeds::Feed;
+use rds_codec::Format;
 use rds_dots::DotSet;
 use rds_feeds::Unfinished;
 use rds_text_feeds::{
@@ -28,83 +28,90 @@ use rds_text_feeds::{
 use std::alloc::Global;
 
 impl<S: DotSet> Fed for UnfinishedState<S> {
-    ghost kind = { state_kind };
+    ghost kind = { state_kind_in };
 
-    ghost reader = { state_at };
+    ghost reader = { state_at_in };
 
-    fn begin(alloc: Global, replicas: u16) -> UnfinishedState<S> {
-        unfinished_state(alloc, replicas)
+    fn begin(alloc: Global, format: Format, replicas: u16) -> UnfinishedState<S> {
+        unfinished_state(alloc, format, replicas)
     }
 
-    ghost decodes = { λ n. decodes_texts (state_kind n) (state_at n) (state_reader n) };
+    ghost decodes = { λ f n. decodes_texts (state_kind_in f n) (state_at_in f n) (state_in_reader f n) };
 }
 
 impl<S: DotSet> Fed for UnfinishedDigest<S> {
-    ghost kind = { digest_kind };
+    ghost kind = { λ _. digest_kind };
 
-    ghost reader = { digest_at };
+    ghost reader = { λ _. digest_at };
 
-    fn begin(alloc: Global, replicas: u16) -> UnfinishedDigest<S> {
+    fn begin(alloc: Global, _format: Format, replicas: u16) -> UnfinishedDigest<S> {
         unfinished_digest(alloc, replicas)
     }
 
-    ghost decodes = { λ n. decodes_texts (digest_kind n) (digest_at n) (digest_reader n) };
+    ghost decodes = { λ _ n. decodes_texts (digest_kind n) (digest_at n) (digest_reader n) };
 }
 
 impl Fed for UnfinishedCertificate {
-    ghost kind = { certificate_kind };
+    ghost kind = { λ _. certificate_kind };
 
-    ghost reader = { certificate_at };
+    ghost reader = { λ _. certificate_at };
 
-    fn begin(alloc: Global, replicas: u16) -> UnfinishedCertificate {
+    fn begin(alloc: Global, _format: Format, replicas: u16) -> UnfinishedCertificate {
         unfinished_certificate(alloc, replicas)
     }
 
-    ghost decodes = { λ n. decodes_texts (certificate_kind n) (certificate_at n) (certificate_reader n) };
+    ghost decodes = { λ _ n. decodes_texts (certificate_kind n) (certificate_at n) (certificate_reader n) };
 }
 
 impl<S: DotSet> Fed for UnfinishedAnswer<S> {
-    ghost kind = { answer_kind };
+    ghost kind = { answer_kind_in };
 
-    ghost reader = { answer_at };
+    ghost reader = { answer_at_in };
 
-    fn begin(alloc: Global, replicas: u16) -> UnfinishedAnswer<S> {
-        unfinished_answer(alloc, replicas)
+    fn begin(alloc: Global, format: Format, replicas: u16) -> UnfinishedAnswer<S> {
+        unfinished_answer(alloc, format, replicas)
     }
 
-    ghost decodes = { λ n. decodes_texts (answer_kind n) (answer_at n) (answer_reader n) };
+    ghost decodes = { λ f n. decodes_texts (answer_kind_in f n) (answer_at_in f n) (answer_in_reader f n) };
 }
 
 impl Fed for UnfinishedHello {
-    ghost kind = { λ _. hello_kind };
+    ghost kind = { λ _ _. hello_kind };
 
-    ghost reader = { λ _. hello_at };
+    ghost reader = { λ _ _. hello_at };
 
-    fn begin(_alloc: Global, _replicas: u16) -> UnfinishedHello {
+    fn begin(_alloc: Global, _format: Format, _replicas: u16) -> UnfinishedHello {
         unfinished_hello()
     }
 
-    ghost decodes = { λ _. decodes_texts hello_kind hello_at hello_reader };
+    ghost decodes = { λ _ _. decodes_texts hello_kind hello_at hello_reader };
 }
 
 impl<S: DotSet> Fed for UnfinishedSnapshot<S> {
-    ghost kind = { λ _. snapshot_kind_in };
+    ghost kind = { λ _ _. snapshot_kind_in };
 
-    ghost reader = { λ _. snapshot_in_at };
+    ghost reader = { λ _ _. snapshot_in_at };
 
-    fn begin(_alloc: Global, _replicas: u16) -> UnfinishedSnapshot<S> {
+    fn begin(_alloc: Global, _format: Format, _replicas: u16) -> UnfinishedSnapshot<S> {
         unfinished_snapshot()
     }
 
-    ghost decodes = { λ _. decodes_texts snapshot_kind_in snapshot_in_at snapshot_in_reader };
+    ghost decodes = { λ _ _. decodes_texts snapshot_kind_in snapshot_in_at snapshot_in_reader };
 }
 
 impl<S: DotSet> Feed<UnfinishedState<S>> {
-    /// A feed of a state of so many replicas, that was given no bytes yet. Takes no memory.
+    /// A feed of a state of so many replicas in a format, that was given no bytes yet. Takes no memory.
+    pub fn state_in(alloc: Global, format: Format, replicas: u16) -> Feed<UnfinishedState<S>>
+        ensures { StandsFor ⟦<UnfinishedState<S> as Unfinished>⟧.finish (state_at_in format replicas) result [] }
+    {
+        Feed::of(alloc, unfinished_state(alloc, format, replicas))
+    }
+
+    /// The same of format 2.
     pub fn state(alloc: Global, replicas: u16) -> Feed<UnfinishedState<S>>
         ensures { StandsFor ⟦<UnfinishedState<S> as Unfinished>⟧.finish (state_at replicas) result [] }
     {
-        Feed::of(alloc, unfinished_state(alloc, replicas))
+        Feed::state_in(alloc, Format::Two, replicas)
     }
 }
 
@@ -127,11 +134,18 @@ impl Feed<UnfinishedCertificate> {
 }
 
 impl<S: DotSet> Feed<UnfinishedAnswer<S>> {
-    /// A feed of an answer of so many replicas, that was given no bytes yet. Takes no memory.
+    /// A feed of an answer of so many replicas in a format, that was given no bytes yet. Takes no memory.
+    pub fn answer_in(alloc: Global, format: Format, replicas: u16) -> Feed<UnfinishedAnswer<S>>
+        ensures { StandsFor ⟦<UnfinishedAnswer<S> as Unfinished>⟧.finish (answer_at_in format replicas) result [] }
+    {
+        Feed::of(alloc, unfinished_answer(alloc, format, replicas))
+    }
+
+    /// The same of format 2.
     pub fn answer(alloc: Global, replicas: u16) -> Feed<UnfinishedAnswer<S>>
         ensures { StandsFor ⟦<UnfinishedAnswer<S> as Unfinished>⟧.finish (answer_at replicas) result [] }
     {
-        Feed::of(alloc, unfinished_answer(alloc, replicas))
+        Feed::answer_in(alloc, Format::Two, replicas)
     }
 }
 

@@ -2,6 +2,7 @@ use Rattle.std.proofs.Common.{◌≡◌, [], Ok, Err, ap, inl, inr, refl}
 use Rattle.std.proofs.lemmas.Result.{err_from_is_err_and}
 use Rattle.rds_names.specs.declared.fault.Fault.TheVariants.{Memory, Device}
 use Rattle.rds_codec.specs.FormatTexts.{snapshot_in_at}
+use Rattle.rds_codec.specs.declared.formats.Format.TheVariants.{Two}
 use Rattle.rds_keep.specs.Parts.{ConsumesAtMost}
 use Rattle.rds_keep.specs.Snapshots.{IsUnread, ReadsWhole, WantsMoreReads}
 use Rattle.rds_keep.proofs.Fronts.{never_foreign}
@@ -46,7 +47,7 @@ pub returns-in_err-_format-clause-whole : goal.returns-in_err-_format-clause-who
 returns-in_err-_format-clause-whole g c =
     let p = err_from_is_err_and c.from_residual-in_err-_format.result c.from_residual-in_err-_format.ensures.1 in
     let stands = rw c.as_slice.ensures.value at (c.in_ok-feed.ensures.adds snapshot_in_at [] c.snapshot.ensures) in
-    rw (p.1, p.2) (input_read (g.R.Read.remaining c.args.reader.now.inner) (g.R.Read.remaining c.read_magic.new.reader.inner) c.in_ok-front.front.items (Err c.in_err-_format.field-0.0) c.in_ok-front.ensures.magic c.in_ok-front.ensures.bytes (c.in_err-_format.ensures.whole 0 c.in_ok-front.front.items stands))
+    rw (p.1, p.2) (input_read (g.R.Read.remaining c.args.reader.now.inner) (g.R.Read.remaining c.read_magic.new.reader.inner) c.in_ok-front.front.items (Err c.in_err-_format.field-0.0) c.in_ok-front.ensures.magic c.in_ok-front.ensures.bytes (c.in_err-_format.ensures.whole Two 0 c.in_ok-front.front.items stands))
 
 pub returns-in_err-_format-clause-bound : goal.returns-in_err-_format-clause-bound
 returns-in_err-_format-clause-bound g c =
@@ -59,14 +60,14 @@ pub returns-in_err-_format-clause-fault : goal.returns-in_err-_format-clause-fau
 returns-in_err-_format-clause-fault g c =
     let p = err_from_is_err_and c.from_residual-in_err-_format.result c.from_residual-in_err-_format.ensures.1 in
     let stands = rw c.as_slice.ensures.value at (c.in_ok-feed.ensures.adds snapshot_in_at [] c.snapshot.ensures) in
-    rw (p.1, p.2) (c.in_err-_format.ensures.fault 0 c.in_ok-front.front.items stands)
+    rw (p.1, p.2) (c.in_err-_format.ensures.fault Two 0 c.in_ok-front.front.items stands)
 
 pub returns-in_err-_format-clause-counted : goal.returns-in_err-_format-clause-counted
 returns-in_err-_format-clause-counted g c =
     let p = err_from_is_err_and c.from_residual-in_err-_format.result c.from_residual-in_err-_format.ensures.1 in
     let stands = rw c.as_slice.ensures.value at (c.in_ok-feed.ensures.adds snapshot_in_at [] c.snapshot.ensures) in
     rw (p.1, p.2) (λ is. failed_later c.args.reader.now c.read_magic.new.reader c.read_fed.new.reader (c.in_ok-front.ensures.steady (λ wrong. absurd cc))
-    (c.in_err-_format.ensures.counted 0 c.in_ok-front.front.items stands (let same : c.in_err-_format.field-0.0 ≡ Device = cc in ap Err same)))
+    (c.in_err-_format.ensures.counted Two 0 c.in_ok-front.front.items stands (let same : c.in_err-_format.field-0.0 ≡ Device = cc in ap Err same)))
 
 pub returns-in_err-_format-clause-foreign : goal.returns-in_err-_format-clause-foreign
 returns-in_err-_format-clause-foreign g c =
@@ -78,19 +79,19 @@ returns-in_err-_format-clause-foreign g c =
 pub new-requires : goal.new-requires
 new-requires g c =
     let stands = rw c.as_slice.ensures.value at (c.in_ok-feed.ensures.adds snapshot_in_at [] c.snapshot.ensures) in
-    let text = c.in_ok-_format.ensures.value 0 c.in_ok-front.front.items stands in
+    let text = c.in_ok-_format.ensures.value Two 0 c.in_ok-front.front.items stands in
     record { format = c.in_ok-_format._format; within = text.within; value = text.is_value }
 
 pub returns-clause-text : goal.returns-clause-text
 returns-clause-text g c =
     let stands = rw c.as_slice.ensures.value at (c.in_ok-feed.ensures.adds snapshot_in_at [] c.snapshot.ensures) in
     rw c.new.ensures
-    (input_spelled (g.R.Read.remaining c.args.reader.now.inner) (g.R.Read.remaining c.read_magic.new.reader.inner) c.in_ok-front.front.items (c.in_ok-_format._format, c.in_ok-_format.replica) c.in_ok-front.ensures.bytes (c.in_ok-_format.ensures.whole 0 c.in_ok-front.front.items stands))
+    (input_spelled (g.R.Read.remaining c.args.reader.now.inner) (g.R.Read.remaining c.read_magic.new.reader.inner) c.in_ok-front.front.items (c.in_ok-_format._format, c.in_ok-_format.replica) c.in_ok-front.ensures.bytes (c.in_ok-_format.ensures.whole Two 0 c.in_ok-front.front.items stands))
 
 pub returns-clause-whole : goal.returns-clause-whole
 returns-clause-whole g c =
     let stands = rw c.as_slice.ensures.value at (c.in_ok-feed.ensures.adds snapshot_in_at [] c.snapshot.ensures) in
-    rw c.new.ensures (input_read (g.R.Read.remaining c.args.reader.now.inner) (g.R.Read.remaining c.read_magic.new.reader.inner) c.in_ok-front.front.items (Ok (c.in_ok-_format._format, c.in_ok-_format.replica)) c.in_ok-front.ensures.magic c.in_ok-front.ensures.bytes (c.in_ok-_format.ensures.whole 0 c.in_ok-front.front.items stands))
+    rw c.new.ensures (input_read (g.R.Read.remaining c.args.reader.now.inner) (g.R.Read.remaining c.read_magic.new.reader.inner) c.in_ok-front.front.items (Ok (c.in_ok-_format._format, c.in_ok-_format.replica)) c.in_ok-front.ensures.magic c.in_ok-front.ensures.bytes (c.in_ok-_format.ensures.whole Two 0 c.in_ok-front.front.items stands))
 
 pub returns-clause-bound : goal.returns-clause-bound
 returns-clause-bound g c =

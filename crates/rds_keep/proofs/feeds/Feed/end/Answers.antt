@@ -11,8 +11,8 @@ returns g c =
     let read = λ (reader : Reader g.row.U-Whole.Denot) (came : List ℕ) (stands : StandsFor g.U.Unfinished.finish reader c.args.self came).
     ends_as g.U.Unfinished.finish reader came c.args.self c.in_ok-progress.field-0 c.read_end.result progress (rw rest at c.read_end.ensures) stands in
     record {
-      text = λ replicas came stands. ends_as_text g.U.Unfinished.finish (g.U.Fed.kind replicas) (g.U.Fed.reader replicas) came c.args.self c.read_end.result (g.met.U.Fed.decodes replicas) stands
-          (read (g.U.Fed.reader replicas) came stands);
+      text = λ format replicas came stands. ends_as_text g.U.Unfinished.finish (g.U.Fed.kind format replicas) (g.U.Fed.reader format replicas) came c.args.self c.read_end.result (g.met.U.Fed.decodes format replicas) stands
+          (read (g.U.Fed.reader format replicas) came stands);
       read = read;
       again = search rules;
     }
