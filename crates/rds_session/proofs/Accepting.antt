@@ -6,9 +6,11 @@ use Rattle.rds_names.specs.declared.fault.Fault.TheVariants.{WrongAsker, Cut, Ba
 use Rattle.rds_state.specs.Fits.{ReplicaValue}
 use Rattle.rds_delta.specs.Digested.{DigestValue, digest_of}
 use Rattle.rds_session.specs.declared.talk.Peer.{Peer}
+use Rattle.rds_session.specs.declared.talk.Side.{Side}
 use Rattle.rds_session.specs.declared.talk.Stop.{Stop}
 use Rattle.rds_session.specs.declared.talk.Stop.TheVariants.{Refused}
 use Rattle.rds_codec.specs.AnswerValues.{AnswerValue}
+use Rattle.rds_codec.specs.declared.formats.Format.{Format}
 use Rattle.rds_codec.specs.declared.hellos.Hello.{Hello}
 use Rattle.rds_session.specs.Bodies.{hello_in, digest_in, answer_in}
 use Rattle.rds_session.specs.Checked.{passes}
@@ -17,10 +19,10 @@ use Rattle.rds_session.specs.declared.kinds.ByeCode.TheVariants as byes
 use Rattle.rds_session.specs.declared.kinds.MessageKind.{MessageKind}
 use Rattle.rds_session.specs.declared.kinds.MessageKind.TheVariants as kinds
 use Rattle.rds_session.specs.Messages.{kind_of, bye_of}
-use Rattle.rds_session.specs.Judging.{Awaited, ForHello, ForDigest, ForDelta, ForBye, Said, Greets, Learns, Receives, Finishes, verdict, bye_came, bye_judged, code_came, body_came, kind_came, hello_judged, delta_judged, read_then, other_version, one_begins, peer_of, replicas_of}
+use Rattle.rds_session.specs.Judging.{Awaited, ForHello, ForDigest, ForDelta, ForBye, Said, Greets, Learns, Receives, Finishes, verdict, bye_came, bye_judged, code_came, body_came, kind_came, format_with, format_judged, hello_judged, member_judged, delta_judged, read_then, other_version, one_begins, peer_of, replicas_of}
 
 abbrev pub IsActFor : Awaited → Said → Type 0
-IsActFor ForHello (Greets p) = Unit {0}
+IsActFor (ForHello side) (Greets p) = Unit {0}
 IsActFor (ForDigest q) (Learns p g) = Unit {0}
 IsActFor (ForDelta q g) (Receives d r) = Unit {0}
 IsActFor ForBye Finishes = Unit {0}
@@ -46,7 +48,7 @@ read_suits turn (Err e) f h = refusal_suits turn (Refused e)
 
 done_suits : (turn : Awaited) → Suits turn (bye_judged byes.Done turn)
 done_suits ForBye = record { fits = tt }
-done_suits ForHello = record { fits = tt }
+done_suits (ForHello side) = record { fits = tt }
 done_suits (ForDigest q) = record { fits = tt }
 done_suits (ForDelta q g) = record { fits = tt }
 
@@ -68,19 +70,23 @@ bye_suits : (turn : Awaited) (body : List ℕ) → Suits turn (bye_came turn bod
 bye_suits turn [] = refusal_suits turn (Refused Cut)
 bye_suits turn (b ∷ rest) = code_suits turn (bye_of b) rest
 
-abbrev same_own : ReplicaValue → Hello → Result Said Stop
-same_own kept h = cond (eqb h.own kept.own) (Err (Refused SameReplica)) (Ok (Greets (peer_of kept h)))
+abbrev same_own : ReplicaValue → Hello → Format → Result Said Stop
+same_own kept h format = cond (eqb h.own kept.own) (Err (Refused SameReplica)) (Ok (Greets (peer_of kept h format)))
 
-abbrev other_names : ReplicaValue → Hello → Result Said Stop
-other_names kept h = cond (one_begins h.roster.names kept.roster.names) (same_own kept h) (Err (Refused WrongRoster))
+abbrev other_names : ReplicaValue → Hello → Format → Result Said Stop
+other_names kept h format = cond (one_begins h.roster.names kept.roster.names) (same_own kept h format) (Err (Refused WrongRoster))
 
-hello_suits : (kept : ReplicaValue) (h : Hello) → Suits ForHello (hello_judged kept h)
-hello_suits kept h =
-    if_suits ForHello (bytes_eq h.roster.group kept.roster.group) (other_names kept h) (Err (Refused WrongGroup))
-    (if_suits ForHello (one_begins h.roster.names kept.roster.names) (same_own kept h) (Err (Refused WrongRoster))
-    (if_suits ForHello (eqb h.own kept.own) (Err (Refused SameReplica)) (Ok (Greets (peer_of kept h))) (record { fits = tt }) (record { fits = tt }))
+member_suits : (side : Side) (kept : ReplicaValue) (h : Hello) (format : Format) → Suits (ForHello side) (member_judged kept h format)
+member_suits side kept h format =
+    if_suits (ForHello side) (bytes_eq h.roster.group kept.roster.group) (other_names kept h format) (Err (Refused WrongGroup))
+    (if_suits (ForHello side) (one_begins h.roster.names kept.roster.names) (same_own kept h format) (Err (Refused WrongRoster))
+    (if_suits (ForHello side) (eqb h.own kept.own) (Err (Refused SameReplica)) (Ok (Greets (peer_of kept h format))) (record { fits = tt }) (record { fits = tt }))
     (record { fits = tt }))
     (record { fits = tt })
+
+format_suits : (side : Side) (kept : ReplicaValue) (h : Hello) (format : Option Format) → Suits (ForHello side) (format_judged kept h format)
+format_suits side kept h None = record { fits = tt }
+format_suits side kept h (Some format) = member_suits side kept h format
 
 abbrev passing : ReplicaValue → Peer → AnswerValue → Result Said Stop
 passing kept peer a = cond (passes (digest_of kept.state) a.state a.certificate) (Ok (Receives a.state peer.roster)) (Err (Refused BadCertificate))
@@ -93,19 +99,19 @@ delta_suits q g kept a =
 
 body_suits : (kept : ReplicaValue) (kind : MessageKind) (turn : Awaited) (body : List ℕ) → Suits turn (body_came kept kind turn body)
 body_suits kept kinds.Bye turn body = bye_suits turn body
-body_suits kept kinds.Hello ForHello body =
-    if_suits ForHello (other_version body) (Err (Refused WrongVersion)) (read_then (hello_in body) (hello_judged kept)) (record { fits = tt })
-    (read_suits ForHello (hello_in body) (hello_judged kept) (hello_suits kept))
+body_suits kept kinds.Hello (ForHello side) body =
+    if_suits (ForHello side) (other_version side body) (Err (Refused WrongVersion)) (read_then (hello_in body) (hello_judged side kept)) (record { fits = tt })
+    (read_suits (ForHello side) (hello_in body) (hello_judged side kept) (λ h. format_suits side kept h (format_with side h.version)))
 body_suits kept kinds.Hello (ForDigest q) body = record { fits = tt }
 body_suits kept kinds.Hello (ForDelta q g) body = record { fits = tt }
 body_suits kept kinds.Hello ForBye body = record { fits = tt }
-body_suits kept kinds.Digest ForHello body = record { fits = tt }
+body_suits kept kinds.Digest (ForHello side) body = record { fits = tt }
 body_suits kept kinds.Digest (ForDigest q) body = read_suits (ForDigest q) (digest_in (replicas_of kept q.roster) body) (λ g. Ok (Learns q g)) (λ g. record { fits = tt })
 body_suits kept kinds.Digest (ForDelta q g) body = record { fits = tt }
 body_suits kept kinds.Digest ForBye body = record { fits = tt }
-body_suits kept kinds.Delta ForHello body = record { fits = tt }
+body_suits kept kinds.Delta (ForHello side) body = record { fits = tt }
 body_suits kept kinds.Delta (ForDigest q) body = record { fits = tt }
-body_suits kept kinds.Delta (ForDelta q g) body = read_suits (ForDelta q g) (answer_in (replicas_of kept q.roster) body) (delta_judged kept q) (delta_suits q g kept)
+body_suits kept kinds.Delta (ForDelta q g) body = read_suits (ForDelta q g) (answer_in q.format (replicas_of kept q.roster) body) (delta_judged kept q) (delta_suits q g kept)
 body_suits kept kinds.Delta ForBye body = record { fits = tt }
 
 kind_suits : (kept : ReplicaValue) (turn : Awaited) (kind : Option MessageKind) (body : List ℕ) → Suits turn (kind_came kept turn kind body)

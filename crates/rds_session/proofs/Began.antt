@@ -1,27 +1,28 @@
 -- What has come of a message, with the next bytes and at its end.
-use Rattle.std.proofs.Common.{◌≡◌, ℕ, ◌≤◌, false, eqb, List, [], ◌∷◌, ◌++◌, length, get_or, Option, Some, None, Result, Ok, Err, refl, sym, ap, ◌∙◌, append_assoc, arith}
-use Rattle.std.proofs.lemmas.Bool.{ne_eqb}
+use Rattle.std.proofs.Common.{◌≡◌, ℕ, ◌≤◌, true, false, List, [], ◌∷◌, ◌++◌, length, get_or, Option, Some, None, is_some, is_none, Result, Ok, Err, refl, sym, ap, ◌∙◌, append_assoc, arith}
+use mathlib.Core.Bool.{false≢true}
 use Rattle.std.proofs.lemmas.List.{append-nil}
 use Rattle.rds_names.specs.declared.fault.Fault.{Fault}
 use Rattle.rds_names.specs.declared.fault.Fault.TheVariants.{Memory, Cut, Bad, Extra, WrongVersion, OutOfTurn}
 use Rattle.rds_delta.specs.Digested.{DigestValue}
 use Rattle.rds_bytes.specs.Reading.{Fails, Reads}
-use Rattle.rds_codec.specs.AnswerTexts.{answer_at}
 use Rattle.rds_codec.specs.AnswerValues.{AnswerValue}
 use Rattle.rds_codec.specs.Decoding.{all_of}
 use Rattle.rds_codec.specs.DigestTexts.{digest_at}
+use Rattle.rds_codec.specs.FormatTexts.{answer_at_in}
 use Rattle.rds_codec.specs.HelloTexts.{hello_at, version_at}
+use Rattle.rds_codec.specs.declared.formats.Format.{Format}
 use Rattle.rds_codec.specs.declared.hellos.Hello.{Hello}
-use Rattle.rds_codec.specs.declared.hellos.TheConstants.{VERSION}
 use Rattle.rds_codec.specs.declared.limits.TheConstants.{LIMIT}
 use Rattle.rds_session.specs.Begun.{IsSpoken}
 use Rattle.rds_session.specs.Bodies.{hello_in, digest_in, answer_in}
 use Rattle.rds_session.specs.Coming.{ComingValue}
 use Rattle.rds_session.specs.Contents.{ContentValue, OfHello, OfDigest, OfDelta, OfBye, body_read, code_read, kind_read, message_read, read_as}
-use Rattle.rds_session.specs.Judging.{other_version}
+use Rattle.rds_session.specs.Judging.{format_with, other_version}
 use Rattle.rds_session.specs.Messages.{bye_of, kind_of, number_of}
 use Rattle.rds_session.specs.declared.content.Expected.{Expected}
 use Rattle.rds_session.specs.declared.content.Expected.TheVariants as expecteds
+use Rattle.rds_session.specs.declared.talk.Side.{Side}
 use Rattle.rds_session.specs.declared.kinds.ByeCode.{ByeCode}
 use Rattle.rds_session.specs.declared.kinds.MessageKind.{MessageKind}
 use Rattle.rds_session.specs.declared.kinds.MessageKind.TheVariants as kinds
@@ -40,39 +41,39 @@ out_of_turn : (expected : Expected) (n : ℕ) (kind : MessageKind) → kind_of n
 unfolding message_read
 out_of_turn expected n kind is refused more = ap (λ (k : Option MessageKind). kind_read expected k more) is ∙ refused more
 
-no_hello : (expected : Expected) → (expected ≡ expecteds.Hello → ⊥) → (body : List ℕ) → body_read expected kinds.Hello body ≡ Err OutOfTurn
-no_hello expecteds.Hello other body = absurd (other refl)
+no_hello : (expected : Expected) → ((side : Side) → expected ≡ expecteds.Hello side → ⊥) → (body : List ℕ) → body_read expected kinds.Hello body ≡ Err OutOfTurn
+no_hello (expecteds.Hello side) other body = absurd (other side refl)
 no_hello (expecteds.Digest n) other body = refl
-no_hello (expecteds.Delta n) other body = refl
+no_hello (expecteds.Delta format n) other body = refl
 no_hello expecteds.Bye other body = refl
 
 no_digest : (expected : Expected) → ((n : ℕ) → expected ≡ expecteds.Digest n → ⊥) → (body : List ℕ) → body_read expected kinds.Digest body ≡ Err OutOfTurn
-no_digest expecteds.Hello other body = refl
+no_digest (expecteds.Hello side) other body = refl
 no_digest (expecteds.Digest n) other body = absurd (other n refl)
-no_digest (expecteds.Delta n) other body = refl
+no_digest (expecteds.Delta format n) other body = refl
 no_digest expecteds.Bye other body = refl
 
-no_delta : (expected : Expected) → ((n : ℕ) → expected ≡ expecteds.Delta n → ⊥) → (body : List ℕ) → body_read expected kinds.Delta body ≡ Err OutOfTurn
-no_delta expecteds.Hello other body = refl
+no_delta : (expected : Expected) → ((format : Format) (n : ℕ) → expected ≡ expecteds.Delta format n → ⊥) → (body : List ℕ) → body_read expected kinds.Delta body ≡ Err OutOfTurn
+no_delta (expecteds.Hello side) other body = refl
 no_delta (expecteds.Digest n) other body = refl
-no_delta (expecteds.Delta n) other body = absurd (other n refl)
+no_delta (expecteds.Delta format n) other body = absurd (other format n refl)
 no_delta expecteds.Bye other body = refl
 
-pub hello_out_of_turn : (expected : Expected) (n : ℕ) → kind_of n ≡ Some kinds.Hello → (expected ≡ expecteds.Hello → ⊥) → IsRefusedSo expected (n ∷ []) OutOfTurn
+pub hello_out_of_turn : (expected : Expected) (n : ℕ) → kind_of n ≡ Some kinds.Hello → ((side : Side) → expected ≡ expecteds.Hello side → ⊥) → IsRefusedSo expected (n ∷ []) OutOfTurn
 hello_out_of_turn expected n is other = out_of_turn expected n kinds.Hello is (no_hello expected other)
 
 pub digest_out_of_turn : (expected : Expected) (n : ℕ) → kind_of n ≡ Some kinds.Digest → ((k : ℕ) → expected ≡ expecteds.Digest k → ⊥) → IsRefusedSo expected (n ∷ []) OutOfTurn
 digest_out_of_turn expected n is other = out_of_turn expected n kinds.Digest is (no_digest expected other)
 
-pub delta_out_of_turn : (expected : Expected) (n : ℕ) → kind_of n ≡ Some kinds.Delta → ((k : ℕ) → expected ≡ expecteds.Delta k → ⊥) → IsRefusedSo expected (n ∷ []) OutOfTurn
+pub delta_out_of_turn : (expected : Expected) (n : ℕ) → kind_of n ≡ Some kinds.Delta → ((format : Format) (k : ℕ) → expected ≡ expecteds.Delta format k → ⊥) → IsRefusedSo expected (n ∷ []) OutOfTurn
 delta_out_of_turn expected n is other = out_of_turn expected n kinds.Delta is (no_delta expected other)
 
 -- ---- the next bytes
 
-pub other_version_refused : (run : List ℕ) → 1 ≤ length run → (get_or run 0 0 ≡ VERSION → ⊥) → IsRefusedSo expecteds.Hello (number_of kinds.Hello ∷ run) WrongVersion
+pub other_version_refused : (side : Side) (run : List ℕ) → 1 ≤ length run → is_none (format_with side (get_or run 0 0)) ≡ true → IsRefusedSo (expecteds.Hello side) (number_of kinds.Hello ∷ run) WrongVersion
 unfolding message_read
-other_version_refused [] some other more = absurd (omega arith)
-other_version_refused (version ∷ rest) some other more = let no : eqb version VERSION ≡ false = ne_eqb version VERSION other in rw no refl
+other_version_refused side [] some other more = absurd (omega arith)
+other_version_refused side (version ∷ rest) some other more = rw other refl
 
 pub no_code_refused : (expected : Expected) (run : List ℕ) → 1 ≤ length run → bye_of (get_or run 0 0) ≡ None → IsRefusedSo expected (number_of kinds.Bye ∷ run) Bad
 unfolding message_read
@@ -105,9 +106,9 @@ said_as : {A : Type 0} (f : A → ContentValue) (r read : Result A Fault) → Re
 said_as f (Ok x) read is = ap (read_as f) is
 said_as f (Err e) read is = failed_as f e read is
 
-pub greeting_said : (expected : Expected) (came : List ℕ) → expected ≡ expecteds.Hello → came ≡ number_of kinds.Hello ∷ [] → message_read expected came ≡ Err Cut
+pub greeting_said : (expected : Expected) (side : Side) (came : List ℕ) → expected ≡ expecteds.Hello side → came ≡ number_of kinds.Hello ∷ [] → message_read expected came ≡ Err Cut
 unfolding message_read hello_in hello_at version_at
-greeting_said expected came turn is = rw (turn, is) refl
+greeting_said expected side came turn is = rw (turn, is) refl
 
 pub parting_said : (expected : Expected) (came : List ℕ) → came ≡ number_of kinds.Bye ∷ [] → message_read expected came ≡ Err Cut
 unfolding message_read
@@ -120,17 +121,21 @@ bye_said expected came code b is says = rw is (ap (λ (c : Option ByeCode). code
 pub refused_said : (expected : Expected) (came : List ℕ) (e : Fault) → IsRefusedSo expected came e → Fails e (message_read expected came)
 refused_said expected came e refused = fails_so e (message_read expected came) (ap (message_read expected) (sym (append-nil came)) ∙ refused [])
 
-spoken_version : (text : List ℕ) → IsSpoken text → other_version text ≡ false
-spoken_version [] spoken = absurd spoken
-spoken_version (version ∷ rest) spoken = rw spoken refl
+some_is : {A : Type 0} (o : Option A) → is_some o ≡ true → is_none o ≡ false
+some_is None some = absurd (false≢true some)
+some_is (Some x) some = refl
+
+spoken_version : (side : Side) (text : List ℕ) → IsSpoken side text → other_version side text ≡ false
+spoken_version side [] spoken = absurd spoken
+spoken_version side (version ∷ rest) spoken = some_is (format_with side version) spoken
 
 module _ (expected : Expected) (came : List ℕ) (within : length came ≤ LIMIT) (text : ComingValue) where
-  pub hello_said : (r : Result Hello Fault) → expected ≡ expecteds.Hello → came ≡ number_of kinds.Hello ∷ text.came → IsSpoken text.came
+  pub hello_said : (r : Result Hello Fault) (side : Side) → expected ≡ expecteds.Hello side → came ≡ number_of kinds.Hello ∷ text.came → IsSpoken side text.came
       → (length text.came ≤ LIMIT → Reads (λ v. v) r (all_of hello_at text.came)) → Reads OfHello r (message_read expected came)
   unfolding message_read hello_in
-  hello_said r turn is spoken reads =
+  hello_said r side turn is spoken reads =
       let said = said_as OfHello r (all_of hello_at text.came) (reads (omega (arith, within, ap length is))) in
-      let version : other_version text.came ≡ false = spoken_version text.came spoken in
+      let version : other_version side text.came ≡ false = spoken_version side text.came spoken in
       rw (turn, is, version) said
 
   pub digest_said : (r : Result DigestValue Fault) → expected ≡ expecteds.Digest text.replicas → came ≡ number_of kinds.Digest ∷ text.came
@@ -140,9 +145,9 @@ module _ (expected : Expected) (came : List ℕ) (within : length came ≤ LIMIT
       let said = said_as OfDigest r (all_of (digest_at text.replicas) text.came) (reads (omega (arith, within, ap length is))) in
       rw (turn, is) said
 
-  pub delta_said : (r : Result AnswerValue Fault) → expected ≡ expecteds.Delta text.replicas → came ≡ number_of kinds.Delta ∷ text.came
-      → (length text.came ≤ LIMIT → Reads (λ v. v) r (all_of (answer_at text.replicas) text.came)) → Reads OfDelta r (message_read expected came)
+  pub delta_said : (r : Result AnswerValue Fault) → expected ≡ expecteds.Delta text.format text.replicas → came ≡ number_of kinds.Delta ∷ text.came
+      → (length text.came ≤ LIMIT → Reads (λ v. v) r (all_of (answer_at_in text.format text.replicas) text.came)) → Reads OfDelta r (message_read expected came)
   unfolding message_read answer_in
   delta_said r turn is reads =
-      let said = said_as OfDelta r (all_of (answer_at text.replicas) text.came) (reads (omega (arith, within, ap length is))) in
+      let said = said_as OfDelta r (all_of (answer_at_in text.format text.replicas) text.came) (reads (omega (arith, within, ap length is))) in
       rw (turn, is) said

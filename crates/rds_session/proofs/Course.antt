@@ -62,13 +62,13 @@ not_yet : (s : Standing) → (s.turn ≡ ForBye → ⊥) → IsOrderly s → s.r
 not_yet s h o = elim o [ inl none ↦ none | inr bye ↦ absurd (h bye) ]
 
 performed_by : (s : Standing) (turn : Awaited) (said : Said) → s.turn ≡ turn → IsActFor turn said → Follows s (after_said s said)
-performed_by s ForHello (Greets p) is h = record { begun = refl; side = refl; kept = refl; orderly = λ o. inl (not_yet s (λ e. let bad : ForHello ≡ ForBye = sym is ∙ e in cc) o); received = λ o. inr refl }
+performed_by s (ForHello side) (Greets p) is h = record { begun = refl; side = refl; kept = refl; orderly = λ o. inl (not_yet s (λ e. let bad : ForHello side ≡ ForBye = sym is ∙ e in cc) o); received = λ o. inr refl }
 performed_by s (ForDigest q) (Learns p g) is h = record { begun = refl; side = refl; kept = refl; orderly = λ o. inl (not_yet s (λ e. let bad : ForDigest q ≡ ForBye = sym is ∙ e in cc) o); received = λ o. inr refl }
 performed_by s (ForDelta q g) (Receives d r) is h = record { begun = refl; side = refl; kept = refl; orderly = λ o. inr refl; received = λ o. inl (not_yet s (λ e. let bad : ForDelta q g ≡ ForBye = sym is ∙ e in cc) o) }
 performed_by s ForBye Finishes is h = follows_same s (after_said s Finishes) refl refl refl refl refl
-performed_by s ForHello (Learns p g) is h = absurd h
-performed_by s ForHello (Receives d r) is h = absurd h
-performed_by s ForHello Finishes is h = absurd h
+performed_by s (ForHello side) (Learns p g) is h = absurd h
+performed_by s (ForHello side) (Receives d r) is h = absurd h
+performed_by s (ForHello side) Finishes is h = absurd h
 performed_by s (ForDigest q) (Greets p) is h = absurd h
 performed_by s (ForDigest q) (Receives d r) is h = absurd h
 performed_by s (ForDigest q) Finishes is h = absurd h

@@ -1,29 +1,36 @@
 -- The whole talk of two sessions, and each beginning of it.
-use Rattle.std.proofs.Common.{◌≡◌, ℕ, ◌≤◌, true, false, ltb, List, [], ◌∷◌, ◌++◌, length, Option, Some, None, Ok, refl, sym, ap, ◌∙◌, append_assoc, subst, arith, ◌⊎◌, inl, inr}
-use Rattle.std.specs.List.{AllByRecursion}
+use Rattle.std.proofs.Common.{◌≡◌, ℕ, ◌≤◌, Bool, true, false, cond, ltb, List, [], ◌∷◌, ◌++◌, length, Option, Some, None, Ok, refl, sym, ap, ◌∙◌, append_assoc, subst, arith, ◌⊎◌, inl, inr}
+use Rattle.std.specs.List.{flat_map, AllByRecursion}
 use Rattle.std.proofs.lemmas.Bool.{le-ltb}
 use Rattle.std.proofs.lemmas.List.{append-nil}
 use Rattle.rds_names.specs.Roster.{RosterValue}
+use Rattle.rds_names.specs.declared.fault.Fault.TheVariants.{TooLong}
 use Rattle.rds_state.specs.Fits.{ReplicaValue}
 use Rattle.rds_state.specs.Grown.{OneBegins}
 use Rattle.rds_delta.specs.Digested.{digest_of}
+use Rattle.rds_codec.specs.declared.formats.Format.{Format}
+use Rattle.rds_codec.specs.declared.formats.Format.TheVariants.{Two}
 use Rattle.rds_session.specs.declared.chunks.TheConstants.{MESSAGE_LIMIT}
 use Rattle.rds_session.specs.declared.talk.Side.TheVariants.{Client, Server}
+use Rattle.rds_session.specs.declared.step.Ended.{Ended}
 use Rattle.rds_session.specs.declared.step.Ended.TheVariants.{Going, Done}
 use Rattle.rds_session.specs.Checked.{least_state}
 use Rattle.rds_session.specs.Chunks.{Under, start, Scan, Whole, scan, message_in_chunks}
 use Rattle.rds_session.specs.declared.kinds.ByeCode.TheVariants as byes
 use Rattle.rds_session.specs.Judging.{Said, Greets, Learns, Receives, Finishes, verdict, longer_than, replies_of}
-use Rattle.rds_session.specs.Meeting.{IsBeginningOf, CanMeet, IsItsDelta, Hear, HearAll, ReceiveDeltas, BothEnd}
+use Rattle.rds_session.specs.ByMessages.{after_message, talk}
+use Rattle.rds_session.specs.Meeting.{IsBeginningOf, CanMeet, IsItsDelta, Hear, HearAll, ReceiveDeltas, BothEnd, ServesEither, words_in}
 use Rattle.rds_session.specs.Messages.{hello_message, digest_message, delta_message, bye_message}
 use Rattle.rds_session.specs.Received.{Delivery}
 use Rattle.rds_session.specs.Sending.{sending, then_sent}
-use Rattle.rds_session.specs.Session.{Standing, Sent, fresh, then_more, after_sending, after_said, after_verdict, message_comes, after_scan, run, opening, after_opening, So_far, course}
+use Rattle.rds_session.specs.Session.{Standing, Sent, fresh, then_more, when_going, refuses, after_sending, after_said, after_verdict, message_comes, after_scan, run, opening, after_opening, So_far, course}
 use Rattle.rds_session.specs.Steps.{IsOver}
+use Rattle.rds_session.specs.Stream.{Splits}
 use Rattle.rds_session.proofs.Course.{run_follows, IsOrderly}
 use Rattle.rds_session.proofs.Messages.{scan_spelled}
 use Rattle.rds_session.proofs.Runs.{run-append, run-scan, run_over}
-use Rattle.rds_session.proofs.Told.{IsTold, speaker, hello_accepted, digest_accepted, delta_accepted, bye_accepted, its_least}
+use Rattle.rds_session.proofs.Talking.{by_messages}
+use Rattle.rds_session.proofs.Told.{IsTold, speaker, server_speaks, hello_accepted, digest_accepted, delta_accepted, bye_accepted, its_least}
 
 -- ---- sending
 
@@ -42,15 +49,19 @@ all_sent (m ∷ ms) h = let fits : ltb MESSAGE_LIMIT (length m) ≡ false = le-l
 -- ---- hearing
 
 -- a message that is accepted, all of whose answers can be sent
+comes : (s : Standing) (m : List ℕ) (act : Said) (ms : List (List ℕ)) → verdict s.kept s.turn m ≡ Ok act → replies_of s.side s.kept s.turn act ≡ ms → AllByRecursion Fits ms
+    → message_comes s m ≡ (after_said s act, texts ms)
+unfolding message_comes
+comes s m act ms ok replies fit =
+    let sent : sending (replies_of s.side s.kept s.turn act) ≡ (texts ms, true) = ap sending replies ∙ all_sent ms fit in
+    ap (after_verdict s) ok ∙ ap (after_sending (after_said s act)) sent
+
 hears : (s : Standing) (m more : List ℕ) (act : Said) (ms : List (List ℕ)) → s.ended ≡ Going → s.under ≡ start → Fits m → verdict s.kept s.turn m ≡ Ok act
     → replies_of s.side s.kept s.turn act ≡ ms → AllByRecursion Fits ms → run (message_in_chunks m ++ more) s ≡ then_more (after_said s act, texts ms) (run more)
-unfolding message_comes
 hears s m more act ms going at room ok replies fit =
     let sc : scan (message_in_chunks m ++ more) s.under ≡ Whole m more = ap (scan (message_in_chunks m ++ more)) at ∙ scan_spelled m more room in
     let here : record s { under = start } ≡ s = ap (λ (u : Under). record s { under = u }) (sym at) in
-    let sent : sending (replies_of s.side s.kept s.turn act) ≡ (texts ms, true) = ap sending replies ∙ all_sent ms fit in
-    let comes : message_comes s m ≡ (after_said s act, texts ms) = ap (after_verdict s) ok ∙ ap (after_sending (after_said s act)) sent in
-    run-scan (message_in_chunks m ++ more) s going ∙ ap (λ (x : Scan). after_scan s x run) sc ∙ ap (λ (t : Standing). then_more (message_comes t m) (run more)) here ∙ ap (λ (p : Sent). then_more p (run more)) comes
+    run-scan (message_in_chunks m ++ more) s going ∙ ap (λ (x : Scan). after_scan s x run) sc ∙ ap (λ (t : Standing). then_more (message_comes t m) (run more)) here ∙ ap (λ (p : Sent). then_more p (run more)) (comes s m act ms ok replies fit)
 
 -- ---- one message after another
 
@@ -80,28 +91,31 @@ client a = record (fresh Client a) { begun = true }
 abbrev server : ReplicaValue → Standing
 server b = record (fresh Server b) { begun = true }
 
-abbrev greeting : ReplicaValue → List (List ℕ)
-greeting k = hello_message k ∷ digest_message k ∷ []
+abbrev greeting : Format → ReplicaValue → List (List ℕ)
+greeting format k = hello_message k format ∷ digest_message k ∷ []
 
 -- what the client has heard before the last message, and after it
 abbrev client_told : ReplicaValue → ReplicaValue → Standing
-client_told a b = after_said (after_said (after_said (client a) (Greets (speaker a b))) (Learns (speaker a b) (digest_of b.state))) (Receives (least_state b.state (digest_of a.state)) (longer_than a.roster b.roster))
+client_told a b = after_said (after_said (after_said (client a) (Greets (speaker Two a b))) (Learns (speaker Two a b) (digest_of b.state))) (Receives (least_state b.state (digest_of a.state)) (longer_than a.roster b.roster))
 
 abbrev client_done : ReplicaValue → ReplicaValue → Standing
 client_done a b = after_said (client_told a b) Finishes
 
-abbrev server_asked : ReplicaValue → ReplicaValue → Standing
-server_asked b a = after_said (after_said (server b) (Greets (speaker b a))) (Learns (speaker b a) (digest_of a.state))
+abbrev server_asked : Format → ReplicaValue → ReplicaValue → Standing
+server_asked format b a = after_said (after_said (server b) (Greets (speaker format b a))) (Learns (speaker format b a) (digest_of a.state))
 
-abbrev server_done : ReplicaValue → ReplicaValue → Standing
-server_done b a = after_said (after_said (server_asked b a) (Receives (least_state a.state (digest_of b.state)) (longer_than b.roster a.roster))) Finishes
+abbrev server_told : Format → ReplicaValue → ReplicaValue → Standing
+server_told format b a = after_said (server_asked format b a) (Receives (least_state a.state (digest_of b.state)) (longer_than b.roster a.roster))
+
+abbrev server_done : Format → ReplicaValue → ReplicaValue → Standing
+server_done format b a = after_said (server_told format b a) Finishes
 
 -- what each says, in its two turns
-abbrev server_says : ReplicaValue → ReplicaValue → List (List ℕ)
-server_says b a = hello_message b ∷ digest_message b ∷ delta_message b a.own (digest_of a.state) ∷ []
+abbrev server_says : Format → ReplicaValue → ReplicaValue → List (List ℕ)
+server_says format b a = hello_message b format ∷ digest_message b ∷ delta_message b format a.own (digest_of a.state) ∷ []
 
-abbrev client_says : ReplicaValue → ReplicaValue → List (List ℕ)
-client_says a b = delta_message a b.own (digest_of b.state) ∷ bye_message byes.Done ∷ []
+abbrev client_says : Format → ReplicaValue → ReplicaValue → List (List ℕ)
+client_says format a b = delta_message a format b.own (digest_of b.state) ∷ bye_message byes.Done ∷ []
 
 abbrev last_word : List (List ℕ)
 last_word = bye_message byes.Done ∷ []
@@ -116,41 +130,43 @@ bye_fits = omega arith
 other_way : {r s : RosterValue} → OneBegins r s → OneBegins s r
 other_way h = elim h [ inl own ↦ inr own | inr other ↦ inl other ]
 
-client_told_by : (a b : ReplicaValue) → CanMeet a b → IsTold a b
+client_told_by : (a b : ReplicaValue) → CanMeet Two a b → IsTold Two a b
 client_told_by a b h = record { roster = h.roster; others = λ e. h.others (sym e); text = h.b_text; own_text = h.a_text; room = h.b_room }
 
-server_told_by : (a b : ReplicaValue) → CanMeet a b → IsTold b a
-server_told_by a b h = record { roster = other_way h.roster; others = h.others; text = h.a_text; own_text = h.b_text; room = h.a_room }
+server_told_by : (format : Format) (a b : ReplicaValue) → CanMeet format a b → IsTold format b a
+server_told_by format a b h = record { roster = other_way h.roster; others = h.others; text = h.a_text; own_text = h.b_text; room = h.a_room }
 
-client_hears : (a b : ReplicaValue) → CanMeet a b → Talks (client a) (server_says b a) (client_told a b) (client_says a b)
+client_hears : (a b : ReplicaValue) → CanMeet Two a b → Talks (client a) (server_says Two b a) (client_told a b) (client_says Two a b)
 client_hears a b h =
-    let c1 = after_said (client a) (Greets (speaker a b)) in
-    let c2 = after_said c1 (Learns (speaker a b) (digest_of b.state)) in
-    talks_then (client a) c1 (client_told a b) (hello_message b ∷ []) (digest_message b ∷ delta_message b a.own (digest_of a.state) ∷ []) [] (client_says a b)
-    (one_talks (client a) (hello_message b) (Greets (speaker a b)) [] refl refl h.b_room.hello (hello_accepted a b (client_told_by a b h)) refl tt)
-    (talks_then c1 c2 (client_told a b) (digest_message b ∷ []) (delta_message b a.own (digest_of a.state) ∷ []) [] (client_says a b)
-    (one_talks c1 (digest_message b) (Learns (speaker a b) (digest_of b.state)) [] refl refl h.b_room.digest (digest_accepted a b (client_told_by a b h)) refl tt)
-    (one_talks c2 (delta_message b a.own (digest_of a.state)) (Receives (least_state b.state (digest_of a.state)) (longer_than a.roster b.roster)) (client_says a b) refl refl h.b_room.delta (delta_accepted a b (digest_of b.state) (client_told_by a b h)) refl (h.a_room.delta, (bye_fits, tt))))
+    let c1 = after_said (client a) (Greets (speaker Two a b)) in
+    let c2 = after_said c1 (Learns (speaker Two a b) (digest_of b.state)) in
+    talks_then (client a) c1 (client_told a b) (hello_message b Two ∷ []) (digest_message b ∷ delta_message b Two a.own (digest_of a.state) ∷ []) [] (client_says Two a b)
+    (one_talks (client a) (hello_message b Two) (Greets (speaker Two a b)) [] refl refl h.b_room.hello (hello_accepted Client Two a b refl (client_told_by a b h)) refl tt)
+    (talks_then c1 c2 (client_told a b) (digest_message b ∷ []) (delta_message b Two a.own (digest_of a.state) ∷ []) [] (client_says Two a b)
+    (one_talks c1 (digest_message b) (Learns (speaker Two a b) (digest_of b.state)) [] refl refl h.b_room.digest (digest_accepted Two a b (client_told_by a b h)) refl tt)
+    (one_talks c2 (delta_message b Two a.own (digest_of a.state)) (Receives (least_state b.state (digest_of a.state)) (longer_than a.roster b.roster)) (client_says Two a b) refl refl h.b_room.delta (delta_accepted Two a b (digest_of b.state) (client_told_by a b h)) refl (h.a_room.delta, (bye_fits, tt))))
 
 client_ends : (a b : ReplicaValue) → Talks (client_told a b) last_word (client_done a b) []
 client_ends a b = one_talks (client_told a b) (bye_message byes.Done) Finishes [] refl refl bye_fits (bye_accepted a) refl tt
 
-server_hears : (a b : ReplicaValue) → CanMeet a b → Talks (server b) (greeting a) (server_asked b a) (server_says b a)
-server_hears a b h =
-    let s1 = after_said (server b) (Greets (speaker b a)) in
-    talks_then (server b) s1 (server_asked b a) (hello_message a ∷ []) (digest_message a ∷ []) [] (server_says b a)
-    (one_talks (server b) (hello_message a) (Greets (speaker b a)) [] refl refl h.a_room.hello (hello_accepted b a (server_told_by a b h)) refl tt)
-    (one_talks s1 (digest_message a) (Learns (speaker b a) (digest_of a.state)) (server_says b a) refl refl h.a_room.digest (digest_accepted b a (server_told_by a b h)) refl (h.b_room.hello, (h.b_room.digest, (h.b_room.delta, tt))))
+module _ (format : Format) (a b : ReplicaValue) (h : CanMeet format a b) where
+  server_hears : Talks (server b) (greeting format a) (server_asked format b a) (server_says format b a)
+  server_hears =
+      let s1 = after_said (server b) (Greets (speaker format b a)) in
+      let told = server_told_by format a b h in
+      talks_then (server b) s1 (server_asked format b a) (hello_message a format ∷ []) (digest_message a ∷ []) [] (server_says format b a)
+      (one_talks (server b) (hello_message a format) (Greets (speaker format b a)) [] refl refl h.a_room.hello (hello_accepted Server format b a (server_speaks format) told) refl tt)
+      (one_talks s1 (digest_message a) (Learns (speaker format b a) (digest_of a.state)) (server_says format b a) refl refl h.a_room.digest (digest_accepted format b a told) refl (h.b_room.hello, (h.b_room.digest, (h.b_room.delta, tt))))
 
-server_ends : (a b : ReplicaValue) → CanMeet a b → Talks (server_asked b a) (client_says a b) (server_done b a) last_word
-server_ends a b h =
-    let s3 = after_said (server_asked b a) (Receives (least_state a.state (digest_of b.state)) (longer_than b.roster a.roster)) in
-    talks_then (server_asked b a) s3 (server_done b a) (delta_message a b.own (digest_of b.state) ∷ []) last_word [] last_word
-    (one_talks (server_asked b a) (delta_message a b.own (digest_of b.state)) (Receives (least_state a.state (digest_of b.state)) (longer_than b.roster a.roster)) [] refl refl h.a_room.delta (delta_accepted b a (digest_of a.state) (server_told_by a b h)) refl tt)
-    (one_talks s3 (bye_message byes.Done) Finishes last_word refl refl bye_fits (bye_accepted b) refl (bye_fits, tt))
+  server_ends : Talks (server_asked format b a) (client_says format a b) (server_done format b a) last_word
+  server_ends =
+      let s3 = server_told format b a in
+      talks_then (server_asked format b a) s3 (server_done format b a) (delta_message a format b.own (digest_of b.state) ∷ []) last_word [] last_word
+      (one_talks (server_asked format b a) (delta_message a format b.own (digest_of b.state)) (Receives (least_state a.state (digest_of b.state)) (longer_than b.roster a.roster)) [] refl refl h.a_room.delta (delta_accepted format b a (digest_of a.state) (server_told_by format a b h)) refl tt)
+      (one_talks s3 (bye_message byes.Done) Finishes last_word refl refl bye_fits (bye_accepted b) refl (bye_fits, tt))
 
-client_opens : (a b : ReplicaValue) → CanMeet a b → after_opening (fresh Client a) ≡ (client a, texts (greeting a))
-client_opens a b h = opened_by (fresh Client a) (greeting a) refl refl (h.a_room.hello, (h.a_room.digest, tt))
+client_opens : (a b : ReplicaValue) → CanMeet Two a b → after_opening (fresh Client a) ≡ (client a, texts (greeting Two a))
+client_opens a b h = opened_by (fresh Client a) (greeting Two a) refl refl (h.a_room.hello, (h.a_room.digest, tt))
 
 server_opens : (b : ReplicaValue) → after_opening (fresh Server b) ≡ (server b, [])
 server_opens b = opened_by (fresh Server b) [] refl refl tt
@@ -198,18 +214,18 @@ says_only : (s t : Standing) (ms out : List (List ℕ)) → Talks s ms t out →
 unfolding says run
 says_only s t ms out h = ap (λ (x : List ℕ). (run x s).1) (sym (append-nil (texts ms))) ∙ ap (λ (p : Sent). p.1) (h []) ∙ append-nil (texts out)
 
-module _ (a b : ReplicaValue) (h : CanMeet a b) where
+module _ (a b : ReplicaValue) (h : CanMeet Two a b) where
   c0 : Standing
   c0 = client a
 
   s1 : List ℕ
-  s1 = texts (server_says b a)
+  s1 = texts (server_says Two b a)
 
   c1 : List ℕ
-  c1 = texts (greeting a)
+  c1 = texts (greeting Two a)
 
   c2 : List ℕ
-  c2 = texts (client_says a b)
+  c2 = texts (client_says Two a b)
 
   s2 : List ℕ
   s2 = texts last_word
@@ -217,42 +233,42 @@ module _ (a b : ReplicaValue) (h : CanMeet a b) where
   -- a server that heard a beginning of the greeting says a beginning of its first words
   server_early : (y : List ℕ) → IsBeginningOf y c1 → IsBeginningOf (says (server b) y) s1
   unfolding c1 s1
-  server_early y p = subst (IsBeginningOf (says (server b) y)) (says_only (server b) (server_asked b a) (greeting a) (server_says b a) (server_hears a b h)) (says_begin (server b) y (texts (greeting a)) p)
+  server_early y p = subst (IsBeginningOf (says (server b) y)) (says_only (server b) (server_asked Two b a) (greeting Two a) (server_says Two b a) (server_hears Two a b h)) (says_begin (server b) y (texts (greeting Two a)) p)
 
-  server_late : (y : List ℕ) → IsBeginningOf y c2 → IsBeginningOf (says (server_asked b a) y) s2
+  server_late : (y : List ℕ) → IsBeginningOf y c2 → IsBeginningOf (says (server_asked Two b a) y) s2
   unfolding c2 s2
-  server_late y p = subst (IsBeginningOf (says (server_asked b a) y)) (says_only (server_asked b a) (server_done b a) (client_says a b) last_word (server_ends a b h)) (says_begin (server_asked b a) y (texts (client_says a b)) p)
+  server_late y p = subst (IsBeginningOf (says (server_asked Two b a) y)) (says_only (server_asked Two b a) (server_done Two b a) (client_says Two a b) last_word (server_ends Two a b h)) (says_begin (server_asked Two b a) y (texts (client_says Two a b)) p)
 
   client_early : (x : List ℕ) → IsBeginningOf x s1 → IsBeginningOf (says (client a) x) c2
   unfolding s1 c2
-  client_early x p = subst (IsBeginningOf (says (client a) x)) (says_only (client a) (client_told a b) (server_says b a) (client_says a b) (client_hears a b h)) (says_begin (client a) x (texts (server_says b a)) p)
+  client_early x p = subst (IsBeginningOf (says (client a) x)) (says_only (client a) (client_told a b) (server_says Two b a) (client_says Two a b) (client_hears a b h)) (says_begin (client a) x (texts (server_says Two b a)) p)
 
   client_late : (x : List ℕ) → IsBeginningOf x s2 → IsBeginningOf (says (client_told a b) x) []
   unfolding s2
   client_late x p = subst (IsBeginningOf (says (client_told a b) x)) (says_only (client_told a b) (client_done a b) last_word [] (client_ends a b)) (says_begin (client_told a b) x (texts last_word) p)
 
-  server_on : (y : List ℕ) → says (server b) (c1 ++ y) ≡ s1 ++ says (server_asked b a) y
+  server_on : (y : List ℕ) → says (server b) (c1 ++ y) ≡ s1 ++ says (server_asked Two b a) y
   unfolding c1 s1
-  server_on y = says_after (server b) (server_asked b a) (greeting a) (server_says b a) y (server_hears a b h)
+  server_on y = says_after (server b) (server_asked Two b a) (greeting Two a) (server_says Two b a) y (server_hears Two a b h)
 
-  server_last : (y : List ℕ) → says (server_asked b a) (c2 ++ y) ≡ s2
+  server_last : (y : List ℕ) → says (server_asked Two b a) (c2 ++ y) ≡ s2
   unfolding c2 s2
-  server_last y = says_after (server_asked b a) (server_done b a) (client_says a b) last_word y (server_ends a b h) ∙ ap (λ (t : List ℕ). texts last_word ++ t) (says_over (server_done b a) y refl) ∙ append-nil (texts last_word)
+  server_last y = says_after (server_asked Two b a) (server_done Two b a) (client_says Two a b) last_word y (server_ends Two a b h) ∙ ap (λ (t : List ℕ). texts last_word ++ t) (says_over (server_done Two b a) y refl) ∙ append-nil (texts last_word)
 
   client_on : (x : List ℕ) → says (client a) (s1 ++ x) ≡ c2 ++ says (client_told a b) x
   unfolding s1 c2
-  client_on x = says_after (client a) (client_told a b) (server_says b a) (client_says a b) x (client_hears a b h)
+  client_on x = says_after (client a) (client_told a b) (server_says Two b a) (client_says Two a b) x (client_hears a b h)
 
   -- each has heard a beginning of the whole talk
   abbrev Talk : List ℕ → List ℕ → Type 0
   Talk x y = IsBeginningOf x (s1 ++ s2) × IsBeginningOf y (c1 ++ c2)
 
   -- both are past the first words
-  both_late : (x y : List ℕ) → IsBeginningOf x (says (server_asked b a) y) → IsBeginningOf y (c2 ++ says (client_told a b) x) → IsBeginningOf x s2 × IsBeginningOf y c2
+  both_late : (x y : List ℕ) → IsBeginningOf x (says (server_asked Two b a) y) → IsBeginningOf y (c2 ++ says (client_told a b) x) → IsBeginningOf x s2 × IsBeginningOf y c2
   both_late x y p q = elim (cases_begin y c2 (says (client_told a b) x) q) [
-    | inl early ↦ (begin_trans x (says (server_asked b a) y) s2 p (server_late y early), early)
+    | inl early ↦ (begin_trans x (says (server_asked Two b a) y) s2 p (server_late y early), early)
     | inr late ↦
-        let heard : IsBeginningOf x s2 = subst (IsBeginningOf x) (ap (says (server_asked b a)) late.1 ∙ server_last late.0) p in
+        let heard : IsBeginningOf x s2 = subst (IsBeginningOf x) (ap (says (server_asked Two b a)) late.1 ∙ server_last late.0) p in
         let none : IsBeginningOf late.0 [] = begin_trans late.0 (says (client_told a b) x) [] late.2 (client_late x heard) in
         (heard, subst (λ (t : List ℕ). IsBeginningOf t c2) (sym late.1) (subst (IsBeginningOf (c2 ++ late.0)) (append-nil c2) (begin_more c2 late.0 [] none)))
   ]
@@ -261,8 +277,8 @@ module _ (a b : ReplicaValue) (h : CanMeet a b) where
   talk_by x y p q = elim (cases_begin y c1 (says (client a) x) q) [
     | inl early ↦ (begin_front x s1 s2 (begin_trans x (says (server b) y) s1 p (server_early y early)), begin_front y c1 c2 early)
     | inr late ↦
-        let heard : IsBeginningOf x (s1 ++ says (server_asked b a) late.0) = subst (IsBeginningOf x) (ap (says (server b)) late.1 ∙ server_on late.0) p in
-        elim (cases_begin x s1 (says (server_asked b a) late.0) heard) [
+        let heard : IsBeginningOf x (s1 ++ says (server_asked Two b a) late.0) = subst (IsBeginningOf x) (ap (says (server b)) late.1 ∙ server_on late.0) p in
+        elim (cases_begin x s1 (says (server_asked Two b a) late.0) heard) [
           | inl before ↦ (begin_front x s1 s2 before, subst (λ (t : List ℕ). IsBeginningOf t (c1 ++ c2)) (sym late.1) (begin_more c1 late.0 c2 (begin_trans late.0 (says (client a) x) c2 late.2 (client_early x before))))
           | inr after ↦
               let said : IsBeginningOf late.0 (c2 ++ says (client_told a b) after.0) = subst (IsBeginningOf late.0) (ap (says (client a)) after.1 ∙ client_on after.0) late.2 in
@@ -286,7 +302,7 @@ unfolding run
 comes_to s t u ms ns out put p q =
     ap (λ (r : Sent). r.0) (p (texts ns)) ∙ ap (λ (x : List ℕ). (run x t).0) (sym (append-nil (texts ns))) ∙ ap (λ (r : Sent). r.0) (q [])
 
-client_course : (a b : ReplicaValue) (x : List ℕ) → CanMeet a b → course Client a (So_far x) ≡ then_more (client a, texts (greeting a)) (run x)
+client_course : (a b : ReplicaValue) (x : List ℕ) → CanMeet Two a b → course Client a (So_far x) ≡ then_more (client a, texts (greeting Two a)) (run x)
 unfolding course
 client_course a b x h = ap (λ (p : Sent). then_more p (run x)) (client_opens a b h)
 
@@ -294,15 +310,15 @@ server_course : (b : ReplicaValue) (y : List ℕ) → course Server b (So_far y)
 unfolding course
 server_course b y = ap (λ (p : Sent). then_more p (run y)) (server_opens b)
 
-client_whole : (a b : ReplicaValue) → CanMeet a b → (run (texts (server_says b a) ++ texts last_word) (client a)).0 ≡ client_done a b
-client_whole a b h = comes_to (client a) (client_told a b) (client_done a b) (server_says b a) last_word (client_says a b) [] (client_hears a b h) (client_ends a b)
+client_whole : (a b : ReplicaValue) → CanMeet Two a b → (run (texts (server_says Two b a) ++ texts last_word) (client a)).0 ≡ client_done a b
+client_whole a b h = comes_to (client a) (client_told a b) (client_done a b) (server_says Two b a) last_word (client_says Two a b) [] (client_hears a b h) (client_ends a b)
 
-server_whole : (a b : ReplicaValue) → CanMeet a b → (run (texts (greeting a) ++ texts (client_says a b)) (server b)).0 ≡ server_done b a
-server_whole a b h = comes_to (server b) (server_asked b a) (server_done b a) (greeting a) (client_says a b) (server_says b a) last_word (server_hears a b h) (server_ends a b h)
+server_whole : (a b : ReplicaValue) → CanMeet Two a b → (run (texts (greeting Two a) ++ texts (client_says Two a b)) (server b)).0 ≡ server_done Two b a
+server_whole a b h = comes_to (server b) (server_asked Two b a) (server_done Two b a) (greeting Two a) (client_says Two a b) (server_says Two b a) last_word (server_hears Two a b h) (server_ends Two a b h)
 
 -- both streams are beginnings of the whole talk
-the_talk : (a b : ReplicaValue) (x y : List ℕ) → CanMeet a b → Hear a b x y
-    → IsBeginningOf x (texts (server_says b a) ++ texts last_word) × IsBeginningOf y (texts (greeting a) ++ texts (client_says a b))
+the_talk : (a b : ReplicaValue) (x y : List ℕ) → CanMeet Two a b → Hear a b x y
+    → IsBeginningOf x (texts (server_says Two b a) ++ texts last_word) × IsBeginningOf y (texts (greeting Two a) ++ texts (client_says Two a b))
 unfolding s1 s2 c1 c2 says
 the_talk a b x y h hear =
     talk_by a b h x y
@@ -319,28 +335,28 @@ receive_deltas a b x y h hear =
     let server-end = ap (λ (s : Standing). s.received) (server_whole a b h) in
     let client-is = ap (λ (p : Sent). p.0.received) (client_course a b x h) in
     let server-is = ap (λ (p : Sent). p.0.received) (server_course b y) in (
-      subst (IsItsDelta b a) (sym client-is) (its_delta b a _ (received_of (client a) x (texts (server_says b a) ++ texts last_word) (least_state b.state (digest_of a.state), longer_than a.roster b.roster) (inl refl) talk.0 client-end)),
-      subst (IsItsDelta a b) (sym server-is) (its_delta a b _ (received_of (server b) y (texts (greeting a) ++ texts (client_says a b)) (least_state a.state (digest_of b.state), longer_than b.roster a.roster) (inl refl) talk.1 server-end)),
+      subst (IsItsDelta b a) (sym client-is) (its_delta b a _ (received_of (client a) x (texts (server_says Two b a) ++ texts last_word) (least_state b.state (digest_of a.state), longer_than a.roster b.roster) (inl refl) talk.0 client-end)),
+      subst (IsItsDelta a b) (sym server-is) (its_delta a b _ (received_of (server b) y (texts (greeting Two a) ++ texts (client_says Two a b)) (least_state a.state (digest_of b.state), longer_than b.roster a.roster) (inl refl) talk.1 server-end)),
     )
 
 begins_itself : (x : List ℕ) → IsBeginningOf x x
 begins_itself x = ([], sym (append-nil x))
 
 -- all that was sent was heard, so both heard the whole talk
-whole_talk : (a b : ReplicaValue) (x y : List ℕ) → CanMeet a b → HearAll a b x y
-    → (x ≡ texts (server_says b a) ++ texts last_word) × (y ≡ texts (greeting a) ++ texts (client_says a b))
+whole_talk : (a b : ReplicaValue) (x y : List ℕ) → CanMeet Two a b → HearAll a b x y
+    → (x ≡ texts (server_says Two b a) ++ texts last_word) × (y ≡ texts (greeting Two a) ++ texts (client_says Two a b))
 unfolding s1 s2 c1 c2 says
 whole_talk a b x y h all =
-    let client-says : y ≡ texts (greeting a) ++ (run x (client a)).1 = all.server ∙ ap (λ (p : Sent). p.1) (client_course a b x h) in
+    let client-says : y ≡ texts (greeting Two a) ++ (run x (client a)).1 = all.server ∙ ap (λ (p : Sent). p.1) (client_course a b x h) in
     let server-said : x ≡ (run y (server b)).1 = all.client ∙ ap (λ (p : Sent). p.1) (server_course b y) in
-    let x1 = says (server_asked b a) (says (client a) x) in
-    let x-is : x ≡ texts (server_says b a) ++ x1 = server-said ∙ ap (says (server b)) client-says ∙ server_on a b h (says (client a) x) in
+    let x1 = says (server_asked Two b a) (says (client a) x) in
+    let x-is : x ≡ texts (server_says Two b a) ++ x1 = server-said ∙ ap (says (server b)) client-says ∙ server_on a b h (says (client a) x) in
     let y1 = says (client_told a b) x1 in
-    let y-is : says (client a) x ≡ texts (client_says a b) ++ y1 = ap (says (client a)) x-is ∙ client_on a b h x1 in
-    let x1-is : x1 ≡ texts last_word = ap (says (server_asked b a)) y-is ∙ server_last a b h y1 in
+    let y-is : says (client a) x ≡ texts (client_says Two a b) ++ y1 = ap (says (client a)) x-is ∙ client_on a b h x1 in
+    let x1-is : x1 ≡ texts last_word = ap (says (server_asked Two b a)) y-is ∙ server_last a b h y1 in
     let none : y1 ≡ [] = ap (says (client_told a b)) x1-is ∙ says_only (client_told a b) (client_done a b) last_word [] (client_ends a b) in (
-      x-is ∙ ap (λ (t : List ℕ). texts (server_says b a) ++ t) x1-is,
-      client-says ∙ ap (λ (t : List ℕ). texts (greeting a) ++ t) (y-is ∙ ap (λ (t : List ℕ). texts (client_says a b) ++ t) none ∙ append-nil (texts (client_says a b))),
+      x-is ∙ ap (λ (t : List ℕ). texts (server_says Two b a) ++ t) x1-is,
+      client-says ∙ ap (λ (t : List ℕ). texts (greeting Two a) ++ t) (y-is ∙ ap (λ (t : List ℕ). texts (client_says Two a b) ++ t) none ∙ append-nil (texts (client_says Two a b))),
     )
 
 pub both_end : BothEnd
@@ -348,11 +364,71 @@ both_end a b x y h all =
     let whole = whole_talk a b x y h all in
     let client-end : (course Client a (So_far x)).0 ≡ client_done a b =
     ap (λ (p : Sent). p.0) (client_course a b x h) ∙ ap (λ (t : List ℕ). (run t (client a)).0) whole.0 ∙ client_whole a b h in
-    let server-end : (course Server b (So_far y)).0 ≡ server_done b a =
+    let server-end : (course Server b (So_far y)).0 ≡ server_done Two b a =
     ap (λ (p : Sent). p.0) (server_course b y) ∙ ap (λ (t : List ℕ). (run t (server b)).0) whole.1 ∙ server_whole a b h in
     record {
       client = ap (λ (s : Standing). s.ended) client-end;
       client_has = its_least b a _ (ap (λ (s : Standing). s.received) client-end);
       server = ap (λ (s : Standing). s.ended) server-end;
       server_has = its_least a b _ (ap (λ (s : Standing). s.received) server-end);
+    }
+
+-- ---- a client of either version
+
+-- one message of a talk, which is accepted and all of whose answers can be sent
+talked : (s : Standing) (m : List ℕ) (more : List (List ℕ)) (act : Said) (ms : List (List ℕ)) → s.ended ≡ Going → Fits m → verdict s.kept s.turn m ≡ Ok act
+    → replies_of s.side s.kept s.turn act ≡ ms → AllByRecursion Fits ms → talk (m ∷ more) s ≡ then_more (after_said s act, texts ms) (talk more)
+talked s m more act ms going room ok replies fit =
+    let short : ltb MESSAGE_LIMIT (length m) ≡ false = le-ltb _ _ room in
+    ap (λ (e : Ended). when_going {A = Sent} e (then_more (after_message s m) (talk more)) (s, [])) going
+    ∙ ap (λ (long : Bool). then_more (cond long (refuses s TooLong) (message_comes s m)) (talk more)) short
+    ∙ ap (λ (p : Sent). then_more p (talk more)) (comes s m act ms ok replies fit)
+
+module _ (format : Format) (a b : ReplicaValue) (h : CanMeet format a b) where
+  told : IsTold format b a
+  told = server_told_by format a b h
+
+  ended_with : talk (bye_message byes.Done ∷ []) (server_told format b a) ≡ (server_done format b a, texts last_word)
+  ended_with = talked (server_told format b a) (bye_message byes.Done) [] Finishes last_word refl bye_fits (bye_accepted b) refl (bye_fits, tt)
+      ∙ ap (λ (t : List ℕ). (server_done format b a, t)) (append-nil (texts last_word))
+
+  told_with : talk (client_says format a b) (server_asked format b a) ≡ (server_done format b a, texts last_word)
+  told_with =
+      talked (server_asked format b a) (delta_message a format b.own (digest_of b.state)) last_word (Receives (least_state a.state (digest_of b.state)) (longer_than b.roster a.roster)) []
+      refl h.a_room.delta (delta_accepted format b a (digest_of a.state) told) refl tt
+      ∙ ended_with
+
+  asked_with : talk (digest_message a ∷ client_says format a b) (after_said (server b) (Greets (speaker format b a))) ≡ (server_done format b a, texts (server_says format b a) ++ texts last_word)
+  asked_with =
+      talked (after_said (server b) (Greets (speaker format b a))) (digest_message a) (client_says format a b) (Learns (speaker format b a) (digest_of a.state)) (server_says format b a)
+      refl h.a_room.digest (digest_accepted format b a told) refl (h.b_room.hello, (h.b_room.digest, (h.b_room.delta, tt)))
+      ∙ ap (λ (p : Sent). (p.0, texts (server_says format b a) ++ p.1)) told_with
+
+  greeted_with : talk (words_in format a b) (server b) ≡ (server_done format b a, texts (server_says format b a) ++ texts last_word)
+  greeted_with =
+      talked (server b) (hello_message a format) (digest_message a ∷ client_says format a b) (Greets (speaker format b a)) []
+      refl h.a_room.hello (hello_accepted Server format b a (server_speaks format) told) refl tt
+      ∙ asked_with
+
+  served_course : (x : List ℕ) → Splits x (words_in format a b) [] → course Server b (So_far x) ≡ (server_done format b a, texts (words_in format b a))
+  unfolding run
+  served_course x splits =
+      let said = texts (server_says format b a) ++ texts last_word in
+      let whole : said ≡ texts (words_in format b a) = sym (texts-append (server_says format b a) last_word) in
+      by_messages Server b x (words_in format a b) [] splits
+      ∙ ap (λ (o : Sent). then_more (then_more o (talk (words_in format a b))) (run [])) (server_opens b)
+      ∙ ap (λ (p : Sent). (p.0, p.1 ++ [])) greeted_with
+      ∙ ap (λ (t : List ℕ). (server_done format b a, t)) (append-nil said ∙ whole)
+
+texts_are : (ms : List (List ℕ)) → texts ms ≡ flat_map message_in_chunks ms
+texts_are [] = refl
+texts_are (m ∷ ms) = ap (λ (t : List ℕ). message_in_chunks m ++ t) (texts_are ms)
+
+pub serves_either : ServesEither
+serves_either format a b x h splits =
+    let is = served_course format a b h x splits in
+    record {
+      said = ap (λ (p : Sent). p.1) is ∙ texts_are (words_in format b a);
+      server = ap (λ (p : Sent). p.0.ended) is;
+      server_has = its_least a b _ (ap (λ (p : Sent). p.0.received) is);
     }

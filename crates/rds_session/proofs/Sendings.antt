@@ -6,10 +6,12 @@ use Rattle.std.specs.Global.{Vec}
 use Rattle.rds_names.specs.declared.fault.Fault.{Fault}
 use Rattle.rds_state.specs.Value.{StateValue}
 use Rattle.rds_delta.specs.Digested.{DigestValue, digest_of}
-use Rattle.rds_codec.specs.AnswerTexts.{answer, answer_text}
+use Rattle.rds_codec.specs.AnswerTexts.{answer}
 use Rattle.rds_codec.specs.AnswerValues.{AnswerValue}
 use Rattle.rds_codec.specs.DigestTexts.{digest_text}
-use Rattle.rds_codec.specs.Exchanged.{IsAnswerTo, IsAskOf, IsLongAnswer, IsLongDigest, IsLost, IsReplyTo}
+use Rattle.rds_codec.specs.Exchanged.{IsAnswerTo, IsAskOf, IsLongAnswerIn, IsLongDigest, IsLost, IsReplyIn}
+use Rattle.rds_codec.specs.FormatTexts.{answer_text_in}
+use Rattle.rds_codec.specs.declared.formats.Format.{Format}
 use Rattle.rds_codec.specs.Writing.{Encodes}
 use Rattle.rds_codec.specs.declared.limits.TheConstants.{LIMIT}
 use Rattle.rds_session.specs.Checked.{certificate_of, least_state}
@@ -54,17 +56,17 @@ pub asked : (v : StateValue) (r : Result (Vec ℕ) Fault) → IfOk r (λ b. IsAs
 asked v (Ok b) is lost = (is.text, subst (λ (t : List ℕ). length t ≤ LIMIT) is.text is.within)
 asked v (Err e) is lost = lost
 
-module _ (peer : ℕ) (held : StateValue) (digest : DigestValue) where
+module _ (format : Format) (peer : ℕ) (held : StateValue) (digest : DigestValue) where
   abbrev due : List ℕ
-  due = answer_text (answer peer (least_state held digest) (certificate_of digest (least_state held digest)))
+  due = answer_text_in format (answer peer (least_state held digest) (certificate_of digest (least_state held digest)))
 
-  due_is : (a : AnswerValue) → IsAnswerTo digest peer held a → answer_text a ≡ due
+  due_is : (a : AnswerValue) → IsAnswerTo digest peer held a → answer_text_in format a ≡ due
   due_is a is =
       let whole : a ≡ answer peer a.state a.certificate = λ j. answer (is.asked j) a.state a.certificate in
-      ap answer_text (whole ∙ delta_is held digest peer a.state a.certificate is.delta is.certificate)
+      ap (answer_text_in format) (whole ∙ delta_is held digest peer a.state a.certificate is.delta is.certificate)
 
   pub answered : (r : Result (Vec ℕ × ℕ) Fault) (body : Result (Vec ℕ) Fault) → MatchResult r (λ p. body ≡ Ok p.0) (λ e. body ≡ Err e)
-      → IfOk r (λ p. IsReplyTo digest peer held p.0.items p.1) → IfErr r (IsLost (IsLongAnswer digest peer held)) → IsTextOrLost due body
+      → IfOk r (λ p. IsReplyIn format digest peer held p.0.items p.1) → IfErr r (IsLost (IsLongAnswerIn format digest peer held)) → IsTextOrLost due body
   answered (Ok p) body e is lost =
       let same = is.text ∙ due_is is.value is.answers in
       subst (IsTextOrLost due) (sym e) (same, subst (λ (t : List ℕ). length t ≤ LIMIT) same is.within)

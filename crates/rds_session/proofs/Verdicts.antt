@@ -5,17 +5,19 @@ use Rattle.rds_names.specs.declared.fault.Fault.{Fault}
 use Rattle.rds_names.specs.declared.fault.Fault.TheVariants.{Memory, WrongVersion}
 use Rattle.rds_state.specs.Fits.{ReplicaValue}
 use Rattle.rds_bytes.specs.Reading.{Reader, Fails}
-use Rattle.rds_codec.specs.AnswerTexts.{IsAnswerOf, answer_at, answer_kind}
+use Rattle.rds_codec.specs.AnswerTexts.{IsAnswerOf}
 use Rattle.rds_codec.specs.AnswerValues.{AnswerValue}
 use Rattle.rds_codec.specs.Decoding.{all_of}
 use Rattle.rds_codec.specs.DigestTexts.{digest_at, digest_kind}
+use Rattle.rds_codec.specs.FormatTexts.{answer_at_in, answer_kind_in}
 use Rattle.rds_codec.specs.HelloTexts.{hello_at, hello_kind}
 use Rattle.rds_codec.specs.Kinds.{Kind}
+use Rattle.rds_codec.specs.declared.formats.Format.{Format}
 use Rattle.rds_codec.specs.declared.hellos.Hello.{Hello}
 use Rattle.rds_codec.specs.declared.limits.TheConstants.{LIMIT}
-use Rattle.rds_codec.proofs.AnswerFormats.{answer_reader}
 use Rattle.rds_codec.proofs.DigestFormats.{digest_reader}
 use Rattle.rds_codec.proofs.HelloFormats.{hello_reader}
+use Rattle.rds_codec.proofs.InFormats.{answer_in_reader}
 use Rattle.rds_codec.proofs.Whole.{IsReaderOf}
 use Rattle.rds_keep.specs.FedTexts.{decodes_texts}
 use Rattle.rds_keep.specs.Feeding.{AreBytes}
@@ -29,6 +31,7 @@ use Rattle.rds_session.specs.declared.kinds.ByeCode.{ByeCode}
 use Rattle.rds_session.specs.declared.kinds.MessageKind.{MessageKind}
 use Rattle.rds_session.specs.declared.kinds.MessageKind.TheVariants as kinds
 use Rattle.rds_session.specs.declared.talk.Act.{Act}
+use Rattle.rds_session.specs.declared.talk.Side.{Side}
 use Rattle.rds_session.specs.declared.talk.Stop.{Stop}
 use Rattle.rds_session.specs.declared.talk.Stop.TheVariants.{Refused}
 use Rattle.rds_session.proofs.Knowing.{known_fault}
@@ -55,17 +58,17 @@ bye_is kept turn (b ∷ rest) = code_is kept turn (bye_of b) rest
 
 body_is : (kept : ReplicaValue) (kind : MessageKind) (turn : Awaited) (body : List ℕ) → body_came kept kind turn body ≡ read_then (body_read (expected_of kept turn) kind body) (content_judged kept turn)
 body_is kept kinds.Bye turn body = bye_is kept turn body
-body_is kept kinds.Hello ForHello body = version_is (other_version body) (hello_in body) (content_judged kept ForHello)
+body_is kept kinds.Hello (ForHello side) body = version_is (other_version side body) (hello_in body) (content_judged kept (ForHello side))
 body_is kept kinds.Hello (ForDigest peer) body = refl
 body_is kept kinds.Hello (ForDelta peer digest) body = refl
 body_is kept kinds.Hello ForBye body = refl
-body_is kept kinds.Digest ForHello body = refl
+body_is kept kinds.Digest (ForHello side) body = refl
 body_is kept kinds.Digest (ForDigest peer) body = as_is OfDigest (digest_in (replicas_of kept peer.roster) body) (content_judged kept (ForDigest peer))
 body_is kept kinds.Digest (ForDelta peer digest) body = refl
 body_is kept kinds.Digest ForBye body = refl
-body_is kept kinds.Delta ForHello body = refl
+body_is kept kinds.Delta (ForHello side) body = refl
 body_is kept kinds.Delta (ForDigest peer) body = refl
-body_is kept kinds.Delta (ForDelta peer digest) body = as_is OfDelta (answer_in (replicas_of kept peer.roster) body) (content_judged kept (ForDelta peer digest))
+body_is kept kinds.Delta (ForDelta peer digest) body = as_is OfDelta (answer_in peer.format (replicas_of kept peer.roster) body) (content_judged kept (ForDelta peer digest))
 body_is kept kinds.Delta ForBye body = refl
 
 kind_is : (kept : ReplicaValue) (turn : Awaited) (kind : Option MessageKind) (body : List ℕ) → kind_came kept turn kind body ≡ read_then (kind_read (expected_of kept turn) kind body) (content_judged kept turn)
@@ -123,31 +126,32 @@ bye_known [] = tt
 bye_known (b ∷ rest) = code_known (bye_of b) rest
 
 module _ (body : List ℕ) (are : AreBytes body) (within : length body ≤ LIMIT) where
-  hello_known : IsKnown (hello_read body)
+  hello_known : (side : Side) → IsKnown (hello_read side body)
   unfolding hello_in
-  hello_known = version_known (other_version body) (read_as OfHello (hello_in body)) (as_known OfHello (hello_in body) (text_known hello_kind hello_at hello_reader body are within (hello_in body) refl))
+  hello_known side = version_known (other_version side body) (read_as OfHello (hello_in body)) (as_known OfHello (hello_in body) (text_known hello_kind hello_at hello_reader body are within (hello_in body) refl))
 
   digest_known : (n : ℕ) → IsKnown (read_as OfDigest (digest_in n body))
   unfolding digest_in
   digest_known n = as_known OfDigest (digest_in n body) (text_known (digest_kind n) (digest_at n) (digest_reader n) body are within (digest_in n body) refl)
 
-  delta_known : (n : ℕ) → IsKnown (read_as OfDelta (answer_in n body))
+  delta_known : (format : Format) (n : ℕ) → IsKnown (read_as OfDelta (answer_in format n body))
   unfolding answer_in
-  delta_known n = as_known OfDelta (answer_in n body) (text_known (answer_kind n) (answer_at n) (answer_reader n) body are within (answer_in n body) refl)
+  delta_known format n = as_known OfDelta (answer_in format n body)
+      (text_known (answer_kind_in format n) (answer_at_in format n) (answer_in_reader format n) body are within (answer_in format n body) refl)
 
   body_known : (expected : Expected) (kind : MessageKind) → IsKnown (body_read expected kind body)
   body_known expected kinds.Bye = bye_known body
-  body_known expecteds.Hello kinds.Hello = hello_known
+  body_known (expecteds.Hello side) kinds.Hello = hello_known side
   body_known (expecteds.Digest n) kinds.Hello = tt
-  body_known (expecteds.Delta n) kinds.Hello = tt
+  body_known (expecteds.Delta format n) kinds.Hello = tt
   body_known expecteds.Bye kinds.Hello = tt
-  body_known expecteds.Hello kinds.Digest = tt
+  body_known (expecteds.Hello side) kinds.Digest = tt
   body_known (expecteds.Digest n) kinds.Digest = digest_known n
-  body_known (expecteds.Delta n) kinds.Digest = tt
+  body_known (expecteds.Delta format n) kinds.Digest = tt
   body_known expecteds.Bye kinds.Digest = tt
-  body_known expecteds.Hello kinds.Delta = tt
+  body_known (expecteds.Hello side) kinds.Delta = tt
   body_known (expecteds.Digest n) kinds.Delta = tt
-  body_known (expecteds.Delta n) kinds.Delta = delta_known n
+  body_known (expecteds.Delta format n) kinds.Delta = delta_known format n
   body_known expecteds.Bye kinds.Delta = tt
 
   kind_known : (expected : Expected) (kind : Option MessageKind) → IsKnown (kind_read expected kind body)
@@ -181,30 +185,31 @@ bye_no_delta (b ∷ rest) a is = code_no_delta (bye_of b) rest a is where
   code_no_delta (Some code) [] a is = cc
   code_no_delta (Some code) (x ∷ xs) a is = cc
 
-kind_of_delta : (n : ℕ) (kind : Option MessageKind) (body : List ℕ) (a : AnswerValue) → kind_read (expecteds.Delta n) kind body ≡ Ok (OfDelta a) → answer_in n body ≡ Ok a
-kind_of_delta n None body a is = absurd cc
-kind_of_delta n (Some kinds.Bye) body a is = absurd (bye_no_delta body a is)
-kind_of_delta n (Some kinds.Hello) body a is = absurd cc
-kind_of_delta n (Some kinds.Digest) body a is = absurd cc
-kind_of_delta n (Some kinds.Delta) body a is = read_delta (answer_in n body) a is
+kind_of_delta : (format : Format) (n : ℕ) (kind : Option MessageKind) (body : List ℕ) (a : AnswerValue) → kind_read (expecteds.Delta format n) kind body ≡ Ok (OfDelta a) → answer_in format n body ≡ Ok a
+kind_of_delta format n None body a is = absurd cc
+kind_of_delta format n (Some kinds.Bye) body a is = absurd (bye_no_delta body a is)
+kind_of_delta format n (Some kinds.Hello) body a is = absurd cc
+kind_of_delta format n (Some kinds.Digest) body a is = absurd cc
+kind_of_delta format n (Some kinds.Delta) body a is = read_delta (answer_in format n body) a is
 
-answer_of : (n : ℕ) (body : List ℕ) (a : AnswerValue) → AreBytes body → length body ≤ LIMIT → answer_in n body ≡ Ok a → IsAnswerOf n a
+answer_of : (format : Format) (n : ℕ) (body : List ℕ) (a : AnswerValue) → AreBytes body → length body ≤ LIMIT → answer_in format n body ≡ Ok a → IsAnswerOf n a
 unfolding answer_in
-answer_of n body a are within is = ((decodes_texts (answer_kind n) (answer_at n) (answer_reader n)).decodes body (Ok a) are within is).value.1.is_value
+answer_of format n body a are within is =
+    ((decodes_texts (answer_kind_in format n) (answer_at_in format n) (answer_in_reader format n)).decodes body (Ok a) are within is).value.1.is_value
 
-delta_read : (n : ℕ) (m : List ℕ) (a : AnswerValue) → AreBytes m → length m ≤ LIMIT → message_read (expecteds.Delta n) m ≡ Ok (OfDelta a) → IsRead n a
+delta_read : (format : Format) (n : ℕ) (m : List ℕ) (a : AnswerValue) → AreBytes m → length m ≤ LIMIT → message_read (expecteds.Delta format n) m ≡ Ok (OfDelta a) → IsRead format n a
 unfolding message_read
-delta_read n [] a are within is = absurd cc
-delta_read n (b ∷ body) a are within is =
-    let read = kind_of_delta n (kind_of b) body a is in
-    record { body = body; read = read; value = answer_of n body a (λ i. are (suc i)) (omega arith) read }
+delta_read format n [] a are within is = absurd cc
+delta_read format n (b ∷ body) a are within is =
+    let read = kind_of_delta format n (kind_of b) body a is in
+    record { body = body; read = read; value = answer_of format n body a (λ i. are (suc i)) (omega arith) read }
 
 read_so : (kept : ReplicaValue) (turn : Awaited) (m : List ℕ) (content : ContentValue) → AreBytes m → length m ≤ LIMIT → message_read (expected_of kept turn) m ≡ Ok content → IsReadFor kept turn content
-read_so kept (ForDelta peer digest) m (OfDelta a) are within is = delta_read (replicas_of kept peer.roster) m a are within is
+read_so kept (ForDelta peer digest) m (OfDelta a) are within is = delta_read peer.format (replicas_of kept peer.roster) m a are within is
 read_so kept (ForDelta peer digest) m (OfHello h) are within is = tt
 read_so kept (ForDelta peer digest) m (OfDigest d) are within is = tt
 read_so kept (ForDelta peer digest) m (OfBye code) are within is = tt
-read_so kept ForHello m content are within is = tt
+read_so kept (ForHello side) m content are within is = tt
 read_so kept (ForDigest peer) m content are within is = tt
 read_so kept ForBye m content are within is = tt
 

@@ -5,6 +5,8 @@ use Rattle.rds_names.specs.Roster.{RosterValue}
 use Rattle.rds_state.specs.Fits.{ReplicaValue, coded_replica, coded_roster}
 use Rattle.rds_state.specs.Value.{coded_state}
 use Rattle.rds_delta.specs.Digested.{DigestValue, coded_digest}
+use Rattle.rds_codec.specs.contracts.formats.Format as format
+use Rattle.rds_codec.specs.declared.formats.Format.{Format}
 use Rattle.rds_session.specs.contracts.chunks.Place as place
 use Rattle.rds_session.specs.contracts.step.Ended as ended
 use Rattle.rds_session.specs.contracts.talk.Side as side
@@ -18,35 +20,41 @@ use Rattle.rds_session.specs.Received.{Delivery}
 use Rattle.rds_session.specs.Session.{Standing}
 
 abbrev coded_peer : Coded Peer
-coded_peer = code_by (ℕ × Option RosterValue) (coded× coded_ℕ (coded_option coded_roster)) (λ p. (p.number, p.roster)) (λ q. record { number = q.0; roster = q.1 }) (λ _. refl)
+coded_peer =
+    code_by (ℕ × (Option RosterValue × Format))
+    (coded× coded_ℕ (coded× (coded_option coded_roster) format.the_row.coded))
+    (λ p. (p.number, (p.roster, p.format))) (λ q. record { number = q.0; roster = q.1.0; format = q.1.1 }) (λ _. refl)
 
 abbrev coded_delivery : Coded Delivery
 coded_delivery = coded× coded_state (coded_option coded_roster)
 
--- the peer, where it is known, and its digest
+-- the peer, where it is known, and its digest; else the side that a HELLO comes to
 abbrev Known : Type 0
-Known = Option (Peer × Option DigestValue) × Bool
+Known = Option (Peer × Option DigestValue) × Option Side
 
 abbrev known_of : Awaited → Known
-known_of ForHello = (None, Bool.true)
-known_of (ForDigest peer) = (Some (peer, None), Bool.true)
-known_of (ForDelta peer digest) = (Some (peer, Some digest), Bool.true)
-known_of ForBye = (None, Bool.false)
+known_of (ForHello side) = (None, Some side)
+known_of (ForDigest peer) = (Some (peer, None), None)
+known_of (ForDelta peer digest) = (Some (peer, Some digest), None)
+known_of ForBye = (None, None)
 
 abbrev awaited_of : Known → Awaited
-awaited_of (None, Bool.true) = ForHello
-awaited_of (None, Bool.false) = ForBye
-awaited_of (Some (peer, None), last) = ForDigest peer
-awaited_of (Some (peer, Some digest), last) = ForDelta peer digest
+awaited_of (None, Some side) = ForHello side
+awaited_of (None, None) = ForBye
+awaited_of (Some (peer, None), side) = ForDigest peer
+awaited_of (Some (peer, Some digest), side) = ForDelta peer digest
 
 abbrev back : (a : Awaited) → awaited_of (known_of a) ≡ a
-back ForHello = refl
+back (ForHello side) = refl
 back (ForDigest peer) = refl
 back (ForDelta peer digest) = refl
 back ForBye = refl
 
 abbrev coded_awaited : Coded Awaited
-coded_awaited = code_by Known (coded× (coded_option (coded× coded_peer (coded_option coded_digest))) coded_bool) known_of awaited_of back
+coded_awaited =
+    code_by Known
+    (coded× (coded_option (coded× coded_peer (coded_option coded_digest))) (coded_option side.the_row.coded))
+    known_of awaited_of back
 
 abbrev coded_under : Coded Under
 coded_under = code_by (Place × List ℕ) (coded× place.the_row.coded (coded_list coded_ℕ)) (λ u. (u.place, u.held)) (λ p. record { place = p.0; held = p.1 }) (λ _. refl)

@@ -2,10 +2,12 @@
 use Rattle.std.specs.Prelude.{ℕ, List, Result, Ok, Err}
 use Rattle.rds_names.specs.declared.fault.Fault.{Fault}
 use Rattle.rds_bytes.specs.Reading.{Reader}
+use Rattle.rds_codec.specs.declared.formats.Format.{Format}
 use Rattle.rds_keep.specs.Feeding.{FeedValue, IsRefused, StandsFor}
 
--- how many replicas its roster has, and its bytes so far
+-- its format, how many replicas its roster has, and its bytes so far
 pub record ComingValue : Type 0 where
+  pub format : Format
   pub replicas : ℕ
   pub came : List ℕ
 

@@ -6,6 +6,7 @@ use Rattle.rds_state.specs.Fits.{ReplicaValue}
 use Rattle.rds_delta.specs.Digested.{DigestValue}
 use Rattle.rds_codec.specs.AnswerTexts.{IsAnswerOf}
 use Rattle.rds_codec.specs.AnswerValues.{AnswerValue}
+use Rattle.rds_codec.specs.declared.formats.Format.{Format}
 use Rattle.rds_codec.specs.declared.hellos.Hello.{Hello}
 use Rattle.rds_session.specs.declared.content.Content.{Content}
 use Rattle.rds_session.specs.declared.content.Content.TheVariants as contents
@@ -14,6 +15,7 @@ use Rattle.rds_session.specs.declared.content.Expected.TheVariants as expecteds
 use Rattle.rds_session.specs.declared.kinds.ByeCode.{ByeCode}
 use Rattle.rds_session.specs.declared.kinds.MessageKind.{MessageKind}
 use Rattle.rds_session.specs.declared.kinds.MessageKind.TheVariants as kinds
+use Rattle.rds_session.specs.declared.talk.Side.{Side}
 use Rattle.rds_session.specs.declared.talk.Stop.{Stop}
 use Rattle.rds_session.specs.declared.talk.Stop.TheVariants.{Refused}
 use Rattle.rds_session.specs.Bodies.{hello_in, digest_in, answer_in}
@@ -32,11 +34,11 @@ content_value (contents.Digest digest) = OfDigest digest
 content_value (contents.Delta answer) = OfDelta answer
 content_value (contents.Bye code) = OfBye code
 
--- the message that is waited for, of the replicas of the longer roster
+-- the message that is waited for, of the replicas of the longer roster and in the peer's format
 abbrev pub expected_of : ReplicaValue → Awaited → Expected
-expected_of kept ForHello = expecteds.Hello
+expected_of kept (ForHello side) = expecteds.Hello side
 expected_of kept (ForDigest peer) = expecteds.Digest (replicas_of kept peer.roster)
-expected_of kept (ForDelta peer digest) = expecteds.Delta (replicas_of kept peer.roster)
+expected_of kept (ForDelta peer digest) = expecteds.Delta peer.format (replicas_of kept peer.roster)
 expected_of kept ForBye = expecteds.Bye
 
 -- ---- reading
@@ -45,8 +47,8 @@ abbrev pub read_as : {A : Type 0} → (A → ContentValue) → Result A Fault �
 read_as f (Ok x) = Ok (f x)
 read_as f (Err e) = Err e
 
-abbrev pub hello_read : List ℕ → Result ContentValue Fault
-hello_read body = if other_version body then Err WrongVersion else read_as OfHello (hello_in body)
+abbrev pub hello_read : Side → List ℕ → Result ContentValue Fault
+hello_read side body = if other_version side body then Err WrongVersion else read_as OfHello (hello_in body)
 
 abbrev pub code_read : Option ByeCode → List ℕ → Result ContentValue Fault
 code_read None rest = Err Bad
@@ -60,9 +62,9 @@ bye_read (b ∷ rest) = code_read (bye_of b) rest
 -- a BYE at any time, another message where it is waited for
 abbrev pub body_read : Expected → MessageKind → List ℕ → Result ContentValue Fault
 body_read expected kinds.Bye body = bye_read body
-body_read expecteds.Hello kinds.Hello body = hello_read body
+body_read (expecteds.Hello side) kinds.Hello body = hello_read side body
 body_read (expecteds.Digest replicas) kinds.Digest body = read_as OfDigest (digest_in replicas body)
-body_read (expecteds.Delta replicas) kinds.Delta body = read_as OfDelta (answer_in replicas body)
+body_read (expecteds.Delta format replicas) kinds.Delta body = read_as OfDelta (answer_in format replicas body)
 body_read expected kind body = Err OutOfTurn
 
 abbrev pub kind_read : Expected → Option MessageKind → List ℕ → Result ContentValue Fault
@@ -78,18 +80,18 @@ message_read expected (n ∷ body) = kind_read expected (kind_of n) body
 
 abbrev pub content_judged : ReplicaValue → Awaited → ContentValue → Result Said Stop
 content_judged kept turn (OfBye code) = bye_judged code turn
-content_judged kept ForHello (OfHello hello) = hello_judged kept hello
+content_judged kept (ForHello side) (OfHello hello) = hello_judged side kept hello
 content_judged kept (ForDigest peer) (OfDigest digest) = Ok (Learns peer digest)
 content_judged kept (ForDelta peer digest) (OfDelta answer) = delta_judged kept peer answer
 content_judged kept turn content = Err (Refused OutOfTurn)
 
--- an answer that was read from a body, of so many replicas
-pub record IsRead (replicas : ℕ) (answer : AnswerValue) : Type 0 where
+-- an answer that was read from a body in a format, of so many replicas
+pub record IsRead (format : Format) (replicas : ℕ) (answer : AnswerValue) : Type 0 where
   pub body : List ℕ
-  pub read : answer_in replicas body ≡ Ok answer
+  pub read : answer_in format replicas body ≡ Ok answer
   pub value : IsAnswerOf replicas answer
 
--- where an answer is waited for, it was read of the replicas of the longer roster
+-- where an answer is waited for, it was read of the replicas of the longer roster, in the peer's format
 abbrev pub IsReadFor : ReplicaValue → Awaited → ContentValue → Type 0
-IsReadFor kept (ForDelta peer digest) (OfDelta answer) = IsRead (replicas_of kept peer.roster) answer
+IsReadFor kept (ForDelta peer digest) (OfDelta answer) = IsRead peer.format (replicas_of kept peer.roster) answer
 IsReadFor kept turn content = Unit {0}

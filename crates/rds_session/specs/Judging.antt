@@ -1,5 +1,5 @@
 -- What a whole message is taken as, or why it ends the session.
-use Rattle.std.specs.Prelude.{◌≡◌, ℕ, ◌==◌, ◌||◌, nat_lt, Bool, true, false, List, [], ◌∷◌, length, Option, Some, None, Result, Ok, Err, if◌then◌else◌}
+use Rattle.std.specs.Prelude.{◌≡◌, ℕ, ◌==◌, ◌||◌, nat_lt, Bool, false, List, [], ◌∷◌, length, Option, Some, None, is_none, Result, Ok, Err, if◌then◌else◌}
 use Rattle.std.specs.Str.{bytes_eq}
 use Rattle.std.specs.List.{starts_with}
 use Rattle.rds_names.specs.declared.fault.Fault.{Fault}
@@ -22,15 +22,19 @@ use Rattle.rds_session.specs.declared.talk.Act.TheVariants as acts
 use Rattle.rds_session.specs.declared.talk.Stop.{Stop}
 use Rattle.rds_session.specs.declared.talk.Stop.TheVariants.{Refused, Left}
 use Rattle.rds_codec.specs.AnswerValues.{AnswerValue}
+use Rattle.rds_codec.specs.HelloTexts.{format_spoken}
+use Rattle.rds_codec.specs.declared.formats.Format.{Format}
+use Rattle.rds_codec.specs.declared.formats.Format.TheVariants.{Two}
 use Rattle.rds_codec.specs.declared.hellos.Hello.{Hello}
 use Rattle.rds_codec.specs.declared.hellos.TheConstants.{VERSION}
 use Rattle.rds_session.specs.Bodies.{hello_in, digest_in, answer_in}
 use Rattle.rds_session.specs.Checked.{passes}
 use Rattle.rds_session.specs.Messages.{kind_of, bye_of, hello_message, digest_message, delta_message, bye_message, fault_of}
 
--- the message that is waited for, with what the earlier ones said: who the peer is, and its digest
+-- the message that is waited for: a HELLO to this side, or another with what the earlier ones said, who the peer is and
+-- its digest
 pub data Awaited : Type 0 where
-  ForHello : Awaited
+  ForHello : (side : Side) → Awaited
   ForDigest : (peer : Peer) → Awaited
   ForDelta : (peer : Peer) (digest : DigestValue) → Awaited
   ForBye : Awaited
@@ -43,7 +47,7 @@ pub data Said : Type 0 where
   Finishes : Said
 
 abbrev pub wait_of : {S : Type 0} → Turn S → Awaited
-wait_of turns.Hello = ForHello
+wait_of (turns.Hello side) = ForHello side
 wait_of (turns.Digest peer) = ForDigest peer
 wait_of (turns.Delta peer digest) = ForDelta peer digest
 wait_of turns.Bye = ForBye
@@ -88,26 +92,40 @@ one_begins ns ms = starts_with bytes_eq ms ns || starts_with bytes_eq ns ms
 abbrev pub longer_than : RosterValue → RosterValue → Option RosterValue
 longer_than own other = if nat_lt (length own.names) (length other.names) then Some other else None
 
--- who says hello
-abbrev pub peer_of : ReplicaValue → Hello → Peer
-peer_of kept h = record { number = h.own; roster = longer_than kept.roster h.roster }
+-- the format that a side speaks with a peer of a version: a server any that its client speaks, a client format 2 alone
+abbrev pub format_with : Side → ℕ → Option Format
+format_with Server version = format_spoken version
+format_with Client version = if version == VERSION then Some Two else None
+
+-- who says hello, and the format that is spoken with it
+abbrev pub peer_of : ReplicaValue → Hello → Format → Peer
+peer_of kept h format = record { number = h.own; roster = longer_than kept.roster h.roster; format = format }
 
 -- the group, then the names and their order, then the own number
-abbrev pub hello_judged : ReplicaValue → Hello → Result Said Stop
-hello_judged kept h =
+abbrev pub member_judged : ReplicaValue → Hello → Format → Result Said Stop
+member_judged kept h format =
     if bytes_eq h.roster.group kept.roster.group
     then (if one_begins h.roster.names kept.roster.names
-    then (if h.own == kept.own then Err (Refused SameReplica) else Ok (Greets (peer_of kept h)))
+    then (if h.own == kept.own then Err (Refused SameReplica) else Ok (Greets (peer_of kept h format)))
     else Err (Refused WrongRoster))
     else Err (Refused WrongGroup)
 
--- another version is refused whatever follows it
-abbrev pub other_version : List ℕ → Bool
-other_version [] = false
-other_version (v ∷ rest) = if v == VERSION then false else true
+abbrev pub format_judged : ReplicaValue → Hello → Option Format → Result Said Stop
+format_judged kept h None = Err (Refused WrongVersion)
+format_judged kept h (Some format) = member_judged kept h format
 
-abbrev pub hello_came : ReplicaValue → List ℕ → Result Said Stop
-hello_came kept body = if other_version body then Err (Refused WrongVersion) else read_then (hello_in body) (hello_judged kept)
+-- the version, then who speaks
+abbrev pub hello_judged : Side → ReplicaValue → Hello → Result Said Stop
+hello_judged side kept h = format_judged kept h (format_with side h.version)
+
+-- another version is refused whatever follows it
+abbrev pub other_version : Side → List ℕ → Bool
+other_version side [] = false
+other_version side (version ∷ rest) = is_none (format_with side version)
+
+abbrev pub hello_came : Side → ReplicaValue → List ℕ → Result Said Stop
+hello_came side kept body =
+    if other_version side body then Err (Refused WrongVersion) else read_then (hello_in body) (hello_judged side kept)
 
 -- the longer of two rosters: the own one, or the other where it is there
 abbrev pub roster_among : RosterValue → Option RosterValue → RosterValue
@@ -129,12 +147,13 @@ delta_judged kept peer a =
     else Err (Refused WrongAsker)
 
 abbrev pub delta_came : ReplicaValue → Peer → List ℕ → Result Said Stop
-delta_came kept peer body = read_then (answer_in (replicas_of kept peer.roster) body) (delta_judged kept peer)
+delta_came kept peer body =
+    read_then (answer_in peer.format (replicas_of kept peer.roster) body) (delta_judged kept peer)
 
 -- a body comes: a BYE at any time, another message where it is waited for
 abbrev pub body_came : ReplicaValue → MessageKind → Awaited → List ℕ → Result Said Stop
 body_came kept kinds.Bye turn body = bye_came turn body
-body_came kept kinds.Hello ForHello body = hello_came kept body
+body_came kept kinds.Hello (ForHello side) body = hello_came side kept body
 body_came kept kinds.Digest (ForDigest peer) body = digest_came kept peer body
 body_came kept kinds.Delta (ForDelta peer digest) body = delta_came kept peer body
 body_came kept kind turn body = Err (Refused OutOfTurn)
@@ -158,10 +177,12 @@ turn_after turn (Learns peer digest) = ForDelta peer digest
 turn_after turn (Receives delta roster) = ForBye
 turn_after turn Finishes = turn
 
--- the messages that answer it
+-- the messages that answer it, in the peer's format
 abbrev pub replies_of : Side → ReplicaValue → Awaited → Said → List (List ℕ)
-replies_of Server kept turn (Learns peer digest) = hello_message kept ∷ digest_message kept ∷ delta_message kept peer.number digest ∷ []
-replies_of Client kept (ForDelta peer digest) (Receives delta roster) = delta_message kept peer.number digest ∷ bye_message byes.Done ∷ []
+replies_of Server kept turn (Learns peer digest) =
+    hello_message kept peer.format ∷ digest_message kept ∷ delta_message kept peer.format peer.number digest ∷ []
+replies_of Client kept (ForDelta peer digest) (Receives delta roster) =
+    delta_message kept peer.format peer.number digest ∷ bye_message byes.Done ∷ []
 replies_of Server kept turn Finishes = bye_message byes.Done ∷ []
 replies_of _ _ _ _ = []
 

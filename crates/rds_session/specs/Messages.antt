@@ -4,10 +4,11 @@ use Rattle.rds_names.specs.declared.fault.Fault.{Fault}
 use Rattle.rds_names.specs.declared.fault.Fault.TheVariants.{Memory, WrongVersion, WrongGroup, WrongRoster, SameReplica, PeerEnded}
 use Rattle.rds_state.specs.Fits.{ReplicaValue}
 use Rattle.rds_delta.specs.Digested.{DigestValue, digest_of}
-use Rattle.rds_codec.specs.AnswerTexts.{answer, answer_text}
+use Rattle.rds_codec.specs.AnswerTexts.{answer}
 use Rattle.rds_codec.specs.DigestTexts.{digest_text}
-use Rattle.rds_codec.specs.HelloTexts.{hello_text}
-use Rattle.rds_codec.specs.declared.hellos.TheConstants.{VERSION}
+use Rattle.rds_codec.specs.FormatTexts.{answer_text_in}
+use Rattle.rds_codec.specs.HelloTexts.{hello_text, version_of}
+use Rattle.rds_codec.specs.declared.formats.Format.{Format}
 use Rattle.rds_session.specs.declared.kinds.ByeCode.{ByeCode}
 use Rattle.rds_session.specs.declared.kinds.ByeCode.TheVariants as byes
 use Rattle.rds_session.specs.declared.kinds.MessageKind.{MessageKind}
@@ -30,17 +31,20 @@ kind_of n =
     else (if n == 4 then Some kinds.Bye
     else None)))
 
--- HELLO: who speaks
-abbrev pub hello_message : ReplicaValue → List ℕ
-hello_message kept = number_of kinds.Hello ∷ hello_text (record { version = VERSION; roster = kept.roster; own = kept.own })
+-- HELLO: who speaks, and by its version in which format
+abbrev pub hello_message : ReplicaValue → Format → List ℕ
+hello_message kept format =
+    number_of kinds.Hello ∷ hello_text (record { version = version_of format; roster = kept.roster; own = kept.own })
 
 -- DIGEST: what is kept here
 abbrev pub digest_message : ReplicaValue → List ℕ
 digest_message kept = number_of kinds.Digest ∷ digest_text (digest_of kept.state)
 
--- DELTA: what is kept here and the digest lacks, with its certificate, for the replica that asked
-abbrev pub delta_message : ReplicaValue → ℕ → DigestValue → List ℕ
-delta_message kept asker digest = let delta = least_state kept.state digest in number_of kinds.Delta ∷ answer_text (answer asker delta (certificate_of digest delta))
+-- DELTA: what is kept here and the digest lacks, with its certificate, in a format, for the replica that asked
+abbrev pub delta_message : ReplicaValue → Format → ℕ → DigestValue → List ℕ
+delta_message kept format asker digest =
+    let delta = least_state kept.state digest in
+    number_of kinds.Delta ∷ answer_text_in format (answer asker delta (certificate_of digest delta))
 
 -- the byte of a BYE
 abbrev pub byte_of : ByeCode → ℕ

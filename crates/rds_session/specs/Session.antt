@@ -3,6 +3,7 @@ use Rattle.std.specs.Prelude.{ℕ, Bool, true, false, List, [], ◌∷◌, ◌++
 use Rattle.rds_names.specs.declared.fault.Fault.{Fault}
 use Rattle.rds_names.specs.declared.fault.Fault.TheVariants.{TooLong, PeerEnded}
 use Rattle.rds_state.specs.Fits.{ReplicaValue}
+use Rattle.rds_codec.specs.declared.formats.Format.TheVariants.{Two}
 use Rattle.rds_session.specs.declared.kinds.ByeCode.TheVariants as byes
 use Rattle.rds_session.specs.declared.talk.Side.{Side}
 use Rattle.rds_session.specs.declared.talk.Side.TheVariants.{Client, Server}
@@ -28,7 +29,15 @@ pub record Standing : Type 0 where
   pub under : Under
 
 abbrev pub fresh : Side → ReplicaValue → Standing
-fresh side kept = record { side = side; kept = kept; begun = false; turn = ForHello; received = None; ended = Going; under = start }
+fresh side kept = record {
+  side = side;
+  kept = kept;
+  begun = false;
+  turn = ForHello side;
+  received = None;
+  ended = Going;
+  under = start;
+}
 
 abbrev pub failure : Standing → Fault → Standing
 failure s f = record s { ended = Failed f; under = start }
@@ -93,7 +102,7 @@ run [] s = (s, [])
 run (b ∷ bs) s = when_going s.ended (then_more (byte_comes s b) (run bs)) (s, [])
 
 abbrev pub opening : Side → ReplicaValue → List (List ℕ)
-opening Client kept = hello_message kept ∷ digest_message kept ∷ []
+opening Client kept = hello_message kept Two ∷ digest_message kept ∷ []
 opening Server kept = []
 
 -- what the first step sends, whatever its input

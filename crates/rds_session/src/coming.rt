@@ -7,13 +7,16 @@ ghost use Rattle.rds_codec.specs.Decoding.{all_of};
 ghost use Rattle.rds_session.specs.Coming.{HoldsText};
 
 use crate::came::Came;
+use rds_codec::Format;
 use rds_keep::{Fed, Feed};
 use rds_names::Fault;
 use std::alloc::Global;
 use std::marker::Model;
 
-/// What has come of a text of a roster of so many replicas: a feed of its bytes, or why no text begins with them.
+/// What has come of a text in a format, of a roster of so many replicas: a feed of its bytes, or why no text begins
+/// with them.
 pub struct Coming<U: Fed> {
+    format: Format,
     replicas: u16,
     text: Result<Feed<U>, Fault>,
     came: Came,
@@ -23,6 +26,7 @@ pub struct Coming<U: Fed> {
 impl<U: Fed> Drop for Coming<U> {
     fn drop(self) {
         let Coming {
+            format: _,
             replicas: _,
             text: _text,
             came: _came,
@@ -35,9 +39,9 @@ impl<U: Fed> Model for Coming<U> {
 
     ghost Value = { ComingValue };
 
-    ghost view = { λ c. record { replicas = c.replicas; came = c.came.bytes } };
+    ghost view = { λ c. record { format = c.format; replicas = c.replicas; came = c.came.bytes } };
 
-    ghost invariant = { λ c. HoldsText U.finish (U.reader c.replicas) c.text c.came.bytes };
+    ghost invariant = { λ c. HoldsText U.finish (U.reader c.format c.replicas) c.text c.came.bytes };
 }
 
 // The feed with the next bytes. But for want of memory, a fault comes in its place.
@@ -66,22 +70,25 @@ fn fed_with<U: Fed>(
 
 impl<U: Fed> Coming<U> {
     /// Nothing of a text. Takes no memory.
-    pub fn new(alloc: Global, replicas: u16) -> Coming<U>
-        ensures { result ≡ record { replicas = replicas; came = [] } }
+    pub fn new(alloc: Global, format: Format, replicas: u16) -> Coming<U>
+        ensures { result ≡ record { format = format; replicas = replicas; came = [] } }
     {
         Coming {
+            format,
             replicas,
-            text: Ok(Feed::new(alloc, replicas)),
+            text: Ok(Feed::new(alloc, format, replicas)),
             came: Came::nothing(),
         }
     }
 
     /// The same with the next bytes. What they can't become is refused at the end.
     pub fn add(self, piece: &[u8]) -> Result<Coming<U>, Fault>
-        ensures ok { IfOk result (λ new. new ≡ record { replicas = self.replicas; came = self.came ++ piece.now }) }
+        ensures ok { IfOk result (λ new. new
+            ≡ record { format = self.format; replicas = self.replicas; came = self.came ++ piece.now }) }
         ensures memory { IfErr result (λ e. e ≡ Memory) }
     {
         let Coming {
+            format,
             replicas,
             text,
             came,
@@ -90,6 +97,7 @@ impl<U: Fed> Coming<U> {
         came.add(piece);
         let text = fed_with(text, piece)?;
         Ok(Coming {
+            format,
             replicas,
             text,
             came,
@@ -99,9 +107,10 @@ impl<U: Fed> Coming<U> {
     /// What reading all of the bytes gives.
     pub fn end(self) -> Result<U::Whole, Fault>
         ensures read { length self.came ≤ LIMIT
-            → Reads (λ v. v) result (all_of (U.reader self.replicas) self.came) }
+            → Reads (λ v. v) result (all_of (U.reader self.format self.replicas) self.came) }
     {
         let Coming {
+            format: _,
             replicas: _,
             text,
             came: _came,

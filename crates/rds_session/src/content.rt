@@ -1,17 +1,19 @@
 //! What whole messages say.
 use crate::kinds::ByeCode;
-use rds_codec::{Answer, Hello};
+use crate::talk::Side;
+use rds_codec::{Answer, Format, Hello};
 use rds_delta::Digest;
 use rds_dots::DotSet;
 
 /// The message that is waited for, with what its body is read by.
 #[derive(Clone, Copy, Debug, PartialEq, Eq)]
 pub enum Expected {
-    Hello,
+    /// A HELLO to this side.
+    Hello { side: Side },
     /// A digest of a roster of so many replicas.
     Digest { replicas: u16 },
-    /// An answer of a roster of so many replicas.
-    Delta { replicas: u16 },
+    /// An answer in a format, of a roster of so many replicas.
+    Delta { format: Format, replicas: u16 },
     Bye,
 }
 

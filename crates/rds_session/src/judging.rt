@@ -4,7 +4,7 @@ ghost use Rattle.rds_codec.specs.declared.limits.TheConstants.{LIMIT};
 ghost use Rattle.rds_delta.specs.Digested.{digest_of};
 ghost use Rattle.rds_names.specs.declared.fault.Fault.TheVariants.{Memory};
 ghost use Rattle.rds_session.specs.Contents.{IsRead, IsReadFor, content_judged, content_value, expected_of};
-ghost use Rattle.rds_session.specs.Judging.{Awaited, Learns, StopsByNoDevice, Judges, wait_of, bye_judged, hello_judged, delta_judged, verdict, one_begins, longer_than, replicas_of};
+ghost use Rattle.rds_session.specs.Judging.{Awaited, Learns, StopsByNoDevice, Judges, wait_of, bye_judged, hello_judged, member_judged, delta_judged, verdict, one_begins, longer_than, replicas_of};
 ghost use Rattle.rds_session.specs.Checked.{passes};
 ghost use Rattle.rds_session.specs.Received.{Brings, KnowsPeer, IsLongerIfThere};
 ghost use Rattle.rds_delta.specs.Claims.{IsCertificate};
@@ -19,8 +19,8 @@ ghost use Rattle.rds_session.specs.declared.talk.Stop.TheVariants.{Left, Refused
 use crate::content::{Content, Expected};
 use crate::kinds::ByeCode;
 use crate::message::Message;
-use crate::talk::{Act, Peer, Stop, Turn, copy_of};
-use rds_codec::{Answer, Hello};
+use crate::talk::{Act, Peer, Side, Stop, Turn, copy_of, format_with};
+use rds_codec::{Answer, Format, Hello};
 use rds_delta::{Certificate, Digest, check};
 use rds_dots::DotSet;
 use rds_names::{Fault, Roster};
@@ -96,20 +96,22 @@ pub fn expected_of<S: DotSet>(kept: &Replica<S>, turn: &Turn<S>) -> Expected
     ensures { result ≡ expected_of kept.now (wait_of turn.now) }
 {
     match turn {
-        Turn::Hello => Expected::Hello,
+        Turn::Hello { side } => Expected::Hello { side: *side },
         Turn::Digest { peer } => Expected::Digest {
             replicas: replicas_of(kept, &peer.roster),
         },
         Turn::Delta { peer, .. } => Expected::Delta {
+            format: peer.format,
             replicas: replicas_of(kept, &peer.roster),
         },
         Turn::Bye => Expected::Bye,
     }
 }
 
-fn judge_hello<S: DotSet>(kept: &Replica<S>, hello: Hello) -> Result<Act<S>, Stop>
+// Who says hello, in a format that is spoken with it.
+fn judge_member<S: DotSet>(kept: &Replica<S>, hello: Hello, format: Format) -> Result<Act<S>, Stop>
     ensures known { IfErr result StopsByNoDevice }
-    ensures judges { Judges result (hello_judged kept.now hello) }
+    ensures judges { Judges result (member_judged kept.now hello format) }
     ensures brings { (turn : Awaited) → IfOk result (Brings kept.now turn) }
 {
     if hello.roster.group() != kept.roster().group() {
@@ -124,7 +126,19 @@ fn judge_hello<S: DotSet>(kept: &Replica<S>, hello: Hello) -> Result<Act<S>, Sto
     Ok(Act::Greet(Peer {
         number: hello.own,
         roster: longer_than(kept.roster(), hello.roster),
+        format,
     }))
+}
+
+fn judge_hello<S: DotSet>(side: Side, kept: &Replica<S>, hello: Hello) -> Result<Act<S>, Stop>
+    ensures known { IfErr result StopsByNoDevice }
+    ensures judges { Judges result (hello_judged side kept.now hello) }
+    ensures brings { (turn : Awaited) → IfOk result (Brings kept.now turn) }
+{
+    match format_with(side, hello.version) {
+        Some(format) => judge_member(kept, hello, format),
+        None => Err(Stop::Refused(Fault::WrongVersion)),
+    }
 }
 
 fn judge_digest<S: DotSet>(alloc: Global, peer: &Peer, digest: Digest<S>) -> Result<Act<S>, Stop>
@@ -138,6 +152,7 @@ fn judge_digest<S: DotSet>(alloc: Global, peer: &Peer, digest: Digest<S>) -> Res
         Peer {
             number: peer.number,
             roster,
+            format: peer.format,
         },
         digest,
     ))
@@ -170,7 +185,7 @@ fn judge_delta<S: DotSet>(
     ensures known { IfErr result StopsByNoDevice }
     ensures judges { Judges result (delta_judged kept.now peer.now answer) }
     ensures brings { (turn : Awaited) → IsLongerIfThere kept.now.roster peer.now.roster
-        → IsRead (replicas_of kept.now peer.now.roster) answer → IfOk result (Brings kept.now turn) }
+        → IsRead peer.now.format (replicas_of kept.now peer.now.roster) answer → IfOk result (Brings kept.now turn) }
 {
     if answer.asker != kept.own() {
         return Err(Stop::Refused(Fault::WrongAsker));
@@ -198,7 +213,7 @@ fn judge_content<S: DotSet>(
     match content {
         Content::Bye(code) => judge_code(turn, code),
         Content::Hello(hello) => match turn {
-            Turn::Hello => judge_hello(kept, hello),
+            Turn::Hello { side } => judge_hello(*side, kept, hello),
             _ => Err(Stop::Refused(Fault::OutOfTurn)),
         },
         Content::Digest(digest) => match turn {

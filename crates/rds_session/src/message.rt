@@ -15,7 +15,8 @@ use crate::came::Came;
 use crate::coming::Coming;
 use crate::content::{Content, Expected};
 use crate::kinds::{ByeCode, MessageKind};
-use rds_codec::VERSION;
+use crate::talk::{Side, format_with};
+use rds_codec::Format;
 use rds_dots::DotSet;
 use rds_names::Fault;
 use rds_text_feeds::{UnfinishedAnswer, UnfinishedDigest, UnfinishedHello};
@@ -24,9 +25,9 @@ use std::marker::Model;
 
 /// What has come of a message of which a byte has come.
 pub enum Body<S: DotSet> {
-    /// It is a HELLO, of which no version has come.
-    Greeting,
-    /// It is a HELLO of the version that is spoken.
+    /// It is a HELLO to this side, of which no version has come.
+    Greeting { side: Side },
+    /// It is a HELLO of a version that is spoken.
     Hello(Coming<UnfinishedHello>),
     /// It is a DIGEST.
     Digest(Coming<UnfinishedDigest<S>>),
@@ -44,7 +45,7 @@ pub enum Body<S: DotSet> {
 impl<S: DotSet> Drop for Body<S> {
     fn drop(self) {
         match self {
-            Body::Greeting | Body::Parting | Body::Bye(_) | Body::Refused(_) => {}
+            Body::Greeting { side: _ } | Body::Parting | Body::Bye(_) | Body::Refused(_) => {}
             Body::Hello(_text) => {}
             Body::Digest(_text) => {}
             Body::Delta(_text) => {}
@@ -53,17 +54,17 @@ impl<S: DotSet> Drop for Body<S> {
 }
 
 // What a HELLO is with the first bytes of its body. Another version is refused whatever follows it.
-fn greeting<S: DotSet>(alloc: Global, run: &[u8]) -> Result<Body<S>, Fault>
-    ensures ok { IfOk result (λ new. HoldsBody expecteds.Hello new (number_of kinds.Hello ∷ run.now)) }
+fn greeting<S: DotSet>(alloc: Global, side: Side, run: &[u8]) -> Result<Body<S>, Fault>
+    ensures ok { IfOk result (λ new. HoldsBody (expecteds.Hello side) new (number_of kinds.Hello ∷ run.now)) }
     ensures memory { IfErr result (λ e. e ≡ Memory) }
 {
     match run {
-        [] => Ok(Body::Greeting),
+        [] => Ok(Body::Greeting { side }),
         [version, ..] => {
-            if *version != VERSION {
+            if format_with(side, *version).is_none() {
                 return Ok(Body::Refused(Fault::WrongVersion));
             }
-            Ok(Body::Hello(Coming::new(alloc, 0).add(run)?))
+            Ok(Body::Hello(Coming::new(alloc, Format::Two, 0).add(run)?))
         }
     }
 }
@@ -102,15 +103,19 @@ impl<S: DotSet> Body<S> {
             None => Body::Refused(Fault::Bad),
             Some(MessageKind::Bye) => Body::Parting,
             Some(MessageKind::Hello) => match expected {
-                Expected::Hello => Body::Greeting,
+                Expected::Hello { side } => Body::Greeting { side },
                 _ => Body::Refused(Fault::OutOfTurn),
             },
             Some(MessageKind::Digest) => match expected {
-                Expected::Digest { replicas } => Body::Digest(Coming::new(alloc, replicas)),
+                Expected::Digest { replicas } => {
+                    Body::Digest(Coming::new(alloc, Format::Two, replicas))
+                }
                 _ => Body::Refused(Fault::OutOfTurn),
             },
             Some(MessageKind::Delta) => match expected {
-                Expected::Delta { replicas } => Body::Delta(Coming::new(alloc, replicas)),
+                Expected::Delta { format, replicas } => {
+                    Body::Delta(Coming::new(alloc, format, replicas))
+                }
                 _ => Body::Refused(Fault::OutOfTurn),
             },
         }
@@ -122,7 +127,7 @@ impl<S: DotSet> Body<S> {
         ensures memory { IfErr result (λ e. e ≡ Memory) }
     {
         match self {
-            Body::Greeting => greeting(alloc, run),
+            Body::Greeting { side } => greeting(alloc, side, run),
             Body::Hello(text) => Ok(Body::Hello(text.add(run)?)),
             Body::Digest(text) => Ok(Body::Digest(text.add(run)?)),
             Body::Delta(text) => Ok(Body::Delta(text.add(run)?)),
@@ -137,7 +142,7 @@ impl<S: DotSet> Body<S> {
             → Reads content_value result (message_read expected came) }
     {
         match self {
-            Body::Greeting | Body::Parting => Err(Fault::Cut),
+            Body::Greeting { side: _ } | Body::Parting => Err(Fault::Cut),
             Body::Hello(text) => Ok(Content::Hello(text.end()?)),
             Body::Digest(text) => Ok(Content::Digest(text.end()?)),
             Body::Delta(text) => Ok(Content::Delta(text.end()?)),

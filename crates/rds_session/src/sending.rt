@@ -1,5 +1,6 @@
 //! Sending messages.
 ghost use Rattle.std.specs.Prelude.{◌≡◌, [], ◌∷◌};
+ghost use Rattle.rds_codec.specs.declared.formats.Format.TheVariants.{Two};
 ghost use Rattle.rds_session.specs.declared.kinds.ByeCode.TheVariants as byes;
 ghost use Rattle.rds_session.specs.Judging.{wait_of, saying_of, replies_of};
 ghost use Rattle.rds_session.specs.Messages.{hello_message, digest_message, delta_message, bye_message};
@@ -7,9 +8,9 @@ ghost use Rattle.rds_session.specs.Sending.{SendsBody, SendsOne, SendsAll};
 ghost use Rattle.rds_session.specs.Session.{opening};
 
 use crate::kinds::{ByeCode, MessageKind};
-use crate::talk::{Act, Side, Turn};
+use crate::talk::{Act, Peer, Side, Turn};
 use crate::writing::put_message;
-use rds_codec::{Hello, VERSION, answer, ask, encode_hello};
+use rds_codec::{Format, Hello, answer_in, ask, encode_hello};
 use rds_delta::Digest;
 use rds_dots::DotSet;
 use rds_names::Fault;
@@ -35,11 +36,12 @@ fn send_hello<S: DotSet>(
     alloc: Global,
     send: &mut Vec<u8>,
     kept: &Replica<S>,
+    format: Format,
 ) -> Result<bool, Fault>
-    ensures { SendsOne send.old.items send.new.items (hello_message kept.now) result }
+    ensures { SendsOne send.old.items send.new.items (hello_message kept.now format) result }
 {
     let hello = Hello {
-        version: VERSION,
+        version: format.version(),
         roster: kept.roster().copy(alloc)?,
         own: kept.own(),
     };
@@ -60,12 +62,13 @@ fn send_delta<S: DotSet>(
     alloc: Global,
     send: &mut Vec<u8>,
     kept: &Replica<S>,
-    peer: u8,
+    peer: &Peer,
     digest: &Digest<S>,
 ) -> Result<bool, Fault>
-    ensures { SendsOne send.old.items send.new.items (delta_message kept.now peer digest.now) result }
+    ensures { SendsOne send.old.items send.new.items
+        (delta_message kept.now peer.now.format peer.now.number digest.now) result }
 {
-    let answered = answer(alloc, peer, kept.state(), digest);
+    let answered = answer_in(alloc, peer.format, peer.number, kept.state(), digest);
     send_body(send, MessageKind::Delta, answered.map(|(body, _)| body))
 }
 
@@ -82,9 +85,10 @@ pub fn send_opening<S: DotSet>(
     send: &mut Vec<u8>,
     kept: &Replica<S>,
 ) -> Result<bool, Fault>
-    ensures { SendsAll send.old.items send.new.items (hello_message kept.now ∷ digest_message kept.now ∷ []) result }
+    ensures { SendsAll send.old.items send.new.items
+        (hello_message kept.now Two ∷ digest_message kept.now ∷ []) result }
 {
-    if !send_hello(alloc, send, kept)? {
+    if !send_hello(alloc, send, kept, Format::Two)? {
         return Ok(false);
     }
     send_digest(alloc, send, kept)
@@ -94,13 +98,13 @@ fn answer_digest<S: DotSet>(
     alloc: Global,
     send: &mut Vec<u8>,
     kept: &Replica<S>,
-    peer: u8,
+    peer: &Peer,
     digest: &Digest<S>,
 ) -> Result<bool, Fault>
-    ensures { SendsAll send.old.items send.new.items
-        (hello_message kept.now ∷ digest_message kept.now ∷ delta_message kept.now peer digest.now ∷ []) result }
+    ensures { SendsAll send.old.items send.new.items (hello_message kept.now peer.now.format ∷ digest_message kept.now
+        ∷ delta_message kept.now peer.now.format peer.now.number digest.now ∷ []) result }
 {
-    if !send_hello(alloc, send, kept)? {
+    if !send_hello(alloc, send, kept, peer.format)? {
         return Ok(false);
     }
     if !send_digest(alloc, send, kept)? {
@@ -113,11 +117,11 @@ fn answer_delta<S: DotSet>(
     alloc: Global,
     send: &mut Vec<u8>,
     kept: &Replica<S>,
-    peer: u8,
+    peer: &Peer,
     digest: &Digest<S>,
 ) -> Result<bool, Fault>
     ensures { SendsAll send.old.items send.new.items
-        (delta_message kept.now peer digest.now ∷ bye_message byes.Done ∷ []) result }
+        (delta_message kept.now peer.now.format peer.now.number digest.now ∷ bye_message byes.Done ∷ []) result }
 {
     if !send_delta(alloc, send, kept, peer, digest)? {
         return Ok(false);
@@ -140,13 +144,13 @@ pub fn send_replies<S: DotSet>(
 {
     match side {
         Side::Server => match act {
-            Act::Learn(peer, digest) => answer_digest(alloc, send, kept, peer.number, digest),
+            Act::Learn(peer, digest) => answer_digest(alloc, send, kept, peer, digest),
             Act::Finish => send_bye(send, ByeCode::Done),
             Act::Greet(_) | Act::Receive(_, _) => Ok(true),
         },
         Side::Client => match (act, turn) {
             (Act::Receive(_, _), Turn::Delta { peer, digest }) => {
-                answer_delta(alloc, send, kept, peer.number, digest)
+                answer_delta(alloc, send, kept, peer, digest)
             }
             _ => Ok(true),
         },

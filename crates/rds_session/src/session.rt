@@ -21,6 +21,9 @@ use std::marker::Model;
 /// One end of a session: it tells what was kept here, and receives what the peer has and it lacks. All that it sends
 /// comes from the replica that it was lent.
 ///
+/// A client speaks version 2, and refuses a server of another. A server speaks the version that its client says, 1 or
+/// 2, and refuses any other. Its HELLO says that version, and the deltas of both are in that version's format.
+///
 /// One of the two rosters begins the other: they are equal, or one of them has grown since. What the peer tells is read
 /// as of the replicas of the longer one, so that a peer whose roster has grown may tell of replicas that aren't named
 /// here yet.
@@ -98,7 +101,7 @@ impl<'a, S: DotSet> Session<'a, S> {
             side,
             kept,
             begun: false,
-            turn: Turn::Hello,
+            turn: Turn::Hello { side },
             received: None,
             ended: Ended::Going,
             under: None,

@@ -1,9 +1,11 @@
 //! The words of a session: who speaks, what is waited for, what was said.
 ghost use Rattle.std.specs.Prelude.{◌≡◌, IfOk, IfErr};
 ghost use Rattle.rds_names.specs.declared.fault.Fault.TheVariants.{Memory};
+ghost use Rattle.rds_session.specs.Judging.{format_with};
 ghost use Rattle.rds_session.specs.Messages.{code_of};
 
 use crate::kinds::ByeCode;
+use rds_codec::{Format, VERSION};
 use rds_delta::Digest;
 use rds_dots::DotSet;
 use rds_names::{Fault, Roster};
@@ -19,10 +21,29 @@ pub enum Side {
     Server,
 }
 
-/// Who speaks at the other end: its own number, and its roster where that is longer than the own one.
+/// The format that a side speaks with a peer that says this version: a server any that its client speaks, a client
+/// format 2 alone.
+pub fn format_with(side: Side, version: u8) -> Option<Format>
+    ensures { result ≡ format_with side version }
+{
+    match side {
+        Side::Server => Format::of_version(version),
+        Side::Client => {
+            if version == VERSION {
+                Some(Format::Two)
+            } else {
+                None
+            }
+        }
+    }
+}
+
+/// Who speaks at the other end: its own number, its roster where that is longer than the own one, and the format that
+/// is spoken with it.
 pub struct Peer {
     pub number: u8,
     pub roster: Option<Roster>,
+    pub format: Format,
 }
 
 // Written out, so that where a peer is let go a caller's proof has one call.
@@ -31,6 +52,7 @@ impl Drop for Peer {
         let Peer {
             number: _,
             roster: _roster,
+            format: _,
         } = self;
     }
 }
@@ -48,7 +70,8 @@ pub fn copy_of(alloc: Global, roster: &Option<Roster>) -> Result<Option<Roster>,
 
 /// The message that is waited for, with what the earlier ones said.
 pub enum Turn<S: DotSet> {
-    Hello,
+    /// A HELLO to this side.
+    Hello { side: Side },
     Digest { peer: Peer },
     Delta { peer: Peer, digest: Digest<S> },
     Bye,
@@ -58,7 +81,7 @@ pub enum Turn<S: DotSet> {
 impl<S: DotSet> Drop for Turn<S> {
     fn drop(self) {
         match self {
-            Turn::Hello | Turn::Bye => {}
+            Turn::Hello { side: _ } | Turn::Bye => {}
             Turn::Digest { peer: _peer } => {}
             Turn::Delta {
                 peer: _peer,

@@ -1,6 +1,7 @@
 use Rattle.std.proofs.Common.{rules, ◌≡◌, ◌∷◌, MatchResult, Ok, Err, subst}
 use Rattle.rds_state.specs.Value.{StateValue}
-use Rattle.rds_codec.specs.AnswerTexts.{answer, answer_text}
+use Rattle.rds_codec.specs.AnswerTexts.{answer}
+use Rattle.rds_codec.specs.FormatTexts.{answer_text_in}
 use Rattle.rds_session.specs.Checked.{certificate_of, least_state}
 use Rattle.rds_session.specs.Sending.{SendsOne}
 use Rattle.rds_session.proofs.Sendings.{answered}
@@ -9,6 +10,7 @@ use Rattle.rds_session.proofs.sending.send_delta.Goals as goal
 pub returns : goal.returns
 returns g c =
     let digest = c.args.digest.now in
-    let body : MatchResult c.answer-answered.result (λ p. c.map.result ≡ Ok p.0) (λ e. c.map.result ≡ Err e) = search rules in
-    subst (λ (v : StateValue). SendsOne c.args.send.now.items c.send_body.new.send.items (3 ∷ answer_text (answer c.args.peer (least_state v digest) (certificate_of digest (least_state v digest)))) c.send_body.result) c.state.ensures.state
-    (c.send_body.ensures _ (answered c.args.peer c.state.result.now digest c.answer-answered.result c.map.result body c.answer-answered.ensures.ok c.answer-answered.ensures.fault))
+    let peer = c.args.peer.now in
+    let body : MatchResult c.answer_in-answered.result (λ p. c.map.result ≡ Ok p.0) (λ e. c.map.result ≡ Err e) = search rules in
+    subst (λ (v : StateValue). SendsOne c.args.send.now.items c.send_body.new.send.items (3 ∷ answer_text_in peer.format (answer peer.number (least_state v digest) (certificate_of digest (least_state v digest)))) c.send_body.result) c.state.ensures.state
+    (c.send_body.ensures _ (answered peer.format peer.number c.state.result.now digest c.answer_in-answered.result c.map.result body c.answer_in-answered.ensures.ok c.answer_in-answered.ensures.fault))

@@ -27,5 +27,5 @@ refused_at_end finish reader text came e is holds within =
 
 pub returns-in-Err : goal.returns-in-Err
 returns-in-Err g c = rw (← c.self.view_is) (record {
-  read = refused_at_end g.U.Unfinished.finish (g.U.Fed.reader c.self.inside.replicas) c.self.inside.text c.self.inside.came.bytes c.in-Err.fault c.in-Err.is c.self.invariant;
+  read = refused_at_end g.U.Unfinished.finish (g.U.Fed.reader c.self.inside.format c.self.inside.replicas) c.self.inside.text c.self.inside.came.bytes c.in-Err.fault c.in-Err.is c.self.invariant;
 })

@@ -5,7 +5,7 @@ use Rattle.rds_session.proofs.message.Body.end.Goals as goal
 
 pub returns-in-Greeting : goal.returns-in-Greeting
 returns-in-Greeting g c = λ expected came holds within. elim c.in-Greeting.is [
-  | inl is ↦ (let h = rw is at holds in greeting_said expected came h.0 h.1)
+  | inl is ↦ (let h = rw is.1 at holds in greeting_said expected _ came h.0 h.1)
   | inr is ↦ parting_said expected came (rw is at holds)
 ]
 
@@ -17,7 +17,7 @@ returns-in-Refused g c = λ expected came holds within. refused_said expected ca
 
 pub returns-in_ok-end-in-Hello : goal.returns-in_ok-end-in-Hello
 returns-in_ok-end-in-Hello g c = λ expected came holds within.
-    (let h = rw c.in-Hello.is at holds in hello_said expected came within c.in-Hello.text (Ok c.in_ok-end-in-Hello.field-0) h.0 h.1 h.2 c.in_ok-end-in-Hello.ensures.read)
+    (let h = rw c.in-Hello.is at holds in hello_said expected came within c.in-Hello.text (Ok c.in_ok-end-in-Hello.field-0) h.0 h.1 h.2 h.3 c.in_ok-end-in-Hello.ensures.read)
 
 pub returns-in_ok-end-in-Digest : goal.returns-in_ok-end-in-Digest
 returns-in_ok-end-in-Digest g c = λ expected came holds within.
@@ -31,7 +31,7 @@ pub returns-in_err-end-in-Hello : goal.returns-in_err-end-in-Hello
 returns-in_err-end-in-Hello g c =
     let p = err_from_is_err_and c.from_residual.result c.from_residual.ensures.1 in
     rw (p.1, p.2) (λ expected came holds within.
-    (let h = rw c.in-Hello.is at holds in hello_said expected came within c.in-Hello.text (Err c.in_err-end-in-Hello.field-0.0) h.0 h.1 h.2 c.in_err-end-in-Hello.ensures.read))
+    (let h = rw c.in-Hello.is at holds in hello_said expected came within c.in-Hello.text (Err c.in_err-end-in-Hello.field-0.0) h.0 h.1 h.2 h.3 c.in_err-end-in-Hello.ensures.read))
 
 pub returns-in_err-end-in-Digest : goal.returns-in_err-end-in-Digest
 returns-in_err-end-in-Digest g c =

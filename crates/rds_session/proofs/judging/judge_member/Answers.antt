@@ -2,7 +2,7 @@ use Rattle.std.proofs.Common.{rules, ◌≡◌, true, sym, subst}
 use Rattle.rds_session.specs.Judging.{one_begins, longer_than}
 use Rattle.rds_session.specs.Received.{IsLongerIfThere}
 use Rattle.rds_session.proofs.Rosters.{longer_begins}
-use Rattle.rds_session.proofs.judging.judge_hello.Goals as goal
+use Rattle.rds_session.proofs.judging.judge_member.Goals as goal
 
 pub returns-clause-brings : goal.returns-clause-brings
 returns-clause-brings g c = λ turn.
