@@ -120,11 +120,11 @@ module _ (v : WorldValue) (i : IsWorld v) (r k : ℕ) (m : ReplicaValue) (a : As
       h ∙ sym ((λ j. least (kept j) (ranks (is j).state)) ∙ ap (λ b. least (coordinates m.state) b) (sym e))
 
   pub answer_stopped : (f : Fault) → HasNoReply n a.bytes a.asker m.state f → IsStopped v (Answer r k) f v
-  answer_stopped f (Lacks is) = no_memory v (Answer r k) f is due (λ x. x) (λ w. tt)
+  answer_stopped f (Lacks is) = no_memory v (Answer r k) f is due (λ w. tt)
   answer_stopped f (Unread read) = stopped v (Answer r k) f (λ w s.
       let q = ask_of w s in
       let is = unread_ask n q.it a q.related (ask_le w s) f read in
-      subst (Refuses v w (Answer r k)) (sym is) (NoMemory (due w s) (λ x. x) tt))
+      subst (Refuses v w (Answer r k)) (sym is) (NoMemory (due w s) tt))
   answer_stopped f (TooBig g read is long) = stopped v (Answer r k) f (λ w s.
       let q = ask_of w s in
       let e = read_ranks n q.it a q.related (ask_le w s) g read in

@@ -117,7 +117,7 @@ module _ (v : WorldValue) (i : IsWorld v) (r : ℕ) (name : List ℕ) (m : Repli
 
     may_not : (b : Bool) → are_names (m.roster.names ++ name ∷ []) ≡ b → (result : Result RosterValue Fault) → Grows b result → IfErr result (λ f. IsStopped v (Grow r name) f v)
     may_not b e (Ok roster) gives = tt
-    may_not true e (Err Memory) gives = no_memory v (Grow r name) Memory refl (λ w s. due_then w s ∙ ap (λ b. cond b None (Some BadRoster)) e) (λ x. x) (λ w. tt)
+    may_not true e (Err Memory) gives = no_memory v (Grow r name) Memory refl (λ w s. due_then w s ∙ ap (λ b. cond b None (Some BadRoster)) e) (λ w. tt)
     may_not false e (Err BadRoster) gives = stopped v (Grow r name) BadRoster (λ w s. Due BadRoster (due_then w s ∙ ap (λ b. cond b None (Some BadRoster)) e))
     may_not true e (Err f) gives = absurd cc
     may_not false e (Err f) gives = absurd cc
@@ -131,7 +131,7 @@ module _ (v : WorldValue) (i : IsWorld v) (r : ℕ) (name : List ℕ) (m : Repli
 -- ---- the world after it
 
 pub grow_memory : (v : WorldValue) (r : ℕ) (name : List ℕ) (roster : RosterValue) → MayGrow v r name roster → IsStopped v (Grow r name) Memory v
-grow_memory v r name roster may = no_memory v (Grow r name) Memory refl may.due (λ x. x) (λ w. tt)
+grow_memory v r name roster may = no_memory v (Grow r name) Memory refl may.due (λ w. tt)
 
 module _ (before now : RosterValue) (on : Begins before now) where
   places_more : (xs : List ReplicaValue) (y : ReplicaValue) → AreAtTheirPlaces before xs → Begins y.roster now × (y.own ≡ length xs) → AreAtTheirPlaces now (xs ++ y ∷ [])

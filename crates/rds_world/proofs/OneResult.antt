@@ -99,7 +99,7 @@ one_done v x w (Grow r name) s t due a b h k = grown_is v w r name a h ∙ sym (
 
 -- what is accepted is refused for want of memory alone
 accepted_too : (v : WorldValue) (w : World) (e : Event) → IsAccepted v w e → (f : Fault) → Refuses v w e f → f ≡ Memory
-accepted_too v w e a f (NoMemory due fits takes) = refl
+accepted_too v w e a f (NoMemory due takes) = refl
 accepted_too v w e a f (Due g is) = absurd (cc (is, a.due))
 accepted_too v w e a f (Long due long) = absurd (a.short long)
 
@@ -109,7 +109,7 @@ data Why (v : WorldValue) (w : World) (e : Event) (f : Fault) : Type 0 where
   by_length : refusal_of w e ≡ None → f ≡ TooLong → Why v w e f
 
 why : (v : WorldValue) (w : World) (e : Event) (f : Fault) → Refuses v w e f → Why v w e f
-why v w e f (NoMemory due fits takes) = by_memory refl
+why v w e f (NoMemory due takes) = by_memory refl
 why v w e f (Due g is) = by_model is
 why v w e f (Long due long) = by_length due refl
 

@@ -23,7 +23,7 @@ use Rattle.rds_world.specs.declared.world.World.TheInside.{Inside}
 use Rattle.rds_world.specs.World.{World, Question, after_edit, put, refusal_of, unless_there}
 use Rattle.rds_world.specs.Stored.{AskText, WorldValue}
 use Rattle.rds_world.specs.Stands.{state_of, HoldsAsk, Stands, HasModel, IsWhole, IsWorld}
-use Rattle.rds_world.specs.Events.{Refuses, NoMemory, Due, Long, SavesTooLong, TakesMemory, IsLongSnapshot}
+use Rattle.rds_world.specs.Events.{Refuses, NoMemory, Due, Long, TakesMemory, IsLongSnapshot}
 use Rattle.rds_world.specs.Steps.{IsStep, IsStopped}
 use Rattle.rds_world.proofs.Edits.{edit_is}
 use Rattle.rds_world.proofs.Standing.{names_put, names_same, places_set, stands_memory, stands_kept, stands_asked, model_after}
@@ -64,8 +64,8 @@ pub stopped : (v : WorldValue) (e : Event) (f : Fault) → ((w : World) → Stan
 stopped v e f h = record { refused = h; same = refl }
 
 -- want of memory, where nothing is in the way that is found without memory
-pub no_memory : (v : WorldValue) (e : Event) (f : Fault) → f ≡ Memory → ((w : World) → Stands v w → refusal_of w e ≡ None) → (SavesTooLong v e → ⊥) → ((w : World) → TakesMemory w e) → IsStopped v e f v
-no_memory v e f is due short takes = subst (λ x. IsStopped v e x v) (sym is) (stopped v e Memory (λ w s. NoMemory (due w s) short (takes w)))
+pub no_memory : (v : WorldValue) (e : Event) (f : Fault) → f ≡ Memory → ((w : World) → Stands v w → refusal_of w e ≡ None) → ((w : World) → TakesMemory w e) → IsStopped v e f v
+no_memory v e f is due takes = subst (λ x. IsStopped v e x v) (sym is) (stopped v e Memory (λ w s. NoMemory (due w s) (takes w)))
 
 -- a replica of the world is one of the model's
 pub of_roster : (v : WorldValue) (r : ℕ) → r < length v.memory → (w : World) → Stands v w → unless_there (nat_lt r w.replicas) None ≡ None
@@ -132,7 +132,7 @@ module _ (v : WorldValue) (i : IsWorld v) (r : ℕ) (m : ReplicaValue) (lt : r <
         (λ j. needs_room (same j) (own j) c) ∙ not_false (needs_room (coordinates m.state) m.own c) room
 
     edit_stopped_by : (f : Fault) → IsDue (refusal (coordinates m.state) m.own c) f → (needs_room (coordinates m.state) m.own c ≡ false → f ≢ Memory) → (w : World) → Stands v w → Refuses v w (Edit r c) f
-    edit_stopped_by Memory h room w s = NoMemory (edit_due w s ∙ h) (λ x. x) (edit_takes (λ e. room e refl) w s)
+    edit_stopped_by Memory h room w s = NoMemory (edit_due w s ∙ h) (edit_takes (λ e. room e refl) w s)
     edit_stopped_by f h room w s = Due f (edit_due w s ∙ h)
 
     pub edit_stopped : (x : ReplicaValue) (f : Fault) → x ≡ m → IsDue (refusal (coordinates m.state) m.own c) f → (needs_room (coordinates m.state) m.own c ≡ false → f ≢ Memory)
@@ -171,9 +171,9 @@ module _ (v : WorldValue) (i : IsWorld v) (r : ℕ) (m : ReplicaValue) (lt : r <
       let long' : LIMIT < length (snapshot_text m) = subst (λ (z : ReplicaValue). LIMIT < length (snapshot_text z)) (sym same) long in
       omega (arith, short, long')
 
-  pub save_stopped : (f : Fault) → ((f ≡ Memory) × (length (snapshot_text m) ≤ LIMIT)) ⊎ ((f ≡ TooLong) × (LIMIT < length (snapshot_text m))) → IsStopped v (Save r) f v
+  pub save_stopped : (f : Fault) → (f ≡ Memory) ⊎ ((f ≡ TooLong) × (LIMIT < length (snapshot_text m))) → IsStopped v (Save r) f v
   save_stopped f h = elim h [
-    | inl is ↦ no_memory v (Save r) f is.0 (of_roster v r lt) (short_snapshot is.1) (λ w. tt)
+    | inl is ↦ no_memory v (Save r) f is (of_roster v r lt) (λ w. tt)
     | inr l ↦ subst (λ x. IsStopped v (Save r) x v) (sym l.0) (stopped v (Save r) TooLong (λ w s. Long (is_there r w.replicas None (below w s)) (record { replica = m; there = there; long = l.1 })))
   ]
 
@@ -237,7 +237,7 @@ module _ (v : WorldValue) (i : IsWorld v) (r : ℕ) (m : ReplicaValue) (lt : r <
 
   pub ask_stopped : (f : Fault) → (f ≡ Memory) ⊎ ((f ≡ TooLong) × (LIMIT < length (digest_text (digest_of m.state)))) → IsStopped v (Ask r) f v
   ask_stopped f h = elim h [
-    | inl is ↦ no_memory v (Ask r) f is (of_roster v r lt) (λ x. x) (λ w. tt)
+    | inl is ↦ no_memory v (Ask r) f is (of_roster v r lt) (λ w. tt)
     | inr l ↦ subst (λ x. IsStopped v (Ask r) x v) (sym l.0) (stopped v (Ask r) TooLong (λ w s. Long (is_there r w.replicas None (kept_below w s)) (record { replica = m; there = there; long = l.1 })))
   ]
 

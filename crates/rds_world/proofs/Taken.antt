@@ -118,14 +118,14 @@ module _ (v : WorldValue) (i : IsWorld v) (k : ℕ) (t : AnswerText) (a : AskTex
   stopped_by : (f : Fault) → IsNotTaken n a.bytes t.bytes m.own m.state f → (w : World) (s : Stands v w) → Refuses v w (Take k) f
   stopped_by f (NoDigest d) w s =
       let is : f ≡ Memory = bytes.unread v k t a sent.answer sent.ask n le w s f d in
-      subst (Refuses v w (Take k)) (sym is) (NoMemory (due w s) (λ z. z) tt)
+      subst (Refuses v w (Take k)) (sym is) (NoMemory (due w s) tt)
   stopped_by f (NoAnswer d) w s =
       let is : f ≡ Memory = bytes.unread_reply v k t a sent.answer sent.ask n le w s f d in
-      subst (Refuses v w (Take k)) (sym is) (NoMemory (due w s) (λ z. z) tt)
+      subst (Refuses v w (Take k)) (sym is) (NoMemory (due w s) tt)
   stopped_by f (Uncertified g x dg dx is wrong) w s =
       absurd (∥∥₁_elim i.model ⊥_prop (λ h. wrong.wrong (bytes.certified v k t a sent.answer sent.ask n le h g x dg dx)))
-  stopped_by f (Untaken x dx gives) w s = subst (Refuses v w (Take k)) (sym (only_memory f x dx gives)) (NoMemory (due w s) (λ z. z) tt)
-  stopped_by f (NoCopy is) w s = subst (Refuses v w (Take k)) (sym is) (NoMemory (due w s) (λ z. z) tt)
+  stopped_by f (Untaken x dx gives) w s = subst (Refuses v w (Take k)) (sym (only_memory f x dx gives)) (NoMemory (due w s) tt)
+  stopped_by f (NoCopy is) w s = subst (Refuses v w (Take k)) (sym is) (NoMemory (due w s) tt)
 
   pub take_stopped : (x : ReplicaValue) (f : Fault) → x ≡ m → IsNotTaken n a.bytes t.bytes m.own m.state f → IsStopped v (Take k) f (record v { memory = set v.memory r x })
   take_stopped x f is h =

@@ -60,16 +60,6 @@ pub record IsAccepted (v : WorldValue) (w : World) (e : Event) : Type 0 where
   pub due : refusal_of w e ≡ None
   pub short : MakesTooLong v w e → ⊥
 
--- the snapshot that a save makes is above the limit
-abbrev pub SavesTooLong : WorldValue → Event → Type 0
-SavesTooLong v (Edit r c) = ⊥
-SavesTooLong v (Save r) = IsLongSnapshot v r
-SavesTooLong v (Crash r) = ⊥
-SavesTooLong v (Ask r) = ⊥
-SavesTooLong v (Answer s k) = ⊥
-SavesTooLong v (Take k) = ⊥
-SavesTooLong v (Grow r name) = ⊥
-
 -- the event may take memory: an edit only where it adds a live dot or a number
 abbrev pub TakesMemory : World → Event → Type 0
 TakesMemory w (Edit r c) = needs_room (w.memory r) r c ≡ true
@@ -80,10 +70,10 @@ TakesMemory w (Answer s k) = Unit {0}
 TakesMemory w (Take k) = Unit {0}
 TakesMemory w (Grow r name) = Unit {0}
 
--- What the model refuses it for; else a text that is made too long. Want of memory
--- comes after what is found without memory: what the model refuses, and a snapshot that is too long.
+-- What the model refuses it for; else a text that is made too long, or want of memory. That comes after what the
+-- model refuses, which is found without memory. It may come where a text is too long: its length is found with memory.
 pub data Refuses (v : WorldValue) (w : World) (e : Event) : Fault → Type 0 where
-  NoMemory : refusal_of w e ≡ None → (SavesTooLong v e → ⊥) → TakesMemory w e → Refuses v w e Memory
+  NoMemory : refusal_of w e ≡ None → TakesMemory w e → Refuses v w e Memory
   Due : (f : Fault) → refusal_of w e ≡ Some f → Refuses v w e f
   Long : refusal_of w e ≡ None → MakesTooLong v w e → Refuses v w e TooLong
 

@@ -249,15 +249,15 @@ fn keep_empty<S: DotSet>(alloc: Global, replica: &Replica<S>) -> Result<Kept<S>,
     keep(alloc, replica)
 }
 
-/// Writes the replica's snapshot into memory: it is kept.
+/// Writes the replica's snapshot into memory: it is kept. To find its length takes memory too, so `Memory` may come
+/// where it is too long.
 pub fn keep<S: DotSet>(alloc: Global, replica: &Replica<S>) -> Result<Kept<S>, Fault>
     ensures ok { IfOk result (λ kept. kept ≡ replica.now) }
     ensures short { OnOk result (length (snapshot_text replica.now) ≤ LIMIT) }
     ensures small { replica.now.state.lives ≡ map.empty → replica.now.state.counts ≡ map.empty
-        → length (snapshot_text replica.now) ≤ LIMIT }
+        → IfErr result (λ fault. fault ≡ Memory) }
     ensures fault { IfErr result
-        (λ fault. ((fault ≡ Memory) × (length (snapshot_text replica.now) ≤ LIMIT))
-        ⊎ ((fault ≡ TooLong) × (LIMIT < length (snapshot_text replica.now)))) }
+        (λ fault. (fault ≡ Memory) ⊎ ((fault ≡ TooLong) × (LIMIT < length (snapshot_text replica.now)))) }
 {
     let mut file = Counted::new(Vec::<u8>::new(alloc));
     match write_snapshot(alloc, replica, &mut file) {

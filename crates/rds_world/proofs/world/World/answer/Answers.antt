@@ -88,7 +88,7 @@ returns-in_err-push-clause-err g c =
     let at = asked g (goal.at.returns-in_err-push-clause-err g c).After-index-ask in
     fault_is _ _ Memory is (subst (λ (u : WorldValue). IsStopped u e Memory (record v { answers = c.push.new.self.items })) c.self.view_is
     (stopped_same v (record v { answers = c.push.new.self.items }) e Memory (λ j. record v { answers = answers j })
-    (no_memory v e Memory refl (due v c.self.invariant c.args.number c.args.question c.index.result.now c.index-ask.result.now at) (λ x. x) (λ w. tt))))
+    (no_memory v e Memory refl (due v c.self.invariant c.args.number c.args.question c.index.result.now c.index-ask.result.now at) (λ w. tt))))
 
 pub invariant_of-self-2 : goal.invariant_of-self-2
 invariant_of-self-2 g c = let x = goal.at.invariant_of-self-2 g c in (done g x.In_ok-push (asked g x.After-index-ask)).world

@@ -50,7 +50,7 @@ returns-in_err-push-clause-err g c =
     let asks = c.in_err-push.ensures.items in
     fault_is _ _ Memory is (subst (λ (u : WorldValue). IsStopped u (Ask n) Memory (record v { asks = c.push.new.self.items })) c.self.view_is
     (stopped_same v (record v { asks = c.push.new.self.items }) (Ask n) Memory (λ j. record v { asks = asks j })
-    (no_memory v (Ask n) Memory refl (of_roster v n (there g (goal.at.returns-in_err-push-clause-err g c).After-index).0) (λ x. x) (λ w. tt))))
+    (no_memory v (Ask n) Memory refl (of_roster v n (there g (goal.at.returns-in_err-push-clause-err g c).After-index).0) (λ w. tt))))
 
 pub invariant_of-self-2 : goal.invariant_of-self-2
 invariant_of-self-2 g c = let x = goal.at.invariant_of-self-2 g c in (done g x.In_ok-push (there g x.After-index)).world

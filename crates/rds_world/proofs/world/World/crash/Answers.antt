@@ -32,7 +32,7 @@ returns-in_err-replica-clause-err g c =
     let n = c.args.number in
     let lt : n < length v.memory = search rules in
     let is : c.from_residual.result ≡ Err Memory = search rules in
-    fault_is _ _ Memory is (subst (λ (u : WorldValue). IsStopped u (Crash n) Memory u) c.self.view_is (no_memory v (Crash n) Memory refl (of_roster v n lt) (λ x. x) (λ w. tt)))
+    fault_is _ _ Memory is (subst (λ (u : WorldValue). IsStopped u (Crash n) Memory u) c.self.view_is (no_memory v (Crash n) Memory refl (of_roster v n lt) (λ w. tt)))
 
 pub invariant_of-self : goal.invariant_of-self
 invariant_of-self g c =
