@@ -14,8 +14,8 @@ use Rattle.rds_state.specs.Grown.{longer}
 use Rattle.rds_state.specs.Value.{StateValue, coordinates}
 use Rattle.rds_state.proofs.FitsLemmas.{fits_more, join_fits}
 use Rattle.rds_codec.specs.DecodedSnapshots.{DecodesSnapshot}
+use Rattle.rds_codec.specs.FormatWriting.{EncodesTabled}
 use Rattle.rds_codec.specs.StateTexts.{snapshot_text}
-use Rattle.rds_codec.specs.Writing.{Encodes}
 use Rattle.rds_codec.specs.declared.limits.TheConstants.{LIMIT}
 use Rattle.rds_lines.specs.Join.{line_limit, LineRead, JoinedTo, TextOfJoined, AfterBoth}
 
@@ -43,12 +43,12 @@ text_beyond : (j : ReplicaValue) → ltb LIMIT (length (snapshot_text j)) ≡ tr
 text_beyond j long = rw long refl
 
 -- the text of what was joined is the answer, or its fault
-pub join_encoded : (rest : List ℕ) (v w j : ReplicaValue) (r : Result (Vec ℕ) Fault) → rest ≡ [] → JoinedTo v w (Ok j) → Encodes (snapshot_text j) r
+pub join_encoded : (rest : List ℕ) (v w j : ReplicaValue) (r : Result (Vec ℕ) Fault) → rest ≡ [] → JoinedTo v w (Ok j) → EncodesTabled (snapshot_text j) r
     → MatchResult r (λ x. AfterBoth rest v w (Ok x.items)) (λ e. (e ≡ Memory) ⊎ AfterBoth rest v w (Err e))
 join_encoded (b ∷ rest) v w j r none joined text = absurd cc
 join_encoded [] v w j (Ok x) none joined text = (Ok j, joined, text_within j x.items text.0 (le-ltb LIMIT (length (snapshot_text j)) text.1))
 join_encoded [] v w j (Err e) none joined text = elim text [
-  | inl m ↦ inl m.0
+  | inl m ↦ inl m
   | inr long ↦ inr (Ok j, joined, rw long.0 (text_beyond j (lt-ltb LIMIT (length (snapshot_text j)) long.1)))
 ]
 

@@ -46,7 +46,7 @@ JoinedTo v w (Err (Conflict replica seq)) =
     OneBegins v.roster w.roster × IsFirstConflict v.state.lives w.state.lives (record { replica = replica; seq = seq })
 JoinedTo v w (Err _) = ⊥
 
--- the text of what was joined in format 1, where it is within the limit
+-- the text of what was joined, in format 2, where it is within the limit
 abbrev pub TextOfJoined : Result ReplicaValue Fault → Result (List ℕ) Fault → Type 0
 TextOfJoined (Ok both) r =
     MatchBool (nat_lt LIMIT (length (snapshot_text both))) (r ≡ Err TooLong) (r ≡ Ok (snapshot_text both))

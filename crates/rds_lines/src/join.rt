@@ -18,7 +18,7 @@ use std::alloc::Global;
 /// The most bytes of a line.
 const LINE_LIMIT: usize = 536_870_912;
 
-/// The text in format 1 of the join of the two snapshots that the input's lines are in hex digits, of
+/// The text in format 2 of the join of the two snapshots that the input's lines are in hex digits, of
 /// either case. Each line may be of format 1 or 2. The join is the least above both (Shapiro, Preguiça,
 /// Baquero, Zawirski 2011), with the first one's own number and the longer of their rosters. The two
 /// own numbers may be equal.
@@ -105,7 +105,7 @@ fn longer(first: Roster, second: Roster) -> Roster
 }
 
 /// Two snapshots are joined to one thing alone. So whatever `join` answers for the lines of two
-/// snapshots, each in either format, is the text of their join in format 1, or why there is none, or
+/// snapshots, each in either format, is the text of their join in format 2, or why there is none, or
 /// want of memory.
 pub fn join_is_known()
     ensures once { IsJoinedOnce }

@@ -29,7 +29,7 @@ pub struct Amounts {
 }
 
 /// Tells whose replica this is and how much there is of it: its live entries, dots of dead ones, counters and
-/// components, and the bytes of its snapshot in format 1.
+/// components, and the bytes of its snapshot in format 2, which is what is written.
 pub fn describe<S: DotSet>(alloc: Global, kept: &Kept<S>) -> Result<Reply, Fault>
     ensures told { IfOk result (TellsOverview kept.now) }
     ensures memory { IfErr result (λ fault. fault ≡ Memory) }
@@ -51,7 +51,7 @@ fn amounts_of<S: DotSet>(alloc: Global, replica: &Replica<S>) -> Result<Amounts,
         dead: dead_count(state.lives()),
         counters: counter_count(alloc, state)?,
         components: state.components(),
-        bytes: snapshot_length(replica),
+        bytes: snapshot_length(alloc, replica)?,
     })
 }
 

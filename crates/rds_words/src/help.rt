@@ -44,7 +44,7 @@ impl Page {
 pub const ABOUT: &str =
     "Keeps replicas of one document, which are edited apart and joined in any order.";
 
-pub const VERSION: &str = "0.1.0, reads and writes format 1";
+pub const VERSION: &str = "0.1.0, reads formats 1 and 2, writes format 2";
 
 pub const AFTER_HELP: &str = "\
 'rds_node COMMAND --help' says what a command reads and writes.
