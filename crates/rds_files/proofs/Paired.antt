@@ -1,5 +1,5 @@
 -- The ends of a pair.
-use Rattle.std.proofs.Common.{◌≡◌, ◌<◌, ◌-◌, ◌^◌, ◌∙◌, ◌⊎◌, ◌||◌, ◌++◌, ℕ, Bool, List, Option, inl, inr, refl, sym, ap, subst, arith}
+use Rattle.std.proofs.Common.{◌≡◌, ◌<◌, ◌-◌, ◌^◌, ◌∙◌, ◌⊎◌, ◌||◌, ◌++◌, ℕ, Bool, List, Option, inl, inr, refl, sym, ap, subst}
 use Rattle.std.specs.Prelude.{Result, Ok, Err, OnOk, OnErr, MatchResult}
 use Rattle.std.specs.Io.KnownBytes.{Appends}
 use Rattle.rds_names.specs.declared.fault.Fault.{Fault}

@@ -1,20 +1,21 @@
--- Why a delta that was checked isn't taken.
-use Rattle.std.proofs.Common.{◌≡◌, ◌∙◌, ◌<◌, ℕ, length, List, Option, Some, None, Result, Ok, Err, IfErr, inl, inr, refl, sym, subst}
+-- What a file that holds a replica makes of a delta that was checked.
+use Rattle.std.proofs.Common.{◌≡◌, ◌∙◌, ℕ, List, [], Option, Some, None, Result, Ok, Err, IfErr, inl, inr, refl, sym, subst}
+use Rattle.std.proofs.lemmas.List.{append-nil}
 use Rattle.rds_names.specs.Roster.{RosterValue}
 use Rattle.rds_names.specs.declared.fault.Fault.{Fault}
-use Rattle.rds_names.specs.declared.fault.Fault.TheVariants.{Memory, Conflict, OwnAhead, TooLong, WrongGroup, WrongRoster}
-use Rattle.rds_codec.specs.StateTexts.{snapshot_text}
-use Rattle.rds_codec.specs.declared.limits.TheConstants.{LIMIT}
+use Rattle.rds_names.specs.declared.fault.Fault.TheVariants.{Memory, Conflict, OwnAhead, WrongGroup, WrongRoster}
 use Rattle.rds_state.specs.Fits.{ReplicaValue}
 use Rattle.rds_state.specs.Grown.{OneBegins, TakeWithGives}
-use Rattle.rds_state.specs.Value.{StateValue, coordinates}
+use Rattle.rds_state.specs.Value.{StateValue, coordinates, size}
 use Rattle.rds_delta.specs.Least.{IsAbove}
 use Rattle.rds_delta.specs.Ranks.{ranks}
 use Rattle.rds_delta.proofs.LeastLaws.{above_agrees, compatible_sym}
 use Rattle.rds_session.specs.Judging.{roster_among}
 use Rattle.rds_session.specs.Received.{Delivery, IsChecked, IsLongerIfThere}
-use Rattle.rds_files.specs.Files.{IsHeldAt, IsUnkept, KeptFile}
-use Rattle.rds_files.specs.Settling.{IsJoined, IsJoinedUnkept, IsSameReplica, RefusesAt, RefusesJoin, RefusesKnown}
+use Rattle.rds_files.specs.Files.{IsHeldAt, KeptFile, ReplacedValue}
+use Rattle.rds_files.specs.Settling.{IsJoined, IsSameReplica, KeepsTaken, RefusesAt, RefusesJoin, RefusesKnown, SettlesDelta, TakesDelta}
+use Rattle.rds_files.specs.declared.settling.Settled.{Settled}
+use Rattle.rds_files.specs.declared.settling.Settled.TheVariants.{Taken, Unkept}
 
 -- a delta comes with a roster of the replica's own group
 meet_in_group : (r s : RosterValue) → OneBegins r s → r.group ≡ s.group
@@ -49,13 +50,24 @@ refused asked held delta roster came (Err fault) checked same is gives =
 pub refused_held : (path : List ℕ) (file : KeptFile) (asked : ReplicaValue) (delivery : Delivery) (fault : Fault) → IsHeldAt path file → RefusesJoin asked file.kept delivery fault → RefusesAt path asked delivery fault
 refused_held path file asked delivery fault held why = inr (record { held = file.kept; value = held.value; why = why })
 
--- an answer has one fault
-one_fault : {T : Type 0} (result : Result T Fault) (e f : Fault) → result ≡ Err e → result ≡ Err f → e ≡ f
-one_fault result e f one other = cc
+-- what a file held under its lock took a delta, and was kept there or couldn't be
+pub taken_held : (path : List ℕ) (file : KeptFile) (asked : ReplicaValue) (delivery : Delivery) (kept : ReplicaValue) (components : ℕ) (settled : Settled) (new : Option ReplacedValue)
+    → IsHeldAt path file → IsSameReplica asked file.kept → IsJoined file.kept (roster_among asked.roster delivery.1) delivery.0 kept → components ≡ size delivery.0
+    → KeepsTaken file kept components settled new → SettlesDelta path asked delivery settled new
+taken_held path file asked delivery kept components (Taken n) (Some new) held same joined count keeps =
+    let taken : TakesDelta path asked delivery (record { path = file.path; before = file.kept; kept = kept }) =
+    record { replaced = record { at = held.at; value = held.value; place = held.place }; same = same; joined = joined } in (
+      subst (TakesDelta path asked delivery) (sym keeps.0) taken,
+      keeps.1 ∙ count,
+    )
+taken_held path file asked delivery kept components (Unkept fault) None held same joined count keeps =
+    record { held = file.kept; value = held.value; same = same; kept = kept; joined = joined; why = keeps.0; long = keeps.1 }
+taken_held path file asked delivery kept components settled new held same joined count keeps = absurd keeps
 
--- what a file held under its lock took a delta, and can't be kept
-pub unkept_held : {T : Type 0} (path : List ℕ) (file : KeptFile) (asked : ReplicaValue) (delivery : Delivery) (kept : ReplicaValue) (result : Result T Fault) (fault : Fault)
-    → IsHeldAt path file → IsSameReplica asked file.kept → IsJoined file.kept (roster_among asked.roster delivery.1) delivery.0 kept → IsUnkept kept fault
-    → result ≡ Err fault → (LIMIT < length (snapshot_text kept) → result ≡ Err TooLong) → IsJoinedUnkept asked delivery fault
-unkept_held path file asked delivery kept result fault held same joined why is long =
-    record { held = file.kept; value = held.value; same = same; kept = kept; joined = joined; why = why; long = λ above. one_fault result fault TooLong is (long above) }
+-- ---- the replica that asked for it
+
+begins_self : (r : RosterValue) → OneBegins r r
+begins_self r = inl (refl, ([], sym (append-nil r.names)))
+
+pub same_self : (asked : ReplicaValue) → IsSameReplica asked asked
+same_self asked = record { rosters = begins_self asked.roster; own = refl }

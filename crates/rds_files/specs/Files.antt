@@ -106,6 +106,10 @@ abbrev pub IsUnkept : ReplicaValue → Fault → Type 0
 IsUnkept replica fault =
     (fault ≡ Memory) ⊎ ((fault ≡ Device) ⊎ ((fault ≡ TooLong) × (LIMIT < length (snapshot_text replica))))
 
+-- why a replica isn't kept whose text is above the limit: for that, or for want of memory to find how long it is
+abbrev pub IsTooLongOrLost : Fault → Type 0
+IsTooLongOrLost fault = (fault ≡ TooLong) ⊎ (fault ≡ Memory)
+
 -- why no file can be made at a path, whatever it is to keep: by the path, since something is there, or since a call
 -- failed
 abbrev pub IsNoPlace : Fault → Type 0

@@ -11,6 +11,8 @@ use Rattle.rds_session.specs.Session.{Standing}
 use Rattle.rds_files.specs.Files.{FileValue, IsReadAt, ReplacedValue}
 use Rattle.rds_files.specs.Reports.{WritesNone, report_text, tells_fault, told_status}
 use Rattle.rds_files.specs.Settling.{Settles}
+use Rattle.rds_files.specs.declared.pairing.paired.PairedFile.{PairedFile}
+use Rattle.rds_files.specs.declared.pairing.paired.PairedFile.TheVariants.{Locked, Read}
 use Rattle.rds_files.specs.declared.settling.Settled.{Settled}
 
 -- an end of a session of this replica, on the way
@@ -22,6 +24,11 @@ pub record IsEnd (side : Side) (kept : ReplicaValue) (s : Standing) (ended : End
 -- whatever end it was, it still is
 abbrev pub StaysEnd : Standing → Ended → Standing → Ended → Type 0
 StaysEnd old was new is = (side : Side) (kept : ReplicaValue) → IsEnd side kept old was → IsEnd side kept new is
+
+-- what was read from a file of a pair
+abbrev pub file_of : {H S File Dir : Type 0} → PairedFile H S File Dir → FileValue
+file_of (Locked file) = record { path = file.path; kept = file.kept; nth = 0 }
+file_of (Read file) = file
 
 -- what is told of an end, whose replica was read from this file, and whether a fault is told: what it received was
 -- settled in what the file held then

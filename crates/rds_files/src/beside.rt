@@ -1,18 +1,16 @@
 //! A new file that is written beside the one whose place it takes.
-ghost use Rattle.std.specs.Prelude.{◌≡◌, ◌≤◌, ◌<◌, length, Err, IfErr, IfOk, OnOk};
-ghost use Rattle.rds_names.specs.declared.fault.Fault.TheVariants.{TooLong};
+ghost use Rattle.std.specs.Prelude.{◌≡◌, ◌≤◌, ◌<◌, length, IfErr, IfOk, OnOk};
 ghost use Rattle.rds_codec.specs.StateTexts.{snapshot_text};
 ghost use Rattle.rds_codec.specs.declared.limits.TheConstants.{LIMIT};
-ghost use Rattle.rds_files.specs.Files.{IsUnkept};
+ghost use Rattle.rds_files.specs.Files.{IsTooLongOrLost, IsUnkept};
 
 use crate::disk::{Disk, note};
 use crate::locks::LockFile;
-use rds_codec::encode_snapshot;
+use rds_codec::{LIMIT, snapshot_length};
 use rds_dots::DotSet;
 use rds_keep::{Counted, Kept, Place, keep_in, keep_owned};
 use rds_names::Fault;
 use rds_state::Replica;
-use std::alloc::Global;
 use std::fs::{OpenFile, OpenOptions};
 use std::io::{ErrorKind, Write};
 use std::os::unix::fs::OpenOptionsExt;
@@ -38,11 +36,11 @@ where
     ensures kept { IfOk result (λ kept. kept ≡ replica.now) }
     ensures fault { IfErr result (IsUnkept replica.now) }
     ensures limit { OnOk result (length (snapshot_text replica.now) ≤ LIMIT) }
-    ensures long { LIMIT < length (snapshot_text replica.now) → result ≡ Err TooLong }
+    ensures long { LIMIT < length (snapshot_text replica.now) → IfErr result IsTooLongOrLost }
 {
     let alloc = rt.alloc();
     let Ok(name) = format!(in alloc; "{path}.new") else {
-        return Err(first_due(alloc, replica, Fault::Memory));
+        return Err(Fault::Memory);
     };
     match Beside::create(rt, name.as_str(), path, NEW_MODE) {
         Ok(beside) => keep_in(alloc, replica, &mut Counted::new(beside)),
@@ -63,11 +61,11 @@ where
     ensures kept { IfOk result (λ kept. kept ≡ replica) }
     ensures fault { IfErr result (IsUnkept replica) }
     ensures limit { OnOk result (length (snapshot_text replica) ≤ LIMIT) }
-    ensures long { LIMIT < length (snapshot_text replica) → result ≡ Err TooLong }
+    ensures long { LIMIT < length (snapshot_text replica) → IfErr result IsTooLongOrLost }
 {
     let alloc = rt.alloc();
     let Ok(name) = format!(in alloc; "{path}.new") else {
-        return Err(first_due(alloc, &replica, Fault::Memory));
+        return Err(Fault::Memory);
     };
     match Beside::create_like(rt, name.as_str(), path, old) {
         Ok(beside) => keep_owned(alloc, replica, &mut Counted::new(beside)),
@@ -75,24 +73,17 @@ where
     }
 }
 
-// Tells that FILE.new can't be made, and answers by which fault the replica isn't kept then.
+// Tells that FILE.new can't be made, and answers by which fault the replica isn't kept then: `TooLong` goes before
+// `Device`, and so does want of memory to find how long its text is.
 fn unmade<H: Disk, S: DotSet>(rt: &H, replica: &Replica<S>, name: &str, error: &io::Error) -> Fault
     ensures fault { IsUnkept replica.now result }
-    ensures long { LIMIT < length (snapshot_text replica.now) → result ≡ TooLong }
+    ensures long { LIMIT < length (snapshot_text replica.now) → IsTooLongOrLost result }
 {
     note(rt, "cannot make", name, error);
-    first_due(rt.alloc(), replica, Fault::Device)
-}
-
-// The first fault that is due where this one came before the replica's text was measured: `TooLong` goes before all
-// others.
-fn first_due<S: DotSet>(alloc: Global, replica: &Replica<S>, fault: Fault) -> Fault
-    ensures within { length (snapshot_text replica.now) ≤ LIMIT → result ≡ fault }
-    ensures long { LIMIT < length (snapshot_text replica.now) → result ≡ TooLong }
-{
-    match encode_snapshot(alloc, replica) {
-        Err(Fault::TooLong) => Fault::TooLong,
-        _ => fault,
+    match snapshot_length(rt.alloc(), replica) {
+        Ok(length) if u128::from(LIMIT as u64) < length => Fault::TooLong,
+        Ok(_) => Fault::Device,
+        Err(fault) => fault,
     }
 }
 

@@ -3,11 +3,11 @@ ghost use Rattle.std.specs.Prelude.{◌≡◌, ◌≤◌, ◌<◌, ◌⊎◌, tr
 ghost use Rattle.rds_names.specs.declared.fault.Fault.TheVariants.{Device, TooLong, Usage};
 ghost use Rattle.rds_codec.specs.StateTexts.{IsSnapshot, snapshot_text};
 ghost use Rattle.rds_codec.specs.declared.limits.TheConstants.{LIMIT};
-ghost use Rattle.rds_files.specs.Files.{HoldsTooMuch, IsHeldAt, IsNoPlace, IsReadAt, IsReadBy, IsUnkept, IsUnread, RefusesFile, RefusesLock, is_beside, read_more};
+ghost use Rattle.rds_files.specs.Files.{HoldsTooMuch, IsHeldAt, IsNoPlace, IsReadAt, IsReadBy, IsTooLongOrLost, IsUnkept, IsUnread, RefusesFile, RefusesLock, is_beside, read_more};
 
 use crate::beside::{folder_of, keep_new, keep_over};
 use crate::disk::{Disk, note};
-use crate::locks::{LockFile, lock};
+use crate::locks::{LockFile, lock, lock_if_free};
 use crate::past::Past;
 use rds_dots::DotSet;
 use rds_keep::{Counted, Kept, read_snapshot};
@@ -114,7 +114,7 @@ impl<'a, S: DotSet> ReplicaFile<'a, S> {
 }
 
 /// A replica that was read whole from the file of a path, whose lock is held as long as this is: no other command that
-/// takes the lock changes the file. Only `open` makes one.
+/// takes the lock changes the file. Only `open` and `open_if_free` make one.
 #[derive(Drop)]
 pub struct LockedFile<'a, H: Disk, S: DotSet> {
     path: &'a str,
@@ -123,13 +123,15 @@ pub struct LockedFile<'a, H: Disk, S: DotSet> {
 }
 
 impl<'a, H: Disk, S: DotSet> Model for LockedFile<'a, H, S> {
-    ghost use Rattle.rds_files.specs.Files.{KeptFile, coded_kept_file};
+    ghost use Rattle.rds_files.specs.Files.{IsHeldAt, KeptFile, coded_kept_file};
 
     ghost Value = { KeptFile };
 
     ghost coded = { coded_kept_file };
 
     ghost view = { λ f. record { path = f.path.now; kept = f.kept } };
+
+    ghost invariant = { λ f. IsHeldAt f.path.now (record { path = f.path.now; kept = f.kept }) };
 }
 
 impl<'a, H: Disk, S: DotSet> LockedFile<'a, H, S>
@@ -143,16 +145,49 @@ where
     pub fn open(rt: &H, path: &'a str) -> Result<LockedFile<'a, H, S>, Fault>
         ensures held { IfOk result (IsHeldAt path.now) }
         ensures beside { is_beside path.now ≡ true → result ≡ Err Usage }
-        ensures fault { IfErr result (RefusesLock path.now) }
         ensures long { IfErr result (λ fault. fault ≡ TooLong → HoldsTooMuch H.File.remaining) }
+        ensures fault { IfErr result (RefusesLock path.now) }
     {
         if is_beside(path) {
             return Err(Fault::Usage);
         }
-        let mut file = lock(rt, path)?;
+        let file = lock(rt, path)?;
         check_writable(rt, path, &file)?;
+        LockedFile::read(rt, path, file)
+    }
+
+    /// The same for a command that waits for nobody. There is none where another has the lock, and where `open` refuses
+    /// the path or the file's mode.
+    pub fn open_if_free(rt: &H, path: &'a str) -> Result<Option<LockedFile<'a, H, S>>, Fault>
+        ensures held { IfOk result (λ file. IfSome file (IsHeldAt path.now)) }
+        ensures fault { IfErr result IsUnread }
+        ensures long { IfErr result (λ fault. fault ≡ TooLong → HoldsTooMuch H.File.remaining) }
+    {
+        if is_beside(path) {
+            return Ok(None);
+        }
+        match lock_if_free(rt, path)? {
+            Some(file) if is_writable(&file) => Ok(Some(LockedFile::read(rt, path, file)?)),
+            _ => Ok(None),
+        }
+    }
+
+    // Reads the file, which is locked.
+    fn read(rt: &H, path: &'a str, mut file: H::File) -> Result<LockedFile<'a, H, S>, Fault>
+        requires place { is_beside path.now ≡ false }
+        ensures held { IfOk result (IsHeldAt path.now) }
+        ensures fault { IfErr result IsUnread }
+        ensures long { IfErr result (λ fault. fault ≡ TooLong → HoldsTooMuch H.File.remaining) }
+    {
         let kept = read_kept(rt, path, &mut file)?;
         Ok(LockedFile { path, kept, file })
+    }
+
+    /// The file's path.
+    pub fn path(&self) -> &'a str
+        ensures { result.now ≡ self.now.path }
+    {
+        self.path
     }
 
     /// The replica.
@@ -166,6 +201,7 @@ where
     pub fn into_parts(self) -> (Replica<S>, EmptiedFile<'a, H, S>)
         ensures replica { result.0 ≡ self.entry.kept }
         ensures file { result.1 ≡ self.entry }
+        ensures held { IsHeldAt self.entry.path self.entry }
     {
         let LockedFile { path, kept, file } = self;
         let before = Past::of(&kept);
@@ -200,15 +236,15 @@ where
     /// anew, with the mode of FILE, synced and renamed to FILE, and the folder is synced. A FILE.new that was left
     /// behind is removed first.
     ///
-    /// Refuses `TooLong` exactly where the replica's text is above the limit, and else `Device` where a file can't be
-    /// removed, made, given its mode, written, synced or renamed. FILE is then as it was, but where only the folder
-    /// couldn't be synced.
+    /// Refuses `TooLong` where the replica's text is above the limit, and else `Device` where a file can't be removed,
+    /// made, given its mode, written, synced or renamed. `Memory` goes before both, where there is too little to find
+    /// how long the text is. FILE is then as it was, but where only the folder couldn't be synced.
     pub fn replace(self, rt: &H, replica: Replica<S>) -> Result<ReplacedFile<'a, S>, Fault>
         ensures replaced { IfOk result
             (λ file. file ≡ record { path = self.entry.path; before = self.entry.kept; kept = replica }) }
         ensures fault { IfErr result (IsUnkept replica) }
         ensures limit { OnOk result (length (snapshot_text replica) ≤ LIMIT) }
-        ensures long { LIMIT < length (snapshot_text replica) → result ≡ Err TooLong }
+        ensures long { LIMIT < length (snapshot_text replica) → IfErr result IsTooLongOrLost }
     {
         let EmptiedFile { path, before, file } = self;
         let kept = keep_over(rt, replica, path, &file)?;
@@ -279,7 +315,7 @@ impl<'a, S: DotSet> CreatedFile<'a, S> {
         ensures fault { IfErr result (RefusesFile replica.now) }
         ensures limit { OnOk result (length (snapshot_text replica.now) ≤ LIMIT) }
         ensures long { LIMIT < length (snapshot_text replica.now)
-            → IfErr result (λ fault. (fault ≡ TooLong) ⊎ IsNoPlace fault) }
+            → IfErr result (λ fault. IsTooLongOrLost fault ⊎ IsNoPlace fault) }
     {
         if is_beside(path) {
             let _ = eprintln!(rt; "{path}: ends in .new, as a file that is written beside another");
@@ -353,6 +389,11 @@ where
             Err(Fault::Device)
         }
     }
+}
+
+// Whether it is known that somebody may write it.
+fn is_writable<F: LockFile>(file: &F) -> bool {
+    matches!(file.is_read_only(), Ok(false))
 }
 
 // Reads the replica that a file holds.

@@ -1,6 +1,6 @@
 //! Replicas in files, and their sessions: over a stream with a peer, or of two files with one another. Read `disk`,
 //! `locks`, `past`, `beside` and `files` first, then `settling`, `meeting`, `reports` and `syncing`; `pairing`, with
-//! `pending`, `end` and `meeting` in its folder, stands on `files` and `settling` alone.
+//! `paired`, `pending`, `end` and `meeting` in its folder, stands on `files` and `settling` alone.
 #![tactic(auto)]
 
 mod beside;
@@ -20,6 +20,6 @@ pub use files::{
 };
 pub use locks::LockFile;
 pub use meeting::{Met, meet};
-pub use pairing::{Link, pair, pair_files};
+pub use pairing::{Link, PairedFile, pair, pair_files};
 pub use settling::{Settled, Settlement, settle};
 pub use syncing::{serve, serve_file, sync, sync_file};

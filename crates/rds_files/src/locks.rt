@@ -62,17 +62,29 @@ where
     ensures fault { IfErr result (λ e. e ≡ Device) }
 {
     'tries: for _ in 0..TRIES {
-        match try_lock(rt, path) {
-            Ok(Some(file)) => return Ok(file),
-            Ok(None) => thread::sleep(rt, Duration::from_millis(PAUSE)),
-            Err(error) => {
-                note(rt, "cannot open", path, &error);
-                return Err(Fault::Device);
-            }
+        match lock_if_free(rt, path)? {
+            Some(file) => return Ok(file),
+            None => thread::sleep(rt, Duration::from_millis(PAUSE)),
         }
     }
     let _ = eprintln!(rt; "{path}: in use by another command");
     Err(Fault::Device)
+}
+
+/// Opens what is at this path, and locks it. There is none where another has the lock: nobody is waited for. It is
+/// `Device` where it can't be opened or locked.
+pub fn lock_if_free<H: Disk>(rt: &H, path: &str) -> Result<Option<H::File>, Fault>
+where
+    H::File: LockFile,
+    ensures fault { IfErr result (λ e. e ≡ Device) }
+{
+    match try_lock(rt, path) {
+        Ok(locked) => Ok(locked),
+        Err(error) => {
+            note(rt, "cannot open", path, &error);
+            Err(Fault::Device)
+        }
+    }
 }
 
 // The locked file at this path. There is none where another has the lock, or where another file has taken its place,

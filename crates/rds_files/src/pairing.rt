@@ -3,20 +3,21 @@ ghost use Rattle.std.specs.Prelude.{◌≡◌, ◌≤◌, ◌⊎◌, ◌++◌, I
 ghost use Rattle.std.specs.Io.KnownBytes.{Appends};
 ghost use Rattle.rds_names.specs.declared.fault.Fault.TheVariants.{Device};
 ghost use Rattle.rds_keep.specs.Counted.{HasFailed, one_more};
-ghost use Rattle.rds_files.specs.Pairing.{WritesBoth, WritesPair};
+ghost use Rattle.rds_files.specs.Pairing.{WritesBoth, WritesPair, file_of};
 ghost use Rattle.rds_files.specs.Reports.{report_text};
 
 mod end;
 mod meeting;
+mod paired;
 mod pending;
 
 use crate::disk::Disk;
-use crate::files::ReplicaFile;
 use crate::locks::LockFile;
 use crate::reports::{give_up, note_report, tells_fault, write_report};
-use crate::settling::{Settled, settle_exchanged};
+use crate::settling::Settled;
 pub use meeting::Link;
 use meeting::{connect, meet};
+pub use paired::PairedFile;
 use rds_dots::DotSet;
 use rds_gaps::GapSet;
 use rds_keep::Counted;
@@ -26,10 +27,14 @@ use rds_session::Ended;
 use std::io::Write;
 use std::net::Net;
 
-/// Reads the two files, connects the program to itself, and has a session as `pair` does, of which the
-/// first is the client. Where a file can't be read, that fault is told alone, and so is `Device` where
-/// the program can't connect. Which files are opened is settled here alone: no clause ties a path to
-/// what a file holds.
+/// Reads the two files, connects the program to itself, and has a session as `pair` does, of which the first is the
+/// client. Where a file can't be read, that fault is told alone, and so is `Device` where the program can't connect.
+///
+/// Each file is read under its lock, and that is held until it is settled, so nothing is read twice. Where the lock of
+/// one isn't free, nobody is waited for: that file is read without it, and locked when it is settled. So two names of
+/// one file are answered at once. No lock is held while another is waited for.
+///
+/// Which files are opened is settled here alone: no clause ties a path to what a file holds.
 pub fn pair_files<H: Disk + Net, W: Write>(
     rt: &H,
     first: &str,
@@ -43,35 +48,36 @@ where
     ensures status { result ≤ 1 }
     ensures broken { (writer.new.failed ≡ writer.old.failed) ⊎ (result ≡ 1) }
 {
-    let client: ReplicaFile<'_, GapSet> = match ReplicaFile::open(rt, first) {
+    let client: PairedFile<'_, H, GapSet> = match PairedFile::open(rt, first) {
         Ok(file) => file,
         Err(fault) => return give_up(writer, fault),
     };
-    let server: ReplicaFile<'_, GapSet> = match ReplicaFile::open(rt, second) {
+    let server = match client.open_other(rt, second) {
         Ok(file) => file,
         Err(fault) => return give_up(writer, fault),
     };
     match connect(rt) {
-        Ok(link) => pair(rt, &client, &server, link, writer),
+        Ok(link) => pair(rt, client, server, link, writer),
         Err(fault) => give_up(writer, fault),
     }
 }
 
 /// One session of the replicas that were read from two files over the connection. What each received is settled in what
-/// its file holds then, the first's first. Then what the first received is told, and after that the second's. Where the
-/// output fails at the first, nothing of the second is told, but its delta is taken all the same. The session has at
-/// most as many turns as the writer says.
+/// its file holds then, the first's first. Where the lock is held since the file was read, that is what was read. Then
+/// what the first received is told, and after that the second's. Where the output fails at the first, nothing of the
+/// second is told, but its delta is taken all the same. The session has at most as many turns as the writer says.
 pub fn pair<H: Disk + Net, S: DotSet, W: Write>(
     rt: &H,
-    client: &ReplicaFile<'_, S>,
-    server: &ReplicaFile<'_, S>,
+    client: PairedFile<'_, H, S>,
+    server: PairedFile<'_, H, S>,
     link: Link<H::Stream>,
     writer: &mut Counted<W>,
 ) -> u8
 where
     H::File: LockFile,
     ensures written { (HasFailed writer.old writer.new → ⊥)
-        → WritesBoth client.now server.now (W.contents writer.old.inner) (W.contents writer.new.inner) result }
+        → WritesBoth (file_of client.entry) (file_of server.entry)
+        (W.contents writer.old.inner) (W.contents writer.new.inner) result }
     ensures status { result ≤ 1 }
     ensures broken { (writer.new.failed ≡ writer.old.failed) ⊎ (result ≡ 1) }
 {
@@ -83,10 +89,11 @@ where
         link,
     );
     let (first_ended, second_ended) = (left.ended, right.ended);
-    let first = settle_exchanged(rt, client, left).settled;
-    let second = settle_exchanged(rt, server, right).settled;
-    note_report(rt, client.path(), &first, first_ended);
-    note_report(rt, server.path(), &second, second_ended);
+    let (first_path, second_path) = (client.path(), server.path());
+    let first = client.settle(rt, left).settled;
+    let second = server.settle(rt, right).settled;
+    note_report(rt, first_path, &first, first_ended);
+    note_report(rt, second_path, &second, second_ended);
     let told = tells_fault(&first, first_ended) | tells_fault(&second, second_ended);
     status_of(
         write_both(writer, &first, first_ended, &second, second_ended),

@@ -2,10 +2,10 @@
 ghost use Rattle.std.specs.Prelude.{◌≡◌, ◌↔◌, None, IfErr, IsTrue, OnOk};
 ghost use Rattle.rds_session.specs.Judging.{roster_among};
 ghost use Rattle.rds_session.specs.Received.{HasChecked, IsChecked, delivery_of};
-ghost use Rattle.rds_files.specs.Settling.{IsJoined, IsSameReplica, RefusesJoin, Settles, SettlesDelta};
+ghost use Rattle.rds_files.specs.Settling.{IsJoined, IsSameReplica, KeepsTaken, RefusesJoin, Settles, SettlesDelta};
 
 use crate::disk::Disk;
-use crate::files::{LockedFile, ReplacedFile, ReplicaFile};
+use crate::files::{EmptiedFile, LockedFile, ReplacedFile, ReplicaFile};
 use crate::locks::LockFile;
 use rds_dots::DotSet;
 use rds_names::{Fault, Roster};
@@ -63,8 +63,8 @@ impl<'a, S: DotSet> Drop for Settlement<'a, S> {
 }
 
 impl<S: DotSet> Settlement<'_, S> {
-    // No file was replaced.
-    fn without_file(settled: Settled) -> Self
+    /// No file was replaced.
+    pub fn without_file(settled: Settled) -> Self
         ensures settled { result.settled ≡ settled }
         ensures file { result.file ≡ None }
     {
@@ -137,9 +137,23 @@ where
     if let Err(fault) = take_into(rt.alloc(), &mut replica, before, delta, roster) {
         return Settlement::without_file(Settled::Refused(fault));
     }
+    keep_taken(rt, file, replica, delta.components())
+}
+
+/// Keeps the replica in its file, which took a delta of so many components.
+pub fn keep_taken<'a, H: Disk, S: DotSet>(
+    rt: &H,
+    file: EmptiedFile<'a, H, S>,
+    replica: Replica<S>,
+    components: u128,
+) -> Settlement<'a, S>
+where
+    H::File: LockFile,
+    ensures { KeepsTaken file.entry replica components result.settled result.file }
+{
     match file.replace(rt, replica) {
         Ok(file) => Settlement {
-            settled: Settled::Taken(delta.components()),
+            settled: Settled::Taken(components),
             file: Some(file),
         },
         Err(fault) => Settlement::without_file(Settled::Unkept(fault)),

@@ -3,14 +3,15 @@ use Rattle.rds_state.specs.Fits.{ReplicaValue}
 use Rattle.rds_session.specs.declared.talk.Side.TheVariants.{Client, Server}
 use Rattle.rds_session.specs.Leaving.{Leaves}
 use Rattle.rds_session.specs.Received.{delivery_of}
+use Rattle.rds_files.specs.Pairing.{file_of}
 use Rattle.rds_files.specs.Reports.{tells_fault, told_status}
 use Rattle.rds_files.proofs.Paired.{both_written, told_of}
 use Rattle.rds_files.proofs.pairing.pair.Goals as goal
 
 pub returns-clause-written : goal.returns-clause-written
 returns-clause-written g c =
-    let one = told_of Client c.args.client.now _ _ c.settle_exchanged.result.settled c.settle_exchanged.result.file (subst (λ (k : ReplicaValue). Leaves Client k (delivery_of c.meet-left.result.0.received c.meet-left.result.0.roster) c.meet-left.result.0.ended) c.kept.ensures c.meet-left.ensures.client) c.settle_exchanged.ensures.settles in
-    let two = told_of Server c.args.server.now _ _ c.settle_exchanged-2.result.settled c.settle_exchanged-2.result.file (subst (λ (k : ReplicaValue). Leaves Server k (delivery_of c.meet-left.result.1.received c.meet-left.result.1.roster) c.meet-left.result.1.ended) c.kept-2.ensures c.meet-left.ensures.server) c.settle_exchanged-2.ensures.settles in
-    let due : c.from.result ≡ told_status (tells_fault c.settle_exchanged.result.settled c.meet-left.result.0.ended || tells_fault c.settle_exchanged-2.result.settled c.meet-left.result.1.ended) = search rules in
+    let one = told_of Client (file_of c.args.client) _ _ c.settle.result.settled c.settle.result.file (subst (λ (k : ReplicaValue). Leaves Client k (delivery_of c.meet-left.result.0.received c.meet-left.result.0.roster) c.meet-left.result.0.ended) c.kept.ensures c.meet-left.ensures.client) c.settle.ensures.settles in
+    let two = told_of Server (file_of c.args.server) _ _ c.settle-2.result.settled c.settle-2.result.file (subst (λ (k : ReplicaValue). Leaves Server k (delivery_of c.meet-left.result.1.received c.meet-left.result.1.roster) c.meet-left.result.1.ended) c.kept-2.ensures c.meet-left.ensures.server) c.settle-2.ensures.settles in
+    let due : c.from.result ≡ told_status (tells_fault c.settle.result.settled c.meet-left.result.0.ended || tells_fault c.settle-2.result.settled c.meet-left.result.1.ended) = search rules in
     both_written _ _ (g.W.Write.contents c.args.writer.now.inner) (g.W.Write.contents c.write_both.new.writer.inner) _ _ _ _ c.args.writer.now.failed c.write_both.new.writer.failed c.from.result c.status_of.result c.write_both.result
     one two c.write_both.ensures.bytes c.write_both.ensures.counted due c.status_of.ensures

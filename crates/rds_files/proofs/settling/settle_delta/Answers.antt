@@ -1,12 +1,12 @@
 use Rattle.rds_files.proofs.settling.settle_delta.Goals as goal
-use Rattle.rds_files.proofs.Takes.{refused_held, unkept_held}
+use Rattle.rds_files.proofs.Takes.{refused_held, taken_held}
 
 pub returns-in-Err-take_into : goal.returns-in-Err-take_into
 returns-in-Err-take_into g c = record {
   settles = rw (c.without_file-in-Err-take_into.ensures.settled, c.without_file-in-Err-take_into.ensures.file) (refused_held c.args.asked.now.path c.in-Ok.locked c.args.asked.now.kept (c.args.delta.now, c.args.roster) c.in-Err-take_into.fault (rw (← c.path.ensures) c.in-Ok.ensures.held) (rw (← c.kept.ensures, ← c.view_of-before.ensures.replica, ← c.into_parts-replica.ensures.replica) c.in-Err-take_into.ensures.err));
 }
 
-pub returns-in-Err-replace : goal.returns-in-Err-replace
-returns-in-Err-replace g c = record {
-  settles = rw (c.without_file-in-Err-replace.ensures.settled, c.without_file-in-Err-replace.ensures.file) (unkept_held c.args.asked.now.path c.in-Ok.locked c.args.asked.now.kept (c.args.delta.now, c.args.roster) c.take_into.new.held c.replace.result c.in-Err-replace.fault (rw (← c.path.ensures) c.in-Ok.ensures.held) (rw (← c.kept.ensures, ← c.view_of-before.ensures.replica, ← c.into_parts-replica.ensures.replica) c.in_default.ensures.same) (rw (← c.kept.ensures, ← c.view_of-before.ensures.replica, ← c.into_parts-replica.ensures.replica) c.in_default.ensures.ok) c.in-Err-replace.ensures.fault c.in-Err-replace.is c.replace.ensures.long);
+pub returns : goal.returns
+returns g c = record {
+  settles = taken_held c.args.asked.now.path c.in-Ok.locked c.args.asked.now.kept (c.args.delta.now, c.args.roster) c.take_into.new.held c.components.result c.keep_taken.result.settled c.keep_taken.result.file (rw (← c.path.ensures) c.in-Ok.ensures.held) (rw (← c.kept.ensures, ← c.view_of-before.ensures.replica, ← c.into_parts-replica.ensures.replica) c.in_default.ensures.same) (rw (← c.kept.ensures, ← c.view_of-before.ensures.replica, ← c.into_parts-replica.ensures.replica) c.in_default.ensures.ok) c.components.ensures (rw (← c.into_parts-replica.ensures.file) c.keep_taken.ensures);
 }
