@@ -16,8 +16,9 @@ use rds_rows::Table;
 use rds_rows::told::said;
 use rds_rows::words::first;
 use rds_session::{
-    Input, Side, a_course_is_by_messages, a_step_of_a_session_has_one_result, limit_of_messages,
-    streams_are_split_once, two_sessions, values_are_least,
+    Input, Side, a_course_is_by_messages, a_server_speaks_its_clients_version,
+    a_step_of_a_session_has_one_result, limit_of_messages, streams_are_split_once, two_sessions,
+    values_are_least,
 };
 use showing::chunks_told;
 use std::alloc::Global;
@@ -156,6 +157,7 @@ fn laws(alloc: Global) -> Result<String, Fault> {
     a_course_is_by_messages();
     a_step_of_a_session_has_one_result();
     two_sessions();
+    a_server_speaks_its_clients_version();
     values_are_least();
     limit_of_messages();
     said(alloc, "called")

@@ -14,43 +14,40 @@ use std::alloc::Global;
 /// How many replicas the group has.
 pub const REPLICAS: u16 = 3;
 
-/// What the bytes are read as, written again. A snapshot is read in either format. It is written in format 1, as
-/// `snapshot-2` in format 2, and as `snapshot-in` in its own.
+/// What the bytes are read as, written again. States and answers are of format 2, and as `state-1` and `answer-1` of format
+/// 1. A snapshot is read in either format. It is written in format 2, as `snapshot-1` in format 1, and as `snapshot-in` in
+/// its own.
 pub fn again<S: DotSet>(alloc: Global, form: &str, bytes: &[u8]) -> Result<Vec<u8>, Fault> {
     match form {
         "snapshot" => snapshot_again::<S>(alloc, bytes),
-        "snapshot-2" => tabled_snapshot::<S>(alloc, bytes),
+        "snapshot-1" => spelled_snapshot::<S>(alloc, bytes),
         "snapshot-in" => snapshot_in_its_format::<S>(alloc, bytes),
-        "state" => state_again::<S>(alloc, REPLICAS, bytes),
-        "state-2" => state_from::<S>(alloc, Format::Two, Format::Two, bytes),
+        "state" => state_again::<S>(alloc, bytes),
+        "state-1" => state_from::<S>(alloc, Format::One, Format::One, REPLICAS, bytes),
         "digest" => digest_again::<S>(alloc, bytes),
         "certificate" => certificate_again(alloc, bytes),
         "answer" => answer_again::<S>(alloc, bytes),
-        "answer-2" => tabled_answer_again::<S>(alloc, bytes),
+        "answer-1" => spelled_answer_again::<S>(alloc, bytes),
         "hello" => hello_again(alloc, bytes),
         _ => Err(Fault::Usage),
     }
 }
 
-/// The same, of a state in a group of so many replicas.
-pub fn state_again<S: DotSet>(
-    alloc: Global,
-    replicas: u16,
-    bytes: &[u8],
-) -> Result<Vec<u8>, Fault> {
-    let state: State<S> = decode_state(alloc, replicas, bytes)?;
-    encode_state(alloc, &state)
-}
-
-/// The same, of a state that is read in one format and written in another.
+/// The state of a group of so many replicas that the bytes are in one format, written in another.
 pub fn state_from<S: DotSet>(
     alloc: Global,
     from: Format,
     to: Format,
+    replicas: u16,
     bytes: &[u8],
 ) -> Result<Vec<u8>, Fault> {
-    let state: State<S> = decode_state_in(alloc, from, REPLICAS, bytes)?;
+    let state: State<S> = decode_state_in(alloc, from, replicas, bytes)?;
     encode_state_in(alloc, to, &state)
+}
+
+fn state_again<S: DotSet>(alloc: Global, bytes: &[u8]) -> Result<Vec<u8>, Fault> {
+    let state: State<S> = decode_state(alloc, REPLICAS, bytes)?;
+    encode_state(alloc, &state)
 }
 
 fn snapshot_again<S: DotSet>(alloc: Global, bytes: &[u8]) -> Result<Vec<u8>, Fault> {
@@ -58,9 +55,9 @@ fn snapshot_again<S: DotSet>(alloc: Global, bytes: &[u8]) -> Result<Vec<u8>, Fau
     encode_snapshot(alloc, &replica)
 }
 
-fn tabled_snapshot<S: DotSet>(alloc: Global, bytes: &[u8]) -> Result<Vec<u8>, Fault> {
+fn spelled_snapshot<S: DotSet>(alloc: Global, bytes: &[u8]) -> Result<Vec<u8>, Fault> {
     let replica: Replica<S> = decode_snapshot(alloc, bytes)?;
-    encode_snapshot_in(alloc, Format::Two, &replica)
+    encode_snapshot_in(alloc, Format::One, &replica)
 }
 
 fn snapshot_in_its_format<S: DotSet>(alloc: Global, bytes: &[u8]) -> Result<Vec<u8>, Fault> {
@@ -83,11 +80,11 @@ fn answer_again<S: DotSet>(alloc: Global, bytes: &[u8]) -> Result<Vec<u8>, Fault
     encode_answer(alloc, answer.asker, &answer.state, &answer.certificate)
 }
 
-fn tabled_answer_again<S: DotSet>(alloc: Global, bytes: &[u8]) -> Result<Vec<u8>, Fault> {
-    let answer: Answer<S> = decode_answer_in(alloc, Format::Two, REPLICAS, bytes)?;
+fn spelled_answer_again<S: DotSet>(alloc: Global, bytes: &[u8]) -> Result<Vec<u8>, Fault> {
+    let answer: Answer<S> = decode_answer_in(alloc, Format::One, REPLICAS, bytes)?;
     encode_answer_in(
         alloc,
-        Format::Two,
+        Format::One,
         answer.asker,
         &answer.state,
         &answer.certificate,

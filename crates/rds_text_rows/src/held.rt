@@ -1,8 +1,9 @@
 //! The snapshot that is held from row to row.
 use crate::{exchanges, places, reading, texts};
 use rds_codec::{
-    decoding_has_one_result, limits_of_texts, readers_are_steady, rows_are_read_in_steps,
-    texts_are_read_steadily, texts_outlive_growth, texts_stand_apart,
+    Format, decoding_has_one_result, formats_are_read_again, formats_have_the_same_parts,
+    limits_of_texts, readers_are_steady, rows_are_read_in_steps, texts_are_read_steadily,
+    texts_outlive_growth, texts_stand_apart,
 };
 use rds_dots::DotSet;
 use rds_names::Fault;
@@ -24,8 +25,10 @@ impl<S: DotSet> Table for Held<S> {
         match name {
             "hold" => self.hold(alloc, rest),
             "ask" => exchanges::ask::<S>(alloc, &self.text),
-            "answer" => exchanges::answer::<S>(alloc, &self.text, rest),
+            "answer" => exchanges::answer::<S>(alloc, Format::Two, &self.text, rest),
+            "answer-1" => exchanges::answer::<S>(alloc, Format::One, &self.text, rest),
             "exchange" => exchanges::exchanged::<S>(alloc, &self.text, rest),
+            "length" => exchanges::length::<S>(alloc, &self.text),
             "place" => places::answer::<S>(alloc, &self.text, rest),
             "read" => reading::answer::<S>(alloc, &self.text, rest),
             "laws" => laws(alloc),
@@ -54,6 +57,8 @@ impl<S: DotSet> Held<S> {
 fn laws(alloc: Global) -> Result<String, Fault> {
     texts_stand_apart();
     texts_outlive_growth();
+    formats_have_the_same_parts();
+    formats_are_read_again();
     limits_of_texts();
     decoding_has_one_result();
     readers_are_steady();

@@ -1,20 +1,15 @@
 //! Rows on texts whose bytes come in pieces.
 use crate::forms::REPLICAS;
 use rds_codec::{
-    Answer, Format, encode_answer, encode_answer_in, encode_certificate, encode_digest,
-    encode_hello, encode_snapshot_in, encode_state, encode_state_in,
+    Format, encode_answer, encode_answer_in, encode_certificate, encode_digest, encode_hello,
+    encode_snapshot_in, encode_state, encode_state_in,
 };
 use rds_dots::DotSet;
-use rds_feeds::{Progress, Unfinished};
 use rds_keep::{Fed, Feed};
 use rds_names::Fault;
 use rds_rows::told::{fault_text, named, said};
 use rds_rows::words::{bytes_of, cut};
-use rds_state::State;
-use rds_text_feeds::{
-    UnfinishedAnswer, UnfinishedDigest, UnfinishedSnapshot, UnfinishedState, unfinished_answer_in,
-    unfinished_state_in,
-};
+use rds_text_feeds::{UnfinishedAnswer, UnfinishedDigest, UnfinishedSnapshot, UnfinishedState};
 use std::alloc::Global;
 
 /// `cuts FORM DIGITS`: of how many places at which the text is cut in two the pieces are read as it, and of how many.
@@ -32,7 +27,7 @@ pub fn cuts<S: DotSet>(alloc: Global, rest: &str) -> Result<String, Fault> {
     Ok(format!(in alloc; "{same} of {all} cuts give the text")?)
 }
 
-/// What two pieces are read as, written again.
+/// What two pieces are read as, written again; a snapshot in its own format.
 fn again<S: DotSet>(
     alloc: Global,
     form: &str,
@@ -42,11 +37,11 @@ fn again<S: DotSet>(
     match form {
         "snapshot" => snapshot_again::<S>(alloc, front, back),
         "state" => state_again::<S>(alloc, front, back),
-        "state-2" => tabled_state_again::<S>(alloc, front, back),
+        "state-1" => spelled_state_again::<S>(alloc, front, back),
         "digest" => digest_again::<S>(alloc, front, back),
         "certificate" => certificate_again(alloc, front, back),
         "answer" => answer_again::<S>(alloc, front, back),
-        "answer-2" => tabled_answer_again::<S>(alloc, front, back),
+        "answer-1" => spelled_answer_again::<S>(alloc, front, back),
         "hello" => hello_again(alloc, front, back),
         _ => Err(Fault::Usage),
     }
@@ -63,14 +58,13 @@ fn state_again<S: DotSet>(alloc: Global, front: &[u8], back: &[u8]) -> Result<Ve
     encode_state(alloc, &fed(feed, front, back)?)
 }
 
-fn tabled_state_again<S: DotSet>(
+fn spelled_state_again<S: DotSet>(
     alloc: Global,
     front: &[u8],
     back: &[u8],
 ) -> Result<Vec<u8>, Fault> {
-    let unfinished = unfinished_state_in(alloc, Format::Two, REPLICAS);
-    let state: State<S> = read_in_two(alloc, unfinished, front, back)?;
-    encode_state_in(alloc, Format::Two, &state)
+    let feed: Feed<UnfinishedState<S>> = Feed::state_in(alloc, Format::One, REPLICAS);
+    encode_state_in(alloc, Format::One, &fed(feed, front, back)?)
 }
 
 fn digest_again<S: DotSet>(alloc: Global, front: &[u8], back: &[u8]) -> Result<Vec<u8>, Fault> {
@@ -91,15 +85,15 @@ fn answer_again<S: DotSet>(alloc: Global, front: &[u8], back: &[u8]) -> Result<V
     encode_answer(alloc, answer.asker, &answer.state, &answer.certificate)
 }
 
-fn tabled_answer_again<S: DotSet>(
+fn spelled_answer_again<S: DotSet>(
     alloc: Global,
     front: &[u8],
     back: &[u8],
 ) -> Result<Vec<u8>, Fault> {
-    let unfinished = unfinished_answer_in(alloc, Format::Two, REPLICAS);
-    let answer: Answer<S> = read_in_two(alloc, unfinished, front, back)?;
+    let feed: Feed<UnfinishedAnswer<S>> = Feed::answer_in(alloc, Format::One, REPLICAS);
+    let answer = fed(feed, front, back)?;
     let (state, certificate) = (&answer.state, &answer.certificate);
-    encode_answer_in(alloc, Format::Two, answer.asker, state, certificate)
+    encode_answer_in(alloc, Format::One, answer.asker, state, certificate)
 }
 
 fn hello_again(alloc: Global, front: &[u8], back: &[u8]) -> Result<Vec<u8>, Fault> {
@@ -113,37 +107,6 @@ fn fed<U: Fed>(feed: Feed<U>, front: &[u8], back: &[u8]) -> Result<U::Whole, Fau
     feed.end()
 }
 
-/// The value of two pieces, of which the second is read behind what the first leaves.
-fn read_in_two<U: Unfinished>(
-    alloc: Global,
-    unfinished: U,
-    front: &[u8],
-    back: &[u8],
-) -> Result<U::Whole, Fault> {
-    let (progress, rest) = unfinished.read_on(alloc, front)?;
-    match progress {
-        Progress::More(later) => {
-            let mut bytes = Vec::from_slice(alloc, rest)?;
-            bytes.extend_from_slice(back)?;
-            let (progress, rest) = later.read_on(alloc, &bytes)?;
-            whole_alone::<U>(progress, rest)
-        }
-        Progress::Whole(_) => Err(Fault::Extra),
-    }
-}
-
-/// The value that is whole, where nothing follows it.
-fn whole_alone<U: Unfinished>(
-    progress: Progress<U, U::Whole>,
-    rest: &[u8],
-) -> Result<U::Whole, Fault> {
-    match progress {
-        Progress::More(_) => Err(Fault::Cut),
-        Progress::Whole(_) if !rest.is_empty() => Err(Fault::Extra),
-        Progress::Whole(whole) => Ok(whole),
-    }
-}
-
 /// `drops FORM DIGITS`: whether the bytes, one by one, are a text, or which byte is refused how, and how they end.
 pub fn drops<S: DotSet>(alloc: Global, rest: &str) -> Result<String, Fault> {
     let (form, digits) = cut(rest)?;
@@ -151,12 +114,24 @@ pub fn drops<S: DotSet>(alloc: Global, rest: &str) -> Result<String, Fault> {
     match form {
         "snapshot" => dropped::<UnfinishedSnapshot<S>>(alloc, Feed::snapshot(alloc), &bytes),
         "state" => dropped::<UnfinishedState<S>>(alloc, Feed::state(alloc, REPLICAS), &bytes),
+        "state-1" => spelled_state_dropped::<S>(alloc, &bytes),
         "digest" => dropped::<UnfinishedDigest<S>>(alloc, Feed::digest(alloc, REPLICAS), &bytes),
         "certificate" => dropped(alloc, Feed::certificate(alloc, REPLICAS), &bytes),
         "answer" => dropped::<UnfinishedAnswer<S>>(alloc, Feed::answer(alloc, REPLICAS), &bytes),
+        "answer-1" => spelled_answer_dropped::<S>(alloc, &bytes),
         "hello" => dropped(alloc, Feed::hello(alloc), &bytes),
         _ => Err(Fault::Usage),
     }
+}
+
+fn spelled_state_dropped<S: DotSet>(alloc: Global, bytes: &[u8]) -> Result<String, Fault> {
+    let feed: Feed<UnfinishedState<S>> = Feed::state_in(alloc, Format::One, REPLICAS);
+    dropped(alloc, feed, bytes)
+}
+
+fn spelled_answer_dropped<S: DotSet>(alloc: Global, bytes: &[u8]) -> Result<String, Fault> {
+    let feed: Feed<UnfinishedAnswer<S>> = Feed::answer_in(alloc, Format::One, REPLICAS);
+    dropped(alloc, feed, bytes)
 }
 
 fn dropped<U: Fed>(alloc: Global, feed: Feed<U>, bytes: &[u8]) -> Result<String, Fault> {

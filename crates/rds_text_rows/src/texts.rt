@@ -1,11 +1,11 @@
 //! Rows that try texts.
-use crate::forms::{again, state_again, state_from};
+use crate::forms::{REPLICAS, again, state_from};
 use crate::pieces::{cuts, drops};
-use rds_codec::Format;
+use rds_codec::{Format, VERSION};
 use rds_dots::DotSet;
 use rds_names::Fault;
-use rds_rows::told::digits_of;
-use rds_rows::words::{bytes_of, cut, first, number};
+use rds_rows::told::{digits_of, said};
+use rds_rows::words::{bytes_of, cut, first, number, small};
 use std::alloc::Global;
 
 /// What a row that tries a text is answered.
@@ -19,6 +19,7 @@ pub fn answer<S: DotSet>(alloc: Global, name: &str, rest: &str) -> Result<String
         "state-of" => state_of::<S>(alloc, rest),
         "tabled" => rewritten::<S>(alloc, Format::One, Format::Two, rest),
         "untabled" => rewritten::<S>(alloc, Format::Two, Format::One, rest),
+        "version" => version_told(alloc, rest),
         "zeros" => zeros::<S>(alloc, rest),
         _ => Err(Fault::Usage),
     }
@@ -101,14 +102,14 @@ impl Tally {
     }
 }
 
-/// `state-of REPLICAS DIGITS`: the state of a group of so many replicas, read and written again.
+/// `state-of REPLICAS DIGITS`: the state of format 1 of a group of so many replicas, read and written again.
 fn state_of<S: DotSet>(alloc: Global, rest: &str) -> Result<String, Fault> {
     let (replicas, digits) = cut(rest)?;
     let Ok(replicas) = replicas.parse::<u16>() else {
         return Err(Fault::Usage);
     };
     let text = bytes_of(alloc, digits)?;
-    let written = state_again::<S>(alloc, replicas, &text)?;
+    let written = state_from::<S>(alloc, Format::One, Format::One, replicas, &text)?;
     digits_of(alloc, &written)
 }
 
@@ -120,7 +121,7 @@ fn rewritten<S: DotSet>(
     rest: &str,
 ) -> Result<String, Fault> {
     let text = bytes_of(alloc, rest)?;
-    let written = state_from::<S>(alloc, from, to, &text)?;
+    let written = state_from::<S>(alloc, from, to, REPLICAS, &text)?;
     digits_of(alloc, &written)
 }
 
@@ -130,4 +131,19 @@ fn zeros<S: DotSet>(alloc: Global, rest: &str) -> Result<String, Fault> {
     let text = vec![in alloc; 0u8; count as usize]?;
     let written = again::<S>(alloc, "state", &text)?;
     digits_of(alloc, &written)
+}
+
+/// `version NUMBER`: the version of the format in which a session speaks whose hello says this one, and whether sessions
+/// begin with it.
+fn version_told(alloc: Global, rest: &str) -> Result<String, Fault> {
+    let Some(format) = Format::of_version(small(rest)?) else {
+        return said(alloc, "no format");
+    };
+    let version = format.version();
+    let begins = if version == VERSION {
+        ", with which sessions begin"
+    } else {
+        ""
+    };
+    Ok(format!(in alloc; "format {version}{begins}")?)
 }

@@ -71,9 +71,13 @@ impl OpenFile for WiredFile<'_> {
     }
 }
 
+// Another has the lock where the row says so.
 impl LockFile for WiredFile<'_> {
     fn try_lock_exclusive(&self) -> io::Result<bool> {
         self.call("lock")?;
+        if self.calls.is("busy", self.path.as_str())? {
+            return Ok(false);
+        }
         self.file.try_lock_exclusive()
     }
 
