@@ -1,12 +1,15 @@
-//! A plain program, unproved, for scale: what `join` and `pair` cost where nothing is promised. It writes the same bytes as
-//! `rds_node` for snapshots without counters whose values are whole numbers or texts, and panics at any other.
+//! A plain program, unproved, for scale: what `join` and `pair` cost where nothing is promised. It reads both formats, and writes
+//! the same bytes as `rds_node`, of format 2, for snapshots without counters whose values are whole numbers or texts. It panics at
+//! any other.
 //!
 //!     rustc --edition 2021 -O -o plain bench/plain.rs
 //!     plain join < LINES
 //!     plain pair FILE FILE
 //!
-//! `pair` sends nothing: each file gets the live rows that it lacks, so nothing may have been deleted.
+//! `pair` sends nothing: each file gets the live rows that it lacks, so nothing may have been deleted. Keys are numbered by a map
+//! with std's hasher, whose seed is random.
 use std::cmp::Ordering;
+use std::collections::{HashMap, HashSet};
 use std::io::{self, BufRead, Write};
 use std::rc::Rc;
 use std::{env, fs};
@@ -17,9 +20,11 @@ enum Scalar {
     Text(Rc<str>),
 }
 
+type Key = Rc<str>;
+
 #[derive(Clone, PartialEq)]
 struct Entry {
-    path: Rc<[u8]>,
+    path: Rc<[Key]>,
     kind: u8,
     scalar: Scalar,
 }
@@ -31,7 +36,7 @@ type Runs = Vec<(u64, u64)>;
 type Seen = Vec<(u8, Runs)>;
 
 struct Snapshot {
-    /// The bytes before the own number: the format and the roster.
+    /// The bytes between the format and the own number: the group and the roster.
     head: Vec<u8>,
     own: u8,
     seen: Seen,
@@ -69,14 +74,68 @@ impl<'a> Reader<'a> {
     fn number(&mut self, n: usize) -> Option<u64> {
         Some(self.bytes(n)?.iter().fold(0, |x, b| x << 8 | u64::from(*b)))
     }
+    fn key(&mut self) -> Option<&'a str> {
+        let n = self.number(1)? as usize;
+        if n == 0 || n > 64 {
+            return None;
+        }
+        let key = std::str::from_utf8(self.bytes(n)?).ok()?;
+        (!key.contains('/')).then_some(key)
+    }
+}
+
+/// The keys of a text: spelled out in format 1, numbers of a table in format 2.
+enum Keys {
+    Spelled,
+    Tabled { table: Vec<Key>, met: usize },
+}
+
+impl Keys {
+    /// What stands in front of a state's dots.
+    fn begin(r: &mut Reader, format: u64) -> Option<Keys> {
+        if format == 1 {
+            return Some(Keys::Spelled);
+        }
+        let (mut known, mut table) = (HashSet::new(), Vec::new());
+        for _ in 0..r.number(4)? {
+            let key = r.key()?;
+            if !known.insert(key) {
+                return None;
+            }
+            table.push(Key::from(key));
+        }
+        Some(Keys::Tabled { table, met: 0 })
+    }
+    fn key(&mut self, r: &mut Reader) -> Option<Key> {
+        match self {
+            Keys::Spelled => r.key().map(Key::from),
+            Keys::Tabled { table, met } => {
+                let number = r.number(4)? as usize;
+                if number > *met {
+                    return None;
+                }
+                *met += usize::from(number == *met);
+                table.get(number).cloned()
+            }
+        }
+    }
+    /// Whether each key of the table was used.
+    fn is_used(&self) -> bool {
+        match self {
+            Keys::Spelled => true,
+            Keys::Tabled { table, met } => table.len() == *met,
+        }
+    }
 }
 
 fn decode(text: &[u8]) -> Option<Snapshot> {
     let mut r = Reader(text);
+    let format = match r.bytes(4)? {
+        b"RDS1" => 1,
+        b"RDS2" => 2,
+        _ => return None,
+    };
     let whole = r.0;
-    if r.bytes(4)? != b"RDS1" {
-        return None;
-    }
     let g = r.number(1)? as usize;
     r.bytes(g)?;
     let names = r.number(2)?;
@@ -86,6 +145,7 @@ fn decode(text: &[u8]) -> Option<Snapshot> {
     }
     let head = whole[..whole.len() - r.0.len()].to_vec();
     let own = r.number(1)? as u8;
+    let mut keys = Keys::begin(&mut r, format)?;
     let mut seen = Vec::new();
     for _ in 0..r.number(2)? {
         let replica = r.number(1)? as u8;
@@ -118,22 +178,11 @@ fn decode(text: &[u8]) -> Option<Snapshot> {
         if !has(&seen, dot) {
             return None;
         }
-        let start = r.0;
-        let keys = r.number(1)?;
-        if keys == 0 || keys > 8 {
+        let length = r.number(1)?;
+        if length == 0 || length > 8 {
             return None;
         }
-        for _ in 0..keys {
-            let n = r.number(1)? as usize;
-            if n == 0 || n > 64 {
-                return None;
-            }
-            let key = std::str::from_utf8(r.bytes(n)?).ok()?;
-            if key.contains('/') {
-                return None;
-            }
-        }
-        let path = Rc::from(&start[..start.len() - r.0.len()]);
+        let path = (0..length).map(|_| keys.key(&mut r)).collect::<Option<Rc<[Key]>>>()?;
         let kind = r.number(1)? as u8;
         let scalar = match r.number(1)? {
             3 => Scalar::Int(r.number(8)? as i64),
@@ -145,7 +194,7 @@ fn decode(text: &[u8]) -> Option<Snapshot> {
         };
         rows.push((dot, Entry { path, kind, scalar }));
     }
-    if r.number(4)? != 0 || !r.0.is_empty() {
+    if r.number(4)? != 0 || !r.0.is_empty() || !keys.is_used() {
         return None;
     }
     Some(Snapshot {
@@ -246,8 +295,22 @@ fn join(mut a: Snapshot, b: Snapshot) -> Option<Snapshot> {
 }
 
 fn encode(s: &Snapshot) -> Vec<u8> {
-    let mut out = s.head.clone();
+    let (mut places, mut table, mut numbers) = (HashMap::new(), Vec::new(), Vec::new());
+    for key in s.rows.iter().flat_map(|row| row.1.path.iter()) {
+        let number = *places.entry(&**key).or_insert_with(|| {
+            table.push(key);
+            table.len() as u32 - 1
+        });
+        numbers.push(number);
+    }
+    let mut out = b"RDS2".to_vec();
+    out.extend(&s.head);
     out.push(s.own);
+    out.extend((table.len() as u32).to_be_bytes());
+    for key in table {
+        out.push(key.len() as u8);
+        out.extend(key.as_bytes());
+    }
     out.extend((s.seen.len() as u16).to_be_bytes());
     for (replica, runs) in &s.seen {
         out.push(*replica);
@@ -263,10 +326,14 @@ fn encode(s: &Snapshot) -> Vec<u8> {
         }
     }
     out.extend((s.rows.len() as u32).to_be_bytes());
+    let mut numbers = numbers.iter();
     for (dot, entry) in &s.rows {
         out.push(dot.0);
         out.extend(dot.1.to_be_bytes());
-        out.extend(&*entry.path);
+        out.push(entry.path.len() as u8);
+        for number in numbers.by_ref().take(entry.path.len()) {
+            out.extend(number.to_be_bytes());
+        }
         out.push(entry.kind);
         match &entry.scalar {
             Scalar::Int(n) => {

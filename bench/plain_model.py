@@ -1,6 +1,7 @@
 """A plain model of a document, its texts and its sessions: docs/MODEL.md and docs/FORMATS.md in a few lines of Python.
 
-`bench/random` compares the program with it. It is written from these two pages alone, over sets and dictionaries.
+`bench/random` compares the program with it. It is written from these two pages alone, over sets and dictionaries. Texts are read
+and written in both formats; where none is named it is format 2.
 """
 import collections
 import re
@@ -176,17 +177,26 @@ def runs_of(numbers):
     return runs
 
 
-def dots_text(dots):
+def tops_of(dots):
+    """Each replica's top and gaps."""
     of = collections.defaultdict(set)
     for replica, seq in dots:
         of[replica].add(seq)
-    return many(2, (one_text(replica, runs_of(of[replica])) for replica in sorted(of)))
+    return {replica: top_of(runs_of(of[replica])) for replica in sorted(of)}
 
 
-def one_text(replica, runs):
+def top_of(runs):
     ends = [0] + [last for _, last in runs]
-    gaps = [(end + 1, first - 1) for end, (first, _) in zip(ends, runs) if first > end + 1]
-    return number(replica, 1) + number(ends[-1], 8) + many(4, (number(first, 8) + number(last, 8) for first, last in gaps))
+    return ends[-1], [(end + 1, first - 1) for end, (first, _) in zip(ends, runs) if first > end + 1]
+
+
+def tops_text(of):
+    gap_text = lambda gap: number(gap[0], 8) + number(gap[1], 8)
+    return many(2, (number(replica, 1) + number(top, 8) + many(4, map(gap_text, gaps)) for replica, (top, gaps) in of.items()))
+
+
+def dots_text(dots):
+    return tops_text(tops_of(dots))
 
 
 def scalar_text(scalar):
@@ -195,31 +205,50 @@ def scalar_text(scalar):
     return number(tag, 1) + bodies.get(tag, bytes)()
 
 
-def entry_text(entry):
+def entry_text(entry, key_text):
     path, kind, scalar = entry
-    return many(1, map(piece, path)) + number(kind, 1) + scalar_text(scalar)
+    return many(1, map(key_text, path)) + number(kind, 1) + scalar_text(scalar)
 
 
 def dot_text(dot):
     return number(dot[0], 1) + number(dot[1], 8)
 
 
-def counts_text(numbers):
-    rows = sorted(numbers.items(), key=lambda row: (row[0][0].encode(), row[0][1]))
-    return many(4, (piece(key) + number(replica, 1) + number(ups, 8) + number(downs, 8) for (key, replica), (ups, downs) in rows))
+def count_rows(numbers):
+    return sorted(numbers.items(), key=lambda row: (row[0][0].encode(), row[0][1]))
 
 
-def state_text(state):
-    live = many(4, (dot_text(dot) + entry_text(entry) for dot, entry in sorted(state.live().items())))
-    return dots_text(state.lives) + live + counts_text(state.numbers)
+def counts_text(numbers, key_text=piece):
+    rows = count_rows(numbers)
+    return many(4, (key_text(key) + number(replica, 1) + number(ups, 8) + number(downs, 8) for (key, replica), (ups, downs) in rows))
+
+
+def parts_text(seen, live, numbers, format=2):
+    """The text of a state whose dots are tops and gaps."""
+    table = {}
+    if format == 2:
+        used = [key for _, (path, _, _) in sorted(live.items()) for key in path] + [key for (key, _), _ in count_rows(numbers)]
+        table = {key: place for place, key in enumerate(dict.fromkeys(used))}
+    key_text = piece if format == 1 else lambda key: number(table[key], 4)
+    rows = many(4, (dot_text(dot) + entry_text(entry, key_text) for dot, entry in sorted(live.items())))
+    return many(4, map(piece, table)) * (format == 2) + tops_text(seen) + rows + counts_text(numbers, key_text)
+
+
+def state_text(state, format=2):
+    return parts_text(tops_of(state.lives), state.live(), state.numbers, format)
 
 
 def who_text(replica):
     return piece(replica.group) + many(2, map(piece, replica.names)) + number(replica.own, 1)
 
 
-def snapshot_text(replica):
-    return b"RDS1" + who_text(replica) + state_text(replica.state)
+def snapshot_text(replica, format=2):
+    return b"RDS%d" % format + who_text(replica) + state_text(replica.state, format)
+
+
+def hello_text(replica, version=2):
+    """A session of a version speaks in the format of that number."""
+    return number(version, 1) + who_text(replica)
 
 
 def digest_text(digest):
@@ -246,8 +275,8 @@ def certificate(delta, digest):
     return rows
 
 
-def answer_text(asker, delta, digest):
-    return number(asker, 1) + state_text(delta) + many(4, certificate(delta, digest))
+def answer_text(asker, delta, digest, format=2):
+    return number(asker, 1) + state_text(delta, format) + many(4, certificate(delta, digest))
 
 
 def message(body, sizes=()):
@@ -352,31 +381,35 @@ class Parts(Reader):
             return tag, int.from_bytes(self.bytes(8), "big", signed=True)
         return tag, self.utf8(self.number(2, 0, 1024)) if tag == 4 else {0: None, 1: False, 2: True}[tag]
 
-    def entry(self):
-        path = tuple(self.key() for _ in range(self.number(1, 1, 8)))
+    def entry(self, key):
+        path = tuple(key() for _ in range(self.number(1, 1, 8)))
         return path, self.number(1, 1, 2), self.scalar()
 
-    def live_row(self, before, seen):
+    def live_row(self, before, seen, key):
         dot = self.ascending(self.dot(), before and before[0])
         refuse_if(not has_seen(seen, dot), 13)
-        return dot, self.entry()
+        return dot, self.entry(key)
 
-    def count_row(self, before):
-        key, replica = self.key(), self.number(1)
+    def count_row(self, before, key_of):
+        key, replica = key_of(), self.number(1)
         at = self.ascending((key.encode(), replica), before and (before[0][0].encode(), before[0][1]))
         refuse_if(replica >= self.count, 13)
         pair = self.number(8, 0, GREATEST), self.number(8, 0, GREATEST)
         refuse_if(pair == (0, 0), 13)
         return (key, at[1]), pair
 
-    def counts(self):
-        return dict(self.many(4, self.count_row))
+    def counts(self, key=None):
+        return dict(self.many(4, lambda before: self.count_row(before, key or self.key)))
 
-    def state(self):
+    def state(self, format=2):
         """Dots, live rows and numbers, as they are written."""
+        table = Table(self) if format == 2 else None
+        key = table.key if table else self.key
         seen = self.dots()
-        live = dict(self.many(4, lambda before: self.live_row(before, seen)))
-        return seen, live, self.counts()
+        live = dict(self.many(4, lambda before: self.live_row(before, seen, key)))
+        numbers = self.counts(key)
+        refuse_if(table and table.used != table.keys, 13)
+        return seen, live, numbers
 
     def digest(self):
         seen, live = self.dots(), self.dots()
@@ -394,6 +427,28 @@ class Parts(Reader):
             self.key(), self.replica(), self.number(1, 1, 2)
             self.number(8, 0, GREATEST), self.number(8, 0, GREATEST)
         return self.text[at : self.at]
+
+
+class Table:
+    """The keys of a text of format 2, and those that were used so far, in the order of first use."""
+
+    def __init__(self, reader):
+        self.reader, self.keys, self.used = reader, [], []
+        known = set()
+        for _ in range(reader.number(4)):
+            key = reader.key()
+            refuse_if(key in known, 13)
+            known.add(key)
+            self.keys.append(key)
+        self.met = set()
+
+    def key(self):
+        place = self.reader.number(4)
+        refuse_if(place >= len(self.keys), 13)
+        if place not in self.met:
+            self.met.add(place)
+            self.used.append(self.keys[place])
+        return self.keys[place]
 
 
 def has_seen(seen, dot):
@@ -431,15 +486,28 @@ def who(reader):
     return group, names, reader.number(1, 0, len(names) - 1)
 
 
+def read_parts(text):
+    """Who a snapshot of either format is of, and the parts of its state."""
+    reader = Reader(text)
+    format = {b"RDS1": 1, b"RDS2": 2}.get(reader.bytes(4))
+    refuse_if(format is None, 13)
+    is_of = who(reader)
+    parts = Parts(text[reader.at :], len(is_of[1]))
+    state = parts.state(format)
+    parts.end()
+    return is_of, state
+
+
 def read_snapshot(text):
     """The replica of a text; that it is one is judged before it is held."""
-    reader = Reader(text)
-    refuse_if(reader.bytes(4) != b"RDS1", 13)
-    group, names, own = who(reader)
-    parts = Parts(text[reader.at :], len(names))
-    state = parts.state()
-    parts.end()
-    return Replica(group, names, own, state_of(*state))
+    is_of, state = read_parts(text)
+    return Replica(*is_of, state_of(*state))
+
+
+def written_anew(text):
+    """What is written of the replica of a text, which isn't held."""
+    is_of, state = read_parts(text)
+    return b"RDS2" + who_text(Replica(*is_of, None)) + parts_text(*state)
 
 
 def joined(first, second):
@@ -499,7 +567,8 @@ class Course:
 
     def judge_hello(self, body):
         reader = Reader(body)
-        refuse_if(reader.number(1) != 1, 18)
+        self.version = reader.number(1)
+        refuse_if(self.version not in (1, 2), 18)
         group, names, own = who(reader)
         reader.end()
         refuse_if(group != self.replica.group, 19)
@@ -515,13 +584,13 @@ class Course:
         theirs = {dot: 2 - (dot in live) for dot in set_of(seen)}, numbers
         state = self.replica.state
         self.digest = state.digest()
-        delta = answer_text(self.asker, state.least(theirs), theirs)
-        texts = [b"\1\1" + who_text(self.replica), b"\2" + digest_text(self.digest), b"\3" + delta]
+        delta = answer_text(self.asker, state.least(theirs), theirs, self.version)
+        texts = [b"\1" + hello_text(self.replica, self.version), b"\2" + digest_text(self.digest), b"\3" + delta]
         self.said += b"".join(map(message, texts))
 
     def judge_delta(self, body):
         parts = Parts(body, len(self.names))
-        asker, state = parts.replica(), parts.state()
+        asker, state = parts.replica(), parts.state(self.version)
         rows = parts.many(4, parts.certificate_row)
         parts.end()
         refuse_if(asker != self.replica.own, 11)
@@ -531,10 +600,10 @@ class Course:
         self.received = delta
 
 
-def stream_of(client, server, delta=None, asker=None):
-    """The messages that a client says to a server, and with them this delta in place of its own."""
+def stream_of(client, server, delta=None, asker=None, version=2):
+    """The messages that a client of a version says to a server, and with them this delta in place of its own."""
     digest = server.state.digest()
     delta = client.state.least(digest) if delta is None else delta
     asker = server.own if asker is None else asker
-    texts = [b"\1\1" + who_text(client), b"\2" + digest_text(client.state.digest())]
-    return texts + [b"\3" + answer_text(asker, delta, digest), b"\4\0"]
+    texts = [b"\1" + hello_text(client, version), b"\2" + digest_text(client.state.digest())]
+    return texts + [b"\3" + answer_text(asker, delta, digest, version), b"\4\0"]
