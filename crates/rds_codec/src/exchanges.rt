@@ -14,7 +14,7 @@ ghost use Rattle.rds_codec.specs.declared.limits.TheConstants.{LIMIT};
 
 use crate::answers::{Answer, decode_answer};
 use crate::digests::{decode_digest, text_of_digest};
-use crate::formats::{Format, text_of_answer_in};
+use crate::formats::{Format, encode_answer_in};
 use rds_delta::{Digest, certificate, check, delta};
 use rds_dots::DotSet;
 use rds_names::{Fault, Roster};
@@ -45,7 +45,7 @@ pub fn answer_in<S: DotSet>(
 {
     let delta = delta(alloc, held, digest)?;
     let certificate = certificate(alloc, digest, &delta)?;
-    let bytes = text_of_answer_in(alloc, format, asker, &delta, &certificate)?;
+    let bytes = encode_answer_in(alloc, format, asker, &delta, &certificate)?;
     Ok((bytes, delta.components()))
 }
 

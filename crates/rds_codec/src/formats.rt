@@ -182,8 +182,9 @@ pub fn decode_answer_in<S: DotSet>(
     read_all_of_answer(alloc, format, replicas, bytes)
 }
 
-/// The text of an answer with these parts, as [`encode_answer_in`] gives it, and what its measure shows of them.
-pub fn text_of_answer_in<S: DotSet>(
+/// The text of an answer with these parts, in a format. It is refused as that of the delta is
+/// ([`encode_state_in`](crate::encode_state_in)). That the parts make an answer shows where it is measured.
+pub fn encode_answer_in<S: DotSet>(
     alloc: Global,
     format: Format,
     asker: u8,
@@ -201,20 +202,6 @@ pub fn text_of_answer_in<S: DotSet>(
         Format::One => encode_spelled_answer(alloc, asker, state, certificate),
         Format::Two => encode_tabled_answer(alloc, asker, state, certificate),
     }
-}
-
-/// The text of an answer with these parts, in a format. It is refused as that of the delta is
-/// ([`encode_state_in`](crate::encode_state_in)).
-pub fn encode_answer_in<S: DotSet>(
-    alloc: Global,
-    format: Format,
-    asker: u8,
-    state: &State<S>,
-    certificate: &Certificate,
-) -> Result<Vec<u8>, Fault>
-    ensures text { EncodesIn format (answer_text_in format (answer asker state.now certificate.now)) result }
-{
-    text_of_answer_in(alloc, format, asker, state, certificate)
 }
 
 /// The format that the four bytes in front of a snapshot say.

@@ -1,5 +1,6 @@
 //! A key of a map.
-ghost use Rattle.std.specs.Prelude.{◌≡◌, ◌≤◌, ◌↔◌, length, true, IsTrue, IfOk, IfErr};
+ghost use Rattle.std.specs.Prelude.{◌≡◌, ◌≤◌, ◌↔◌, length, take, drop, true, IsTrue, IfOk, IfErr};
+ghost use Rattle.std.specs.Int.{w64, from_le_bytes};
 ghost use Rattle.std.specs.Str.{is_utf8};
 ghost use Rattle.rds_names.specs.declared.fault.Fault.TheVariants.{Memory};
 ghost use Rattle.rds_names.specs.Gives.{Gives};
@@ -138,7 +139,12 @@ impl PartialEq for Key {
         ensures value { result ≡ bytes_eq self.now other.now }
         ensures same { IsTrue result ↔ (self.now ≡ other.now) }
     {
-        self.as_bytes() == other.as_bytes()
+        match (&self.form, &other.form) {
+            (Form::Inline(own, len), Form::Inline(others, other_len)) => {
+                len == other_len && have_same_bytes(own, others)
+            }
+            _ => self.as_bytes() == other.as_bytes(),
+        }
     }
 }
 
@@ -192,6 +198,32 @@ impl Hash for Key {
     fn hash<H: Hasher>(&self, state: &mut H) {
         self.as_str().hash(state);
     }
+}
+
+/// The eight bytes from a place on, as one number.
+fn word(room: &[u8; MOST_INLINE], at: usize) -> u64
+    requires { at ≤ 14 }
+    ensures { result ≡ from_le_bytes w64 (take 8 (drop at room.now)) }
+{
+    u64::from_le_bytes([
+        room[at],
+        room[at + 1],
+        room[at + 2],
+        room[at + 3],
+        room[at + 4],
+        room[at + 5],
+        room[at + 6],
+        room[at + 7],
+    ])
+}
+
+/// Whether two rooms hold the same bytes. They are compared eight at a time, of which the last overlap those before.
+fn have_same_bytes(room: &[u8; MOST_INLINE], other: &[u8; MOST_INLINE]) -> bool
+    ensures { IsTrue result ↔ (room.now ≡ other.now) }
+{
+    word(room, 0) == word(other, 0)
+        && word(room, 8) == word(other, 8)
+        && word(room, 14) == word(other, 14)
 }
 
 /// The text of bytes that were a text's.
