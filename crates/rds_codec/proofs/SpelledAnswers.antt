@@ -21,6 +21,13 @@ use Rattle.rds_codec.proofs.Whole.{IsReaderOf, reader_of}
 
 -- ---- for a format of its state
 
+-- within the limit the certificate's rows can be counted in their field, and the state's where that holds of states
+pub answer_parts_within : (state_text_by : StateValue → List ℕ) (CanCount : StateValue → Type 0) → ((v : StateValue) → length (state_text_by v) ≤ LIMIT → CanCount v) → (a : AnswerValue) → length (byte_text a.asker ++ (state_text_by a.state ++ certificate_text a.certificate)) ≤ LIMIT → CanCount a.state × (length a.certificate < 2 ^ 32)
+answer_parts_within state_text_by CanCount state_within a le =
+    let sent = length-append (state_text_by a.state) (certificate_text a.certificate) in
+    let all = length-append (byte_text a.asker) (state_text_by a.state ++ certificate_text a.certificate) in
+    (state_within a.state (omega arith), certificate_within a.certificate (omega arith))
+
 module _ (replicas : ℕ) (read_spelled : Reader StateValue) (state_text_by : StateValue → List ℕ) (CanCount : StateValue → Type 0) (state_is : IsFormat read_spelled state_text_by (λ v. IsStateOf replicas v × CanCount v)) where
   abbrev Sent : Type 0
   Sent = StateValue × List Row
@@ -73,13 +80,9 @@ spelled_answer_format : (replicas : ℕ) → IsFormat (spelled_answer_at replica
 unfolding spelled_answer_at spelled_answer_text
 spelled_answer_format replicas = answer_parts_format replicas (spelled_at replicas) spelled_text CanCountState (spelled_format replicas)
 
--- its rows can be counted in their fields
 pub spelled_answer_within : (a : AnswerValue) → length (spelled_answer_text a) ≤ LIMIT → CanCountState a.state × (length a.certificate < 2 ^ 32)
 unfolding spelled_answer_text
-spelled_answer_within a le =
-    let sent = length-append (spelled_text a.state) (certificate_text a.certificate) in
-    let all = length-append (byte_text a.asker) (spelled_text a.state ++ certificate_text a.certificate) in
-    (spelled_within a.state (omega arith), certificate_within a.certificate (omega arith))
+spelled_answer_within = answer_parts_within spelled_text CanCountState spelled_within
 
 pub spelled_answer_reader : (replicas : ℕ) → IsReaderOf (answer_kind_in One replicas) (spelled_answer_at replicas)
 spelled_answer_reader replicas =

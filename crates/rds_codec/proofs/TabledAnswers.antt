@@ -9,7 +9,7 @@ use Rattle.rds_codec.specs.StateTexts.{state_at, state_text}
 use Rattle.rds_codec.specs.declared.formats.Format.TheVariants.{Two}
 use Rattle.rds_bytes.specs.Spelling.{byte_text}
 use Rattle.rds_bytes.proofs.Format.{IsFormat}
-use Rattle.rds_codec.proofs.SpelledAnswers.{answer_parts_format}
+use Rattle.rds_codec.proofs.SpelledAnswers.{answer_parts_format, answer_parts_within}
 use Rattle.rds_codec.proofs.CertificateFormats.{certificate_within}
 use Rattle.rds_codec.proofs.TabledStates.{CanCountTabled, tabled_format, tabled_within}
 use Rattle.rds_codec.proofs.Whole.{IsReaderOf, reader_of}
@@ -21,13 +21,9 @@ tabled_answer_format : (replicas : ℕ) → IsFormat (answer_at replicas) answer
 unfolding answer_at answer_text
 tabled_answer_format replicas = answer_parts_format replicas (state_at replicas) state_text CanCountTabled (tabled_format replicas)
 
--- its rows and its keys can be counted in their fields
 pub tabled_answer_within : (a : AnswerValue) → length (answer_text a) ≤ LIMIT → CanCountTabled a.state × (length a.certificate < 2 ^ 32)
 unfolding answer_text
-tabled_answer_within a le =
-    let sent = length-append (state_text a.state) (certificate_text a.certificate) in
-    let all = length-append (byte_text a.asker) (state_text a.state ++ certificate_text a.certificate) in
-    (tabled_within a.state (omega arith), certificate_within a.certificate (omega arith))
+tabled_answer_within = answer_parts_within state_text CanCountTabled tabled_within
 
 pub tabled_answer_reader : (replicas : ℕ) → IsReaderOf (answer_kind_in Two replicas) (answer_at replicas)
 tabled_answer_reader replicas =

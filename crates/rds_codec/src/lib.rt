@@ -45,6 +45,7 @@ pub use rds_bytes::{
     read_gap, read_header, read_key, read_live_rows, read_member, read_name, read_replica,
     read_roster, read_row_head, read_scalar, readers_are_steady, rows_are_read_in_steps,
 };
-pub use snapshots::{encode_snapshot, snapshot_length, snapshots_have_texts};
+pub use snapshots::{encode_snapshot, snapshots_have_texts};
 pub use states::{decode_state, encode_state, states_have_texts};
 pub use steady::texts_are_read_steadily;
+pub use tabled::snapshot_length;

@@ -12,19 +12,10 @@ ghost use Rattle.rds_codec.specs.declared.limits.TheConstants.{LIMIT};
 
 use crate::formats::{Format, encode_snapshot_in};
 use crate::spelled::measure_spelled_snapshot;
-use crate::tabled::tabled_snapshot_length;
 use rds_dots::DotSet;
 use rds_names::Fault;
 use rds_state::Replica;
 use std::alloc::Global;
-
-/// The length of the text of the replica's snapshot, be it within the limit or not. To number its keys takes memory.
-pub fn snapshot_length<S: DotSet>(alloc: Global, replica: &Replica<S>) -> Result<u128, Fault>
-    ensures length { IfOk result (λ found. found ≡ length (snapshot_text replica.now)) }
-    ensures memory { IfErr result (λ fault. fault ≡ Memory) }
-{
-    tabled_snapshot_length(alloc, replica)
-}
 
 /// The text of the replica's snapshot. Its keys are numbered first, which takes memory. Above the limit the text is
 /// refused then (`TooLong`); within it all memory that it needs is taken at once. All of the text, read again, is this

@@ -214,7 +214,7 @@ fn measure_tabled_snapshot<S: DotSet>(replica: &Replica<S>, keys: &[Key]) -> (u1
 }
 
 /// The length of the text of the replica's snapshot, be it within the limit or not. To number its keys takes memory.
-pub fn tabled_snapshot_length<S: DotSet>(alloc: Global, replica: &Replica<S>) -> Result<u128, Fault>
+pub fn snapshot_length<S: DotSet>(alloc: Global, replica: &Replica<S>) -> Result<u128, Fault>
     ensures length { IfOk result (λ found. found ≡ length (snapshot_text replica.now)) }
     ensures memory { IfErr result (λ fault. fault ≡ Memory) }
 {
