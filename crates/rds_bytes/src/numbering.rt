@@ -78,10 +78,10 @@ impl<'a> Numbering<'a> {
         self.followers.get(guess).copied().unwrap_or(0)
     }
 
-    /// The number of a key that isn't where it was guessed, which is the next one where it has none. What last came there in
-    /// its stead is tried first. The usual case of a right guess stays small where this isn't a part of it.
+    /// The number of a key that is none of its guesses. What came where it was guessed is noted. Apart from what is done
+    /// where a guess is right, which stays small so.
     #[inline(never)]
-    fn number_elsewhere(
+    fn number_unguessed(
         &mut self,
         alloc: Global,
         guess: usize,
@@ -94,16 +94,32 @@ impl<'a> Numbering<'a> {
         ensures numbers { self.new.numbers.items ≡ self.old.numbers.items }
         ensures memory { IfErr result (λ fault. fault ≡ Memory) }
     {
-        let second = self.follower(guess);
-        if self.has_at(second, key) {
-            return Ok(second);
-        }
         let number = self.look_up(alloc, key)?;
         follow(&mut self.followers, guess, number)?;
         Ok(number)
     }
 
-    /// Notes the number of a key. Where the guess is right, nothing is looked up.
+    /// The number of a key, which is the next one where it has none. Where a guess is right, nothing is looked up. The
+    /// second guess is what last came where the first one was wrong.
+    fn number(&mut self, alloc: Global, guess: usize, key: &'a Key) -> Result<usize, Fault>
+        requires { AreNumbered self.old.places self.old.keys.items }
+        ensures numbered { OnOk result (AreNumbered self.new.places self.new.keys.items) }
+        ensures keys { OnOk result (self.new.keys.items ≡ add_key self.old.keys.items key.now) }
+        ensures number { IfOk result (λ number. number ≡ number_of self.old.keys.items key.now) }
+        ensures numbers { self.new.numbers.items ≡ self.old.numbers.items }
+        ensures memory { IfErr result (λ fault. fault ≡ Memory) }
+    {
+        if self.has_at(guess, key) {
+            return Ok(guess);
+        }
+        let second = self.follower(guess);
+        if self.has_at(second, key) {
+            return Ok(second);
+        }
+        self.number_unguessed(alloc, guess, key)
+    }
+
+    /// Notes the number of a key.
     fn add(&mut self, alloc: Global, guess: usize, key: &'a Key) -> Result<(), Fault>
         requires { AreNumbered self.old.places self.old.keys.items }
         ensures numbered { OnOk result (AreNumbered self.new.places self.new.keys.items) }
@@ -112,11 +128,7 @@ impl<'a> Numbering<'a> {
             ≡ self.old.numbers.items ++ number_of self.old.keys.items key.now ∷ []) }
         ensures memory { IfErr result (λ fault. fault ≡ Memory) }
     {
-        if self.has_at(guess, key) {
-            self.numbers.push(guess)?;
-            return Ok(());
-        }
-        let number = self.number_elsewhere(alloc, guess, key)?;
+        let number = self.number(alloc, guess, key)?;
         self.numbers.push(number)?;
         Ok(())
     }
@@ -143,7 +155,7 @@ impl<'a> Numbering<'a> {
             };
             let guess = self.noted(near);
             self.add(alloc, guess, key)?;
-            near = near.saturating_add(1);
+            near = near.wrapping_add(1);
             keys = later;
         }
     }
