@@ -4,7 +4,7 @@ ghost use Rattle.std.specs.List.{flat_map, AllByRecursion};
 ghost use Rattle.rds_life.specs.Life.{live_rows};
 ghost use Rattle.rds_counts.specs.RowsOf.{count_rows};
 ghost use Rattle.rds_bytes.specs.Numbers.{numbers_text, numbered_row_text, numbered_rows_text, numbered_counts_text, keys_in, numbered_length};
-ghost use Rattle.rds_bytes.specs.Spelling.{byte_text, dot_text, short_text, keyed_live_rows_text, keyed_counters_text};
+ghost use Rattle.rds_bytes.specs.Spelling.{short_text, keyed_live_rows_text, keyed_counters_text};
 ghost use Rattle.rds_bytes.specs.Table.{number_of, rows_table, used_keys};
 ghost use Rattle.rds_bytes.specs.TableTexts.{table_text, number_text};
 ghost use Rattle.rds_bytes.specs.Values.{IsKeyText, IsLiveRow};
@@ -13,7 +13,7 @@ ghost use Rattle.rds_bytes.specs.Writing.{Adds};
 use crate::counters::put_counts;
 use crate::entries::put_kind;
 use crate::keys::{key_length, put_key};
-use crate::numbers::{put, put_byte, put_u32};
+use crate::numbers::{put_byte, put_u32, put_u64};
 use crate::paths::{keys_length, put_keys};
 use crate::scalars::{put_scalar, scalar_length};
 use rds_counts::{CountRow, Counts};
@@ -106,32 +106,14 @@ fn put_numbers(out: &mut Vec<u8>, mut numbers: &[usize]) -> Result<(), AllocErro
     }
 }
 
-/// A dot and how many keys its row has, ten bytes at once.
-fn put_row_front(out: &mut Vec<u8>, dot: Dot, keys: u8) -> Result<(), AllocError>
-    ensures { Adds out.old.items out.new.items (dot_text dot ++ byte_text keys) result }
-{
-    let seq = dot.seq.to_be_bytes();
-    let front = [
-        dot.replica,
-        seq[0],
-        seq[1],
-        seq[2],
-        seq[3],
-        seq[4],
-        seq[5],
-        seq[6],
-        seq[7],
-        keys,
-    ];
-    put(out, &front)
-}
-
 /// A row, with these numbers in place of its keys.
 fn put_row(out: &mut Vec<u8>, dot: Dot, entry: &Entry, numbers: &[usize]) -> Result<(), AllocError>
     requires { AllByRecursion (λ n. n < 2 ^ 32) numbers.now }
     ensures { Adds out.old.items out.new.items (numbered_row_text (dot, entry.now) numbers.now) result }
 {
-    put_row_front(out, dot, entry.path.keys().len() as u8)?;
+    put_byte(out, dot.replica)?;
+    put_u64(out, dot.seq)?;
+    put_byte(out, entry.path.keys().len() as u8)?;
     put_numbers(out, numbers)?;
     put_kind(out, entry.kind)?;
     put_scalar(out, &entry.value)
