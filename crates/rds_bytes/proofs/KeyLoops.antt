@@ -1,23 +1,21 @@
 -- Reading keys one after the other, as a loop does.
-use Rattle.std.proofs.Common.{◌≡◌, ℕ, Bool, true, false, not, cond, ◌&&◌, ◌||◌, List, [], ◌∷◌, ◌++◌, Result, Ok, Err, refl, sym, ap, subst, ◌∙◌}
-use Rattle.std.specs.Prelude.{fold}
+use Rattle.std.proofs.Common.{◌≡◌, ℕ, Bool, true, false, not, cond, ◌&&◌, List, [], ◌∷◌, ◌++◌, Result, Ok, Err, Option, Some, None, refl, sym, ap, subst, ◌∙◌}
+use Rattle.std.specs.Prelude.{fold, is_some}
 use Rattle.std.specs.List.{list_any}
 use Rattle.std.specs.Str.{bytes_eq}
 use Rattle.std.specs.declared.cmp.Ordering.{Ordering}
 use Rattle.std.specs.Ordering.{is_eq, nat_cmp, ordering_then}
 use Rattle.std.specs.Cmp.{nat_cmp_total, tied_itself, tied_then}
 use Rattle.std.specs.Cmp.Lexicographic.{texts_ties, nat_list_eq_equiv}
-use Rattle.std.specs.BTreeMap.{is_at}
-use Rattle.std.specs.BTreeSet.{BTreeSet, contains, contains_by, Updates}
 use Rattle.rds_names.specs.declared.fault.Fault.{Fault}
 use Rattle.rds_names.specs.declared.fault.Fault.TheVariants.{Bad}
 use Rattle.rds_bytes.specs.Reading.{Fails, key_at}
 use Rattle.rds_bytes.specs.Marks.{mark}
-use Rattle.rds_bytes.specs.Numbers.{key_cmp, marked_cmp}
-use Rattle.rds_bytes.specs.Table.{has_key}
+use Rattle.rds_bytes.specs.Numbers.{place_in, key_cmp, marked_cmp}
+use Rattle.rds_bytes.specs.Table.{has_key, number_of}
 use Rattle.rds_bytes.specs.TableTexts.{new_key_at}
 use Rattle.rds_bytes.proofs.Loops.{fails_on}
-use Rattle.rds_bytes.proofs.TableLaws.{has_turned, has_push, same_key}
+use Rattle.rds_bytes.proofs.TableLaws.{has_turned, same_key}
 
 fold_push : {A K : Type 0} (f : K → A → K) (k : K) (xs : List A) (x : A) → fold f k (xs ++ x ∷ []) ≡ f (fold f k xs) x
 fold_push f k [] x = refl
@@ -53,18 +51,19 @@ module _ (table : List (List ℕ)) (bytes : List ℕ) where
   unfolding new_key_at
   key_is_old key rest read old = rw read (new_is table key rest true old)
 
--- ---- the keys of a list as a set
+-- whether a key has a number says whether it stands there
+pub is_placed : (keys : List (List ℕ)) (key : List ℕ) (number : Option ℕ) (b : Bool) → number ≡ place_in keys key → is_some number ≡ b → has_key keys key ≡ b
+is_placed keys key number b is some = sym (by (has_key keys key) refl) ∙ ap is_some (sym is) ∙ some
+  where
+    by : (h : Bool) → has_key keys key ≡ h → is_some (place_in keys key) ≡ has_key keys key
+    by true e = ap (λ t. is_some (cond t (Some (number_of keys key)) None)) e ∙ sym e
+    by false e = ap (λ t. is_some (cond t (Some (number_of keys key)) None)) e ∙ sym e
+
+-- ---- keys with their marks
 
 -- a key with its mark, against another with its own
 abbrev pub pair_cmp : ℕ × List ℕ → ℕ × List ℕ → Ordering
 pair_cmp a b = ordering_then (nat_cmp a.0 b.0) (key_cmp a.1 b.1)
-
--- the set has the keys of the list
-abbrev pub Knows : BTreeSet (ℕ × List ℕ) → List (List ℕ) → Type 0
-Knows known keys = (q : List ℕ) → contains_by (λ k. marked_cmp q k.0 k.1) known ≡ has_key keys q
-
-pub none_known : (known : BTreeSet (ℕ × List ℕ)) → known.keys ≡ [] → Knows known []
-none_known known e q = ap (list_any (is_at (λ k. marked_cmp q k.0 k.1))) e
 
 ties_alone : (key q : List ℕ) → is_eq (key_cmp key q) ≡ bytes_eq q key
 ties_alone key q = sym (texts_ties key q) ∙ nat_list_eq_equiv.symm key q
@@ -83,32 +82,3 @@ ties key q = sym (tied_then (nat_cmp (mark key) (mark q)) (key_cmp key q)) ∙ b
     by : (b : Bool) → bytes_eq q key ≡ b → (is_eq (nat_cmp (mark key) (mark q)) && is_eq (key_cmp key q)) ≡ b
     by true e = λ i. level (same_key q key e) i && (ties_alone key q ∙ e) i
     by false e = (λ i. is_eq (nat_cmp (mark key) (mark q)) && (ties_alone key q ∙ e) i) ∙ and_false _
-
-or_cond : (a b : Bool) → cond a true b ≡ (b || a)
-or_cond true true = refl
-or_cond true false = refl
-or_cond false true = refl
-or_cond false false = refl
-
-module _ (known : BTreeSet (ℕ × List ℕ)) (keys : List (List ℕ)) (m : ℕ) (key : List ℕ) (marked : m ≡ mark key) where
-  pub one_known : (next : BTreeSet (ℕ × List ℕ)) → Updates pair_cmp known next (m, key) true → Knows known keys → Knows next (keys ++ key ∷ [])
-  one_known next updates had q =
-      updates.0 (mark q, q) ∙ or_cond (is_eq (pair_cmp (m, key) (mark q, q))) (contains pair_cmp known (mark q, q)) ∙ (λ i. had q i || is_eq (pair_cmp (marked i, key) (mark q, q))) ∙ (λ i. has_key keys q || ties key q i) ∙ sym (has_push keys key q)
-
-  had_key : Knows known keys → contains pair_cmp known (m, key) ≡ has_key keys key
-  had_key had = (λ i. contains pair_cmp known (marked i, key)) ∙ had key
-
-  -- whether a key was put in says whether the list lacks it
-  pub was_old : (is_new : Bool) → Knows known keys → is_new ≡ not (contains pair_cmp known (m, key)) → is_new ≡ false → has_key keys key ≡ true
-  was_old is_new had said is = sym (had_key had) ∙ by (contains pair_cmp known (m, key)) (sym said ∙ is)
-    where
-      by : (b : Bool) → not b ≡ false → b ≡ true
-      by true e = refl
-      by false e = absurd (let none : ◌≡◌ {A = Bool} true false = e in cc)
-
-  pub was_new : (is_new : Bool) → Knows known keys → is_new ≡ not (contains pair_cmp known (m, key)) → is_new ≡ true → has_key keys key ≡ false
-  was_new is_new had said is = sym (had_key had) ∙ by (contains pair_cmp known (m, key)) (sym said ∙ is)
-    where
-      by : (b : Bool) → not b ≡ true → b ≡ false
-      by false e = refl
-      by true e = absurd (let none : ◌≡◌ {A = Bool} false true = e in cc)

@@ -21,7 +21,7 @@ same_key a b h = (bytes_eq-Decides a b).0 h
 pub is_same : (a : List ℕ) → bytes_eq a a ≡ true
 is_same a = (bytes_eq-Decides a a).1 refl
 
-no_some : {A B : Type 0} (x : A) → ◌≡◌ {A = Option A} None (Some x) → B
+pub no_some : {A B : Type 0} (x : A) → ◌≡◌ {A = Option A} None (Some x) → B
 no_some x h = absurd (let none : ⊥ = cc in none)
 
 -- ---- the number of a key
@@ -188,7 +188,7 @@ get_more [] y i x h = no_some x h
 get_more (z ∷ xs) y zero x h = h
 get_more (z ∷ xs) y (suc i) x h = get_more xs y i x h
 
-get_last : {A : Type 0} (xs : List A) (y : A) → slice_get (xs ++ y ∷ []) (length xs) ≡ Some y
+pub get_last : {A : Type 0} (xs : List A) (y : A) → slice_get (xs ++ y ∷ []) (length xs) ≡ Some y
 get_last [] y = refl
 get_last (x ∷ xs) y = get_last xs y
 
@@ -198,7 +198,7 @@ has_taken (x ∷ xs) n zero k lt h = absurd (let none : ⊥ = omega arith in non
 has_taken (x ∷ xs) zero (suc u) k lt h = has_at (x ∷ take u xs) 0 k h
 has_taken (x ∷ xs) (suc n) (suc u) k lt h = ap (λ t. bytes_eq k x || t) (has_taken xs n u k (omega arith) h) ∙ or_true (bytes_eq k x)
 
-not_taken : (table : List (List ℕ)) (u : ℕ) (k : List ℕ) → u ≤ number_of table k → has_key (take u table) k ≡ false
+pub not_taken : (table : List (List ℕ)) (u : ℕ) (k : List ℕ) → u ≤ number_of table k → has_key (take u table) k ≡ false
 not_taken table zero k le = refl
 not_taken [] (suc u) k le = refl
 not_taken (x ∷ xs) (suc u) k le = by (bytes_eq k x) refl (λ later. not_taken xs u k later)
@@ -207,7 +207,7 @@ not_taken (x ∷ xs) (suc u) k le = by (bytes_eq k x) refl (λ later. not_taken 
     by true e more = absurd (let zero_is = head_number true x xs k e in let none : ⊥ = omega arith in none)
     by false e more = (let next = head_number false x xs k e in head_has false x (take u xs) k e ∙ more (omega arith))
 
-take_push : {A : Type 0} (xs : List A) (n : ℕ) (x : A) → slice_get xs n ≡ Some x → take n xs ++ x ∷ [] ≡ take (suc n) xs
+pub take_push : {A : Type 0} (xs : List A) (n : ℕ) (x : A) → slice_get xs n ≡ Some x → take n xs ++ x ∷ [] ≡ take (suc n) xs
 take_push [] n x h = no_some x h
 take_push (y ∷ xs) zero x h = (let same : y ≡ x = cc in ap (λ z. z ∷ []) (sym same))
 take_push (y ∷ xs) (suc n) x h = ap (λ t. y ∷ t) (take_push xs n x h)

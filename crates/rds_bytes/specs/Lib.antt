@@ -4,6 +4,7 @@ pub mod Inserting
 pub mod Marks
 pub mod Numbers
 pub mod OneText
+pub mod Places
 pub mod Reading
 pub mod RowDots
 pub mod SetRows

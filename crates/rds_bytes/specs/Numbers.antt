@@ -1,13 +1,10 @@
 -- The numbers of keys, as they come.
-use Rattle.std.specs.Prelude.{◌≡◌, ℕ, ◌+◌, ◌*◌, true, if◌then◌else◌, List, [], ◌∷◌, ◌++◌, length, take, drop, Option, Some, None}
+use Rattle.std.specs.Prelude.{ℕ, ◌+◌, ◌*◌, if◌then◌else◌, List, [], ◌∷◌, ◌++◌, length, take, drop, Option, Some, None}
 use Rattle.std.specs.List.{flat_map}
 use Rattle.std.specs.Int.{w32, to_be_bytes}
-use Rattle.std.specs.Borrow.{Bor}
 use Rattle.std.specs.Ordering.{nat_cmp, ordering_then}
 use Rattle.std.specs.declared.cmp.Ordering.{Ordering}
 use Rattle.std.specs.Cmp.Lexicographic.{slice_cmp}
-use Rattle.std.specs.BTreeMap.{BTreeMap, get_by}
-use Rattle.rds_names.specs.Roster.{all_differ}
 use Rattle.rds_names.specs.declared.entry.Entry.{Entry}
 use Rattle.rds_dots.specs.declared.dot.Dot.{Dot}
 use Rattle.rds_counts.specs.declared.row.CountRow.{CountRow}
@@ -30,11 +27,6 @@ key_cmp = slice_cmp nat_cmp
 -- a key with its mark, against another with its own: by the marks, and by the keys where those are equal
 abbrev pub marked_cmp : List ℕ → ℕ → List ℕ → Ordering
 marked_cmp key m other = ordering_then (nat_cmp (mark key) m) (key_cmp key other)
-
--- the map has the number of each key, and no key stands twice
-pub record AreNumbered (places : BTreeMap (ℕ × Bor (List ℕ)) ℕ) (keys : List (List ℕ)) : Type 0 where
-  pub place : (key : List ℕ) → get_by (λ k. marked_cmp key k.0 k.1.now) places ≡ place_in keys key
-  pub differ : all_differ keys ≡ true
 
 -- ---- texts of rows with given numbers in place of their keys
 

@@ -2,7 +2,8 @@
 //!
 //! To be read in this order: `numbers` and `strings`; `list`, by which parts are read one after the other; `keys`, and
 //! `sources`, which say where the keys of rows come from; `paths`, `scalars`, `entries` and `live_rows`; `counters`;
-//! `marks`, by which most keys are told apart; `tables`, which are read and then give the keys of rows by their numbers;
+//! `marks`, numbers made of keys, and `places`, where keys are found by them; `tables`, which are read and then give the
+//! keys of rows by their numbers;
 //! `numbering`, which numbers the keys that rows use, and `numbered`, which writes a table and rows over numbers;
 //! `roster` and `header`; `dots`, and `dot_rows` for sets of which a row comes in pieces; `laws`, which has the text of
 //! sets in their own words, of each reader that what it says stays said, whatever follows, and the laws of tables.
@@ -22,6 +23,7 @@ mod numbered;
 mod numbering;
 mod numbers;
 mod paths;
+mod places;
 mod roster;
 mod scalars;
 mod sources;
@@ -55,6 +57,7 @@ pub use numbering::{NumberedKeys, number_keys};
 pub use numbers::{
     put_byte, put_u32, put_u64, read_byte, read_length, read_u16, read_u32, read_u64,
 };
+pub use places::KeyPlaces;
 pub use roster::{
     NameReader, member_length, put_member, read_member, read_name, read_replica, read_roster,
 };

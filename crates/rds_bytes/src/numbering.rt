@@ -1,18 +1,20 @@
 //! Numbering the keys that rows use, in the order in which they come.
-ghost use Rattle.std.specs.Prelude.{◌≡◌, ◌++◌, ◌∷◌, [], fold, map as each, slice_get, Some, IsTrue, OnOk, IfOk, IfErr};
+ghost use Rattle.std.specs.Prelude.{◌≡◌, ◌++◌, ◌∷◌, [], false, length, fold, map as each, OnOk, IfOk, IfErr};
 ghost use Rattle.rds_names.specs.declared.fault.Fault.TheVariants.{Memory};
 ghost use Rattle.rds_life.specs.Life.{live_rows};
 ghost use Rattle.rds_counts.specs.RowsOf.{count_rows};
-ghost use Rattle.rds_bytes.specs.Numbers.{AreNumbered, numbers_from};
-ghost use Rattle.rds_bytes.specs.Table.{add_key, number_of, rows_table, live_keys, counter_keys, used_keys};
+ghost use Rattle.rds_bytes.specs.Marks.{mark as its_mark};
+ghost use Rattle.rds_bytes.specs.Numbers.{numbers_from};
+ghost use Rattle.rds_bytes.specs.Places.{AreFound};
+ghost use Rattle.rds_bytes.specs.Table.{has_key, add_key, number_of, rows_table, live_keys, counter_keys, used_keys};
 
 use crate::marks::mark_of;
+use crate::places::{KeyPlaces, has_at};
 use rds_counts::{CountRow, Counts};
 use rds_dots::DotSet;
 use rds_life::Lives;
 use rds_names::{Fault, Key};
 use std::alloc::Global;
-use std::collections::BTreeMap;
 
 /// The keys that rows use, each once in the order of first use, and the number of each use.
 #[derive(Drop)]
@@ -21,11 +23,10 @@ pub struct NumberedKeys {
     pub numbers: Vec<usize>,
 }
 
-/// Keys, each once in the order of first use, with the number of each; and the number of each use. Strangers choose the
-/// keys, so they stand in a map by order, where most are told apart by their marks.
+/// Keys, each once in the order of first use, and where the number of each is found; and the number of each use.
 #[derive(Drop)]
-struct Numbering<'a> {
-    places: BTreeMap<(u64, &'a Key), usize>,
+struct Numbering {
+    places: KeyPlaces,
     keys: Vec<Key>,
     numbers: Vec<usize>,
     /// By the number of a key, that of the key which last came where this one was guessed.
@@ -45,84 +46,74 @@ fn follow(followers: &mut Vec<usize>, guess: usize, number: usize) -> Result<(),
     Ok(())
 }
 
-impl<'a> Numbering<'a> {
-    /// Whether the key has this number.
-    fn has_at(&self, number: usize, key: &Key) -> bool
-        ensures { IsTrue result → slice_get self.now.keys.items number ≡ Some key.now }
-    {
-        match self.keys.get(number) {
-            Some(known) => *known == *key,
-            None => false,
-        }
-    }
-
-    /// The number of a key by a look-up, which gives a new key the next number.
-    fn look_up(&mut self, alloc: Global, key: &'a Key) -> Result<usize, Fault>
-        requires { AreNumbered self.old.places self.old.keys.items }
-        ensures numbered { OnOk result (AreNumbered self.new.places self.new.keys.items) }
-        ensures keys { OnOk result (self.new.keys.items ≡ add_key self.old.keys.items key.now) }
-        ensures number { IfOk result (λ number. number ≡ number_of self.old.keys.items key.now) }
-        ensures numbers { self.new.numbers.items ≡ self.old.numbers.items }
-        ensures memory { IfErr result (λ fault. fault ≡ Memory) }
-    {
-        let next = self.keys.len();
-        let number = *self.places.entry((mark_of(key), key))?.or_insert(next);
-        if number == next {
-            self.keys.push(key.copy(alloc)?)?;
-        }
-        Ok(number)
-    }
-
+impl Numbering {
     /// What last came where a key was guessed, as a guess.
     fn follower(&self, guess: usize) -> usize {
         self.followers.get(guess).copied().unwrap_or(0)
     }
 
-    /// The number of a key that is none of its guesses. What came where it was guessed is noted. Apart from what is done
-    /// where a guess is right, which stays small so.
+    /// Gives a new key the next number.
+    fn add_key(&mut self, alloc: Global, mark: u64, key: &Key) -> Result<usize, Fault>
+        requires found { AreFound self.old.places self.old.keys.items }
+        requires new { has_key self.old.keys.items key.now ≡ false }
+        requires mark { mark ≡ its_mark key.now }
+        ensures found { OnOk result (AreFound self.new.places self.new.keys.items) }
+        ensures keys { OnOk result (self.new.keys.items ≡ self.old.keys.items ++ key.now ∷ []) }
+        ensures number { IfOk result (λ number. number ≡ length self.old.keys.items) }
+        ensures numbers { self.new.numbers.items ≡ self.old.numbers.items }
+        ensures memory { IfErr result (λ fault. fault ≡ Memory) }
+    {
+        let number = self.keys.len();
+        self.places.add(alloc, self.keys.as_slice(), mark, key)?;
+        self.keys.push(key.copy(alloc)?)?;
+        Ok(number)
+    }
+
+    /// The number of a key by a look-up, which gives a new key the next number. It is noted as what came where the key was
+    /// guessed. Few keys come here, and the loop over the others is the faster for not having this in it.
     #[inline(never)]
-    fn number_unguessed(
-        &mut self,
-        alloc: Global,
-        guess: usize,
-        key: &'a Key,
-    ) -> Result<usize, Fault>
-        requires { AreNumbered self.old.places self.old.keys.items }
-        ensures numbered { OnOk result (AreNumbered self.new.places self.new.keys.items) }
+    fn look_up(&mut self, alloc: Global, guess: usize, key: &Key) -> Result<usize, Fault>
+        requires { AreFound self.old.places self.old.keys.items }
+        ensures found { OnOk result (AreFound self.new.places self.new.keys.items) }
         ensures keys { OnOk result (self.new.keys.items ≡ add_key self.old.keys.items key.now) }
         ensures number { IfOk result (λ number. number ≡ number_of self.old.keys.items key.now) }
         ensures numbers { self.new.numbers.items ≡ self.old.numbers.items }
         ensures memory { IfErr result (λ fault. fault ≡ Memory) }
     {
-        let number = self.look_up(alloc, key)?;
+        let mark = mark_of(key);
+        let known = self.places.find(alloc, self.keys.as_slice(), mark, key)?;
+        let number = match known {
+            Some(number) => number,
+            None => self.add_key(alloc, mark, key)?,
+        };
         follow(&mut self.followers, guess, number)?;
         Ok(number)
     }
 
     /// The number of a key, which is the next one where it has none. Where a guess is right, nothing is looked up. The
     /// second guess is what last came where the first one was wrong.
-    fn number(&mut self, alloc: Global, guess: usize, key: &'a Key) -> Result<usize, Fault>
-        requires { AreNumbered self.old.places self.old.keys.items }
-        ensures numbered { OnOk result (AreNumbered self.new.places self.new.keys.items) }
+    fn number(&mut self, alloc: Global, guess: usize, key: &Key) -> Result<usize, Fault>
+        requires { AreFound self.old.places self.old.keys.items }
+        ensures found { OnOk result (AreFound self.new.places self.new.keys.items) }
         ensures keys { OnOk result (self.new.keys.items ≡ add_key self.old.keys.items key.now) }
         ensures number { IfOk result (λ number. number ≡ number_of self.old.keys.items key.now) }
         ensures numbers { self.new.numbers.items ≡ self.old.numbers.items }
         ensures memory { IfErr result (λ fault. fault ≡ Memory) }
     {
-        if self.has_at(guess, key) {
+        if has_at(self.keys.as_slice(), guess, key) {
             return Ok(guess);
         }
         let second = self.follower(guess);
-        if self.has_at(second, key) {
+        if has_at(self.keys.as_slice(), second, key) {
             return Ok(second);
         }
-        self.number_unguessed(alloc, guess, key)
+        self.look_up(alloc, guess, key)
     }
 
     /// Notes the number of a key.
-    fn add(&mut self, alloc: Global, guess: usize, key: &'a Key) -> Result<(), Fault>
-        requires { AreNumbered self.old.places self.old.keys.items }
-        ensures numbered { OnOk result (AreNumbered self.new.places self.new.keys.items) }
+    fn add(&mut self, alloc: Global, guess: usize, key: &Key) -> Result<(), Fault>
+        requires { AreFound self.old.places self.old.keys.items }
+        ensures found { OnOk result (AreFound self.new.places self.new.keys.items) }
         ensures keys { OnOk result (self.new.keys.items ≡ add_key self.old.keys.items key.now) }
         ensures numbers { OnOk result (self.new.numbers.items
             ≡ self.old.numbers.items ++ number_of self.old.keys.items key.now ∷ []) }
@@ -139,9 +130,9 @@ impl<'a> Numbering<'a> {
     }
 
     /// Notes the numbers of the keys of a path. From `last` on stand those of the path before, which are the guesses.
-    fn add_path(&mut self, alloc: Global, last: usize, mut keys: &'a [Key]) -> Result<(), Fault>
-        requires { AreNumbered self.old.places self.old.keys.items }
-        ensures numbered { OnOk result (AreNumbered self.new.places self.new.keys.items) }
+    fn add_path(&mut self, alloc: Global, last: usize, mut keys: &[Key]) -> Result<(), Fault>
+        requires { AreFound self.old.places self.old.keys.items }
+        ensures found { OnOk result (AreFound self.new.places self.new.keys.items) }
         ensures keys { OnOk result (self.new.keys.items ≡ fold add_key self.old.keys.items keys.entry.now) }
         ensures numbers { OnOk result (self.new.numbers.items
             ≡ self.old.numbers.items ++ numbers_from self.old.keys.items keys.entry.now) }
@@ -160,9 +151,9 @@ impl<'a> Numbering<'a> {
         }
     }
 
-    fn add_lives<S: DotSet>(&mut self, alloc: Global, lives: &'a Lives<S>) -> Result<(), Fault>
-        requires { AreNumbered self.old.places self.old.keys.items }
-        ensures numbered { OnOk result (AreNumbered self.new.places self.new.keys.items) }
+    fn add_lives<S: DotSet>(&mut self, alloc: Global, lives: &Lives<S>) -> Result<(), Fault>
+        requires { AreFound self.old.places self.old.keys.items }
+        ensures found { OnOk result (AreFound self.new.places self.new.keys.items) }
         ensures keys { OnOk result (self.new.keys.items
             ≡ fold add_key self.old.keys.items (live_keys (live_rows lives.now))) }
         ensures numbers { OnOk result (self.new.numbers.items
@@ -179,9 +170,9 @@ impl<'a> Numbering<'a> {
     }
 
     /// Notes the numbers of the keys of rows of counters. The key of the row before is the guess.
-    fn add_counts(&mut self, alloc: Global, mut rows: &'a [CountRow]) -> Result<(), Fault>
-        requires { AreNumbered self.old.places self.old.keys.items }
-        ensures numbered { OnOk result (AreNumbered self.new.places self.new.keys.items) }
+    fn add_counts(&mut self, alloc: Global, mut rows: &[CountRow]) -> Result<(), Fault>
+        requires { AreFound self.old.places self.old.keys.items }
+        ensures found { OnOk result (AreFound self.new.places self.new.keys.items) }
         ensures keys { OnOk result (self.new.keys.items
             ≡ fold add_key self.old.keys.items (counter_keys rows.entry.now)) }
         ensures numbers { OnOk result (self.new.numbers.items
@@ -201,13 +192,13 @@ impl<'a> Numbering<'a> {
 }
 
 /// Nothing that is numbered.
-fn no_keys<'a>(alloc: Global) -> Numbering<'a>
-    ensures numbered { AreNumbered result.places result.keys.items }
+fn no_keys(alloc: Global) -> Numbering
+    ensures found { AreFound result.places result.keys.items }
     ensures keys { result.keys.items ≡ [] }
     ensures numbers { result.numbers.items ≡ [] }
 {
     Numbering {
-        places: BTreeMap::new(alloc),
+        places: KeyPlaces::new(alloc),
         keys: Vec::new(alloc),
         numbers: Vec::new(alloc),
         followers: Vec::new(alloc),

@@ -10,10 +10,10 @@ ghost use Rattle.rds_bytes.specs.TableValue.{meeting};
 use crate::keys::read_key;
 use crate::marks::mark_of;
 use crate::numbers::read_u32;
+use crate::places::KeyPlaces;
 use crate::sources::KeySource;
 use rds_names::{Fault, Key};
 use std::alloc::Global;
-use std::collections::BTreeSet;
 use std::marker::Model;
 
 /// The keys of a table, no two of which are equal.
@@ -147,14 +147,16 @@ fn read_new_keys<'a>(
     ensures differ { IfOk result (λ x. all_differ x.0.items ≡ true) }
 {
     let mut keys = Vec::new(alloc);
-    let mut known = BTreeSet::new(alloc);
+    let mut places = KeyPlaces::new(alloc);
     let mut rest = bytes;
     for _ in 0..count {
         let (key, after) = read_key(alloc, rest)?;
-        let is_new = known.insert((mark_of(&key), key.copy(alloc)?))?;
-        if !is_new {
+        let mark = mark_of(&key);
+        let known = places.find(alloc, keys.as_slice(), mark, &key)?;
+        if known.is_some() {
             return Err(Fault::Bad);
         }
+        places.add(alloc, keys.as_slice(), mark, &key)?;
         keys.push(key)?;
         rest = after;
     }

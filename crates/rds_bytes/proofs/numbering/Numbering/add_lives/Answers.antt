@@ -21,6 +21,6 @@ loop-dot-preserved g c =
       row_folded a t _ row rows (ap (λ (r : List (Dot × Entry)). fold add_key t (live_keys r)) (sym is) ∙ c.loop-dot.invariant.0) keys,
       (
         row_numbered a t c.add_path.new.self.numbers.items ns _ row rows (ap (λ (r : List (Dot × Entry)). ns ++ numbers_from t (live_keys r)) (sym is) ∙ c.loop-dot.invariant.1.0) keys numbers,
-        c.in_ok-add_path.ensures.numbered,
+        c.in_ok-add_path.ensures.found,
       ),
     )
