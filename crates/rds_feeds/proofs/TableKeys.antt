@@ -1,34 +1,23 @@
--- The keys of a table, read one by one beside the set of them.
-use Rattle.std.proofs.Common.{◌≡◌, ℕ, true, not, List, [], ◌∷◌, ◌++◌, Result, Ok, Err, refl, ap, ◌∙◌}
+-- The keys of a table, read one by one.
+use Rattle.std.proofs.Common.{◌≡◌, ℕ, not, Bool, true, false, List, [], ◌∷◌, ◌++◌, Result, Ok, Err, refl, ap, sym, ◌∙◌}
 use Rattle.std.specs.Int.{w32}
-use Rattle.std.specs.BTreeSet.{BTreeSet, contains, Updates}
-use Rattle.rds_names.specs.Conditions.{and_true}
 use Rattle.rds_names.specs.declared.fault.Fault.{Fault}
-use Rattle.rds_bytes.specs.Marks.{mark}
 use Rattle.rds_bytes.specs.Reading.{◌>>=◌, Reader, made_at, list_at, number_at, is_new, key_at}
 use Rattle.rds_bytes.specs.Table.{has_key}
 use Rattle.rds_bytes.specs.TableTexts.{new_key_at, table_at}
-use Rattle.rds_bytes.proofs.KeyLoops.{pair_cmp, one_known}
-use Rattle.rds_bytes.proofs.TableLaws.{has_push, differ_push, not_had}
+use Rattle.rds_bytes.proofs.TableLaws.{not_had}
 use Rattle.rds_feeds.specs.Parts.{WasRead, makes}
 use Rattle.rds_feeds.specs.Rows.{many}
-use Rattle.rds_feeds.specs.TableKeys.{AreKnown}
 use Rattle.rds_feeds.specs.WasRead.{when_read}
 use Rattle.rds_feeds.proofs.Lists.{many_are_list}
 
--- ---- one more key
-
-was_new : (keys : List (List ℕ)) (key : List ℕ) → WasRead (new_key_at keys) key → not (has_key keys key) ≡ true
+pub was_new : (keys : List (List ℕ)) (key : List ℕ) → WasRead (new_key_at keys) key → has_key keys key ≡ false
 unfolding new_key_at
-was_new keys key read = not_had keys key ∙ (when_read (is_new keys) key_at read.0 key read.1 read.2).1
-
-pub keys_go_on : (keys : List (List ℕ)) (m : ℕ) (key : List ℕ) (known next : BTreeSet (ℕ × List ℕ)) → m ≡ mark key → AreKnown keys known → WasRead (new_key_at keys) key → Updates pair_cmp known next (m, key) true → AreKnown (keys ++ key ∷ []) next
-keys_go_on keys m key known next marked are read updates =
-    (differ_push keys key ∙ and_true _ _ are.0 (was_new keys key read), one_known known keys m key marked next updates are.1)
-
--- whether the set has a key with its mark says whether the list has the key
-pub is_had : (keys : List (List ℕ)) (m : ℕ) (key : List ℕ) (known : BTreeSet (ℕ × List ℕ)) → m ≡ mark key → AreKnown keys known → contains pair_cmp known (m, key) ≡ has_key keys key
-is_had keys m key known marked are = (λ i. contains pair_cmp known (marked i, key)) ∙ are.1 key
+was_new keys key read = by (has_key keys key) (not_had keys key ∙ (when_read (is_new keys) key_at read.0 key read.1 read.2).1)
+  where
+    by : (b : Bool) → not b ≡ true → b ≡ false
+    by false e = refl
+    by true e = sym e
 
 -- ---- the table
 

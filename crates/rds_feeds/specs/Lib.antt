@@ -6,5 +6,4 @@ pub mod Parts
 pub mod Pieces
 pub mod Rows
 pub mod SeenDots
-pub mod TableKeys
 pub mod WasRead

@@ -7,30 +7,28 @@ use crate::made::{Made, Making};
 use crate::many::{CountWidth, Many};
 use crate::once::{Once, Part};
 use crate::unfinished::{Progress, Unfinished};
-use rds_bytes::{Table, mark_of, read_key};
+use rds_bytes::{KeyPlaces, Table, mark_of, read_key};
 use rds_names::{Fault, Key};
 use std::alloc::Global;
-use std::collections::BTreeSet;
 use std::marker::Model;
 
-/// The keys of a table that were read, in turn and as a set. Strangers choose the keys, so the set is by order, where most
-/// are told apart by their marks.
+/// The keys of a table that were read, in turn, and where each is found.
 #[derive(Drop)]
 pub struct KeysSoFar {
     alloc: Global,
     keys: Vec<Key>,
-    known: BTreeSet<(u64, Key)>,
+    places: KeyPlaces,
 }
 
 impl Model for KeysSoFar {
     ghost use Rattle.std.specs.Prelude.{ℕ, List};
-    ghost use Rattle.rds_feeds.specs.TableKeys.{AreKnown};
+    ghost use Rattle.rds_bytes.specs.Places.{AreFound};
 
     ghost Value = { List (List ℕ) };
 
     ghost view = { λ k. k.keys.items };
 
-    ghost invariant = { λ k. AreKnown k.keys.items k.known };
+    ghost invariant = { λ k. AreFound k.places k.keys.items };
 }
 
 impl Part for KeysSoFar {
@@ -44,11 +42,11 @@ impl Part for KeysSoFar {
 
     fn read<'a>(&self, alloc: Global, bytes: &'a [u8]) -> Result<(Key, &'a [u8]), Fault> {
         let (key, rest) = read_key(alloc, bytes)?;
-        let marked = (mark_of(&key), key);
-        if self.known.contains(&marked) {
+        let mark = mark_of(&key);
+        let known = self.places.find(alloc, self.keys.as_slice(), mark, &key)?;
+        if known.is_some() {
             return Err(Fault::Bad);
         }
-        let (_, key) = marked;
         Ok((key, rest))
     }
 
@@ -56,11 +54,15 @@ impl Part for KeysSoFar {
         let KeysSoFar {
             alloc,
             mut keys,
-            mut known,
+            mut places,
         } = self;
-        known.insert((mark_of(&part), part.copy(alloc)?))?;
+        places.add(alloc, keys.as_slice(), mark_of(&part), &part)?;
         keys.push(part)?;
-        Ok(KeysSoFar { alloc, keys, known })
+        Ok(KeysSoFar {
+            alloc,
+            keys,
+            places,
+        })
     }
 
     ghost steady = { new_key_steady };
@@ -79,7 +81,7 @@ impl Making<KeysSoFar> for KeysAreTable {
         let KeysSoFar {
             alloc: _,
             keys,
-            known: _known,
+            places: _places,
         } = whole;
         Ok(Table::with_keys(keys))
     }
@@ -119,7 +121,7 @@ pub fn unfinished_table(alloc: Global) -> UnfinishedTable
     let keys = KeysSoFar {
         alloc,
         keys: Vec::new(alloc),
-        known: BTreeSet::new(alloc),
+        places: KeyPlaces::new(alloc),
     };
     UnfinishedTable {
         parts: Made {
