@@ -1,5 +1,5 @@
 -- Marks of keys: a number made of all bytes of a key, by which most keys are told apart at once.
-use Rattle.std.specs.Prelude.{ℕ, ◌*◌, ◌/◌, ◌%◌, ◌^◌, List, length, drop, bit_xor, fold}
+use Rattle.std.specs.Prelude.{ℕ, ◌+◌, ◌-◌, ◌*◌, ◌/◌, ◌%◌, ◌^◌, nat_lt, if◌then◌else◌, List, length, drop, bit_xor, fold}
 use Rattle.std.specs.Int.{w64, from_le_bytes}
 use Rattle.std.specs.Simd.{first_chunks}
 
@@ -7,7 +7,14 @@ use Rattle.std.specs.Simd.{first_chunks}
 unfoldable pub mixed : ℕ → ℕ → ℕ
 mixed mark word = (let z = bit_xor mark word * 0x9e3779b97f4a7c15 % 2 ^ 64 in bit_xor z (z / 2 ^ 32))
 
--- eight bytes at a time are mixed in, and then those that are left
+-- a number, with a byte put behind it
+unfoldable pub with_byte : ℕ → ℕ → ℕ
+with_byte word byte = (word * 256 % 2 ^ 64 + byte) % 2 ^ 64
+
+-- the last eight bytes as a number, or all where they are fewer
+abbrev pub last_word : List ℕ → ℕ
+last_word bytes = if nat_lt (length bytes) 8 then fold with_byte 0 bytes else from_le_bytes w64 (drop (length bytes - 8) bytes)
+
+-- eight bytes at a time are mixed in, and then the last eight, which have those that are left
 unfoldable pub mark : List ℕ → ℕ
-mark bytes =
-    fold mixed (fold (λ m word. mixed m (from_le_bytes w64 word)) 0 (first_chunks 8 (length bytes / 8) bytes)) (drop (length bytes / 8 * 8) bytes)
+mark bytes = mixed (fold (λ m word. mixed m (from_le_bytes w64 word)) 0 (first_chunks 8 (length bytes / 8) bytes)) (last_word bytes)

@@ -1,7 +1,7 @@
 //! Marks of keys: numbers made of their bytes, by which most keys are told apart at once.
 ghost use Rattle.std.specs.Prelude.{◌≡◌, fold};
 ghost use Rattle.std.specs.Int.{w64, from_le_bytes};
-ghost use Rattle.rds_bytes.specs.Marks.{mixed, mark};
+ghost use Rattle.rds_bytes.specs.Marks.{mixed, with_byte, last_word, mark};
 
 use rds_names::Key;
 
@@ -29,16 +29,34 @@ fn mix_words(mut words: &[[u8; 8]]) -> u64
     mark
 }
 
-/// A number, with each byte mixed in.
-fn mix_bytes(start: u64, mut bytes: &[u8]) -> u64
-    ensures { result ≡ fold mixed start bytes.entry.now }
+/// A number, with a byte put behind it.
+#[tactic(auto, unfolding(crate::specs::Marks::with_byte))]
+fn with_byte(word: u64, byte: u8) -> u64
+    ensures { result ≡ with_byte word byte }
 {
-    let mut mark = start;
-    'mixing: while let Some((byte, later)) = bytes.split_first() {
-        mark = mixed(mark, u64::from(*byte));
+    word.wrapping_mul(256).wrapping_add(u64::from(byte))
+}
+
+/// A few bytes as a number.
+fn short_word(mut bytes: &[u8]) -> u64
+    ensures { result ≡ fold with_byte 0 bytes.entry.now }
+{
+    let mut word = 0;
+    'reading: while let Some((byte, later)) = bytes.split_first() {
+        word = with_byte(word, *byte);
         bytes = later;
     }
-    mark
+    word
+}
+
+/// The last eight bytes as a number, or all where they are fewer.
+fn last_word(bytes: &[u8]) -> u64
+    ensures { result ≡ last_word bytes.now }
+{
+    match bytes.last_chunk::<8>() {
+        Some(last) => u64::from_le_bytes(*last),
+        None => short_word(bytes),
+    }
 }
 
 /// The mark of a key. Equal keys have one mark, and strangers may choose keys that have one too.
@@ -46,6 +64,7 @@ fn mix_bytes(start: u64, mut bytes: &[u8]) -> u64
 pub fn mark_of(key: &Key) -> u64
     ensures { result ≡ mark key.now }
 {
-    let (words, rest) = key.as_bytes().as_chunks::<8>();
-    mix_bytes(mix_words(words), rest)
+    let bytes = key.as_bytes();
+    let (words, _rest) = bytes.as_chunks::<8>();
+    mixed(mix_words(words), last_word(bytes))
 }
