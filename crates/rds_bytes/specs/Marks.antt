@@ -3,9 +3,9 @@ use Rattle.std.specs.Prelude.{ℕ, ◌+◌, ◌-◌, ◌*◌, ◌/◌, ◌%◌, 
 use Rattle.std.specs.Int.{w64, from_le_bytes}
 use Rattle.std.specs.Simd.{first_chunks}
 
--- a number, with another mixed in
+-- a number, with another mixed in: both halves of a product, so that each bit tells on each
 unfoldable pub mixed : ℕ → ℕ → ℕ
-mixed mark word = (let z = bit_xor mark word * 0x9e3779b97f4a7c15 % 2 ^ 64 in bit_xor z (z / 2 ^ 32))
+mixed mark word = (let product = bit_xor mark word * 0x9e3779b97f4a7c15 in bit_xor (product % 2 ^ 64) (product / 2 ^ 64))
 
 -- a number, with a byte put behind it
 unfoldable pub with_byte : ℕ → ℕ → ℕ

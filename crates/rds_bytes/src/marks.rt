@@ -8,13 +8,14 @@ use rds_names::Key;
 /// An odd number, whose bits stand in no order: 2^64 by the golden ratio.
 const FACTOR: u64 = 0x9e37_79b9_7f4a_7c15;
 
-/// A number, with another mixed in.
+/// A number, with another mixed in. Both halves of a product are taken, so that each bit of the two tells on the low ones,
+/// which name buckets.
 #[tactic(auto, unfolding(crate::specs::Marks::mixed))]
 fn mixed(mark: u64, word: u64) -> u64
     ensures { result ≡ mixed mark word }
 {
-    let product = (mark ^ word).wrapping_mul(FACTOR);
-    product ^ (product >> 32)
+    let (low, high) = (mark ^ word).carrying_mul(FACTOR, 0);
+    low ^ high
 }
 
 /// What eight bytes at a time make.
