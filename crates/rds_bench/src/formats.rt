@@ -45,19 +45,24 @@ pub fn time(rt: &HostRuntime, dots: u64, keys: Keys) -> io::Result<()>
 }
 
 fn time_state(rt: &HostRuntime, dots: u64, state: &State<GapSet>) -> io::Result<()> {
-    let one = time_format(rt, Format::One, state)?;
-    let two = time_format(rt, Format::Two, state)?;
-    match (one, two) {
-        (Ok(one), Ok(two)) => {
-            print!(rt; "{dots} ")?;
-            print_figures(rt, one)?;
-            print!(rt; " ")?;
-            print_figures(rt, two)?;
-            println!(rt; "")
+    let (mut one, mut two) = match time_round(rt, state)? {
+        Ok(figures) => figures,
+        Err(fault) => return report(rt, fault),
+    };
+    for _ in 1..ROUNDS {
+        match time_round(rt, state)? {
+            Ok((again, also)) => {
+                one = one.least(again);
+                two = two.least(also);
+            }
+            Err(fault) => return report(rt, fault),
         }
-        (Err(fault), _) => report(rt, fault),
-        (_, Err(fault)) => report(rt, fault),
     }
+    print!(rt; "{dots} ")?;
+    print_figures(rt, one)?;
+    print!(rt; " ")?;
+    print_figures(rt, two)?;
+    println!(rt; "")
 }
 
 fn print_figures(rt: &HostRuntime, figures: Figures) -> io::Result<()> {
@@ -69,26 +74,22 @@ fn print_figures(rt: &HostRuntime, figures: Figures) -> io::Result<()> {
     print!(rt; "{bytes} {encoded} {decoded}")
 }
 
-/// The least of the rounds.
-fn time_format(
+/// The formats one after the other, so that both find the memory that earlier rounds left.
+fn time_round(
     rt: &HostRuntime,
-    format: Format,
     state: &State<GapSet>,
-) -> io::Result<Result<Figures, Fault>> {
-    let mut best = match time_round(rt, format, state)? {
+) -> io::Result<Result<(Figures, Figures), Fault>> {
+    let one = match time_format(rt, Format::One, state)? {
         Ok(figures) => figures,
         Err(fault) => return Ok(Err(fault)),
     };
-    for _ in 1..ROUNDS {
-        match time_round(rt, format, state)? {
-            Ok(figures) => best = best.least(figures),
-            Err(fault) => return Ok(Err(fault)),
-        }
+    match time_format(rt, Format::Two, state)? {
+        Ok(two) => Ok(Ok((one, two))),
+        Err(fault) => Ok(Err(fault)),
     }
-    Ok(Ok(best))
 }
 
-fn time_round(
+fn time_format(
     rt: &HostRuntime,
     format: Format,
     state: &State<GapSet>,
