@@ -9,11 +9,10 @@ use Rattle.rds_counts.specs.declared.row.CountRow.{CountRow}
 use Rattle.rds_counts.specs.Counted.{Counted}
 use Rattle.rds_counts.specs.RowsOf.{count_rows}
 use Rattle.rds_bytes.specs.Spelling.{byte_text, kind_byte, scalar_text, dot_text, keyed_live_row_text, keyed_live_rows_text, keyed_count_row_text, keyed_count_rows_text, keyed_counters_text}
-use Rattle.rds_bytes.specs.Table.{AreIn, table_of, number_of, live_keys, counter_keys, used_keys}
+use Rattle.rds_bytes.specs.Table.{table_of, number_of, live_keys, counter_keys, used_keys}
 use Rattle.rds_bytes.specs.TableTexts.{number_text}
 use Rattle.rds_bytes.specs.Numbers.{numbers_text, numbered_row_text, numbered_rows_text, numbered_counts_text, keys_in, numbered_length}
 use Rattle.rds_bytes.proofs.NumberLaws.{paths_more}
-use Rattle.rds_bytes.proofs.TableLaws.{number_below, table_has}
 
 each_append : (f : List ℕ → ℕ) (xs ys : List (List ℕ)) → each f (xs ++ ys) ≡ each f xs ++ each f ys
 each_append f [] ys = refl
@@ -76,10 +75,6 @@ module _ (table : List (List ℕ)) where
   counts_enough [] = omega arith
   counts_enough (r ∷ counts) = let more = counts_enough counts in omega arith
 
-  pub numbers_small : (keys : List (List ℕ)) → length table < 2 ^ 32 → AreIn table keys → AllByRecursion (λ n. n < 2 ^ 32) (each f keys)
-  numbers_small [] few are = tt
-  numbers_small (k ∷ keys) few are = (let less = number_below table k are.0 in (omega arith, numbers_small keys few are.1))
-
   number_lengths : (keys : List (List ℕ)) → length (flat_map (number_text table) keys) ≡ 4 * length keys
   number_lengths [] = refl
   number_lengths (k ∷ keys) =
@@ -119,9 +114,6 @@ module _ (rows : List (Dot × Entry)) (counts : List CountRow) (numbers : List �
   pub own_enough : keys_in rows ≤ length numbers
   own_enough = rw are (numbers_enough own rows (counter_keys counts))
 
-  pub own_small : length own < 2 ^ 32 → AllByRecursion (λ n. n < 2 ^ 32) numbers
-  own_small few = rw are (numbers_small own (used_keys rows counts) few (table_has (used_keys rows counts)))
-
   pub own_left : drop (keys_in rows) numbers ≡ each (number_of own) (counter_keys counts)
   own_left = ap (drop (keys_in rows)) are ∙ numbers_left own rows (counter_keys counts)
 
@@ -133,13 +125,6 @@ module _ (rows : List (Dot × Entry)) (counts : List CountRow) (numbers : List �
 
   pub left_enough : (left : List ℕ) → left ≡ drop (keys_in rows) numbers → length counts ≤ length left
   left_enough left is = rw (is ∙ own_left) (counts_enough own counts)
-
-  each_small : (xs ys : List (List ℕ)) → AreIn own (xs ++ ys) → AreIn own ys
-  each_small [] ys h = h
-  each_small (x ∷ xs) ys h = each_small xs ys h.1
-
-  pub left_small : (left : List ℕ) → left ≡ drop (keys_in rows) numbers → length own < 2 ^ 32 → AllByRecursion (λ n. n < 2 ^ 32) left
-  left_small left is few = rw (is ∙ own_left) (numbers_small own (counter_keys counts) few (each_small (live_keys rows) (counter_keys counts) (table_has (used_keys rows counts))))
 
   -- what was added, part after part
   pub all_added : (a b c d e left : List ℕ) → left ≡ drop (keys_in rows) numbers → b ≡ a ++ to_be_bytes w32 (length rows) → c ≡ b ++ numbered_rows_text rows numbers → d ≡ c ++ to_be_bytes w32 (length counts) → e ≡ d ++ numbered_counts_text counts left

@@ -70,7 +70,7 @@ differ-push (x ∷ xs) y =
     list_any-append (λ m. bytes_eq m x) xs (y ∷ []) ∙ ap (λ b. has xs x || b) (or_none (bytes_eq y x) ∙ nat_list_eq_equiv.symm y x) in
     (λ i. not (front i) && differ-push xs y i) ∙ turn (has xs x) (all_differ xs) (has xs y) (bytes_eq x y)
 
-differ_first : (xs ys : List (List ℕ)) → all_differ (xs ++ ys) ≡ true → all_differ xs ≡ true
+pub differ_first : (xs ys : List (List ℕ)) → all_differ (xs ++ ys) ≡ true → all_differ xs ≡ true
 differ_first [] ys h = refl
 differ_first (x ∷ xs) ys h =
     let parts = sym (ap (λ b. not b && all_differ (xs ++ ys)) (list_any-append (λ m. bytes_eq m x) xs ys)) ∙ h in
@@ -80,7 +80,7 @@ differ_first (x ∷ xs) ys h =
     first true b h = h
     first false b h = refl
 
-push_more : {A : Type 0} (xs : List A) (y : A) (ys : List A) → (xs ++ y ∷ []) ++ ys ≡ xs ++ y ∷ ys
+pub push_more : {A : Type 0} (xs : List A) (y : A) (ys : List A) → (xs ++ y ∷ []) ++ ys ≡ xs ++ y ∷ ys
 push_more xs y ys = append_assoc xs (y ∷ []) ys
 
 module _ (test : List ℕ → Bool) where

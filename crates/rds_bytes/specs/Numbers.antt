@@ -1,6 +1,6 @@
 -- The numbers of keys, as they come.
-use Rattle.std.specs.Prelude.{ℕ, ◌+◌, ◌*◌, if◌then◌else◌, List, [], ◌∷◌, ◌++◌, length, take, drop, Option, Some, None}
-use Rattle.std.specs.List.{flat_map}
+use Rattle.std.specs.Prelude.{◌≡◌, ℕ, ◌+◌, ◌*◌, ◌^◌, ◌<◌, ◌≤◌, if◌then◌else◌, List, [], ◌∷◌, ◌++◌, length, take, drop, Option, Some, None}
+use Rattle.std.specs.List.{flat_map, AllByRecursion}
 use Rattle.std.specs.Int.{w32, to_be_bytes}
 use Rattle.std.specs.Ordering.{nat_cmp, ordering_then}
 use Rattle.std.specs.declared.cmp.Ordering.{Ordering}
@@ -9,8 +9,10 @@ use Rattle.rds_names.specs.declared.entry.Entry.{Entry}
 use Rattle.rds_dots.specs.declared.dot.Dot.{Dot}
 use Rattle.rds_counts.specs.declared.row.CountRow.{CountRow}
 use Rattle.rds_bytes.specs.Marks.{mark}
-use Rattle.rds_bytes.specs.Spelling.{byte_text, kind_byte, scalar_text, dot_text, counts_text}
+use Rattle.rds_bytes.specs.Spelling.{keyed_live_rows_text, byte_text, kind_byte, scalar_text, dot_text, counts_text}
 use Rattle.rds_bytes.specs.Table.{has_key, add_key, number_of}
+use Rattle.rds_bytes.specs.TableTexts.{number_text}
+use Rattle.rds_bytes.specs.Values.{IsLiveRow}
 
 -- the number of each key in the table as it is when the key comes
 abbrev pub numbers_from : List (List ℕ) → List (List ℕ) → List ℕ
@@ -42,6 +44,13 @@ abbrev pub numbered_rows_text : List (Dot × Entry) → List ℕ → List ℕ
 numbered_rows_text [] numbers = []
 numbered_rows_text (row ∷ rows) numbers =
     numbered_row_text row (take (length row.1.path) numbers) ++ numbered_rows_text rows (drop (length row.1.path) numbers)
+
+-- the length of live rows with numbers in place of their keys, whatever the table; and each is as a text may have it
+pub record AreMeasured (n : ℕ) (rows : List (Dot × Entry)) : Type 0 where
+  pub as_long : (table : List (List ℕ)) → n ≡ length (keyed_live_rows_text (number_text table) rows)
+  pub most : n ≤ 4 + 2048 * length rows
+  pub few : length rows < 2 ^ 64
+  pub are_entries : AllByRecursion IsLiveRow rows
 
 -- how many keys rows have
 abbrev pub keys_in : List (Dot × Entry) → ℕ

@@ -50,9 +50,7 @@ pub use live_rows::{
     read_live_rows,
 };
 pub use marks::mark_of;
-pub use numbered::{
-    numbered_counters_length, numbered_lives_length, put_numbered, put_table, table_length,
-};
+pub use numbered::{numbered_counters_length, put_numbered, put_table, table_length};
 pub use numbering::{NumberedKeys, number_keys};
 pub use numbers::{
     put_byte, put_u32, put_u64, read_byte, read_length, read_u16, read_u32, read_u64,

@@ -3,11 +3,11 @@ ghost use Rattle.std.specs.Prelude.{◌≡◌, ◌++◌, ◌+◌, ◌*◌, ◌<�
 ghost use Rattle.std.specs.List.{flat_map, AllByRecursion};
 ghost use Rattle.rds_life.specs.Life.{live_rows};
 ghost use Rattle.rds_counts.specs.RowsOf.{count_rows};
-ghost use Rattle.rds_bytes.specs.Numbers.{numbers_text, numbered_row_text, numbered_rows_text, numbered_counts_text, keys_in, numbered_length};
-ghost use Rattle.rds_bytes.specs.Spelling.{short_text, keyed_live_rows_text, keyed_counters_text};
+ghost use Rattle.rds_bytes.specs.Numbers.{numbers_text, numbered_row_text, numbered_rows_text, numbered_counts_text, keys_in};
+ghost use Rattle.rds_bytes.specs.Spelling.{short_text, scalar_text, keyed_live_rows_text, keyed_counters_text};
 ghost use Rattle.rds_bytes.specs.Table.{number_of, rows_table, used_keys};
 ghost use Rattle.rds_bytes.specs.TableTexts.{table_text, number_text};
-ghost use Rattle.rds_bytes.specs.Values.{IsKeyText, IsLiveRow};
+ghost use Rattle.rds_bytes.specs.Values.{IsKeyText, IsEntry};
 ghost use Rattle.rds_bytes.specs.Writing.{Adds};
 
 use crate::counters::put_counts;
@@ -44,32 +44,16 @@ pub fn table_length(keys: &[Key]) -> u128
     4 + table_keys_length(keys)
 }
 
-fn numbered_rows_length<S: DotSet>(lives: &Lives<S>) -> u128
-    ensures length { result ≡ numbered_length (live_rows lives.now) }
-    ensures most { result ≤ 2048 * length (live_rows lives.now) }
-    ensures few { length (live_rows lives.now) < 2 ^ 64 }
-    ensures are_entries { AllByRecursion IsLiveRow (live_rows lives.now) }
+/// The length of a live row with numbers in place of its keys.
+pub fn numbered_row_length(entry: &Entry) -> u128
+    ensures length { result ≡ 11 + 4 * length entry.now.path + length (scalar_text entry.now.value) }
+    ensures most { result ≤ 2048 }
+    ensures is_entry { IsEntry entry.now }
 {
-    let _few = lives.live_len();
-    let mut total = 0;
-    for (_dot, entry) in lives.live() {
-        // That its keys are text shows where they are measured.
-        let keys = entry.path.keys();
-        let _spelled = keys_length(keys);
-        total += (11 + 4 * keys.len() + scalar_length(&entry.value)) as u128;
-    }
-    total
-}
-
-/// The length of live rows with numbers in place of their keys. It doesn't depend on the table.
-pub fn numbered_lives_length<S: DotSet>(lives: &Lives<S>) -> u128
-    ensures length { (table : List (List ℕ))
-        → result ≡ length (keyed_live_rows_text (number_text table) (live_rows lives.now)) }
-    ensures most { result ≤ 4 + 2048 * length (live_rows lives.now) }
-    ensures few { length (live_rows lives.now) < 2 ^ 64 }
-    ensures are_entries { AllByRecursion IsLiveRow (live_rows lives.now) }
-{
-    4 + numbered_rows_length(lives)
+    // That its keys are text shows where they are measured.
+    let keys = entry.path.keys();
+    let _spelled = keys_length(keys);
+    (11 + 4 * keys.len() + scalar_length(&entry.value)) as u128
 }
 
 /// The length of counters with numbers in place of their keys. It doesn't depend on the table.
@@ -92,8 +76,7 @@ pub fn put_table(out: &mut Vec<u8>, keys: &[Key]) -> Result<(), AllocError>
 }
 
 /// Numbers of four bytes each.
-fn put_numbers(out: &mut Vec<u8>, mut numbers: &[usize]) -> Result<(), AllocError>
-    requires { AllByRecursion (λ n. n < 2 ^ 32) numbers.now }
+fn put_numbers(out: &mut Vec<u8>, mut numbers: &[u32]) -> Result<(), AllocError>
     ensures { Adds out.old.items out.new.items (numbers_text numbers.entry.now) result }
 {
     'writing: loop {
@@ -101,14 +84,13 @@ fn put_numbers(out: &mut Vec<u8>, mut numbers: &[usize]) -> Result<(), AllocErro
             Some(parts) => parts,
             None => return Ok(()),
         };
-        put_u32(out, *number as u32)?;
+        put_u32(out, *number)?;
         numbers = later;
     }
 }
 
 /// A row, with these numbers in place of its keys.
-fn put_row(out: &mut Vec<u8>, dot: Dot, entry: &Entry, numbers: &[usize]) -> Result<(), AllocError>
-    requires { AllByRecursion (λ n. n < 2 ^ 32) numbers.now }
+fn put_row(out: &mut Vec<u8>, dot: Dot, entry: &Entry, numbers: &[u32]) -> Result<(), AllocError>
     ensures { Adds out.old.items out.new.items (numbered_row_text (dot, entry.now) numbers.now) result }
 {
     put_byte(out, dot.replica)?;
@@ -123,10 +105,9 @@ fn put_row(out: &mut Vec<u8>, dot: Dot, entry: &Entry, numbers: &[usize]) -> Res
 fn put_rows<'n, S: DotSet>(
     out: &mut Vec<u8>,
     lives: &Lives<S>,
-    numbers: &'n [usize],
-) -> Result<&'n [usize], AllocError>
-    requires enough { keys_in (live_rows lives.now) ≤ length numbers.now }
-    requires small { AllByRecursion (λ n. n < 2 ^ 32) numbers.now }
+    numbers: &'n [u32],
+) -> Result<&'n [u32], AllocError>
+    requires { keys_in (live_rows lives.now) ≤ length numbers.now }
     ensures text { Adds out.old.items out.new.items (numbered_rows_text (live_rows lives.now) numbers.now) result }
     ensures left { IfOk result (λ left. left.now ≡ drop (keys_in (live_rows lives.now)) numbers.now) }
 {
@@ -151,10 +132,9 @@ fn put_count_row(out: &mut Vec<u8>, row: &CountRow, number: u32) -> Result<(), A
 fn put_count_rows(
     out: &mut Vec<u8>,
     mut rows: &[CountRow],
-    mut numbers: &[usize],
+    mut numbers: &[u32],
 ) -> Result<(), AllocError>
-    requires enough { length rows.now ≤ length numbers.now }
-    requires small { AllByRecursion (λ n. n < 2 ^ 32) numbers.now }
+    requires { length rows.now ≤ length numbers.now }
     ensures { Adds out.old.items out.new.items (numbered_counts_text rows.entry.now numbers.entry.now) result }
 {
     'writing: loop {
@@ -166,7 +146,7 @@ fn put_count_rows(
             Some(parts) => parts,
             None => unreachable!(),
         };
-        put_count_row(out, row, *number as u32)?;
+        put_count_row(out, row, *number)?;
         rows = later;
         numbers = left;
     }
@@ -177,11 +157,10 @@ pub fn put_numbered<S: DotSet>(
     out: &mut Vec<u8>,
     lives: &Lives<S>,
     counts: &Counts,
-    numbers: &[usize],
+    numbers: &[u32],
 ) -> Result<(), AllocError>
     requires numbers { numbers.now ≡ each (number_of (rows_table (live_rows lives.now) (count_rows counts.now)))
         (used_keys (live_rows lives.now) (count_rows counts.now)) }
-    requires few { length (rows_table (live_rows lives.now) (count_rows counts.now)) < 2 ^ 32 }
     requires rows { length (live_rows lives.now) < 2 ^ 32 }
     requires counts { length (count_rows counts.now) < 2 ^ 32 }
     ensures { let number_text = number_text (rows_table (live_rows lives.now) (count_rows counts.now)) in

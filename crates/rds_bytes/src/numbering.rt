@@ -4,12 +4,13 @@ ghost use Rattle.rds_names.specs.declared.fault.Fault.TheVariants.{Memory};
 ghost use Rattle.rds_life.specs.Life.{live_rows};
 ghost use Rattle.rds_counts.specs.RowsOf.{count_rows};
 ghost use Rattle.rds_bytes.specs.Marks.{mark as its_mark};
-ghost use Rattle.rds_bytes.specs.Numbers.{numbers_from};
+ghost use Rattle.rds_bytes.specs.Numbers.{AreMeasured, numbers_from};
 ghost use Rattle.rds_bytes.specs.Places.{AreFound};
 ghost use Rattle.rds_bytes.specs.Table.{has_key, add_key, number_of, rows_table, live_keys, counter_keys, used_keys};
 
 use crate::marks::mark_of;
-use crate::places::{KeyPlaces, has_at};
+use crate::numbered::numbered_row_length;
+use crate::places::{KeyPlaces, has_at, in_four_bytes};
 use rds_counts::{CountRow, Counts};
 use rds_dots::DotSet;
 use rds_life::Lives;
@@ -20,7 +21,9 @@ use std::alloc::Global;
 #[derive(Drop)]
 pub struct NumberedKeys {
     pub keys: Vec<Key>,
-    pub numbers: Vec<usize>,
+    pub numbers: Vec<u32>,
+    /// The bytes of the live rows, with numbers in place of their keys.
+    pub lives_length: u128,
 }
 
 /// Keys, each once in the order of first use, and where the number of each is found; and the number of each use.
@@ -28,19 +31,19 @@ pub struct NumberedKeys {
 struct Numbering {
     places: KeyPlaces,
     keys: Vec<Key>,
-    numbers: Vec<usize>,
+    numbers: Vec<u32>,
     /// By the number of a key, that of the key which last came where this one was guessed.
-    followers: Vec<usize>,
+    followers: Vec<u32>,
 }
 
 /// Notes what came where a key was guessed. Keys get their numbers in turn, so a new one has the next place.
-fn follow(followers: &mut Vec<usize>, guess: usize, number: usize) -> Result<(), Fault>
+fn follow(followers: &mut Vec<u32>, guess: u32, number: u32) -> Result<(), Fault>
     ensures { IfErr result (λ fault. fault ≡ Memory) }
 {
-    if number == followers.len() {
+    if number as usize == followers.len() {
         followers.push(number)?;
     }
-    if let Some(last) = followers.get_mut(guess) {
+    if let Some(last) = followers.get_mut(guess as usize) {
         *last = number;
     }
     Ok(())
@@ -48,8 +51,8 @@ fn follow(followers: &mut Vec<usize>, guess: usize, number: usize) -> Result<(),
 
 impl Numbering {
     /// What last came where a key was guessed, as a guess.
-    fn follower(&self, guess: usize) -> usize {
-        self.followers.get(guess).copied().unwrap_or(0)
+    fn follower(&self, guess: u32) -> u32 {
+        self.followers.get(guess as usize).copied().unwrap_or(0)
     }
 
     /// Gives a new key the next number.
@@ -72,7 +75,7 @@ impl Numbering {
     /// The number of a key by a look-up, which gives a new key the next number. It is noted as what came where the key was
     /// guessed. Few keys come here, and the loop over the others is the faster for not having this in it.
     #[inline(never)]
-    fn look_up(&mut self, alloc: Global, guess: usize, key: &Key) -> Result<usize, Fault>
+    fn look_up(&mut self, alloc: Global, guess: u32, key: &Key) -> Result<u32, Fault>
         requires { AreFound self.old.places self.old.keys.items }
         ensures found { OnOk result (AreFound self.new.places self.new.keys.items) }
         ensures keys { OnOk result (self.new.keys.items ≡ add_key self.old.keys.items key.now) }
@@ -82,17 +85,18 @@ impl Numbering {
     {
         let mark = mark_of(key);
         let known = self.places.find(alloc, self.keys.as_slice(), mark, key)?;
-        let number = match known {
+        let found = match known {
             Some(number) => number,
             None => self.add_key(alloc, mark, key)?,
         };
+        let number = in_four_bytes(found)?;
         follow(&mut self.followers, guess, number)?;
         Ok(number)
     }
 
     /// The number of a key, which is the next one where it has none. Where a guess is right, nothing is looked up. The
     /// second guess is what last came where the first one was wrong.
-    fn number(&mut self, alloc: Global, guess: usize, key: &Key) -> Result<usize, Fault>
+    fn number(&mut self, alloc: Global, guess: u32, key: &Key) -> Result<u32, Fault>
         requires { AreFound self.old.places self.old.keys.items }
         ensures found { OnOk result (AreFound self.new.places self.new.keys.items) }
         ensures keys { OnOk result (self.new.keys.items ≡ add_key self.old.keys.items key.now) }
@@ -100,18 +104,18 @@ impl Numbering {
         ensures numbers { self.new.numbers.items ≡ self.old.numbers.items }
         ensures memory { IfErr result (λ fault. fault ≡ Memory) }
     {
-        if has_at(self.keys.as_slice(), guess, key) {
+        if has_at(self.keys.as_slice(), guess as usize, key) {
             return Ok(guess);
         }
         let second = self.follower(guess);
-        if has_at(self.keys.as_slice(), second, key) {
+        if has_at(self.keys.as_slice(), second as usize, key) {
             return Ok(second);
         }
         self.look_up(alloc, guess, key)
     }
 
     /// Notes the number of a key.
-    fn add(&mut self, alloc: Global, guess: usize, key: &Key) -> Result<(), Fault>
+    fn add(&mut self, alloc: Global, guess: u32, key: &Key) -> Result<(), Fault>
         requires { AreFound self.old.places self.old.keys.items }
         ensures found { OnOk result (AreFound self.new.places self.new.keys.items) }
         ensures keys { OnOk result (self.new.keys.items ≡ add_key self.old.keys.items key.now) }
@@ -125,7 +129,7 @@ impl Numbering {
     }
 
     /// What was noted at a place, as a guess.
-    fn noted(&self, at: usize) -> usize {
+    fn noted(&self, at: usize) -> u32 {
         self.numbers.get(at).copied().unwrap_or(0)
     }
 
@@ -151,22 +155,29 @@ impl Numbering {
         }
     }
 
-    fn add_lives<S: DotSet>(&mut self, alloc: Global, lives: &Lives<S>) -> Result<(), Fault>
+    /// Notes the numbers of the keys of live rows, and answers the bytes of these with numbers in place of the keys: rows
+    /// are gone through once for both.
+    fn add_lives<S: DotSet>(&mut self, alloc: Global, lives: &Lives<S>) -> Result<u128, Fault>
         requires { AreFound self.old.places self.old.keys.items }
         ensures found { OnOk result (AreFound self.new.places self.new.keys.items) }
         ensures keys { OnOk result (self.new.keys.items
             ≡ fold add_key self.old.keys.items (live_keys (live_rows lives.now))) }
         ensures numbers { OnOk result (self.new.numbers.items
             ≡ self.old.numbers.items ++ numbers_from self.old.keys.items (live_keys (live_rows lives.now))) }
+        ensures measured { IfOk result (λ n. AreMeasured n (live_rows lives.now)) }
         ensures memory { IfErr result (λ fault. fault ≡ Memory) }
     {
+        let _few = lives.live_len();
         let mut last = 0;
+        let mut length = 4;
         for (_dot, entry) in lives.live() {
             let next = self.numbers.len();
-            self.add_path(alloc, last, entry.path.keys())?;
+            let keys = entry.path.keys();
+            self.add_path(alloc, last, keys)?;
+            length += numbered_row_length(entry);
             last = next;
         }
-        Ok(())
+        Ok(length)
     }
 
     /// Notes the numbers of the keys of rows of counters. The key of the row before is the guess.
@@ -216,10 +227,11 @@ pub fn number_keys<S: DotSet>(
     ensures numbers { IfOk result (λ n. n.numbers.items
         ≡ each (number_of (rows_table (live_rows lives.now) (count_rows counts.now)))
         (used_keys (live_rows lives.now) (count_rows counts.now))) }
+    ensures measured { IfOk result (λ n. AreMeasured n.lives_length (live_rows lives.now)) }
     ensures memory { IfErr result (λ fault. fault ≡ Memory) }
 {
     let mut numbering = no_keys(alloc);
-    numbering.add_lives(alloc, lives)?;
+    let lives_length = numbering.add_lives(alloc, lives)?;
     numbering.add_counts(alloc, counts.rows())?;
     let Numbering {
         places: _places,
@@ -227,5 +239,9 @@ pub fn number_keys<S: DotSet>(
         numbers,
         followers: _followers,
     } = numbering;
-    Ok(NumberedKeys { keys, numbers })
+    Ok(NumberedKeys {
+        keys,
+        numbers,
+        lives_length,
+    })
 }

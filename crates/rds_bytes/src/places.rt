@@ -62,15 +62,24 @@ fn has_room(bucket: &Bucket) -> bool
     last == 0
 }
 
-/// A number as a bucket has it. So many keys that theirs don't go into four bytes are taken for more than memory holds.
+/// A number in four bytes, as texts and buckets have it. So many keys that theirs don't go into these are taken for more
+/// than memory holds.
+pub fn in_four_bytes(number: usize) -> Result<u32, Fault>
+    ensures number { IfOk result (λ given. given ≡ number) }
+    ensures memory { IfErr result (λ fault. fault ≡ Memory) }
+{
+    match u32::try_from(number) {
+        Ok(number) => Ok(number),
+        Err(_) => Err(Fault::Memory),
+    }
+}
+
+/// A number as a bucket has it.
 fn one_more(number: usize) -> Result<u32, Fault>
     ensures place { IfOk result (λ place. place ≡ suc number) }
     ensures memory { IfErr result (λ fault. fault ≡ Memory) }
 {
-    match u32::try_from(number.saturating_add(1)) {
-        Ok(place) => Ok(place),
-        Err(_) => Err(Fault::Memory),
-    }
+    in_four_bytes(number.saturating_add(1))
 }
 
 /// Puts a number first into a bucket, and says whether there was room.
@@ -148,26 +157,35 @@ impl KeyPlaces {
         Ok(())
     }
 
-    /// The places of these keys, over so many buckets, which are a power of two.
-    fn with_buckets(alloc: Global, count: usize, keys: &[Key]) -> Result<KeyPlaces, Fault>
+    /// No keys, and buckets whose room so many keys take half of.
+    fn with_room(alloc: Global, keys: usize) -> Result<KeyPlaces, Fault>
+        ensures found { IfOk result (λ places. AreFound places []) }
+        ensures memory { IfErr result (λ fault. fault ≡ Memory) }
+    {
+        let count = (keys / (ROOM / 2)).next_power_of_two();
+        let mut buckets = Vec::new(alloc);
+        buckets.resize(count, [0; ROOM])?;
+        Ok(KeyPlaces {
+            buckets,
+            mask: (count as u64).wrapping_sub(1),
+            others: BTreeMap::new(alloc),
+        })
+    }
+
+    /// The places of these keys, with room for so many.
+    fn with_keys(alloc: Global, room: usize, keys: &[Key]) -> Result<KeyPlaces, Fault>
         requires { all_differ keys.now ≡ true }
         ensures found { IfOk result (λ places. AreFound places keys.now) }
         ensures memory { IfErr result (λ fault. fault ≡ Memory) }
     {
-        let mut buckets = Vec::new(alloc);
-        buckets.resize(count, [0; ROOM])?;
-        let mut places = KeyPlaces {
-            buckets,
-            mask: (count as u64).wrapping_sub(1),
-            others: BTreeMap::new(alloc),
-        };
+        let mut places = KeyPlaces::with_room(alloc, room)?;
         for (number, key) in keys.iter().enumerate() {
             places.note(alloc, number, mark_of(key), key)?;
         }
         Ok(places)
     }
 
-    /// Notes that a new key follows these. Where they may fill half of the buckets, there are four times as many first.
+    /// Notes that a new key follows these. Where these take half of the room, there is four times as much first.
     pub fn add(&mut self, alloc: Global, keys: &[Key], mark: u64, key: &Key) -> Result<(), Fault>
         requires found { AreFound self.old keys.now }
         requires new { has_key keys.now key.now ≡ false }
@@ -175,10 +193,27 @@ impl KeyPlaces {
         ensures found { OnOk result (AreFound self.new (keys.now ++ key.now ∷ [])) }
         ensures memory { IfErr result (λ fault. fault ≡ Memory) }
     {
-        let buckets = self.buckets.len();
-        if keys.len() >= buckets.saturating_mul(ROOM / 2) {
-            *self = KeyPlaces::with_buckets(alloc, buckets.saturating_mul(4).max(4), keys)?;
+        if keys.len() >= self.buckets.len().saturating_mul(ROOM / 2) {
+            *self = KeyPlaces::with_keys(alloc, keys.len().saturating_mul(4), keys)?;
         }
         self.note(alloc, keys.len(), mark, key)
     }
+}
+
+/// Whether no two keys are equal. All are placed at once, in as many buckets as they want, which is faster than one by one
+/// as they are read.
+pub fn all_differ(alloc: Global, keys: &[Key]) -> Result<bool, Fault>
+    ensures differ { IfOk result (λ differ. differ ≡ all_differ keys.now) }
+    ensures memory { IfErr result (λ fault. fault ≡ Memory) }
+{
+    let mut places = KeyPlaces::with_room(alloc, keys.len())?;
+    for (number, key) in keys.iter().enumerate() {
+        let mark = mark_of(key);
+        let known = places.find(alloc, &keys[..number], mark, key)?;
+        if known.is_some() {
+            return Ok(false);
+        }
+        places.note(alloc, number, mark, key)?;
+    }
+    Ok(true)
 }

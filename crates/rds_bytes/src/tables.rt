@@ -4,13 +4,12 @@ ghost use Rattle.rds_names.specs.declared.fault.Fault.TheVariants.{Memory, Bad};
 ghost use Rattle.rds_names.specs.Roster.{all_differ};
 ghost use Rattle.rds_bytes.specs.Reading.{Reads, rows_after};
 ghost use Rattle.rds_bytes.specs.Table.{number_of, after_number};
-ghost use Rattle.rds_bytes.specs.TableTexts.{new_key_at, table_at, numbered_at};
+ghost use Rattle.rds_bytes.specs.TableTexts.{new_key_at, keys_read, table_at, numbered_at};
 ghost use Rattle.rds_bytes.specs.TableValue.{meeting};
 
 use crate::keys::read_key;
-use crate::marks::mark_of;
 use crate::numbers::read_u32;
-use crate::places::KeyPlaces;
+use crate::places::all_differ;
 use crate::sources::KeySource;
 use rds_names::{Fault, Key};
 use std::alloc::Global;
@@ -137,7 +136,48 @@ impl KeySource for TableKeys<'_> {
     }
 }
 
-/// As many keys as are asked for, no two of which are equal. Room is made for each as it comes.
+/// Keys that stand one after the other, the bytes after them, and the fault of the next one, if that can't be read.
+#[derive(Drop)]
+struct KeysRead<'a> {
+    keys: Vec<Key>,
+    rest: &'a [u8],
+    fault: Option<Fault>,
+}
+
+/// Keys as far as they can be read, and no more than so many. Room is made for each as it comes.
+fn read_keys<'a>(alloc: Global, count: u32, bytes: &'a [u8]) -> Result<KeysRead<'a>, Fault>
+    ensures read { IfOk result (λ x. (x.keys.items, (x.rest.now, x.fault)) ≡ keys_read count bytes.now) }
+    ensures memory { IfErr result (λ fault. fault ≡ Memory) }
+{
+    let mut keys = Vec::new(alloc);
+    let mut rest = bytes;
+    for _ in 0..count {
+        match read_key(alloc, rest) {
+            Ok(read) => {
+                let (key, after) = read;
+                keys.push(key)?;
+                rest = after;
+            }
+            Err(fault) => {
+                if fault == Fault::Memory {
+                    return Err(fault);
+                }
+                return Ok(KeysRead {
+                    keys,
+                    rest,
+                    fault: Some(fault),
+                });
+            }
+        }
+    }
+    Ok(KeysRead {
+        keys,
+        rest,
+        fault: None,
+    })
+}
+
+/// As many keys as are asked for, no two of which are equal. A repeated one is refused before what follows it.
 fn read_new_keys<'a>(
     alloc: Global,
     count: u32,
@@ -146,21 +186,15 @@ fn read_new_keys<'a>(
     ensures read { Reads (λ x. (x.0.items, x.1.now)) result (rows_after new_key_at [] count bytes.now) }
     ensures differ { IfOk result (λ x. all_differ x.0.items ≡ true) }
 {
-    let mut keys = Vec::new(alloc);
-    let mut places = KeyPlaces::new(alloc);
-    let mut rest = bytes;
-    for _ in 0..count {
-        let (key, after) = read_key(alloc, rest)?;
-        let mark = mark_of(&key);
-        let known = places.find(alloc, keys.as_slice(), mark, &key)?;
-        if known.is_some() {
-            return Err(Fault::Bad);
-        }
-        places.add(alloc, keys.as_slice(), mark, &key)?;
-        keys.push(key)?;
-        rest = after;
+    let KeysRead { keys, rest, fault } = read_keys(alloc, count, bytes)?;
+    let differ = all_differ(alloc, keys.as_slice())?;
+    if !differ {
+        return Err(Fault::Bad);
     }
-    Ok((keys, rest))
+    match fault {
+        Some(fault) => Err(fault),
+        None => Ok((keys, rest)),
+    }
 }
 
 /// A table of keys. A key that stands twice is refused where it stands again.

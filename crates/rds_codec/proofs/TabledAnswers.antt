@@ -1,16 +1,13 @@
 -- An answer of format 2 is a format.
-use Rattle.std.proofs.Common.{ℕ, ◌^◌, ◌<◌, ◌≤◌, ◌++◌, length, arith, length-append}
+use Rattle.std.proofs.Common.{ℕ, ◌^◌, ◌<◌, ◌≤◌, length, arith}
 use Rattle.rds_codec.specs.declared.limits.TheConstants.{LIMIT}
 use Rattle.rds_codec.specs.AnswerTexts.{IsAnswerOf, answer_text, answer_at}
 use Rattle.rds_codec.specs.AnswerValues.{AnswerValue}
-use Rattle.rds_codec.specs.CertificateTexts.{certificate_text}
 use Rattle.rds_codec.specs.FormatTexts.{answer_kind_in}
 use Rattle.rds_codec.specs.StateTexts.{state_at, state_text}
 use Rattle.rds_codec.specs.declared.formats.Format.TheVariants.{Two}
-use Rattle.rds_bytes.specs.Spelling.{byte_text}
 use Rattle.rds_bytes.proofs.Format.{IsFormat}
 use Rattle.rds_codec.proofs.SpelledAnswers.{answer_parts_format, answer_parts_within}
-use Rattle.rds_codec.proofs.CertificateFormats.{certificate_within}
 use Rattle.rds_codec.proofs.TabledStates.{CanCountTabled, tabled_format, tabled_within}
 use Rattle.rds_codec.proofs.Whole.{IsReaderOf, reader_of}
 

@@ -4,11 +4,12 @@ ghost use Rattle.std.specs.Prelude.{◌≡◌, ℕ, ◌<◌, ◌≤◌, ◌^◌,
 ghost use Rattle.std.specs.FinMap as map;
 ghost use Rattle.rds_names.specs.declared.fault.Fault.TheVariants.{Memory};
 ghost use Rattle.rds_dots.specs.Runs.{runs_of};
-ghost use Rattle.rds_life.specs.Life.{seen_of};
+ghost use Rattle.rds_life.specs.Life.{live_rows, seen_of};
 ghost use Rattle.rds_delta.specs.Claims.{IsCertificate};
 ghost use Rattle.rds_delta.specs.Least.{IsAbove};
 ghost use Rattle.rds_delta.specs.Ranks.{Ranks};
 ghost use Rattle.rds_bytes.specs.DotRows.{rows_from};
+ghost use Rattle.rds_bytes.specs.Numbers.{AreMeasured};
 ghost use Rattle.rds_bytes.specs.Reading.{Reads};
 ghost use Rattle.rds_bytes.specs.Table.{number_of};
 ghost use Rattle.rds_bytes.specs.TableTexts.{numbered_at};
@@ -26,13 +27,13 @@ use crate::certificates::{certificate_length, put_certificate};
 use crate::limits::room_for;
 use rds_bytes::{
     NumberedKeys, TableKeys, measure_dots, member_length, number_keys, numbered_counters_length,
-    numbered_lives_length, put_byte, put_dots, put_member, put_numbered, put_table, read_dots,
-    read_keyed_counters, read_keyed_live_rows, read_table, table_length,
+    put_byte, put_dots, put_member, put_numbered, put_table, read_dots, read_keyed_counters,
+    read_keyed_live_rows, read_table, table_length,
 };
 use rds_delta::Certificate;
 use rds_dots::DotSet;
 use rds_life::Lives;
-use rds_names::{Fault, Key};
+use rds_names::Fault;
 use rds_state::{Replica, State};
 use std::alloc::{AllocError, Global};
 
@@ -77,14 +78,16 @@ fn number_state<S: DotSet>(alloc: Global, state: &State<S>) -> Result<NumberedKe
     ensures keys { IfOk result (λ numbered. numbered.keys.items ≡ table_in state.now) }
     ensures numbers { IfOk result (λ numbered. numbered.numbers.items
         ≡ each (number_of (table_in state.now)) (keys_in state.now)) }
+    ensures measured { IfOk result (λ numbered. AreMeasured numbered.lives_length (live_rows state.now.lives)) }
     ensures memory { IfErr result (λ fault. fault ≡ Memory) }
 {
     number_keys(alloc, state.lives(), state.counts())
 }
 
-/// The number of rows of the seen dots, and the length of the text, whose table has these keys.
-fn measure_tabled<S: DotSet>(state: &State<S>, keys: &[Key]) -> (u16, u128)
-    requires { keys.now ≡ table_in state.now }
+/// The number of rows of the seen dots, and the length of the text, whose keys are numbered so.
+fn measure_tabled<S: DotSet>(state: &State<S>, numbered: &NumberedKeys) -> (u16, u128)
+    requires keys { numbered.now.keys.items ≡ table_in state.now }
+    requires measured { AreMeasured numbered.now.lives_length (live_rows state.now.lives) }
     ensures rows { result.0 ≡ length (rows_from 0 (runs_of (seen_of state.now.lives))) }
     ensures length { result.1 ≡ length (state_text state.now) }
     ensures few { result.1 ≤ 2 ^ 101 }
@@ -95,10 +98,10 @@ fn measure_tabled<S: DotSet>(state: &State<S>, keys: &[Key]) -> (u16, u128)
     // That the rows of counters are within their limits shows where they are at hand.
     let _rows = counts.rows();
     let (rows, dots_length) = measure_dots(lives.seen());
-    let live_length = numbered_lives_length(lives);
+    let keys_length = table_length(&numbered.keys);
     (
         rows,
-        table_length(keys) + dots_length + live_length + numbered_counters_length(counts),
+        keys_length + dots_length + numbered.lives_length + numbered_counters_length(counts),
     )
 }
 
@@ -127,20 +130,21 @@ pub fn encode_tabled<S: DotSet>(alloc: Global, state: &State<S>) -> Result<Vec<u
     ensures text { EncodesTabled (state_text state.now) result }
 {
     let numbered = number_state(alloc, state)?;
-    let (rows, length) = measure_tabled(state, &numbered.keys);
+    let (rows, length) = measure_tabled(state, &numbered);
     let mut out = room_for(alloc, length)?;
     put_tabled(&mut out, state, rows, &numbered)?;
     Ok(out)
 }
 
-/// The number of rows of the delta's seen dots, and the length of the text, whose table has these keys.
+/// The number of rows of the delta's seen dots, and the length of the text, whose keys are numbered so.
 fn measure_tabled_answer<S: DotSet>(
     asker: u8,
     state: &State<S>,
-    keys: &[Key],
+    numbered: &NumberedKeys,
     certificate: &Certificate,
 ) -> (u16, u128)
-    requires { keys.now ≡ table_in state.now }
+    requires keys { numbered.now.keys.items ≡ table_in state.now }
+    requires measured { AreMeasured numbered.now.lives_length (live_rows state.now.lives) }
     ensures rows { result.0 ≡ length (rows_from 0 (runs_of (seen_of state.now.lives))) }
     ensures length { result.1 ≡ length (answer_text (answer asker state.now certificate.now)) }
     ensures dots { (replicas : ℕ) → Fits replicas (coordinates state.now)
@@ -149,7 +153,7 @@ fn measure_tabled_answer<S: DotSet>(
         → IsAbove (coordinates state.now) peer → IsCertificate peer state.now certificate.now
         → IsAnswerOf replicas (answer asker state.now certificate.now) }
 {
-    let (rows, state_length) = measure_tabled(state, keys);
+    let (rows, state_length) = measure_tabled(state, numbered);
     (rows, 1 + state_length + certificate_length(certificate))
 }
 
@@ -188,7 +192,7 @@ pub fn encode_tabled_answer<S: DotSet>(
         → IsCertificate peer state.now certificate.now → IsAnswerOf replicas (answer asker state.now certificate.now)) }
 {
     let numbered = number_state(alloc, state)?;
-    let (rows, length) = measure_tabled_answer(asker, state, &numbered.keys, certificate);
+    let (rows, length) = measure_tabled_answer(asker, state, &numbered, certificate);
     let mut out = room_for(alloc, length)?;
     put_tabled_answer(&mut out, asker, state, rows, &numbered, certificate)?;
     Ok(out)
@@ -197,16 +201,17 @@ pub fn encode_tabled_answer<S: DotSet>(
 /// What a snapshot of format 2 begins with.
 pub const TABLED_MAGIC: &[u8; 4] = b"RDS2";
 
-/// The number of rows of the seen dots, and the length of the text, whose table has these keys.
-fn measure_tabled_snapshot<S: DotSet>(replica: &Replica<S>, keys: &[Key]) -> (u16, u128)
-    requires { keys.now ≡ table_in replica.now.state }
+/// The number of rows of the seen dots, and the length of the text, whose keys are numbered so.
+fn measure_tabled_snapshot<S: DotSet>(replica: &Replica<S>, numbered: &NumberedKeys) -> (u16, u128)
+    requires keys { numbered.now.keys.items ≡ table_in replica.now.state }
+    requires measured { AreMeasured numbered.now.lives_length (live_rows replica.now.state.lives) }
     ensures rows { result.0 ≡ length (rows_from 0 (runs_of (seen_of replica.now.state.lives))) }
     ensures length { result.1 ≡ length (snapshot_text replica.now) }
     ensures small { replica.now.state.lives ≡ map.empty → replica.now.state.counts ≡ map.empty
         → length (snapshot_text replica.now) ≤ LIMIT }
     ensures value { IsSnapshot replica.now }
 {
-    let (rows, state_length) = measure_tabled(replica.state(), keys);
+    let (rows, state_length) = measure_tabled(replica.state(), numbered);
     (
         rows,
         4 + member_length(replica.roster(), replica.own()) as u128 + state_length,
@@ -219,7 +224,7 @@ pub fn snapshot_length<S: DotSet>(alloc: Global, replica: &Replica<S>) -> Result
     ensures memory { IfErr result (λ fault. fault ≡ Memory) }
 {
     let numbered = number_state(alloc, replica.state())?;
-    let (_rows, length) = measure_tabled_snapshot(replica, &numbered.keys);
+    let (_rows, length) = measure_tabled_snapshot(replica, &numbered);
     Ok(length)
 }
 
@@ -253,7 +258,7 @@ pub fn encode_tabled_snapshot<S: DotSet>(
     ensures value { OnOk result (IsSnapshot replica.now) }
 {
     let numbered = number_state(alloc, replica.state())?;
-    let (rows, length) = measure_tabled_snapshot(replica, &numbered.keys);
+    let (rows, length) = measure_tabled_snapshot(replica, &numbered);
     let mut out = room_for(alloc, length)?;
     put_tabled_snapshot(&mut out, replica, rows, &numbered)?;
     Ok(out)

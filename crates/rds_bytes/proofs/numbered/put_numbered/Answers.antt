@@ -6,26 +6,19 @@ use Rattle.rds_counts.specs.declared.row.CountRow.{CountRow}
 use Rattle.rds_counts.specs.RowsOf.{count_rows}
 use Rattle.rds_bytes.specs.Numbers.{numbered_counts_text}
 use Rattle.rds_bytes.specs.Spelling.{keyed_counters_text}
-use Rattle.rds_bytes.proofs.NumberedTexts.{own_enough, own_small, left_enough, left_small, all_added}
+use Rattle.rds_bytes.proofs.NumberedTexts.{own_enough, left_enough, all_added}
 use Rattle.rds_bytes.proofs.numbered.put_numbered.Goals as goal
 
 on_ok : {T E : Type 0} {P Q : Type 0} (r : Result T E) → (P → Q) → OnOk r P → OnOk r Q
 on_ok (Ok x) f p = f p
 on_ok (Err e) f p = tt
 
-pub put_rows-requires-clause-enough : goal.put_rows-requires-clause-enough
-put_rows-requires-clause-enough g c = own_enough (live_rows c.args.lives.now) (count_rows c.args.counts.now) c.args.numbers.now c.requires.numbers
+pub put_rows-requires : goal.put_rows-requires
+put_rows-requires g c = own_enough (live_rows c.args.lives.now) (count_rows c.args.counts.now) c.args.numbers.now c.requires.numbers
 
-pub put_rows-requires-clause-small : goal.put_rows-requires-clause-small
-put_rows-requires-clause-small g c = own_small (live_rows c.args.lives.now) (count_rows c.args.counts.now) c.args.numbers.now c.requires.numbers c.requires.few
-
-pub put_count_rows-requires-clause-enough : goal.put_count_rows-requires-clause-enough
-put_count_rows-requires-clause-enough g c =
+pub put_count_rows-requires : goal.put_count_rows-requires
+put_count_rows-requires g c =
     rw c.rows-rows.ensures.only (left_enough (live_rows c.args.lives.now) (count_rows c.args.counts.now) c.args.numbers.now c.requires.numbers c.in_ok-left.left.now c.in_ok-left.ensures.left)
-
-pub put_count_rows-requires-clause-small : goal.put_count_rows-requires-clause-small
-put_count_rows-requires-clause-small g c =
-    left_small (live_rows c.args.lives.now) (count_rows c.args.counts.now) c.args.numbers.now c.requires.numbers c.in_ok-left.left.now c.in_ok-left.ensures.left c.requires.few
 
 pub returns : goal.returns
 unfolding keyed_counters_text

@@ -1,5 +1,4 @@
-use Rattle.std.proofs.Common.{◌≡◌, ◌++◌, ◌<◌, ◌≤◌, ◌^◌, length, drop}
-use Rattle.std.specs.List.{AllByRecursion}
+use Rattle.std.proofs.Common.{◌≡◌, ◌++◌, ◌≤◌, length, drop}
 use Rattle.rds_life.specs.Life.{live_rows}
 use Rattle.rds_bytes.specs.Numbers.{numbered_rows_text, keys_in}
 use Rattle.rds_bytes.proofs.numbered.put_rows.Given as goal
@@ -8,4 +7,4 @@ use Rattle.rds_bytes.proofs.numbered.put_rows.Given as goal
 abbrev pub invariant-loop-dot : goal.invariant-loop-dot
 invariant-loop-dot g l =
     (l.out.items ++ numbered_rows_text l.dot-iterator l.left ≡ l.initial.out.items ++ numbered_rows_text (live_rows l.lives) l.numbers)
-    × ((keys_in l.dot-iterator ≤ length l.left) × (AllByRecursion (λ n. n < 2 ^ 32) l.left × (drop (keys_in l.dot-iterator) l.left ≡ drop (keys_in (live_rows l.lives)) l.numbers)))
+    × ((keys_in l.dot-iterator ≤ length l.left) × (drop (keys_in l.dot-iterator) l.left ≡ drop (keys_in (live_rows l.lives)) l.numbers))

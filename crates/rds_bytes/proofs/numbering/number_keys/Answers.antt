@@ -14,7 +14,7 @@ returns-clause-keys g c =
     let ys = counter_keys (count_rows c.args.counts.now) in
     let one = c.add_lives.new.self.keys.items in
     let two = c.add_counts.new.self.keys.items in
-    let p : one ≡ fold add_key [] xs = c.in_ok-add_lives.ensures.keys ∙ ap (λ (t : List (List ℕ)). fold add_key t xs) c.no_keys-numbering.ensures.keys in
+    let p : one ≡ fold add_key [] xs = c.in_ok-lives_length.ensures.keys ∙ ap (λ (t : List (List ℕ)). fold add_key t xs) c.no_keys-numbering.ensures.keys in
     let q : two ≡ fold add_key one ys = c.in_ok-add_counts.ensures.keys ∙ ap (λ (r : List CountRow). fold add_key one (counter_keys r)) c.rows.ensures.only in
     both_keys xs ys one two c.add_lives.new.self.numbers.items c.add_counts.new.self.numbers.items p q
 
@@ -26,8 +26,8 @@ returns-clause-numbers g c =
     let two = c.add_counts.new.self.keys.items in
     let first = c.add_lives.new.self.numbers.items in
     let second = c.add_counts.new.self.numbers.items in
-    let p : one ≡ fold add_key [] xs = c.in_ok-add_lives.ensures.keys ∙ ap (λ (t : List (List ℕ)). fold add_key t xs) c.no_keys-numbering.ensures.keys in
+    let p : one ≡ fold add_key [] xs = c.in_ok-lives_length.ensures.keys ∙ ap (λ (t : List (List ℕ)). fold add_key t xs) c.no_keys-numbering.ensures.keys in
     let q : two ≡ fold add_key one ys = c.in_ok-add_counts.ensures.keys ∙ ap (λ (r : List CountRow). fold add_key one (counter_keys r)) c.rows.ensures.only in
-    let r : first ≡ numbers_from [] xs = c.in_ok-add_lives.ensures.numbers ∙ (λ i. c.no_keys-numbering.ensures.numbers i ++ numbers_from (c.no_keys-numbering.ensures.keys i) xs) in
+    let r : first ≡ numbers_from [] xs = c.in_ok-lives_length.ensures.numbers ∙ (λ i. c.no_keys-numbering.ensures.numbers i ++ numbers_from (c.no_keys-numbering.ensures.keys i) xs) in
     let s : second ≡ first ++ numbers_from one ys = c.in_ok-add_counts.ensures.numbers ∙ ap (λ (rows : List CountRow). first ++ numbers_from one (counter_keys rows)) c.rows.ensures.only in
     both_numbers xs ys one two first second p q r s

@@ -2,12 +2,12 @@ use Rattle.std.proofs.Common.{◌≡◌, ℕ, ◌+◌, List, length, ap, sym, su
 use Rattle.std.specs.FinSet as set
 use Rattle.std.specs.List.{AllByRecursion}
 use Rattle.rds_dots.specs.Dots.{Dots}
-use Rattle.rds_life.specs.Life.{Lived, seen_of, live_rows}
+use Rattle.rds_life.specs.Life.{seen_of}
 use Rattle.rds_counts.specs.Counted.{Counted}
 use Rattle.rds_counts.specs.RowsOf.{count_rows}
-use Rattle.rds_bytes.specs.Spelling.{dots_text, keyed_live_rows_text, keyed_counters_text}
+use Rattle.rds_bytes.specs.Spelling.{dots_text, keyed_counters_text}
 use Rattle.rds_bytes.specs.TableTexts.{table_text, number_text}
-use Rattle.rds_bytes.specs.Values.{IsKeyText, IsKeyed, IsLiveRow}
+use Rattle.rds_bytes.specs.Values.{IsKeyText, IsKeyed}
 use Rattle.rds_codec.specs.StateTexts.{table_in}
 use Rattle.rds_codec.proofs.HaveTexts.{are_counts_of, is_state_of}
 use Rattle.rds_codec.proofs.StateKeys.{by_table}
@@ -18,9 +18,9 @@ pub returns-clause-length : goal.returns-clause-length
 returns-clause-length g c =
     let v = c.args.state.now in
     let key = number_text (table_in v) in
-    let table = c.table_length.ensures.length ∙ ap (λ (keys : List (List ℕ)). length (table_text keys)) c.requires in
+    let table = c.table_length-keys_length.ensures.length ∙ ap (λ (keys : List (List ℕ)). length (table_text keys)) (c.deref.ensures.value ∙ c.requires.keys) in
     let dots = c.measure_dots-rows.ensures.length ∙ ap (λ (s : Dots). length (dots_text s)) (c.seen.ensures ∙ ap seen_of c.lives-lives.ensures) in
-    let rows = c.numbered_lives_length-live_length.ensures.length (table_in v) ∙ ap (λ (l : Lived). length (keyed_live_rows_text key (live_rows l))) c.lives-lives.ensures in
+    let rows = c.requires.measured.as_long (table_in v) in
     let counts = c.numbered_counters_length.ensures.length (table_in v) ∙ ap (λ (m : Counted). length (keyed_counters_text key m)) c.counts-counts.ensures in
     (λ i. table i + dots i + rows i + counts i) ∙ sym (tabled_length v)
 
@@ -31,8 +31,8 @@ returns-clause-value g c =
     let rows = c.rows-rows.result.now in
     let value = sym c.counts-counts.ensures ∙ c.rows-rows.ensures.value in
     let only : count_rows v.counts ≡ rows = sym (c.rows-rows.ensures.only ∙ ap count_rows c.counts-counts.ensures) in
-    let texts = subst (AllByRecursion IsKeyText) c.requires c.table_length.ensures.texts in
+    let texts = subst (AllByRecursion IsKeyText) (c.deref.ensures.value ∙ c.requires.keys) c.table_length-keys_length.ensures.texts in
     is_state_of v
     (λ d h. g.met.S.DotSet.within c.seen.result.now d (ap (λ (s : Dots). set.contains s d) seen ∙ h))
-    (subst (λ (l : Lived). AllByRecursion IsLiveRow (live_rows l)) c.lives-lives.ensures c.numbered_lives_length-live_length.ensures.are_entries)
+    c.requires.measured.are_entries
     (are_counts_of v.counts rows c.rows-rows.ensures.are_rows value (subst (AllByRecursion IsKeyed) only (by_table v texts).counts))

@@ -24,11 +24,6 @@ put_dots-requires-clause-few g c =
     let seen = c.seen.ensures ∙ ap seen_of c.lives-lives.ensures in
     subst (λ (s : Dots). CanCountAll (rows_from 0 (runs_of s))) (sym seen) (tabled_within c.args.state.now c.requires.within).state.dots
 
-pub put_numbered-requires-clause-few : goal.put_numbered-requires-clause-few
-put_numbered-requires-clause-few g c =
-    let same : used c.lives-lives.result.now c.counts.result.now ≡ used c.args.state.now.lives c.args.state.now.counts = λ i. used (c.lives-lives.ensures i) (c.counts.ensures i) in
-    subst (λ (keys : List (List ℕ)). length (table_of keys) < 2 ^ 32) (sym same) (tabled_within c.args.state.now c.requires.within).keys
-
 pub put_numbered-requires-clause-rows : goal.put_numbered-requires-clause-rows
 put_numbered-requires-clause-rows g c =
     subst (λ (l : Lived). length (live_rows l) < 2 ^ 32) (sym c.lives-lives.ensures) (tabled_within c.args.state.now c.requires.within).state.rows

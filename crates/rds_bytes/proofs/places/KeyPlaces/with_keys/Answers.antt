@@ -1,11 +1,8 @@
-use Rattle.std.proofs.Common.{rules, ◌≡◌, ◌<◌, [], ◌∷◌, Some, take, length, refl}
+use Rattle.std.proofs.Common.{rules, ◌≡◌, ◌<◌, Some, take, length, refl}
 use Rattle.std.specs.Prelude.{slice_get}
 use Rattle.std.proofs.lemmas.Option.{slice_get_read}
-use Rattle.rds_bytes.proofs.PlaceLaws.{none_found, next_found, next_is_new, so_many}
-use Rattle.rds_bytes.proofs.places.KeyPlaces.with_buckets.Goals as goal
-
-pub loop-number-init : goal.loop-number-init
-loop-number-init c = none_found _ c.args.count (0 ∷ (0 ∷ (0 ∷ (0 ∷ [])))) (search rules) (search rules) (search rules)
+use Rattle.rds_bytes.proofs.PlaceLaws.{next_found, next_is_new, so_many}
+use Rattle.rds_bytes.proofs.places.KeyPlaces.with_keys.Goals as goal
 
 pub loop-number-preserved : goal.loop-number-preserved
 loop-number-preserved c =

@@ -1,6 +1,6 @@
 use Rattle.std.proofs.Common.{take}
 use Rattle.rds_bytes.specs.Places.{AreFound}
-use Rattle.rds_bytes.proofs.places.KeyPlaces.with_buckets.Given as goal
+use Rattle.rds_bytes.proofs.places.all_differ.Given as goal
 
 -- the keys so far are found
 abbrev pub invariant-loop-number : goal.invariant-loop-number
