@@ -4,7 +4,7 @@ ghost use Rattle.rds_names.specs.declared.fault.Fault.TheVariants.{Memory};
 ghost use Rattle.rds_names.specs.Roster.{all_differ};
 ghost use Rattle.rds_bytes.specs.Marks.{mark as its_mark};
 ghost use Rattle.rds_bytes.specs.Numbers.{place_in};
-ghost use Rattle.rds_bytes.specs.Places.{stands_at, seek, has_room, pushed, AreFound};
+ghost use Rattle.rds_bytes.specs.Places.{stands_at, tag, placed, seek, has_room, pushed, AreFound};
 ghost use Rattle.rds_bytes.specs.Table.{has_key};
 
 use crate::marks::mark_of;
@@ -15,12 +15,22 @@ use std::collections::BTreeMap;
 /// How many numbers a bucket has room for.
 const ROOM: usize = 4;
 
-/// The numbers of keys whose marks name this bucket, each as one more; 0 is room.
-type Bucket = [u32; ROOM];
+/// What a bucket has of a key: a part of its mark, and its number as one more. Where that is 0 there is room.
+#[derive(Clone, Copy)]
+struct Place {
+    tag: u32,
+    number: u32,
+}
 
-/// Where the numbers of keys are found. A key's mark names a bucket, which has its number; where the bucket was full, a
-/// map by order has it. So most keys are found at once, and strangers, who choose the keys and with them their marks,
-/// make no look-up dearer than one in the map.
+/// The places of keys whose marks name this bucket.
+type Bucket = [Place; ROOM];
+
+/// A bucket without keys.
+const EMPTY: Bucket = [Place { tag: 0, number: 0 }; ROOM];
+
+/// Where the numbers of keys are found. A key's mark names a bucket, which has its number beside a part of the mark: by
+/// that most other keys are told apart unseen. Where the bucket was full, a map by order has it. So most keys are found
+/// at once, and strangers, who choose the keys and with them their marks, make no look-up dearer than one in the map.
 #[derive(Drop)]
 pub struct KeyPlaces {
     buckets: Vec<Bucket>,
@@ -39,14 +49,23 @@ pub fn has_at(keys: &[Key], number: usize, key: &Key) -> bool
     }
 }
 
-/// The number of a key, where the bucket has it.
-fn seek(mut bucket: &[u32], keys: &[Key], key: &Key) -> Option<usize>
-    ensures { result ≡ seek keys.now bucket.entry.now key.now }
+/// The part of a mark by which keys of one bucket are told apart before their bytes are looked at.
+fn tag_of(mark: u64) -> u32
+    ensures { result ≡ tag mark }
+{
+    (mark & 0xffff_ffff) as u32
+}
+
+/// The number of a key with this tag, where the bucket has it.
+fn seek(mut bucket: &[Place], keys: &[Key], tag: u32, key: &Key) -> Option<usize>
+    ensures { result ≡ seek keys.now bucket.entry.now tag key.now }
 {
     'seeking: while let Some((place, later)) = bucket.split_first() {
-        if let Some(number) = place.checked_sub(1) {
-            if has_at(keys, number as usize, key) {
-                return Some(number as usize);
+        if place.tag == tag {
+            if let Some(number) = place.number.checked_sub(1) {
+                if has_at(keys, number as usize, key) {
+                    return Some(number as usize);
+                }
             }
         }
         bucket = later;
@@ -59,11 +78,11 @@ fn has_room(bucket: &Bucket) -> bool
     ensures { result ≡ has_room bucket.now }
 {
     let [_, _, _, last] = *bucket;
-    last == 0
+    last.number == 0
 }
 
-/// A number in four bytes, as texts and buckets have it. So many keys that theirs don't go into these are taken for more
-/// than memory holds.
+/// A number in four bytes, as texts and buckets have it. One that doesn't go into these is told as want of memory: none
+/// holds so many keys.
 pub fn in_four_bytes(number: usize) -> Result<u32, Fault>
     ensures number { IfOk result (λ given. given ≡ number) }
     ensures memory { IfErr result (λ fault. fault ≡ Memory) }
@@ -82,13 +101,26 @@ fn one_more(number: usize) -> Result<u32, Fault>
     in_four_bytes(number.saturating_add(1))
 }
 
-/// Puts a number first into a bucket, and says whether there was room.
-fn put(bucket: &mut Bucket, place: u32) -> bool
+impl Place {
+    /// The place of the key that has this mark and this number.
+    fn new(mark: u64, number: usize) -> Result<Place, Fault>
+        ensures place { IfOk result (λ place. place ≡ placed mark number) }
+        ensures memory { IfErr result (λ fault. fault ≡ Memory) }
+    {
+        Ok(Place {
+            tag: tag_of(mark),
+            number: one_more(number)?,
+        })
+    }
+}
+
+/// Puts a place first into a bucket, and says whether there was room.
+fn put(bucket: &mut Bucket, place: Place) -> bool
     ensures room { result ≡ has_room bucket.old }
     ensures put { bucket.new ≡ (if result then pushed place bucket.old else bucket.old) }
 {
     let [first, second, third, last] = *bucket;
-    if last != 0 {
+    if last.number != 0 {
         return false;
     }
     *bucket = [place, first, second, third];
@@ -128,7 +160,7 @@ impl KeyPlaces {
         ensures memory { IfErr result (λ fault. fault ≡ Memory) }
     {
         if let Some(bucket) = self.buckets.get(self.bucket_of(mark)) {
-            if let Some(number) = seek(bucket, keys, key) {
+            if let Some(number) = seek(bucket, keys, tag_of(mark), key) {
                 return Ok(Some(number));
             }
             if has_room(bucket) {
@@ -146,7 +178,7 @@ impl KeyPlaces {
             → has_key keys key.now ≡ false → OnOk result (AreFound self.new (keys ++ key.now ∷ [])) }
         ensures memory { IfErr result (λ fault. fault ≡ Memory) }
     {
-        let place = one_more(number)?;
+        let place = Place::new(mark, number)?;
         let at = self.bucket_of(mark);
         if let Some(bucket) = self.buckets.get_mut(at) {
             if put(bucket, place) {
@@ -164,7 +196,7 @@ impl KeyPlaces {
     {
         let count = (keys / (ROOM / 2)).next_power_of_two();
         let mut buckets = Vec::new(alloc);
-        buckets.resize(count, [0; ROOM])?;
+        buckets.resize(count, EMPTY)?;
         Ok(KeyPlaces {
             buckets,
             mask: (count as u64).wrapping_sub(1),
@@ -200,8 +232,8 @@ impl KeyPlaces {
     }
 }
 
-/// Whether no two keys are equal. All are placed at once, in as many buckets as they want, which is faster than one by one
-/// as they are read.
+/// Whether no two keys are equal. All are placed at once, in as many buckets as they want, which is faster than one by
+/// one as they are read.
 pub fn all_differ(alloc: Global, keys: &[Key]) -> Result<bool, Fault>
     ensures differ { IfOk result (λ differ. differ ≡ all_differ keys.now) }
     ensures memory { IfErr result (λ fault. fault ≡ Memory) }

@@ -1,10 +1,10 @@
-use Rattle.std.proofs.Common.{rules, ◌≡◌, ◌<◌, ◌∙◌, ℕ, [], Some, true, false, suc, length, refl, sym, ap}
+use Rattle.std.proofs.Common.{rules, ◌≡◌, ◌<◌, ◌∙◌, ℕ, [], Some, true, false, length, refl, sym, ap}
 use Rattle.std.proofs.Math.ListN.{set, get_or}
 use Rattle.std.proofs.lemmas.List.{set-get_or}
 use Rattle.std.specs.Prelude.{bit_and}
 use Rattle.std.specs.BTreeMap.{Updates}
 use Rattle.rds_bytes.specs.Marks.{mark}
-use Rattle.rds_bytes.specs.Places.{has_room, pushed, bucket_of}
+use Rattle.rds_bytes.specs.Places.{placed, has_room, pushed, bucket_of}
 use Rattle.rds_bytes.proofs.KeyLoops.{pair_cmp}
 use Rattle.rds_bytes.proofs.PlaceLaws.{put_in_bucket, put_elsewhere}
 use Rattle.rds_bytes.proofs.places.KeyPlaces.note.Goals.{in-Some+else-put, in_default}
@@ -20,9 +20,9 @@ returns-then-put-clause-found c keys are counted new =
     let at : bit_and (mark key) places.mask < length items = rw index at within in
     let bucket : c.in-Some.bucket.now ≡ get_or items c.bucket_of-at.result [] = search rules in
     let its : c.in-Some.bucket.now ≡ bucket_of places (mark key) = bucket ∙ ap (λ (i : ℕ). get_or items i []) index in
-    let place : c.in_ok-place.place ≡ suc (length keys) = c.in_ok-place.ensures.place ∙ ap suc counted in
+    let place : c.in_ok-place.place ≡ placed (mark key) (length keys) = c.in_ok-place.ensures.place ∙ (λ i. placed (c.requires.mark i) (counted i)) in
     let room : has_room (bucket_of places (mark key)) ≡ true = ap has_room (sym its) ∙ sym c.put.ensures.room ∙ c.if-put.true in
-    let more : c.put.new.bucket ≡ pushed (suc (length keys)) (bucket_of places (mark key)) = c.if-put.ensures.put ∙ (λ i. pushed (place i) (its i)) in
+    let more : c.put.new.bucket ≡ pushed (placed (mark key) (length keys)) (bucket_of places (mark key)) = c.if-put.ensures.put ∙ (λ i. pushed (place i) (its i)) in
     put_in_bucket keys key new places _ are refl refl room at (λ i. set items (index i) (more i))
 
 pub returns-clause-found : goal.returns-clause-found
