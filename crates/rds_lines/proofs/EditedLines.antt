@@ -13,38 +13,44 @@ use Rattle.rds_state.specs.declared.command.Command.{Command}
 use Rattle.rds_json.specs.MayGive.{MayGive}
 use Rattle.rds_json.specs.Unnamed.{edit_of}
 use Rattle.rds_output.specs.Reply.{reply_line, is_refusal}
-use Rattle.rds_lines.specs.Editing.{EditsLines, IsEdited, WritesAll, MeetsCommand, MeetsEdit, replies_text, edit_of_bytes, edit_refusal}
-use Rattle.rds_lines.specs.Lines.{after_line, is_text_line, lines_in, until_newline}
+use Rattle.rds_lines.specs.Editing.{AnswersAs, AnswersNext, EditsLines, EditsLinesBehind, EditsNext, IsEdited, WritesAll, MeetsCommand, MeetsEdit, replies_text, edit_of_bytes, edit_refusal}
+use Rattle.rds_lines.specs.Lines.{after_line, is_empty_line, is_text_line, lines_in, until_newline}
 use Rattle.rds_output.specs.declared.reply.Reply.{Reply}
-use Rattle.rds_output.specs.declared.reply.Reply.TheVariants.{Refused}
+use Rattle.rds_output.specs.declared.reply.Reply.TheVariants.{RefusedLine}
 use Rattle.rds_lines.proofs.EndedLines.{lines_first}
 
--- whatever the lines that are left make of the replica follows what was made of it so far
-abbrev pub FollowsOn : List ℕ → List ℕ → ReplicaValue → ReplicaValue → List Reply → Type 0
-FollowsOn input rest first now answers = (after : ReplicaValue) (more : List Reply) → EditsLines (lines_in rest) now after more → EditsLines (lines_in input) first after (answers ++ more)
+-- whatever the lines that are left, behind so many others, make of the replica follows what was made of it so far
+abbrev pub FollowsOn : ℕ → List ℕ → List ℕ → ReplicaValue → ReplicaValue → List Reply → Type 0
+FollowsOn count input rest first now answers =
+    (after : ReplicaValue) (more : List Reply) → EditsLinesBehind count (lines_in rest) now after more → EditsLines (lines_in input) first after (answers ++ more)
 
-pub follows_first : (input : List ℕ) (first : ReplicaValue) → FollowsOn input input first first []
+pub follows_first : (input : List ℕ) (first : ReplicaValue) → FollowsOn 0 input input first first []
 follows_first input first = λ after more h. h
 
-pub follows_next : (input rest : List ℕ) (first now next : ReplicaValue) (answers : List Reply) (answer : Reply) → 0 < length rest → FollowsOn input rest first now answers
-    → MeetsEdit (until_newline rest) now answer next → FollowsOn input (after_line rest) first next (answers ++ answer ∷ [])
-follows_next input rest first now next answers answer some follows met = λ after more h.
-    subst (EditsLines (lines_in input) first after) (sym (append_assoc answers (answer ∷ []) more))
-    (follows after (answer ∷ more)
-    (subst (λ (ls : List (List ℕ)). EditsLines ls now after (answer ∷ more)) (sym (lines_first rest some))
-    (record { answer = answer; next = next; met = met; rest = more; later = h; answers_are = refl })))
-
-pub follows_last : (input rest : List ℕ) (first now : ReplicaValue) (answers : List Reply) → rest ≡ [] → FollowsOn input rest first now answers → EditsLines (lines_in input) first now answers
-follows_last input rest first now answers none follows =
+pub follows_last : (count : ℕ) (input rest : List ℕ) (first now : ReplicaValue) (answers : List Reply) → rest ≡ [] → FollowsOn count input rest first now answers → EditsLines (lines_in input) first now answers
+follows_last count input rest first now answers none follows =
     subst (EditsLines (lines_in input) first now) (append-nil answers)
-    (follows now [] (subst (λ (r : List ℕ). EditsLines (lines_in r) now now []) (sym none) (refl, refl)))
+    (follows now [] (subst (λ (r : List ℕ). EditsLinesBehind count (lines_in r) now now []) (sym none) (refl, refl)))
 
-pub follows_step : (input rest line later : List ℕ) (first now next : ReplicaValue) (answers pushed : List Reply) (answer : Reply) → 0 < length rest → line ≡ until_newline rest → later ≡ after_line rest
-    → pushed ≡ answers ++ answer ∷ [] → FollowsOn input rest first now answers → MeetsEdit line now answer next → FollowsOn input later first next pushed
-follows_step input rest line later first now next answers pushed answer some is_line is_later is_pushed follows met = λ after more h.
-    subst (λ (p : List Reply). EditsLines (lines_in input) first after (p ++ more)) (sym is_pushed)
-    (follows_next input rest first now next answers answer some follows (subst (λ (l : List ℕ). MeetsEdit l now answer next) is_line met) after more
-    (subst (λ (l : List ℕ). EditsLines (lines_in l) next after more) is_later h))
+-- what the line and those after it make of the replica
+next_line : (empty : Bool) (line : ℕ) (bytes : List ℕ) (lines : List (List ℕ)) (now next after : ReplicaValue) (answers added more : List Reply)
+    → AnswersAs empty line bytes now next answers added → EditsLinesBehind line lines next after more
+    → (rest : List Reply) × EditsNext empty line bytes (EditsLinesBehind line lines) now after rest × (answers ++ rest ≡ added ++ more)
+next_line true line bytes lines now next after answers added more (same, none) later =
+    (more, subst (λ (v : ReplicaValue). EditsLinesBehind line lines v after more) same later, ap (λ (a : List Reply). a ++ more) (sym none))
+next_line false line bytes lines now next after answers added more (answer, met, is) later = (
+  answer ∷ more,
+  record { answer = answer; next = next; met = met; rest = more; later = later; answers_are = refl },
+  sym (ap (λ (a : List Reply). a ++ more) is ∙ append_assoc answers (answer ∷ []) more),
+)
+
+pub follows_step : (count : ℕ) (input rest line later : List ℕ) (first now next : ReplicaValue) (answers added : List Reply) → 0 < length rest → line ≡ until_newline rest → later ≡ after_line rest
+    → FollowsOn count input rest first now answers → AnswersNext (count + 1) line now next answers added → FollowsOn (count + 1) input later first next added
+follows_step count input rest line later first now next answers added some is_line is_later follows met = λ after more h.
+    let led = next_line (is_empty_line line) (count + 1) line (lines_in later) now next after answers added more met h in
+    let lines : line ∷ lines_in later ≡ lines_in rest = sym (lines_first rest some ∙ ap (λ (l : List ℕ). l ∷ lines_in (after_line rest)) (sym is_line) ∙ ap (λ (l : List ℕ). line ∷ lines_in l) (sym is_later)) in
+    subst (EditsLines (lines_in input) first after) led.2
+    (follows after led.0 (subst (λ (ls : List (List ℕ)). EditsLinesBehind count ls now after led.0) lines led.1))
 
 pub none_left : (xs : List ℕ) (b : Bool) → b ≡ eqb (length xs) 0 → b ≡ true → xs ≡ []
 none_left xs b e t = no_length xs (eqb-true (length xs) 0 (sym e ∙ t))
@@ -64,19 +70,19 @@ pub long_is_none : (line : List ℕ) → 65536 < length line → is_text_line li
 long_is_none line long = rw (lt-leb (length line) 65536 long) refl
 
 -- the bytes are no text
-pub no_text : (line : List ℕ) (fault : Fault) (before after : ReplicaValue) → (fault ≡ BadLine) × (is_text_line line ≡ false) → after ≡ before → MeetsEdit line before (Refused fault) after
-no_text line fault before after none same =
-    inr (subst (λ (b : Bool). MeetsCommand (cond b (edit_of line) (Err BadLine)) before (Refused fault) after) (sym none.1) (ap Refused none.0, same))
+pub no_text : (number : ℕ) (line : List ℕ) (fault : Fault) (before after : ReplicaValue) → (fault ≡ BadLine) × (is_text_line line ≡ false) → after ≡ before → MeetsEdit number line before (RefusedLine number fault) after
+no_text number line fault before after none same =
+    inr (subst (λ (b : Bool). MeetsCommand number (cond b (edit_of line) (Err BadLine)) before (RefusedLine number fault) after) (sym none.1) (ap (RefusedLine number) none.0, same))
 
-module _ (line text : List ℕ) (is : (is_text_line line ≡ true) × (text ≡ line)) (before after : ReplicaValue) where
+module _ (number : ℕ) (line text : List ℕ) (is : (is_text_line line ≡ true) × (text ≡ line)) (before after : ReplicaValue) where
   text_edit : edit_of text ≡ edit_of_bytes line
   text_edit = ap edit_of is.1 ∙ ap (λ (b : Bool). cond b (edit_of line) (Err BadLine)) (sym is.0)
 
   -- the text asks for no edit
-  pub no_command : (fault : Fault) → MayGive (Err fault) (edit_of text) → after ≡ before → MeetsEdit line before (Refused fault) after
+  pub no_command : (fault : Fault) → MayGive (Err fault) (edit_of text) → after ≡ before → MeetsEdit number line before (RefusedLine number fault) after
   no_command fault given same = elim given [
-    | inl memory ↦ inl (ap Refused (of_err fault Memory memory), same)
-    | inr due ↦ inr (subst (λ (r : Result Command Fault). MeetsCommand r before (Refused fault) after) (due ∙ text_edit) (refl, same))
+    | inl memory ↦ inl (ap (RefusedLine number) (of_err fault Memory memory), same)
+    | inr due ↦ inr (subst (λ (r : Result Command Fault). MeetsCommand number r before (RefusedLine number fault) after) (due ∙ text_edit) (refl, same))
   ]
     where
       of_err : (a b : Fault) → ◌≡◌ {A = Result Command Fault} (Err a) (Err b) → a ≡ b
@@ -86,13 +92,13 @@ module _ (line text : List ℕ) (is : (is_text_line line ≡ true) × (text ≡ 
   asked command given = elim given [ inl memory ↦ absurd cc | inr due ↦ due ∙ text_edit ]
 
   -- the edit is refused
-  pub no_edit : (command : Command) (fault : Fault) → MayGive (Ok command) (edit_of text) → IsDue (edit_refusal before command) fault → after ≡ before → MeetsEdit line before (Refused fault) after
+  pub no_edit : (command : Command) (fault : Fault) → MayGive (Ok command) (edit_of text) → IsDue (edit_refusal before command) fault → after ≡ before → MeetsEdit number line before (RefusedLine number fault) after
   no_edit command fault given due same =
-      inr (subst (λ (r : Result Command Fault). MeetsCommand r before (Refused fault) after) (asked command given) (inr (fault, due, (refl, same))))
+      inr (subst (λ (r : Result Command Fault). MeetsCommand number r before (RefusedLine number fault) after) (asked command given) (inr (fault, due, (refl, same))))
 
   -- the edit is made
-  pub an_edit : (command : Command) (answer : Reply) → MayGive (Ok command) (edit_of text) → edit_refusal before command ≡ None → IsEdited command before after answer → MeetsEdit line before answer after
-  an_edit command answer given due edited = inr (subst (λ (r : Result Command Fault). MeetsCommand r before answer after) (asked command given) (inl (due, edited)))
+  pub an_edit : (command : Command) (answer : Reply) → MayGive (Ok command) (edit_of text) → edit_refusal before command ≡ None → IsEdited command before after answer → MeetsEdit number line before answer after
+  an_edit command answer given due edited = inr (subst (λ (r : Result Command Fault). MeetsCommand number r before answer after) (asked command given) (inl (due, edited)))
 
 -- ---- answers that are written
 

@@ -1,10 +1,9 @@
 //! Lines that edit one replica, one after the other.
-ghost use Rattle.std.specs.Prelude.{◌≡◌, ◌≢◌, ◌≤◌, ◌⊎◌, true, false, Ok, IfErr, IfOk, None, OnErr, MatchResult};
+ghost use Rattle.std.specs.Prelude.{◌≡◌, ◌≢◌, ◌≤◌, ◌⊎◌, ℕ, true, false, Ok, IfErr, IfOk, None, OnErr, OnOk, MatchResult};
 ghost use Rattle.rds_names.specs.declared.fault.Fault.TheVariants.{BadLine, Memory};
 ghost use Rattle.rds_keep.specs.Counted.{HasFailed};
-ghost use Rattle.rds_lines.specs.Editing.{EditsLines, IsEdited, MeetsEdit, WritesAll, edit_of_bytes, edit_refusal};
-ghost use Rattle.rds_lines.specs.Lines.{is_text_line, lines_in};
-ghost use Rattle.rds_lines.specs.Simulated.{reply_of};
+ghost use Rattle.rds_lines.specs.Editing.{AnswersNext, EditsLines, IsEdited, MeetsEdit, WritesAll, edit_of_bytes, edit_refusal, line_reply_of};
+ghost use Rattle.rds_lines.specs.Lines.{is_empty_line, is_text_line, lines_in};
 
 use crate::ahead::LINE_LIMIT;
 use crate::lines::split_line;
@@ -17,9 +16,9 @@ use rds_tree::Index;
 use std::alloc::Global;
 use std::io::Write;
 
-/// Edits a replica as the lines of an input say, one after the other, and answers each. A line that is refused changes
-/// nothing, and the next is gone on with. Where there is no memory for the answers it is `Memory`, and the replica is
-/// as the lines so far left it.
+/// Edits a replica as the lines of an input say, one after the other, and answers each but the empty ones. A line that
+/// is refused changes nothing, and the next is gone on with; its answer has its number, from 1 over all lines. Where
+/// there is no memory for the answers it is `Memory`, and the replica is as the lines so far left it.
 pub fn edit_lines<S: DotSet>(
     alloc: Global,
     index: &mut Index<S>,
@@ -30,29 +29,60 @@ pub fn edit_lines<S: DotSet>(
 {
     let mut answers = Vec::new(alloc);
     let mut rest = input;
+    let mut count: u64 = 0;
     'lines: loop {
         if rest.is_empty() {
             return Ok(answers);
         }
-        let (line, later) = split_line(rest);
-        answers.push(answer_to(alloc, index, line))?;
+        let (bytes, later) = split_line(rest);
+        count += 1;
+        answer_next(alloc, index, count, bytes, &mut answers)?;
         rest = later;
     }
 }
 
-// Edits a replica as a line says, and answers it.
-fn answer_to<S: DotSet>(alloc: Global, index: &mut Index<S>, line: &[u8]) -> Reply
-    ensures { MeetsEdit line.now index.old result index.new }
+// Edits a replica as a line says, and adds its answer, unless the line is empty.
+fn answer_next<S: DotSet>(
+    alloc: Global,
+    index: &mut Index<S>,
+    line: u64,
+    bytes: &[u8],
+    answers: &mut Vec<Reply>,
+) -> Result<(), Fault>
+    ensures answered { OnOk result
+        (AnswersNext line bytes.now index.old index.new answers.old.items answers.new.items) }
+    ensures memory { IfErr result (λ fault. fault ≡ Memory) }
 {
-    match edited(alloc, index, line) {
+    if is_empty_line(bytes) {
+        return Ok(());
+    }
+    answers.push(answer_to(alloc, index, line, bytes))?;
+    Ok(())
+}
+
+// Whether a line has no byte, or but the carriage return of its end.
+fn is_empty_line(bytes: &[u8]) -> bool
+    ensures { result ≡ is_empty_line bytes.now }
+{
+    match bytes.split_first() {
+        None => true,
+        Some((first, rest)) => rest.is_empty() && *first == b'\r',
+    }
+}
+
+// Edits a replica as a line says, and answers it.
+fn answer_to<S: DotSet>(alloc: Global, index: &mut Index<S>, line: u64, bytes: &[u8]) -> Reply
+    ensures { MeetsEdit line bytes.now index.old result index.new }
+{
+    match edited(alloc, index, bytes) {
         Ok(answer) => answer,
-        Err(fault) => Reply::Refused(fault),
+        Err(fault) => Reply::RefusedLine { line, fault },
     }
 }
 
 // Edits a replica as a line says, or refuses it.
 fn edited<S: DotSet>(alloc: Global, index: &mut Index<S>, line: &[u8]) -> Result<Reply, Fault>
-    ensures { MeetsEdit line.now index.old (reply_of result) index.new }
+    ensures { (number : ℕ) → MeetsEdit number line.now index.old (line_reply_of number result) index.new }
 {
     let text = text_of(line)?;
     let command = edit(alloc, text)?;

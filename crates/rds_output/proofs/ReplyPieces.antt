@@ -6,7 +6,7 @@ use Rattle.rds_names.specs.declared.fault.Fault.{Fault}
 use Rattle.rds_keep.specs.Parts.{AppendsPart}
 use Rattle.rds_output.specs.Reply.{reply_line}
 use Rattle.rds_output.specs.Output.{fault_line}
-use Rattle.rds_output.specs.declared.reply.Reply.TheVariants.{Edited, Answered, Refused}
+use Rattle.rds_output.specs.declared.reply.Reply.TheVariants.{Asked, Edited, Answered, Refused, RefusedLine, Taken}
 
 -- a newline behind the last of the pieces
 closed_after_two : (a x b y c : List ℕ) → a ++ (x ++ (b ++ (y ++ (c ++ 10 ∷ [])))) ≡ (a ++ (x ++ (b ++ (y ++ c)))) ++ 10 ∷ []
@@ -15,6 +15,15 @@ closed_after_two a x b y c =
     ∙ ap (λ (l : List ℕ). a ++ (x ++ l)) (sym (append_assoc b (y ++ c) (10 ∷ [])))
     ∙ ap (λ (l : List ℕ). a ++ l) (sym (append_assoc x (b ++ (y ++ c)) (10 ∷ [])))
     ∙ sym (append_assoc a (x ++ (b ++ (y ++ c))) (10 ∷ []))
+
+closed_after_one : (a x c : List ℕ) → a ++ (x ++ (c ++ 10 ∷ [])) ≡ (a ++ (x ++ c)) ++ 10 ∷ []
+closed_after_one a x c = ap (λ (l : List ℕ). a ++ l) (sym (append_assoc x c (10 ∷ []))) ∙ sym (append_assoc a (x ++ c) (10 ∷ []))
+
+closed_after_three : (a x b y c z d : List ℕ) → a ++ (x ++ (b ++ (y ++ (c ++ (z ++ (d ++ 10 ∷ [])))))) ≡ (a ++ (x ++ (b ++ (y ++ (c ++ (z ++ d)))))) ++ 10 ∷ []
+closed_after_three a x b y c z d =
+    ap (λ (l : List ℕ). a ++ (x ++ l)) (closed_after_two b y c z d)
+    ∙ ap (λ (l : List ℕ). a ++ l) (sym (append_assoc x (b ++ (y ++ (c ++ (z ++ d)))) (10 ∷ [])))
+    ∙ sym (append_assoc a (x ++ (b ++ (y ++ (c ++ (z ++ d))))) (10 ∷ []))
 
 -- the same pieces, grouped from the left
 from_left : (a x b y c : List ℕ) → a ++ (x ++ (b ++ (y ++ c))) ≡ (((a ++ x) ++ b) ++ y) ++ c
@@ -34,6 +43,17 @@ answered_pieces x y number components e f = rw (e, f) (closed_after_two (codes "
 pub refused_pieces : (number name : List ℕ) (fault : Fault) → number ≡ decimal (number_of fault) → name ≡ name_of fault
     → codes "{\"fault\":" ++ (number ++ (codes ",\"name\":\"" ++ (name ++ codes "\"}\n"))) ≡ reply_line (Refused fault)
 refused_pieces number name fault e f = rw (e, f) (closed_after_two (codes "{\"fault\":") (decimal (number_of fault)) (codes ",\"name\":\"") (name_of fault) (codes "\"}"))
+
+pub asked_pieces : (x : List ℕ) (number : ℕ) → x ≡ decimal number → codes "{\"ask\":" ++ (x ++ codes "}\n") ≡ reply_line (Asked number)
+asked_pieces x number e = rw e (sym (append_assoc (codes "{\"ask\":" ++ decimal number) (codes "}") (10 ∷ []) ∙ append_assoc (codes "{\"ask\":") (decimal number) (codes "}\n")))
+
+pub taken_pieces : (x : List ℕ) (components : ℕ) → x ≡ decimal components → codes "{\"taken\":" ++ (x ++ codes "}\n") ≡ reply_line (Taken components)
+taken_pieces x components e = rw e (closed_after_one (codes "{\"taken\":") (decimal components) (codes "}"))
+
+pub refused_line_pieces : (number name at : List ℕ) (line : ℕ) (fault : Fault) → number ≡ decimal (number_of fault) → name ≡ name_of fault → at ≡ decimal line
+    → codes "{\"fault\":" ++ (number ++ (codes ",\"name\":\"" ++ (name ++ (codes "\",\"line\":" ++ (at ++ codes "}\n"))))) ≡ reply_line (RefusedLine line fault)
+refused_line_pieces number name at line fault e f h =
+    rw (e, f, h) (closed_after_three (codes "{\"fault\":") (decimal (number_of fault)) (codes ",\"name\":\"") (name_of fault) (codes "\",\"line\":") (decimal line) (codes "}"))
 
 pub edited_pieces : (name x y given : List ℕ) (seq killed : ℕ) → given ≡ name → x ≡ decimal seq → y ≡ decimal killed
     → codes "{\"dot\":[\"" ++ (given ++ (codes "\"," ++ (x ++ (codes "],\"killed\":" ++ (y ++ codes "}\n"))))) ≡ reply_line (Edited (Some (name, seq)) killed)

@@ -8,7 +8,7 @@ use Rattle.rds_names.specs.Fault.{number_of, name_of}
 use Rattle.rds_names.specs.declared.fault.Fault.{Fault}
 use Rattle.rds_output.specs.Output.{fault_line, fault_status}
 use Rattle.rds_output.specs.declared.reply.Reply.{Reply}
-use Rattle.rds_output.specs.declared.reply.Reply.TheVariants.{Done, Edited, Asked, Answered, Shown, Refused}
+use Rattle.rds_output.specs.declared.reply.Reply.TheVariants.{Done, Edited, Asked, Answered, Taken, Shown, Refused, RefusedLine}
 
 -- a dot as the array of its replica's name and its number there, or null
 abbrev pub dot_text : Option (List ℕ × ℕ) → List ℕ
@@ -22,12 +22,16 @@ reply_text (Edited dot killed) =
 reply_text (Asked number) = codes "{\"ask\":" ++ decimal number ++ codes "}"
 reply_text (Answered number components) =
     codes "{\"delta\":" ++ (decimal number ++ (codes ",\"components\":" ++ (decimal components ++ codes "}")))
+reply_text (Taken components) = codes "{\"taken\":" ++ (decimal components ++ codes "}")
 reply_text (Shown text) = string_bytes text
 reply_text (Refused fault) =
     codes "{\"fault\":" ++ (decimal (number_of fault) ++ (codes ",\"name\":\"" ++ (name_of fault ++ codes "\"}")))
+reply_text (RefusedLine line fault) =
+    codes "{\"fault\":" ++ (decimal (number_of fault) ++ (codes ",\"name\":\"" ++ (name_of fault ++ (codes "\",\"line\":" ++ (decimal line ++ codes "}")))))
 
 abbrev pub is_refusal : Reply → Bool
 is_refusal (Refused fault) = true
+is_refusal (RefusedLine line fault) = true
 is_refusal _ = false
 
 -- the name of a dot's replica, and the dot's number there

@@ -34,10 +34,19 @@ pub enum Reply {
         /// How many components it has.
         components: u128,
     },
+    /// A delta of so many components was taken.
+    Taken(u128),
     /// The JSON of a view.
     Shown(String),
     /// It was refused, and nothing is changed.
     Refused(Fault),
+    /// A line of an input was refused, and nothing is changed.
+    RefusedLine {
+        /// Which line of the input it is, from 1.
+        line: u64,
+        /// Why.
+        fault: Fault,
+    },
 }
 
 impl Reply {
@@ -55,7 +64,7 @@ impl Reply {
     pub fn is_refusal(&self) -> bool
         ensures { result ≡ is_refusal self.now }
     {
-        matches!(self, Reply::Refused(_))
+        matches!(self, Reply::Refused(_) | Reply::RefusedLine { .. })
     }
 
     /// Writes its line, piece by piece.
@@ -87,12 +96,17 @@ impl Reply {
                     b"}\n",
                 ])
             }
+            Reply::Taken(components) => {
+                let components = first.of(*components);
+                writer.write_pieces(&[b"{\"taken\":", components, b"}\n"])
+            }
             Reply::Shown(text) => writer.write_pieces(&[text.as_bytes(), b"\n"]),
             Reply::Refused(fault) => {
                 let number = first.of(u128::from(fault.number()));
                 let name = fault.name().as_bytes();
                 writer.write_pieces(&[b"{\"fault\":", number, b",\"name\":\"", name, b"\"}\n"])
             }
+            Reply::RefusedLine { line, fault } => write_refused_line(writer, *line, *fault),
         }
     }
 }
@@ -125,6 +139,32 @@ fn write_edited<W: Write>(
         ]),
         None => writer.write_pieces(&[b"{\"dot\":null,\"killed\":", killed, b"}\n"]),
     }
+}
+
+// Writes the line of a refused line of an input.
+fn write_refused_line<W: Write>(
+    writer: &mut Counted<W>,
+    line: u64,
+    fault: Fault,
+) -> Result<(), Fault>
+    ensures bytes { OnOk result (Appends (W.contents writer.old.inner)
+        (W.contents writer.new.inner) (reply_line (Reply.RefusedLine line fault))) }
+    ensures part { OnErr result (AppendsPart (W.contents writer.old.inner)
+        (W.contents writer.new.inner) (reply_line (Reply.RefusedLine line fault))) }
+    ensures fault { IfErr result (λ e. e ≡ Device) }
+    ensures steady { OnOk result (writer.new.failed ≡ writer.old.failed) }
+    ensures counted { OnErr result (writer.new.failed ≡ one_more writer.old.failed) }
+{
+    let (mut first, mut second) = (Digits::new(), Digits::new());
+    writer.write_pieces(&[
+        b"{\"fault\":",
+        first.of(u128::from(fault.number())),
+        b",\"name\":\"",
+        fault.name().as_bytes(),
+        b"\",\"line\":",
+        second.of(u128::from(line)),
+        b"}\n",
+    ])
 }
 
 // The name of the dot's replica, and the dot's number there.

@@ -1,11 +1,11 @@
-use Rattle.std.proofs.Common.{◌<◌, length, sym, subst, List, ℕ}
+use Rattle.std.proofs.Common.{◌<◌, arith, length, sym, subst, List, ℕ}
 use Rattle.rds_lines.proofs.EditedLines.{follows_last, follows_step, none_left, some_left}
 use Rattle.rds_lines.proofs.Pieces.{rest_shorter}
 use Rattle.rds_lines.proofs.editing.edit_lines.Goals as goal
 
 pub returns-then-is_empty-clause-edited : goal.returns-then-is_empty-clause-edited
 returns-then-is_empty-clause-edited g c =
-    follows_last c.args.input.now c.lines.rest.now c.args.index.now c.lines.index c.lines.answers.items (none_left c.lines.rest.now c.is_empty.result c.is_empty.ensures c.if-is_empty.true) c.lines.invariant
+    follows_last c.lines.count c.args.input.now c.lines.rest.now c.args.index.now c.lines.index c.lines.answers.items (none_left c.lines.rest.now c.is_empty.result c.is_empty.ensures c.if-is_empty.true) c.lines.invariant.follows
 
 pub lines-smaller : goal.lines-smaller
 lines-smaller g c =
@@ -13,5 +13,10 @@ lines-smaller g c =
 
 pub lines-preserved : goal.lines-preserved
 lines-preserved g c =
-    follows_step c.args.input.now c.lines.rest.now c.split_line.result.0.now c.split_line.result.1.now c.args.index.now c.lines.index c.answer_to.new.index c.lines.answers.items c.push.new.self.items c.answer_to.result
-    (some_left c.lines.rest.now c.is_empty.result c.is_empty.ensures c.if-is_empty.false) c.split_line.ensures.line c.split_line.ensures.rest c.in_ok-push.ensures.items c.lines.invariant c.answer_to.ensures
+    let some = some_left c.lines.rest.now c.is_empty.result c.is_empty.ensures c.if-is_empty.false in
+    let shorter : length c.split_line.result.1.now < length c.lines.rest.now = subst (λ (l : List ℕ). length l < length c.lines.rest.now) (sym c.split_line.ensures.rest) (rest_shorter c.lines.rest.now some) in
+    record {
+      follows = follows_step c.lines.count c.args.input.now c.lines.rest.now c.split_line.result.0.now c.split_line.result.1.now c.args.index.now c.lines.index c.answer_next.new.index c.lines.answers.items c.answer_next.new.answers.items
+          some c.split_line.ensures.line c.split_line.ensures.rest c.lines.invariant.follows c.in_ok-answer_next.ensures.answered;
+      counted = omega (arith, shorter, c.lines.invariant.counted);
+    }

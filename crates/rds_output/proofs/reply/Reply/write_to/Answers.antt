@@ -1,5 +1,5 @@
 use Rattle.std.proofs.Common.{◌∙◌, ap, decimal}
-use Rattle.rds_output.proofs.ReplyPieces.{answered_pieces, refused_pieces, same_part}
+use Rattle.rds_output.proofs.ReplyPieces.{answered_pieces, asked_pieces, refused_pieces, same_part, taken_pieces}
 use Rattle.rds_output.proofs.reply.Reply.write_to.Goals as goal
 
 pub returns-in-Done-clause-part : goal.returns-in-Done-clause-part
@@ -17,3 +17,14 @@ returns-in-Refused-clause-part g c =
     let name = c.as_bytes-name.ensures.value ∙ c.name.ensures in
     rw c.in-Refused.is (same_part (g.W.Write.contents c.args.writer.now.inner) (g.W.Write.contents c.write_pieces-in-Refused.new.self.inner) _ _ c.write_pieces-in-Refused.result
     (refused_pieces c.of-number-in-Refused.result.now c.as_bytes-name.result.now c.in-Refused.fault number name) c.write_pieces-in-Refused.ensures.part)
+
+pub returns-in-Asked-clause-part : goal.returns-in-Asked-clause-part
+returns-in-Asked-clause-part g c =
+    let number = c.of-number.ensures.text ∙ ap decimal c.from.ensures in
+    rw c.in-Asked.is (same_part (g.W.Write.contents c.args.writer.now.inner) (g.W.Write.contents c.write_pieces.new.self.inner) _ _ c.write_pieces.result
+    (asked_pieces c.of-number.result.now c.in-Asked.number number) c.write_pieces.ensures.part)
+
+pub returns-in-Taken-clause-part : goal.returns-in-Taken-clause-part
+returns-in-Taken-clause-part g c =
+    rw c.in-Taken.is (same_part (g.W.Write.contents c.args.writer.now.inner) (g.W.Write.contents c.write_pieces-in-Taken.new.self.inner) _ _ c.write_pieces-in-Taken.result
+    (taken_pieces c.of-components-in-Taken.result.now c.in-Taken.components c.of-components-in-Taken.ensures.text) c.write_pieces-in-Taken.ensures.part)
