@@ -1,0 +1,48 @@
+-- Questions, responses and snapshots begin with other bytes.
+use Rattle.std.proofs.Common.{◌≡◌, ℕ, List, ◌++◌, get_or, ap, refl, arith}
+use Rattle.rds_state.specs.Fits.{ReplicaValue}
+use Rattle.rds_codec.specs.FormatTexts.{snapshot_text_in}
+use Rattle.rds_codec.specs.SpelledTexts.{spelled_snapshot_text}
+use Rattle.rds_codec.specs.StateTexts.{snapshot_text}
+use Rattle.rds_codec.specs.declared.formats.Format.{Format}
+use Rattle.rds_codec.specs.declared.formats.Format.TheVariants.{One, Two}
+use Rattle.rds_questions.specs.Laws.{AreToldApart}
+use Rattle.rds_questions.specs.Questions.{QuestionValue, question_text}
+use Rattle.rds_questions.specs.Responses.{ResponseValue, response_text}
+
+-- the fourth bytes: Q, A, 1 and 2
+differ_81_65 : (n : ℕ) → n ≡ 81 → n ≡ 65 → ⊥
+differ_81_65 n one other = omega (arith, one, other)
+
+differ_81_49 : (n : ℕ) → n ≡ 81 → n ≡ 49 → ⊥
+differ_81_49 n one other = omega (arith, one, other)
+
+differ_81_50 : (n : ℕ) → n ≡ 81 → n ≡ 50 → ⊥
+differ_81_50 n one other = omega (arith, one, other)
+
+differ_65_49 : (n : ℕ) → n ≡ 65 → n ≡ 49 → ⊥
+differ_65_49 n one other = omega (arith, one, other)
+
+differ_65_50 : (n : ℕ) → n ≡ 65 → n ≡ 50 → ⊥
+differ_65_50 n one other = omega (arith, one, other)
+
+question_response : (q : QuestionValue) (r : ResponseValue) (x y : List ℕ) → question_text q ++ x ≡ response_text r ++ y → ⊥
+unfolding question_text response_text
+question_response q r x y e = differ_81_65 81 refl (ap (λ (t : List ℕ). get_or t 3 0) e)
+
+question_snapshot : (q : QuestionValue) (f : Format) (v : ReplicaValue) (x y : List ℕ) → question_text q ++ x ≡ snapshot_text_in f v ++ y → ⊥
+unfolding question_text spelled_snapshot_text snapshot_text
+question_snapshot q One v x y e = differ_81_49 81 refl (ap (λ (t : List ℕ). get_or t 3 0) e)
+question_snapshot q Two v x y e = differ_81_50 81 refl (ap (λ (t : List ℕ). get_or t 3 0) e)
+
+response_snapshot : (r : ResponseValue) (f : Format) (v : ReplicaValue) (x y : List ℕ) → response_text r ++ x ≡ snapshot_text_in f v ++ y → ⊥
+unfolding response_text spelled_snapshot_text snapshot_text
+response_snapshot r One v x y e = differ_65_49 65 refl (ap (λ (t : List ℕ). get_or t 3 0) e)
+response_snapshot r Two v x y e = differ_65_50 65 refl (ap (λ (t : List ℕ). get_or t 3 0) e)
+
+pub told_apart : AreToldApart
+told_apart = record {
+  question_response = question_response;
+  question_snapshot = λ q s x y e. question_snapshot q s.0 s.1 x y e;
+  response_snapshot = λ r s x y e. response_snapshot r s.0 s.1 x y e;
+}
