@@ -1,0 +1,5 @@
+mod Amounts
+mod Examples
+mod Joined
+mod Merged
+mod Plain
