@@ -98,7 +98,7 @@ takes_three command name f0 f1 f2 over = record { named = named; counted = count
     counted called (a ∷ b ∷ c ∷ []) none = ((a ∷ b ∷ c ∷ []), (refl, refl))
     counted called (a ∷ b ∷ c ∷ d ∷ more) none = refused_isnt _ (over a b c d more called) none
 
--- at least 2, and at least 4
+-- at least 2
 
 pub takes_names : (command : Text) → ((a b : Text) (more : List Text) → IsNamed command (a ∷ b ∷ more))
     → (IsMistaken command [])
@@ -114,27 +114,6 @@ takes_names command name f0 f1 = record { named = named; counted = counted }
     counted called [] none = refused_isnt _ (f0 called) none
     counted called (a ∷ []) none = refused_isnt _ (f1 a called) none
     counted called (a ∷ b ∷ more) none = (a ∷ b ∷ more, (omega arith, refl))
-
-pub takes_group : (command : Text) → ((a b c d : Text) (more : List Text) → IsNamed command (a ∷ b ∷ c ∷ d ∷ more))
-    → (IsMistaken command [])
-    → ((a : Text) → IsMistaken command (a ∷ []))
-    → ((a b : Text) → IsMistaken command (a ∷ b ∷ []))
-    → ((a b c : Text) → IsMistaken command (a ∷ b ∷ c ∷ [])) → IsCountedCommand command (at_least 4)
-takes_group command name f0 f1 f2 f3 = record { named = named; counted = counted }
-  where
-    named : (called : Text) (given words : List Text) → IsCounted (at_least 4) given words → Names (dashed called command given) (command ∷ words)
-    named called [] words is = absurd (omega (arith, is.0))
-    named called (a ∷ []) words is = absurd (omega (arith, is.0))
-    named called (a ∷ b ∷ []) words is = absurd (omega (arith, is.0))
-    named called (a ∷ b ∷ c ∷ []) words is = absurd (omega (arith, is.0))
-    named called (a ∷ b ∷ c ∷ d ∷ more) words is = rw is.1 (name a b c d more called)
-
-    counted : (called : Text) (given : List Text) → mistakes_in (dashed called command given) ≡ [] → (words : List Text) × IsCounted (at_least 4) given words
-    counted called [] none = refused_isnt _ (f0 called) none
-    counted called (a ∷ []) none = refused_isnt _ (f1 a called) none
-    counted called (a ∷ b ∷ []) none = refused_isnt _ (f2 a b called) none
-    counted called (a ∷ b ∷ c ∷ []) none = refused_isnt _ (f3 a b c called) none
-    counted called (a ∷ b ∷ c ∷ d ∷ more) none = (a ∷ b ∷ c ∷ d ∷ more, (omega arith, refl))
 
 -- a file, and a path, which may be left out
 

@@ -9,9 +9,7 @@ use Rattle.clap.specs.Kinds.{or_else}
 use Rattle.clap.specs.Faults.{default_fault, defaults_fault, given_default_fault}
 use Rattle.clap.specs.Walk.{default_rows, has_row, is_empty, more_values, reading_by, with_default}
 use Rattle.clap.specs.declared.parser.matches.ValueSource.TheVariants.{DefaultValue}
-use Rattle.rds_words.specs.Parts.{IsValueOr}
-use Rattle.rds_words.proofs.CommandWords.{row}
-use Rattle.rds_words.proofs.RowsById.{at_no_row, find_kept, find_new, find_past, no_row, row_at, row_with}
+use Rattle.rds_words.proofs.RowsById.{at_no_row, find_kept, find_new, find_past, no_row, row_at}
 
 abbrev default_row : Rule → Text → List Text → Row
 default_row a d ds = record { id = a.id; values = d ∷ ds; count = None; source = Some DefaultValue; reading = reading_by a }
@@ -78,14 +76,6 @@ first_default (a ∷ c) rows id d (inl this) none = first_in (row_kept c (with_d
 
     first_in : row_at id (fold with_default (with_default rows a) c) ≡ Some (default_row a d []) → first_of id (fold with_default (with_default rows a) c) ≡ Some d
     first_in is = ap (λ (f : Option Row). option_and_then (λ r. slice_get r.values 0) f) is
-
-pub first_kept : (c : List Rule) (rows : List Row) (id v : Text) → row_at id rows ≡ Some (row id (v ∷ [])) → first_of id (fold with_default rows c) ≡ Some v
-first_kept c rows id v is = ap (λ (f : Option Row). option_and_then (λ r. slice_get r.values 0) f) (row_kept c rows id (row id (v ∷ [])) is)
-
-pub first_value : (c : List Rule) (rows : List Row) (id d v : Text) (given : List Text) → HasDefault id d c → row_at id rows ≡ row_with id given → IsValueOr d given v → first_of id (fold with_default rows c) ≡ Some v
-first_value c rows id d v [] has is value = first_default c rows id d has is ∙ ap Some (sym value)
-first_value c rows id d v (x ∷ []) has is value = first_kept c rows id x is ∙ ap Some (sym value)
-first_value c rows id d v (x ∷ y ∷ more) has is value = absurd value
 
 -- ---- faults of defaults
 

@@ -3,21 +3,19 @@ use Rattle.std.proofs.Common.{◌≡◌, ◌∙◌, List, [], ◌∷◌, ◌++�
 use Rattle.std.specs.Prelude.{map}
 use Rattle.std.specs.Borrow.{Bor}
 use Rattle.clap.specs.Words.{Text, built}
-use Rattle.rds_names.specs.Conditions.{and_left, and_right}
 use Rattle.rds_words.specs.declared.tasks.Task.{Task}
-use Rattle.rds_words.specs.declared.tasks.Task.TheVariants.{Join, Sim, Init, Grow, Edit, EditLines, Get, Show, ShowPretty, Status, Serve, Sync, Pair}
+use Rattle.rds_words.specs.declared.tasks.Task.TheVariants.{Join, Sim, Init, InitFrom, Grow, Edit, EditIfChanged, EditLines, Get, GetRaw, Show, ShowPretty, Dump, Status, Serve, Sync, Pair, Ask, Answer, Take, Merge, Check, Conflicts, Diff}
 use Rattle.rds_words.specs.declared.tasks.EditWords.TheVariants.{Set, Add, Del, Clear, Inc, Dec}
+use Rattle.rds_words.specs.declared.tasks.ValueWord.TheVariants as word
 use Rattle.rds_words.specs.Commands.{node_app}
 use Rattle.rds_words.specs.Entered.{Names}
 use Rattle.rds_words.specs.Task.{words_in, words_of}
-use Rattle.rds_words.specs.Written.{AreData, HasNames, IsWritable, words_dashed, is_data, words_written}
+use Rattle.rds_words.specs.Written.{AreData, HasNames, IsWritable, words_dashed, words_written}
 use Rattle.rds_words.proofs.CommandWords.{node_on_words}
 use Rattle.rds_words.proofs.Dashed.{Meets, undashed_fault, undashed_rows}
 use Rattle.rds_words.proofs.GrowNamed.{grow_dashed, grow_met}
-use Rattle.rds_words.proofs.InitNamed.{init_dashed, init_met}
-use Rattle.rds_words.proofs.PrettyNamed.{pretty_dashed, pretty_named, show_met}
-use Rattle.rds_words.proofs.ServeNamed.{serve_met, serve_named, sessions_named, timeout_named}
-use Rattle.rds_words.proofs.SyncNamed.{sync_met, sync_named}
+use Rattle.rds_words.proofs.OptionsNamed.{add_changed_named, add_text_changed_named, add_text_named, del_text_named, get_counter_named, get_raw_named, get_reg_named, get_set_named, init_dashed, init_from_named, pretty_named, serve_named, set_changed_named, set_text_changed_named, set_text_named, sync_named}
+use Rattle.rds_words.specs.declared.tasks.RawKind.TheVariants as kind
 
 -- words that are data need no dashes
 undashed : (name command : Text) (words result : List Text) → Meets (built node_app) command → AreData words → Names (name ∷ command ∷ codes "--" ∷ words) result → Names (name ∷ command ∷ words) result
@@ -111,6 +109,102 @@ pub clear_root_dashed : (name file : Text) → Names (name ∷ codes "clear" ∷
 unfolding node_on_words
 clear_root_dashed name file = (refl, refl)
 
+pub dump_dashed : (name file path : Text) → Names (name ∷ codes "dump" ∷ codes "--" ∷ file ∷ path ∷ []) (codes "dump" ∷ file ∷ path ∷ [])
+unfolding node_on_words
+dump_dashed name file path = (refl, refl)
+
+pub dump_root_dashed : (name file : Text) → Names (name ∷ codes "dump" ∷ codes "--" ∷ file ∷ []) (codes "dump" ∷ file ∷ [] ∷ [])
+unfolding node_on_words
+dump_root_dashed name file = (refl, refl)
+
+pub ask_dashed : (name file : Text) → Names (name ∷ codes "ask" ∷ codes "--" ∷ file ∷ []) (codes "ask" ∷ file ∷ [])
+unfolding node_on_words
+ask_dashed name file = (refl, refl)
+
+pub answer_dashed : (name file : Text) → Names (name ∷ codes "answer" ∷ codes "--" ∷ file ∷ []) (codes "answer" ∷ file ∷ [])
+unfolding node_on_words
+answer_dashed name file = (refl, refl)
+
+pub take_dashed : (name file question answer : Text) → Names (name ∷ codes "take" ∷ codes "--" ∷ file ∷ question ∷ answer ∷ []) (codes "take" ∷ file ∷ question ∷ answer ∷ [])
+unfolding node_on_words
+take_dashed name file question answer = (refl, refl)
+
+pub merge_dashed : (name file from : Text) → Names (name ∷ codes "merge" ∷ codes "--" ∷ file ∷ from ∷ []) (codes "merge" ∷ file ∷ from ∷ [])
+unfolding node_on_words
+merge_dashed name file from = (refl, refl)
+
+pub check_dashed : (name question answer : Text) → Names (name ∷ codes "check" ∷ codes "--" ∷ question ∷ answer ∷ []) (codes "check" ∷ question ∷ answer ∷ [])
+unfolding node_on_words
+check_dashed name question answer = (refl, refl)
+
+pub conflicts_dashed : (name file path : Text) → Names (name ∷ codes "conflicts" ∷ codes "--" ∷ file ∷ path ∷ []) (codes "conflicts" ∷ file ∷ path ∷ [])
+unfolding node_on_words
+conflicts_dashed name file path = (refl, refl)
+
+pub conflicts_root_dashed : (name file : Text) → Names (name ∷ codes "conflicts" ∷ codes "--" ∷ file ∷ []) (codes "conflicts" ∷ file ∷ [] ∷ [])
+unfolding node_on_words
+conflicts_root_dashed name file = (refl, refl)
+
+pub diff_dashed : (name file other : Text) → Names (name ∷ codes "diff" ∷ codes "--" ∷ file ∷ other ∷ []) (codes "diff" ∷ file ∷ other ∷ [])
+unfolding node_on_words
+diff_dashed name file other = (refl, refl)
+
+init_from_dashed : (name file own from : Text) → Names (name ∷ codes "init" ∷ (codes "--from=" ++ from) ∷ codes "--" ∷ file ∷ own ∷ []) (codes "init" ∷ file ∷ own ∷ (codes "--from=" ++ from) ∷ [])
+unfolding node_on_words
+init_from_dashed name file own from = (refl, refl)
+
+set_text_dashed : (name file path value : Text) → Names (name ∷ codes "set" ∷ codes "--text" ∷ codes "--" ∷ file ∷ path ∷ value ∷ []) (codes "set" ∷ file ∷ path ∷ value ∷ codes "--text" ∷ [])
+unfolding node_on_words
+set_text_dashed name file path value = (refl, refl)
+
+set_changed_dashed : (name file path value : Text) → Names (name ∷ codes "set" ∷ codes "--if-changed" ∷ codes "--" ∷ file ∷ path ∷ value ∷ []) (codes "set" ∷ file ∷ path ∷ value ∷ codes "--if-changed" ∷ [])
+unfolding node_on_words
+set_changed_dashed name file path value = (refl, refl)
+
+set_text_changed_dashed : (name file path value : Text) → Names (name ∷ codes "set" ∷ codes "--if-changed" ∷ codes "--text" ∷ codes "--" ∷ file ∷ path ∷ value ∷ []) (codes "set" ∷ file ∷ path ∷ value ∷ codes "--text" ∷ codes "--if-changed" ∷ [])
+unfolding node_on_words
+set_text_changed_dashed name file path value = (refl, refl)
+
+add_text_dashed : (name file path value : Text) → Names (name ∷ codes "add" ∷ codes "--text" ∷ codes "--" ∷ file ∷ path ∷ value ∷ []) (codes "add" ∷ file ∷ path ∷ value ∷ codes "--text" ∷ [])
+unfolding node_on_words
+add_text_dashed name file path value = (refl, refl)
+
+add_changed_dashed : (name file path value : Text) → Names (name ∷ codes "add" ∷ codes "--if-changed" ∷ codes "--" ∷ file ∷ path ∷ value ∷ []) (codes "add" ∷ file ∷ path ∷ value ∷ codes "--if-changed" ∷ [])
+unfolding node_on_words
+add_changed_dashed name file path value = (refl, refl)
+
+add_text_changed_dashed : (name file path value : Text) → Names (name ∷ codes "add" ∷ codes "--if-changed" ∷ codes "--text" ∷ codes "--" ∷ file ∷ path ∷ value ∷ []) (codes "add" ∷ file ∷ path ∷ value ∷ codes "--text" ∷ codes "--if-changed" ∷ [])
+unfolding node_on_words
+add_text_changed_dashed name file path value = (refl, refl)
+
+del_text_dashed : (name file path value : Text) → Names (name ∷ codes "del" ∷ codes "--text" ∷ codes "--" ∷ file ∷ path ∷ value ∷ []) (codes "del" ∷ file ∷ path ∷ value ∷ codes "--text" ∷ [])
+unfolding node_on_words
+del_text_dashed name file path value = (refl, refl)
+
+get_raw_dashed : (name file path : Text) → Names (name ∷ codes "get" ∷ codes "--raw" ∷ codes "--" ∷ file ∷ path ∷ []) (codes "get" ∷ file ∷ path ∷ codes "--raw" ∷ [])
+unfolding node_on_words
+get_raw_dashed name file path = (refl, refl)
+
+get_reg_dashed : (name file path : Text) → Names (name ∷ codes "get" ∷ codes "--reg" ∷ codes "--" ∷ file ∷ path ∷ []) (codes "get" ∷ file ∷ path ∷ codes "--reg" ∷ [])
+unfolding node_on_words
+get_reg_dashed name file path = (refl, refl)
+
+get_set_dashed : (name file path : Text) → Names (name ∷ codes "get" ∷ codes "--set" ∷ codes "--" ∷ file ∷ path ∷ []) (codes "get" ∷ file ∷ path ∷ codes "--set" ∷ [])
+unfolding node_on_words
+get_set_dashed name file path = (refl, refl)
+
+get_counter_dashed : (name file path : Text) → Names (name ∷ codes "get" ∷ codes "--counter" ∷ codes "--" ∷ file ∷ path ∷ []) (codes "get" ∷ file ∷ path ∷ codes "--counter" ∷ [])
+unfolding node_on_words
+get_counter_dashed name file path = (refl, refl)
+
+pretty_dashed : (name file path : Text) → Names (name ∷ codes "show" ∷ codes "--pretty" ∷ codes "--" ∷ file ∷ path ∷ []) (codes "show" ∷ file ∷ path ∷ codes "--pretty" ∷ [])
+unfolding node_on_words
+pretty_dashed name file path = (refl, refl)
+
+pub pretty_root_dashed : (name file : Text) → Names (name ∷ codes "show" ∷ codes "--pretty" ∷ codes "--" ∷ file ∷ []) (codes "show" ∷ file ∷ [] ∷ codes "--pretty" ∷ [])
+unfolding node_on_words
+pretty_root_dashed name file = (refl, refl)
+
 -- ---- where the walk over the words meets each command
 
 pub join_met : Meets (built node_app) (codes "join")
@@ -161,6 +255,54 @@ pub dec_met : Meets (built node_app) (codes "dec")
 unfolding node_on_words
 dec_met = (refl, refl)
 
+pub dump_met : Meets (built node_app) (codes "dump")
+unfolding node_on_words
+dump_met = (refl, refl)
+
+pub ask_met : Meets (built node_app) (codes "ask")
+unfolding node_on_words
+ask_met = (refl, refl)
+
+pub answer_met : Meets (built node_app) (codes "answer")
+unfolding node_on_words
+answer_met = (refl, refl)
+
+pub take_met : Meets (built node_app) (codes "take")
+unfolding node_on_words
+take_met = (refl, refl)
+
+pub merge_met : Meets (built node_app) (codes "merge")
+unfolding node_on_words
+merge_met = (refl, refl)
+
+pub check_met : Meets (built node_app) (codes "check")
+unfolding node_on_words
+check_met = (refl, refl)
+
+pub conflicts_met : Meets (built node_app) (codes "conflicts")
+unfolding node_on_words
+conflicts_met = (refl, refl)
+
+pub diff_met : Meets (built node_app) (codes "diff")
+unfolding node_on_words
+diff_met = (refl, refl)
+
+pub init_met : Meets (built node_app) (codes "init")
+unfolding node_on_words
+init_met = (refl, refl)
+
+pub show_met : Meets (built node_app) (codes "show")
+unfolding node_on_words
+show_met = (refl, refl)
+
+pub sync_met : Meets (built node_app) (codes "sync")
+unfolding node_on_words
+sync_met = (refl, refl)
+
+pub serve_met : Meets (built node_app) (codes "serve")
+unfolding node_on_words
+serve_met = (refl, refl)
+
 -- ---- each task
 
 init_behind : (name file group own : Text) (names : List (Bor Text)) → (names ≡ [] → ⊥)
@@ -177,10 +319,26 @@ pub task_dashed : (name : Text) (task : Task) → HasNames task → Names (name 
 task_dashed name Join has = join_dashed name
 task_dashed name Sim has = sim_dashed name
 task_dashed name (Init words) has = init_behind name words.file.now words.group.now words.own.now words.names.items has
+task_dashed name (InitFrom words) has = init_from_dashed name words.file.now words.own.now words.from.now
+task_dashed name (Edit file (Set path (word.Text value))) has = set_text_dashed name file.now path.now value.now
+task_dashed name (Edit file (Add path (word.Text value))) has = add_text_dashed name file.now path.now value.now
+task_dashed name (Edit file (Del path (word.Text value))) has = del_text_dashed name file.now path.now value.now
+task_dashed name (EditIfChanged file (Set path (word.Json value))) has = set_changed_dashed name file.now path.now value.now
+task_dashed name (EditIfChanged file (Set path (word.Text value))) has = set_text_changed_dashed name file.now path.now value.now
+task_dashed name (EditIfChanged file (Add path (word.Json value))) has = add_changed_dashed name file.now path.now value.now
+task_dashed name (EditIfChanged file (Add path (word.Text value))) has = add_text_changed_dashed name file.now path.now value.now
+task_dashed name (EditIfChanged file (Del path value)) has = absurd has
+task_dashed name (EditIfChanged file (Clear path)) has = absurd has
+task_dashed name (EditIfChanged file (Inc key by)) has = absurd has
+task_dashed name (EditIfChanged file (Dec key by)) has = absurd has
+task_dashed name (GetRaw file path kind.Any) has = get_raw_dashed name file.now path.now
+task_dashed name (GetRaw file path kind.Register) has = get_reg_dashed name file.now path.now
+task_dashed name (GetRaw file path kind.Set) has = get_set_dashed name file.now path.now
+task_dashed name (GetRaw file path kind.Counter) has = get_counter_dashed name file.now path.now
 task_dashed name (Grow words) has = grow_behind name words.file.now words.names.items has
-task_dashed name (Edit file (Set path value)) has = set_dashed name file.now path.now value.now
-task_dashed name (Edit file (Add path value)) has = add_dashed name file.now path.now value.now
-task_dashed name (Edit file (Del path value)) has = del_dashed name file.now path.now value.now
+task_dashed name (Edit file (Set path (word.Json value))) has = set_dashed name file.now path.now value.now
+task_dashed name (Edit file (Add path (word.Json value))) has = add_dashed name file.now path.now value.now
+task_dashed name (Edit file (Del path (word.Json value))) has = del_dashed name file.now path.now value.now
 task_dashed name (Edit file (Clear path)) has = clear_dashed name file.now path.now
 task_dashed name (Edit file (Inc key by)) has = inc_dashed name file.now key.now by.now
 task_dashed name (Edit file (Dec key by)) has = dec_dashed name file.now key.now by.now
@@ -192,17 +350,41 @@ task_dashed name (Status file) has = status_dashed name file.now
 task_dashed name (Sync words) has = sync_dashed name words.file.now words.addr.now words.timeout.now
 task_dashed name (Pair first second) has = pair_dashed name first.now second.now
 task_dashed name (Serve words) has = serve_dashed name words.file.now words.addr.now words.sessions.now words.timeout.now
+task_dashed name (Dump file path) has = dump_dashed name file.now path.now
+task_dashed name (Ask file) has = ask_dashed name file.now
+task_dashed name (Answer file) has = answer_dashed name file.now
+task_dashed name (Take file question answer) has = take_dashed name file.now question.now answer.now
+task_dashed name (Merge file from) has = merge_dashed name file.now from.now
+task_dashed name (Check question answer) has = check_dashed name question.now answer.now
+task_dashed name (Conflicts file path) has = conflicts_dashed name file.now path.now
+task_dashed name (Diff file other) has = diff_dashed name file.now other.now
 
 pub task_written : (name : Text) (task : Task) → IsWritable task → Names (name ∷ words_written task) (words_of task)
 task_written name Join is = undashed name (codes "join") [] _ join_met is.1 (join_dashed name)
 task_written name Sim is = undashed name (codes "sim") [] _ sim_met is.1 (sim_dashed name)
 task_written name (Init words) is = undashed name (codes "init") (words.file.now ∷ words.group.now ∷ words.own.now ∷ map (λ n. n.now) words.names.items) _ init_met is.1
     (init_behind name words.file.now words.group.now words.own.now words.names.items is.0)
+task_written name (InitFrom words) is = init_from_named name words.file.now words.own.now words.from.now is.1
+task_written name (Edit file (Set path (word.Text value))) is = set_text_named name file.now path.now value.now is.1
+task_written name (Edit file (Add path (word.Text value))) is = add_text_named name file.now path.now value.now is.1
+task_written name (Edit file (Del path (word.Text value))) is = del_text_named name file.now path.now value.now is.1
+task_written name (EditIfChanged file (Set path (word.Json value))) is = set_changed_named name file.now path.now value.now is.1
+task_written name (EditIfChanged file (Set path (word.Text value))) is = set_text_changed_named name file.now path.now value.now is.1
+task_written name (EditIfChanged file (Add path (word.Json value))) is = add_changed_named name file.now path.now value.now is.1
+task_written name (EditIfChanged file (Add path (word.Text value))) is = add_text_changed_named name file.now path.now value.now is.1
+task_written name (EditIfChanged file (Del path value)) is = absurd is.0
+task_written name (EditIfChanged file (Clear path)) is = absurd is.0
+task_written name (EditIfChanged file (Inc key by)) is = absurd is.0
+task_written name (EditIfChanged file (Dec key by)) is = absurd is.0
+task_written name (GetRaw file path kind.Any) is = get_raw_named name file.now path.now is.1
+task_written name (GetRaw file path kind.Register) is = get_reg_named name file.now path.now is.1
+task_written name (GetRaw file path kind.Set) is = get_set_named name file.now path.now is.1
+task_written name (GetRaw file path kind.Counter) is = get_counter_named name file.now path.now is.1
 task_written name (Grow words) is = undashed name (codes "grow") (words.file.now ∷ map (λ n. n.now) words.names.items) _ grow_met is.1
     (grow_behind name words.file.now words.names.items is.0)
-task_written name (Edit file (Set path value)) is = undashed name (codes "set") (file.now ∷ path.now ∷ value.now ∷ []) _ set_met is.1 (set_dashed name file.now path.now value.now)
-task_written name (Edit file (Add path value)) is = undashed name (codes "add") (file.now ∷ path.now ∷ value.now ∷ []) _ add_met is.1 (add_dashed name file.now path.now value.now)
-task_written name (Edit file (Del path value)) is = undashed name (codes "del") (file.now ∷ path.now ∷ value.now ∷ []) _ del_met is.1 (del_dashed name file.now path.now value.now)
+task_written name (Edit file (Set path (word.Json value))) is = undashed name (codes "set") (file.now ∷ path.now ∷ value.now ∷ []) _ set_met is.1 (set_dashed name file.now path.now value.now)
+task_written name (Edit file (Add path (word.Json value))) is = undashed name (codes "add") (file.now ∷ path.now ∷ value.now ∷ []) _ add_met is.1 (add_dashed name file.now path.now value.now)
+task_written name (Edit file (Del path (word.Json value))) is = undashed name (codes "del") (file.now ∷ path.now ∷ value.now ∷ []) _ del_met is.1 (del_dashed name file.now path.now value.now)
 task_written name (Edit file (Clear path)) is = undashed name (codes "clear") (file.now ∷ path.now ∷ []) _ clear_met is.1 (clear_dashed name file.now path.now)
 task_written name (Edit file (Inc key by)) is = undashed name (codes "inc") (file.now ∷ key.now ∷ by.now ∷ []) _ inc_met is.1 (inc_dashed name file.now key.now by.now)
 task_written name (Edit file (Dec key by)) is = undashed name (codes "dec") (file.now ∷ key.now ∷ by.now ∷ []) _ dec_met is.1 (dec_dashed name file.now key.now by.now)
@@ -211,16 +393,17 @@ task_written name (Get file path) is = undashed name (codes "get") (file.now ∷
 task_written name (ShowPretty file path) is = pretty_named name file.now path.now is.1
 task_written name (Status file) is = undashed name (codes "status") (file.now ∷ []) _ status_met is.1 (status_dashed name file.now)
 task_written name (Show file path) is = undashed name (codes "show") (file.now ∷ path.now ∷ []) _ show_met is.1 (show_dashed name file.now path.now)
-task_written name (Sync words) is =
-    let behind = and_right (is_data words.file.now) _ is.1 in
-    sync_named name words.file.now words.addr.now words.timeout.now (and_left (is_data words.file.now) _ is.1) (and_left (is_data words.addr.now) _ behind)
-    (and_left (is_data words.timeout.now) _ (and_right (is_data words.addr.now) _ behind))
+task_written name (Sync words) is = sync_named name words.file.now words.addr.now words.timeout.now is.1
 task_written name (Pair first second) is = undashed name (codes "pair") (first.now ∷ second.now ∷ []) _ pair_met is.1 (pair_dashed name first.now second.now)
-task_written name (Serve words) is =
-    let behind = and_right (is_data words.file.now) _ is.1 in
-    let options = and_right (is_data words.addr.now) _ behind in
-    serve_named name words.file.now words.addr.now words.sessions.now words.timeout.now (and_left (is_data words.file.now) _ is.1) (and_left (is_data words.addr.now) _ behind)
-    (and_left (is_data words.sessions.now) _ options) (and_left (is_data words.timeout.now) _ (and_right (is_data words.sessions.now) _ options))
+task_written name (Serve words) is = serve_named name words.file.now words.addr.now words.sessions.now words.timeout.now is.1
+task_written name (Dump file path) is = undashed name (codes "dump") (file.now ∷ path.now ∷ []) _ dump_met is.1 (dump_dashed name file.now path.now)
+task_written name (Ask file) is = undashed name (codes "ask") (file.now ∷ []) _ ask_met is.1 (ask_dashed name file.now)
+task_written name (Answer file) is = undashed name (codes "answer") (file.now ∷ []) _ answer_met is.1 (answer_dashed name file.now)
+task_written name (Take file question answer) is = undashed name (codes "take") (file.now ∷ question.now ∷ answer.now ∷ []) _ take_met is.1 (take_dashed name file.now question.now answer.now)
+task_written name (Merge file from) is = undashed name (codes "merge") (file.now ∷ from.now ∷ []) _ merge_met is.1 (merge_dashed name file.now from.now)
+task_written name (Check question answer) is = undashed name (codes "check") (question.now ∷ answer.now ∷ []) _ check_met is.1 (check_dashed name question.now answer.now)
+task_written name (Conflicts file path) is = undashed name (codes "conflicts") (file.now ∷ path.now ∷ []) _ conflicts_met is.1 (conflicts_dashed name file.now path.now)
+task_written name (Diff file other) is = undashed name (codes "diff") (file.now ∷ other.now ∷ []) _ diff_met is.1 (diff_dashed name file.now other.now)
 
 -- ---- what may be left out
 
@@ -232,18 +415,6 @@ root_cleared name file are = undashed name (codes "clear") (file ∷ []) _ clear
 
 pub once_served : (name file addr : Text) → AreData (file ∷ addr ∷ []) → Names (name ∷ codes "serve" ∷ file ∷ addr ∷ []) (codes "serve" ∷ file ∷ addr ∷ codes "1" ∷ codes "60" ∷ [])
 once_served name file addr are = undashed name (codes "serve") (file ∷ addr ∷ []) _ serve_met are (once_dashed name file addr)
-
-pub sessions_alone : (name file addr sessions : Text) → AreData (file ∷ addr ∷ sessions ∷ [])
-    → Names (name ∷ codes "serve" ∷ file ∷ addr ∷ codes "--sessions" ∷ sessions ∷ []) (codes "serve" ∷ file ∷ addr ∷ sessions ∷ codes "60" ∷ [])
-sessions_alone name file addr sessions are =
-    let behind = and_right (is_data file) _ are in
-    sessions_named name file addr sessions (and_left (is_data file) _ are) (and_left (is_data addr) _ behind) (and_left (is_data sessions) _ (and_right (is_data addr) _ behind))
-
-pub timeout_alone : (name file addr timeout : Text) → AreData (file ∷ addr ∷ timeout ∷ [])
-    → Names (name ∷ codes "serve" ∷ file ∷ addr ∷ codes "--timeout" ∷ timeout ∷ []) (codes "serve" ∷ file ∷ addr ∷ codes "1" ∷ timeout ∷ [])
-timeout_alone name file addr timeout are =
-    let behind = and_right (is_data file) _ are in
-    timeout_named name file addr timeout (and_left (is_data file) _ are) (and_left (is_data addr) _ behind) (and_left (is_data timeout) _ (and_right (is_data addr) _ behind))
 
 pub sync_alone : (name file addr : Text) → AreData (file ∷ addr ∷ []) → Names (name ∷ codes "sync" ∷ file ∷ addr ∷ []) (codes "sync" ∷ file ∷ addr ∷ codes "60" ∷ [])
 sync_alone name file addr are = undashed name (codes "sync") (file ∷ addr ∷ []) _ sync_met are (sync_alone_dashed name file addr)

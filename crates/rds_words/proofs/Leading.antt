@@ -1,15 +1,15 @@
 -- What a command's words come to, from a standing among them.
-use Rattle.std.proofs.Common.{◌≡◌, ◌∙◌, ℕ, false, true, List, [], ◌∷◌, Option, Some, ap, ap₂, refl, subst, sym, inl, inr}
+use Rattle.std.proofs.Common.{◌≡◌, ◌∙◌, ℕ, false, true, List, [], ◌∷◌, Option, Some, ap, ap₂, subst, sym, inl, inr}
 use Rattle.std.specs.Prelude.{fold}
 use Rattle.clap.specs.Words.{Kinds, Shape, Text}
 use Rattle.clap.specs.Kinds.{or_else}
 use Rattle.clap.specs.Faults.{turn_fault, walk_fault}
-use Rattle.clap.specs.Walk.{Held, Walk, finished, idle, nothing_held, walk_from, walked}
+use Rattle.clap.specs.Walk.{Held, Waiting, Walk, finished, nothing_held, walk_from, walked}
 use Rattle.rds_words.specs.Entered.{mistakes_in, named_in}
 use Rattle.rds_words.specs.Spelling.{AreSpelled}
 use Rattle.rds_words.specs.Task.{words_in}
 use Rattle.rds_words.proofs.Behind.{Alike, dashes_among}
-use Rattle.rds_words.proofs.Dashed.{at, fault_alike, held_alike}
+use Rattle.rds_words.proofs.Dashed.{at, fault_alike, held_alike, is_free}
 use Rattle.rds_words.proofs.Passing.{Steps, end_fault}
 use Rattle.rds_words.proofs.Refusing.{IsRefused, refused_first}
 use Rattle.rds_words.proofs.Splitting.{IsCommand, words_mistaken, words_named}
@@ -49,18 +49,19 @@ refused_step s from mid word words step is =
     subst IsRefused (sym (ap₂ (kinds_of s) (ap₂ (λ (k : Kinds) (w : Walk). or_else k (walk_fault s [] w words)) step.1 step.0) (ap (λ (w : Walk). (fold (walked s.rules []) w words).held) step.0))) is
 
 module _ (command : Text) (s : Shape) (is : IsCommand command s) where
-  alike_at : (h : Held) (position : ℕ) (given words : List Text) → h.skip ≡ 0 → AreSpelled given words → Alike s is.short words given (at h idle position false) (at h idle position true)
-  alike_at h position given words skip (inl all) =
-      rw all.0 (held_alike s.rules given all.1 h idle position false refl skip, fault_alike s given all.1 h idle position false refl skip)
-  alike_at h position given words skip (inr some) = rw (some.2, some.4) (dashes_among s is.short some.0 some.1 some.3 h idle position refl skip)
+  alike_at : (h : Held) (waiting : Waiting) (position : ℕ) (given words : List Text) → is_free waiting ≡ true → h.skip ≡ 0 → AreSpelled given words
+      → Alike s is.short words given (at h waiting position false) (at h waiting position true)
+  alike_at h waiting position given words free skip (inl all) =
+      rw all.0 (held_alike s.rules given all.1 h waiting position false free skip, fault_alike s given all.1 h waiting position false free skip)
+  alike_at h waiting position given words free skip (inr some) = rw (some.2, some.4) (dashes_among s is.short some.0 some.1 some.3 h waiting position free skip)
 
   abbrev pub IsFrom : Text → List Text → Walk → List Text → Type 0
   IsFrom called words w given = (mistakes_in (called ∷ command ∷ words) ≡ mistakes_from s w given) × (named_in (called ∷ command ∷ words) ≡ named_from s w given)
 
-  pub comes_from : (called : Text) (words after given : List Text) (h : Held) (position : ℕ) → h.skip ≡ 0 → AreSpelled given after → Leads s (walk_from nothing_held) words (at h idle position false) after
-      → IsFrom called words (at h idle position true) given
-  comes_from called words after given h position skip spelled leads =
-      let alike = alike_at h position given after skip spelled in
+  pub comes_from : (called : Text) (words after given : List Text) (h : Held) (waiting : Waiting) (position : ℕ) → is_free waiting ≡ true → h.skip ≡ 0 → AreSpelled given after
+      → Leads s (walk_from nothing_held) words (at h waiting position false) after → IsFrom called words (at h waiting position true) given
+  comes_from called words after given h waiting position free skip spelled leads =
+      let alike = alike_at h waiting position given after free skip spelled in
       let held = ap (λ (w : Walk). w.held) leads.0 ∙ alike.0 in (
         words_mistaken called command s words is ∙ ap₂ (kinds_of s) (leads.1 ∙ alike.1) held,
         words_named called command s words is ∙ ap (λ (h : Held). words_in (Some (s.name, finished s.rules h))) held,

@@ -1,23 +1,23 @@
 -- Words mean what is spelled, and other words are refused.
-use Rattle.std.proofs.Common.{◌≡◌, ◌⊎◌, ◌∙◌, Bool, List, [], ◌∷◌, codes, true, false, Option, Some, option_map, refl, sym, subst, inl, inr}
+use Rattle.std.proofs.Common.{◌≡◌, ◌⊎◌, ◌∙◌, Bool, List, [], ◌∷◌, true, false, Option, Some, option_map, refl, sym, subst, inl, inr}
 use Rattle.std.specs.Prelude.{⊤, find, if◌then◌else◌}
 use Rattle.std.specs.Str.{bytes_eq}
 use Rattle.std.proofs.lemmas.Slice.Eq.{bytes_eq-Decides}
 use Rattle.clap.specs.Words.{Shape, Text}
 use Rattle.rds_words.specs.Entered.{Names, mistakes_in}
-use Rattle.rds_words.specs.Spelling.{AreShowWordsOf, AreSpelled, AreWordsOf, Count, IsCounted, OtherCommandsAreRefused, OtherShowsAreRefused, OtherServesAreRefused, OtherSyncsAreRefused, OtherWordsAreRefused, OtherWordsWithoutOptions, ServeMeansItsSpelling, ShowMeansItsSpelling, SyncMeansItsSpelling, WordsMeanTheirSpelling, WordsWithoutOptions, count_in, counts, option_counts, or_root, serve_options, sync_options}
+use Rattle.rds_words.specs.Spelling.{AreSpelled, AreWordsOf, Count, IsCounted, OtherCommandsAreRefused, OtherWordsAreRefused, OtherWordsWithoutOptions, WordsMeanTheirSpelling, WordsWithoutOptions, counts, option_counts}
+use Rattle.rds_words.specs.WithOptions.{MeansWithOptions, OptionsMeanTheirSpelling, with_options}
 use Rattle.rds_words.proofs.Counting.{IsCountedCommand, refused_isnt}
 use Rattle.rds_words.proofs.OptionCommands as options
-use Rattle.rds_words.proofs.OptionsMeant.{means_two_with, refuses_others, same_words}
 use Rattle.rds_words.proofs.OtherCommands.{command_or_not}
+use Rattle.rds_words.proofs.OptionPlans as plans
 use Rattle.rds_words.proofs.PlainCommands as plain
+use Rattle.rds_words.proofs.PlanMeant.{means}
 use Rattle.rds_words.proofs.Refusing.{HasRequestsAlone}
-use Rattle.rds_words.proofs.ShownExactly.{option_unmistaken, pretty_named}
-use Rattle.rds_words.proofs.ServeOptions as serve
-use Rattle.rds_words.proofs.ServeOptions.{ServeOption}
-use Rattle.rds_words.proofs.SyncOptions as sync
-use Rattle.rds_words.proofs.SyncOptions.{SyncOption}
 use Rattle.rds_words.proofs.Splitting.{HasOption, IsCommand, mistaken_alike, named_alike, option_mistaken, split}
+
+same_words : {command : Text} {a b : List Text} → ◌≡◌ {A = Option (List Text)} (Some (command ∷ a)) (Some (command ∷ b)) → a ≡ b
+same_words e = cc
 
 -- what is known of a command
 record IsKnown (command : Text) (count : Count) : Type 0 where
@@ -75,88 +75,41 @@ module _ (command : Text) (count : Count) (is : IsPlain command count) where
 
 -- ---- all commands
 
-abbrev Each : (Text → Count → Type 0) → List (Text × Count) → Type 0
-Each P [] = ⊤
-Each P (c ∷ cs) = P c.0 c.1 × Each P cs
+module _ {X : Type 0} (P : Text → X → Type 0) where
+  abbrev Each : List (Text × X) → Type 0
+  Each [] = ⊤
+  Each (c ∷ cs) = P c.0 c.1 × Each cs
 
-found_here : (P : Text → Count → Type 0) (command name : Text) (count here : Count) (rest : Option Count) → P name here → (rest ≡ Some count → P command count) → (b : Bool)
-    → bytes_eq name command ≡ b → (if b then Some here else rest) ≡ Some count → P command count
-found_here P command name count here rest is on true e found =
-    subst (λ (n : Text). P n count) ((bytes_eq-Decides name command).0 e) (subst (λ (k : Count). P name k) (same found) is)
-  where
-    same : {a b : Count} → ◌≡◌ {A = Option Count} (Some a) (Some b) → a ≡ b
-    same e = cc
-found_here P command name count here rest is on false e found = on found
+  abbrev under : List (Text × X) → Text → Option X
+  under cs command = option_map (λ c. c.1) (find (λ c. bytes_eq c.0 command) cs)
 
-found_in : (P : Text → Count → Type 0) (cs : List (Text × Count)) → Each P cs → (command : Text) (count : Count) → count_in cs command ≡ Some count → P command count
-found_in P [] each command count found = absurd cc
-found_in P (c ∷ cs) each command count found =
-    found_here P command c.0 count c.1 (count_in cs command) each.0 (found_in P cs each.1 command count) (bytes_eq c.0 command) refl (head (bytes_eq c.0 command) found)
-  where
-    head : (b : Bool) → option_map (λ (d : Text × Count). d.1) (if b then Some c else find (λ d. bytes_eq d.0 command) cs) ≡ Some count
-        → (if b then Some c.1 else count_in cs command) ≡ Some count
-    head true e = e
-    head false e = e
+  found_here : (command name : Text) (x here : X) (rest : Option X) → P name here → (rest ≡ Some x → P command x) → (b : Bool)
+      → bytes_eq name command ≡ b → (if b then Some here else rest) ≡ Some x → P command x
+  found_here command name x here rest is on true e found =
+      subst (λ (n : Text). P n x) ((bytes_eq-Decides name command).0 e) (subst (λ (k : X). P name k) (same found) is)
+    where
+      same : {a b : X} → ◌≡◌ {A = Option X} (Some a) (Some b) → a ≡ b
+      same e = cc
+  found_here command name x here rest is on false e found = on found
+
+  found_in : (cs : List (Text × X)) → Each cs → (command : Text) (x : X) → under cs command ≡ Some x → P command x
+  found_in [] each command x found = absurd cc
+  found_in (c ∷ cs) each command x found =
+      found_here command c.0 x c.1 (under cs command) each.0 (found_in cs each.1 command x) (bytes_eq c.0 command) refl (head (bytes_eq c.0 command) found)
+    where
+      head : (b : Bool) → option_map (λ (d : Text × X). d.1) (if b then Some c else find (λ d. bytes_eq d.0 command) cs) ≡ Some x
+          → (if b then Some c.1 else under cs command) ≡ Some x
+      head true e = e
+      head false e = e
 
 each_plain : Each IsPlain counts
-each_plain = (
-  plainly _ _ _ plain.join_is plain.join_requests plain.join_counted,
-  (
-    plainly _ _ _ plain.sim_is plain.sim_requests plain.sim_counted,
-    (
-      plainly _ _ _ plain.init_is plain.init_requests plain.init_counted,
-      (
-        plainly _ _ _ plain.grow_is plain.grow_requests plain.grow_counted,
-        (
-          plainly _ _ _ plain.set_is plain.set_requests plain.set_counted,
-          (
-            plainly _ _ _ plain.add_is plain.add_requests plain.add_counted,
-            (
-              plainly _ _ _ plain.del_is plain.del_requests plain.del_counted,
-              (
-                plainly _ _ _ plain.clear_is plain.clear_requests plain.clear_counted,
-                (
-                  plainly _ _ _ plain.inc_is plain.inc_requests plain.inc_counted,
-                  (
-                    plainly _ _ _ plain.dec_is plain.dec_requests plain.dec_counted,
-                    (
-                      plainly _ _ _ plain.edit_lines_is plain.edit_lines_requests plain.edit_lines_counted,
-                      (
-                        plainly _ _ _ plain.get_is plain.get_requests plain.get_counted,
-                        (
-                          plainly _ _ _ plain.status_is plain.status_requests plain.status_counted,
-                          (plainly _ _ _ plain.pair_is plain.pair_requests plain.pair_counted, tt),
-                        ),
-                      ),
-                    ),
-                  ),
-                ),
-              ),
-            ),
-          ),
-        ),
-      ),
-    ),
-  ),
-)
+each_plain = (plainly _ _ _ plain.grow_is plain.grow_requests plain.grow_counted, (plainly _ _ _ plain.clear_is plain.clear_requests plain.clear_counted, (plainly _ _ _ plain.inc_is plain.inc_requests plain.inc_counted, (plainly _ _ _ plain.dec_is plain.dec_requests plain.dec_counted, (plainly _ _ _ plain.edit_lines_is plain.edit_lines_requests plain.edit_lines_counted, (plainly _ _ _ plain.dump_is plain.dump_requests plain.dump_counted, (plainly _ _ _ plain.pair_is plain.pair_requests plain.pair_counted, (plainly _ _ _ plain.ask_is plain.ask_requests plain.ask_counted, (plainly _ _ _ plain.answer_is plain.answer_requests plain.answer_counted, (plainly _ _ _ plain.take_is plain.take_requests plain.take_counted, (plainly _ _ _ plain.merge_is plain.merge_requests plain.merge_counted, (plainly _ _ _ plain.status_is plain.status_requests plain.status_counted, (plainly _ _ _ plain.check_is plain.check_requests plain.check_counted, (plainly _ _ _ plain.conflicts_is plain.conflicts_requests plain.conflicts_counted, (plainly _ _ _ plain.diff_is plain.diff_requests plain.diff_counted, (plainly _ _ _ plain.join_is plain.join_requests plain.join_counted, (plainly _ _ _ plain.sim_is plain.sim_requests plain.sim_counted, tt)))))))))))))))))
 
 each_known : Each IsKnown option_counts
-each_known = (known _ _ _ options.show_is options.show_counted, (known _ _ _ options.serve_is options.serve_counted, (known _ _ _ options.sync_is options.sync_counted, tt)))
+each_known = (known _ _ _ plans.set_is options.set_counted, (known _ _ _ plans.add_is options.add_counted, (known _ _ _ plans.del_is options.del_counted, (known _ _ _ plans.get_is options.get_counted, (known _ _ _ plans.show_is options.show_counted, (known _ _ _ plans.sync_is options.sync_counted, (known _ _ _ plans.serve_is options.serve_counted, tt)))))))
 
--- ---- show
-
-show_known : IsKnown (codes "show") (or_root 2)
-show_known = known (codes "show") (or_root 2) _ options.show_is options.show_counted
-
-show_named : (called : Text) (behind words : List Text) → AreShowWordsOf behind words → Names (called ∷ codes "show" ∷ behind) (codes "show" ∷ words)
-show_named called behind words (inl plain) = given_names (codes "show") (or_root 2) show_known called plain.0 behind words plain.1 plain.2
-show_named called behind words (inr pretty) = pretty_named called behind words pretty
-
-show_unmistaken : (called : Text) (behind : List Text) → mistakes_in (called ∷ codes "show" ∷ behind) ≡ [] → (words : List Text) × AreShowWordsOf behind words
-show_unmistaken called behind none = elim (split behind) [
-  | inl spelled ↦ let counted = given_counted (codes "show") (or_root 2) show_known called spelled.0 behind spelled.1 none in (counted.0, inl (spelled.0, spelled.1, counted.1))
-  | inr option ↦ let found = option_unmistaken called behind option none in (found.0, inr found.1)
-]
+each_with_options : Each MeansWithOptions with_options
+each_with_options = (means plans.init_plan plans.init_takes, (means plans.set_plan plans.set_takes, (means plans.add_plan plans.add_takes, (means plans.del_plan plans.del_takes, (means plans.get_plan plans.get_takes, (means plans.show_plan plans.show_takes, (means plans.sync_plan plans.sync_takes, (means plans.serve_plan plans.serve_takes, tt))))))))
 
 -- ---- the laws
 
@@ -180,28 +133,8 @@ others_without_options called command count is given behind spelled other none =
     let found = given_counted command count (found_in IsKnown option_counts each_known command count is) called given behind spelled none in
     other found.0 found.1
 
-pub show_spelled : ShowMeansItsSpelling
-show_spelled called behind words = (
-  λ names.
-      let found = show_unmistaken called behind names.0 in
-      subst (AreShowWordsOf behind) (same_words (sym (show_named called behind found.0 found.1).1 ∙ names.1)) found.1,
-  show_named called behind words,
-)
-
-pub other_shows_refused : OtherShowsAreRefused
-other_shows_refused called behind other none = (let found = show_unmistaken called behind none in other found.0 found.1)
-
-pub serve_spelled : ServeMeansItsSpelling
-serve_spelled = means_two_with (codes "serve") _ (codes "ADDR") serve_options ServeOption serve.name_of serve.id_of serve.serve_takes
-
-pub other_serves_refused : OtherServesAreRefused
-other_serves_refused = refuses_others (codes "serve") _ (codes "ADDR") serve_options ServeOption serve.name_of serve.id_of serve.serve_takes
-
-pub sync_spelled : SyncMeansItsSpelling
-sync_spelled = means_two_with (codes "sync") _ (codes "ADDR") sync_options SyncOption sync.name_of sync.id_of sync.sync_takes
-
-pub other_syncs_refused : OtherSyncsAreRefused
-other_syncs_refused = refuses_others (codes "sync") _ (codes "ADDR") sync_options SyncOption sync.name_of sync.id_of sync.sync_takes
+pub options_spelled : OptionsMeanTheirSpelling
+options_spelled command c is = found_in MeansWithOptions with_options each_with_options command c is
 
 pub no_command_refused : OtherCommandsAreRefused
 no_command_refused entered other none = elim (command_or_not entered) [ inl has ↦ other has | inr is ↦ refused_isnt _ is none ]

@@ -3,7 +3,7 @@ use Rattle.std.proofs.Common.{◌≡◌, ℕ, List, [], ◌∷◌, codes, Option
 use Rattle.clap.specs.Words.{Text}
 use Rattle.rds_words.specs.Task.{EditsByLines, words_of}
 use Rattle.rds_words.specs.declared.tasks.Task.{Task}
-use Rattle.rds_words.specs.declared.tasks.Task.TheVariants.{Join, Sim, Init, Grow, Edit, EditLines, Get, Show, ShowPretty, Status, Serve, Sync, Pair}
+use Rattle.rds_words.specs.declared.tasks.Task.TheVariants.{Join, Sim, Init, InitFrom, Grow, Edit, EditIfChanged, EditLines, Get, GetRaw, Show, ShowPretty, Dump, Status, Serve, Sync, Pair, Ask, Answer, Take, Merge, Check, Conflicts, Diff}
 use Rattle.rds_words.specs.declared.tasks.EditWords.TheVariants.{Set, Add, Del, Clear, Inc, Dec}
 
 pub is_join : (task : Option Task) → option_map words_of task ≡ Some (codes "join" ∷ []) → task ≡ Some Join
@@ -18,6 +18,12 @@ is_join (Some (Edit file (Del path value))) e = absurd cc
 is_join (Some (Edit file (Clear path))) e = absurd cc
 is_join (Some (Edit file (Inc key by))) e = absurd cc
 is_join (Some (Edit file (Dec key by))) e = absurd cc
+is_join (Some (EditIfChanged file (Set path value))) e = absurd cc
+is_join (Some (EditIfChanged file (Add path value))) e = absurd cc
+is_join (Some (EditIfChanged file (Del path value))) e = absurd cc
+is_join (Some (EditIfChanged file (Clear path))) e = absurd cc
+is_join (Some (EditIfChanged file (Inc key by))) e = absurd cc
+is_join (Some (EditIfChanged file (Dec key by))) e = absurd cc
 is_join (Some (EditLines file)) e = absurd cc
 is_join (Some (Get file path)) e = absurd cc
 is_join (Some (Show file path)) e = absurd cc
@@ -26,6 +32,16 @@ is_join (Some (Status file)) e = absurd cc
 is_join (Some (Serve words)) e = absurd cc
 is_join (Some (Sync words)) e = absurd cc
 is_join (Some (Pair first second)) e = absurd cc
+is_join (Some (Dump file path)) e = absurd cc
+is_join (Some (Ask file)) e = absurd cc
+is_join (Some (Answer file)) e = absurd cc
+is_join (Some (Take file question answer)) e = absurd cc
+is_join (Some (Merge file from)) e = absurd cc
+is_join (Some (Check question answer)) e = absurd cc
+is_join (Some (Conflicts file path)) e = absurd cc
+is_join (Some (Diff file other)) e = absurd cc
+is_join (Some (InitFrom words)) e = absurd cc
+is_join (Some (GetRaw file path kind)) e = absurd cc
 
 pub is_sim : (task : Option Task) → option_map words_of task ≡ Some (codes "sim" ∷ []) → task ≡ Some Sim
 is_sim None e = absurd cc
@@ -39,6 +55,12 @@ is_sim (Some (Edit file (Del path value))) e = absurd cc
 is_sim (Some (Edit file (Clear path))) e = absurd cc
 is_sim (Some (Edit file (Inc key by))) e = absurd cc
 is_sim (Some (Edit file (Dec key by))) e = absurd cc
+is_sim (Some (EditIfChanged file (Set path value))) e = absurd cc
+is_sim (Some (EditIfChanged file (Add path value))) e = absurd cc
+is_sim (Some (EditIfChanged file (Del path value))) e = absurd cc
+is_sim (Some (EditIfChanged file (Clear path))) e = absurd cc
+is_sim (Some (EditIfChanged file (Inc key by))) e = absurd cc
+is_sim (Some (EditIfChanged file (Dec key by))) e = absurd cc
 is_sim (Some (EditLines file)) e = absurd cc
 is_sim (Some (Get file path)) e = absurd cc
 is_sim (Some (Show file path)) e = absurd cc
@@ -47,6 +69,16 @@ is_sim (Some (Status file)) e = absurd cc
 is_sim (Some (Serve words)) e = absurd cc
 is_sim (Some (Sync words)) e = absurd cc
 is_sim (Some (Pair first second)) e = absurd cc
+is_sim (Some (Dump file path)) e = absurd cc
+is_sim (Some (Ask file)) e = absurd cc
+is_sim (Some (Answer file)) e = absurd cc
+is_sim (Some (Take file question answer)) e = absurd cc
+is_sim (Some (Merge file from)) e = absurd cc
+is_sim (Some (Check question answer)) e = absurd cc
+is_sim (Some (Conflicts file path)) e = absurd cc
+is_sim (Some (Diff file other)) e = absurd cc
+is_sim (Some (InitFrom words)) e = absurd cc
+is_sim (Some (GetRaw file path kind)) e = absurd cc
 
 -- the first byte of the command's name
 abbrev first_byte : Option (List Text) → ℕ
@@ -65,6 +97,12 @@ is_edit at (Some (Edit file (Del path value))) e = absurd cc
 is_edit at (Some (Edit file (Clear path))) e = absurd cc
 is_edit at (Some (Edit file (Inc key by))) e = absurd cc
 is_edit at (Some (Edit file (Dec key by))) e = absurd cc
+is_edit at (Some (EditIfChanged file (Set path value))) e = absurd cc
+is_edit at (Some (EditIfChanged file (Add path value))) e = absurd cc
+is_edit at (Some (EditIfChanged file (Del path value))) e = absurd cc
+is_edit at (Some (EditIfChanged file (Clear path))) e = absurd cc
+is_edit at (Some (EditIfChanged file (Inc key by))) e = absurd cc
+is_edit at (Some (EditIfChanged file (Dec key by))) e = absurd cc
 is_edit at (Some (EditLines file)) e = (file, same file.now e, refl)
   where
     same : (t : Text) → ◌≡◌ {A = Option (List Text)} (Some (codes "edit" ∷ t ∷ [])) (Some (codes "edit" ∷ at ∷ [])) → t ≡ at
@@ -76,3 +114,13 @@ is_edit at (Some (Status file)) e = absurd cc
 is_edit at (Some (Serve words)) e = absurd cc
 is_edit at (Some (Sync words)) e = absurd cc
 is_edit at (Some (Pair first second)) e = absurd cc
+is_edit at (Some (Dump file path)) e = absurd cc
+is_edit at (Some (Ask file)) e = absurd cc
+is_edit at (Some (Answer file)) e = absurd cc
+is_edit at (Some (Take file question answer)) e = absurd cc
+is_edit at (Some (Merge file from)) e = absurd cc
+is_edit at (Some (Check question answer)) e = absurd cc
+is_edit at (Some (Conflicts file path)) e = absurd cc
+is_edit at (Some (Diff file other)) e = absurd cc
+is_edit at (Some (InitFrom words)) e = absurd cc
+is_edit at (Some (GetRaw file path kind)) e = absurd cc

@@ -9,7 +9,7 @@ use Rattle.clap.specs.Lexer.{has_byte, name_and_value}
 use Rattle.clap.specs.Words.{Shape, Text}
 use Rattle.clap.specs.Faults.{long_fault, other_fault}
 use Rattle.clap.specs.Walk.{Held, arg_by_long}
-use Rattle.rds_words.proofs.OptionWalk.{IsThis}
+use Rattle.rds_words.proofs.PlanWalk.{IsThis}
 use Rattle.rds_words.proofs.Refusing.{HasShortRequests, IsAlwaysRefused, IsOption, IsRefused, IsRequest, long_or_refused, long_refused}
 use Rattle.rds_words.proofs.RowsById.{or_left, or_right}
 

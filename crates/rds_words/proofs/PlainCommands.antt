@@ -2,10 +2,9 @@
 use Rattle.std.proofs.Common.{◌∷◌, codes, refl, inl, inr}
 use Rattle.rds_words.specs.Spelling.{at_least, exactly, or_root}
 use Rattle.rds_words.proofs.CommandWords.{node_on_words, shape_behind}
-use Rattle.rds_words.proofs.Counting.{IsCountedCommand, takes_group, takes_names, takes_none, takes_one, takes_part, takes_three, takes_two}
-use Rattle.rds_words.proofs.EachNamed.{add_dashed, add_met, clear_dashed, clear_met, clear_root_dashed, dec_dashed, dec_met, del_dashed, del_met, edit_lines_dashed, edit_lines_met, get_dashed, get_met, inc_dashed, inc_met, join_dashed, join_met, pair_dashed, pair_met, set_dashed, set_met, sim_dashed, sim_met, status_dashed, status_met}
+use Rattle.rds_words.proofs.Counting.{IsCountedCommand, takes_names, takes_none, takes_one, takes_part, takes_three, takes_two}
+use Rattle.rds_words.proofs.EachNamed.{answer_dashed, answer_met, ask_dashed, ask_met, check_dashed, check_met, clear_dashed, clear_met, clear_root_dashed, conflicts_dashed, conflicts_met, conflicts_root_dashed, dec_dashed, dec_met, diff_dashed, diff_met, dump_dashed, dump_met, dump_root_dashed, edit_lines_dashed, edit_lines_met, inc_dashed, inc_met, join_dashed, join_met, merge_dashed, merge_met, pair_dashed, pair_met, sim_dashed, sim_met, status_dashed, status_met, take_dashed, take_met}
 use Rattle.rds_words.proofs.GrowNamed.{grow_dashed, grow_met}
-use Rattle.rds_words.proofs.InitNamed.{init_dashed, init_met}
 use Rattle.rds_words.proofs.Refusing.{HasRequestsAlone, IsRefused}
 use Rattle.rds_words.proofs.RuleFacts.{all_short, requests_alone}
 use Rattle.rds_words.proofs.Splitting.{IsCommand, refused_below}
@@ -48,25 +47,6 @@ unfolding IsRefused node_on_words
 sim_counted =
     takes_none (codes "sim") (λ called. sim_dashed called) (λ a more called. refused_below called _ _ (codes "--" ∷ a ∷ more) sim_is tt)
 
--- ---- init
-
-pub init_is : IsCommand (codes "init") (shape_behind (codes "init"))
-unfolding node_on_words
-init_is = record {
-  met = init_met;
-  found = refl;
-  short = all_short (shape_behind (codes "init")).rules refl;
-}
-
-pub init_requests : HasRequestsAlone (shape_behind (codes "init"))
-unfolding IsRefused node_on_words
-init_requests = requests_alone (shape_behind (codes "init")) (inl refl, (inl refl, (inl refl, (inl refl, (inr (refl, λ rows. tt), tt)))))
-
-pub init_counted : IsCountedCommand (codes "init") (at_least 4)
-unfolding IsRefused node_on_words
-init_counted =
-    takes_group (codes "init") (λ a b c d more called. init_dashed called a b c d more) (λ called. tt) (λ a called. tt) (λ a b called. tt) (λ a b c called. tt)
-
 -- ---- grow
 
 pub grow_is : IsCommand (codes "grow") (shape_behind (codes "grow"))
@@ -85,63 +65,6 @@ pub grow_counted : IsCountedCommand (codes "grow") (at_least 2)
 unfolding IsRefused node_on_words
 grow_counted =
     takes_names (codes "grow") (λ a b more called. grow_dashed called a b more) (λ called. tt) (λ a called. tt)
-
--- ---- set
-
-pub set_is : IsCommand (codes "set") (shape_behind (codes "set"))
-unfolding node_on_words
-set_is = record {
-  met = set_met;
-  found = refl;
-  short = all_short (shape_behind (codes "set")).rules refl;
-}
-
-pub set_requests : HasRequestsAlone (shape_behind (codes "set"))
-unfolding IsRefused node_on_words
-set_requests = requests_alone (shape_behind (codes "set")) (inl refl, (inl refl, (inl refl, (inr (refl, λ rows. tt), tt))))
-
-pub set_counted : IsCountedCommand (codes "set") (exactly 3)
-unfolding IsRefused node_on_words
-set_counted =
-    takes_three (codes "set") (λ a b c called. set_dashed called a b c) (λ called. tt) (λ a called. tt) (λ a b called. tt) (λ a b c d more called. refused_below called _ _ (codes "--" ∷ a ∷ b ∷ c ∷ d ∷ more) set_is tt)
-
--- ---- add
-
-pub add_is : IsCommand (codes "add") (shape_behind (codes "add"))
-unfolding node_on_words
-add_is = record {
-  met = add_met;
-  found = refl;
-  short = all_short (shape_behind (codes "add")).rules refl;
-}
-
-pub add_requests : HasRequestsAlone (shape_behind (codes "add"))
-unfolding IsRefused node_on_words
-add_requests = requests_alone (shape_behind (codes "add")) (inl refl, (inl refl, (inl refl, (inr (refl, λ rows. tt), tt))))
-
-pub add_counted : IsCountedCommand (codes "add") (exactly 3)
-unfolding IsRefused node_on_words
-add_counted =
-    takes_three (codes "add") (λ a b c called. add_dashed called a b c) (λ called. tt) (λ a called. tt) (λ a b called. tt) (λ a b c d more called. refused_below called _ _ (codes "--" ∷ a ∷ b ∷ c ∷ d ∷ more) add_is tt)
-
--- ---- del
-
-pub del_is : IsCommand (codes "del") (shape_behind (codes "del"))
-unfolding node_on_words
-del_is = record {
-  met = del_met;
-  found = refl;
-  short = all_short (shape_behind (codes "del")).rules refl;
-}
-
-pub del_requests : HasRequestsAlone (shape_behind (codes "del"))
-unfolding IsRefused node_on_words
-del_requests = requests_alone (shape_behind (codes "del")) (inl refl, (inl refl, (inl refl, (inr (refl, λ rows. tt), tt))))
-
-pub del_counted : IsCountedCommand (codes "del") (exactly 3)
-unfolding IsRefused node_on_words
-del_counted =
-    takes_three (codes "del") (λ a b c called. del_dashed called a b c) (λ called. tt) (λ a called. tt) (λ a b called. tt) (λ a b c d more called. refused_below called _ _ (codes "--" ∷ a ∷ b ∷ c ∷ d ∷ more) del_is tt)
 
 -- ---- clear
 
@@ -219,25 +142,6 @@ unfolding IsRefused node_on_words
 edit_lines_counted =
     takes_one (codes "edit") (λ a called. edit_lines_dashed called a) (λ called. tt) (λ a b more called. refused_below called _ _ (codes "--" ∷ a ∷ b ∷ more) edit_lines_is tt)
 
--- ---- get
-
-pub get_is : IsCommand (codes "get") (shape_behind (codes "get"))
-unfolding node_on_words
-get_is = record {
-  met = get_met;
-  found = refl;
-  short = all_short (shape_behind (codes "get")).rules refl;
-}
-
-pub get_requests : HasRequestsAlone (shape_behind (codes "get"))
-unfolding IsRefused node_on_words
-get_requests = requests_alone (shape_behind (codes "get")) (inl refl, (inl refl, (inr (refl, λ rows. tt), tt)))
-
-pub get_counted : IsCountedCommand (codes "get") (exactly 2)
-unfolding IsRefused node_on_words
-get_counted =
-    takes_two (codes "get") (λ a b called. get_dashed called a b) (λ called. tt) (λ a called. tt) (λ a b c more called. refused_below called _ _ (codes "--" ∷ a ∷ b ∷ c ∷ more) get_is tt)
-
 -- ---- status
 
 pub status_is : IsCommand (codes "status") (shape_behind (codes "status"))
@@ -275,3 +179,155 @@ pub pair_counted : IsCountedCommand (codes "pair") (exactly 2)
 unfolding IsRefused node_on_words
 pair_counted =
     takes_two (codes "pair") (λ a b called. pair_dashed called a b) (λ called. tt) (λ a called. tt) (λ a b c more called. refused_below called _ _ (codes "--" ∷ a ∷ b ∷ c ∷ more) pair_is tt)
+
+-- ---- dump
+
+pub dump_is : IsCommand (codes "dump") (shape_behind (codes "dump"))
+unfolding node_on_words
+dump_is = record {
+  met = dump_met;
+  found = refl;
+  short = all_short (shape_behind (codes "dump")).rules refl;
+}
+
+pub dump_requests : HasRequestsAlone (shape_behind (codes "dump"))
+unfolding IsRefused node_on_words
+dump_requests = requests_alone (shape_behind (codes "dump")) (inl refl, (inl refl, (inr (refl, λ rows. tt), tt)))
+
+pub dump_counted : IsCountedCommand (codes "dump") (or_root 2)
+unfolding IsRefused node_on_words
+dump_counted =
+    takes_part (codes "dump") (λ a b called. dump_dashed called a b) (λ a called. dump_root_dashed called a) (λ called. tt) (λ a b c more called. refused_below called _ _ (codes "--" ∷ a ∷ b ∷ c ∷ more) dump_is tt)
+
+-- ---- ask
+
+pub ask_is : IsCommand (codes "ask") (shape_behind (codes "ask"))
+unfolding node_on_words
+ask_is = record {
+  met = ask_met;
+  found = refl;
+  short = all_short (shape_behind (codes "ask")).rules refl;
+}
+
+pub ask_requests : HasRequestsAlone (shape_behind (codes "ask"))
+unfolding IsRefused node_on_words
+ask_requests = requests_alone (shape_behind (codes "ask")) (inl refl, (inr (refl, λ rows. tt), tt))
+
+pub ask_counted : IsCountedCommand (codes "ask") (exactly 1)
+unfolding IsRefused node_on_words
+ask_counted =
+    takes_one (codes "ask") (λ a called. ask_dashed called a) (λ called. tt) (λ a b more called. refused_below called _ _ (codes "--" ∷ a ∷ b ∷ more) ask_is tt)
+
+-- ---- answer
+
+pub answer_is : IsCommand (codes "answer") (shape_behind (codes "answer"))
+unfolding node_on_words
+answer_is = record {
+  met = answer_met;
+  found = refl;
+  short = all_short (shape_behind (codes "answer")).rules refl;
+}
+
+pub answer_requests : HasRequestsAlone (shape_behind (codes "answer"))
+unfolding IsRefused node_on_words
+answer_requests = requests_alone (shape_behind (codes "answer")) (inl refl, (inr (refl, λ rows. tt), tt))
+
+pub answer_counted : IsCountedCommand (codes "answer") (exactly 1)
+unfolding IsRefused node_on_words
+answer_counted =
+    takes_one (codes "answer") (λ a called. answer_dashed called a) (λ called. tt) (λ a b more called. refused_below called _ _ (codes "--" ∷ a ∷ b ∷ more) answer_is tt)
+
+-- ---- take
+
+pub take_is : IsCommand (codes "take") (shape_behind (codes "take"))
+unfolding node_on_words
+take_is = record {
+  met = take_met;
+  found = refl;
+  short = all_short (shape_behind (codes "take")).rules refl;
+}
+
+pub take_requests : HasRequestsAlone (shape_behind (codes "take"))
+unfolding IsRefused node_on_words
+take_requests = requests_alone (shape_behind (codes "take")) (inl refl, (inl refl, (inl refl, (inr (refl, λ rows. tt), tt))))
+
+pub take_counted : IsCountedCommand (codes "take") (exactly 3)
+unfolding IsRefused node_on_words
+take_counted =
+    takes_three (codes "take") (λ a b c called. take_dashed called a b c) (λ called. tt) (λ a called. tt) (λ a b called. tt) (λ a b c d more called. refused_below called _ _ (codes "--" ∷ a ∷ b ∷ c ∷ d ∷ more) take_is tt)
+
+-- ---- merge
+
+pub merge_is : IsCommand (codes "merge") (shape_behind (codes "merge"))
+unfolding node_on_words
+merge_is = record {
+  met = merge_met;
+  found = refl;
+  short = all_short (shape_behind (codes "merge")).rules refl;
+}
+
+pub merge_requests : HasRequestsAlone (shape_behind (codes "merge"))
+unfolding IsRefused node_on_words
+merge_requests = requests_alone (shape_behind (codes "merge")) (inl refl, (inl refl, (inr (refl, λ rows. tt), tt)))
+
+pub merge_counted : IsCountedCommand (codes "merge") (exactly 2)
+unfolding IsRefused node_on_words
+merge_counted =
+    takes_two (codes "merge") (λ a b called. merge_dashed called a b) (λ called. tt) (λ a called. tt) (λ a b c more called. refused_below called _ _ (codes "--" ∷ a ∷ b ∷ c ∷ more) merge_is tt)
+
+-- ---- check
+
+pub check_is : IsCommand (codes "check") (shape_behind (codes "check"))
+unfolding node_on_words
+check_is = record {
+  met = check_met;
+  found = refl;
+  short = all_short (shape_behind (codes "check")).rules refl;
+}
+
+pub check_requests : HasRequestsAlone (shape_behind (codes "check"))
+unfolding IsRefused node_on_words
+check_requests = requests_alone (shape_behind (codes "check")) (inl refl, (inl refl, (inr (refl, λ rows. tt), tt)))
+
+pub check_counted : IsCountedCommand (codes "check") (exactly 2)
+unfolding IsRefused node_on_words
+check_counted =
+    takes_two (codes "check") (λ a b called. check_dashed called a b) (λ called. tt) (λ a called. tt) (λ a b c more called. refused_below called _ _ (codes "--" ∷ a ∷ b ∷ c ∷ more) check_is tt)
+
+-- ---- conflicts
+
+pub conflicts_is : IsCommand (codes "conflicts") (shape_behind (codes "conflicts"))
+unfolding node_on_words
+conflicts_is = record {
+  met = conflicts_met;
+  found = refl;
+  short = all_short (shape_behind (codes "conflicts")).rules refl;
+}
+
+pub conflicts_requests : HasRequestsAlone (shape_behind (codes "conflicts"))
+unfolding IsRefused node_on_words
+conflicts_requests = requests_alone (shape_behind (codes "conflicts")) (inl refl, (inl refl, (inr (refl, λ rows. tt), tt)))
+
+pub conflicts_counted : IsCountedCommand (codes "conflicts") (or_root 2)
+unfolding IsRefused node_on_words
+conflicts_counted =
+    takes_part (codes "conflicts") (λ a b called. conflicts_dashed called a b) (λ a called. conflicts_root_dashed called a) (λ called. tt) (λ a b c more called. refused_below called _ _ (codes "--" ∷ a ∷ b ∷ c ∷ more) conflicts_is tt)
+
+-- ---- diff
+
+pub diff_is : IsCommand (codes "diff") (shape_behind (codes "diff"))
+unfolding node_on_words
+diff_is = record {
+  met = diff_met;
+  found = refl;
+  short = all_short (shape_behind (codes "diff")).rules refl;
+}
+
+pub diff_requests : HasRequestsAlone (shape_behind (codes "diff"))
+unfolding IsRefused node_on_words
+diff_requests = requests_alone (shape_behind (codes "diff")) (inl refl, (inl refl, (inr (refl, λ rows. tt), tt)))
+
+pub diff_counted : IsCountedCommand (codes "diff") (exactly 2)
+unfolding IsRefused node_on_words
+diff_counted =
+    takes_two (codes "diff") (λ a b called. diff_dashed called a b) (λ called. tt) (λ a called. tt) (λ a b c more called. refused_below called _ _ (codes "--" ∷ a ∷ b ∷ c ∷ more) diff_is tt)

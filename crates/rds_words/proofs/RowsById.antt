@@ -4,18 +4,11 @@ use Rattle.std.specs.Prelude.{find, if◌then◌else◌, is_some}
 use Rattle.std.specs.List.{list_any}
 use Rattle.std.specs.Str.{bytes_eq}
 use Rattle.std.proofs.lemmas.List.{append-nil}
-use Rattle.std.proofs.lemmas.Slice.Eq.{bytes_eq-Decides}
 use Rattle.clap.specs.Words.{Row, Text}
 use Rattle.clap.specs.Walk.{at_row, has_row, without}
-use Rattle.rds_words.proofs.CommandWords.{row}
 
 abbrev pub row_at : Text → List Row → Option Row
 row_at id rows = find (λ r. bytes_eq r.id id) rows
-
--- the row of the first of these values, where there is one
-abbrev pub row_with : Text → List Text → Option Row
-row_with id [] = None
-row_with id (v ∷ vs) = Some (row id (v ∷ []))
 
 pub or_left : (a b : Bool) → (a || b) ≡ false → a ≡ false
 or_left true b e = absurd cc
@@ -27,7 +20,7 @@ or_right false b e = e
 
 -- ---- finding behind more
 
-find_in : (b : Bool) (r : Row) (found more : Option Row) → found ≡ more → (if b then Some r else found) ≡ (if b then Some r else more)
+pub find_in : (b : Bool) (r : Row) (found more : Option Row) → found ≡ more → (if b then Some r else found) ≡ (if b then Some r else more)
 find_in b r found more e = ap (λ (f : Option Row). if b then Some r else f) e
 
 pub find_new : (p : Row → Bool) (rows : List Row) (r : Row) → find p rows ≡ None → p r ≡ true → find p (rows ++ r ∷ []) ≡ Some r
@@ -73,10 +66,3 @@ at_no_row id change missing (r ∷ rows) none =
 
 pub without_none : (id : Text) (rows : List Row) → has_row id rows ≡ false → without id rows ≡ rows
 without_none id rows none = at_no_row id (λ r. []) [] rows none ∙ append-nil rows
-
--- a row of another id changes nothing, and one of this id is found
-pub row_new : (id : Text) (rows : List Row) (v : Text) → row_at id rows ≡ None → row_at id (rows ++ row id (v ∷ []) ∷ []) ≡ Some (row id (v ∷ []))
-row_new id rows v none = find_new (λ r. bytes_eq r.id id) rows (row id (v ∷ [])) none ((bytes_eq-Decides id id).1 refl)
-
-pub row_other : (id other : Text) (rows : List Row) (v : Text) → bytes_eq other id ≡ false → row_at id (rows ++ row other (v ∷ []) ∷ []) ≡ row_at id rows
-row_other id other rows v differ = find_past (λ r. bytes_eq r.id id) rows (row other (v ∷ [])) differ

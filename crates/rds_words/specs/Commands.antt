@@ -11,6 +11,14 @@ required_rule id = record (new_rule id) { required = true }
 abbrev pub repeated_rule : Text → Rule
 repeated_rule id = record (required_rule id) { action = Some Append }
 
+-- as many words as there are, or none
+abbrev pub several_rule : Text → Rule
+several_rule id = record (new_rule id) { action = Some Append }
+
+-- a word behind an option
+abbrev pub valued_rule : Text → Text → Rule
+valued_rule id long = record (new_rule id) { long = Some long; value_names = 1 }
+
 -- a word behind an option, with the value that it has where it isn't given
 abbrev pub defaulted_rule : Text → Text → Text → Rule
 defaulted_rule id long default = record (new_rule id) { long = Some long; value_names = 1; defaults = default ∷ [] }
@@ -42,6 +50,13 @@ key_rule = required_rule (codes "KEY")
 abbrev pub by_rule : Rule
 by_rule = required_rule (codes "BY")
 
+-- the file of a question, and that of an answer
+abbrev pub question_rule : Rule
+question_rule = required_rule (codes "QUESTION")
+
+abbrev pub answer_rule : Rule
+answer_rule = required_rule (codes "ANSWER")
+
 -- where a replica is served
 abbrev pub address_rule : Rule
 address_rule = required_rule (codes "ADDR")
@@ -53,6 +68,24 @@ sessions_rule = defaulted_rule (codes "SESSIONS") (codes "sessions") (codes "1")
 -- after how many seconds a silent peer is given up, as an option, 60 where it isn't given
 abbrev pub timeout_rule : Rule
 timeout_rule = defaulted_rule (codes "TIMEOUT") (codes "timeout") (codes "60")
+
+-- the file from which the next replica is made
+abbrev pub from_rule : Rule
+from_rule = valued_rule (codes "FROM") (codes "from")
+
+-- whether a value is the text itself
+abbrev pub text_rule : Rule
+text_rule = flag_rule (codes "TEXT") (codes "text")
+
+-- whether only what changes something is written
+abbrev pub if_changed_rule : Rule
+if_changed_rule = flag_rule (codes "IF_CHANGED") (codes "if-changed")
+
+-- whether values stand alone, and which
+abbrev pub raw_rules : List Rule
+raw_rules =
+    flag_rule (codes "RAW") (codes "raw") ∷ flag_rule (codes "REG") (codes "reg")
+    ∷ flag_rule (codes "SET") (codes "set") ∷ flag_rule (codes "COUNTER") (codes "counter") ∷ []
 
 -- whether JSON is indented
 abbrev pub pretty_rule : Rule
@@ -74,24 +107,32 @@ with_command program command = with_subcommand program command.top
 -- the commands, in the order in which help lists them
 abbrev pub commands : List App
 commands =
-    command_app (codes "join") []
-    ∷ command_app (codes "sim") []
-    ∷ command_app (codes "init")
-    (file_rule ∷ required_rule (codes "GROUP") ∷ required_rule (codes "OWN") ∷ repeated_rule (codes "NAMES") ∷ [])
+    command_app (codes "init")
+    (file_rule ∷ required_rule (codes "GROUP") ∷ new_rule (codes "OWN") ∷ several_rule (codes "NAMES") ∷ from_rule ∷ [])
     ∷ command_app (codes "grow") (file_rule ∷ repeated_rule (codes "NAMES") ∷ [])
-    ∷ command_app (codes "set") (file_rule ∷ path_rule ∷ value_rule ∷ [])
-    ∷ command_app (codes "add") (file_rule ∷ path_rule ∷ value_rule ∷ [])
-    ∷ command_app (codes "del") (file_rule ∷ path_rule ∷ value_rule ∷ [])
+    ∷ command_app (codes "set") (file_rule ∷ path_rule ∷ value_rule ∷ text_rule ∷ if_changed_rule ∷ [])
+    ∷ command_app (codes "add") (file_rule ∷ path_rule ∷ value_rule ∷ text_rule ∷ if_changed_rule ∷ [])
+    ∷ command_app (codes "del") (file_rule ∷ path_rule ∷ value_rule ∷ text_rule ∷ [])
     ∷ command_app (codes "clear") (file_rule ∷ part_rule ∷ [])
     ∷ command_app (codes "inc") (file_rule ∷ key_rule ∷ by_rule ∷ [])
     ∷ command_app (codes "dec") (file_rule ∷ key_rule ∷ by_rule ∷ [])
     ∷ command_app (codes "edit") (file_rule ∷ [])
-    ∷ command_app (codes "get") (file_rule ∷ path_rule ∷ [])
+    ∷ command_app (codes "get") (file_rule ∷ path_rule ∷ raw_rules)
     ∷ command_app (codes "show") (file_rule ∷ part_rule ∷ pretty_rule ∷ [])
-    ∷ command_app (codes "status") (file_rule ∷ [])
-    ∷ command_app (codes "serve") (file_rule ∷ address_rule ∷ sessions_rule ∷ timeout_rule ∷ [])
-    ∷ command_app (codes "sync") (file_rule ∷ address_rule ∷ timeout_rule ∷ [])
+    ∷ command_app (codes "dump") (file_rule ∷ part_rule ∷ [])
     ∷ command_app (codes "pair") (file_rule ∷ required_rule (codes "PEER") ∷ [])
+    ∷ command_app (codes "sync") (file_rule ∷ address_rule ∷ timeout_rule ∷ [])
+    ∷ command_app (codes "serve") (file_rule ∷ address_rule ∷ sessions_rule ∷ timeout_rule ∷ [])
+    ∷ command_app (codes "ask") (file_rule ∷ [])
+    ∷ command_app (codes "answer") (file_rule ∷ [])
+    ∷ command_app (codes "take") (file_rule ∷ question_rule ∷ answer_rule ∷ [])
+    ∷ command_app (codes "merge") (file_rule ∷ required_rule (codes "FROM") ∷ [])
+    ∷ command_app (codes "status") (file_rule ∷ [])
+    ∷ command_app (codes "check") (question_rule ∷ answer_rule ∷ [])
+    ∷ command_app (codes "conflicts") (file_rule ∷ part_rule ∷ [])
+    ∷ command_app (codes "diff") (file_rule ∷ required_rule (codes "OTHER") ∷ [])
+    ∷ command_app (codes "join") []
+    ∷ command_app (codes "sim") []
     ∷ []
 
 -- the program with its commands

@@ -4,13 +4,15 @@ use Rattle.clap.specs.Words.{App, Rule, Text, new_app, new_rule, with_rule}
 use Rattle.rds_words.specs.declared.table.Described.{Described}
 use Rattle.rds_words.specs.declared.table.Word.{Word}
 use Rattle.rds_words.specs.declared.table.Kind.{Kind}
-use Rattle.rds_words.specs.declared.table.Kind.TheVariants.{Required, Optional, Repeated, Defaulted, Flag}
-use Rattle.rds_words.specs.Commands.{defaulted_rule, flag_rule, repeated_rule, required_rule, with_command}
+use Rattle.rds_words.specs.declared.table.Kind.TheVariants.{Required, Optional, Repeated, Several, Defaulted, Valued, Flag}
+use Rattle.rds_words.specs.Commands.{defaulted_rule, flag_rule, repeated_rule, required_rule, several_rule, valued_rule, with_command}
 
 abbrev pub rule_by : Kind → Text → Rule
 rule_by Required id = required_rule id
 rule_by Optional id = new_rule id
 rule_by Repeated id = repeated_rule id
+rule_by Several id = several_rule id
+rule_by (Valued long value_name) id = valued_rule id long.now
 rule_by (Defaulted long value_name default) id = defaulted_rule id long.now default.now
 rule_by (Flag long) id = flag_rule id long.now
 

@@ -2,7 +2,9 @@ pub mod Commands
 pub mod Described
 pub mod Entered
 pub mod Meaning
-pub mod Parts
+pub mod Raw
 pub mod Spelling
 pub mod Task
+pub mod Typed
+pub mod WithOptions
 pub mod Written

@@ -9,6 +9,7 @@ use Rattle.rds_names.specs.declared.scalar.Scalar.{Scalar}
 use Rattle.rds_names.specs.Key.{key_of}
 use Rattle.rds_names.specs.Name.{name_of}
 use Rattle.rds_names.specs.Path.{path_of}
+use Rattle.rds_names.specs.Scalar.{scalar_of_text}
 use Rattle.rds_names.specs.Roster.{RosterValue, number_named, roster_of}
 use Rattle.rds_state.specs.declared.command.Command.{Command}
 use Rattle.rds_state.specs.declared.command.Command.TheVariants as commands
@@ -18,6 +19,8 @@ use Rattle.rds_words.specs.declared.tasks.EditWords.{EditWords}
 use Rattle.rds_words.specs.declared.tasks.EditWords.TheVariants.{Set, Add, Del, Clear, Inc, Dec}
 use Rattle.rds_words.specs.declared.tasks.GrowWords.{GrowWords}
 use Rattle.rds_words.specs.declared.tasks.InitWords.{InitWords}
+use Rattle.rds_words.specs.declared.tasks.ValueWord.{ValueWord}
+use Rattle.rds_words.specs.declared.tasks.ValueWord.TheVariants as word
 
 abbrev pub value_from : Option Data → Result Scalar Fault
 value_from None = Err BadLine
@@ -26,6 +29,11 @@ value_from (Some d) = scalar_of d
 -- the value that a text of JSON is
 abbrev pub value_of : List ℕ → Result Scalar Fault
 value_of text = value_from (read text)
+
+-- the value that a word is, as JSON or as the text itself
+abbrev pub value_in : ValueWord → Result Scalar Fault
+value_in (word.Json value) = value_of value.now
+value_in (word.Text value) = scalar_of_text value.now
 
 -- a whole number of 64 bits, before which a plus may stand
 abbrev pub IsAmount : List ℕ → Result ℕ Fault → Type 0
@@ -39,9 +47,9 @@ IsCount make key by r =
 
 -- the command, or the fault of the first word that is none
 abbrev pub IsCommand : EditWords → Result Command Fault → Type 0
-IsCommand (Set path value) r = r ≡ (path_of path.now >>= λ p. value_of value.now >>= λ v. Ok (commands.Set p v))
-IsCommand (Add path value) r = r ≡ (path_of path.now >>= λ p. value_of value.now >>= λ v. Ok (commands.Add p v))
-IsCommand (Del path value) r = r ≡ (path_of path.now >>= λ p. value_of value.now >>= λ v. Ok (commands.Del p v))
+IsCommand (Set path value) r = r ≡ (path_of path.now >>= λ p. value_in value >>= λ v. Ok (commands.Set p v))
+IsCommand (Add path value) r = r ≡ (path_of path.now >>= λ p. value_in value >>= λ v. Ok (commands.Add p v))
+IsCommand (Del path value) r = r ≡ (path_of path.now >>= λ p. value_in value >>= λ v. Ok (commands.Del p v))
 IsCommand (Clear path) r = r ≡ (path_of path.now >>= λ p. Ok (commands.Clear p))
 IsCommand (Inc key by) r = IsCount commands.Inc key.now by.now r
 IsCommand (Dec key by) r = IsCount commands.Dec key.now by.now r

@@ -5,7 +5,6 @@ use Rattle.std.specs.Str.{bytes_eq}
 use Rattle.clap.specs.Words.{Text}
 use Rattle.rds_words.specs.Commands.{commands}
 use Rattle.rds_words.specs.Entered.{Names, mistakes_in}
-use Rattle.rds_words.specs.Parts.{AreTwoWith}
 use Rattle.rds_words.specs.Written.{AreData}
 
 -- the words, of which none can be taken for an option; or such words, two dashes, and any words
@@ -34,28 +33,35 @@ IsCounted (before n left_out) given words = (length given ≡ n) × (words ≡ g
 -- the commands that have no option, each with how many words
 abbrev pub counts : List (Text × Count)
 counts =
-    (codes "join", exactly 0)
-    ∷ (codes "sim", exactly 0)
-    ∷ (codes "init", at_least 4)
-    ∷ (codes "grow", at_least 2)
-    ∷ (codes "set", exactly 3)
-    ∷ (codes "add", exactly 3)
-    ∷ (codes "del", exactly 3)
+    (codes "grow", at_least 2)
     ∷ (codes "clear", or_root 2)
     ∷ (codes "inc", exactly 3)
     ∷ (codes "dec", exactly 3)
     ∷ (codes "edit", exactly 1)
-    ∷ (codes "get", exactly 2)
-    ∷ (codes "status", exactly 1)
+    ∷ (codes "dump", or_root 2)
     ∷ (codes "pair", exactly 2)
+    ∷ (codes "ask", exactly 1)
+    ∷ (codes "answer", exactly 1)
+    ∷ (codes "take", exactly 3)
+    ∷ (codes "merge", exactly 2)
+    ∷ (codes "status", exactly 1)
+    ∷ (codes "check", exactly 2)
+    ∷ (codes "conflicts", or_root 2)
+    ∷ (codes "diff", exactly 2)
+    ∷ (codes "join", exactly 0)
+    ∷ (codes "sim", exactly 0)
     ∷ []
 
--- the commands that have options, each with how many words where no option is given
+-- the commands that have options but `init`, each with how many words where no option is given
 abbrev pub option_counts : List (Text × Count)
 option_counts =
-    (codes "show", or_root 2)
-    ∷ (codes "serve", before 2 (codes "1" ∷ codes "60" ∷ []))
+    (codes "set", exactly 3)
+    ∷ (codes "add", exactly 3)
+    ∷ (codes "del", exactly 3)
+    ∷ (codes "get", exactly 2)
+    ∷ (codes "show", or_root 2)
     ∷ (codes "sync", before 2 (codes "60" ∷ []))
+    ∷ (codes "serve", before 2 (codes "1" ∷ codes "60" ∷ []))
     ∷ []
 
 -- how many words a command of these takes
@@ -98,64 +104,6 @@ OtherWordsWithoutOptions =
     (called command : Text) (count : Count) → count_in option_counts command ≡ Some count
     → (given behind : List Text) → AreSpelled given behind
     → ((words : List Text) → IsCounted count given words → ⊥) → mistakes_in (called ∷ command ∷ behind) ≢ []
-
--- such words, with the option `--pretty` once among them, which stands before any two dashes
-abbrev pub AreSpelledPretty : List Text → List Text → Type 0
-AreSpelledPretty words behind =
-    (before : List Text) × (after : List Text) × (spelled : List Text) × (behind ≡ before ++ codes "--pretty" ∷ after)
-    × AreData before × AreSpelled spelled after × (words ≡ before ++ spelled)
-
--- they name the task that shows with indents
-abbrev pub ArePrettyWordsOf : List Text → List Text → Type 0
-ArePrettyWordsOf behind words =
-    (given : List Text) × (shown : List Text) × AreSpelledPretty given behind × IsCounted (or_root 2) given shown
-    × (words ≡ shown ++ codes "--pretty" ∷ [])
-
--- what stands behind `show` names the task of these words
-abbrev pub AreShowWordsOf : List Text → List Text → Type 0
-AreShowWordsOf behind words = AreWordsOf (or_root 2) behind words ⊎ ArePrettyWordsOf behind words
-
-abbrev pub ShowMeansItsSpelling : Type 0
-ShowMeansItsSpelling =
-    (called : Text) (behind words : List Text)
-    → Names (called ∷ codes "show" ∷ behind) (codes "show" ∷ words) ↔ AreShowWordsOf behind words
-
-abbrev pub OtherShowsAreRefused : Type 0
-OtherShowsAreRefused =
-    (called : Text) (behind : List Text) → ((words : List Text) → AreShowWordsOf behind words → ⊥)
-    → mistakes_in (called ∷ codes "show" ∷ behind) ≢ []
-
--- behind a command that has these options, just what is spelled so names the task of these words
-abbrev pub MeansTwoWith : Text → List (Text × Text) → Type 0
-MeansTwoWith command options =
-    (called : Text) (behind words : List Text)
-    → Names (called ∷ command ∷ behind) (command ∷ words) ↔ AreTwoWith options behind words
-
--- and all else is refused there
-abbrev pub RefusesOthersThanTwoWith : Text → List (Text × Text) → Type 0
-RefusesOthersThanTwoWith command options =
-    (called : Text) (behind : List Text) → ((words : List Text) → AreTwoWith options behind words → ⊥)
-    → mistakes_in (called ∷ command ∷ behind) ≢ []
-
--- the options of `serve`, and the value of each where it isn't given
-abbrev pub serve_options : List (Text × Text)
-serve_options = (codes "--sessions", codes "1") ∷ (codes "--timeout", codes "60") ∷ []
-
-abbrev pub ServeMeansItsSpelling : Type 0
-ServeMeansItsSpelling = MeansTwoWith (codes "serve") serve_options
-
-abbrev pub OtherServesAreRefused : Type 0
-OtherServesAreRefused = RefusesOthersThanTwoWith (codes "serve") serve_options
-
--- the option of `sync`, and its value where it isn't given
-abbrev pub sync_options : List (Text × Text)
-sync_options = (codes "--timeout", codes "60") ∷ []
-
-abbrev pub SyncMeansItsSpelling : Type 0
-SyncMeansItsSpelling = MeansTwoWith (codes "sync") sync_options
-
-abbrev pub OtherSyncsAreRefused : Type 0
-OtherSyncsAreRefused = RefusesOthersThanTwoWith (codes "sync") sync_options
 
 abbrev pub OtherCommandsAreRefused : Type 0
 OtherCommandsAreRefused = (entered : List Text) → (HasCommand entered → ⊥) → mistakes_in entered ≢ []

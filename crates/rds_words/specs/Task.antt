@@ -1,19 +1,41 @@
 -- The task that a parse of the words names.
-use Rattle.std.specs.Prelude.{◌≡◌, Bool, false, List, [], ◌∷◌, ◌++◌, Option, Some, None, map, option_map, option_and_then, unwrap_or, codes, if◌then◌else◌}
+use Rattle.std.specs.Prelude.{◌≡◌, Bool, true, false, List, [], ◌∷◌, ◌++◌, Option, Some, None, map, option_map, option_and_then, unwrap_or, codes, if◌then◌else◌}
 use Rattle.std.specs.Borrow.{Bor}
 use Rattle.std.specs.Option.{option_map_or}
 use Rattle.std.specs.Str.{bytes_eq}
 use Rattle.clap.specs.Words.{Row, Text, all_of, first_of}
 use Rattle.rds_words.specs.declared.tasks.Task.{Task}
-use Rattle.rds_words.specs.declared.tasks.Task.TheVariants.{Join, Sim, Init, Grow, Edit, EditLines, Get, Show, ShowPretty, Status, Serve, Sync, Pair}
+use Rattle.rds_words.specs.declared.tasks.Task.TheVariants.{Join, Sim, Init, InitFrom, Grow, Edit, EditIfChanged, EditLines, Get, GetRaw, Show, ShowPretty, Dump, Status, Serve, Sync, Pair, Ask, Answer, Take, Merge, Check, Conflicts, Diff}
 use Rattle.rds_words.specs.declared.tasks.EditWords.{EditWords}
 use Rattle.rds_words.specs.declared.tasks.EditWords.TheVariants.{Set, Add, Del, Clear, Inc, Dec}
+use Rattle.rds_words.specs.declared.tasks.RawKind.{RawKind}
+use Rattle.rds_words.specs.declared.tasks.RawKind.TheVariants as kind
+use Rattle.rds_words.specs.declared.tasks.ValueWord.{ValueWord}
+use Rattle.rds_words.specs.declared.tasks.ValueWord.TheVariants as word
+use Rattle.rds_words.specs.Raw.{changed_words, init_words, raw_words}
+
+-- a value in words
+abbrev pub value_words : ValueWord → List Text
+value_words (word.Json value) = value.now ∷ []
+value_words (word.Text value) = value.now ∷ codes "--text" ∷ []
+
+-- the option that says which values are printed
+abbrev pub raw_word : RawKind → Text
+raw_word kind.Any = codes "--raw"
+raw_word kind.Register = codes "--reg"
+raw_word kind.Set = codes "--set"
+raw_word kind.Counter = codes "--counter"
+
+-- the same, where there is one
+abbrev pub kind_words : Option RawKind → List Text
+kind_words None = []
+kind_words (Some which) = raw_word which ∷ []
 
 -- an edit of a file's replica in words, the file after the command's name
 abbrev pub edit_words : Text → EditWords → List Text
-edit_words file (Set path value) = codes "set" ∷ file ∷ path.now ∷ value.now ∷ []
-edit_words file (Add path value) = codes "add" ∷ file ∷ path.now ∷ value.now ∷ []
-edit_words file (Del path value) = codes "del" ∷ file ∷ path.now ∷ value.now ∷ []
+edit_words file (Set path value) = codes "set" ∷ file ∷ path.now ∷ value_words value
+edit_words file (Add path value) = codes "add" ∷ file ∷ path.now ∷ value_words value
+edit_words file (Del path value) = codes "del" ∷ file ∷ path.now ∷ value_words value
 edit_words file (Clear path) = codes "clear" ∷ file ∷ path.now ∷ []
 edit_words file (Inc key by) = codes "inc" ∷ file ∷ key.now ∷ by.now ∷ []
 edit_words file (Dec key by) = codes "dec" ∷ file ∷ key.now ∷ by.now ∷ []
@@ -24,16 +46,27 @@ words_of Join = codes "join" ∷ []
 words_of Sim = codes "sim" ∷ []
 words_of (Init words) =
     codes "init" ∷ words.file.now ∷ words.group.now ∷ words.own.now ∷ map (λ n. n.now) words.names.items
+words_of (InitFrom words) = codes "init" ∷ words.file.now ∷ words.own.now ∷ (codes "--from=" ++ words.from.now) ∷ []
 words_of (Grow words) = codes "grow" ∷ words.file.now ∷ map (λ n. n.now) words.names.items
 words_of (Edit file edit) = edit_words file.now edit
+words_of (EditIfChanged file edit) = changed_words true (edit_words file.now edit)
 words_of (EditLines file) = codes "edit" ∷ file.now ∷ []
 words_of (Get file path) = codes "get" ∷ file.now ∷ path.now ∷ []
+words_of (GetRaw file path which) = codes "get" ∷ file.now ∷ path.now ∷ raw_word which ∷ []
 words_of (Show file path) = codes "show" ∷ file.now ∷ path.now ∷ []
 words_of (ShowPretty file path) = codes "show" ∷ file.now ∷ path.now ∷ codes "--pretty" ∷ []
+words_of (Dump file path) = codes "dump" ∷ file.now ∷ path.now ∷ []
 words_of (Status file) = codes "status" ∷ file.now ∷ []
 words_of (Serve words) = codes "serve" ∷ words.file.now ∷ words.addr.now ∷ words.sessions.now ∷ words.timeout.now ∷ []
 words_of (Sync words) = codes "sync" ∷ words.file.now ∷ words.addr.now ∷ words.timeout.now ∷ []
 words_of (Pair first second) = codes "pair" ∷ first.now ∷ second.now ∷ []
+words_of (Ask file) = codes "ask" ∷ file.now ∷ []
+words_of (Answer file) = codes "answer" ∷ file.now ∷ []
+words_of (Take file question answer) = codes "take" ∷ file.now ∷ question.now ∷ answer.now ∷ []
+words_of (Merge file from) = codes "merge" ∷ file.now ∷ from.now ∷ []
+words_of (Check question answer) = codes "check" ∷ question.now ∷ answer.now ∷ []
+words_of (Conflicts file path) = codes "conflicts" ∷ file.now ∷ path.now ∷ []
+words_of (Diff file other) = codes "diff" ∷ file.now ∷ other.now ∷ []
 
 -- the words under these ids, where each has one
 abbrev pub words_under : List Text → List Row → Option (List Text)
@@ -56,8 +89,30 @@ show_words_in rows =
     option_map (λ words. words ++ (if is_given (codes "PRETTY") rows then codes "--pretty" ∷ [] else []))
     (file_and_path rows)
 
+-- an option without a value, where it was given
+abbrev pub flag_in : Text → Text → List Row → List Text
+flag_in id word rows = if is_given id rows then word ∷ [] else []
+
+-- a file, a path and a value, and whether it is the text itself
 abbrev pub entry_words_in : List Row → Option (List Text)
-entry_words_in = words_under (codes "FILE" ∷ codes "PATH" ∷ codes "VALUE" ∷ [])
+entry_words_in rows =
+    option_map (λ words. words ++ flag_in (codes "TEXT") (codes "--text") rows)
+    (words_under (codes "FILE" ∷ codes "PATH" ∷ codes "VALUE" ∷ []) rows)
+
+-- the same, and whether only what changes something is written
+abbrev pub changed_words_in : List Row → Option (List Text)
+changed_words_in rows = option_map (changed_words (is_given (codes "IF_CHANGED") rows)) (entry_words_in rows)
+
+-- which values are printed, where they stand alone
+abbrev pub raw_words_in : List Row → Option (List Text)
+raw_words_in rows =
+    raw_words (is_given (codes "RAW") rows) (is_given (codes "REG") rows) (is_given (codes "SET") rows)
+    (is_given (codes "COUNTER") rows)
+
+abbrev pub get_words_in : List Row → Option (List Text)
+get_words_in rows =
+    option_and_then (λ words. option_map (λ kind. words ++ kind) (raw_words_in rows))
+    (words_under (codes "FILE" ∷ codes "PATH" ∷ []) rows)
 
 abbrev pub counter_words_in : List Row → Option (List Text)
 counter_words_in = words_under (codes "FILE" ∷ codes "KEY" ∷ codes "BY" ∷ [])
@@ -67,8 +122,20 @@ abbrev pub words_and_names : List Text → List Row → Option (List Text)
 words_and_names ids rows =
     option_and_then (λ words. option_map (λ names. words ++ names) (all_of (codes "NAMES") rows)) (words_under ids rows)
 
+-- a file, a group, an own name and names; or, where it is said from which file, a file and an own name
+abbrev pub init_words_by : Text → Text → Option Text → Option (List Text) → Option Text → Option (List Text)
+init_words_by file group (Some own) (Some names) None = init_words (file ∷ group ∷ own ∷ names) None
+init_words_by file group (Some own) None None = None
+init_words_by file group None names None = None
+init_words_by file own None None (Some from) = init_words (file ∷ own ∷ []) (Some from)
+init_words_by file own None (Some names) (Some from) = None
+init_words_by file own (Some more) names (Some from) = None
+
 abbrev pub init_words_in : List Row → Option (List Text)
-init_words_in = words_and_names (codes "FILE" ∷ codes "GROUP" ∷ codes "OWN" ∷ [])
+init_words_in rows =
+    option_and_then (λ file. option_and_then (λ group.
+    init_words_by file group (first_of (codes "OWN") rows) (all_of (codes "NAMES") rows) (first_of (codes "FROM") rows))
+    (first_of (codes "GROUP") rows)) (first_of (codes "FILE") rows)
 
 abbrev pub grow_words_in : List Row → Option (List Text)
 grow_words_in = words_and_names (codes "FILE" ∷ [])
@@ -76,30 +143,49 @@ grow_words_in = words_and_names (codes "FILE" ∷ [])
 -- the words behind the name of a command that edits a file's replica
 abbrev pub edit_words_behind : Text → List Row → Option (List Text)
 edit_words_behind name rows =
-    if bytes_eq name (codes "set") then entry_words_in rows
-    else (if bytes_eq name (codes "add") then entry_words_in rows
+    if bytes_eq name (codes "set") then changed_words_in rows
+    else (if bytes_eq name (codes "add") then changed_words_in rows
     else (if bytes_eq name (codes "del") then entry_words_in rows
     else (if bytes_eq name (codes "clear") then file_and_path rows
     else (if bytes_eq name (codes "inc") then counter_words_in rows
     else (if bytes_eq name (codes "dec") then counter_words_in rows
     else None)))))
 
--- the words behind the name of a command that makes sessions, or that edits a file's replica
+-- the words behind the name of a command that carries a delta, or that edits a file's replica
+abbrev pub delta_words_behind : Text → List Row → Option (List Text)
+delta_words_behind name rows =
+    if bytes_eq name (codes "ask") then words_under (codes "FILE" ∷ []) rows
+    else (if bytes_eq name (codes "answer") then words_under (codes "FILE" ∷ []) rows
+    else (if bytes_eq name (codes "take")
+    then words_under (codes "FILE" ∷ codes "QUESTION" ∷ codes "ANSWER" ∷ []) rows
+    else (if bytes_eq name (codes "merge") then words_under (codes "FILE" ∷ codes "FROM" ∷ []) rows
+    else (if bytes_eq name (codes "check") then words_under (codes "QUESTION" ∷ codes "ANSWER" ∷ []) rows
+    else edit_words_behind name rows))))
+
+-- the words behind the name of a command that makes sessions or carries a delta, or that edits a file's replica
 abbrev pub session_words_behind : Text → List Row → Option (List Text)
 session_words_behind name rows =
     if bytes_eq name (codes "serve")
     then words_under (codes "FILE" ∷ codes "ADDR" ∷ codes "SESSIONS" ∷ codes "TIMEOUT" ∷ []) rows
     else (if bytes_eq name (codes "sync") then words_under (codes "FILE" ∷ codes "ADDR" ∷ codes "TIMEOUT" ∷ []) rows
     else (if bytes_eq name (codes "pair") then words_under (codes "FILE" ∷ codes "PEER" ∷ []) rows
-    else edit_words_behind name rows))
+    else delta_words_behind name rows))
 
--- the words behind the name of a command on a file that isn't told an edit, or that makes sessions or edits
+-- the words behind the name of a command that looks at documents, makes sessions, carries a delta or edits
+abbrev pub looking_words_behind : Text → List Row → Option (List Text)
+looking_words_behind name rows =
+    if bytes_eq name (codes "dump") then file_and_path rows
+    else (if bytes_eq name (codes "conflicts") then file_and_path rows
+    else (if bytes_eq name (codes "diff") then words_under (codes "FILE" ∷ codes "OTHER" ∷ []) rows
+    else session_words_behind name rows))
+
+-- the words behind the name of any command on files but `init`, `grow` and `show`
 abbrev pub file_words_behind : Text → List Row → Option (List Text)
 file_words_behind name rows =
     if bytes_eq name (codes "edit") then words_under (codes "FILE" ∷ []) rows
-    else (if bytes_eq name (codes "get") then words_under (codes "FILE" ∷ codes "PATH" ∷ []) rows
+    else (if bytes_eq name (codes "get") then get_words_in rows
     else (if bytes_eq name (codes "status") then words_under (codes "FILE" ∷ []) rows
-    else session_words_behind name rows))
+    else looking_words_behind name rows))
 
 -- the words behind the name of a command but `init` and `grow`
 abbrev pub plain_words_behind : Text → List Row → Option (List Text)

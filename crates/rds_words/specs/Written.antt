@@ -4,8 +4,12 @@ use Rattle.std.specs.List.{list_all}
 use Rattle.std.specs.Str.{chars}
 use Rattle.clap.specs.Words.{Text}
 use Rattle.rds_words.specs.declared.tasks.Task.{Task}
-use Rattle.rds_words.specs.declared.tasks.Task.TheVariants.{Grow, Init, Serve, ShowPretty, Sync}
-use Rattle.rds_words.specs.Task.{words_of}
+use Rattle.rds_words.specs.declared.tasks.Task.TheVariants.{Edit, EditIfChanged, GetRaw, Grow, Init, InitFrom, Serve, ShowPretty, Sync}
+use Rattle.rds_words.specs.declared.tasks.EditWords.{EditWords}
+use Rattle.rds_words.specs.declared.tasks.EditWords.TheVariants.{Set, Add, Del, Clear, Inc, Dec}
+use Rattle.rds_words.specs.declared.tasks.ValueWord.{ValueWord}
+use Rattle.rds_words.specs.declared.tasks.ValueWord.TheVariants as word
+use Rattle.rds_words.specs.Task.{raw_word, words_of}
 
 -- the word can't be taken for an option: it doesn't begin with a hyphen and a character behind it
 abbrev pub is_data : Text → Bool
@@ -15,9 +19,41 @@ is_data (b ∷ bs) = not (b == 45 && is_some (slice_get (chars bs) 0))
 abbrev pub AreData : List Text → Type 0
 AreData words = list_all is_data words ≡ true
 
--- the command, then its words; `serve` and `sync` have some of theirs behind options, and `show` may have one before
--- them
+-- a value, and what is said of it before it
+abbrev pub value_text : ValueWord → Text
+value_text (word.Json value) = value.now
+value_text (word.Text value) = value.now
+
+abbrev pub value_flags : ValueWord → List Text
+value_flags (word.Json value) = []
+value_flags (word.Text value) = codes "--text" ∷ []
+
+-- the words behind a command that edits, but for options
+abbrev pub edit_given : Text → EditWords → List Text
+edit_given file (Set path value) = file ∷ path.now ∷ value_text value ∷ []
+edit_given file (Add path value) = file ∷ path.now ∷ value_text value ∷ []
+edit_given file (Del path value) = file ∷ path.now ∷ value_text value ∷ []
+edit_given file (Clear path) = file ∷ path.now ∷ []
+edit_given file (Inc key by) = file ∷ key.now ∷ by.now ∷ []
+edit_given file (Dec key by) = file ∷ key.now ∷ by.now ∷ []
+
+-- the command, and its options behind these
+abbrev pub edit_front : List Text → EditWords → List Text
+edit_front flags (Set path value) = codes "set" ∷ (flags ++ value_flags value)
+edit_front flags (Add path value) = codes "add" ∷ (flags ++ value_flags value)
+edit_front flags (Del path value) = codes "del" ∷ (flags ++ value_flags value)
+edit_front flags (Clear path) = codes "clear" ∷ flags
+edit_front flags (Inc key by) = codes "inc" ∷ flags
+edit_front flags (Dec key by) = codes "dec" ∷ flags
+
+-- the command, then its words; `serve` and `sync` have some of theirs behind options, and other options stand before the
+-- words
 abbrev pub words_written : Task → List Text
+words_written (InitFrom words) =
+    codes "init" ∷ codes "--from" ∷ words.from.now ∷ words.file.now ∷ words.own.now ∷ []
+words_written (Edit file edit) = edit_front [] edit ++ edit_given file.now edit
+words_written (EditIfChanged file edit) = edit_front (codes "--if-changed" ∷ []) edit ++ edit_given file.now edit
+words_written (GetRaw file path which) = codes "get" ∷ raw_word which ∷ file.now ∷ path.now ∷ []
 words_written (ShowPretty file path) = codes "show" ∷ codes "--pretty" ∷ file.now ∷ path.now ∷ []
 words_written (Serve words) =
     codes "serve" ∷ words.file.now ∷ words.addr.now
@@ -31,6 +67,12 @@ dashes_in [] = []
 dashes_in (command ∷ words) = command ∷ codes "--" ∷ words
 
 abbrev pub words_dashed : Task → List Text
+words_dashed (InitFrom words) =
+    codes "init" ∷ (codes "--from=" ++ words.from.now) ∷ codes "--" ∷ words.file.now ∷ words.own.now ∷ []
+words_dashed (Edit file edit) = edit_front [] edit ++ codes "--" ∷ edit_given file.now edit
+words_dashed (EditIfChanged file edit) =
+    edit_front (codes "--if-changed" ∷ []) edit ++ codes "--" ∷ edit_given file.now edit
+words_dashed (GetRaw file path which) = codes "get" ∷ raw_word which ∷ codes "--" ∷ file.now ∷ path.now ∷ []
 words_dashed (ShowPretty file path) = codes "show" ∷ codes "--pretty" ∷ codes "--" ∷ file.now ∷ path.now ∷ []
 words_dashed (Serve words) =
     codes "serve" ∷ (codes "--sessions=" ++ words.sessions.now) ∷ (codes "--timeout=" ++ words.timeout.now)
@@ -39,14 +81,25 @@ words_dashed (Sync words) =
     codes "sync" ∷ (codes "--timeout=" ++ words.timeout.now) ∷ codes "--" ∷ words.file.now ∷ words.addr.now ∷ []
 words_dashed task = dashes_in (words_of task)
 
+-- `set` and `add` alone can be told to write only what changes something
+abbrev pub MayBeUnchanged : EditWords → Type 0
+MayBeUnchanged (Set path value) = ⊤
+MayBeUnchanged (Add path value) = ⊤
+MayBeUnchanged edit = ⊥
+
 -- `init` and `grow` have a name
 abbrev pub HasNames : Task → Type 0
 HasNames (Init words) = words.names.items ≡ [] → ⊥
 HasNames (Grow words) = words.names.items ≡ [] → ⊥
+HasNames (EditIfChanged file edit) = MayBeUnchanged edit
 HasNames task = ⊤
 
 -- the words that are given behind the command, but for options without a value
 abbrev pub given_words : Task → List Text
+given_words (InitFrom words) = words.from.now ∷ words.file.now ∷ words.own.now ∷ []
+given_words (Edit file edit) = edit_given file.now edit
+given_words (EditIfChanged file edit) = edit_given file.now edit
+given_words (GetRaw file path which) = file.now ∷ path.now ∷ []
 given_words (ShowPretty file path) = file.now ∷ path.now ∷ []
 given_words task = drop 1 (words_of task)
 

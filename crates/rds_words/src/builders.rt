@@ -57,6 +57,8 @@ fn described_arg<'a>(alloc: Global, word: &Word) -> Arg<'a>
         Kind::Required => arg.required(true),
         Kind::Optional => arg,
         Kind::Repeated => arg.required(true).action(ArgAction::Append),
+        Kind::Several => arg.action(ArgAction::Append),
+        Kind::Valued { long, value_name } => arg.long(long).value_name(value_name),
         Kind::Defaulted {
             long,
             value_name,

@@ -3,16 +3,17 @@ ghost use Rattle.std.specs.Prelude.{[], ◌∷◌, ◌++◌, codes};
 ghost use Rattle.clap.specs.Words.{Text};
 ghost use Rattle.rds_words.specs.declared.tasks.Task.{Task};
 ghost use Rattle.rds_words.specs.Entered.{Names};
-ghost use Rattle.rds_words.specs.Spelling.{OtherCommandsAreRefused, OtherServesAreRefused, OtherShowsAreRefused, OtherSyncsAreRefused, OtherWordsAreRefused, OtherWordsWithoutOptions, ServeMeansItsSpelling, ShowMeansItsSpelling, SyncMeansItsSpelling, WordsMeanTheirSpelling, WordsWithoutOptions};
+ghost use Rattle.rds_words.specs.Spelling.{OtherCommandsAreRefused, OtherWordsAreRefused, OtherWordsWithoutOptions, WordsMeanTheirSpelling, WordsWithoutOptions};
 ghost use Rattle.rds_words.specs.Task.{words_of};
+ghost use Rattle.rds_words.specs.WithOptions.{OptionsMeanTheirSpelling};
 ghost use Rattle.rds_words.specs.Written.{AreData, HasNames, IsWritable, words_dashed, words_written};
 
 /// Which words name a task, whatever the program is called: its command and its words in their order, where none of
 /// these can be taken for an option, as what begins with a hyphen and a character behind it, and, whatever they begin
 /// with, behind two dashes. A path that is left out is the root.
 /// `serve` has one session where it isn't told how many, and `serve` and `sync` give a silent peer 60 seconds where
-/// they aren't told how long. `show` has its option before its words or behind them. The function does nothing: its
-/// contract is these laws.
+/// they aren't told how long. Other options stand before the words, and that of `show` also behind them. The function
+/// does nothing: its contract is these laws.
 pub fn word_laws()
     ensures written { (name : Text) (task : Task) → IsWritable task
         → Names (name ∷ words_written task) (words_of task) }
@@ -58,22 +59,19 @@ pub fn word_laws()
         (codes "sync" ∷ file ∷ addr ∷ codes "60" ∷ []) }
 {}
 
-/// Of a command without options, which all are but `show`, `serve` and `sync`: what stands behind it names a task just
-/// where it is spelled so, the task's words in their order, as many as the command takes. They stand by themselves
-/// where none can be taken for an option, or with two dashes before some that may be anything. All else is refused
-/// there. The same holds of those three where no option is given, and with their options too. These stand among the
-/// words, in any order, each at most once, before any two dashes. What begins with no command's name is refused. The
-/// function does nothing: its contract is these laws.
+/// Of a command without options: what stands behind it names a task just where it is spelled so, the task's words in
+/// their order, as many as the command takes. They stand by themselves where none can be taken for an option, or with
+/// two dashes before some that may be anything. All else is refused there. The same holds of the others but `init` where
+/// no option is given. Of all that have options: these stand among the words, in any order, each at most once, before
+/// any two dashes. What is typed so is no mistake where the command takes so many words, and names just the task that
+/// its words and options say, or none; all else is refused. None is said by two or three words of `init` alone, by more
+/// than two with `--from`, and by two of `--reg`, `--set` and `--counter`. What begins with no command's name is
+/// refused. The function does nothing: its contract is these laws.
 pub fn words_mean_their_spelling()
     ensures words { WordsMeanTheirSpelling }
     ensures other_words { OtherWordsAreRefused }
     ensures without_options { WordsWithoutOptions }
     ensures other_without_options { OtherWordsWithoutOptions }
-    ensures show { ShowMeansItsSpelling }
-    ensures other_shows { OtherShowsAreRefused }
-    ensures serve { ServeMeansItsSpelling }
-    ensures other_serves { OtherServesAreRefused }
-    ensures sync { SyncMeansItsSpelling }
-    ensures other_syncs { OtherSyncsAreRefused }
+    ensures options { OptionsMeanTheirSpelling }
     ensures other_commands { OtherCommandsAreRefused }
 {}

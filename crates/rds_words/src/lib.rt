@@ -12,4 +12,7 @@ mod tasks;
 
 pub use laws::{word_laws, words_mean_their_spelling};
 pub use meaning::{amount_of, command_of, names_in, roster_in};
-pub use tasks::{EditWords, GrowWords, InitWords, ServeWords, SyncWords, Task, task_of};
+pub use tasks::{
+    EditWords, GrowWords, InitFromWords, InitWords, RawKind, ServeWords, SyncWords, Task,
+    ValueWord, task_of,
+};

@@ -2,9 +2,9 @@
 ghost use Rattle.std.specs.Prelude.{◌≡◌, ◌<◌, ◌⊎◌, Ok, Err, IfOk, length, map, MatchResult};
 ghost use Rattle.rds_names.specs.declared.fault.Fault.TheVariants.{Memory};
 ghost use Rattle.rds_json.specs.MayGive.{MayGive};
-ghost use Rattle.rds_words.specs.Meaning.{IsAmount, IsCommand, names_in, roster_in, value_of};
+ghost use Rattle.rds_words.specs.Meaning.{IsAmount, IsCommand, names_in, roster_in, value_in, value_of};
 
-use crate::tasks::EditWords;
+use crate::tasks::{EditWords, ValueWord};
 use rds_json::scalar;
 use rds_names::{Fault, Key, Name, Path, Roster, Scalar};
 use rds_state::Command;
@@ -12,7 +12,7 @@ use serde_json::Value;
 use std::alloc::Global;
 
 /// The edit that words ask for. They are judged from left to right: a path's `BadPath` or `BadKey`,
-/// a value's `BadLine` where it is no JSON and `BadScalar`, a key's `BadKey`, and `Usage` for an
+/// a value's `BadLine` where it is no JSON and `BadScalar` where it is no value, a key's `BadKey`, and `Usage` for an
 /// amount that is no whole number of 64 bits. Want of memory may come at any point.
 pub fn command_of(alloc: Global, words: &EditWords<'_>) -> Result<Command, Fault>
     ensures { (result ≡ Err Memory) ⊎ IsCommand words.now result }
@@ -20,15 +20,15 @@ pub fn command_of(alloc: Global, words: &EditWords<'_>) -> Result<Command, Fault
     match *words {
         EditWords::Set { path, value } => {
             let path = Path::new(alloc, path)?;
-            Ok(Command::Set(path, value_of(alloc, value)?))
+            Ok(Command::Set(path, value_in(alloc, value)?))
         }
         EditWords::Add { path, value } => {
             let path = Path::new(alloc, path)?;
-            Ok(Command::Add(path, value_of(alloc, value)?))
+            Ok(Command::Add(path, value_in(alloc, value)?))
         }
         EditWords::Del { path, value } => {
             let path = Path::new(alloc, path)?;
-            Ok(Command::Del(path, value_of(alloc, value)?))
+            Ok(Command::Del(path, value_in(alloc, value)?))
         }
         EditWords::Clear { path } => Ok(Command::Clear(Path::new(alloc, path)?)),
         EditWords::Inc { key, by } => {
@@ -74,6 +74,15 @@ pub fn names_in(alloc: Global, texts: &[&str]) -> Result<Vec<Name>, Fault>
         names.push(Name::new(text)?)?;
     }
     Ok(names)
+}
+
+fn value_in(alloc: Global, word: ValueWord<'_>) -> Result<Scalar, Fault>
+    ensures { MayGive result (value_in word.entry) }
+{
+    match word {
+        ValueWord::Json(value) => value_of(alloc, value),
+        ValueWord::Text(text) => Scalar::text(alloc, text),
+    }
 }
 
 fn value_of(alloc: Global, text: &str) -> Result<Scalar, Fault>

@@ -1,9 +1,12 @@
 //! From what the library found to the task.
-ghost use Rattle.std.specs.Prelude.{◌≡◌, [], ◌∷◌, codes, map, option_map, unwrap_or, IfOk};
+ghost use Rattle.std.specs.Prelude.{◌≡◌, [], ◌∷◌, codes, map, None, option_map, Some, unwrap_or, IfOk};
 ghost use Rattle.clap.specs.Words.{all_of, first_of, found_of, rows_of, subcommand_rows_of};
-ghost use Rattle.rds_words.specs.Task.{edit_words_behind, file_and_path, file_words_behind, grow_words_in, init_words_in, is_given, named_words, plain_words_behind, session_words_behind, show_words_in, words_in, words_of, words_under};
+ghost use Rattle.rds_words.specs.Raw.{raw_words};
+ghost use Rattle.rds_words.specs.Task.{changed_words_in, delta_words_behind, edit_words_behind, entry_words_in, file_and_path, file_words_behind, get_words_in, grow_words_in, init_words_by, init_words_in, is_given, kind_words, looking_words_behind, named_words, plain_words_behind, raw_words_in, session_words_behind, show_words_in, value_words, words_in, words_of, words_under};
 
-use crate::tasks::{EditWords, GrowWords, InitWords, ServeWords, SyncWords, Task};
+use crate::tasks::{
+    EditWords, GrowWords, InitFromWords, InitWords, RawKind, ServeWords, SyncWords, Task, ValueWord,
+};
 use clap::ArgMatches;
 use std::alloc::{AllocError, Global};
 
@@ -57,7 +60,7 @@ fn show_task<'a>(inner: &ArgMatches<'a>) -> Option<Task<'a>>
     }
 }
 
-// The task of a command on a file that isn't told an edit, or that makes sessions or edits.
+// The task of any command on files but `init`, `grow` and `show`.
 fn file_task<'a>(name: &str, inner: &ArgMatches<'a>) -> Option<Task<'a>>
     ensures { option_map words_of result
         ≡ named_words name.now (file_words_behind name.now (rows_of (found_of inner.now))) }
@@ -67,19 +70,38 @@ fn file_task<'a>(name: &str, inner: &ArgMatches<'a>) -> Option<Task<'a>>
             let file = word_under(inner, "FILE")?;
             Some(Task::EditLines { file })
         }
-        "get" => {
-            let (file, path) = file_and_one(inner, "PATH")?;
-            Some(Task::Get { file, path })
-        }
+        "get" => get_task(inner),
         "status" => {
             let file = word_under(inner, "FILE")?;
             Some(Task::Status { file })
+        }
+        _ => looking_task(name, inner),
+    }
+}
+
+// The task of a command that looks at documents, makes sessions, carries a delta or edits.
+fn looking_task<'a>(name: &str, inner: &ArgMatches<'a>) -> Option<Task<'a>>
+    ensures { option_map words_of result
+        ≡ named_words name.now (looking_words_behind name.now (rows_of (found_of inner.now))) }
+{
+    match name {
+        "dump" => {
+            let (file, path) = file_and_path(inner)?;
+            Some(Task::Dump { file, path })
+        }
+        "conflicts" => {
+            let (file, path) = file_and_path(inner)?;
+            Some(Task::Conflicts { file, path })
+        }
+        "diff" => {
+            let (file, other) = two_words(inner, "FILE", "OTHER")?;
+            Some(Task::Diff { file, other })
         }
         _ => session_task(name, inner),
     }
 }
 
-// The task of a command that makes sessions, or that edits the replica in a file.
+// The task of a command that makes sessions or carries a delta, or that edits the replica in a file.
 fn session_task<'a>(name: &str, inner: &ArgMatches<'a>) -> Option<Task<'a>>
     ensures { option_map words_of result
         ≡ named_words name.now (session_words_behind name.now (rows_of (found_of inner.now))) }
@@ -105,8 +127,42 @@ fn session_task<'a>(name: &str, inner: &ArgMatches<'a>) -> Option<Task<'a>>
             }))
         }
         "pair" => {
-            let (first, second) = file_and_one(inner, "PEER")?;
+            let (first, second) = two_words(inner, "FILE", "PEER")?;
             Some(Task::Pair { first, second })
+        }
+        _ => delta_task(name, inner),
+    }
+}
+
+// The task of a command that carries a delta, or that edits the replica in a file.
+fn delta_task<'a>(name: &str, inner: &ArgMatches<'a>) -> Option<Task<'a>>
+    ensures { option_map words_of result
+        ≡ named_words name.now (delta_words_behind name.now (rows_of (found_of inner.now))) }
+{
+    match name {
+        "ask" => {
+            let file = word_under(inner, "FILE")?;
+            Some(Task::Ask { file })
+        }
+        "answer" => {
+            let file = word_under(inner, "FILE")?;
+            Some(Task::Answer { file })
+        }
+        "take" => {
+            let (file, question, answer) = file_and_two(inner, "QUESTION", "ANSWER")?;
+            Some(Task::Take {
+                file,
+                question,
+                answer,
+            })
+        }
+        "merge" => {
+            let (file, from) = two_words(inner, "FILE", "FROM")?;
+            Some(Task::Merge { file, from })
+        }
+        "check" => {
+            let (question, answer) = two_words(inner, "QUESTION", "ANSWER")?;
+            Some(Task::Check { question, answer })
         }
         _ => edit_task(name, inner),
     }
@@ -117,46 +173,169 @@ fn edit_task<'a>(name: &str, inner: &ArgMatches<'a>) -> Option<Task<'a>>
     ensures { option_map words_of result
         ≡ named_words name.now (edit_words_behind name.now (rows_of (found_of inner.now))) }
 {
-    let (file, edit) = match name {
-        "set" => {
-            let (file, path, value) = file_and_two(inner, "PATH", "VALUE")?;
-            (file, EditWords::Set { path, value })
-        }
-        "add" => {
-            let (file, path, value) = file_and_two(inner, "PATH", "VALUE")?;
-            (file, EditWords::Add { path, value })
-        }
+    match name {
+        "set" => set_task(inner),
+        "add" => add_task(inner),
         "del" => {
-            let (file, path, value) = file_and_two(inner, "PATH", "VALUE")?;
-            (file, EditWords::Del { path, value })
+            let (file, path, value) = entry_words(inner)?;
+            let edit = EditWords::Del { path, value };
+            Some(Task::Edit { file, edit })
         }
         "clear" => {
             let (file, path) = file_and_path(inner)?;
-            (file, EditWords::Clear { path })
+            let edit = EditWords::Clear { path };
+            Some(Task::Edit { file, edit })
         }
         "inc" => {
             let (file, key, by) = file_and_two(inner, "KEY", "BY")?;
-            (file, EditWords::Inc { key, by })
+            let edit = EditWords::Inc { key, by };
+            Some(Task::Edit { file, edit })
         }
         "dec" => {
             let (file, key, by) = file_and_two(inner, "KEY", "BY")?;
-            (file, EditWords::Dec { key, by })
+            let edit = EditWords::Dec { key, by };
+            Some(Task::Edit { file, edit })
         }
-        _ => return None,
-    };
-    Some(Task::Edit { file, edit })
+        _ => None,
+    }
+}
+
+// The file, the path and the value of an entry.
+fn entry_words<'a>(inner: &ArgMatches<'a>) -> Option<(&'a str, &'a str, ValueWord<'a>)>
+    ensures { option_map (λ w. w.0.now ∷ w.1.now ∷ value_words w.2) result
+        ≡ entry_words_in (rows_of (found_of inner.now)) }
+{
+    let (file, path, value) = file_and_two(inner, "PATH", "VALUE")?;
+    if is_given(inner, "TEXT") {
+        Some((file, path, ValueWord::Text(value)))
+    } else {
+        Some((file, path, ValueWord::Json(value)))
+    }
+}
+
+// The task of `set`.
+fn set_task<'a>(inner: &ArgMatches<'a>) -> Option<Task<'a>>
+    ensures { option_map words_of result
+        ≡ named_words (codes "set") (changed_words_in (rows_of (found_of inner.now))) }
+{
+    let (file, path, value) = entry_words(inner)?;
+    let edit = EditWords::Set { path, value };
+    if is_given(inner, "IF_CHANGED") {
+        Some(Task::EditIfChanged { file, edit })
+    } else {
+        Some(Task::Edit { file, edit })
+    }
+}
+
+// The task of `add`.
+fn add_task<'a>(inner: &ArgMatches<'a>) -> Option<Task<'a>>
+    ensures { option_map words_of result
+        ≡ named_words (codes "add") (changed_words_in (rows_of (found_of inner.now))) }
+{
+    let (file, path, value) = entry_words(inner)?;
+    let edit = EditWords::Add { path, value };
+    if is_given(inner, "IF_CHANGED") {
+        Some(Task::EditIfChanged { file, edit })
+    } else {
+        Some(Task::Edit { file, edit })
+    }
+}
+
+// The task of `get`.
+fn get_task<'a>(inner: &ArgMatches<'a>) -> Option<Task<'a>>
+    ensures { option_map words_of result
+        ≡ named_words (codes "get") (get_words_in (rows_of (found_of inner.now))) }
+{
+    let (file, path) = two_words(inner, "FILE", "PATH")?;
+    match raw_kind(inner)? {
+        Some(kind) => Some(Task::GetRaw { file, path, kind }),
+        None => Some(Task::Get { file, path }),
+    }
+}
+
+// Which values are printed, where they stand alone. Two kinds together are none.
+fn raw_kind(inner: &ArgMatches<'_>) -> Option<Option<RawKind>>
+    ensures { option_map kind_words result ≡ raw_words_in (rows_of (found_of inner.now)) }
+{
+    let raw = is_given(inner, "RAW");
+    let register = is_given(inner, "REG");
+    let set = is_given(inner, "SET");
+    let counter = is_given(inner, "COUNTER");
+    kind_of(raw, register, set, counter)
+}
+
+fn kind_of(raw: bool, register: bool, set: bool, counter: bool) -> Option<Option<RawKind>>
+    ensures { option_map kind_words result ≡ raw_words raw register set counter }
+{
+    match (register, set, counter) {
+        (true, false, false) => Some(Some(RawKind::Register)),
+        (false, true, false) => Some(Some(RawKind::Set)),
+        (false, false, true) => Some(Some(RawKind::Counter)),
+        (false, false, false) => Some(if raw { Some(RawKind::Any) } else { None }),
+        _ => None,
+    }
 }
 
 fn init_task<'a>(alloc: Global, inner: &ArgMatches<'a>) -> Result<Option<Task<'a>>, AllocError>
     ensures { IfOk result (λ task. option_map words_of task
         ≡ named_words (codes "init") (init_words_in (rows_of (found_of inner.now)))) }
 {
-    let Some((file, group, own)) = file_and_two(inner, "GROUP", "OWN") else {
+    let Some(file) = word_under(inner, "FILE") else {
         return Ok(None);
     };
-    let Some(names) = words_under(inner, "NAMES") else {
+    let Some(group) = word_under(inner, "GROUP") else {
         return Ok(None);
     };
+    let own = word_under(inner, "OWN");
+    let names = words_under(inner, "NAMES");
+    match word_under(inner, "FROM") {
+        Some(from) => Ok(init_from(file, group, own, names, from)),
+        None => init_named(alloc, file, group, own, names),
+    }
+}
+
+// The task of `init` with `--from`, where no more words are given.
+fn init_from<'a>(
+    file: &'a str,
+    own: &'a str,
+    more: Option<&'a str>,
+    names: Option<&[&'a str]>,
+    from: &'a str,
+) -> Option<Task<'a>>
+    ensures { option_map words_of result ≡ named_words (codes "init")
+        (init_words_by file.now own.now (option_map (λ w. w.now) more.entry)
+        (option_map (λ ws. map (λ w. w.now) ws.now) names.entry) (Some from.now)) }
+{
+    match more {
+        Some(_) => None,
+        None => match names {
+            Some(_) => None,
+            None => Some(Task::InitFrom(InitFromWords { file, from, own })),
+        },
+    }
+}
+
+// The task of `init` without it, where all words are given.
+fn init_named<'a>(
+    alloc: Global,
+    file: &'a str,
+    group: &'a str,
+    own: Option<&'a str>,
+    names: Option<&[&'a str]>,
+) -> Result<Option<Task<'a>>, AllocError>
+    ensures { IfOk result (λ task. option_map words_of task ≡ named_words (codes "init")
+        (init_words_by file.now group.now (option_map (λ w. w.now) own.entry)
+        (option_map (λ ws. map (λ w. w.now) ws.now) names.entry) None)) }
+{
+    let Some(own) = own else {
+        return Ok(None);
+    };
+    let Some(names) = names else {
+        return Ok(None);
+    };
+    if names.is_empty() {
+        return Ok(None);
+    }
     let names = Vec::from_slice(alloc, names)?;
     Ok(Some(Task::Init(InitWords {
         file,
@@ -180,14 +359,14 @@ fn grow_task<'a>(alloc: Global, inner: &ArgMatches<'a>) -> Result<Option<Task<'a
     Ok(Some(Task::Grow(GrowWords { file, names })))
 }
 
-// The file, and the word under this id.
-fn file_and_one<'a>(inner: &ArgMatches<'a>, second: &str) -> Option<(&'a str, &'a str)>
+// The words under these two ids.
+fn two_words<'a>(inner: &ArgMatches<'a>, first: &str, second: &str) -> Option<(&'a str, &'a str)>
     ensures { option_map (λ w. w.0.now ∷ w.1.now ∷ []) result
-        ≡ words_under (codes "FILE" ∷ second.now ∷ []) (rows_of (found_of inner.now)) }
+        ≡ words_under (first.now ∷ second.now ∷ []) (rows_of (found_of inner.now)) }
 {
-    let file = word_under(inner, "FILE")?;
+    let first = word_under(inner, first)?;
     let second = word_under(inner, second)?;
-    Some((file, second))
+    Some((first, second))
 }
 
 // The file, and the words under these two ids.

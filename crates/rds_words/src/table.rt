@@ -25,6 +25,8 @@ pub enum Kind {
     Optional,
     /// It has to be given, and more of its kind may follow.
     Repeated,
+    /// It and more of its kind may be left out.
+    Several,
     /// It follows an option, and has a value where it isn't given.
     Defaulted {
         /// The option's name.
@@ -33,6 +35,13 @@ pub enum Kind {
         value_name: &'static str,
         /// The value where the option isn't given.
         default: &'static str,
+    },
+    /// It follows an option, and may be left out.
+    Valued {
+        /// The option's name.
+        long: &'static str,
+        /// What help calls the value.
+        value_name: &'static str,
     },
     /// It is an option without a value.
     Flag {
@@ -56,13 +65,22 @@ const GROUP: Word = Word {
 const OWN: Word = Word {
     id: "OWN",
     help: help::OWN_HELP,
-    kind: Kind::Required,
+    kind: Kind::Optional,
 };
 
 const NAMES: Word = Word {
     id: "NAMES",
     help: help::NAMES_HELP,
-    kind: Kind::Repeated,
+    kind: Kind::Several,
+};
+
+const INIT_FROM: Word = Word {
+    id: "FROM",
+    help: help::INIT_FROM_HELP,
+    kind: Kind::Valued {
+        long: "from",
+        value_name: "FILE",
+    },
 };
 
 const NEW_NAMES: Word = Word {
@@ -133,31 +151,79 @@ const PRETTY: Word = Word {
     kind: Kind::Flag { long: "pretty" },
 };
 
+const QUESTION: Word = Word {
+    id: "QUESTION",
+    help: help::QUESTION_HELP,
+    kind: Kind::Required,
+};
+
+const ANSWER: Word = Word {
+    id: "ANSWER",
+    help: help::ANSWER_HELP,
+    kind: Kind::Required,
+};
+
+const FROM: Word = Word {
+    id: "FROM",
+    help: help::FROM_HELP,
+    kind: Kind::Required,
+};
+
+const OTHER: Word = Word {
+    id: "OTHER",
+    help: help::OTHER_HELP,
+    kind: Kind::Required,
+};
+
+const TEXT: Word = Word {
+    id: "TEXT",
+    help: help::TEXT_HELP,
+    kind: Kind::Flag { long: "text" },
+};
+
+const IF_CHANGED: Word = Word {
+    id: "IF_CHANGED",
+    help: help::IF_CHANGED_HELP,
+    kind: Kind::Flag { long: "if-changed" },
+};
+
+const RAW: Word = Word {
+    id: "RAW",
+    help: help::RAW_HELP,
+    kind: Kind::Flag { long: "raw" },
+};
+
+const REG: Word = Word {
+    id: "REG",
+    help: help::REG_HELP,
+    kind: Kind::Flag { long: "reg" },
+};
+
+const SET: Word = Word {
+    id: "SET",
+    help: help::SET_HELP,
+    kind: Kind::Flag { long: "set" },
+};
+
+const COUNTER: Word = Word {
+    id: "COUNTER",
+    help: help::COUNTER_HELP,
+    kind: Kind::Flag { long: "counter" },
+};
+
 const PEER: Word = Word {
     id: "PEER",
     help: help::PEER_HELP,
     kind: Kind::Required,
 };
 
-/// The commands, in the order in which help lists them.
-pub static COMMANDS: [Described; 17] = [
-    Described {
-        name: "join",
-        about: help::JOIN_ABOUT,
-        page: Page::Join,
-        words: &[],
-    },
-    Described {
-        name: "sim",
-        about: help::SIM_ABOUT,
-        page: Page::Sim,
-        words: &[],
-    },
+/// The commands, in the order in which help lists them: documents, meeting, looking, machines.
+pub static COMMANDS: [Described; 25] = [
     Described {
         name: "init",
         about: help::INIT_ABOUT,
         page: Page::Init,
-        words: &[FILE, GROUP, OWN, NAMES],
+        words: &[FILE, GROUP, OWN, NAMES, INIT_FROM],
     },
     Described {
         name: "grow",
@@ -168,20 +234,20 @@ pub static COMMANDS: [Described; 17] = [
     Described {
         name: "set",
         about: help::SET_ABOUT,
-        page: Page::Entry,
-        words: &[FILE, PATH, VALUE],
+        page: Page::Set,
+        words: &[FILE, PATH, VALUE, TEXT, IF_CHANGED],
     },
     Described {
         name: "add",
         about: help::ADD_ABOUT,
-        page: Page::Entry,
-        words: &[FILE, PATH, VALUE],
+        page: Page::Add,
+        words: &[FILE, PATH, VALUE, TEXT, IF_CHANGED],
     },
     Described {
         name: "del",
         about: help::DEL_ABOUT,
-        page: Page::Entry,
-        words: &[FILE, PATH, VALUE],
+        page: Page::Del,
+        words: &[FILE, PATH, VALUE, TEXT],
     },
     Described {
         name: "clear",
@@ -192,13 +258,13 @@ pub static COMMANDS: [Described; 17] = [
     Described {
         name: "inc",
         about: help::INC_ABOUT,
-        page: Page::Counter,
+        page: Page::Inc,
         words: &[FILE, KEY, BY],
     },
     Described {
         name: "dec",
         about: help::DEC_ABOUT,
-        page: Page::Counter,
+        page: Page::Dec,
         words: &[FILE, KEY, BY],
     },
     Described {
@@ -211,7 +277,7 @@ pub static COMMANDS: [Described; 17] = [
         name: "get",
         about: help::GET_ABOUT,
         page: Page::Get,
-        words: &[FILE, PATH],
+        words: &[FILE, PATH, RAW, REG, SET, COUNTER],
     },
     Described {
         name: "show",
@@ -220,16 +286,16 @@ pub static COMMANDS: [Described; 17] = [
         words: &[FILE, PATH_OR_ROOT, PRETTY],
     },
     Described {
-        name: "status",
-        about: help::STATUS_ABOUT,
-        page: Page::Status,
-        words: &[FILE],
+        name: "dump",
+        about: help::DUMP_ABOUT,
+        page: Page::Dump,
+        words: &[FILE, PATH_OR_ROOT],
     },
     Described {
-        name: "serve",
-        about: help::SERVE_ABOUT,
-        page: Page::Serve,
-        words: &[FILE, ADDR, SESSIONS, TIMEOUT],
+        name: "pair",
+        about: help::PAIR_ABOUT,
+        page: Page::Pair,
+        words: &[FILE, PEER],
     },
     Described {
         name: "sync",
@@ -238,9 +304,69 @@ pub static COMMANDS: [Described; 17] = [
         words: &[FILE, ADDR, TIMEOUT],
     },
     Described {
-        name: "pair",
-        about: help::PAIR_ABOUT,
-        page: Page::Pair,
-        words: &[FILE, PEER],
+        name: "serve",
+        about: help::SERVE_ABOUT,
+        page: Page::Serve,
+        words: &[FILE, ADDR, SESSIONS, TIMEOUT],
+    },
+    Described {
+        name: "ask",
+        about: help::ASK_ABOUT,
+        page: Page::Ask,
+        words: &[FILE],
+    },
+    Described {
+        name: "answer",
+        about: help::ANSWER_ABOUT,
+        page: Page::Answer,
+        words: &[FILE],
+    },
+    Described {
+        name: "take",
+        about: help::TAKE_ABOUT,
+        page: Page::Take,
+        words: &[FILE, QUESTION, ANSWER],
+    },
+    Described {
+        name: "merge",
+        about: help::MERGE_ABOUT,
+        page: Page::Merge,
+        words: &[FILE, FROM],
+    },
+    Described {
+        name: "status",
+        about: help::STATUS_ABOUT,
+        page: Page::Status,
+        words: &[FILE],
+    },
+    Described {
+        name: "check",
+        about: help::CHECK_ABOUT,
+        page: Page::Check,
+        words: &[QUESTION, ANSWER],
+    },
+    Described {
+        name: "conflicts",
+        about: help::CONFLICTS_ABOUT,
+        page: Page::Conflicts,
+        words: &[FILE, PATH_OR_ROOT],
+    },
+    Described {
+        name: "diff",
+        about: help::DIFF_ABOUT,
+        page: Page::Diff,
+        words: &[FILE, OTHER],
+    },
+    Described {
+        name: "join",
+        about: help::JOIN_ABOUT,
+        page: Page::Join,
+        words: &[],
+    },
+    Described {
+        name: "sim",
+        about: help::SIM_ABOUT,
+        page: Page::Sim,
+        words: &[],
     },
 ];

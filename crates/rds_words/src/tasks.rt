@@ -21,10 +21,19 @@ pub enum Task<'a> {
     Sim,
     /// Makes a file that holds an empty replica.
     Init(InitWords<'a>),
+    /// Makes a file that holds the next replica of a group, from a file of that group.
+    InitFrom(InitFromWords<'a>),
     /// Adds replicas to the group of the replica in a file.
     Grow(GrowWords<'a>),
     /// Edits the replica in a file.
     Edit {
+        /// The file.
+        file: &'a str,
+        /// How it is edited.
+        edit: EditWords<'a>,
+    },
+    /// Edits it so, unless the value stands there already.
+    EditIfChanged {
         /// The file.
         file: &'a str,
         /// How it is edited.
@@ -42,6 +51,15 @@ pub enum Task<'a> {
         /// The path.
         path: &'a str,
     },
+    /// Prints the values alone that stand there, one a line.
+    GetRaw {
+        /// The file.
+        file: &'a str,
+        /// The path.
+        path: &'a str,
+        /// Which values.
+        kind: RawKind,
+    },
     /// Prints a part of the document of the replica in a file.
     Show {
         /// The file.
@@ -51,6 +69,13 @@ pub enum Task<'a> {
     },
     /// Prints such a part with indents.
     ShowPretty {
+        /// The file.
+        file: &'a str,
+        /// The path of the part, empty for the root.
+        path: &'a str,
+    },
+    /// Prints the lines that give a part of the document again.
+    Dump {
         /// The file.
         file: &'a str,
         /// The path of the part, empty for the root.
@@ -72,6 +97,66 @@ pub enum Task<'a> {
         /// The server's file.
         second: &'a str,
     },
+    /// Writes the question of the replica in a file.
+    Ask {
+        /// The file.
+        file: &'a str,
+    },
+    /// Reads a question, and writes the answer of the replica in a file.
+    Answer {
+        /// The file.
+        file: &'a str,
+    },
+    /// Takes the answer to its question into a file.
+    Take {
+        /// The file.
+        file: &'a str,
+        /// The question's file, or `-` for the input.
+        question: &'a str,
+        /// The answer's file, or `-` for the input.
+        answer: &'a str,
+    },
+    /// Joins all that another file has seen into a file.
+    Merge {
+        /// The file.
+        file: &'a str,
+        /// The other, which stays as it is.
+        from: &'a str,
+    },
+    /// Says whether the answer's certificate holds, and prints the answer's delta.
+    Check {
+        /// The question's file, or `-` for the input.
+        question: &'a str,
+        /// The answer's file, or `-` for the input.
+        answer: &'a str,
+    },
+    /// Lists the registers with more than one value.
+    Conflicts {
+        /// The file.
+        file: &'a str,
+        /// The path of the part in which they stand, empty for the root.
+        path: &'a str,
+    },
+    /// Lists what the document of one file shows and that of the other doesn't.
+    Diff {
+        /// The file.
+        file: &'a str,
+        /// The other.
+        other: &'a str,
+    },
+}
+
+/// Which values are printed.
+#[derive(Clone, Copy, Debug, PartialEq, Eq)]
+pub enum RawKind {
+    /// Those of the one kind that stands there.
+    Any,
+    /// The register's.
+    Register,
+    /// The set's.
+    Set,
+    /// The counter's.
+    Counter,
 }
 
 /// An empty replica in words.
@@ -85,6 +170,17 @@ pub struct InitWords<'a> {
     pub own: &'a str,
     /// The names of all replicas, in their order.
     pub names: Vec<&'a str>,
+}
+
+/// The next replica of a group in words.
+#[derive(Clone, Copy, Debug)]
+pub struct InitFromWords<'a> {
+    /// The file that is to hold it.
+    pub file: &'a str,
+    /// The file of a replica of the group.
+    pub from: &'a str,
+    /// The new replica's own name.
+    pub own: &'a str,
 }
 
 /// New replicas of a group, in words.
@@ -120,7 +216,16 @@ pub struct SyncWords<'a> {
     pub timeout: &'a str,
 }
 
-/// An edit in words: paths are keys with '/' between them, values are JSON.
+/// A value in words.
+#[derive(Clone, Copy, Debug)]
+pub enum ValueWord<'a> {
+    /// The word is JSON.
+    Json(&'a str),
+    /// The word is the text itself.
+    Text(&'a str),
+}
+
+/// An edit in words: paths are keys with '/' between them.
 #[derive(Clone, Copy, Debug)]
 pub enum EditWords<'a> {
     /// Writes a register.
@@ -128,21 +233,21 @@ pub enum EditWords<'a> {
         /// Its path.
         path: &'a str,
         /// Its new value.
-        value: &'a str,
+        value: ValueWord<'a>,
     },
     /// Adds an element to a set.
     Add {
         /// The set's path.
         path: &'a str,
         /// The element.
-        value: &'a str,
+        value: ValueWord<'a>,
     },
     /// Deletes an element of a set.
     Del {
         /// The set's path.
         path: &'a str,
         /// The element.
-        value: &'a str,
+        value: ValueWord<'a>,
     },
     /// Takes away all entries at a path and below it.
     Clear {

@@ -1,5 +1,5 @@
-use Rattle.rds_words.proofs.EachNamed.{once_served, root_cleared, root_shown, sessions_alone, sessions_alone_dashed, sync_alone, sync_alone_dashed, task_dashed, task_written, timeout_alone, timeout_alone_dashed}
-use Rattle.rds_words.proofs.PrettyNamed.{pretty_behind, pretty_root, pretty_root_behind, pretty_root_dashed}
+use Rattle.rds_words.proofs.EachNamed.{once_served, pretty_root_dashed, root_cleared, root_shown, sessions_alone_dashed, sync_alone, sync_alone_dashed, task_dashed, task_written, timeout_alone_dashed}
+use Rattle.rds_words.proofs.OptionsNamed.{pretty_behind, pretty_root, pretty_root_behind, sessions_alone, timeout_alone}
 use Rattle.rds_words.proofs.laws.word_laws.Goals as goal
 
 pub returns-clause-written : goal.returns-clause-written

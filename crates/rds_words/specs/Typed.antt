@@ -1,14 +1,19 @@
--- What is typed behind a command that has options with values, part by part.
-use Rattle.std.specs.Prelude.{◌≡◌, ◌⊎◌, ⊤, true, List, [], ◌∷◌, ◌++◌, codes, length, if◌then◌else◌}
+-- What is typed behind a command that has options, part by part.
+use Rattle.std.specs.Prelude.{◌≡◌, ◌⊎◌, ⊤, Bool, true, false, List, [], ◌∷◌, ◌++◌, codes, if◌then◌else◌}
 use Rattle.std.specs.List.{list_any}
 use Rattle.std.specs.Str.{bytes_eq}
 use Rattle.clap.specs.Words.{Text}
 use Rattle.rds_words.specs.Written.{is_data}
 
--- a word, or an option with its value
+-- the options of a command: each by its name, and whether it has a value
+abbrev pub Options : Type 0
+Options = List (Text × Bool)
+
+-- a word, an option with its value, or an option that has none
 pub data Part : Type 0 where
   typed_word : Text → Part
   typed_option : Text → Text → Part
+  typed_flag : Text → Part
 
 -- an option with this value stands before these words: the value behind it as a word that can't be taken for an option,
 -- or in one word with it, behind `=`
@@ -23,6 +28,8 @@ AreTyped (typed_word word ∷ parts) rest typed =
     (behind : List Text) × (typed ≡ word ∷ behind) × (is_data word ≡ true) × AreTyped parts rest behind
 AreTyped (typed_option option value ∷ parts) rest typed =
     (behind : List Text) × IsOptionWith option value typed behind × AreTyped parts rest behind
+AreTyped (typed_flag option ∷ parts) rest typed =
+    (behind : List Text) × (typed ≡ option ∷ behind) × AreTyped parts rest behind
 
 -- nothing is left, or two dashes and any words
 abbrev pub IsRest : List Text → List Text → Type 0
@@ -33,45 +40,53 @@ abbrev pub words_among : List Part → List Text
 words_among [] = []
 words_among (typed_word word ∷ parts) = word ∷ words_among parts
 words_among (typed_option option value ∷ parts) = words_among parts
+words_among (typed_flag option ∷ parts) = words_among parts
 
--- the values that an option has among them
+-- the values that an option has among them, where it has none `true` each time
 abbrev pub values_among : Text → List Part → List Text
 values_among name [] = []
 values_among name (typed_word word ∷ parts) = values_among name parts
 values_among name (typed_option option value ∷ parts) =
     (if bytes_eq option name then value ∷ [] else []) ++ values_among name parts
+values_among name (typed_flag option ∷ parts) =
+    (if bytes_eq option name then codes "true" ∷ [] else []) ++ values_among name parts
+
+abbrev pub has_value : Text → Text × Bool → Bool
+has_value option (name, true) = bytes_eq option name
+has_value option (name, false) = false
+
+abbrev pub has_none : Text → Text × Bool → Bool
+has_none option (name, true) = false
+has_none option (name, false) = bytes_eq option name
 
 -- each option among them is one of these
-abbrev pub HaveOptionsOf : List (Text × Text) → List Part → Type 0
+abbrev pub HaveOptionsOf : Options → List Part → Type 0
 HaveOptionsOf options [] = ⊤
 HaveOptionsOf options (typed_word word ∷ parts) = HaveOptionsOf options parts
 HaveOptionsOf options (typed_option option value ∷ parts) =
-    (list_any (λ o. bytes_eq option o.0) options ≡ true) × HaveOptionsOf options parts
+    (list_any (has_value option) options ≡ true) × HaveOptionsOf options parts
+HaveOptionsOf options (typed_flag option ∷ parts) =
+    (list_any (has_none option) options ≡ true) × HaveOptionsOf options parts
 
--- of an option that is given at most once: its value, or this one where it isn't given
-abbrev pub IsValueOr : Text → List Text → Text → Type 0
-IsValueOr default [] value = value ≡ default
-IsValueOr default (given ∷ []) value = value ≡ given
-IsValueOr default (given ∷ again ∷ more) value = ⊥
+abbrev pub AtMostOne : List Text → Type 0
+AtMostOne [] = ⊤
+AtMostOne (value ∷ []) = ⊤
+AtMostOne (value ∷ again ∷ more) = ⊥
 
--- the values of these options, of which each has at most one given
-abbrev pub AreValues : List (Text × Text) → (Text → List Text) → List Text → Type 0
-AreValues [] given values = values ≡ []
-AreValues (option ∷ options) given values =
-    (value : Text) × (more : List Text) × (values ≡ value ∷ more)
-    × IsValueOr option.1 (given option.0) value × AreValues options given more
+-- each of these options has at most one value
+abbrev pub AreOnce : Options → (Text → List Text) → Type 0
+AreOnce [] values = ⊤
+AreOnce (option ∷ options) values = AtMostOne (values option.0) × AreOnce options values
 
--- behind a command with these options, each with the value that it has where it isn't given: two words, and among them,
--- before any two dashes, the options in any order, each at most once. They name the task of the two words and the
--- options' values
-pub record AreTwoWith (options : List (Text × Text)) (behind words : List Text) : Type 0 where
+-- behind a command with these options: the words that are given, and among them, before any two dashes, the options in
+-- any order, each at most once, with these values by their names
+pub record IsTyped (options : Options) (behind given : List Text) (values : Text → List Text) : Type 0 where
   pub parts : List Part
   pub after : List Text
   pub rest : List Text
-  pub values : List Text
   pub are_typed : AreTyped parts rest behind
   pub is_rest : IsRest after rest
   pub have_options : HaveOptionsOf options parts
-  pub are_values : AreValues options (λ name. values_among name parts) values
-  pub two : length (words_among parts ++ after) ≡ 2
-  pub words_are : words ≡ (words_among parts ++ after) ++ values
+  pub once : AreOnce options (λ name. values_among name parts)
+  pub given_are : given ≡ words_among parts ++ after
+  pub values_are : (name : Text) → values name ≡ values_among name parts

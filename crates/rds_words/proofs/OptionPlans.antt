@@ -1,0 +1,792 @@
+-- The commands that have options, as they take them.
+use Rattle.std.proofs.Common.{◌≡◌, ◌∙◌, ◌⊎◌, ◌++◌, Bool, true, false, List, [], ◌∷◌, codes, Option, Some, None, refl, inl, inr}
+use Rattle.std.specs.Prelude.{fold, if◌then◌else◌, option_and_then, option_map, slice_get, unwrap_or}
+use Rattle.clap.specs.Words.{Row, Shape, Text}
+use Rattle.clap.specs.Walk.{arg_by_index, arg_by_long, has_long, has_short, option, with_default}
+use Rattle.rds_words.specs.Commands.{file_rule}
+use Rattle.rds_words.specs.Raw.{changed_words, init_words, raw_words}
+use Rattle.rds_words.specs.Task.{init_words_by, named_words, words_in}
+use Rattle.rds_words.specs.WithOptions.{del_with, entry_with, get_with, init_with, serve_with, show_with, sync_with}
+use Rattle.rds_words.proofs.CommandWords.{node_on_words, shape_behind}
+use Rattle.rds_words.proofs.Dashed.{data_next, data_turn}
+use Rattle.rds_words.proofs.OptionNames.{is_name, is_none, told}
+use Rattle.rds_words.proofs.PlanRows.{all_missing, all_there, first_missing, first_there, fits_more, fits_part, fits_three, fits_two, flag_given, flag_reading, taken_more, taken_part, taken_three, taken_two, value_given, value_there}
+use Rattle.rds_words.proofs.PlanWalk.{AreChosen, AreTrue, Fits, IsFlag, IsFlagAt, IsThis, IsValued, IsValuedAt, Plan, Takes, free, held, ids_of, once_by, settles}
+use Rattle.rds_words.proofs.Plans.{AreAt, IsIn, Known, name_of, text_reading}
+use Rattle.rds_words.proofs.Refusing.{HasShortRequests, IsAlwaysRefused, IsOption, IsRefused, IsRequest, refused_first}
+use Rattle.rds_words.proofs.RuleFacts.{all_short, found_other}
+use Rattle.rds_words.proofs.Splitting.{IsCommand}
+
+-- ---- the options
+
+abbrev pub from_option : Known
+from_option = record { bare = codes "from"; id = codes "FROM"; is_flag = false; reading = text_reading }
+
+abbrev pub text_option : Known
+text_option = record { bare = codes "text"; id = codes "TEXT"; is_flag = true; reading = flag_reading }
+
+abbrev pub changed_option : Known
+changed_option = record { bare = codes "if-changed"; id = codes "IF_CHANGED"; is_flag = true; reading = flag_reading }
+
+abbrev pub raw_option : Known
+raw_option = record { bare = codes "raw"; id = codes "RAW"; is_flag = true; reading = flag_reading }
+
+abbrev pub register_option : Known
+register_option = record { bare = codes "reg"; id = codes "REG"; is_flag = true; reading = flag_reading }
+
+abbrev pub set_option : Known
+set_option = record { bare = codes "set"; id = codes "SET"; is_flag = true; reading = flag_reading }
+
+abbrev pub counter_option : Known
+counter_option = record { bare = codes "counter"; id = codes "COUNTER"; is_flag = true; reading = flag_reading }
+
+abbrev pub pretty_option : Known
+pretty_option = record { bare = codes "pretty"; id = codes "PRETTY"; is_flag = true; reading = flag_reading }
+
+abbrev pub sessions_option : Known
+sessions_option = record { bare = codes "sessions"; id = codes "SESSIONS"; is_flag = false; reading = text_reading }
+
+abbrev pub timeout_option : Known
+timeout_option = record { bare = codes "timeout"; id = codes "TIMEOUT"; is_flag = false; reading = text_reading }
+
+-- texts, where each is there
+abbrev joined : List (Option Text) → Option (List Text)
+joined [] = Some []
+joined (w ∷ ws) = option_and_then (λ word. option_map (λ words. word ∷ words) (joined ws)) w
+
+abbrev Chosen : List Known → Type 0
+Chosen known = (o : Known) × IsIn o known
+
+-- ---- init
+
+abbrev init_shape : Shape
+init_shape = shape_behind (codes "init")
+
+abbrev pub init_plan : Plan
+init_plan = record {
+  command = codes "init";
+  shape = init_shape;
+  required = codes "FILE" ∷ codes "GROUP" ∷ [];
+  optional = codes "OWN" ∷ [];
+  more = Some (codes "NAMES");
+  known = from_option ∷ [];
+  with_options = init_with;
+}
+
+pub init_is : IsCommand (codes "init") init_shape
+unfolding node_on_words
+init_is = record { met = (refl, refl); found = refl; short = all_short init_shape.rules refl }
+
+init_from_at : (b : Bool) → IsValuedAt init_shape (codes "--from") (codes "FROM") (free b)
+unfolding node_on_words
+init_from_at true = record { waits = λ h position. refl; turn = λ h position. refl; valued = λ h position v. refl; valued_turn = λ h position v. refl }
+init_from_at false = record { waits = λ h position. refl; turn = λ h position. refl; valued = λ h position v. refl; valued_turn = λ h position v. refl }
+
+init_from : IsValued init_shape (codes "--from") (codes "FROM")
+unfolding IsRefused held node_on_words
+init_from = record {
+  once = once_by init_shape text_reading (codes "FROM") (λ rows v. refl) (λ rows v. refl);
+  bare = λ rows. tt;
+  at_free = init_from_at;
+  other = λ h is. is;
+  takes = λ rows position v are.
+      let h = held rows (Some (codes "FROM", [])) in
+      let waiting = option (codes "FROM") in
+      (data_next init_shape.rules h waiting position v are refl, data_turn init_shape h waiting position v are refl);
+  valued_other = λ h v is. refused_first (settles init_shape h) _ is;
+}
+
+init_long : (name : Text) → ((o : Chosen (from_option ∷ [])) × (name ≡ o.0.bare)) ⊎ IsRequest init_shape (arg_by_long init_shape.rules name)
+unfolding IsRefused node_on_words
+init_long name =
+    found_other init_shape (λ a. has_long a name) ((o : Chosen (from_option ∷ [])) × (name ≡ o.0.bare)) init_shape.rules
+    (inl refl, (inl refl, (inl refl, (inl refl, (inr (inr (λ e. ((from_option, inl refl), is_name (codes "from") name e))), (inr (inl (refl, λ rows. tt)), tt))))))
+
+init_short : HasShortRequests init_shape
+unfolding IsRefused node_on_words
+init_short character =
+    elim (found_other init_shape (λ a. has_short a character) ⊥ init_shape.rules (inl refl, (inl refl, (inl refl, (inl refl, (inr (inr is_none), (inr (inl (refl, λ rows. tt)), tt))))))) [
+      | inl none ↦ absurd none
+      | inr is ↦ is
+    ]
+
+init_told : (word : Text) → IsOption word → ((o : Known) × IsIn o (from_option ∷ []) × IsThis (name_of o) word) ⊎ IsAlwaysRefused init_shape word
+init_told word is = elim (told init_shape (Chosen (from_option ∷ [])) (λ o. o.0.bare) init_long init_short word is) [
+  | inl this ↦ inl (this.0.0, this.0.1, this.1)
+  | inr refused ↦ inr refused
+]
+
+init_reads : (rows : List Row) (ws : List Text) (vs : Text → List Text) → AreAt (ids_of init_plan) (init_plan.more) ws rows → Fits (init_plan.required) (init_plan.optional) (init_plan.more) ws
+    → AreChosen (init_plan.known) vs rows → AreTrue (init_plan.known) vs
+    → words_in (Some (init_shape.name, fold with_default rows init_shape.rules)) ≡ option_map (λ words. codes "init" ∷ words) (init_plan.with_options.words_for ws vs)
+unfolding node_on_words
+init_reads rows ([]) vs stands fits chosen are = absurd fits
+init_reads rows (a ∷ []) vs stands fits chosen are = absurd fits
+init_reads rows (a ∷ b ∷ []) vs stands fits chosen are = (λ i. named_words (codes "init") (option_and_then (λ file. option_and_then (λ group. init_words_by file group (first_missing init_shape.rules rows (codes "OWN") (inl refl, (inl refl, (inr refl, (inl refl, (inl refl, (inl refl, tt)))))) stands.1.1.0 i) (all_missing init_shape.rules rows (codes "NAMES") (inl refl, (inl refl, (inl refl, (inr refl, (inl refl, (inl refl, tt)))))) stands.1.1.1 i) (value_there init_shape.rules rows (codes "FROM") (vs (codes "--from")) (inl refl, (inl refl, (inl refl, (inl refl, (inr refl, (inl refl, tt)))))) (chosen from_option (inl refl)) i)) (first_there init_shape.rules rows (codes "GROUP") b text_reading stands.1.0 i)) (first_there init_shape.rules rows (codes "FILE") a text_reading stands.0 i))) ∙ same (slice_get (vs (codes "--from")) 0)
+  where
+    same : (from : Option Text) → named_words (codes "init") (init_words_by a b None None from) ≡ option_map (λ words. codes "init" ∷ words) (init_words (a ∷ b ∷ []) from)
+    same None = refl
+    same (Some from) = refl
+init_reads rows (a ∷ b ∷ c ∷ []) vs stands fits chosen are = (λ i. named_words (codes "init") (option_and_then (λ file. option_and_then (λ group. init_words_by file group (first_there init_shape.rules rows (codes "OWN") c text_reading stands.1.1.0 i) (all_missing init_shape.rules rows (codes "NAMES") (inl refl, (inl refl, (inl refl, (inr refl, (inl refl, (inl refl, tt)))))) stands.1.1.1 i) (value_there init_shape.rules rows (codes "FROM") (vs (codes "--from")) (inl refl, (inl refl, (inl refl, (inl refl, (inr refl, (inl refl, tt)))))) (chosen from_option (inl refl)) i)) (first_there init_shape.rules rows (codes "GROUP") b text_reading stands.1.0 i)) (first_there init_shape.rules rows (codes "FILE") a text_reading stands.0 i))) ∙ same (slice_get (vs (codes "--from")) 0)
+  where
+    same : (from : Option Text) → named_words (codes "init") (init_words_by a b (Some c) None from) ≡ option_map (λ words. codes "init" ∷ words) (init_words (a ∷ b ∷ c ∷ []) from)
+    same None = refl
+    same (Some from) = refl
+init_reads rows (a ∷ b ∷ c ∷ d ∷ ws) vs stands fits chosen are = (λ i. named_words (codes "init") (option_and_then (λ file. option_and_then (λ group. init_words_by file group (first_there init_shape.rules rows (codes "OWN") c text_reading stands.1.1.0 i) (all_there init_shape.rules rows (codes "NAMES") (d ∷ ws) stands.1.1.1 i) (value_there init_shape.rules rows (codes "FROM") (vs (codes "--from")) (inl refl, (inl refl, (inl refl, (inl refl, (inr refl, (inl refl, tt)))))) (chosen from_option (inl refl)) i)) (first_there init_shape.rules rows (codes "GROUP") b text_reading stands.1.0 i)) (first_there init_shape.rules rows (codes "FILE") a text_reading stands.0 i))) ∙ same (slice_get (vs (codes "--from")) 0)
+  where
+    same : (from : Option Text) → named_words (codes "init") (init_words_by a b (Some c) (Some (d ∷ ws)) from) ≡ option_map (λ words. codes "init" ∷ words) (init_words (a ∷ b ∷ c ∷ d ∷ ws) from)
+    same None = refl
+    same (Some from) = refl
+
+pub init_takes : Takes init_plan
+unfolding IsRefused held node_on_words
+init_takes = record {
+  is = init_is;
+  options = (inl (refl, refl, init_from), tt);
+  told = init_told;
+  places = (record { rule = unwrap_or (arg_by_index init_shape.rules 1) file_rule; is = refl; single = refl; lone = refl; short = refl; called = refl; place_then = refl }, once_by init_shape text_reading (codes "FILE") (λ rows v. refl) (λ rows v. refl), (record { rule = unwrap_or (arg_by_index init_shape.rules 2) file_rule; is = refl; single = refl; lone = refl; short = refl; called = refl; place_then = refl }, once_by init_shape text_reading (codes "GROUP") (λ rows v. refl) (λ rows v. refl), (record { rule = unwrap_or (arg_by_index init_shape.rules 3) file_rule; is = refl; single = refl; lone = refl; short = refl; called = refl; place_then = refl }, once_by init_shape text_reading (codes "OWN") (λ rows v. refl) (λ rows v. refl), (record { rule = unwrap_or (arg_by_index init_shape.rules 4) file_rule; is = refl; single = refl; lone = refl; short = refl; called = refl; place_then = refl }, record { clean = λ rows v. refl; gives = λ rows v. refl }))));
+  places_apart = refl;
+  options_apart = refl;
+  ids_apart = refl;
+  names_apart = refl;
+  checks = λ rows. refl;
+  quiet = (inl refl, (inl refl, (inl refl, (inl refl, (inl refl, (inl refl, tt))))));
+  no_default = ((inr refl, (inl refl, (inl refl, (inl refl, (inl refl, (inl refl, tt)))))), ((inl refl, (inr refl, (inl refl, (inl refl, (inl refl, (inl refl, tt)))))), tt));
+  listed = refl;
+  fits = fits_more (codes "FILE") (codes "GROUP") (codes "OWN") (codes "NAMES");
+  taken = taken_more (codes "FILE") (codes "GROUP") (codes "OWN") (codes "NAMES");
+  reads = init_reads;
+}
+
+-- ---- set
+
+abbrev set_shape : Shape
+set_shape = shape_behind (codes "set")
+
+abbrev pub set_plan : Plan
+set_plan = record {
+  command = codes "set";
+  shape = set_shape;
+  required = codes "FILE" ∷ codes "PATH" ∷ codes "VALUE" ∷ [];
+  optional = [];
+  more = None;
+  known = text_option ∷ changed_option ∷ [];
+  with_options = entry_with;
+}
+
+pub set_is : IsCommand (codes "set") set_shape
+unfolding node_on_words
+set_is = record { met = (refl, refl); found = refl; short = all_short set_shape.rules refl }
+
+set_text_at : (b : Bool) → IsFlagAt set_shape flag_reading (codes "--text") (codes "TEXT") (free b)
+unfolding node_on_words
+set_text_at true = record { uses = λ h position. refl; turn = λ h position. refl }
+set_text_at false = record { uses = λ h position. refl; turn = λ h position. refl }
+
+set_text : IsFlag set_shape flag_reading (codes "--text") (codes "TEXT")
+unfolding IsRefused node_on_words
+set_text = record { at_free = set_text_at; other = λ h is. refused_first (settles set_shape h) _ is; valued = λ v h skip. tt }
+
+set_if_changed_at : (b : Bool) → IsFlagAt set_shape flag_reading (codes "--if-changed") (codes "IF_CHANGED") (free b)
+unfolding node_on_words
+set_if_changed_at true = record { uses = λ h position. refl; turn = λ h position. refl }
+set_if_changed_at false = record { uses = λ h position. refl; turn = λ h position. refl }
+
+set_if_changed : IsFlag set_shape flag_reading (codes "--if-changed") (codes "IF_CHANGED")
+unfolding IsRefused node_on_words
+set_if_changed = record { at_free = set_if_changed_at; other = λ h is. refused_first (settles set_shape h) _ is; valued = λ v h skip. tt }
+
+set_long : (name : Text) → ((o : Chosen (text_option ∷ changed_option ∷ [])) × (name ≡ o.0.bare)) ⊎ IsRequest set_shape (arg_by_long set_shape.rules name)
+unfolding IsRefused node_on_words
+set_long name =
+    found_other set_shape (λ a. has_long a name) ((o : Chosen (text_option ∷ changed_option ∷ [])) × (name ≡ o.0.bare)) set_shape.rules
+    (inl refl, (inl refl, (inl refl, (inr (inr (λ e. ((text_option, inl refl), is_name (codes "text") name e))), (inr (inr (λ e. ((changed_option, inr (inl refl)), is_name (codes "if-changed") name e))), (inr (inl (refl, λ rows. tt)), tt))))))
+
+set_short : HasShortRequests set_shape
+unfolding IsRefused node_on_words
+set_short character =
+    elim (found_other set_shape (λ a. has_short a character) ⊥ set_shape.rules (inl refl, (inl refl, (inl refl, (inr (inr is_none), (inr (inr is_none), (inr (inl (refl, λ rows. tt)), tt))))))) [
+      | inl none ↦ absurd none
+      | inr is ↦ is
+    ]
+
+set_told : (word : Text) → IsOption word → ((o : Known) × IsIn o (text_option ∷ changed_option ∷ []) × IsThis (name_of o) word) ⊎ IsAlwaysRefused set_shape word
+set_told word is = elim (told set_shape (Chosen (text_option ∷ changed_option ∷ [])) (λ o. o.0.bare) set_long set_short word is) [
+  | inl this ↦ inl (this.0.0, this.0.1, this.1)
+  | inr refused ↦ inr refused
+]
+
+set_reads : (rows : List Row) (ws : List Text) (vs : Text → List Text) → AreAt (ids_of set_plan) (set_plan.more) ws rows → Fits (set_plan.required) (set_plan.optional) (set_plan.more) ws
+    → AreChosen (set_plan.known) vs rows → AreTrue (set_plan.known) vs
+    → words_in (Some (set_shape.name, fold with_default rows set_shape.rules)) ≡ option_map (λ words. codes "set" ∷ words) (set_plan.with_options.words_for ws vs)
+unfolding node_on_words
+set_reads rows ([]) vs stands fits chosen are = absurd fits
+set_reads rows (a ∷ []) vs stands fits chosen are = absurd fits
+set_reads rows (a ∷ b ∷ []) vs stands fits chosen are = absurd fits
+set_reads rows (a ∷ b ∷ c ∷ []) vs stands fits chosen are = λ i. named_words (codes "set") (option_map (changed_words (flag_given set_shape.rules rows (codes "IF_CHANGED") (vs (codes "--if-changed")) (inr (refl, inr (refl, inr (refl, inr (refl, inl (refl, refl)))))) (are changed_option (inr (inl refl)) refl) (chosen changed_option (inr (inl refl))) i)) (option_map (λ words. words ++ (if flag_given set_shape.rules rows (codes "TEXT") (vs (codes "--text")) (inr (refl, inr (refl, inr (refl, inl (refl, refl))))) (are text_option (inl refl) refl) (chosen text_option (inl refl)) i then codes "--text" ∷ [] else [])) (joined (first_there set_shape.rules rows (codes "FILE") a text_reading stands.0 i ∷ first_there set_shape.rules rows (codes "PATH") b text_reading stands.1.0 i ∷ first_there set_shape.rules rows (codes "VALUE") c text_reading stands.1.1.0 i ∷ []))))
+set_reads rows (a ∷ b ∷ c ∷ d ∷ ws) vs stands fits chosen are = absurd fits
+
+pub set_takes : Takes set_plan
+unfolding IsRefused held node_on_words
+set_takes = record {
+  is = set_is;
+  options = (inr (refl, set_text), (inr (refl, set_if_changed), tt));
+  told = set_told;
+  places = (record { rule = unwrap_or (arg_by_index set_shape.rules 1) file_rule; is = refl; single = refl; lone = refl; short = refl; called = refl; place_then = refl }, once_by set_shape text_reading (codes "FILE") (λ rows v. refl) (λ rows v. refl), (record { rule = unwrap_or (arg_by_index set_shape.rules 2) file_rule; is = refl; single = refl; lone = refl; short = refl; called = refl; place_then = refl }, once_by set_shape text_reading (codes "PATH") (λ rows v. refl) (λ rows v. refl), (record { rule = unwrap_or (arg_by_index set_shape.rules 3) file_rule; is = refl; single = refl; lone = refl; short = refl; called = refl; place_then = refl }, once_by set_shape text_reading (codes "VALUE") (λ rows v. refl) (λ rows v. refl), λ h. tt)));
+  places_apart = refl;
+  options_apart = refl;
+  ids_apart = refl;
+  names_apart = refl;
+  checks = λ rows. refl;
+  quiet = (inl refl, (inl refl, (inl refl, (inr refl, (inr refl, (inl refl, tt))))));
+  no_default = ((inr refl, (inl refl, (inl refl, (inl refl, (inl refl, (inl refl, tt)))))), ((inl refl, (inr refl, (inl refl, (inl refl, (inl refl, (inl refl, tt)))))), ((inl refl, (inl refl, (inr refl, (inl refl, (inl refl, (inl refl, tt)))))), tt)));
+  listed = refl;
+  fits = fits_three (codes "FILE") (codes "PATH") (codes "VALUE");
+  taken = taken_three (codes "FILE") (codes "PATH") (codes "VALUE");
+  reads = set_reads;
+}
+
+-- ---- add
+
+abbrev add_shape : Shape
+add_shape = shape_behind (codes "add")
+
+abbrev pub add_plan : Plan
+add_plan = record {
+  command = codes "add";
+  shape = add_shape;
+  required = codes "FILE" ∷ codes "PATH" ∷ codes "VALUE" ∷ [];
+  optional = [];
+  more = None;
+  known = text_option ∷ changed_option ∷ [];
+  with_options = entry_with;
+}
+
+pub add_is : IsCommand (codes "add") add_shape
+unfolding node_on_words
+add_is = record { met = (refl, refl); found = refl; short = all_short add_shape.rules refl }
+
+add_text_at : (b : Bool) → IsFlagAt add_shape flag_reading (codes "--text") (codes "TEXT") (free b)
+unfolding node_on_words
+add_text_at true = record { uses = λ h position. refl; turn = λ h position. refl }
+add_text_at false = record { uses = λ h position. refl; turn = λ h position. refl }
+
+add_text : IsFlag add_shape flag_reading (codes "--text") (codes "TEXT")
+unfolding IsRefused node_on_words
+add_text = record { at_free = add_text_at; other = λ h is. refused_first (settles add_shape h) _ is; valued = λ v h skip. tt }
+
+add_if_changed_at : (b : Bool) → IsFlagAt add_shape flag_reading (codes "--if-changed") (codes "IF_CHANGED") (free b)
+unfolding node_on_words
+add_if_changed_at true = record { uses = λ h position. refl; turn = λ h position. refl }
+add_if_changed_at false = record { uses = λ h position. refl; turn = λ h position. refl }
+
+add_if_changed : IsFlag add_shape flag_reading (codes "--if-changed") (codes "IF_CHANGED")
+unfolding IsRefused node_on_words
+add_if_changed = record { at_free = add_if_changed_at; other = λ h is. refused_first (settles add_shape h) _ is; valued = λ v h skip. tt }
+
+add_long : (name : Text) → ((o : Chosen (text_option ∷ changed_option ∷ [])) × (name ≡ o.0.bare)) ⊎ IsRequest add_shape (arg_by_long add_shape.rules name)
+unfolding IsRefused node_on_words
+add_long name =
+    found_other add_shape (λ a. has_long a name) ((o : Chosen (text_option ∷ changed_option ∷ [])) × (name ≡ o.0.bare)) add_shape.rules
+    (inl refl, (inl refl, (inl refl, (inr (inr (λ e. ((text_option, inl refl), is_name (codes "text") name e))), (inr (inr (λ e. ((changed_option, inr (inl refl)), is_name (codes "if-changed") name e))), (inr (inl (refl, λ rows. tt)), tt))))))
+
+add_short : HasShortRequests add_shape
+unfolding IsRefused node_on_words
+add_short character =
+    elim (found_other add_shape (λ a. has_short a character) ⊥ add_shape.rules (inl refl, (inl refl, (inl refl, (inr (inr is_none), (inr (inr is_none), (inr (inl (refl, λ rows. tt)), tt))))))) [
+      | inl none ↦ absurd none
+      | inr is ↦ is
+    ]
+
+add_told : (word : Text) → IsOption word → ((o : Known) × IsIn o (text_option ∷ changed_option ∷ []) × IsThis (name_of o) word) ⊎ IsAlwaysRefused add_shape word
+add_told word is = elim (told add_shape (Chosen (text_option ∷ changed_option ∷ [])) (λ o. o.0.bare) add_long add_short word is) [
+  | inl this ↦ inl (this.0.0, this.0.1, this.1)
+  | inr refused ↦ inr refused
+]
+
+add_reads : (rows : List Row) (ws : List Text) (vs : Text → List Text) → AreAt (ids_of add_plan) (add_plan.more) ws rows → Fits (add_plan.required) (add_plan.optional) (add_plan.more) ws
+    → AreChosen (add_plan.known) vs rows → AreTrue (add_plan.known) vs
+    → words_in (Some (add_shape.name, fold with_default rows add_shape.rules)) ≡ option_map (λ words. codes "add" ∷ words) (add_plan.with_options.words_for ws vs)
+unfolding node_on_words
+add_reads rows ([]) vs stands fits chosen are = absurd fits
+add_reads rows (a ∷ []) vs stands fits chosen are = absurd fits
+add_reads rows (a ∷ b ∷ []) vs stands fits chosen are = absurd fits
+add_reads rows (a ∷ b ∷ c ∷ []) vs stands fits chosen are = λ i. named_words (codes "add") (option_map (changed_words (flag_given add_shape.rules rows (codes "IF_CHANGED") (vs (codes "--if-changed")) (inr (refl, inr (refl, inr (refl, inr (refl, inl (refl, refl)))))) (are changed_option (inr (inl refl)) refl) (chosen changed_option (inr (inl refl))) i)) (option_map (λ words. words ++ (if flag_given add_shape.rules rows (codes "TEXT") (vs (codes "--text")) (inr (refl, inr (refl, inr (refl, inl (refl, refl))))) (are text_option (inl refl) refl) (chosen text_option (inl refl)) i then codes "--text" ∷ [] else [])) (joined (first_there add_shape.rules rows (codes "FILE") a text_reading stands.0 i ∷ first_there add_shape.rules rows (codes "PATH") b text_reading stands.1.0 i ∷ first_there add_shape.rules rows (codes "VALUE") c text_reading stands.1.1.0 i ∷ []))))
+add_reads rows (a ∷ b ∷ c ∷ d ∷ ws) vs stands fits chosen are = absurd fits
+
+pub add_takes : Takes add_plan
+unfolding IsRefused held node_on_words
+add_takes = record {
+  is = add_is;
+  options = (inr (refl, add_text), (inr (refl, add_if_changed), tt));
+  told = add_told;
+  places = (record { rule = unwrap_or (arg_by_index add_shape.rules 1) file_rule; is = refl; single = refl; lone = refl; short = refl; called = refl; place_then = refl }, once_by add_shape text_reading (codes "FILE") (λ rows v. refl) (λ rows v. refl), (record { rule = unwrap_or (arg_by_index add_shape.rules 2) file_rule; is = refl; single = refl; lone = refl; short = refl; called = refl; place_then = refl }, once_by add_shape text_reading (codes "PATH") (λ rows v. refl) (λ rows v. refl), (record { rule = unwrap_or (arg_by_index add_shape.rules 3) file_rule; is = refl; single = refl; lone = refl; short = refl; called = refl; place_then = refl }, once_by add_shape text_reading (codes "VALUE") (λ rows v. refl) (λ rows v. refl), λ h. tt)));
+  places_apart = refl;
+  options_apart = refl;
+  ids_apart = refl;
+  names_apart = refl;
+  checks = λ rows. refl;
+  quiet = (inl refl, (inl refl, (inl refl, (inr refl, (inr refl, (inl refl, tt))))));
+  no_default = ((inr refl, (inl refl, (inl refl, (inl refl, (inl refl, (inl refl, tt)))))), ((inl refl, (inr refl, (inl refl, (inl refl, (inl refl, (inl refl, tt)))))), ((inl refl, (inl refl, (inr refl, (inl refl, (inl refl, (inl refl, tt)))))), tt)));
+  listed = refl;
+  fits = fits_three (codes "FILE") (codes "PATH") (codes "VALUE");
+  taken = taken_three (codes "FILE") (codes "PATH") (codes "VALUE");
+  reads = add_reads;
+}
+
+-- ---- del
+
+abbrev del_shape : Shape
+del_shape = shape_behind (codes "del")
+
+abbrev pub del_plan : Plan
+del_plan = record {
+  command = codes "del";
+  shape = del_shape;
+  required = codes "FILE" ∷ codes "PATH" ∷ codes "VALUE" ∷ [];
+  optional = [];
+  more = None;
+  known = text_option ∷ [];
+  with_options = del_with;
+}
+
+pub del_is : IsCommand (codes "del") del_shape
+unfolding node_on_words
+del_is = record { met = (refl, refl); found = refl; short = all_short del_shape.rules refl }
+
+del_text_at : (b : Bool) → IsFlagAt del_shape flag_reading (codes "--text") (codes "TEXT") (free b)
+unfolding node_on_words
+del_text_at true = record { uses = λ h position. refl; turn = λ h position. refl }
+del_text_at false = record { uses = λ h position. refl; turn = λ h position. refl }
+
+del_text : IsFlag del_shape flag_reading (codes "--text") (codes "TEXT")
+unfolding IsRefused node_on_words
+del_text = record { at_free = del_text_at; other = λ h is. refused_first (settles del_shape h) _ is; valued = λ v h skip. tt }
+
+del_long : (name : Text) → ((o : Chosen (text_option ∷ [])) × (name ≡ o.0.bare)) ⊎ IsRequest del_shape (arg_by_long del_shape.rules name)
+unfolding IsRefused node_on_words
+del_long name =
+    found_other del_shape (λ a. has_long a name) ((o : Chosen (text_option ∷ [])) × (name ≡ o.0.bare)) del_shape.rules
+    (inl refl, (inl refl, (inl refl, (inr (inr (λ e. ((text_option, inl refl), is_name (codes "text") name e))), (inr (inl (refl, λ rows. tt)), tt)))))
+
+del_short : HasShortRequests del_shape
+unfolding IsRefused node_on_words
+del_short character =
+    elim (found_other del_shape (λ a. has_short a character) ⊥ del_shape.rules (inl refl, (inl refl, (inl refl, (inr (inr is_none), (inr (inl (refl, λ rows. tt)), tt)))))) [
+      | inl none ↦ absurd none
+      | inr is ↦ is
+    ]
+
+del_told : (word : Text) → IsOption word → ((o : Known) × IsIn o (text_option ∷ []) × IsThis (name_of o) word) ⊎ IsAlwaysRefused del_shape word
+del_told word is = elim (told del_shape (Chosen (text_option ∷ [])) (λ o. o.0.bare) del_long del_short word is) [
+  | inl this ↦ inl (this.0.0, this.0.1, this.1)
+  | inr refused ↦ inr refused
+]
+
+del_reads : (rows : List Row) (ws : List Text) (vs : Text → List Text) → AreAt (ids_of del_plan) (del_plan.more) ws rows → Fits (del_plan.required) (del_plan.optional) (del_plan.more) ws
+    → AreChosen (del_plan.known) vs rows → AreTrue (del_plan.known) vs
+    → words_in (Some (del_shape.name, fold with_default rows del_shape.rules)) ≡ option_map (λ words. codes "del" ∷ words) (del_plan.with_options.words_for ws vs)
+unfolding node_on_words
+del_reads rows ([]) vs stands fits chosen are = absurd fits
+del_reads rows (a ∷ []) vs stands fits chosen are = absurd fits
+del_reads rows (a ∷ b ∷ []) vs stands fits chosen are = absurd fits
+del_reads rows (a ∷ b ∷ c ∷ []) vs stands fits chosen are = λ i. named_words (codes "del") (option_map (λ words. words ++ (if flag_given del_shape.rules rows (codes "TEXT") (vs (codes "--text")) (inr (refl, inr (refl, inr (refl, inl (refl, refl))))) (are text_option (inl refl) refl) (chosen text_option (inl refl)) i then codes "--text" ∷ [] else [])) (joined (first_there del_shape.rules rows (codes "FILE") a text_reading stands.0 i ∷ first_there del_shape.rules rows (codes "PATH") b text_reading stands.1.0 i ∷ first_there del_shape.rules rows (codes "VALUE") c text_reading stands.1.1.0 i ∷ [])))
+del_reads rows (a ∷ b ∷ c ∷ d ∷ ws) vs stands fits chosen are = absurd fits
+
+pub del_takes : Takes del_plan
+unfolding IsRefused held node_on_words
+del_takes = record {
+  is = del_is;
+  options = (inr (refl, del_text), tt);
+  told = del_told;
+  places = (record { rule = unwrap_or (arg_by_index del_shape.rules 1) file_rule; is = refl; single = refl; lone = refl; short = refl; called = refl; place_then = refl }, once_by del_shape text_reading (codes "FILE") (λ rows v. refl) (λ rows v. refl), (record { rule = unwrap_or (arg_by_index del_shape.rules 2) file_rule; is = refl; single = refl; lone = refl; short = refl; called = refl; place_then = refl }, once_by del_shape text_reading (codes "PATH") (λ rows v. refl) (λ rows v. refl), (record { rule = unwrap_or (arg_by_index del_shape.rules 3) file_rule; is = refl; single = refl; lone = refl; short = refl; called = refl; place_then = refl }, once_by del_shape text_reading (codes "VALUE") (λ rows v. refl) (λ rows v. refl), λ h. tt)));
+  places_apart = refl;
+  options_apart = refl;
+  ids_apart = refl;
+  names_apart = refl;
+  checks = λ rows. refl;
+  quiet = (inl refl, (inl refl, (inl refl, (inr refl, (inl refl, tt)))));
+  no_default = ((inr refl, (inl refl, (inl refl, (inl refl, (inl refl, tt))))), ((inl refl, (inr refl, (inl refl, (inl refl, (inl refl, tt))))), ((inl refl, (inl refl, (inr refl, (inl refl, (inl refl, tt))))), tt)));
+  listed = refl;
+  fits = fits_three (codes "FILE") (codes "PATH") (codes "VALUE");
+  taken = taken_three (codes "FILE") (codes "PATH") (codes "VALUE");
+  reads = del_reads;
+}
+
+-- ---- get
+
+abbrev get_shape : Shape
+get_shape = shape_behind (codes "get")
+
+abbrev pub get_plan : Plan
+get_plan = record {
+  command = codes "get";
+  shape = get_shape;
+  required = codes "FILE" ∷ codes "PATH" ∷ [];
+  optional = [];
+  more = None;
+  known = raw_option ∷ register_option ∷ set_option ∷ counter_option ∷ [];
+  with_options = get_with;
+}
+
+pub get_is : IsCommand (codes "get") get_shape
+unfolding node_on_words
+get_is = record { met = (refl, refl); found = refl; short = all_short get_shape.rules refl }
+
+get_raw_at : (b : Bool) → IsFlagAt get_shape flag_reading (codes "--raw") (codes "RAW") (free b)
+unfolding node_on_words
+get_raw_at true = record { uses = λ h position. refl; turn = λ h position. refl }
+get_raw_at false = record { uses = λ h position. refl; turn = λ h position. refl }
+
+get_raw : IsFlag get_shape flag_reading (codes "--raw") (codes "RAW")
+unfolding IsRefused node_on_words
+get_raw = record { at_free = get_raw_at; other = λ h is. refused_first (settles get_shape h) _ is; valued = λ v h skip. tt }
+
+get_reg_at : (b : Bool) → IsFlagAt get_shape flag_reading (codes "--reg") (codes "REG") (free b)
+unfolding node_on_words
+get_reg_at true = record { uses = λ h position. refl; turn = λ h position. refl }
+get_reg_at false = record { uses = λ h position. refl; turn = λ h position. refl }
+
+get_reg : IsFlag get_shape flag_reading (codes "--reg") (codes "REG")
+unfolding IsRefused node_on_words
+get_reg = record { at_free = get_reg_at; other = λ h is. refused_first (settles get_shape h) _ is; valued = λ v h skip. tt }
+
+get_set_at : (b : Bool) → IsFlagAt get_shape flag_reading (codes "--set") (codes "SET") (free b)
+unfolding node_on_words
+get_set_at true = record { uses = λ h position. refl; turn = λ h position. refl }
+get_set_at false = record { uses = λ h position. refl; turn = λ h position. refl }
+
+get_set : IsFlag get_shape flag_reading (codes "--set") (codes "SET")
+unfolding IsRefused node_on_words
+get_set = record { at_free = get_set_at; other = λ h is. refused_first (settles get_shape h) _ is; valued = λ v h skip. tt }
+
+get_counter_at : (b : Bool) → IsFlagAt get_shape flag_reading (codes "--counter") (codes "COUNTER") (free b)
+unfolding node_on_words
+get_counter_at true = record { uses = λ h position. refl; turn = λ h position. refl }
+get_counter_at false = record { uses = λ h position. refl; turn = λ h position. refl }
+
+get_counter : IsFlag get_shape flag_reading (codes "--counter") (codes "COUNTER")
+unfolding IsRefused node_on_words
+get_counter = record { at_free = get_counter_at; other = λ h is. refused_first (settles get_shape h) _ is; valued = λ v h skip. tt }
+
+get_long : (name : Text) → ((o : Chosen (raw_option ∷ register_option ∷ set_option ∷ counter_option ∷ [])) × (name ≡ o.0.bare)) ⊎ IsRequest get_shape (arg_by_long get_shape.rules name)
+unfolding IsRefused node_on_words
+get_long name =
+    found_other get_shape (λ a. has_long a name) ((o : Chosen (raw_option ∷ register_option ∷ set_option ∷ counter_option ∷ [])) × (name ≡ o.0.bare)) get_shape.rules
+    (inl refl, (inl refl, (inr (inr (λ e. ((raw_option, inl refl), is_name (codes "raw") name e))), (inr (inr (λ e. ((register_option, inr (inl refl)), is_name (codes "reg") name e))), (inr (inr (λ e. ((set_option, inr (inr (inl refl))), is_name (codes "set") name e))), (inr (inr (λ e. ((counter_option, inr (inr (inr (inl refl)))), is_name (codes "counter") name e))), (inr (inl (refl, λ rows. tt)), tt)))))))
+
+get_short : HasShortRequests get_shape
+unfolding IsRefused node_on_words
+get_short character =
+    elim (found_other get_shape (λ a. has_short a character) ⊥ get_shape.rules (inl refl, (inl refl, (inr (inr is_none), (inr (inr is_none), (inr (inr is_none), (inr (inr is_none), (inr (inl (refl, λ rows. tt)), tt)))))))) [
+      | inl none ↦ absurd none
+      | inr is ↦ is
+    ]
+
+get_told : (word : Text) → IsOption word → ((o : Known) × IsIn o (raw_option ∷ register_option ∷ set_option ∷ counter_option ∷ []) × IsThis (name_of o) word) ⊎ IsAlwaysRefused get_shape word
+get_told word is = elim (told get_shape (Chosen (raw_option ∷ register_option ∷ set_option ∷ counter_option ∷ [])) (λ o. o.0.bare) get_long get_short word is) [
+  | inl this ↦ inl (this.0.0, this.0.1, this.1)
+  | inr refused ↦ inr refused
+]
+
+get_reads : (rows : List Row) (ws : List Text) (vs : Text → List Text) → AreAt (ids_of get_plan) (get_plan.more) ws rows → Fits (get_plan.required) (get_plan.optional) (get_plan.more) ws
+    → AreChosen (get_plan.known) vs rows → AreTrue (get_plan.known) vs
+    → words_in (Some (get_shape.name, fold with_default rows get_shape.rules)) ≡ option_map (λ words. codes "get" ∷ words) (get_plan.with_options.words_for ws vs)
+unfolding node_on_words
+get_reads rows ([]) vs stands fits chosen are = absurd fits
+get_reads rows (a ∷ []) vs stands fits chosen are = absurd fits
+get_reads rows (a ∷ b ∷ []) vs stands fits chosen are = λ i. named_words (codes "get") (option_and_then (λ words. option_map (λ kind. words ++ kind) (raw_words (flag_given get_shape.rules rows (codes "RAW") (vs (codes "--raw")) (inr (refl, inr (refl, inl (refl, refl)))) (are raw_option (inl refl) refl) (chosen raw_option (inl refl)) i) (flag_given get_shape.rules rows (codes "REG") (vs (codes "--reg")) (inr (refl, inr (refl, inr (refl, inl (refl, refl))))) (are register_option (inr (inl refl)) refl) (chosen register_option (inr (inl refl))) i) (flag_given get_shape.rules rows (codes "SET") (vs (codes "--set")) (inr (refl, inr (refl, inr (refl, inr (refl, inl (refl, refl)))))) (are set_option (inr (inr (inl refl))) refl) (chosen set_option (inr (inr (inl refl)))) i) (flag_given get_shape.rules rows (codes "COUNTER") (vs (codes "--counter")) (inr (refl, inr (refl, inr (refl, inr (refl, inr (refl, inl (refl, refl))))))) (are counter_option (inr (inr (inr (inl refl)))) refl) (chosen counter_option (inr (inr (inr (inl refl))))) i))) (joined (first_there get_shape.rules rows (codes "FILE") a text_reading stands.0 i ∷ first_there get_shape.rules rows (codes "PATH") b text_reading stands.1.0 i ∷ [])))
+get_reads rows (a ∷ b ∷ c ∷ ws) vs stands fits chosen are = absurd fits
+
+pub get_takes : Takes get_plan
+unfolding IsRefused held node_on_words
+get_takes = record {
+  is = get_is;
+  options = (inr (refl, get_raw), (inr (refl, get_reg), (inr (refl, get_set), (inr (refl, get_counter), tt))));
+  told = get_told;
+  places = (record { rule = unwrap_or (arg_by_index get_shape.rules 1) file_rule; is = refl; single = refl; lone = refl; short = refl; called = refl; place_then = refl }, once_by get_shape text_reading (codes "FILE") (λ rows v. refl) (λ rows v. refl), (record { rule = unwrap_or (arg_by_index get_shape.rules 2) file_rule; is = refl; single = refl; lone = refl; short = refl; called = refl; place_then = refl }, once_by get_shape text_reading (codes "PATH") (λ rows v. refl) (λ rows v. refl), λ h. tt));
+  places_apart = refl;
+  options_apart = refl;
+  ids_apart = refl;
+  names_apart = refl;
+  checks = λ rows. refl;
+  quiet = (inl refl, (inl refl, (inr refl, (inr refl, (inr refl, (inr refl, (inl refl, tt)))))));
+  no_default = ((inr refl, (inl refl, (inl refl, (inl refl, (inl refl, (inl refl, (inl refl, tt))))))), ((inl refl, (inr refl, (inl refl, (inl refl, (inl refl, (inl refl, (inl refl, tt))))))), tt));
+  listed = refl;
+  fits = fits_two (codes "FILE") (codes "PATH") [];
+  taken = taken_two (codes "FILE") (codes "PATH") [];
+  reads = get_reads;
+}
+
+-- ---- show
+
+abbrev show_shape : Shape
+show_shape = shape_behind (codes "show")
+
+abbrev pub show_plan : Plan
+show_plan = record {
+  command = codes "show";
+  shape = show_shape;
+  required = codes "FILE" ∷ [];
+  optional = codes "PATH" ∷ [];
+  more = None;
+  known = pretty_option ∷ [];
+  with_options = show_with;
+}
+
+pub show_is : IsCommand (codes "show") show_shape
+unfolding node_on_words
+show_is = record { met = (refl, refl); found = refl; short = all_short show_shape.rules refl }
+
+show_pretty_at : (b : Bool) → IsFlagAt show_shape flag_reading (codes "--pretty") (codes "PRETTY") (free b)
+unfolding node_on_words
+show_pretty_at true = record { uses = λ h position. refl; turn = λ h position. refl }
+show_pretty_at false = record { uses = λ h position. refl; turn = λ h position. refl }
+
+show_pretty : IsFlag show_shape flag_reading (codes "--pretty") (codes "PRETTY")
+unfolding IsRefused node_on_words
+show_pretty = record { at_free = show_pretty_at; other = λ h is. refused_first (settles show_shape h) _ is; valued = λ v h skip. tt }
+
+show_long : (name : Text) → ((o : Chosen (pretty_option ∷ [])) × (name ≡ o.0.bare)) ⊎ IsRequest show_shape (arg_by_long show_shape.rules name)
+unfolding IsRefused node_on_words
+show_long name =
+    found_other show_shape (λ a. has_long a name) ((o : Chosen (pretty_option ∷ [])) × (name ≡ o.0.bare)) show_shape.rules
+    (inl refl, (inl refl, (inr (inr (λ e. ((pretty_option, inl refl), is_name (codes "pretty") name e))), (inr (inl (refl, λ rows. tt)), tt))))
+
+show_short : HasShortRequests show_shape
+unfolding IsRefused node_on_words
+show_short character =
+    elim (found_other show_shape (λ a. has_short a character) ⊥ show_shape.rules (inl refl, (inl refl, (inr (inr is_none), (inr (inl (refl, λ rows. tt)), tt))))) [
+      | inl none ↦ absurd none
+      | inr is ↦ is
+    ]
+
+show_told : (word : Text) → IsOption word → ((o : Known) × IsIn o (pretty_option ∷ []) × IsThis (name_of o) word) ⊎ IsAlwaysRefused show_shape word
+show_told word is = elim (told show_shape (Chosen (pretty_option ∷ [])) (λ o. o.0.bare) show_long show_short word is) [
+  | inl this ↦ inl (this.0.0, this.0.1, this.1)
+  | inr refused ↦ inr refused
+]
+
+show_reads : (rows : List Row) (ws : List Text) (vs : Text → List Text) → AreAt (ids_of show_plan) (show_plan.more) ws rows → Fits (show_plan.required) (show_plan.optional) (show_plan.more) ws
+    → AreChosen (show_plan.known) vs rows → AreTrue (show_plan.known) vs
+    → words_in (Some (show_shape.name, fold with_default rows show_shape.rules)) ≡ option_map (λ words. codes "show" ∷ words) (show_plan.with_options.words_for ws vs)
+unfolding node_on_words
+show_reads rows ([]) vs stands fits chosen are = absurd fits
+show_reads rows (a ∷ []) vs stands fits chosen are = λ i. named_words (codes "show") (option_map (λ words. words ++ (if flag_given show_shape.rules rows (codes "PRETTY") (vs (codes "--pretty")) (inr (refl, inr (refl, inl (refl, refl)))) (are pretty_option (inl refl) refl) (chosen pretty_option (inl refl)) i then codes "--pretty" ∷ [] else [])) (option_map (λ file. file ∷ unwrap_or (first_missing show_shape.rules rows (codes "PATH") (inl refl, (inr refl, (inl refl, (inl refl, tt)))) stands.1.0 i) [] ∷ []) (first_there show_shape.rules rows (codes "FILE") a text_reading stands.0 i)))
+show_reads rows (a ∷ b ∷ []) vs stands fits chosen are = λ i. named_words (codes "show") (option_map (λ words. words ++ (if flag_given show_shape.rules rows (codes "PRETTY") (vs (codes "--pretty")) (inr (refl, inr (refl, inl (refl, refl)))) (are pretty_option (inl refl) refl) (chosen pretty_option (inl refl)) i then codes "--pretty" ∷ [] else [])) (option_map (λ file. file ∷ unwrap_or (first_there show_shape.rules rows (codes "PATH") b text_reading stands.1.0 i) [] ∷ []) (first_there show_shape.rules rows (codes "FILE") a text_reading stands.0 i)))
+show_reads rows (a ∷ b ∷ c ∷ ws) vs stands fits chosen are = absurd fits
+
+pub show_takes : Takes show_plan
+unfolding IsRefused held node_on_words
+show_takes = record {
+  is = show_is;
+  options = (inr (refl, show_pretty), tt);
+  told = show_told;
+  places = (record { rule = unwrap_or (arg_by_index show_shape.rules 1) file_rule; is = refl; single = refl; lone = refl; short = refl; called = refl; place_then = refl }, once_by show_shape text_reading (codes "FILE") (λ rows v. refl) (λ rows v. refl), (record { rule = unwrap_or (arg_by_index show_shape.rules 2) file_rule; is = refl; single = refl; lone = refl; short = refl; called = refl; place_then = refl }, once_by show_shape text_reading (codes "PATH") (λ rows v. refl) (λ rows v. refl), λ h. tt));
+  places_apart = refl;
+  options_apart = refl;
+  ids_apart = refl;
+  names_apart = refl;
+  checks = λ rows. refl;
+  quiet = (inl refl, (inl refl, (inr refl, (inl refl, tt))));
+  no_default = ((inr refl, (inl refl, (inl refl, (inl refl, tt)))), tt);
+  listed = refl;
+  fits = fits_part (codes "FILE") (codes "PATH") [];
+  taken = taken_part (codes "FILE") (codes "PATH") [];
+  reads = show_reads;
+}
+
+-- ---- sync
+
+abbrev sync_shape : Shape
+sync_shape = shape_behind (codes "sync")
+
+abbrev pub sync_plan : Plan
+sync_plan = record {
+  command = codes "sync";
+  shape = sync_shape;
+  required = codes "FILE" ∷ codes "ADDR" ∷ [];
+  optional = [];
+  more = None;
+  known = timeout_option ∷ [];
+  with_options = sync_with;
+}
+
+pub sync_is : IsCommand (codes "sync") sync_shape
+unfolding node_on_words
+sync_is = record { met = (refl, refl); found = refl; short = all_short sync_shape.rules refl }
+
+sync_timeout_at : (b : Bool) → IsValuedAt sync_shape (codes "--timeout") (codes "TIMEOUT") (free b)
+unfolding node_on_words
+sync_timeout_at true = record { waits = λ h position. refl; turn = λ h position. refl; valued = λ h position v. refl; valued_turn = λ h position v. refl }
+sync_timeout_at false = record { waits = λ h position. refl; turn = λ h position. refl; valued = λ h position v. refl; valued_turn = λ h position v. refl }
+
+sync_timeout : IsValued sync_shape (codes "--timeout") (codes "TIMEOUT")
+unfolding IsRefused held node_on_words
+sync_timeout = record {
+  once = once_by sync_shape text_reading (codes "TIMEOUT") (λ rows v. refl) (λ rows v. refl);
+  bare = λ rows. tt;
+  at_free = sync_timeout_at;
+  other = λ h is. is;
+  takes = λ rows position v are.
+      let h = held rows (Some (codes "TIMEOUT", [])) in
+      let waiting = option (codes "TIMEOUT") in
+      (data_next sync_shape.rules h waiting position v are refl, data_turn sync_shape h waiting position v are refl);
+  valued_other = λ h v is. refused_first (settles sync_shape h) _ is;
+}
+
+sync_long : (name : Text) → ((o : Chosen (timeout_option ∷ [])) × (name ≡ o.0.bare)) ⊎ IsRequest sync_shape (arg_by_long sync_shape.rules name)
+unfolding IsRefused node_on_words
+sync_long name =
+    found_other sync_shape (λ a. has_long a name) ((o : Chosen (timeout_option ∷ [])) × (name ≡ o.0.bare)) sync_shape.rules
+    (inl refl, (inl refl, (inr (inr (λ e. ((timeout_option, inl refl), is_name (codes "timeout") name e))), (inr (inl (refl, λ rows. tt)), tt))))
+
+sync_short : HasShortRequests sync_shape
+unfolding IsRefused node_on_words
+sync_short character =
+    elim (found_other sync_shape (λ a. has_short a character) ⊥ sync_shape.rules (inl refl, (inl refl, (inr (inr is_none), (inr (inl (refl, λ rows. tt)), tt))))) [
+      | inl none ↦ absurd none
+      | inr is ↦ is
+    ]
+
+sync_told : (word : Text) → IsOption word → ((o : Known) × IsIn o (timeout_option ∷ []) × IsThis (name_of o) word) ⊎ IsAlwaysRefused sync_shape word
+sync_told word is = elim (told sync_shape (Chosen (timeout_option ∷ [])) (λ o. o.0.bare) sync_long sync_short word is) [
+  | inl this ↦ inl (this.0.0, this.0.1, this.1)
+  | inr refused ↦ inr refused
+]
+
+sync_reads : (rows : List Row) (ws : List Text) (vs : Text → List Text) → AreAt (ids_of sync_plan) (sync_plan.more) ws rows → Fits (sync_plan.required) (sync_plan.optional) (sync_plan.more) ws
+    → AreChosen (sync_plan.known) vs rows → AreTrue (sync_plan.known) vs
+    → words_in (Some (sync_shape.name, fold with_default rows sync_shape.rules)) ≡ option_map (λ words. codes "sync" ∷ words) (sync_plan.with_options.words_for ws vs)
+unfolding node_on_words
+sync_reads rows ([]) vs stands fits chosen are = absurd fits
+sync_reads rows (a ∷ []) vs stands fits chosen are = absurd fits
+sync_reads rows (a ∷ b ∷ []) vs stands fits chosen are = λ i. named_words (codes "sync") (joined (first_there sync_shape.rules rows (codes "FILE") a text_reading stands.0 i ∷ first_there sync_shape.rules rows (codes "ADDR") b text_reading stands.1.0 i ∷ value_given sync_shape.rules rows (codes "TIMEOUT") (codes "60") (vs (codes "--timeout")) (inr (refl, inr (refl, inl (refl, refl)))) (chosen timeout_option (inl refl)) i ∷ []))
+sync_reads rows (a ∷ b ∷ c ∷ ws) vs stands fits chosen are = absurd fits
+
+pub sync_takes : Takes sync_plan
+unfolding IsRefused held node_on_words
+sync_takes = record {
+  is = sync_is;
+  options = (inl (refl, refl, sync_timeout), tt);
+  told = sync_told;
+  places = (record { rule = unwrap_or (arg_by_index sync_shape.rules 1) file_rule; is = refl; single = refl; lone = refl; short = refl; called = refl; place_then = refl }, once_by sync_shape text_reading (codes "FILE") (λ rows v. refl) (λ rows v. refl), (record { rule = unwrap_or (arg_by_index sync_shape.rules 2) file_rule; is = refl; single = refl; lone = refl; short = refl; called = refl; place_then = refl }, once_by sync_shape text_reading (codes "ADDR") (λ rows v. refl) (λ rows v. refl), λ h. tt));
+  places_apart = refl;
+  options_apart = refl;
+  ids_apart = refl;
+  names_apart = refl;
+  checks = λ rows. refl;
+  quiet = (inl refl, (inl refl, (inr refl, (inl refl, tt))));
+  no_default = ((inr refl, (inl refl, (inl refl, (inl refl, tt)))), ((inl refl, (inr refl, (inl refl, (inl refl, tt)))), tt));
+  listed = refl;
+  fits = fits_two (codes "FILE") (codes "ADDR") [];
+  taken = taken_two (codes "FILE") (codes "ADDR") [];
+  reads = sync_reads;
+}
+
+-- ---- serve
+
+abbrev serve_shape : Shape
+serve_shape = shape_behind (codes "serve")
+
+abbrev pub serve_plan : Plan
+serve_plan = record {
+  command = codes "serve";
+  shape = serve_shape;
+  required = codes "FILE" ∷ codes "ADDR" ∷ [];
+  optional = [];
+  more = None;
+  known = sessions_option ∷ timeout_option ∷ [];
+  with_options = serve_with;
+}
+
+pub serve_is : IsCommand (codes "serve") serve_shape
+unfolding node_on_words
+serve_is = record { met = (refl, refl); found = refl; short = all_short serve_shape.rules refl }
+
+serve_sessions_at : (b : Bool) → IsValuedAt serve_shape (codes "--sessions") (codes "SESSIONS") (free b)
+unfolding node_on_words
+serve_sessions_at true = record { waits = λ h position. refl; turn = λ h position. refl; valued = λ h position v. refl; valued_turn = λ h position v. refl }
+serve_sessions_at false = record { waits = λ h position. refl; turn = λ h position. refl; valued = λ h position v. refl; valued_turn = λ h position v. refl }
+
+serve_sessions : IsValued serve_shape (codes "--sessions") (codes "SESSIONS")
+unfolding IsRefused held node_on_words
+serve_sessions = record {
+  once = once_by serve_shape text_reading (codes "SESSIONS") (λ rows v. refl) (λ rows v. refl);
+  bare = λ rows. tt;
+  at_free = serve_sessions_at;
+  other = λ h is. is;
+  takes = λ rows position v are.
+      let h = held rows (Some (codes "SESSIONS", [])) in
+      let waiting = option (codes "SESSIONS") in
+      (data_next serve_shape.rules h waiting position v are refl, data_turn serve_shape h waiting position v are refl);
+  valued_other = λ h v is. refused_first (settles serve_shape h) _ is;
+}
+
+serve_timeout_at : (b : Bool) → IsValuedAt serve_shape (codes "--timeout") (codes "TIMEOUT") (free b)
+unfolding node_on_words
+serve_timeout_at true = record { waits = λ h position. refl; turn = λ h position. refl; valued = λ h position v. refl; valued_turn = λ h position v. refl }
+serve_timeout_at false = record { waits = λ h position. refl; turn = λ h position. refl; valued = λ h position v. refl; valued_turn = λ h position v. refl }
+
+serve_timeout : IsValued serve_shape (codes "--timeout") (codes "TIMEOUT")
+unfolding IsRefused held node_on_words
+serve_timeout = record {
+  once = once_by serve_shape text_reading (codes "TIMEOUT") (λ rows v. refl) (λ rows v. refl);
+  bare = λ rows. tt;
+  at_free = serve_timeout_at;
+  other = λ h is. is;
+  takes = λ rows position v are.
+      let h = held rows (Some (codes "TIMEOUT", [])) in
+      let waiting = option (codes "TIMEOUT") in
+      (data_next serve_shape.rules h waiting position v are refl, data_turn serve_shape h waiting position v are refl);
+  valued_other = λ h v is. refused_first (settles serve_shape h) _ is;
+}
+
+serve_long : (name : Text) → ((o : Chosen (sessions_option ∷ timeout_option ∷ [])) × (name ≡ o.0.bare)) ⊎ IsRequest serve_shape (arg_by_long serve_shape.rules name)
+unfolding IsRefused node_on_words
+serve_long name =
+    found_other serve_shape (λ a. has_long a name) ((o : Chosen (sessions_option ∷ timeout_option ∷ [])) × (name ≡ o.0.bare)) serve_shape.rules
+    (inl refl, (inl refl, (inr (inr (λ e. ((sessions_option, inl refl), is_name (codes "sessions") name e))), (inr (inr (λ e. ((timeout_option, inr (inl refl)), is_name (codes "timeout") name e))), (inr (inl (refl, λ rows. tt)), tt)))))
+
+serve_short : HasShortRequests serve_shape
+unfolding IsRefused node_on_words
+serve_short character =
+    elim (found_other serve_shape (λ a. has_short a character) ⊥ serve_shape.rules (inl refl, (inl refl, (inr (inr is_none), (inr (inr is_none), (inr (inl (refl, λ rows. tt)), tt)))))) [
+      | inl none ↦ absurd none
+      | inr is ↦ is
+    ]
+
+serve_told : (word : Text) → IsOption word → ((o : Known) × IsIn o (sessions_option ∷ timeout_option ∷ []) × IsThis (name_of o) word) ⊎ IsAlwaysRefused serve_shape word
+serve_told word is = elim (told serve_shape (Chosen (sessions_option ∷ timeout_option ∷ [])) (λ o. o.0.bare) serve_long serve_short word is) [
+  | inl this ↦ inl (this.0.0, this.0.1, this.1)
+  | inr refused ↦ inr refused
+]
+
+serve_reads : (rows : List Row) (ws : List Text) (vs : Text → List Text) → AreAt (ids_of serve_plan) (serve_plan.more) ws rows → Fits (serve_plan.required) (serve_plan.optional) (serve_plan.more) ws
+    → AreChosen (serve_plan.known) vs rows → AreTrue (serve_plan.known) vs
+    → words_in (Some (serve_shape.name, fold with_default rows serve_shape.rules)) ≡ option_map (λ words. codes "serve" ∷ words) (serve_plan.with_options.words_for ws vs)
+unfolding node_on_words
+serve_reads rows ([]) vs stands fits chosen are = absurd fits
+serve_reads rows (a ∷ []) vs stands fits chosen are = absurd fits
+serve_reads rows (a ∷ b ∷ []) vs stands fits chosen are = λ i. named_words (codes "serve") (joined (first_there serve_shape.rules rows (codes "FILE") a text_reading stands.0 i ∷ first_there serve_shape.rules rows (codes "ADDR") b text_reading stands.1.0 i ∷ value_given serve_shape.rules rows (codes "SESSIONS") (codes "1") (vs (codes "--sessions")) (inr (refl, inr (refl, inl (refl, refl)))) (chosen sessions_option (inl refl)) i ∷ value_given serve_shape.rules rows (codes "TIMEOUT") (codes "60") (vs (codes "--timeout")) (inr (refl, inr (refl, inr (refl, inl (refl, refl))))) (chosen timeout_option (inr (inl refl))) i ∷ []))
+serve_reads rows (a ∷ b ∷ c ∷ ws) vs stands fits chosen are = absurd fits
+
+pub serve_takes : Takes serve_plan
+unfolding IsRefused held node_on_words
+serve_takes = record {
+  is = serve_is;
+  options = (inl (refl, refl, serve_sessions), (inl (refl, refl, serve_timeout), tt));
+  told = serve_told;
+  places = (record { rule = unwrap_or (arg_by_index serve_shape.rules 1) file_rule; is = refl; single = refl; lone = refl; short = refl; called = refl; place_then = refl }, once_by serve_shape text_reading (codes "FILE") (λ rows v. refl) (λ rows v. refl), (record { rule = unwrap_or (arg_by_index serve_shape.rules 2) file_rule; is = refl; single = refl; lone = refl; short = refl; called = refl; place_then = refl }, once_by serve_shape text_reading (codes "ADDR") (λ rows v. refl) (λ rows v. refl), λ h. tt));
+  places_apart = refl;
+  options_apart = refl;
+  ids_apart = refl;
+  names_apart = refl;
+  checks = λ rows. refl;
+  quiet = (inl refl, (inl refl, (inr refl, (inr refl, (inl refl, tt)))));
+  no_default = ((inr refl, (inl refl, (inl refl, (inl refl, (inl refl, tt))))), ((inl refl, (inr refl, (inl refl, (inl refl, (inl refl, tt))))), tt));
+  listed = refl;
+  fits = fits_two (codes "FILE") (codes "ADDR") [];
+  taken = taken_two (codes "FILE") (codes "ADDR") [];
+  reads = serve_reads;
+}

@@ -1,0 +1,33 @@
+-- What is chosen by options where a command's words have several forms.
+use Rattle.std.specs.Prelude.{Bool, true, false, List, [], ◌∷◌, ◌++◌, Option, Some, None, codes}
+use Rattle.clap.specs.Words.{Text}
+
+-- which values `get` prints, by which of its options are given: `--raw`, `--reg`, `--set`, `--counter`. Two of the last
+-- three together name none
+abbrev pub raw_words : Bool → Bool → Bool → Bool → Option (List Text)
+raw_words false false false false = Some []
+raw_words true false false false = Some (codes "--raw" ∷ [])
+raw_words raw true false false = Some (codes "--reg" ∷ [])
+raw_words raw false true false = Some (codes "--set" ∷ [])
+raw_words raw false false true = Some (codes "--counter" ∷ [])
+raw_words raw true true counter = None
+raw_words raw true false true = None
+raw_words raw false true true = None
+
+-- the words of `init`: a file, a group, an own name and names; or, where `--from` says from which file, a file and an own
+-- name
+abbrev pub init_words : List Text → Option Text → Option (List Text)
+init_words (file ∷ group ∷ own ∷ name ∷ names) None = Some (file ∷ group ∷ own ∷ name ∷ names)
+init_words (file ∷ group ∷ own ∷ []) None = None
+init_words (file ∷ own ∷ []) None = None
+init_words (file ∷ []) None = None
+init_words [] None = None
+init_words (file ∷ group ∷ own ∷ names) (Some from) = None
+init_words (file ∷ own ∷ []) (Some from) = Some (file ∷ own ∷ (codes "--from=" ++ from) ∷ [])
+init_words (file ∷ []) (Some from) = None
+init_words [] (Some from) = None
+
+-- the words, with the option that writes only what changes something
+abbrev pub changed_words : Bool → List Text → List Text
+changed_words true words = words ++ codes "--if-changed" ∷ []
+changed_words false words = words
