@@ -222,12 +222,12 @@ impl<H: Disk> Beside<'_, H> {
     }
 }
 
-// What a file system answers that doesn't sync folders.
-fn is_unsupported(kind: ErrorKind) -> bool {
+/// What a file system answers that doesn't sync folders.
+pub fn is_unsupported(kind: ErrorKind) -> bool {
     matches!(kind, ErrorKind::Unsupported | ErrorKind::InvalidInput)
 }
 
-// The folder of a path: what stands before its last '/'.
+/// The folder of a path: what stands before its last '/'.
 pub fn folder_of(path: &str) -> &str {
     match path.rsplit_once('/') {
         Some(("", _)) => "/",

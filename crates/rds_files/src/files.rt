@@ -7,8 +7,10 @@ ghost use Rattle.rds_files.specs.Files.{HoldsTooMuch, IsHeldAt, IsNoPlace, IsRea
 
 use crate::beside::{folder_of, keep_new, keep_over};
 use crate::disk::{Disk, note};
+use crate::lasting::make_last;
 use crate::locks::{LockFile, lock, lock_if_free};
 use crate::past::Past;
+use crate::targets::Target;
 use rds_dots::DotSet;
 use rds_keep::{Counted, Kept, read_snapshot};
 use rds_names::Fault;
@@ -58,8 +60,7 @@ impl<'a> FilePath<'a> {
         ensures fault { IfErr result IsUnread }
         ensures long { IfErr result (λ fault. fault ≡ TooLong → HoldsTooMuch H.File.remaining) }
     {
-        let nth = self.reads;
-        self.reads = self.reads.saturating_add(1);
+        let nth = self.count();
         let mut file = open_file(rt, self.path)?;
         let kept = read_kept(rt, self.path, &mut file)?;
         Ok(ReplicaFile {
@@ -67,6 +68,33 @@ impl<'a> FilePath<'a> {
             kept,
             nth,
         })
+    }
+
+    /// The same for a reading of which others are told: what was read lasts from then on, whatever becomes of the
+    /// machine. The file that the path leads to and its folder are synced. Refuses `Device` also where that fails.
+    pub fn read_lasting<H: Disk, S: DotSet>(&mut self, rt: &H) -> Result<ReplicaFile<'a, S>, Fault>
+        ensures read { IfOk result (IsReadBy self.old) }
+        ensures counted { self.new ≡ read_more self.old }
+        ensures fault { IfErr result IsUnread }
+        ensures long { IfErr result (λ fault. fault ≡ TooLong → HoldsTooMuch H.File.remaining) }
+    {
+        let nth = self.count();
+        let kept = read_to_last(rt, self.path)?;
+        Ok(ReplicaFile {
+            path: self.path,
+            kept,
+            nth,
+        })
+    }
+
+    // Counts a reading, and answers how many came before.
+    fn count(&mut self) -> u64
+        ensures nth { result ≡ self.old.reads }
+        ensures counted { self.new ≡ read_more self.old }
+    {
+        let nth = self.reads;
+        self.reads = self.reads.saturating_add(1);
+        nth
     }
 }
 
@@ -98,6 +126,15 @@ impl<'a, S: DotSet> ReplicaFile<'a, S> {
         FilePath::new(path).read(rt)
     }
 
+    /// The same of a reading of which others are told, as `FilePath::read_lasting` does.
+    pub fn open_lasting<H: Disk>(rt: &H, path: &'a str) -> Result<ReplicaFile<'a, S>, Fault>
+        ensures read { IfOk result (IsReadAt path.now) }
+        ensures fault { IfErr result IsUnread }
+        ensures long { IfErr result (λ fault. fault ≡ TooLong → HoldsTooMuch H.File.remaining) }
+    {
+        FilePath::new(path).read_lasting(rt)
+    }
+
     /// The file's path.
     pub fn path(&self) -> &'a str
         ensures { result.now ≡ self.now.path }
@@ -118,6 +155,7 @@ impl<'a, S: DotSet> ReplicaFile<'a, S> {
 #[derive(Drop)]
 pub struct LockedFile<'a, H: Disk, S: DotSet> {
     path: &'a str,
+    target: Target<'a>,
     kept: Kept<S>,
     file: H::File,
 }
@@ -138,10 +176,11 @@ impl<'a, H: Disk, S: DotSet> LockedFile<'a, H, S>
 where
     H::File: LockFile,
 {
-    /// Locks the file of this path, and reads it. Refuses `Usage` where the path ends in `.new`, as the files do that
-    /// are written beside others; then `Device` where the file can't be opened or read, where its mode lets nobody
-    /// write it, or where another has its lock for more than ten seconds; and as decoding does where it holds no
-    /// snapshot.
+    /// Locks the file of this path, and reads it. Where the path is a link's, that is the file which the link leads to.
+    /// Refuses `Usage` where the path ends in `.new`, as the files do that are written beside others; then `Device`
+    /// where the file can't be opened or read, or isn't one to be replaced: a link leads to a file that ends in `.new`,
+    /// its mode lets nobody write it, or it has several names. So it does where another has its lock for more than ten
+    /// seconds; and as decoding does where the file holds no snapshot.
     pub fn open(rt: &H, path: &'a str) -> Result<LockedFile<'a, H, S>, Fault>
         ensures held { IfOk result (IsHeldAt path.now) }
         ensures beside { is_beside path.now ≡ true → result ≡ Err Usage }
@@ -151,13 +190,16 @@ where
         if is_beside(path) {
             return Err(Fault::Usage);
         }
-        let file = lock(rt, path)?;
+        let target = Target::find(rt, path)?;
+        check_target(rt, path, &target)?;
+        let file = lock(rt, target.path())?;
         check_writable(rt, path, &file)?;
-        LockedFile::read(rt, path, file)
+        check_alone(rt, path, &file)?;
+        LockedFile::read(rt, path, target, file)
     }
 
     /// The same for a command that waits for nobody. There is none where another has the lock, and where `open` refuses
-    /// the path or the file's mode.
+    /// a file that isn't one to be replaced.
     pub fn open_if_free(rt: &H, path: &'a str) -> Result<Option<LockedFile<'a, H, S>>, Fault>
         ensures held { IfOk result (λ file. IfSome file (IsHeldAt path.now)) }
         ensures fault { IfErr result IsUnread }
@@ -166,21 +208,41 @@ where
         if is_beside(path) {
             return Ok(None);
         }
-        match lock_if_free(rt, path)? {
-            Some(file) if is_writable(&file) => Ok(Some(LockedFile::read(rt, path, file)?)),
+        let target = Target::find(rt, path)?;
+        match lock_if_free(rt, target.path())? {
+            Some(file) if is_replaceable(&target, &file) => {
+                Ok(Some(LockedFile::read(rt, path, target, file)?))
+            }
             _ => Ok(None),
         }
     }
 
     // Reads the file, which is locked.
-    fn read(rt: &H, path: &'a str, mut file: H::File) -> Result<LockedFile<'a, H, S>, Fault>
+    fn read(
+        rt: &H,
+        path: &'a str,
+        target: Target<'a>,
+        mut file: H::File,
+    ) -> Result<LockedFile<'a, H, S>, Fault>
         requires place { is_beside path.now ≡ false }
         ensures held { IfOk result (IsHeldAt path.now) }
         ensures fault { IfErr result IsUnread }
         ensures long { IfErr result (λ fault. fault ≡ TooLong → HoldsTooMuch H.File.remaining) }
     {
         let kept = read_kept(rt, path, &mut file)?;
-        Ok(LockedFile { path, kept, file })
+        Ok(LockedFile {
+            path,
+            target,
+            kept,
+            file,
+        })
+    }
+
+    /// Makes what was read last, as `FilePath::read_lasting` does. `Device` where that fails.
+    pub fn make_last(&self, rt: &H) -> Result<(), Fault>
+        ensures fault { IfErr result (λ e. e ≡ Device) }
+    {
+        make_last(rt, self.target.path(), &self.file)
     }
 
     /// The file's path.
@@ -203,9 +265,20 @@ where
         ensures file { result.1 ≡ self.entry }
         ensures held { IsHeldAt self.entry.path self.entry }
     {
-        let LockedFile { path, kept, file } = self;
+        let LockedFile {
+            path,
+            target,
+            kept,
+            file,
+        } = self;
         let before = Past::of(&kept);
-        (kept.replica(), EmptiedFile { path, before, file })
+        let emptied = EmptiedFile {
+            path,
+            target,
+            before,
+            file,
+        };
+        (kept.replica(), emptied)
     }
 }
 
@@ -214,6 +287,7 @@ where
 #[derive(Drop)]
 pub struct EmptiedFile<'a, H: Disk, S: DotSet> {
     path: &'a str,
+    target: Target<'a>,
     before: Past<Kept<S>>,
     file: H::File,
 }
@@ -234,7 +308,8 @@ where
 {
     /// Keeps this replica in the file in place of the one that it holds, and then lets the lock go: FILE.new is written
     /// anew, with the mode of FILE, synced and renamed to FILE, and the folder is synced. A FILE.new that was left
-    /// behind is removed first.
+    /// behind is removed first. Where FILE is a link, all that is done to the file that it led to when it was locked,
+    /// and the link stays.
     ///
     /// Refuses `TooLong` where the replica's text is above the limit, and else `Device` where a file can't be removed,
     /// made, given its mode, written, synced or renamed. `Memory` goes before both, where there is too little to find
@@ -246,8 +321,13 @@ where
         ensures limit { OnOk result (length (snapshot_text replica) ≤ LIMIT) }
         ensures long { LIMIT < length (snapshot_text replica) → IfErr result IsTooLongOrLost }
     {
-        let EmptiedFile { path, before, file } = self;
-        let kept = keep_over(rt, replica, path, &file)?;
+        let EmptiedFile {
+            path,
+            target,
+            before,
+            file,
+        } = self;
+        let kept = keep_over(rt, replica, target.path(), &file)?;
         Ok(ReplacedFile { path, before, kept })
     }
 }
@@ -300,8 +380,8 @@ impl<'a, S: DotSet> Model for CreatedFile<'a, S> {
 
 impl<'a, S: DotSet> CreatedFile<'a, S> {
     /// Makes the file of this path. It holds the lock of the folder while it does, so that of two at once one is
-    /// refused. Refuses `Usage` where the path ends in `.new` or something is there, and else as `EmptiedFile::replace`
-    /// does.
+    /// refused. Refuses `Usage` where the path ends in `.new` or something is there, be it a link that leads nowhere,
+    /// and else as `EmptiedFile::replace` does.
     pub fn create<H: Disk>(
         rt: &H,
         path: &'a str,
@@ -345,16 +425,15 @@ pub fn is_beside(path: &str) -> bool
     path.as_bytes().ends_with(b".new")
 }
 
-/// Whether something of this path can be opened. `Device` where it can't be, but not since it isn't
-/// there.
+/// Whether something is at this path, be it a link that leads nowhere. `Device` where that can't be found.
 pub fn is_there<H: Disk>(rt: &H, path: &str) -> Result<bool, Fault>
     ensures fault { IfErr result (λ e. e ≡ Device) }
 {
-    match fs::open(rt, path) {
+    match fs::symlink_metadata(rt, path) {
         Ok(_) => Ok(true),
         Err(error) if error.kind() == ErrorKind::NotFound => Ok(false),
         Err(error) => {
-            note(rt, "cannot open", path, &error);
+            note(rt, "cannot find what is at", path, &error);
             Err(Fault::Device)
         }
     }
@@ -370,6 +449,33 @@ fn open_file<H: Disk>(rt: &H, path: &str) -> Result<H::File, Fault>
             Err(Fault::Device)
         }
     }
+}
+
+// Reads the replica in the file that this path leads to, and makes it last.
+fn read_to_last<H: Disk, S: DotSet>(rt: &H, path: &str) -> Result<Kept<S>, Fault>
+    ensures value { IfOk result (λ kept. IsSnapshot kept) }
+    ensures fault { IfErr result IsUnread }
+    ensures long { IfErr result (λ fault. fault ≡ TooLong → HoldsTooMuch H.File.remaining) }
+{
+    let target = Target::find(rt, path)?;
+    let mut opened = open_file(rt, target.path())?;
+    let kept = read_kept(rt, path, &mut opened)?;
+    make_last(rt, target.path(), &opened)?;
+    Ok(kept)
+}
+
+// A file that is written beside another isn't replaced, whatever link leads to it.
+fn check_target<H: Disk>(rt: &H, path: &str, target: &Target<'_>) -> Result<(), Fault>
+    ensures fault { IfErr result (λ e. e ≡ Device) }
+{
+    if is_beside(target.path()) {
+        let place = target.path();
+        let _ = eprintln!(rt;
+            "{path}: leads to {place}, which ends in .new, as a file that is written beside another"
+        );
+        return Err(Fault::Device);
+    }
+    Ok(())
 }
 
 // A file that nobody may write isn't replaced either.
@@ -391,9 +497,32 @@ where
     }
 }
 
-// Whether it is known that somebody may write it.
-fn is_writable<F: LockFile>(file: &F) -> bool {
-    matches!(file.is_read_only(), Ok(false))
+// Nor is one of several names: the others would stay with what it held before.
+fn check_alone<H: Disk>(rt: &H, path: &str, file: &H::File) -> Result<(), Fault>
+where
+    H::File: LockFile,
+    ensures fault { IfErr result (λ e. e ≡ Device) }
+{
+    match file.links() {
+        Ok(links) if links > 1 => {
+            let _ = eprintln!(rt;
+                "{path}: has {links} names (hard links), which can't be kept together: remove the others or copy it"
+            );
+            Err(Fault::Device)
+        }
+        Ok(_) => Ok(()),
+        Err(error) => {
+            note(rt, "cannot count the names of", path, &error);
+            Err(Fault::Device)
+        }
+    }
+}
+
+// Whether it isn't written beside another, and it is known that somebody may write it and that it has no other name.
+fn is_replaceable<F: LockFile>(target: &Target<'_>, file: &F) -> bool {
+    !is_beside(target.path())
+        && matches!(file.is_read_only(), Ok(false))
+        && matches!(file.links(), Ok(0 | 1))
 }
 
 // Reads the replica that a file holds.
@@ -410,8 +539,16 @@ fn read_kept<H: Disk, S: DotSet, R: Read>(
     match read_snapshot(rt.alloc(), &mut Counted::new(file)) {
         Ok(kept) => Ok(kept),
         Err(fault) => {
-            let _ = eprintln!(rt; "{path}: holds no replica that can be read: {fault}");
+            note_unread(rt, path, fault);
             Err(fault)
         }
     }
+}
+
+// Tells why a file gives no replica: it can't be read, or what it holds is none.
+fn note_unread<H: Eprint>(rt: &H, path: &str, fault: Fault) {
+    let _ = match fault {
+        Fault::Device | Fault::Memory => eprintln!(rt; "{path}: can't be read: {fault}"),
+        _ => eprintln!(rt; "{path}: isn't an rds file: {fault}"),
+    };
 }

@@ -1,18 +1,23 @@
-//! Replicas in files, and their sessions: over a stream with a peer, or of two files with one another. Read `disk`,
-//! `locks`, `past`, `beside` and `files` first, then `settling`, `meeting`, `reports` and `syncing`; `pairing`, with
-//! `paired`, `pending`, `end` and `meeting` in its folder, stands on `files` and `settling` alone.
+//! Replicas in files, and their sessions: over a stream with a peer, over a reader and a writer, or of two files with
+//! one another. Read `disk`, `locks`, `targets`, `past`, `beside`, `lasting` and `files` first, then `settling`,
+//! `paced`, `meeting`, `reports`, `syncing` and `piping`; `pairing`, with `paired`, `pending`, `end` and `meeting` in
+//! its folder, stands on `files` and `settling` alone.
 #![tactic(auto)]
 
 mod beside;
 mod disk;
 mod files;
+mod lasting;
 mod locks;
 mod meeting;
+mod paced;
 mod pairing;
 mod past;
+mod piping;
 mod reports;
 mod settling;
 mod syncing;
+mod targets;
 
 pub use disk::Disk;
 pub use files::{
@@ -21,5 +26,6 @@ pub use files::{
 pub use locks::LockFile;
 pub use meeting::{Met, meet};
 pub use pairing::{Link, PairedFile, pair, pair_files};
+pub use piping::pipe_file;
 pub use settling::{Settled, Settlement, settle};
 pub use syncing::{serve, serve_file, sync, sync_file};

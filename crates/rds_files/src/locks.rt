@@ -26,6 +26,9 @@ pub trait LockFile {
     /// Whether its mode lets nobody write it.
     fn is_read_only(&self) -> io::Result<bool>;
 
+    /// How many names it has. A folder has one.
+    fn links(&self) -> io::Result<u64>;
+
     /// Gives it the mode of another file.
     fn take_mode(&self, other: &Self) -> io::Result<()>;
 }
@@ -47,6 +50,11 @@ impl LockFile for File {
 
     fn is_read_only(&self) -> io::Result<bool> {
         Ok(self.metadata()?.permissions().readonly())
+    }
+
+    fn links(&self) -> io::Result<u64> {
+        let about = self.metadata()?;
+        Ok(if about.is_dir() { 1 } else { about.nlink() })
     }
 
     fn take_mode(&self, other: &File) -> io::Result<()> {

@@ -12,6 +12,7 @@ ghost use Rattle.rds_files.specs.declared.settling.Settled.TheVariants.{Nothing}
 use crate::disk::{Disk, note};
 use crate::files::ReplicaFile;
 use crate::locks::LockFile;
+use crate::paced::{Pace, Paced, Rest};
 use crate::reports::note_peer;
 use crate::settling::{Settled, settle_exchanged};
 use rds_dots::DotSet;
@@ -21,19 +22,19 @@ use rds_session::{Ended, Side, exchange};
 use std::io;
 use std::io::{Read, Write};
 use std::net::{OpenStream, Shutdown};
-use std::time::Duration;
+use std::time::{Clock, Duration};
 
 /// How many bytes are dropped at once.
 const PIECE: usize = 16_384;
 
-/// What a session came to, and the stream that it was over.
+/// What a session came to, and the stream that it was over, where the peer is still to be let go.
 #[derive(Drop)]
 pub struct Met<T> {
     /// What it left in the file.
     pub settled: Settled,
     /// How it ended.
     pub ended: Ended,
-    rest: Option<T>,
+    rest: Option<(T, Rest)>,
 }
 
 impl<T> Met<T> {
@@ -52,10 +53,12 @@ impl<T> Met<T> {
 
 impl<T: Read + OpenStream + Drop> Met<T> {
     /// Lets the peer go: what it still sends is read and dropped, so that it gets all that was said to it. Nothing
-    /// depends on whether that succeeds.
-    pub fn let_go(self) {
-        if let Some(stream) = self.rest {
-            drop_rest(&mut Counted::new(stream));
+    /// depends on whether that succeeds. It takes no more time than the session has left, and what is dropped adds
+    /// none.
+    pub fn let_go<C: Clock>(self, clock: &C) {
+        if let Some((mut stream, rest)) = self.rest {
+            let pace = rest.pace(clock);
+            drop_rest(&mut Counted::new(Paced::new(&pace, &mut stream)));
         }
     }
 }
@@ -63,6 +66,10 @@ impl<T: Read + OpenStream + Drop> Met<T> {
 /// A session over the stream to its end. It is read by one handle and written by another; where there is no other, or
 /// the time that a call may take can't be set, that is a session that failed. What it received is in the file before
 /// the peer is let go, and nothing more is sent.
+///
+/// The timeout bounds each wait for the peer, and ten times the timeout the session as a whole, letting go included.
+/// Each full megabyte that came or went adds one timeout more. Where a call on the stream failed, the peer isn't waited
+/// for again.
 pub fn meet<H: Disk, S: DotSet, T: Read + Write + OpenStream + Drop>(
     rt: &H,
     side: Side,
@@ -74,22 +81,21 @@ where
     H::File: LockFile,
     ensures { Meets side (T.remaining stream) file.now result.settled result.ended }
 {
-    match bounded_clone(&stream, timeout) {
-        Ok(mut sending) => {
-            let mut reader = Counted::new(&mut stream);
+    match begin(rt, &stream, timeout) {
+        Ok((mut sending, pace)) => {
             let (settled, ended) = exchange_over(
                 rt,
                 side,
                 file,
-                &mut reader,
-                &mut Counted::new(&mut sending),
+                &mut Counted::new(Paced::new(&pace, &mut stream)),
+                &mut Counted::new(Paced::new(&pace, &mut sending)),
             );
             let _ = sending.shutdown(Shutdown::Write);
             note_peer(rt, &stream, ended);
             Met {
                 settled,
                 ended,
-                rest: Some(stream),
+                rest: rest_of(stream, ended, pace.rest()),
             }
         }
         Err(error) => {
@@ -108,6 +114,24 @@ pub fn turn_away<T: OpenStream>(stream: &T, fault: Fault) -> Met<T>
     Met::failed(fault)
 }
 
+// Another handle on the stream, and the time that a session over the two has.
+fn begin<'a, H: Disk, T: OpenStream + Drop>(
+    rt: &'a H,
+    stream: &T,
+    timeout: Option<Duration>,
+) -> io::Result<(T, Pace<'a, H>)> {
+    let pace = Pace::begin(rt, timeout)?;
+    Ok((bounded_clone(stream, timeout)?, pace))
+}
+
+// What is left of the stream. A peer on whom a call failed isn't waited for.
+fn rest_of<T: Drop>(stream: T, ended: Ended, rest: Rest) -> Option<(T, Rest)> {
+    match ended {
+        Ended::Failed(Fault::Device) => None,
+        _ => Some((stream, rest)),
+    }
+}
+
 // Another handle on the stream. A read or a write of either that takes longer fails.
 fn bounded_clone<T: OpenStream>(stream: &T, timeout: Option<Duration>) -> io::Result<T> {
     stream.set_read_timeout(timeout)?;
@@ -115,8 +139,8 @@ fn bounded_clone<T: OpenStream>(stream: &T, timeout: Option<Duration>) -> io::Re
     stream.try_clone()
 }
 
-// A session over the two handles of a stream, and what it received settled.
-fn exchange_over<H: Disk, S: DotSet, R: Read, W: Write>(
+/// A session over a reader and a writer, and what it received settled.
+pub fn exchange_over<H: Disk, S: DotSet, R: Read, W: Write>(
     rt: &H,
     side: Side,
     file: &ReplicaFile<'_, S>,
@@ -128,6 +152,7 @@ where
     ensures session { IsSession side (R.remaining reader.old.inner) (R.remaining reader.new.inner)
         (W.contents writer.old.inner) (W.contents writer.new.inner) file.now result.0 result.1 }
     ensures device { result.1 ≡ Failed Device → HasFailed reader.old reader.new ⊎ HasFailed writer.old writer.new }
+    ensures broken { (writer.new.failed ≡ writer.old.failed) ⊎ (result.1 ≡ Failed Device) }
 {
     let exchanged = exchange(rt.alloc(), side, file.kept(), reader, writer);
     let ended = exchanged.ended;

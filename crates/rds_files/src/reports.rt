@@ -74,6 +74,26 @@ pub fn note_report<H: Eprint>(rt: &H, path: &str, settled: &Settled, ended: Ende
     }
 }
 
+/// Tells on standard error the lines of `report`.
+pub fn note_told<H: Eprint>(rt: &H, settled: &Settled, ended: Ended) {
+    match settled {
+        Settled::Nothing => {}
+        Settled::Taken(components) => {
+            let _ = eprintln!(rt; "{{\"taken\":{components}}}");
+        }
+        Settled::Refused(fault) | Settled::Unkept(fault) => note_fault(rt, *fault),
+    }
+    if let Ended::Failed(fault) = ended {
+        note_fault(rt, fault);
+    }
+}
+
+/// Tells on standard error the line of a fault.
+pub fn note_fault<H: Eprint>(rt: &H, fault: Fault) {
+    let (number, name) = (fault.number(), fault.name());
+    let _ = eprintln!(rt; "fault {number}: {name}");
+}
+
 /// Tells on standard error by which peer's address a session failed, if it did.
 pub fn note_peer<H: Eprint, T: OpenStream>(rt: &H, stream: &T, ended: Ended) {
     if let Ended::Failed(fault) = ended {

@@ -22,10 +22,10 @@ use std::time::Duration;
 /// How many milliseconds `serve` waits after a peer that couldn't be accepted.
 const PAUSE: u64 = 100;
 
-/// Reads the file, connects to the peer at this address, and has a session as `sync` does. The file is
-/// read before the address is used; a fault there, or a peer that can't be reached (`Device`), is
-/// told alone. Which file is opened and which address is meant is settled here alone: no clause ties a
-/// path to what a file holds.
+/// Reads the file, connects to the peer at this address, and has a session as `sync` does. The file is read, and what
+/// was read is made to last, before the address is used; a fault there, or a peer that can't be reached (`Device`), is
+/// told alone. Which file is opened and which address is meant is settled here alone: no clause ties a path to what a
+/// file holds.
 pub fn sync_file<H: Disk + Net, W: Write>(
     rt: &H,
     path: &str,
@@ -40,7 +40,7 @@ where
     ensures status { result ≤ 1 }
     ensures broken { (writer.new.failed ≡ writer.old.failed) ⊎ (result ≡ 1) }
 {
-    let file: ReplicaFile<'_, GapSet> = match ReplicaFile::open(rt, path) {
+    let file: ReplicaFile<'_, GapSet> = match ReplicaFile::open_lasting(rt, path) {
         Ok(file) => file,
         Err(fault) => return give_up(writer, fault),
     };
@@ -122,15 +122,15 @@ where
     let met = meet(rt, Side::Client, file, stream, timeout);
     note_settled(rt, file.path(), &met.settled);
     let status = report(writer, &met.settled, met.ended);
-    met.let_go();
+    met.let_go(rt);
     status
 }
 
 /// So many sessions of the replica in the file, one after the other, as the server of peers that the listener accepts.
-/// The file is read anew for each peer, so what others did to it by then, and the roster that it has grown to, are in
-/// the session; and what the session received is settled in what the file holds at its end. Each is told as `report`
-/// does before its peer is let go; a peer that can't be accepted and a file that can't be read are sessions that
-/// failed. They end early where the file can't be kept or the output fails.
+/// The file is read anew for each peer and made to last, so what others did to it by then, and the roster that it has
+/// grown to, are in the session; and what the session received is settled in what the file holds at its end. Each is
+/// told as `report` does before its peer is let go; a peer that can't be accepted and a file that can't be read are
+/// sessions that failed. They end early where the file can't be kept or the output fails.
 pub fn serve<H: Disk + Net, W: Write>(
     rt: &H,
     path: &mut FilePath<'_>,
@@ -159,7 +159,7 @@ where
             return 1;
         }
         told |= tells_fault(&met.settled, met.ended);
-        met.let_go();
+        met.let_go(rt);
     }
     u8::from(told)
 }
@@ -183,7 +183,7 @@ where
             return Met::failed(Fault::Device);
         }
     };
-    let read: Result<ReplicaFile<'_, GapSet>, Fault> = path.read(rt);
+    let read: Result<ReplicaFile<'_, GapSet>, Fault> = path.read_lasting(rt);
     match read {
         Ok(file) => meet(rt, Side::Server, &file, stream, timeout),
         Err(fault) => turn_away(&stream, fault),

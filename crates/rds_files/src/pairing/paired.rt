@@ -29,15 +29,18 @@ impl<'a, H: Disk, S: DotSet> PairedFile<'a, H, S>
 where
     H::File: LockFile,
 {
-    /// Reads the file of this path, under its lock where that is free. Refuses as `ReplicaFile::open` does, and `Device`
-    /// also where the file can't be locked.
+    /// Reads the file of this path, under its lock where that is free, and makes what was read last, since the other is
+    /// told of it. Refuses as `ReplicaFile::open_lasting` does, and `Device` also where the file can't be locked.
     pub fn open(rt: &H, path: &'a str) -> Result<PairedFile<'a, H, S>, Fault>
         ensures read { IfOk result (λ file. IsReadAt path.now (file_of file)) }
         ensures fault { IfErr result IsUnread }
     {
         match LockedFile::open_if_free(rt, path)? {
-            Some(file) => Ok(PairedFile::Locked(file)),
-            None => Ok(PairedFile::Read(ReplicaFile::open(rt, path)?)),
+            Some(file) => {
+                file.make_last(rt)?;
+                Ok(PairedFile::Locked(file))
+            }
+            None => Ok(PairedFile::Read(ReplicaFile::open_lasting(rt, path)?)),
         }
     }
 
@@ -49,7 +52,7 @@ where
     {
         match self {
             PairedFile::Locked(_) => PairedFile::open(rt, path),
-            PairedFile::Read(_) => Ok(PairedFile::Read(ReplicaFile::open(rt, path)?)),
+            PairedFile::Read(_) => Ok(PairedFile::Read(ReplicaFile::open_lasting(rt, path)?)),
         }
     }
 

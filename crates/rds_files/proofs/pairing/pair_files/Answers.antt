@@ -13,3 +13,6 @@ returns-in-Ok-connect-clause-written g c = λ wrote. inr (record {
 
 pub returns-in-Err-connect-clause-written : goal.returns-in-Err-connect-clause-written
 returns-in-Err-connect-clause-written g c = λ wrote. inl (record { fault = c.in-Err-connect.fault; due = inl c.in-Err-connect.ensures.fault; written = c.give_up-in-Err-connect.ensures.written wrote })
+
+pub returns-in-Err-open_other-clause-written : goal.returns-in-Err-open_other-clause-written
+returns-in-Err-open_other-clause-written g c = λ wrote. inl (record { fault = c.in-Err-open_other.fault; due = c.in-Err-open_other.ensures.fault; written = c.give_up-in-Err-open_other.ensures.written wrote })
