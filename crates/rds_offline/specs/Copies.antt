@@ -1,0 +1,64 @@
+-- What becomes of a file that takes a copy of another, and of one that is made from another.
+use Rattle.std.specs.Prelude.{◌≡◌, ◌⊎◌, ℕ, false, List, Ok, Err}
+use Rattle.rds_names.specs.declared.fault.Fault.{Fault}
+use Rattle.rds_names.specs.Name.{name_of}
+use Rattle.rds_codec.specs.StateTexts.{IsSnapshot}
+use Rattle.rds_files.specs.Files.{FileValue, IsReadAt, IsReplacedAt, IsUnkept, IsUnread, KeptFile, RefusesFile, RefusesLock, ReplacedValue, is_beside}
+use Rattle.rds_state.specs.Fits.{ReplicaValue}
+use Rattle.rds_offline.specs.Merging.{CountsLacking, IsMerged, RefusesMerge}
+use Rattle.rds_offline.specs.Next.{IsNextOf, RefusesNext}
+
+-- ---- merging a copy
+
+-- the file at a path was read under its lock, and keeps what it held then with all that a replica had seen that was read
+-- from another file; so many components were lacking
+pub record MergesFile (path from : List ℕ) (file : ReplacedValue) (components : ℕ) : Type 0 where
+  pub read : IsReplacedAt path file
+  pub source : FileValue
+  pub source_read : IsReadAt from source
+  pub merged : IsMerged source.kept file.before file.kept
+  pub counted : CountsLacking source.kept file.before components
+
+-- why what a file holds doesn't take all that a replica has seen: a take of it is refused, or the new one can't be kept
+abbrev pub RefusesMergeIn : ReplicaValue → ReplicaValue → Fault → Type 0
+RefusesMergeIn source before fault =
+    RefusesMerge source before fault ⊎ ((after : ReplicaValue) × IsMerged source before after × IsUnkept after fault)
+
+-- the same, of something that two files may hold
+pub record RefusesHeldMerge (fault : Fault) : Type 0 where
+  pub source : ReplicaValue
+  pub source_value : IsSnapshot source
+  pub before : ReplicaValue
+  pub before_value : IsSnapshot before
+  pub why : RefusesMergeIn source before fault
+
+-- why the file at a path takes no copy: the copy can't be read, or the file can't be locked and read, or what it holds
+-- doesn't take it
+abbrev pub RefusesMergeFile : List ℕ → Fault → Type 0
+RefusesMergeFile path fault = IsUnread fault ⊎ (RefusesLock path fault ⊎ RefusesHeldMerge fault)
+
+-- ---- the next replica
+
+-- the file of this path was made, and keeps the replica of this name in the group of one that was read from another
+-- file, with all that that had seen
+pub record InitsFrom (path from own : List ℕ) (file : KeptFile) : Type 0 where
+  pub at : file.path ≡ path
+  pub place : is_beside path ≡ false
+  pub source : FileValue
+  pub source_read : IsReadAt from source
+  pub name : List ℕ
+  pub is_name : name_of own ≡ Ok name
+  pub next : IsNextOf source.kept name file.kept
+
+-- the next replica can't be made or kept
+pub record RefusesNextFile (own : List ℕ) (fault : Fault) : Type 0 where
+  pub source : ReplicaValue
+  pub source_value : IsSnapshot source
+  pub name : List ℕ
+  pub is_name : name_of own ≡ Ok name
+  pub why : RefusesNext source name fault ⊎ ((next : ReplicaValue) × IsNextOf source name next × RefusesFile next fault)
+
+-- why no file is made from another: the own name is none; else the other file can't be read, or gives no such replica,
+-- or that can't be kept in a new file
+abbrev pub RefusesInitFrom : List ℕ → Fault → Type 0
+RefusesInitFrom own fault = (name_of own ≡ Err fault) ⊎ (IsUnread fault ⊎ RefusesNextFile own fault)

@@ -1,0 +1,4 @@
+pub mod Copies
+pub mod Letters
+pub mod Merging
+pub mod Next

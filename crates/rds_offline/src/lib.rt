@@ -1,0 +1,14 @@
+//! Replicas in files that meet without a connection: a copy of a peer's file is merged, the next replica of a group is
+//! made from another's file, and questions and answers go as texts, by any means. Read `next` and `merging` first, then
+//! `copies` and `letters`.
+#![tactic(auto)]
+
+mod copies;
+mod letters;
+mod merging;
+mod next;
+
+pub use copies::{TakenFile, init_from, merge_file};
+pub use letters::{ToldFile, answer_file, ask_file, check_texts, take_file};
+pub use merging::merge;
+pub use next::next_replica;
