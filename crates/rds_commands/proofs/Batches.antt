@@ -1,7 +1,6 @@
 -- Many edits of what a file held.
-use Rattle.std.proofs.Common.{◌≡◌, ◌≢◌, ◌∙◌, ◌+◌, ◌<◌, ◌≤◌, ◌⊎◌, ℕ, List, length, take, Option, Some, None, Err, arith, ap, subst, inl, inr, refl, sym}
+use Rattle.std.proofs.Common.{◌≡◌, ◌≢◌, ◌∙◌, ◌+◌, ◌≤◌, ◌⊎◌, ℕ, List, length, take, Option, Some, None, Err, arith, subst, inl, inr}
 use Rattle.std.specs.Prelude.{IfSome}
-use Rattle.std.specs.Borrow.{Bor}
 use Rattle.std.proofs.lemmas.List.{length-take, take_all}
 use Rattle.rds_names.specs.declared.fault.Fault.{Fault}
 use Rattle.rds_names.specs.declared.fault.Fault.TheVariants.{Device, Memory}
@@ -12,10 +11,7 @@ use Rattle.rds_lines.specs.Lines.{lines_in}
 use Rattle.rds_output.specs.Output.{Writes}
 use Rattle.rds_output.specs.declared.reply.Reply.{Reply}
 use Rattle.rds_files.specs.Files.{IsHeldAt, IsUnkept, KeptFile, ReplacedValue}
-use Rattle.rds_words.specs.Task.{EditsByLines}
-use Rattle.rds_words.specs.declared.tasks.Task.{Task}
-use Rattle.rds_words.specs.declared.tasks.Task.TheVariants.{EditLines}
-use Rattle.rds_commands.specs.Batch.{EditsFileBy, RefusesLines, RefusesLinesIn, WritesEdits}
+use Rattle.rds_commands.specs.Batch.{EditsFileBy, RefusesLinesIn, WritesEdits}
 use Rattle.rds_commands.specs.declared.batch.TheConstants.{MOST}
 
 -- the file that was read under its lock is the one that was replaced
@@ -39,31 +35,12 @@ whole_input path input before after status writes = elim writes [
     all_taken : (input : List ℕ) → length (take (MOST + 1) input) ≤ MOST → take (MOST + 1) input ≡ input
     all_taken input few = take_all (MOST + 1) input (omega (arith, few, length-take (MOST + 1) input))
 
--- the words weren't read
-pub edits_unwritten : (path : List ℕ) (o a b : Option (List ℕ)) (Steady Written : Type 0) (status : ℕ) → (Written → Writes (Err Memory) a b status) → IfSome o (λ input. Steady → Written → WritesEdits path input a b status)
-edits_unwritten path None a b Steady Written status h = tt
-edits_unwritten path (Some input) a b Steady Written status h = λ steady written. inr (inr (h written))
-
 -- what is said of the first bytes of an input is said of all of it
-pub input_written : (path : List ℕ) (o a b : Option (List ℕ)) (front seen : List ℕ) (Steady Written : Type 0) (status : ℕ) → IfSome o (λ input. front ≡ take (MOST + 1) input) → seen ≡ front → (Written → WritesEdits path seen a b status)
-    → IfSome o (λ input. Steady → Written → WritesEdits path input a b status)
-input_written path None a b front seen Steady Written status is same h = tt
-input_written path (Some input) a b front seen Steady Written status is same h = λ steady written.
-    whole_input path input a b status (subst (λ (i : List ℕ). WritesEdits path i a b status) (same ∙ is) (h written))
-
--- what is said of the file of a task is said of the file that was named
-pub edit_named : (P : List ℕ → Type 0) (file : List ℕ) (task : Task) → EditsByLines file (Some task) → ((at : Bor (List ℕ)) → task ≡ EditLines at → P at.now) → P file
-edit_named P file task h said = subst P h.1 (said h.0 (of_some task h.0 h.2))
-  where
-    of_some : (task : Task) (at : Bor (List ℕ)) → Some task ≡ Some (EditLines at) → task ≡ EditLines at
-    of_some task at e = cc
-
--- a task edits one file
-pub edit_of : (P : List ℕ → Type 0) (task : Task) (file at : Bor (List ℕ)) → task ≡ EditLines file → task ≡ EditLines at → P file.now → P at.now
-edit_of P task file at is are said = subst P (same file at (sym is ∙ are)) said
-  where
-    same : (file at : Bor (List ℕ)) → EditLines file ≡ EditLines at → file.now ≡ at.now
-    same file at e = cc
+pub input_written : (path : List ℕ) (o a b : Option (List ℕ)) (front seen : List ℕ) (Steady : Type 0) (status : ℕ) → IfSome o (λ input. front ≡ take (MOST + 1) input) → seen ≡ front → WritesEdits path seen a b status
+    → IfSome o (λ input. Steady → WritesEdits path input a b status)
+input_written path None a b front seen Steady status is same h = tt
+input_written path (Some input) a b front seen Steady status is same h = λ steady.
+    whole_input path input a b status (subst (λ (i : List ℕ). WritesEdits path i a b status) (same ∙ is) h)
 
 -- what lines made of the replica that was taken out is kept
 pub kept_lines : (lines : List (List ℕ)) (before old after kept : ReplicaValue) (answers : List Reply) → old ≡ before → EditsLines lines old after answers → kept ≡ after → EditsLines lines before kept answers
@@ -80,18 +57,18 @@ pub answers_written : (path input : List ℕ) (before after : Option (List ℕ))
 answers_written path input before after status file answers seen few edited same written = inl (few, inl (file, answers, edited, rw (← same) written))
 
 -- the input isn't read
-module _ {T : Type 0} (old new : CountedValue T) (fault : Fault) (a b : Option (List ℕ)) (Written : Type 0) (status : ℕ) (h : ((fault ≡ Memory) × (new.failed ≡ old.failed)) ⊎ ((fault ≡ Device) × HasFailed old new)) (told : Written → Writes (Err fault) a b status) where
+module _ {T : Type 0} (old new : CountedValue T) (fault : Fault) (a b : Option (List ℕ)) (status : ℕ) (h : ((fault ≡ Memory) × (new.failed ≡ old.failed)) ⊎ ((fault ≡ Device) × HasFailed old new)) (told : Writes (Err fault) a b status) where
   -- there is no memory for it
-  pub unread_edits : (path : List ℕ) (o : Option (List ℕ)) → IfSome o (λ input. (HasFailed old new → ⊥) → Written → WritesEdits path input a b status)
+  pub unread_edits : (path : List ℕ) (o : Option (List ℕ)) → IfSome o (λ input. (HasFailed old new → ⊥) → WritesEdits path input a b status)
   unread_edits path None = tt
-  unread_edits path (Some input) = λ steady written. elim h [
-    | inl memory ↦ inr (inr (subst (λ (f : Fault). Writes (Err f) a b status) memory.0 (told written)))
+  unread_edits path (Some input) = λ steady. elim h [
+    | inl memory ↦ inr (inr (subst (λ (f : Fault). Writes (Err f) a b status) memory.0 told))
     | inr device ↦ absurd (steady device.1)
   ]
 
   -- the reader fails
-  pub unread_told : new.failed ≢ old.failed → Written → Writes (Err Device) a b status
-  unread_told failed written = elim h [
+  pub unread_told : new.failed ≢ old.failed → Writes (Err Device) a b status
+  unread_told failed = elim h [
     | inl memory ↦ absurd (failed memory.1)
-    | inr device ↦ subst (λ (f : Fault). Writes (Err f) a b status) device.0 (told written)
+    | inr device ↦ subst (λ (f : Fault). Writes (Err f) a b status) device.0 told
   ]

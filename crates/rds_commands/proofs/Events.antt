@@ -1,11 +1,9 @@
 -- A session whose delta is settled in a file, as events of the model.
-use Rattle.std.proofs.Common.{◌≡◌, ◌≢◌, ◌<◌, ◌≤◌, ◌∙◌, ◌∷◌, ◌++◌, [], ℕ, List, Bool, true, false, max, length, ltb, Some, refl, sym, ap, subst, arith, slice_get, inl, inr}
-use Rattle.std.specs.Prelude.{is_some}
+use Rattle.std.proofs.Common.{◌≡◌, ◌≢◌, ◌<◌, ◌≤◌, ◌∙◌, ◌∷◌, ◌++◌, [], ℕ, List, true, false, max, length, ltb, Some, refl, sym, ap, subst, arith, slice_get, inl, inr}
 use Rattle.std.proofs.lemmas.Bool.{cases_lt, lt-ltb, le-ltb}
 use Rattle.rds_names.specs.Roster.{RosterValue}
 use Rattle.rds_state.specs.Coordinates.{Coordinates, join}
 use Rattle.rds_state.specs.Fits.{ReplicaValue}
-use Rattle.rds_state.specs.Grown.{longer}
 use Rattle.rds_state.specs.Value.{coordinates}
 use Rattle.rds_delta.specs.Least.{least}
 use Rattle.rds_delta.specs.Ranks.{ranks}
@@ -14,7 +12,7 @@ use Rattle.rds_session.specs.Meeting.{IsItsLeast}
 use Rattle.rds_session.specs.Received.{Delivery}
 use Rattle.rds_world.specs.Coherent.{HasRosters}
 use Rattle.rds_world.specs.World.{World, Accepted, Question, Reply, after, after_answer, after_take, put, reply, run}
-use Rattle.rds_world.specs.declared.event.Event.TheVariants.{Answer, Ask, Crash, Save, Take}
+use Rattle.rds_world.specs.declared.event.Event.TheVariants.{Ask, Crash, Save}
 use Rattle.rds_world.proofs.Meeting.{longer_length}
 use Rattle.rds_world.proofs.Tables.{get_last, put_here, put_there}
 use Rattle.rds_files.specs.Files.{ReplacedValue}

@@ -6,11 +6,10 @@ use Rattle.rds_names.specs.Gives.{Refuses}
 use Rattle.rds_names.specs.Path.{path_of}
 use Rattle.rds_state.specs.Fits.{ReplicaValue}
 use Rattle.rds_lines.specs.Overview.{TellsOverview}
-use Rattle.rds_lines.specs.Views.{TellsAt}
 use Rattle.rds_output.specs.declared.reply.Reply.{Reply}
 use Rattle.rds_files.specs.Files.{FileValue, IsReadAt, IsUnread}
 use Rattle.rds_words.proofs.OneMeaning.{ok_isnt_err}
-use Rattle.rds_commands.specs.Looks.{DescribesFile, GetsFile, RefusesGet}
+use Rattle.rds_commands.specs.Looks.{DescribesFile, RefusesGet}
 
 -- it is told of what the file holds
 pub describes_file : (path : List ℕ) (file : FileValue) (kept : ReplicaValue) (answer : Reply) → IsReadAt path file → kept ≡ file.kept → TellsOverview kept answer → DescribesFile path file answer

@@ -3,8 +3,10 @@ pub mod Entered
 pub mod Events
 pub mod Getting
 pub mod Growing
+pub mod LetterEvents
 pub mod Named
 pub mod Refused
 pub mod Replaced
 pub mod SimTold
 pub mod Told
+pub mod Values

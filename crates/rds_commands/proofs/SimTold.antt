@@ -9,6 +9,7 @@ use Rattle.rds_lines.specs.Sim.{IsSimOutput}
 use Rattle.rds_output.specs.Output.{Writes}
 use Rattle.rds_words.specs.Task.{words_of}
 use Rattle.rds_words.specs.declared.tasks.Task.{Task}
+use Rattle.rds_commands.specs.Reading.{Reading}
 use Rattle.rds_commands.specs.Told.{MayWriteNamed, WritesSim, WritesTask}
 
 pub sim_unwritten : (o a b : Option (List ℕ)) (Steady Written : Type 0) (status : ℕ) → (Written → Writes (Err Memory) a b status) → IfSome o (λ input. Steady → Written → WritesSim input a b status)
@@ -27,5 +28,6 @@ task_is found task named is are = of_some task named (sym is ∙ are)
     of_some task named e = cc
 
 -- what is written for the task that was found is written for its words
-pub task_written : (found : Option Task) (task : Task) (named : Option (List Text)) (a b : Option (List ℕ)) (status : ℕ) → found ≡ Some task → option_map words_of found ≡ named → WritesTask task a b status → MayWriteNamed named a b status
-task_written found task named a b status is words h = subst (λ (n : Option (List Text)). MayWriteNamed n a b status) (ap (option_map words_of) (sym is) ∙ words) (inr (task, refl, h))
+pub task_written : (found : Option Task) (task : Task) (named : Option (List Text)) (reading : Reading) (a b : Option (List ℕ)) (status : ℕ) → found ≡ Some task → option_map words_of found ≡ named → WritesTask task reading a b status
+    → MayWriteNamed named reading a b status
+task_written found task named reading a b status is words h = subst (λ (n : Option (List Text)). MayWriteNamed n reading a b status) (ap (option_map words_of) (sym is) ∙ words) (inr (task, refl, h))

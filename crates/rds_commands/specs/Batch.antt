@@ -1,13 +1,14 @@
 -- What many edits of the replica in a file come to, which is read and written once.
-use Rattle.std.specs.Prelude.{◌≡◌, ◌⊎◌, ◌<◌, ◌≤◌, ℕ, List, length, Option, Err}
+use Rattle.std.specs.Prelude.{◌≡◌, ◌⊎◌, ◌<◌, ◌≤◌, ℕ, List, length, Option, Err, IfSome}
 use Rattle.rds_names.specs.declared.fault.Fault.{Fault}
-use Rattle.rds_names.specs.declared.fault.Fault.TheVariants.{Memory, TooLong}
+use Rattle.rds_names.specs.declared.fault.Fault.TheVariants.{Device, Memory, TooLong}
 use Rattle.rds_state.specs.Fits.{ReplicaValue}
 use Rattle.rds_lines.specs.Editing.{EditsLines, WritesAll}
 use Rattle.rds_lines.specs.Lines.{lines_in}
 use Rattle.rds_output.specs.Output.{Writes}
 use Rattle.rds_output.specs.declared.reply.Reply.{Reply}
 use Rattle.rds_files.specs.Files.{IsReplacedAt, IsUnkept, RefusesLock, ReplacedValue}
+use Rattle.rds_commands.specs.Reading.{Reading}
 use Rattle.rds_commands.specs.declared.batch.TheConstants.{MOST}
 
 -- the file at this path was read under its lock, and keeps what the lines made of what it held then, which have these
@@ -40,3 +41,9 @@ abbrev pub WritesEdits : List ℕ → List ℕ → Option (List ℕ) → Option 
 WritesEdits path input before after status =
     ((length input ≤ MOST) × WritesLines path (lines_in input) before after status)
     ⊎ (((MOST < length input) × Writes (Err TooLong) before after status) ⊎ Writes (Err Memory) before after status)
+
+-- the same of the input of a run; where it can't be read, that is told
+abbrev pub WritesEditLines : List ℕ → Reading → Option (List ℕ) → Option (List ℕ) → ℕ → Type 0
+WritesEditLines path reading before after status =
+    IfSome reading.held (λ input. (reading.MayHaveFailed → ⊥) → WritesEdits path input before after status)
+    × (reading.CountRose → Writes (Err Device) before after status)

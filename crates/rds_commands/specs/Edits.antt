@@ -1,6 +1,6 @@
 -- What commands on the replica in a file come to, and why they are refused.
 pub use Rattle.rds_lines.specs.Editing.{IsEdited, edit_refusal}
-use Rattle.std.specs.Prelude.{◌≡◌, ◌⊎◌, ℕ, false, List, None, Ok, Err, IsOk}
+use Rattle.std.specs.Prelude.{◌≡◌, ◌⊎◌, ℕ, false, List, Option, Some, None, Ok, Err, IsOk}
 use Rattle.std.specs.FinMap as map
 use Rattle.rds_names.specs.declared.fault.Fault.{Fault}
 use Rattle.rds_names.specs.declared.fault.Fault.TheVariants.{Memory}
@@ -10,11 +10,12 @@ use Rattle.rds_names.specs.Roster.{grown_of}
 use Rattle.rds_state.specs.Edit.{IsDue}
 use Rattle.rds_state.specs.Fits.{ReplicaValue}
 use Rattle.rds_state.specs.declared.command.Command.{Command}
+use Rattle.rds_listing.specs.Presence.{Stands}
 use Rattle.rds_lines.specs.Views.{ShowsView}
 use Rattle.rds_lines.specs.declared.views.Layout.{Layout}
 use Rattle.rds_output.specs.declared.reply.Reply.{Reply}
-use Rattle.rds_output.specs.declared.reply.Reply.TheVariants.{Done}
-use Rattle.rds_files.specs.Files.{FileValue, IsReadAt, IsReplacedAt, IsUnkept, IsUnread, KeptFile, RefusesFile, RefusesLock, ReplacedValue, is_beside}
+use Rattle.rds_output.specs.declared.reply.Reply.TheVariants.{Done, Edited}
+use Rattle.rds_files.specs.Files.{FileValue, IsHeldAt, IsReadAt, IsReplacedAt, IsUnkept, IsUnread, KeptFile, RefusesFile, RefusesLock, ReplacedValue, is_beside}
 use Rattle.rds_words.specs.Meaning.{IsCommand, names_for, roster_for}
 use Rattle.rds_words.specs.declared.tasks.EditWords.{EditWords}
 use Rattle.rds_words.specs.declared.tasks.GrowWords.{GrowWords}
@@ -124,3 +125,27 @@ pub record ShowsFile (layout : Layout) (path text : List ℕ) (file : FileValue)
 -- why nothing is shown: the text is no path; else there is no replica in the file
 abbrev pub RefusesShow : List ℕ → Fault → Type 0
 RefusesShow text fault = Refuses fault (path_of text) ⊎ (IsOk (path_of text) × IsUnread fault)
+
+-- ---- edits that may say nothing new
+
+-- the file at this path was read under its lock, and keeps what it held then, edited as the words ask by an edit that says
+-- what didn't stand there
+pub record EditsNew (path : List ℕ) (words : EditWords) (file : ReplacedValue) (answer : Reply) : Type 0 where
+  pub read : IsReplacedAt path file
+  pub command : Command
+  pub asked : IsCommand words (Ok command)
+  pub new : ¬ (Stands file.before.state command)
+  pub due : edit_refusal file.before command ≡ None
+  pub edited : IsEdited command file.before file.kept answer
+
+-- the file at this path was read under its lock, and what the words ask for stands in what it holds
+pub record IsSame (path : List ℕ) (words : EditWords) (file : KeptFile) : Type 0 where
+  pub held : IsHeldAt path file
+  pub command : Command
+  pub asked : IsCommand words (Ok command)
+  pub stands : Stands file.kept.state command
+
+-- the file was edited, or it was left as it is, and that nothing changed is told
+abbrev pub EditsIfChanged : List ℕ → EditWords → Option ReplacedValue → Reply → Type 0
+EditsIfChanged path words (Some file) answer = EditsNew path words file answer
+EditsIfChanged path words None answer = ((file : KeptFile) × IsSame path words file) × (answer ≡ Edited None 0)

@@ -1,7 +1,11 @@
 pub mod Batch
 pub mod Edits
+pub mod Letters
+pub mod Listing
 pub mod Looks
 pub mod OfFile
+pub mod Offline
+pub mod Reading
 pub mod Sessions
 pub mod Told
 pub mod Unparsed

@@ -1,10 +1,9 @@
 -- What commands come to that look at the replica in a file.
-use Rattle.std.specs.Prelude.{◌≡◌, ◌⊎◌, ◌++◌, ◌∷◌, ℕ, List, [], Option, Ok, IsOk}
+use Rattle.std.specs.Prelude.{◌≡◌, ◌⊎◌, ◌++◌, ◌∷◌, ℕ, List, [], Option, Ok}
 use Rattle.rds_names.specs.declared.fault.Fault.{Fault}
 use Rattle.rds_names.specs.declared.fault.Fault.TheVariants.{BadPath}
 use Rattle.rds_names.specs.Gives.{Refuses}
 use Rattle.rds_names.specs.Path.{path_of}
-use Rattle.rds_output.specs.Reply.{WritesReply}
 use Rattle.rds_lines.specs.Overview.{TellsOverview}
 use Rattle.rds_lines.specs.Views.{TellsAt}
 use Rattle.rds_output.specs.declared.reply.Reply.{Reply}

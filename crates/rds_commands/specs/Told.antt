@@ -1,8 +1,8 @@
 -- What the program tells for its words.
-use Rattle.std.specs.Prelude.{◌≡◌, ◌⊎◌, ◌==◌, ◌-◌, ◌^◌, ◌||◌, if◌then◌else◌, ℕ, true, false, List, Option, Some, None, Ok, Err}
+use Rattle.std.specs.Prelude.{◌≡◌, ◌⊎◌, ◌==◌, ◌-◌, ◌^◌, ◌||◌, if◌then◌else◌, ℕ, Bool, true, false, List, codes, Option, Some, None, Ok, Err}
+use Rattle.std.specs.Str.{bytes_eq}
 use Rattle.clap.specs.Words.{IsAmong, Kinds, Text}
 use Rattle.clap.specs.declared.error.kind.ErrorKind.{ErrorKind}
-use Rattle.rds_names.specs.declared.fault.Fault.{Fault}
 use Rattle.rds_names.specs.declared.fault.Fault.TheVariants.{Device, Memory, Usage}
 use Rattle.rds_keep.specs.Parts.{AppendsFront}
 use Rattle.rds_lines.specs.Answering.{WritesAnswers, WritesFront}
@@ -12,10 +12,19 @@ use Rattle.rds_lines.specs.declared.views.Layout.{Layout}
 use Rattle.rds_lines.specs.declared.views.Layout.TheVariants.{Compact, Indented}
 use Rattle.rds_files.specs.Files.{is_beside}
 use Rattle.rds_files.specs.Pairing.{WritesPair}
+use Rattle.rds_files.specs.Piping.{Pipes}
 use Rattle.rds_files.specs.Syncing.{WritesServing, WritesSync}
-use Rattle.rds_commands.specs.Edits.{EditsFile, GrowsFile, InitsFile, RefusesEdit, RefusesGrow, RefusesInit, RefusesShow, ShowsFile}
+use Rattle.rds_commands.specs.Edits.{EditsFile, EditsIfChanged, GrowsFile, InitsFile, RefusesEdit, RefusesGrow, RefusesInit, RefusesShow, ShowsFile}
 use Rattle.rds_commands.specs.Looks.{WritesGet, WritesStatus}
+use Rattle.rds_commands.specs.Batch.{WritesEditLines}
+use Rattle.rds_commands.specs.Listing.{WritesDiff, WritesList, WritesRaw, wanted_of}
 use Rattle.rds_commands.specs.OfFile.{WritesOfFile}
+use Rattle.rds_commands.specs.Offline.{WritesAnswerTo, WritesAsk, WritesCheck, WritesInitFrom, WritesMerge, WritesNothing, WritesTake}
+use Rattle.rds_commands.specs.Reading.{Reading}
+use Rattle.rds_listing.specs.Conflicts.{conflicts_text}
+use Rattle.rds_listing.specs.Dump.{dump_text}
+use Rattle.rds_session.specs.declared.talk.Side.{Side}
+use Rattle.rds_session.specs.declared.talk.Side.TheVariants.{Client, Server}
 use Rattle.rds_words.specs.Meaning.{IsAmount}
 use Rattle.rds_words.specs.Task.{words_of}
 use Rattle.rds_commands.specs.Unparsed.{WritesUnparsed}
@@ -25,7 +34,7 @@ use Rattle.rds_words.specs.declared.tasks.InitWords.{InitWords}
 use Rattle.rds_words.specs.declared.tasks.ServeWords.{ServeWords}
 use Rattle.rds_words.specs.declared.tasks.SyncWords.{SyncWords}
 use Rattle.rds_words.specs.declared.tasks.Task.{Task}
-use Rattle.rds_words.specs.declared.tasks.Task.TheVariants.{Join, Sim, Init, Grow, Edit, EditLines, Get, Show, ShowPretty, Status, Serve, Sync, Pair}
+use Rattle.rds_words.specs.declared.tasks.Task.TheVariants.{Join, Sim, Init, InitFrom, Grow, Edit, EditIfChanged, EditLines, Get, GetRaw, Show, ShowPretty, Dump, Status, Serve, Sync, Pair, Ask, Answer, Take, Merge, Check, Conflicts, Diff}
 
 -- the answers to the lines of the input were written, and nothing else; or there was no memory to read the words
 abbrev pub WritesSim : List ℕ → Option (List ℕ) → Option (List ℕ) → ℕ → Type 0
@@ -49,6 +58,10 @@ WritesGrow words = WritesOfFile (GrowsFile words) (RefusesGrow words)
 abbrev pub WritesEdit : List ℕ → EditWords → Option (List ℕ) → Option (List ℕ) → ℕ → Type 0
 WritesEdit path words = WritesOfFile (EditsFile path words) (RefusesEdit path words)
 
+-- the answer of a file that was edited or left as it is, or why the words edit none
+abbrev pub WritesIfChanged : List ℕ → EditWords → Option (List ℕ) → Option (List ℕ) → ℕ → Type 0
+WritesIfChanged path words = WritesOfFile (EditsIfChanged path words) (RefusesEdit path words)
+
 abbrev pub WritesShow : Layout → List ℕ → List ℕ → Option (List ℕ) → Option (List ℕ) → ℕ → Type 0
 WritesShow layout path text = WritesOfFile (ShowsFile layout path text) (RefusesShow text)
 
@@ -62,22 +75,46 @@ RefusesServe words =
     IsAmount words.sessions.now (Err Usage)
     ⊎ (IsAmount words.timeout.now (Err Usage) ⊎ (is_beside words.file.now ≡ true))
 
+-- the address is the input and the output
+abbrev pub is_piped : List ℕ → Bool
+is_piped addr = bytes_eq addr (codes "-")
+
+-- one session of this side over the input and the output; or the words are refused, and nothing is written
+abbrev pub WritesPiped : Side → List ℕ → Type 0 → Reading → Option (List ℕ) → Option (List ℕ) → ℕ → Type 0
+WritesPiped side path Refused reading before after status =
+    ((is_beside path ≡ false) × Pipes side path reading.held reading.left before after status)
+    ⊎ (Refused × WritesNothing Usage before after status)
+
 -- so many sessions as the words ask for; or they are refused
-abbrev pub WritesServe : ServeWords → Option (List ℕ) → Option (List ℕ) → ℕ → Type 0
-WritesServe words before after status =
+abbrev pub WritesServeAt : ServeWords → Option (List ℕ) → Option (List ℕ) → ℕ → Type 0
+WritesServeAt words before after status =
     ((n : ℕ) × IsAmount words.sessions.now (Ok n) × (is_beside words.file.now ≡ false)
     × WritesServing words.file.now (sessions_asked n) before after status)
     ⊎ (RefusesServe words × Writes (Err Usage) before after status)
+
+-- the same at an address, or one session over the input and the output
+abbrev pub WritesServe : ServeWords → Reading → Option (List ℕ) → Option (List ℕ) → ℕ → Type 0
+WritesServe words reading before after status =
+    ((is_piped words.addr.now ≡ false) × WritesServeAt words before after status)
+    ⊎ ((is_piped words.addr.now ≡ true)
+    × WritesPiped Server words.file.now (RefusesServe words) reading before after status)
 
 -- the words of `sync` are refused, as those of `serve` are
 abbrev pub RefusesSync : SyncWords → Type 0
 RefusesSync words = IsAmount words.timeout.now (Err Usage) ⊎ (is_beside words.file.now ≡ true)
 
 -- one session; or the words are refused
-abbrev pub WritesSyncing : SyncWords → Option (List ℕ) → Option (List ℕ) → ℕ → Type 0
-WritesSyncing words before after status =
+abbrev pub WritesSyncAt : SyncWords → Option (List ℕ) → Option (List ℕ) → ℕ → Type 0
+WritesSyncAt words before after status =
     ((is_beside words.file.now ≡ false) × WritesSync words.file.now before after status)
     ⊎ (RefusesSync words × Writes (Err Usage) before after status)
+
+-- the same at an address, or over the input and the output
+abbrev pub WritesSyncing : SyncWords → Reading → Option (List ℕ) → Option (List ℕ) → ℕ → Type 0
+WritesSyncing words reading before after status =
+    ((is_piped words.addr.now ≡ false) × WritesSyncAt words before after status)
+    ⊎ ((is_piped words.addr.now ≡ true)
+    × WritesPiped Client words.file.now (RefusesSync words) reading before after status)
 
 -- one session of the files at two paths; or one of them is that of a file beside another
 abbrev pub WritesPairing : List ℕ → List ℕ → Option (List ℕ) → Option (List ℕ) → ℕ → Type 0
@@ -85,32 +122,45 @@ WritesPairing first second before after status =
     ((is_beside first ≡ false) × (is_beside second ≡ false) × WritesPair first second before after status)
     ⊎ (((is_beside first || is_beside second) ≡ true) × Writes (Err Usage) before after status)
 
--- what is written for a task; of `join`, `sim` and edits by lines that hangs on what is read, and is said apart
-abbrev pub WritesTask : Task → Option (List ℕ) → Option (List ℕ) → ℕ → Type 0
-WritesTask Join before after status = Unit {0}
-WritesTask Sim before after status = Unit {0}
-WritesTask (Init words) before after status = WritesInit words before after status
-WritesTask (Grow words) before after status = WritesGrow words before after status
-WritesTask (Edit file edit) before after status = WritesEdit file.now edit before after status
-WritesTask (EditLines file) before after status = Unit {0}
-WritesTask (Get file path) before after status = WritesGet file.now path.now before after status
-WritesTask (Show file path) before after status = WritesShow Compact file.now path.now before after status
-WritesTask (ShowPretty file path) before after status = WritesShow Indented file.now path.now before after status
-WritesTask (Status file) before after status = WritesStatus file.now before after status
-WritesTask (Serve words) before after status = WritesServe words before after status
-WritesTask (Sync words) before after status = WritesSyncing words before after status
-WritesTask (Pair first second) before after status = WritesPairing first.now second.now before after status
+-- what is written for a task, with what became of the input; of `join` and `sim` it is said apart
+abbrev pub WritesTask : Task → Reading → Option (List ℕ) → Option (List ℕ) → ℕ → Type 0
+WritesTask Join reading before after status = Unit {0}
+WritesTask Sim reading before after status = Unit {0}
+WritesTask (Init words) reading before after status = WritesInit words before after status
+WritesTask (InitFrom words) reading before after status = WritesInitFrom words before after status
+WritesTask (Grow words) reading before after status = WritesGrow words before after status
+WritesTask (Edit file edit) reading before after status = WritesEdit file.now edit before after status
+WritesTask (EditIfChanged file edit) reading before after status = WritesIfChanged file.now edit before after status
+WritesTask (EditLines file) reading before after status = WritesEditLines file.now reading before after status
+WritesTask (Get file path) reading before after status = WritesGet file.now path.now before after status
+WritesTask (GetRaw file path kind) reading before after status =
+    WritesRaw file.now path.now (wanted_of kind) before after status
+WritesTask (Show file path) reading before after status = WritesShow Compact file.now path.now before after status
+WritesTask (ShowPretty file path) reading before after status = WritesShow Indented file.now path.now before after status
+WritesTask (Dump file path) reading before after status = WritesList dump_text 0 file.now path.now before after status
+WritesTask (Status file) reading before after status = WritesStatus file.now before after status
+WritesTask (Serve words) reading before after status = WritesServe words reading before after status
+WritesTask (Sync words) reading before after status = WritesSyncing words reading before after status
+WritesTask (Pair first second) reading before after status = WritesPairing first.now second.now before after status
+WritesTask (Ask file) reading before after status = WritesAsk file.now before after status
+WritesTask (Answer file) reading before after status = WritesAnswerTo file.now reading before after status
+WritesTask (Take file question answer) reading before after status = WritesTake file.now before after status
+WritesTask (Merge file from) reading before after status = WritesMerge file.now from.now before after status
+WritesTask (Check question answer) reading before after status = WritesCheck before after status
+WritesTask (Conflicts file path) reading before after status =
+    WritesList conflicts_text 3 file.now path.now before after status
+WritesTask (Diff file other) reading before after status = WritesDiff file.now other.now before after status
 
 -- what is written for a task in words, and `Usage` for none
-abbrev pub WritesNamed : Option (List Text) → Option (List ℕ) → Option (List ℕ) → ℕ → Type 0
-WritesNamed None before after status = Writes (Err Usage) before after status
-WritesNamed (Some words) before after status =
-    (task : Task) × (words_of task ≡ words) × WritesTask task before after status
+abbrev pub WritesNamed : Option (List Text) → Reading → Option (List ℕ) → Option (List ℕ) → ℕ → Type 0
+WritesNamed None reading before after status = Writes (Err Usage) before after status
+WritesNamed (Some words) reading before after status =
+    (task : Task) × (words_of task ≡ words) × WritesTask task reading before after status
 
 -- the same, or that there was no memory to read the words
-abbrev pub MayWriteNamed : Option (List Text) → Option (List ℕ) → Option (List ℕ) → ℕ → Type 0
-MayWriteNamed named before after status =
-    Writes (Err Memory) before after status ⊎ WritesNamed named before after status
+abbrev pub MayWriteNamed : Option (List Text) → Reading → Option (List ℕ) → Option (List ℕ) → ℕ → Type 0
+MayWriteNamed named reading before after status =
+    Writes (Err Memory) before after status ⊎ WritesNamed named reading before after status
 
 -- what is due was written for a way in which words are none of the program's, or that there was no memory to read them
 abbrev pub AnswersMistake : Kinds → Option (List ℕ) → Option (List ℕ) → ℕ → Type 0

@@ -5,7 +5,8 @@ ghost use Rattle.rds_keep.specs.Counted.{HasFailed};
 ghost use Rattle.rds_lines.specs.Editing.{EditsLines};
 ghost use Rattle.rds_lines.specs.Lines.{lines_in};
 ghost use Rattle.rds_output.specs.Output.{Writes};
-ghost use Rattle.rds_commands.specs.Batch.{EditsFileBy, RefusesLines, RefusesLinesIn, WritesEdits};
+ghost use Rattle.rds_commands.specs.Batch.{EditsFileBy, RefusesLines, RefusesLinesIn, WritesEditLines, WritesEdits};
+ghost use Rattle.rds_commands.specs.Reading.{reading_of};
 
 use crate::notes::{note_file, note_input};
 use rds_files::{Disk, LockFile, LockedFile, ReplacedFile};
@@ -79,11 +80,9 @@ pub fn run_edit_lines<H: Disk, R: Read, W: Write>(
 ) -> u8
 where
     H::File: LockFile,
-    ensures edits { IfSome (R.remaining reader.old.inner)
-        (λ input. (HasFailed reader.old reader.new → ⊥) → (HasFailed writer.old writer.new → ⊥)
-        → WritesEdits path.now input (W.contents writer.old.inner) (W.contents writer.new.inner) result) }
-    ensures unread { reader.new.failed ≢ reader.old.failed → (HasFailed writer.old writer.new → ⊥)
-        → Writes (Err Device) (W.contents writer.old.inner) (W.contents writer.new.inner) result }
+    ensures written { (HasFailed writer.old writer.new → ⊥)
+        → WritesEditLines path.now (reading_of R.remaining reader.old reader.new)
+        (W.contents writer.old.inner) (W.contents writer.new.inner) result }
     ensures status { result ≤ 2 }
     ensures broken { (writer.new.failed ≡ writer.old.failed) ⊎ (result ≡ 1) }
 {

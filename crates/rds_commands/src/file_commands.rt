@@ -5,7 +5,7 @@ ghost use Rattle.rds_names.specs.Gives.{Refuses};
 ghost use Rattle.rds_names.specs.Path.{path_of};
 ghost use Rattle.rds_names.specs.Roster.{grown_of};
 ghost use Rattle.rds_state.specs.Edit.{IsDue};
-ghost use Rattle.rds_commands.specs.Edits.{edit_refusal, EditsFile, GrowsFile, InitsFile, IsEdited, IsGrown, RefusesEdit, RefusesEditIn, RefusesGrow, RefusesGrowIn, RefusesInit, RefusesShow, ShowsFile};
+ghost use Rattle.rds_commands.specs.Edits.{edit_refusal, EditsFile, EditsIfChanged, GrowsFile, InitsFile, IsEdited, IsGrown, RefusesEdit, RefusesEditIn, RefusesGrow, RefusesGrowIn, RefusesInit, RefusesShow, ShowsFile};
 ghost use Rattle.rds_output.specs.declared.reply.Reply.TheVariants.{Done};
 ghost use Rattle.rds_words.specs.Meaning.{IsCommand, names_for, roster_for};
 
@@ -13,6 +13,7 @@ use rds_dots::DotSet;
 use rds_files::{CreatedFile, Disk, LockFile, LockedFile, ReplacedFile, ReplicaFile};
 use rds_gaps::GapSet;
 use rds_lines::{Layout, shown};
+use rds_listing::stands;
 use rds_names::{Fault, Name, Path};
 use rds_output::Reply;
 use rds_state::{Command, Replica};
@@ -142,6 +143,56 @@ where
     let answer = edited(&mut replica, command)?;
     let file = file.replace(rt, replica)?;
     Ok(FileAnswer { file, answer })
+}
+
+/// What became of a file whose edit may say nothing new, and what the command is answered.
+#[derive(Drop)]
+pub struct EditAnswer<'a> {
+    /// The file, where it was replaced.
+    pub file: Option<ReplacedFile<'a, GapSet>>,
+    /// The answer.
+    pub answer: Reply,
+}
+
+impl EditAnswer<'_> {
+    /// The answer alone: the file is let go.
+    pub fn into_answer(self) -> Reply
+        ensures { result ≡ self.entry.answer }
+    {
+        self.answer
+    }
+}
+
+/// Edits the replica in a file as `edit_file` does, unless what the edit says stands there already: then the file is left
+/// as it is.
+pub fn edit_if_changed<'a, H: Disk>(
+    rt: &H,
+    path: &'a str,
+    words: &EditWords<'_>,
+) -> Result<EditAnswer<'a>, Fault>
+where
+    H::File: LockFile,
+    ensures edited { IfOk result (λ done. EditsIfChanged path.now words.now done.file done.answer) }
+    ensures fault { IfErr result (RefusesEdit path.now words.now) }
+{
+    let alloc = rt.alloc();
+    let command = command_of(alloc, words)?;
+    let opened: LockedFile<'a, H, GapSet> = LockedFile::open(rt, path)?;
+    let same = stands(alloc, opened.kept().view_of().state(), &command)?;
+    if same {
+        return Ok(EditAnswer {
+            file: None,
+            answer: Reply::Edited {
+                dot: None,
+                killed: 0,
+            },
+        });
+    }
+    let FileAnswer { file, answer } = edit_in(rt, opened, command)?;
+    Ok(EditAnswer {
+        file: Some(file),
+        answer,
+    })
 }
 
 /// Shows what the document of the replica in a file has at the path of a text. The path is judged

@@ -1,4 +1,5 @@
-//! The law of sessions of files.
+//! The laws of sessions of files, and of questions and answers that go as texts.
+ghost use Rattle.rds_commands.specs.Letters.{AnswersAreAnswers, QuestionsAreAsks, TakesAreTakes};
 ghost use Rattle.rds_commands.specs.Sessions.{SessionsAreAnswered, SettlingsAreTakes};
 
 /// A session of two files is events of the model of all replicas, where the replicas that the files hold are what the
@@ -9,4 +10,14 @@ ghost use Rattle.rds_commands.specs.Sessions.{SessionsAreAnswered, SettlingsAreT
 pub fn sessions_are_events()
     ensures asks { SessionsAreAnswered }
     ensures takes { SettlingsAreTakes }
+{}
+
+/// Questions and answers that go as texts between files are events of the model of all replicas: `ask` is that a replica
+/// asks, `answer` that another answers that question, and `take` that the first was read, took the answer, and was
+/// saved. Any events may come between them: the bytes of the question carry what was asked. So the law over every list
+/// of events holds of them too. The function does nothing: its contract is these laws.
+pub fn letters_are_events()
+    ensures asks { QuestionsAreAsks }
+    ensures answers { AnswersAreAnswers }
+    ensures takes { TakesAreTakes }
 {}

@@ -8,17 +8,20 @@ ghost use Rattle.rds_lines.specs.Answering.{WritesAnswers, WritesCut, WritesFron
 ghost use Rattle.rds_output.specs.Output.{Writes, fault_line};
 ghost use Rattle.rds_lines.specs.Run.{WritesJoin, WritesJoinFront};
 ghost use Rattle.rds_lines.specs.Sim.{IsSimOutput, MayBeSimulated};
-ghost use Rattle.std.specs.Borrow.{Bor};
-ghost use Rattle.clap.specs.Words.{Text};
-ghost use Rattle.rds_words.specs.Commands.{edit_lines_words, join_words, sim_words};
-ghost use Rattle.rds_commands.specs.Batch.{WritesEdits};
+ghost use Rattle.rds_words.specs.Commands.{join_words, sim_words};
+ghost use Rattle.rds_commands.specs.Reading.{reading_of};
 ghost use Rattle.rds_commands.specs.Told.{AnswersMistake, MayWriteNamed, WritesSim, WritesSimFront, WritesTask};
 ghost use Rattle.rds_words.specs.Entered.{Names, mistakes_in, named_in};
 
 use crate::batch::run_edit_lines;
+use crate::listing::{run_conflicts, run_diff, run_dump, run_raw, wanted_of};
 use crate::looking::{run_get, run_status};
+use crate::notes::note_together;
+use crate::offline::{
+    TakeWords, run_answer, run_ask, run_check, run_init_from, run_merge, run_take,
+};
 use crate::session_words::{run_pair, run_serve, run_sync};
-use crate::telling::{run_edit, run_grow, run_init, run_show};
+use crate::telling::{run_edit, run_edit_if_changed, run_grow, run_init, run_show};
 use crate::unparsed::write_unparsed;
 use rds_files::{Disk, LockFile};
 use rds_keep::Counted;
@@ -72,27 +75,23 @@ where
     ensures sim_bound { Names (map S.text words.entry.now) sim_words
         → ConsumesAtMost (R.remaining reader.old.inner) (R.remaining reader.new.inner)
         (most_given (reader.old.turns - reader.new.left)) }
-    ensures edit { (file : Text) → Names (map S.text words.entry.now) (edit_lines_words file)
-        → IfSome (R.remaining reader.old.inner)
-        (λ input. (HasFailed reader.old reader.new → ⊥) → (HasFailed writer.old writer.new → ⊥)
-        → WritesEdits file input (W.contents writer.old.inner) (W.contents writer.new.inner) result) }
-    ensures unread_edit { (file : Text) → Names (map S.text words.entry.now) (edit_lines_words file)
-        → reader.new.failed ≢ reader.old.failed → (HasFailed writer.old writer.new → ⊥)
-        → Writes (Err Device) (W.contents writer.old.inner) (W.contents writer.new.inner) result }
     ensures task { mistakes_in (map S.text words.entry.now) ≡ [] → (HasFailed writer.old writer.new → ⊥)
-        → MayWriteNamed (named_in (map S.text words.entry.now))
+        → MayWriteNamed (named_in (map S.text words.entry.now)) (reading_of R.remaining reader.old reader.new)
         (W.contents writer.old.inner) (W.contents writer.new.inner) result }
     ensures mistake { mistakes_in (map S.text words.entry.now) ≢ [] → (HasFailed writer.old writer.new → ⊥)
         → AnswersMistake (mistakes_in (map S.text words.entry.now))
         (W.contents writer.old.inner) (W.contents writer.new.inner) result }
     ensures mistake_part { mistakes_in (map S.text words.entry.now) ≢ []
         → Grows (W.contents writer.old.inner) (W.contents writer.new.inner) }
-    ensures status { result ≤ 2 }
+    ensures status { result ≤ 3 }
     ensures broken { (writer.new.failed ≡ writer.old.failed) ⊎ (result ≡ 1) }
 {
     match task_of(rt.alloc(), words) {
         Ok(Some(task)) => run_task(rt, task, reader, writer),
-        Ok(None) => write_fault(writer, Fault::Usage),
+        Ok(None) => {
+            note_together(rt);
+            write_fault(writer, Fault::Usage)
+        }
         Err(error) => write_unparsed(writer, &error),
     }
 }
@@ -131,30 +130,47 @@ where
     ensures sim_bound { task.entry ≡ Task.Sim
         → ConsumesAtMost (R.remaining reader.old.inner) (R.remaining reader.new.inner)
         (most_given (reader.old.turns - reader.new.left)) }
-    ensures edit { (at : Bor Text) → task.entry ≡ Task.EditLines at → IfSome (R.remaining reader.old.inner)
-        (λ input. (HasFailed reader.old reader.new → ⊥) → (HasFailed writer.old writer.new → ⊥)
-        → WritesEdits at.now input (W.contents writer.old.inner) (W.contents writer.new.inner) result) }
-    ensures unread_edit { (at : Bor Text) → task.entry ≡ Task.EditLines at
-        → reader.new.failed ≢ reader.old.failed → (HasFailed writer.old writer.new → ⊥)
-        → Writes (Err Device) (W.contents writer.old.inner) (W.contents writer.new.inner) result }
     ensures written { (HasFailed writer.old writer.new → ⊥)
-        → WritesTask task.entry (W.contents writer.old.inner) (W.contents writer.new.inner) result }
-    ensures status { result ≤ 2 }
+        → WritesTask task.entry (reading_of R.remaining reader.old reader.new)
+        (W.contents writer.old.inner) (W.contents writer.new.inner) result }
+    ensures status { result ≤ 3 }
     ensures broken { (writer.new.failed ≡ writer.old.failed) ⊎ (result ≡ 1) }
 {
     match task {
         Task::Join => run_join(rt.alloc(), reader, writer),
         Task::Sim => run_sim(rt.alloc(), reader, writer),
         Task::Init(words) => run_init(rt, &words, writer),
+        Task::InitFrom(words) => run_init_from(rt, &words, writer),
         Task::Grow(words) => run_grow(rt, &words, writer),
         Task::Edit { file, edit } => run_edit(rt, file, &edit, writer),
+        Task::EditIfChanged { file, edit } => run_edit_if_changed(rt, file, &edit, writer),
         Task::EditLines { file } => run_edit_lines(rt, file, reader, writer),
         Task::Get { file, path } => run_get(rt, file, path, writer),
+        Task::GetRaw { file, path, kind } => run_raw(rt, file, path, wanted_of(kind), writer),
         Task::Show { file, path } => run_show(rt, file, path, Layout::Compact, writer),
         Task::ShowPretty { file, path } => run_show(rt, file, path, Layout::Indented, writer),
         Task::Status { file } => run_status(rt, file, writer),
-        Task::Serve(words) => run_serve(rt, words, writer),
-        Task::Sync(words) => run_sync(rt, words, writer),
+        Task::Dump { file, path } => run_dump(rt, file, path, writer),
+        Task::Conflicts { file, path } => run_conflicts(rt, file, path, writer),
+        Task::Serve(words) => run_serve(rt, words, reader, writer),
+        Task::Sync(words) => run_sync(rt, words, reader, writer),
         Task::Pair { first, second } => run_pair(rt, first, second, writer),
+        Task::Ask { file } => run_ask(rt, file, writer),
+        Task::Answer { file } => run_answer(rt, file, reader, writer),
+        Task::Take {
+            file,
+            question,
+            answer,
+        } => {
+            let words = TakeWords {
+                file,
+                question,
+                answer,
+            };
+            run_take(rt, words, reader, writer)
+        }
+        Task::Merge { file, from } => run_merge(rt, file, from, writer),
+        Task::Check { question, answer } => run_check(rt, question, answer, reader, writer),
+        Task::Diff { file, other } => run_diff(rt, file, other, writer),
     }
 }

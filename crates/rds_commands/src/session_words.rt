@@ -1,32 +1,55 @@
 //! The words of commands that make sessions.
-ghost use Rattle.std.specs.Prelude.{◌≡◌, ◌≤◌, ◌⊎◌, ◌||◌, true, Err};
+ghost use Rattle.std.specs.Prelude.{◌≡◌, ◌≤◌, ◌⊎◌, ◌||◌, true, false, Err};
 ghost use Rattle.rds_names.specs.declared.fault.Fault.TheVariants.{Usage};
 ghost use Rattle.rds_keep.specs.Counted.{HasFailed};
-ghost use Rattle.rds_commands.specs.Told.{RefusesServe, RefusesSync, WritesPairing, WritesServe, WritesSyncing, sessions_asked};
+ghost use Rattle.rds_commands.specs.Told.{RefusesServe, RefusesSync, WritesPairing, WritesPiped, WritesServe, WritesServeAt, WritesSyncAt, WritesSyncing, is_piped, sessions_asked};
+ghost use Rattle.rds_commands.specs.Offline.{WritesNothing};
+ghost use Rattle.rds_commands.specs.Reading.{reading_of};
 ghost use Rattle.rds_files.specs.Files.{is_beside};
+ghost use Rattle.rds_session.specs.declared.talk.Side.TheVariants.{Client, Server};
 ghost use Rattle.rds_output.specs.Output.{Writes};
 
 use crate::notes::note_words;
-use rds_files::{Disk, LockFile, is_beside, pair_files, serve_file, sync_file};
+use crate::offline::status_for;
+use rds_files::{Disk, LockFile, is_beside, pair_files, pipe_file, serve_file, sync_file};
 use rds_keep::Counted;
 use rds_names::Fault;
 use rds_output::write_fault;
+use rds_session::Side;
 use rds_words::{ServeWords, SyncWords, amount_of};
-use std::io::Write;
+use std::io::{Read, Write};
 use std::net::Net;
 use std::time::Duration;
 
-/// Serves the replica in a file at an address, in so many sessions. The words are judged first: a number that is none,
-/// and a path that ends in `.new`, are `Usage`, and neither the file nor the address is used.
-pub fn run_serve<H: Disk + Net, W: Write>(
+/// Serves the replica in a file at an address, in so many sessions, or in one over the reader and the writer where the
+/// address is `-`. The words are judged first: a number that is none, and a path that ends in `.new`, are `Usage`, and
+/// neither the file nor the address is used.
+pub fn run_serve<H: Disk + Net, R: Read, W: Write>(
     rt: &H,
     words: ServeWords<'_>,
+    reader: &mut Counted<R>,
     writer: &mut Counted<W>,
 ) -> u8
 where
     H::File: LockFile,
     ensures written { (HasFailed writer.old writer.new → ⊥)
-        → WritesServe words.entry (W.contents writer.old.inner) (W.contents writer.new.inner) result }
+        → WritesServe words.entry (reading_of R.remaining reader.old reader.new)
+        (W.contents writer.old.inner) (W.contents writer.new.inner) result }
+    ensures status { result ≤ 2 }
+    ensures broken { (writer.new.failed ≡ writer.old.failed) ⊎ (result ≡ 1) }
+{
+    if words.addr == "-" {
+        return serve_piped(rt, words, reader, writer);
+    }
+    serve_at(rt, words, writer)
+}
+
+// Serves at an address.
+fn serve_at<H: Disk + Net, W: Write>(rt: &H, words: ServeWords<'_>, writer: &mut Counted<W>) -> u8
+where
+    H::File: LockFile,
+    ensures written { (HasFailed writer.old writer.new → ⊥)
+        → WritesServeAt words.entry (W.contents writer.old.inner) (W.contents writer.new.inner) result }
     ensures refused { RefusesServe words.entry → (HasFailed writer.old writer.new → ⊥)
         → Writes (Err Usage) (W.contents writer.old.inner) (W.contents writer.new.inner) result }
     ensures status { result ≤ 2 }
@@ -48,17 +71,62 @@ where
     }
 }
 
-/// One session of the replica in a file with the peer at an address. The words are judged first, as those of `serve`
-/// are.
-pub fn run_sync<H: Disk + Net, W: Write>(
+// Serves one session over the reader and the writer.
+fn serve_piped<H: Disk, R: Read, W: Write>(
+    rt: &H,
+    words: ServeWords<'_>,
+    reader: &mut Counted<R>,
+    writer: &mut Counted<W>,
+) -> u8
+where
+    H::File: LockFile,
+    ensures written { WritesPiped Server words.entry.file.now (RefusesServe words.entry)
+        (reading_of R.remaining reader.old reader.new)
+        (W.contents writer.old.inner) (W.contents writer.new.inner) result }
+    ensures refused { RefusesServe words.entry
+        → WritesNothing Usage (W.contents writer.old.inner) (W.contents writer.new.inner) result }
+    ensures status { result ≤ 2 }
+    ensures broken { (writer.new.failed ≡ writer.old.failed) ⊎ (result ≡ 1) }
+{
+    match (amount_of(words.sessions), amount_of(words.timeout)) {
+        (Ok(_), Ok(_)) if !is_beside(words.file) => {
+            pipe_file(rt, Side::Server, words.file, reader, writer)
+        }
+        _ => {
+            note_words(rt, words.file);
+            status_for(Fault::Usage)
+        }
+    }
+}
+
+/// One session of the replica in a file with the peer at an address, or over the reader and the writer where the address
+/// is `-`. The words are judged first, as those of `serve` are.
+pub fn run_sync<H: Disk + Net, R: Read, W: Write>(
     rt: &H,
     words: SyncWords<'_>,
+    reader: &mut Counted<R>,
     writer: &mut Counted<W>,
 ) -> u8
 where
     H::File: LockFile,
     ensures written { (HasFailed writer.old writer.new → ⊥)
-        → WritesSyncing words.entry (W.contents writer.old.inner) (W.contents writer.new.inner) result }
+        → WritesSyncing words.entry (reading_of R.remaining reader.old reader.new)
+        (W.contents writer.old.inner) (W.contents writer.new.inner) result }
+    ensures status { result ≤ 2 }
+    ensures broken { (writer.new.failed ≡ writer.old.failed) ⊎ (result ≡ 1) }
+{
+    if words.addr == "-" {
+        return sync_piped(rt, words, reader, writer);
+    }
+    sync_at(rt, words, writer)
+}
+
+// Calls the peer at an address.
+fn sync_at<H: Disk + Net, W: Write>(rt: &H, words: SyncWords<'_>, writer: &mut Counted<W>) -> u8
+where
+    H::File: LockFile,
+    ensures written { (HasFailed writer.old writer.new → ⊥)
+        → WritesSyncAt words.entry (W.contents writer.old.inner) (W.contents writer.new.inner) result }
     ensures refused { RefusesSync words.entry → (HasFailed writer.old writer.new → ⊥)
         → Writes (Err Usage) (W.contents writer.old.inner) (W.contents writer.new.inner) result }
     ensures status { result ≤ 2 }
@@ -71,6 +139,34 @@ where
         _ => {
             note_words(rt, words.file);
             write_fault(writer, Fault::Usage)
+        }
+    }
+}
+
+// Has one session over the reader and the writer.
+fn sync_piped<H: Disk, R: Read, W: Write>(
+    rt: &H,
+    words: SyncWords<'_>,
+    reader: &mut Counted<R>,
+    writer: &mut Counted<W>,
+) -> u8
+where
+    H::File: LockFile,
+    ensures written { WritesPiped Client words.entry.file.now (RefusesSync words.entry)
+        (reading_of R.remaining reader.old reader.new)
+        (W.contents writer.old.inner) (W.contents writer.new.inner) result }
+    ensures refused { RefusesSync words.entry
+        → WritesNothing Usage (W.contents writer.old.inner) (W.contents writer.new.inner) result }
+    ensures status { result ≤ 2 }
+    ensures broken { (writer.new.failed ≡ writer.old.failed) ⊎ (result ≡ 1) }
+{
+    match amount_of(words.timeout) {
+        Ok(_) if !is_beside(words.file) => {
+            pipe_file(rt, Side::Client, words.file, reader, writer)
+        }
+        _ => {
+            note_words(rt, words.file);
+            status_for(Fault::Usage)
         }
     }
 }

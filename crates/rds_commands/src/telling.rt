@@ -1,10 +1,10 @@
 //! Commands on the replica in a file, and what is written of them.
 ghost use Rattle.std.specs.Prelude.{◌≡◌, ◌≤◌, ◌⊎◌};
 ghost use Rattle.rds_keep.specs.Counted.{HasFailed};
-ghost use Rattle.rds_commands.specs.Told.{WritesEdit, WritesGrow, WritesInit, WritesShow};
+ghost use Rattle.rds_commands.specs.Told.{WritesEdit, WritesGrow, WritesIfChanged, WritesInit, WritesShow};
 
-use crate::file_commands::{edit_file, grow_file, init_file, show_file};
-use crate::notes::{note_edit, note_file, note_grow, note_init};
+use crate::file_commands::{edit_file, edit_if_changed, grow_file, init_file, show_file};
+use crate::notes::{note_cleared, note_edit, note_file, note_grow, note_init, note_unwritten};
 use rds_files::{Disk, LockFile};
 use rds_keep::Counted;
 use rds_lines::Layout;
@@ -63,6 +63,34 @@ where
     ensures broken { (writer.new.failed ≡ writer.old.failed) ⊎ (result ≡ 1) }
 {
     match edit_file(rt, path, words) {
+        Ok(done) => {
+            note_cleared(rt, words, &done.answer);
+            let status = write_reply(writer, Ok(done.into_answer()));
+            note_unwritten(rt, path, status);
+            status
+        }
+        Err(fault) => {
+            note_edit(rt, path, words, fault);
+            write_reply(writer, Err(fault))
+        }
+    }
+}
+
+/// Edits the replica in a file as `edit_if_changed` does, and writes the answer.
+pub fn run_edit_if_changed<H: Disk, W: Write>(
+    rt: &H,
+    path: &str,
+    words: &EditWords<'_>,
+    writer: &mut Counted<W>,
+) -> u8
+where
+    H::File: LockFile,
+    ensures written { (HasFailed writer.old writer.new → ⊥)
+        → WritesIfChanged path.now words.now (W.contents writer.old.inner) (W.contents writer.new.inner) result }
+    ensures status { result ≤ 2 }
+    ensures broken { (writer.new.failed ≡ writer.old.failed) ⊎ (result ≡ 1) }
+{
+    match edit_if_changed(rt, path, words) {
         Ok(done) => write_reply(writer, Ok(done.into_answer())),
         Err(fault) => {
             note_edit(rt, path, words, fault);

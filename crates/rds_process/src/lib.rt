@@ -9,6 +9,7 @@ ghost use Rattle.rds_output.specs.Output.{Writes};
 ghost use Rattle.rds_lines.specs.Run.{WritesJoin};
 ghost use Rattle.rds_words.specs.Commands.{join_words, sim_words};
 ghost use Rattle.rds_words.specs.Entered.{Names, mistakes_in, named_in};
+ghost use Rattle.rds_commands.specs.Reading.{reading_of};
 ghost use Rattle.rds_commands.specs.Told.{AnswersMistake, MayWriteNamed, WritesSim};
 
 use rds_commands::run;
@@ -24,7 +25,7 @@ use std::{env, io};
 
 /// Runs the program on the words that the process was called by, over its standard input and output.
 pub fn run_process(rt: &HostRuntime) -> ExitCode
-    ensures status { exit_status result ≤ 2 }
+    ensures status { exit_status result ≤ 3 }
 {
     let mut reader = counted(rt.reader());
     let mut writer = counted(io::writer(rt));
@@ -56,14 +57,14 @@ where
         → WritesSim input (W.contents writer.old.inner) (W.contents writer.new.inner) (exit_status result))) }
     ensures task { IfOk words.entry (λ words. mistakes_in (map S.text words.now) ≡ []
         → (HasFailed writer.old writer.new → ⊥)
-        → MayWriteNamed (named_in (map S.text words.now))
+        → MayWriteNamed (named_in (map S.text words.now)) (reading_of R.remaining reader.old reader.new)
         (W.contents writer.old.inner) (W.contents writer.new.inner) (exit_status result)) }
     ensures mistake { IfOk words.entry (λ words. mistakes_in (map S.text words.now) ≢ []
         → (HasFailed writer.old writer.new → ⊥)
         → AnswersMistake (mistakes_in (map S.text words.now))
         (W.contents writer.old.inner) (W.contents writer.new.inner) (exit_status result)) }
     ensures broken { (writer.new.failed ≡ writer.old.failed) ⊎ (exit_status result ≡ 1) }
-    ensures status { exit_status result ≤ 2 }
+    ensures status { exit_status result ≤ 3 }
 {
     match words {
         Ok(words) => code_of(run(rt, words, reader, writer)),

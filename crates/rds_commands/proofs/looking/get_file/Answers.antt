@@ -1,5 +1,5 @@
 use Rattle.std.proofs.lemmas.Result.{err_from_is_err_and}
-use Rattle.rds_commands.proofs.Getting.{no_answer, no_file, no_place, not_bad, not_root, root_keys}
+use Rattle.rds_commands.proofs.Getting.{no_answer, no_file, no_place, not_bad, not_root}
 use Rattle.rds_commands.proofs.looking.get_file.Goals as goal
 
 pub returns-in_err-above-clause-path : goal.returns-in_err-above-clause-path

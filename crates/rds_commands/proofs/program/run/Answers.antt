@@ -1,16 +1,9 @@
-use Rattle.std.proofs.Common.{◌≡◌, ◌≢◌, ℕ, List, Option, Err, inl, rules, subst}
-use Rattle.std.specs.Prelude.{IfSome}
-use Rattle.rds_names.specs.declared.fault.Fault.TheVariants.{Device}
-use Rattle.rds_output.specs.Output.{Writes}
-use Rattle.rds_words.specs.Task.{EditsByLines}
-use Rattle.rds_words.specs.declared.tasks.Task.{Task}
+use Rattle.std.proofs.Common.{inl, rules}
 use Rattle.rds_words.specs.declared.tasks.Task.TheVariants.{Sim}
-use Rattle.rds_keep.specs.Counted.{HasFailed}
-use Rattle.rds_commands.specs.Batch.{WritesEdits}
+use Rattle.rds_commands.specs.Reading.{reading_of}
 use Rattle.rds_lines.proofs.Running.{memory_begun, memory_written}
 use Rattle.rds_lines.proofs.Spent.{unread}
 use Rattle.rds_words.proofs.CommandWords.{is_memory}
-use Rattle.rds_commands.proofs.Batches.{edit_named, edits_unwritten}
 use Rattle.rds_commands.proofs.Entered.{memory_told, mistaken}
 use Rattle.rds_commands.proofs.SimTold.{sim_unwritten, sim_written, task_is, task_written}
 use Rattle.rds_commands.proofs.program.run.Goals as goal
@@ -42,24 +35,6 @@ returns-in-Err-clause-mistake_part g c = λ some. c.write_unparsed.ensures.kept
 pub returns-in-Ok-None-clause-task : goal.returns-in-Ok-None-clause-task
 returns-in-Ok-None-clause-task g c = search rules steps 1000000
 
-pub returns-in-Err-clause-edit : goal.returns-in-Err-clause-edit
-returns-in-Err-clause-edit g c = λ file names.
-    edits_unwritten file (g.R.Read.remaining c.args.reader.now.inner) (g.W.Write.contents c.args.writer.now.inner) (g.W.Write.contents c.write_unparsed.new.writer.inner) _ _ _
-    (memory_told c.in-Err.error (g.W.Write.contents c.args.writer.now.inner) (g.W.Write.contents c.write_unparsed.new.writer.inner) c.write_unparsed.result c.args.writer.now c.write_unparsed.new.writer
-    c.write_unparsed.ensures.written (c.in-Err.ensures.edit file names))
-
-pub returns-in-Ok-Some-clause-edit : goal.returns-in-Ok-Some-clause-edit
-returns-in-Ok-Some-clause-edit g c = λ file names.
-    edit_named (λ (p : List ℕ). IfSome (g.R.Read.remaining c.args.reader.now.inner) (λ input. (HasFailed c.args.reader.now c.run_task.new.reader → ⊥) → (HasFailed c.args.writer.now c.run_task.new.writer → ⊥)
-    → WritesEdits p input (g.W.Write.contents c.args.writer.now.inner) (g.W.Write.contents c.run_task.new.writer.inner) c.run_task.result))
-    file c.in-Ok-Some.task (subst (λ (t : Option Task). EditsByLines file t) c.in-Ok-Some.field-0-is (c.in-Ok-Some.ensures.edit file names)) c.run_task.ensures.edit
-
-pub returns-in-Ok-Some-clause-unread_edit : goal.returns-in-Ok-Some-clause-unread_edit
-returns-in-Ok-Some-clause-unread_edit g c = λ file names.
-    edit_named (λ (p : List ℕ). c.run_task.new.reader.failed ≢ c.args.reader.now.failed → (HasFailed c.args.writer.now c.run_task.new.writer → ⊥)
-    → Writes (Err Device) (g.W.Write.contents c.args.writer.now.inner) (g.W.Write.contents c.run_task.new.writer.inner) c.run_task.result)
-    file c.in-Ok-Some.task (subst (λ (t : Option Task). EditsByLines file t) c.in-Ok-Some.field-0-is (c.in-Ok-Some.ensures.edit file names)) c.run_task.ensures.unread_edit
-
 pub returns-in-Err-clause-join_part : goal.returns-in-Err-clause-join_part
 returns-in-Err-clause-join_part g c = λ names.
     memory_begun (g.R.Read.remaining c.args.reader.now.inner) (g.W.Write.contents c.args.writer.now.inner) (g.W.Write.contents c.write_unparsed.new.writer.inner) _
@@ -81,5 +56,5 @@ returns-in-Ok-Some-clause-cut g c = λ names. c.run_task.ensures.cut (task_is _ 
 
 pub returns-in-Ok-Some-clause-task : goal.returns-in-Ok-Some-clause-task
 returns-in-Ok-Some-clause-task g c = λ none wrote.
-    task_written _ c.in-Ok-Some.task _ (g.W.Write.contents c.args.writer.now.inner) (g.W.Write.contents c.run_task.new.writer.inner) c.run_task.result c.in-Ok-Some.field-0-is c.in-Ok-Some.ensures.task
+    task_written _ c.in-Ok-Some.task _ (reading_of g.R.Read.remaining c.args.reader.now c.run_task.new.reader) (g.W.Write.contents c.args.writer.now.inner) (g.W.Write.contents c.run_task.new.writer.inner) c.run_task.result c.in-Ok-Some.field-0-is c.in-Ok-Some.ensures.task
     (c.run_task.ensures.written wrote)

@@ -1,0 +1,58 @@
+-- What was written of what stands in a file.
+use Rattle.std.proofs.Common.{◌≡◌, ◌⊎◌, ◌∙◌, ◌+◌, ◌↔◌, ℕ, Bool, true, List, [], take, Option, Some, None, IsTrue, ap, inl, refl, subst}
+use Rattle.std.specs.Prelude.{IfSome}
+use Rattle.std.specs.Io.KnownBytes.{Appends}
+use Rattle.rds_names.specs.declared.fault.Fault.{Fault}
+use Rattle.rds_names.specs.declared.fault.Fault.TheVariants.{Memory}
+use Rattle.rds_codec.specs.declared.limits.TheConstants.{LIMIT}
+use Rattle.rds_state.specs.Fits.{ReplicaValue}
+use Rattle.rds_state.specs.declared.command.Command.{Command}
+use Rattle.rds_listing.specs.Differences.{differences_text}
+use Rattle.rds_listing.specs.Presence.{Stands}
+use Rattle.rds_files.specs.Files.{FileValue, IsReadAt}
+use Rattle.rds_listing.specs.declared.bare.Raw.{Raw}
+use Rattle.rds_listing.specs.declared.bare.Wanted.{Wanted}
+use Rattle.rds_state.specs.Value.{StateValue}
+use Rattle.rds_commands.specs.Listing.{ComparesFiles, GetsRaw, ListsFile, WritesList, WritesRaw, WritesValues, lines_status}
+use Rattle.rds_commands.specs.Offline.{WritesAnswer, WritesNothing, WritesTold, text_read}
+
+-- the values that stood there
+pub values_written : (path text : List ℕ) (wanted : Wanted) (file : FileValue) (told raw : Raw) (before after : Option (List ℕ)) (status : ℕ) → GetsRaw path text wanted file told → raw ≡ told → WritesValues raw before after status
+    → WritesRaw path text wanted before after status
+values_written path text wanted file told raw before after status gets is writes = inl (file, told, gets, subst (λ (r : Raw). WritesValues r before after status) is writes)
+
+-- the lines that were told
+pub lines_written : (lines_of : StateValue → List (List ℕ) → List ℕ) (some : ℕ) (path text : List ℕ) (file : FileValue) (told given : List ℕ) (before after : Option (List ℕ)) (status : ℕ) → ListsFile lines_of path text file told
+    → given ≡ told → Appends before after given → status ≡ lines_status some given → WritesList lines_of some path text before after status
+lines_written lines_of some path text file told given before after status lists is appends due =
+    inl (file, told, lists, subst (λ (t : List ℕ). Appends before after t) is appends, subst (λ (t : List ℕ). status ≡ lines_status some t) is due)
+
+-- the bytes that were told
+pub bytes_written : (comes : FileValue → List ℕ → Type 0) (refuses : Fault → Type 0) (file : FileValue) (told given : List ℕ) (before after : Option (List ℕ)) (status : ℕ) → comes file told → given ≡ told → Appends before after given → status ≡ 0
+    → WritesTold comes refuses before after status
+bytes_written comes refuses file told given before after status came is appends done = inl (file, told, came, subst (λ (t : List ℕ). Appends before after t) is appends, done)
+
+-- what is said of the first bytes of an input is said of the text that is read of it
+pub answer_written : (path : List ℕ) (o a b : Option (List ℕ)) (front seen : List ℕ) (Steady : Type 0) (status : ℕ) → IfSome o (λ input. front ≡ take (LIMIT + 1) input) → seen ≡ front → WritesAnswer path seen a b status
+    → IfSome o (λ input. Steady → WritesAnswer path (text_read input) a b status ⊎ WritesNothing Memory a b status)
+answer_written path None a b front seen Steady status is same h = tt
+answer_written path (Some input) a b front seen Steady status is same h = λ steady. inl (subst (λ (i : List ℕ). WritesAnswer path i a b status) (same ∙ is) h)
+
+-- the lines of what one of two files shows and the other doesn't
+pub compares_files : (path other : List ℕ) (first second : FileValue) (lines : List ℕ) (a b : StateValue) (root : List (List ℕ)) (p q : ReplicaValue) → IsReadAt path first → IsReadAt other second → a ≡ p.state → p ≡ first.kept → b ≡ q.state
+    → q ≡ second.kept → root ≡ [] → lines ≡ differences_text a b root → ComparesFiles path other lines
+compares_files path other first second lines a b root p q first_read second_read a_is p_is b_is q_is root_is are = record {
+  first = first;
+  first_read = first_read;
+  second = second;
+  second_read = second_read;
+  are = are ∙ same_lines a first.kept.state b second.kept.state root [] (a_is ∙ ap (λ (r : ReplicaValue). r.state) p_is) (b_is ∙ ap (λ (r : ReplicaValue). r.state) q_is) root_is;
+}
+  where
+    same_lines : (a x b y : StateValue) (r s : List (List ℕ)) → a ≡ x → b ≡ y → r ≡ s → differences_text a b r ≡ differences_text x y s
+    same_lines a x b y r s e f h = rw (e, f, h) refl
+
+-- what stands in what a file held
+pub stands_in : (held : ReplicaValue) (state : StateValue) (kept : ReplicaValue) (command : Command) (same : Bool) → (IsTrue same ↔ Stands state command) → same ≡ true → state ≡ kept.state → kept ≡ held → Stands held.state command
+stands_in held state kept command same exact is state_is kept_is =
+    subst (λ (s : StateValue). Stands s command) (state_is ∙ ap (λ (r : ReplicaValue). r.state) kept_is) (exact.0 is)

@@ -1,0 +1,48 @@
+-- Questions and answers that go as texts, as events of the model.
+use Rattle.std.specs.Prelude.{◌≡◌, ℕ, List, [], ◌∷◌, length, Some, slice_get}
+use Rattle.rds_files.specs.Files.{FileValue, ReplacedValue}
+use Rattle.rds_offline.specs.Letters.{AnswersFile, AsksFile, TakesFile}
+use Rattle.rds_state.specs.Fits.{ReplicaValue}
+use Rattle.rds_state.specs.Value.{coordinates}
+use Rattle.rds_world.specs.Coherent.{HasRosters}
+use Rattle.rds_world.specs.World.{World, Accepted, Question, run}
+use Rattle.rds_world.specs.declared.event.Event.{Event}
+use Rattle.rds_world.specs.declared.event.Event.TheVariants.{Answer, Ask}
+use Rattle.rds_commands.specs.Sessions.{IsAnsweredIn, IsKeptIn, LeavesFile, settling_events}
+
+-- the question with this number is what a replica asked of what it had kept then
+pub record IsAskedIn (w : World) (number : ℕ) (asked : ReplicaValue) : Type 0 where
+  pub question : Question
+  pub ask : slice_get w.asks number ≡ Some question
+  pub asker : question.asker ≡ asked.own
+  pub names : question.names ≡ length asked.roster.names
+  pub state : question.state ≡ coordinates asked.state
+
+abbrev pub ask_events : ReplicaValue → List Event
+ask_events asked = Ask asked.own ∷ []
+
+abbrev pub answer_events : ReplicaValue → ℕ → List Event
+answer_events peer number = Answer peer.own number ∷ []
+
+-- a question that is written of a file is what its replica asks in the model
+abbrev pub QuestionsAreAsks : Type 0
+QuestionsAreAsks = (w : World) (path bytes : List ℕ) (file : FileValue) → AsksFile path file bytes → IsKeptIn w file.kept
+    → Accepted (ask_events file.kept) w × IsAskedIn (run (ask_events file.kept) w) (length w.asks) file.kept
+
+-- an answer that is written of a file to that question, at any later time, is what its replica answers in the model
+abbrev pub AnswersAreAnswers : Type 0
+AnswersAreAnswers =
+    (w : World) (number : ℕ) (asked_path path question answer : List ℕ) (asking answering : FileValue)
+    → AsksFile asked_path asking question → IsAskedIn w number asking.kept
+    → AnswersFile path question answering answer → IsKeptIn w answering.kept
+    → Accepted (answer_events answering.kept number) w
+    × IsAnsweredIn (run (answer_events answering.kept number) w) (length w.answers) asking.kept answering.kept
+
+-- a file that takes that answer to that question, at any later time, is a replica that takes it in the model
+abbrev pub TakesAreTakes : Type 0
+TakesAreTakes =
+    (w : World) (number components : ℕ) (asked_path peer_path path question answer : List ℕ)
+    (asking answering : FileValue) (file : ReplacedValue) → HasRosters w → AsksFile asked_path asking question
+    → AnswersFile peer_path question answering answer → IsAnsweredIn w number asking.kept answering.kept
+    → IsKeptIn w file.before → TakesFile path question answer file components
+    → LeavesFile w (settling_events asking.kept number) file

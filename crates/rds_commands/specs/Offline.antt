@@ -1,0 +1,87 @@
+-- What is written of files that meet without a connection.
+use Rattle.std.specs.Prelude.{◌≡◌, ◌⊎◌, ◌+◌, ℕ, List, [], take, Option, IfSome, Err}
+use Rattle.std.specs.Io.KnownBytes.{Appends}
+use Rattle.rds_names.specs.declared.fault.Fault.{Fault}
+use Rattle.rds_names.specs.declared.fault.Fault.TheVariants.{Device, Memory, Usage}
+use Rattle.rds_codec.specs.declared.limits.TheConstants.{LIMIT}
+use Rattle.rds_files.specs.Files.{FileValue, IsUnread}
+use Rattle.rds_offline.specs.Copies.{InitsFrom, MergesFile, RefusesInitFrom, RefusesMergeFile}
+use Rattle.rds_offline.specs.Letters.{AnswersFile, AsksFile, ChecksTexts, RefusesAnswer, RefusesCheck, RefusesTake, TakesFile}
+use Rattle.rds_output.specs.Output.{Writes, fault_status}
+use Rattle.rds_output.specs.declared.reply.Reply.TheVariants.{Done, Taken}
+use Rattle.rds_words.specs.declared.tasks.InitFromWords.{InitFromWords}
+use Rattle.rds_commands.specs.OfFile.{WritesOfFile}
+use Rattle.rds_commands.specs.Reading.{Reading}
+
+-- ---- copies
+
+abbrev pub WritesInitFrom : InitFromWords → Option (List ℕ) → Option (List ℕ) → ℕ → Type 0
+WritesInitFrom words =
+    WritesOfFile (λ file answer. InitsFrom words.file.now words.from.now words.own.now file × (answer ≡ Done))
+    (RefusesInitFrom words.own.now)
+
+abbrev pub WritesMerge : List ℕ → List ℕ → Option (List ℕ) → Option (List ℕ) → ℕ → Type 0
+WritesMerge path from =
+    WritesOfFile (λ file answer. (components : ℕ) × MergesFile path from file components × (answer ≡ Taken components))
+    (RefusesMergeFile path)
+
+-- ---- questions and answers
+
+-- nothing was written, and the fault's status is answered
+abbrev pub WritesNothing : Fault → Option (List ℕ) → Option (List ℕ) → ℕ → Type 0
+WritesNothing fault before after status = Appends before after [] × (status ≡ fault_status fault)
+
+-- the bytes that came with such a file were written, and nothing else; or, for such a fault, nothing
+abbrev pub WritesTold : (FileValue → List ℕ → Type 0) → (Fault → Type 0) → Option (List ℕ) → Option (List ℕ) → ℕ → Type 0
+WritesTold comes refuses before after status =
+    ((file : FileValue) × (bytes : List ℕ) × comes file bytes × Appends before after bytes × (status ≡ 0))
+    ⊎ ((fault : Fault) × refuses fault × WritesNothing fault before after status)
+
+abbrev pub WritesAsk : List ℕ → Option (List ℕ) → Option (List ℕ) → ℕ → Type 0
+WritesAsk path = WritesTold (AsksFile path) IsUnread
+
+-- the answer to a question
+abbrev pub WritesAnswer : List ℕ → List ℕ → Option (List ℕ) → Option (List ℕ) → ℕ → Type 0
+WritesAnswer path question = WritesTold (AnswersFile path question) (RefusesAnswer question)
+
+-- as much of an input as is read of a text: all of it, or one byte more than a text may have
+abbrev pub text_read : List ℕ → List ℕ
+text_read input = take (LIMIT + 1) input
+
+-- the answer to the question that the input is, or there is no input to be read
+abbrev pub WritesAnswerTo : List ℕ → Reading → Option (List ℕ) → Option (List ℕ) → ℕ → Type 0
+WritesAnswerTo path reading before after status =
+    IfSome reading.held
+    (λ input. (reading.MayHaveFailed → ⊥)
+    → WritesAnswer path (text_read input) before after status ⊎ WritesNothing Memory before after status)
+    × (reading.CountRose → WritesNothing Device before after status)
+
+-- how many components the answer brought that these bytes are to the question that those are, into a file that took it;
+-- or why it took nothing
+abbrev pub WritesTakeOf : List ℕ → List ℕ → List ℕ → Option (List ℕ) → Option (List ℕ) → ℕ → Type 0
+WritesTakeOf path question answer =
+    WritesOfFile
+    (λ file reply. (components : ℕ) × TakesFile path question answer file components × (reply ≡ Taken components))
+    (RefusesTake path question answer)
+
+-- why question and answer aren't given: both are the input, or a file or the input can't be read; or want of memory
+abbrev pub IsUngiven : Fault → Type 0
+IsUngiven fault = (fault ≡ Usage) ⊎ ((fault ≡ Device) ⊎ (fault ≡ Memory))
+
+-- the same of some bytes, or there are none
+abbrev pub WritesTake : List ℕ → Option (List ℕ) → Option (List ℕ) → ℕ → Type 0
+WritesTake path before after status =
+    ((question : List ℕ) × (answer : List ℕ) × WritesTakeOf path question answer before after status)
+    ⊎ ((fault : Fault) × IsUngiven fault × Writes (Err fault) before after status)
+
+-- question and answer aren't given, or the answer brings nothing
+abbrev pub IsUnchecked : Fault → Type 0
+IsUnchecked fault =
+    IsUngiven fault ⊎ ((question : List ℕ) × (answer : List ℕ) × RefusesCheck question answer fault)
+
+-- the lines of what an answer brings were written, and nothing else; or why there are none
+abbrev pub WritesCheck : Option (List ℕ) → Option (List ℕ) → ℕ → Type 0
+WritesCheck before after status =
+    ((question : List ℕ) × (answer : List ℕ) × (lines : List ℕ) × ChecksTexts question answer lines
+    × Appends before after lines × (status ≡ 0))
+    ⊎ ((fault : Fault) × IsUnchecked fault × Writes (Err fault) before after status)

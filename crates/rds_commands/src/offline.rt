@@ -1,0 +1,288 @@
+//! Commands on files that meet without a connection, and what is written of them.
+ghost use Rattle.std.specs.Prelude.{◌≡◌, ◌≤◌, ◌⊎◌, ℕ, List, IfErr, IfOk, string_bytes};
+ghost use Rattle.rds_keep.specs.Counted.{HasFailed};
+ghost use Rattle.rds_names.specs.declared.fault.Fault.TheVariants.{Device};
+ghost use Rattle.rds_offline.specs.Letters.{ChecksTexts};
+ghost use Rattle.rds_output.specs.Output.{fault_status};
+ghost use Rattle.rds_commands.specs.Offline.{IsUnchecked, IsUngiven, WritesAnswer, WritesAnswerTo, WritesAsk, WritesCheck, WritesInitFrom, WritesMerge, WritesTake, WritesTakeOf};
+ghost use Rattle.rds_commands.specs.Reading.{reading_of};
+
+use crate::notes::{note_answer, note_file, note_init, note_input, note_merge, note_take};
+use rds_codec::LIMIT;
+use rds_files::{Disk, LockFile};
+use rds_keep::Counted;
+use rds_names::Fault;
+use rds_offline::{answer_file, ask_file, check_texts, init_from, merge_file, take_file};
+use rds_output::{Reply, status_of, write_fault, write_reply};
+use rds_words::InitFromWords;
+use std::fs;
+use std::io::{Read, Write};
+
+/// A question and its answer, in words.
+#[derive(Clone, Copy, Debug)]
+pub struct TakeWords<'a> {
+    /// The file that takes the answer.
+    pub file: &'a str,
+    /// The question's file, or `-` for the input.
+    pub question: &'a str,
+    /// The answer's file, or `-` for the input.
+    pub answer: &'a str,
+}
+
+/// Makes a file as `init_from` does, and writes the answer.
+pub fn run_init_from<H: Disk, W: Write>(
+    rt: &H,
+    words: &InitFromWords<'_>,
+    writer: &mut Counted<W>,
+) -> u8
+where
+    H::File: LockFile,
+    ensures written { (HasFailed writer.old writer.new → ⊥)
+        → WritesInitFrom words.now (W.contents writer.old.inner) (W.contents writer.new.inner) result }
+    ensures status { result ≤ 2 }
+    ensures broken { (writer.new.failed ≡ writer.old.failed) ⊎ (result ≡ 1) }
+{
+    match init_from(rt, words.file, words.from, words.own) {
+        Ok(_file) => write_reply(writer, Ok(Reply::Done)),
+        Err(fault) => {
+            note_init(rt, words.file, fault);
+            write_reply(writer, Err(fault))
+        }
+    }
+}
+
+/// Merges a copy into a file as `merge_file` does, and writes how many components were taken.
+pub fn run_merge<H: Disk, W: Write>(rt: &H, path: &str, from: &str, writer: &mut Counted<W>) -> u8
+where
+    H::File: LockFile,
+    ensures written { (HasFailed writer.old writer.new → ⊥)
+        → WritesMerge path.now from.now (W.contents writer.old.inner) (W.contents writer.new.inner) result }
+    ensures status { result ≤ 2 }
+    ensures broken { (writer.new.failed ≡ writer.old.failed) ⊎ (result ≡ 1) }
+{
+    match merge_file(rt, path, from) {
+        Ok(done) => write_reply(writer, Ok(Reply::Taken(done.into_components()))),
+        Err(fault) => {
+            note_merge(rt, path, from, fault);
+            write_reply(writer, Err(fault))
+        }
+    }
+}
+
+/// Writes the question of the replica in a file as `ask_file` gives it, and nothing else. A fault is told on standard
+/// error alone.
+pub fn run_ask<H: Disk, W: Write>(rt: &H, path: &str, writer: &mut Counted<W>) -> u8
+where
+    H::File: LockFile,
+    ensures written { (HasFailed writer.old writer.new → ⊥)
+        → WritesAsk path.now (W.contents writer.old.inner) (W.contents writer.new.inner) result }
+    ensures status { result ≤ 2 }
+    ensures broken { (writer.new.failed ≡ writer.old.failed) ⊎ (result ≡ 1) }
+{
+    match ask_file(rt, path) {
+        Ok(told) => status_of(writer.write_all(&told.into_bytes()), 0),
+        Err(fault) => {
+            note_file(rt, path, fault);
+            status_for(fault)
+        }
+    }
+}
+
+/// Writes the answer to the question that the reader holds as `answer_file` gives it, and nothing else. A fault is told
+/// on standard error alone. Where the reader fails, the file isn't used.
+pub fn run_answer<H: Disk, R: Read, W: Write>(
+    rt: &H,
+    path: &str,
+    reader: &mut Counted<R>,
+    writer: &mut Counted<W>,
+) -> u8
+where
+    H::File: LockFile,
+    ensures written { (HasFailed writer.old writer.new → ⊥)
+        → WritesAnswerTo path.now (reading_of R.remaining reader.old reader.new)
+        (W.contents writer.old.inner) (W.contents writer.new.inner) result }
+    ensures status { result ≤ 2 }
+    ensures broken { (writer.new.failed ≡ writer.old.failed) ⊎ (result ≡ 1) }
+{
+    match reader.read_front(rt.alloc(), LIMIT + 1) {
+        Ok(question) => answer_to(rt, path, &question, writer),
+        Err(fault) => {
+            note_input(rt, fault);
+            status_for(fault)
+        }
+    }
+}
+
+// Writes the answer to a question.
+fn answer_to<H: Disk, W: Write>(rt: &H, path: &str, question: &[u8], writer: &mut Counted<W>) -> u8
+where
+    H::File: LockFile,
+    ensures written { (HasFailed writer.old writer.new → ⊥)
+        → WritesAnswer path.now question.now (W.contents writer.old.inner) (W.contents writer.new.inner) result }
+    ensures status { result ≤ 2 }
+    ensures broken { (writer.new.failed ≡ writer.old.failed) ⊎ (result ≡ 1) }
+{
+    match answer_file(rt, path, question) {
+        Ok(told) => status_of(writer.write_all(&told.into_bytes()), 0),
+        Err(fault) => {
+            note_answer(rt, path, fault);
+            status_for(fault)
+        }
+    }
+}
+
+/// Takes an answer into a file as `take_file` does, and writes how many components were taken. Question and answer are
+/// read from the files at two paths, of which one may be `-`, the reader.
+pub fn run_take<H: Disk, R: Read, W: Write>(
+    rt: &H,
+    words: TakeWords<'_>,
+    reader: &mut Counted<R>,
+    writer: &mut Counted<W>,
+) -> u8
+where
+    H::File: LockFile,
+    ensures written { (HasFailed writer.old writer.new → ⊥)
+        → WritesTake words.entry.file.now (W.contents writer.old.inner) (W.contents writer.new.inner) result }
+    ensures status { result ≤ 2 }
+    ensures broken { (writer.new.failed ≡ writer.old.failed) ⊎ (result ≡ 1) }
+{
+    match read_both(rt, words.question, words.answer, reader) {
+        Ok((question, answer)) => take_both(rt, words.file, &question, &answer, writer),
+        Err(fault) => write_fault(writer, fault),
+    }
+}
+
+// Takes an answer to a question.
+fn take_both<H: Disk, W: Write>(
+    rt: &H,
+    path: &str,
+    question: &[u8],
+    answer: &[u8],
+    writer: &mut Counted<W>,
+) -> u8
+where
+    H::File: LockFile,
+    ensures written { (HasFailed writer.old writer.new → ⊥)
+        → WritesTakeOf path.now question.now answer.now
+        (W.contents writer.old.inner) (W.contents writer.new.inner) result }
+    ensures status { result ≤ 2 }
+    ensures broken { (writer.new.failed ≡ writer.old.failed) ⊎ (result ≡ 1) }
+{
+    match take_file(rt, path, question, answer) {
+        Ok(done) => write_reply(writer, Ok(Reply::Taken(done.into_components()))),
+        Err(fault) => {
+            note_take(rt, path, fault);
+            write_reply(writer, Err(fault))
+        }
+    }
+}
+
+/// Writes what an answer brings to a question as `check_texts` tells it, or why it brings nothing. They are read as for
+/// `run_take`.
+pub fn run_check<H: Disk, R: Read, W: Write>(
+    rt: &H,
+    question: &str,
+    answer: &str,
+    reader: &mut Counted<R>,
+    writer: &mut Counted<W>,
+) -> u8
+    ensures written { (HasFailed writer.old writer.new → ⊥)
+        → WritesCheck (W.contents writer.old.inner) (W.contents writer.new.inner) result }
+    ensures status { result ≤ 2 }
+    ensures broken { (writer.new.failed ≡ writer.old.failed) ⊎ (result ≡ 1) }
+{
+    match checked(rt, question, answer, reader) {
+        Ok(lines) => status_of(writer.write_all(lines.as_bytes()), 0),
+        Err(fault) => write_fault(writer, fault),
+    }
+}
+
+// What an answer brings to a question.
+fn checked<H: Disk, R: Read>(
+    rt: &H,
+    question: &str,
+    answer: &str,
+    reader: &mut Counted<R>,
+) -> Result<String, Fault>
+    ensures checked { IfOk result (λ lines. (question : List ℕ) × (answer : List ℕ)
+        × ChecksTexts question answer (string_bytes lines)) }
+    ensures fault { IfErr result IsUnchecked }
+{
+    let (question, answer) = read_both(rt, question, answer, reader)?;
+    match check_texts(rt.alloc(), &question, &answer) {
+        Ok(lines) => Ok(lines),
+        Err(fault) => {
+            let _ = eprintln!(rt; "the answer isn't taken for one: {fault}");
+            Err(fault)
+        }
+    }
+}
+
+// The bytes of the question and of the answer.
+fn read_both<H: Disk, R: Read>(
+    rt: &H,
+    question: &str,
+    answer: &str,
+    reader: &mut Counted<R>,
+) -> Result<(Vec<u8>, Vec<u8>), Fault>
+    ensures fault { IfErr result IsUngiven }
+{
+    if question == "-" && answer == "-" {
+        let _ = eprintln!(rt; "QUESTION and ANSWER can't both be standard input");
+        return Err(Fault::Usage);
+    }
+    let question = read_text(rt, question, reader)?;
+    let answer = read_text(rt, answer, reader)?;
+    Ok((question, answer))
+}
+
+// The first bytes of the file at a path, or of the reader for `-`: all of them, or one more than a text may have.
+fn read_text<H: Disk, R: Read>(
+    rt: &H,
+    path: &str,
+    reader: &mut Counted<R>,
+) -> Result<Vec<u8>, Fault>
+    ensures fault { IfErr result IsUngiven }
+{
+    if path == "-" {
+        return match reader.read_front(rt.alloc(), LIMIT + 1) {
+            Ok(text) => Ok(text),
+            Err(fault) => {
+                note_input(rt, fault);
+                Err(fault)
+            }
+        };
+    }
+    let opened = open_text(rt, path)?;
+    match Counted::new(opened).read_front(rt.alloc(), LIMIT + 1) {
+        Ok(text) => Ok(text),
+        Err(fault) => {
+            note_file(rt, path, fault);
+            Err(fault)
+        }
+    }
+}
+
+// The file at a path.
+fn open_text<H: Disk>(rt: &H, path: &str) -> Result<H::File, Fault>
+    ensures fault { IfErr result (λ fault. fault ≡ Device) }
+{
+    match fs::open(rt, path) {
+        Ok(file) => Ok(file),
+        Err(error) => {
+            let _ = eprintln!(rt; "cannot open {path}: {error}");
+            Err(Fault::Device)
+        }
+    }
+}
+
+/// The status of a fault that is told on standard error alone: 2 for `Usage`, else 1.
+pub fn status_for(fault: Fault) -> u8
+    ensures status { result ≡ fault_status fault }
+    ensures within { result ≤ 2 }
+{
+    match fault {
+        Fault::Usage => 2,
+        _ => 1,
+    }
+}
