@@ -12,9 +12,9 @@ use rds_rows::words::first;
 use rds_state::Replica;
 use std::alloc::{Alloc, Global};
 
-/// `disk ACTION FILE CALL`: opens, makes or replaces a replica in a file of a disk on which this call fails, or asks whether
-/// the file is there. The input is what files hold, and where it is empty there are none; one that is made isn't there
-/// unless the call is `there FILE`. Answers the calls that were made, and what came of it.
+/// `disk ACTION FILE CALL`: opens, makes or replaces a replica in a file of a disk on which this call fails, makes what
+/// it reads last, or asks whether the file is there. The input is what files hold, and where it is empty there are none;
+/// one that is made isn't there unless the call is `there FILE`. Answers the calls that were made, and what came of it.
 pub fn answer_disk(alloc: Global, row: &str, input: &[u8]) -> Result<String, Fault> {
     let (action, row) = first(row);
     let (path, fails) = first(row);
@@ -41,6 +41,7 @@ fn act(disk: &Disk<'_>, action: &str, path: &str) -> Result<&'static str, Fault>
     match action {
         "there" => there(disk, path),
         "open" => opened(disk, path),
+        "last" => made_to_last(disk, path),
         "create" | "replace" => changed(disk, action, path),
         _ => Err(Fault::Usage),
     }
@@ -57,6 +58,11 @@ fn there(disk: &Disk<'_>, path: &str) -> Result<&'static str, Fault> {
 fn opened(disk: &Disk<'_>, path: &str) -> Result<&'static str, Fault> {
     let _file: ReplicaFile<'_, GapSet> = ReplicaFile::open(disk, path)?;
     Ok("opened")
+}
+
+fn made_to_last(disk: &Disk<'_>, path: &str) -> Result<&'static str, Fault> {
+    let _file: ReplicaFile<'_, GapSet> = ReplicaFile::open_lasting(disk, path)?;
+    Ok("lasts")
 }
 
 // Writes the replica of the input.

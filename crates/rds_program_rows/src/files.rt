@@ -4,6 +4,7 @@ use rds_rows::told::{digits_of, said};
 use rds_rows::words::{bytes_of, cut, first};
 use std::fs::Permissions;
 use std::os::unix::fs::PermissionsExt;
+use std::rt::Files;
 use std::{fs, io};
 
 /// `put FILE HEX`: writes the bytes of these hex digits into a file.
@@ -18,6 +19,15 @@ pub fn hold(rt: &HostRuntime, file: &str) -> Result<String, Fault> {
     match fs::read(rt, file) {
         Ok(bytes) => digits_of(rt.alloc(), &bytes),
         Err(_) => said(rt.alloc(), "no file"),
+    }
+}
+
+/// `copy FILE NAME`: writes what a file has into the file of this name.
+pub fn copy(rt: &HostRuntime, rest: &str) -> Result<String, Fault> {
+    let (file, name) = cut(rest)?;
+    match fs::read(rt, file) {
+        Ok(bytes) => told_done(rt, fs::write(rt, name, bytes.as_slice())),
+        Err(_) => said(rt.alloc(), "not done"),
     }
 }
 
@@ -57,6 +67,26 @@ pub fn set_mode(rt: &HostRuntime, rest: &str) -> Result<String, Fault> {
         rt,
         fs::set_permissions(rt, file, Permissions::from_mode(mode)),
     )
+}
+
+/// `link FILE NAME`: makes a symbolic link of this name that leads to the file.
+pub fn link(rt: &HostRuntime, rest: &str) -> Result<String, Fault> {
+    let (file, name) = cut(rest)?;
+    told_done(rt, rt.symlink(file, name))
+}
+
+/// `name FILE NAME`: gives a file one name more.
+pub fn name(rt: &HostRuntime, rest: &str) -> Result<String, Fault> {
+    let (file, name) = cut(rest)?;
+    told_done(rt, fs::hard_link(rt, file, name))
+}
+
+/// `leads NAME`: what a symbolic link leads to.
+pub fn leads(rt: &HostRuntime, name: &str) -> Result<String, Fault> {
+    match fs::read_link(rt, name) {
+        Ok(path) => Ok(path.into_string()),
+        Err(_) => said(rt.alloc(), "no link"),
+    }
 }
 
 fn told_done(rt: &HostRuntime, done: io::Result<()>) -> Result<String, Fault> {

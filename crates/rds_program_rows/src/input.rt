@@ -3,6 +3,7 @@ use crate::told::count_told;
 use rds_names::Fault;
 use rds_rows::words::{bytes_of, cut, number};
 use std::alloc::{AllocError, Global};
+use std::fs;
 
 /// The bytes that the program is to read.
 #[derive(Drop)]
@@ -44,6 +45,15 @@ impl Input {
         let bytes = bytes_of(alloc, digits)?;
         self.add(&bytes)?;
         self.told(alloc)
+    }
+
+    /// `<f FILE`: adds the bytes of a file.
+    pub fn add_file(&mut self, rt: &HostRuntime, file: &str) -> Result<String, Fault> {
+        let Ok(bytes) = fs::read(rt, file) else {
+            return Err(Fault::Device);
+        };
+        self.add(&bytes)?;
+        self.told(rt.alloc())
     }
 
     /// `<n COUNT TEXT`: adds a text so many times.

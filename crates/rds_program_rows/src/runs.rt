@@ -7,6 +7,7 @@ use rds_names::Fault;
 use rds_rows::told::said;
 use rds_rows::words::{cut, number};
 use std::alloc::{AllocError, Global};
+use std::fs;
 
 /// `$ WORDS`: runs the program on these words behind its name, with spaces between them.
 pub fn run_spaced(rt: &HostRuntime, words: &str, input: &[u8]) -> Result<String, Fault> {
@@ -43,6 +44,18 @@ pub fn run_long(rt: &HostRuntime, rest: &str, input: &[u8]) -> Result<String, Fa
     let words = named(rt.alloc(), words)?;
     let (written, status) = run_on(rt, &words, input);
     last_told(rt.alloc(), &written, number(count)? as usize, status)
+}
+
+/// `into FILE WORDS`: runs the program on these words behind its name, with spaces between them, and puts what it writes
+/// into a file. Answers the status alone.
+pub fn run_into(rt: &HostRuntime, rest: &str, input: &[u8]) -> Result<String, Fault> {
+    let (file, words) = cut(rest)?;
+    let words = named(rt.alloc(), words)?;
+    let (written, status) = run_on(rt, &words, input);
+    let Ok(()) = fs::write(rt, file, written.as_slice()) else {
+        return Err(Fault::Device);
+    };
+    status_told(rt.alloc(), b"", status)
 }
 
 // What the program writes, and its status.

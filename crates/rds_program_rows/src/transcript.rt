@@ -1,18 +1,21 @@
 //! Which row does what.
 use crate::addresses::{run_away, run_busy};
 use crate::disk::answer_disk;
-use crate::files::{hold, make_folder, mode, put, remove_file, remove_folder, set_mode};
+use crate::files::{
+    copy, hold, leads, link, make_folder, mode, name, put, remove_file, remove_folder, set_mode,
+};
 use crate::input::Input;
 use crate::lengths::answer_lengths;
 use crate::replicas::{components_told, keep, read, replace, settle_nothing, settle_received};
 use crate::runs::{
-    run_barred, run_long, run_reading, run_renamed, run_spaced, run_writing, usual_turns,
+    run_barred, run_into, run_long, run_reading, run_renamed, run_spaced, run_writing, usual_turns,
 };
 use crate::sessions::Sessions;
 use crate::simulated::Simulated;
 use crate::sizes::{add_digits_in, fill, holds_as, run_as};
 use crate::wire::{
-    answer_by_lines, answer_notes, answer_over, answer_serving, answer_talk, answer_wire,
+    answer_by_lines, answer_notes, answer_over, answer_piped, answer_serving, answer_slow,
+    answer_talk, answer_wire,
 };
 use crate::worlds::Worlds;
 use rds_dots::ListSet;
@@ -58,6 +61,7 @@ impl<'a> Transcript<'a> {
             "<" => self.input.add_line(rest)?,
             "<-" => self.input.add(rest.as_bytes())?,
             "<x" => return self.input.add_digits(alloc, rest),
+            "<f" => return self.input.add_file(self.rt, rest),
             "<n" => return self.input.add_repeated(alloc, rest),
             "<," => return self.input.add_listed(alloc, rest),
             "<@" => return self.input.add_bytes_numbered(alloc, rest),
@@ -74,6 +78,7 @@ impl<'a> Transcript<'a> {
             "$" => run_spaced(self.rt, rest, input),
             "$|" => run_barred(self.rt, rest, input),
             "$$" => run_renamed(self.rt, rest, input),
+            "into" => run_into(self.rt, rest, input),
             "last" => run_long(self.rt, rest, input),
             "reads" => run_reading(self.rt, rest, input),
             "writes" => run_writing(self.rt, rest, input),
@@ -83,19 +88,24 @@ impl<'a> Transcript<'a> {
         }
     }
 
-    // Rows about files.
-    fn answer_file(&self, name: &str, rest: &str) -> Result<String, Fault> {
-        match name {
+    // Rows about files, and none else.
+    fn answer_file(&self, action: &str, rest: &str) -> Result<String, Fault> {
+        match action {
             "put" => put(self.rt, rest),
             "hold" => hold(self.rt, rest),
+            "copy" => copy(self.rt, rest),
             "folder" => make_folder(self.rt, rest),
             "remove" => remove_file(self.rt, rest),
             "replace" => replace(self.rt, rest),
             "mode" => mode(self.rt, rest),
             "set_mode" => set_mode(self.rt, rest),
+            "link" => link(self.rt, rest),
+            "name" => name(self.rt, rest),
+            "leads" => leads(self.rt, rest),
             "fill" => fill(self.rt, rest, self.input.as_slice()),
             "holds_as" => holds_as(self.rt, rest),
-            _ => remove_folder(self.rt, rest),
+            "remove_folder" => remove_folder(self.rt, rest),
+            _ => Err(Fault::Usage),
         }
     }
 
@@ -125,12 +135,19 @@ impl Table for Transcript<'_> {
         match name {
             "session" => answer_words(&mut self.sessions, alloc, rest),
             "world" => answer_words(&mut self.worlds, alloc, rest),
-            "empty" | "<" | "<-" | "<x" | "<n" | "<#" | "<," | "<@" | "digits" => {
+            "empty" | "<" | "<-" | "<x" | "<f" | "<n" | "<#" | "<," | "<@" | "digits" => {
                 self.answer_input(alloc, name, rest)
             }
-            "$" | "$|" | "$$" | "last" | "reads" | "writes" | "busy" | "away" | "writes_as" => {
-                self.answer_run(name, rest)
-            }
+            "$"
+            | "$|"
+            | "$$"
+            | "into"
+            | "last"
+            | "reads"
+            | "writes"
+            | "busy"
+            | "away"
+            | "writes_as" => self.answer_run(name, rest),
             "group" => self.simulated.begin(self.rt, rest),
             "sim" => self.simulated.go_on(self.rt, rest),
             "turns" => usual_turns(alloc),
@@ -143,19 +160,11 @@ impl Table for Transcript<'_> {
             "notes" => answer_notes(self.rt, rest),
             "serving" => answer_serving(self.rt, rest, self.input.as_slice()),
             "talk" => answer_talk(self.rt, rest, self.input.as_slice()),
-            "put"
-            | "hold"
-            | "folder"
-            | "remove"
-            | "remove_folder"
-            | "replace"
-            | "mode"
-            | "set_mode"
-            | "fill"
-            | "holds_as" => self.answer_file(name, rest),
+            "slow" => answer_slow(self.rt, rest, self.input.as_slice()),
+            "piped" => answer_piped(self.rt, rest, self.input.as_slice()),
             "read" => self.read(alloc),
             "keep" | "settle" | "settle_nothing" => self.answer_read(name, rest),
-            _ => Err(Fault::Usage),
+            _ => self.answer_file(name, rest),
         }
     }
 }

@@ -8,14 +8,17 @@ mod output;
 use crate::calls::Calls;
 use crate::replicas::read;
 use crate::runs::named;
+use crate::sessions::side_of;
+use crate::told::bytes_told;
 use host::Wired;
-use line::Wire;
+use line::{Reads, Wire};
 use lines::Lines;
 use output::Output;
 use rds_commands::run;
-use rds_files::{Settled, meet, pair_files};
+use rds_files::{Settled, meet, pair_files, pipe_file};
 use rds_keep::Counted;
 use rds_names::Fault;
+use rds_rows::words::{cut, number};
 use rds_session::{Ended, Side};
 use std::time::Duration;
 
@@ -34,18 +37,44 @@ pub fn answer_talk(rt: &HostRuntime, fails: &str, input: &[u8]) -> Result<String
     wire.calls.told_with(end.as_str())
 }
 
+/// `slow SECONDS BYTES`: the same where each read takes so many seconds, and gives at most so many bytes. Answers also how
+/// many seconds all took.
+pub fn answer_slow(rt: &HostRuntime, row: &str, input: &[u8]) -> Result<String, Fault> {
+    let (seconds, most) = cut(row)?;
+    let clock = Reads::new(number(seconds)?, number(most)? as usize);
+    let wire = Wire::with_slow_peer(rt.alloc(), clock, input)?;
+    let (settled, ended) = talk(rt, &wire)?;
+    let seconds = wire.clock.seconds();
+    let end = format!(in rt.alloc(); "{settled:?}, {ended:?}, {seconds} seconds")?;
+    wire.calls.told_with(end.as_str())
+}
+
+/// `piped SIDE FILE`: a session of that side of the replica in the file over a reader of the input and a writer. Answers the
+/// calls that were made, what was written, how many lines people are told, and the status.
+pub fn answer_piped(rt: &HostRuntime, row: &str, input: &[u8]) -> Result<String, Fault> {
+    let (side, path) = cut(row)?;
+    let wire = Wire::new(rt.alloc(), "");
+    let mut output = Output::new(&wire.calls);
+    let status = pipe_file(
+        &Wired { rt, wire: &wire },
+        side_of(side)?,
+        path,
+        &mut Counted::new(input),
+        &mut Counted::new(&mut output),
+    );
+    let written = bytes_told(rt.alloc(), &output.written)?;
+    let notes = wire.calls.notes();
+    let end = format!(in rt.alloc(); "{written}\n{notes} told, status {status}")?;
+    wire.calls.told_with(end.as_str())
+}
+
 fn talk<'a>(rt: &HostRuntime, wire: &'a Wire<'a>) -> Result<(Settled, Ended), Fault> {
     let file = read(rt)?;
     let limit = Some(Duration::from_secs(SECONDS));
-    let met = meet(
-        &Wired { rt, wire },
-        Side::Client,
-        &file,
-        wire.client(),
-        limit,
-    );
+    let wired = Wired { rt, wire };
+    let met = meet(&wired, Side::Client, &file, wire.client(), limit);
     let came = (met.settled, met.ended);
-    met.let_go();
+    met.let_go(&wired);
     Ok(came)
 }
 

@@ -12,13 +12,35 @@ use std::path::PathBuf;
 use std::rt::Files;
 use std::time::{Clock, Duration};
 
-/// A file that holds some bytes, where it is there, and folders. What is written is forgotten.
+/// A file that holds some bytes, where it is there, and folders. What is written is forgotten. A row may say that the
+/// file is a link to another that holds the same, to one that is written beside another, or to nothing.
 #[derive(Drop)]
 pub struct Disk<'a> {
     pub calls: &'a Calls<'a>,
     pub path: &'a str,
     pub is_there: bool,
     pub bytes: &'a [u8],
+}
+
+impl Disk<'_> {
+    // Whether nothing is at this path.
+    fn lacks(&self, path: &str) -> io::Result<bool> {
+        Ok(path == self.path && !self.is_there && !self.calls.is("there", path)?)
+    }
+
+    // What the link of this path leads to, or nothing where the file is none.
+    fn behind(&self, path: &str) -> io::Result<Option<&'static str>> {
+        if self.calls.is("link", path)? {
+            return Ok(Some("d/g"));
+        }
+        if self.calls.is("beside", path)? {
+            return Ok(Some("d/g.new"));
+        }
+        if self.calls.is("dangling", path)? {
+            return Ok(Some(""));
+        }
+        Ok(None)
+    }
 }
 
 impl Alloc for Disk<'_> {
@@ -62,11 +84,7 @@ impl<'a> Files for Disk<'a> {
 
     fn open_file(&self, how: &OpenOptions, path: &str) -> io::Result<DiskFile<'a>> {
         self.calls.open(how, path)?;
-        if !how.asks_create_new()
-            && path == self.path
-            && !self.is_there
-            && !self.calls.is("there", path)?
-        {
+        if !how.asks_create_new() && self.lacks(path)? {
             return Err(io::Error::from(ErrorKind::NotFound));
         }
         Ok(DiskFile {
@@ -84,8 +102,15 @@ impl<'a> Files for Disk<'a> {
         Err(failure())
     }
 
-    fn symlink_metadata(&self, _path: &str) -> io::Result<Metadata> {
-        Err(failure())
+    fn symlink_metadata(&self, path: &str) -> io::Result<Metadata> {
+        self.calls.call("look", path)?;
+        if let Some(behind) = self.behind(path)? {
+            return Ok(Metadata::of_symlink(behind.len() as u64));
+        }
+        if self.lacks(path)? {
+            return Err(io::Error::from(ErrorKind::NotFound));
+        }
+        Ok(Metadata::of_file(self.bytes.len() as u64))
     }
 
     fn copy(&self, _from: &str, _to: &str) -> io::Result<u64> {
@@ -118,8 +143,13 @@ impl<'a> Files for Disk<'a> {
         Err(failure())
     }
 
-    fn canonicalize<B: Allocator>(&self, _alloc: B, _path: &str) -> io::Result<PathBuf<B>> {
-        Err(failure())
+    fn canonicalize<B: Allocator>(&self, alloc: B, path: &str) -> io::Result<PathBuf<B>> {
+        self.calls.call("follow", path)?;
+        match self.behind(path)? {
+            Some("") => Err(io::Error::from(ErrorKind::NotFound)),
+            Some(behind) => Ok(PathBuf::from_str(alloc, behind)?),
+            None => Ok(PathBuf::from_str(alloc, path)?),
+        }
     }
 
     fn read_link<B: Allocator>(&self, _alloc: B, _path: &str) -> io::Result<PathBuf<B>> {
@@ -209,6 +239,9 @@ impl OpenFile for DiskFile<'_> {
         if self.calls.is("unsyncable", self.path.as_str())? {
             return Err(io::Error::from(ErrorKind::Unsupported));
         }
+        if self.calls.is("read_alone", self.path.as_str())? {
+            return Err(io::Error::from(ErrorKind::ReadOnlyFilesystem));
+        }
         Ok(())
     }
 
@@ -217,7 +250,8 @@ impl OpenFile for DiskFile<'_> {
     }
 }
 
-// The lock is free, the file is the one at its path, and it can be written, unless the row says something else.
+// The lock is free, the file is the one at its path, and it can be written and has no other name, unless the row says
+// something else.
 impl LockFile for DiskFile<'_> {
     fn try_lock_exclusive(&self) -> io::Result<bool> {
         self.calls.call("lock", self.path.as_str())?;
@@ -232,6 +266,15 @@ impl LockFile for DiskFile<'_> {
     fn is_read_only(&self) -> io::Result<bool> {
         self.calls.call("writable", self.path.as_str())?;
         Ok(self.calls.is("unwritable", self.path.as_str())?)
+    }
+
+    fn links(&self) -> io::Result<u64> {
+        self.calls.call("names", self.path.as_str())?;
+        Ok(if self.calls.is("shared", self.path.as_str())? {
+            2
+        } else {
+            1
+        })
     }
 
     fn take_mode(&self, _other: &Self) -> io::Result<()> {

@@ -91,6 +91,11 @@ impl LockFile for WiredFile<'_> {
         self.file.is_read_only()
     }
 
+    fn links(&self) -> io::Result<u64> {
+        self.call("names")?;
+        self.file.links()
+    }
+
     fn take_mode(&self, other: &Self) -> io::Result<()> {
         self.call("mode")?;
         self.file.take_mode(&other.file)

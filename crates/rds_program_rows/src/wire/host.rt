@@ -29,10 +29,10 @@ impl Alloc for Wired<'_> {
     }
 }
 
-// The clock of the host, but nothing waits.
+// A clock that goes on with each read of the connection alone. Nothing waits.
 impl Clock for Wired<'_> {
     fn monotonic(&self) -> io::Result<Duration> {
-        self.rt.monotonic()
+        Ok(Duration::from_secs(self.wire.clock.seconds()))
     }
 
     fn since_1970(&self) -> io::Result<Duration> {
@@ -115,6 +115,7 @@ impl<'a> Files for Wired<'a> {
     }
 
     fn symlink_metadata(&self, path: &str) -> io::Result<Metadata> {
+        self.wire.calls.call("look", path)?;
         self.rt.symlink_metadata(path)
     }
 
@@ -146,6 +147,7 @@ impl<'a> Files for Wired<'a> {
     }
 
     fn canonicalize<B: Allocator>(&self, alloc: B, path: &str) -> io::Result<PathBuf<B>> {
+        self.wire.calls.call("follow", path)?;
         self.rt.canonicalize(alloc, path)
     }
 

@@ -49,10 +49,40 @@ impl Lane {
     }
 }
 
+/// How the reads of a connection go, and what the time is by them.
+#[derive(Drop)]
+pub struct Reads {
+    now: Cell<u64>,
+    seconds: u64,
+    most: usize,
+}
+
+impl Reads {
+    /// Each takes so many seconds, and gives at most so many bytes.
+    pub fn new(seconds: u64, most: usize) -> Reads {
+        Reads {
+            now: Cell::new(0),
+            seconds,
+            most,
+        }
+    }
+
+    /// How many seconds all took by now.
+    pub fn seconds(&self) -> u64 {
+        self.now.get()
+    }
+
+    // One more.
+    fn take(&self) {
+        self.now.set(self.now.get().saturating_add(self.seconds));
+    }
+}
+
 /// A connection of one program to itself, or of a stranger who was the first to connect.
 #[derive(Drop)]
 pub struct Wire<'a> {
     pub calls: Calls<'a>,
+    pub clock: Reads,
     to_server: Lane,
     to_client: Lane,
     pub is_strange: bool,
@@ -63,10 +93,18 @@ impl<'a> Wire<'a> {
     pub fn new(alloc: Global, fails: &'a str) -> Wire<'a> {
         Wire {
             calls: Calls::new(alloc, fails),
+            clock: Reads::new(0, usize::MAX),
             to_server: Lane::new(alloc),
             to_client: Lane::new(alloc),
             is_strange: fails == "stranger",
         }
+    }
+
+    /// With a peer that says these bytes slowly.
+    pub fn with_slow_peer(alloc: Global, clock: Reads, said: &[u8]) -> Result<Wire<'a>, Fault> {
+        let mut wire = Wire::with_peer(alloc, "", said)?;
+        wire.clock = clock;
+        Ok(wire)
     }
 
     /// With a peer that says these bytes, whichever end it is.
@@ -86,6 +124,7 @@ impl<'a> Wire<'a> {
         End {
             name: "client",
             calls: &self.calls,
+            clock: &self.clock,
             hears: &self.to_client,
             says: &self.to_server,
         }
@@ -96,6 +135,7 @@ impl<'a> Wire<'a> {
         End {
             name: "server",
             calls: &self.calls,
+            clock: &self.clock,
             hears: &self.to_server,
             says: &self.to_client,
         }
@@ -138,6 +178,7 @@ fn address(port: u16) -> SocketAddr {
 pub struct End<'a> {
     name: &'static str,
     calls: &'a Calls<'a>,
+    clock: &'a Reads,
     hears: &'a Lane,
     says: &'a Lane,
 }
@@ -145,8 +186,10 @@ pub struct End<'a> {
 impl Read for End<'_> {
     fn read(&mut self, buf: &mut [u8]) -> io::Result<usize> {
         self.calls.call("read", self.name)?;
+        self.clock.take();
         let alloc = self.calls.alloc;
-        self.hears.get(alloc, buf)
+        let most = self.clock.most.min(buf.len());
+        self.hears.get(alloc, &mut buf[..most])
     }
 }
 
@@ -204,6 +247,7 @@ impl OpenStream for End<'_> {
         Ok(End {
             name: self.name,
             calls: self.calls,
+            clock: self.clock,
             hears: self.hears,
             says: self.says,
         })
