@@ -12,7 +12,7 @@ MANY = 100_000
 NAMES = {12: "Cut", 13: "Bad", 14: "Extra"} | {3: "BadKey", 4: "BadPath", 5: "BadScalar", 8: "CounterFull", 9: "Conflict"}
 NAMES |= {2: "BadName", 6: "BadRoster"}
 NAMES |= {10: "OwnAhead", 11: "WrongAsker", 17: "BadCertificate", 18: "WrongVersion", 19: "WrongGroup", 20: "WrongRoster"}
-NAMES |= {21: "SameReplica", 22: "OutOfTurn", 23: "PeerEnded", 25: "BadLine", 27: "Usage"}
+NAMES |= {21: "SameReplica", 22: "OutOfTurn", 23: "PeerEnded", 25: "BadLine", 26: "NoSuch", 27: "Usage"}
 REGISTER, ELEMENT = 1, 2
 HELLO, DIGEST, DELTA, BYE = 1, 2, 3, 4
 # The bye that tells of a fault; 5 for those that aren't here.
@@ -103,6 +103,33 @@ def taken(replica, delta, names):
     for at, pair in delta.numbers.items():
         refuse_if(at[1] == own and any(a > b for a, b in zip(pair, state.numbers.get(at, (0, 0)))), 10)
     return replica._replace(names=names, state=state.joined(delta))
+
+
+def lacks(replica, digest, is_own):
+    """Whether a replica lacks something of a digest: of its own, or of the others."""
+    ranks, numbers = digest
+    mine, counts = replica.state.digest()
+    behind = any((dot[0] == replica.own) == is_own and rank > mine.get(dot, 0) for dot, rank in ranks.items())
+    pairs = ((pair, counts.get(at, (0, 0))) for at, pair in numbers.items() if (at[1] == replica.own) == is_own)
+    return behind or any(theirs > number for pair, own in pairs for theirs, number in zip(pair, own))
+
+
+def taken_by_text(replica, asked, delta, names):
+    """A replica that takes the answer to what it asked once."""
+    few, many = sorted((replica.names, asked.names), key=len)
+    refuse_if(asked.own != replica.own or many[: len(few)] != few, 11)
+    refuse_if(lacks(replica, asked.state.digest(), True), 10)
+    refuse_if(lacks(replica, asked.state.digest(), False), 11)
+    return taken(replica, delta, names)
+
+
+def begun(replica, name):
+    """The replica of this name, which begins with all that another has seen."""
+    refuse_if(not re.fullmatch("[a-z][a-z0-9-]{0,15}", name), 2)
+    refuse_if(name not in replica.names, 26)
+    own, state = replica.names.index(name), replica.state
+    refuse_if(own == replica.own or any(dot[0] == own for dot in state.lives) or any(at[1] == own for at in state.numbers), 21)
+    return replica._replace(own=own)
 
 
 def edited(replica, verb, path, scalar=None, amount=0):
@@ -277,6 +304,18 @@ def certificate(delta, digest):
 
 def answer_text(asker, delta, digest, format=2):
     return number(asker, 1) + state_text(delta, format) + many(4, certificate(delta, digest))
+
+
+def question_text(replica):
+    return b"RDSQ" + hello_text(replica) + digest_text(replica.state.digest())
+
+
+def response_text(replica, asked):
+    """What a replica responds to another's question, in the format that it is asked in."""
+    longer(asked.names, replica.names)
+    refuse_if(asked.own == replica.own, 21)
+    digest = asked.state.digest()
+    return b"RDSA" + hello_text(replica) + answer_text(asked.own, replica.state.least(digest), digest)
 
 
 def message(body, sizes=()):
