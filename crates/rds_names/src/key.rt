@@ -11,7 +11,7 @@ use std::alloc::Global;
 use std::cmp::Ordering;
 use std::hash::{Hash, Hasher};
 use std::marker::Model;
-use std::rc::RcStr;
+use std::sync::ArcStr;
 
 /// The most bytes of a key.
 const MOST_BYTES: usize = 64;
@@ -25,7 +25,7 @@ enum Form {
     /// In the key itself: the first of these, as many as the number says.
     Inline([u8; MOST_INLINE], u8),
     /// On the heap, where copies share them.
-    Shared(RcStr),
+    Shared(ArcStr),
 }
 
 /// A text of 1 to 64 bytes without '/'. Keys are ordered by their bytes.
@@ -65,7 +65,7 @@ impl Key {
             return Ok(Key::new_inline(text));
         }
         Ok(Key {
-            form: Form::Shared(RcStr::from_str(alloc, text)?),
+            form: Form::Shared(ArcStr::from_str(alloc, text)?),
         })
     }
 

@@ -12,7 +12,7 @@ use crate::fault::Fault;
 use crate::key::Key;
 use std::alloc::Global;
 use std::marker::Model;
-use std::rc::RcSlice;
+use std::sync::ArcSlice;
 
 /// The most keys of a path.
 const MOST_KEYS: usize = 8;
@@ -20,7 +20,7 @@ const MOST_KEYS: usize = 8;
 /// At most 8 keys, from the root of the document down; the root itself has none.
 #[derive(Debug)]
 pub struct Path {
-    keys: Option<RcSlice<Key>>,
+    keys: Option<ArcSlice<Key>>,
 }
 
 impl Drop for Path {
@@ -31,7 +31,7 @@ impl Drop for Path {
 
 impl Model for Path {
     ghost use Rattle.std.specs.Prelude.{ℕ, List, length, ◌≤◌, IfSome};
-    ghost use Rattle.std.specs.Rc.{rc_slice_items};
+    ghost use Rattle.std.specs.Arc.{arc_slice_items};
 
     ghost Value = { List (List ℕ) };
 
@@ -40,7 +40,7 @@ impl Model for Path {
     ghost view = { λ p. shared_items p.keys };
 
     ghost invariant = { λ p. (length (shared_items p.keys) ≤ 8)
-        × IfSome p.keys (λ keys. 1 ≤ length (rc_slice_items keys)) };
+        × IfSome p.keys (λ keys. 1 ≤ length (arc_slice_items keys)) };
 }
 
 impl Path {
@@ -65,7 +65,7 @@ impl Path {
             return Ok(Path { keys: None });
         }
         Ok(Path {
-            keys: Some(RcSlice::from_vec(keys)?),
+            keys: Some(ArcSlice::from_vec(keys)?),
         })
     }
 

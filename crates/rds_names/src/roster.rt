@@ -11,7 +11,7 @@ use crate::name::Name;
 use indexmap::IndexSet;
 use std::alloc::Global;
 use std::marker::Model;
-use std::rc::Rc;
+use std::sync::Arc;
 
 /// The most replicas that a group has.
 const MOST_NAMES: usize = 256;
@@ -20,7 +20,7 @@ const MOST_NAMES: usize = 256;
 /// the place of its name, from 0.
 pub struct Roster {
     group: Key,
-    names: Rc<IndexSet<Name>>,
+    names: Arc<IndexSet<Name>>,
 }
 
 impl Drop for Roster {
@@ -54,7 +54,7 @@ impl Roster {
         }
         Ok(Roster {
             group,
-            names: Rc::new(alloc, set_of(alloc, names)?)?,
+            names: Arc::new(alloc, set_of(alloc, names)?)?,
         })
     }
 
@@ -124,7 +124,7 @@ impl Roster {
         }
         Ok(Roster {
             group: self.group.copy(alloc)?,
-            names: Rc::new(alloc, set_of_both(alloc, own, names)?)?,
+            names: Arc::new(alloc, set_of_both(alloc, own, names)?)?,
         })
     }
 

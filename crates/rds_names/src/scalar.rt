@@ -8,7 +8,7 @@ use crate::fault::Fault;
 use std::alloc::Global;
 use std::cmp::Ordering;
 use std::marker::Model;
-use std::rc::RcStr;
+use std::sync::ArcStr;
 
 /// The most bytes of a text.
 const MOST_BYTES: usize = 1024;
@@ -16,7 +16,7 @@ const MOST_BYTES: usize = 1024;
 /// A text of at most 1,024 bytes. Texts are ordered by their bytes.
 #[derive(Debug)]
 pub struct Text {
-    text: RcStr,
+    text: ArcStr,
 }
 
 impl Drop for Text {
@@ -27,13 +27,13 @@ impl Drop for Text {
 
 impl Model for Text {
     ghost use Rattle.std.specs.Prelude.{ℕ, List, length, ◌≤◌};
-    ghost use Rattle.std.specs.Rc.{rc_str_bytes};
+    ghost use Rattle.std.specs.Arc.{arc_str_bytes};
 
     ghost Value = { List ℕ };
 
-    ghost view = { λ t. rc_str_bytes t.text };
+    ghost view = { λ t. arc_str_bytes t.text };
 
-    ghost invariant = { λ t. length (rc_str_bytes t.text) ≤ 1024 };
+    ghost invariant = { λ t. length (arc_str_bytes t.text) ≤ 1024 };
 }
 
 impl Text {
@@ -44,7 +44,7 @@ impl Text {
             return Err(Fault::BadScalar);
         }
         Ok(Text {
-            text: RcStr::from_str(alloc, text)?,
+            text: ArcStr::from_str(alloc, text)?,
         })
     }
 
