@@ -151,14 +151,3 @@ differ n one two = omega (arith, one, two)
 pub formats_differ : (v w : ReplicaValue) (x y : List ℕ) → snapshot_text_in One v ++ x ≡ snapshot_text_in Two w ++ y → ⊥
 unfolding spelled_snapshot_text snapshot_text
 formats_differ v w x y e = differ 49 refl (ap (λ (t : List ℕ). get_or t 3 0) e)
-
--- ---- what was read
-
--- as a snapshot's parts is a replica
-pub is_replica_in : (bytes : List ℕ) → IsBytes bytes → (f : Format) (first : List ℕ) (m : Member) (middle : List ℕ) (v : StateValue) (rest : List ℕ) → texts.format_at bytes ≡ Ok (f, first)
-    → member_at first ≡ Ok (m, middle) → state_at_in f (length m.0.names) middle ≡ Ok (v, rest) → (let r : ReplicaValue = record { roster = m.0; own = m.1; state = v } in IsReplica r)
-is_replica_in bytes fits f first m middle v rest o p q =
-    let front = format_format.takes bytes (f, first) fits o in
-    let member = member_format.takes first (m, middle) front.0.rest_fits p in
-    let state = (state_in_format f (length m.0.names)).takes middle (v, rest) member.0.rest_fits q in
-    record { own = member.1.1; fits = state_fits (length m.0.names) v state.1.0 }

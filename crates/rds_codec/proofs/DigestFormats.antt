@@ -103,21 +103,6 @@ module _ (replicas : ℕ) where
   pub digest_reader : IsReaderOf (digest_kind replicas) (digest_at replicas)
   digest_reader = reader_of (digest_kind replicas) (digest_at replicas) FitsDigest digest_format (λ g h. h.0) (λ g is le. (is, digest_within g le))
 
--- ---- live dots are read where they are inside
-
-module _ (replicas : ℕ) (seen : Dots) (bytes : List ℕ) (live : Dots) (rest : List ℕ) where
-  pub live_found : dots_at replicas bytes ≡ Ok (live, rest) → IsInside live seen → live_dots_at replicas seen bytes ≡ Ok (live, rest)
-  unfolding live_dots_at
-  live_found read is = let yes = set.contains-is_subset dots_total live seen is.each_dot in rw (read, yes) refl
-
-  pub live_refused : dots_at replicas bytes ≡ Ok (live, rest) → ¬ (IsInside live seen) → live_dots_at replicas seen bytes ≡ Err Bad
-  unfolding live_dots_at
-  live_refused read not_inside = no (are_seen seen live) refl
-    where
-      no : (b : Bool) → are_seen seen live ≡ b → when_at (are_seen seen) (dots_at replicas) bytes ≡ Err Bad
-      no true e = absurd (not_inside (record { each_dot = set.is_subset-contains dots_total live seen e }))
-      no false e = rw (read, e) refl
-
 -- ---- its text, part after part
 
 pub digest_length : (g : DigestValue) → length (digest_text g) ≡ length (dots_text g.seen) + length (dots_text g.live) + length (counters_text g.counts)

@@ -18,9 +18,3 @@ state_in_reader Two = tabled_reader
 pub answer_in_reader : (format : Format) (replicas : ℕ) → IsReaderOf (answer_kind_in format replicas) (answer_at_in format replicas)
 answer_in_reader One = spelled_answer_reader
 answer_in_reader Two = tabled_answer_reader
-
--- an answer in a format is its parts, with the delta in it
-pub answer_in_parts : (format : Format) (replicas : ℕ) → answer_with_at (state_at_in format replicas) replicas ≡ answer_at_in format replicas
-unfolding spelled_answer_at answer_at
-answer_in_parts One replicas = refl
-answer_in_parts Two replicas = refl

@@ -172,13 +172,3 @@ tabled_within v le =
 pub tabled_reader : (replicas : ℕ) → IsReaderOf (state_kind_in Two replicas) (state_at replicas)
 tabled_reader replicas =
     reader_of (state_kind_in Two replicas) (state_at replicas) (FitsTabled replicas) (tabled_format replicas) (λ v h. h.0) (λ v is le. (is, tabled_within v le))
-
--- ---- a table and a state that were read
-
--- each key of a state that was read by a table is one of it
-pub keys_are_had : (replicas : ℕ) (bytes : List ℕ) (table : List (List ℕ)) (middle : List ℕ) (v : StateValue) (rest : List ℕ) → IsBytes bytes → table_at bytes ≡ Ok (table, middle)
-    → body_at (numbered_at table) replicas middle ≡ Ok (v, rest) → AreIn table (keys_in v)
-keys_are_had replicas bytes table middle v rest fits p q =
-    let first = table_format.takes bytes (table, middle) fits p in
-    let second = (body_format table first.1 replicas).takes middle (v, rest) first.0.rest_fits q in
-    keys_have (IsKeyOf table) v second.1.keys

@@ -2,15 +2,15 @@
 use Rattle.std.proofs.Common.{rules, ◌≡◌, ◌≢◌, ℕ, ◌<◌, ◌≤◌, ◌⊎◌, inl, inr, false, cond, eqb, List, [], ◌∷◌, ◌++◌, length, Result, Ok, Err, refl, sym, ap, ◌∙◌, subst, arith, length-append}
 use Rattle.std.specs.Prelude.{IfOk, OnOk, MatchResult}
 use Rattle.std.specs.Global.{Vec}
-use Rattle.std.proofs.lemmas.Bool.{eqb-true}
+use Rattle.std.proofs.lemmas.Bool.{cases_lt, eqb-true}
 use Rattle.std.proofs.lemmas.List.{append-nil, nil_from_length}
 use Rattle.rds_names.specs.declared.fault.Fault.{Fault}
 use Rattle.rds_names.specs.declared.fault.Fault.TheVariants.{Memory, Cut, Bad, Extra, TooLong}
 use Rattle.rds_codec.specs.declared.limits.TheConstants.{LIMIT}
-use Rattle.rds_codec.specs.Decoding.{IsTextOf, BeginsWithText, IsOtherFault, Decodes, all_of}
+use Rattle.rds_codec.specs.Decoding.{IsTextOf, BeginsWithText, IsOtherFault, Decodes, ReadsAll, all_of}
 use Rattle.rds_codec.specs.Kinds.{Kind}
 use Rattle.rds_codec.specs.Laws.{StandApart}
-use Rattle.rds_bytes.specs.Reading.{Reader, Fails, Reads}
+use Rattle.rds_bytes.specs.Reading.{◌>>=◌, Reader, Fails, Reads}
 use Rattle.rds_bytes.proofs.Format.{IsBytes, IsFormat, Takes, CutOrBad, bind_ok, bind_err, chosen, err_is, ok_is, done, failed}
 
 -- The reader of a kind of text: what it reads is spelled so, what is spelled so within the limit is read,
@@ -134,6 +134,30 @@ module _ {V : Type 0} (kind : Kind V) (reader : Reader V) (laws : IsReaderOf kin
       extra_only = λ h. (within, is_extra e cases (err_is {A = V} e Extra h));
       other = known e cases;
     })
+  ]
+
+-- above the limit
+long_refused : {V : Type 0} (kind : Kind V) (bytes : List ℕ) → LIMIT < length bytes → Decodes kind bytes (Err TooLong)
+long_refused kind bytes long = record {
+  value = tt;
+  found = λ v le h. absurd (let none : ⊥ = omega (arith, long, le) in none);
+  long = λ lt. refl;
+  long_only = λ e. long;
+  extra = λ le h. absurd (let none : ⊥ = omega (arith, long, le) in none);
+  extra_only = λ e. absurd cc;
+  other = inr (inl refl);
+}
+
+-- ---- all of the bytes, fed to what is read as a text
+
+module _ {V : Type 0} (reader finish : Reader V) (same : (bytes : List ℕ) → finish bytes ≡ reader bytes) (bytes : List ℕ) (r : Result V Fault) (read : ReadsAll finish bytes r) where
+  pub reads_whole : ReadsAll reader bytes r
+  reads_whole le = subst (λ (x : Result (V × List ℕ) Fault). Reads (λ v. v) r (x >>= ended)) (same bytes) (read le)
+
+  pub decodes_whole : (kind : Kind V) → IsReaderOf kind reader → IsBytes bytes → (LIMIT < length bytes → r ≡ Err TooLong) → Decodes kind bytes r
+  decodes_whole kind laws fits long = elim (cases_lt LIMIT (length bytes)) [
+    | inl lt ↦ subst (Decodes kind bytes) (sym (long lt)) (long_refused kind bytes lt)
+    | inr le ↦ decodes kind reader laws bytes fits le r (reads_whole le)
   ]
 
 -- no text begins another, and one text has one value
