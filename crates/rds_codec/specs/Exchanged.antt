@@ -2,12 +2,12 @@
 use Rattle.std.specs.Prelude.{◌≡◌, ◌<◌, ◌≤◌, ◌⊎◌, ℕ, List, length, max, Result, Err}
 use Rattle.rds_names.specs.declared.fault.Fault.{Fault}
 use Rattle.rds_names.specs.declared.fault.Fault.TheVariants.{Memory, TooLong, BadCertificate}
-use Rattle.rds_names.specs.Roster.{Begins}
+use Rattle.rds_names.specs.Roster.{Begins, OneBegins}
 use Rattle.rds_life.specs.Life.{seen_of}
 use Rattle.rds_state.specs.Coordinates.{AtMost}
 use Rattle.rds_state.specs.Fits.{Fits, ReplicaValue}
 use Rattle.rds_state.specs.Friends.{AreFriends}
-use Rattle.rds_state.specs.Grown.{OneBegins, TakeWithGives}
+use Rattle.rds_state.specs.Grown.{TakeWithGives}
 use Rattle.rds_state.specs.Value.{StateValue, coordinates, size}
 use Rattle.rds_delta.specs.Claims.{IsCertificate}
 use Rattle.rds_delta.specs.Digested.{DigestValue, digest_of, ranks_in}

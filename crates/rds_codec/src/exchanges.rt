@@ -2,7 +2,8 @@
 ghost use Rattle.std.specs.Prelude.{◌≡◌, ◌<◌, ◌≤◌, ◌⊎◌, ℕ, length, max, IfOk, IfErr, OnOk, OnErr};
 ghost use Rattle.rds_state.specs.Coordinates.{join};
 ghost use Rattle.rds_state.specs.Fits.{Fits};
-ghost use Rattle.rds_state.specs.Grown.{OneBegins, TakeWithGives, longer};
+ghost use Rattle.rds_state.specs.Grown.{TakeWithGives};
+ghost use Rattle.rds_names.specs.Roster.{OneBegins, longer};
 ghost use Rattle.rds_state.specs.Value.{coordinates};
 ghost use Rattle.rds_life.specs.Life.{seen_of};
 ghost use Rattle.rds_delta.specs.Digested.{digest_of};

@@ -1,11 +1,10 @@
 -- Questions and answers that go as texts, as events of the model.
 use Rattle.std.proofs.Common.{◌≡◌, ◌≢◌, ◌≤◌, ◌∙◌, ◌∷◌, ◌++◌, [], ℕ, List, true, false, length, leb, ltb, Result, Ok, Some, refl, sym, ap, ap₂, subst, inl, inr}
 use Rattle.std.proofs.lemmas.Bool.{cases_lt, le-leb, le-ltb, lt-leb, lt-ltb}
-use Rattle.rds_names.specs.Roster.{RosterValue}
+use Rattle.rds_names.specs.Roster.{RosterValue, OneBegins, longer}
 use Rattle.rds_names.specs.declared.fault.Fault.{Fault}
 use Rattle.rds_state.specs.Coordinates.{Coordinates}
 use Rattle.rds_state.specs.Fits.{ReplicaValue}
-use Rattle.rds_state.specs.Grown.{OneBegins, longer}
 use Rattle.rds_state.specs.Value.{coordinates}
 use Rattle.rds_delta.specs.Least.{least}
 use Rattle.rds_delta.specs.Ranks.{ranks}

@@ -1,11 +1,11 @@
 -- What a file that holds a replica makes of a delta that was checked.
 use Rattle.std.proofs.Common.{◌≡◌, ◌∙◌, ℕ, List, [], Option, Some, None, Result, Ok, Err, IfErr, inl, inr, refl, sym, subst}
 use Rattle.std.proofs.lemmas.List.{append-nil}
-use Rattle.rds_names.specs.Roster.{RosterValue}
+use Rattle.rds_names.specs.Roster.{RosterValue, OneBegins}
 use Rattle.rds_names.specs.declared.fault.Fault.{Fault}
 use Rattle.rds_names.specs.declared.fault.Fault.TheVariants.{Memory, Conflict, OwnAhead, WrongGroup, WrongRoster}
 use Rattle.rds_state.specs.Fits.{ReplicaValue}
-use Rattle.rds_state.specs.Grown.{OneBegins, TakeWithGives}
+use Rattle.rds_state.specs.Grown.{TakeWithGives}
 use Rattle.rds_state.specs.Value.{StateValue, coordinates, size}
 use Rattle.rds_delta.specs.Least.{IsAbove}
 use Rattle.rds_delta.specs.Ranks.{ranks}

@@ -1,6 +1,6 @@
 -- What becomes of what a session received for the replica in a file.
 use Rattle.std.specs.Prelude.{◌≡◌, ◌⊎◌, ◌<◌, Bool, true, false, List, ℕ, length, Option, Some, None, Err}
-use Rattle.rds_names.specs.Roster.{RosterValue}
+use Rattle.rds_names.specs.Roster.{RosterValue, OneBegins, longer}
 use Rattle.rds_names.specs.declared.fault.Fault.{Fault}
 use Rattle.rds_names.specs.declared.fault.Fault.TheVariants.{Memory, OwnAhead, WrongAsker, WrongRoster}
 use Rattle.rds_codec.specs.StateTexts.{IsSnapshot, snapshot_text}
@@ -12,7 +12,7 @@ use Rattle.rds_session.specs.Received.{Delivery}
 use Rattle.rds_state.specs.Ahead.{Ahead}
 use Rattle.rds_state.specs.Coordinates.{join}
 use Rattle.rds_state.specs.Fits.{ReplicaValue}
-use Rattle.rds_state.specs.Grown.{OneBegins, TakeWithGives, longer}
+use Rattle.rds_state.specs.Grown.{TakeWithGives}
 use Rattle.rds_state.specs.Value.{StateValue, coordinates, size}
 use Rattle.rds_files.specs.Files.{IsReplacedAt, IsTooLongOrLost, IsUnkept, KeptFile, RefusesLock, ReplacedValue}
 use Rattle.rds_files.specs.declared.settling.Settled.{Settled}

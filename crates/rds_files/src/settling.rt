@@ -9,7 +9,7 @@ use crate::files::{EmptiedFile, LockedFile, ReplacedFile, ReplicaFile};
 use crate::locks::LockFile;
 use rds_dots::DotSet;
 use rds_names::{Fault, Roster};
-use rds_session::{Exchanged, one_begins};
+use rds_session::Exchanged;
 use rds_state::{Replica, State};
 use std::alloc::Global;
 
@@ -188,5 +188,5 @@ fn take_into<S: DotSet>(
 fn is_same_replica<S: DotSet>(asked: &Replica<S>, held: &Replica<S>) -> bool
     ensures { IsTrue result ↔ IsSameReplica asked.now held.now }
 {
-    asked.own() == held.own() && one_begins(asked.roster(), held.roster())
+    asked.own() == held.own() && asked.roster().meets(held.roster())
 }

@@ -5,14 +5,13 @@ use Rattle.std.specs.declared.cmp.Ordering.{Ordering}
 use Rattle.std.specs.declared.cmp.Ordering.TheVariants.{Less, Equal, Greater}
 use Rattle.std.proofs.lemmas.Bool.{le-ltb}
 use Rattle.hex.proofs.HexLemmas.{decode_of-ok}
-use Rattle.rds_names.specs.Roster.{RosterValue}
+use Rattle.rds_names.specs.Roster.{RosterValue, OneBegins}
 use Rattle.rds_names.specs.declared.fault.Fault.{Fault}
 use Rattle.rds_names.specs.declared.fault.Fault.TheVariants.{Memory, Conflict, WrongGroup, WrongRoster}
 use Rattle.rds_dots.specs.declared.dot.Dot.{Dot}
 use Rattle.rds_dots.specs.Dots.{dot_cmp}
 use Rattle.rds_dots.specs.Order.{dots_exact, after_before}
 use Rattle.rds_life.specs.Life.{Lived, IsFirstConflict}
-use Rattle.rds_state.specs.Grown.{OneBegins}
 use Rattle.rds_state.specs.Value.{StateValue}
 use Rattle.rds_state.proofs.JoinLaws.{same_value}
 use Rattle.rds_lines.specs.Join.{line_limit, ReadsLine, IsJoined, JoinedTo, TextOfJoined, AfterBoth, AfterSecond, AfterFirst, JoinsTo}

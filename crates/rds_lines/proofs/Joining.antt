@@ -7,10 +7,9 @@ use Rattle.std.proofs.lemmas.List.{nil_from_length}
 use Rattle.hex.specs.Hex.{decode_of}
 use Rattle.rds_names.specs.declared.fault.Fault.{Fault}
 use Rattle.rds_names.specs.declared.fault.Fault.TheVariants.{Memory, TooLong}
-use Rattle.rds_names.specs.Roster.{RosterValue}
+use Rattle.rds_names.specs.Roster.{RosterValue, longer}
 use Rattle.rds_state.specs.Coordinates.{join}
 use Rattle.rds_state.specs.Fits.{Fits, ReplicaValue, IsReplica}
-use Rattle.rds_state.specs.Grown.{longer}
 use Rattle.rds_state.specs.Value.{StateValue, coordinates}
 use Rattle.rds_state.proofs.FitsLemmas.{fits_more, join_fits}
 use Rattle.rds_codec.specs.DecodedSnapshots.{DecodesSnapshot}

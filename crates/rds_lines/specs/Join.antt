@@ -10,7 +10,7 @@ use Rattle.rds_codec.specs.DecodedSnapshots.{DecodesSnapshot}
 use Rattle.rds_codec.specs.StateTexts.{snapshot_text}
 use Rattle.rds_lines.specs.Lines.{until_newline, after_line}
 use Rattle.rds_state.specs.Fits.{ReplicaValue}
-use Rattle.rds_state.specs.Grown.{OneBegins, longer}
+use Rattle.rds_names.specs.Roster.{OneBegins, longer}
 use Rattle.rds_codec.specs.declared.limits.TheConstants.{LIMIT}
 
 abbrev pub line_limit : ℕ

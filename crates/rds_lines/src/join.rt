@@ -4,14 +4,13 @@ ghost use Rattle.rds_names.specs.declared.fault.Fault.TheVariants.{Memory};
 ghost use Rattle.rds_lines.specs.Join.{AfterBoth, LineRead, JoinedTo, JoinsTo, MayJoinTo};
 ghost use Rattle.rds_lines.specs.JoinLaws.{AnswersSpelled, IsJoinedOnce};
 ghost use Rattle.rds_lines.specs.Refusal.{fault_of};
-ghost use Rattle.rds_state.specs.Grown.{MeetGives, longer};
 
 use crate::lines::split_line;
 use crate::refusal::Refusal;
 use rds_codec::{decode_snapshot, encode_snapshot};
 use rds_dots::DotSet;
 use rds_gaps::GapSet;
-use rds_names::{Fault, Roster};
+use rds_names::Fault;
 use rds_state::Replica;
 use std::alloc::Global;
 
@@ -74,34 +73,11 @@ fn joined<S: DotSet>(first: Replica<S>, second: Replica<S>) -> Result<Replica<S>
     ensures ok { IfOk result (λ both. JoinedTo first second (Ok both)) }
     ensures err { IfErr result (λ fault. (fault ≡ Memory) ⊎ JoinedTo first second (Err fault)) }
 {
-    may_meet(first.roster(), second.roster())?;
+    first.roster().may_meet(second.roster())?;
     let (roster, own, mut state) = first.into_parts();
     let (other, _, seen) = second.into_parts();
     state.merge(&seen)?;
-    Replica::from_parts(longer(roster, other), own, state)
-}
-
-// Whether one of two rosters begins the other; else why it doesn't.
-fn may_meet(first: &Roster, second: &Roster) -> Result<(), Fault>
-    ensures { MeetGives first.now second.now result }
-{
-    if first.group() != second.group() {
-        return Err(Fault::WrongGroup);
-    }
-    if !first.begins(second) && !second.begins(first) {
-        return Err(Fault::WrongRoster);
-    }
-    Ok(())
-}
-
-fn longer(first: Roster, second: Roster) -> Roster
-    ensures { result ≡ longer first second }
-{
-    if second.len() <= first.len() {
-        first
-    } else {
-        second
-    }
+    Replica::from_parts(roster.longer(other), own, state)
 }
 
 /// Two snapshots are joined to one thing alone. So whatever `join` answers for the lines of two

@@ -1,9 +1,9 @@
 -- The replicas of a group.
-use Rattle.std.specs.Prelude.{◌≡◌, ◌++◌, ℕ, Bool, true, not, ◌&&◌, nat_le, List, [], ◌∷◌, length, Option, Some, None, Result, Ok, Err, if◌then◌else◌}
+use Rattle.std.specs.Prelude.{◌≡◌, ◌⊎◌, ◌++◌, ℕ, Bool, true, not, ◌&&◌, nat_le, List, [], ◌∷◌, length, Option, Some, None, Result, Ok, Err, if◌then◌else◌}
 use Rattle.std.specs.List.{list_any, position}
 use Rattle.std.specs.Str.{bytes_eq}
 use Rattle.rds_names.specs.declared.fault.Fault.{Fault}
-use Rattle.rds_names.specs.declared.fault.Fault.TheVariants.{BadRoster, NoSuch}
+use Rattle.rds_names.specs.declared.fault.Fault.TheVariants.{BadRoster, NoSuch, WrongGroup, WrongRoster}
 
 -- a group, and the names of its replicas in the order of their numbers
 pub record RosterValue : Type 0 where
@@ -41,3 +41,18 @@ AreFirst names others = (more : List (List ℕ)) × (others ≡ names ++ more)
 -- the same group, and the names are the other's first ones
 abbrev pub Begins : RosterValue → RosterValue → Type 0
 Begins r s = (r.group ≡ s.group) × AreFirst r.names s.names
+
+-- one of them begins the other: they are equal, or one has grown since
+abbrev pub OneBegins : RosterValue → RosterValue → Type 0
+OneBegins r s = Begins r s ⊎ Begins s r
+
+-- when two rosters meet in the longer one, and which fault is given: first that of another group
+abbrev pub MeetGives : {T : Type 0} → RosterValue → RosterValue → Result T Fault → Type 0
+MeetGives r s (Ok x) = OneBegins r s
+MeetGives r s (Err WrongGroup) = ¬ (r.group ≡ s.group)
+MeetGives r s (Err WrongRoster) = (r.group ≡ s.group) × ¬ (OneBegins r s)
+MeetGives r s (Err f) = ⊥
+
+-- the one with more names
+abbrev pub longer : RosterValue → RosterValue → RosterValue
+longer r s = if nat_le (length s.names) (length r.names) then r else s

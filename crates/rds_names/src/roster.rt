@@ -3,7 +3,7 @@ ghost use Rattle.std.specs.Prelude.{◌≡◌, ◌↔◌, ◌++◌, true, IsTrue
 ghost use Rattle.std.specs.Str.{bytes_eq};
 ghost use Rattle.rds_names.specs.declared.fault.Fault.TheVariants.{Memory};
 ghost use Rattle.rds_names.specs.Gives.{Gives};
-ghost use Rattle.rds_names.specs.Roster.{roster_of, grown_of, Begins, AreFirst, are_names, all_differ as names_differ};
+ghost use Rattle.rds_names.specs.Roster.{roster_of, grown_of, longer, Begins, OneBegins, MeetGives, AreFirst, are_names, all_differ as names_differ};
 
 use crate::fault::Fault;
 use crate::key::Key;
@@ -108,6 +108,38 @@ impl Roster {
         ensures { IsTrue result ↔ Begins self.now other.now }
     {
         self.group == other.group && are_first(self.names(), other.names())
+    }
+
+    /// Nothing where one of the two begins the other: they are equal, or one has grown since. Else why they can't meet:
+    /// they are of two groups (`WrongGroup`), or have grown apart (`WrongRoster`).
+    pub fn may_meet(&self, other: &Roster) -> Result<(), Fault>
+        ensures { MeetGives self.now other.now result }
+    {
+        if self.group != other.group {
+            return Err(Fault::WrongGroup);
+        }
+        if !self.meets(other) {
+            return Err(Fault::WrongRoster);
+        }
+        Ok(())
+    }
+
+    /// Whether one of the two begins the other.
+    pub fn meets(&self, other: &Roster) -> bool
+        ensures { IsTrue result ↔ OneBegins self.now other.now }
+    {
+        self.begins(other) || other.begins(self)
+    }
+
+    /// The one with more names, and this one where both have as many.
+    pub fn longer(self, other: Roster) -> Roster
+        ensures { result ≡ longer self other }
+    {
+        if other.len() <= self.len() {
+            self
+        } else {
+            other
+        }
     }
 
     /// The roster with these names after its own. No name, more than 256 in all and a name that stands twice are

@@ -17,7 +17,7 @@ use Rattle.rds_questions.specs.Responses.{response_at}
 use Rattle.rds_questions.specs.Taking.{HasAllOf, IsAsker, TakesReceived}
 use Rattle.rds_state.specs.Coordinates.{join}
 use Rattle.rds_state.specs.Fits.{ReplicaValue}
-use Rattle.rds_state.specs.Grown.{longer}
+use Rattle.rds_names.specs.Roster.{longer}
 use Rattle.rds_state.specs.Value.{coordinates, size}
 use Rattle.rds_offline.specs.Letters.{AnswersFile, BringsNothing, ChecksTexts, IsTaken, RefusesAnswer, RefusesCheck, RefusesTake, RefusesTakeIn, TakesFile}
 

@@ -16,7 +16,7 @@ use Rattle.rds_questions.specs.Taking.{HasAllOf, IsAsker, TakesReceived}
 use Rattle.rds_state.specs.Ahead.{Ahead}
 use Rattle.rds_state.specs.Coordinates.{join}
 use Rattle.rds_state.specs.Fits.{ReplicaValue}
-use Rattle.rds_state.specs.Grown.{OneBegins, longer}
+use Rattle.rds_names.specs.Roster.{OneBegins, longer}
 use Rattle.rds_state.specs.Value.{coordinates, size}
 
 -- ---- asking

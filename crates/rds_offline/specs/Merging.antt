@@ -7,7 +7,8 @@ use Rattle.rds_delta.specs.Ranks.{ranks}
 use Rattle.rds_state.specs.Ahead.{Ahead}
 use Rattle.rds_state.specs.Coordinates.{join}
 use Rattle.rds_state.specs.Fits.{ReplicaValue}
-use Rattle.rds_state.specs.Grown.{OneBegins, TakeWithGives, longer}
+use Rattle.rds_state.specs.Grown.{TakeWithGives}
+use Rattle.rds_names.specs.Roster.{OneBegins, longer}
 use Rattle.rds_state.specs.Value.{StateValue, coordinates, size}
 
 -- it took the other's state, which has nothing of its own that it lacked, and the longer of the two rosters, of which

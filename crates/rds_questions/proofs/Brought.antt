@@ -2,10 +2,9 @@
 use Rattle.std.proofs.Common.{◌≡◌, ℕ, Bool, true, false, cond, max, inl, inr, List, length, Result, Ok, Err, refl, sym, subst, arith}
 use Rattle.std.specs.Prelude.{IfOk, nat_le}
 use Rattle.std.proofs.lemmas.Bool.{leb-true, leb-false}
-use Rattle.rds_names.specs.Roster.{RosterValue}
+use Rattle.rds_names.specs.Roster.{RosterValue, longer}
 use Rattle.rds_names.specs.declared.fault.Fault.{Fault}
 use Rattle.rds_state.specs.Fits.{Fits}
-use Rattle.rds_state.specs.Grown.{longer}
 use Rattle.rds_state.specs.Value.{coordinates}
 use Rattle.rds_codec.specs.Decoding.{Decodes}
 use Rattle.rds_codec.proofs.Replicas.{state_fits}

@@ -3,7 +3,7 @@ use Rattle.std.proofs.Common.{◌≡◌, ℕ, ◌≤◌, ◌<◌, true, length, 
 use Rattle.std.specs.Prelude.{◌≢◌}
 use Rattle.rds_state.specs.Coordinates.{Coordinates}
 use Rattle.rds_state.specs.Fits.{ReplicaValue}
-use Rattle.rds_state.specs.Grown.{OneBegins, longer}
+use Rattle.rds_names.specs.Roster.{OneBegins, longer}
 use Rattle.rds_state.specs.Value.{coordinates}
 use Rattle.rds_delta.specs.Digested.{ranks_in}
 use Rattle.rds_delta.specs.Least.{IsAbove, least}

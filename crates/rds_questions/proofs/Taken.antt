@@ -1,10 +1,10 @@
 -- What a take of a response answers.
 use Rattle.std.proofs.Common.{◌≡◌, inr, Result, Ok, Err, ap, subst, ◌∙◌}
 use Rattle.std.specs.Prelude.{OnOk}
-use Rattle.rds_names.specs.Roster.{RosterValue}
+use Rattle.rds_names.specs.Roster.{RosterValue, OneBegins}
 use Rattle.rds_names.specs.declared.fault.Fault.{Fault}
 use Rattle.rds_state.specs.Fits.{ReplicaValue}
-use Rattle.rds_state.specs.Grown.{OneBegins, TakeWithGives}
+use Rattle.rds_state.specs.Grown.{TakeWithGives}
 use Rattle.rds_state.specs.Value.{coordinates}
 use Rattle.rds_delta.specs.Ranks.{Ranks, ranks}
 use Rattle.rds_delta.specs.Digested.{ranks_in}

@@ -1,9 +1,8 @@
 -- Whether two replicas may talk, as a session judges a hello.
 use Rattle.std.specs.Prelude.{◌≡◌, ◌≢◌, ℕ, Result, Ok, Err}
-use Rattle.rds_names.specs.Roster.{RosterValue}
+use Rattle.rds_names.specs.Roster.{RosterValue, OneBegins}
 use Rattle.rds_names.specs.declared.fault.Fault.{Fault}
 use Rattle.rds_names.specs.declared.fault.Fault.TheVariants.{WrongGroup, WrongRoster, SameReplica}
-use Rattle.rds_state.specs.Grown.{OneBegins}
 use Rattle.rds_codec.specs.declared.hellos.Hello.{Hello}
 
 -- when the replica with this roster and number hears a hello, and which fault it gives: first that of another group,

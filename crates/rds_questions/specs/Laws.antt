@@ -1,7 +1,7 @@
 -- The laws of questions and responses.
 use Rattle.std.specs.Prelude.{◌≡◌, ◌≢◌, ◌≤◌, ℕ, List, ◌++◌, length, Ok}
 use Rattle.rds_state.specs.Fits.{ReplicaValue}
-use Rattle.rds_state.specs.Grown.{OneBegins, longer}
+use Rattle.rds_names.specs.Roster.{OneBegins, longer}
 use Rattle.rds_state.specs.Value.{coordinates}
 use Rattle.rds_delta.specs.Digested.{ranks_in}
 use Rattle.rds_delta.specs.Least.{least}

@@ -1,11 +1,10 @@
 -- What a response brings to the replica that asked.
 use Rattle.std.specs.Prelude.{◌≡◌, ◌≢◌, ◌⊎◌, ◌≤◌, ℕ, List, length, refl, Result, Ok, Err}
 use Rattle.std.specs.Coded.{Coded, code_by, coded×, coded_list}
-use Rattle.rds_names.specs.Roster.{RosterValue}
+use Rattle.rds_names.specs.Roster.{RosterValue, longer}
 use Rattle.rds_names.specs.declared.fault.Fault.{Fault}
 use Rattle.rds_names.specs.declared.fault.Fault.TheVariants.{Memory, WrongAsker, BadCertificate}
 use Rattle.rds_state.specs.Fits.{coded_roster}
-use Rattle.rds_state.specs.Grown.{longer}
 use Rattle.rds_state.specs.Value.{StateValue, coded_state}
 use Rattle.rds_delta.specs.contracts.row.Row as row
 use Rattle.rds_delta.specs.declared.row.Row.{Row}

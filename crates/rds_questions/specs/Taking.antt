@@ -12,7 +12,8 @@ use Rattle.rds_counts.specs.declared.row.Which.TheVariants.{P, N}
 use Rattle.rds_life.specs.Life.{seen_of}
 use Rattle.rds_state.specs.Ahead.{IsNumberAhead, KnowsNumbers}
 use Rattle.rds_state.specs.Fits.{ReplicaValue}
-use Rattle.rds_state.specs.Grown.{OneBegins, TakeWithGives}
+use Rattle.rds_state.specs.Grown.{TakeWithGives}
+use Rattle.rds_names.specs.Roster.{OneBegins}
 use Rattle.rds_state.specs.Value.{StateValue, coordinates}
 use Rattle.rds_delta.specs.Digested.{DigestValue, ranks_in}
 use Rattle.rds_delta.specs.Ranks.{Ranks, ranks}

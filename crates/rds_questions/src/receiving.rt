@@ -2,7 +2,7 @@
 ghost use Rattle.std.specs.Prelude.{◌≡◌, ◌<◌, ◌≤◌, length, Err, IfOk, IfErr};
 ghost use Rattle.rds_names.specs.declared.fault.Fault.TheVariants.{Memory, TooLong};
 ghost use Rattle.rds_state.specs.Fits.{Fits};
-ghost use Rattle.rds_state.specs.Grown.{longer};
+ghost use Rattle.rds_names.specs.Roster.{longer};
 ghost use Rattle.rds_state.specs.Value.{coordinates};
 ghost use Rattle.rds_delta.specs.Claims.{IsCertificate};
 ghost use Rattle.rds_delta.specs.Digested.{ranks_in};

@@ -6,13 +6,12 @@ ghost use Rattle.rds_counts.specs.Place.{Place};
 ghost use Rattle.rds_state.specs.Ahead.{NumberAhead};
 ghost use Rattle.rds_state.specs.Coordinates.{join};
 ghost use Rattle.rds_state.specs.Fits.{Fits, ReplicaValue};
-ghost use Rattle.rds_state.specs.Grown.{longer};
+ghost use Rattle.rds_names.specs.Roster.{longer};
 ghost use Rattle.rds_state.specs.RowsAhead.{rows_ahead};
 ghost use Rattle.rds_state.specs.Value.{coordinates};
 ghost use Rattle.rds_questions.specs.Questions.{question_of};
 ghost use Rattle.rds_questions.specs.Taking.{HasAllOf, HeldGives, IsGrownFrom, IsAsker, OwnLacking, TakesReceived};
 
-use crate::greeting::one_begins;
 use crate::questions::Question;
 use crate::receiving::Received;
 use rds_counts::{CountRow, Counts};
@@ -88,7 +87,7 @@ fn has_all_of<S: DotSet>(alloc: Global, state: &State<S>, digest: &Digest<S>) ->
 fn is_replica_of<S: DotSet>(question: &Question<S>, held: &Replica<S>) -> bool
     ensures { IsTrue result ↔ IsAsker question.now held.now }
 {
-    held.own() == question.hello.own && one_begins(&question.hello.roster, held.roster())
+    held.own() == question.hello.own && question.hello.roster.meets(held.roster())
 }
 
 /// Whether the replica is the one that asked, and has all that it had then.

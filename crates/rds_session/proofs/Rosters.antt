@@ -6,9 +6,8 @@ use Rattle.std.specs.Str.{bytes_eq}
 use Rattle.std.proofs.lemmas.Bool.{cases_lt, lt-ltb, le-ltb}
 use Rattle.std.proofs.lemmas.Bool.Decides.{same_from_decides}
 use Rattle.std.proofs.lemmas.Slice.Eq.{bytes_eq-Decides, starts_is}
-use Rattle.rds_names.specs.Roster.{RosterValue, AreFirst}
+use Rattle.rds_names.specs.Roster.{RosterValue, AreFirst, OneBegins}
 use Rattle.rds_state.specs.Fits.{ReplicaValue}
-use Rattle.rds_state.specs.Grown.{OneBegins}
 use Rattle.rds_session.specs.Judging.{longer_than, one_begins, replicas_of}
 use Rattle.rds_session.specs.Received.{IsLongerIfThere}
 use Rattle.rds_session.proofs.Checks.{either, or_true}

@@ -7,7 +7,7 @@ use Rattle.rds_names.specs.declared.fault.Fault.TheVariants.{Extra, WrongVersion
 use Rattle.rds_delta.specs.Least.{least}
 use Rattle.rds_codec.specs.CertificateTexts.{IsReplicaOf}
 use Rattle.rds_state.specs.Fits.{ReplicaValue}
-use Rattle.rds_state.specs.Grown.{OneBegins}
+use Rattle.rds_names.specs.Roster.{OneBegins}
 use Rattle.rds_state.specs.Value.{coordinates}
 use Rattle.rds_delta.specs.Digested.{DigestValue, digest_of}
 use Rattle.rds_codec.specs.AnswerTexts.{answer}

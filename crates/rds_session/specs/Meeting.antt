@@ -2,7 +2,7 @@
 use Rattle.std.specs.Prelude.{◌≡◌, ◌≢◌, ℕ, ◌≤◌, ◌⊎◌, List, [], ◌∷◌, ◌++◌, length, Option, Some, None}
 use Rattle.std.specs.List.{flat_map}
 use Rattle.rds_state.specs.Fits.{ReplicaValue}
-use Rattle.rds_state.specs.Grown.{OneBegins}
+use Rattle.rds_names.specs.Roster.{OneBegins}
 use Rattle.rds_state.specs.Value.{StateValue, coordinates}
 use Rattle.rds_delta.specs.Digested.{digest_of}
 use Rattle.rds_delta.specs.Least.{least}

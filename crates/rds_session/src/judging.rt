@@ -11,7 +11,6 @@ ghost use Rattle.rds_delta.specs.Claims.{IsCertificate};
 ghost use Rattle.rds_delta.specs.Least.{IsAbove};
 ghost use Rattle.rds_delta.specs.Ranks.{ranks};
 ghost use Rattle.rds_state.specs.Fits.{ReplicaValue};
-ghost use Rattle.rds_state.specs.Grown.{OneBegins};
 ghost use Rattle.rds_state.specs.Value.{coordinates};
 ghost use Rattle.rds_session.specs.Messages.{fault_of};
 ghost use Rattle.rds_session.specs.declared.talk.Stop.TheVariants.{Left, Refused};
@@ -55,19 +54,12 @@ fn judge_code<S: DotSet>(turn: &Turn<S>, code: ByeCode) -> Result<Act<S>, Stop>
     }
 }
 
-/// Whether one of the two rosters begins the other: they are equal, or one of them has grown since.
-pub fn one_begins(roster: &Roster, other: &Roster) -> bool
-    ensures { IsTrue result ↔ OneBegins roster.now other.now }
-{
-    roster.begins(other) || other.begins(roster)
-}
-
-// The same of two rosters of one group, whose names alone say it.
+// Whether one of two rosters of one group begins the other, which their names alone say.
 fn names_begin(hello: &Roster, kept: &Roster) -> bool
     requires { hello.now.group ≡ kept.now.group }
     ensures { result ≡ one_begins hello.now.names kept.now.names }
 {
-    one_begins(hello, kept)
+    hello.meets(kept)
 }
 
 // The other roster, where it has more names than the own one.

@@ -17,7 +17,6 @@ mod talk;
 mod writing;
 
 pub use exchanging::{Exchanged, exchange};
-pub use judging::one_begins;
 pub use laws::{
     a_course_is_by_messages, a_server_speaks_its_clients_version,
     a_step_of_a_session_has_one_result, limit_of_messages, streams_are_split_once, two_sessions,

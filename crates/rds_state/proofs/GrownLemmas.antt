@@ -2,9 +2,9 @@
 use Rattle.std.specs.Prelude.{ℕ, Result, Ok, Err}
 use Rattle.rds_names.specs.declared.fault.Fault.{Fault}
 use Rattle.rds_names.specs.declared.fault.Fault.TheVariants.{Memory, OwnAhead, Conflict}
-use Rattle.rds_names.specs.Roster.{RosterValue}
+use Rattle.rds_names.specs.Roster.{RosterValue, OneBegins}
 use Rattle.rds_state.specs.Ahead.{TakeGives}
-use Rattle.rds_state.specs.Grown.{OneBegins, TakeWithGives}
+use Rattle.rds_state.specs.Grown.{TakeWithGives}
 use Rattle.rds_state.specs.Value.{StateValue}
 
 -- where the rosters meet, the delta is taken or refused as without them

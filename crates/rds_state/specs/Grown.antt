@@ -1,18 +1,10 @@
 -- A replica that takes a longer roster.
-use Rattle.std.specs.Prelude.{◌≡◌, ◌⊎◌, ℕ, nat_le, length, Result, Ok, Err, if◌then◌else◌}
+use Rattle.std.specs.Prelude.{◌≡◌, ℕ, Result, Ok, Err}
 use Rattle.rds_names.specs.declared.fault.Fault.{Fault}
 use Rattle.rds_names.specs.declared.fault.Fault.TheVariants.{WrongGroup, WrongRoster}
-use Rattle.rds_names.specs.Roster.{RosterValue, Begins}
+use Rattle.rds_names.specs.Roster.{RosterValue, Begins, MeetGives, OneBegins}
 use Rattle.rds_state.specs.Ahead.{TakeGives}
 use Rattle.rds_state.specs.Value.{StateValue}
-
--- the one with more names
-abbrev pub longer : RosterValue → RosterValue → RosterValue
-longer r s = if nat_le (length s.names) (length r.names) then r else s
-
--- one of them begins the other
-abbrev pub OneBegins : RosterValue → RosterValue → Type 0
-OneBegins r s = Begins r s ⊎ Begins s r
 
 -- when a roster grows to another, and which fault is given: first that of another group
 abbrev pub GrowGives : {T : Type 0} → RosterValue → RosterValue → Result T Fault → Type 0
@@ -20,13 +12,6 @@ GrowGives r s (Ok x) = Begins r s
 GrowGives r s (Err WrongGroup) = ¬ (r.group ≡ s.group)
 GrowGives r s (Err WrongRoster) = (r.group ≡ s.group) × ¬ (Begins r s)
 GrowGives r s (Err f) = ⊥
-
--- when two rosters meet in the longer one, and which fault is given: first that of another group
-abbrev pub MeetGives : {T : Type 0} → RosterValue → RosterValue → Result T Fault → Type 0
-MeetGives r s (Ok x) = OneBegins r s
-MeetGives r s (Err WrongGroup) = ¬ (r.group ≡ s.group)
-MeetGives r s (Err WrongRoster) = (r.group ≡ s.group) × ¬ (OneBegins r s)
-MeetGives r s (Err f) = ⊥
 
 -- when a delta that comes with a roster is taken, and which fault is given: first what the rosters give
 abbrev pub TakeWithGives : {T : Type 0} → RosterValue → RosterValue → StateValue → ℕ → StateValue → Result T Fault → Type 0

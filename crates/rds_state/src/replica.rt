@@ -11,7 +11,8 @@ ghost use Rattle.rds_state.specs.CoveredDots.{covered_dots};
 ghost use Rattle.rds_state.specs.Edit.{covers, JoinsEffect, new_dot, needs_room, own_top, path_fault, refusal, seq_fault, IsDue};
 ghost use Rattle.rds_dots.specs.Lacking.{dot_of};
 ghost use Rattle.rds_state.specs.Fits.{Fits, ReplicaValue, IsReplica};
-ghost use Rattle.rds_state.specs.Grown.{longer, GrowGives, MeetGives, TakeWithGives};
+ghost use Rattle.rds_state.specs.Grown.{GrowGives, TakeWithGives};
+ghost use Rattle.rds_names.specs.Roster.{longer};
 ghost use Rattle.rds_counts.specs.Below.{rows_below};
 ghost use Rattle.rds_state.specs.Value.{coordinates, size};
 
@@ -281,7 +282,7 @@ impl<S: DotSet> Replica<S> {
     pub fn may_take_with(&self, roster: &Roster, delta: &State<S>) -> Result<(), Fault>
         ensures { TakeWithGives self.now.roster roster.now self.now.state self.now.own delta.now result }
     {
-        may_meet(&self.roster, roster)?;
+        self.roster.may_meet(roster)?;
         self.may_take(delta)
     }
 
@@ -298,7 +299,7 @@ impl<S: DotSet> Replica<S> {
         ensures nothing { size delta.now ≡ 0 → result ≢ Err Memory }
         ensures err { OnErr result (self.new ≡ self.old) }
     {
-        may_meet(&self.roster, &roster)?;
+        self.roster.may_meet(&roster)?;
         if roster.len() <= self.roster.len() {
             return self.take(delta);
         }
@@ -337,19 +338,6 @@ fn has_number(roster: &Roster, number: u8) -> bool
     ensures { IsTrue result ↔ (number < length roster.now.names) }
 {
     u16::from(number) < roster.len()
-}
-
-/// Whether one of two rosters begins the other; else why it doesn't.
-fn may_meet(own: &Roster, roster: &Roster) -> Result<(), Fault>
-    ensures { MeetGives own.now roster.now result }
-{
-    if own.group() != roster.group() {
-        return Err(Fault::WrongGroup);
-    }
-    if !own.begins(roster) && !roster.begins(own) {
-        return Err(Fault::WrongRoster);
-    }
-    Ok(())
 }
 
 /// Whether all replica numbers of the state are below the roster's length.

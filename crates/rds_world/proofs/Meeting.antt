@@ -3,9 +3,8 @@ use Rattle.std.proofs.Common.{◌≡◌, ℕ, max, Bool, true, false, List, [], 
 use Rattle.std.specs.Prelude.{nat_le, if◌then◌else◌}
 use Rattle.std.proofs.lemmas.Bool.Decides.{nat_tests}
 use Rattle.std.proofs.lemmas.List.{append_assoc}
-use Rattle.rds_names.specs.Roster.{RosterValue, AreFirst, Begins}
+use Rattle.rds_names.specs.Roster.{RosterValue, AreFirst, Begins, OneBegins, longer}
 use Rattle.rds_names.specs.declared.fault.Fault.{Fault}
-use Rattle.rds_state.specs.Grown.{OneBegins, longer}
 use Rattle.rds_world.specs.declared.event.Event.{Event}
 use Rattle.rds_world.specs.declared.event.Event.TheVariants.{Edit, Save, Crash, Ask, Answer, Take, Grow}
 use Rattle.rds_world.specs.declared.event.Done.{Done}

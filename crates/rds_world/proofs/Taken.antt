@@ -4,14 +4,13 @@ use mathlib.Core.Bool.{false≢true}
 use mathlib.Core.HLevel.{⊥_prop}
 use mathlib.Core.Logic.{∥∥₁_elim}
 use Rattle.std.proofs.Math.ListN.{set}
-use Rattle.rds_names.specs.Roster.{RosterValue, Begins}
+use Rattle.rds_names.specs.Roster.{RosterValue, Begins, OneBegins, longer}
 use Rattle.rds_names.specs.declared.fault.Fault.{Fault}
 use Rattle.rds_names.specs.declared.fault.Fault.TheVariants.{Memory, NoSuch}
 use Rattle.rds_state.specs.Ahead.{TakeGives}
 use Rattle.rds_state.specs.Coordinates.{join}
 use Rattle.rds_state.specs.Fits.{ReplicaValue}
 use Rattle.rds_state.specs.Friends.{MayTake}
-use Rattle.rds_state.specs.Grown.{OneBegins, longer}
 use Rattle.rds_state.specs.Value.{coordinates}
 use Rattle.rds_state.proofs.FriendLemmas.{may_take_is_taken}
 use Rattle.rds_codec.specs.AnswerTexts.{answer_kind}

@@ -3,7 +3,7 @@ ghost use Rattle.std.specs.Prelude.{◌≡◌, ◌<◌, ◌≤◌, IfOk, IfErr, 
 ghost use Rattle.rds_state.specs.Ahead.{TakeGives};
 ghost use Rattle.rds_state.specs.Coordinates.{join};
 ghost use Rattle.rds_state.specs.Fits.{Fits};
-ghost use Rattle.rds_state.specs.Grown.{OneBegins, longer};
+ghost use Rattle.rds_names.specs.Roster.{OneBegins, longer};
 ghost use Rattle.rds_state.specs.Value.{coordinates};
 ghost use Rattle.rds_delta.specs.Digested.{digest_of};
 ghost use Rattle.rds_codec.specs.DigestTexts.{digest_text};

@@ -1,6 +1,6 @@
 use Rattle.std.proofs.Common.{◌∙◌, ap₂}
 use Rattle.rds_names.specs.declared.fault.Fault.TheVariants.{BadRoster}
-use Rattle.rds_state.specs.Grown.{longer}
+use Rattle.rds_names.specs.Roster.{longer}
 use Rattle.rds_lines.proofs.Joining.{joined_is_replica, not_refused}
 use Rattle.rds_lines.proofs.join.joined.Goals as goal
 

@@ -1,6 +1,6 @@
 use Rattle.std.proofs.Common.{subst}
 use Rattle.rds_state.specs.Fits.{ReplicaValue}
-use Rattle.rds_state.specs.Grown.{OneBegins}
+use Rattle.rds_names.specs.Roster.{OneBegins}
 use Rattle.rds_state.proofs.GrownLemmas.{gives_with}
 use Rattle.rds_state.proofs.replica.Replica.take_with.Goals as goal
 
