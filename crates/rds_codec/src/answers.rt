@@ -17,11 +17,11 @@ ghost use Rattle.rds_bytes.specs.SteadyParts.{replica_steady};
 ghost use Rattle.rds_bytes.specs.Values.{AreDotsOf};
 
 use crate::certificates::{UnfinishedCertificate, unfinished_certificate};
+use crate::fed::read_whole;
 use crate::formats::Format;
 use crate::spelled::{encode_spelled_answer, measure_spelled_answer};
 use crate::states::{UnfinishedState, unfinished_state};
 use crate::tabled::encode_tabled_answer;
-use crate::whole::read_whole;
 use rds_bytes::read_replica;
 use rds_delta::Certificate;
 use rds_dots::DotSet;
@@ -162,7 +162,11 @@ pub fn decode_answer_in<S: DotSet>(
     ensures text { Decodes (answer_kind_in format replicas) bytes.now result }
     ensures read { ReadsAll (answer_at_in format replicas) bytes.now result }
 {
-    read_whole(alloc, unfinished_answer::<S>(alloc, format, replicas), bytes)
+    read_whole(
+        alloc,
+        unfinished_answer::<S>(alloc, format, replicas),
+        bytes,
+    )
 }
 
 /// The text of an answer with these parts, in a format. It is refused as that of the delta is

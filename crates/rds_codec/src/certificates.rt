@@ -8,8 +8,8 @@ ghost use Rattle.rds_codec.specs.Writing.{Encodes};
 ghost use Rattle.rds_bytes.specs.Writing.{Adds};
 
 use crate::certificate_rows::{put_row, read_certificate_row, row_length};
+use crate::fed::read_whole;
 use crate::limits::room_for;
-use crate::whole::read_whole;
 use rds_bytes::{PartReader, put_u32};
 use rds_delta::{Certificate, Row};
 use rds_feeds::{CountWidth, Listed, Made, Making, Progress, RowReader, Rows, Unfinished, rows};

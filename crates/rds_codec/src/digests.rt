@@ -9,8 +9,8 @@ ghost use Rattle.rds_bytes.specs.Values.{AreDotsOf};
 ghost use Rattle.rds_codec.specs.Writing.{Encodes};
 ghost use Rattle.rds_bytes.specs.Writing.{Adds};
 
+use crate::fed::read_whole;
 use crate::limits::{LIMIT, room_for};
-use crate::whole::read_whole;
 use rds_bytes::{counters_length, measure_dots, put_counters, put_dots};
 use rds_counts::Counts;
 use rds_delta::{Digest, is_inside};

@@ -8,9 +8,9 @@ ghost use Rattle.rds_bytes.specs.Reading.{Reads, ReadsExactly};
 ghost use Rattle.rds_codec.specs.Writing.{Encodes};
 ghost use Rattle.rds_bytes.specs.Writing.{Adds};
 
+use crate::fed::read_whole;
 use crate::formats::Format;
 use crate::limits::room_for;
-use crate::whole::read_whole;
 use rds_bytes::{member_length, put_byte, put_member, read_byte, read_member};
 use rds_feeds::{Once, Part, Progress, Unfinished};
 use rds_names::{Fault, Roster};

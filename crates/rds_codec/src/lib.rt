@@ -5,7 +5,7 @@
 //! A text has one reader, which is fed its bytes as they come and may be told their end at any time; what is decoded from
 //! all of its bytes is fed them at once.
 //!
-//! To be read in this order: `limits`, and `whole`, which feeds all bytes; `digests`; `certificate_rows` and
+//! To be read in this order: `limits`, and `fed`, which feeds all bytes; `digests`; `certificate_rows` and
 //! `certificates`; `spelled`, which has format 1, `tabled`, which has format 2, `formats`, which tells them apart, and
 //! `either`, one of two ways to read; the kinds of texts, `states`, `snapshots`, `answers` and `hellos`; `exchanges`,
 //! which brings texts from one replica to another; `laws`, and `steady`, the law of reading texts as their bytes come.
@@ -17,6 +17,7 @@ mod certificates;
 mod digests;
 mod either;
 mod exchanges;
+mod fed;
 mod formats;
 mod hellos;
 mod laws;
@@ -26,7 +27,6 @@ mod spelled;
 mod states;
 mod steady;
 mod tabled;
-mod whole;
 
 pub use answers::{
     Answer, UnfinishedAnswer, answers_have_texts, decode_answer, decode_answer_in, encode_answer,
@@ -41,6 +41,7 @@ pub use digests::{
     UnfinishedDigest, decode_digest, digests_have_texts, encode_digest, unfinished_digest,
 };
 pub use exchanges::{answer, answer_in, ask, pull, take_certified};
+pub use fed::read_whole;
 pub use formats::{Format, read_format};
 pub use hellos::{
     Hello, UnfinishedHello, VERSION, decode_hello, encode_hello, hellos_have_texts, read_hello,
@@ -68,4 +69,3 @@ pub use states::{
 };
 pub use steady::texts_are_read_steadily;
 pub use tabled::{UnfinishedTabled, snapshot_length, unfinished_tabled};
-pub use whole::read_whole;

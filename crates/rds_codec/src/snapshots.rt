@@ -15,11 +15,11 @@ ghost use Rattle.rds_codec.specs.declared.limits.TheConstants.{LIMIT};
 ghost use Rattle.rds_feeds.specs.Chained.{then_finish};
 ghost use Rattle.rds_feeds.specs.Parts.{makes};
 
+use crate::fed::read_whole;
 use crate::formats::{Format, read_format};
 use crate::spelled::{encode_spelled_snapshot, measure_spelled_snapshot};
 use crate::states::{UnfinishedState, unfinished_state};
 use crate::tabled::encode_tabled_snapshot;
-use crate::whole::read_whole;
 use rds_bytes::read_member;
 use rds_dots::DotSet;
 use rds_feeds::{Beside, Following, Made, Making, Once, Part, Progress, Then, Unfinished};

@@ -12,10 +12,10 @@ ghost use Rattle.rds_codec.specs.Kinds.{state_kind};
 ghost use Rattle.rds_codec.specs.StateTexts.{IsStateOf, state_at, state_text};
 
 use crate::either::Either;
+use crate::fed::read_whole;
 use crate::formats::Format;
 use crate::spelled::{UnfinishedSpelled, encode_spelled, measure_spelled, unfinished_spelled};
 use crate::tabled::{UnfinishedTabled, encode_tabled, unfinished_tabled};
-use crate::whole::read_whole;
 use rds_dots::DotSet;
 use rds_feeds::{Progress, Unfinished};
 use rds_names::Fault;

@@ -11,11 +11,7 @@ use rds_names::Fault;
 use std::alloc::Global;
 
 /// Feeds all of the bytes, and then the end.
-fn read_all<U: Unfinished>(
-    alloc: Global,
-    unfinished: U,
-    bytes: &[u8],
-) -> Result<U::Whole, Fault>
+fn read_all<U: Unfinished>(alloc: Global, unfinished: U, bytes: &[u8]) -> Result<U::Whole, Fault>
     ensures { Reads (λ v. v) result (all_of (U.finish unfinished) bytes.now) }
 {
     let (progress, rest) = unfinished.read_on(alloc, bytes)?;
