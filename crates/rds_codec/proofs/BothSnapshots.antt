@@ -1,14 +1,14 @@
 -- Snapshots of both formats together are one format.
-use Rattle.std.proofs.Common.{◌≡◌, ℕ, ◌≤◌, Bool, true, false, cond, List, ◌++◌, length, get_or, Option, Some, None, Ok, refl, sym, ap, subst, ◌∙◌, arith, length-append}
+use Rattle.std.proofs.Common.{◌≡◌, ℕ, ◌≤◌, Bool, true, false, cond, List, ◌++◌, length, get_or, Option, Some, None, refl, sym, ap, subst, ◌∙◌, arith, length-append}
 use Rattle.std.specs.Str.{bytes_eq}
 use Rattle.std.proofs.lemmas.Slice.Eq.{bytes_eq-Decides}
 use Rattle.rds_names.specs.Roster.{RosterValue}
 use Rattle.rds_state.specs.Value.{StateValue}
-use Rattle.rds_state.specs.Fits.{IsReplica, ReplicaValue}
+use Rattle.rds_state.specs.Fits.{ReplicaValue}
 use Rattle.rds_bytes.specs.Values.{IsMember}
 use Rattle.rds_bytes.specs.Spelling.{member_text}
 use Rattle.rds_bytes.specs.Reading.{then_at, bytes_at, member_at}
-use Rattle.rds_bytes.proofs.Format.{IsBytes, IsFormat, known_format, drawn_format, made_format, then_format}
+use Rattle.rds_bytes.proofs.Format.{IsFormat, known_format, drawn_format, made_format, then_format}
 use Rattle.rds_bytes.proofs.PartFormats.{Member, IsMemberPair, member_format}
 use Rattle.rds_codec.specs.declared.limits.TheConstants.{LIMIT}
 use Rattle.rds_codec.specs.declared.formats.Format.{Format}
@@ -17,7 +17,6 @@ use Rattle.rds_codec.specs.FormatTexts as texts
 use Rattle.rds_codec.specs.FormatTexts.{state_text_in, state_at_in, magic_of, format_of, Snapshot, snapshot_of, snapshot_text_in, snapshot_kind_in}
 use Rattle.rds_codec.specs.StateTexts.{IsStateOf, IsSnapshot, snapshot_text}
 use Rattle.rds_codec.specs.SpelledTexts.{spelled_snapshot_text}
-use Rattle.rds_codec.proofs.Replicas.{state_fits}
 use Rattle.rds_codec.proofs.SpelledStates.{CanCountState, spelled_format, spelled_within}
 use Rattle.rds_codec.proofs.TabledStates.{CanCountTabled, tabled_format, tabled_within}
 use Rattle.rds_codec.proofs.Whole.{IsReaderOf, reader_of}

@@ -1,16 +1,15 @@
 -- A digest is a format.
-use Rattle.std.proofs.Common.{◌≡◌, ℕ, ◌+◌, ◌^◌, ◌<◌, ◌≤◌, Bool, true, false, List, ◌++◌, length, Ok, Err, refl, arith}
+use Rattle.std.proofs.Common.{◌≡◌, ℕ, ◌+◌, ◌^◌, ◌<◌, ◌≤◌, true, List, ◌++◌, length, refl, arith}
 use Rattle.std.specs.FinSet as set
 use Rattle.rds_dots.specs.Dots.{Dots}
 use Rattle.rds_dots.specs.Order.{dots_total}
 use Rattle.rds_counts.specs.Counted.{Counted}
 use Rattle.rds_counts.specs.RowsOf.{count_rows}
-use Rattle.rds_delta.specs.Digested.{DigestValue, IsInside}
-use Rattle.rds_names.specs.declared.fault.Fault.TheVariants.{Bad}
+use Rattle.rds_delta.specs.Digested.{DigestValue}
 use Rattle.rds_codec.specs.declared.limits.TheConstants.{LIMIT}
 use Rattle.rds_codec.specs.DigestTexts.{DigestParts, IsDigestOf, are_seen, digest_by, digest_text, live_dots_at, digest_at, digest_kind}
 use Rattle.rds_bytes.specs.Reading as read
-use Rattle.rds_bytes.specs.Reading.{then_at, pair_at, when_at, dots_at, counters_at}
+use Rattle.rds_bytes.specs.Reading.{then_at, pair_at, dots_at, counters_at}
 use Rattle.rds_bytes.specs.Spelling.{dots_text, counters_text}
 use Rattle.rds_bytes.proofs.Format.{IsFormat, then_format, pair_format, made_format, when_format}
 use Rattle.rds_bytes.proofs.CounterFormats.{AreCounts, counters_format}

@@ -1,8 +1,6 @@
 -- States and answers in each format are what their readers read.
-use Rattle.std.proofs.Common.{◌≡◌, ℕ, refl}
-use Rattle.rds_codec.specs.AnswerTexts.{answer_with_at, answer_at}
+use Rattle.std.proofs.Common.{ℕ}
 use Rattle.rds_codec.specs.FormatTexts.{state_kind_in, state_at_in, answer_kind_in, answer_at_in}
-use Rattle.rds_codec.specs.SpelledTexts.{spelled_answer_at}
 use Rattle.rds_codec.specs.declared.formats.Format.{Format}
 use Rattle.rds_codec.specs.declared.formats.Format.TheVariants.{One, Two}
 use Rattle.rds_codec.proofs.SpelledAnswers.{spelled_answer_reader}

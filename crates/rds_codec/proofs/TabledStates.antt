@@ -1,5 +1,5 @@
 -- A state of format 2 is a format.
-use Rattle.std.proofs.Common.{◌≡◌, ℕ, ◌^◌, ◌<◌, ◌≤◌, true, List, [], ◌∷◌, ◌++◌, length, Ok, refl, sym, subst, arith, length-append}
+use Rattle.std.proofs.Common.{◌≡◌, ℕ, ◌^◌, ◌<◌, ◌≤◌, true, List, [], ◌∷◌, ◌++◌, length, refl, sym, subst, arith, length-append}
 use Rattle.std.specs.List.{AllByRecursion}
 use Rattle.std.specs.Cmp.Lexicographic.{pointwise_decides}
 use Rattle.std.proofs.lemmas.Slice.Eq.{bytes_eq-Decides}
@@ -13,12 +13,12 @@ use Rattle.rds_state.specs.Value.{StateValue}
 use Rattle.rds_bytes.specs.Reading as read
 use Rattle.rds_bytes.specs.Reading.{Reader, then_at, pair_at, when_at}
 use Rattle.rds_bytes.specs.Spelling.{short_text, dots_text, counts_text, keyed_live_row_text, keyed_live_rows_text, keyed_count_row_text, keyed_counters_text}
-use Rattle.rds_bytes.specs.Table.{AreIn, IsTable}
+use Rattle.rds_bytes.specs.Table.{IsTable}
 use Rattle.rds_bytes.specs.TableTexts.{table_text, number_text, table_at, numbered_at}
 use Rattle.rds_bytes.specs.Tabled.{CanCount, IsShortTable, IsKeyOf, AreTabledRows, AreTabledCounts}
 use Rattle.rds_bytes.specs.Values.{is_key_text, HasKeys}
 use Rattle.rds_bytes.proofs.DotFormats.{AreDots, dots_format}
-use Rattle.rds_bytes.proofs.Format.{IsFormat, IsBytes, pair_format, then_format, made_format, when_format}
+use Rattle.rds_bytes.proofs.Format.{IsFormat, pair_format, then_format, made_format, when_format}
 use Rattle.rds_bytes.proofs.TableFormats.{table_format}
 use Rattle.rds_bytes.proofs.TabledFormats.{tabled_rows_format, tabled_counters_format}
 use Rattle.rds_bytes.proofs.TableLaws.{table_differs, table_has, table_all}
@@ -27,7 +27,7 @@ use Rattle.rds_codec.specs.StateTexts.{StateParts, IsStateOf, state_by, keys_in,
 use Rattle.rds_codec.specs.FormatTexts.{state_kind_in}
 use Rattle.rds_codec.specs.declared.formats.Format.TheVariants.{Two}
 use Rattle.rds_codec.proofs.SpelledStates.{Tail, CanCountState, FitsState, parts_of, state_there, state_back}
-use Rattle.rds_codec.proofs.StateKeys.{HasStateKeys, rows_have, keys_have, keys_are_texts}
+use Rattle.rds_codec.proofs.StateKeys.{HasStateKeys, rows_have, keys_are_texts}
 use Rattle.rds_codec.proofs.Whole.{IsReaderOf, reader_of}
 use Rattle.rds_codec.proofs.Within.{longer, dots_within}
 

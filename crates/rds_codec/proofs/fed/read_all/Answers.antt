@@ -1,6 +1,5 @@
-use Rattle.std.proofs.Common.{Bool, cond, Ok, Err, sym, ap, ◌∙◌, Result}
+use Rattle.std.proofs.Common.{sym, ap, ◌∙◌}
 use Rattle.std.proofs.lemmas.Result.{err_from_is_err_and}
-use Rattle.rds_names.specs.declared.fault.Fault.TheVariants.{Extra}
 use Rattle.rds_codec.proofs.Whole.{fed_refused, fed_cut, fed_whole, ended_by}
 use Rattle.rds_codec.proofs.fed.read_all.Goals as goal
 
