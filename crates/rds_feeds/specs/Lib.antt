@@ -1,6 +1,7 @@
 pub mod Chained
 pub mod CountRows
 pub mod LiveRows
+pub mod MarkedKeys
 pub mod Numbered
 pub mod Parts
 pub mod Pieces

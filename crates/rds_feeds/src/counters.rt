@@ -7,7 +7,7 @@ ghost use Rattle.rds_feeds.specs.CountRows.{no_count_rows, count_rows_go_on};
 use crate::listed::{Listed, RowReader, Rows, rows};
 use crate::made::{Made, Making};
 use crate::many::CountWidth;
-use crate::unfinished::{Progress, Unfinished};
+use crate::unfinished::Unfinished;
 use rds_bytes::CountRowReader;
 use rds_counts::{CountRow, Counts};
 use rds_names::Fault;
@@ -36,31 +36,8 @@ impl Making<Listed<CountRowReader, CountRow>> for RowsAreCounts {
     }
 }
 
-type CountersParts = Made<Rows<CountRowReader, CountRow>, RowsAreCounts>;
-
 /// Counters that are being read. No more than one row is held.
-#[derive(Drop)]
-pub struct UnfinishedCounters {
-    parts: CountersParts,
-}
-
-impl Unfinished for UnfinishedCounters {
-    type Whole = Counts;
-
-    ghost finish = { λ u. ⟦<CountersParts as Unfinished>⟧.finish u.parts };
-
-    fn read_on<'a>(
-        self,
-        alloc: Global,
-        bytes: &'a [u8],
-    ) -> Result<(Progress<Self, Counts>, &'a [u8]), Fault> {
-        let (progress, rest) = self.parts.read_on(alloc, bytes)?;
-        match progress {
-            Progress::More(parts) => Ok((Progress::More(UnfinishedCounters { parts }), rest)),
-            Progress::Whole(counts) => Ok((Progress::Whole(counts), rest)),
-        }
-    }
-}
+pub type UnfinishedCounters = Made<Rows<CountRowReader, CountRow>, RowsAreCounts>;
 
 /// The counters of so many replicas, of which nothing was read.
 #[tactic(auto, unfolding(rds_bytes::specs::Reading::counters_at))]
@@ -69,10 +46,8 @@ pub fn unfinished_counters(alloc: Global, replicas: u16) -> UnfinishedCounters
         ≡ counters_at replicas bytes }
 {
     let from = rows(alloc, CountWidth::Four, CountRowReader { replicas });
-    UnfinishedCounters {
-        parts: Made {
-            from,
-            maker: RowsAreCounts {},
-        },
+    Made {
+        from,
+        maker: RowsAreCounts {},
     }
 }

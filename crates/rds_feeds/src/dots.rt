@@ -13,7 +13,7 @@ use crate::made::{Made, Making};
 use crate::many::{CountWidth, Many, Repeating};
 use crate::once::{Once, Part};
 use crate::then::{Following, Then};
-use crate::unfinished::{Progress, Unfinished};
+use crate::unfinished::Unfinished;
 use rds_bytes::{Gap, RowHead, read_gap, read_row_head};
 use rds_dots::{DotSet, MAX_SEQ, Run};
 use rds_names::Fault;
@@ -284,31 +284,8 @@ impl<S: DotSet> Making<RowsSoFar<S>> for RowsEnd {
     }
 }
 
-type DotsParts<S> = Made<Many<Row<S>, RowsSoFar<S>>, RowsEnd>;
-
 /// A set of dots that is being read. However many gaps a row has, no more than one is held.
-#[derive(Drop)]
-pub struct UnfinishedDots<S: DotSet> {
-    parts: DotsParts<S>,
-}
-
-impl<S: DotSet> Unfinished for UnfinishedDots<S> {
-    type Whole = SeenDots<S>;
-
-    ghost finish = { λ u. ⟦<DotsParts<S> as Unfinished>⟧.finish u.parts };
-
-    fn read_on<'a>(
-        self,
-        alloc: Global,
-        bytes: &'a [u8],
-    ) -> Result<(Progress<Self, SeenDots<S>>, &'a [u8]), Fault> {
-        let (progress, rest) = self.parts.read_on(alloc, bytes)?;
-        match progress {
-            Progress::More(parts) => Ok((Progress::More(UnfinishedDots { parts }), rest)),
-            Progress::Whole(dots) => Ok((Progress::Whole(dots), rest)),
-        }
-    }
-}
+pub type UnfinishedDots<S> = Made<Many<Row<S>, RowsSoFar<S>>, RowsEnd>;
 
 /// A set of dots of so many replicas, of which nothing was read.
 pub fn unfinished_dots<S: DotSet>(alloc: Global, replicas: u16) -> UnfinishedDots<S>
@@ -320,10 +297,8 @@ pub fn unfinished_dots<S: DotSet>(alloc: Global, replicas: u16) -> UnfinishedDot
         least: 0,
         seen: S::empty(alloc),
     };
-    UnfinishedDots {
-        parts: Made {
-            from: Many::Count(CountWidth::Two, rows),
-            maker: RowsEnd {},
-        },
+    Made {
+        from: Many::Count(CountWidth::Two, rows),
+        maker: RowsEnd {},
     }
 }

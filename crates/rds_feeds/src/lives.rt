@@ -63,31 +63,8 @@ impl<S: DotSet> Making<Listed<SeenReader<S>, (Dot, Entry)>> for RowsAreLives {
     }
 }
 
-type LivesParts<S> = Made<Rows<SeenReader<S>, (Dot, Entry)>, RowsAreLives>;
-
 /// Lives that are being read. No more than one live row is held.
-#[derive(Drop)]
-pub struct UnfinishedLives<S: DotSet> {
-    parts: LivesParts<S>,
-}
-
-impl<S: DotSet> Unfinished for UnfinishedLives<S> {
-    type Whole = Lives<S>;
-
-    ghost finish = { λ u. ⟦<LivesParts<S> as Unfinished>⟧.finish u.parts };
-
-    fn read_on<'a>(
-        self,
-        alloc: Global,
-        bytes: &'a [u8],
-    ) -> Result<(Progress<Self, Lives<S>>, &'a [u8]), Fault> {
-        let (progress, rest) = self.parts.read_on(alloc, bytes)?;
-        match progress {
-            Progress::More(parts) => Ok((Progress::More(UnfinishedLives { parts }), rest)),
-            Progress::Whole(lives) => Ok((Progress::Whole(lives), rest)),
-        }
-    }
-}
+pub type UnfinishedLives<S> = Made<Rows<SeenReader<S>, (Dot, Entry)>, RowsAreLives>;
 
 /// The lives of the dots that were seen, of which no live row was read.
 pub fn unfinished_lives<S: DotSet>(alloc: Global, seen: S) -> UnfinishedLives<S>
@@ -95,11 +72,9 @@ pub fn unfinished_lives<S: DotSet>(alloc: Global, seen: S) -> UnfinishedLives<S>
         ≡ made_at (lives_of (S.contents seen)) (live_rows_at (S.contents seen)) bytes }
 {
     let from = rows(alloc, CountWidth::Four, SeenReader { seen });
-    UnfinishedLives {
-        parts: Made {
-            from,
-            maker: RowsAreLives {},
-        },
+    Made {
+        from,
+        maker: RowsAreLives {},
     }
 }
 

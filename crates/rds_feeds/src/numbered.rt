@@ -14,7 +14,7 @@ ghost use Rattle.rds_feeds.specs.Numbered.{met_of, has_own_table};
 
 use crate::made::{Made, Making};
 use crate::meeting::{MeetingReader, MeetingRows, MetRows, meeting_rows};
-use crate::unfinished::{Progress, Unfinished};
+use crate::unfinished::Unfinished;
 use rds_bytes::{Table, TableKeys, read_keyed_count_row, read_keyed_live_row};
 use rds_counts::{CountRow, Counts};
 use rds_dots::{Dot, DotSet};
@@ -177,34 +177,11 @@ impl<S: DotSet> Making<MetRows<NumberedLiveReader<S>, (Dot, Entry)>> for RowsAre
     }
 }
 
-type NumberedLivesParts<S> = Made<
+/// Lives by the numbers of a table that are being read. No more than one live row is held.
+pub type UnfinishedNumberedLives<S> = Made<
     MeetingRows<NumberedLiveReader<S>, (Dot, Entry)>,
     RowsAreNumberedLives,
 >;
-
-/// Lives by the numbers of a table that are being read. No more than one live row is held.
-#[derive(Drop)]
-pub struct UnfinishedNumberedLives<S: DotSet> {
-    parts: NumberedLivesParts<S>,
-}
-
-impl<S: DotSet> Unfinished for UnfinishedNumberedLives<S> {
-    type Whole = NumberedLives<S>;
-
-    ghost finish = { λ u. ⟦<NumberedLivesParts<S> as Unfinished>⟧.finish u.parts };
-
-    fn read_on<'a>(
-        self,
-        alloc: Global,
-        bytes: &'a [u8],
-    ) -> Result<(Progress<Self, NumberedLives<S>>, &'a [u8]), Fault> {
-        let (progress, rest) = self.parts.read_on(alloc, bytes)?;
-        match progress {
-            Progress::More(parts) => Ok((Progress::More(UnfinishedNumberedLives { parts }), rest)),
-            Progress::Whole(lives) => Ok((Progress::Whole(lives), rest)),
-        }
-    }
-}
 
 /// The lives of the dots that were seen, of which no live row was read, by the numbers of a table.
 pub fn unfinished_numbered_lives<S: DotSet>(
@@ -217,11 +194,9 @@ pub fn unfinished_numbered_lives<S: DotSet>(
         (keyed_live_rows_at (numbered_at table) (S.contents seen)) bytes }
 {
     let from = meeting_rows(alloc, NumberedLiveReader { table, seen }, Some(0));
-    UnfinishedNumberedLives {
-        parts: Made {
-            from,
-            maker: RowsAreNumberedLives {},
-        },
+    Made {
+        from,
+        maker: RowsAreNumberedLives {},
     }
 }
 
@@ -278,37 +253,11 @@ impl<S: DotSet> Making<MetRows<NumberedCountReader<S>, CountRow>> for RowsAreNum
     }
 }
 
-type NumberedCountersParts<S> = Made<
+/// Counters by the numbers of a table that are being read, after the lives. No more than one row is held.
+pub type UnfinishedNumberedCounters<S> = Made<
     MeetingRows<NumberedCountReader<S>, CountRow>,
     RowsAreNumberedCounts,
 >;
-
-/// Counters by the numbers of a table that are being read, after the lives. No more than one row is held.
-#[derive(Drop)]
-pub struct UnfinishedNumberedCounters<S: DotSet> {
-    parts: NumberedCountersParts<S>,
-}
-
-impl<S: DotSet> Unfinished for UnfinishedNumberedCounters<S> {
-    type Whole = NumberedParts<S>;
-
-    ghost finish = { λ u. ⟦<NumberedCountersParts<S> as Unfinished>⟧.finish u.parts };
-
-    fn read_on<'a>(
-        self,
-        alloc: Global,
-        bytes: &'a [u8],
-    ) -> Result<(Progress<Self, NumberedParts<S>>, &'a [u8]), Fault> {
-        let (progress, rest) = self.parts.read_on(alloc, bytes)?;
-        match progress {
-            Progress::More(parts) => Ok((
-                Progress::More(UnfinishedNumberedCounters { parts }),
-                rest,
-            )),
-            Progress::Whole(numbered) => Ok((Progress::Whole(numbered), rest)),
-        }
-    }
-}
 
 /// The counters of so many replicas, of which nothing was read, by the numbers of the table of the lives before them.
 pub fn unfinished_numbered_counters<S: DotSet>(
@@ -321,10 +270,8 @@ pub fn unfinished_numbered_counters<S: DotSet>(
 {
     let met = lives.met();
     let from = meeting_rows(alloc, NumberedCountReader { lives, replicas }, met);
-    UnfinishedNumberedCounters {
-        parts: Made {
-            from,
-            maker: RowsAreNumberedCounts {},
-        },
+    Made {
+        from,
+        maker: RowsAreNumberedCounts {},
     }
 }

@@ -1,12 +1,12 @@
 //! A table of keys, which is read key by key.
 ghost use Rattle.std.specs.Prelude.{◌≡◌, ℕ, List, [], ◌∷◌, ◌++◌, Ok};
-ghost use Rattle.rds_bytes.specs.SteadyTables.{new_key_steady};
-ghost use Rattle.rds_bytes.specs.TableTexts.{new_key_at, table_at};
+ghost use Rattle.rds_bytes.specs.TableTexts.{table_at};
+ghost use Rattle.rds_feeds.specs.MarkedKeys.{marked_key_at, marked_key_steady};
 
 use crate::made::{Made, Making};
 use crate::many::{CountWidth, Many};
 use crate::once::{Once, Part};
-use crate::unfinished::{Progress, Unfinished};
+use crate::unfinished::Unfinished;
 use rds_bytes::{KeyPlaces, Table, mark_of, read_key};
 use rds_names::{Fault, Key};
 use std::alloc::Global;
@@ -32,32 +32,33 @@ impl Model for KeysSoFar {
 }
 
 impl Part for KeysSoFar {
-    type Read = Key;
+    type Read = (Key, u64);
 
     type Whole = KeysSoFar;
 
-    ghost reader = { new_key_at };
+    ghost reader = { marked_key_at };
 
-    ghost made = { λ keys key. keys ++ key ∷ [] };
+    ghost made = { λ keys read. keys ++ read.0 ∷ [] };
 
-    fn read<'a>(&self, alloc: Global, bytes: &'a [u8]) -> Result<(Key, &'a [u8]), Fault> {
+    fn read<'a>(&self, alloc: Global, bytes: &'a [u8]) -> Result<((Key, u64), &'a [u8]), Fault> {
         let (key, rest) = read_key(alloc, bytes)?;
         let mark = mark_of(&key);
         let known = self.places.find(alloc, self.keys.as_slice(), mark, &key)?;
         if known.is_some() {
             return Err(Fault::Bad);
         }
-        Ok((key, rest))
+        Ok(((key, mark), rest))
     }
 
-    fn make(self, part: Key) -> Result<KeysSoFar, Fault> {
+    fn make(self, part: (Key, u64)) -> Result<KeysSoFar, Fault> {
         let KeysSoFar {
             alloc,
             mut keys,
             mut places,
         } = self;
-        places.add(alloc, keys.as_slice(), mark_of(&part), &part)?;
-        keys.push(part)?;
+        let (key, mark) = part;
+        places.add(alloc, keys.as_slice(), mark, &key)?;
+        keys.push(key)?;
         Ok(KeysSoFar {
             alloc,
             keys,
@@ -65,7 +66,7 @@ impl Part for KeysSoFar {
         })
     }
 
-    ghost steady = { new_key_steady };
+    ghost steady = { marked_key_steady };
 }
 
 /// The table of keys that were read.
@@ -87,31 +88,8 @@ impl Making<KeysSoFar> for KeysAreTable {
     }
 }
 
-type TableParts = Made<Many<Once<KeysSoFar>, KeysSoFar>, KeysAreTable>;
-
 /// A table that is being read. A key that stands twice is refused where it stands again.
-#[derive(Drop)]
-pub struct UnfinishedTable {
-    parts: TableParts,
-}
-
-impl Unfinished for UnfinishedTable {
-    type Whole = Table;
-
-    ghost finish = { λ u. ⟦<TableParts as Unfinished>⟧.finish u.parts };
-
-    fn read_on<'a>(
-        self,
-        alloc: Global,
-        bytes: &'a [u8],
-    ) -> Result<(Progress<Self, Table>, &'a [u8]), Fault> {
-        let (progress, rest) = self.parts.read_on(alloc, bytes)?;
-        match progress {
-            Progress::More(parts) => Ok((Progress::More(UnfinishedTable { parts }), rest)),
-            Progress::Whole(table) => Ok((Progress::Whole(table), rest)),
-        }
-    }
-}
+pub type UnfinishedTable = Made<Many<Once<KeysSoFar>, KeysSoFar>, KeysAreTable>;
 
 /// A table of which nothing was read.
 #[tactic(auto, unfolding(rds_bytes::specs::TableTexts::table_at))]
@@ -123,10 +101,8 @@ pub fn unfinished_table(alloc: Global) -> UnfinishedTable
         keys: Vec::new(alloc),
         places: KeyPlaces::new(alloc),
     };
-    UnfinishedTable {
-        parts: Made {
-            from: Many::Count(CountWidth::Four, keys),
-            maker: KeysAreTable {},
-        },
+    Made {
+        from: Many::Count(CountWidth::Four, keys),
+        maker: KeysAreTable {},
     }
 }

@@ -3,12 +3,13 @@ use Rattle.std.proofs.lemmas.Result.{err_from_is_err_and}
 use Rattle.rds_bytes.specs.Numbers.{place_in}
 use Rattle.rds_bytes.specs.Table.{has_key}
 use Rattle.rds_bytes.proofs.KeyLoops.{key_fails, key_is_new, key_is_old, is_placed}
+use Rattle.rds_feeds.proofs.TableKeys.{marked_bad, marked_fails, marked_found}
 use Rattle.rds_feeds.proofs.tables.KeysSoFarPart.read.Goals as goal
 
 pub returns-in_err-key : goal.returns-in_err-key
 returns-in_err-key c =
     let p = err_from_is_err_and c.from_residual.result c.from_residual.ensures.1 in
-    rw (p.1, p.2) (key_fails c.args.self.now c.args.bytes.now c.in_err-key.field-0.0 c.in_err-key.ensures)
+    rw (p.1, p.2) (marked_fails c.args.self.now c.args.bytes.now c.in_err-key.field-0.0 (key_fails c.args.self.now c.args.bytes.now c.in_err-key.field-0.0 c.in_err-key.ensures))
 
 pub returns-then-is_some : goal.returns-then-is_some
 returns-then-is_some c =
@@ -16,7 +17,7 @@ returns-then-is_some c =
     let keys : c.as_slice.result.now ≡ c.args.self.now = c.as_slice.ensures.value ∙ c.self.view_is in
     let placed : c.in_ok-known.known ≡ place_in c.args.self.now key = c.in_ok-known.ensures.number ∙ ap (λ (ks : List (List ℕ)). place_in ks key) keys in
     let old : has_key c.args.self.now key ≡ true = is_placed c.args.self.now key c.in_ok-known.known true placed (search rules) in
-    key_is_old c.args.self.now c.args.bytes.now key c.in_ok-key.rest.now c.in_ok-key.ensures old
+    marked_bad c.args.self.now c.args.bytes.now (key_is_old c.args.self.now c.args.bytes.now key c.in_ok-key.rest.now c.in_ok-key.ensures old)
 
 pub returns : goal.returns
 returns c =
@@ -24,4 +25,4 @@ returns c =
     let keys : c.as_slice.result.now ≡ c.args.self.now = c.as_slice.ensures.value ∙ c.self.view_is in
     let placed : c.in_ok-known.known ≡ place_in c.args.self.now key = c.in_ok-known.ensures.number ∙ ap (λ (ks : List (List ℕ)). place_in ks key) keys in
     let new : has_key c.args.self.now key ≡ false = is_placed c.args.self.now key c.in_ok-known.known false placed (search rules) in
-    key_is_new c.args.self.now c.args.bytes.now key c.in_ok-key.rest.now c.in_ok-key.ensures new
+    marked_found c.args.self.now c.args.bytes.now key c.in_ok-key.rest.now c.mark_of-mark.result c.mark_of-mark.ensures (key_is_new c.args.self.now c.args.bytes.now key c.in_ok-key.rest.now c.in_ok-key.ensures new)
