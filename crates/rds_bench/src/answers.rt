@@ -1,10 +1,10 @@
 //! An answer that is read as a session reads it.
 
 use crate::report;
+use rds_codec::UnfinishedAnswer;
 use rds_gaps::GapSet;
 use rds_keep::{Counted, Feed, read_fed};
 use rds_names::Fault;
-use rds_text_feeds::UnfinishedAnswer;
 use std::io;
 
 /// How many replicas the roster of the answer's maker has.

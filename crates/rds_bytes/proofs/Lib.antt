@@ -17,10 +17,7 @@ pub mod NumberedTexts
 pub mod PartFormats
 mod PlaceLaws
 mod RowAlgebra
-mod RowLoops
 mod RowSets
-mod RowsFound
-mod RowsRead
 mod RunSteps
 pub mod Sequences
 mod SetRowLemmas

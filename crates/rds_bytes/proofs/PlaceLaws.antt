@@ -278,14 +278,6 @@ next_found places keys n key at are = (let one : n + 1 ≡ suc n = omega arith i
 pub next_is_new : (keys : List (List ℕ)) (n : ℕ) (key : List ℕ) → all_differ keys ≡ true → slice_get keys n ≡ Some key → has_key (take n keys) key ≡ false
 next_is_new keys n key differ at = (let number = number_at_place keys n key differ at in not_taken keys n key (omega arith))
 
--- a key that stands before its place stands twice
-pub stands_again : (keys : List (List ℕ)) (n : ℕ) (key : List ℕ) → slice_get keys n ≡ Some key → has_key (take n keys) key ≡ true → all_differ keys ≡ false
-stands_again keys n key at had = by (all_differ keys) refl
-  where
-    by : (b : Bool) → all_differ keys ≡ b → b ≡ false
-    by false e = refl
-    by true e = absurd (false≢true (sym (next_is_new keys n key e at) ∙ had))
-
 pub so_many : (keys : List (List ℕ)) (n : ℕ) (key : List ℕ) → slice_get keys n ≡ Some key → n ≡ length (take n keys)
 so_many keys n key at = (let within = below_length keys n key at in let few = length-take n keys in omega arith)
 

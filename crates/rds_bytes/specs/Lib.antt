@@ -1,6 +1,5 @@
 pub mod DotRows
 pub mod Entries
-pub mod Inserting
 pub mod Marks
 pub mod Numbers
 pub mod OneText

@@ -1,12 +1,11 @@
 //! The counters of a snapshot: a row for each key and replica.
-ghost use Rattle.std.specs.Prelude.{◌≡◌, ◌<◌, ◌^◌, [], length, IfOk, ℕ, ◌*◌, ◌≤◌};
+ghost use Rattle.std.specs.Prelude.{◌≡◌, ◌<◌, ◌^◌, length, IfOk, ℕ, ◌*◌, ◌≤◌};
 ghost use Rattle.std.specs.Int.{w64};
 ghost use Rattle.std.specs.List.{flat_map, AllByRecursion};
-ghost use Rattle.rds_counts.specs.Counted.{AreCountRows, number};
+ghost use Rattle.rds_counts.specs.Counted.{number};
 ghost use Rattle.rds_counts.specs.Place.{Place};
 ghost use Rattle.rds_counts.specs.RowsOf.{count_rows};
-ghost use Rattle.rds_bytes.specs.Reading.{Reads, ReadsExactly, rows_after, number_at, when_at, last, comes_after_row as is_after_row, is_count as is_count_of, is_second, counts_at, count_row_at, counters_at, keyed_place_at, keyed_count_row_at, keyed_count_rows_at, keyed_counters_at};
-ghost use Rattle.rds_bytes.specs.Sources.{after_counts};
+ghost use Rattle.rds_bytes.specs.Reading.{Reads, ReadsExactly, number_at, when_at, last, comes_after_row as is_after_row, is_count as is_count_of, is_second, counts_at, count_row_at, keyed_place_at, keyed_count_row_at};
 ghost use Rattle.rds_bytes.specs.SteadyParts.{count_row_steady};
 ghost use Rattle.rds_bytes.specs.Values.{AreCountsOf, IsKeyed};
 ghost use Rattle.rds_bytes.specs.Spelling.{count_row_text, counters_text, place_text, counts_text, count_rows_text};
@@ -14,7 +13,7 @@ ghost use Rattle.rds_bytes.specs.Writing.{Adds};
 
 use crate::keys::{key_length, put_key};
 use crate::list::PartReader;
-use crate::numbers::{put_byte, put_u32, put_u64, read_byte, read_u32, read_u64};
+use crate::numbers::{put_byte, put_u32, put_u64, read_byte, read_u64};
 use crate::sources::{KeySource, SpelledKeys};
 use rds_counts::{CountRow, Counts, MAX_COUNT};
 use rds_names::{Fault, Key};
@@ -118,75 +117,6 @@ impl PartReader<CountRow> for CountRowReader {
         let mut keys = SpelledKeys;
         read_keyed_count_row(alloc, &mut keys, self.replicas, before, bytes)
     }
-}
-
-/// As many rows as are asked for. Room is made for each as it comes.
-fn read_rows<'a, K: KeySource>(
-    alloc: Global,
-    keys: &mut K,
-    replicas: u16,
-    count: u32,
-    bytes: &'a [u8],
-) -> Result<(Vec<CountRow>, &'a [u8]), Fault>
-    ensures read { Reads (λ x. (x.0.items, x.1.now)) result
-        (rows_after (keyed_count_row_at (K.reader keys.old) replicas) [] count bytes.now) }
-    ensures after { IfOk result (λ x. keys.new ≡ after_counts K.after keys.old x.0.items) }
-    ensures bytes { IfOk result (λ x. AllByRecursion (λ r. r.replica < 256) x.0.items) }
-{
-    let mut rows = Vec::new(alloc);
-    let mut rest = bytes;
-    for _ in 0..count {
-        let (row, after) = read_keyed_count_row(alloc, keys, replicas, &rows, rest)?;
-        rows.push(row)?;
-        rest = after;
-    }
-    Ok((rows, rest))
-}
-
-/// The rows, after their number.
-#[tactic(auto, unfolding(crate::specs::Reading::keyed_count_rows_at))]
-fn read_count_rows<'a, K: KeySource>(
-    alloc: Global,
-    keys: &mut K,
-    replicas: u16,
-    bytes: &'a [u8],
-) -> Result<(Vec<CountRow>, &'a [u8]), Fault>
-    ensures read { Reads (λ x. (x.0.items, x.1.now)) result
-        (keyed_count_rows_at (K.reader keys.old) replicas bytes.now) }
-    ensures after { IfOk result (λ x. keys.new ≡ after_counts K.after keys.old x.0.items) }
-    ensures rows { IfOk result (λ x. AreCountRows x.0.items) }
-{
-    let (count, rest) = read_u32(bytes)?;
-    let (rows, rest) = read_rows(alloc, keys, replicas, count, rest)?;
-    Ok((rows, rest))
-}
-
-/// The counters, wherever their keys come from. Their rows ascend by key, then replica. Each row is of one of so many
-/// replicas, and has two numbers within `MAX_COUNT` that aren't both 0.
-#[tactic(auto, unfolding(crate::specs::Reading::keyed_counters_at))]
-pub fn read_keyed_counters<'a, K: KeySource>(
-    alloc: Global,
-    keys: &mut K,
-    replicas: u16,
-    bytes: &'a [u8],
-) -> Result<(Counts, &'a [u8]), Fault>
-    ensures read { Reads (λ x. (x.0, x.1.now)) result (keyed_counters_at (K.reader keys.old) replicas bytes.now) }
-    ensures after { IfOk result (λ x. keys.new ≡ after_counts K.after keys.old (count_rows x.0)) }
-{
-    let (rows, rest) = read_count_rows(alloc, keys, replicas, bytes)?;
-    Ok((Counts::with_rows(rows), rest))
-}
-
-/// The counters, of which each key is a short text.
-pub fn read_counters<'a>(
-    alloc: Global,
-    replicas: u16,
-    bytes: &'a [u8],
-) -> Result<(Counts, &'a [u8]), Fault>
-    ensures { Reads (λ x. (x.0, x.1.now)) result (counters_at replicas bytes.now) }
-{
-    let mut keys = SpelledKeys;
-    read_keyed_counters(alloc, &mut keys, replicas, bytes)
 }
 
 fn count_rows_length(rows: &[CountRow]) -> u128

@@ -1,14 +1,11 @@
-//! The rows of a set of dots one by one: what a row begins with, and then its gaps, each by itself.
-ghost use Rattle.std.specs.Prelude.{◌≡◌, ◌≤◌, IfOk};
-ghost use Rattle.rds_bytes.specs.Reading.{ReadsExactly, last, gap_at, least_replica as replica_after, dot_row_at, row_head_at};
-ghost use Rattle.rds_bytes.specs.SteadyParts.{gap_steady, dot_row_steady};
+//! What a row of a set of dots begins with; its gaps follow, each by itself.
+ghost use Rattle.std.specs.Prelude.{◌≤◌, IfOk};
+ghost use Rattle.rds_bytes.specs.Reading.{ReadsExactly, row_head_at};
 
-use crate::dots::{DotRow, Gap, Gaps, read_gap, read_replica, read_top};
-use crate::list::{PartReader, read_parts};
+use crate::dots::{read_replica, read_top};
 use crate::numbers::read_u32;
 use rds_dots::MAX_SEQ;
 use rds_names::Fault;
-use std::alloc::Global;
 
 /// What a row begins with: its replica, its top, and how many gaps below it follow.
 #[derive(Clone, Copy)]
@@ -29,64 +26,4 @@ pub fn read_row_head(replicas: u16, least: u16, bytes: &[u8]) -> Result<(RowHead
     let (top, rest) = read_top(rest)?;
     let (gaps, rest) = read_u32(rest)?;
     Ok((RowHead { replica, top, gaps }, rest))
-}
-
-/// Reads the gaps below a top, which ascend with a dot between any two.
-#[derive(Drop)]
-pub struct GapReader {
-    pub top: u64,
-}
-
-impl PartReader<Gap> for GapReader {
-    ghost reader = { λ r before. gap_at r.top (last before) };
-
-    ghost steady = { λ r before. gap_steady r.top (last before) };
-
-    fn read<'b>(
-        &self,
-        _alloc: Global,
-        before: &[Gap],
-        bytes: &'b [u8],
-    ) -> Result<(Gap, &'b [u8]), Fault> {
-        let (gap, rest) = read_gap(self.top, before.last().copied(), bytes)?;
-        Ok((gap, rest))
-    }
-}
-
-/// The least replica of which the next row may be.
-fn least_replica(before: &[DotRow]) -> u16
-    ensures { result ≡ replica_after (last before.now) }
-{
-    match before.last().map(|row| row.replica) {
-        Some(replica) => u16::from(replica) + 1,
-        None => 0,
-    }
-}
-
-/// Reads whole rows, in the order of their replicas, each of one of so many.
-#[derive(Drop)]
-pub struct DotRowReader {
-    pub replicas: u16,
-}
-
-impl PartReader<DotRow> for DotRowReader {
-    ghost reader = { λ r before. dot_row_at r.replicas before };
-
-    ghost steady = { λ r before. dot_row_steady r.replicas before };
-
-    fn read<'b>(
-        &self,
-        alloc: Global,
-        before: &[DotRow],
-        bytes: &'b [u8],
-    ) -> Result<(DotRow, &'b [u8]), Fault> {
-        let (head, rest) = read_row_head(self.replicas, least_replica(before), bytes)?;
-        let (gaps, rest) = read_parts(alloc, &GapReader { top: head.top }, head.gaps, rest)?;
-        let row = DotRow {
-            replica: head.replica,
-            top: head.top,
-            gaps: Gaps { gaps },
-        };
-        Ok((row, rest))
-    }
 }

@@ -1,10 +1,9 @@
 //! The rows of live dots: each dot and its entry.
-ghost use Rattle.std.specs.Prelude.{◌≡◌, [], fold, IfOk, ◌*◌, ◌^◌, ◌<◌, ◌≤◌, length};
+ghost use Rattle.std.specs.Prelude.{◌≡◌, fold, IfOk, ◌*◌, ◌^◌, ◌<◌, ◌≤◌, length};
 ghost use Rattle.std.specs.List.{flat_map, AllByRecursion};
 ghost use Rattle.rds_dots.specs.Dots.{comes_after};
-ghost use Rattle.rds_life.specs.Life.{AreRows, live_rows};
-ghost use Rattle.rds_bytes.specs.Reading.{Reads, ReadsExactly, rows_after, dot_at, live_row_at, live_rows_at, keyed_live_row_at, keyed_live_rows_at, dot_of_row, last};
-ghost use Rattle.rds_bytes.specs.Sources.{after_rows};
+ghost use Rattle.rds_life.specs.Life.{live_rows};
+ghost use Rattle.rds_bytes.specs.Reading.{Reads, ReadsExactly, dot_at, live_row_at, keyed_live_row_at, dot_of_row, last};
 ghost use Rattle.rds_bytes.specs.SteadyParts.{live_row_steady};
 ghost use Rattle.rds_bytes.specs.Values.{IsLiveRow};
 ghost use Rattle.rds_bytes.specs.Spelling.{live_row_text, live_rows_text};
@@ -12,7 +11,7 @@ ghost use Rattle.rds_bytes.specs.Writing.{Adds};
 
 use crate::entries::{entry_length, put_entry, read_keyed_entry};
 use crate::list::PartReader;
-use crate::numbers::{put_byte, put_u32, put_u64, read_byte, read_u32, read_u64};
+use crate::numbers::{put_byte, put_u32, put_u64, read_byte, read_u64};
 use crate::sources::{KeySource, SpelledKeys};
 use rds_dots::{Dot, DotSet};
 use rds_life::Lives;
@@ -89,60 +88,6 @@ impl<S: DotSet> PartReader<(Dot, Entry)> for LiveRowReader<'_, S> {
         let mut keys = SpelledKeys;
         read_keyed_live_row(alloc, &mut keys, self.seen, before, bytes)
     }
-}
-
-/// As many rows as are asked for. Room is made for each as it comes.
-fn read_rows<'a, K: KeySource, S: DotSet>(
-    alloc: Global,
-    keys: &mut K,
-    seen: &S,
-    count: u32,
-    bytes: &'a [u8],
-) -> Result<(Vec<(Dot, Entry)>, &'a [u8]), Fault>
-    ensures read { Reads (λ x. (x.0.items, x.1.now)) result
-        (rows_after (keyed_live_row_at (K.reader keys.old) (S.contents seen.now)) [] count bytes.now) }
-    ensures after { IfOk result (λ x. keys.new ≡ after_rows K.after keys.old x.0.items) }
-{
-    let mut rows = Vec::new(alloc);
-    let mut rest = bytes;
-    for _ in 0..count {
-        let (row, after) = read_keyed_live_row(alloc, keys, seen, &rows, rest)?;
-        rows.push(row)?;
-        rest = after;
-    }
-    Ok((rows, rest))
-}
-
-/// The live rows, where the set has the dots that were seen, wherever their keys come from. Their dots ascend, and are
-/// seen.
-#[tactic(auto, unfolding(crate::specs::Reading::keyed_live_rows_at))]
-pub fn read_keyed_live_rows<'a, K: KeySource, S: DotSet>(
-    alloc: Global,
-    keys: &mut K,
-    seen: &S,
-    bytes: &'a [u8],
-) -> Result<(Vec<(Dot, Entry)>, &'a [u8]), Fault>
-    ensures read { Reads (λ x. (x.0.items, x.1.now)) result
-        (keyed_live_rows_at (K.reader keys.old) (S.contents seen.now) bytes.now) }
-    ensures after { IfOk result (λ x. keys.new ≡ after_rows K.after keys.old x.0.items) }
-    ensures rows { IfOk result (λ x. AreRows (S.contents seen.now) x.0.items) }
-{
-    let (count, rest) = read_u32(bytes)?;
-    let (rows, rest) = read_rows(alloc, keys, seen, count, rest)?;
-    Ok((rows, rest))
-}
-
-/// The live rows, where the set has the dots that were seen. Their dots ascend, and are seen. Each key is a short text.
-pub fn read_live_rows<'a, S: DotSet>(
-    alloc: Global,
-    seen: &S,
-    bytes: &'a [u8],
-) -> Result<(Vec<(Dot, Entry)>, &'a [u8]), Fault>
-    ensures read { Reads (λ x. (x.0.items, x.1.now)) result (live_rows_at (S.contents seen.now) bytes.now) }
-    ensures rows { IfOk result (λ x. AreRows (S.contents seen.now) x.0.items) }
-{
-    let mut keys = SpelledKeys;
-    read_keyed_live_rows(alloc, &mut keys, seen, bytes)
 }
 
 /// The length of the rows of live dots, without their number.

@@ -231,21 +231,3 @@ impl KeyPlaces {
         self.note(alloc, keys.len(), mark, key)
     }
 }
-
-/// Whether no two keys are equal. All are placed at once, in as many buckets as they want, which is faster than one by
-/// one as they are read.
-pub fn all_differ(alloc: Global, keys: &[Key]) -> Result<bool, Fault>
-    ensures differ { IfOk result (λ differ. differ ≡ all_differ keys.now) }
-    ensures memory { IfErr result (λ fault. fault ≡ Memory) }
-{
-    let mut places = KeyPlaces::with_room(alloc, keys.len())?;
-    for (number, key) in keys.iter().enumerate() {
-        let mark = mark_of(key);
-        let known = places.find(alloc, &keys[..number], mark, key)?;
-        if known.is_some() {
-            return Ok(false);
-        }
-        places.note(alloc, number, mark, key)?;
-    }
-    Ok(true)
-}

@@ -1,15 +1,13 @@
-//! Tables of keys: reading one, and then keys by their numbers in it.
-ghost use Rattle.std.specs.Prelude.{◌≡◌, ◌↔◌, ◌⊎◌, ◌<◌, ◌^◌, [], true, Some, None, length, slice_get, IsTrue, IfOk, IfErr, refl};
+//! Tables of keys, and keys that are read by their numbers in one.
+ghost use Rattle.std.specs.Prelude.{◌≡◌, ◌↔◌, ◌⊎◌, ◌<◌, ◌^◌, true, Some, None, length, slice_get, IsTrue, IfOk, IfErr, refl};
 ghost use Rattle.rds_names.specs.declared.fault.Fault.TheVariants.{Memory, Bad};
 ghost use Rattle.rds_names.specs.Roster.{all_differ};
-ghost use Rattle.rds_bytes.specs.Reading.{Reads, rows_after};
+ghost use Rattle.rds_bytes.specs.Reading.{Reads};
 ghost use Rattle.rds_bytes.specs.Table.{number_of, after_number};
-ghost use Rattle.rds_bytes.specs.TableTexts.{new_key_at, keys_read, table_at, numbered_at};
+ghost use Rattle.rds_bytes.specs.TableTexts.{numbered_at};
 ghost use Rattle.rds_bytes.specs.TableValue.{meeting};
 
-use crate::keys::read_key;
 use crate::numbers::read_u32;
-use crate::places::all_differ;
 use crate::sources::KeySource;
 use rds_names::{Fault, Key};
 use std::alloc::Global;
@@ -134,75 +132,4 @@ impl KeySource for TableKeys<'_> {
         self.meet(number as usize);
         Ok((key, rest))
     }
-}
-
-/// Keys that stand one after the other, the bytes after them, and the fault of the next one, if that can't be read.
-#[derive(Drop)]
-struct KeysRead<'a> {
-    keys: Vec<Key>,
-    rest: &'a [u8],
-    fault: Option<Fault>,
-}
-
-/// Keys as far as they can be read, and no more than so many. Room is made for each as it comes.
-fn read_keys<'a>(alloc: Global, count: u32, bytes: &'a [u8]) -> Result<KeysRead<'a>, Fault>
-    ensures read { IfOk result (λ x. (x.keys.items, (x.rest.now, x.fault)) ≡ keys_read count bytes.now) }
-    ensures memory { IfErr result (λ fault. fault ≡ Memory) }
-{
-    let mut keys = Vec::new(alloc);
-    let mut rest = bytes;
-    for _ in 0..count {
-        match read_key(alloc, rest) {
-            Ok(read) => {
-                let (key, after) = read;
-                keys.push(key)?;
-                rest = after;
-            }
-            Err(fault) => {
-                if fault == Fault::Memory {
-                    return Err(fault);
-                }
-                return Ok(KeysRead {
-                    keys,
-                    rest,
-                    fault: Some(fault),
-                });
-            }
-        }
-    }
-    Ok(KeysRead {
-        keys,
-        rest,
-        fault: None,
-    })
-}
-
-/// As many keys as are asked for, no two of which are equal. A repeated one is refused before what follows it.
-fn read_new_keys<'a>(
-    alloc: Global,
-    count: u32,
-    bytes: &'a [u8],
-) -> Result<(Vec<Key>, &'a [u8]), Fault>
-    ensures read { Reads (λ x. (x.0.items, x.1.now)) result (rows_after new_key_at [] count bytes.now) }
-    ensures differ { IfOk result (λ x. all_differ x.0.items ≡ true) }
-{
-    let KeysRead { keys, rest, fault } = read_keys(alloc, count, bytes)?;
-    let differ = all_differ(alloc, keys.as_slice())?;
-    if !differ {
-        return Err(Fault::Bad);
-    }
-    match fault {
-        Some(fault) => Err(fault),
-        None => Ok((keys, rest)),
-    }
-}
-
-/// A table of keys. A key that stands twice is refused where it stands again.
-#[tactic(auto, unfolding(crate::specs::TableTexts::table_at))]
-pub fn read_table(alloc: Global, bytes: &[u8]) -> Result<(Table, &[u8]), Fault>
-    ensures { Reads (λ x. (x.0, x.1.now)) result (table_at bytes.now) }
-{
-    let (count, rest) = read_u32(bytes)?;
-    let (keys, rest) = read_new_keys(alloc, count, rest)?;
-    Ok((Table::with_keys(keys), rest))
 }

@@ -1,14 +1,14 @@
 -- Snapshots of both formats together are one format.
-use Rattle.std.proofs.Common.{◌≡◌, ℕ, ◌≤◌, Bool, true, false, cond, List, ◌++◌, length, get_or, Option, Some, None, Ok, refl, sym, ap, subst, ◌∙◌, arith, length-append}
+use Rattle.std.proofs.Common.{◌≡◌, ℕ, ◌≤◌, Bool, true, false, cond, List, ◌++◌, length, get_or, Option, Some, None, refl, sym, ap, subst, ◌∙◌, arith, length-append}
 use Rattle.std.specs.Str.{bytes_eq}
 use Rattle.std.proofs.lemmas.Slice.Eq.{bytes_eq-Decides}
 use Rattle.rds_names.specs.Roster.{RosterValue}
 use Rattle.rds_state.specs.Value.{StateValue}
-use Rattle.rds_state.specs.Fits.{IsReplica, ReplicaValue}
+use Rattle.rds_state.specs.Fits.{ReplicaValue}
 use Rattle.rds_bytes.specs.Values.{IsMember}
 use Rattle.rds_bytes.specs.Spelling.{member_text}
 use Rattle.rds_bytes.specs.Reading.{then_at, bytes_at, member_at}
-use Rattle.rds_bytes.proofs.Format.{IsBytes, IsFormat, known_format, drawn_format, made_format, then_format}
+use Rattle.rds_bytes.proofs.Format.{IsFormat, known_format, drawn_format, made_format, then_format}
 use Rattle.rds_bytes.proofs.PartFormats.{Member, IsMemberPair, member_format}
 use Rattle.rds_codec.specs.declared.limits.TheConstants.{LIMIT}
 use Rattle.rds_codec.specs.declared.formats.Format.{Format}
@@ -17,7 +17,6 @@ use Rattle.rds_codec.specs.FormatTexts as texts
 use Rattle.rds_codec.specs.FormatTexts.{state_text_in, state_at_in, magic_of, format_of, Snapshot, snapshot_of, snapshot_text_in, snapshot_kind_in}
 use Rattle.rds_codec.specs.StateTexts.{IsStateOf, IsSnapshot, snapshot_text}
 use Rattle.rds_codec.specs.SpelledTexts.{spelled_snapshot_text}
-use Rattle.rds_codec.proofs.Replicas.{state_fits}
 use Rattle.rds_codec.proofs.SpelledStates.{CanCountState, spelled_format, spelled_within}
 use Rattle.rds_codec.proofs.TabledStates.{CanCountTabled, tabled_format, tabled_within}
 use Rattle.rds_codec.proofs.Whole.{IsReaderOf, reader_of}
@@ -151,14 +150,3 @@ differ n one two = omega (arith, one, two)
 pub formats_differ : (v w : ReplicaValue) (x y : List ℕ) → snapshot_text_in One v ++ x ≡ snapshot_text_in Two w ++ y → ⊥
 unfolding spelled_snapshot_text snapshot_text
 formats_differ v w x y e = differ 49 refl (ap (λ (t : List ℕ). get_or t 3 0) e)
-
--- ---- what was read
-
--- as a snapshot's parts is a replica
-pub is_replica_in : (bytes : List ℕ) → IsBytes bytes → (f : Format) (first : List ℕ) (m : Member) (middle : List ℕ) (v : StateValue) (rest : List ℕ) → texts.format_at bytes ≡ Ok (f, first)
-    → member_at first ≡ Ok (m, middle) → state_at_in f (length m.0.names) middle ≡ Ok (v, rest) → (let r : ReplicaValue = record { roster = m.0; own = m.1; state = v } in IsReplica r)
-is_replica_in bytes fits f first m middle v rest o p q =
-    let front = format_format.takes bytes (f, first) fits o in
-    let member = member_format.takes first (m, middle) front.0.rest_fits p in
-    let state = (state_in_format f (length m.0.names)).takes middle (v, rest) member.0.rest_fits q in
-    record { own = member.1.1; fits = state_fits (length m.0.names) v state.1.0 }

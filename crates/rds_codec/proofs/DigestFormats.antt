@@ -1,16 +1,15 @@
 -- A digest is a format.
-use Rattle.std.proofs.Common.{◌≡◌, ℕ, ◌+◌, ◌^◌, ◌<◌, ◌≤◌, Bool, true, false, List, ◌++◌, length, Ok, Err, refl, arith}
+use Rattle.std.proofs.Common.{◌≡◌, ℕ, ◌+◌, ◌^◌, ◌<◌, ◌≤◌, true, List, ◌++◌, length, refl, arith}
 use Rattle.std.specs.FinSet as set
 use Rattle.rds_dots.specs.Dots.{Dots}
 use Rattle.rds_dots.specs.Order.{dots_total}
 use Rattle.rds_counts.specs.Counted.{Counted}
 use Rattle.rds_counts.specs.RowsOf.{count_rows}
-use Rattle.rds_delta.specs.Digested.{DigestValue, IsInside}
-use Rattle.rds_names.specs.declared.fault.Fault.TheVariants.{Bad}
+use Rattle.rds_delta.specs.Digested.{DigestValue}
 use Rattle.rds_codec.specs.declared.limits.TheConstants.{LIMIT}
 use Rattle.rds_codec.specs.DigestTexts.{DigestParts, IsDigestOf, are_seen, digest_by, digest_text, live_dots_at, digest_at, digest_kind}
 use Rattle.rds_bytes.specs.Reading as read
-use Rattle.rds_bytes.specs.Reading.{then_at, pair_at, when_at, dots_at, counters_at}
+use Rattle.rds_bytes.specs.Reading.{then_at, pair_at, dots_at, counters_at}
 use Rattle.rds_bytes.specs.Spelling.{dots_text, counters_text}
 use Rattle.rds_bytes.proofs.Format.{IsFormat, then_format, pair_format, made_format, when_format}
 use Rattle.rds_bytes.proofs.CounterFormats.{AreCounts, counters_format}
@@ -102,21 +101,6 @@ module _ (replicas : ℕ) where
 
   pub digest_reader : IsReaderOf (digest_kind replicas) (digest_at replicas)
   digest_reader = reader_of (digest_kind replicas) (digest_at replicas) FitsDigest digest_format (λ g h. h.0) (λ g is le. (is, digest_within g le))
-
--- ---- live dots are read where they are inside
-
-module _ (replicas : ℕ) (seen : Dots) (bytes : List ℕ) (live : Dots) (rest : List ℕ) where
-  pub live_found : dots_at replicas bytes ≡ Ok (live, rest) → IsInside live seen → live_dots_at replicas seen bytes ≡ Ok (live, rest)
-  unfolding live_dots_at
-  live_found read is = let yes = set.contains-is_subset dots_total live seen is.each_dot in rw (read, yes) refl
-
-  pub live_refused : dots_at replicas bytes ≡ Ok (live, rest) → ¬ (IsInside live seen) → live_dots_at replicas seen bytes ≡ Err Bad
-  unfolding live_dots_at
-  live_refused read not_inside = no (are_seen seen live) refl
-    where
-      no : (b : Bool) → are_seen seen live ≡ b → when_at (are_seen seen) (dots_at replicas) bytes ≡ Err Bad
-      no true e = absurd (not_inside (record { each_dot = set.is_subset-contains dots_total live seen e }))
-      no false e = rw (read, e) refl
 
 -- ---- its text, part after part
 

@@ -1,8 +1,6 @@
 -- States and answers in each format are what their readers read.
-use Rattle.std.proofs.Common.{◌≡◌, ℕ, refl}
-use Rattle.rds_codec.specs.AnswerTexts.{answer_with_at, answer_at}
+use Rattle.std.proofs.Common.{ℕ}
 use Rattle.rds_codec.specs.FormatTexts.{state_kind_in, state_at_in, answer_kind_in, answer_at_in}
-use Rattle.rds_codec.specs.SpelledTexts.{spelled_answer_at}
 use Rattle.rds_codec.specs.declared.formats.Format.{Format}
 use Rattle.rds_codec.specs.declared.formats.Format.TheVariants.{One, Two}
 use Rattle.rds_codec.proofs.SpelledAnswers.{spelled_answer_reader}
@@ -18,9 +16,3 @@ state_in_reader Two = tabled_reader
 pub answer_in_reader : (format : Format) (replicas : ℕ) → IsReaderOf (answer_kind_in format replicas) (answer_at_in format replicas)
 answer_in_reader One = spelled_answer_reader
 answer_in_reader Two = tabled_answer_reader
-
--- an answer in a format is its parts, with the delta in it
-pub answer_in_parts : (format : Format) (replicas : ℕ) → answer_with_at (state_at_in format replicas) replicas ≡ answer_at_in format replicas
-unfolding spelled_answer_at answer_at
-answer_in_parts One replicas = refl
-answer_in_parts Two replicas = refl

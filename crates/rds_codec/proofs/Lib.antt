@@ -8,13 +8,17 @@ mod HaveTexts
 pub mod HelloFormats
 pub mod InFormats
 pub mod Longer
+mod Parts
+mod ReadSnapshots
+mod ReadWithin
 pub mod Replicas
+mod ReplicaTests
 mod SmallTexts
 pub mod SpelledAnswers
 pub mod SpelledStates
 pub mod StateKeys
 pub mod TabledAnswers
-pub mod TabledRead
+mod TabledParts
 pub mod TabledStates
 pub mod TabledWritten
 mod Texts

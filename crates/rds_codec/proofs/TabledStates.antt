@@ -1,5 +1,5 @@
 -- A state of format 2 is a format.
-use Rattle.std.proofs.Common.{◌≡◌, ℕ, ◌^◌, ◌<◌, ◌≤◌, true, List, [], ◌∷◌, ◌++◌, length, Ok, refl, sym, subst, arith, length-append}
+use Rattle.std.proofs.Common.{◌≡◌, ℕ, ◌^◌, ◌<◌, ◌≤◌, true, List, [], ◌∷◌, ◌++◌, length, refl, sym, subst, arith, length-append}
 use Rattle.std.specs.List.{AllByRecursion}
 use Rattle.std.specs.Cmp.Lexicographic.{pointwise_decides}
 use Rattle.std.proofs.lemmas.Slice.Eq.{bytes_eq-Decides}
@@ -13,12 +13,12 @@ use Rattle.rds_state.specs.Value.{StateValue}
 use Rattle.rds_bytes.specs.Reading as read
 use Rattle.rds_bytes.specs.Reading.{Reader, then_at, pair_at, when_at}
 use Rattle.rds_bytes.specs.Spelling.{short_text, dots_text, counts_text, keyed_live_row_text, keyed_live_rows_text, keyed_count_row_text, keyed_counters_text}
-use Rattle.rds_bytes.specs.Table.{AreIn, IsTable}
+use Rattle.rds_bytes.specs.Table.{IsTable}
 use Rattle.rds_bytes.specs.TableTexts.{table_text, number_text, table_at, numbered_at}
 use Rattle.rds_bytes.specs.Tabled.{CanCount, IsShortTable, IsKeyOf, AreTabledRows, AreTabledCounts}
 use Rattle.rds_bytes.specs.Values.{is_key_text, HasKeys}
 use Rattle.rds_bytes.proofs.DotFormats.{AreDots, dots_format}
-use Rattle.rds_bytes.proofs.Format.{IsFormat, IsBytes, pair_format, then_format, made_format, when_format}
+use Rattle.rds_bytes.proofs.Format.{IsFormat, pair_format, then_format, made_format, when_format}
 use Rattle.rds_bytes.proofs.TableFormats.{table_format}
 use Rattle.rds_bytes.proofs.TabledFormats.{tabled_rows_format, tabled_counters_format}
 use Rattle.rds_bytes.proofs.TableLaws.{table_differs, table_has, table_all}
@@ -27,7 +27,7 @@ use Rattle.rds_codec.specs.StateTexts.{StateParts, IsStateOf, state_by, keys_in,
 use Rattle.rds_codec.specs.FormatTexts.{state_kind_in}
 use Rattle.rds_codec.specs.declared.formats.Format.TheVariants.{Two}
 use Rattle.rds_codec.proofs.SpelledStates.{Tail, CanCountState, FitsState, parts_of, state_there, state_back}
-use Rattle.rds_codec.proofs.StateKeys.{HasStateKeys, rows_have, keys_have, keys_are_texts}
+use Rattle.rds_codec.proofs.StateKeys.{HasStateKeys, rows_have, keys_are_texts}
 use Rattle.rds_codec.proofs.Whole.{IsReaderOf, reader_of}
 use Rattle.rds_codec.proofs.Within.{longer, dots_within}
 
@@ -172,13 +172,3 @@ tabled_within v le =
 pub tabled_reader : (replicas : ℕ) → IsReaderOf (state_kind_in Two replicas) (state_at replicas)
 tabled_reader replicas =
     reader_of (state_kind_in Two replicas) (state_at replicas) (FitsTabled replicas) (tabled_format replicas) (λ v h. h.0) (λ v is le. (is, tabled_within v le))
-
--- ---- a table and a state that were read
-
--- each key of a state that was read by a table is one of it
-pub keys_are_had : (replicas : ℕ) (bytes : List ℕ) (table : List (List ℕ)) (middle : List ℕ) (v : StateValue) (rest : List ℕ) → IsBytes bytes → table_at bytes ≡ Ok (table, middle)
-    → body_at (numbered_at table) replicas middle ≡ Ok (v, rest) → AreIn table (keys_in v)
-keys_are_had replicas bytes table middle v rest fits p q =
-    let first = table_format.takes bytes (table, middle) fits p in
-    let second = (body_format table first.1 replicas).takes middle (v, rest) first.0.rest_fits q in
-    keys_have (IsKeyOf table) v second.1.keys

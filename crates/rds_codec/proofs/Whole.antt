@@ -1,16 +1,19 @@
 -- From reading a text at the front to decoding all of the bytes, for each kind of text.
-use Rattle.std.proofs.Common.{rules, ◌≡◌, ◌≢◌, ℕ, ◌<◌, ◌≤◌, ◌⊎◌, inl, inr, false, cond, eqb, List, [], ◌∷◌, ◌++◌, length, Result, Ok, Err, refl, sym, ap, ◌∙◌, subst, arith, length-append}
+use Rattle.std.proofs.Common.{rules, ◌≡◌, ◌≢◌, ℕ, ◌<◌, ◌≤◌, ◌⊎◌, inl, inr, Bool, false, cond, eqb, List, [], ◌∷◌, ◌++◌, length, Result, Ok, Err, refl, sym, ap, ◌∙◌, subst, arith, length-append}
 use Rattle.std.specs.Prelude.{IfOk, OnOk, MatchResult}
 use Rattle.std.specs.Global.{Vec}
-use Rattle.std.proofs.lemmas.Bool.{eqb-true}
+use Rattle.std.proofs.lemmas.Bool.{cases_lt, eqb-true}
 use Rattle.std.proofs.lemmas.List.{append-nil, nil_from_length}
 use Rattle.rds_names.specs.declared.fault.Fault.{Fault}
 use Rattle.rds_names.specs.declared.fault.Fault.TheVariants.{Memory, Cut, Bad, Extra, TooLong}
 use Rattle.rds_codec.specs.declared.limits.TheConstants.{LIMIT}
-use Rattle.rds_codec.specs.Decoding.{IsTextOf, BeginsWithText, IsOtherFault, Decodes, all_of}
+use Rattle.rds_codec.specs.Decoding.{IsTextOf, BeginsWithText, IsOtherFault, Decodes, ReadsAll, all_of}
 use Rattle.rds_codec.specs.Kinds.{Kind}
 use Rattle.rds_codec.specs.Laws.{StandApart}
-use Rattle.rds_bytes.specs.Reading.{Reader, Fails, Reads}
+use Rattle.rds_bytes.specs.Reading.{◌>>=◌, Reader, Fails, Reads}
+use Rattle.rds_feeds.specs.declared.unfinished.Progress.{Progress}
+use Rattle.rds_feeds.specs.declared.unfinished.Progress.TheVariants.{More, Whole}
+use Rattle.rds_feeds.specs.Pieces.{ReadsOn, Refuses}
 use Rattle.rds_bytes.proofs.Format.{IsBytes, IsFormat, Takes, CutOrBad, bind_ok, bind_err, chosen, err_is, ok_is, done, failed}
 
 -- The reader of a kind of text: what it reads is spelled so, what is spelled so within the limit is read,
@@ -35,8 +38,12 @@ pub fails_is : {V : Type 0} (e : Fault) (r : Result V Fault) → Fails e r → (
 fails_is Memory r h = inl refl
 fails_is _ r h = inr h
 
+-- the value, where nothing is left
+abbrev pub ended_by : {V : Type 0} → V → Bool → Result V Fault
+ended_by v nothing = cond nothing (Ok v) (Err Extra)
+
 abbrev ended : {V : Type 0} → V × List ℕ → Result V Fault
-ended x = cond (eqb (length x.1) 0) (Ok x.0) (Err Extra)
+ended x = ended_by x.0 (eqb (length x.1) 0)
 
 some_rest : (rest : List ℕ) → rest ≢ [] → eqb (length rest) 0 ≡ false
 some_rest [] h = absurd (h refl)
@@ -135,6 +142,59 @@ module _ {V : Type 0} (kind : Kind V) (reader : Reader V) (laws : IsReaderOf kin
       other = known e cases;
     })
   ]
+
+-- above the limit
+long_refused : {V : Type 0} (kind : Kind V) (bytes : List ℕ) → LIMIT < length bytes → Decodes kind bytes (Err TooLong)
+long_refused kind bytes long = record {
+  value = tt;
+  found = λ v le h. absurd (let none : ⊥ = omega (arith, long, le) in none);
+  long = λ lt. refl;
+  long_only = λ e. long;
+  extra = λ le h. absurd (let none : ⊥ = omega (arith, long, le) in none);
+  extra_only = λ e. absurd cc;
+  other = inr (inl refl);
+}
+
+-- ---- all of the bytes, fed to what is read as a text
+
+module _ {V : Type 0} (reader finish : Reader V) (same : (bytes : List ℕ) → finish bytes ≡ reader bytes) (bytes : List ℕ) (r : Result V Fault) (read : ReadsAll finish bytes r) where
+  pub reads_whole : ReadsAll reader bytes r
+  reads_whole le = subst (λ (x : Result (V × List ℕ) Fault). Reads (λ v. v) r (x >>= ended)) (same bytes) (read le)
+
+  pub decodes_whole : (kind : Kind V) → IsReaderOf kind reader → IsBytes bytes → (LIMIT < length bytes → r ≡ Err TooLong) → Decodes kind bytes r
+  decodes_whole kind laws fits long = elim (cases_lt LIMIT (length bytes)) [
+    | inl lt ↦ subst (Decodes kind bytes) (sym (long lt)) (long_refused kind bytes lt)
+    | inr le ↦ decodes kind reader laws bytes fits le r (reads_whole le)
+  ]
+
+is_failure : {V : Type 0} (e : Fault) (r : Result V Fault) → r ≡ Err e → Fails e r
+is_failure Memory r h = tt
+is_failure _ r h = h
+
+module _ {U V : Type 0} (finish : U → Reader V) (u : U) (bytes : List ℕ) where
+  abbrev with_more : Reader V
+  with_more more = finish u (bytes ++ more)
+
+  nothing_more : finish u bytes ≡ with_more []
+  nothing_more = ap (finish u) (sym (append-nil bytes))
+
+  pub fed_refused : (e : Fault) → Refuses with_more e → Fails e (all_of (finish u) bytes)
+  fed_refused e h = elim h [
+    | inl m ↦ subst (λ (f : Fault). Fails f (all_of (finish u) bytes)) (sym m) tt
+    | inr is ↦ is_failure e (all_of (finish u) bytes) (let got = nothing_more ∙ is.1 [] in rw got refl)
+  ]
+
+  pub fed_cut : (p : Progress U V) (w : U) (rest : List ℕ) → p ≡ More w → ReadsOn finish with_more p rest → all_of (finish u) bytes ≡ Err Cut
+  fed_cut p w rest is h =
+      let on : ReadsOn finish with_more (More w) rest = subst (λ (q : Progress U V). ReadsOn finish with_more q rest) is h in
+      let got = nothing_more ∙ on.0 [] ∙ ap (finish w) (append-nil rest) ∙ on.1 in
+      rw got refl
+
+  pub fed_whole : (p : Progress U V) (v : V) (rest : List ℕ) → p ≡ Whole v → ReadsOn finish with_more p rest → all_of (finish u) bytes ≡ ended_by v (eqb (length rest) 0)
+  fed_whole p v rest is h =
+      let on : ReadsOn finish with_more (Whole v) rest = subst (λ (q : Progress U V). ReadsOn finish with_more q rest) is h in
+      let got : finish u bytes ≡ Ok (v, rest) = nothing_more ∙ on [] ∙ ap (λ (r : List ℕ). Ok (v, r)) (append-nil rest) in
+      rw got refl
 
 -- no text begins another, and one text has one value
 pub stand_apart : {V : Type 0} (kind : Kind V) (reader : Reader V) → IsReaderOf kind reader → StandApart kind

@@ -1,5 +1,5 @@
 //! The text of an answer: who asked, the delta, and its certificate.
-ghost use Rattle.std.specs.Prelude.{◌<◌, ℕ};
+ghost use Rattle.std.specs.Prelude.{◌≡◌, ◌<◌, ℕ, List, Ok, OnOk};
 ghost use Rattle.std.specs.List.{AllByRecursion};
 ghost use Rattle.rds_delta.specs.Claims.{IsCertificate};
 ghost use Rattle.rds_delta.specs.Least.{IsAbove};
@@ -10,13 +10,22 @@ ghost use Rattle.rds_life.specs.Life.{seen_of};
 ghost use Rattle.rds_codec.specs.AnswerTexts.{IsAnswerOf, answer, answer_text, answer_at, answer_kind};
 ghost use Rattle.rds_codec.specs.CertificateTexts.{RowFits};
 ghost use Rattle.rds_codec.specs.Decoding.{Decodes, ReadsAll};
-ghost use Rattle.rds_codec.specs.FormatWriting.{EncodesTabled};
+ghost use Rattle.rds_codec.specs.FormatTexts.{answer_text_in, answer_at_in, answer_kind_in};
+ghost use Rattle.rds_codec.specs.FormatWriting.{EncodesIn, EncodesTabled};
+ghost use Rattle.rds_bytes.specs.Reading.{replica_at};
+ghost use Rattle.rds_bytes.specs.SteadyParts.{replica_steady};
 ghost use Rattle.rds_bytes.specs.Values.{AreDotsOf};
 
-use crate::formats::{Format, decode_answer_in, encode_answer_in};
-use crate::spelled::measure_spelled_answer;
+use crate::certificates::{UnfinishedCertificate, unfinished_certificate};
+use crate::fed::read_whole;
+use crate::formats::Format;
+use crate::spelled::{encode_spelled_answer, measure_spelled_answer};
+use crate::states::{UnfinishedState, unfinished_state};
+use crate::tabled::encode_tabled_answer;
+use rds_bytes::read_replica;
 use rds_delta::Certificate;
 use rds_dots::DotSet;
+use rds_feeds::{Made, Making, Once, Pair, Part, Progress, Unfinished, pair};
 use rds_names::Fault;
 use rds_state::State;
 use std::alloc::Global;
@@ -41,6 +50,145 @@ impl<S: DotSet> Model for Answer<S> {
     ghost coded = { coded_answer };
 
     ghost view = { λ a. record { asker = a.asker; state = a.state; certificate = a.certificate } };
+}
+
+/// The number of the replica that asked, one of so many.
+#[derive(Drop)]
+pub struct Asker {
+    replicas: u16,
+}
+
+impl Part for Asker {
+    type Read = u8;
+
+    type Whole = u8;
+
+    ghost reader = { λ a. replica_at a.replicas };
+
+    ghost made = { λ _ replica. replica };
+
+    fn read<'a>(&self, _alloc: Global, bytes: &'a [u8]) -> Result<(u8, &'a [u8]), Fault> {
+        let (replica, rest) = read_replica(self.replicas, bytes)?;
+        Ok((replica, rest))
+    }
+
+    fn make(self, part: u8) -> Result<u8, Fault> {
+        Ok(part)
+    }
+
+    ghost steady = { λ a. replica_steady a.replicas };
+}
+
+/// The answer of an asker, a delta and its certificate.
+#[derive(Drop)]
+pub struct PartsAreAnswer {}
+
+impl<S: DotSet> Making<(u8, (State<S>, Certificate))> for PartsAreAnswer {
+    type Made = Answer<S>;
+
+    ghost made = { λ _ p. Ok (answer p.0 p.1.0 p.1.1) };
+
+    fn make(self, whole: (u8, (State<S>, Certificate))) -> Result<Answer<S>, Fault> {
+        let (asker, parts) = whole;
+        let (state, certificate) = parts;
+        Ok(Answer {
+            asker,
+            state,
+            certificate,
+        })
+    }
+}
+
+type DeltaParts<S> = Pair<UnfinishedState<S>, UnfinishedCertificate>;
+
+type AnswerParts<S> = Made<Pair<Once<Asker>, DeltaParts<S>>, PartsAreAnswer>;
+
+/// An answer in a format, which is being read. No more than one row or gap is held, and in format 2 the table of the
+/// delta.
+#[derive(Drop)]
+pub struct UnfinishedAnswer<S: DotSet> {
+    parts: AnswerParts<S>,
+}
+
+impl<S: DotSet> Unfinished for UnfinishedAnswer<S> {
+    type Whole = Answer<S>;
+
+    ghost finish = { λ u. ⟦<AnswerParts<S> as Unfinished>⟧.finish u.parts };
+
+    fn read_on<'a>(
+        self,
+        alloc: Global,
+        bytes: &'a [u8],
+    ) -> Result<(Progress<Self, Answer<S>>, &'a [u8]), Fault> {
+        let (progress, rest) = self.parts.read_on(alloc, bytes)?;
+        match progress {
+            Progress::More(parts) => Ok((Progress::More(UnfinishedAnswer { parts }), rest)),
+            Progress::Whole(answer) => Ok((Progress::Whole(answer), rest)),
+        }
+    }
+}
+
+/// An answer of so many replicas in a format, of which nothing was read.
+pub fn unfinished_answer<S: DotSet>(
+    alloc: Global,
+    format: Format,
+    replicas: u16,
+) -> UnfinishedAnswer<S>
+    ensures { (bytes : List ℕ) → ⟦<UnfinishedAnswer<S> as Unfinished>⟧.finish result bytes
+        ≡ answer_at_in format replicas bytes }
+{
+    let state = unfinished_state(alloc, format, replicas);
+    let certificate = unfinished_certificate(alloc, replicas);
+    let asker = Asker { replicas };
+    let delta = pair(state, certificate);
+    UnfinishedAnswer {
+        parts: Made {
+            from: pair(Once { part: asker }, delta),
+            maker: PartsAreAnswer {},
+        },
+    }
+}
+
+/// The answer whose text in a format the bytes are, of a roster of so many replicas. Refused are bytes as
+/// [`decode_snapshot`] does, and in format 2 also as
+/// [`decode_state_in`](crate::decode_state_in) does. Whether its certificate is that of its delta isn't judged: that is
+/// what `check` does.
+pub fn decode_answer_in<S: DotSet>(
+    alloc: Global,
+    format: Format,
+    replicas: u16,
+    bytes: &[u8],
+) -> Result<Answer<S>, Fault>
+    ensures text { Decodes (answer_kind_in format replicas) bytes.now result }
+    ensures read { ReadsAll (answer_at_in format replicas) bytes.now result }
+{
+    read_whole(
+        alloc,
+        unfinished_answer::<S>(alloc, format, replicas),
+        bytes,
+    )
+}
+
+/// The text of an answer with these parts, in a format. It is refused as that of the delta is
+/// ([`encode_state_in`](crate::encode_state_in)). That the parts make an answer shows where it is measured.
+pub fn encode_answer_in<S: DotSet>(
+    alloc: Global,
+    format: Format,
+    asker: u8,
+    state: &State<S>,
+    certificate: &Certificate,
+) -> Result<Vec<u8>, Fault>
+    ensures text { EncodesIn format (answer_text_in format (answer asker state.now certificate.now)) result }
+    ensures dots { OnOk result ((replicas : ℕ) → Fits replicas (coordinates state.now)
+        → AreDotsOf replicas (seen_of state.now.lives)) }
+    ensures certified { OnOk result ((replicas : ℕ) (peer : Ranks) → asker < replicas
+        → Fits replicas (coordinates state.now) → IsAbove (coordinates state.now) peer
+        → IsCertificate peer state.now certificate.now → IsAnswerOf replicas (answer asker state.now certificate.now)) }
+{
+    match format {
+        Format::One => encode_spelled_answer(alloc, asker, state, certificate),
+        Format::Two => encode_tabled_answer(alloc, asker, state, certificate),
+    }
 }
 
 /// The answer whose text the bytes are, of a roster of so many replicas. Whether its certificate is that of its

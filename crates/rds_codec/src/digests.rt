@@ -1,64 +1,133 @@
 //! The text of a digest: the dots that were seen, those of them that are live, and the counters.
-ghost use Rattle.std.specs.Prelude.{◌≡◌, ℕ, ◌≤◌, length, IfOk};
+ghost use Rattle.std.specs.Prelude.{◌≡◌, ℕ, List, ◌≤◌, length, Ok, Err, if◌then◌else◌};
+ghost use Rattle.rds_names.specs.declared.fault.Fault.TheVariants.{Bad};
 ghost use Rattle.rds_dots.specs.Runs.{runs_of};
-ghost use Rattle.rds_codec.specs.Decoding.{Decodes, ReadsAll, all_of};
-ghost use Rattle.rds_codec.specs.DigestTexts.{DigestFits, IsDigestOf, digest_text, live_dots_at, digest_at, digest_kind};
+ghost use Rattle.rds_codec.specs.Decoding.{Decodes, ReadsAll};
+ghost use Rattle.rds_codec.specs.DigestTexts.{DigestFits, IsDigestOf, are_seen, digest_text, digest_at, digest_kind};
 ghost use Rattle.rds_bytes.specs.DotRows.{rows_from};
-ghost use Rattle.rds_bytes.specs.Reading.{Reads};
 ghost use Rattle.rds_bytes.specs.Values.{AreDotsOf};
 ghost use Rattle.rds_codec.specs.Writing.{Encodes};
 ghost use Rattle.rds_bytes.specs.Writing.{Adds};
-ghost use Rattle.rds_delta.specs.Digested.{IsInside};
 
+use crate::fed::read_whole;
 use crate::limits::{LIMIT, room_for};
-use rds_bytes::{counters_length, measure_dots, put_counters, put_dots, read_counters, read_dots};
+use rds_bytes::{counters_length, measure_dots, put_counters, put_dots};
+use rds_counts::Counts;
 use rds_delta::{Digest, is_inside};
 use rds_dots::DotSet;
+use rds_feeds::{
+    Made, Making, Pair, Progress, SeenDots, Unfinished, UnfinishedCounters, UnfinishedDots, pair,
+    unfinished_counters, unfinished_dots,
+};
 use rds_names::Fault;
 use std::alloc::{AllocError, Global};
+use std::marker::Model;
 
-/// The live dots of so many replicas, which are judged when they are read to their end: each is seen.
-#[tactic(auto, unfolding(crate::specs::DigestTexts::live_dots_at))]
-fn read_live<'a, S: DotSet>(
-    alloc: Global,
-    replicas: u16,
-    seen: &S,
-    bytes: &'a [u8],
-) -> Result<(S, &'a [u8]), Fault>
-    ensures read { Reads (λ x. (S.contents x.0, x.1.now)) result
-        (live_dots_at replicas (S.contents seen.now) bytes.now) }
-    ensures inside { IfOk result (λ x. IsInside (S.contents x.0) (S.contents seen.now)) }
-{
-    let (live, rest) = read_dots::<S>(alloc, replicas, bytes)?;
-    if !is_inside(&live, seen) {
-        return Err(Fault::Bad);
-    }
-    Ok((live, rest))
+/// Seen dots, and the live ones of them.
+#[derive(Drop)]
+pub struct Marked<S: DotSet> {
+    seen: S,
+    live: S,
 }
 
-/// A digest of so many replicas.
-#[tactic(auto, unfolding(crate::specs::DigestTexts::digest_at))]
-pub fn read_digest<'a, S: DotSet>(
-    alloc: Global,
-    replicas: u16,
-    bytes: &'a [u8],
-) -> Result<(Digest<S>, &'a [u8]), Fault>
-    ensures { Reads (λ x. (x.0, x.1.now)) result (digest_at replicas bytes.now) }
-{
-    let (seen, rest) = read_dots::<S>(alloc, replicas, bytes)?;
-    let (live, rest) = read_live(alloc, replicas, &seen, rest)?;
-    let (counts, rest) = read_counters(alloc, replicas, rest)?;
-    Ok((Digest::with_parts(seen, live, counts), rest))
+impl<S: DotSet> Model for Marked<S> {
+    ghost use Rattle.std.specs.Coded.{coded×};
+    ghost use Rattle.rds_dots.specs.Dots.{Dots};
+    ghost use Rattle.rds_delta.specs.Digested.{IsInside};
+    ghost use Rattle.rds_feeds.specs.SeenDots.{coded_dots};
+
+    ghost Value = { Dots × Dots };
+
+    ghost coded = { coded× coded_dots coded_dots };
+
+    ghost view = { λ m. (S.contents m.seen, S.contents m.live) };
+
+    ghost invariant = { λ m. IsInside (S.contents m.live) (S.contents m.seen) };
 }
 
-fn read_all<S: DotSet>(alloc: Global, replicas: u16, bytes: &[u8]) -> Result<Digest<S>, Fault>
-    ensures { Reads (λ x. x) result (all_of (digest_at replicas) bytes.now) }
-{
-    let (digest, rest) = read_digest(alloc, replicas, bytes)?;
-    if !rest.is_empty() {
-        return Err(Fault::Extra);
+/// Judges that each live dot is seen.
+#[derive(Drop)]
+pub struct LiveAreSeen {}
+
+impl<S: DotSet> Making<(SeenDots<S>, SeenDots<S>)> for LiveAreSeen {
+    type Made = Marked<S>;
+
+    ghost made = { λ _ p. if are_seen p.0 p.1 then Ok p else Err Bad };
+
+    fn make(self, whole: (SeenDots<S>, SeenDots<S>)) -> Result<Marked<S>, Fault> {
+        let (seen, live) = whole;
+        let seen = seen.into_set();
+        let live = live.into_set();
+        if !is_inside(&live, &seen) {
+            return Err(Fault::Bad);
+        }
+        Ok(Marked { seen, live })
     }
-    Ok(digest)
+}
+
+/// The digest of marked dots and counters.
+#[derive(Drop)]
+pub struct PartsAreDigest {}
+
+impl<S: DotSet> Making<(Marked<S>, Counts)> for PartsAreDigest {
+    type Made = Digest<S>;
+
+    ghost made = { λ _ p. Ok (record { seen = p.0.0; live = p.0.1; counts = p.1 }) };
+
+    fn make(self, whole: (Marked<S>, Counts)) -> Result<Digest<S>, Fault> {
+        let (marked, counts) = whole;
+        let Marked { seen, live } = marked;
+        Ok(Digest::with_parts(seen, live, counts))
+    }
+}
+
+type MarkedParts<S> = Made<Pair<UnfinishedDots<S>, UnfinishedDots<S>>, LiveAreSeen>;
+
+type DigestParts<S> = Made<Pair<MarkedParts<S>, UnfinishedCounters>, PartsAreDigest>;
+
+/// A digest that is being read. No more than one row or gap is held.
+#[derive(Drop)]
+pub struct UnfinishedDigest<S: DotSet> {
+    parts: DigestParts<S>,
+}
+
+impl<S: DotSet> Unfinished for UnfinishedDigest<S> {
+    type Whole = Digest<S>;
+
+    ghost finish = { λ u. ⟦<DigestParts<S> as Unfinished>⟧.finish u.parts };
+
+    fn read_on<'a>(
+        self,
+        alloc: Global,
+        bytes: &'a [u8],
+    ) -> Result<(Progress<Self, Digest<S>>, &'a [u8]), Fault> {
+        let (progress, rest) = self.parts.read_on(alloc, bytes)?;
+        match progress {
+            Progress::More(parts) => Ok((Progress::More(UnfinishedDigest { parts }), rest)),
+            Progress::Whole(digest) => Ok((Progress::Whole(digest), rest)),
+        }
+    }
+}
+
+/// A digest of so many replicas, of which nothing was read.
+pub fn unfinished_digest<S: DotSet>(alloc: Global, replicas: u16) -> UnfinishedDigest<S>
+    ensures { (bytes : List ℕ) → ⟦<UnfinishedDigest<S> as Unfinished>⟧.finish result bytes
+        ≡ digest_at replicas bytes }
+{
+    let marked = Made {
+        from: pair(
+            unfinished_dots(alloc, replicas),
+            unfinished_dots(alloc, replicas),
+        ),
+        maker: LiveAreSeen {},
+    };
+    let counters = unfinished_counters(alloc, replicas);
+    UnfinishedDigest {
+        parts: Made {
+            from: pair(marked, counters),
+            maker: PartsAreDigest {},
+        },
+    }
 }
 
 /// The digest whose text the bytes are, of a roster of so many replicas.
@@ -75,10 +144,7 @@ pub fn decode_digest<S: DotSet>(
     ensures text { Decodes (digest_kind replicas) bytes.now result }
     ensures read { ReadsAll (digest_at replicas) bytes.now result }
 {
-    if LIMIT < bytes.len() {
-        return Err(Fault::TooLong);
-    }
-    read_all(alloc, replicas, bytes)
+    read_whole(alloc, unfinished_digest::<S>(alloc, replicas), bytes)
 }
 
 /// The numbers of rows of the seen dots and of the live ones, and the length of the text.

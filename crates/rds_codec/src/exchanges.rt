@@ -13,9 +13,9 @@ ghost use Rattle.rds_codec.specs.DigestTexts.{digest_text, digest_kind};
 ghost use Rattle.rds_codec.specs.Exchanged.{CanExchange, CanRead, IsAnswerTo, IsAskOf, IsCertified, IsLongAnswer, IsLongAnswerIn, IsLongDigest, IsLost, IsRefusal, IsReplyIn, IsReplyTo, IsWithin, PassesCheck, TakesCertified, replicas_of_both};
 ghost use Rattle.rds_codec.specs.declared.limits.TheConstants.{LIMIT};
 
-use crate::answers::{Answer, decode_answer};
+use crate::answers::{Answer, decode_answer, encode_answer_in};
 use crate::digests::{decode_digest, text_of_digest};
-use crate::formats::{Format, encode_answer_in};
+use crate::formats::Format;
 use rds_delta::{Digest, certificate, check, delta};
 use rds_dots::DotSet;
 use rds_names::{Fault, Roster};

@@ -1,15 +1,18 @@
 //! The text of a hello, by which a session begins.
-ghost use Rattle.std.specs.Prelude.{◌≡◌, ◌<◌, ◌≤◌, true, length, IfErr};
+ghost use Rattle.std.specs.Prelude.{◌≡◌, ℕ, List, ◌<◌, ◌≤◌, true, length, IfErr};
 ghost use Rattle.rds_names.specs.declared.fault.Fault.TheVariants.{Memory};
-ghost use Rattle.rds_codec.specs.Decoding.{Decodes, ReadsAll, all_of};
+ghost use Rattle.rds_codec.specs.Decoding.{Decodes, ReadsAll};
 ghost use Rattle.rds_codec.specs.HelloTexts.{IsHello, is_version, hello_text, version_at, hello_at, hello_kind};
+ghost use Rattle.rds_codec.specs.SteadyTexts.{hello_steady};
 ghost use Rattle.rds_bytes.specs.Reading.{Reads, ReadsExactly};
 ghost use Rattle.rds_codec.specs.Writing.{Encodes};
 ghost use Rattle.rds_bytes.specs.Writing.{Adds};
 
+use crate::fed::read_whole;
 use crate::formats::Format;
-use crate::limits::{LIMIT, room_for};
+use crate::limits::room_for;
 use rds_bytes::{member_length, put_byte, put_member, read_byte, read_member};
+use rds_feeds::{Once, Part, Progress, Unfinished};
 use rds_names::{Fault, Roster};
 use std::alloc::{AllocError, Global};
 
@@ -53,14 +56,61 @@ pub fn read_hello(alloc: Global, bytes: &[u8]) -> Result<(Hello, &[u8]), Fault>
     Ok((hello, rest))
 }
 
-fn read_all(alloc: Global, bytes: &[u8]) -> Result<Hello, Fault>
-    ensures { Reads (λ x. x) result (all_of hello_at bytes.now) }
-{
-    let (hello, rest) = read_hello(alloc, bytes)?;
-    if !rest.is_empty() {
-        return Err(Fault::Extra);
+/// A hello, read as one part.
+#[derive(Drop)]
+pub struct Greeting {}
+
+impl Part for Greeting {
+    type Read = Hello;
+
+    type Whole = Hello;
+
+    ghost reader = { λ _. hello_at };
+
+    ghost made = { λ _ hello. hello };
+
+    fn read<'a>(&self, alloc: Global, bytes: &'a [u8]) -> Result<(Hello, &'a [u8]), Fault> {
+        read_hello(alloc, bytes)
     }
-    Ok(hello)
+
+    fn make(self, part: Hello) -> Result<Hello, Fault> {
+        Ok(part)
+    }
+
+    ghost steady = { λ _. hello_steady };
+}
+
+/// A hello that is being read. It is short, and held as bytes until it is whole.
+#[derive(Drop)]
+pub struct UnfinishedHello {
+    parts: Once<Greeting>,
+}
+
+impl Unfinished for UnfinishedHello {
+    type Whole = Hello;
+
+    ghost finish = { λ u. ⟦<Once<Greeting> as Unfinished>⟧.finish u.parts };
+
+    fn read_on<'a>(
+        self,
+        alloc: Global,
+        bytes: &'a [u8],
+    ) -> Result<(Progress<Self, Hello>, &'a [u8]), Fault> {
+        let (progress, rest) = self.parts.read_on(alloc, bytes)?;
+        match progress {
+            Progress::More(parts) => Ok((Progress::More(UnfinishedHello { parts }), rest)),
+            Progress::Whole(hello) => Ok((Progress::Whole(hello), rest)),
+        }
+    }
+}
+
+/// A hello of which nothing was read.
+pub fn unfinished_hello() -> UnfinishedHello
+    ensures { (bytes : List ℕ) → ⟦<UnfinishedHello as Unfinished>⟧.finish result bytes ≡ hello_at bytes }
+{
+    UnfinishedHello {
+        parts: Once { part: Greeting {} },
+    }
 }
 
 /// The hello whose text the bytes are. A version of no format is refused (`Bad`).
@@ -72,10 +122,7 @@ pub fn decode_hello(alloc: Global, bytes: &[u8]) -> Result<Hello, Fault>
     ensures text { Decodes hello_kind bytes.now result }
     ensures read { ReadsAll hello_at bytes.now result }
 {
-    if LIMIT < bytes.len() {
-        return Err(Fault::TooLong);
-    }
-    read_all(alloc, bytes)
+    read_whole(alloc, unfinished_hello(), bytes)
 }
 
 fn put_hello(out: &mut Vec<u8>, hello: &Hello) -> Result<(), AllocError>

@@ -1,6 +1,6 @@
 //! The texts of format 1, in which each key is spelled out wherever it stands: of states, and of answers and snapshots
 //! that hold such a state.
-ghost use Rattle.std.specs.Prelude.{◌≡◌, ◌<◌, ◌≤◌, ◌^◌, ℕ, length, IfErr, OnOk};
+ghost use Rattle.std.specs.Prelude.{◌≡◌, ◌<◌, ◌≤◌, ◌^◌, ℕ, List, length, Ok, IfErr, OnOk};
 ghost use Rattle.std.specs.FinMap as map;
 ghost use Rattle.std.specs.List.{AllByRecursion};
 ghost use Rattle.rds_names.specs.declared.fault.Fault.TheVariants.{Memory};
@@ -12,7 +12,6 @@ ghost use Rattle.rds_delta.specs.Claims.{IsCertificate};
 ghost use Rattle.rds_delta.specs.Least.{IsAbove};
 ghost use Rattle.rds_delta.specs.Ranks.{Ranks};
 ghost use Rattle.rds_bytes.specs.DotRows.{rows_from};
-ghost use Rattle.rds_bytes.specs.Reading.{Reads};
 ghost use Rattle.rds_bytes.specs.Values.{AreDotsOf};
 ghost use Rattle.rds_bytes.specs.Writing.{Adds};
 ghost use Rattle.rds_codec.specs.AnswerTexts.{IsAnswerOf, answer};
@@ -26,29 +25,74 @@ use crate::certificates::{certificate_length, put_certificate};
 use crate::limits::room_for;
 use rds_bytes::{
     counters_length, live_rows_length, measure_dots, member_length, put_byte, put_counters,
-    put_dots, put_header, put_live_rows, read_counters, read_dots, read_live_rows,
+    put_dots, put_header, put_live_rows,
 };
+use rds_counts::Counts;
 use rds_delta::Certificate;
 use rds_dots::DotSet;
+use rds_feeds::{
+    Made, Making, Pair, Progress, Unfinished, UnfinishedCounters, UnfinishedSeen, pair,
+    unfinished_counters, unfinished_seen,
+};
 use rds_life::Lives;
 use rds_names::Fault;
 use rds_state::{Replica, State};
 use std::alloc::{AllocError, Global};
 
-/// A state of so many replicas.
-#[tactic(auto, unfolding(crate::specs::SpelledTexts::spelled_at))]
-pub fn read_spelled<'a, S: DotSet>(
-    alloc: Global,
-    replicas: u16,
-    bytes: &'a [u8],
-) -> Result<(State<S>, &'a [u8]), Fault>
-    ensures { Reads (λ x. (x.0, x.1.now)) result (spelled_at replicas bytes.now) }
+/// The state of lives and counters.
+#[derive(Drop)]
+pub struct PartsAreState {}
+
+impl<S: DotSet> Making<(Lives<S>, Counts)> for PartsAreState {
+    type Made = State<S>;
+
+    ghost made = { λ _ p. Ok (record { lives = p.0; counts = p.1 }) };
+
+    fn make(self, whole: (Lives<S>, Counts)) -> Result<State<S>, Fault> {
+        let (lives, counts) = whole;
+        Ok(State::from_parts(lives, counts))
+    }
+}
+
+type StateParts<S> = Made<Pair<UnfinishedSeen<S>, UnfinishedCounters>, PartsAreState>;
+
+/// A state of format 1 that is being read. No more than one row or gap is held.
+#[derive(Drop)]
+pub struct UnfinishedSpelled<S: DotSet> {
+    parts: StateParts<S>,
+}
+
+impl<S: DotSet> Unfinished for UnfinishedSpelled<S> {
+    type Whole = State<S>;
+
+    ghost finish = { λ u. ⟦<StateParts<S> as Unfinished>⟧.finish u.parts };
+
+    fn read_on<'a>(
+        self,
+        alloc: Global,
+        bytes: &'a [u8],
+    ) -> Result<(Progress<Self, State<S>>, &'a [u8]), Fault> {
+        let (progress, rest) = self.parts.read_on(alloc, bytes)?;
+        match progress {
+            Progress::More(parts) => Ok((Progress::More(UnfinishedSpelled { parts }), rest)),
+            Progress::Whole(state) => Ok((Progress::Whole(state), rest)),
+        }
+    }
+}
+
+/// A state of format 1 of so many replicas, of which nothing was read.
+pub fn unfinished_spelled<S: DotSet>(alloc: Global, replicas: u16) -> UnfinishedSpelled<S>
+    ensures { (bytes : List ℕ) → ⟦<UnfinishedSpelled<S> as Unfinished>⟧.finish result bytes
+        ≡ spelled_at replicas bytes }
 {
-    let (seen, rest) = read_dots::<S>(alloc, replicas, bytes)?;
-    let (rows, rest) = read_live_rows(alloc, &seen, rest)?;
-    let (counts, rest) = read_counters(alloc, replicas, rest)?;
-    let lives = Lives::with_rows(seen, rows);
-    Ok((State::from_parts(lives, counts), rest))
+    let seen = unfinished_seen(alloc, replicas);
+    let counters = unfinished_counters(alloc, replicas);
+    UnfinishedSpelled {
+        parts: Made {
+            from: pair(seen, counters),
+            maker: PartsAreState {},
+        },
+    }
 }
 
 /// The number of rows of the seen dots, and the length of the text.

@@ -1,6 +1,6 @@
 //! The text of a state of format 2: a table of its keys, and then its parts, which have the keys by their numbers. And
 //! the texts of answers and snapshots that hold such a state.
-ghost use Rattle.std.specs.Prelude.{◌≡◌, ℕ, ◌<◌, ◌≤◌, ◌^◌, IfOk, IfErr, OnOk, fold, length, map as each};
+ghost use Rattle.std.specs.Prelude.{◌≡◌, ℕ, List, ◌<◌, ◌≤◌, ◌^◌, IfOk, IfErr, OnOk, length, map as each};
 ghost use Rattle.std.specs.FinMap as map;
 ghost use Rattle.rds_names.specs.declared.fault.Fault.TheVariants.{Memory};
 ghost use Rattle.rds_dots.specs.Runs.{runs_of};
@@ -10,67 +10,168 @@ ghost use Rattle.rds_delta.specs.Least.{IsAbove};
 ghost use Rattle.rds_delta.specs.Ranks.{Ranks};
 ghost use Rattle.rds_bytes.specs.DotRows.{rows_from};
 ghost use Rattle.rds_bytes.specs.Numbers.{AreMeasured};
-ghost use Rattle.rds_bytes.specs.Reading.{Reads};
 ghost use Rattle.rds_bytes.specs.Table.{number_of};
-ghost use Rattle.rds_bytes.specs.TableTexts.{numbered_at};
-ghost use Rattle.rds_bytes.specs.TableValue.{meeting};
 ghost use Rattle.rds_bytes.specs.Values.{AreDotsOf};
 ghost use Rattle.rds_bytes.specs.Writing.{Adds};
 ghost use Rattle.rds_codec.specs.AnswerTexts.{IsAnswerOf, answer, answer_text};
 ghost use Rattle.rds_codec.specs.FormatWriting.{EncodesTabled};
-ghost use Rattle.rds_codec.specs.StateTexts.{IsStateOf, IsSnapshot, body_at, keys_in, snapshot_text, state_at, state_text, table_in};
+ghost use Rattle.rds_codec.specs.StateTexts.{IsStateOf, IsSnapshot, keys_in, snapshot_text, state_at, state_text, table_in};
 ghost use Rattle.rds_codec.specs.declared.limits.TheConstants.{LIMIT};
+ghost use Rattle.rds_codec.specs.Tabled.{lives_after, counters_after, tabled_of};
+ghost use Rattle.rds_feeds.specs.Chained.{then_finish};
+ghost use Rattle.rds_feeds.specs.Parts.{makes};
 ghost use Rattle.rds_state.specs.Fits.{Fits};
 ghost use Rattle.rds_state.specs.Value.{coordinates};
 
 use crate::certificates::{certificate_length, put_certificate};
 use crate::limits::room_for;
 use rds_bytes::{
-    NumberedKeys, TableKeys, measure_dots, member_length, number_keys, numbered_counters_length,
-    put_byte, put_dots, put_member, put_numbered, put_table, read_dots, read_keyed_counters,
-    read_keyed_live_rows, read_table, table_length,
+    NumberedKeys, Table, measure_dots, member_length, number_keys, numbered_counters_length,
+    put_byte, put_dots, put_member, put_numbered, put_table, table_length,
 };
 use rds_delta::Certificate;
 use rds_dots::DotSet;
-use rds_life::Lives;
+use rds_feeds::{
+    Following, Made, Making, NumberedLives, NumberedParts, Pair, Progress, SeenDots, Then,
+    Unfinished, UnfinishedDots, UnfinishedNumberedCounters, UnfinishedNumberedLives,
+    UnfinishedTable, pair, unfinished_dots, unfinished_numbered_counters,
+    unfinished_numbered_lives, unfinished_table,
+};
 use rds_names::Fault;
 use rds_state::{Replica, State};
 use std::alloc::{AllocError, Global};
 
-/// The dots, the live rows and the counters, by the numbers of a table, whose keys note what was met of them.
-#[tactic(auto, unfolding(crate::specs::StateTexts::body_at))]
-fn read_body<'a, S: DotSet>(
-    alloc: Global,
-    keys: &mut TableKeys<'_>,
-    replicas: u16,
-    bytes: &'a [u8],
-) -> Result<(State<S>, &'a [u8]), Fault>
-    ensures read { Reads (λ x. (x.0, x.1.now)) result (body_at (numbered_at keys.old.keys) replicas bytes.now) }
-    ensures met { IfOk result (λ x. keys.new ≡ fold meeting keys.old (keys_in x.0)) }
-{
-    let (seen, rest) = read_dots::<S>(alloc, replicas, bytes)?;
-    let (rows, rest) = read_keyed_live_rows(alloc, keys, &seen, rest)?;
-    let (counts, rest) = read_keyed_counters(alloc, keys, replicas, rest)?;
-    let lives = Lives::with_rows(seen, rows);
-    Ok((State::from_parts(lives, counts), rest))
+/// The live rows after a table and the seen dots.
+#[derive(Drop)]
+pub struct LivesFollow {}
+
+impl<S: DotSet> Following<(Table, SeenDots<S>)> for LivesFollow {
+    type Next = UnfinishedNumberedLives<S>;
+
+    ghost after = { λ _ p. lives_after p };
+
+    fn start(
+        self,
+        alloc: Global,
+        first: (Table, SeenDots<S>),
+    ) -> Result<UnfinishedNumberedLives<S>, Fault> {
+        let (table, seen) = first;
+        Ok(unfinished_numbered_lives(alloc, table, seen.into_set()))
+    }
 }
 
-/// A state of so many replicas, whose table has exactly its keys, in the order of first use.
-#[tactic(auto, unfolding(crate::specs::StateTexts::state_at))]
-pub fn read_tabled<'a, S: DotSet>(
-    alloc: Global,
-    replicas: u16,
-    bytes: &'a [u8],
-) -> Result<(State<S>, &'a [u8]), Fault>
-    ensures { Reads (λ x. (x.0, x.1.now)) result (state_at replicas bytes.now) }
-{
-    let (table, rest) = read_table(alloc, bytes)?;
-    let mut keys = table.keys(Some(0));
-    let (state, rest) = read_body::<S>(alloc, &mut keys, replicas, rest)?;
-    if !keys.is_met() {
-        return Err(Fault::Bad);
+type TableAndDots<S> = Pair<UnfinishedTable, UnfinishedDots<S>>;
+
+type LivesParts<S> = Then<TableAndDots<S>, LivesFollow, UnfinishedNumberedLives<S>>;
+
+/// A table, the seen dots and then the live rows, which are being read.
+#[derive(Drop)]
+pub struct UnfinishedTabledLives<S: DotSet> {
+    parts: LivesParts<S>,
+}
+
+impl<S: DotSet> Unfinished for UnfinishedTabledLives<S> {
+    type Whole = NumberedLives<S>;
+
+    ghost finish = { λ u. then_finish ⟦<TableAndDots<S> as Unfinished>⟧.finish (λ _ p. lives_after p)
+        ⟦<UnfinishedNumberedLives<S> as Unfinished>⟧.finish u.parts };
+
+    fn read_on<'a>(
+        self,
+        alloc: Global,
+        bytes: &'a [u8],
+    ) -> Result<(Progress<Self, NumberedLives<S>>, &'a [u8]), Fault> {
+        let (progress, rest) = self.parts.read_on(alloc, bytes)?;
+        match progress {
+            Progress::More(parts) => Ok((Progress::More(UnfinishedTabledLives { parts }), rest)),
+            Progress::Whole(lives) => Ok((Progress::Whole(lives), rest)),
+        }
     }
-    Ok((state, rest))
+}
+
+/// The rows of counters after lives, of so many replicas.
+#[derive(Drop)]
+pub struct CountersFollow {
+    replicas: u16,
+}
+
+impl<S: DotSet> Following<NumberedLives<S>> for CountersFollow {
+    type Next = UnfinishedNumberedCounters<S>;
+
+    ghost after = { λ f lives. counters_after f.replicas lives };
+
+    fn start(
+        self,
+        alloc: Global,
+        first: NumberedLives<S>,
+    ) -> Result<UnfinishedNumberedCounters<S>, Fault> {
+        Ok(unfinished_numbered_counters(alloc, first, self.replicas))
+    }
+}
+
+/// The state of lives and counters, where the table has exactly their keys.
+#[derive(Drop)]
+pub struct PartsAreTabled {}
+
+impl<S: DotSet> Making<NumberedParts<S>> for PartsAreTabled {
+    type Made = State<S>;
+
+    ghost made = { λ _ p. tabled_of p };
+
+    fn make(self, whole: NumberedParts<S>) -> Result<State<S>, Fault> {
+        match whole.into_tabled() {
+            Some((lives, counts)) => Ok(State::from_parts(lives, counts)),
+            None => Err(Fault::Bad),
+        }
+    }
+}
+
+type TabledParts<S> = Made<
+    Then<UnfinishedTabledLives<S>, CountersFollow, UnfinishedNumberedCounters<S>>,
+    PartsAreTabled,
+>;
+
+/// A state of format 2 that is being read. The table is held, and no more than one row or gap beside it.
+#[derive(Drop)]
+pub struct UnfinishedTabled<S: DotSet> {
+    parts: TabledParts<S>,
+}
+
+impl<S: DotSet> Unfinished for UnfinishedTabled<S> {
+    type Whole = State<S>;
+
+    ghost finish = { λ u. makes (then_finish ⟦<UnfinishedTabledLives<S> as Unfinished>⟧.finish
+        (λ f lives. counters_after f.replicas lives)
+        ⟦<UnfinishedNumberedCounters<S> as Unfinished>⟧.finish u.parts.from) tabled_of };
+
+    fn read_on<'a>(
+        self,
+        alloc: Global,
+        bytes: &'a [u8],
+    ) -> Result<(Progress<Self, State<S>>, &'a [u8]), Fault> {
+        let (progress, rest) = self.parts.read_on(alloc, bytes)?;
+        match progress {
+            Progress::More(parts) => Ok((Progress::More(UnfinishedTabled { parts }), rest)),
+            Progress::Whole(state) => Ok((Progress::Whole(state), rest)),
+        }
+    }
+}
+
+/// A state of format 2 of so many replicas, of which nothing was read.
+pub fn unfinished_tabled<S: DotSet>(alloc: Global, replicas: u16) -> UnfinishedTabled<S>
+    ensures { (bytes : List ℕ) → ⟦<UnfinishedTabled<S> as Unfinished>⟧.finish result bytes
+        ≡ state_at replicas bytes }
+{
+    let keys = pair(unfinished_table(alloc), unfinished_dots(alloc, replicas));
+    let lives = UnfinishedTabledLives {
+        parts: Then::First(keys, LivesFollow {}),
+    };
+    UnfinishedTabled {
+        parts: Made {
+            from: Then::First(lives, CountersFollow { replicas }),
+            maker: PartsAreTabled {},
+        },
+    }
 }
 
 /// The keys of the state, numbered in the order of first use.

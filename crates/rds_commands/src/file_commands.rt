@@ -54,7 +54,7 @@ where
     let alloc = rt.alloc();
     let (roster, own) = roster_in(alloc, words.group, words.own, &words.names)?;
     let replica = Replica::new(alloc, roster, own)?;
-    let file = CreatedFile::create(rt, words.file, &replica)?;
+    let file = CreatedFile::create(rt, words.file, replica)?;
     Ok(FileAnswer {
         file,
         answer: Reply::Done,

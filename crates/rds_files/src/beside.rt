@@ -1,5 +1,6 @@
 //! A new file that is written beside the one whose place it takes.
 ghost use Rattle.std.specs.Prelude.{◌≡◌, ◌≤◌, ◌<◌, length, IfErr, IfOk, OnOk};
+ghost use Rattle.rds_names.specs.declared.fault.Fault.TheVariants.{Memory};
 ghost use Rattle.rds_codec.specs.StateTexts.{snapshot_text};
 ghost use Rattle.rds_codec.specs.declared.limits.TheConstants.{LIMIT};
 ghost use Rattle.rds_files.specs.Files.{IsTooLongOrLost, IsUnkept};
@@ -8,7 +9,7 @@ use crate::disk::{Disk, note};
 use crate::locks::LockFile;
 use rds_codec::{LIMIT, snapshot_length};
 use rds_dots::DotSet;
-use rds_keep::{Counted, Kept, Place, keep_in, keep_owned};
+use rds_keep::{Counted, Kept, Place, keep_in};
 use rds_names::Fault;
 use rds_state::Replica;
 use std::fs::{OpenFile, OpenOptions};
@@ -28,24 +29,19 @@ const OWNER_MODE: u32 = 0o600;
 /// this one where it doesn't take FILE's place. The caller has the folder's lock.
 pub fn keep_new<H: Disk, S: DotSet>(
     rt: &H,
-    replica: &Replica<S>,
+    replica: Replica<S>,
     path: &str,
 ) -> Result<Kept<S>, Fault>
 where
     H::File: LockFile,
-    ensures kept { IfOk result (λ kept. kept ≡ replica.now) }
-    ensures fault { IfErr result (IsUnkept replica.now) }
-    ensures limit { OnOk result (length (snapshot_text replica.now) ≤ LIMIT) }
-    ensures long { LIMIT < length (snapshot_text replica.now) → IfErr result IsTooLongOrLost }
+    ensures kept { IfOk result (λ kept. kept ≡ replica) }
+    ensures fault { IfErr result (IsUnkept replica) }
+    ensures limit { OnOk result (length (snapshot_text replica) ≤ LIMIT) }
+    ensures long { LIMIT < length (snapshot_text replica) → IfErr result IsTooLongOrLost }
 {
-    let alloc = rt.alloc();
-    let Ok(name) = format!(in alloc; "{path}.new") else {
-        return Err(Fault::Memory);
-    };
-    match Beside::create(rt, name.as_str(), path, NEW_MODE) {
-        Ok(beside) => keep_in(alloc, replica, &mut Counted::new(beside)),
-        Err(error) => Err(unmade(rt, replica, name.as_str(), &error)),
-    }
+    let name = name_beside(rt, path)?;
+    let made = Beside::create(rt, name.as_str(), path, NEW_MODE);
+    keep_beside(rt, replica, name.as_str(), made)
 }
 
 /// Keeps the replica in the file of this path in place of what it holds, as `keep_new` does; FILE.new gets the mode of
@@ -63,13 +59,36 @@ where
     ensures limit { OnOk result (length (snapshot_text replica) ≤ LIMIT) }
     ensures long { LIMIT < length (snapshot_text replica) → IfErr result IsTooLongOrLost }
 {
-    let alloc = rt.alloc();
-    let Ok(name) = format!(in alloc; "{path}.new") else {
-        return Err(Fault::Memory);
-    };
-    match Beside::create_like(rt, name.as_str(), path, old) {
-        Ok(beside) => keep_owned(alloc, replica, &mut Counted::new(beside)),
-        Err(error) => Err(unmade(rt, &replica, name.as_str(), &error)),
+    let name = name_beside(rt, path)?;
+    let made = Beside::create_like(rt, name.as_str(), path, old);
+    keep_beside(rt, replica, name.as_str(), made)
+}
+
+// The path of FILE.new.
+fn name_beside<H: Disk>(rt: &H, path: &str) -> Result<String, Fault>
+    ensures memory { IfErr result (λ fault. fault ≡ Memory) }
+{
+    match format!(in rt.alloc(); "{path}.new") {
+        Ok(name) => Ok(name),
+        Err(_) => Err(Fault::Memory),
+    }
+}
+
+// Keeps the replica in FILE.new, which then takes FILE's place, where FILE.new could be made.
+fn keep_beside<H: Disk, S: DotSet>(
+    rt: &H,
+    replica: Replica<S>,
+    name: &str,
+    made: io::Result<Beside<'_, H>>,
+) -> Result<Kept<S>, Fault>
+    ensures kept { IfOk result (λ kept. kept ≡ replica) }
+    ensures fault { IfErr result (IsUnkept replica) }
+    ensures limit { OnOk result (length (snapshot_text replica) ≤ LIMIT) }
+    ensures long { LIMIT < length (snapshot_text replica) → IfErr result IsTooLongOrLost }
+{
+    match made {
+        Ok(beside) => keep_in(rt.alloc(), replica, &mut Counted::new(beside)),
+        Err(error) => Err(unmade(rt, &replica, name, &error)),
     }
 }
 

@@ -385,16 +385,16 @@ impl<'a, S: DotSet> CreatedFile<'a, S> {
     pub fn create<H: Disk>(
         rt: &H,
         path: &'a str,
-        replica: &Replica<S>,
+        replica: Replica<S>,
     ) -> Result<CreatedFile<'a, S>, Fault>
     where
         H::File: LockFile,
-        ensures made { IfOk result (λ file. file ≡ record { path = path.now; kept = replica.now }) }
+        ensures made { IfOk result (λ file. file ≡ record { path = path.now; kept = replica }) }
         ensures place { IfOk result (λ _. is_beside path.now ≡ false) }
         ensures beside { is_beside path.now ≡ true → result ≡ Err Usage }
-        ensures fault { IfErr result (RefusesFile replica.now) }
-        ensures limit { OnOk result (length (snapshot_text replica.now) ≤ LIMIT) }
-        ensures long { LIMIT < length (snapshot_text replica.now)
+        ensures fault { IfErr result (RefusesFile replica) }
+        ensures limit { OnOk result (length (snapshot_text replica) ≤ LIMIT) }
+        ensures long { LIMIT < length (snapshot_text replica)
             → IfErr result (λ fault. IsTooLongOrLost fault ⊎ IsNoPlace fault) }
     {
         if is_beside(path) {

@@ -16,26 +16,26 @@ use rds_state::Replica;
 use std::alloc::Global;
 
 /// Writes the replica's snapshot into the place, syncs it and renames it: only then is the replica
-/// kept. Its caller gives a place that wasn't renamed.
+/// kept. Its caller gives a place that wasn't renamed. The kept replica is this very one.
 ///
 /// Refuses as `write_snapshot` does; a sync or a rename that fails is `Device` too. After a refusal
-/// the place isn't renamed, and holds a beginning of the text, which may be all of it.
+/// the replica is let go; the place isn't renamed, and holds a beginning of the text, which may be all of it.
 #[tactic(auto, using(crate::proofs::TextParts::refused_after, crate::proofs::TextParts::stays_written))]
 pub fn keep_in<S: DotSet, P: Place>(
     alloc: Global,
-    replica: &Replica<S>,
+    replica: Replica<S>,
     place: &mut Counted<P>,
 ) -> Result<Kept<S>, Fault>
     requires { place.old.renamed ≡ false }
-    ensures kept { IfOk result (λ kept. kept ≡ replica.now) }
+    ensures kept { IfOk result (λ kept. kept ≡ replica) }
     ensures bytes { OnOk result (Appends (P.contents place.old.inner)
-        (P.contents place.new.inner) (snapshot_text replica.now)) }
+        (P.contents place.new.inner) (snapshot_text replica)) }
     ensures place { OnOk result (P.renamed place.new.inner ≡ true) }
     ensures renamed { place.new.renamed ≡ is_ok result }
     ensures front { OnErr result (AppendsFront (P.contents place.old.inner)
-        (P.contents place.new.inner) (snapshot_text replica.now)) }
-    ensures limit { OnOk result (length (snapshot_text replica.now) ≤ LIMIT) }
-    ensures refused { IfErr result (RefusesText (snapshot_text replica.now) place.old place.new) }
+        (P.contents place.new.inner) (snapshot_text replica)) }
+    ensures limit { OnOk result (length (snapshot_text replica) ≤ LIMIT) }
+    ensures refused { IfErr result (RefusesText (snapshot_text replica) place.old place.new) }
     ensures steady { OnOk result (place.new.failed ≡ place.old.failed) }
     ensures turns { place.new.turns ≡ place.old.turns }
 {

@@ -7,7 +7,7 @@ use rds_state::Replica;
 use std::marker::Model;
 
 /// A replica whose snapshot was written whole or read whole: what a start of the program finds again.
-/// Only `write_snapshot`, `write_owned`, `read_snapshot`, `keep_in` and `keep_owned` make one, and nothing changes it.
+/// Only `write_snapshot`, `read_snapshot` and `keep_in` make one, and nothing changes it.
 #[derive(Drop)]
 pub struct Kept<S: DotSet> {
     replica: Replica<S>,

@@ -35,8 +35,7 @@ pub(crate) fn text_can_be_kept<S: DotSet>(replica: &Replica<S>, text: &[u8])
     ensures { IsKept replica.now }
 {}
 
-/// Writes the replica's snapshot. The kept replica equals the one that was lent, with memory of its
-/// own.
+/// Writes the replica's snapshot. The kept replica is this very one; where it is refused, it is let go.
 ///
 /// Refuses `TooLong` where the text is above the limit, which to find takes memory. It takes all its memory before it
 /// writes the first byte. A call of the writer that fails, or that takes no byte, is `Device`: then a beginning
@@ -44,25 +43,25 @@ pub(crate) fn text_can_be_kept<S: DotSet>(replica: &Replica<S>, text: &[u8])
 #[tactic(auto, using(crate::proofs::TextParts::refused_before))]
 pub fn write_snapshot<S: DotSet, W: Write>(
     alloc: Global,
-    replica: &Replica<S>,
+    replica: Replica<S>,
     writer: &mut Counted<W>,
 ) -> Result<Kept<S>, Fault>
-    ensures kept { IfOk result (λ kept. kept ≡ replica.now) }
+    ensures kept { IfOk result (λ kept. kept ≡ replica) }
     ensures bytes { OnOk result (Appends (W.contents writer.old.inner)
-        (W.contents writer.new.inner) (snapshot_text replica.now)) }
+        (W.contents writer.new.inner) (snapshot_text replica)) }
     ensures part { OnErr result (AppendsPart (W.contents writer.old.inner)
-        (W.contents writer.new.inner) (snapshot_text replica.now)) }
-    ensures limit { OnOk result (length (snapshot_text replica.now) ≤ LIMIT) }
-    ensures refused { IfErr result (RefusesText (snapshot_text replica.now) writer.old writer.new) }
+        (W.contents writer.new.inner) (snapshot_text replica)) }
+    ensures limit { OnOk result (length (snapshot_text replica) ≤ LIMIT) }
+    ensures refused { IfErr result (RefusesText (snapshot_text replica) writer.old writer.new) }
     ensures steady { OnOk result (writer.new.failed ≡ writer.old.failed) }
     ensures turns { writer.new.turns ≡ writer.old.turns }
     ensures renamed { writer.new.renamed ≡ writer.old.renamed }
-    ensures small { replica.now.state.lives ≡ map.empty → replica.now.state.counts ≡ map.empty
+    ensures small { replica.state.lives ≡ map.empty → replica.state.counts ≡ map.empty
         → IfErr result (λ fault. (fault ≡ Memory) ⊎ (fault ≡ Device)) }
 {
-    let text = encode_snapshot(alloc, replica)?;
-    text_can_be_kept(replica, text.as_slice());
-    let kept = Kept::new(replica.copy(alloc)?);
+    let text = encode_snapshot(alloc, &replica)?;
+    text_can_be_kept(&replica, text.as_slice());
+    let kept = Kept::new(replica);
     writer.write_all(text.as_slice())?;
     Ok(kept)
 }

@@ -17,14 +17,13 @@ ghost use Rattle.rds_keep.specs.FedTexts.{decodes_texts};
 
 use crate::fed::Fed;
 use crate::feeds::Feed;
-use rds_codec::Format;
+use rds_codec::{
+    Format, UnfinishedAnswer, UnfinishedCertificate, UnfinishedDigest, UnfinishedHello,
+    UnfinishedSnapshot, UnfinishedState, unfinished_answer, unfinished_certificate,
+    unfinished_digest, unfinished_hello, unfinished_snapshot, unfinished_state,
+};
 use rds_dots::DotSet;
 use rds_feeds::Unfinished;
-use rds_text_feeds::{
-    UnfinishedAnswer, UnfinishedCertificate, UnfinishedDigest, UnfinishedHello, UnfinishedSnapshot,
-    UnfinishedState, unfinished_answer, unfinished_certificate, unfinished_digest,
-    unfinished_hello, unfinished_snapshot, unfinished_state,
-};
 use std::alloc::Global;
 
 impl<S: DotSet> Fed for UnfinishedState<S> {

@@ -86,6 +86,6 @@ where
     let name = Name::new(own)?;
     let source: ReplicaFile<'_, GapSet> = ReplicaFile::open_lasting(rt, from)?;
     let next = next_replica(rt.alloc(), source.kept().view_of(), name)?;
-    let file = CreatedFile::create(rt, path, &next)?;
+    let file = CreatedFile::create(rt, path, next)?;
     Ok(file)
 }

@@ -69,12 +69,12 @@ fn made_to_last(disk: &Disk<'_>, path: &str) -> Result<&'static str, Fault> {
 fn changed(disk: &Disk<'_>, action: &str, path: &str) -> Result<&'static str, Fault> {
     let held = read_snapshot(disk.alloc(), &mut Counted::new(disk.bytes))?;
     match action {
-        "create" => created(disk, path, held.view_of()),
+        "create" => created(disk, path, held.replica()),
         _ => replaced(disk, path, held.replica()),
     }
 }
 
-fn created(disk: &Disk<'_>, path: &str, held: &Replica<GapSet>) -> Result<&'static str, Fault> {
+fn created(disk: &Disk<'_>, path: &str, held: Replica<GapSet>) -> Result<&'static str, Fault> {
     let _file = CreatedFile::create(disk, path, held)?;
     Ok("made")
 }

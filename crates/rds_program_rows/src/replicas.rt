@@ -22,7 +22,7 @@ pub fn read(rt: &HostRuntime) -> Result<ReplicaFile<'static, GapSet>, Fault> {
 
 /// `keep NAME`: keeps the replica in another file.
 pub fn keep(rt: &HostRuntime, name: &str, kept: &Kept<GapSet>) -> Result<String, Fault> {
-    let made = CreatedFile::create(rt, name, kept.view_of())?;
+    let made = CreatedFile::create(rt, name, kept.view_of().copy(rt.alloc())?)?;
     components_told(rt.alloc(), made.kept())
 }
 

@@ -16,10 +16,9 @@ use crate::coming::Coming;
 use crate::content::{Content, Expected};
 use crate::kinds::{ByeCode, MessageKind};
 use crate::talk::{Side, format_with};
-use rds_codec::Format;
+use rds_codec::{Format, UnfinishedAnswer, UnfinishedDigest, UnfinishedHello};
 use rds_dots::DotSet;
 use rds_names::Fault;
-use rds_text_feeds::{UnfinishedAnswer, UnfinishedDigest, UnfinishedHello};
 use std::alloc::Global;
 use std::marker::Model;
 

@@ -1,15 +1,15 @@
 //! Rows on texts whose bytes come in pieces.
 use crate::forms::REPLICAS;
 use rds_codec::{
-    Format, encode_answer, encode_answer_in, encode_certificate, encode_digest, encode_hello,
-    encode_snapshot_in, encode_state, encode_state_in,
+    Format, UnfinishedAnswer, UnfinishedDigest, UnfinishedSnapshot, UnfinishedState, encode_answer,
+    encode_answer_in, encode_certificate, encode_digest, encode_hello, encode_snapshot_in,
+    encode_state, encode_state_in,
 };
 use rds_dots::DotSet;
 use rds_keep::{Fed, Feed};
 use rds_names::Fault;
 use rds_rows::told::{fault_text, named, said};
 use rds_rows::words::{bytes_of, cut};
-use rds_text_feeds::{UnfinishedAnswer, UnfinishedDigest, UnfinishedSnapshot, UnfinishedState};
 use std::alloc::Global;
 
 /// `cuts FORM DIGITS`: of how many places at which the text is cut in two the pieces are read as it, and of how many.

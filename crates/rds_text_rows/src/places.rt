@@ -80,7 +80,7 @@ fn snapshot<S: DotSet>(
     place: &mut Counted<Sheet<'_>>,
 ) -> Result<usize, Fault> {
     let replica: Replica<S> = decode_snapshot(alloc, held)?;
-    let kept = write_snapshot(alloc, &replica, place)?;
+    let kept = write_snapshot(alloc, replica, place)?;
     Ok(encode_snapshot(alloc, kept.view_of())?.len())
 }
 
@@ -93,7 +93,7 @@ fn keep<S: DotSet>(
         return Err(Fault::OutOfTurn);
     }
     let replica: Replica<S> = decode_snapshot(alloc, held)?;
-    let kept = keep_in(alloc, &replica, place)?.replica();
+    let kept = keep_in(alloc, replica, place)?.replica();
     Ok(encode_snapshot(alloc, &kept)?.len())
 }
 

@@ -261,7 +261,7 @@ pub fn keep<S: DotSet>(alloc: Global, replica: &Replica<S>) -> Result<Kept<S>, F
         (λ fault. (fault ≡ Memory) ⊎ ((fault ≡ TooLong) × (LIMIT < length (snapshot_text replica.now)))) }
 {
     let mut file = Counted::new(Vec::<u8>::new(alloc));
-    match write_snapshot(alloc, replica, &mut file) {
+    match write_snapshot(alloc, replica.copy(alloc)?, &mut file) {
         Ok(kept) => Ok(kept),
         Err(Fault::Device) => Err(Fault::Memory),
         Err(fault) => Err(fault),

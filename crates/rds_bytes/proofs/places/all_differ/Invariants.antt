@@ -1,7 +1,0 @@
-use Rattle.std.proofs.Common.{take}
-use Rattle.rds_bytes.specs.Places.{AreFound}
-use Rattle.rds_bytes.proofs.places.all_differ.Given as goal
-
--- the keys so far are found
-abbrev pub invariant-loop-number : goal.invariant-loop-number
-invariant-loop-number l = AreFound l.places (take l.number l.keys)

@@ -1,4 +1,0 @@
-pub mod Either
-pub mod Openings
-pub mod Replicas
-pub mod Tabled
