@@ -26,7 +26,7 @@ done : (g : Over) (c : In_ok-edited g) → (c.args.number < length c.self.inside
 done g c at =
     let e = c.in_ok-edited.ensures in
     edit_done (value_of c.self.inside) c.self.invariant c.args.number c.index_mut.result.now at.0 at.1 c.args.command.now c.edit_by.new.self c.in_ok-edited.edited (c.edit_by.ensures.roster, c.edit_by.ensures.own)
-    e.joined e.dot e.killed e.refusal
+    e.edited.joined e.edited.dot e.edited.killed e.edited.due
 
 pub returns-then-at-len-clause-err : goal.returns-then-at-len-clause-err
 returns-then-at-len-clause-err g c =
