@@ -1,7 +1,6 @@
 //! Lines of JSON that ask something of a group of replicas, and views as JSON. Of lines, read `line`, `verb`,
-//! `members`, `scalars`, `parts`, `edits`, `roster`, `reading`, `unnamed`, `numbers`,
-//! `owned` and `reader`, in this order; `laws` says what lines mean
-//! by how they are spelled. Of views, read `showing`, `standing` and `texts`.
+//! `members`, `scalars`, `parts`, `edits`, `roster`, `reading`, `unnamed`, `numbers`, `owned` and `reader`, in this
+//! order; `laws` says what lines mean by how they are spelled. Of views, read `showing`, `standing` and `texts`.
 #![tactic(auto)]
 
 mod edits;

@@ -30,6 +30,7 @@ pub struct LineReader {
 }
 
 impl LineReader {
+    /// No line was read yet. Takes no memory.
     pub fn new(alloc: Global) -> LineReader {
         LineReader {
             scratch: Scratch::new(alloc),
