@@ -5,6 +5,7 @@ pub mod Outcomes
 pub mod Paths
 pub mod Plain
 pub mod Proper
+pub mod ReadItems
 pub mod Sizes
 pub mod Spelled
 pub mod Understood

@@ -1,13 +1,16 @@
 //! Lines of JSON that ask something of a group of replicas, and views as JSON. Of lines, read `line`, `verb`,
-//! `members`, `scalars`, `parts`, `edits`, `roster`, `reading` and `unnamed`, in this order; `laws` says what lines mean
-//! by how they are spelled. Of views, read `showing`, `standing` and `texts`.
+//! `members`, `scalars`, `parts`, `edits`, `roster`, `reading`, `unnamed`, `numbers`, `owned` and `reader`, in this
+//! order; `laws` says what lines mean by how they are spelled. Of views, read `showing`, `standing` and `texts`.
 #![tactic(auto)]
 
 mod edits;
 mod laws;
 mod line;
 mod members;
+mod numbers;
+mod owned;
 mod parts;
+mod reader;
 mod reading;
 mod roster;
 mod scalars;
@@ -19,9 +22,8 @@ mod verb;
 
 pub use laws::lines_mean_their_spelling;
 pub use line::Line;
-pub use reading::command;
+pub use reader::LineReader;
 pub use scalars::scalar;
 pub use showing::{show, show_pretty};
 pub use standing::show_at;
 pub use texts::{show_names, show_text};
-pub use unnamed::edit;

@@ -1,8 +1,5 @@
-//! Reading a line.
-ghost use Rattle.std.specs.Prelude.{◌≡◌, ◌⊎◌, Some, None, IfErr, IfOk};
-ghost use Rattle.rds_names.specs.declared.fault.Fault.TheVariants.{BadLine, Memory};
-ghost use Rattle.serde_json.specs.Read.{read};
-ghost use Rattle.rds_json.specs.Line.{line_by, line_in, line_of};
+//! What a line asks for.
+ghost use Rattle.rds_json.specs.Line.{line_by, line_in};
 ghost use Rattle.rds_json.specs.MayGive.{MayGive};
 ghost use Rattle.serde_json.specs.View.{view};
 
@@ -16,35 +13,8 @@ use rds_names::Fault;
 use serde_json::Value;
 use std::alloc::Global;
 
-/// What a line asks for, which is an array of JSON (RFC 8259, Bray 2017): a word, and what belongs to it.
-///
-/// Refuses `BadLine` first: where the text is no JSON or nests deeper than 127, is no array, has another word, another
-/// number of members, or a member of another kind. Then the members are judged from left to right: `BadName`,
-/// `BadKey` or `BadPath`, `BadScalar`; in a roster `BadKey` for the group, `BadName`, and then `BadRoster`. Want of
-/// memory may come at any point.
-pub fn command(alloc: Global, text: &str) -> Result<Line, Fault>
-    ensures { MayGive result (line_of text.now) }
-{
-    let line = value_of(alloc, text)?;
-    line_in(alloc, &line)
-}
-
-/// The value of JSON that a text is.
-pub(crate) fn value_of(alloc: Global, text: &str) -> Result<Value, Fault>
-    ensures ok { IfOk result (λ value. read text.now ≡ Some (view value)) }
-    ensures err { IfErr result (λ fault. (fault ≡ Memory) ⊎ ((fault ≡ BadLine) × (read text.now ≡ None))) }
-{
-    match Value::from_str(alloc, text) {
-        Ok(value) => Ok(value),
-        Err(error) => Err(if error.is_memory() {
-            Fault::Memory
-        } else {
-            Fault::BadLine
-        }),
-    }
-}
-
-fn line_in(alloc: Global, line: &Value) -> Result<Line, Fault>
+/// What a line asks for, of the value that it is.
+pub(crate) fn line_in(alloc: Global, line: &Value) -> Result<Line, Fault>
     ensures { MayGive result (line_in (view line.now)) }
 {
     let word = match text_at(line, 0) {

@@ -1,11 +1,10 @@
 //! Lines that edit a replica which they don't name. Members are counted and their kinds judged first, then the members
 //! from left to right.
 ghost use Rattle.rds_json.specs.MayGive.{MayGive};
-ghost use Rattle.rds_json.specs.Unnamed.{counted_at, edit_by, edit_in, edit_of, keyed_count, pathed_value, part_at, valued_at};
+ghost use Rattle.rds_json.specs.Unnamed.{counted_at, edit_by, edit_in, keyed_count, pathed_value, part_at, valued_at};
 ghost use Rattle.serde_json.specs.View.{view};
 
 use crate::members::{member_count, number_at, text_at};
-use crate::reading::value_of;
 use crate::scalars::scalar;
 use crate::verb::{EditVerb, Verb, verb_of};
 use rds_names::{Fault, Key, Path, Scalar};
@@ -27,17 +26,8 @@ pub struct CountedAt {
     pub by: u64,
 }
 
-/// The edit that a line asks for, which is an array of JSON (RFC 8259, Bray 2017): an edit's word, and what belongs to
-/// it, without a replica's name. It is judged as [`command`](crate::command) judges a line, of which these words are
-/// the edits.
-pub fn edit(alloc: Global, text: &str) -> Result<Command, Fault>
-    ensures { MayGive result (edit_of text.now) }
-{
-    let line = value_of(alloc, text)?;
-    edit_in(alloc, &line)
-}
-
-fn edit_in(alloc: Global, line: &Value) -> Result<Command, Fault>
+/// The edit that a line asks for, of the value that it is.
+pub(crate) fn edit_in(alloc: Global, line: &Value) -> Result<Command, Fault>
     ensures { MayGive result (edit_in (view line.now)) }
 {
     let word = match text_at(line, 0) {

@@ -1,5 +1,5 @@
 -- Whose replica there is, and how much there is of it, as JSON.
-use Rattle.std.specs.Prelude.{◌≡◌, ℕ, ℤ, List, [], ◌++◌, codes, false, Option, Some, None, count_by, length, slice_get, unwrap_or}
+use Rattle.std.specs.Prelude.{◌≡◌, ℕ, List, [], ◌++◌, codes, false, Some, count_by, length, slice_get, unwrap_or}
 use Rattle.std.specs.FinMap as map
 use Rattle.std.specs.Fmt.{decimal}
 use Rattle.serde_json.specs.Data.{string}
@@ -10,7 +10,6 @@ use Rattle.rds_state.specs.Fits.{ReplicaValue}
 use Rattle.rds_state.specs.Value.{size}
 use Rattle.rds_codec.specs.StateTexts.{snapshot_text}
 use Rattle.rds_tree.specs.Document.{sums_of}
-use Rattle.rds_tree.specs.Shown.{Shown, shows}
 use Rattle.rds_json.specs.Texts.{texts_data}
 use Rattle.rds_output.specs.Reply.{reply_text, is_refusal}
 use Rattle.rds_output.specs.declared.reply.Reply.{Reply}
@@ -53,11 +52,3 @@ pub record TellsOverview (r : ReplicaValue) (answer : Reply) : Type 0 where
   pub are : AreAmounts r amounts
   pub told : reply_text answer ≡ overview_text r.roster r.own amounts
   pub done : is_refusal answer ≡ false
-
--- how many counters a view shows
-abbrev pub counter_count : Option (List (List ℕ × ℤ)) → ℕ
-counter_count None = 0
-counter_count (Some sums) = length sums
-
-abbrev pub sum_count : Shown → ℕ
-sum_count (shows maps regs sets counters) = counter_count counters

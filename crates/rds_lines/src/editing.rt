@@ -8,7 +8,7 @@ ghost use Rattle.rds_lines.specs.Lines.{is_empty_line, is_text_line, lines_in};
 use crate::ahead::LINE_LIMIT;
 use crate::lines::split_line;
 use rds_dots::DotSet;
-use rds_json::edit;
+use rds_json::LineReader;
 use rds_keep::Counted;
 use rds_names::Fault;
 use rds_output::Reply;
@@ -27,6 +27,7 @@ pub fn edit_lines<S: DotSet>(
     ensures edited { IfOk result (λ answers. EditsLines (lines_in input.now) index.old index.new answers.items) }
     ensures memory { IfErr result (λ fault. fault ≡ Memory) }
 {
+    let mut reader = LineReader::new(alloc);
     let mut answers = Vec::new(alloc);
     let mut rest = input;
     let mut count: u64 = 0;
@@ -36,7 +37,7 @@ pub fn edit_lines<S: DotSet>(
         }
         let (bytes, later) = split_line(rest);
         count += 1;
-        answer_next(alloc, index, count, bytes, &mut answers)?;
+        answer_next(alloc, &mut reader, index, count, bytes, &mut answers)?;
         rest = later;
     }
 }
@@ -44,6 +45,7 @@ pub fn edit_lines<S: DotSet>(
 // Edits a replica as a line says, and adds its answer, unless the line is empty.
 fn answer_next<S: DotSet>(
     alloc: Global,
+    reader: &mut LineReader,
     index: &mut Index<S>,
     line: u64,
     bytes: &[u8],
@@ -56,7 +58,7 @@ fn answer_next<S: DotSet>(
     if is_empty_line(bytes) {
         return Ok(());
     }
-    answers.push(answer_to(alloc, index, line, bytes))?;
+    answers.push(answer_to(alloc, reader, index, line, bytes))?;
     Ok(())
 }
 
@@ -71,21 +73,32 @@ fn is_empty_line(bytes: &[u8]) -> bool
 }
 
 // Edits a replica as a line says, and answers it.
-fn answer_to<S: DotSet>(alloc: Global, index: &mut Index<S>, line: u64, bytes: &[u8]) -> Reply
+fn answer_to<S: DotSet>(
+    alloc: Global,
+    reader: &mut LineReader,
+    index: &mut Index<S>,
+    line: u64,
+    bytes: &[u8],
+) -> Reply
     ensures { MeetsEdit line bytes.now index.old result index.new }
 {
-    match edited(alloc, index, bytes) {
+    match edited(alloc, reader, index, bytes) {
         Ok(answer) => answer,
         Err(fault) => Reply::RefusedLine { line, fault },
     }
 }
 
 // Edits a replica as a line says, or refuses it.
-fn edited<S: DotSet>(alloc: Global, index: &mut Index<S>, line: &[u8]) -> Result<Reply, Fault>
+fn edited<S: DotSet>(
+    alloc: Global,
+    reader: &mut LineReader,
+    index: &mut Index<S>,
+    line: &[u8],
+) -> Result<Reply, Fault>
     ensures { (number : ℕ) → MeetsEdit number line.now index.old (line_reply_of number result) index.new }
 {
     let text = text_of(line)?;
-    let command = edit(alloc, text)?;
+    let command = reader.edit(alloc, text)?;
     let edited = index.edit(command)?;
     Ok(Reply::of_edit(index.replica().roster(), &edited))
 }

@@ -1,21 +1,22 @@
 //! Whose replica there is, and how much there is of it.
 ghost use Rattle.std.specs.Prelude.{◌≡◌, IfErr, IfOk, length, string_bytes};
+ghost use Rattle.std.specs.Option.{option_copied};
 ghost use Rattle.serde_json.specs.Data.{string};
 ghost use Rattle.serde_json.specs.Written.{compact_text};
 ghost use Rattle.rds_names.specs.declared.fault.Fault.TheVariants.{Memory};
-ghost use Rattle.rds_tree.specs.Document.{sums_of};
-ghost use Rattle.rds_tree.specs.Shown.{shown_view};
-ghost use Rattle.rds_lines.specs.Overview.{AreAmounts, TellsOverview, dead_count, much_text, overview_text, own_name, sum_count};
+ghost use Rattle.rds_tree.specs.Distinct.{is_last};
+ghost use Rattle.rds_tree.specs.Document.{key_cmp, sums_of};
+ghost use Rattle.rds_lines.specs.Overview.{AreAmounts, TellsOverview, dead_count, much_text, overview_text, own_name};
 
 use rds_codec::snapshot_length;
+use rds_counts::Counts;
 use rds_dots::DotSet;
 use rds_json::{show_names, show_text};
 use rds_keep::Kept;
 use rds_life::Lives;
-use rds_names::{Fault, Path};
+use rds_names::{Fault, Key};
 use rds_output::Reply;
-use rds_state::{Replica, State};
-use rds_tree::{View, view};
+use rds_state::Replica;
 use std::alloc::Global;
 
 /// How much there is of a replica.
@@ -49,7 +50,7 @@ fn amounts_of<S: DotSet>(alloc: Global, replica: &Replica<S>) -> Result<Amounts,
     Ok(Amounts {
         live,
         dead: dead_count(state.lives()),
-        counters: counter_count(alloc, state)?,
+        counters: counter_count(state.counts()),
         components: state.components(),
         bytes: snapshot_length(alloc, replica)?,
     })
@@ -63,24 +64,29 @@ fn dead_count<S: DotSet>(lives: &Lives<S>) -> u64
     lives.seen().count().saturating_sub(live)
 }
 
-// How many counters there are.
-fn counter_count<S: DotSet>(alloc: Global, state: &State<S>) -> Result<u64, Fault>
-    ensures count { IfOk result (λ count. count ≡ length (sums_of state.now.counts)) }
-    ensures memory { IfErr result (λ fault. fault ≡ Memory) }
+// How many counters there are of which some number is above 0.
+fn counter_count(counts: &Counts) -> u64
+    ensures { result ≡ length (sums_of counts.now) }
 {
-    let counters = State::from_parts(Lives::<S>::empty(alloc), state.counts().copy(alloc)?);
-    let root = Path::new(alloc, "")?;
-    let shape = view(alloc, &counters, &root)?;
-    Ok(sum_count(&shape))
+    let rows = counts.rows();
+    let mut count: u64 = 0;
+    let mut last: Option<&Key> = None;
+    for row in rows {
+        if !is_last(last, &row.key) {
+            count += 1;
+            last = Some(&row.key);
+        }
+    }
+    count
 }
 
-// How many counters a view shows.
-fn sum_count(shape: &View) -> u64
-    ensures { result ≡ sum_count (shown_view shape.now) }
+// Whether the key is that of the row before.
+fn is_last(last: Option<&Key>, key: &Key) -> bool
+    ensures { result ≡ is_last key_cmp (option_copied last.entry) key.now }
 {
-    match &shape.counters {
-        Some(sums) => sums.rows().len() as u64,
-        None => 0,
+    match last {
+        Some(last) => last.cmp(key).is_eq(),
+        None => false,
     }
 }
 

@@ -48,7 +48,7 @@ pub fn run_sim<R: Read, W: Write>(
     ensures status { result ≤ 1 }
     ensures broken { (writer.new.failed ≡ writer.old.failed) ⊎ (result ≡ 1) }
 {
-    answer_lines(alloc, &mut Simulation::new(), reader, writer)
+    answer_lines(alloc, &mut Simulation::new(alloc), reader, writer)
 }
 
 /// Writes the hex digits of what the two snapshots are joined to whose digits the reader holds as two lines, or the

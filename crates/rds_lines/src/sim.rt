@@ -12,7 +12,7 @@ use crate::answering::Answers;
 use crate::views::{Layout, printed};
 use rds_dots::DotSet;
 use rds_gaps::GapSet;
-use rds_json::{Line, command};
+use rds_json::{Line, LineReader};
 use rds_names::{Fault, Name, Path, Roster};
 use rds_output::Reply;
 use rds_world::{Done, Event, World};
@@ -22,6 +22,7 @@ use std::alloc::Global;
 #[derive(Drop)]
 pub struct Simulation {
     world: Option<World<GapSet>>,
+    reader: LineReader,
 }
 
 // What a line asks of replicas that are there.
@@ -35,10 +36,13 @@ enum Request {
 
 impl Simulation {
     /// No line has named a group yet.
-    pub fn new() -> Simulation
+    pub fn new(alloc: Global) -> Simulation
         ensures { result.world ≡ None }
     {
-        Simulation { world: None }
+        Simulation {
+            world: None,
+            reader: LineReader::new(alloc),
+        }
     }
 
     // Answers a line, or refuses it.
@@ -47,7 +51,7 @@ impl Simulation {
             → (next : Option Group) × IsGroup self.new.world next × MeetsBytes now bytes (reply_of result) next }
     {
         let text = line?;
-        let line = command(alloc, text.as_str())?;
+        let line = self.reader.command(alloc, text.as_str())?;
         self.meet(alloc, line)
     }
 

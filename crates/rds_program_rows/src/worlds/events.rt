@@ -1,5 +1,5 @@
 //! Events as words.
-use rds_json::{Line, command};
+use rds_json::{Line, LineReader};
 use rds_names::{Fault, Name};
 use rds_rows::words::{first, number, small};
 use rds_state::Command;
@@ -24,7 +24,7 @@ pub fn event(alloc: Global, words: &str) -> Result<Event, Fault> {
 fn edit(alloc: Global, words: &str) -> Result<Event, Fault> {
     let (replica, line) = first(words);
     let replica = small(replica)?;
-    let command = command_in(command(alloc, line)?)?;
+    let command = command_in(LineReader::new(alloc).command(alloc, line)?)?;
     Ok(Event::Edit(replica, command))
 }
 
