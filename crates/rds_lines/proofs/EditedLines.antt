@@ -1,5 +1,5 @@
 -- Lines that edit one replica, one after the other.
-use Rattle.std.proofs.Common.{◌≡◌, ◌∙◌, ◌<◌, ◌≤◌, ◌+◌, ◌++◌, ◌||◌, ℕ, Bool, false, true, List, [], ◌∷◌, length, take, get_or, eqb, arith, Option, None, Result, Ok, Err, cond, refl, sym, ap, subst, inl, inr, append-nil, append_assoc}
+use Rattle.std.proofs.Common.{◌≡◌, ◌∙◌, ◌<◌, ◌≤◌, ◌+◌, ◌++◌, ◌||◌, ℕ, suc, Bool, false, true, List, [], ◌∷◌, length, take, get_or, eqb, arith, Option, None, Result, Ok, Err, cond, refl, sym, ap, subst, inl, inr, append-nil, append_assoc}
 use Rattle.std.specs.Io.KnownBytes.{Appends}
 use Rattle.std.proofs.KnownBytes.{Appends-nil, Appends-trans}
 use Rattle.std.specs.List.{list_any}
@@ -62,6 +62,10 @@ none_left xs b e t = no_length xs (eqb-true (length xs) 0 (sym e ∙ t))
 pub some_left : (xs : List ℕ) (b : Bool) → b ≡ eqb (length xs) 0 → b ≡ false → 0 < length xs
 some_left [] b e f = let bad : true ≡ false = sym e ∙ f in absurd cc
 some_left (x ∷ xs) b e f = omega arith
+
+-- a line is left, and those after it
+pub line_more : (rest later : List ℕ) → 0 < length rest → later ≡ after_line rest → length (lines_in rest) ≡ suc (length (lines_in later))
+line_more rest later some is = ap length (lines_first rest some) ∙ ap (λ (l : List ℕ). suc (length (lines_in l))) (sym is)
 
 -- ---- one line
 

@@ -46,9 +46,13 @@ much_text a =
 abbrev pub overview_text : RosterValue → ℕ → Amounts → List ℕ
 overview_text roster own amounts = whose_text roster own ++ much_text amounts
 
--- that of a replica
-pub record TellsOverview (r : ReplicaValue) (answer : Reply) : Type 0 where
+-- the text says that of a replica
+pub record IsOverview (r : ReplicaValue) (text : List ℕ) : Type 0 where
   pub amounts : Amounts
   pub are : AreAmounts r amounts
-  pub told : reply_text answer ≡ overview_text r.roster r.own amounts
+  pub told : text ≡ overview_text r.roster r.own amounts
+
+-- the answer tells it
+pub record TellsOverview (r : ReplicaValue) (answer : Reply) : Type 0 where
+  pub overview : IsOverview r (reply_text answer)
   pub done : is_refusal answer ≡ false

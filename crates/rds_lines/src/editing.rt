@@ -1,5 +1,5 @@
 //! Lines that edit one replica, one after the other.
-ghost use Rattle.std.specs.Prelude.{◌≡◌, ◌≢◌, ◌≤◌, ◌⊎◌, ℕ, true, false, Ok, IfErr, IfOk, None, OnErr, OnOk, MatchResult};
+ghost use Rattle.std.specs.Prelude.{◌≡◌, ◌+◌, ◌<◌, ◌≤◌, ◌⊎◌, ℕ, true, false, length, vec_capacity, vec_len, IfErr, IfOk, OnErr};
 ghost use Rattle.rds_names.specs.declared.fault.Fault.TheVariants.{BadLine, Memory};
 ghost use Rattle.rds_keep.specs.Counted.{HasFailed};
 ghost use Rattle.rds_lines.specs.Editing.{AnswersNext, EditsLines, IsEdited, MeetsEdit, WritesAll, edit_of_bytes, edit_refusal, line_reply_of};
@@ -18,7 +18,7 @@ use std::io::Write;
 
 /// Edits a replica as the lines of an input say, one after the other, and answers each but the empty ones. A line that
 /// is refused changes nothing, and the next is gone on with; its answer has its number, from 1 over all lines. Where
-/// there is no memory for the answers it is `Memory`, and the replica is as the lines so far left it.
+/// there is no memory for the answers it is `Memory`, before any line is read.
 pub fn edit_lines<S: DotSet>(
     alloc: Global,
     index: &mut Index<S>,
@@ -26,9 +26,10 @@ pub fn edit_lines<S: DotSet>(
 ) -> Result<Vec<Reply>, Fault>
     ensures edited { IfOk result (λ answers. EditsLines (lines_in input.now) index.old index.new answers.items) }
     ensures memory { IfErr result (λ fault. fault ≡ Memory) }
+    ensures err { OnErr result (index.new ≡ index.old) }
 {
     let mut reader = LineReader::new(alloc);
-    let mut answers = Vec::new(alloc);
+    let mut answers = Vec::with_capacity(alloc, count_lines(input))?;
     let mut rest = input;
     let mut count: u64 = 0;
     'lines: loop {
@@ -37,12 +38,28 @@ pub fn edit_lines<S: DotSet>(
         }
         let (bytes, later) = split_line(rest);
         count += 1;
-        answer_next(alloc, &mut reader, index, count, bytes, &mut answers)?;
+        answer_next(alloc, &mut reader, index, count, bytes, &mut answers);
         rest = later;
     }
 }
 
-// Edits a replica as a line says, and adds its answer, unless the line is empty.
+// How many lines an input has.
+fn count_lines(input: &[u8]) -> usize
+    ensures { result ≡ length (lines_in input.now) }
+{
+    let mut rest = input;
+    let mut lines = 0;
+    'lines: loop {
+        if rest.is_empty() {
+            return lines;
+        }
+        let (_line, later) = split_line(rest);
+        lines += 1;
+        rest = later;
+    }
+}
+
+// Edits a replica as a line says, and adds its answer, for which there is room, unless the line is empty.
 fn answer_next<S: DotSet>(
     alloc: Global,
     reader: &mut LineReader,
@@ -50,16 +67,15 @@ fn answer_next<S: DotSet>(
     line: u64,
     bytes: &[u8],
     answers: &mut Vec<Reply>,
-) -> Result<(), Fault>
-    ensures answered { OnOk result
-        (AnswersNext line bytes.now index.old index.new answers.old.items answers.new.items) }
-    ensures memory { IfErr result (λ fault. fault ≡ Memory) }
+)
+    requires { vec_len answers.old < vec_capacity answers.old }
+    ensures answered { AnswersNext line bytes.now index.old index.new answers.old.items answers.new.items }
+    ensures room { vec_capacity answers.new ≡ vec_capacity answers.old }
+    ensures one { vec_len answers.new ≤ vec_len answers.old + 1 }
 {
-    if is_empty_line(bytes) {
-        return Ok(());
+    if !is_empty_line(bytes) {
+        answers.push_reserved(answer_to(alloc, reader, index, line, bytes));
     }
-    answers.push(answer_to(alloc, reader, index, line, bytes))?;
-    Ok(())
 }
 
 // Whether a line has no byte, or but the carriage return of its end.

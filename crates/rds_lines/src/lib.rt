@@ -21,7 +21,7 @@ pub use answering::{Answers, answer_lines};
 pub use editing::{edit_lines, write_replies};
 pub use join::join_is_known;
 pub use laws::sim_shows_updates;
-pub use overview::describe;
+pub use overview::{describe, overview_json};
 pub use place::place_of;
 pub use run::{run_join, run_sim};
 pub use views::{Layout, shown, shown_at};

@@ -6,7 +6,7 @@ ghost use Rattle.serde_json.specs.Written.{compact_text};
 ghost use Rattle.rds_names.specs.declared.fault.Fault.TheVariants.{Memory};
 ghost use Rattle.rds_tree.specs.Distinct.{is_last};
 ghost use Rattle.rds_tree.specs.Document.{key_cmp, sums_of};
-ghost use Rattle.rds_lines.specs.Overview.{AreAmounts, TellsOverview, dead_count, much_text, overview_text, own_name};
+ghost use Rattle.rds_lines.specs.Overview.{AreAmounts, IsOverview, TellsOverview, dead_count, much_text, overview_text, own_name};
 
 use rds_codec::snapshot_length;
 use rds_counts::Counts;
@@ -29,15 +29,22 @@ pub struct Amounts {
     bytes: u128,
 }
 
-/// Tells whose replica this is and how much there is of it: its live entries, dots of dead ones, counters and
-/// components, and the bytes of its snapshot in format 2, which is what is written.
+/// Tells whose replica this is and how much there is of it, as `overview_json` does.
 pub fn describe<S: DotSet>(alloc: Global, kept: &Kept<S>) -> Result<Reply, Fault>
     ensures told { IfOk result (TellsOverview kept.now) }
     ensures memory { IfErr result (λ fault. fault ≡ Memory) }
 {
-    let replica = kept.view_of();
+    Ok(Reply::Shown(overview_json(alloc, kept.view_of())?))
+}
+
+/// Whose replica this is and how much there is of it, as JSON: its live entries, dots of dead ones, counters and
+/// components, and the bytes of its snapshot in format 2, which is what is written.
+pub fn overview_json<S: DotSet>(alloc: Global, replica: &Replica<S>) -> Result<String, Fault>
+    ensures told { IfOk result (λ text. IsOverview replica.now (string_bytes text)) }
+    ensures memory { IfErr result (λ fault. fault ≡ Memory) }
+{
     let amounts = amounts_of(alloc, replica)?;
-    Ok(Reply::Shown(overview_line(alloc, replica, amounts)?))
+    overview_line(alloc, replica, amounts)
 }
 
 // How much there is of a replica.

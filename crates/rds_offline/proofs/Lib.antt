@@ -1,3 +1,3 @@
 mod Copied
-mod Lettered
+pub mod Lettered
 mod NextReplicas

@@ -19,4 +19,4 @@ pub use questions::{Question, decode_question, encode_question};
 pub use receiving::{Received, receive};
 pub use responding::respond;
 pub use responses::{Response, decode_response};
-pub use taking::take_response;
+pub use taking::{judge_held, take_response};

@@ -90,8 +90,9 @@ fn is_replica_of<S: DotSet>(question: &Question<S>, held: &Replica<S>) -> bool
     held.own() == question.hello.own && question.hello.roster.meets(held.roster())
 }
 
-/// Whether the replica is the one that asked, and has all that it had then.
-fn judge_held<S: DotSet>(
+/// Whether the replica is the one that asked, and has all that it had then. Refuses as [`take_response`] does before it
+/// takes anything (`WrongAsker`, `OwnAhead`), or where memory runs out.
+pub fn judge_held<S: DotSet>(
     alloc: Global,
     question: &Question<S>,
     held: &Replica<S>,
