@@ -1,0 +1,4 @@
+pub mod Documents
+pub mod Edits
+pub mod Looks
+pub mod Meetings

@@ -1,0 +1,53 @@
+-- What documents answer one another, and take.
+use Rattle.std.specs.Prelude.{◌≡◌, ◌⊎◌, ◌≤◌, ℕ, List, length, Result, Ok, Err}
+use Rattle.std.specs.Global.{Vec}
+use Rattle.rds_codec.specs.DecodedSnapshots.{DecodesSnapshot}
+use Rattle.rds_codec.specs.Decoding.{Decodes, IsTextOf}
+use Rattle.rds_codec.specs.declared.limits.TheConstants.{LIMIT}
+use Rattle.rds_names.specs.declared.fault.Fault.{Fault}
+use Rattle.rds_offline.specs.Letters.{RefusesBytes}
+use Rattle.rds_offline.specs.Merging.{CountsLacking, IsMerged, RefusesMerge}
+use Rattle.rds_questions.specs.Questions.{QuestionValue, question_kind}
+use Rattle.rds_questions.specs.Receiving.{IsReceivedFrom, ReceivedValue}
+use Rattle.rds_questions.specs.Responding.{RespondGives}
+use Rattle.rds_questions.specs.Taking.{TakesReceived}
+use Rattle.rds_state.specs.Fits.{ReplicaValue}
+
+-- the bytes are the text of a question within the limit, and this is what a replica responds to it
+pub record RespondsTo (question : List ℕ) (held : ReplicaValue) (result : Result (Vec ℕ) Fault) : Type 0 where
+  pub asked : QuestionValue
+  pub within : length question ≤ LIMIT
+  pub is_question : IsTextOf question_kind question asked
+  pub responds : RespondGives asked held result
+
+-- what a replica answers to bytes: its response, or that they are no question
+abbrev pub MayAnswer : List ℕ → ReplicaValue → Result (Vec ℕ) Fault → Type 0
+MayAnswer question held (Ok bytes) = RespondsTo question held (Ok bytes)
+MayAnswer question held (Err fault) = Decodes question_kind question (Err fault) ⊎ RespondsTo question held (Err fault)
+
+-- the replica doesn't take what a response to a question brought
+pub record RefusesReceived (question answer : List ℕ) (before : ReplicaValue) (fault : Fault) : Type 0 where
+  pub asked : QuestionValue
+  pub is_question : IsTextOf question_kind question asked
+  pub received : ReceivedValue
+  pub is_received : IsReceivedFrom asked answer received
+  pub why : TakesReceived asked before received (Err fault)
+
+-- why no answer is taken: the bytes are no question, or bring nothing for it, or the replica doesn't take it
+abbrev pub RefusesTaking : List ℕ → List ℕ → ReplicaValue → Fault → Type 0
+RefusesTaking question answer before fault =
+    Decodes question_kind question (Err fault)
+    ⊎ (RefusesBytes question answer fault ⊎ RefusesReceived question answer before fault)
+
+-- all that the replica of a snapshot has seen was joined, of which so many components were lacking
+pub record MergesSnapshot (snapshot : List ℕ) (before after : ReplicaValue) (components : ℕ) : Type 0 where
+  pub source : ReplicaValue
+  pub decoded : DecodesSnapshot snapshot (Ok source)
+  pub merged : IsMerged source before after
+  pub counted : CountsLacking source before components
+
+-- why a snapshot isn't merged: the bytes are none, or the replica doesn't take its state
+abbrev pub RefusesSnapshot : List ℕ → ReplicaValue → Fault → Type 0
+RefusesSnapshot snapshot before fault =
+    DecodesSnapshot snapshot (Err fault)
+    ⊎ ((source : ReplicaValue) × DecodesSnapshot snapshot (Ok source) × RefusesMerge source before fault)

@@ -1,0 +1,22 @@
+//! A replica of a document in a program: made or opened, edited, looked at, met with others, and kept in a file. Read
+//! `document` first, then `editing`, `looking`, `meeting` and `files`; `answers` has the lines that edits are answered,
+//! and `threads` says that a document may move to another thread.
+#![tactic(auto)]
+
+mod answers;
+mod document;
+mod editing;
+mod files;
+mod looking;
+mod meeting;
+mod threads;
+
+pub use answers::answers_text;
+pub use document::Document;
+pub use files::{DocumentFile, create_file};
+pub use rds_gaps::GapSet;
+pub use rds_names::{Fault, Key, Name, Path, Roster, Scalar};
+pub use rds_output::Reply;
+pub use rds_state::{Command, Edited, Replica};
+pub use rds_tree::View;
+pub use threads::sent_document;

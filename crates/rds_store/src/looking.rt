@@ -1,0 +1,70 @@
+//! What is told of a document.
+ghost use Rattle.std.specs.Prelude.{◌≡◌, ◌⊎◌, IfOk, IfErr, string_bytes};
+ghost use Rattle.rds_lines.specs.Overview.{IsOverview};
+ghost use Rattle.rds_listing.specs.Conflicts.{conflicts_text};
+ghost use Rattle.rds_listing.specs.Dump.{dump_text};
+ghost use Rattle.rds_names.specs.declared.fault.Fault.TheVariants.{Memory};
+ghost use Rattle.rds_store.specs.Looks.{IsValueText, MayShow, MayTell, RefusesPlace, told_at, view_text};
+
+use crate::document::Document;
+use rds_json::{show, show_at};
+use rds_lines::{overview_json, place_of};
+use rds_listing::{conflicts, dump};
+use rds_names::{Fault, Path};
+use rds_tree::View;
+
+impl Document {
+    /// What the document shows at a path, as `a/b/c`; the empty text is the root. A text that is no path is refused
+    /// (`BadPath`, `BadKey`).
+    pub fn view(&self, path: &str) -> Result<View, Fault>
+        ensures { MayShow self.now.state path.now result }
+    {
+        self.index.view(&Path::new(self.alloc, path)?)
+    }
+
+    /// The same as compact JSON, as [`show`] writes a view.
+    pub fn view_json(&self, path: &str) -> Result<String, Fault>
+        ensures { MayTell result (told_at view_text self.now.state path.now) }
+    {
+        let view = self.view(path)?;
+        show(self.alloc, &view)
+    }
+
+    /// What stands at a path, as compact JSON: the sum of its counter or null, the values of its register, and those of
+    /// its set. The root is refused (`BadPath`), and a text that is no path (`BadPath`, `BadKey`).
+    pub fn value_json(&self, path: &str) -> Result<String, Fault>
+        ensures told { IfOk result (λ text. IsValueText self.now.state path.now (string_bytes text)) }
+        ensures fault { IfErr result (λ fault. (fault ≡ Memory) ⊎ RefusesPlace path.now fault) }
+    {
+        let path = Path::new(self.alloc, path)?;
+        let (above, key) = place_of(self.alloc, &path)?;
+        let view = self.index.view(&above)?;
+        show_at(self.alloc, &view, &key)
+    }
+
+    /// The registers below a path that have more than one value, each as a line of JSON with its path from the root and
+    /// its values.
+    pub fn conflicts(&self, path: &str) -> Result<String, Fault>
+        ensures { MayTell result (told_at conflicts_text self.now.state path.now) }
+    {
+        let path = Path::new(self.alloc, path)?;
+        conflicts(self.alloc, self.index.replica().state(), &path)
+    }
+
+    /// The edits that make what the document has below a path, each as a line that `edit_line` takes.
+    pub fn dump(&self, path: &str) -> Result<String, Fault>
+        ensures { MayTell result (told_at dump_text self.now.state path.now) }
+    {
+        let path = Path::new(self.alloc, path)?;
+        dump(self.alloc, self.index.replica().state(), &path)
+    }
+
+    /// Whose replica this is and how much there is of it, as the JSON that `rds_node status` tells: group, own name and
+    /// names; live entries, dead dots, counters, components, and the bytes of the snapshot.
+    pub fn status(&self) -> Result<String, Fault>
+        ensures told { IfOk result (λ text. IsOverview self.now (string_bytes text)) }
+        ensures memory { IfErr result (λ fault. fault ≡ Memory) }
+    {
+        overview_json(self.alloc, self.index.replica())
+    }
+}
