@@ -103,13 +103,17 @@ static void open_and_free(void) {
     rds_free(&anew);
 }
 
-static void time_snapshots(long times) {
+static void merge(rds *replica) {
     uint64_t taken;
+    need(rds_merge(replica, snapshot, snapshot_length, &taken));
+}
+
+static void time_snapshots(long times) {
     need(rds_snapshot(&first, snapshot, ROOM, &snapshot_length));
     EACH("snapshot", times, snapshot_length, need(rds_snapshot(&first, snapshot, ROOM, &snapshot_length)));
     EACH("snapshot opened, and freed", times, 0, open_and_free());
-    EACH("merge of a snapshot into an empty replica", 1, 0, need(rds_merge(&second, snapshot, snapshot_length, &taken)));
-    EACH("merge of a snapshot that is there", times, 0, need(rds_merge(&second, snapshot, snapshot_length, &taken)));
+    EACH("merge of a snapshot into an empty replica", 1, 0, merge(&second));
+    EACH("merge of a snapshot that is there", times, 0, merge(&second));
 }
 
 static void time_meetings(long times) {

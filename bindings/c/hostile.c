@@ -7,17 +7,25 @@
  *   - the status is one of the header's, and want of memory comes only where an allocation failed;
  *   - after a refusal, and after a call that only looks, the snapshot is what it was, byte by byte;
  *   - bytes that were given fit into the room, and those that weren't didn't.
- * Now and then a replica's view is compared with that of its snapshot, opened anew.
+ * After a file was kept it has the snapshot's bytes; where keeping failed it has them or is as it was. Now and then a
+ * replica's view is compared with that of its snapshot, opened anew.
  *
- * With FAIL, allocations of the library fail by chance: of each call's, once in a number between 2 and FAIL. For that
- * it is linked with -Wl,--wrap=malloc,--wrap=calloc,--wrap=realloc. */
+ * With FAIL, what the library asks for fails by chance: of a call's allocations and system calls, one in a number from
+ * 2 to FAIL. For that it is linked with --wrap of each name below that begins with __wrap_. */
+#define _GNU_SOURCE
 #include "rds.h"
 
+#include <errno.h>
+#include <fcntl.h>
+#include <stdarg.h>
 #include <stdio.h>
 #include <stdlib.h>
 #include <string.h>
+#include <sys/file.h>
+#include <sys/stat.h>
+#include <unistd.h>
 
-enum { REPLICAS = 4, KEPT = 16, ROOM = 1 << 18, STATUSES = 128, FILES = 3 };
+enum { REPLICAS = 4, KEPT = 16, ROOM = 1 << 18, STATUSES = 128 };
 
 #define ONE_OF(list) ((list)[chance(sizeof(list) / sizeof *(list))])
 
@@ -27,6 +35,7 @@ typedef struct text {
 } text;
 
 static rds_file replicas[REPLICAS];
+static const char *names[REPLICAS];
 static text kept[KEPT];
 static long statuses[STATUSES];
 static const char *call = "the start";
@@ -43,31 +52,61 @@ static uint32_t chance(size_t below) {
     return (uint32_t)((seed >> 11) % below);
 }
 
-void *__real_malloc(size_t size);
-void *__real_calloc(size_t count, size_t size);
-void *__real_realloc(void *block, size_t size);
-
-/* One allocation in so many fails; none where it is 0. */
+/* One allocation or system call in so many fails; none where it is 0. */
 static uint32_t failing;
-static long failed;
+static long starved, broken;
 
-static int fails(void) {
+static int lacks_memory(void) {
     if (failing == 0 || chance(failing) != 0)
         return 0;
-    failed++;
+    starved++;
     return 1;
 }
 
-void *__wrap_malloc(size_t size) {
-    return fails() ? NULL : __real_malloc(size);
+static int breaks(void) {
+    if (failing == 0 || chance(failing) != 0)
+        return 0;
+    broken++;
+    errno = EIO;
+    return 1;
 }
 
-void *__wrap_calloc(size_t count, size_t size) {
-    return fails() ? NULL : __real_calloc(count, size);
-}
+#define MAY_LACK(name, parameters, arguments)                                                                          \
+    void *__real_##name parameters;                                                                                    \
+    void *__wrap_##name parameters {                                                                                   \
+        return lacks_memory() ? NULL : __real_##name arguments;                                                        \
+    }
 
-void *__wrap_realloc(void *block, size_t size) {
-    return fails() ? NULL : __real_realloc(block, size);
+MAY_LACK(malloc, (size_t size), (size))
+MAY_LACK(calloc, (size_t count, size_t size), (count, size))
+MAY_LACK(realloc, (void *block, size_t size), (block, size))
+
+#define MAY_BREAK(type, name, parameters, arguments)                                                                   \
+    type __real_##name parameters;                                                                                     \
+    type __wrap_##name parameters {                                                                                    \
+        return breaks() ? -1 : __real_##name arguments;                                                                \
+    }
+
+MAY_BREAK(int, flock, (int file, int how), (file, how))
+MAY_BREAK(int, fstat, (int file, struct stat *about), (file, about))
+MAY_BREAK(int, fstatat, (int folder, const char *name, struct stat *about, int how), (folder, name, about, how))
+MAY_BREAK(int, fsync, (int file), (file))
+MAY_BREAK(int, fchmod, (int file, mode_t mode), (file, mode))
+MAY_BREAK(int, unlinkat, (int folder, const char *name, int how), (folder, name, how))
+MAY_BREAK(int, renameat, (int from, const char *name, int to, const char *other), (from, name, to, other))
+
+/* A part of what was asked for is read or written, too. */
+MAY_BREAK(ssize_t, read, (int file, void *room, size_t size), (file, room, failing && size > 1 ? size / 2 : size))
+MAY_BREAK(ssize_t, write, (int file, const void *all, size_t size), (file, all, failing && size > 1 ? size / 2 : size))
+
+int __real_openat(int folder, const char *name, int how, ...);
+
+int __wrap_openat(int folder, const char *name, int how, ...) {
+    va_list more;
+    va_start(more, how);
+    mode_t mode = how & O_CREAT ? va_arg(more, mode_t) : 0;
+    va_end(more);
+    return breaks() ? -1 : __real_openat(folder, name, how, mode);
 }
 
 /* ---- Texts ---- */
@@ -173,6 +212,15 @@ static text some_lines(void) {
         lines = more;
     }
     return lines;
+}
+
+/* The snapshot of a replica, and nothing of one that is closed. */
+static size_t snapshot_of(rds *replica, uint8_t *room) {
+    size_t length = 0;
+    uint32_t status = rds_snapshot(replica, room, ROOM, &length);
+    if (status != RDS_OK && status != RDS_CLOSED)
+        stop("there is no snapshot");
+    return status == RDS_OK ? length : 0;
 }
 
 /* ---- Calls that give bytes ---- */
@@ -286,10 +334,10 @@ static uint32_t exchange(rds_file *file) {
 }
 
 static uint32_t take(rds_file *file) {
-    text question = some_text(), answered = some_text();
+    text asked = some_text(), answered = some_text();
     uint64_t taken;
-    uint32_t status = rds_take(&file->replica, question.bytes, question.length, answered.bytes, answered.length, &taken);
-    free(question.bytes);
+    uint32_t status = rds_take(&file->replica, asked.bytes, asked.length, answered.bytes, answered.length, &taken);
+    free(asked.bytes);
     free(answered.bytes);
     return status;
 }
@@ -340,33 +388,62 @@ static uint32_t close_one(rds_file *file) {
     return RDS_OK;
 }
 
-static text some_file(void) {
+/* Opens, or makes, one of a few files, or what is none. */
+static uint32_t use_file(rds_file *file, uint32_t (*use)(rds_file *, const uint8_t *, size_t)) {
+    static const char *const files[] = {"f0", "f1", "f2"};
     static const char *const odd[] = {"", "f0.new", "no/f0", ".", "/", "f0/"};
-    char name[] = {'f', (char)('0' + chance(FILES)), 0};
-    if (chance(16) == 0)
-        return random_bytes(0);
-    const char *path = chance(8) ? name : ONE_OF(odd);
-    return copy(path, strlen(path));
+    const char *path = chance(8) ? ONE_OF(files) : ONE_OF(odd);
+    if (use == rds_make_file && chance(2))
+        remove(files[chance(3)]);
+    text given_path = copy(path, strlen(path));
+    int had = file->held != NULL;
+    uint32_t status = use(file, given_path.bytes, given_path.length);
+    if (!had && file->held != NULL)
+        names[file - replicas] = path;
+    free(given_path.bytes);
+    return status;
 }
 
 static uint32_t open_file(rds_file *file) {
-    text path = some_file();
-    uint32_t status = rds_open_file(file, path.bytes, path.length);
-    free(path.bytes);
-    return status;
+    return use_file(file, rds_open_file);
 }
 
 static uint32_t make_file(rds_file *file) {
-    text path = some_file();
-    if (chance(2) && path.length == 2)
-        remove((char[]){(char)path.bytes[0], (char)path.bytes[1], 0});
-    uint32_t status = rds_make_file(file, path.bytes, path.length);
-    free(path.bytes);
-    return status;
+    return use_file(file, rds_make_file);
+}
+
+/* The bytes of the file that a replica has; none where it has none, or the file is gone. */
+static text bytes_of(const rds_file *file) {
+    const char *name = names[file - replicas];
+    FILE *in = file->held != NULL ? fopen(name, "rb") : NULL;
+    text found = block(in != NULL ? ROOM : 0);
+    if (in != NULL) {
+        found.length = fread(found.bytes, 1, ROOM, in);
+        fclose(in);
+    }
+    return found;
+}
+
+static int is_same(text one, text other) {
+    return one.length == other.length && memcmp(one.bytes, other.bytes, one.length) == 0;
 }
 
 static uint32_t keep_file(rds_file *file) {
-    return rds_keep(file);
+    static uint8_t room[ROOM];
+    uint32_t was = failing;
+    failing = 0;
+    text before = bytes_of(file), due = {room, snapshot_of(&file->replica, room)};
+    failing = was;
+    uint32_t status = rds_keep(file);
+    failing = 0;
+    text after = bytes_of(file);
+    if (status == RDS_OK && !is_same(after, due))
+        stop("the file hasn't what was kept");
+    if (status != RDS_OK && !is_same(after, before) && !(status == RDS_DEVICE && is_same(after, due)))
+        stop("the file is neither old nor new");
+    free(before.bytes);
+    free(after.bytes);
+    return status;
 }
 
 /* ---- What has to hold ---- */
@@ -384,7 +461,7 @@ static const deed DEEDS[] = {
     {"an exchange", exchange, 8, 0},          {"rds_take", take, 8, 0},      {"rds_merge", merge, 8, 0},
     {"rds_grow", grow, 2, 0},                 {"rds_new", new_one, 8, 0},    {"rds_open", open_bytes, 4, 0},
     {"rds_free or rds_close", close_one, 2, 0},
-    {"rds_open_file", open_file, 3, 0},       {"rds_make_file", make_file, 3, 0}, {"rds_keep", keep_file, 3, 1},
+    {"rds_open_file", open_file, 1, 0},       {"rds_make_file", make_file, 1, 0}, {"rds_keep", keep_file, 2, 1},
 };
 
 static const deed *some_deed(void) {
@@ -396,15 +473,6 @@ static const deed *some_deed(void) {
     while (left >= (uint32_t)found->weight)
         left -= (uint32_t)found++->weight;
     return found;
-}
-
-/* The snapshot of a replica, and nothing of one that is closed. */
-static size_t snapshot_of(rds *replica, uint8_t *room) {
-    size_t length = 0;
-    uint32_t status = rds_snapshot(replica, room, ROOM, &length);
-    if (status != RDS_OK && status != RDS_CLOSED)
-        stop("there is no snapshot");
-    return status == RDS_OK ? length : 0;
 }
 
 static void compare_views(rds *replica) {
@@ -421,12 +489,12 @@ static void compare_views(rds *replica) {
     rds_free(&anew);
 }
 
-static void judge(const deed *done, uint32_t status, int is_same, int has_failed) {
+static void judge(const deed *done, uint32_t status, int is_kept, int was_starved) {
     if (status > 27 && (status < RDS_CLOSED || status > RDS_BESIDE))
         stop("the status is none of the header's");
-    if (status == RDS_MEMORY && !has_failed)
+    if (status == RDS_MEMORY && !was_starved)
         stop("there was no memory, though no allocation failed");
-    if (!is_same && (done->only_looks || (status != RDS_OK && status != RDS_NO_ROOM)))
+    if (!is_kept && (done->only_looks || (status != RDS_OK && status != RDS_NO_ROOM)))
         stop("the replica was changed");
     statuses[status]++;
 }
@@ -435,14 +503,14 @@ static void one_step(uint32_t most) {
     static uint8_t before[ROOM], after[ROOM];
     rds_file *file = &replicas[chance(REPLICAS)];
     const deed *chosen = some_deed();
-    long failed_before = failed;
+    long starved_before = starved;
     size_t length = snapshot_of(&file->replica, before);
     call = chosen->name;
     failing = most ? 2 + chance(most - 1) : 0;
     uint32_t status = chosen->does(file);
     failing = 0;
-    int is_same = length == snapshot_of(&file->replica, after) && memcmp(before, after, length) == 0;
-    judge(chosen, status, is_same, failed != failed_before);
+    int is_kept = length == snapshot_of(&file->replica, after) && memcmp(before, after, length) == 0;
+    judge(chosen, status, is_kept, starved != starved_before);
     if (step % 64 == 0)
         compare_views(&file->replica);
 }
@@ -461,7 +529,7 @@ int main(int count, char **words) {
         rds_close(&replicas[at]);
     for (int at = 0; at < KEPT; at++)
         free(kept[at].bytes);
-    printf("%ld calls, %ld allocations failed;", steps, failed);
+    printf("%ld calls, %ld allocations and %ld system calls failed;", steps, starved, broken);
     for (int at = 0; at < STATUSES; at++)
         if (statuses[at] > 0)
             printf(" %s %ld", rds_status_name((uint32_t)at), statuses[at]);

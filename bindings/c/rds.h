@@ -31,11 +31,12 @@
  *   - Each call but rds_free, rds_close and the two that say what a status is returns one of `enum rds_status`.
  *   - After any status but RDS_OK and RDS_NO_ROOM the replica is as it was before the call (of rds_keep and
  *     rds_make_file: its document is).
- *   - *length, *edited and *taken are written at RDS_OK, and *length at RDS_NO_ROOM too. Else what they hold isn't said.
+ *   - *length, *edited and *taken are written at RDS_OK, and *length at RDS_NO_ROOM too. Else it isn't said what they
+ *     hold.
  *   - Want of memory is RDS_MEMORY. No call ends the process, prints anything, or keeps anything outside its replica.
  *
- * Threads: two replicas share nothing, so each may be used on a thread of its own. @THREADS@ Call nothing
- * from a signal handler.
+ * Threads: two replicas share nothing, so each may be used on a thread of its own. A replica stays on the thread that
+ * opened it. Call nothing from a signal handler.
  *
  * The premise: a replica is edited at one place, and what it has sent or answered is never taken back. So:
  *   - edit no copy of a file beside the original, and open no snapshot twice for editing;
@@ -109,8 +110,8 @@ enum rds_status {
     RDS_BESIDE = 72        /* the path ends in .new, as files do that are written beside others */
 };
 
-/* What an edit did: whether it added a dot (0 or 1), the dot's number (1 to 281,474,976,710,655; 0 where there is none),
- * and how many dots it killed. */
+/* What an edit did: whether it added a dot (0 or 1), the dot's number (1 to 281,474,976,710,655, or 0 where there is
+ * none), and how many dots it killed. */
 typedef struct rds_edited {
     uint64_t has_dot;
     uint64_t number;

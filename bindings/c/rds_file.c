@@ -148,7 +148,8 @@ static uint32_t is_replaceable(const struct stat *about) {
     return about->st_nlink > 1 ? RDS_LINKED : RDS_OK;
 }
 
-/* Opens and locks the file. One that is replaced meanwhile keeps the lock of whoever replaced it, so it is opened anew. */
+/* Opens and locks the file. One that is replaced meanwhile keeps the lock of whoever replaced it, so it is opened
+ * anew. */
 static uint32_t open_locked(held *it, struct stat *about) {
     for (int tries = 0; tries < TRIES; tries++) {
         it->file = openat(it->folder, it->name, O_RDONLY | O_NONBLOCK | O_NOFOLLOW | O_CLOEXEC);
@@ -276,8 +277,8 @@ static void drop_beside(const held *it, int beside) {
     errno = was;
 }
 
-/* Makes the file beside the one that is held, with the mode of that one where there is one. Until it has that, its owner
- * alone may open it. What was left behind there is removed first. */
+/* Makes the file beside the one that is held, with the mode of that one where there is one. Until it has that mode, its
+ * owner alone may open it. What was left behind there is removed first. */
 static int make_beside(const held *it, const struct stat *like) {
     if (unlinkat(it->folder, it->beside, 0) != 0 && errno != ENOENT)
         return -1;

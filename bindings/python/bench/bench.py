@@ -64,7 +64,9 @@ def meet(first: Replica, second: Replica, elements: int, times: int) -> None:
         answer = first.answer(question)
         answered = time.perf_counter()
         second.take(question, answer)
-        asking, answering, taking = asking + asked - begun, answering + answered - asked, taking + time.perf_counter() - answered
+        asking += asked - begun
+        answering += answered - asked
+        taking += time.perf_counter() - answered
     say("ask, after ten edits", asking * 1e6 / times, len(question))
     say("answer", answering * 1e6 / times, len(answer))
     say("take", taking * 1e6 / times)

@@ -7,12 +7,12 @@ const elements = Number(process.argv[2]);
 const times = elements > 10000 ? 5 : 200;
 
 const now = () => Number(process.hrtime.bigint()) / 1e3;
-const say = (what, microseconds, size) => console.log([what, microseconds.toFixed(4), ...(size ? [size] : [])].join('\t'));
+const say = (...words) => console.log(words.filter(it => it !== undefined).join('\t'));
 
 function each(what, count, call, size) {
   const begun = now();
   for (let number = 0; number < count; number++) call(number);
-  say(what, (now() - begun) / count, size);
+  say(what, ((now() - begun) / count).toFixed(4), size);
 }
 
 // A set of one register is a transaction, as an edit of rds is a dot.
@@ -38,9 +38,9 @@ function meet(first, second) {
     Y.applyUpdate(second, answer);
     asking += asked - begun, answering += answered - asked, taking += now() - answered;
   }
-  say('ask, after ten edits', asking / times, question.length);
-  say('answer', answering / times, answer.length);
-  say('take', taking / times);
+  say('ask, after ten edits', (asking / times).toFixed(4), question.length);
+  say('answer', (answering / times).toFixed(4), answer.length);
+  say('take', (taking / times).toFixed(4));
 }
 
 const first = new Y.Doc(), second = new Y.Doc();

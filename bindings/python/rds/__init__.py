@@ -1,7 +1,8 @@
 """A convergent document store, inside this process.
 
-Replicas hold a document each, are edited apart, offline if need be, and join when they meet. A document has nested maps, add-wins
-sets and multi-value registers at the leaves, and counters at the root. Replicas that have the same updates hold the same document.
+Replicas hold a document each, are edited apart, offline if need be, and join when they meet. A document has nested
+maps, add-wins sets and multi-value registers at the leaves, and counters at the root. Replicas that have the same
+updates hold the same document.
 
     >>> from rds import Replica
     >>> names = ["shop", "store"]
@@ -23,8 +24,8 @@ A replica may live in a file, which `rds_node` reads and writes too. It is locke
     ...     shop["apples/price"].register
     [3]
 
-The premise: a replica is edited at one place, and what it has sent is never taken back. So edit no copy of a file beside the
-original, and open no snapshot twice for editing.
+The premise: a replica is edited at one place, and what it has sent is never taken back. So edit no copy of a file
+beside the original, and open no snapshot twice for editing.
 """
 from ._faults import (
     Bad,

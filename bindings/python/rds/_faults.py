@@ -9,8 +9,11 @@ from ._library import DEVICE, LIB, MEMORY
 
 
 class RdsError(Exception):
-    """A call was refused. `number` is its status, of docs/FAULTS.md or of rds.h, `words` says what it is, and `given` is
-    the path, key, name or file that was given, where there was one."""
+    """A call was refused.
+
+    `number` is its status, of docs/FAULTS.md or of rds.h, and `words` says what it is. `given` is the path, key, name
+    or file that was given, where there was one.
+    """
 
     def __init__(self, number: int, words: str = "", given: Optional[str] = None) -> None:
         name, text = LIB.rds_status_name(number).decode(), LIB.rds_status_text(number).decode()

@@ -11,10 +11,10 @@ from ._faults import RdsError, WrongThread, fault, refuse
 from ._library import BAD_SCALAR, DEVICE, LAST_FAULT, LIB, MEMORY, NO_ROOM, EditedSlot, FileSlot
 
 Scalar = Union[None, bool, int, str]
-"""A value of a register or a set: None, a bool, a whole number of 64 bits with sign, or a text of at most 1,024 bytes."""
+"""A value: None, a bool, a whole number of 64 bits with sign, or a text of at most 1,024 bytes."""
 
 Edit = Union[Tuple[str, str], Tuple[str, str, Scalar]]
-"""("set", PATH, VALUE), ("add", PATH, VALUE), ("del", PATH, VALUE), ("clear", PATH), ("inc", KEY, N) or ("dec", KEY, N)."""
+"""("set", PATH, VALUE), and likewise "add" and "del"; ("clear", PATH); ("inc", KEY, N) and likewise "dec"."""
 
 _PathLike = Union[str, "os.PathLike[str]"]
 
@@ -166,8 +166,8 @@ class Place:
         return {found["path"]: found["values"] for found in map(json.loads, lines)}
 
     def dump(self) -> List[Edit]:
-        """The edits that make what stands here and below, for `Replica.edit`. Of a register with several values the last
-        one stands after that; counters are among them at the root.
+        """The edits that make what stands here and below, for `Replica.edit`. Of a register with several values the
+        last one stands after that; counters are among them at the root.
 
         >>> with Replica.new("g", ["a"], "a") as replica:
         ...     edited = replica["tags"].add("red"), replica["n"].increase(2)
@@ -184,8 +184,8 @@ class Replica:
     It is open until `close`, or the end of its `with` block. Its calls are for the thread that opened it, and others
     get `WrongThread`. A replica has no copy and isn't pickled (`TypeError`).
 
-    A replica that lives in a file is locked there while it is open. `keep` writes it; what wasn't kept is lost at `close`.
-    What goes to others (`ask`, `answer`, `bytes`) is kept first, so that nobody has what this file may lose.
+    A replica that lives in a file is locked there while it is open. `keep` writes it, and what wasn't kept is lost at
+    `close`. What goes to others (`ask`, `answer`, `bytes`) is kept first, so that nobody has what the file may lose.
     """
 
     __slots__ = ("_slot", "_at", "_room", "_length", "_edited", "_thread", "_file", "_is_ahead", "__weakref__")
@@ -202,8 +202,8 @@ class Replica:
 
     @classmethod
     def new(cls, group: str, names: Iterable[str], own: str, path: Optional[_PathLike] = None) -> Replica:
-        """An empty replica, the one named `own` of a group whose replicas have these names. Each name is for one replica,
-        for good. With a path it lives in a new file.
+        """An empty replica: the one named `own` of a group whose replicas have these names. Each name is for one
+        replica, for good. With a path it lives in a new file.
 
         >>> Replica.new("inventory", ["shop", "store"], "shop").status().names
         ['shop', 'store']
@@ -221,7 +221,7 @@ class Replica:
 
     @classmethod
     def open(cls, path: _PathLike) -> Replica:
-        """The replica in a file. Nobody is waited for: `Busy` where another has it. `OSError` where the system refuses."""
+        """The replica in a file. `Busy` where another has it: nobody is waited for. `OSError` where it can't be read."""
         self = cls()
         self._open_by(LIB.rds_open_file, path)
         return self
@@ -246,7 +246,7 @@ class Replica:
         self._file = name
 
     def keep(self) -> None:
-        """Keeps the replica in its file: all edits so far outlast a crash of the machine. `Closed` where it has none."""
+        """Keeps the replica in its file: all edits so far outlast a crash of the machine. `Closed` without a file."""
         self._here()
         self._done(LIB.rds_keep(byref(self._slot)), self._file)
         self._is_ahead = False
@@ -278,10 +278,13 @@ class Replica:
         """Raises what a status says, with the words that the library has for it."""
         if not status:
             return
-        words = ""
-        if status <= LAST_FAULT and status not in (MEMORY, DEVICE) and not LIB.rds_told(self._at, self._room, _ROOM, byref(self._length)):
-            words = string_at(self._room, self._length.value).decode()
-        refuse(status, words, given)
+        refuse(status, self._words() if status <= LAST_FAULT and status not in (MEMORY, DEVICE) else "", given)
+
+    def _words(self) -> str:
+        """The words of the last fault; none where the replica is closed."""
+        if LIB.rds_told(self._at, self._room, _ROOM, byref(self._length)):
+            return ""
+        return string_at(self._room, self._length.value).decode()
 
     def _gives(self, given: Optional[str], call: Any, *arguments: Any) -> bytes:
         """The bytes that a call gives."""
@@ -329,8 +332,8 @@ class Replica:
         return iter(self[""])
 
     def edit(self, edits: Iterable[Edit]) -> List[Union[Edited, RdsError]]:
-        """Makes many edits, one after the other, in one call. What was refused changes nothing and doesn't stop the others:
-        in its place stands why.
+        """Makes many edits, one after the other, in one call. What is refused changes nothing and doesn't stop the
+        others: in its place stands why.
 
         >>> with Replica.new("g", ["a"], "a") as replica:
         ...     for done in replica.edit([("set", "k", 1), ("set", "a//b", 2), ("inc", "n", 3)]):

@@ -38,7 +38,10 @@ def test_counters(shop: Replica) -> None:
     assert apples.counter == -2
 
 
-@pytest.mark.parametrize("value", [None, False, True, 0, -1, (1 << 63) - 1, -(1 << 63), "", "ü", "\n\"\\\0", "x" * 1024])
+VALUES = [None, False, True, 0, -1, (1 << 63) - 1, -(1 << 63), "", "ü", "\n\"\\\0", "x" * 1024]
+
+
+@pytest.mark.parametrize("value", VALUES)
 def test_values_come_back(shop: Replica, value: Scalar) -> None:
     shop["r"].set(value)
     shop["s"].add(value)
@@ -92,12 +95,14 @@ def test_status(shop: Replica) -> None:
 
 
 def test_many_edits_in_one_call(shop: Replica) -> None:
-    edits: List[Edit] = [("set", "k", 1), ("add", "a//b", 2), ("add", "s", "ü\n"), ("inc", "n", 3), ("dec", "n", 5), ("set", "k", 4)]
-    done = shop.edit([*edits, ("clear", "s"), ("dance", "k")])
+    edits: List[Edit] = [("set", "k", 1), ("add", "a//b", 2), ("add", "s", "ü\n"), ("inc", "n", 3), ("dec", "n", 5)]
+    done = shop.edit([*edits, ("set", "k", 4), ("clear", "s"), ("dance", "k")])
     refused = [it for it in done if isinstance(it, RdsError)]
     assert [type(it) for it in refused] == [BadKey, BadLine]
     assert [it.given for it in refused] == ["a//b", "k"]
-    assert done[0] == Edited(1, 0) and done[2:7] == [Edited(2, 0), Edited(None, 0), Edited(None, 0), Edited(3, 1), Edited(None, 1)]
+    counted = Edited(None, 0)
+    assert done[0] == Edited(1, 0)
+    assert done[2:7] == [Edited(2, 0), counted, counted, Edited(3, 1), Edited(None, 1)]
     assert shop["k"].register == [4] and shop["n"].counter == -2 and shop["s"].values == []
     assert shop.edit([]) == []
 
@@ -119,10 +124,12 @@ def test_long_texts_are_given_whole(shop: Replica) -> None:
         assert again["many"].values == list(range(5000))
 
 
-@pytest.mark.parametrize(
-    "path, kind",
-    [("a//b", BadKey), ("/a", BadKey), ("a/", BadKey), ("k" * 65, BadKey), ("", BadPath), ("/".join("abcdefghi"), BadPath), ("\ud800", NotUtf8)],
-)
+BAD_KEYS = ["a//b", "/a", "a/", "k" * 65]
+BAD_PATHS = ["", "/".join("abcdefghi")]
+REFUSED = [*((path, BadKey) for path in BAD_KEYS), *((path, BadPath) for path in BAD_PATHS), ("\ud800", NotUtf8)]
+
+
+@pytest.mark.parametrize("path, kind", REFUSED)
 def test_paths_that_are_none(shop: Replica, path: str, kind: Type[RdsError]) -> None:
     before = bytes(shop)
     for edit in (shop[path].set, shop[path].add, shop[path].delete):

@@ -64,7 +64,8 @@ def test_one_at_a_time(file: Path) -> None:
         with pytest.raises(Busy):
             Replica.open(file)
         code = "import sys, rds\ntry: rds.Replica.open(sys.argv[1])\nexcept rds.Busy: print('busy')"
-        assert subprocess.run([sys.executable, "-c", code, str(file)], capture_output=True, text=True).stdout == "busy\n"
+        ran = subprocess.run([sys.executable, "-c", code, str(file)], capture_output=True, text=True)
+        assert ran.stdout == "busy\n"
     Replica.open(file).close()
 
 
@@ -229,7 +230,8 @@ def test_a_replica_without_a_file(shop: Replica) -> None:
 
 
 def test_an_end_at_any_time_leaves_a_whole_file(file: Path) -> None:
-    code = "import sys, rds\nr = rds.Replica.open(sys.argv[1])\nfor n in range(10**6):\n  r['n'].set(n); r.keep(); print(n, flush=True)"
+    code = "import sys, rds\nr = rds.Replica.open(sys.argv[1])\n"
+    code += "for n in range(10**6):\n  r['n'].set(n)\n  r.keep()\n  print(n, flush=True)"
     told = -1
     for _ in range(20):
         with subprocess.Popen([sys.executable, "-c", code, str(file)], stdout=subprocess.PIPE, text=True) as child:
