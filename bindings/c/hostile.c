@@ -351,11 +351,11 @@ static uint32_t merge(rds_file *file) {
 }
 
 static uint32_t grow(rds_file *file) {
-    static const char *const names[] = {"e", "f", "a", "", "A", "-x"};
-    const char *name = ONE_OF(names);
-    text given_name = chance(20) ? copy(name, strlen(name)) : some_text();
-    uint32_t status = chance(8) ? RDS_OK : rds_grow(&file->replica, given_name.bytes, given_name.length);
-    free(given_name.bytes);
+    static const char *const new_names[] = {"e", "f", "a", "", "A", "-x"};
+    const char *words = ONE_OF(new_names);
+    text name = chance(20) ? copy(words, strlen(words)) : some_text();
+    uint32_t status = rds_grow(&file->replica, name.bytes, name.length);
+    free(name.bytes);
     return status;
 }
 
@@ -461,7 +461,7 @@ static const deed DEEDS[] = {
     {"an exchange", exchange, 8, 0},          {"rds_take", take, 8, 0},      {"rds_merge", merge, 8, 0},
     {"rds_grow", grow, 2, 0},                 {"rds_new", new_one, 8, 0},    {"rds_open", open_bytes, 4, 0},
     {"rds_free or rds_close", close_one, 2, 0},
-    {"rds_open_file", open_file, 1, 0},       {"rds_make_file", make_file, 1, 0}, {"rds_keep", keep_file, 2, 1},
+    {"rds_open_file", open_file, 4, 0},       {"rds_make_file", make_file, 4, 0}, {"rds_keep", keep_file, 6, 1},
 };
 
 static const deed *some_deed(void) {

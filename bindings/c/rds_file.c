@@ -11,7 +11,7 @@
 #include <sys/stat.h>
 #include <unistd.h>
 
-/* The most bytes of a snapshot. One byte more is read, so that rds_open sees that there are too many. */
+/* The most bytes of a snapshot. */
 #define LIMIT 268435456u
 
 /* How often a file is opened again that was replaced between its opening and its lock. */
@@ -173,9 +173,11 @@ static uint32_t sync_folder(const held *it) {
     return RDS_DEVICE;
 }
 
-/* All bytes of the file, of which more may have come than its length said. */
-static uint32_t read_all(const held *it, size_t size, uint8_t **bytes, size_t *length) {
-    size_t room = size < LIMIT ? size + 1 : LIMIT + 1, filled = 0;
+/* All bytes of the file, which is to have this many. One more is read where it has. */
+static uint32_t read_all(const held *it, off_t size, uint8_t **bytes, size_t *length) {
+    if (size > (off_t)LIMIT)
+        return RDS_TOO_LONG;
+    size_t room = (size_t)size + 1, filled = 0;
     uint8_t *made = malloc(room);
     if (made == NULL)
         return RDS_MEMORY;
@@ -199,7 +201,7 @@ static uint32_t read_all(const held *it, size_t size, uint8_t **bytes, size_t *l
 /* Reads the file into the replica. What others did to it lasts from then on, as this replica may tell of it. */
 static uint32_t read_replica(rds *replica, held *it, const struct stat *about) {
     uint8_t *bytes = NULL;
-    uint32_t status = read_all(it, about->st_size < 0 ? 0 : (size_t)about->st_size, &bytes, &it->length);
+    uint32_t status = read_all(it, about->st_size, &bytes, &it->length);
     if (status == RDS_OK && fsync(it->file) != 0)
         status = RDS_DEVICE;
     if (status == RDS_OK)

@@ -221,7 +221,7 @@ class Replica:
 
     @classmethod
     def open(cls, path: _PathLike) -> Replica:
-        """The replica in a file. `Busy` where another has it: nobody is waited for. `OSError` where it can't be read."""
+        """The replica in a file. `Busy` where another has it: nobody is waited for. `OSError` if it can't be read."""
         self = cls()
         self._open_by(LIB.rds_open_file, path)
         return self
