@@ -448,30 +448,50 @@ static uint32_t keep_file(rds_file *file) {
 
 /* ---- What has to hold ---- */
 
+enum { LOOKS = 1, OPENS = 2 };
+
 typedef struct deed {
     const char *name;
     uint32_t (*does)(rds_file *);
-    int weight;
-    int only_looks;
+    uint32_t weight;
+    int kind; /* LOOKS: it never changes the replica. OPENS: it opens one that is closed. */
 } deed;
 
 static const deed DEEDS[] = {
-    {"an edit without JSON", edit_at, 24, 0}, {"rds_edit", edit, 12, 0},     {"rds_edit_lines", edit_lines, 6, 0},
-    {"a look at a path", look, 8, 1},         {"a look", look_at_all, 8, 1}, {"rds_answer", answer, 8, 1},
-    {"an exchange", exchange, 8, 0},          {"rds_take", take, 8, 0},      {"rds_merge", merge, 8, 0},
-    {"rds_grow", grow, 2, 0},                 {"rds_new", new_one, 8, 0},    {"rds_open", open_bytes, 4, 0},
+    {"an edit without JSON", edit_at, 24, 0},
+    {"rds_edit", edit, 12, 0},
+    {"rds_edit_lines", edit_lines, 6, 0},
+    {"a look at a path", look, 8, LOOKS},
+    {"a look at all", look_at_all, 8, LOOKS},
+    {"rds_answer", answer, 8, LOOKS},
+    {"an exchange", exchange, 8, 0},
+    {"rds_take", take, 8, 0},
+    {"rds_merge", merge, 8, 0},
+    {"rds_grow", grow, 2, 0},
+    {"rds_new", new_one, 4, OPENS},
+    {"rds_open", open_bytes, 4, OPENS},
     {"rds_free or rds_close", close_one, 2, 0},
-    {"rds_open_file", open_file, 4, 0},       {"rds_make_file", make_file, 4, 0}, {"rds_keep", keep_file, 6, 1},
+    {"rds_open_file", open_file, 3, OPENS},
+    {"rds_make_file", make_file, 4, 0},
+    {"rds_keep", keep_file, 6, LOOKS},
 };
 
-static const deed *some_deed(void) {
+static const deed *any_deed(void) {
     uint32_t left = 0;
     for (size_t at = 0; at < sizeof DEEDS / sizeof *DEEDS; at++)
-        left += (uint32_t)DEEDS[at].weight;
+        left += DEEDS[at].weight;
     left = chance(left);
     const deed *found = DEEDS;
-    while (left >= (uint32_t)found->weight)
-        left -= (uint32_t)found++->weight;
+    while (left >= found->weight)
+        left -= found++->weight;
+    return found;
+}
+
+/* What is closed is mostly opened. */
+static const deed *some_deed(const rds *replica) {
+    const deed *found = any_deed();
+    while (!replica->is_open && !(found->kind & OPENS) && chance(16) != 0)
+        found = any_deed();
     return found;
 }
 
@@ -494,7 +514,7 @@ static void judge(const deed *done, uint32_t status, int is_kept, int was_starve
         stop("the status is none of the header's");
     if (status == RDS_MEMORY && !was_starved)
         stop("there was no memory, though no allocation failed");
-    if (!is_kept && (done->only_looks || (status != RDS_OK && status != RDS_NO_ROOM)))
+    if (!is_kept && ((done->kind & LOOKS) || (status != RDS_OK && status != RDS_NO_ROOM)))
         stop("the replica was changed");
     statuses[status]++;
 }
@@ -502,7 +522,7 @@ static void judge(const deed *done, uint32_t status, int is_kept, int was_starve
 static void one_step(uint32_t most) {
     static uint8_t before[ROOM], after[ROOM];
     rds_file *file = &replicas[chance(REPLICAS)];
-    const deed *chosen = some_deed();
+    const deed *chosen = some_deed(&file->replica);
     long starved_before = starved;
     size_t length = snapshot_of(&file->replica, before);
     call = chosen->name;

@@ -69,7 +69,7 @@ def test_the_program_waits_for_the_lock(file: Path) -> None:
         assert store["a"].register == [1] and store["b"].register == [2]
 
 
-def test_the_program_goes_on_while_a_file_is_only_tried(file: Path) -> None:
+def test_a_refused_opener_keeps_no_lock(file: Path) -> None:
     with Replica.open(file):
         with pytest.raises(Busy):
             Replica.open(file)
