@@ -1,0 +1,157 @@
+/* How long calls take, over a document of so many registers, m{0..99}/k{i}: bench ELEMENTS
+ * Each line: what it was, microseconds, bytes or nothing, with tabs between. */
+#define _GNU_SOURCE
+#include "rds.h"
+
+#include <stdio.h>
+#include <stdlib.h>
+#include <time.h>
+
+#define ROSTER "[\"roster\",\"g\",\"a\",\"b\"]"
+
+enum { EDITS = 2000, PATH = 64, LINE = 96 };
+
+static const size_t ROOM = (size_t)1 << 27;
+static rds first = RDS_CLOSED_REPLICA, second = RDS_CLOSED_REPLICA;
+static uint8_t *room, *snapshot, *question, *answer;
+static size_t snapshot_length;
+static long elements;
+
+static double now(void) {
+    struct timespec at;
+    clock_gettime(CLOCK_MONOTONIC, &at);
+    return (double)at.tv_sec * 1e6 + (double)at.tv_nsec / 1e3;
+}
+
+static void need(uint32_t status) {
+    if (status == RDS_OK)
+        return;
+    fprintf(stderr, "bench: %s\n", rds_status_text(status));
+    exit(1);
+}
+
+static void *memory(void) {
+    void *made = malloc(ROOM);
+    if (made == NULL)
+        exit(1);
+    return made;
+}
+
+static void say(const char *what, double microseconds, size_t bytes) {
+    printf(bytes ? "%s\t%.4f\t%zu\n" : "%s\t%.4f\n", what, microseconds, bytes);
+}
+
+/* Says how long a statement takes, which is done `times` times with i from 0 on. */
+#define EACH(what, times, bytes, statement)                                                                            \
+    do {                                                                                                               \
+        double from_ = now();                                                                                          \
+        for (long i = 0; i < (times); i++)                                                                             \
+            statement;                                                                                                 \
+        say(what, (now() - from_) / (double)(times), bytes);                                                           \
+    } while (0)
+
+static size_t path_of(long number, char *path) {
+    return (size_t)snprintf(path, PATH, "m%ld/k%ld", number % 100, number);
+}
+
+static void set(rds *replica, long number, int64_t value) {
+    char path[PATH];
+    size_t length = path_of(number, path);
+    rds_edited edited;
+    need(rds_set_int(replica, (const uint8_t *)path, length, value, &edited));
+}
+
+static void set_by_json(long number, long value) {
+    char line[LINE];
+    int length = snprintf(line, LINE, "[\"set\",\"m%ld/k%ld\",%ld]", number % 100, number, value);
+    rds_edited edited;
+    need(rds_edit(&first, (const uint8_t *)line, (size_t)length, &edited));
+}
+
+static void set_by_lines(void) {
+    static char lines[EDITS * LINE];
+    size_t length = 0, told;
+    for (long i = 0; i < EDITS; i++) {
+        long number = i * 37 % elements;
+        length += (size_t)snprintf(lines + length, LINE, "[\"set\",\"m%ld/k%ld\",%ld]\n", number % 100, number, -i);
+    }
+    double from = now();
+    need(rds_edit_lines(&first, (const uint8_t *)lines, length, room, ROOM, &told));
+    say("edit: one line of 2,000 in a call", (now() - from) / EDITS, 0);
+}
+
+static void time_edits(void) {
+    set_by_lines();
+    EACH("edit: an old register set anew, by JSON", EDITS, 0, set_by_json(i * 37 % elements, i));
+    EACH("edit: an old register set anew", EDITS, 0, set(&first, i * 37 % elements, i));
+    EACH("edit: a new register", EDITS, 0, set(&first, elements + i, i));
+    EACH("edit: a new register, by JSON", EDITS, 0, set_by_json(elements + EDITS + i, i));
+}
+
+static void time_looks(long times) {
+    size_t length = 0;
+    EACH("crossing (rds_told, without room)", 200000, 0, rds_told(&first, room, 0, &length));
+    EACH("get of one register", times, 0, need(rds_get(&first, RDS_TEXT("m5/k5"), room, ROOM, &length)));
+    EACH("view of a path that shows nothing", EDITS, 0, need(rds_view(&first, RDS_TEXT("m5/no"), room, ROOM, &length)));
+    EACH("view of one map of 100", times, 0, need(rds_view(&first, RDS_TEXT("m5"), room, ROOM, &length)));
+    EACH("view of all", times, 0, need(rds_view(&first, RDS_TEXT(""), room, ROOM, &length)));
+}
+
+static void open_and_free(void) {
+    rds anew = RDS_CLOSED_REPLICA;
+    need(rds_open(&anew, snapshot, snapshot_length));
+    rds_free(&anew);
+}
+
+static void merge(rds *replica) {
+    uint64_t taken;
+    need(rds_merge(replica, snapshot, snapshot_length, &taken));
+}
+
+static void time_snapshots(long times) {
+    need(rds_snapshot(&first, snapshot, ROOM, &snapshot_length));
+    EACH("snapshot", times, snapshot_length, need(rds_snapshot(&first, snapshot, ROOM, &snapshot_length)));
+    EACH("snapshot opened, and freed", times, 0, open_and_free());
+    EACH("merge of a snapshot into an empty replica", 1, 0, merge(&second));
+    EACH("merge of a snapshot that is there", times, 0, merge(&second));
+}
+
+static void time_meetings(long times) {
+    double asking = 0, answering = 0, taking = 0;
+    size_t asked = 0, answered = 0;
+    uint64_t taken;
+    for (long i = 0; i < times; i++) {
+        for (long edit = 0; edit < 10; edit++)
+            set(&first, (i * 10 + edit) * 91 % elements, -i);
+        double from = now();
+        need(rds_ask(&second, question, ROOM, &asked));
+        double then = now();
+        need(rds_answer(&first, question, asked, answer, ROOM, &answered));
+        double last = now();
+        need(rds_take(&second, question, asked, answer, answered, &taken));
+        asking += then - from, answering += last - then, taking += now() - last;
+    }
+    say("ask, after ten edits", asking / (double)times, asked);
+    say("answer", answering / (double)times, answered);
+    say("take", taking / (double)times, 0);
+}
+
+int main(int count, char **words) {
+    elements = count > 1 ? atol(words[1]) : 0;
+    if (elements < 1) {
+        fprintf(stderr, "bench ELEMENTS\n");
+        return 2;
+    }
+    long times = elements > 10000 ? 5 : 200;
+    room = memory(), snapshot = memory(), question = memory(), answer = memory();
+    need(rds_new(&first, RDS_TEXT(ROSTER), 0));
+    need(rds_new(&second, RDS_TEXT(ROSTER), 1));
+    EACH("edit: a new register, from an empty document on", elements, 0, set(&first, i, i));
+    time_looks(times);
+    time_snapshots(times);
+    time_meetings(times);
+    time_edits();
+    rds_free(&first);
+    rds_free(&second);
+    return 0;
+}

@@ -1,0 +1,429 @@
+"""Replicas, and places in their documents."""
+from __future__ import annotations
+
+import json
+import os
+import threading
+from ctypes import byref, c_size_t, c_uint64, create_string_buffer, string_at
+from typing import Any, Dict, Iterable, Iterator, List, NamedTuple, NoReturn, Optional, Tuple, Union, cast
+
+from ._faults import RdsError, WrongThread, fault, refuse
+from ._library import BAD_SCALAR, DEVICE, LAST_FAULT, LIB, MEMORY, NO_ROOM, EditedSlot, FileSlot
+
+Scalar = Union[None, bool, int, str]
+"""A value: None, a bool, a whole number of 64 bits with sign, or a text of at most 1,024 bytes."""
+
+Edit = Union[Tuple[str, str], Tuple[str, str, Scalar]]
+"""("set", PATH, VALUE), and likewise "add" and "del"; ("clear", PATH); ("inc", KEY, N) and likewise "dec"."""
+
+_PathLike = Union[str, "os.PathLike[str]"]
+
+_ROOM = 4096
+_MOST = (1 << 64) - 1
+
+
+class Edited(NamedTuple):
+    """What an edit did: the number of the dot that it added, if any, and how many dots it killed."""
+
+    dot: Optional[int]
+    killed: int
+
+
+class Status(NamedTuple):
+    """Whose replica it is, and how much it holds: `bytes` are those of its snapshot."""
+
+    group: str
+    own: str
+    names: List[str]
+    live: int
+    dead: int
+    counters: int
+    components: int
+    bytes: int
+
+
+def _bytes_of(text: str) -> bytes:
+    # What UTF-8 doesn't have goes in as it is, for the library to refuse.
+    return text.encode("utf-8", "surrogatepass")
+
+
+class Place:
+    """A place in a replica's document: what stands at a path, and below it."""
+
+    __slots__ = ("_replica", "_at", "path")
+
+    def __init__(self, replica: Replica, path: str) -> None:
+        self._replica = replica
+        self._at = _bytes_of(path)
+        self.path = path
+
+    def __repr__(self) -> str:
+        return f"<Place {self.path!r}>"
+
+    def __getitem__(self, path: str) -> Place:
+        """The place at a path below this one.
+
+        >>> with Replica.new("g", ["a"], "a") as replica:
+        ...     replica["apples"]["tags"]
+        <Place 'apples/tags'>
+        """
+        return Place(self._replica, f"{self.path}/{path}" if self.path else path)
+
+    def __iter__(self) -> Iterator[str]:
+        """The keys below this place, in order; at the root those of counters too.
+
+        >>> with Replica.new("g", ["a"], "a") as replica:
+        ...     edited = replica["apples/tags"].add("red"), replica["apples/price"].set(3)
+        ...     list(replica["apples"])
+        ['price', 'tags']
+        """
+        return iter(sorted({key for kind in self.show().values() for key in kind}))
+
+    def set(self, value: Scalar) -> Edited:
+        """Sets the register here: what it had is gone.
+
+        >>> with Replica.new("g", ["a"], "a") as replica:
+        ...     edited = replica["price"].set(3), replica["price"].set(4)
+        ...     edited, replica["price"].register
+        ((Edited(dot=1, killed=0), Edited(dot=2, killed=1)), [4])
+        """
+        return self._replica._edit("set", self, value)
+
+    def add(self, value: Scalar) -> Edited:
+        """Adds a value to the set here."""
+        return self._replica._edit("add", self, value)
+
+    def delete(self, value: Scalar) -> Edited:
+        """Deletes a value from the set here.
+
+        >>> with Replica.new("g", ["a"], "a") as replica:
+        ...     edited = replica["tags"].add("red"), replica["tags"].delete("red"), replica["tags"].delete("red")
+        ...     edited[1:], replica["tags"].values
+        ((Edited(dot=None, killed=1), Edited(dot=None, killed=0)), [])
+        """
+        return self._replica._edit("del", self, value)
+
+    def clear(self) -> Edited:
+        """Clears what is here and below, but counters."""
+        return self._replica._change(self.path, LIB.rds_clear, self._at, len(self._at))
+
+    def increase(self, by: int = 1) -> Edited:
+        """Raises the counter here. Counters stand at the root, so the path is one key.
+
+        >>> with Replica.new("g", ["a"], "a") as replica:
+        ...     edited = replica["apples"].increase(10), replica["apples"].decrease(3)
+        ...     replica["apples"].counter
+        7
+        """
+        return self._count(LIB.rds_inc, by)
+
+    def decrease(self, by: int = 1) -> Edited:
+        """Lowers the counter here."""
+        return self._count(LIB.rds_dec, by)
+
+    def _count(self, call: Any, by: int) -> Edited:
+        if by < 0:
+            raise ValueError(f"a counter changes by 0 or more, and not by {by}")
+        # More than 64 bits are more than a counter takes, as is the most that they can say.
+        return self._replica._change(self.path, call, self._at, len(self._at), min(by, _MOST))
+
+    @property
+    def values(self) -> List[Scalar]:
+        """The values of the set here, in their order: None, false, true, numbers, texts."""
+        found: List[Scalar] = self._got()["set"]
+        return found
+
+    @property
+    def register(self) -> List[Scalar]:
+        """The values of the register here: none, one, or several where it was set at replicas that hadn't met."""
+        found: List[Scalar] = self._got()["reg"]
+        return found
+
+    @property
+    def counter(self) -> Optional[int]:
+        """What the counter here stands at, if there is one."""
+        found: Optional[int] = self._got()["counter"]
+        return found
+
+    def _got(self) -> Dict[str, Any]:
+        got: Dict[str, Any] = json.loads(self._replica._gives(self.path, LIB.rds_get, self._at, len(self._at)))
+        return got
+
+    def show(self) -> Dict[str, Any]:
+        """What the document shows here and below, by kind and key.
+
+        >>> with Replica.new("g", ["a"], "a") as replica:
+        ...     edited = replica["apples/tags"].add("red")
+        ...     replica["apples"].show()
+        {'counters': {}, 'maps': {}, 'regs': {}, 'sets': {'tags': ['red']}}
+        """
+        shown: Dict[str, Any] = json.loads(self._replica._gives(self.path, LIB.rds_view, self._at, len(self._at)))
+        return shown
+
+    def conflicts(self) -> Dict[str, List[Scalar]]:
+        """The registers here and below that have several values, by their paths from the root."""
+        lines = self._replica._gives(self.path, LIB.rds_conflicts, self._at, len(self._at)).splitlines()
+        return {found["path"]: found["values"] for found in map(json.loads, lines)}
+
+    def dump(self) -> List[Edit]:
+        """The edits that make what stands here and below, for `Replica.edit`. Of a register with several values the
+        last one stands after that; counters are among them at the root.
+
+        >>> with Replica.new("g", ["a"], "a") as replica:
+        ...     edited = replica["tags"].add("red"), replica["n"].increase(2)
+        ...     replica.dump()
+        [('add', 'tags', 'red'), ('inc', 'n', 2)]
+        """
+        lines = self._replica._gives(self.path, LIB.rds_dump, self._at, len(self._at)).splitlines()
+        return [cast(Edit, tuple(json.loads(line))) for line in lines]
+
+
+class Replica:
+    """A replica of a group: a document that is edited here, and that joins with the group's others.
+
+    It is open until `close`, or the end of its `with` block. Its calls are for the thread that opened it, and others
+    get `WrongThread`. A replica has no copy and isn't pickled (`TypeError`).
+
+    A replica that lives in a file is locked there while it is open. `keep` writes it, and what wasn't kept is lost at
+    `close`. What goes to others (`ask`, `answer`, `bytes`) is kept first, so that nobody has what the file may lose.
+    """
+
+    __slots__ = ("_slot", "_at", "_room", "_length", "_edited", "_thread", "_file", "_is_ahead", "__weakref__")
+
+    def __init__(self) -> None:
+        self._slot = FileSlot()
+        self._at = byref(self._slot.replica)
+        self._room = create_string_buffer(_ROOM)
+        self._length = c_size_t()
+        self._edited = EditedSlot()
+        self._thread = threading.get_ident()
+        self._file: Optional[str] = None
+        self._is_ahead = False
+
+    @classmethod
+    def new(cls, group: str, names: Iterable[str], own: str, path: Optional[_PathLike] = None) -> Replica:
+        """An empty replica: the one named `own` of a group whose replicas have these names. Each name is for one
+        replica, for good. With a path it lives in a new file.
+
+        >>> Replica.new("inventory", ["shop", "store"], "shop").status().names
+        ['shop', 'store']
+        """
+        roster = list(names)
+        if own not in roster:
+            raise ValueError(f"{own!r} isn't among the names")
+        self = cls()
+        line = json.dumps(["roster", group, *roster]).encode()
+        # A roster of more than 256 names is refused, whatever the number.
+        self._done(LIB.rds_new(self._at, line, len(line), min(roster.index(own), 255)), group)
+        if path is not None:
+            self._open_by(LIB.rds_make_file, path)
+        return self
+
+    @classmethod
+    def open(cls, path: _PathLike) -> Replica:
+        """The replica in a file. `Busy` where another has it: nobody is waited for. `OSError` if it can't be read."""
+        self = cls()
+        self._open_by(LIB.rds_open_file, path)
+        return self
+
+    @classmethod
+    def from_bytes(cls, snapshot: bytes) -> Replica:
+        """The replica of a snapshot, in no file. Open none twice for editing.
+
+        >>> with Replica.new("g", ["a"], "a") as replica:
+        ...     edited = replica["k"].set(1)
+        ...     Replica.from_bytes(bytes(replica))["k"].register
+        [1]
+        """
+        self = cls()
+        self._done(LIB.rds_open(self._at, snapshot, len(snapshot)))
+        return self
+
+    def _open_by(self, call: Any, path: _PathLike) -> None:
+        name = os.fspath(path)
+        at = os.fsencode(name)
+        self._done(call(byref(self._slot), at, len(at)), name)
+        self._file = name
+
+    def keep(self) -> None:
+        """Keeps the replica in its file: all edits so far outlast a crash of the machine. `Closed` without a file."""
+        self._here()
+        self._done(LIB.rds_keep(byref(self._slot)), self._file)
+        self._is_ahead = False
+
+    def close(self) -> None:
+        """Frees what the replica has, and lets its file go. A second one does nothing."""
+        self._here()
+        LIB.rds_close(byref(self._slot))
+
+    def __enter__(self) -> Replica:
+        return self
+
+    def __exit__(self, *_: object) -> None:
+        self.close()
+
+    def __del__(self) -> None:
+        # Nobody else has it by now, whichever thread this is.
+        if hasattr(self, "_slot"):
+            LIB.rds_close(byref(self._slot))
+
+    def __reduce__(self) -> NoReturn:
+        raise TypeError("a replica lives at one place: it has no copy and isn't pickled")
+
+    def _here(self) -> None:
+        if threading.get_ident() != self._thread:
+            raise WrongThread("a replica stays on the thread that opened it")
+
+    def _done(self, status: int, given: Optional[str] = None) -> None:
+        """Raises what a status says, with the words that the library has for it."""
+        if not status:
+            return
+        refuse(status, self._words() if status <= LAST_FAULT and status not in (MEMORY, DEVICE) else "", given)
+
+    def _words(self) -> str:
+        """The words of the last fault; none where the replica is closed."""
+        if LIB.rds_told(self._at, self._room, _ROOM, byref(self._length)):
+            return ""
+        return string_at(self._room, self._length.value).decode()
+
+    def _gives(self, given: Optional[str], call: Any, *arguments: Any) -> bytes:
+        """The bytes that a call gives."""
+        self._here()
+        length = self._length
+        status = call(self._at, *arguments, self._room, _ROOM, byref(length))
+        if status == NO_ROOM:
+            room = create_string_buffer(length.value)
+            self._done(LIB.rds_told(self._at, room, len(room), byref(length)), given)
+            return room.raw
+        self._done(status, given)
+        return string_at(self._room, length.value)
+
+    def _change(self, given: str, call: Any, *arguments: Any) -> Edited:
+        """What an edit did."""
+        self._here()
+        done = self._edited
+        status = call(self._at, *arguments, byref(done))
+        if status:
+            self._done(status, given)
+        self._is_ahead = True
+        return Edited(done.number if done.has_dot else None, done.killed)
+
+    def _edit(self, verb: str, place: Place, value: Scalar) -> Edited:
+        path, at = place.path, place._at
+        if isinstance(value, str):
+            text = _bytes_of(value)
+            return self._change(path, _TEXT[verb], at, len(at), text, len(text))
+        if value is None:
+            return self._change(path, _NULL[verb], at, len(at))
+        if isinstance(value, bool):
+            return self._change(path, _BOOL[verb], at, len(at), value)
+        if not isinstance(value, int):
+            raise TypeError(f"a value is None, a bool, an int or a str, and not {type(value).__name__}")
+        if not -(1 << 63) <= value < 1 << 63:
+            refuse(BAD_SCALAR, given=path)
+        return self._change(path, _INT[verb], at, len(at), value)
+
+    def __getitem__(self, path: str) -> Place:
+        """The place at a path: keys with '/' between them."""
+        return Place(self, path)
+
+    def __iter__(self) -> Iterator[str]:
+        """The keys at the root."""
+        return iter(self[""])
+
+    def edit(self, edits: Iterable[Edit]) -> List[Union[Edited, RdsError]]:
+        """Makes many edits, one after the other, in one call. What is refused changes nothing and doesn't stop the
+        others: in its place stands why.
+
+        >>> with Replica.new("g", ["a"], "a") as replica:
+        ...     for done in replica.edit([("set", "k", 1), ("set", "a//b", 2), ("inc", "n", 3)]):
+        ...         print(repr(done))
+        Edited(dot=1, killed=0)
+        BadKey("'a//b': BadKey: the text is no key")
+        Edited(dot=None, killed=0)
+        """
+        given = list(edits)
+        lines = "\n".join(map(json.dumps, given)).encode()
+        self._is_ahead = True
+        answers = self._gives(None, LIB.rds_edit_lines, lines, len(lines)).splitlines()
+        return [_answer(json.loads(answer), one) for answer, one in zip(answers, given)]
+
+    def show(self) -> Dict[str, Any]:
+        """What the whole document shows."""
+        return self[""].show()
+
+    def conflicts(self) -> Dict[str, List[Scalar]]:
+        """The registers that have several values, by their paths."""
+        return self[""].conflicts()
+
+    def dump(self) -> List[Edit]:
+        """The edits that make this document."""
+        return self[""].dump()
+
+    def status(self) -> Status:
+        """Whose replica it is, and how much it holds."""
+        return Status(**json.loads(self._gives(None, LIB.rds_status_json)))
+
+    def __bytes__(self) -> bytes:
+        """The snapshot."""
+        return self._gives_kept(LIB.rds_snapshot)
+
+    def _gives_kept(self, call: Any, *arguments: Any) -> bytes:
+        """Bytes that may go to others: of a replica in a file, once it is kept."""
+        if self._file is not None and self._is_ahead:
+            self.keep()
+        return self._gives(None, call, *arguments)
+
+    def ask(self) -> bytes:
+        """What asks another replica for what this one lacks."""
+        return self._gives_kept(LIB.rds_ask)
+
+    def answer(self, question: bytes) -> bytes:
+        """The answer to another's question: the least that it lacks, with a certificate."""
+        return self._gives_kept(LIB.rds_answer, question, len(question))
+
+    def take(self, question: bytes, answer: bytes) -> int:
+        """Takes the answer to a question of this replica's, and tells how many components came."""
+        return self._taken(LIB.rds_take, question, len(question), answer, len(answer))
+
+    def pull(self, peer: Replica) -> int:
+        """Takes what the peer has and this one lacks, and tells how many components came.
+
+        >>> names = ["a", "b"]
+        >>> with Replica.new("g", names, "a") as a, Replica.new("g", names, "b") as b:
+        ...     edited = a["k"].set(1), b["k"].set(2)
+        ...     a.pull(b), b.pull(a), a.conflicts(), b.conflicts()
+        (1, 1, {'k': [1, 2]}, {'k': [1, 2]})
+        """
+        question = self.ask()
+        return self.take(question, peer.answer(question))
+
+    def merge(self, snapshot: bytes) -> int:
+        """Takes all that a snapshot of another replica has seen, and tells how many components were lacking."""
+        return self._taken(LIB.rds_merge, snapshot, len(snapshot))
+
+    def _taken(self, call: Any, *arguments: Any) -> int:
+        self._here()
+        taken = c_uint64()
+        self._done(call(self._at, *arguments, byref(taken)))
+        self._is_ahead = True
+        return taken.value
+
+    def grow(self, name: str) -> None:
+        """Puts a name last in the roster, for a new replica. To be done at one replica alone, for good."""
+        self._here()
+        text = _bytes_of(name)
+        self._done(LIB.rds_grow(self._at, text, len(text)), name)
+        self._is_ahead = True
+
+
+def _answer(answer: Dict[str, Any], edit: Edit) -> Union[Edited, RdsError]:
+    if "fault" in answer:
+        return fault(answer["fault"], given=edit[1] if len(edit) > 1 else None)
+    return Edited(answer["dot"][1] if answer["dot"] else None, answer["killed"])
+
+
+_TEXT = {"set": LIB.rds_set_text, "add": LIB.rds_add_text, "del": LIB.rds_del_text}
+_INT = {"set": LIB.rds_set_int, "add": LIB.rds_add_int, "del": LIB.rds_del_int}
+_BOOL = {"set": LIB.rds_set_bool, "add": LIB.rds_add_bool, "del": LIB.rds_del_bool}
+_NULL = {"set": LIB.rds_set_null, "add": LIB.rds_add_null, "del": LIB.rds_del_null}

@@ -1,0 +1,245 @@
+"""Replicas in files, and who may have them."""
+import fcntl
+import os
+import stat
+import subprocess
+import sys
+from pathlib import Path
+from typing import List
+
+import pytest
+
+from rds import Beside, BadText, Busy, Closed, Exists, Linked, Replaced, Replica, TooLong
+
+NAMES = ["shop", "store"]
+
+
+@pytest.fixture
+def file(tmp_path: Path) -> Path:
+    path = tmp_path / "shop.rds"
+    with Replica.new("inventory", NAMES, "shop", path) as shop:
+        shop["a"].set("ü")
+        shop.keep()
+    return path
+
+
+def names_in(folder: Path) -> List[str]:
+    return sorted(it.name for it in folder.iterdir())
+
+
+def test_a_file_is_kept(file: Path) -> None:
+    with Replica.open(file) as shop:
+        assert shop["a"].register == ["ü"]
+        assert file.read_bytes() == bytes(shop)
+        shop["b"].set(1)
+        assert list(Replica.from_bytes(file.read_bytes())) == ["a"]
+        shop.keep()
+        assert list(Replica.from_bytes(file.read_bytes())) == ["a", "b"]
+        shop["c"].set(1)
+    with Replica.open(str(file)) as shop:
+        assert list(shop) == ["a", "b"]
+    assert names_in(file.parent) == ["shop.rds"]
+
+
+def test_what_goes_to_others_is_kept_first(file: Path) -> None:
+    with Replica.open(file) as shop, Replica.new("inventory", NAMES, "store") as store:
+        shop["b"].set(1)
+        store.pull(shop)
+        with Replica.from_bytes(file.read_bytes()) as kept:
+            assert kept["b"].register == [1]
+        store["c"].set(2)
+        assert shop.pull(store) == 1
+        shop.ask()
+        with Replica.from_bytes(file.read_bytes()) as kept:
+            assert kept["c"].register == [2]
+
+
+def test_one_at_a_time(file: Path) -> None:
+    with Replica.open(file) as shop:
+        with pytest.raises(Busy) as caught:
+            Replica.open(file)
+        assert caught.value.given == str(file)
+        shop["b"].set(1)
+        shop.keep()
+        with pytest.raises(Busy):
+            Replica.open(file)
+        code = "import sys, rds\ntry: rds.Replica.open(sys.argv[1])\nexcept rds.Busy: print('busy')"
+        ran = subprocess.run([sys.executable, "-c", code, str(file)], capture_output=True, text=True)
+        assert ran.stdout == "busy\n"
+    Replica.open(file).close()
+
+
+def test_the_lock_is_that_of_the_program(file: Path) -> None:
+    with open(file) as other:
+        fcntl.flock(other, fcntl.LOCK_EX)
+        with pytest.raises(Busy):
+            Replica.open(file)
+    with Replica.open(file) as shop:
+        for _ in range(2):
+            with open(file) as other, pytest.raises(BlockingIOError):
+                fcntl.flock(other, fcntl.LOCK_EX | fcntl.LOCK_NB)
+            shop["b"].set(1)
+            shop.keep()
+
+
+def test_one_who_waited_for_the_old_file(file: Path) -> None:
+    with open(file) as old:
+        with Replica.open(file) as shop:
+            shop["b"].set(1)
+            shop.keep()
+            # The old file is free, but it is no longer the one of that name.
+            fcntl.flock(old, fcntl.LOCK_EX | fcntl.LOCK_NB)
+            assert os.fstat(old.fileno()).st_nlink == 0
+            with pytest.raises(Busy):
+                Replica.open(file)
+
+
+def test_the_mode_stays(file: Path) -> None:
+    file.chmod(0o640)
+    with Replica.open(file) as shop:
+        shop["b"].set(1)
+        shop.keep()
+    assert stat.S_IMODE(file.stat().st_mode) == 0o640
+
+
+def test_a_mode_that_lets_nobody_write(file: Path) -> None:
+    file.chmod(0o444)
+    with pytest.raises(PermissionError) as caught:
+        Replica.open(file)
+    assert caught.value.filename == str(file)
+
+
+def test_a_link_is_followed(file: Path, tmp_path: Path) -> None:
+    (tmp_path / "far").mkdir()
+    link = tmp_path / "far" / "link"
+    link.symlink_to("../shop.rds")
+    with Replica.open(link) as shop:
+        shop["b"].set(1)
+        shop.keep()
+        with pytest.raises(Busy):
+            Replica.open(file)
+    assert link.is_symlink() and names_in(link.parent) == ["link"]
+    with Replica.open(file) as shop:
+        assert shop["b"].register == [1]
+    link.unlink()
+    link.symlink_to("nowhere")
+    with pytest.raises(FileNotFoundError):
+        Replica.open(link)
+    with pytest.raises(Exists):
+        Replica.new("inventory", NAMES, "shop", link)
+
+
+def test_several_names(file: Path, tmp_path: Path) -> None:
+    os.link(file, tmp_path / "other")
+    for name in (file, tmp_path / "other"):
+        with pytest.raises(Linked):
+            Replica.open(name)
+    (tmp_path / "other").unlink()
+    with Replica.open(file) as shop:
+        os.link(file, tmp_path / "other")
+        shop["b"].set(1)
+        with pytest.raises(Linked):
+            shop.keep()
+        (tmp_path / "other").unlink()
+        shop.keep()
+
+
+def test_a_file_that_was_replaced(file: Path, tmp_path: Path) -> None:
+    with Replica.open(file) as shop:
+        shop["b"].set(1)
+        file.rename(tmp_path / "away")
+        with pytest.raises(Replaced):
+            shop.keep()
+        file.write_bytes(b"another")
+        with pytest.raises(Replaced):
+            shop.keep()
+        assert file.read_bytes() == b"another"
+        (tmp_path / "away").replace(file)
+        shop.keep()
+    with Replica.open(file) as shop:
+        assert shop["b"].register == [1]
+
+
+def test_another_working_folder(file: Path, tmp_path: Path, monkeypatch: pytest.MonkeyPatch) -> None:
+    monkeypatch.chdir(tmp_path)
+    with Replica.open("shop.rds") as shop:
+        monkeypatch.chdir("/")
+        shop["b"].set(1)
+        shop.keep()
+    with Replica.open(file) as shop:
+        assert shop["b"].register == [1]
+
+
+def test_files_that_are_none(tmp_path: Path) -> None:
+    with pytest.raises(FileNotFoundError):
+        Replica.open(tmp_path / "none")
+    with pytest.raises(FileNotFoundError):
+        Replica.open("")
+    with pytest.raises(IsADirectoryError):
+        Replica.open(tmp_path)
+    with pytest.raises(OSError):
+        Replica.open("/dev/null")
+    os.mkfifo(tmp_path / "pipe")
+    with pytest.raises(OSError):
+        Replica.open(tmp_path / "pipe")
+    for text in (b"", b"RDS", b"nonsense"):
+        (tmp_path / "text").write_bytes(text)
+        with pytest.raises(BadText) as caught:
+            Replica.open(tmp_path / "text")
+        assert caught.value.given == str(tmp_path / "text")
+    with open(tmp_path / "long", "wb") as it:
+        it.truncate(268_435_457)
+    with pytest.raises(TooLong):
+        Replica.open(tmp_path / "long")
+
+
+def test_names_of_files_beside(file: Path, tmp_path: Path) -> None:
+    with pytest.raises(Beside):
+        Replica.new("inventory", NAMES, "shop", tmp_path / "a.new")
+    with pytest.raises(Beside):
+        Replica.open(tmp_path / "a.new")
+    left = tmp_path / "shop.rds.new"
+    left.write_bytes(b"left behind")
+    left.chmod(0o400)
+    with Replica.open(file) as shop:
+        shop["b"].set(1)
+        shop.keep()
+    assert names_in(tmp_path) == ["shop.rds"]
+    left.mkdir()
+    with Replica.open(file) as shop:
+        shop["c"].set(1)
+        with pytest.raises(OSError):
+            shop.keep()
+        left.rmdir()
+        shop.keep()
+    with Replica.open(file) as shop:
+        assert list(shop) == ["a", "b", "c"]
+
+
+def test_a_new_file_replaces_nothing(file: Path) -> None:
+    before = file.read_bytes()
+    with pytest.raises(Exists) as caught:
+        Replica.new("inventory", NAMES, "shop", file)
+    assert caught.value.given == str(file)
+    assert file.read_bytes() == before
+
+
+def test_a_replica_without_a_file(shop: Replica) -> None:
+    with pytest.raises(Closed):
+        shop.keep()
+
+
+def test_an_end_at_any_time_leaves_a_whole_file(file: Path) -> None:
+    code = "import sys, rds\nr = rds.Replica.open(sys.argv[1])\n"
+    code += "for n in range(10**6):\n  r['n'].set(n)\n  r.keep()\n  print(n, flush=True)"
+    told = -1
+    for _ in range(20):
+        with subprocess.Popen([sys.executable, "-c", code, str(file)], stdout=subprocess.PIPE, text=True) as child:
+            assert child.stdout is not None
+            lines = [child.stdout.readline() for _ in range(3)]
+            child.kill()
+            lines += child.stdout.readlines()
+        told = max(int(it) for it in lines if it.endswith("\n"))
+        with Replica.open(file) as shop:
+            (found,) = shop["n"].register
+            assert isinstance(found, int) and found - told in (0, 1)
