@@ -1,5 +1,6 @@
 -- What rows say once a number has grown.
-use Rattle.std.proofs.Common.{◌≡◌, ℕ, ◌+◌, ◌<◌, ◌≤◌, ◌&&◌, Bool, true, false, max, nat_lt, List, [], ◌∷◌, refl, sym, ◌∙◌, ap, subst, arith}
+use Rattle.std.proofs.Common.{◌≡◌, ℕ, ◌+◌, ◌<◌, ◌≤◌, ◌&&◌, Bool, true, false, max, nat_lt, List, [], ◌∷◌, refl, sym}
+use Rattle.std.proofs.Common.{◌∙◌, ap, subst, arith}
 use Rattle.std.specs.Prelude.{nat_le, ◌||◌, Result, Ok, Err, IfOk, IfErr}
 use Rattle.std.proofs.lemmas.Bool.Decides.{nat_tests}
 use Rattle.std.specs.Ordering.{eq_by_cmp}
@@ -10,7 +11,8 @@ use Rattle.rds_counts.specs.declared.row.TheConstants.{MAX_COUNT}
 use Rattle.rds_counts.specs.Place.{Place, place_cmp}
 use Rattle.rds_counts.specs.PlaceOrder.{place_exact}
 use Rattle.rds_counts.specs.Counted.{Counted, number, number_in_pair, place, counts_of, pair_of, AreCountRows}
-use Rattle.rds_counts.specs.CountedLemmas.{some, number_in, number-row, number-own, both_other, pair_number, get-counts_of}
+use Rattle.rds_counts.specs.CountedLemmas.{some, number_in, number-row, number-own, both_other, pair_number}
+use Rattle.rds_counts.specs.CountedLemmas.{get-counts_of}
 use Rattle.rds_names.specs.Conditions.{and_true, equal_of}
 use Rattle.rds_counts.specs.Drawn.{greatest_rows}
 use Rattle.rds_counts.specs.Raised.{pair_raised, row_of}

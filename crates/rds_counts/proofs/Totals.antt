@@ -1,5 +1,6 @@
 -- The sums over a key's rows are those over all replicas.
-use Rattle.std.proofs.Common.{◌≡◌, ℕ, zero, suc, ◌+◌, ◌*◌, ◌<◌, ◌≤◌, Bool, true, false, ◌&&◌, ◌||◌, nat_lt, cond, List, [], ◌∷◌, length, get_or, take, drop, ◌-◌, refl, sym, ◌∙◌, ap, subst, arith, inl, inr}
+use Rattle.std.proofs.Common.{◌≡◌, ℕ, zero, suc, ◌+◌, ◌*◌, ◌<◌, ◌≤◌, Bool, true, false, ◌&&◌, ◌||◌, nat_lt, cond, List}
+use Rattle.std.proofs.Common.{[], ◌∷◌, length, get_or, take, drop, ◌-◌, refl, sym, ◌∙◌, ap, subst, arith, inl, inr}
 use Rattle.std.specs.Prelude.{nat_le}
 use mathlib.Core.Bool.{false≢true}
 use Rattle.std.specs.List.{list_all, sum_by, range_with_len}
@@ -21,7 +22,8 @@ use Rattle.rds_counts.specs.declared.row.Which.{Which}
 use Rattle.rds_counts.specs.declared.row.Which.TheVariants.{P, N}
 use Rattle.rds_counts.specs.declared.row.CountRow.{CountRow}
 use Rattle.rds_counts.specs.declared.row.TheConstants.{MAX_COUNT}
-use Rattle.rds_counts.specs.Counted.{number_in_pair, place, counts_of, pair_of, row_cmp, is_row, rows_rise, AreCountRows}
+use Rattle.rds_counts.specs.Counted.{number_in_pair, place, counts_of, pair_of, row_cmp, is_row, rows_rise}
+use Rattle.rds_counts.specs.Counted.{AreCountRows}
 use Rattle.rds_counts.specs.CountedLemmas.{number_in, number_past, pair_number, get-counts_of}
 use Rattle.rds_names.specs.Conditions.{and_left, and_right, less_of, equal_of}
 use Rattle.rds_counts.specs.Value.{total, total_by, first_total}

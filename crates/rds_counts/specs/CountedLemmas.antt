@@ -1,5 +1,6 @@
 -- What rows say at a place.
-use Rattle.std.proofs.Common.{◌≡◌, ℕ, zero, suc, Bool, true, false, ◌&&◌, cond, List, [], ◌∷◌, ◌++◌, Option, Some, refl, sym, ◌∙◌, ap, subst, arith}
+use Rattle.std.proofs.Common.{◌≡◌, ℕ, zero, suc, Bool, true, false, ◌&&◌, cond, List, [], ◌∷◌, ◌++◌, Option, Some, refl}
+use Rattle.std.proofs.Common.{sym, ◌∙◌, ap, subst, arith}
 use mathlib.Core.Bool.{false≢true}
 use Rattle.std.specs.List.{list_all}
 use Rattle.std.specs.Cmp.{IsTotalOrder, nat_cmp_total, tied_itself}
@@ -15,7 +16,8 @@ use Rattle.rds_counts.specs.declared.row.Which.TheVariants.{P, N}
 use Rattle.rds_counts.specs.declared.row.CountRow.{CountRow}
 use Rattle.rds_counts.specs.Place.{Place, place_cmp, index_of}
 use Rattle.rds_counts.specs.PlaceOrder.{place_total, place_exact}
-use Rattle.rds_counts.specs.Counted.{Above, Counted, number, number_from, place, above, components, counts_of, row_cmp, is_row, rows_rise, before_next, rows_fit, pair_of, number_in_pair, AreCountRows}
+use Rattle.rds_counts.specs.Counted.{Above, Counted, number, number_from, place, above, components, counts_of, row_cmp}
+use Rattle.rds_counts.specs.Counted.{is_row, rows_rise, before_next, rows_fit, pair_of, number_in_pair, AreCountRows}
 
 pub row_total : IsTotalOrder row_cmp
 row_total = then_total (on_total (λ (r : CountRow). r.key) nat_list_cmp_total) (on_total (λ (r : CountRow). r.replica) nat_cmp_total)

@@ -1,5 +1,6 @@
 -- Rows are those of the counters that they say.
-use Rattle.std.proofs.Common.{◌≡◌, ℕ, zero, suc, ◌+◌, Bool, true, ◌&&◌, ◌||◌, nat_lt, cond, List, [], ◌∷◌, ◌++◌, refl, ◌∙◌, ap, arith}
+use Rattle.std.proofs.Common.{◌≡◌, ℕ, zero, suc, ◌+◌, Bool, true, ◌&&◌, ◌||◌, nat_lt, cond, List, [], ◌∷◌, ◌++◌, refl}
+use Rattle.std.proofs.Common.{◌∙◌, ap, arith}
 use mathlib.Core.Bool.{false≢true}
 use Rattle.std.specs.List.{list_all}
 use Rattle.std.specs.Cmp.{tied_itself}
@@ -9,7 +10,8 @@ use Rattle.std.specs.Prelude.{nat_le}
 use Rattle.rds_counts.specs.declared.row.CountRow.{CountRow}
 use Rattle.rds_counts.specs.declared.row.TheConstants.{MAX_COUNT}
 use Rattle.rds_counts.specs.Place.{Place}
-use Rattle.rds_counts.specs.Counted.{Above, place, above, components, counts_of, row_cmp, is_row, rows_rise, before_next, AreCountRows}
+use Rattle.rds_counts.specs.Counted.{Above, place, above, components, counts_of, row_cmp, is_row, rows_rise}
+use Rattle.rds_counts.specs.Counted.{before_next, AreCountRows}
 use Rattle.rds_counts.specs.CountedLemmas.{row_total, all_before}
 use Rattle.rds_names.specs.Conditions.{and_left, and_right, less_of}
 use Rattle.rds_counts.specs.Entries.{entries-counts_of}

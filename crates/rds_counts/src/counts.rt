@@ -1,5 +1,6 @@
 //! All counters of a document.
-ghost use Rattle.std.specs.Prelude.{◌≡◌, ◌≢◌, ◌≤◌, ◌<◌, ◌+◌, ◌^◌, ◌↔◌, ◌⊎◌, ℕ, Err, IsTrue, IsOk, IfOk, IfErr, OnOk, OnErr, MatchOption, max};
+ghost use Rattle.std.specs.Prelude.{◌≡◌, ◌≢◌, ◌≤◌, ◌<◌, ◌+◌, ◌^◌, ◌↔◌, ◌⊎◌, ℕ, Err, IsTrue, IsOk, IfOk, IfErr, OnOk};
+ghost use Rattle.std.specs.Prelude.{OnErr, MatchOption, max};
 ghost use Rattle.std.specs.FinMap as map;
 ghost use Rattle.rds_names.specs.declared.fault.Fault.TheVariants.{Memory, CounterFull};
 ghost use Rattle.rds_counts.specs.Place.{Place};

@@ -1,9 +1,11 @@
 //! Rows of numbers, by key, then replica.
-ghost use Rattle.std.specs.Prelude.{List, IsTrue, ◌↔◌, ◌≡◌, ◌≤◌, ◌<◌, ◌+◌, ◌*◌, ℕ, IsOk, IfOk, IfErr, OnOk, OnErr, MatchResult, length, ◌++◌, ◌∷◌, []};
+ghost use Rattle.std.specs.Prelude.{List, IsTrue, ◌↔◌, ◌≡◌, ◌≤◌, ◌<◌, ◌+◌, ◌*◌, ℕ, IsOk, IfOk, IfErr, OnOk, OnErr};
+ghost use Rattle.std.specs.Prelude.{MatchResult, length, ◌++◌, ◌∷◌, []};
 ghost use Rattle.std.specs.List.Sorted.{IsBinarySearchResult, IsSearchInRange};
 ghost use Rattle.rds_names.specs.declared.fault.Fault.TheVariants.{Memory, CounterFull};
 ghost use Rattle.rds_counts.specs.Place.{Place};
-ghost use Rattle.rds_counts.specs.Counted.{components, above, counts_of, AreCountRows, is_row as within_row, rows_fit, before_next, pair_of, number_in_pair};
+ghost use Rattle.rds_counts.specs.Counted.{components, above, counts_of, AreCountRows, is_row as within_row, rows_fit};
+ghost use Rattle.rds_counts.specs.Counted.{before_next, pair_of, number_in_pair};
 ghost use Rattle.rds_counts.specs.Drawn.{greatest_rows};
 ghost use Rattle.rds_counts.specs.Raised.{row_of, pair_raised};
 ghost use Rattle.rds_counts.specs.Value.{total, first_total};

@@ -1,5 +1,6 @@
 -- The rows of a certificate lie in their ranges.
-use Rattle.std.proofs.Common.{◌≡◌, ℕ, zero, suc, ◌+◌, ◌-◌, ◌<◌, ◌≤◌, Bool, true, false, ◌&&◌, ◌||◌, cond, nat_lt, List, [], ◌∷◌, ◌++◌, Option, Some, None, refl, sym, ◌∙◌, ap, subst, arith, leb, inl, inr}
+use Rattle.std.proofs.Common.{◌≡◌, ℕ, zero, suc, ◌+◌, ◌-◌, ◌<◌, ◌≤◌, Bool, true, false, ◌&&◌, ◌||◌, cond, nat_lt, List}
+use Rattle.std.proofs.Common.{[], ◌∷◌, ◌++◌, Option, Some, None, refl, sym, ◌∙◌, ap, subst, arith, leb, inl, inr}
 use Rattle.std.specs.Prelude.{map as each, is_some, nat_le}
 use Rattle.std.specs.List.{list_all, AllByRecursion}
 use Rattle.std.specs.Ordering.{eq_by_cmp, is_eq}
@@ -29,7 +30,8 @@ use Rattle.rds_state.specs.Fits.{Fits}
 use Rattle.rds_state.specs.Value.{StateValue, coordinates}
 use Rattle.rds_delta.specs.declared.row.Row.{Row}
 use Rattle.rds_delta.specs.declared.row.Row.TheVariants as rows
-use Rattle.rds_delta.specs.Claims.{Claim, OfLive, OfDead, OfCount, claims, claim_at, life_claim, number_claim, spread, spread_all, is_full, IsCertificate}
+use Rattle.rds_delta.specs.Claims.{Claim, OfLive, OfDead, OfCount, claims, claim_at, life_claim, number_claim, spread}
+use Rattle.rds_delta.specs.Claims.{spread_all, is_full, IsCertificate}
 use Rattle.rds_delta.specs.Least.{IsAbove}
 use Rattle.rds_delta.specs.Ranges.{IsRowWithin, AreRowsWithin}
 use Rattle.rds_delta.specs.Ranks.{Ranks, life_rank}

@@ -1,5 +1,6 @@
 -- Claims are grouped into the fewest rows in one way.
-use Rattle.std.proofs.Common.{◌≡◌, ℕ, zero, suc, ◌+◌, ◌-◌, ◌≤◌, true, false, not, cond, ◌&&◌, ◌==◌, List, [], ◌∷◌, ◌++◌, refl, sym, ◌∙◌, ap, arith}
+use Rattle.std.proofs.Common.{◌≡◌, ℕ, zero, suc, ◌+◌, ◌-◌, ◌≤◌, true, false, not, cond, ◌&&◌, ◌==◌, List, [], ◌∷◌, ◌++◌}
+use Rattle.std.proofs.Common.{refl, sym, ◌∙◌, ap, arith}
 use Rattle.std.proofs.lemmas.Bool.{not-true}
 use Rattle.std.specs.Prelude.{map as each, nat_le}
 use Rattle.std.specs.List.{list_all}
@@ -12,7 +13,8 @@ use Rattle.rds_delta.specs.Ranks.{Ranks}
 use Rattle.rds_state.specs.Value.{StateValue}
 use Rattle.rds_delta.specs.declared.row.Row.{Row}
 use Rattle.rds_delta.specs.declared.row.Row.TheVariants as rows
-use Rattle.rds_delta.specs.Claims.{Claim, OfLive, OfDead, OfCount, claims, spread, spread_all, is_full, goes_on, stops_before, are_apart, IsCertificate}
+use Rattle.rds_delta.specs.Claims.{Claim, OfLive, OfDead, OfCount, claims, spread, spread_all, is_full, goes_on}
+use Rattle.rds_delta.specs.Claims.{stops_before, are_apart, IsCertificate}
 use Rattle.rds_delta.specs.Grouped.{run_of, dead_front, front, grouped_onto, rows_of_claims}
 
 pub rows_of_claims-append : (cs ds : List Claim) (rs : List Row) → grouped_onto (cs ++ ds) rs ≡ grouped_onto cs (grouped_onto ds rs)

@@ -1,5 +1,6 @@
 -- The least delta has the whole effect, and nothing that isn't needed.
-use Rattle.std.proofs.Common.{◌≡◌, ℕ, ◌≤◌, ◌<◌, Bool, true, false, cond, max, refl, sym, ap, subst, arith, nat_lt, Option, Some, None}
+use Rattle.std.proofs.Common.{◌≡◌, ℕ, ◌≤◌, ◌<◌, Bool, true, false, cond, max, refl, sym, ap, subst, arith, nat_lt}
+use Rattle.std.proofs.Common.{Option, Some, None}
 use Rattle.std.specs.Prelude.{is_some}
 use Rattle.std.proofs.lemmas.Bool.Decides.{nat_tests}
 use Rattle.rds_life.specs.Life.{Life, Live, Dead, Agree, IsNoLater, join_life}

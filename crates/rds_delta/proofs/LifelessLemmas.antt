@@ -1,5 +1,6 @@
 -- What the first live dot from one on says of those between.
-use Rattle.std.proofs.Common.{◌≡◌, ℕ, ◌+◌, ◌-◌, ◌<◌, ◌≤◌, true, false, cond, ◌&&◌, Bool, List, [], ◌∷◌, Option, Some, None, refl, sym, ◌∙◌, ap, arith, leb}
+use Rattle.std.proofs.Common.{◌≡◌, ℕ, ◌+◌, ◌-◌, ◌<◌, ◌≤◌, true, false, cond, ◌&&◌, Bool, List, [], ◌∷◌, Option, Some}
+use Rattle.std.proofs.Common.{None, refl, sym, ◌∙◌, ap, arith, leb}
 use Rattle.std.specs.Prelude.{is_some}
 use Rattle.std.specs.Ordering.{nat_cmp, ordering_then, is_eq, is_le, is_lt}
 use Rattle.std.specs.Cmp.{tied_itself}

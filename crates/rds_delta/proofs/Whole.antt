@@ -1,5 +1,6 @@
 -- The whole check, from its parts.
-use Rattle.std.proofs.Common.{◌≡◌, ◌↔◌, ℕ, zero, suc, ◌+◌, Bool, true, false, ◌&&◌, cond, List, [], ◌∷◌, ◌++◌, None, refl, sym, ◌∙◌, ap, subst, arith}
+use Rattle.std.proofs.Common.{◌≡◌, ◌↔◌, ℕ, zero, suc, ◌+◌, Bool, true, false, ◌&&◌, cond, List, [], ◌∷◌, ◌++◌, None}
+use Rattle.std.proofs.Common.{refl, sym, ◌∙◌, ap, subst, arith}
 use Rattle.std.specs.Prelude.{map as each}
 use Rattle.std.specs.List.{filter, list_all}
 use Rattle.std.specs.Ordering.{is_lt, eq_by_cmp}
@@ -9,7 +10,8 @@ use Rattle.rds_counts.specs.declared.row.Which.TheVariants.{P, N}
 use Rattle.rds_counts.specs.declared.row.CountRow.{CountRow}
 use Rattle.rds_counts.specs.Place.{Place, place_cmp}
 use Rattle.rds_counts.specs.PlaceOrder.{place_exact}
-use Rattle.rds_counts.specs.Counted.{Above, number, place, above, components, counts_of, row_cmp, rows_rise, AreCountRows}
+use Rattle.rds_counts.specs.Counted.{Above, number, place, above, components, counts_of, row_cmp, rows_rise}
+use Rattle.rds_counts.specs.Counted.{AreCountRows}
 use Rattle.rds_counts.specs.CountedLemmas.{some, number_in, number_past, number-row, number-own, get-counts_of}
 use Rattle.rds_names.specs.Conditions.{and_left, and_right, equal_of}
 use Rattle.rds_counts.specs.Entries.{entries-counts_of}

@@ -1,5 +1,6 @@
 -- How far a set of dots goes on alike, and its first part after a dot.
-use Rattle.std.specs.Prelude.{◌≡◌, ℕ, ◌+◌, ◌<◌, ◌≤◌, Bool, true, false, not, ◌&&◌, ◌==◌, nat_le, cond, Option, Some, None}
+use Rattle.std.specs.Prelude.{◌≡◌, ℕ, ◌+◌, ◌<◌, ◌≤◌, Bool, true, false, not, ◌&&◌, ◌==◌, nat_le, cond, Option, Some}
+use Rattle.std.specs.Prelude.{None}
 use Rattle.std.specs.Ordering.{is_lt}
 use Rattle.std.specs.FinSet as set
 use Rattle.rds_dots.specs.declared.dot.Dot.{Dot}

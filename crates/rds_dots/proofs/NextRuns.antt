@@ -1,5 +1,6 @@
 -- The first run that ends after a dot, and what it says of the set.
-use Rattle.std.proofs.Common.{◌≡◌, ℕ, ◌+◌, ◌<◌, ◌≤◌, Bool, true, false, cond, ◌&&◌, ◌||◌, List, [], ◌∷◌, Option, Some, None, refl, sym, ◌∙◌, ap, subst, arith, eqb, leb, inl, inr}
+use Rattle.std.proofs.Common.{◌≡◌, ℕ, ◌+◌, ◌<◌, ◌≤◌, Bool, true, false, cond, ◌&&◌, ◌||◌, List, [], ◌∷◌, Option, Some}
+use Rattle.std.proofs.Common.{None, refl, sym, ◌∙◌, ap, subst, arith, eqb, leb, inl, inr}
 use mathlib.Core.Bool.{false≢true}
 use Rattle.std.specs.FinSet as set
 use Rattle.std.specs.Ordering.{is_lt, nat_cmp, ordering_then}

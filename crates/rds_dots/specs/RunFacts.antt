@@ -1,5 +1,6 @@
 -- What runs in order have.
-use Rattle.std.proofs.Common.{sym, ◌≡◌, ℕ, ◌+◌, ◌*◌, ◌<◌, ◌≤◌, Bool, true, false, ◌&&◌, ◌||◌, List, [], ◌∷◌, refl, ◌∙◌, ap, arith, eqb, leb, ltb}
+use Rattle.std.proofs.Common.{sym, ◌≡◌, ℕ, ◌+◌, ◌*◌, ◌<◌, ◌≤◌, Bool, true, false, ◌&&◌, ◌||◌, List, [], ◌∷◌, refl, ◌∙◌}
+use Rattle.std.proofs.Common.{ap, arith, eqb, leb, ltb}
 use mathlib.Core.Bool.{false≢true}
 use Rattle.std.proofs.Math.Bool.{and-or_distrib_left}
 use Rattle.std.specs.List.{list_any}

@@ -1,5 +1,6 @@
 -- The runs of a set: they are there, and they are the only ones.
-use Rattle.std.proofs.Common.{◌≡◌, ℕ, ◌+◌, ◌*◌, ◌-◌, ◌<◌, ◌≤◌, Bool, true, false, cond, ◌&&◌, ◌||◌, List, [], ◌∷◌, refl, sym, ◌∙◌, ap, arith, eqb, leb, ltb}
+use Rattle.std.proofs.Common.{◌≡◌, ℕ, ◌+◌, ◌*◌, ◌-◌, ◌<◌, ◌≤◌, Bool, true, false, cond, ◌&&◌, ◌||◌, List, [], ◌∷◌, refl}
+use Rattle.std.proofs.Common.{sym, ◌∙◌, ap, arith, eqb, leb, ltb}
 use mathlib.Core.Bool.{false≢true}
 use Rattle.std.proofs.Math.Bool.{or_assoc, or-false}
 use Rattle.std.proofs.lemmas.Bool.{or_left, or_right}
@@ -17,9 +18,11 @@ use Rattle.rds_dots.specs.Merges.{any-merge_of, ascends-merge_of}
 use Rattle.rds_names.specs.Conditions.{and_left, and_right, and_true}
 use Rattle.rds_dots.specs.Order.{dots_total}
 use Rattle.rds_dots.specs.Sets.{contains_list, dot_limits, tied_is}
-use Rattle.rds_dots.specs.Runs.{covers, place, start, stop, begins_past, are_maximal, put_dot, runs_of_dots, dots_in_order, runs_of}
+use Rattle.rds_dots.specs.Runs.{covers, place, start, stop, begins_past, are_maximal, put_dot, runs_of_dots}
+use Rattle.rds_dots.specs.Runs.{dots_in_order, runs_of}
 pub use Rattle.rds_dots.specs.Runs.{AreRuns}
-use Rattle.rds_dots.specs.RunFacts.{Bounds, Parts, parts_of, maximal_by, spans, has, lt_by, begins_later, has_past, has_none, covers_is}
+use Rattle.rds_dots.specs.RunFacts.{Bounds, Parts, parts_of, maximal_by, spans, has, lt_by, begins_later, has_past}
+use Rattle.rds_dots.specs.RunFacts.{has_none, covers_is}
 
 in_numbers : (a ρ s lo hi : ℕ) → a ≡ ρ → lo ≤ s → s ≤ hi → (eqb a ρ && leb lo s && leb s hi) ≡ true
 in_numbers a ρ s lo hi p q r = grind (arith, nat_tests)

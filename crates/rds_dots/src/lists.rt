@@ -1,5 +1,6 @@
 //! Ascending lists of dots.
-ghost use Rattle.std.specs.Prelude.{◌≡◌, ◌+◌, ◌-◌, ◌≤◌, not, List, [], ◌∷◌, ◌++◌, Option, Some, true, IsTrue, IfOk, OnOk, OnErr, slice_get};
+ghost use Rattle.std.specs.Prelude.{◌≡◌, ◌+◌, ◌-◌, ◌≤◌, not, List, [], ◌∷◌, ◌++◌, Option, Some, true, IsTrue, IfOk};
+ghost use Rattle.std.specs.Prelude.{OnOk, OnErr, slice_get};
 ghost use Rattle.std.specs.List.{list_all};
 ghost use Rattle.rds_dots.specs.declared.dot.Run.{Run};
 ghost use Rattle.rds_dots.specs.declared.dot.Dot.{Dot};

@@ -1,5 +1,6 @@
 -- A run added behind others: what they go through then, and that they stay maximal.
-use Rattle.std.proofs.Common.{◌≡◌, ℕ, ◌+◌, ◌*◌, ◌<◌, ◌≤◌, Bool, true, false, cond, ◌&&◌, ◌||◌, List, [], ◌∷◌, refl, sym, ◌∙◌, ap, arith, leb, ltb}
+use Rattle.std.proofs.Common.{◌≡◌, ℕ, ◌+◌, ◌*◌, ◌<◌, ◌≤◌, Bool, true, false, cond, ◌&&◌, ◌||◌, List, [], ◌∷◌, refl, sym}
+use Rattle.std.proofs.Common.{◌∙◌, ap, arith, leb, ltb}
 use Rattle.std.proofs.lemmas.Bool.Decides.{nat_tests}
 use Rattle.rds_dots.specs.declared.dot.Run.{Run}
 use Rattle.rds_dots.specs.Runs.{start, stop, begins_past, are_maximal}

@@ -1,10 +1,12 @@
 -- The steps of a difference of runs.
-use Rattle.std.proofs.Common.{◌≡◌, ℕ, ◌+◌, ◌-◌, ◌<◌, ◌≤◌, Bool, true, false, cond, not, ◌&&◌, ◌||◌, List, [], ◌∷◌, ◌++◌, refl, sym, ◌∙◌, ap, arith, leb, ltb, append_assoc}
+use Rattle.std.proofs.Common.{◌≡◌, ℕ, ◌+◌, ◌-◌, ◌<◌, ◌≤◌, Bool, true, false, cond, not, ◌&&◌, ◌||◌, List, [], ◌∷◌, ◌++◌}
+use Rattle.std.proofs.Common.{refl, sym, ◌∙◌, ap, arith, leb, ltb, append_assoc}
 use Rattle.std.proofs.lemmas.Bool.Decides.{nat_tests}
 use Rattle.std.proofs.lemmas.List.Folds.{list_any-append}
 use Rattle.rds_dots.specs.declared.dot.Run.{Run}
 use Rattle.rds_dots.specs.Runs.{start, stop, is_run, begins_past, are_maximal}
-use Rattle.rds_dots.specs.RunFacts.{Bounds, parts_of, is_run_by, maximal_by, spans, has, lt_of, lt_by, start_stop, begins_later, has_past}
+use Rattle.rds_dots.specs.RunFacts.{Bounds, parts_of, is_run_by, maximal_by, spans, has, lt_of, lt_by, start_stop}
+use Rattle.rds_dots.specs.RunFacts.{begins_later, has_past}
 use Rattle.rds_gaps.specs.Added.{begins_from}
 use Rattle.rds_gaps.specs.Cut.{before, after}
 use Rattle.rds_gaps.specs.Operations.{IsDifference}

@@ -1,5 +1,6 @@
 //! A run in its place among maximal runs.
-ghost use Rattle.std.specs.Prelude.{◌≡◌, ◌+◌, ◌-◌, ◌≤◌, ◌<◌, nat_le, length, ℕ, true, IsTrue, OnOk, OnErr, slice_index_or};
+ghost use Rattle.std.specs.Prelude.{◌≡◌, ◌+◌, ◌-◌, ◌≤◌, ◌<◌, nat_le, length, ℕ, true, IsTrue, OnOk, OnErr};
+ghost use Rattle.std.specs.Prelude.{slice_index_or};
 ghost use Rattle.std.specs.List.{remove_range};
 ghost use Rattle.rds_dots.specs.declared.dot.Run.{Run};
 ghost use Rattle.rds_dots.specs.Runs.{start, stop, is_run, are_maximal};

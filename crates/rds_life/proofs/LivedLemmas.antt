@@ -1,5 +1,6 @@
 -- What seen dots and rows mean, and what their join and clashes mean.
-use Rattle.std.proofs.Common.{◌≡◌, Bool, true, false, ◌||◌, ◌&&◌, cond, List, [], ◌∷◌, Option, Some, None, refl, sym, ◌∙◌, ap}
+use Rattle.std.proofs.Common.{◌≡◌, Bool, true, false, ◌||◌, ◌&&◌, cond, List, [], ◌∷◌, Option, Some, None, refl, sym}
+use Rattle.std.proofs.Common.{◌∙◌, ap}
 use mathlib.Core.Bool.{false≢true}
 use Rattle.std.specs.Prelude.{◌↔◌, ◌≢◌, map as each, is_some, Result, Ok, Err}
 use Rattle.rds_life.specs.declared.rank.Rank.{Rank}
@@ -24,7 +25,8 @@ use Rattle.rds_dots.specs.Merges.{above_trans}
 use Rattle.rds_names.specs.Conditions.{and_true, and_left, and_right, less_of}
 use Rattle.rds_life.specs.Joined.{rows_of_join}
 use Rattle.rds_life.specs.Clash.{SameIfBoth, Clashes}
-use Rattle.rds_life.specs.Life.{Life, Lived, keys, life_of, life_in, entry_of, lives_of, AreRows, join_life, IsJoin, Agree, IsFirstConflict, Conflicts, MergeGives}
+use Rattle.rds_life.specs.Life.{Life, Lived, keys, life_of, life_in, entry_of, lives_of, AreRows, join_life, IsJoin}
+use Rattle.rds_life.specs.Life.{Agree, IsFirstConflict, Conflicts, MergeGives}
 use Rattle.rds_life.proofs.LifeOrder.{join_none}
 use Rattle.rds_life.proofs.RowLemmas.{find_outside, find-each}
 use Rattle.rds_life.proofs.Joins.{pick, find-rows_of_join, ascends-rows_of_join}

@@ -13,7 +13,8 @@ use Rattle.rds_dots.specs.Ascending.{ascends, is_above}
 use Rattle.rds_dots.specs.Order.{dots_total, dots_exact}
 use Rattle.rds_names.specs.Conditions.{and_true, and_left, and_right}
 use Rattle.rds_dots.specs.Sets.{same_dot}
-use Rattle.rds_life.specs.Life.{Life, Live, Dead, Lived, keys, life_of, lives_of, AreRows, entry_of, seen_of, live_row, live_rows}
+use Rattle.rds_life.specs.Life.{Life, Live, Dead, Lived, keys, life_of, lives_of, AreRows, entry_of, seen_of, live_row}
+use Rattle.rds_life.specs.Life.{live_rows}
 use Rattle.rds_life.proofs.RowLemmas.{find_above, rise_of, same_rows}
 use Rattle.rds_life.proofs.LivedLemmas.{get-lives_of, are_rows_of, seen_is, entry_is}
 

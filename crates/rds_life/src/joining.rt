@@ -1,5 +1,6 @@
 //! Two lists of rows, side by side: their join, and their first clash.
-ghost use Rattle.std.specs.Prelude.{◌≡◌, ◌+◌, ◌≤◌, ◌<◌, ◌++◌, ◌∷◌, [], List, not, true, false, None, IfOk, IfErr, OnOk, OnErr, vec_len, vec_capacity};
+ghost use Rattle.std.specs.Prelude.{◌≡◌, ◌+◌, ◌≤◌, ◌<◌, ◌++◌, ◌∷◌, [], List, not, true, false, None, IfOk, IfErr, OnOk};
+ghost use Rattle.std.specs.Prelude.{OnErr, vec_len, vec_capacity};
 ghost use Rattle.std.specs.FinMap as map;
 ghost use Rattle.std.specs.FinSet as set;
 ghost use Rattle.std.specs.Vec.Iter.{into_iter_items, into_iter_len};

@@ -1,5 +1,6 @@
 //! The life of each dot.
-ghost use Rattle.std.specs.Prelude.{◌≡◌, true, None, IfOk, IfErr, IfSome, IsOk, count_by, OnOk, OnErr, MatchOption, filter, length};
+ghost use Rattle.std.specs.Prelude.{◌≡◌, true, None, IfOk, IfErr, IfSome, IsOk, count_by, OnOk, OnErr, MatchOption};
+ghost use Rattle.std.specs.Prelude.{filter, length};
 ghost use Rattle.std.specs.FinMap as map;
 ghost use Rattle.std.specs.FinSet as set;
 ghost use Rattle.std.specs.Option.{option_copied, option_map};
@@ -8,7 +9,8 @@ ghost use Rattle.rds_dots.specs.declared.dot.Dot.{Dot};
 ghost use Rattle.rds_dots.specs.Ascending.{ascends};
 ghost use Rattle.rds_dots.specs.Dots.{is_dot};
 ghost use Rattle.rds_life.specs.Killed.{killed_by, but_for, is_the};
-ghost use Rattle.rds_life.specs.Life.{Live, Dead, AreRows, keys, lives_of, seen_of, live_of, live_rows, entry_of, is_dead, AreCompatible, Conflicts, IsJoin, IsLeastAbove, MergeGives};
+ghost use Rattle.rds_life.specs.Life.{Live, Dead, AreRows, keys, lives_of, seen_of, live_of, live_rows, entry_of};
+ghost use Rattle.rds_life.specs.Life.{is_dead, AreCompatible, Conflicts, IsJoin, IsLeastAbove, MergeGives};
 ghost use Rattle.rds_life.specs.Past.{first_row, rows_from};
 ghost use Rattle.rds_life.specs.Rank.{rank_of};
 

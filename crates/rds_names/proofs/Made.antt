@@ -1,9 +1,14 @@
 -- A call that is due to succeed.
-use Rattle.std.proofs.Common.{◌≡◌, ℕ, true, List, Result, Ok, Err, IfOk, IfErr, sym, ◌∙◌, refl, Bool, suc, zero, [], ◌∷◌, ◌<◌, length, get_or, arith}
+use Rattle.std.proofs.Common.{◌≡◌, ℕ, true, List, Result, Ok, Err, IfOk, IfErr, sym, ◌∙◌, refl, Bool, suc, zero, []}
+use Rattle.std.proofs.Common.{◌∷◌, ◌<◌, length, get_or, arith}
 use Rattle.std.specs.List.{list_all}
 use Rattle.rds_names.specs.Conditions.{and_left, and_right}
 use Rattle.rds_names.specs.declared.fault.Fault.{Fault}
-use Rattle.rds_names.specs.declared.fault.Fault.TheVariants.{Memory, BadName, BadKey, BadPath, BadScalar, BadRoster, SeqFull, CounterFull, Conflict, OwnAhead, WrongAsker, Cut, Bad, Extra, TooLong, TooManyDots, BadCertificate, WrongVersion, WrongGroup, WrongRoster, SameReplica, OutOfTurn, PeerEnded, Device, BadLine, NoSuch, Usage}
+use Rattle.rds_names.specs.declared.fault.Fault.TheVariants.{Memory, BadName, BadKey, BadPath, BadScalar, BadRoster}
+use Rattle.rds_names.specs.declared.fault.Fault.TheVariants.{SeqFull, CounterFull, Conflict, OwnAhead, WrongAsker, Cut}
+use Rattle.rds_names.specs.declared.fault.Fault.TheVariants.{Bad, Extra, TooLong, TooManyDots, BadCertificate}
+use Rattle.rds_names.specs.declared.fault.Fault.TheVariants.{WrongVersion, WrongGroup, WrongRoster, SameReplica}
+use Rattle.rds_names.specs.declared.fault.Fault.TheVariants.{OutOfTurn, PeerEnded, Device, BadLine, NoSuch, Usage}
 use Rattle.rds_names.specs.Gives.{Gives, Refuses}
 
 module _ {X : Type 0} (due : Result X Fault) (x : X) (is : due ≡ Ok x) where

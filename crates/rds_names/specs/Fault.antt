@@ -3,7 +3,11 @@ use Rattle.std.specs.Prelude.{ℕ, List, ◌++◌, codes, decimal}
 use Rattle.rds_names.specs.declared.fault.Own.{Own}
 use Rattle.rds_names.specs.declared.fault.Own.TheVariants.{Seq, Plus, Minus}
 use Rattle.rds_names.specs.declared.fault.Fault.{Fault}
-use Rattle.rds_names.specs.declared.fault.Fault.TheVariants.{Memory, BadName, BadKey, BadPath, BadScalar, BadRoster, SeqFull, CounterFull, Conflict, OwnAhead, WrongAsker, Cut, Bad, Extra, TooLong, TooManyDots, BadCertificate, WrongVersion, WrongGroup, WrongRoster, SameReplica, OutOfTurn, PeerEnded, Device, BadLine, NoSuch, Usage}
+use Rattle.rds_names.specs.declared.fault.Fault.TheVariants.{Memory, BadName, BadKey, BadPath, BadScalar, BadRoster}
+use Rattle.rds_names.specs.declared.fault.Fault.TheVariants.{SeqFull, CounterFull, Conflict, OwnAhead, WrongAsker, Cut}
+use Rattle.rds_names.specs.declared.fault.Fault.TheVariants.{Bad, Extra, TooLong, TooManyDots, BadCertificate}
+use Rattle.rds_names.specs.declared.fault.Fault.TheVariants.{WrongVersion, WrongGroup, WrongRoster, SameReplica}
+use Rattle.rds_names.specs.declared.fault.Fault.TheVariants.{OutOfTurn, PeerEnded, Device, BadLine, NoSuch, Usage}
 
 abbrev pub number_of : Fault → ℕ
 number_of Memory = 1

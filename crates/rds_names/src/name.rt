@@ -1,7 +1,8 @@
 //! The name of a replica.
 ghost use Rattle.std.specs.Prelude.{◌≡◌, ◌↔◌, IsTrue};
 ghost use Rattle.std.specs.List.{list_all};
-ghost use Rattle.rds_names.specs.Name.{name_of, is_name as name_test, is_name_byte as name_byte, starts_with_letter as letter_first};
+ghost use Rattle.rds_names.specs.Name.{name_of, is_name as name_test, is_name_byte as name_byte};
+ghost use Rattle.rds_names.specs.Name.{starts_with_letter as letter_first};
 
 use crate::fault::Fault;
 use std::hash::{Hash, Hasher};

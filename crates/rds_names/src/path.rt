@@ -1,5 +1,6 @@
 //! Where a leaf stands.
-ghost use Rattle.std.specs.Prelude.{◌≡◌, ◌≤◌, ◌↔◌, ◌++◌, ℕ, List, length, [], true, IsTrue, IsOk, IfOk, IfErr, slice_get};
+ghost use Rattle.std.specs.Prelude.{◌≡◌, ◌≤◌, ◌↔◌, ◌++◌, ℕ, List, length, [], true, IsTrue, IsOk, IfOk, IfErr};
+ghost use Rattle.std.specs.Prelude.{slice_get};
 ghost use Rattle.std.specs.List.{list_all, starts_with};
 ghost use Rattle.std.specs.Str.{bytes_eq};
 ghost use Rattle.rds_names.specs.Key.{is_key};

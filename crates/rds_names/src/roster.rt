@@ -3,7 +3,8 @@ ghost use Rattle.std.specs.Prelude.{◌≡◌, ◌↔◌, ◌++◌, true, IsTrue
 ghost use Rattle.std.specs.Str.{bytes_eq};
 ghost use Rattle.rds_names.specs.declared.fault.Fault.TheVariants.{Memory};
 ghost use Rattle.rds_names.specs.Gives.{Gives};
-ghost use Rattle.rds_names.specs.Roster.{roster_of, grown_of, longer, Begins, OneBegins, MeetGives, AreFirst, are_names, all_differ as names_differ};
+ghost use Rattle.rds_names.specs.Roster.{roster_of, grown_of, longer, Begins, OneBegins, MeetGives, AreFirst};
+ghost use Rattle.rds_names.specs.Roster.{are_names, all_differ as names_differ};
 
 use crate::fault::Fault;
 use crate::key::Key;

@@ -1,5 +1,6 @@
 -- What an edit leaves fits.
-use Rattle.std.proofs.Common.{◌≡◌, ℕ, ◌+◌, ◌<◌, Bool, true, false, ◌&&◌, cond, List, Option, Some, None, Result, Ok, Err, OnErr, refl, sym, subst, arith, eqb}
+use Rattle.std.proofs.Common.{◌≡◌, ℕ, ◌+◌, ◌<◌, Bool, true, false, ◌&&◌, cond, List, Option, Some, None, Result, Ok}
+use Rattle.std.proofs.Common.{Err, OnErr, refl, sym, subst, arith, eqb}
 use Rattle.std.specs.Prelude.{is_some, IfOk}
 use Rattle.std.specs.Ordering.{eq_by_cmp}
 use Rattle.std.proofs.lemmas.Bool.Decides.{nat_tests}

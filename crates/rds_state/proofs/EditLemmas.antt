@@ -1,5 +1,7 @@
 -- What the steps of an edit come to: the join with the command's effect.
-use Rattle.std.proofs.Common.{◌≡◌, ℕ, zero, suc, ◌+◌, ◌<◌, ◌≤◌, Bool, true, false, not, ◌&&◌, cond, max, List, [], ◌∷◌, Option, Some, None, Result, Ok, Err, refl, sym, ◌∙◌, ap, subst, arith, ◌⊎◌, inl, inr, eqb, nat_lt}
+use Rattle.std.proofs.Common.{◌≡◌, ℕ, zero, suc, ◌+◌, ◌<◌, ◌≤◌, Bool, true, false, not, ◌&&◌, cond, max, List, [], ◌∷◌}
+use Rattle.std.proofs.Common.{Option, Some, None, Result, Ok, Err, refl, sym, ◌∙◌, ap, subst, arith, ◌⊎◌, inl, inr, eqb}
+use Rattle.std.proofs.Common.{nat_lt}
 use Rattle.std.proofs.lemmas.Bool.{false_from_ne_true}
 use mathlib.Core.Bool.{false≢true}
 use Rattle.std.specs.Prelude.{is_some, ◌≢◌, IfOk}
@@ -27,7 +29,8 @@ use Rattle.rds_life.proofs.LifeOrder.{join_none}
 use Rattle.rds_life.proofs.Views.{contains-seen_of}
 use Rattle.rds_state.specs.Chosen.{Parts, parts_of, is_chosen, same_dot, AreRaised}
 use Rattle.rds_state.specs.Coordinates.{Coordinates}
-use Rattle.rds_state.specs.Edit.{covers, IsMade, greatest, own_top, is_next, life_made, life_killed, number_raised, effect_number, JoinsEffect, refusal, path_fault, seq_fault}
+use Rattle.rds_state.specs.Edit.{covers, IsMade, greatest, own_top, is_next, life_made, life_killed, number_raised}
+use Rattle.rds_state.specs.Edit.{effect_number, JoinsEffect, refusal, path_fault, seq_fault}
 use Rattle.rds_state.specs.Value.{StateValue, coordinates}
 use Rattle.rds_state.specs.declared.command.Command.{Command}
 use Rattle.rds_state.specs.declared.command.Command.TheVariants.{Set, Add, Del, Clear, Inc, Dec}

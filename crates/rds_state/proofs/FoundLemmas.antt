@@ -1,5 +1,6 @@
 -- What was found is what the command covers.
-use Rattle.std.proofs.Common.{◌≡◌, ℕ, Bool, true, false, not, ◌&&◌, cond, List, [], ◌∷◌, Option, Some, None, refl, sym, ◌∙◌, ap, eqb, ◌+◌, arith}
+use Rattle.std.proofs.Common.{◌≡◌, ℕ, Bool, true, false, not, ◌&&◌, cond, List, [], ◌∷◌, Option, Some, None, refl, sym}
+use Rattle.std.proofs.Common.{◌∙◌, ap, eqb, ◌+◌, arith}
 use Rattle.std.proofs.lemmas.Bool.Decides.{nat_tests}
 use Rattle.std.specs.Prelude.{count_by}
 use Rattle.std.specs.Ordering.{eq_by_cmp}

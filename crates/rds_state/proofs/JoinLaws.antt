@@ -5,7 +5,8 @@ use Rattle.rds_dots.specs.declared.dot.Dot.{Dot}
 use Rattle.rds_dots.specs.Order.{dots_total, dots_exact}
 use Rattle.rds_counts.specs.Place.{Place}
 use Rattle.rds_counts.proofs.SameCounts.{same_counts}
-use Rattle.rds_life.proofs.LifeOrder.{life_reflexive, life_transitive, life_antisymmetric, life_left, life_right, life_least, life_commutes, life_associates, life_idempotent, agree_joined}
+use Rattle.rds_life.proofs.LifeOrder.{life_reflexive, life_transitive, life_antisymmetric, life_left, life_right}
+use Rattle.rds_life.proofs.LifeOrder.{life_least, life_commutes, life_associates, life_idempotent, agree_joined}
 use Rattle.rds_state.specs.Coordinates.{Coordinates, AtMost, AreCompatible, join}
 use Rattle.rds_state.specs.Value.{StateValue, coordinates}
 

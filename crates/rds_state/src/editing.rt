@@ -1,5 +1,6 @@
 //! The edit of a state.
-ghost use Rattle.std.specs.Prelude.{◌≡◌, ◌+◌, ◌≢◌, [], true, false, None, Some, Err, count_by, IfOk, IfErr, OnErr, MatchResult};
+ghost use Rattle.std.specs.Prelude.{◌≡◌, ◌+◌, ◌≢◌, [], true, false, None, Some, Err, count_by, IfOk, IfErr, OnErr};
+ghost use Rattle.std.specs.Prelude.{MatchResult};
 ghost use Rattle.std.specs.FinMap as map;
 ghost use Rattle.rds_counts.specs.Counted.{number, place};
 ghost use Rattle.rds_counts.specs.declared.row.Which.TheVariants.{P, N};
@@ -11,7 +12,8 @@ ghost use Rattle.rds_names.specs.declared.entry.Entry.{Entry};
 ghost use Rattle.rds_names.specs.declared.fault.Fault.TheVariants.{Memory};
 ghost use Rattle.rds_names.specs.Entry.{HasParts};
 ghost use Rattle.rds_state.specs.Chosen.{is_chosen, parts_of, Parts, AreRaised};
-ghost use Rattle.rds_state.specs.Edit.{covers, JoinsEffect, new_dot, makes_pair, needs_room, own_top, path_fault, refusal, seq_fault, count_fault, IsDue};
+ghost use Rattle.rds_state.specs.Edit.{covers, JoinsEffect, new_dot, makes_pair, needs_room, own_top, path_fault};
+ghost use Rattle.rds_state.specs.Edit.{refusal, seq_fault, count_fault, IsDue};
 ghost use Rattle.rds_dots.specs.Lacking.{dot_of};
 ghost use Rattle.rds_state.specs.Value.{coordinates};
 

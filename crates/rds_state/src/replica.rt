@@ -1,20 +1,20 @@
 //! One replica of a document.
-ghost use Rattle.std.specs.Prelude.{◌≡◌, ◌+◌, ◌≢◌, ◌≤◌, ◌<◌, ◌↔◌, IsTrue, false, max, None, Some, Err, count_by, IfOk, IfErr, IsOk, OnOk, OnErr, MatchResult, length};
+ghost use Rattle.std.specs.Prelude.{◌≡◌, ◌+◌, ◌≤◌, ◌<◌, ◌↔◌, IsTrue, false, max, None, Some, Err, IfOk, IfErr};
+ghost use Rattle.std.specs.Prelude.{MatchResult, length};
 ghost use Rattle.std.specs.FinMap as map;
 ghost use Rattle.rds_names.specs.declared.fault.Fault.TheVariants.{Memory, BadRoster};
 ghost use Rattle.rds_life.specs.Life.{Live, live_rows};
 ghost use Rattle.rds_dots.specs.declared.dot.Dot.{Dot};
 ghost use Rattle.rds_names.specs.declared.entry.Entry.{Entry};
 ghost use Rattle.rds_state.specs.Ahead.{TakeGives};
-ghost use Rattle.rds_state.specs.Coordinates.{join};
 ghost use Rattle.rds_state.specs.CoveredDots.{covered_dots};
-ghost use Rattle.rds_state.specs.Edit.{covers, JoinsEffect, new_dot, needs_room, own_top, path_fault, refusal, seq_fault, IsDue};
+ghost use Rattle.rds_state.specs.Edit.{covers, own_top, path_fault, seq_fault};
 ghost use Rattle.rds_dots.specs.Lacking.{dot_of};
 ghost use Rattle.rds_state.specs.Fits.{Fits, ReplicaValue, IsReplica};
-ghost use Rattle.rds_state.specs.Grown.{GrowGives, TakeWithGives};
-ghost use Rattle.rds_names.specs.Roster.{longer};
+ghost use Rattle.rds_state.specs.Grown.{TakeWithGives};
+ghost use Rattle.rds_state.specs.Results.{EditsReplica, Grows, TakesDelta, TakesDeltaWith};
 ghost use Rattle.rds_counts.specs.Below.{rows_below};
-ghost use Rattle.rds_state.specs.Value.{coordinates, size};
+ghost use Rattle.rds_state.specs.Value.{coordinates};
 
 use crate::ahead::own_ahead;
 use crate::command::{Command, Edited};
@@ -145,35 +145,14 @@ impl<S: DotSet> Replica<S> {
     /// `CounterFull` where a number would pass its limit. Only `Set`, `Add` and the first raise of a counter here take
     /// memory.
     pub fn edit(&mut self, command: Command) -> Result<Edited, Fault>
-        ensures joined { IfOk result
-            (λ _. JoinsEffect (coordinates self.old.state) self.old.own command (coordinates self.new.state)) }
-        ensures dot { IfOk result (λ edited. edited.dot ≡ new_dot (coordinates self.old.state) self.old.own command) }
-        ensures killed { IfOk result
-            (λ edited. edited.killed ≡ count_by (λ r. covers command r.1) (live_rows self.old.state.lives)) }
-        ensures refusal { let due = refusal (coordinates self.old.state) self.old.own command in
-            MatchResult result (λ _. due ≡ None) (IsDue due) }
-        ensures room { needs_room (coordinates self.old.state) self.old.own command ≡ false → result ≢ Err Memory }
-        ensures roster { self.new.roster ≡ self.old.roster }
-        ensures own { self.new.own ≡ self.old.own }
-        ensures err { OnErr result (self.new ≡ self.old) }
+        ensures { EditsReplica self.old command result self.new }
     {
         self.edit_by(&command)
     }
 
     /// Edits the document as [`edit`](Replica::edit) does, by a command that the caller keeps.
     pub fn edit_by(&mut self, command: &Command) -> Result<Edited, Fault>
-        ensures joined { IfOk result
-            (λ _. JoinsEffect (coordinates self.old.state) self.old.own command.now (coordinates self.new.state)) }
-        ensures dot { IfOk result
-            (λ edited. edited.dot ≡ new_dot (coordinates self.old.state) self.old.own command.now) }
-        ensures killed { IfOk result
-            (λ edited. edited.killed ≡ count_by (λ r. covers command.now r.1) (live_rows self.old.state.lives)) }
-        ensures refusal { let due = refusal (coordinates self.old.state) self.old.own command.now in
-            MatchResult result (λ _. due ≡ None) (IsDue due) }
-        ensures room { needs_room (coordinates self.old.state) self.old.own command.now ≡ false → result ≢ Err Memory }
-        ensures roster { self.new.roster ≡ self.old.roster }
-        ensures own { self.new.own ≡ self.old.own }
-        ensures err { OnErr result (self.new ≡ self.old) }
+        ensures { EditsReplica self.old command.now result self.new }
     {
         edit(&mut self.state, self.own, command, &Searched { command })
     }
@@ -183,18 +162,7 @@ impl<S: DotSet> Replica<S> {
     pub fn edit_found<F: Found>(&mut self, command: &Command, found: &F) -> Result<Edited, Fault>
         requires found { (d : Dot) (e : Entry) → map.get self.old.state.lives d ≡ Some (Live e)
             → F.found found.now d e ≡ covers command.now e }
-        ensures joined { IfOk result
-            (λ _. JoinsEffect (coordinates self.old.state) self.old.own command.now (coordinates self.new.state)) }
-        ensures dot { IfOk result
-            (λ edited. edited.dot ≡ new_dot (coordinates self.old.state) self.old.own command.now) }
-        ensures killed { IfOk result
-            (λ edited. edited.killed ≡ count_by (λ r. covers command.now r.1) (live_rows self.old.state.lives)) }
-        ensures refusal { let due = refusal (coordinates self.old.state) self.old.own command.now in
-            MatchResult result (λ _. due ≡ None) (IsDue due) }
-        ensures room { needs_room (coordinates self.old.state) self.old.own command.now ≡ false → result ≢ Err Memory }
-        ensures roster { self.new.roster ≡ self.old.roster }
-        ensures own { self.new.own ≡ self.old.own }
-        ensures err { OnErr result (self.new ≡ self.old) }
+        ensures { EditsReplica self.old command.now result self.new }
     {
         edit(&mut self.state, self.own, command, found)
     }
@@ -241,13 +209,7 @@ impl<S: DotSet> Replica<S> {
     /// that it had sent. Then it refuses a `Conflict`, as a merge does. A delta without components takes no memory.
     pub fn take(&mut self, delta: &State<S>) -> Result<(), Fault>
         requires { Fits (length self.old.roster.names) (coordinates delta.now) }
-        ensures ok { OnOk result (coordinates self.new.state
-            ≡ join (coordinates self.old.state) (coordinates delta.now)) }
-        ensures roster { self.new.roster ≡ self.old.roster }
-        ensures own { self.new.own ≡ self.old.own }
-        ensures gives { TakeGives self.old.state self.old.own delta.now result }
-        ensures nothing { size delta.now ≡ 0 → IsOk result }
-        ensures err { OnErr result (self.new ≡ self.old) }
+        ensures { TakesDelta self.old delta.now result self.new }
     {
         if delta.components() == 0 {
             return Ok(());
@@ -261,11 +223,7 @@ impl<S: DotSet> Replica<S> {
     /// Takes a roster that its own begins, in place of its own. Refuses one of another group (`WrongGroup`), then one
     /// that its own doesn't begin (`WrongRoster`). Takes no memory.
     pub fn grow(&mut self, roster: Roster) -> Result<(), Fault>
-        ensures roster { OnOk result (self.new.roster ≡ roster) }
-        ensures own { self.new.own ≡ self.old.own }
-        ensures state { self.new.state ≡ self.old.state }
-        ensures gives { GrowGives self.old.roster roster result }
-        ensures err { OnErr result (self.new ≡ self.old) }
+        ensures { Grows self.old roster result self.new }
     {
         if self.roster.group() != roster.group() {
             return Err(Fault::WrongGroup);
@@ -291,13 +249,7 @@ impl<S: DotSet> Replica<S> {
     /// [`take`](Replica::take) does.
     pub fn take_with(&mut self, roster: Roster, delta: &State<S>) -> Result<(), Fault>
         requires { Fits (max (length self.old.roster.names) (length roster.names)) (coordinates delta.now) }
-        ensures ok { OnOk result (coordinates self.new.state
-            ≡ join (coordinates self.old.state) (coordinates delta.now)) }
-        ensures roster { OnOk result (self.new.roster ≡ longer self.old.roster roster) }
-        ensures own { self.new.own ≡ self.old.own }
-        ensures gives { TakeWithGives self.old.roster roster self.old.state self.old.own delta.now result }
-        ensures nothing { size delta.now ≡ 0 → result ≢ Err Memory }
-        ensures err { OnErr result (self.new ≡ self.old) }
+        ensures { TakesDeltaWith self.old roster delta.now result self.new }
     {
         self.roster.may_meet(&roster)?;
         if roster.len() <= self.roster.len() {

@@ -1,5 +1,6 @@
 -- One more row.
-use Rattle.std.proofs.Common.{◌≡◌, ℕ, Bool, true, false, cond, ◌||◌, List, [], ◌∷◌, map, refl, sym, ◌∙◌, ap, subst, length, arith}
+use Rattle.std.proofs.Common.{◌≡◌, ℕ, Bool, true, false, cond, ◌||◌, List, [], ◌∷◌, map, refl, sym, ◌∙◌, ap, subst}
+use Rattle.std.proofs.Common.{length, arith}
 use Rattle.std.proofs.Math.Bool.{or-false, or_assoc}
 use Rattle.std.specs.Prelude.{Some, None, Result, Ok, Err, OnOk, OnErr}
 use Rattle.std.specs.List.{list_any}

@@ -1,5 +1,6 @@
 -- The keys of counters, row by row.
-use Rattle.std.proofs.Common.{◌≡◌, ℕ, zero, suc, Bool, true, false, ◌&&◌, ◌||◌, List, [], ◌∷◌, ◌++◌, map as each, refl, sym, ◌∙◌, ap, length, arith, append-nil}
+use Rattle.std.proofs.Common.{◌≡◌, ℕ, zero, suc, Bool, true, false, ◌&&◌, ◌||◌, List, [], ◌∷◌, ◌++◌, map as each, refl}
+use Rattle.std.proofs.Common.{sym, ◌∙◌, ap, length, arith, append-nil}
 use Rattle.std.specs.Prelude.{ℤ, Option, None, nat_lt, nat_le}
 use Rattle.std.specs.List.{list_any, list_all}
 use Rattle.std.specs.Ordering.{is_lt, is_gt, ordering_then}
@@ -11,7 +12,8 @@ use Rattle.std.specs.FinMap.{nat_cmp-IsAntisymmetric, slice_cmp-IsAntisymmetric}
 use Rattle.rds_counts.specs.declared.row.CountRow.{CountRow}
 use Rattle.rds_counts.specs.declared.row.TheConstants.{MAX_COUNT}
 use Rattle.rds_counts.specs.Place.{Place}
-use Rattle.rds_counts.specs.Counted.{Above, Counted, counts_of, components, above, row_cmp, is_row, rows_rise, AreCountRows}
+use Rattle.rds_counts.specs.Counted.{Above, Counted, counts_of, components, above, row_cmp, is_row, rows_rise}
+use Rattle.rds_counts.specs.Counted.{AreCountRows}
 use Rattle.rds_counts.specs.Value.{value_of}
 use Rattle.rds_names.specs.Conditions.{and_left, and_right}
 use Rattle.rds_counts.specs.Entries.{entries-counts_of}

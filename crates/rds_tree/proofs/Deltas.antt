@@ -1,5 +1,6 @@
 -- A tree that goes with the live rows where a delta is joined in.
-use Rattle.std.proofs.Common.{◌≡◌, Bool, true, false, cond, not, ◌&&◌, ◌||◌, List, [], ◌∷◌, refl, sym, ◌∙◌, ap, subst, OnOk, OnErr}
+use Rattle.std.proofs.Common.{◌≡◌, Bool, true, false, cond, not, ◌&&◌, ◌||◌, List, [], ◌∷◌, refl, sym, ◌∙◌, ap, subst}
+use Rattle.std.proofs.Common.{OnOk, OnErr}
 use Rattle.std.proofs.lemmas.Bool.{not-true, false_from_ne_true}
 use Rattle.std.proofs.Math.Bool.{and-false, and-true, or_comm}
 use Rattle.std.specs.Prelude.{Option, Some, None, Result, Ok, Err, filter}

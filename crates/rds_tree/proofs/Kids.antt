@@ -1,5 +1,6 @@
 -- The children of what a tree holds are the children of its node.
-use Rattle.std.proofs.Common.{◌≡◌, ℕ, suc, Bool, true, false, cond, ◌&&◌, ◌||◌, List, [], ◌∷◌, ◌++◌, map, refl, sym, ◌∙◌, ap, length, leb, arith, append-nil}
+use Rattle.std.proofs.Common.{◌≡◌, ℕ, suc, Bool, true, false, cond, ◌&&◌, ◌||◌, List, [], ◌∷◌, ◌++◌, map, refl, sym}
+use Rattle.std.proofs.Common.{◌∙◌, ap, length, leb, arith, append-nil}
 use Rattle.std.specs.Prelude.{Some, None}
 use Rattle.std.specs.List.{list_any, list_all, filter_map, cons_option, AllByRecursion}
 use Rattle.std.specs.Map.{lookup}
@@ -18,7 +19,8 @@ use Rattle.rds_tree.specs.declared.leaf.Leaf.{Leaf}
 use Rattle.rds_tree.specs.Once.{once_is}
 use Rattle.rds_tree.specs.Document.{Placed, key_cmp}
 use Rattle.rds_tree.specs.View.{keys_in, first_key, same_key, step_into, below, below_path, children}
-use Rattle.rds_tree.specs.Row.{Row, under, at_end, rows_below, rows_of, is_full, are_full, placement, placed_all, placed_below, fits}
+use Rattle.rds_tree.specs.Row.{Row, under, at_end, rows_below, rows_of, is_full, are_full, placement, placed_all}
+use Rattle.rds_tree.specs.Row.{placed_below, fits}
 
 abbrev heads : List Placed → List (List ℕ)
 heads es = filter_map (λ e. first_key e.path) es

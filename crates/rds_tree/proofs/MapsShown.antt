@@ -1,5 +1,6 @@
 -- Which maps a view has, and what they show.
-use Rattle.std.proofs.Common.{◌≡◌, ℕ, zero, suc, Bool, true, false, cond, ◌&&◌, ◌||◌, List, [], ◌∷◌, ◌++◌, map, refl, sym, ◌∙◌, ap, append_assoc, length, leb, arith, ◌≤◌}
+use Rattle.std.proofs.Common.{◌≡◌, ℕ, zero, suc, Bool, true, false, cond, ◌&&◌, ◌||◌, List, [], ◌∷◌, ◌++◌, map, refl}
+use Rattle.std.proofs.Common.{sym, ◌∙◌, ap, append_assoc, length, leb, arith, ◌≤◌}
 use Rattle.std.proofs.Math.Bool.{and-false}
 use Rattle.std.specs.Prelude.{◌↔◌, ℤ, Option, Some, None, if◌then◌else◌}
 use Rattle.std.proofs.lemmas.Bool.Decides.{nat_tests}
@@ -20,7 +21,8 @@ use Rattle.rds_tree.specs.Document.{Placed, entries_in, sums_of, document}
 use Rattle.rds_tree.specs.Gathered.{child_maps}
 use Rattle.rds_tree.specs.Shown.{Shown, shows, maps_of}
 use Rattle.rds_tree.specs.Shows.{IsLiveBelow, map_at, maps_in}
-use Rattle.rds_tree.specs.View.{below, below_path, children, counters_at, entries_view, first_key, goes_on, is_below, keys_in, same_key, shown_to, step_into, values_by_key, view_of}
+use Rattle.rds_tree.specs.View.{below, below_path, children, counters_at, entries_view, first_key, goes_on, is_below}
+use Rattle.rds_tree.specs.View.{keys_in, same_key, shown_to, step_into, values_by_key, view_of}
 use Rattle.rds_tree.proofs.Kids.{fit, fit-below_path, itself}
 use Rattle.rds_tree.proofs.Members.{any-once, any_wider}
 use Rattle.rds_tree.proofs.Reached.{any-below, any-below_path, is_reached, keys_exact, placed_at, reached, reaches}

@@ -12,7 +12,8 @@ use Rattle.rds_names.specs.Orders.{scalar_cmp}
 use Rattle.rds_names.proofs.Orders.{scalars_exact}
 use Rattle.rds_tree.proofs.ScalarOrder.{scalars_total}
 use Rattle.rds_tree.specs.Document.{Placed, key_cmp}
-use Rattle.rds_tree.specs.View.{keys_in, first_key, step_into, below, below_path, children, value_here, values_here, with_key, values_by_key, goes_on, is_below, shown_to, entries_view}
+use Rattle.rds_tree.specs.View.{keys_in, first_key, step_into, below, below_path, children, value_here, values_here}
+use Rattle.rds_tree.specs.View.{with_key, values_by_key, goes_on, is_below, shown_to, entries_view}
 use Rattle.rds_tree.specs.Gathered.{child_maps}
 use Rattle.rds_tree.specs.Shown.{shows, maps_of}
 

@@ -1,5 +1,6 @@
 -- What a view has.
-use Rattle.std.proofs.Common.{◌≡◌, ℕ, Bool, true, false, cond, ◌&&◌, ◌||◌, List, [], ◌∷◌, ◌++◌, map, refl, sym, ◌∙◌, ap, subst}
+use Rattle.std.proofs.Common.{◌≡◌, ℕ, Bool, true, false, cond, ◌&&◌, ◌||◌, List, [], ◌∷◌, ◌++◌, map, refl, sym, ◌∙◌, ap}
+use Rattle.std.proofs.Common.{subst}
 use Rattle.std.specs.Prelude.{◌↔◌, ℤ, Some, None}
 use Rattle.std.specs.List.{list_any, filter_map}
 use Rattle.std.specs.Ordering.{eq_by_cmp}
@@ -19,11 +20,14 @@ use Rattle.rds_names.specs.Orders.{scalar_cmp}
 use Rattle.rds_names.proofs.Orders.{scalars_exact}
 use Rattle.rds_tree.proofs.ScalarOrder.{scalars_total}
 use Rattle.rds_tree.specs.Shows.{IsLiveAt, has_value, regs_in, sets_in, sum_at}
-use Rattle.rds_tree.specs.View.{below, below_path, children, entries_view, first_key, keys_in, same_key, value_here, values_by_key, values_here, view_of, with_key}
+use Rattle.rds_tree.specs.View.{below, below_path, children, entries_view, first_key, keys_in, same_key, value_here}
+use Rattle.rds_tree.specs.View.{values_by_key, values_here, view_of, with_key}
 use Rattle.rds_tree.proofs.Kids.{itself}
 use Rattle.rds_tree.proofs.Members.{any-once, any_wider, some_passes}
-use Rattle.rds_tree.proofs.Reached.{any-below, any-below_path, here_is, here_itself, is_here, is_reached, keys_exact, placed_at, reached, reaches}
-use Rattle.rds_tree.proofs.SameDocument.{any-map, at_key, counted_passes, shown_passes, some_counts, some_shows, value_is}
+use Rattle.rds_tree.proofs.Reached.{any-below, any-below_path, here_is, here_itself, is_here, is_reached, keys_exact}
+use Rattle.rds_tree.proofs.Reached.{placed_at, reached, reaches}
+use Rattle.rds_tree.proofs.SameDocument.{any-map, at_key, counted_passes, shown_passes, some_counts, some_shows}
+use Rattle.rds_tree.proofs.SameDocument.{value_is}
 use Rattle.rds_tree.proofs.SameView.{any-filter_map, passes}
 use Rattle.rds_tree.proofs.Witness.{both_ways}
 

@@ -1,5 +1,6 @@
 -- What a walk over a tree's children has gathered so far.
-use Rattle.std.proofs.Common.{◌≡◌, ℕ, zero, suc, Bool, true, false, ◌&&◌, List, [], ◌∷◌, ◌++◌, map, refl, sym, ◌∙◌, ap, length, leb, arith, append-nil, append_assoc, subst}
+use Rattle.std.proofs.Common.{◌≡◌, ℕ, zero, suc, Bool, true, false, ◌&&◌, List, [], ◌∷◌, ◌++◌, map, refl, sym, ◌∙◌, ap}
+use Rattle.std.proofs.Common.{length, leb, arith, append-nil, append_assoc, subst}
 use Rattle.rds_names.specs.Conditions.{and_right, and_left}
 use Rattle.std.specs.Prelude.{Option, Some, None, if◌then◌else◌, ℤ}
 use Rattle.std.specs.Option.{option_to_list}
@@ -13,7 +14,8 @@ use Rattle.rds_tree.specs.Document.{key_cmp}
 use Rattle.rds_tree.specs.View.{values_by_key, values_here, with_key, goes_on, shown_to, children}
 use Rattle.rds_tree.specs.Gathered.{child_maps}
 use Rattle.rds_tree.specs.Row.{Row, under, rows_below, rows_of, are_full, placed_all, placed_below, fits, all_fit}
-use Rattle.rds_tree.specs.Shown.{Shown, ShownMaps, maps_step, view_step, shows, no_maps, maps_of, shown_view, maps_shown, views_shown}
+use Rattle.rds_tree.specs.Shown.{Shown, ShownMaps, maps_step, view_step, shows, no_maps, maps_of, shown_view}
+use Rattle.rds_tree.specs.Shown.{maps_shown, views_shown}
 use Rattle.rds_tree.specs.declared.views.Maps.{Maps}
 use Rattle.rds_tree.specs.declared.views.Maps.TheViews.{roll-View}
 use Rattle.rds_tree.specs.declared.views.Maps.TheFolds.{fold-roll-View}

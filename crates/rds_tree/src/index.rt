@@ -1,14 +1,10 @@
 //! A replica with the tree of its live dots.
-ghost use Rattle.std.specs.Prelude.{◌≡◌, ◌≢◌, false, max, None, Err, count_by, IfOk, IfErr, IsOk, OnOk, OnErr, MatchResult, length};
+ghost use Rattle.std.specs.Prelude.{◌≡◌, max, IfOk, IfErr, length};
 ghost use Rattle.rds_life.specs.Life.{live_rows};
 ghost use Rattle.rds_names.specs.declared.fault.Fault.TheVariants.{Memory};
-ghost use Rattle.rds_state.specs.Ahead.{TakeGives};
-ghost use Rattle.rds_state.specs.Coordinates.{join};
-ghost use Rattle.rds_state.specs.Edit.{covers, JoinsEffect, new_dot, needs_room, refusal, IsDue};
 ghost use Rattle.rds_state.specs.Fits.{Fits};
-ghost use Rattle.rds_state.specs.Grown.{GrowGives, TakeWithGives};
-ghost use Rattle.rds_names.specs.Roster.{longer};
-ghost use Rattle.rds_state.specs.Value.{coordinates, size};
+ghost use Rattle.rds_state.specs.Results.{EditsReplica, Grows, TakesDelta, TakesDeltaWith};
+ghost use Rattle.rds_state.specs.Value.{coordinates};
 ghost use Rattle.rds_tree.specs.Document.{document};
 ghost use Rattle.rds_tree.specs.Growing.{Holds};
 ghost use Rattle.rds_tree.specs.Shown.{shown_view};
@@ -93,35 +89,14 @@ impl<S: DotSet> Index<S> {
 
     /// Edits the replica, as [`Replica::edit`] does, and refuses as it does. The tree finds what the command covers.
     pub fn edit(&mut self, command: Command) -> Result<Edited, Fault>
-        ensures joined { IfOk result
-            (λ _. JoinsEffect (coordinates self.old.state) self.old.own command (coordinates self.new.state)) }
-        ensures dot { IfOk result (λ edited. edited.dot ≡ new_dot (coordinates self.old.state) self.old.own command) }
-        ensures killed { IfOk result
-            (λ edited. edited.killed ≡ count_by (λ r. covers command r.1) (live_rows self.old.state.lives)) }
-        ensures refusal { let due = refusal (coordinates self.old.state) self.old.own command in
-            MatchResult result (λ _. due ≡ None) (IsDue due) }
-        ensures room { needs_room (coordinates self.old.state) self.old.own command ≡ false → result ≢ Err Memory }
-        ensures roster { self.new.roster ≡ self.old.roster }
-        ensures own { self.new.own ≡ self.old.own }
-        ensures err { OnErr result (self.new ≡ self.old) }
+        ensures { EditsReplica self.old command result self.new }
     {
         self.edit_by(&command)
     }
 
     /// Edits the replica as [`edit`](Index::edit) does, by a command that the caller keeps.
     pub fn edit_by(&mut self, command: &Command) -> Result<Edited, Fault>
-        ensures joined { IfOk result
-            (λ _. JoinsEffect (coordinates self.old.state) self.old.own command.now (coordinates self.new.state)) }
-        ensures dot { IfOk result
-            (λ edited. edited.dot ≡ new_dot (coordinates self.old.state) self.old.own command.now) }
-        ensures killed { IfOk result
-            (λ edited. edited.killed ≡ count_by (λ r. covers command.now r.1) (live_rows self.old.state.lives)) }
-        ensures refusal { let due = refusal (coordinates self.old.state) self.old.own command.now in
-            MatchResult result (λ _. due ≡ None) (IsDue due) }
-        ensures room { needs_room (coordinates self.old.state) self.old.own command.now ≡ false → result ≢ Err Memory }
-        ensures roster { self.new.roster ≡ self.old.roster }
-        ensures own { self.new.own ≡ self.old.own }
-        ensures err { OnErr result (self.new ≡ self.old) }
+        ensures { EditsReplica self.old command.now result self.new }
     {
         edit(self.alloc, &mut self.replica, &mut self.tree, command)
     }
@@ -129,24 +104,14 @@ impl<S: DotSet> Index<S> {
     /// Joins a delta into the replica, as [`Replica::take`] does, and refuses as it does. The tree isn't built anew.
     pub fn take(&mut self, delta: &State<S>) -> Result<(), Fault>
         requires { Fits (length self.old.roster.names) (coordinates delta.now) }
-        ensures ok { OnOk result (coordinates self.new.state
-            ≡ join (coordinates self.old.state) (coordinates delta.now)) }
-        ensures roster { self.new.roster ≡ self.old.roster }
-        ensures own { self.new.own ≡ self.old.own }
-        ensures gives { TakeGives self.old.state self.old.own delta.now result }
-        ensures nothing { size delta.now ≡ 0 → IsOk result }
-        ensures err { OnErr result (self.new ≡ self.old) }
+        ensures { TakesDelta self.old delta.now result self.new }
     {
         take(self.alloc, &mut self.replica, &mut self.tree, delta)
     }
 
     /// Takes a longer roster, as [`Replica::grow`] does, and refuses as it does. Takes no memory.
     pub fn grow(&mut self, roster: Roster) -> Result<(), Fault>
-        ensures roster { OnOk result (self.new.roster ≡ roster) }
-        ensures own { self.new.own ≡ self.old.own }
-        ensures state { self.new.state ≡ self.old.state }
-        ensures gives { GrowGives self.old.roster roster result }
-        ensures err { OnErr result (self.new ≡ self.old) }
+        ensures { Grows self.old roster result self.new }
     {
         self.replica.grow(roster)
     }
@@ -155,13 +120,7 @@ impl<S: DotSet> Index<S> {
     /// built anew.
     pub fn take_with(&mut self, roster: Roster, delta: &State<S>) -> Result<(), Fault>
         requires { Fits (max (length self.old.roster.names) (length roster.names)) (coordinates delta.now) }
-        ensures ok { OnOk result (coordinates self.new.state
-            ≡ join (coordinates self.old.state) (coordinates delta.now)) }
-        ensures roster { OnOk result (self.new.roster ≡ longer self.old.roster roster) }
-        ensures own { self.new.own ≡ self.old.own }
-        ensures gives { TakeWithGives self.old.roster roster self.old.state self.old.own delta.now result }
-        ensures nothing { size delta.now ≡ 0 → result ≢ Err Memory }
-        ensures err { OnErr result (self.new ≡ self.old) }
+        ensures { TakesDeltaWith self.old roster delta.now result self.new }
     {
         take_with(self.alloc, &mut self.replica, &mut self.tree, roster, delta)
     }

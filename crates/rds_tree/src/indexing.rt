@@ -1,10 +1,8 @@
 //! Edits of a replica and of the tree of its live dots, which find in the tree what they cover.
-ghost use Rattle.std.specs.Prelude.{◌≡◌, ◌≢◌, false, None, Some, Err, count_by, IfOk, IfErr, OnOk, OnErr, MatchResult};
+ghost use Rattle.std.specs.Prelude.{◌≡◌, None, Some, Err};
 ghost use Rattle.rds_life.specs.Life.{live_rows};
-ghost use Rattle.rds_names.specs.declared.fault.Fault.TheVariants.{Memory};
 ghost use Rattle.rds_state.specs.Chosen.{parts_of, Parts};
-ghost use Rattle.rds_state.specs.Edit.{covers, JoinsEffect, new_dot, needs_room, refusal, IsDue};
-ghost use Rattle.rds_state.specs.Value.{coordinates};
+ghost use Rattle.rds_state.specs.Results.{EditsReplica};
 ghost use Rattle.rds_tree.specs.Cuts.{path_in, IsRaise};
 ghost use Rattle.rds_tree.specs.Growing.{Holds};
 
@@ -26,19 +24,7 @@ pub fn edit<S: DotSet>(
 ) -> Result<Edited, Fault>
     requires holds { Holds (live_rows replica.old.state.lives) tree.old }
     ensures holds { Holds (live_rows replica.new.state.lives) tree.new }
-    ensures joined { IfOk result
-        (λ _. JoinsEffect (coordinates replica.old.state) replica.old.own command.now (coordinates replica.new.state)) }
-    ensures dot { IfOk result
-        (λ edited. edited.dot ≡ new_dot (coordinates replica.old.state) replica.old.own command.now) }
-    ensures killed { IfOk result
-        (λ edited. edited.killed ≡ count_by (λ r. covers command.now r.1) (live_rows replica.old.state.lives)) }
-    ensures refusal { let due = refusal (coordinates replica.old.state) replica.old.own command.now in
-        MatchResult result (λ _. due ≡ None) (IsDue due) }
-    ensures room { needs_room (coordinates replica.old.state) replica.old.own command.now ≡ false
-        → result ≢ Err Memory }
-    ensures roster { replica.new.roster ≡ replica.old.roster }
-    ensures own { replica.new.own ≡ replica.old.own }
-    ensures err { OnErr result (replica.new ≡ replica.old) }
+    ensures edited { EditsReplica replica.old command.now result replica.new }
 {
     match command {
         Command::Set(path, value) => put(alloc, replica, tree, command, path, Kind::Reg, value),
@@ -64,19 +50,7 @@ fn put<S: DotSet>(
         parts_of command.now ≡ Some parts }
     requires holds { Holds (live_rows replica.old.state.lives) tree.old }
     ensures holds { Holds (live_rows replica.new.state.lives) tree.new }
-    ensures joined { IfOk result
-        (λ _. JoinsEffect (coordinates replica.old.state) replica.old.own command.now (coordinates replica.new.state)) }
-    ensures dot { IfOk result
-        (λ edited. edited.dot ≡ new_dot (coordinates replica.old.state) replica.old.own command.now) }
-    ensures killed { IfOk result
-        (λ edited. edited.killed ≡ count_by (λ r. covers command.now r.1) (live_rows replica.old.state.lives)) }
-    ensures refusal { let due = refusal (coordinates replica.old.state) replica.old.own command.now in
-        MatchResult result (λ _. due ≡ None) (IsDue due) }
-    ensures room { needs_room (coordinates replica.old.state) replica.old.own command.now ≡ false
-        → result ≢ Err Memory }
-    ensures roster { replica.new.roster ≡ replica.old.roster }
-    ensures own { replica.new.own ≡ replica.old.own }
-    ensures err { OnErr result (replica.new ≡ replica.old) }
+    ensures edited { EditsReplica replica.old command.now result replica.new }
 {
     let dot = replica.next_dot(path)?;
     add_leaf(alloc, tree, path, kind, value, dot)?;
@@ -112,19 +86,7 @@ fn kill<S: DotSet>(
     requires parts { parts_of command.now ≡ None }
     requires holds { Holds (live_rows replica.old.state.lives) tree.old }
     ensures holds { Holds (live_rows replica.new.state.lives) tree.new }
-    ensures joined { IfOk result
-        (λ _. JoinsEffect (coordinates replica.old.state) replica.old.own command.now (coordinates replica.new.state)) }
-    ensures dot { IfOk result
-        (λ edited. edited.dot ≡ new_dot (coordinates replica.old.state) replica.old.own command.now) }
-    ensures killed { IfOk result
-        (λ edited. edited.killed ≡ count_by (λ r. covers command.now r.1) (live_rows replica.old.state.lives)) }
-    ensures refusal { let due = refusal (coordinates replica.old.state) replica.old.own command.now in
-        MatchResult result (λ _. due ≡ None) (IsDue due) }
-    ensures room { needs_room (coordinates replica.old.state) replica.old.own command.now ≡ false
-        → result ≢ Err Memory }
-    ensures roster { replica.new.roster ≡ replica.old.roster }
-    ensures own { replica.new.own ≡ replica.old.own }
-    ensures err { OnErr result (replica.new ≡ replica.old) }
+    ensures edited { EditsReplica replica.old command.now result replica.new }
 {
     let found = FoundInTree {
         tree,
@@ -146,19 +108,7 @@ fn raise<S: DotSet>(
     requires raise { IsRaise command.now }
     requires holds { Holds (live_rows replica.old.state.lives) tree.old }
     ensures holds { Holds (live_rows replica.new.state.lives) tree.new }
-    ensures joined { IfOk result
-        (λ _. JoinsEffect (coordinates replica.old.state) replica.old.own command.now (coordinates replica.new.state)) }
-    ensures dot { IfOk result
-        (λ edited. edited.dot ≡ new_dot (coordinates replica.old.state) replica.old.own command.now) }
-    ensures killed { IfOk result
-        (λ edited. edited.killed ≡ count_by (λ r. covers command.now r.1) (live_rows replica.old.state.lives)) }
-    ensures refusal { let due = refusal (coordinates replica.old.state) replica.old.own command.now in
-        MatchResult result (λ _. due ≡ None) (IsDue due) }
-    ensures room { needs_room (coordinates replica.old.state) replica.old.own command.now ≡ false
-        → result ≢ Err Memory }
-    ensures roster { replica.new.roster ≡ replica.old.roster }
-    ensures own { replica.new.own ≡ replica.old.own }
-    ensures err { OnErr result (replica.new ≡ replica.old) }
+    ensures edited { EditsReplica replica.old command.now result replica.new }
 {
     replica.edit_by(command)
 }

@@ -7,7 +7,8 @@ ghost use Rattle.rds_state.specs.Value.{StateValue};
 ghost use Rattle.rds_tree.specs.Document.{document};
 ghost use Rattle.rds_tree.specs.SameDocument.{AreSameDocument};
 ghost use Rattle.rds_tree.specs.Shown.{Shown};
-ghost use Rattle.rds_tree.specs.Shows.{counters_in, has_value, HasSums, IsInOrder, IsLiveAt, IsLiveBelow, map_at, maps_in, regs_in, sets_in};
+ghost use Rattle.rds_tree.specs.Shows.{counters_in, has_value, HasSums, IsInOrder, IsLiveAt, IsLiveBelow, map_at};
+ghost use Rattle.rds_tree.specs.Shows.{maps_in, regs_in, sets_in};
 ghost use Rattle.rds_tree.specs.View.{view_of};
 
 /// A view has a value of a register or of a set under a key exactly where one is live at the path that goes on by this

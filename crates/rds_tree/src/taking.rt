@@ -1,14 +1,11 @@
 //! A delta that is joined into a replica and into the tree of its live dots.
-ghost use Rattle.std.specs.Prelude.{◌≡◌, ◌≢◌, max, Err, IfOk, IfErr, IsOk, OnOk, OnErr, length};
+ghost use Rattle.std.specs.Prelude.{◌≡◌, max, Err, IfOk, IfErr, OnOk, OnErr, length};
 ghost use Rattle.std.specs.FinMap as map;
 ghost use Rattle.rds_life.specs.Life.{Lived, live_rows};
 ghost use Rattle.rds_names.specs.declared.fault.Fault.TheVariants.{Memory};
-ghost use Rattle.rds_state.specs.Ahead.{TakeGives};
-ghost use Rattle.rds_state.specs.Coordinates.{join};
 ghost use Rattle.rds_state.specs.Fits.{Fits};
-ghost use Rattle.rds_state.specs.Grown.{TakeWithGives};
-ghost use Rattle.rds_names.specs.Roster.{longer};
-ghost use Rattle.rds_state.specs.Value.{coordinates, size};
+ghost use Rattle.rds_state.specs.Results.{TakesDelta, TakesDeltaWith};
+ghost use Rattle.rds_state.specs.Value.{coordinates};
 ghost use Rattle.rds_tree.specs.Growing.{Holds};
 ghost use Rattle.rds_tree.specs.Taken.{is_unseen, rows_dead, rows_unseen, AreSameBut, IsWith, IsWithout};
 
@@ -32,13 +29,7 @@ pub fn take<S: DotSet>(
     requires fits { Fits (length replica.old.roster.names) (coordinates delta.now) }
     requires holds { Holds (live_rows replica.old.state.lives) tree.old }
     ensures holds { Holds (live_rows replica.new.state.lives) tree.new }
-    ensures ok { OnOk result (coordinates replica.new.state
-        ≡ join (coordinates replica.old.state) (coordinates delta.now)) }
-    ensures roster { replica.new.roster ≡ replica.old.roster }
-    ensures own { replica.new.own ≡ replica.old.own }
-    ensures gives { TakeGives replica.old.state replica.old.own delta.now result }
-    ensures nothing { size delta.now ≡ 0 → IsOk result }
-    ensures err { OnErr result (replica.new ≡ replica.old) }
+    ensures taken { TakesDelta replica.old delta.now result replica.new }
 {
     if delta.components() == 0 {
         return Ok(());
@@ -65,13 +56,7 @@ pub fn take_with<S: DotSet>(
     requires fits { Fits (max (length replica.old.roster.names) (length roster.names)) (coordinates delta.now) }
     requires holds { Holds (live_rows replica.old.state.lives) tree.old }
     ensures holds { Holds (live_rows replica.new.state.lives) tree.new }
-    ensures ok { OnOk result (coordinates replica.new.state
-        ≡ join (coordinates replica.old.state) (coordinates delta.now)) }
-    ensures roster { OnOk result (replica.new.roster ≡ longer replica.old.roster roster) }
-    ensures own { replica.new.own ≡ replica.old.own }
-    ensures gives { TakeWithGives replica.old.roster roster replica.old.state replica.old.own delta.now result }
-    ensures nothing { size delta.now ≡ 0 → result ≢ Err Memory }
-    ensures err { OnErr result (replica.new ≡ replica.old) }
+    ensures taken { TakesDeltaWith replica.old roster delta.now result replica.new }
 {
     if delta.components() == 0 {
         return replica.take_with(roster, delta);

@@ -1,5 +1,6 @@
 -- What an answer brings, whenever it is taken.
-use Rattle.std.proofs.Common.{◌≡◌, length, ℕ, List, [], ◌∷◌, ◌++◌, refl, sym, ap, ◌∙◌, subst, Option, Some, None, slice_get}
+use Rattle.std.proofs.Common.{◌≡◌, length, ℕ, List, [], ◌∷◌, ◌++◌, refl, sym, ap, ◌∙◌, subst, Option, Some, None}
+use Rattle.std.proofs.Common.{slice_get}
 use Rattle.rds_state.specs.Coordinates.{AtMost, AreCompatible}
 use Rattle.rds_state.proofs.JoinLaws.{reflexive, transitive}
 use Rattle.rds_world.specs.declared.event.Event.{Event}

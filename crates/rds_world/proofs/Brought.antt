@@ -1,5 +1,6 @@
 -- What holds of every state of the model's world holds of the replicas that stand for it.
-use Rattle.std.proofs.Common.{◌≡◌, ℕ, ◌<◌, ◌∙◌, true, Result, Ok, Err, IfOk, IfErr, MatchResult, List, [], length, Some, None, refl, sym, ap, subst, inl, inr, slice_get}
+use Rattle.std.proofs.Common.{◌≡◌, ℕ, ◌<◌, ◌∙◌, true, Result, Ok, Err, IfOk, IfErr, MatchResult, List, [], length, Some}
+use Rattle.std.proofs.Common.{None, refl, sym, ap, subst, inl, inr, slice_get}
 use Rattle.std.specs.Prelude.{is_some}
 use Rattle.rds_names.specs.Roster.{RosterValue}
 use Rattle.rds_names.specs.declared.fault.Fault.{Fault}
@@ -12,7 +13,8 @@ use Rattle.rds_world.specs.declared.event.Event.{Event}
 use Rattle.rds_world.specs.World.{World, reply, start}
 use Rattle.rds_world.specs.Coherent.{IsCoherent, Position, AtMemory, AtKept, Store, Memory, Kept, state_at, state_in}
 use Rattle.rds_world.specs.Law.{world_after, held_after, held_in, bases_after}
-use Rattle.rds_world.specs.Simulation.{AnswersBringTheirAskers, Reaches, ReplicasAreCoherent, ReplicasExplainTheirDots, ReplicasStayFriends, Stops, replicas_in}
+use Rattle.rds_world.specs.Simulation.{AnswersBringTheirAskers, Reaches, ReplicasAreCoherent, ReplicasExplainTheirDots}
+use Rattle.rds_world.specs.Simulation.{ReplicasStayFriends, Stops, replicas_in}
 use Rattle.rds_world.specs.Stands.{HoldsAnswer, state_of}
 use Rattle.rds_world.specs.Stored.{WorldValue}
 use Rattle.rds_world.specs.Updates.{IsExplained}

@@ -1,5 +1,6 @@
 -- Coherence is kept by each event.
-use Rattle.std.proofs.Common.{◌≡◌, ◌≢◌, ◌<◌, ℕ, Bool, true, false, cond, List, [], ◌∷◌, ◌++◌, refl, sym, ap, ◌∙◌, subst, inl, inr, ◌⊎◌, arith, nat_lt, suc, max, Option, Some, None, slice_get, length}
+use Rattle.std.proofs.Common.{◌≡◌, ◌≢◌, ◌<◌, ℕ, Bool, true, false, cond, List, [], ◌∷◌, ◌++◌, refl, sym, ap, ◌∙◌, subst}
+use Rattle.std.proofs.Common.{inl, inr, ◌⊎◌, arith, nat_lt, suc, max, Option, Some, None, slice_get, length}
 use Rattle.std.specs.Prelude.{is_some}
 use Rattle.std.proofs.lemmas.Bool.Decides.{nat_tests}
 use Rattle.rds_names.specs.declared.entry.Entry.{Entry}
@@ -19,10 +20,13 @@ use Rattle.rds_state.proofs.JoinLaws.{reflexive, transitive, above_left, compati
 use Rattle.rds_delta.specs.Ranks.{ranks}
 use Rattle.rds_world.specs.declared.event.Event.{Event}
 use Rattle.rds_world.specs.declared.event.Event.TheVariants.{Edit, Save, Crash, Ask, Answer, Take, Grow}
-use Rattle.rds_world.specs.World.{World, Question, Reply, empty, put, start, after_edit, reply, after_answer, after_take, after, refusal_of, run, Accepted}
-use Rattle.rds_world.specs.Coherent.{Position, AtMemory, AtKept, AtAsk, AtAnswer, state_asked, state_answered, state_at, AnswersIts, IsCoherent}
+use Rattle.rds_world.specs.World.{World, Question, Reply, empty, put, start, after_edit, reply, after_answer}
+use Rattle.rds_world.specs.World.{after_take, after, refusal_of, run, Accepted}
+use Rattle.rds_world.specs.Coherent.{Position, AtMemory, AtKept, AtAsk, AtAnswer, state_asked, state_answered, state_at}
+use Rattle.rds_world.specs.Coherent.{AnswersIts, IsCoherent}
 use Rattle.rds_delta.proofs.LeastLaws.{compatible_sym, compatible_least, least_part, least_above}
-use Rattle.rds_world.proofs.States.{by_life, agree_if, compatible_same, knows_same, knows_grown, knows_join, knows_less, fits_join, fits_below}
+use Rattle.rds_world.proofs.States.{by_life, agree_if, compatible_same, knows_same, knows_grown, knows_join, knows_less}
+use Rattle.rds_world.proofs.States.{fits_join, fits_below}
 use Rattle.rds_world.proofs.Effects.{next_dot, next_unseen, effect_live, effect_dead, effect_number_own}
 use Rattle.rds_world.proofs.Tables.{put_one, same_some, last_get, get_front, same_or_not}
 

@@ -1,5 +1,6 @@
 -- A counter's numbers in a state are sums over the updates that it holds.
-use Rattle.std.proofs.Common.{◌≡◌, ℕ, ◌+◌, ◌≤◌, ◌<◌, suc, zero, Bool, true, cond, List, refl, sym, ap, ◌∙◌, subst, inl, inr, ◌⊎◌, arith, ◌==◌, ◌&&◌}
+use Rattle.std.proofs.Common.{◌≡◌, ℕ, ◌+◌, ◌≤◌, ◌<◌, suc, zero, Bool, true, cond, List, refl, sym, ap, ◌∙◌, subst, inl}
+use Rattle.std.proofs.Common.{inr, ◌⊎◌, arith, ◌==◌, ◌&&◌}
 use Rattle.std.specs.Prelude.{pos, ◌-ℤ◌}
 use Rattle.std.specs.List.{sum_by, range_with_len}
 use Rattle.std.proofs.lemmas.Bool.Decides.{nat_tests}
@@ -19,7 +20,8 @@ use Rattle.rds_world.proofs.Effects.{effect_number, effect_adds}
 use Rattle.rds_world.proofs.Joins.{IsGathered}
 use Rattle.rds_world.proofs.Invariant.{Lawful}
 use Rattle.rds_world.proofs.Facts.{store_gathered, store_few, store_own, store_closed, shows}
-use Rattle.rds_world.proofs.Sums.{sum_below, sum_is, sum_next, sum_nothing, sum_up, sum_longer, sum_add, sum_one, sum_same, sum_swap, sum_within, sum_some, sum_has}
+use Rattle.rds_world.proofs.Sums.{sum_below, sum_is, sum_next, sum_nothing, sum_up, sum_longer, sum_add, sum_one}
+use Rattle.rds_world.proofs.Sums.{sum_same, sum_swap, sum_within, sum_some, sum_has}
 
 -- the set's updates of one replica
 abbrev of_replica : (ℕ → Update) → (ℕ → Bool) → ℕ → ℕ → Bool

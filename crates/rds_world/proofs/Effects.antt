@@ -1,5 +1,6 @@
 -- What a command's effect has at each dot and number.
-use Rattle.std.proofs.Common.{◌≡◌, ℕ, ◌+◌, ◌≤◌, ◌<◌, suc, zero, Bool, true, false, cond, ◌&&◌, List, [], ◌∷◌, refl, sym, ap, ◌∙◌, subst, inl, inr, ◌⊎◌, arith, ◌==◌, nat_lt, Option, Some, None}
+use Rattle.std.proofs.Common.{◌≡◌, ℕ, ◌+◌, ◌≤◌, ◌<◌, suc, zero, Bool, true, false, cond, ◌&&◌, List, [], ◌∷◌, refl, sym}
+use Rattle.std.proofs.Common.{ap, ◌∙◌, subst, inl, inr, ◌⊎◌, arith, ◌==◌, nat_lt, Option, Some, None}
 use Rattle.std.specs.Prelude.{is_some}
 use Rattle.std.specs.Str.{bytes_eq}
 use Rattle.std.specs.Ordering.{eq_by_cmp, is_eq}
@@ -20,7 +21,8 @@ use Rattle.rds_counts.specs.PlaceOrder.{place_total, place_exact}
 use Rattle.rds_counts.specs.Counted.{place}
 use Rattle.rds_life.specs.Life.{Life, Live, Dead}
 use Rattle.rds_state.specs.Coordinates.{Coordinates, AreCompatible}
-use Rattle.rds_state.specs.Edit.{covers, greatest, own_top, is_next, life_made, life_killed, effect, new_dot, refusal, path_fault, seq_fault}
+use Rattle.rds_state.specs.Edit.{covers, greatest, own_top, is_next, life_made, life_killed, effect, new_dot, refusal}
+use Rattle.rds_state.specs.Edit.{path_fault, seq_fault}
 use Rattle.rds_state.specs.Made.{entry_made}
 use Rattle.rds_state.specs.declared.command.Command.{Command}
 use Rattle.rds_state.specs.declared.command.Command.TheVariants.{Set, Add, Del, Clear, Inc, Dec}

@@ -1,5 +1,7 @@
 -- A roster that grows, and its new replica.
-use Rattle.std.proofs.Common.{◌≡◌, ◌<◌, ◌≤◌, ℕ, suc, zero, Bool, true, false, cond, List, [], ◌∷◌, ◌++◌, length, length-append, take, Result, Ok, Err, IfOk, IfErr, Option, Some, None, refl, sym, ap, ◌∙◌, subst, arith, slice_get, slice_index_or, inl, inr, ◌==◌}
+use Rattle.std.proofs.Common.{◌≡◌, ◌<◌, ◌≤◌, ℕ, suc, zero, Bool, true, false, cond, List, [], ◌∷◌, ◌++◌, length}
+use Rattle.std.proofs.Common.{length-append, take, Result, Ok, Err, IfOk, IfErr, Option, Some, None, refl, sym, ap, ◌∙◌}
+use Rattle.std.proofs.Common.{subst, arith, slice_get, slice_index_or, inl, inr, ◌==◌}
 use Rattle.std.proofs.Math.ListN.{set, length-set}
 use Rattle.std.proofs.lemmas.Bool.Decides.{nat_tests}
 use Rattle.std.proofs.lemmas.List.{take_all}

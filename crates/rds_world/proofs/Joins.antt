@@ -1,5 +1,6 @@
 -- The join of a set of states, coordinate by coordinate.
-use Rattle.std.proofs.Common.{◌≡◌, ℕ, Bool, true, ◌||◌, max, refl, sym, ◌∙◌, subst, inl, inr, ◌⊎◌, arith, ◌==◌, Option, Some, None}
+use Rattle.std.proofs.Common.{◌≡◌, ℕ, Bool, true, ◌||◌, max, refl, sym, ◌∙◌, subst, inl, inr, ◌⊎◌, arith, ◌==◌, Option}
+use Rattle.std.proofs.Common.{Some, None}
 use Rattle.std.proofs.lemmas.Bool.Decides.{nat_tests}
 use Rattle.rds_dots.specs.declared.dot.Dot.{Dot}
 use Rattle.rds_counts.specs.Place.{Place}

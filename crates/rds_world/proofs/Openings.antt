@@ -1,5 +1,6 @@
 -- Worlds without events.
-use Rattle.std.proofs.Common.{◌≡◌, ℕ, ◌<◌, zero, suc, ◌+◌, List, [], ◌∷◌, ◌++◌, length, length-append, take, Some, None, refl, sym, ap, ◌∙◌, subst, slice_get, inl, inr, ◌⊎◌, arith}
+use Rattle.std.proofs.Common.{◌≡◌, ℕ, ◌<◌, zero, suc, ◌+◌, List, [], ◌∷◌, ◌++◌, length, length-append, take, Some, None}
+use Rattle.std.proofs.Common.{refl, sym, ap, ◌∙◌, subst, slice_get, inl, inr, ◌⊎◌, arith}
 use Rattle.std.specs.List.{AllZip}
 use mathlib.Core.Path.{fun_ext}
 use Rattle.std.specs.FinMap as map
@@ -14,7 +15,8 @@ use Rattle.rds_state.specs.Fits.{ReplicaValue}
 use Rattle.rds_state.specs.Value.{coordinates}
 use Rattle.rds_world.specs.World.{empty, start}
 use Rattle.rds_world.specs.Stored.{WorldValue}
-use Rattle.rds_world.specs.Stands.{HoldsAsk, HoldsAnswer, state_of, AreAtTheirPlaces, HaveNames, Stands, IsNew, AreNew, IsWhole, IsWorld}
+use Rattle.rds_world.specs.Stands.{HoldsAsk, HoldsAnswer, state_of, AreAtTheirPlaces, HaveNames, Stands, IsNew, AreNew}
+use Rattle.rds_world.specs.Stands.{IsWhole, IsWorld}
 use Rattle.rds_world.proofs.Coherent.{coherent_start}
 use Rattle.rds_world.proofs.Meeting.{begins_itself}
 use Rattle.rds_world.proofs.Rosters.{rosters_start}

@@ -1,5 +1,7 @@
 -- Each event does to the value of a world what it does to the model.
-use Rattle.std.proofs.Common.{◌≡◌, ◌≢◌, Bool, true, false, ◌+◌, suc, zero, ℕ, ◌<◌, ◌≤◌, List, [], ◌∷◌, ◌++◌, length, length-append, Option, Some, None, refl, sym, ap, ◌∙◌, subst, arith, slice_get, inl, inr, ◌⊎◌, count_by, nat_lt}
+use Rattle.std.proofs.Common.{◌≡◌, ◌≢◌, Bool, true, false, ◌+◌, suc, zero, ℕ, ◌<◌, ◌≤◌, List, [], ◌∷◌, ◌++◌, length}
+use Rattle.std.proofs.Common.{length-append, Option, Some, None, refl, sym, ap, ◌∙◌, subst, arith, slice_get, inl, inr}
+use Rattle.std.proofs.Common.{◌⊎◌, count_by, nat_lt}
 use Rattle.std.specs.List.{AllZip}
 use Rattle.std.proofs.Math.ListN.{set, length-set}
 use Rattle.std.proofs.lemmas.Bool.{lt-ltb, le-ltb}
@@ -26,7 +28,8 @@ use Rattle.rds_world.specs.Stands.{state_of, HoldsAsk, Stands, HasModel, IsWhole
 use Rattle.rds_world.specs.Events.{Refuses, NoMemory, Due, Long, TakesMemory, IsLongSnapshot}
 use Rattle.rds_world.specs.Steps.{IsStep, IsStopped}
 use Rattle.rds_world.proofs.Edits.{edit_is}
-use Rattle.rds_world.proofs.Standing.{names_put, names_same, places_set, stands_memory, stands_kept, stands_asked, model_after}
+use Rattle.rds_world.proofs.Standing.{names_put, names_same, places_set, stands_memory, stands_kept, stands_asked}
+use Rattle.rds_world.proofs.Standing.{model_after}
 use Rattle.rds_world.proofs.Tables.{same_some, last_get}
 
 -- the value of a world, by its parts

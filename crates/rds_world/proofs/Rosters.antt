@@ -1,5 +1,7 @@
 -- Rosters grow, and each state speaks only of the replicas that the roster beside it names.
-use Rattle.std.proofs.Common.{◌≡◌, ℕ, ◌≤◌, ◌<◌, suc, max, Bool, true, false, cond, IsTrue, ◌&&◌, ◌++◌, ◌∷◌, [], refl, sym, subst, inl, inr, ap, arith, nat_lt, ◌==◌, List, length, Option, Some, None, slice_get}
+use Rattle.std.proofs.Common.{◌≡◌, ℕ, ◌≤◌, ◌<◌, suc, max, Bool, true, false, cond, IsTrue, ◌&&◌, ◌++◌, ◌∷◌, [], refl}
+use Rattle.std.proofs.Common.{sym, subst, inl, inr, ap, arith, nat_lt, ◌==◌, List, length, Option, Some, None}
+use Rattle.std.proofs.Common.{slice_get}
 use Rattle.std.specs.Prelude.{is_some, nat_le}
 use Rattle.std.proofs.lemmas.Grind.{common_steps}
 use Rattle.std.proofs.lemmas.Bool.{leb-true}
@@ -19,7 +21,8 @@ use Rattle.rds_delta.specs.Ranks.{ranks}
 use Rattle.rds_delta.proofs.LeastLaws.{least_part}
 use Rattle.rds_world.specs.declared.event.Event.{Event}
 use Rattle.rds_world.specs.declared.event.Event.TheVariants.{Edit, Save, Crash, Ask, Answer, Take, Grow}
-use Rattle.rds_world.specs.World.{World, Question, Reply, put, start, after_edit, reply, after_answer, after_take, after, refusal_of, run, Accepted}
+use Rattle.rds_world.specs.World.{World, Question, Reply, put, start, after_edit, reply, after_answer, after_take}
+use Rattle.rds_world.specs.World.{after, refusal_of, run, Accepted}
 use Rattle.rds_world.specs.Coherent.{HasRosters}
 use Rattle.rds_world.proofs.Coherent.{is_there, there, empty_fits}
 use Rattle.rds_world.proofs.States.{by_life, fits_join, fits_below}

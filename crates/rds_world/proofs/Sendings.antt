@@ -13,7 +13,8 @@ use Rattle.rds_codec.specs.AnswerValues.{AnswerValue}
 use Rattle.rds_codec.specs.CertificateTexts.{IsReplicaOf}
 use Rattle.rds_codec.specs.Decoding.{Decodes}
 use Rattle.rds_codec.specs.DigestTexts.{digest_kind, digest_text}
-use Rattle.rds_codec.specs.Exchanged.{IsAskOf, IsCertified, IsLongAnswer, IsLost, IsReplyTo, TakesCertified, Certified, Uncertified}
+use Rattle.rds_codec.specs.Exchanged.{IsAskOf, IsCertified, IsLongAnswer, IsLost, IsReplyTo, TakesCertified, Certified}
+use Rattle.rds_codec.specs.Exchanged.{Uncertified}
 use Rattle.rds_codec.specs.declared.limits.TheConstants.{LIMIT}
 use Rattle.rds_world.specs.Replies.{IsReply, HasNoReply, Lacks, TooBig, IsTaken, IsNotTaken, Untaken}
 use Rattle.rds_world.specs.Replies as replies

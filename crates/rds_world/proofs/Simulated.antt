@@ -1,5 +1,7 @@
 -- A run goes on by one event; and what holds of the model's run holds of the world that stands for it.
-use Rattle.std.proofs.Common.{◌≡◌, Result, Ok, Err, IfOk, IfErr, MatchResult, ℕ, ◌<◌, ◌≤◌, ◌+◌, suc, zero, List, [], ◌∷◌, ◌++◌, length, take, drop, get_or, Option, Some, None, refl, sym, ap, ◌∙◌, subst, arith, slice_get, inl, inr}
+use Rattle.std.proofs.Common.{◌≡◌, Result, Ok, Err, IfOk, IfErr, MatchResult, ℕ, ◌<◌, ◌≤◌, ◌+◌, suc, zero, List, []}
+use Rattle.std.proofs.Common.{◌∷◌, ◌++◌, length, take, drop, get_or, Option, Some, None, refl, sym, ap, ◌∙◌, subst}
+use Rattle.std.proofs.Common.{arith, slice_get, inl, inr}
 use Rattle.std.proofs.lemmas.List.{take_more}
 use Rattle.rds_names.specs.Roster.{RosterValue}
 use Rattle.rds_names.specs.declared.fault.Fault.{Fault}
@@ -11,9 +13,12 @@ use Rattle.rds_world.specs.declared.event.Event.TheVariants.{Edit, Save, Crash, 
 use Rattle.rds_world.specs.World.{World, Question, Reply, after, after_answer, after_take, run, start, Accepted}
 use Rattle.rds_world.specs.Coherent.{Store, Memory, Kept, state_in}
 use Rattle.rds_world.specs.Events.{IsAccepted, Refuses, roster_after}
-use Rattle.rds_world.specs.Law.{IsCoherentAfter, HasRostersAfter, AreFriendsAfter, EachIsTheJoin, EachDotIsExplained, EachShowsItsUpdates, SameUpdatesSameState, EachAnswerBringsWhatWasKept, world_after, held_after, bases_after, effects_after, held_in}
+use Rattle.rds_world.specs.Law.{IsCoherentAfter, HasRostersAfter, AreFriendsAfter, EachIsTheJoin, EachDotIsExplained}
+use Rattle.rds_world.specs.Law.{EachShowsItsUpdates, SameUpdatesSameState, EachAnswerBringsWhatWasKept, world_after}
+use Rattle.rds_world.specs.Law.{held_after, bases_after, effects_after, held_in}
 use Rattle.rds_world.specs.Replies.{EachAnswerIsCertified}
-use Rattle.rds_world.specs.Simulation.{roster_in, AllHappen, Happens, Reaches, Stops, Throughout, replicas_in, ReplicasAreJoins, ReplicasShowTheirUpdates, SameUpdatesSameReplicas}
+use Rattle.rds_world.specs.Simulation.{roster_in, AllHappen, Happens, Reaches, Stops, Throughout, replicas_in}
+use Rattle.rds_world.specs.Simulation.{ReplicasAreJoins, ReplicasShowTheirUpdates, SameUpdatesSameReplicas}
 use Rattle.rds_world.specs.Stands.{state_of, Stands}
 use Rattle.rds_world.specs.Stored.{AnswerText, WorldValue}
 use Rattle.rds_world.specs.Updates.{IsJoinOf, ShowsUpdates}

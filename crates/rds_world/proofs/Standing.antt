@@ -1,5 +1,6 @@
 -- What stands for a world of the model before an event stands for the world after it.
-use Rattle.std.proofs.Common.{◌≡◌, ℕ, ◌<◌, suc, zero, Bool, true, false, cond, List, [], ◌∷◌, ◌++◌, length, take, Option, Some, None, refl, sym, ap, ◌∙◌, subst, arith, ◌==◌, slice_get}
+use Rattle.std.proofs.Common.{◌≡◌, ℕ, ◌<◌, suc, zero, Bool, true, false, cond, List, [], ◌∷◌, ◌++◌, length, take}
+use Rattle.std.proofs.Common.{Option, Some, None, refl, sym, ap, ◌∙◌, subst, arith, ◌==◌, slice_get}
 use mathlib.Core.Logic.{∥∥₁_map}
 use Rattle.std.specs.List.{AllZip}
 use Rattle.std.proofs.Math.ListN.{set, length-set}
@@ -14,7 +15,8 @@ use Rattle.rds_world.specs.Stored.{AskText, AnswerText, WorldValue}
 use Rattle.rds_world.specs.Stands.{state_of, HoldsAsk, HoldsAnswer, Stands, HasModel, AreAtTheirPlaces, HaveNames}
 use Rattle.rds_world.proofs.Coherent.{event_coherent}
 use Rattle.rds_world.proofs.Rosters.{event_rosters}
-use Rattle.rds_world.proofs.Tables.{matched_last, matched_weaker, get_front, is_same, isnt_same, put_here, put_there, same_some}
+use Rattle.rds_world.proofs.Tables.{matched_last, matched_weaker, get_front, is_same, isnt_same, put_here, put_there}
+use Rattle.rds_world.proofs.Tables.{same_some}
 
 -- ---- a list with another member at one place
 

@@ -1,5 +1,6 @@
 -- Each event keeps the invariant.
-use Rattle.std.proofs.Common.{◌≡◌, ℕ, ◌<◌, suc, Bool, true, List, [], ◌∷◌, ◌++◌, refl, sym, ap, ◌∙◌, subst, inl, inr, ◌⊎◌, arith, ◌==◌, ◌||◌, nat_lt, Option, Some, None, slice_get}
+use Rattle.std.proofs.Common.{◌≡◌, ℕ, ◌<◌, suc, Bool, true, List, [], ◌∷◌, ◌++◌, refl, sym, ap, ◌∙◌, subst, inl, inr}
+use Rattle.std.proofs.Common.{◌⊎◌, arith, ◌==◌, ◌||◌, nat_lt, Option, Some, None, slice_get}
 use Rattle.std.specs.List.{AllZip}
 use Rattle.std.proofs.lemmas.Bool.Decides.{nat_tests}
 use Rattle.rds_state.specs.Coordinates.{Coordinates, AtMost, AreCompatible, join}
@@ -9,14 +10,18 @@ use Rattle.rds_state.specs.declared.command.Command.{Command}
 use Rattle.rds_state.proofs.JoinLaws.{reflexive, transitive}
 use Rattle.rds_world.specs.declared.event.Event.{Event}
 use Rattle.rds_world.specs.declared.event.Event.TheVariants.{Edit, Save, Crash, Ask, Answer, Take, Grow}
-use Rattle.rds_world.specs.World.{World, Question, Reply, empty, put, start, reply, after, after_answer, after_take, refusal_of, run, Accepted}
-use Rattle.rds_world.specs.Held.{Update, Remembered, Holdings, both, with_update, nothing_held, hold, remembers, takes, holdings_after}
+use Rattle.rds_world.specs.World.{World, Question, Reply, empty, put, start, reply, after, after_answer, after_take}
+use Rattle.rds_world.specs.World.{refusal_of, run, Accepted}
+use Rattle.rds_world.specs.Held.{Update, Remembered, Holdings, both, with_update, nothing_held, hold, remembers, takes}
+use Rattle.rds_world.specs.Held.{holdings_after}
 use Rattle.rds_world.specs.Updates.{effect_of, bases_with, bases}
 use Rattle.rds_delta.proofs.LeastLaws.{grown_delta}
 use Rattle.rds_world.proofs.Effects.{effect_agrees}
 use Rattle.rds_world.proofs.Coherent.{there, is_there}
-use Rattle.rds_world.proofs.Joins.{IsGathered, gathered_smaller, gathered_none, gathered_single, gathered_both, in_either, in_left, in_right}
-use Rattle.rds_world.proofs.Tables.{Together, matched_last, matched_weaker, matched_at, put_one, put_two, put_here, put_there}
+use Rattle.rds_world.proofs.Joins.{IsGathered, gathered_smaller, gathered_none, gathered_single, gathered_both}
+use Rattle.rds_world.proofs.Joins.{in_either, in_left, in_right}
+use Rattle.rds_world.proofs.Tables.{Together, matched_last, matched_weaker, matched_at, put_one, put_two, put_here}
+use Rattle.rds_world.proofs.Tables.{put_there}
 use Rattle.rds_world.proofs.Invariant.{IsRecorded, IsBacked, IsAsk, IsAnswer, Lawful, own, compatible, kept_own}
 
 -- at the beginning

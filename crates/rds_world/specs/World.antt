@@ -1,5 +1,6 @@
 -- All replicas of a document: what each has in memory and what it has kept, and every ask and answer that was made.
-use Rattle.std.specs.Prelude.{◌≡◌, ℕ, Bool, cond, List, [], ◌∷◌, ◌++◌, Option, Some, None, nat_lt, ◌==◌, slice_get, is_some, suc, max, length}
+use Rattle.std.specs.Prelude.{◌≡◌, ℕ, Bool, cond, List, [], ◌∷◌, ◌++◌, Option, Some, None, nat_lt, ◌==◌, slice_get}
+use Rattle.std.specs.Prelude.{is_some, suc, max, length}
 use Rattle.rds_names.specs.declared.fault.Fault.{Fault}
 use Rattle.rds_names.specs.declared.fault.Fault.TheVariants.{NoSuch, BadRoster, WrongRoster}
 use Rattle.rds_names.specs.Roster.{are_names}

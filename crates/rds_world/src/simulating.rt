@@ -1,9 +1,13 @@
 //! Lists of events.
 ghost use Rattle.std.specs.Prelude.{◌≡◌, ◌≤◌, IfOk, IfErr, MatchResult, length};
 ghost use Rattle.rds_names.specs.Roster.{Begins};
-ghost use Rattle.rds_world.specs.Law.{IsCoherentAfter, HasRostersAfter, AreFriendsAfter, EachIsTheJoin, EachDotIsExplained, EachShowsItsUpdates, SameUpdatesSameState, EachAnswerBringsWhatWasKept};
+ghost use Rattle.rds_world.specs.Law.{IsCoherentAfter, HasRostersAfter, AreFriendsAfter, EachIsTheJoin};
+ghost use Rattle.rds_world.specs.Law.{EachDotIsExplained, EachShowsItsUpdates, SameUpdatesSameState};
+ghost use Rattle.rds_world.specs.Law.{EachAnswerBringsWhatWasKept};
 ghost use Rattle.rds_world.specs.Replies.{EachAnswerIsCertified};
-ghost use Rattle.rds_world.specs.Simulation.{Reaches, Stops, Throughout, AnswersBringTheirAskers, ReplicasAreCoherent, ReplicasAreJoins, ReplicasExplainTheirDots, ReplicasShowTheirUpdates, ReplicasStayFriends, SameUpdatesSameReplicas};
+ghost use Rattle.rds_world.specs.Simulation.{Reaches, Stops, Throughout, AnswersBringTheirAskers, ReplicasAreCoherent};
+ghost use Rattle.rds_world.specs.Simulation.{ReplicasAreJoins, ReplicasExplainTheirDots, ReplicasShowTheirUpdates};
+ghost use Rattle.rds_world.specs.Simulation.{ReplicasStayFriends, SameUpdatesSameReplicas};
 
 use crate::event::Event;
 use crate::world::World;

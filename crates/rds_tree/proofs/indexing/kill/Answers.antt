@@ -10,4 +10,4 @@ edit_found-requires g c = record {
 pub returns-clause-holds : goal.returns-clause-holds
 returns-clause-holds g c =
     let old = c.args.replica.now in
-    holds_killed c.args.command.now c.keys.result.now old.state c.edit_found.new.self.state old.own c.args.tree.now c.cut.new.self (c.keys.ensures.keys ∙ c.requires.path) c.requires.parts c.requires.holds c.cut.ensures c.in_ok-edited.ensures.joined
+    holds_killed c.args.command.now c.keys.result.now old.state c.edit_found.new.self.state old.own c.args.tree.now c.cut.new.self (c.keys.ensures.keys ∙ c.requires.path) c.requires.parts c.requires.holds c.cut.ensures c.in_ok-edited.ensures.edited.joined

@@ -23,7 +23,7 @@ returns-in-Ok-clause-holds g c =
     let command = c.args.command.now in
     let new = c.in_ok-dot.dot in
     holds_made command p c.requires.parts old.state old.own new c.in_ok-dot.ensures.unseen c.edit_found.new.self.state c.args.tree.now c.add_leaf.new.tree c.cut.new.self c.in_ok-dot.ensures.exact.1 c.requires.holds c.in_ok-add_leaf.ensures.ok
-    (subst (λ q. IsCut (covering command (Some new)) (is_deep command) q c.add_leaf.new.tree c.cut.new.self) c.keys.ensures.keys c.cut.ensures) c.in-Ok.ensures.joined
+    (subst (λ q. IsCut (covering command (Some new)) (is_deep command) q c.add_leaf.new.tree c.cut.new.self) c.keys.ensures.keys c.cut.ensures) c.in-Ok.ensures.edited.joined
 
 pub returns-in-Err-clause-holds : goal.returns-in-Err-clause-holds
 returns-in-Err-clause-holds g c =

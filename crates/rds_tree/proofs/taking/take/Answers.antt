@@ -1,4 +1,4 @@
-use Rattle.std.proofs.Common.{sym, ◌∙◌, ap, subst}
+use Rattle.std.proofs.Common.{sym, ◌∙◌, ap, subst, refl}
 use Rattle.rds_life.specs.Life.{live_rows}
 use Rattle.rds_state.specs.Coordinates.{Coordinates}
 use Rattle.rds_state.specs.Fits.{ReplicaValue}
@@ -8,11 +8,17 @@ use Rattle.rds_tree.specs.Growing.{Holds}
 use Rattle.rds_tree.proofs.Deltas.{holds_joined, holds_refused}
 use Rattle.rds_tree.proofs.taking.take.Goals as goal
 
-pub returns-then-components-eq0-clause-ok : goal.returns-then-components-eq0-clause-ok
-returns-then-components-eq0-clause-ok g c = joins_nothing c.args.delta.now (sym c.components.ensures ∙ c.if-components-eq0.true) c.args.replica.now.state
-
-pub returns-then-components-eq0-clause-gives : goal.returns-then-components-eq0-clause-gives
-returns-then-components-eq0-clause-gives g c = takes_nothing c.args.delta.now (sym c.components.ensures ∙ c.if-components-eq0.true) c.args.replica.now.state c.args.replica.now.own
+pub returns-then-components-eq0-clause-taken : goal.returns-then-components-eq0-clause-taken
+returns-then-components-eq0-clause-taken g c =
+    let none = sym c.components.ensures ∙ c.if-components-eq0.true in
+    record {
+      ok = joins_nothing c.args.delta.now none c.args.replica.now.state;
+      gives = takes_nothing c.args.delta.now none c.args.replica.now.state c.args.replica.now.own;
+      nothing = λ _. refl;
+      roster = refl;
+      own = refl;
+      err = tt;
+    }
 
 pub returns-in-Err-clause-holds : goal.returns-in-Err-clause-holds
 returns-in-Err-clause-holds g c =

@@ -1,6 +1,9 @@
-use Rattle.rds_world.specs.Simulation.{Reaches, AnswersBringTheirAskers, ReplicasAreJoins, ReplicasExplainTheirDots, ReplicasShowTheirUpdates, SameUpdatesSameReplicas}
+use Rattle.rds_world.specs.Simulation.{Reaches, AnswersBringTheirAskers, ReplicasAreJoins, ReplicasExplainTheirDots}
+use Rattle.rds_world.specs.Simulation.{ReplicasShowTheirUpdates, SameUpdatesSameReplicas}
 use Rattle.rds_world.proofs.Brought.{answers_bring, coherent_reached, friends_reached, replicas_explain}
-use Rattle.rds_world.proofs.Simulated.{if_ok, replicas_are_joins, replicas_show, same_replicas, certified, coherent_throughout, friends_throughout, rosters_throughout, joins_throughout, dots_throughout, documents_throughout, same_throughout, answers_throughout}
+use Rattle.rds_world.proofs.Simulated.{if_ok, replicas_are_joins, replicas_show, same_replicas, certified}
+use Rattle.rds_world.proofs.Simulated.{coherent_throughout, friends_throughout, rosters_throughout, joins_throughout}
+use Rattle.rds_world.proofs.Simulated.{dots_throughout, documents_throughout, same_throughout, answers_throughout}
 use Rattle.rds_world.proofs.simulating.simulate.Goals as goal
 
 pub returns : goal.returns

@@ -1,4 +1,5 @@
-use Rattle.std.proofs.Common.{◌≡◌, ◌∙◌, ◌++◌, sym, ap, subst, arith, true, not, Some, List, Result, Ok, Err, OnOk, OnErr}
+use Rattle.std.proofs.Common.{◌≡◌, ◌∙◌, ◌++◌, sym, ap, subst, arith, true, not, Some, List, Result, Ok, Err, OnOk}
+use Rattle.std.proofs.Common.{OnErr}
 use Rattle.std.specs.FinSet as set
 use Rattle.std.specs.List.{list_all}
 use Rattle.std.specs.declared.alloc.AllocError.{AllocError}
@@ -7,7 +8,8 @@ use Rattle.rds_dots.specs.Dots.{dot_cmp, is_dot, comes_after}
 use Rattle.rds_dots.specs.Ascending.{ascends}
 use Rattle.rds_dots.specs.Listed.{dots_of}
 use Rattle.rds_dots.proofs.Parts.{back_rises}
-use Rattle.rds_dots.proofs.Inserts.{all_upto, put_rises, put_all, put_contains, insert_rises, insert_all, insert_contains}
+use Rattle.rds_dots.proofs.Inserts.{all_upto, put_rises, put_all, put_contains, insert_rises, insert_all}
+use Rattle.rds_dots.proofs.Inserts.{insert_contains}
 use Rattle.rds_dots.proofs.list_set.ListSetDotSet.insert_run.Goals as goal
 
 -- what holds of both outcomes

@@ -1,4 +1,4 @@
-use Rattle.std.proofs.Common.{◌∙◌, length, sym, subst}
+use Rattle.std.proofs.Common.{◌∙◌, length, sym, subst, refl}
 use Rattle.rds_state.specs.Fits.{ReplicaValue, Fits}
 use Rattle.rds_state.specs.Value.{coordinates}
 use Rattle.rds_state.proofs.FitsLemmas.{merge_fits}
@@ -14,8 +14,14 @@ invariant_of-self g c =
       fits = merge_fits (length c.self.inside.roster.names) c.self.inside.state delta c.merge.new.self c.merge.result c.merge.ensures.ok c.merge.ensures.err c.self.invariant.fits fits;
     }
 
-pub returns-then-components-eq0-clause-ok : goal.returns-then-components-eq0-clause-ok
-returns-then-components-eq0-clause-ok g c = joins_nothing c.args.delta.now (sym c.components.ensures ∙ c.if-components-eq0.true) c.args.self.now.state
-
-pub returns-then-components-eq0-clause-gives : goal.returns-then-components-eq0-clause-gives
-returns-then-components-eq0-clause-gives g c = takes_nothing c.args.delta.now (sym c.components.ensures ∙ c.if-components-eq0.true) c.args.self.now.state c.args.self.now.own
+pub returns-then-components-eq0 : goal.returns-then-components-eq0
+returns-then-components-eq0 g c =
+    let none = sym c.components.ensures ∙ c.if-components-eq0.true in
+    record {
+      ok = joins_nothing c.args.delta.now none c.args.self.now.state;
+      gives = takes_nothing c.args.delta.now none c.args.self.now.state c.args.self.now.own;
+      nothing = λ _. refl;
+      roster = refl;
+      own = refl;
+      err = tt;
+    }

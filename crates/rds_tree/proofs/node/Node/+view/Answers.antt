@@ -3,7 +3,8 @@ use Rattle.std.specs.Option.{option_to_list}
 use Rattle.rds_tree.specs.View.{with_key, shown_to}
 use Rattle.rds_tree.specs.Row.{placed_all, fits}
 use Rattle.rds_tree.specs.Shown.{shown_view, views_shown, maps_of, shows}
-use Rattle.rds_tree.proofs.Walked.{shown_view-roll, walked_to, walked_on, walked_whole, views_push, with_map, without_map}
+use Rattle.rds_tree.proofs.Walked.{shown_view-roll, walked_to, walked_on, walked_whole, views_push, with_map}
+use Rattle.rds_tree.proofs.Walked.{without_map}
 use Rattle.rds_tree.proofs.node.Node.+view.Goals as goal
 
 pub loop-key-preserved-in_ok-push : goal.loop-key-preserved-in_ok-push

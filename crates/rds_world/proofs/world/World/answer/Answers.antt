@@ -6,7 +6,8 @@ use Rattle.rds_world.specs.declared.event.Done.TheVariants.{Answered}
 use Rattle.rds_world.specs.Replies.{HasNoReply, IsReply}
 use Rattle.rds_world.specs.Steps.{IsStep, IsStopped}
 use Rattle.rds_world.specs.Stored.{AnswerText, WorldValue}
-use Rattle.rds_world.proofs.Answered.{IsAsked, answer_absent, answer_done, answer_stopped, answer_unasked, asker_met, due}
+use Rattle.rds_world.proofs.Answered.{IsAsked, answer_absent, answer_done, answer_stopped, answer_unasked, asker_met}
+use Rattle.rds_world.proofs.Answered.{due}
 use Rattle.rds_world.proofs.Performed.{IsDoneTo, no_memory, stopped_same, value_of}
 use Rattle.rds_world.proofs.Sendings.{fault_is}
 use Rattle.rds_world.proofs.Tables.{read_there}

@@ -4,7 +4,8 @@ use Rattle.rds_world.specs.declared.event.Event.TheVariants.{Ask}
 use Rattle.rds_world.specs.declared.event.Done.TheVariants.{Asked}
 use Rattle.rds_world.specs.Steps.{IsStep, IsStopped}
 use Rattle.rds_world.specs.Stored.{WorldValue}
-use Rattle.rds_world.proofs.Performed.{IsDoneTo, ask_absent, ask_done, ask_stopped, no_memory, of_roster, stopped_same, value_of}
+use Rattle.rds_world.proofs.Performed.{IsDoneTo, ask_absent, ask_done, ask_stopped, no_memory, of_roster, stopped_same}
+use Rattle.rds_world.proofs.Performed.{value_of}
 use Rattle.rds_world.proofs.Sendings.{fault_is}
 use Rattle.rds_world.proofs.Tables.{read_there}
 use Rattle.rds_world.proofs.world.World.ask.Given.{Over}

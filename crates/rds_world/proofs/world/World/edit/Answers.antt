@@ -46,7 +46,7 @@ returns-in_err-edited-clause-err g c =
     let room : needs_room (coordinates m.state) m.own c.args.command.now ≡ false → f ≢ Memory = λ h k. c.in_err-edited.ensures.room h (ap (λ (x : Fault). Err x) k) in
     fault_is _ _ f is (subst (λ (u : WorldValue). IsStopped u e f (record v { memory = slice_set v.memory c.from-at.result c.edit_by.new.self })) c.self.view_is
     (subst (λ k. IsStopped v e f (record v { memory = slice_set v.memory k c.edit_by.new.self })) (sym c.from-at.ensures)
-    (edit_stopped v c.self.invariant n m at.0 at.1 c.args.command.now c.edit_by.new.self f c.in_err-edited.ensures.err c.in_err-edited.ensures.refusal room)))
+    (edit_stopped v c.self.invariant n m at.0 at.1 c.args.command.now c.edit_by.new.self f c.in_err-edited.ensures.err c.in_err-edited.ensures.edited.due room)))
 
 pub invariant_of-self-2 : goal.invariant_of-self-2
 invariant_of-self-2 g c =
