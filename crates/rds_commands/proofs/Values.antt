@@ -14,7 +14,8 @@ use Rattle.rds_listing.specs.declared.bare.Raw.{Raw}
 use Rattle.rds_listing.specs.declared.bare.Wanted.{Wanted}
 use Rattle.rds_state.specs.Value.{StateValue}
 use Rattle.rds_commands.specs.Listing.{ComparesFiles, GetsRaw, ListsFile, WritesList, WritesRaw, WritesValues, lines_status}
-use Rattle.rds_commands.specs.Offline.{WritesAnswer, WritesNothing, WritesTold, text_read}
+use Rattle.rds_commands.specs.Offline.{WritesAnswer, WritesNothing, WritesTold}
+use Rattle.rds_commands.specs.Reading.{text_read}
 
 -- the values that stood there
 pub values_written : (path text : List ℕ) (wanted : Wanted) (file : FileValue) (told raw : Raw) (before after : Option (List ℕ)) (status : ℕ) → GetsRaw path text wanted file told → raw ≡ told → WritesValues raw before after status

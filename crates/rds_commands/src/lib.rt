@@ -1,17 +1,21 @@
 //! The program's commands: words in, what is written and the exit status out. Read from above: `program`, `telling`,
-//! `file_commands`, `batch`, `looking`, `listing`, `offline`, `session_words`, `notes`, `unparsed` and `laws`.
+//! `file_commands`, `batch`, `looking`, `listing`, `offline`, `session_words`, `unparsed` and
+//! `laws`. What people are told beside it is in `notes`, `letter_notes`, `tips` and `refused`.
 #![tactic(auto)]
 
 mod batch;
 mod file_commands;
 mod laws;
+mod letter_notes;
 mod listing;
 mod looking;
 mod notes;
 mod offline;
 mod program;
+mod refused;
 mod session_words;
 mod telling;
+mod tips;
 mod unparsed;
 
 pub use laws::{letters_are_events, sessions_are_events};
