@@ -1,9 +1,10 @@
 //! The program's commands: words in, what is written and the exit status out. Read from above: `program`, `telling`,
 //! `file_commands`, `batch`, `looking`, `listing`, `offline`, `session_words`, `unparsed` and
-//! `laws`. What people are told beside it is in `notes`, `letter_notes`, `tips` and `refused`.
+//! `laws`. What people are told beside it is in `notes`, `letter_notes`, `tips` and `causes`.
 #![tactic(auto)]
 
 mod batch;
+mod causes;
 mod file_commands;
 mod laws;
 mod letter_notes;
@@ -12,7 +13,6 @@ mod looking;
 mod notes;
 mod offline;
 mod program;
-mod refused;
 mod session_words;
 mod telling;
 mod tips;

@@ -1,6 +1,6 @@
 //! What people are told on standard error of words and files that are refused, and of edits. Each thing is told once:
 //! `rds_files` tells of a file that can't be used or isn't one of rds.
-use crate::refused::{bad_key, bad_name, stands_twice};
+use crate::causes::{bad_key, bad_name, stands_twice};
 use rds_files::{Disk, ReplicaFile, is_beside};
 use rds_gaps::GapSet;
 use rds_listing::conflicts;
@@ -55,7 +55,9 @@ pub fn note_init_from<H: Eprint>(rt: &H, words: &InitFromWords<'_>, fault: Fault
             let _ = eprintln!(rt; "'{own}' is no name of the group: 'grow {from} {own}' adds it");
         }
         Fault::SameReplica => {
-            let _ = eprintln!(rt; "'{own}' is used: {from} is its file, or has seen something of it");
+            let _ = eprintln!(rt;
+                "'{own}' is used: {from} is its file, or has seen something of it"
+            );
         }
         _ => note_file(rt, words.file, fault),
     }
@@ -97,7 +99,9 @@ fn note_names<H: Eprint>(rt: &H, names: &[&str]) {
 }
 
 fn note_name<H: Eprint>(rt: &H, name: &str) {
-    let _ = eprintln!(rt; "'{name}' is no name: a to z first, then a to z, 0 to 9 and '-', at most 16");
+    let _ = eprintln!(rt;
+        "'{name}' is no name: a to z first, then a to z, 0 to 9 and '-', at most 16"
+    );
 }
 
 // Tells why these names make no roster.
