@@ -15,13 +15,17 @@ unfolding IsRefused
 refused_isnt [] is none = absurd is
 refused_isnt (k ∷ ks) is none = absurd cc
 
-abbrev dashed : Text → Text → List Text → List Text
+abbrev pub dashed : Text → Text → List Text → List Text
 dashed called command given = called ∷ command ∷ codes "--" ∷ given
 
-abbrev IsNamed : Text → List Text → Type 0
+abbrev pub IsNamed : Text → List Text → Type 0
 IsNamed command given = (called : Text) → Names (dashed called command given) (command ∷ given)
 
-abbrev IsMistaken : Text → List Text → Type 0
+-- a path that is left out is the root
+abbrev pub IsNamedRoot : Text → Text → Type 0
+IsNamedRoot command a = (called : Text) → Names (dashed called command (a ∷ [])) (command ∷ a ∷ [] ∷ [])
+
+abbrev pub IsMistaken : Text → List Text → Type 0
 IsMistaken command given = (called : Text) → IsRefused (mistakes_in (dashed called command given))
 
 -- exactly 0
@@ -117,7 +121,7 @@ takes_names command name f0 f1 = record { named = named; counted = counted }
 
 -- a file, and a path, which may be left out
 
-pub takes_part : (command : Text) → ((a b : Text) → IsNamed command (a ∷ b ∷ [])) → ((a : Text) (called : Text) → Names (dashed called command (a ∷ [])) (command ∷ a ∷ [] ∷ []))
+pub takes_part : (command : Text) → ((a b : Text) → IsNamed command (a ∷ b ∷ [])) → ((a : Text) → IsNamedRoot command a)
     → (IsMistaken command [])
     → ((a b c : Text) (more : List Text) → IsMistaken command (a ∷ b ∷ c ∷ more)) → IsCountedCommand command (or_root 2)
 takes_part command name root f0 over = record { named = named; counted = counted }

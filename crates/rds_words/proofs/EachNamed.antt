@@ -4,7 +4,7 @@ use Rattle.std.specs.Prelude.{map}
 use Rattle.std.specs.Borrow.{Bor}
 use Rattle.clap.specs.Words.{Text, built}
 use Rattle.rds_words.specs.declared.tasks.Task.{Task}
-use Rattle.rds_words.specs.declared.tasks.Task.TheVariants.{Join, Sim, Init, InitFrom, Grow, Edit, EditIfChanged, EditLines, Get, GetRaw, Show, ShowPretty, Dump, Status, Serve, Sync, Pair, Ask, Answer, Take, Merge, Check, Conflicts, Diff}
+use Rattle.rds_words.specs.declared.tasks.Task.TheVariants.{Join, Sim, Files, Faults, Init, InitFrom, Grow, Edit, EditIfChanged, EditLines, Get, GetRaw, Show, ShowPretty, Dump, Status, Serve, Sync, Pair, Ask, Answer, Take, Merge, Check, Conflicts, Diff}
 use Rattle.rds_words.specs.declared.tasks.EditWords.TheVariants.{Set, Add, Del, Clear, Inc, Dec}
 use Rattle.rds_words.specs.declared.tasks.ValueWord.TheVariants as word
 use Rattle.rds_words.specs.Commands.{node_app}
@@ -31,6 +31,14 @@ join_dashed name = (refl, refl)
 pub sim_dashed : (name : Text) → Names (name ∷ codes "sim" ∷ codes "--" ∷ []) (codes "sim" ∷ [])
 unfolding node_on_words
 sim_dashed name = (refl, refl)
+
+pub files_dashed : (name : Text) → Names (name ∷ codes "files" ∷ codes "--" ∷ []) (codes "files" ∷ [])
+unfolding node_on_words
+files_dashed name = (refl, refl)
+
+pub faults_dashed : (name : Text) → Names (name ∷ codes "faults" ∷ codes "--" ∷ []) (codes "faults" ∷ [])
+unfolding node_on_words
+faults_dashed name = (refl, refl)
 
 pub show_dashed : (name file path : Text) → Names (name ∷ codes "show" ∷ codes "--" ∷ file ∷ path ∷ []) (codes "show" ∷ file ∷ path ∷ [])
 unfolding node_on_words
@@ -215,6 +223,14 @@ pub sim_met : Meets (built node_app) (codes "sim")
 unfolding node_on_words
 sim_met = (refl, refl)
 
+pub files_met : Meets (built node_app) (codes "files")
+unfolding node_on_words
+files_met = (refl, refl)
+
+pub faults_met : Meets (built node_app) (codes "faults")
+unfolding node_on_words
+faults_met = (refl, refl)
+
 pub edit_lines_met : Meets (built node_app) (codes "edit")
 unfolding node_on_words
 edit_lines_met = (refl, refl)
@@ -318,6 +334,8 @@ grow_behind name file (n ∷ names) has = grow_dashed name file n.now (map (λ n
 pub task_dashed : (name : Text) (task : Task) → HasNames task → Names (name ∷ words_dashed task) (words_of task)
 task_dashed name Join has = join_dashed name
 task_dashed name Sim has = sim_dashed name
+task_dashed name Files has = files_dashed name
+task_dashed name Faults has = faults_dashed name
 task_dashed name (Init words) has = init_behind name words.file.now words.group.now words.own.now words.names.items has
 task_dashed name (InitFrom words) has = init_from_dashed name words.file.now words.own.now words.from.now
 task_dashed name (Edit file (Set path (word.Text value))) has = set_text_dashed name file.now path.now value.now
@@ -362,6 +380,8 @@ task_dashed name (Diff file other) has = diff_dashed name file.now other.now
 pub task_written : (name : Text) (task : Task) → IsWritable task → Names (name ∷ words_written task) (words_of task)
 task_written name Join is = undashed name (codes "join") [] _ join_met is.1 (join_dashed name)
 task_written name Sim is = undashed name (codes "sim") [] _ sim_met is.1 (sim_dashed name)
+task_written name Files is = undashed name (codes "files") [] _ files_met is.1 (files_dashed name)
+task_written name Faults is = undashed name (codes "faults") [] _ faults_met is.1 (faults_dashed name)
 task_written name (Init words) is = undashed name (codes "init") (words.file.now ∷ words.group.now ∷ words.own.now ∷ map (λ n. n.now) words.names.items) _ init_met is.1
     (init_behind name words.file.now words.group.now words.own.now words.names.items is.0)
 task_written name (InitFrom words) is = init_from_named name words.file.now words.own.now words.from.now is.1

@@ -19,6 +19,7 @@ pub mod OptionsNamed
 pub mod OtherCommands
 pub mod Passing
 pub mod PlainCommands
+pub mod PlainForms
 pub mod PlanMeant
 pub mod PlanRows
 pub mod PlanWalk

@@ -12,29 +12,13 @@ use Rattle.rds_words.proofs.OptionCommands as options
 use Rattle.rds_words.proofs.OtherCommands.{command_or_not}
 use Rattle.rds_words.proofs.OptionPlans as plans
 use Rattle.rds_words.proofs.PlainCommands as plain
+use Rattle.rds_words.proofs.PlainForms.{IsKnown, IsPlain, known}
 use Rattle.rds_words.proofs.PlanMeant.{means}
 use Rattle.rds_words.proofs.Refusing.{HasRequestsAlone}
 use Rattle.rds_words.proofs.Splitting.{HasOption, IsCommand, mistaken_alike, named_alike, option_mistaken, split}
 
 same_words : {command : Text} {a b : List Text} → ◌≡◌ {A = Option (List Text)} (Some (command ∷ a)) (Some (command ∷ b)) → a ≡ b
 same_words e = cc
-
--- what is known of a command
-record IsKnown (command : Text) (count : Count) : Type 0 where
-  shape : Shape
-  is : IsCommand command shape
-  counted : IsCountedCommand command count
-
-abbrev known : (command : Text) (count : Count) (s : Shape) → IsCommand command s → IsCountedCommand command count → IsKnown command count
-known command count s is counted = record { shape = s; is = is; counted = counted }
-
--- and of one that has no options
-record IsPlain (command : Text) (count : Count) : Type 0 where
-  known : IsKnown command count
-  requests : HasRequestsAlone known.shape
-
-plainly : (command : Text) (count : Count) (s : Shape) → IsCommand command s → HasRequestsAlone s → IsCountedCommand command count → IsPlain command count
-plainly command count s is requests counted = record { known = known command count s is counted; requests = requests }
 
 module _ (command : Text) (count : Count) (is : IsKnown command count) where
   given_names : (called : Text) (given behind words : List Text) → AreSpelled given behind → IsCounted count given words → Names (called ∷ command ∷ behind) (command ∷ words)
@@ -103,7 +87,52 @@ module _ {X : Type 0} (P : Text → X → Type 0) where
       head false e = e
 
 each_plain : Each IsPlain counts
-each_plain = (plainly _ _ _ plain.grow_is plain.grow_requests plain.grow_counted, (plainly _ _ _ plain.clear_is plain.clear_requests plain.clear_counted, (plainly _ _ _ plain.inc_is plain.inc_requests plain.inc_counted, (plainly _ _ _ plain.dec_is plain.dec_requests plain.dec_counted, (plainly _ _ _ plain.edit_lines_is plain.edit_lines_requests plain.edit_lines_counted, (plainly _ _ _ plain.dump_is plain.dump_requests plain.dump_counted, (plainly _ _ _ plain.pair_is plain.pair_requests plain.pair_counted, (plainly _ _ _ plain.ask_is plain.ask_requests plain.ask_counted, (plainly _ _ _ plain.answer_is plain.answer_requests plain.answer_counted, (plainly _ _ _ plain.take_is plain.take_requests plain.take_counted, (plainly _ _ _ plain.merge_is plain.merge_requests plain.merge_counted, (plainly _ _ _ plain.status_is plain.status_requests plain.status_counted, (plainly _ _ _ plain.check_is plain.check_requests plain.check_counted, (plainly _ _ _ plain.conflicts_is plain.conflicts_requests plain.conflicts_counted, (plainly _ _ _ plain.diff_is plain.diff_requests plain.diff_counted, (plainly _ _ _ plain.join_is plain.join_requests plain.join_counted, (plainly _ _ _ plain.sim_is plain.sim_requests plain.sim_counted, tt)))))))))))))))))
+each_plain = (
+  plain.grow_plain,
+  (
+    plain.clear_plain,
+    (
+      plain.inc_plain,
+      (
+        plain.dec_plain,
+        (
+          plain.edit_lines_plain,
+          (
+            plain.dump_plain,
+            (
+              plain.pair_plain,
+              (
+                plain.ask_plain,
+                (
+                  plain.answer_plain,
+                  (
+                    plain.take_plain,
+                    (
+                      plain.merge_plain,
+                      (
+                        plain.status_plain,
+                        (
+                          plain.check_plain,
+                          (
+                            plain.conflicts_plain,
+                            (
+                              plain.diff_plain,
+                              (plain.join_plain, (plain.sim_plain, (plain.files_plain, (plain.faults_plain, tt)))),
+                            ),
+                          ),
+                        ),
+                      ),
+                    ),
+                  ),
+                ),
+              ),
+            ),
+          ),
+        ),
+      ),
+    ),
+  ),
+)
 
 each_known : Each IsKnown option_counts
 each_known = (known _ _ _ plans.set_is options.set_counted, (known _ _ _ plans.add_is options.add_counted, (known _ _ _ plans.del_is options.del_counted, (known _ _ _ plans.get_is options.get_counted, (known _ _ _ plans.show_is options.show_counted, (known _ _ _ plans.sync_is options.sync_counted, (known _ _ _ plans.serve_is options.serve_counted, tt)))))))

@@ -1,126 +1,65 @@
 -- The task whose words are known.
-use Rattle.std.proofs.Common.{◌≡◌, ℕ, List, [], ◌∷◌, codes, Option, Some, None, option_map, refl, ap, arith}
+use Rattle.std.proofs.Common.{◌≡◌, ◌∙◌, ℕ, List, [], ◌∷◌, codes, Option, Some, None, option_map, refl, ap, arith}
 use Rattle.clap.specs.Words.{Text}
 use Rattle.rds_words.specs.Task.{EditsByLines, words_of}
 use Rattle.rds_words.specs.declared.tasks.Task.{Task}
-use Rattle.rds_words.specs.declared.tasks.Task.TheVariants.{Join, Sim, Init, InitFrom, Grow, Edit, EditIfChanged, EditLines, Get, GetRaw, Show, ShowPretty, Dump, Status, Serve, Sync, Pair, Ask, Answer, Take, Merge, Check, Conflicts, Diff}
+use Rattle.rds_words.specs.declared.tasks.Task.TheVariants.{Join, Sim, Files, Faults, Init, InitFrom, Grow, Edit, EditIfChanged, EditLines, Get, GetRaw, Show, ShowPretty, Dump, Status, Serve, Sync, Pair, Ask, Answer, Take, Merge, Check, Conflicts, Diff}
 use Rattle.rds_words.specs.declared.tasks.EditWords.TheVariants.{Set, Add, Del, Clear, Inc, Dec}
 
-pub is_join : (task : Option Task) → option_map words_of task ≡ Some (codes "join" ∷ []) → task ≡ Some Join
-is_join None e = absurd cc
-is_join (Some Join) e = refl
-is_join (Some Sim) e = absurd cc
-is_join (Some (Init words)) e = absurd cc
-is_join (Some (Grow words)) e = absurd cc
-is_join (Some (Edit file (Set path value))) e = absurd cc
-is_join (Some (Edit file (Add path value))) e = absurd cc
-is_join (Some (Edit file (Del path value))) e = absurd cc
-is_join (Some (Edit file (Clear path))) e = absurd cc
-is_join (Some (Edit file (Inc key by))) e = absurd cc
-is_join (Some (Edit file (Dec key by))) e = absurd cc
-is_join (Some (EditIfChanged file (Set path value))) e = absurd cc
-is_join (Some (EditIfChanged file (Add path value))) e = absurd cc
-is_join (Some (EditIfChanged file (Del path value))) e = absurd cc
-is_join (Some (EditIfChanged file (Clear path))) e = absurd cc
-is_join (Some (EditIfChanged file (Inc key by))) e = absurd cc
-is_join (Some (EditIfChanged file (Dec key by))) e = absurd cc
-is_join (Some (EditLines file)) e = absurd cc
-is_join (Some (Get file path)) e = absurd cc
-is_join (Some (Show file path)) e = absurd cc
-is_join (Some (ShowPretty file path)) e = absurd cc
-is_join (Some (Status file)) e = absurd cc
-is_join (Some (Serve words)) e = absurd cc
-is_join (Some (Sync words)) e = absurd cc
-is_join (Some (Pair first second)) e = absurd cc
-is_join (Some (Dump file path)) e = absurd cc
-is_join (Some (Ask file)) e = absurd cc
-is_join (Some (Answer file)) e = absurd cc
-is_join (Some (Take file question answer)) e = absurd cc
-is_join (Some (Merge file from)) e = absurd cc
-is_join (Some (Check question answer)) e = absurd cc
-is_join (Some (Conflicts file path)) e = absurd cc
-is_join (Some (Diff file other)) e = absurd cc
-is_join (Some (InitFrom words)) e = absurd cc
-is_join (Some (GetRaw file path kind)) e = absurd cc
-
-pub is_sim : (task : Option Task) → option_map words_of task ≡ Some (codes "sim" ∷ []) → task ≡ Some Sim
-is_sim None e = absurd cc
-is_sim (Some Join) e = absurd cc
-is_sim (Some Sim) e = refl
-is_sim (Some (Init words)) e = absurd cc
-is_sim (Some (Grow words)) e = absurd cc
-is_sim (Some (Edit file (Set path value))) e = absurd cc
-is_sim (Some (Edit file (Add path value))) e = absurd cc
-is_sim (Some (Edit file (Del path value))) e = absurd cc
-is_sim (Some (Edit file (Clear path))) e = absurd cc
-is_sim (Some (Edit file (Inc key by))) e = absurd cc
-is_sim (Some (Edit file (Dec key by))) e = absurd cc
-is_sim (Some (EditIfChanged file (Set path value))) e = absurd cc
-is_sim (Some (EditIfChanged file (Add path value))) e = absurd cc
-is_sim (Some (EditIfChanged file (Del path value))) e = absurd cc
-is_sim (Some (EditIfChanged file (Clear path))) e = absurd cc
-is_sim (Some (EditIfChanged file (Inc key by))) e = absurd cc
-is_sim (Some (EditIfChanged file (Dec key by))) e = absurd cc
-is_sim (Some (EditLines file)) e = absurd cc
-is_sim (Some (Get file path)) e = absurd cc
-is_sim (Some (Show file path)) e = absurd cc
-is_sim (Some (ShowPretty file path)) e = absurd cc
-is_sim (Some (Status file)) e = absurd cc
-is_sim (Some (Serve words)) e = absurd cc
-is_sim (Some (Sync words)) e = absurd cc
-is_sim (Some (Pair first second)) e = absurd cc
-is_sim (Some (Dump file path)) e = absurd cc
-is_sim (Some (Ask file)) e = absurd cc
-is_sim (Some (Answer file)) e = absurd cc
-is_sim (Some (Take file question answer)) e = absurd cc
-is_sim (Some (Merge file from)) e = absurd cc
-is_sim (Some (Check question answer)) e = absurd cc
-is_sim (Some (Conflicts file path)) e = absurd cc
-is_sim (Some (Diff file other)) e = absurd cc
-is_sim (Some (InitFrom words)) e = absurd cc
-is_sim (Some (GetRaw file path kind)) e = absurd cc
-
 -- the first byte of the command's name
-abbrev first_byte : Option (List Text) → ℕ
-first_byte (Some ((b ∷ bs) ∷ words)) = b
+abbrev first_byte : List Text → ℕ
+first_byte ((b ∷ bs) ∷ words) = b
 first_byte words = 0
 
+-- the words of `join`, of `sim` and of `edit` with a file are those of one task each
+told : (task : Task) → (words_of task ≡ codes "join" ∷ [] → task ≡ Join) × (words_of task ≡ codes "sim" ∷ [] → task ≡ Sim)
+    × ((at : Text) → words_of task ≡ codes "edit" ∷ at ∷ [] → EditsByLines at (Some task))
+told Join = (λ e. refl, λ e. absurd cc, λ at e. absurd cc)
+told Sim = (λ e. absurd cc, λ e. refl, λ at e. absurd cc)
+told Files = (λ e. absurd cc, λ e. absurd cc, λ at e. absurd cc)
+told Faults = (λ e. absurd cc, λ e. absurd cc, λ at e. absurd cc)
+told (Init words) = (λ e. absurd cc, λ e. absurd cc, λ at e. absurd cc)
+told (Grow words) = (λ e. absurd cc, λ e. absurd cc, λ at e. absurd (omega (arith, ap first_byte e)))
+told (Edit file (Set path value)) = (λ e. absurd cc, λ e. absurd cc, λ at e. absurd cc)
+told (Edit file (Add path value)) = (λ e. absurd cc, λ e. absurd cc, λ at e. absurd cc)
+told (Edit file (Del path value)) = (λ e. absurd cc, λ e. absurd cc, λ at e. absurd cc)
+told (Edit file (Clear path)) = (λ e. absurd cc, λ e. absurd cc, λ at e. absurd cc)
+told (Edit file (Inc key by)) = (λ e. absurd cc, λ e. absurd cc, λ at e. absurd cc)
+told (Edit file (Dec key by)) = (λ e. absurd cc, λ e. absurd cc, λ at e. absurd cc)
+told (EditIfChanged file (Set path value)) = (λ e. absurd cc, λ e. absurd cc, λ at e. absurd cc)
+told (EditIfChanged file (Add path value)) = (λ e. absurd cc, λ e. absurd cc, λ at e. absurd cc)
+told (EditIfChanged file (Del path value)) = (λ e. absurd cc, λ e. absurd cc, λ at e. absurd cc)
+told (EditIfChanged file (Clear path)) = (λ e. absurd cc, λ e. absurd cc, λ at e. absurd cc)
+told (EditIfChanged file (Inc key by)) = (λ e. absurd cc, λ e. absurd cc, λ at e. absurd cc)
+told (EditIfChanged file (Dec key by)) = (λ e. absurd cc, λ e. absurd cc, λ at e. absurd cc)
+told (EditLines file) = (λ e. absurd cc, λ e. absurd cc, λ at e. (file, cc, refl))
+told (Get file path) = (λ e. absurd cc, λ e. absurd cc, λ at e. absurd cc)
+told (Show file path) = (λ e. absurd cc, λ e. absurd cc, λ at e. absurd cc)
+told (ShowPretty file path) = (λ e. absurd cc, λ e. absurd cc, λ at e. absurd cc)
+told (Status file) = (λ e. absurd cc, λ e. absurd cc, λ at e. absurd cc)
+told (Serve words) = (λ e. absurd cc, λ e. absurd cc, λ at e. absurd cc)
+told (Sync words) = (λ e. absurd cc, λ e. absurd cc, λ at e. absurd cc)
+told (Pair first second) = (λ e. absurd cc, λ e. absurd cc, λ at e. absurd cc)
+told (Dump file path) = (λ e. absurd cc, λ e. absurd cc, λ at e. absurd cc)
+told (Ask file) = (λ e. absurd cc, λ e. absurd cc, λ at e. absurd cc)
+told (Answer file) = (λ e. absurd cc, λ e. absurd cc, λ at e. absurd cc)
+told (Take file question answer) = (λ e. absurd cc, λ e. absurd cc, λ at e. absurd cc)
+told (Merge file from) = (λ e. absurd cc, λ e. absurd cc, λ at e. absurd cc)
+told (Check question answer) = (λ e. absurd cc, λ e. absurd cc, λ at e. absurd cc)
+told (Conflicts file path) = (λ e. absurd cc, λ e. absurd cc, λ at e. absurd cc)
+told (Diff file other) = (λ e. absurd cc, λ e. absurd cc, λ at e. absurd cc)
+told (InitFrom words) = (λ e. absurd cc, λ e. absurd cc, λ at e. absurd cc)
+told (GetRaw file path kind) = (λ e. absurd cc, λ e. absurd cc, λ at e. absurd cc)
+
+some_words : (task : Option Task) (words : List Text) → option_map words_of task ≡ Some words → (named : Task) × (task ≡ Some named) × (words_of named ≡ words)
+some_words None words e = absurd cc
+some_words (Some task) words e = (task, refl, cc)
+
+pub is_join : (task : Option Task) → option_map words_of task ≡ Some (codes "join" ∷ []) → task ≡ Some Join
+is_join task e = let named = some_words task _ e in named.1 ∙ ap Some ((told named.0).0 named.2)
+
+pub is_sim : (task : Option Task) → option_map words_of task ≡ Some (codes "sim" ∷ []) → task ≡ Some Sim
+is_sim task e = let named = some_words task _ e in named.1 ∙ ap Some ((told named.0).1 named.2)
+
 pub is_edit : (at : Text) (task : Option Task) → option_map words_of task ≡ Some (codes "edit" ∷ at ∷ []) → EditsByLines at task
-is_edit at None e = absurd cc
-is_edit at (Some Join) e = absurd cc
-is_edit at (Some Sim) e = absurd cc
-is_edit at (Some (Init words)) e = absurd cc
-is_edit at (Some (Grow words)) e = absurd (omega (arith, ap first_byte e))
-is_edit at (Some (Edit file (Set path value))) e = absurd cc
-is_edit at (Some (Edit file (Add path value))) e = absurd cc
-is_edit at (Some (Edit file (Del path value))) e = absurd cc
-is_edit at (Some (Edit file (Clear path))) e = absurd cc
-is_edit at (Some (Edit file (Inc key by))) e = absurd cc
-is_edit at (Some (Edit file (Dec key by))) e = absurd cc
-is_edit at (Some (EditIfChanged file (Set path value))) e = absurd cc
-is_edit at (Some (EditIfChanged file (Add path value))) e = absurd cc
-is_edit at (Some (EditIfChanged file (Del path value))) e = absurd cc
-is_edit at (Some (EditIfChanged file (Clear path))) e = absurd cc
-is_edit at (Some (EditIfChanged file (Inc key by))) e = absurd cc
-is_edit at (Some (EditIfChanged file (Dec key by))) e = absurd cc
-is_edit at (Some (EditLines file)) e = (file, same file.now e, refl)
-  where
-    same : (t : Text) → ◌≡◌ {A = Option (List Text)} (Some (codes "edit" ∷ t ∷ [])) (Some (codes "edit" ∷ at ∷ [])) → t ≡ at
-    same t e = cc
-is_edit at (Some (Get file path)) e = absurd cc
-is_edit at (Some (Show file path)) e = absurd cc
-is_edit at (Some (ShowPretty file path)) e = absurd cc
-is_edit at (Some (Status file)) e = absurd cc
-is_edit at (Some (Serve words)) e = absurd cc
-is_edit at (Some (Sync words)) e = absurd cc
-is_edit at (Some (Pair first second)) e = absurd cc
-is_edit at (Some (Dump file path)) e = absurd cc
-is_edit at (Some (Ask file)) e = absurd cc
-is_edit at (Some (Answer file)) e = absurd cc
-is_edit at (Some (Take file question answer)) e = absurd cc
-is_edit at (Some (Merge file from)) e = absurd cc
-is_edit at (Some (Check question answer)) e = absurd cc
-is_edit at (Some (Conflicts file path)) e = absurd cc
-is_edit at (Some (Diff file other)) e = absurd cc
-is_edit at (Some (InitFrom words)) e = absurd cc
-is_edit at (Some (GetRaw file path kind)) e = absurd cc
+is_edit at task e = let named = some_words task _ e in rw named.1 ((told named.0).2 at named.2)

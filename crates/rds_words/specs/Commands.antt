@@ -104,7 +104,7 @@ named_app =
 abbrev pub with_command : App → App → App
 with_command program command = with_subcommand program command.top
 
--- the commands, in the order in which help lists them
+-- the commands, in the order in which help lists them, and the topics of `help`
 abbrev pub commands : List App
 commands =
     command_app (codes "init")
@@ -133,6 +133,8 @@ commands =
     ∷ command_app (codes "diff") (file_rule ∷ required_rule (codes "OTHER") ∷ [])
     ∷ command_app (codes "join") []
     ∷ command_app (codes "sim") []
+    ∷ command_app (codes "files") []
+    ∷ command_app (codes "faults") []
     ∷ []
 
 -- the program with its commands

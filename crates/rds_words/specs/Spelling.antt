@@ -50,6 +50,8 @@ counts =
     ∷ (codes "diff", exactly 2)
     ∷ (codes "join", exactly 0)
     ∷ (codes "sim", exactly 0)
+    ∷ (codes "files", exactly 0)
+    ∷ (codes "faults", exactly 0)
     ∷ []
 
 -- the commands that have options but `init`, each with how many words where no option is given

@@ -5,7 +5,7 @@ use Rattle.std.specs.Option.{option_map_or}
 use Rattle.std.specs.Str.{bytes_eq}
 use Rattle.clap.specs.Words.{Row, Text, all_of, first_of}
 use Rattle.rds_words.specs.declared.tasks.Task.{Task}
-use Rattle.rds_words.specs.declared.tasks.Task.TheVariants.{Join, Sim, Init, InitFrom, Grow, Edit, EditIfChanged, EditLines, Get, GetRaw, Show, ShowPretty, Dump, Status, Serve, Sync, Pair, Ask, Answer, Take, Merge, Check, Conflicts, Diff}
+use Rattle.rds_words.specs.declared.tasks.Task.TheVariants.{Join, Sim, Files, Faults, Init, InitFrom, Grow, Edit, EditIfChanged, EditLines, Get, GetRaw, Show, ShowPretty, Dump, Status, Serve, Sync, Pair, Ask, Answer, Take, Merge, Check, Conflicts, Diff}
 use Rattle.rds_words.specs.declared.tasks.EditWords.{EditWords}
 use Rattle.rds_words.specs.declared.tasks.EditWords.TheVariants.{Set, Add, Del, Clear, Inc, Dec}
 use Rattle.rds_words.specs.declared.tasks.RawKind.{RawKind}
@@ -44,6 +44,8 @@ edit_words file (Dec key by) = codes "dec" ∷ file ∷ key.now ∷ by.now ∷ [
 abbrev pub words_of : Task → List Text
 words_of Join = codes "join" ∷ []
 words_of Sim = codes "sim" ∷ []
+words_of Files = codes "files" ∷ []
+words_of Faults = codes "faults" ∷ []
 words_of (Init words) =
     codes "init" ∷ words.file.now ∷ words.group.now ∷ words.own.now ∷ map (λ n. n.now) words.names.items
 words_of (InitFrom words) = codes "init" ∷ words.file.now ∷ words.own.now ∷ (codes "--from=" ++ words.from.now) ∷ []
@@ -192,8 +194,10 @@ abbrev pub plain_words_behind : Text → List Row → Option (List Text)
 plain_words_behind name rows =
     if bytes_eq name (codes "join") then Some []
     else (if bytes_eq name (codes "sim") then Some []
+    else (if bytes_eq name (codes "files") then Some []
+    else (if bytes_eq name (codes "faults") then Some []
     else (if bytes_eq name (codes "show") then show_words_in rows
-    else file_words_behind name rows))
+    else file_words_behind name rows))))
 
 abbrev pub words_behind : Text → List Row → Option (List Text)
 words_behind name rows =

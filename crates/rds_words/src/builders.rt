@@ -1,6 +1,6 @@
 //! The commands as the library is told of them.
 ghost use Rattle.std.specs.Prelude.{◌≡◌, false, fold, IfOk};
-ghost use Rattle.clap.specs.Words.{app_of, rule_of};
+ghost use Rattle.clap.specs.Words.{app_of, new_app, rule_of};
 ghost use Rattle.clap.specs.declared.builder.command.Command.TheViews.{out-Command};
 ghost use Rattle.rds_words.specs.Commands.{named_app, node_app};
 ghost use Rattle.rds_words.specs.Described.{described_app, described_rule, with_described};
@@ -38,13 +38,26 @@ fn described_command<'a>(alloc: Global, described: &Described) -> Result<Command
     ensures app { IfOk result (λ c. app_of c ≡ described_app described.now) }
     ensures local { IfOk result (λ c. (out-Command c).has_globals ≡ false) }
 {
-    let mut command = Command::new(alloc, described.name)
-        .about(described.about)
-        .after_help(described.page.text());
+    let mut command = titled_command(alloc, described);
     for word in described.words {
         command = command.arg(described_arg(alloc, word))?;
     }
     Ok(command)
+}
+
+// A command without its words. A topic is in no list.
+fn titled_command<'a>(alloc: Global, described: &Described) -> Command<'a>
+    ensures app { app_of result ≡ new_app described.now.name.now }
+    ensures local { (out-Command result).has_globals ≡ false }
+{
+    let command = Command::new(alloc, described.name).about(described.about);
+    let text = described.page.text();
+    if described.page.is_topic() {
+        return command.hide(true).override_help(text);
+    }
+    command
+        .before_help(described.page.example())
+        .after_help(text)
 }
 
 // A word of a command.

@@ -1,6 +1,6 @@
-//! What `--help` says of the program and of each command.
+//! What `--help` says of the program and of each command, and what the topics of `help` are.
 
-/// Which text stands behind the words of a command. A table that has the texts themselves takes the prover too long.
+/// Which texts a command has. A table that has the texts themselves takes the prover too long.
 #[derive(Clone, Copy)]
 pub enum Page {
     Init,
@@ -28,37 +28,78 @@ pub enum Page {
     Diff,
     Join,
     Sim,
+    Files,
+    Faults,
 }
 
 impl Page {
-    /// The text.
+    /// Whether it is a topic: its text is all that is printed.
+    pub fn is_topic(self) -> bool {
+        matches!(self, Page::Files | Page::Faults)
+    }
+
+    /// How the command is called, which stands first. A topic has none.
+    pub fn example(self) -> &'static str {
+        match self {
+            Page::Init => INIT_EXAMPLE,
+            Page::Grow => GROW_EXAMPLE,
+            Page::Set => SET_EXAMPLE,
+            Page::Add => ADD_EXAMPLE,
+            Page::Del => DEL_EXAMPLE,
+            Page::Clear => CLEAR_EXAMPLE,
+            Page::Inc => INC_EXAMPLE,
+            Page::Dec => DEC_EXAMPLE,
+            Page::Edit => EDIT_EXAMPLE,
+            Page::Get => GET_EXAMPLE,
+            Page::Show => SHOW_EXAMPLE,
+            Page::Dump => DUMP_EXAMPLE,
+            Page::Pair => PAIR_EXAMPLE,
+            Page::Sync => SYNC_EXAMPLE,
+            Page::Serve => SERVE_EXAMPLE,
+            Page::Ask => ASK_EXAMPLE,
+            Page::Answer => ANSWER_EXAMPLE,
+            Page::Take => TAKE_EXAMPLE,
+            Page::Merge => MERGE_EXAMPLE,
+            Page::Status => STATUS_EXAMPLE,
+            Page::Check => CHECK_EXAMPLE,
+            Page::Conflicts => CONFLICTS_EXAMPLE,
+            Page::Diff => DIFF_EXAMPLE,
+            Page::Join => JOIN_EXAMPLE,
+            Page::Sim => SIM_EXAMPLE,
+            Page::Files | Page::Faults => "",
+        }
+    }
+
+    /// What is peculiar to the command, which stands last.
     pub fn text(self) -> &'static str {
         match self {
-            Page::Init => INIT_AFTER_HELP,
-            Page::Grow => GROW_AFTER_HELP,
-            Page::Set => SET_AFTER_HELP,
-            Page::Add => ADD_AFTER_HELP,
-            Page::Del => DEL_AFTER_HELP,
-            Page::Clear => CLEAR_AFTER_HELP,
-            Page::Inc => INC_AFTER_HELP,
-            Page::Dec => DEC_AFTER_HELP,
-            Page::Edit => EDIT_AFTER_HELP,
-            Page::Get => GET_AFTER_HELP,
-            Page::Show => SHOW_AFTER_HELP,
-            Page::Dump => DUMP_AFTER_HELP,
-            Page::Pair => PAIR_AFTER_HELP,
-            Page::Sync => SYNC_AFTER_HELP,
-            Page::Serve => SERVE_AFTER_HELP,
-            Page::Ask => ASK_AFTER_HELP,
-            Page::Answer => ANSWER_AFTER_HELP,
-            Page::Take => TAKE_AFTER_HELP,
-            Page::Merge => MERGE_AFTER_HELP,
-            Page::Status => STATUS_AFTER_HELP,
-            Page::Check => CHECK_AFTER_HELP,
-            Page::Conflicts => CONFLICTS_AFTER_HELP,
-            Page::Diff => DIFF_AFTER_HELP,
-            Page::Join => JOIN_AFTER_HELP,
-            Page::Sim => SIM_AFTER_HELP,
+            Page::Init => INIT_TEXT,
+            Page::Grow => GROW_TEXT,
+            Page::Set => SET_TEXT,
+            Page::Add => ADD_TEXT,
+            Page::Del => DEL_TEXT,
+            Page::Clear => CLEAR_TEXT,
+            Page::Inc => INC_TEXT,
+            Page::Dec => DEC_TEXT,
+            Page::Edit => EDIT_TEXT,
+            Page::Get => GET_TEXT,
+            Page::Show => SHOW_TEXT,
+            Page::Dump => DUMP_TEXT,
+            Page::Pair => PAIR_TEXT,
+            Page::Sync => SYNC_TEXT,
+            Page::Serve => SERVE_TEXT,
+            Page::Ask => ASK_TEXT,
+            Page::Answer => ANSWER_TEXT,
+            Page::Take => TAKE_TEXT,
+            Page::Merge => MERGE_TEXT,
+            Page::Status => STATUS_TEXT,
+            Page::Check => CHECK_TEXT,
+            Page::Conflicts => CONFLICTS_TEXT,
+            Page::Diff => DIFF_TEXT,
+            Page::Join => JOIN_TEXT,
+            Page::Sim => SIM_TEXT,
+            Page::Files => FILES_TEXT,
+            Page::Faults => FAULTS_TEXT,
         }
     }
 }
@@ -75,393 +116,379 @@ Commands, by what they are for:
   looking    status, check, conflicts, diff
   machines   join, sim
 'rds_node COMMAND --help' has an example of each, and what is peculiar to it.
-
-Words: PATH is 1 to 8 keys with '/' between them. Options stand before any two dashes,
-'--'; behind them a word may begin with a hyphen.
-
-Files: a command that changes FILE does so under a lock, for which it waits ten seconds
-at most. FILE.new is made beside it with mode 0600, gets FILE's mode, is written and
-synced, and then renamed to FILE. A FILE without any write bit isn't replaced, and one
-whose name ends in '.new' is fault 27. What isn't said to change FILE only reads it.
-
-Faults: each is one line of output, 'fault N: Name', and standard error has a line for
-people beside it, but not for those of join and sim, nor of the lines that edit reads.
-Any command on files may answer 12 to 15 for a file that is no snapshot, 15 too where
-the new one would be too long, 24 where a file can't be locked, read or written, and 1
-where there is no memory.
-
-Exit status: 0 where the command succeeded, 1 where it answered a fault, 2 for fault 27
-and for words that the program doesn't take, 3 where 'get --raw' finds nothing, and
-where 'conflicts' or 'diff' finds something.
+'rds_node help files' tells how files are read and written, and what PATH and VALUE are.
+'rds_node help faults' tells what the faults are, and the exit status.
 
 Example: rds_node init notes.a notes a a b; rds_node set notes.a title --text Shopping";
 
+pub const FILES_ABOUT: &str = "Tells how files are read and written";
+
+/// What `help files` prints.
+pub const FILES_TEXT: &str = "\
+How files are read and written, and what the words of commands are.
+
+Writing: a command that changes FILE does so under a lock, for which it waits ten
+seconds at most. FILE.new is made beside it with mode 0600, gets FILE's mode, is written
+and synced, and then renamed to FILE. So FILE is the old one or the new one, whole.
+What isn't said to change FILE only reads it.
+
+Places: a FILE that is a link is followed, and stays a link. One that has several names
+(hard links), or no write bit, isn't changed: fault 24. One whose name ends in '.new' is
+fault 27.
+
+Copies: a name is used at one file alone. A copy is for reading, for a backup, or for
+'merge'; never edit one beside the original. To edit at a second place make the next
+replica, by 'init NEW --from FILE OWN'.
+
+Words: PATH is 1 to 8 keys with '/' between them, and a key 1 to 64 bytes without '/'.
+VALUE is JSON: null, true, false, a whole number of 64 bits, or a text of at most 1,024
+bytes. Counters stand at the root, so each has a KEY. Options stand before any two
+dashes, '--'; behind them a word may begin with a hyphen.
+
+Example: rds_node set notes.a shopping/shelf -- -3
+";
+
+pub const FAULTS_ABOUT: &str = "Tells what the faults are";
+
+/// What `help faults` prints.
+pub const FAULTS_TEXT: &str = "\
+What the faults are. Each is one line of output, 'fault N: Name', and standard error has
+a line for people beside it, but not for those of 'join' and 'sim', nor of the lines
+that 'edit' reads. Those of 'get --raw', 'dump', 'conflicts', 'diff', 'ask' and 'answer'
+are told on standard error alone.
+
+   1 Memory          there was no memory to go on
+   2 BadName         no name: a to z first, then a to z, 0 to 9 and '-', at most 16
+   3 BadKey          no key: 1 to 64 bytes without '/'
+   4 BadPath         more than 8 keys, or the root where a value has to stand
+   5 BadScalar       no value: a whole number of 64 bits, a text, true, false or null
+   6 BadRoster       no name, more than 256, or one twice
+   7 SeqFull         this replica has used its last dot
+   8 CounterFull     a counter would pass its limit
+   9 Conflict        both sides have different entries for one dot: a copy was edited
+  10 OwnAhead        FILE is older than what its replica has sent: a backup was put back
+  11 WrongAsker      an answer to another replica, or to another question
+  12 Cut             the bytes end too early: no rds file, or a part of one
+  13 Bad             no rds file, or no text of a session
+  14 Extra           more bytes behind a whole text
+  15 TooLong         a text, a line or an input above its limit
+  17 BadCertificate  the certificate of a delta doesn't hold
+  18 WrongVersion    the peer speaks another version
+  19 WrongGroup      two replicas of different groups
+  20 WrongRoster     two rosters that have grown apart
+  21 SameReplica     the same replica at both ends, or a name that is used
+  22 OutOfTurn       the peer sent another message than the one awaited
+  23 PeerEnded       the peer ended before the exchange was done
+  24 Device          a file or an address can't be used; standard error says why
+  25 BadLine         a line is no command, or VALUE no JSON
+  26 NoSuch          no such replica, ask or answer
+  27 Usage           words that the program doesn't take
+
+Exit status: 0 where the command succeeded, 1 where it answered a fault, 2 for fault 27,
+3 where 'get --raw' finds nothing, and where 'conflicts' or 'diff' finds something.
+
+Example: rds_node get --raw notes.a title || echo status $?
+";
+
 pub const INIT_ABOUT: &str = "Makes a file that holds an empty replica, or the next one of a group";
 
-const INIT_AFTER_HELP: &str = "\
+const INIT_EXAMPLE: &str = "\
 Example: rds_node init notes.a notes a a b c
-         rds_node init notes.b --from notes.a b
+         rds_node init notes.b --from notes.a b";
 
-The first makes FILE, which must not be there yet: the replica OWN of the group GROUP of
-the replicas NAMES, which has seen nothing.
-With --from two words stand, the new file and its own name. Group, names and all that
-was seen come from the other file, which isn't written. Another number of words is fault
-27.
-A name is used at one file alone, so each replica needs an own name that is new.
-Output: the line {\"ok\":true}.
-
-Faults of its own: 27 where FILE is there already, 3 for a bad group, 2 for a bad name,
-6 for names that are too many or one twice, 26 where OWN is none of the names, 21 where
---from names a file whose own name is OWN, or in which anything is OWN's already.";
+const INIT_TEXT: &str = "\
+FILE must not be there. With --from two words stand, the new file and its own name: group,
+names and all that was seen come from the other file. Output: {\"ok\":true}.
+Faults of its own: 21 where OWN is used, 26 where it is none of NAMES, 27 for such a FILE.";
 
 pub const GROW_ABOUT: &str = "Adds replicas to the group of the replica in a file";
 
-const GROW_AFTER_HELP: &str = "\
-Example: rds_node grow notes.a d e
+const GROW_EXAMPLE: &str = "\
+Example: rds_node grow notes.a d e";
 
-Puts NAMES behind the names of the roster; the numbers of the others stay. Each other
-replica grows by its next session with one that has. The file of a new replica is made
-by 'init NEW --from FILE OWN'.
-Grow a roster at one file alone: two that got different names can't meet any more, fault
-20.
-Output: the line {\"ok\":true}.
-
-Faults of its own: 2 for a bad name, 6 for names that are too many or one twice.";
+const GROW_TEXT: &str = "\
+Puts NAMES behind those of the group; the numbers of the others stay. Each other replica
+grows by its next session with one that has, and the file of a new one is made by 'init
+NEW --from FILE OWN'. Grow a group at one file alone: two that got different names can't
+meet any more, fault 20.
+Output: {\"ok\":true}.
+Faults of its own: 2 for a bad name, 6 for one that is there, stands twice or is too many.";
 
 pub const SET_ABOUT: &str = "Writes a register of the replica in a file";
 
-const SET_AFTER_HELP: &str = "\
+const SET_EXAMPLE: &str = "\
 Example: rds_node set notes.a title '\"Shopping\"'
-         rds_node set notes.a title --text Shopping
+         rds_node set notes.a title --text Shopping";
 
-Writes the register at PATH; what stood there is taken away.
-VALUE is JSON: null, true, false, a whole number or a text. Write a space before a
-number below 0. With --text VALUE is the text itself.
-With --if-changed nothing is written where VALUE stands there already, and nothing
-beside it: then the answer is {\"dot\":null,\"killed\":0}.
-Output: the line {\"dot\":[\"a\",1],\"killed\":0}: the name of the new entry or null, and how
-many entries were taken away.
-
-Faults of its own: 4 for a bad path, 3 for a bad key in it, 25 for a VALUE that is no
-JSON, 5 for one that is no such value or too long, 7 where there are no more names for
-entries.";
+const SET_TEXT: &str = "\
+What stood at PATH is taken away. A VALUE below 0 stands behind two dashes: -- -3.
+Output: {\"dot\":[\"a\",1],\"killed\":0}: the new entry's name, and how many were taken away;
+{\"dot\":null,\"killed\":0} where nothing was written. 'help faults' has 3 to 5, 7 and 25.";
 
 pub const ADD_ABOUT: &str = "Adds an element to a set of the replica in a file";
 
-const ADD_AFTER_HELP: &str = "\
+const ADD_EXAMPLE: &str = "\
 Example: rds_node add notes.a shopping/fruit '\"apple\"'
-         rds_node add notes.a shopping/fruit --text apple
+         rds_node add notes.a shopping/fruit --text apple";
 
-Adds VALUE to the set at PATH.
-VALUE is JSON: null, true, false, a whole number or a text. Write a space before a
-number below 0. With --text VALUE is the text itself.
-With --if-changed nothing is written where VALUE is in the set already: then the answer
-is {\"dot\":null,\"killed\":0}.
-Output: the line {\"dot\":[\"a\",1],\"killed\":0}: the name of the new entry or null, and how
-many entries were taken away.
-
-Faults of its own: 4 for a bad path, 3 for a bad key in it, 25 for a VALUE that is no
-JSON, 5 for one that is no such value or too long, 7 where there are no more names for
-entries.";
+const ADD_TEXT: &str = "\
+Adds VALUE to the set at PATH. A VALUE below 0 stands behind two dashes: -- -3.
+Output: {\"dot\":[\"a\",1],\"killed\":0}: the new entry's name, and how many were taken away;
+{\"dot\":null,\"killed\":0} where nothing was written. 'help faults' has 3 to 5, 7 and 25.";
 
 pub const DEL_ABOUT: &str = "Deletes an element of a set of the replica in a file";
 
-const DEL_AFTER_HELP: &str = "\
+const DEL_EXAMPLE: &str = "\
 Example: rds_node del notes.a shopping/fruit '\"apple\"'
-         rds_node del notes.a shopping/fruit --text apple
+         rds_node del notes.a shopping/fruit --text apple";
 
-Deletes VALUE from the set at PATH.
-VALUE is JSON: null, true, false, a whole number or a text. Write a space before a
-number below 0. With --text VALUE is the text itself.
-Output: the line {\"dot\":null,\"killed\":1}, with the number of entries taken away.
-
-Faults of its own: 4 for a bad path, 3 for a bad key in it, 25 for a VALUE that is no
-JSON, 5 for one that is no such value or too long.";
+const DEL_TEXT: &str = "\
+Deletes VALUE from the set at PATH. A VALUE below 0 stands behind two dashes: -- -3.
+Output: {\"dot\":null,\"killed\":1}, with the number of entries taken away.
+Faults of its own: 3 and 4 for a bad PATH, 25 and 5 for a bad VALUE.";
 
 pub const CLEAR_ABOUT: &str = "Empties a part of the replica in a file";
 
-const CLEAR_AFTER_HELP: &str = "\
-Example: rds_node clear notes.a shopping
+const CLEAR_EXAMPLE: &str = "\
+Example: rds_node clear notes.a shopping";
 
+const CLEAR_TEXT: &str = "\
 Takes away each entry at PATH or below it; with no PATH all entries, and no counter.
-Output: the line {\"dot\":null,\"killed\":0}, with the number of entries taken away.
-
-Faults of its own: 4 for a bad path, 3 for a bad key in it.";
+Output: {\"dot\":null,\"killed\":2}, with the number of entries taken away.
+Faults of its own: 3 and 4 for a bad PATH.";
 
 pub const INC_ABOUT: &str = "Raises a counter of the replica in a file";
 
-const INC_AFTER_HELP: &str = "\
-Example: rds_node inc notes.a visits 1
+const INC_EXAMPLE: &str = "\
+Example: rds_node inc notes.a visits 1";
 
-Raises the counter KEY by BY, a whole number from 0. Counters stand at the root of the
-document. To count the other way, use 'dec'.
-Output: the line {\"dot\":null,\"killed\":0}.
-
-Faults of its own: 27 where BY is no such number, 3 for a bad key, 8 where the counter
-would pass its limit.";
+const INC_TEXT: &str = "\
+Raises the counter KEY by BY. To count the other way, use 'dec': BY is never below 0.
+Output: {\"dot\":null,\"killed\":0}.
+Faults of its own: 27 for a bad BY, 3 for a bad KEY, 8 where it would pass its limit.";
 
 pub const DEC_ABOUT: &str = "Lowers a counter of the replica in a file";
 
-const DEC_AFTER_HELP: &str = "\
-Example: rds_node dec notes.a stock 3
+const DEC_EXAMPLE: &str = "\
+Example: rds_node dec notes.a stock 3";
 
-Lowers the counter KEY by BY, a whole number from 0. Counters stand at the root of the
-document. To count the other way, use 'inc'.
-Output: the line {\"dot\":null,\"killed\":0}.
-
-Faults of its own: 27 where BY is no such number, 3 for a bad key, 8 where the counter
-would pass its limit.";
+const DEC_TEXT: &str = "\
+Lowers the counter KEY by BY. To count the other way, use 'inc': BY is never below 0.
+Output: {\"dot\":null,\"killed\":0}.
+Faults of its own: 27 for a bad BY, 3 for a bad KEY, 8 where it would pass its limit.";
 
 pub const EDIT_ABOUT: &str = "Edits the replica in a file as lines say";
 
-const EDIT_AFTER_HELP: &str = "\
-Example: rds_node edit notes.a < lines
+const EDIT_EXAMPLE: &str = "\
+Example: rds_node edit notes.a < lines";
 
-Input: lines, each one JSON array of at most 65,536 bytes; the last may lack its
-newline.
-PATH and KEY are texts, VALUE is null, true, false, a whole number or a text, BY is a
-whole number from 0:
-  [\"set\",PATH,VALUE], [\"add\",PATH,VALUE], [\"del\",PATH,VALUE]
-  [\"clear\",PATH], [\"inc\",KEY,BY], [\"dec\",KEY,BY]
-Reads all lines, then FILE, edits it by one line after the other, and writes it once.
-Output, once FILE is written: one line of JSON for each line. An edit answers
-{\"dot\":[\"a\",1],\"killed\":0}: the name of the new entry or null, and how many entries were
-taken away. A refused one answers its fault and changes nothing; the others stand.
-
-Exit status: 1 also where a line was refused.
+const EDIT_TEXT: &str = "\
+Input: lines, each one JSON array of at most 65,536 bytes; empty lines are skipped:
+  [\"set\",PATH,VALUE] [\"add\",PATH,VALUE] [\"del\",PATH,VALUE] [\"clear\",PATH]
+  [\"inc\",KEY,BY] [\"dec\",KEY,BY]
+Edits FILE by one line after the other, and writes it once. Output, once it is written: a
+line of JSON for each, {\"dot\":[\"a\",1],\"killed\":0} as for 'set'. A refused one is answered
+{\"fault\":3,\"name\":\"BadKey\",\"line\":2} and changes nothing; the others stand, status 1.
 Faults of its own: 15 where the input has more than 1,073,741,824 bytes, 24 where it
 can't be read.";
 
 pub const GET_ABOUT: &str = "Prints what stands at a path of the replica in a file";
 
-const GET_AFTER_HELP: &str = "\
+const GET_EXAMPLE: &str = "\
 Example: rds_node get notes.a shopping/fruit
-         rds_node get --raw notes.a title
+         rds_node get --raw notes.a title";
 
-Output: the line {\"counter\":8,\"reg\":[3],\"set\":[\"red\"]}: the counter, or null where there
-is none or PATH has more than one key, the values of the register and those of the set,
-each once in their order, none where there is no register or no set.
-With --raw the values alone, one a line, a text as its bytes and without quotes. Where
-several kinds stand there, --reg, --set or --counter says which; each means --raw too,
-and two of them together are fault 27.
-
-Exit status: 3 where --raw finds nothing at PATH.
-Faults of its own: 4 for a bad path, 3 for a bad key in it, 27 where --raw finds values
-of several kinds.";
+const GET_TEXT: &str = "\
+Output: {\"counter\":8,\"reg\":[3],\"set\":[\"red\"]}, or bare values, a line each. Status 3 where
+--raw finds nothing, fault 27 where it finds several kinds: then one option says which.";
 
 pub const SHOW_ABOUT: &str = "Prints the document of the replica in a file";
 
-const SHOW_AFTER_HELP: &str = "\
+const SHOW_EXAMPLE: &str = "\
 Example: rds_node show notes.a shopping
-         rds_node show --pretty notes.a
+         rds_node show --pretty notes.a";
 
+const SHOW_TEXT: &str = "\
 Output: one line of JSON, the document below PATH, or all of it: {\"maps\":..,\"regs\":..,
 \"sets\":..}, each by key, with \"counters\" before them where there is no PATH.
-With --pretty the same JSON on many lines, indented.
-
-Faults of its own: 4 for a bad path, 3 for a bad key in it.";
+Faults of its own: 3 and 4 for a bad PATH.";
 
 pub const DUMP_ABOUT: &str = "Writes the lines that give the document of a file again";
 
-const DUMP_AFTER_HELP: &str = "\
+const DUMP_EXAMPLE: &str = "\
 Example: rds_node dump notes.a > lines
-         rds_node edit copy.a < lines
+         rds_node edit copy.a < lines";
 
+const DUMP_TEXT: &str = "\
 Output: the lines that 'edit' reads, which give the same document: that below PATH, or
 all of it with its counters. Of a register with several values one line sets each, so
 the last stands; a line on standard error says so before it.
-
-Faults of its own: 4 for a bad path, 3 for a bad key in it.";
+Faults of its own: 3 and 4 for a bad PATH.";
 
 pub const PAIR_ABOUT: &str = "Has a session between the replicas in two files";
 
-const PAIR_AFTER_HELP: &str = "\
-Example: rds_node pair notes.a notes.b
+const PAIR_EXAMPLE: &str = "\
+Example: rds_node pair notes.a notes.b";
 
-Connects to itself on 127.0.0.1, with FILE as the client and PEER as the server, and has
-one session: each side gets a delta, what the other has and it lacks. A delta is taken
-into what its file holds then, so edits made meanwhile stay; so is the longer roster.
-Output: the line {\"taken\":1}, with the number of components of the delta that FILE got,
-where one was taken and kept; then the fault of its session, if there was one. Then the
-same for PEER.
-
-Faults of its own: 21 for the same replica twice, 19 for two groups, 20 for rosters that
-have grown apart, 10 where a file is older than what its replica has sent, 11 where a
-file holds another replica by the time that the delta is taken.";
+const PAIR_TEXT: &str = "\
+Connects to itself on 127.0.0.1, with FILE as the client and PEER as the server. Each side
+gets a delta, what the other has and it lacks, and takes it into what its file holds then,
+so edits made meanwhile stay; so is the longer group taken.
+Output: {\"taken\":1} where FILE took a delta, with the number of its components; then the
+fault of its session, if there was one. Then the same for PEER.
+Faults of its own: 10, 11 and 19 to 21, see 'help faults'.";
 
 pub const SYNC_ABOUT: &str = "Has a session of the replica in a file with one that is served";
 
-const SYNC_AFTER_HELP: &str = "\
+const SYNC_EXAMPLE: &str = "\
 Example: rds_node sync notes.b 127.0.0.1:4000
-         rds_node sync notes.b - < from_peer > to_peer
+         rds_node sync notes.b - < from_peer > to_peer";
 
-Connects to ADDR, where a peer waits by 'serve', and has one session: each side gets a
-delta, what the other has and it lacks. Nothing is enciphered and nobody is
-authenticated.
-Where ADDR is '-' the session's bytes are standard input and output, and what is told
-goes to standard error. So ssh carries sessions, and says who may.
-A peer that is silent for SECONDS is given up, fault 24; 0 is no limit.
-Reads FILE at the start. A delta is taken into what FILE holds then, so edits made
-meanwhile stay; so is a longer roster.
-Output: the line {\"taken\":1}, with the number of the delta's components, where one was
-taken and kept; then the session's fault, if there was one.
-
-Faults of its own: 27 where SECONDS is no whole number, 10 where FILE is older than what
-its replica has sent, 11 to 15 or 17 for a broken message, 18 to 21 for a peer of
-another version, group, roster or for itself, 22 or 23 for one that broke off.";
+const SYNC_TEXT: &str = "\
+Calls a peer that waits by 'serve'. Nothing is enciphered and nobody is authenticated; for
+ADDR '-' the session's bytes are standard input and output, and what is told goes to
+standard error, so ssh can carry it. A delta is taken into what FILE holds by then.
+Output: {\"taken\":1}, with the number of the delta's components, where one was taken; then
+the session's fault, if there was one: 10 to 24, see 'help faults'.";
 
 pub const SERVE_ABOUT: &str = "Serves the replica in a file to peers";
 
-const SERVE_AFTER_HELP: &str = "\
+const SERVE_EXAMPLE: &str = "\
 Example: rds_node serve notes.a 127.0.0.1:4000 --sessions 3
-         rds_node serve notes.a - < from_peer > to_peer
+         rds_node serve notes.a - < from_peer > to_peer";
 
-Waits at ADDR until a peer calls by 'sync', and has a session with it, N times, one peer
-after the other; where N is 0, without end. Nothing is enciphered and nobody is
-authenticated: who reaches ADDR can read the document's changes and give changes.
-It says on standard error where it listens, so port 0, any free one, can be used.
-Where ADDR is '-' the one session's bytes are standard input and output, and what is
-told goes to standard error. So ssh, socat and inetd carry sessions.
-A peer that is silent for SECONDS is given up, fault 24, and the next session goes on.
-Reads FILE at the start of each session. A delta is taken into what FILE holds then, so
-edits made meanwhile stay; so is a longer roster.
-Output: after each session the line {\"taken\":1}, with the number of the delta's
-components, where one was taken and kept; then the session's fault, if there was one.
-
-Faults of its own: 27 where N or SECONDS is no whole number; else those of 'sync'.";
+const SERVE_TEXT: &str = "\
+Waits until a peer calls by 'sync', N times. Nothing is enciphered and nobody is
+authenticated. Standard error says where it listens, so port 0, any free one, will do.
+ADDR '-' is one session over standard input and output, and told of on standard error.
+Output after each session: {\"taken\":1} where a delta was taken, then the fault if any.";
 
 pub const ASK_ABOUT: &str = "Writes the question of the replica in a file";
 
-const ASK_AFTER_HELP: &str = "\
-Example: rds_node ask notes.a > question
+const ASK_EXAMPLE: &str = "\
+Example: rds_node ask notes.a > question";
 
-Writes the question to standard output: who asks, and the digest of all that FILE has
-seen. A peer reads it by 'answer', and FILE takes the answer by 'take'. What carries
-them is left to you: ssh, a mail, a stick.
-  rds_node ask a > q; ssh there rds_node answer b < q > r; rds_node take a q r
-FILE isn't written.";
+const ASK_TEXT: &str = "\
+Writes to standard output what a peer has to know to answer: who asks, and the digest of
+what FILE has seen. FILE isn't written.
+The peer's 'answer' goes with the question into 'take':
+  rds_node ask a > q; ssh there rds_node answer b < q > r; rds_node take a q r";
 
 pub const ANSWER_ABOUT: &str = "Reads a question, and writes the answer of the replica in a file";
 
-const ANSWER_AFTER_HELP: &str = "\
-Example: rds_node answer notes.b < question > answer
+const ANSWER_EXAMPLE: &str = "\
+Example: rds_node answer notes.b < question > answer";
 
+const ANSWER_TEXT: &str = "\
 Reads the question of a replica of the group from standard input, and writes the answer:
 who answers, and the least delta that brings the asker all that FILE has, with its
 certificate. FILE isn't written.
-
-Faults of its own: 11 to 15 for a question that is broken or no question, 19 for one of
-another group, 20 for rosters that have grown apart, 21 where FILE's own replica asks.";
+Faults of its own: 12 to 15 for a question that is broken or none, 19 for one of another
+group, 20 for names that have grown apart, 21 where FILE's own replica asks.";
 
 pub const TAKE_ABOUT: &str = "Takes the answer to its question into a file";
 
-const TAKE_AFTER_HELP: &str = "\
+const TAKE_EXAMPLE: &str = "\
 Example: rds_node take notes.a question answer
-         ssh there rds_node answer b < q | rds_node take notes.a q -
+         ssh there rds_node answer b < q | rds_node take notes.a q -";
 
-Checks the answer against the question, as a session would, and takes it into FILE.
-QUESTION or ANSWER may be '-', standard input.
-The question has to be FILE's own, and FILE must hold all that the question says it had:
-where a backup was put back between, ask anew.
-Output: the line {\"taken\":1}, with the number of the delta's components.
-
-Faults of its own: 11 for a question that isn't FILE's or an answer to another, 10 or 11
-where FILE lacks what it had, 12 to 15 for a broken text, 17 where the certificate
-doesn't hold, 19 for another group, 20 for rosters that have grown apart.";
+const TAKE_TEXT: &str = "\
+Checks the answer against the question, as a session would, and takes it into FILE. The
+question has to be FILE's own, and FILE to hold all that it had then, else ask anew: 10
+or 11. QUESTION or ANSWER may be '-'. Output: {\"taken\":1}, the number of components.
+Faults of its own: 11 for an answer to another question, 17 for a certificate that
+doesn't hold, 12 to 15, 19 and 20.";
 
 pub const MERGE_ABOUT: &str = "Joins all that another file has seen into a file";
 
-const MERGE_AFTER_HELP: &str = "\
-Example: rds_node merge notes.a stick/notes.b
+const MERGE_EXAMPLE: &str = "\
+Example: rds_node merge notes.a stick/notes.b";
 
+const MERGE_TEXT: &str = "\
 Joins into FILE all that the snapshot in the file FROM has seen. FROM isn't written, so
 this is one way: a session has both.
-Output: the line {\"taken\":1}, with the number of components that FILE lacked.
-
+Output: {\"taken\":1}, with the number of components that FILE lacked.
 Faults of its own: 10 where FROM is a copy of the same replica and has more of its own
-than FILE, 19 for another group, 20 for rosters that have grown apart, 9 where the two
-have different entries for one dot.";
+than FILE, 9 where the two have different entries for one dot, 19 for another group, 20
+for names that have grown apart.";
 
 pub const STATUS_ABOUT: &str = "Tells whose replica a file holds, and how much there is of it";
 
-const STATUS_AFTER_HELP: &str = "\
-Example: rds_node status notes.a
+const STATUS_EXAMPLE: &str = "\
+Example: rds_node status notes.a";
 
-Output: the line {\"group\":\"g\",\"own\":\"a\",\"names\":[\"a\",\"b\"],\"live\":1,\"dead\":0,
-\"counters\":0,\"components\":1,\"bytes\":58}, without the break: the group, the replica's own
-name and the names of all; then how many live entries, dots of dead ones and counters
-there are, how many components in all, and how many bytes the snapshot has.";
+const STATUS_TEXT: &str = "\
+Output: one line, {\"group\":\"notes\",\"own\":\"a\",\"names\":[\"a\",\"b\"],\"live\":1,\"dead\":0,
+\"counters\":0,\"components\":1,\"bytes\":58}: the group, the replica's own name and the names
+of all; how many live entries, dots of dead ones and counters there are, how many
+components in all, and how many bytes the snapshot has.";
 
 pub const CHECK_ABOUT: &str =
     "Says whether the certificate of an answer holds, and prints its delta";
 
-const CHECK_AFTER_HELP: &str = "\
-Example: rds_node check question answer
+const CHECK_EXAMPLE: &str = "\
+Example: rds_node check question answer";
 
-Says whether the certificate of the answer holds for the question, and prints its delta.
-QUESTION or ANSWER may be '-', standard input. No file is written.
-Output: a line of JSON for each row of the certificate, as
+const CHECK_TEXT: &str = "\
+Says whether the answer's certificate holds for the question, and prints its delta.
+QUESTION or ANSWER may be '-'. No file is written. Output: a line for each row, as
   {\"live\":[\"shop\",3],\"path\":\"..\",\"kind\":\"set\",\"value\":..}
   {\"dead\":[\"shop\",1,2],\"was\":\"unseen\"}
   {\"counter\":\"n\",\"replica\":\"shop\",\"plus\":9,\"was\":4}
-
 Faults of its own: 17 where the certificate doesn't hold, 11 for an answer to another
 question, 12 to 15 for a broken text.";
 
 pub const CONFLICTS_ABOUT: &str = "Lists the registers with more than one value";
 
-const CONFLICTS_AFTER_HELP: &str = "\
-Example: rds_node conflicts notes.a
+const CONFLICTS_EXAMPLE: &str = "\
+Example: rds_node conflicts notes.a";
 
+const CONFLICTS_TEXT: &str = "\
 Output: a line for each register with more than one value below PATH, or anywhere, with
 its path. A 'set' there makes it one value again.
-
 Exit status: 0 where there is none, 3 where there are some.
-Faults of its own: 4 for a bad path, 3 for a bad key in it.";
+Faults of its own: 3 and 4 for a bad PATH.";
 
 pub const DIFF_ABOUT: &str = "Lists what one document shows and the other doesn't";
 
-const DIFF_AFTER_HELP: &str = "\
-Example: rds_node diff notes.a notes.b
+const DIFF_EXAMPLE: &str = "\
+Example: rds_node diff notes.a notes.b";
 
+const DIFF_TEXT: &str = "\
 Output: a line for each thing that one of the two documents shows and the other doesn't.
 Neither file is written.
-
 Exit status: 0 where there is none, 3 where there are some.";
 
 pub const JOIN_ABOUT: &str = "Joins two snapshots of one group into one";
 
-const JOIN_AFTER_HELP: &str = "\
-Example: rds_node join < two_snapshots
+const JOIN_EXAMPLE: &str = "\
+Example: rds_node join < two_snapshots";
 
+const JOIN_TEXT: &str = "\
 Input: two lines of hex digits, each a snapshot. The second may lack its newline.
 Output: one line of hex digits, the snapshot of all that the two have seen, with the own
-number of the first and the longer of the two rosters.
-
+number of the first and the longer of the two groups' names.
 Faults of its own: 12 or 13 for a line that is no snapshot, 14 where something follows a
 snapshot or the second line, 15 for a line or an answer that is too long, 19 for another
-group, 20 where neither roster begins the other, 9 where the two have different entries
+group, 20 where neither names begin the others, 9 where the two have different entries
 for one dot, 24 where the input can't be read.";
 
 pub const SIM_ABOUT: &str = "Answers lines about a group of replicas in memory";
 
-const SIM_AFTER_HELP: &str = "\
-Example: rds_node sim < lines
+const SIM_EXAMPLE: &str = "\
+Example: rds_node sim < lines";
 
-Input: lines, each one JSON array of at most 65,536 bytes; the last may lack its
-newline.
-W is a replica's name; PATH, KEY and VALUE are as in 'edit'; BY and K are whole numbers:
-  [\"roster\",GROUP,NAME,..]                     the group; the first line
-  [\"set\",W,PATH,VALUE], [\"add\",..], [\"del\",..]  edit an entry
-  [\"clear\",W,PATH], [\"inc\",W,KEY,BY], [\"dec\",W,KEY,BY]
-  [\"save\",W], [\"crash\",W]                      keep the memory; go back to that
-  [\"ask\",W], [\"answer\",W,K], [\"take\",K]        a digest; a delta for it; take answer K
-  [\"grow\",W,NAME]                              put NAME last in the roster
-  [\"show\",W,PATH]                              the document below the path
-Output: one line of JSON for each line. A refused one answers {\"fault\":N,\"name\":\"Name\"}
-and changes nothing, and the next line is read.
-
-Exit status: 1 where a line was refused, or where the input can't be read: then the line
+const SIM_TEXT: &str = "\
+Input: lines, each one JSON array of at most 65,536 bytes. W is a replica's name; PATH,
+KEY, VALUE and BY are as in 'edit', and K is a whole number:
+  [\"roster\",GROUP,NAME,..]                       the group; the first line
+  [\"set\",W,PATH,VALUE] [\"add\",..] [\"del\",..]     edit an entry
+  [\"clear\",W,PATH] [\"inc\",W,KEY,BY] [\"dec\",W,KEY,BY]
+  [\"save\",W] [\"crash\",W]                         keep the memory; go back to that
+  [\"ask\",W] [\"answer\",W,K] [\"take\",K]            a digest; a delta for it; take answer K
+  [\"grow\",W,NAME] [\"show\",W,PATH]                one more name; the document below PATH
+Output: a line of JSON for each. A refused one answers {\"fault\":N,\"name\":\"Name\"}, changes
+nothing and makes the exit status 1, as does an input that can't be read: then the line
 'fault 24: Device' is the last.";
 
 pub const FILE_HELP: &str = "The file of a replica";

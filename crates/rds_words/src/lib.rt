@@ -10,6 +10,7 @@ mod reading;
 mod table;
 mod tasks;
 
+pub use help::{FAULTS_TEXT, FILES_TEXT};
 pub use laws::{word_laws, words_mean_their_spelling};
 pub use meaning::{amount_of, command_of, names_in, roster_in};
 pub use tasks::{

@@ -42,6 +42,8 @@ fn plain_task<'a>(name: &str, inner: &ArgMatches<'a>) -> Option<Task<'a>>
     match name {
         "join" => Some(Task::Join),
         "sim" => Some(Task::Sim),
+        "files" => Some(Task::Files),
+        "faults" => Some(Task::Faults),
         "show" => show_task(inner),
         _ => file_task(name, inner),
     }

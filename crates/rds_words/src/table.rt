@@ -217,8 +217,9 @@ const PEER: Word = Word {
     kind: Kind::Required,
 };
 
-/// The commands, in the order in which help lists them: documents, meeting, looking, machines.
-pub static COMMANDS: [Described; 25] = [
+/// The commands, in the order in which help lists them: documents, meeting, looking, machines. The topics of `help`
+/// stand last, and in no list.
+pub static COMMANDS: [Described; 27] = [
     Described {
         name: "init",
         about: help::INIT_ABOUT,
@@ -367,6 +368,18 @@ pub static COMMANDS: [Described; 25] = [
         name: "sim",
         about: help::SIM_ABOUT,
         page: Page::Sim,
+        words: &[],
+    },
+    Described {
+        name: "files",
+        about: help::FILES_ABOUT,
+        page: Page::Files,
+        words: &[],
+    },
+    Described {
+        name: "faults",
+        about: help::FAULTS_ABOUT,
+        page: Page::Faults,
         words: &[],
     },
 ];

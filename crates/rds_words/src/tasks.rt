@@ -19,6 +19,10 @@ pub enum Task<'a> {
     Join,
     /// Answers lines about a group of replicas in memory.
     Sim,
+    /// Tells how files are read and written.
+    Files,
+    /// Tells what the faults are.
+    Faults,
     /// Makes a file that holds an empty replica.
     Init(InitWords<'a>),
     /// Makes a file that holds the next replica of a group, from a file of that group.
