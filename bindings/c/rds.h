@@ -186,8 +186,9 @@ uint32_t rds_edit_lines(rds *replica, const uint8_t *lines, size_t lines_length,
  * All give JSON, as UTF-8. The empty path is the root. Each returns RDS_NO_ROOM, RDS_CLOSED, RDS_MEMORY, and those with
  * a path RDS_BAD_KEY, RDS_BAD_PATH, RDS_NOT_UTF8 besides. */
 
-/* Gives what the document shows at a path and below: {"counters":{},"maps":{..},"regs":{..},"sets":{..}}, by the keys
- * below it. Registers and sets are lists of values; a register has several where it was set apart. */
+/* Gives what the document shows at a path and below: {"maps":{..},"regs":{..},"sets":{..}} by the keys below it, and
+ * at the root {"counters":{..},..} too. Registers and sets are lists of values; a register has several where it was set
+ * apart. */
 uint32_t rds_view(rds *replica, const uint8_t *path, size_t path_length, uint8_t *room, size_t room_length,
                   size_t *length);
 

@@ -150,12 +150,12 @@ class Place:
         return got
 
     def show(self) -> Dict[str, Any]:
-        """What the document shows here and below, by kind and key.
+        """What the document shows here and below, by kind and key; counters at the root alone.
 
         >>> with Replica.new("g", ["a"], "a") as replica:
         ...     edited = replica["apples/tags"].add("red")
         ...     replica["apples"].show()
-        {'counters': {}, 'maps': {}, 'regs': {}, 'sets': {'tags': ['red']}}
+        {'maps': {}, 'regs': {}, 'sets': {'tags': ['red']}}
         """
         shown: Dict[str, Any] = json.loads(self._replica._gives(self.path, LIB.rds_view, self._at, len(self._at)))
         return shown
