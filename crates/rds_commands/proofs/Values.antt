@@ -1,5 +1,5 @@
 -- What was written of what stands in a file.
-use Rattle.std.proofs.Common.{◌≡◌, ◌⊎◌, ◌∙◌, ◌+◌, ◌↔◌, ℕ, Bool, true, List, [], take, Option, Some, None, IsTrue, ap, inl, refl, subst}
+use Rattle.std.proofs.Common.{◌≡◌, ◌⊎◌, ◌∙◌, ◌+◌, ◌↔◌, ◌&&◌, ℕ, Bool, true, false, List, [], take, Option, Some, None, IsTrue, ap, inl, inr, refl, subst}
 use Rattle.std.specs.Prelude.{IfSome}
 use Rattle.std.specs.Io.KnownBytes.{Appends}
 use Rattle.rds_names.specs.declared.fault.Fault.{Fault}
@@ -14,7 +14,9 @@ use Rattle.rds_listing.specs.declared.bare.Raw.{Raw}
 use Rattle.rds_listing.specs.declared.bare.Wanted.{Wanted}
 use Rattle.rds_state.specs.Value.{StateValue}
 use Rattle.rds_commands.specs.Listing.{ComparesFiles, GetsRaw, ListsFile, WritesList, WritesRaw, WritesValues, lines_status}
-use Rattle.rds_commands.specs.Offline.{WritesAnswer, WritesNothing, WritesTold, text_read}
+use Rattle.rds_commands.specs.Offline.{AreReadBy, ChecksRead, IsUnchecked, WritesAnswer, WritesNothing, WritesTake, WritesTakeOf, WritesTold}
+use Rattle.rds_commands.specs.Reading.{IsReadBy, is_piped, text_read}
+use Rattle.rds_offline.specs.Letters.{ChecksTexts, RefusesCheck}
 
 -- the values that stood there
 pub values_written : (path text : List ℕ) (wanted : Wanted) (file : FileValue) (told raw : Raw) (before after : Option (List ℕ)) (status : ℕ) → GetsRaw path text wanted file told → raw ≡ told → WritesValues raw before after status
@@ -56,3 +58,29 @@ compares_files path other first second lines a b root p q first_read second_read
 pub stands_in : (held : ReplicaValue) (state : StateValue) (kept : ReplicaValue) (command : Command) (same : Bool) → (IsTrue same ↔ Stands state command) → same ≡ true → state ≡ kept.state → kept ≡ held → Stands held.state command
 stands_in held state kept command same exact is state_is kept_is =
     subst (λ (s : StateValue). Stands s command) (state_is ∙ ap (λ (r : ReplicaValue). r.state) kept_is) (exact.0 is)
+
+-- what a second read finds in the input, of which the first took nothing
+pub read_later : (held later : Option (List ℕ)) (question answer text : List ℕ) (piped : Bool) → (piped && is_piped answer) ≡ false → (piped ≡ false → later ≡ held) → IsReadBy later answer text
+    → IsReadBy held answer text
+read_later held later question answer text true one same read = λ is. absurd (not_both (is_piped answer) one is)
+  where
+    not_both : (b : Bool) → b ≡ false → b ≡ true → ⊥
+    not_both true e is = absurd cc
+    not_both false e is = absurd cc
+read_later held later question answer text false one same read = λ is. subst (λ (o : Option (List ℕ)). IfSome o (λ input. text ≡ text_read input)) (same refl) (read is)
+
+-- how many components were taken of what was read
+pub take_written : (path question answer : List ℕ) (held before after : Option (List ℕ)) (q a x y : List ℕ) (status : ℕ) → AreReadBy held question answer q a → x ≡ q → y ≡ a
+    → WritesTakeOf path x y before after status → WritesTake path question answer held before after status
+take_written path question answer held before after q a x y status are q_is a_is writes =
+    inl (q, a, are, subst (λ (t : List ℕ). WritesTakeOf path q t before after status) a_is (subst (λ (t : List ℕ). WritesTakeOf path t y before after status) q_is writes))
+
+-- the lines tell of what was read
+pub checks_read : (question answer : List ℕ) (held : Option (List ℕ)) (q a x y lines : List ℕ) → AreReadBy held question answer q a → x ≡ q → y ≡ a → ChecksTexts x y lines → ChecksRead question answer held lines
+checks_read question answer held q a x y lines are q_is a_is checks =
+    (q, a, are, subst (λ (t : List ℕ). ChecksTexts q t lines) a_is (subst (λ (t : List ℕ). ChecksTexts t y lines) q_is checks))
+
+-- why nothing is told of what was read
+pub refuses_read : (question answer : List ℕ) (held : Option (List ℕ)) (q a x y : List ℕ) (fault : Fault) → AreReadBy held question answer q a → x ≡ q → y ≡ a → RefusesCheck x y fault → IsUnchecked question answer held fault
+refuses_read question answer held q a x y fault are q_is a_is refuses =
+    inr (q, a, are, subst (λ (t : List ℕ). RefusesCheck q t fault) a_is (subst (λ (t : List ℕ). RefusesCheck t y fault) q_is refuses))

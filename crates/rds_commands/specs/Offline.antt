@@ -1,9 +1,8 @@
 -- What is written of files that meet without a connection.
-use Rattle.std.specs.Prelude.{◌≡◌, ◌⊎◌, ◌+◌, ℕ, List, [], take, Option, IfSome, Err}
+use Rattle.std.specs.Prelude.{◌≡◌, ◌⊎◌, ℕ, List, [], Option, IfSome, Err}
 use Rattle.std.specs.Io.KnownBytes.{Appends}
 use Rattle.rds_names.specs.declared.fault.Fault.{Fault}
 use Rattle.rds_names.specs.declared.fault.Fault.TheVariants.{Device, Memory, Usage}
-use Rattle.rds_codec.specs.declared.limits.TheConstants.{LIMIT}
 use Rattle.rds_files.specs.Files.{FileValue, IsUnread}
 use Rattle.rds_offline.specs.Copies.{InitsFrom, MergesFile, RefusesInitFrom, RefusesMergeFile}
 use Rattle.rds_offline.specs.Letters.{AnswersFile, AsksFile, ChecksTexts, RefusesAnswer, RefusesCheck, RefusesTake, TakesFile}
@@ -11,7 +10,7 @@ use Rattle.rds_output.specs.Output.{Writes, fault_status}
 use Rattle.rds_output.specs.declared.reply.Reply.TheVariants.{Done, Taken}
 use Rattle.rds_words.specs.declared.tasks.InitFromWords.{InitFromWords}
 use Rattle.rds_commands.specs.OfFile.{WritesOfFile}
-use Rattle.rds_commands.specs.Reading.{Reading}
+use Rattle.rds_commands.specs.Reading.{IsReadBy, Reading, text_read}
 
 -- ---- copies
 
@@ -44,10 +43,6 @@ WritesAsk path = WritesTold (AsksFile path) IsUnread
 abbrev pub WritesAnswer : List ℕ → List ℕ → Option (List ℕ) → Option (List ℕ) → ℕ → Type 0
 WritesAnswer path question = WritesTold (AnswersFile path question) (RefusesAnswer question)
 
--- as much of an input as is read of a text: all of it, or one byte more than a text may have
-abbrev pub text_read : List ℕ → List ℕ
-text_read input = take (LIMIT + 1) input
-
 -- the answer to the question that the input is, or there is no input to be read
 abbrev pub WritesAnswerTo : List ℕ → Reading → Option (List ℕ) → Option (List ℕ) → ℕ → Type 0
 WritesAnswerTo path reading before after status =
@@ -68,20 +63,35 @@ WritesTakeOf path question answer =
 abbrev pub IsUngiven : Fault → Type 0
 IsUngiven fault = (fault ≡ Usage) ⊎ ((fault ≡ Device) ⊎ (fault ≡ Memory))
 
--- the same of some bytes, or there are none
-abbrev pub WritesTake : List ℕ → Option (List ℕ) → Option (List ℕ) → ℕ → Type 0
-WritesTake path before after status =
-    ((question : List ℕ) × (answer : List ℕ) × WritesTakeOf path question answer before after status)
+-- question and answer are what was read, where one is that of the input; of those in files nothing is said
+abbrev pub AreReadBy : Option (List ℕ) → List ℕ → List ℕ → List ℕ → List ℕ → Type 0
+AreReadBy held question answer q a = IsReadBy held question q × IsReadBy held answer a
+
+-- the same of what these words name, or there is nothing
+abbrev pub WritesTake : List ℕ → List ℕ → List ℕ → Option (List ℕ) → Option (List ℕ) → Option (List ℕ) → ℕ → Type 0
+WritesTake path question answer held before after status =
+    ((q : List ℕ) × (a : List ℕ) × AreReadBy held question answer q a × WritesTakeOf path q a before after status)
     ⊎ ((fault : Fault) × IsUngiven fault × Writes (Err fault) before after status)
 
+-- the lines tell what the answer brings to the question that these words name
+abbrev pub ChecksRead : List ℕ → List ℕ → Option (List ℕ) → List ℕ → Type 0
+ChecksRead question answer held lines =
+    (q : List ℕ) × (a : List ℕ) × AreReadBy held question answer q a × ChecksTexts q a lines
+
 -- question and answer aren't given, or the answer brings nothing
-abbrev pub IsUnchecked : Fault → Type 0
-IsUnchecked fault =
-    IsUngiven fault ⊎ ((question : List ℕ) × (answer : List ℕ) × RefusesCheck question answer fault)
+abbrev pub IsUnchecked : List ℕ → List ℕ → Option (List ℕ) → Fault → Type 0
+IsUnchecked question answer held fault =
+    IsUngiven fault
+    ⊎ ((q : List ℕ) × (a : List ℕ) × AreReadBy held question answer q a × RefusesCheck q a fault)
 
 -- the lines of what an answer brings were written, and nothing else; or why there are none
-abbrev pub WritesCheck : Option (List ℕ) → Option (List ℕ) → ℕ → Type 0
-WritesCheck before after status =
-    ((question : List ℕ) × (answer : List ℕ) × (lines : List ℕ) × ChecksTexts question answer lines
-    × Appends before after lines × (status ≡ 0))
-    ⊎ ((fault : Fault) × IsUnchecked fault × Writes (Err fault) before after status)
+abbrev pub WritesCheck : List ℕ → List ℕ → Option (List ℕ) → Option (List ℕ) → Option (List ℕ) → ℕ → Type 0
+WritesCheck question answer held before after status =
+    ((lines : List ℕ) × ChecksRead question answer held lines × Appends before after lines × (status ≡ 0))
+    ⊎ ((fault : Fault) × IsUnchecked question answer held fault × Writes (Err fault) before after status)
+
+-- ---- texts
+
+-- this text was written, and nothing else
+abbrev pub WritesText : List ℕ → Option (List ℕ) → Option (List ℕ) → ℕ → Type 0
+WritesText text before after status = Appends before after text × (status ≡ 0)

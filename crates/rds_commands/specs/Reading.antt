@@ -1,5 +1,7 @@
 -- What became of the standard input in a run.
-use Rattle.std.specs.Prelude.{◌≢◌, ℕ, List, Option}
+use Rattle.std.specs.Prelude.{◌≡◌, ◌≢◌, ◌+◌, ℕ, Bool, true, List, take, Option, IfSome, codes}
+use Rattle.std.specs.Str.{bytes_eq}
+use Rattle.rds_codec.specs.declared.limits.TheConstants.{LIMIT}
 use Rattle.rds_keep.specs.Counted.{CountedValue, HasFailed}
 
 -- what a reader held at first, where that is known, and what it holds now; whether a call on it may have failed, and
@@ -17,3 +19,15 @@ reading_of remaining old new = record {
   MayHaveFailed = HasFailed old new;
   CountRose = new.failed ≢ old.failed;
 }
+
+-- the word is that of the input and the output
+abbrev pub is_piped : List ℕ → Bool
+is_piped word = bytes_eq word (codes "-")
+
+-- as much of an input as is read of a text: all of it, or one byte more than a text may have
+abbrev pub text_read : List ℕ → List ℕ
+text_read input = take (LIMIT + 1) input
+
+-- where the word is that of the input, and it is known what that held, this is what was read of it
+abbrev pub IsReadBy : Option (List ℕ) → List ℕ → List ℕ → Type 0
+IsReadBy held word text = is_piped word ≡ true → IfSome held (λ input. text ≡ text_read input)

@@ -1,6 +1,5 @@
 -- What the program tells for its words.
-use Rattle.std.specs.Prelude.{◌≡◌, ◌⊎◌, ◌==◌, ◌-◌, ◌^◌, ◌||◌, if◌then◌else◌, ℕ, Bool, true, false, List, codes, Option, Some, None, Ok, Err}
-use Rattle.std.specs.Str.{bytes_eq}
+use Rattle.std.specs.Prelude.{◌≡◌, ◌⊎◌, ◌==◌, ◌-◌, ◌^◌, ◌||◌, if◌then◌else◌, ℕ, Bool, true, false, List, Option, Some, None, Ok, Err}
 use Rattle.clap.specs.Words.{IsAmong, Kinds, Text}
 use Rattle.clap.specs.declared.error.kind.ErrorKind.{ErrorKind}
 use Rattle.rds_names.specs.declared.fault.Fault.TheVariants.{Device, Memory, Usage}
@@ -19,8 +18,8 @@ use Rattle.rds_commands.specs.Looks.{WritesGet, WritesStatus}
 use Rattle.rds_commands.specs.Batch.{WritesEditLines}
 use Rattle.rds_commands.specs.Listing.{WritesDiff, WritesList, WritesRaw, wanted_of}
 use Rattle.rds_commands.specs.OfFile.{WritesOfFile}
-use Rattle.rds_commands.specs.Offline.{WritesAnswerTo, WritesAsk, WritesCheck, WritesInitFrom, WritesMerge, WritesNothing, WritesTake}
-use Rattle.rds_commands.specs.Reading.{Reading}
+use Rattle.rds_commands.specs.Offline.{WritesAnswerTo, WritesAsk, WritesCheck, WritesInitFrom, WritesMerge, WritesNothing, WritesTake, WritesText}
+use Rattle.rds_commands.specs.Reading.{Reading, is_piped}
 use Rattle.rds_listing.specs.Conflicts.{conflicts_text}
 use Rattle.rds_listing.specs.Dump.{dump_text}
 use Rattle.rds_session.specs.declared.talk.Side.{Side}
@@ -28,13 +27,14 @@ use Rattle.rds_session.specs.declared.talk.Side.TheVariants.{Client, Server}
 use Rattle.rds_words.specs.Meaning.{IsAmount}
 use Rattle.rds_words.specs.Task.{words_of}
 use Rattle.rds_commands.specs.Unparsed.{WritesUnparsed}
+use Rattle.rds_words.specs.declared.help.TheConstants.{FAULTS_TEXT, FILES_TEXT}
 use Rattle.rds_words.specs.declared.tasks.EditWords.{EditWords}
 use Rattle.rds_words.specs.declared.tasks.GrowWords.{GrowWords}
 use Rattle.rds_words.specs.declared.tasks.InitWords.{InitWords}
 use Rattle.rds_words.specs.declared.tasks.ServeWords.{ServeWords}
 use Rattle.rds_words.specs.declared.tasks.SyncWords.{SyncWords}
 use Rattle.rds_words.specs.declared.tasks.Task.{Task}
-use Rattle.rds_words.specs.declared.tasks.Task.TheVariants.{Join, Sim, Init, InitFrom, Grow, Edit, EditIfChanged, EditLines, Get, GetRaw, Show, ShowPretty, Dump, Status, Serve, Sync, Pair, Ask, Answer, Take, Merge, Check, Conflicts, Diff}
+use Rattle.rds_words.specs.declared.tasks.Task.TheVariants.{Join, Sim, Files, Faults, Init, InitFrom, Grow, Edit, EditIfChanged, EditLines, Get, GetRaw, Show, ShowPretty, Dump, Status, Serve, Sync, Pair, Ask, Answer, Take, Merge, Check, Conflicts, Diff}
 
 -- the answers to the lines of the input were written, and nothing else; or there was no memory to read the words
 abbrev pub WritesSim : List ℕ → Option (List ℕ) → Option (List ℕ) → ℕ → Type 0
@@ -74,10 +74,6 @@ abbrev pub RefusesServe : ServeWords → Type 0
 RefusesServe words =
     IsAmount words.sessions.now (Err Usage)
     ⊎ (IsAmount words.timeout.now (Err Usage) ⊎ (is_beside words.file.now ≡ true))
-
--- the address is the input and the output
-abbrev pub is_piped : List ℕ → Bool
-is_piped addr = bytes_eq addr (codes "-")
 
 -- one session of this side over the input and the output; or the words are refused, and nothing is written
 abbrev pub WritesPiped : Side → List ℕ → Type 0 → Reading → Option (List ℕ) → Option (List ℕ) → ℕ → Type 0
@@ -126,6 +122,8 @@ WritesPairing first second before after status =
 abbrev pub WritesTask : Task → Reading → Option (List ℕ) → Option (List ℕ) → ℕ → Type 0
 WritesTask Join reading before after status = Unit {0}
 WritesTask Sim reading before after status = Unit {0}
+WritesTask Files reading before after status = WritesText FILES_TEXT.now before after status
+WritesTask Faults reading before after status = WritesText FAULTS_TEXT.now before after status
 WritesTask (Init words) reading before after status = WritesInit words before after status
 WritesTask (InitFrom words) reading before after status = WritesInitFrom words before after status
 WritesTask (Grow words) reading before after status = WritesGrow words before after status
@@ -144,9 +142,11 @@ WritesTask (Sync words) reading before after status = WritesSyncing words readin
 WritesTask (Pair first second) reading before after status = WritesPairing first.now second.now before after status
 WritesTask (Ask file) reading before after status = WritesAsk file.now before after status
 WritesTask (Answer file) reading before after status = WritesAnswerTo file.now reading before after status
-WritesTask (Take file question answer) reading before after status = WritesTake file.now before after status
+WritesTask (Take file question answer) reading before after status =
+    WritesTake file.now question.now answer.now reading.held before after status
 WritesTask (Merge file from) reading before after status = WritesMerge file.now from.now before after status
-WritesTask (Check question answer) reading before after status = WritesCheck before after status
+WritesTask (Check question answer) reading before after status =
+    WritesCheck question.now answer.now reading.held before after status
 WritesTask (Conflicts file path) reading before after status =
     WritesList conflicts_text 3 file.now path.now before after status
 WritesTask (Diff file other) reading before after status = WritesDiff file.now other.now before after status

@@ -1,10 +1,13 @@
 //! The program's commands: words in, what is written and the exit status out. Read from above: `program`, `telling`,
-//! `file_commands`, `batch`, `looking`, `listing`, `offline`, `session_words`, `notes`, `unparsed` and `laws`.
+//! `file_commands`, `batch`, `looking`, `listing`, `offline`, `session_words`, `unparsed` and
+//! `laws`. What people are told beside it is in `notes`, `letter_notes`, `tips` and `causes`.
 #![tactic(auto)]
 
 mod batch;
+mod causes;
 mod file_commands;
 mod laws;
+mod letter_notes;
 mod listing;
 mod looking;
 mod notes;
@@ -12,6 +15,7 @@ mod offline;
 mod program;
 mod session_words;
 mod telling;
+mod tips;
 mod unparsed;
 
 pub use laws::{letters_are_events, sessions_are_events};

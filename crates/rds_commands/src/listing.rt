@@ -9,7 +9,7 @@ ghost use Rattle.rds_commands.specs.Looks.{RefusesGet};
 ghost use Rattle.rds_files.specs.Files.{IsUnread};
 ghost use Rattle.rds_names.specs.declared.fault.Fault.TheVariants.{Memory};
 
-use crate::notes::{note_conflicts, note_file, note_several};
+use crate::notes::{note_conflicts, note_file, note_part, note_several};
 use crate::offline::status_for;
 use rds_files::{Disk, ReplicaFile};
 use rds_gaps::GapSet;
@@ -98,7 +98,7 @@ pub fn run_raw<H: Disk, W: Write>(
             }
         },
         Err(fault) => {
-            note_file(rt, path, fault);
+            note_part(rt, path, text, fault);
             status_for(fault)
         }
     }
@@ -149,7 +149,7 @@ pub fn run_dump<H: Disk, W: Write>(rt: &H, path: &str, text: &str, writer: &mut 
             write_lines(writer, &done.into_told(), 0)
         }
         Err(fault) => {
-            note_file(rt, path, fault);
+            note_part(rt, path, text, fault);
             status_for(fault)
         }
     }
@@ -171,7 +171,7 @@ pub fn run_conflicts<H: Disk, W: Write>(
     match conflicts_file(rt, path, text) {
         Ok(done) => write_lines(writer, &done.into_told(), FOUND),
         Err(fault) => {
-            note_file(rt, path, fault);
+            note_part(rt, path, text, fault);
             status_for(fault)
         }
     }

@@ -7,7 +7,7 @@ ghost use Rattle.rds_files.specs.Files.{IsUnread};
 ghost use Rattle.rds_commands.specs.Looks.{DescribesFile, GetsFile, RefusesGet, WritesGet, WritesStatus};
 
 use crate::file_commands::FileAnswer;
-use crate::notes::note_file;
+use crate::notes::{note_file, note_part};
 use rds_files::{Disk, ReplicaFile};
 use rds_gaps::GapSet;
 use rds_keep::Counted;
@@ -59,7 +59,7 @@ pub fn run_get<H: Disk, W: Write>(rt: &H, path: &str, text: &str, writer: &mut C
     match get_file(rt, path, text) {
         Ok(done) => write_reply(writer, Ok(done.into_answer())),
         Err(fault) => {
-            note_file(rt, path, fault);
+            note_part(rt, path, text, fault);
             write_reply(writer, Err(fault))
         }
     }

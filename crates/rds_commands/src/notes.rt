@@ -1,46 +1,25 @@
-//! What people are told on standard error of words and files that are refused, and of edits.
-use rds_files::{Disk, ReplicaFile};
+//! What people are told on standard error of words and files that are refused, and of edits. Each thing is told once:
+//! `rds_files` tells of a file that can't be used or isn't one of rds.
+use crate::causes::{bad_key, bad_name, stands_twice};
+use rds_files::{Disk, ReplicaFile, is_beside};
 use rds_gaps::GapSet;
 use rds_listing::conflicts;
-use rds_names::{Fault, Path};
+use rds_names::{Fault, Name, Path};
 use rds_output::Reply;
-use rds_words::{EditWords, ValueWord};
+use rds_words::{
+    EditWords, GrowWords, InitFromWords, InitWords, ServeWords, SyncWords, ValueWord, amount_of,
+};
 
-/// Tells which file a command was refused for, and by which fault.
+/// What a path is.
+const PATH: &str = "1 to 8 keys with '/' between them, each of 1 to 64 bytes";
+
+/// Tells which file a command was refused for, and by which fault, unless that was told of the file already.
 pub fn note_file<H: Eprint>(rt: &H, path: &str, fault: Fault) {
-    let _ = eprintln!(rt; "{path}: {fault}");
-}
-
-/// Tells which file `init` was refused for, and by which fault. Why the file can't be made, which is `Usage`, was told
-/// already.
-pub fn note_init<H: Eprint>(rt: &H, path: &str, fault: Fault) {
-    if let Fault::Usage = fault {
-        return;
-    }
-    note_file(rt, path, fault);
-    note_name(rt, fault);
-    if let Fault::NoSuch = fault {
-        let _ = eprintln!(rt; "OWN has to be one of the names");
-    }
-}
-
-// Tells what a name is, where one was refused.
-fn note_name<H: Eprint>(rt: &H, fault: Fault) {
-    if let Fault::BadName = fault {
-        let _ = eprintln!(rt;
-            "a name is a letter from a to z, then a to z, 0 to 9 and '-': at most 16 in all"
-        );
-    }
-}
-
-/// Tells which file `grow` was refused for, and by which fault, and of names what is wrong with them.
-pub fn note_grow<H: Eprint>(rt: &H, path: &str, fault: Fault) {
-    note_file(rt, path, fault);
-    note_name(rt, fault);
-    if let Fault::BadRoster = fault {
-        let _ = eprintln!(rt;
-            "one of NAMES is in the group already or stands twice, or there are more than 256"
-        );
+    match fault {
+        Fault::Device | Fault::Cut | Fault::Bad | Fault::Extra => (),
+        _ => {
+            let _ = eprintln!(rt; "{path}: {fault}");
+        }
     }
 }
 
@@ -49,38 +28,154 @@ pub fn note_input<H: Eprint>(rt: &H, fault: Fault) {
     let _ = eprintln!(rt; "standard input: {fault}");
 }
 
-/// Tells which file an edit was refused for, and by which fault. Where its value is no JSON, that may be text without
-/// quotes.
-pub fn note_edit<H: Eprint>(rt: &H, path: &str, words: &EditWords<'_>, fault: Fault) {
-    note_file(rt, path, fault);
-    match (fault, value_of(words), counter_of(words)) {
-        (Fault::BadLine, Some(value), _) => {
-            let _ = eprintln!(rt; "VALUE is not JSON: did you mean '\"{value}\"', or --text?");
+/// Tells why `init` was refused. Why the file can't be made, which is `Usage`, was told already.
+pub fn note_init<H: Eprint>(rt: &H, words: &InitWords<'_>, fault: Fault) {
+    match fault {
+        Fault::Usage => (),
+        Fault::BadKey => note_key(rt, words.group, "group"),
+        Fault::BadName if Name::new(words.own).is_err() => note_name(rt, words.own),
+        Fault::BadName => note_names(rt, &words.names),
+        Fault::BadRoster => note_roster(rt, &words.names),
+        Fault::NoSuch => {
+            let own = words.own;
+            let _ = eprintln!(rt; "OWN '{own}' is none of NAMES");
         }
-        (Fault::BadScalar, Some(value), _) => {
+        _ => note_file(rt, words.file, fault),
+    }
+}
+
+/// Tells why `init` with `--from` was refused.
+pub fn note_init_from<H: Eprint>(rt: &H, words: &InitFromWords<'_>, fault: Fault) {
+    let own = words.own;
+    let from = words.from;
+    match fault {
+        Fault::Usage => (),
+        Fault::BadName => note_name(rt, own),
+        Fault::NoSuch => {
+            let _ = eprintln!(rt; "'{own}' is no name of the group: 'grow {from} {own}' adds it");
+        }
+        Fault::SameReplica => {
+            let _ = eprintln!(rt;
+                "'{own}' is used: {from} is its file, or has seen something of it"
+            );
+        }
+        _ => note_file(rt, words.file, fault),
+    }
+}
+
+/// Tells why `grow` was refused.
+pub fn note_grow<H: Disk>(rt: &H, words: &GrowWords<'_>, fault: Fault) {
+    match fault {
+        Fault::BadName => note_names(rt, &words.names),
+        Fault::BadRoster => match known_name(rt, words) {
+            Some(name) => {
+                let _ = eprintln!(rt; "'{name}' is in the group already");
+            }
+            None => note_roster(rt, &words.names),
+        },
+        _ => note_file(rt, words.file, fault),
+    }
+}
+
+// The first name that the group of the replica in the file has already.
+fn known_name<'a, H: Disk>(rt: &H, words: &GrowWords<'a>) -> Option<&'a str> {
+    let file: ReplicaFile<'_, GapSet> = ReplicaFile::open(rt, words.file).ok()?;
+    let roster = file.kept().view_of().roster();
+    for text in &words.names {
+        if let Ok(name) = Name::new(text) {
+            if roster.number_of(name).is_some() {
+                return Some(*text);
+            }
+        }
+    }
+    None
+}
+
+// Tells which of these is no name.
+fn note_names<H: Eprint>(rt: &H, names: &[&str]) {
+    if let Some(name) = bad_name(names) {
+        note_name(rt, name);
+    }
+}
+
+fn note_name<H: Eprint>(rt: &H, name: &str) {
+    let _ = eprintln!(rt;
+        "'{name}' is no name: a to z first, then a to z, 0 to 9 and '-', at most 16"
+    );
+}
+
+// Tells why these names make no roster.
+fn note_roster<H: Eprint>(rt: &H, names: &[&str]) {
+    let _ = match stands_twice(names) {
+        Some(name) => eprintln!(rt; "'{name}' stands twice among NAMES"),
+        None => eprintln!(rt; "a group has at most 256 names"),
+    };
+}
+
+fn note_key<H: Eprint>(rt: &H, key: &str, what: &str) {
+    let _ = eprintln!(rt; "'{key}' is no {what}: 1 to 64 bytes without '/'");
+}
+
+/// Tells why what is asked of a part of a document was refused: its path is quoted, where that is why.
+pub fn note_part<H: Eprint>(rt: &H, file: &str, path: &str, fault: Fault) {
+    match fault {
+        Fault::BadPath => {
+            let _ = eprintln!(rt; "'{path}' isn't {PATH}");
+        }
+        Fault::BadKey => {
+            let key = bad_key(path);
+            let _ = eprintln!(rt; "'{path}' isn't {PATH}: '{key}' is none");
+        }
+        _ => note_file(rt, file, fault),
+    }
+}
+
+/// Tells why an edit was refused: the word that is why is quoted.
+pub fn note_edit<H: Eprint>(rt: &H, file: &str, words: &EditWords<'_>, fault: Fault) {
+    match words {
+        EditWords::Set { path, value }
+        | EditWords::Add { path, value }
+        | EditWords::Del { path, value } => note_entry(rt, file, path, *value, fault),
+        EditWords::Clear { path } => note_part(rt, file, path, fault),
+        EditWords::Inc { key, by } | EditWords::Dec { key, by } => {
+            note_count(rt, file, key, by, fault);
+        }
+    }
+}
+
+// The same of an entry. Where its value is no JSON, that may be text without quotes.
+fn note_entry<H: Eprint>(rt: &H, file: &str, path: &str, value: ValueWord<'_>, fault: Fault) {
+    match (fault, value) {
+        (Fault::BadLine, ValueWord::Json(value)) => {
+            let _ = eprintln!(rt; "'{value}' is no JSON: did you mean '\"{value}\"', or --text?");
+        }
+        (Fault::BadScalar, ValueWord::Json(value)) => {
             let _ = eprintln!(rt;
                 "'{value}' is no value: whole numbers of 64 bits, texts of at most 1024 bytes, true, false and null are"
             );
         }
-        (Fault::BadKey, _, Some(key)) => {
+        (Fault::BadScalar, ValueWord::Text(value)) => {
+            let length = value.len();
+            let _ = eprintln!(rt; "VALUE has {length} bytes: a text has at most 1024");
+        }
+        _ => note_part(rt, file, path, fault),
+    }
+}
+
+// The same of a counter's change.
+fn note_count<H: Eprint>(rt: &H, file: &str, key: &str, by: &str, fault: Fault) {
+    match fault {
+        Fault::BadKey => {
             let _ = eprintln!(rt;
                 "'{key}' is no counter's key: counters stand at the root, so it has 1 to 64 bytes and no '/'"
             );
         }
-        (Fault::Usage, _, Some(_)) => {
+        Fault::Usage => {
             let _ = eprintln!(rt;
-                "BY is a whole number, 0 or more: inc raises by it, and dec lowers"
+                "BY '{by}' is no whole number of 64 bits, 0 or more: inc raises by it, and dec lowers"
             );
         }
-        _ => (),
-    }
-}
-
-// The key of the counter that an edit moves.
-fn counter_of<'a>(words: &EditWords<'a>) -> Option<&'a str> {
-    match words {
-        EditWords::Inc { key, .. } | EditWords::Dec { key, .. } => Some(*key),
-        _ => None,
+        _ => note_file(rt, file, fault),
     }
 }
 
@@ -115,60 +210,49 @@ pub fn note_together<H: Eprint>(rt: &H) {
     let _ = eprintln!(rt; "these words don't go together: 'rds_node help COMMAND' says which do");
 }
 
-// The value of an edit that has one, where that is to be JSON.
-fn value_of<'a>(words: &EditWords<'a>) -> Option<&'a str> {
-    let value = match words {
-        EditWords::Set { value, .. }
-        | EditWords::Add { value, .. }
-        | EditWords::Del { value, .. } => *value,
-        EditWords::Clear { .. } | EditWords::Inc { .. } | EditWords::Dec { .. } => return None,
-    };
-    match value {
-        ValueWord::Json(text) => Some(text),
-        ValueWord::Text(_) => None,
+/// Tells why words of `serve` are refused.
+pub fn note_serve<H: Eprint>(rt: &H, words: &ServeWords<'_>) {
+    if amount_of(words.sessions).is_err() {
+        let sessions = words.sessions;
+        let _ = eprintln!(rt; "--sessions '{sessions}' is no whole number; 0 is no end");
+    } else {
+        note_timeout(rt, words.file, words.timeout);
     }
 }
 
-/// Tells that words of a session are refused.
-pub fn note_words<H: Eprint>(rt: &H, path: &str) {
-    let _ = eprintln!(rt; "a number of sessions or of seconds isn't one, or {path} ends in .new");
+/// Tells why words of `sync` are refused.
+pub fn note_sync<H: Eprint>(rt: &H, words: &SyncWords<'_>) {
+    note_timeout(rt, words.file, words.timeout);
+}
+
+fn note_timeout<H: Eprint>(rt: &H, path: &str, timeout: &str) {
+    if amount_of(timeout).is_err() {
+        let _ = eprintln!(rt; "--timeout '{timeout}' is no whole number of seconds; 0 is no limit");
+    } else {
+        note_beside(rt, path);
+    }
+}
+
+/// Tells that a path is that of a file beside another, where it is.
+pub fn note_beside<H: Eprint>(rt: &H, path: &str) {
+    if is_beside(path) {
+        let _ = eprintln!(rt; "{path}: ends in .new, as a file that is written beside another");
+    }
 }
 
 /// Tells why a copy isn't merged into a file.
 pub fn note_merge<H: Eprint>(rt: &H, path: &str, from: &str, fault: Fault) {
-    note_file(rt, path, fault);
-    if let Fault::OwnAhead(_) = fault {
-        let _ = eprintln!(rt;
-            "{from} has something of {path}'s own that it lacks: {path} is the older one. Give it its later copy back, before any edit"
-        );
+    match fault {
+        Fault::OwnAhead(_) => {
+            let _ = eprintln!(rt;
+                "{from} has something of {path}'s own that it lacks: {path} is the older one. Give it its later copy back, before any edit"
+            );
+        }
+        Fault::WrongGroup | Fault::WrongRoster | Fault::Conflict { .. } => {
+            let _ = eprintln!(rt; "{path} and {from}: {fault}");
+        }
+        _ => note_file(rt, path, fault),
     }
-}
-
-/// Tells why a file doesn't answer a question.
-pub fn note_answer<H: Eprint>(rt: &H, path: &str, fault: Fault) {
-    note_file(rt, path, fault);
-    if let Fault::Bad | Fault::Cut = fault {
-        let _ = eprintln!(rt;
-            "the question is what 'rds_node ask' writes, or {path} isn't an rds file"
-        );
-    }
-}
-
-/// Tells why a file doesn't take an answer.
-pub fn note_take<H: Eprint>(rt: &H, path: &str, fault: Fault) {
-    note_file(rt, path, fault);
-    let _ = match fault {
-        Fault::WrongAsker => eprintln!(rt;
-            "the question isn't that of {path}, or {path} is older than when it asked: ask anew"
-        ),
-        Fault::OwnAhead(_) => eprintln!(rt;
-            "{path} lacks something of its own that it had when it asked: a backup was put back"
-        ),
-        Fault::Bad | Fault::Cut | Fault::Extra => eprintln!(rt;
-            "QUESTION is what 'rds_node ask' wrote, ANSWER what 'rds_node answer' wrote to it, and {path} an rds file"
-        ),
-        _ => Ok(()),
-    };
 }
 
 /// Tells that several kinds stand at a path.

@@ -1,13 +1,13 @@
 //! Commands on files that meet without a connection, and what is written of them.
-ghost use Rattle.std.specs.Prelude.{◌≡◌, ◌≤◌, ◌⊎◌, ℕ, List, IfErr, IfOk, string_bytes};
+ghost use Rattle.std.specs.Prelude.{◌≡◌, ◌≤◌, ◌⊎◌, false, IfErr, IfOk, string_bytes};
 ghost use Rattle.rds_keep.specs.Counted.{HasFailed};
 ghost use Rattle.rds_names.specs.declared.fault.Fault.TheVariants.{Device};
-ghost use Rattle.rds_offline.specs.Letters.{ChecksTexts};
 ghost use Rattle.rds_output.specs.Output.{fault_status};
-ghost use Rattle.rds_commands.specs.Offline.{IsUnchecked, IsUngiven, WritesAnswer, WritesAnswerTo, WritesAsk, WritesCheck, WritesInitFrom, WritesMerge, WritesTake, WritesTakeOf};
-ghost use Rattle.rds_commands.specs.Reading.{reading_of};
+ghost use Rattle.rds_commands.specs.Offline.{AreReadBy, ChecksRead, IsUnchecked, IsUngiven, WritesAnswer, WritesAnswerTo, WritesAsk, WritesCheck, WritesInitFrom, WritesMerge, WritesTake, WritesTakeOf};
+ghost use Rattle.rds_commands.specs.Reading.{IsReadBy, is_piped, reading_of};
 
-use crate::notes::{note_answer, note_file, note_init, note_input, note_merge, note_take};
+use crate::letter_notes::{note_answer, note_check, note_take};
+use crate::notes::{note_file, note_init_from, note_input, note_merge, note_unwritten};
 use rds_codec::LIMIT;
 use rds_files::{Disk, LockFile};
 use rds_keep::Counted;
@@ -45,7 +45,7 @@ where
     match init_from(rt, words.file, words.from, words.own) {
         Ok(_file) => write_reply(writer, Ok(Reply::Done)),
         Err(fault) => {
-            note_init(rt, words.file, fault);
+            note_init_from(rt, words, fault);
             write_reply(writer, Err(fault))
         }
     }
@@ -61,7 +61,11 @@ where
     ensures broken { (writer.new.failed ≡ writer.old.failed) ⊎ (result ≡ 1) }
 {
     match merge_file(rt, path, from) {
-        Ok(done) => write_reply(writer, Ok(Reply::Taken(done.into_components()))),
+        Ok(done) => {
+            let status = write_reply(writer, Ok(Reply::Taken(done.into_components())));
+            note_unwritten(rt, path, status);
+            status
+        }
         Err(fault) => {
             note_merge(rt, path, from, fault);
             write_reply(writer, Err(fault))
@@ -125,7 +129,7 @@ where
     match answer_file(rt, path, question) {
         Ok(told) => status_of(writer.write_all(&told.into_bytes()), 0),
         Err(fault) => {
-            note_answer(rt, path, fault);
+            note_answer(rt, path, question, fault);
             status_for(fault)
         }
     }
@@ -142,7 +146,8 @@ pub fn run_take<H: Disk, R: Read, W: Write>(
 where
     H::File: LockFile,
     ensures written { (HasFailed writer.old writer.new → ⊥)
-        → WritesTake words.entry.file.now (W.contents writer.old.inner) (W.contents writer.new.inner) result }
+        → WritesTake words.entry.file.now words.entry.question.now words.entry.answer.now
+        (R.remaining reader.old.inner) (W.contents writer.old.inner) (W.contents writer.new.inner) result }
     ensures status { result ≤ 2 }
     ensures broken { (writer.new.failed ≡ writer.old.failed) ⊎ (result ≡ 1) }
 {
@@ -169,9 +174,13 @@ where
     ensures broken { (writer.new.failed ≡ writer.old.failed) ⊎ (result ≡ 1) }
 {
     match take_file(rt, path, question, answer) {
-        Ok(done) => write_reply(writer, Ok(Reply::Taken(done.into_components()))),
+        Ok(done) => {
+            let status = write_reply(writer, Ok(Reply::Taken(done.into_components())));
+            note_unwritten(rt, path, status);
+            status
+        }
         Err(fault) => {
-            note_take(rt, path, fault);
+            note_take(rt, path, question, answer, fault);
             write_reply(writer, Err(fault))
         }
     }
@@ -187,7 +196,8 @@ pub fn run_check<H: Disk, R: Read, W: Write>(
     writer: &mut Counted<W>,
 ) -> u8
     ensures written { (HasFailed writer.old writer.new → ⊥)
-        → WritesCheck (W.contents writer.old.inner) (W.contents writer.new.inner) result }
+        → WritesCheck question.now answer.now (R.remaining reader.old.inner)
+        (W.contents writer.old.inner) (W.contents writer.new.inner) result }
     ensures status { result ≤ 2 }
     ensures broken { (writer.new.failed ≡ writer.old.failed) ⊎ (result ≡ 1) }
 {
@@ -204,15 +214,15 @@ fn checked<H: Disk, R: Read>(
     answer: &str,
     reader: &mut Counted<R>,
 ) -> Result<String, Fault>
-    ensures checked { IfOk result (λ lines. (question : List ℕ) × (answer : List ℕ)
-        × ChecksTexts question answer (string_bytes lines)) }
-    ensures fault { IfErr result IsUnchecked }
+    ensures checked { IfOk result (λ lines. ChecksRead question.now answer.now
+        (R.remaining reader.old.inner) (string_bytes lines)) }
+    ensures fault { IfErr result (IsUnchecked question.now answer.now (R.remaining reader.old.inner)) }
 {
     let (question, answer) = read_both(rt, question, answer, reader)?;
     match check_texts(rt.alloc(), &question, &answer) {
         Ok(lines) => Ok(lines),
         Err(fault) => {
-            let _ = eprintln!(rt; "the answer isn't taken for one: {fault}");
+            note_check(rt, &question, &answer, fault);
             Err(fault)
         }
     }
@@ -225,6 +235,8 @@ fn read_both<H: Disk, R: Read>(
     answer: &str,
     reader: &mut Counted<R>,
 ) -> Result<(Vec<u8>, Vec<u8>), Fault>
+    ensures read { IfOk result (λ texts. AreReadBy (R.remaining reader.old.inner) question.now answer.now
+        texts.0.items texts.1.items) }
     ensures fault { IfErr result IsUngiven }
 {
     if question == "-" && answer == "-" {
@@ -242,6 +254,8 @@ fn read_text<H: Disk, R: Read>(
     path: &str,
     reader: &mut Counted<R>,
 ) -> Result<Vec<u8>, Fault>
+    ensures read { IfOk result (λ text. IsReadBy (R.remaining reader.old.inner) path.now text.items) }
+    ensures unused { is_piped path.now ≡ false → reader.new ≡ reader.old }
     ensures fault { IfErr result IsUngiven }
 {
     if path == "-" {

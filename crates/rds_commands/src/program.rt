@@ -21,14 +21,14 @@ use crate::offline::{
     TakeWords, run_answer, run_ask, run_check, run_init_from, run_merge, run_take,
 };
 use crate::session_words::{run_pair, run_serve, run_sync};
-use crate::telling::{run_edit, run_edit_if_changed, run_grow, run_init, run_show};
+use crate::telling::{run_edit, run_edit_if_changed, run_grow, run_init, run_show, run_text};
 use crate::unparsed::write_unparsed;
 use rds_files::{Disk, LockFile};
 use rds_keep::Counted;
 use rds_lines::{Layout, run_join, run_sim};
 use rds_names::Fault;
 use rds_output::write_fault;
-use rds_words::{Task, task_of};
+use rds_words::{FAULTS_TEXT, FILES_TEXT, Task, task_of};
 use std::convert::AsStr;
 use std::io::{Read, Write};
 use std::net::Net;
@@ -92,7 +92,7 @@ where
             note_together(rt);
             write_fault(writer, Fault::Usage)
         }
-        Err(error) => write_unparsed(writer, &error),
+        Err(error) => write_unparsed(rt, words, writer, &error),
     }
 }
 
@@ -139,6 +139,8 @@ where
     match task {
         Task::Join => run_join(rt.alloc(), reader, writer),
         Task::Sim => run_sim(rt.alloc(), reader, writer),
+        Task::Files => run_text(FILES_TEXT, writer),
+        Task::Faults => run_text(FAULTS_TEXT, writer),
         Task::Init(words) => run_init(rt, &words, writer),
         Task::InitFrom(words) => run_init_from(rt, &words, writer),
         Task::Grow(words) => run_grow(rt, &words, writer),

@@ -2,14 +2,14 @@
 ghost use Rattle.std.specs.Prelude.{◌≡◌, ◌≤◌, ◌⊎◌, ◌||◌, true, false, Err};
 ghost use Rattle.rds_names.specs.declared.fault.Fault.TheVariants.{Usage};
 ghost use Rattle.rds_keep.specs.Counted.{HasFailed};
-ghost use Rattle.rds_commands.specs.Told.{RefusesServe, RefusesSync, WritesPairing, WritesPiped, WritesServe, WritesServeAt, WritesSyncAt, WritesSyncing, is_piped, sessions_asked};
+ghost use Rattle.rds_commands.specs.Told.{RefusesServe, RefusesSync, WritesPairing, WritesPiped, WritesServe, WritesServeAt, WritesSyncAt, WritesSyncing, sessions_asked};
 ghost use Rattle.rds_commands.specs.Offline.{WritesNothing};
 ghost use Rattle.rds_commands.specs.Reading.{reading_of};
 ghost use Rattle.rds_files.specs.Files.{is_beside};
 ghost use Rattle.rds_session.specs.declared.talk.Side.TheVariants.{Client, Server};
 ghost use Rattle.rds_output.specs.Output.{Writes};
 
-use crate::notes::note_words;
+use crate::notes::{note_beside, note_serve, note_sync};
 use crate::offline::status_for;
 use rds_files::{Disk, LockFile, is_beside, pair_files, pipe_file, serve_file, sync_file};
 use rds_keep::Counted;
@@ -65,7 +65,7 @@ where
             writer,
         ),
         _ => {
-            note_words(rt, words.file);
+            note_serve(rt, &words);
             write_fault(writer, Fault::Usage)
         }
     }
@@ -93,7 +93,7 @@ where
             pipe_file(rt, Side::Server, words.file, reader, writer)
         }
         _ => {
-            note_words(rt, words.file);
+            note_serve(rt, &words);
             status_for(Fault::Usage)
         }
     }
@@ -137,7 +137,7 @@ where
             sync_file(rt, words.file, words.addr, timeout_of(seconds), writer)
         }
         _ => {
-            note_words(rt, words.file);
+            note_sync(rt, &words);
             write_fault(writer, Fault::Usage)
         }
     }
@@ -165,7 +165,7 @@ where
             pipe_file(rt, Side::Client, words.file, reader, writer)
         }
         _ => {
-            note_words(rt, words.file);
+            note_sync(rt, &words);
             status_for(Fault::Usage)
         }
     }
@@ -186,7 +186,8 @@ where
     ensures broken { (writer.new.failed ≡ writer.old.failed) ⊎ (result ≡ 1) }
 {
     if is_beside(first) || is_beside(second) {
-        note_words(rt, if is_beside(first) { first } else { second });
+        note_beside(rt, first);
+        note_beside(rt, second);
         return write_fault(writer, Fault::Usage);
     }
     pair_files(rt, first, second, writer)

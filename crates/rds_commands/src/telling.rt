@@ -1,14 +1,15 @@
 //! Commands on the replica in a file, and what is written of them.
 ghost use Rattle.std.specs.Prelude.{◌≡◌, ◌≤◌, ◌⊎◌};
 ghost use Rattle.rds_keep.specs.Counted.{HasFailed};
+ghost use Rattle.rds_commands.specs.Offline.{WritesText};
 ghost use Rattle.rds_commands.specs.Told.{WritesEdit, WritesGrow, WritesIfChanged, WritesInit, WritesShow};
 
 use crate::file_commands::{edit_file, edit_if_changed, grow_file, init_file, show_file};
-use crate::notes::{note_cleared, note_edit, note_file, note_grow, note_init, note_unwritten};
+use crate::notes::{note_cleared, note_edit, note_grow, note_init, note_part, note_unwritten};
 use rds_files::{Disk, LockFile};
 use rds_keep::Counted;
 use rds_lines::Layout;
-use rds_output::write_reply;
+use rds_output::{status_of, write_reply};
 use rds_words::{EditWords, GrowWords, InitWords};
 use std::io::Write;
 
@@ -24,7 +25,7 @@ where
     match init_file(rt, words) {
         Ok(done) => write_reply(writer, Ok(done.into_answer())),
         Err(fault) => {
-            note_init(rt, words.file, fault);
+            note_init(rt, words, fault);
             write_reply(writer, Err(fault))
         }
     }
@@ -40,9 +41,13 @@ where
     ensures broken { (writer.new.failed ≡ writer.old.failed) ⊎ (result ≡ 1) }
 {
     match grow_file(rt, words) {
-        Ok(done) => write_reply(writer, Ok(done.into_answer())),
+        Ok(done) => {
+            let status = write_reply(writer, Ok(done.into_answer()));
+            note_unwritten(rt, words.file, status);
+            status
+        }
         Err(fault) => {
-            note_grow(rt, words.file, fault);
+            note_grow(rt, words, fault);
             write_reply(writer, Err(fault))
         }
     }
@@ -91,7 +96,14 @@ where
     ensures broken { (writer.new.failed ≡ writer.old.failed) ⊎ (result ≡ 1) }
 {
     match edit_if_changed(rt, path, words) {
-        Ok(done) => write_reply(writer, Ok(done.into_answer())),
+        Ok(done) => {
+            let is_changed = done.file.is_some();
+            let status = write_reply(writer, Ok(done.into_answer()));
+            if is_changed {
+                note_unwritten(rt, path, status);
+            }
+            status
+        }
         Err(fault) => {
             note_edit(rt, path, words, fault);
             write_reply(writer, Err(fault))
@@ -115,8 +127,18 @@ pub fn run_show<H: Disk, W: Write>(
     match show_file(rt, path, text, layout) {
         Ok(done) => write_reply(writer, Ok(done.into_answer())),
         Err(fault) => {
-            note_file(rt, path, fault);
+            note_part(rt, path, text, fault);
             write_reply(writer, Err(fault))
         }
     }
+}
+
+/// Writes a topic of `help`.
+pub fn run_text<W: Write>(text: &str, writer: &mut Counted<W>) -> u8
+    ensures written { (HasFailed writer.old writer.new → ⊥)
+        → WritesText text.now (W.contents writer.old.inner) (W.contents writer.new.inner) result }
+    ensures status { result ≤ 2 }
+    ensures broken { (writer.new.failed ≡ writer.old.failed) ⊎ (result ≡ 1) }
+{
+    status_of(writer.write_all(text.as_bytes()), 0)
 }

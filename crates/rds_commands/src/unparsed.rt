@@ -7,16 +7,25 @@ ghost use Rattle.rds_keep.specs.Parts.{AppendsFront, Grows};
 ghost use Rattle.rds_output.specs.Output.{AnswersStatus, fault_line};
 ghost use Rattle.rds_commands.specs.Unparsed.{AppendsBehind, WritesUnparsed, unparsed_status};
 
+use crate::tips::{command_in, note_below_zero, shown_text};
 use clap::Error;
 use clap::error::ErrorKind;
+use rds_files::Disk;
 use rds_keep::Counted;
 use rds_names::Fault;
 use rds_output::{status_of, write_fault_line};
+use std::alloc::Global;
+use std::convert::AsStr;
 use std::io::Write;
 
 /// Writes why the words of the command line gave no task, and answers the status. Help and the version are
 /// their text alone, with 0; want of memory is its fault. Else the text follows the line of `Usage`, with 2.
-pub fn write_unparsed<W: Write>(writer: &mut Counted<W>, error: &Error) -> u8
+pub fn write_unparsed<H: Disk, W: Write, S: AsStr>(
+    rt: &H,
+    words: &[S],
+    writer: &mut Counted<W>,
+    error: &Error,
+) -> u8
     ensures written { (HasFailed writer.old writer.new → ⊥)
         → WritesUnparsed (kind_of error.now) (W.contents writer.old.inner) (W.contents writer.new.inner) result }
     ensures part { kind_of error.now ≡ ErrorKind.OutOfMemory
@@ -31,12 +40,20 @@ pub fn write_unparsed<W: Write>(writer: &mut Counted<W>, error: &Error) -> u8
             writer.write_shown(error),
             0,
         ),
-        _ => status_of(write_usage(writer, error), 2),
+        _ => {
+            note_below_zero(rt, words, error);
+            status_of(write_usage(rt.alloc(), command_in(words), writer, error), 2)
+        }
     }
 }
 
 // Writes the line of `Usage`, and behind it the library's text.
-fn write_usage<W: Write>(writer: &mut Counted<W>, error: &Error) -> Result<(), Fault>
+fn write_usage<W: Write>(
+    alloc: Global,
+    command: &str,
+    writer: &mut Counted<W>,
+    error: &Error,
+) -> Result<(), Fault>
     ensures bytes { OnOk result (AppendsBehind (W.contents writer.old.inner)
         (W.contents writer.new.inner) (fault_line Usage)) }
     ensures kept { Grows (W.contents writer.old.inner) (W.contents writer.new.inner) }
@@ -44,5 +61,22 @@ fn write_usage<W: Write>(writer: &mut Counted<W>, error: &Error) -> Result<(), F
     ensures counted { OnErr result (writer.new.failed ≡ one_more writer.old.failed) }
 {
     write_fault_line(writer, Fault::Usage)?;
-    writer.write_shown(error)
+    write_text(alloc, command, writer, error)
+}
+
+// Writes the library's text without a tip that leads nowhere; or as it is, where there is no memory for another.
+fn write_text<W: Write>(
+    alloc: Global,
+    command: &str,
+    writer: &mut Counted<W>,
+    error: &Error,
+) -> Result<(), Fault>
+    ensures bytes { Grows (W.contents writer.old.inner) (W.contents writer.new.inner) }
+    ensures steady { OnOk result (writer.new.failed ≡ writer.old.failed) }
+    ensures counted { OnErr result (writer.new.failed ≡ one_more writer.old.failed) }
+{
+    match shown_text(alloc, command, error) {
+        Ok(text) => writer.write_shown(&text),
+        Err(_) => writer.write_shown(error),
+    }
 }

@@ -18,10 +18,14 @@ use rds_keep::Counted;
 use rds_names::Fault;
 use rds_output::write_fault;
 use std::convert::AsStr;
+use std::env::{Env, FillError};
 use std::io::{ErrorKind, Read, Write};
 use std::net::Net;
 use std::process::ExitCode;
-use std::{env, io};
+use std::{env, io, str};
+
+/// The longest word of which is told that it is no text.
+const SHOWN: usize = 4096;
 
 /// Runs the program on the words that the process was called by, over its standard input and output.
 pub fn run_process(rt: &HostRuntime) -> ExitCode
@@ -93,6 +97,31 @@ fn words(rt: &HostRuntime) -> Result<Vec<String>, Fault>
     match env::args(rt) {
         Ok(args) => Ok(args.collect(rt.alloc())?),
         Err(error) if error.kind() == ErrorKind::OutOfMemory => Err(Fault::Memory),
-        Err(_) => Err(Fault::Usage),
+        Err(_) => {
+            note_words(rt);
+            Err(Fault::Usage)
+        }
+    }
+}
+
+// Tells which words are no text, and what of them can be printed.
+fn note_words<H: Env + Eprint + AllocGlobal>(rt: &H) {
+    let mut word = [0; SHOWN];
+    for at in 0..usize::MAX {
+        match rt.arg(at, &mut word) {
+            Ok(length) => note_word(rt, at, &word[..length]),
+            Err(FillError::TooLong) => (),
+            Err(FillError::NotPresent) => return,
+        }
+    }
+}
+
+// Tells of a word that it is no text, where it is none.
+fn note_word<H: Eprint + AllocGlobal>(rt: &H, at: usize, word: &[u8]) {
+    if str::from_utf8(word).is_ok() {
+        return;
+    }
+    if let Ok(shown) = String::from_utf8_lossy(rt.alloc(), word) {
+        let _ = eprintln!(rt; "word {at} isn't UTF-8: '{shown}'");
     }
 }

@@ -16,6 +16,7 @@ pub struct Calls<'a> {
     round: Cell<String>,
     pauses: Cell<u64>,
     notes: Cell<u64>,
+    noted: Cell<String>,
     fails: &'a str,
     // Which of the calls that are so named fails; 0 is each.
     nth: u64,
@@ -31,6 +32,7 @@ impl<'a> Drop for Calls<'a> {
             round: _round,
             pauses: _,
             notes: _,
+            noted: _noted,
             fails: _,
             nth: _,
             met: _,
@@ -52,6 +54,7 @@ impl<'a> Calls<'a> {
             round: Cell::new(String::new(alloc)),
             pauses: Cell::new(0),
             notes: Cell::new(0),
+            noted: Cell::new(String::new(alloc)),
             fails,
             nth,
             met: Cell::new(0),
@@ -82,14 +85,24 @@ impl<'a> Calls<'a> {
         self.call("make", on.as_str())
     }
 
-    /// A line on standard error. It is counted alone.
-    pub fn note(&self) {
+    /// A line on standard error.
+    pub fn note(&self, line: &str) -> Result<(), AllocError> {
         self.notes.set(self.notes.get().saturating_add(1));
+        let mut noted = self.noted.replace(String::new(self.alloc));
+        noted.push_str(line)?;
+        noted.push_str("\n")?;
+        self.noted.set(noted);
+        Ok(())
     }
 
     /// How many lines there were on standard error.
     pub fn notes(&self) -> u64 {
         self.notes.get()
+    }
+
+    /// The lines themselves.
+    pub fn noted(&self) -> String {
+        self.noted.replace(String::new(self.alloc))
     }
 
     /// Whether these are the words of the row, and the time that the row means.

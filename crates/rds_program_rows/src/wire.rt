@@ -9,7 +9,7 @@ use crate::calls::Calls;
 use crate::replicas::read;
 use crate::runs::named;
 use crate::sessions::side_of;
-use crate::told::bytes_told;
+use crate::told::{bytes_told, lines_told};
 use host::Wired;
 use line::{Reads, Wire};
 use lines::Lines;
@@ -95,13 +95,14 @@ pub fn answer_by_lines(rt: &HostRuntime, words: &str, input: &[u8]) -> Result<St
     run_over(rt, words, &Wire::new(rt.alloc(), ""), input)
 }
 
-/// `notes WORDS`: the same, but answers only how many lines people are told on standard error, and the status.
+/// `notes WORDS`: the same, but answers only what people are told on standard error, and the status.
 pub fn answer_notes(rt: &HostRuntime, words: &str) -> Result<String, Fault> {
     let wire = Wire::new(rt.alloc(), "");
     let words = named(rt.alloc(), words)?;
     let (_, status) = run_on_wire(rt, &words, &wire, b"");
-    let notes = wire.calls.notes();
-    Ok(format!(in rt.alloc(); "{notes} told, status {status}")?)
+    let noted = wire.calls.noted();
+    let end = format!(in rt.alloc(); "status {status}")?;
+    lines_told(rt.alloc(), &[noted.as_str(), end.as_str()])
 }
 
 fn run_over(rt: &HostRuntime, words: &str, wire: &Wire<'_>, input: &[u8]) -> Result<String, Fault> {

@@ -44,14 +44,15 @@ impl Clock for Wired<'_> {
     }
 }
 
-// What people are told isn't kept, but how many lines it is.
+// What people are told, but for what isn't a line.
 impl Eprint for Wired<'_> {
     fn eprint<D: Display + Drop>(&self, _value: D) -> io::Result<()> {
         Ok(())
     }
 
-    fn eprintln<D: Display + Drop>(&self, _value: D) -> io::Result<()> {
-        self.wire.calls.note();
+    fn eprintln<D: Display + Drop>(&self, value: D) -> io::Result<()> {
+        let line = format!(in self.rt.alloc(); "{value}")?;
+        self.wire.calls.note(line.as_str())?;
         Ok(())
     }
 }

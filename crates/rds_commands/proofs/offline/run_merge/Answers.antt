@@ -5,5 +5,5 @@ use Rattle.rds_commands.proofs.offline.run_merge.Goals as goal
 pub returns-in-Ok-clause-written : goal.returns-in-Ok-clause-written
 returns-in-Ok-clause-written g c = λ wrote.
     taken_of_file (MergesFile c.args.path.now c.args.from.now) (RefusesMergeFile c.args.path.now) c.in-Ok.done.file c.in-Ok.done.components c.into_components.result
-    (g.W.Write.contents c.args.writer.now.inner) (g.W.Write.contents c.write_reply.new.writer.inner) c.write_reply.result
-    c.in-Ok.ensures.merged c.into_components.ensures (c.write_reply.ensures.written wrote)
+    (g.W.Write.contents c.args.writer.now.inner) (g.W.Write.contents c.write_reply-status.new.writer.inner) c.write_reply-status.result
+    c.in-Ok.ensures.merged c.into_components.ensures (c.write_reply-status.ensures.written wrote)
