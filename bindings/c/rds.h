@@ -176,8 +176,9 @@ uint32_t rds_edit(rds *replica, const uint8_t *line, size_t line_length, rds_edi
 /* Edits by many such lines, each ended by a line feed (the last one's may lack), one after the other. Gives a line for
  * each, as `rds_node edit` does: {"dot":["shop",7],"killed":1} with null where no dot was added, or, where the line was
  * refused, {"fault":25,"name":"BadLine","line":2} with the line's number from 1. Empty lines are skipped.
- * A refused line changes nothing, the others are done, and the status is RDS_OK. At RDS_NO_ROOM all edits are done too;
- * rds_told gives the answers. At any other status no line is done. */
+ * A refused line changes nothing, the others are done, and the status is RDS_OK. At RDS_NO_ROOM they are done too, and
+ * rds_told gives the answers; where *length is 0 then, there was no memory for them. At any other status no line is
+ * done. */
 uint32_t rds_edit_lines(rds *replica, const uint8_t *lines, size_t lines_length, uint8_t *room, size_t room_length,
                         size_t *length);
 
@@ -186,8 +187,9 @@ uint32_t rds_edit_lines(rds *replica, const uint8_t *lines, size_t lines_length,
  * All give JSON, as UTF-8. The empty path is the root. Each returns RDS_NO_ROOM, RDS_CLOSED, RDS_MEMORY, and those with
  * a path RDS_BAD_KEY, RDS_BAD_PATH, RDS_NOT_UTF8 besides. */
 
-/* Gives what the document shows at a path and below: {"counters":{},"maps":{..},"regs":{..},"sets":{..}}, by the keys
- * below it. Registers and sets are lists of values; a register has several where it was set apart. */
+/* Gives what the document shows at a path and below: {"maps":{..},"regs":{..},"sets":{..}} by the keys below it, and
+ * at the root {"counters":{..},..} too. Registers and sets are lists of values; a register has several where it was set
+ * apart. */
 uint32_t rds_view(rds *replica, const uint8_t *path, size_t path_length, uint8_t *room, size_t room_length,
                   size_t *length);
 

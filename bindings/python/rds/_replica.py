@@ -150,12 +150,12 @@ class Place:
         return got
 
     def show(self) -> Dict[str, Any]:
-        """What the document shows here and below, by kind and key.
+        """What the document shows here and below, by kind and key; counters at the root alone.
 
         >>> with Replica.new("g", ["a"], "a") as replica:
         ...     edited = replica["apples/tags"].add("red")
         ...     replica["apples"].show()
-        {'counters': {}, 'maps': {}, 'regs': {}, 'sets': {'tags': ['red']}}
+        {'maps': {}, 'regs': {}, 'sets': {'tags': ['red']}}
         """
         shown: Dict[str, Any] = json.loads(self._replica._gives(self.path, LIB.rds_view, self._at, len(self._at)))
         return shown
@@ -333,7 +333,7 @@ class Replica:
 
     def edit(self, edits: Iterable[Edit]) -> List[Union[Edited, RdsError]]:
         """Makes many edits, one after the other, in one call. What is refused changes nothing and doesn't stop the
-        others: in its place stands why.
+        others: in its place stands why. `MemoryError` says that none was made, or in its words that they were.
 
         >>> with Replica.new("g", ["a"], "a") as replica:
         ...     for done in replica.edit([("set", "k", 1), ("set", "a//b", 2), ("inc", "n", 3)]):
@@ -346,6 +346,8 @@ class Replica:
         lines = "\n".join(map(json.dumps, given)).encode()
         self._is_ahead = True
         answers = self._gives(None, LIB.rds_edit_lines, lines, len(lines)).splitlines()
+        if len(answers) < len(given):
+            raise MemoryError("rds: the edits were made, but there was no memory to tell what they did")
         return [_answer(json.loads(answer), one) for answer, one in zip(answers, given)]
 
     def show(self) -> Dict[str, Any]:

@@ -78,9 +78,8 @@ def test_keys(shop: Replica) -> None:
 def test_show(shop: Replica) -> None:
     shop["apples/tags"].add("red")
     shop["apples"].increase(10)
-    below = {"counters": {}, "maps": {}, "regs": {}, "sets": {"tags": ["red"]}}
-    assert shop["apples"].show() == below
     below = {"maps": {}, "regs": {}, "sets": {"tags": ["red"]}}
+    assert shop["apples"].show() == below
     assert shop.show() == {"counters": {"apples": 10}, "maps": {"apples": below}, "regs": {}, "sets": {}}
 
 
