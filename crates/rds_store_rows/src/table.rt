@@ -1,0 +1,48 @@
+//! What each row calls.
+use crate::documents::{Documents, told};
+use rds_names::Fault;
+use rds_rows::Table;
+use rds_rows::words::first;
+use std::alloc::Global;
+
+impl Table for Documents<'_> {
+    fn answer(&mut self, alloc: Global, name: &str, rest: &str) -> Result<String, Fault> {
+        match name {
+            "new" => self.make(alloc, rest),
+            "open" => self.open(alloc, rest),
+            "edit" => self.edit(alloc, rest),
+            "lines" => self.edit_lines(alloc, rest),
+            "grow" => self.grow(alloc, rest),
+            "ask" => self.ask(alloc, rest),
+            "answer" => self.answer_question(alloc, rest),
+            "take" => self.take(alloc, rest),
+            "turn" => self.turn(alloc, rest),
+            "merge" => self.merge(alloc, rest),
+            "create" => self.create(alloc, rest),
+            "keep" => self.keep(alloc, rest),
+            "lose" => self.lose(alloc, rest),
+            "look" => self.look(rest),
+            "remove" => self.remove(alloc, rest),
+            _ => shown(self, alloc, name, rest),
+        }
+    }
+}
+
+// Rows that show something of a document at a path, which is missing at the root.
+fn shown(
+    documents: &mut Documents<'_>,
+    alloc: Global,
+    what: &str,
+    rest: &str,
+) -> Result<String, Fault> {
+    let (name, path) = first(rest);
+    let document = &documents.named(name)?.document;
+    match what {
+        "view" => document.view_json(path),
+        "get" => document.value_json(path),
+        "conflicts" => told(alloc, document.conflicts(path)?.as_str()),
+        "dump" => told(alloc, document.dump(path)?.as_str()),
+        "status" => document.status(),
+        _ => Err(Fault::Usage),
+    }
+}
