@@ -32,7 +32,7 @@ mod status;
 use asking::Verb;
 use editing::{clear, edit_as, edit_text, edit_value, lower, raise};
 use opened::Opened;
-use rds_json::{Line, command, edit};
+use rds_json::{Line, LineReader};
 use rds_store::{Document, Fault, Scalar};
 use slot::{Slot, put_back, take_out};
 use status::{CLOSED, EditedC, NOT_UTF8, OK, OPENED, status};
@@ -68,7 +68,8 @@ fn fill(alloc: Global, slot: &mut Slot, made: Result<Document, Fault>) -> u32
 fn first(alloc: Global, line: &str, own: u8) -> Result<Document, Fault>
     ensures first { IfOk result (IsFirst line.now own) }
 {
-    match command(alloc, line)? {
+    let mut reader = LineReader::new(alloc);
+    match reader.command(alloc, line)? {
         Line::Roster(roster) => Document::first(alloc, roster, own),
         _ => Err(Fault::BadLine),
     }
@@ -114,7 +115,8 @@ pub extern "C" fn rds_edit(alloc: Global, slot: &mut Slot, line: &[u8], edited: 
     let Ok(line) = str::from_utf8(line) else {
         return NOT_UTF8;
     };
-    edit_as(alloc, slot, edit(alloc, line), edited)
+    let mut reader = LineReader::new(alloc);
+    edit_as(alloc, slot, reader.edit(alloc, line), edited)
 }
 
 /// Edits as lines of JSON say, one after the other, and tells their answers, a line each. At 66 the edits are made too;
