@@ -67,7 +67,7 @@ impl Numbering {
         ensures memory { IfErr result (λ fault. fault ≡ Memory) }
     {
         let number = self.keys.len();
-        self.places.add(alloc, self.keys.as_slice(), mark, key)?;
+        self.places.add(alloc, self.keys.as_slice(), mark, key, 0)?;
         self.keys.push(key.copy(alloc)?)?;
         Ok(number)
     }
