@@ -6,7 +6,9 @@ use crate::documents::Documents;
 use crate::indexes::{covered, index, index_edit, index_take, index_view, step, step_take};
 use crate::laws::laws;
 use crate::replicas::{copy, edit, fits, hold, make, rejoin, take};
-use crate::states::{components, copy_of, empty, lives, merge, rank, same, show, state, value};
+use crate::states::{
+    components, copy_of, empty, lives, mark, merge, rank, same, show, state, value,
+};
 use crate::views::show_view;
 use rds_dots::DotSet;
 use rds_names::Fault;
@@ -90,6 +92,7 @@ fn state_answer<S: DotSet>(
         "merge" => merge(documents, alloc, rest),
         "show" => show(documents, alloc, rest),
         "same" => same(documents, alloc, rest),
+        "mark" => mark(documents, alloc, rest),
         "rank" => rank(documents, alloc, rest),
         "value" => value(documents, alloc, rest),
         "components" => components(documents, alloc, rest),
