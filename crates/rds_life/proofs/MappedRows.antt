@@ -1,5 +1,6 @@
 -- A map's entries as rows.
-use Rattle.std.proofs.Common.{◌≡◌, suc, true, false, not, cond, List, [], ◌∷◌, ◌++◌, append_assoc, length, Some, refl, sym, ◌∙◌, ap}
+use Rattle.std.proofs.Common.{◌≡◌, suc, true, false, not, cond, List, [], ◌∷◌, ◌++◌, append_assoc, length, Some, refl}
+use Rattle.std.proofs.Common.{sym, ◌∙◌, ap}
 use Rattle.std.specs.List.{list_all, AllByRecursion}
 use Rattle.std.specs.List.Sorted.{IsStrictlySortedBy}
 use Rattle.std.specs.Ordering.{eq_by_cmp, is_eq, is_lt, match_ordering}

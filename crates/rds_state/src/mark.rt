@@ -2,7 +2,8 @@
 ghost use Rattle.std.specs.Prelude.{◌≡◌, fold};
 ghost use Rattle.std.specs.Int.{w64, from_be_bytes};
 ghost use Rattle.rds_state.specs.Mark.{count_mark, finished, kind_number, last_word, live_mark, no_mark, plus};
-ghost use Rattle.rds_state.specs.Mark.{plus_count, plus_live, with_byte, with_bytes, with_entry, with_scalar, with_word};
+ghost use Rattle.rds_state.specs.Mark.{plus_count, plus_live, with_byte, with_bytes, with_entry, with_scalar};
+ghost use Rattle.rds_state.specs.Mark.{with_word};
 
 use rds_counts::CountRow;
 use rds_dots::Dot;

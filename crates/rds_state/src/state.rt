@@ -105,7 +105,7 @@ impl<S: DotSet> State<S> {
         u128::from(dots) + numbers
     }
 
-    /// The mark by which the state is compared at a glance: one pass over its live dots and rows of counters, which takes
+    /// The mark by which the state is compared at a glance, in one pass over its live dots and rows of counters. Takes
     /// no memory.
     #[tactic(auto, unfolding(crate::specs::Mark::mark_of))]
     pub fn mark(&self) -> Mark
