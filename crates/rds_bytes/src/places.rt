@@ -1,5 +1,24 @@
 //! Where the numbers of keys are found.
-ghost use Rattle.std.specs.Prelude.{◌≡◌, ℕ, List, ◌++◌, ◌∷◌, [], true, false, suc, length, bit_and, slice_get, Some, IsTrue, if◌then◌else◌, OnOk, IfOk, IfErr};
+ghost use Rattle.std.specs.Prelude.{
+  ◌≡◌,
+  ℕ,
+  List,
+  ◌++◌,
+  ◌∷◌,
+  [],
+  true,
+  false,
+  suc,
+  length,
+  bit_and,
+  slice_get,
+  Some,
+  IsTrue,
+  if◌then◌else◌,
+  OnOk,
+  IfOk,
+  IfErr,
+};
 ghost use Rattle.rds_names.specs.declared.fault.Fault.TheVariants.{Memory};
 ghost use Rattle.rds_names.specs.Roster.{all_differ};
 ghost use Rattle.rds_bytes.specs.Marks.{mark as its_mark};
