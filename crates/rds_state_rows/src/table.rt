@@ -3,7 +3,9 @@ use crate::certificates::{certificate, check, given};
 use crate::deltas::delta;
 use crate::digests::{digest, digest_of_sets, inside, pair_in, rank_in};
 use crate::documents::Documents;
-use crate::indexes::{covered, index, index_edit, index_take, index_view, step, step_take};
+use crate::indexes::{
+    covered, index, index_delta, index_edit, index_take, index_view, step, step_take,
+};
 use crate::laws::laws;
 use crate::replicas::{copy, edit, fits, hold, make, rejoin, take};
 use crate::states::{
@@ -25,6 +27,7 @@ impl<S: DotSet> Table for Documents<S> {
                 digest_answer(self, alloc, name, rest)
             }
             "index"
+            | "index_delta"
             | "index_edit"
             | "index_take"
             | "index_view"
@@ -68,6 +71,7 @@ fn index_answer<S: DotSet>(
 ) -> Result<String, Fault> {
     match name {
         "index" => index(documents, alloc, rest),
+        "index_delta" => index_delta(documents, alloc, rest),
         "index_edit" => index_edit(documents, alloc, rest),
         "index_take" => index_take(documents, alloc, rest),
         "index_view" => index_view(documents, alloc, rest),
