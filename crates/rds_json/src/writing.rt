@@ -112,7 +112,7 @@ fn write_counters(out: &mut Writer, counters: &Option<Sums>) -> Result<(), Stop>
     Ok(())
 }
 
-#[cycle(writing)]
+#[cycle(write_view)]
 fn write_maps(out: &mut Writer, maps: &Maps) -> Result<(), Stop>
     ensures ok { OnOk result (Adds out.old out.new (data_tokens (maps_data (maps_shown maps.now)))) }
 {
@@ -127,7 +127,7 @@ fn write_maps(out: &mut Writer, maps: &Maps) -> Result<(), Stop>
 }
 
 /// Writes a view whose keys ascend.
-#[cycle(writing)]
+#[cycle(write_view)]
 pub(crate) fn write_view(out: &mut Writer, shape: &View) -> Result<(), Stop>
     ensures ok { OnOk result (Adds out.old out.new (data_tokens (data_of (shown_view shape.now)))) }
 {

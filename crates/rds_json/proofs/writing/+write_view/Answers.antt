@@ -3,7 +3,7 @@ use Rattle.rds_tree.specs.Shown.{shown_view}
 use Rattle.rds_tree.specs.declared.views.View.{the_lemmas}
 use Rattle.rds_json.proofs.Ascending.{maps_in_order}
 use Rattle.rds_json.proofs.Tokens.{begun, view_added}
-use Rattle.rds_json.proofs.writing.+writing.Goals as goal
+use Rattle.rds_json.proofs.writing.+write_view.Goals as goal
 
 pub write_maps-loop-row-init : goal.write_maps-loop-row-init
 write_maps-loop-row-init t c =

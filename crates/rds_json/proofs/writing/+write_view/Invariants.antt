@@ -4,7 +4,7 @@ use Rattle.rds_json.specs.Show.{data_of, maps_data}
 use Rattle.rds_json.specs.Written.{data_tokens}
 use Rattle.rds_json.proofs.Sizes.{size_of, maps_size}
 use Rattle.rds_json.proofs.Tokens.{rows_tokens}
-use Rattle.rds_json.proofs.writing.+writing.Given as goal
+use Rattle.rds_json.proofs.writing.+write_view.Given as goal
 
 abbrev pub decreases-write_maps : goal.decreases-write_maps
 decreases-write_maps l = maps_size (maps_shown l.maps.now)
