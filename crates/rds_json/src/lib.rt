@@ -27,5 +27,5 @@ pub use line::Line;
 pub use reader::LineReader;
 pub use scalars::scalar;
 pub use showing::{show, show_pretty};
-pub use standing::show_at;
+pub use standing::{counter_at, show_at, values_at};
 pub use texts::{show_names, show_scalar, show_scalars, show_text};

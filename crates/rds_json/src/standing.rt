@@ -46,7 +46,7 @@ fn write_counter(out: &mut Writer, counter: Option<i64>) -> Result<(), AllocErro
 }
 
 /// What the counter of a key stands at, where there are counters.
-fn counter_at(counters: &Option<Sums>, key: &Key) -> Option<i64>
+pub fn counter_at(counters: &Option<Sums>, key: &Key) -> Option<i64>
     ensures { result ≡ counter_at key.now counters.now }
 {
     match counters {
@@ -69,7 +69,7 @@ fn sum_at(sums: &Sums, key: &Key) -> Option<i64>
 }
 
 /// The values under a key.
-fn values_at<'a>(values: &'a Values, key: &Key) -> &'a [Scalar]
+pub fn values_at<'a>(values: &'a Values, key: &Key) -> &'a [Scalar]
     ensures { result.now ≡ values_at key.now values.now }
 {
     let rows = values.rows();

@@ -2,4 +2,3 @@ mod Amounts
 mod Examples
 mod Joined
 mod Merged
-mod Plain

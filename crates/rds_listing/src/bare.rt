@@ -1,6 +1,5 @@
 //! What stands at a key, as bare lines.
 ghost use Rattle.std.specs.Prelude.{◌≡◌, ◌++◌, ◌∷◌, [], Some, IfErr, IfOk, OnOk, filter, string_bytes};
-ghost use Rattle.rds_json.specs.Standing.{counter_at, sum_at, values_at};
 ghost use Rattle.rds_listing.specs.Pieces.{lines_text};
 ghost use Rattle.rds_listing.specs.Raw.{GivesRaw, IsRaw, lines_at, raw_line, sum_lines, values_lines, wanted_lines};
 ghost use Rattle.rds_listing.specs.declared.bare.Wanted.TheVariants.{Any};
@@ -10,9 +9,10 @@ ghost use Rattle.rds_tree.specs.Shown.{shown_view};
 
 use crate::pieces::push_line;
 use rds_dots::DotSet;
+use rds_json::{counter_at, values_at};
 use rds_names::{Fault, Key, Path, Scalar};
 use rds_state::State;
-use rds_tree::{Sums, Values, View, view};
+use rds_tree::{View, view};
 use std::alloc::Global;
 
 /// Of which kinds values are wanted.
@@ -142,40 +142,4 @@ fn push_raw(alloc: Global, text: &mut String, value: &Scalar) -> Result<(), Faul
         Scalar::Int(number) => push_line(text, format!(in alloc; "{number}")?.as_str()),
         Scalar::Text(value) => push_line(text, value.as_str()),
     }
-}
-
-// What a counter stands at, where there are counters.
-fn counter_at(counters: &Option<Sums>, key: &Key) -> Option<i64>
-    ensures { result ≡ counter_at key.now counters.now }
-{
-    match counters {
-        Some(sums) => sum_at(sums, key),
-        None => None,
-    }
-}
-
-// What the counter of a key stands at.
-fn sum_at(sums: &Sums, key: &Key) -> Option<i64>
-    ensures { result ≡ sum_at key.now sums.now }
-{
-    let rows = sums.rows();
-    for row in rows {
-        if row.0 == *key {
-            return Some(row.1);
-        }
-    }
-    None
-}
-
-// The values under a key.
-fn values_at<'a>(values: &'a Values, key: &Key) -> &'a [Scalar]
-    ensures { result.now ≡ values_at key.now values.now }
-{
-    let rows = values.rows();
-    for row in rows {
-        if row.0 == *key {
-            return row.1.rows();
-        }
-    }
-    &[]
 }

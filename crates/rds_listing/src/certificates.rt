@@ -1,18 +1,16 @@
 //! The rows of a certificate, as lines of JSON.
 ghost use Rattle.std.specs.Prelude.{◌≡◌, ◌++◌, ◌∷◌, [], Some, IfErr, IfOk, OnOk, string_bytes};
 ghost use Rattle.std.specs.FinMap as fin;
-ghost use Rattle.serde_json.specs.Written.{compact_text};
-ghost use Rattle.rds_json.specs.Show.{scalar_data};
 ghost use Rattle.rds_life.specs.Life.{entry_of};
 ghost use Rattle.rds_listing.specs.Evidence.{counter_text, dead_line, entry_text, evidence_text, kind_text, live_line, much_text, name_text, number_line, rank_text, replica_text, row_line, run_text, which_text};
 ghost use Rattle.rds_names.specs.declared.fault.Fault.TheVariants.{Memory};
 
-use crate::pieces::{path_text, push_line, scalar_value};
+use crate::pieces::{path_text, push_line};
 use rds_counts::Which;
 use rds_delta::{Certificate, Row};
 use rds_dots::{Dot, DotSet, Run};
-use rds_json::show_text;
-use rds_names::{Entry, Fault, Key, Kind, Roster, Scalar};
+use rds_json::{show_scalar, show_text};
+use rds_names::{Entry, Fault, Key, Kind, Roster};
 use rds_state::State;
 use std::alloc::Global;
 
@@ -121,7 +119,7 @@ fn entry_text(alloc: Global, entry: &Entry) -> Result<String, Fault>
     let path = path_text(alloc, entry.path().keys())?;
     let path = show_text(alloc, path.as_str())?;
     let kind = kind_text(entry.kind());
-    let value = scalar_text(alloc, entry.value())?;
+    let value = show_scalar(alloc, entry.value())?;
     Ok(format!(in alloc; "\"path\":{path},\"kind\":{kind},\"value\":{value}")?)
 }
 
@@ -132,15 +130,6 @@ fn kind_text(kind: Kind) -> &'static str
         Kind::Reg => "\"reg\"",
         Kind::Elem => "\"set\"",
     }
-}
-
-// The text of a value.
-fn scalar_text(alloc: Global, scalar: &Scalar) -> Result<String, Fault>
-    ensures text { IfOk result (λ text. string_bytes text ≡ compact_text (scalar_data scalar.now)) }
-    ensures memory { IfErr result (λ fault. fault ≡ Memory) }
-{
-    let value = scalar_value(alloc, scalar)?;
-    Ok(value.to_string(alloc)?)
 }
 
 // The line of a run of dead dots.

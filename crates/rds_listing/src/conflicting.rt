@@ -4,10 +4,10 @@ ghost use Rattle.rds_listing.specs.Conflicts.{conflict_line, conflict_lines, con
 ghost use Rattle.rds_listing.specs.Pieces.{lines_text};
 ghost use Rattle.rds_names.specs.declared.fault.Fault.TheVariants.{Memory};
 
-use crate::pieces::{path_text, push_line, scalars_text};
+use crate::pieces::{path_text, push_line};
 use crate::standings::{Standing, standings_of};
 use rds_dots::DotSet;
-use rds_json::show_text;
+use rds_json::{show_scalars, show_text};
 use rds_names::{Fault, Kind, Path};
 use rds_state::State;
 use rds_tree::view;
@@ -49,6 +49,6 @@ fn conflict_line(alloc: Global, standing: &Standing) -> Result<String, Fault>
 {
     let path = path_text(alloc, standing.path.as_slice())?;
     let path = show_text(alloc, path.as_str())?;
-    let values = scalars_text(alloc, standing.values.as_slice())?;
+    let values = show_scalars(alloc, standing.values.as_slice())?;
     Ok(format!(in alloc; "{{\"path\":{path},\"values\":{values}}}")?)
 }

@@ -1,15 +1,13 @@
 //! What one document shows and another doesn't.
 ghost use Rattle.std.specs.Prelude.{◌≡◌, ◌++◌, ◌∷◌, [], IfErr, IfOk, OnOk, map, string_bytes};
-ghost use Rattle.rds_json.specs.Show.{scalar_data};
 ghost use Rattle.rds_listing.specs.Differences.{kind_word, leaf_lines, only_line, only_second};
 ghost use Rattle.rds_listing.specs.Pieces.{lines_text};
 ghost use Rattle.rds_names.specs.declared.fault.Fault.TheVariants.{Memory};
-ghost use Rattle.serde_json.specs.Written.{compact_text};
 
 use crate::leaves::{Leaf, behind, is_met, split_before};
-use crate::pieces::{path_text, push_line, scalar_value};
-use rds_json::show_text;
-use rds_names::{Fault, Kind, Scalar};
+use crate::pieces::{path_text, push_line};
+use rds_json::{show_scalar, show_text};
+use rds_names::{Fault, Kind};
 use std::alloc::Global;
 
 /// Adds the lines of what one of both has alone.
@@ -65,7 +63,7 @@ fn only_line(alloc: Global, side: &str, leaf: &Leaf) -> Result<String, Fault>
     let path = path_text(alloc, leaf.path.as_slice())?;
     let path = show_text(alloc, path.as_str())?;
     let kind = kind_word(leaf.kind);
-    let value = scalar_text(alloc, &leaf.value)?;
+    let value = show_scalar(alloc, &leaf.value)?;
     Ok(format!(in alloc;
         "{{\"only\":\"{side}\",\"path\":{path},\"kind\":\"{kind}\",\"value\":{value}}}"
     )?)
@@ -78,12 +76,4 @@ fn kind_word(kind: Kind) -> &'static str
         Kind::Reg => "reg",
         Kind::Elem => "set",
     }
-}
-
-fn scalar_text(alloc: Global, scalar: &Scalar) -> Result<String, Fault>
-    ensures text { IfOk result (λ text. string_bytes text ≡ compact_text (scalar_data scalar.now)) }
-    ensures memory { IfErr result (λ fault. fault ≡ Memory) }
-{
-    let value = scalar_value(alloc, scalar)?;
-    Ok(value.to_string(alloc)?)
 }

@@ -1,10 +1,9 @@
 //! Lines, and the JSON that they are made of.
 ghost use Rattle.std.specs.Prelude.{◌≡◌, ◌++◌, ◌∷◌, [], IfErr, IfOk, OnOk, string_bytes};
 ghost use Rattle.std.specs.List.{join_with_byte};
-ghost use Rattle.rds_json.specs.Show.{scalar_data, scalars_data};
+ghost use Rattle.rds_json.specs.Show.{scalar_data};
 ghost use Rattle.rds_names.specs.declared.fault.Fault.TheVariants.{Memory};
 ghost use Rattle.serde_json.specs.View.{view};
-ghost use Rattle.serde_json.specs.Written.{compact_text};
 
 use rds_names::{Fault, Key, Scalar};
 use serde_json::Value;
@@ -48,24 +47,4 @@ pub fn scalar_value(alloc: Global, scalar: &Scalar) -> Result<Value, Fault>
         Scalar::Int(number) => Ok(Value::from(*number)),
         Scalar::Text(text) => Ok(Value::String(String::from_str(alloc, text.as_str())?)),
     }
-}
-
-/// The text of values, as an array of JSON.
-pub fn scalars_text(alloc: Global, scalars: &[Scalar]) -> Result<String, Fault>
-    ensures text { IfOk result (λ text. string_bytes text ≡ compact_text (scalars_data scalars.now)) }
-    ensures memory { IfErr result (λ fault. fault ≡ Memory) }
-{
-    let value = scalars_value(alloc, scalars)?;
-    Ok(value.to_string(alloc)?)
-}
-
-fn scalars_value(alloc: Global, scalars: &[Scalar]) -> Result<Value, Fault>
-    ensures ok { IfOk result (λ v. view v ≡ scalars_data scalars.now) }
-    ensures memory { IfErr result (λ fault. fault ≡ Memory) }
-{
-    let mut items = Vec::new(alloc);
-    for scalar in scalars {
-        items.push(scalar_value(alloc, scalar)?)?;
-    }
-    Ok(Value::Array(items))
 }

@@ -8,9 +8,10 @@ ghost use Rattle.rds_names.specs.declared.fault.Fault.TheVariants.{Memory};
 ghost use Rattle.rds_tree.specs.Shown.{shown_view};
 
 use rds_dots::DotSet;
+use rds_json::values_at;
 use rds_names::{Fault, Key, Kind, Path, Scalar};
 use rds_state::{Command, State};
-use rds_tree::{Values, View, view};
+use rds_tree::{View, view};
 use std::alloc::Global;
 
 /// Whether what an edit says stands there already, so that making it would show nothing new: the register has the
@@ -93,17 +94,4 @@ fn is_among(values: &[Scalar], value: &Scalar) -> bool
         }
     }
     false
-}
-
-// The values under a key.
-fn values_at<'a>(values: &'a Values, key: &Key) -> &'a [Scalar]
-    ensures { result.now ≡ values_at key.now values.now }
-{
-    let rows = values.rows();
-    for row in rows {
-        if row.0 == *key {
-            return row.1.rows();
-        }
-    }
-    &[]
 }
