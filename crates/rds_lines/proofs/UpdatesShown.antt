@@ -24,7 +24,7 @@ use Rattle.rds_world.specs.declared.event.Done.{Done as Outcome}
 use Rattle.rds_world.specs.declared.event.Done.TheVariants as outcomes
 use Rattle.rds_world.proofs.Rosters.{few_names}
 use Rattle.rds_world.proofs.Runs.{accepted_on, run_on}
-use Rattle.rds_world.proofs.Simulated.{documents_throughout, roster_goes_on}
+use Rattle.rds_world.proofs.Simulated.{law_holds, roster_goes_on}
 use Rattle.rds_output.specs.Reply.{is_refusal, reply_line}
 use Rattle.rds_output.specs.declared.reply.Reply.{Reply}
 use Rattle.rds_output.specs.declared.reply.Reply.TheVariants.{Done}
@@ -187,7 +187,7 @@ module _ (roster : RosterValue) (few : length roster.names ≤ 256) where
       → ShowsView Compact state path answer → ShowsHeld es number path answer
   held_shown es g at number path answer state memory shown =
       let here : (world_after roster.names es).memory number ≡ coordinates state = ap (λ (w : World). w.memory number) (sym at.world) ∙ sym memory in
-      let updates = documents_throughout roster.names es es [] (sym (append-nil es)) at.accepted few InMemory number in
+      let updates = (law_holds roster.names es at.accepted).documents few InMemory number in
       record {
         state = state;
         updates = subst (λ (a : Coordinates). ShowsUpdates (held_after es).update (held_after es).size ((held_after es).memory number) a) here updates;

@@ -7,7 +7,7 @@ use Rattle.rds_world.specs.declared.event.Event.{Event}
 use Rattle.rds_world.specs.declared.event.Event.TheVariants.{Edit, Save, Crash, Ask, Answer, Take, Grow}
 use Rattle.rds_world.specs.World.{World, Question, Reply, start, reply, after_answer, after_take, after, run, Accepted}
 use Rattle.rds_world.specs.Coherent.{IsCoherent}
-use Rattle.rds_world.specs.Law.{world_after, BringsWhatWasKept, EachAnswerBringsWhatWasKept}
+use Rattle.rds_world.specs.Law.{world_after, BringsWhatWasKept}
 use Rattle.rds_delta.proofs.LeastLaws.{grown_delta, least_delta}
 use Rattle.rds_world.proofs.Coherent.{kept_grows, event_coherent, coherent_start, run_coherent}
 use Rattle.rds_world.proofs.Runs.{run_on, accepted_on}
@@ -75,7 +75,8 @@ answer_brings w i es s k q e a agree =
       least = λ c h p. least_delta (w.kept s) q.state c p;
     }
 
-pub each_answer_brings : (n : List (List ℕ)) (es : List Event) → Accepted es (start n) → EachAnswerBringsWhatWasKept n es
+pub each_answer_brings : (n : List (List ℕ)) (es : List Event) → Accepted es (start n) → (before later : List Event) (s k : ℕ) (q : Question) → es ≡ before ++ Answer s k ∷ later
+    → slice_get (world_after n before).asks k ≡ Some q → BringsWhatWasKept (world_after n before) (world_after n es) s k q
 each_answer_brings n es a before later s k q is e =
     let whole : Accepted (before ++ Answer s k ∷ later) (start n) = subst (λ fs. Accepted fs (start n)) is a in
     let both = (accepted_on before (Answer s k ∷ later) (start n)).0 whole in

@@ -1,4 +1,4 @@
--- The law over all lists of events, as the statements that contracts name.
+-- The law over all lists of events.
 use Rattle.std.specs.Prelude.{◌≡◌, ℕ, ◌≤◌, Bool, true, is_some, length, List, ◌∷◌, ◌++◌, Some, slice_get}
 use Rattle.rds_dots.specs.declared.dot.Dot.{Dot}
 use Rattle.rds_state.specs.Coordinates.{Coordinates, AtMost, AreCompatible, join}
@@ -30,37 +30,6 @@ abbrev pub held_in : Holdings → Store → ℕ → ℕ → Bool
 held_in h Memory r = h.memory r
 held_in h Kept r = h.kept r
 
-abbrev pub IsCoherentAfter : List (List ℕ) → List Event → Type 0
-IsCoherentAfter ns es = IsCoherent (world_after ns es)
-
--- every state of one replica and every state of another are friends
-abbrev pub AreFriendsAfter : List (List ℕ) → List Event → Type 0
-AreFriendsAfter ns es = ReplicasAreFriends (world_after ns es)
-
--- each replica's roster begins the world's and names all replicas that the state beside it speaks of
-abbrev pub HasRostersAfter : List (List ℕ) → List Event → Type 0
-HasRostersAfter ns es = HasRosters (world_after ns es)
-
--- each state is the join of the effects of the updates that it holds
-abbrev pub EachIsTheJoin : List (List ℕ) → List Event → Type 0
-EachIsTheJoin ns es = (x : Store) (r : ℕ) → IsJoinOf (effects_after ns es) (held_in (held_after es) x r) (state_in (world_after ns es) x r)
-
--- each seen dot is that of one update held, and dead exactly where an update held that held that one covers its entry
-abbrev pub EachDotIsExplained : List (List ℕ) → List Event → Type 0
-EachDotIsExplained ns es = (x : Store) (r : ℕ) (d : Dot) → is_some ((state_in (world_after ns es) x r).life d) ≡ true
-    → IsExplained (held_after es).update (bases_after ns es) (held_in (held_after es) x r) (state_in (world_after ns es) x r) d
-
--- each document is that of the updates held; a roster names at most 256 replicas
-abbrev pub EachShowsItsUpdates : List (List ℕ) → List Event → Type 0
-EachShowsItsUpdates ns es = length ns ≤ 256 → (x : Store) (r : ℕ) → ShowsUpdates (held_after es).update (held_after es).size (held_in (held_after es) x r) (state_in (world_after ns es) x r)
-
--- states that hold the same updates are equal
-abbrev pub SameUpdatesSameState : List (List ℕ) → List Event → Type 0
-SameUpdatesSameState ns es = (x y : Store) (r s : ℕ) → ((u : ℕ) → held_in (held_after es) x r u ≡ held_in (held_after es) y s u)
-    → state_in (world_after ns es) x r ≡ state_in (world_after ns es) y s
-
--- ---- answers
-
 -- An answer of s to ask k has its number for good. The asker's memory, at any later moment, has a join with what s had kept,
 -- and that is its join with the delta, which lies below every state with this effect on the asked state.
 pub record BringsWhatWasKept (w later : World) (s k : ℕ) (q : Question) : Type 0 where
@@ -69,6 +38,24 @@ pub record BringsWhatWasKept (w later : World) (s k : ℕ) (q : Question) : Type
   pub effect : join (later.memory q.asker) (reply w s k q).state ≡ join (later.memory q.asker) (w.kept s)
   pub least : (c : Coordinates) → AreCompatible q.state c → join q.state c ≡ join q.state (w.kept s) → AtMost (reply w s k q).state c
 
-abbrev pub EachAnswerBringsWhatWasKept : List (List ℕ) → List Event → Type 0
-EachAnswerBringsWhatWasKept ns es = (before later : List Event) (s k : ℕ) (q : Question) → es ≡ before ++ Answer s k ∷ later
-    → slice_get (world_after ns before).asks k ≡ Some q → BringsWhatWasKept (world_after ns before) (world_after ns es) s k q
+-- what holds after the events, of a group that began with these names
+pub record Law (ns : List (List ℕ)) (es : List Event) : Type 0 where
+  -- what every event keeps of the states, and of the rosters beside them
+  pub coherent : IsCoherent (world_after ns es)
+  pub rosters : HasRosters (world_after ns es)
+  -- every state of one replica and every state of another are friends
+  pub friends : ReplicasAreFriends (world_after ns es)
+  -- each state is the join of the effects of the updates that it holds
+  pub joins : (x : Store) (r : ℕ) → IsJoinOf (effects_after ns es) (held_in (held_after es) x r) (state_in (world_after ns es) x r)
+  -- each seen dot is that of one update held, and dead exactly where an update held that held that one covers its entry
+  pub dots : (x : Store) (r : ℕ) (d : Dot) → is_some ((state_in (world_after ns es) x r).life d) ≡ true
+      → IsExplained (held_after es).update (bases_after ns es) (held_in (held_after es) x r) (state_in (world_after ns es) x r) d
+  -- each document is that of the updates held; a roster names at most 256 replicas
+  pub documents : length ns ≤ 256 → (x : Store) (r : ℕ)
+      → ShowsUpdates (held_after es).update (held_after es).size (held_in (held_after es) x r) (state_in (world_after ns es) x r)
+  -- states that hold the same updates are equal
+  pub same : (x y : Store) (r s : ℕ) → ((u : ℕ) → held_in (held_after es) x r u ≡ held_in (held_after es) y s u)
+      → state_in (world_after ns es) x r ≡ state_in (world_after ns es) y s
+  -- each answer brings what its maker had kept
+  pub answers : (before later : List Event) (s k : ℕ) (q : Question) → es ≡ before ++ Answer s k ∷ later
+      → slice_get (world_after ns before).asks k ≡ Some q → BringsWhatWasKept (world_after ns before) (world_after ns es) s k q
