@@ -5,8 +5,8 @@
 mod event;
 mod laws;
 mod messages;
+mod replicas;
 mod simulating;
-mod stepping;
 mod texts;
 mod world;
 
