@@ -1,5 +1,5 @@
 -- What the law says of the states of the model's world holds of the replicas that stand for them.
-use Rattle.std.proofs.Common.{◌≡◌, ℕ, ◌<◌, ◌≤◌, ◌∙◌, true, Ok, Err, List, [], length, Some, None, refl, sym, ap, subst}
+use Rattle.std.proofs.Common.{◌≡◌, ℕ, ◌<◌, ◌≤◌, ◌∙◌, true, Ok, Err, List, [], length, map, Some, None, refl, sym, ap, subst}
 use Rattle.std.proofs.Common.{inl, inr, slice_get}
 use Rattle.std.specs.Prelude.{is_some}
 use Rattle.rds_names.specs.Roster.{RosterValue}
@@ -10,7 +10,7 @@ use Rattle.rds_state.specs.Value.{coordinates}
 use Rattle.rds_state.proofs.JoinLaws.{same_value}
 use Rattle.rds_codec.specs.AnswerTexts.{answer, answer_text}
 use Rattle.rds_world.specs.declared.event.Event.{Event}
-use Rattle.rds_world.specs.World.{World, reply}
+use Rattle.rds_world.specs.World.{World, Happening, Of, lend, reply}
 use Rattle.rds_world.specs.Coherent.{IsCoherent, Position, AtMemory, AtKept, Store, Memory, Kept, state_at, state_in}
 use Rattle.rds_world.specs.Law.{Law, world_after, held_after, held_in, bases_after, effects_after}
 use Rattle.rds_world.specs.Reached.{AnswersBringTheirAskers, OfAnswered, ReplicasAreCoherent, ReplicasAreJoins}
@@ -34,43 +34,46 @@ unfolding position_of
 at_position w Memory r = refl
 at_position w Kept r = refl
 
-module _ (roster : RosterValue) (es : List Event) (v : WorldValue) (r : Reaches roster es v) where
+module _ (roster : RosterValue) (events : List Event) (v : WorldValue) (r : Reaches roster events v) where
+  abbrev es : List Happening
+  es = map Of events
+
   abbrev w : World
   w = world_after roster.names es
 
   abbrev its : Law roster.names es
-  its = obeyed roster es v r
+  its = obeyed roster events v r
 
   abbrev coherent : IsCoherent w
   coherent = its.coherent
 
   pub joins_here : ReplicasAreJoins roster.names es v
-  joins_here x k m at = of_stored roster es v r (IsJoinOf (effects_after roster.names es) (held_in (held_after es) x k)) x k m at (its.joins x k)
+  joins_here x k m at = of_stored roster events v r (IsJoinOf (effects_after roster.names es) (held_in (held_after es) x k)) x k m at (its.joins x k)
 
   pub documents_here : length roster.names ≤ 256 → ReplicasShowTheirUpdates roster.names es v
-  documents_here few x k m at = of_stored roster es v r (ShowsUpdates (held_after es).update (held_after es).size (held_in (held_after es) x k)) x k m at (its.documents few x k)
+  documents_here few x k m at = of_stored roster events v r (ShowsUpdates (held_after es).update (held_after es).size (held_in (held_after es) x k)) x k m at (its.documents few x k)
 
   pub same_here : SameUpdatesSameReplicas roster.names es v
-  same_here x y k j a b at_a at_b held = same_value a.state b.state (sym (stored roster es v r x k a at_a) ∙ its.same x y k j held ∙ stored roster es v r y j b at_b)
+  same_here x y k j a b at_a at_b held = same_value a.state b.state (sym (stored roster events v r x k a at_a) ∙ its.same x y k j held ∙ stored roster events v r y j b at_b)
 
   pub dots_here : ReplicasExplainTheirDots roster.names es v
   dots_here x k m d at seen =
-      let there = subst (λ (a : Coordinates). is_some (a.life d) ≡ true) (sym (stored roster es v r x k m at)) seen in
-      of_stored roster es v r (λ a. IsExplained (held_after es).update (bases_after roster.names es) (held_in (held_after es) x k) a d) x k m at (its.dots x k d there)
+      let there = subst (λ (a : Coordinates). is_some (a.life d) ≡ true) (sym (stored roster events v r x k m at)) seen in
+      of_stored roster events v r (λ a. IsExplained (held_after es).update (bases_after roster.names es) (held_in (held_after es) x k) a d) x k m at (its.dots x k d there)
 
   coherent_here : ReplicasAreCoherent v
   coherent_here = record {
     compatible = λ x y k j a b at_a at_b.
         let both = coherent.compatible (position_of x k) (position_of y j) (state_in w x k) (state_in w y j) (at_position w x k) (at_position w y j) in
-        of_stored roster es v r (λ c. AreCompatible c (coordinates b.state)) x k a at_a (of_stored roster es v r (AreCompatible (state_in w x k)) y j b at_b both);
-    kept_below = λ k m n at_m at_n. of_stored roster es v r (λ c. AtMost c (coordinates m.state)) Kept k n at_n (of_stored roster es v r (AtMost (w.kept k)) Memory k m at_m (coherent.kept_below k));
+        of_stored roster events v r (λ c. AreCompatible c (coordinates b.state)) x k a at_a (of_stored roster events v r (AreCompatible (state_in w x k)) y j b at_b both);
+    kept_below = λ k m n at_m at_n. of_stored roster events v r (λ c. AtMost c (coordinates m.state)) Kept k n at_n (of_stored roster events v r (AtMost (w.kept k)) Memory k m at_m (coherent.kept_below k));
     known = λ x k j a n apart at_a at_n.
-        of_stored roster es v r (λ c. KnowsItsOwn j c (coordinates a.state)) Kept j n at_n (of_stored roster es v r (KnowsItsOwn j (w.kept j)) x k a at_a (kept_known w coherent x k j apart));
+        of_stored roster events v r (λ c. KnowsItsOwn j c (coordinates a.state)) Kept j n at_n (of_stored roster events v r (KnowsItsOwn j (w.kept j)) x k a at_a (kept_known w coherent x k j apart));
   }
 
   friends_here : ReplicasStayFriends v
   friends_here x y k j a b apart at_a at_b =
-      of_stored roster es v r (λ c. AreFriends k c j (coordinates b.state)) x k a at_a (of_stored roster es v r (AreFriends k (state_in w x k) j) y j b at_b (its.friends x y k j apart))
+      of_stored roster events v r (λ c. AreFriends k c j (coordinates b.state)) x k a at_a (of_stored roster events v r (AreFriends k (state_in w x k) j) y j b at_b (its.friends x y k j apart))
 
   pub answers_here : AnswersBringTheirAskers roster.names es v
   answers_here before later s k q is e =

@@ -2,27 +2,27 @@
 use Rattle.std.specs.Prelude.{◌≡◌, ℕ, ◌≤◌, Bool, true, is_some, length, List, ◌∷◌, ◌++◌, Some, slice_get}
 use Rattle.rds_dots.specs.declared.dot.Dot.{Dot}
 use Rattle.rds_state.specs.Coordinates.{Coordinates, AtMost, AreCompatible, join}
-use Rattle.rds_world.specs.declared.event.Event.{Event}
 use Rattle.rds_world.specs.declared.event.Event.TheVariants.{Answer}
-use Rattle.rds_world.specs.World.{World, Question, empty, start, reply, run, Accepted}
+use Rattle.rds_world.specs.World.{World, Happening, Of, AnswerLent, Question, empty, start, lend, reply_from, run}
+use Rattle.rds_world.specs.World.{Accepted}
 use Rattle.rds_world.specs.Held.{Holdings, nothing_held, holdings_after}
 use Rattle.rds_world.specs.Coherent.{Store, Memory, Kept, state_in, HasRosters, IsCoherent, ReplicasAreFriends}
 use Rattle.rds_world.specs.Updates.{bases, effect_of, IsJoinOf, IsExplained, ShowsUpdates}
 
--- what is said of these first names and of events none of which was refused
-abbrev pub Afterwards : (List (List ℕ) → List Event → Type 0) → Type 0
-Afterwards P = (ns : List (List ℕ)) (es : List Event) → Accepted es (start ns) → P ns es
+-- what is said of these first names and of what happens where nothing is refused
+abbrev pub Afterwards : (List (List ℕ) → List Happening → Type 0) → Type 0
+Afterwards P = (ns : List (List ℕ)) (es : List Happening) → Accepted es (start ns) → P ns es
 
-abbrev pub world_after : List (List ℕ) → List Event → World
+abbrev pub world_after : List (List ℕ) → List Happening → World
 world_after ns es = run es (start ns)
 
-abbrev pub held_after : List Event → Holdings
+abbrev pub held_after : List Happening → Holdings
 held_after es = holdings_after es nothing_held
 
-abbrev pub bases_after : List (List ℕ) → List Event → ℕ → Coordinates
+abbrev pub bases_after : List (List ℕ) → List Happening → ℕ → Coordinates
 bases_after ns es = bases es (λ u. empty) nothing_held (start ns)
 
-abbrev pub effects_after : List (List ℕ) → List Event → ℕ → Coordinates
+abbrev pub effects_after : List (List ℕ) → List Happening → ℕ → Coordinates
 effects_after ns es = effect_of (held_after es).update (bases_after ns es)
 
 -- which updates a replica's memory holds, or what it has kept
@@ -30,16 +30,16 @@ abbrev pub held_in : Holdings → Store → ℕ → ℕ → Bool
 held_in h Memory r = h.memory r
 held_in h Kept r = h.kept r
 
--- An answer of s to ask k has its number for good. The asker's memory, at any later moment, has a join with what s had kept,
--- and that is its join with the delta, which lies below every state with this effect on the asked state.
-pub record BringsWhatWasKept (w later : World) (s k : ℕ) (q : Question) : Type 0 where
-  pub stands : slice_get later.answers (length w.answers) ≡ Some (reply w s k q)
-  pub compatible : AreCompatible (later.memory q.asker) (w.kept s)
-  pub effect : join (later.memory q.asker) (reply w s k q).state ≡ join (later.memory q.asker) (w.kept s)
-  pub least : (c : Coordinates) → AreCompatible q.state c → join q.state c ≡ join q.state (w.kept s) → AtMost (reply w s k q).state c
+-- An answer, of what was lent, to ask k has its number for good. The asker's memory, at any later moment, has a join with what
+-- was lent, and that is its join with the delta, which lies below every state with this effect on the asked state.
+pub record BringsWhatWasKept (later : World) (number : ℕ) (lent : Question) (k : ℕ) (q : Question) : Type 0 where
+  pub stands : slice_get later.answers number ≡ Some (reply_from lent k q)
+  pub compatible : AreCompatible (later.memory q.asker) lent.state
+  pub effect : join (later.memory q.asker) (reply_from lent k q).state ≡ join (later.memory q.asker) lent.state
+  pub least : (c : Coordinates) → AreCompatible q.state c → join q.state c ≡ join q.state lent.state → AtMost (reply_from lent k q).state c
 
--- what holds after the events, of a group that began with these names
-pub record Law (ns : List (List ℕ)) (es : List Event) : Type 0 where
+-- what holds after this has happened to a group that began with these names
+pub record Law (ns : List (List ℕ)) (es : List Happening) : Type 0 where
   -- what every event keeps of the states, and of the rosters beside them
   pub coherent : IsCoherent (world_after ns es)
   pub rosters : HasRosters (world_after ns es)
@@ -56,6 +56,10 @@ pub record Law (ns : List (List ℕ)) (es : List Event) : Type 0 where
   -- states that hold the same updates are equal
   pub same : (x y : Store) (r s : ℕ) → ((u : ℕ) → held_in (held_after es) x r u ≡ held_in (held_after es) y s u)
       → state_in (world_after ns es) x r ≡ state_in (world_after ns es) y s
-  -- each answer brings what its maker had kept
-  pub answers : (before later : List Event) (s k : ℕ) (q : Question) → es ≡ before ++ Answer s k ∷ later
-      → slice_get (world_after ns before).asks k ≡ Some q → BringsWhatWasKept (world_after ns before) (world_after ns es) s k q
+  -- each answer brings what its maker had kept, just before it or when it asked
+  pub answers : (before later : List Happening) (s k : ℕ) (q : Question) → es ≡ before ++ Of (Answer s k) ∷ later
+      → slice_get (world_after ns before).asks k ≡ Some q
+      → BringsWhatWasKept (world_after ns es) (length (world_after ns before).answers) (lend (world_after ns before) s) k q
+  pub lent : (before later : List Happening) (j k : ℕ) (p q : Question) → es ≡ before ++ AnswerLent j k ∷ later
+      → slice_get (world_after ns before).asks j ≡ Some p → slice_get (world_after ns before).asks k ≡ Some q
+      → BringsWhatWasKept (world_after ns es) (length (world_after ns before).answers) p k q

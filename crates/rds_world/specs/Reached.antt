@@ -1,5 +1,5 @@
 -- The law, as it is of the replicas that a list of events leaves.
-use Rattle.std.specs.Prelude.{◌≡◌, ◌≢◌, ◌≤◌, ℕ, true, is_some, length, List, ◌∷◌, ◌++◌, Some, slice_get}
+use Rattle.std.specs.Prelude.{◌≡◌, ◌≢◌, ◌≤◌, ℕ, true, is_some, length, List, ◌∷◌, ◌++◌, Some, map, slice_get}
 use Rattle.std.specs.Prelude.{Result, IfOk, IfErr, MatchResult}
 use Rattle.rds_dots.specs.declared.dot.Dot.{Dot}
 use Rattle.rds_names.specs.declared.fault.Fault.{Fault}
@@ -12,7 +12,7 @@ use Rattle.rds_delta.specs.declared.row.Row.{Row}
 use Rattle.rds_codec.specs.AnswerTexts.{answer, answer_text}
 use Rattle.rds_world.specs.declared.event.Event.{Event}
 use Rattle.rds_world.specs.declared.event.Event.TheVariants.{Answer}
-use Rattle.rds_world.specs.World.{World, Question}
+use Rattle.rds_world.specs.World.{World, Happening, Of, Question}
 use Rattle.rds_world.specs.Stored.{AnswerText, WorldValue}
 use Rattle.rds_world.specs.Coherent.{Store, Memory as InMemory, Kept as AsKept}
 use Rattle.rds_world.specs.Law.{world_after, held_after, held_in, bases_after, effects_after}
@@ -20,8 +20,8 @@ use Rattle.rds_world.specs.Simulation.{Reaches, Stops}
 use Rattle.rds_world.specs.Updates.{IsExplained, IsJoinOf, ShowsUpdates}
 
 -- what is said of each world that was reached; a roster names at most 256 replicas
-abbrev pub OfReached : (List (List ℕ) → List Event → WorldValue → Type 0) → Type 0
-OfReached P = (roster : RosterValue) (es : List Event) (v : WorldValue) → length roster.names ≤ 256 → Reaches roster es v → P roster.names es v
+abbrev pub OfReached : (List (List ℕ) → List Happening → WorldValue → Type 0) → Type 0
+OfReached P = (roster : RosterValue) (es : List Event) (v : WorldValue) → length roster.names ≤ 256 → Reaches roster es v → P roster.names (map Of es) v
 
 -- what is said of each world that is answered, whether all events happened or not
 abbrev pub OfAnswered : (WorldValue → Type 0) → Type 0
@@ -33,16 +33,16 @@ replicas_in v InMemory = v.memory
 replicas_in v AsKept = v.kept
 
 -- each replica's state is the join of the effects of the updates that it holds
-abbrev pub ReplicasAreJoins : List (List ℕ) → List Event → WorldValue → Type 0
+abbrev pub ReplicasAreJoins : List (List ℕ) → List Happening → WorldValue → Type 0
 ReplicasAreJoins ns es v = (x : Store) (r : ℕ) (m : ReplicaValue) → slice_get (replicas_in v x) r ≡ Some m → IsJoinOf (effects_after ns es) (held_in (held_after es) x r) (coordinates m.state)
 
 -- each replica's document is that of the updates that it holds
-abbrev pub ReplicasShowTheirUpdates : List (List ℕ) → List Event → WorldValue → Type 0
+abbrev pub ReplicasShowTheirUpdates : List (List ℕ) → List Happening → WorldValue → Type 0
 ReplicasShowTheirUpdates ns es v = (x : Store) (r : ℕ) (m : ReplicaValue) → slice_get (replicas_in v x) r ≡ Some m
     → ShowsUpdates (held_after es).update (held_after es).size (held_in (held_after es) x r) (coordinates m.state)
 
 -- replicas that hold the same updates have equal states
-abbrev pub SameUpdatesSameReplicas : List (List ℕ) → List Event → WorldValue → Type 0
+abbrev pub SameUpdatesSameReplicas : List (List ℕ) → List Happening → WorldValue → Type 0
 SameUpdatesSameReplicas ns es v = (x y : Store) (r s : ℕ) (a b : ReplicaValue) → slice_get (replicas_in v x) r ≡ Some a → slice_get (replicas_in v y) s ≡ Some b
     → ((u : ℕ) → held_in (held_after es) x r u ≡ held_in (held_after es) y s u) → a.state ≡ b.state
 
@@ -61,7 +61,7 @@ ReplicasStayFriends v = (x y : Store) (r s : ℕ) (a b : ReplicaValue) → r ≢
     → slice_get (replicas_in v y) s ≡ Some b → AreFriends r (coordinates a.state) s (coordinates b.state)
 
 -- each dot that a replica has seen is that of one update that it holds
-abbrev pub ReplicasExplainTheirDots : List (List ℕ) → List Event → WorldValue → Type 0
+abbrev pub ReplicasExplainTheirDots : List (List ℕ) → List Happening → WorldValue → Type 0
 ReplicasExplainTheirDots ns es v = (x : Store) (r : ℕ) (m : ReplicaValue) (d : Dot)
     → slice_get (replicas_in v x) r ≡ Some m → is_some ((coordinates m.state).life d) ≡ true
     → IsExplained (held_after es).update (bases_after ns es) (held_in (held_after es) x r) (coordinates m.state) d
@@ -83,7 +83,7 @@ pub record BringsItsAsker (v : WorldValue) (w : World) (s : ℕ) (q : Question) 
       → AtMost (coordinates delta) c
 
 -- so of each answer among the events
-abbrev pub AnswersBringTheirAskers : List (List ℕ) → List Event → WorldValue → Type 0
-AnswersBringTheirAskers ns es v = (before later : List Event) (s k : ℕ) (q : Question)
-    → es ≡ before ++ Answer s k ∷ later → slice_get (world_after ns before).asks k ≡ Some q
+abbrev pub AnswersBringTheirAskers : List (List ℕ) → List Happening → WorldValue → Type 0
+AnswersBringTheirAskers ns es v = (before later : List Happening) (s k : ℕ) (q : Question)
+    → es ≡ before ++ Of (Answer s k) ∷ later → slice_get (world_after ns before).asks k ≡ Some q
     → BringsItsAsker v (world_after ns before) s q

@@ -1,10 +1,10 @@
 -- How far a list of events goes.
-use Rattle.std.specs.Prelude.{◌≡◌, ◌⊎◌, List, ◌∷◌, ◌++◌, []}
+use Rattle.std.specs.Prelude.{◌≡◌, ◌⊎◌, List, ◌∷◌, ◌++◌, [], map}
 use Rattle.rds_names.specs.declared.fault.Fault.{Fault}
 use Rattle.rds_names.specs.declared.fault.Fault.TheVariants.{Memory}
 use Rattle.rds_names.specs.Roster.{RosterValue}
 use Rattle.rds_world.specs.declared.event.Event.{Event}
-use Rattle.rds_world.specs.World.{World, after, start}
+use Rattle.rds_world.specs.World.{World, Of, after, start}
 use Rattle.rds_world.specs.Stored.{WorldValue}
 use Rattle.rds_world.specs.Stands.{Stands}
 use Rattle.rds_world.specs.Events.{IsAccepted, Refuses}
@@ -29,8 +29,8 @@ AllHappen roster (e ∷ es) w = Happens roster w e × AllHappen roster es (after
 -- all events happened, and the world stands for the model's after them
 pub record Reaches (roster : RosterValue) (es : List Event) (v : WorldValue) : Type 0 where
   pub happened : AllHappen roster es (start roster.names)
-  pub stands : Stands v (world_after roster.names es)
-  pub of_roster : v.roster ≡ roster_in roster (world_after roster.names es)
+  pub stands : Stands v (world_after roster.names (map Of es))
+  pub of_roster : v.roster ≡ roster_in roster (world_after roster.names (map Of es))
 
 -- the world was reached before an event that is refused so
 pub record StopsAt (roster : RosterValue) (es : List Event) (v : WorldValue) (fault : Fault) : Type 0 where
@@ -39,7 +39,7 @@ pub record StopsAt (roster : RosterValue) (es : List Event) (v : WorldValue) (fa
   pub later : List Event
   pub whole : es ≡ before ++ last ∷ later
   pub reached : Reaches roster before v
-  pub refused : Refuses v (world_after roster.names before) last fault
+  pub refused : Refuses v (world_after roster.names (map Of before)) last fault
 
 -- there was no memory for the replicas
 pub record HasNoReplicas (v : WorldValue) (fault : Fault) : Type 0 where

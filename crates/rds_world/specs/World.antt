@@ -13,7 +13,12 @@ use Rattle.rds_delta.specs.Least.{least}
 use Rattle.rds_world.specs.declared.event.Event.{Event}
 use Rattle.rds_world.specs.declared.event.Event.TheVariants.{Edit, Save, Crash, Ask, Answer, Take, Grow}
 
--- an ask: who asked, how many names it had kept, and what state
+-- what happens: an event of code; or who made ask j answers ask k, as AnswerLent j k
+pub data Happening : Type 0 where
+  Of : Event → Happening
+  AnswerLent : ℕ → ℕ → Happening
+
+-- an ask: who asked, how many names it had kept, and what state; it lends that state to later answers
 pub record Question : Type 0 where
   pub asker : ℕ
   pub names : ℕ
@@ -54,13 +59,27 @@ put f r x s = cond (s == r) x (f s)
 abbrev pub after_edit : Coordinates → ℕ → Command → Coordinates
 after_edit a own c = join a (effect a own c (entry_made c))
 
--- what a replica has kept, as the least delta for who asked
+-- what a replica has kept, as it asks
+abbrev pub lend : World → ℕ → Question
+lend w r = record { asker = r; names = w.kept_names r; state = w.kept r }
+
+-- what was lent, as the least delta for who asked
+abbrev pub reply_from : Question → ℕ → Question → Reply
+reply_from lent k q = record { question = k; asker = q.asker; maker = lent.asker; names = lent.names; state = least lent.state (ranks q.state) }
+
 abbrev pub reply : World → ℕ → ℕ → Question → Reply
-reply w s k q = record { question = k; asker = q.asker; maker = s; names = w.kept_names s; state = least (w.kept s) (ranks q.state) }
+reply w s = reply_from (lend w s)
+
+abbrev pub after_reply : World → Question → ℕ → Option Question → World
+after_reply w lent k None = w
+after_reply w lent k (Some q) = record w { answers = w.answers ++ reply_from lent k q ∷ [] }
 
 abbrev pub after_answer : World → ℕ → ℕ → Option Question → World
-after_answer w s k None = w
-after_answer w s k (Some q) = record w { answers = w.answers ++ reply w s k q ∷ [] }
+after_answer w s = after_reply w (lend w s)
+
+abbrev pub after_lent : World → Option Question → ℕ → World
+after_lent w None k = w
+after_lent w (Some lent) k = after_reply w lent k (slice_get w.asks k)
 
 abbrev pub after_take : World → Option Reply → World
 after_take w None = w
@@ -75,7 +94,7 @@ abbrev pub after : World → Event → World
 after w (Edit r c) = record w { memory = put w.memory r (after_edit (w.memory r) r c) }
 after w (Save r) = record w { kept = put w.kept r (w.memory r); kept_names = put w.kept_names r (w.memory_names r) }
 after w (Crash r) = record w { memory = put w.memory r (w.kept r); memory_names = put w.memory_names r (w.kept_names r) }
-after w (Ask r) = record w { asks = w.asks ++ record { asker = r; names = w.kept_names r; state = w.kept r } ∷ [] }
+after w (Ask r) = record w { asks = w.asks ++ lend w r ∷ [] }
 after w (Answer s k) = after_answer w s k (slice_get w.asks k)
 after w (Take k) = after_take w (slice_get w.answers k)
 -- the new replica has the next number, and has kept the new roster
@@ -100,11 +119,20 @@ refusal_of w (Answer s k) = unless_there (nat_lt s w.replicas) (unless_there (is
 refusal_of w (Take k) = unless_there (is_some (slice_get w.answers k)) None
 refusal_of w (Grow r name) = unless_there (nat_lt r w.replicas) (cond (w.memory_names r == w.replicas) (cond (are_names (w.roster ++ name ∷ [])) None (Some BadRoster)) (Some WrongRoster))
 
-abbrev pub run : List Event → World → World
-run [] w = w
-run (e ∷ es) w = run es (after w e)
+-- the same of whatever happens
+abbrev pub next : World → Happening → World
+next w (Of e) = after w e
+next w (AnswerLent j k) = after_lent w (slice_get w.asks j) k
 
--- no event of the list is refused
-abbrev pub Accepted : List Event → World → Type 0
+abbrev pub hindrance : World → Happening → Option Fault
+hindrance w (Of e) = refusal_of w e
+hindrance w (AnswerLent j k) = unless_there (is_some (slice_get w.asks j)) (unless_there (is_some (slice_get w.asks k)) None)
+
+abbrev pub run : List Happening → World → World
+run [] w = w
+run (e ∷ es) w = run es (next w e)
+
+-- nothing of the list is refused
+abbrev pub Accepted : List Happening → World → Type 0
 Accepted [] w = Unit {0}
-Accepted (e ∷ es) w = (refusal_of w e ≡ None) × Accepted es (after w e)
+Accepted (e ∷ es) w = (hindrance w e ≡ None) × Accepted es (next w e)

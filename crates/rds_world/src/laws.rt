@@ -28,8 +28,7 @@ ghost use Rattle.rds_world.specs.Reached.{
 };
 ghost use Rattle.rds_world.specs.Stands.{WorldsHaveOneValue};
 ghost use Rattle.rds_world.specs.Steps.{StepsHaveOneResult};
-ghost use Rattle.rds_world.specs.World.{World, start, run, Accepted};
-ghost use Rattle.rds_world.specs.declared.event.Event.{Event};
+ghost use Rattle.rds_world.specs.World.{World, Happening, start, run, Accepted};
 
 /// In a coherent world every two states are compatible, whether in memory, kept, asked from or answered; what is kept
 /// lies below memory, and what was sent below what its sender has kept; and what others have of a replica, it has kept.
@@ -96,8 +95,8 @@ pub fn replicas_obey_the_law()
 /// A run of two lists is the run of the first, and then of the second; so each beginning of an accepted list is
 /// accepted. The function does nothing: its contract is these laws.
 pub fn runs_go_on()
-    ensures run { (es fs : List Event) (w : World) → run (es ++ fs) w ≡ run fs (run es w) }
-    ensures accepted { (es fs : List Event) (w : World) → Accepted (es ++ fs) w
+    ensures run { (es fs : List Happening) (w : World) → run (es ++ fs) w ≡ run fs (run es w) }
+    ensures accepted { (es fs : List Happening) (w : World) → Accepted (es ++ fs) w
         ↔ (Accepted es w × Accepted fs (run es w)) }
 {}
 
