@@ -70,13 +70,13 @@ AsksStay = (w : World) (events : List Happening) (number : ℕ) (asked : Replica
     → IsAskedIn (run events w) number asked
 
 abbrev pub AnswersStay : Type 0
-AnswersStay = (w : World) (events : List Happening) (number : ℕ) (asked peer : ReplicaValue) → IsAnsweredIn w number asked peer
-    → IsAnsweredIn (run events w) number asked peer
+AnswersStay = (w : World) (events : List Happening) (number : ℕ) (asked peer : ReplicaValue)
+    → IsAnsweredIn w number asked peer → IsAnsweredIn (run events w) number asked peer
 
 -- what the one then answers the other, whatever happened to their files since
 abbrev pub SessionsAreAnswered : Type 0
-SessionsAreAnswered = (w : World) (number lent : ℕ) (asked peer : ReplicaValue) → IsAskedIn w number asked → IsAskedIn w lent peer
-    → Accepted (answering_events lent number) w
+SessionsAreAnswered = (w : World) (number lent : ℕ) (asked peer : ReplicaValue) → IsAskedIn w number asked
+    → IsAskedIn w lent peer → Accepted (answering_events lent number) w
     × IsAnsweredIn (run (answering_events lent number) w) (length w.answers) asked peer
 
 -- what becomes of what it received, whatever happened since: the file takes the answer

@@ -15,18 +15,19 @@ use Rattle.rds_world.specs.declared.event.Event.TheVariants.{Answer}
 use Rattle.rds_world.specs.World.{World, Happening, Of, Question}
 use Rattle.rds_world.specs.Stored.{AnswerText, WorldValue}
 use Rattle.rds_world.specs.Coherent.{Store, Memory as InMemory, Kept as AsKept}
-use Rattle.rds_world.specs.Law.{world_after, held_after, held_in, bases_after, effects_after}
+use Rattle.rds_world.specs.Law.{world_after, held_after, held_at, bases_after, effects_after}
 use Rattle.rds_world.specs.Simulation.{Reaches, Stops}
 use Rattle.rds_world.specs.Updates.{IsExplained, IsJoinOf, ShowsUpdates}
 
 -- what is said of each world that was reached; a roster names at most 256 replicas
 abbrev pub OfReached : (List (List ℕ) → List Happening → WorldValue → Type 0) → Type 0
-OfReached P = (roster : RosterValue) (es : List Event) (v : WorldValue) → length roster.names ≤ 256 → Reaches roster es v → P roster.names (map Of es) v
+OfReached P = (roster : RosterValue) (es : List Event) (v : WorldValue) → length roster.names ≤ 256 → Reaches roster es v
+    → P roster.names (map Of es) v
 
 -- what is said of each world that is answered, whether all events happened or not
 abbrev pub OfAnswered : (WorldValue → Type 0) → Type 0
-OfAnswered P = (roster : RosterValue) (es : List Event) (result : Result WorldValue (WorldValue × Fault)) → IfOk result (λ v. Reaches roster es v)
-    → IfErr result (λ e. Stops roster es e.0 e.1) → MatchResult result P (λ e. P e.0)
+OfAnswered P = (roster : RosterValue) (es : List Event) (result : Result WorldValue (WorldValue × Fault))
+    → IfOk result (λ v. Reaches roster es v) → IfErr result (λ e. Stops roster es e.0 e.1) → MatchResult result P (λ e. P e.0)
 
 abbrev pub replicas_in : WorldValue → Store → List ReplicaValue
 replicas_in v InMemory = v.memory
@@ -34,17 +35,18 @@ replicas_in v AsKept = v.kept
 
 -- each replica's state is the join of the effects of the updates that it holds
 abbrev pub ReplicasAreJoins : List (List ℕ) → List Happening → WorldValue → Type 0
-ReplicasAreJoins ns es v = (x : Store) (r : ℕ) (m : ReplicaValue) → slice_get (replicas_in v x) r ≡ Some m → IsJoinOf (effects_after ns es) (held_in (held_after es) x r) (coordinates m.state)
+ReplicasAreJoins ns es v = (x : Store) (r : ℕ) (m : ReplicaValue) → slice_get (replicas_in v x) r ≡ Some m
+    → IsJoinOf (effects_after ns es) (held_at es x r) (coordinates m.state)
 
 -- each replica's document is that of the updates that it holds
 abbrev pub ReplicasShowTheirUpdates : List (List ℕ) → List Happening → WorldValue → Type 0
 ReplicasShowTheirUpdates ns es v = (x : Store) (r : ℕ) (m : ReplicaValue) → slice_get (replicas_in v x) r ≡ Some m
-    → ShowsUpdates (held_after es).update (held_after es).size (held_in (held_after es) x r) (coordinates m.state)
+    → ShowsUpdates (held_after es).update (held_after es).size (held_at es x r) (coordinates m.state)
 
 -- replicas that hold the same updates have equal states
 abbrev pub SameUpdatesSameReplicas : List (List ℕ) → List Happening → WorldValue → Type 0
-SameUpdatesSameReplicas ns es v = (x y : Store) (r s : ℕ) (a b : ReplicaValue) → slice_get (replicas_in v x) r ≡ Some a → slice_get (replicas_in v y) s ≡ Some b
-    → ((u : ℕ) → held_in (held_after es) x r u ≡ held_in (held_after es) y s u) → a.state ≡ b.state
+SameUpdatesSameReplicas ns es v = (x y : Store) (r s : ℕ) (a b : ReplicaValue) → slice_get (replicas_in v x) r ≡ Some a
+    → slice_get (replicas_in v y) s ≡ Some b → ((u : ℕ) → held_at es x r u ≡ held_at es y s u) → a.state ≡ b.state
 
 -- every two states are compatible, what is kept lies below memory, and what others have of a replica, it has kept
 pub record ReplicasAreCoherent (v : WorldValue) : Type 0 where
@@ -64,7 +66,7 @@ ReplicasStayFriends v = (x y : Store) (r s : ℕ) (a b : ReplicaValue) → r ≢
 abbrev pub ReplicasExplainTheirDots : List (List ℕ) → List Happening → WorldValue → Type 0
 ReplicasExplainTheirDots ns es v = (x : Store) (r : ℕ) (m : ReplicaValue) (d : Dot)
     → slice_get (replicas_in v x) r ≡ Some m → is_some ((coordinates m.state).life d) ≡ true
-    → IsExplained (held_after es).update (bases_after ns es) (held_in (held_after es) x r) (coordinates m.state) d
+    → IsExplained (held_after es).update (bases_after ns es) (held_at es x r) (coordinates m.state) d
 
 -- The bytes of the answer that s made in a world are the text of a delta. What the asker has in memory has a join with
 -- what s had kept, and that is its join with the delta, which lies below every state with this effect on the asked

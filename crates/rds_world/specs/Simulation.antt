@@ -14,7 +14,7 @@ use Rattle.rds_world.specs.Law.{world_after}
 abbrev pub roster_in : RosterValue → World → RosterValue
 roster_in roster w = record roster { names = w.roster }
 
--- what stands for the model's world, of a group that began with this roster, accepts the event: nothing that it makes is too long
+-- what stands for the model's world, of a group that began with this roster, accepts the event: it makes nothing too long
 pub record Happens (roster : RosterValue) (w : World) (e : Event) : Type 0 where
   pub value : WorldValue
   pub of_roster : value.roster ≡ roster_in roster w

@@ -13,12 +13,12 @@ use Rattle.rds_delta.specs.Least.{least}
 use Rattle.rds_world.specs.declared.event.Event.{Event}
 use Rattle.rds_world.specs.declared.event.Event.TheVariants.{Edit, Save, Crash, Ask, Answer, Take, Grow}
 
--- what happens: an event of code; or who made ask j answers ask k, as AnswerLent j k
+-- what happens: an event of code; or, as AnswerLent j k, who made ask j answers ask k from what it had kept then
 pub data Happening : Type 0 where
   Of : Event → Happening
   AnswerLent : ℕ → ℕ → Happening
 
--- an ask: who asked, how many names it had kept, and what state; it lends that state to later answers
+-- an ask: who asked, how many names it had kept, and what state; these it lends to later answers
 pub record Question : Type 0 where
   pub asker : ℕ
   pub names : ℕ
@@ -49,7 +49,16 @@ abbrev pub empty : Coordinates
 empty = record { life = λ d. None; number = λ q. 0 }
 
 abbrev pub start : List (List ℕ) → World
-start ns = record { roster = ns; replicas = length ns; memory_names = λ r. length ns; kept_names = λ r. length ns; memory = λ r. empty; kept = λ r. empty; asks = []; answers = [] }
+start ns = record {
+  roster = ns;
+  replicas = length ns;
+  memory_names = λ r. length ns;
+  kept_names = λ r. length ns;
+  memory = λ r. empty;
+  kept = λ r. empty;
+  asks = [];
+  answers = [];
+}
 
 -- the function with another value at one place
 abbrev pub put : {A : Type 0} → (ℕ → A) → ℕ → A → ℕ → A
@@ -65,7 +74,13 @@ lend w r = record { asker = r; names = w.kept_names r; state = w.kept r }
 
 -- what was lent, as the least delta for who asked
 abbrev pub reply_from : Question → ℕ → Question → Reply
-reply_from lent k q = record { question = k; asker = q.asker; maker = lent.asker; names = lent.names; state = least lent.state (ranks q.state) }
+reply_from lent k q = record {
+  question = k;
+  asker = q.asker;
+  maker = lent.asker;
+  names = lent.names;
+  state = least lent.state (ranks q.state);
+}
 
 abbrev pub reply : World → ℕ → ℕ → Question → Reply
 reply w s = reply_from (lend w s)
@@ -117,7 +132,8 @@ refusal_of w (Crash r) = unless_there (nat_lt r w.replicas) None
 refusal_of w (Ask r) = unless_there (nat_lt r w.replicas) None
 refusal_of w (Answer s k) = unless_there (nat_lt s w.replicas) (unless_there (is_some (slice_get w.asks k)) None)
 refusal_of w (Take k) = unless_there (is_some (slice_get w.answers k)) None
-refusal_of w (Grow r name) = unless_there (nat_lt r w.replicas) (cond (w.memory_names r == w.replicas) (cond (are_names (w.roster ++ name ∷ [])) None (Some BadRoster)) (Some WrongRoster))
+refusal_of w (Grow r name) = unless_there (nat_lt r w.replicas)
+    (cond (w.memory_names r == w.replicas) (cond (are_names (w.roster ++ name ∷ [])) None (Some BadRoster)) (Some WrongRoster))
 
 -- the same of whatever happens
 abbrev pub next : World → Happening → World
@@ -126,7 +142,8 @@ next w (AnswerLent j k) = after_lent w (slice_get w.asks j) k
 
 abbrev pub hindrance : World → Happening → Option Fault
 hindrance w (Of e) = refusal_of w e
-hindrance w (AnswerLent j k) = unless_there (is_some (slice_get w.asks j)) (unless_there (is_some (slice_get w.asks k)) None)
+hindrance w (AnswerLent j k) =
+    unless_there (is_some (slice_get w.asks j)) (unless_there (is_some (slice_get w.asks k)) None)
 
 abbrev pub run : List Happening → World → World
 run [] w = w
