@@ -11,59 +11,78 @@ use Rattle.rds_session.specs.Judging.{longer_than, roster_among}
 use Rattle.rds_session.specs.Meeting.{IsItsLeast}
 use Rattle.rds_session.specs.Received.{Delivery}
 use Rattle.rds_world.specs.Coherent.{HasRosters}
-use Rattle.rds_world.specs.World.{World, Accepted, Question, Reply, after, after_answer, after_take, put, reply, run}
-use Rattle.rds_world.specs.declared.event.Event.TheVariants.{Ask, Crash, Save}
+use Rattle.rds_world.specs.World.{World, Accepted, Reply, after, after_lent, after_reply, after_take, lend, put, reply_from, run}
+use Rattle.rds_world.specs.declared.event.Event.TheVariants.{Crash, Save}
+use Rattle.rds_world.proofs.Answering.{asks_run, stands_run}
 use Rattle.rds_world.proofs.Meeting.{longer_length}
 use Rattle.rds_world.proofs.Tables.{get_last, put_here, put_there}
 use Rattle.rds_files.specs.Files.{ReplacedValue}
 use Rattle.rds_files.specs.Settling.{Settles, IsJoined}
 use Rattle.rds_files.specs.declared.settling.Settled.TheVariants.{Taken}
-use Rattle.rds_commands.specs.Sessions.{IsAnsweredIn, IsKeptIn, LeavesFile, SessionsAreAnswered, SettlingsAreTakes, asking_events, settling_events}
+use Rattle.rds_commands.specs.Sessions.{AnswersStay, AsksStay, IsAnsweredIn, IsAskedIn, IsKeptIn, LeavesFile, ReadingsAreAsks, SessionsAreAnswered}
+use Rattle.rds_commands.specs.Sessions.{SettlingsAreTakes, answering_events, settling_events}
 
--- ---- an ask and its answer
+-- ---- a reading, and an answer from it
 
-module _ (w : World) (asked peer : ReplicaValue) (asks : IsKeptIn w asked) (answers : IsKeptIn w peer) where
-  abbrev question : Question
-  question = record { asker = asked.own; names = w.kept_names asked.own; state = w.kept asked.own }
+pub readings_asked : ReadingsAreAsks
+readings_asked w read keeps =
+    let there : ltb read.own w.replicas ≡ true = lt-ltb _ _ keeps.there in (
+      (rw there refl, tt),
+      record { question = lend w read.own; ask = get_last w.asks (lend w read.own); asker = refl; names = keeps.names; state = keeps.state },
+    )
 
-  abbrev asking : World
-  asking = after w (Ask asked.own)
+pub asks_stay : AsksStay
+asks_stay w events number asked is = record {
+  question = is.question;
+  ask = asks_run events w number is.question is.ask;
+  asker = is.asker;
+  names = is.names;
+  state = is.state;
+}
 
+pub answers_stay : AnswersStay
+answers_stay w events number asked peer is = record {
+  reply = is.reply;
+  answer = stands_run events w number is.reply is.answer;
+  reply_asker = is.reply_asker;
+  reply_names = is.reply_names;
+  reply_state = is.reply_state;
+  question = is.question;
+  ask = asks_run events w is.reply.question is.question is.ask;
+  asker = is.asker;
+  names = is.names;
+}
+
+module _ (w : World) (number lent : ℕ) (asked peer : ReplicaValue) (asks : IsAskedIn w number asked) (answers : IsAskedIn w lent peer) where
   abbrev answer : Reply
-  answer = reply asking peer.own (length w.asks) question
+  answer = reply_from answers.question number asks.question
 
   abbrev answering : World
-  answering = record asking { answers = w.answers ++ answer ∷ [] }
+  answering = record w { answers = w.answers ++ answer ∷ [] }
 
-  found : slice_get asking.asks (length w.asks) ≡ Some question
-  found = get_last w.asks question
-
-  run_is : run (asking_events w asked peer) w ≡ answering
-  run_is = ap (after_answer asking peer.own (length w.asks)) found
+  run_is : run (answering_events lent number) w ≡ answering
+  run_is = ap (λ o. after_lent w o number) answers.ask ∙ ap (after_reply w answers.question number) asks.ask
 
   is_answered : IsAnsweredIn answering (length w.answers) asked peer
   is_answered = record {
     reply = answer;
     answer = get_last w.answers answer;
-    reply_asker = refl;
+    reply_asker = asks.asker;
     reply_names = answers.names;
     reply_state = λ i. least (answers.state i) (ranks (asks.state i));
-    question = question;
-    ask = found;
-    asker = refl;
+    question = asks.question;
+    ask = asks.ask;
+    asker = asks.asker;
     names = asks.names;
   }
 
-  are_accepted : Accepted (asking_events w asked peer) w
-  are_accepted =
-      let one : ltb asked.own w.replicas ≡ true = lt-ltb _ _ asks.there in
-      let two : ltb peer.own w.replicas ≡ true = lt-ltb _ _ answers.there in
-      (rw one refl, (rw (two, found) refl, tt))
+  are_accepted : Accepted (answering_events lent number) w
+  are_accepted = (rw (answers.ask, asks.ask) refl, tt)
 
 pub sessions_answered : SessionsAreAnswered
-sessions_answered w asked peer asks answers = (
-  are_accepted w asked peer asks answers,
-  subst (λ (v : World). IsAnsweredIn v (length w.answers) asked peer) (sym (run_is w asked peer asks answers)) (is_answered w asked peer asks answers),
+sessions_answered w number lent asked peer asks answers = (
+  are_accepted w number lent asked peer asks answers,
+  subst (λ (v : World). IsAnsweredIn v (length w.answers) asked peer) (sym (run_is w number lent asked peer asks answers)) (is_answered w number lent asked peer asks answers),
 )
 
 -- ---- a file that takes an answer

@@ -23,22 +23,17 @@ use Rattle.rds_questions.proofs.Meeting.{deltas_are_least, is_brought, replicas_
 use Rattle.rds_questions.proofs.Readers.{question_reader, response_reader}
 use Rattle.rds_offline.specs.Letters.{AnswersFile, AsksFile, TakesFile, TakesResponse}
 use Rattle.rds_world.specs.Coherent.{HasRosters}
-use Rattle.rds_world.specs.World.{World, Accepted, Question, Reply, after_answer, reply, run}
+use Rattle.rds_world.specs.World.{World, Accepted, Reply, after_answer, reply, run}
 use Rattle.rds_world.proofs.Tables.{get_last}
 use Rattle.rds_files.specs.Files.{FileValue, ReplacedValue}
 use Rattle.rds_files.specs.Settling.{Settles}
 use Rattle.rds_files.specs.declared.settling.Settled.TheVariants.{Taken}
-use Rattle.rds_commands.specs.Sessions.{IsAnsweredIn, IsKeptIn, LeavesFile, settling_events}
-use Rattle.rds_commands.specs.Letters.{AnswersAreAnswers, IsAskedIn, QuestionsAreAsks, TakesAreTakes, answer_events}
-use Rattle.rds_commands.proofs.Events.{settlings_taken}
+use Rattle.rds_commands.specs.Sessions.{IsAnsweredIn, IsAskedIn, IsKeptIn, LeavesFile, settling_events}
+use Rattle.rds_commands.specs.Letters.{AnswersAreAnswers, QuestionsAreAsks, TakesAreTakes, answer_events}
+use Rattle.rds_commands.proofs.Events.{readings_asked, settlings_taken}
 
 pub questions_asked : QuestionsAreAsks
-questions_asked w path bytes file asks keeps =
-    let there : ltb file.kept.own w.replicas ≡ true = lt-ltb _ _ keeps.there in
-    let question : Question = record { asker = file.kept.own; names = w.kept_names file.kept.own; state = w.kept file.kept.own } in (
-      (rw there refl, tt),
-      record { question = question; ask = get_last w.asks question; asker = refl; names = keeps.names; state = keeps.state },
-    )
+questions_asked w path bytes file asks keeps = readings_asked w file.kept keeps
 
 -- ---- an answer to a question that was asked at any time
 

@@ -1,33 +1,20 @@
 -- Questions and answers that go as texts, as events of the model.
-use Rattle.std.specs.Prelude.{◌≡◌, ℕ, List, [], ◌∷◌, length, Some, slice_get}
+use Rattle.std.specs.Prelude.{ℕ, List, [], ◌∷◌, length}
 use Rattle.rds_files.specs.Files.{FileValue, ReplacedValue}
 use Rattle.rds_offline.specs.Letters.{AnswersFile, AsksFile, TakesFile}
 use Rattle.rds_state.specs.Fits.{ReplicaValue}
-use Rattle.rds_state.specs.Value.{coordinates}
 use Rattle.rds_world.specs.Coherent.{HasRosters}
-use Rattle.rds_world.specs.World.{World, Accepted, Question, run}
-use Rattle.rds_world.specs.declared.event.Event.{Event}
-use Rattle.rds_world.specs.declared.event.Event.TheVariants.{Answer, Ask}
-use Rattle.rds_commands.specs.Sessions.{IsAnsweredIn, IsKeptIn, LeavesFile, settling_events}
+use Rattle.rds_world.specs.World.{World, Happening, Of, Accepted, run}
+use Rattle.rds_world.specs.declared.event.Event.TheVariants.{Answer}
+use Rattle.rds_commands.specs.Sessions.{IsAnsweredIn, IsAskedIn, IsKeptIn, LeavesFile, reading_events, settling_events}
 
--- the question with this number is what a replica asked of what it had kept then
-pub record IsAskedIn (w : World) (number : ℕ) (asked : ReplicaValue) : Type 0 where
-  pub question : Question
-  pub ask : slice_get w.asks number ≡ Some question
-  pub asker : question.asker ≡ asked.own
-  pub names : question.names ≡ length asked.roster.names
-  pub state : question.state ≡ coordinates asked.state
-
-abbrev pub ask_events : ReplicaValue → List Event
-ask_events asked = Ask asked.own ∷ []
-
-abbrev pub answer_events : ReplicaValue → ℕ → List Event
-answer_events peer number = Answer peer.own number ∷ []
+abbrev pub answer_events : ReplicaValue → ℕ → List Happening
+answer_events peer number = Of (Answer peer.own number) ∷ []
 
 -- a question that is written of a file is what its replica asks in the model
 abbrev pub QuestionsAreAsks : Type 0
 QuestionsAreAsks = (w : World) (path bytes : List ℕ) (file : FileValue) → AsksFile path file bytes → IsKeptIn w file.kept
-    → Accepted (ask_events file.kept) w × IsAskedIn (run (ask_events file.kept) w) (length w.asks) file.kept
+    → Accepted (reading_events file.kept) w × IsAskedIn (run (reading_events file.kept) w) (length w.asks) file.kept
 
 -- an answer that is written of a file to that question, at any later time, is what its replica answers in the model
 abbrev pub AnswersAreAnswers : Type 0

@@ -1,14 +1,19 @@
 //! The laws of sessions of files, and of questions and answers that go as texts.
 ghost use Rattle.rds_commands.specs.Letters.{AnswersAreAnswers, QuestionsAreAsks, TakesAreTakes};
-ghost use Rattle.rds_commands.specs.Sessions.{SessionsAreAnswered, SettlingsAreTakes};
+ghost use Rattle.rds_commands.specs.Sessions.{AnswersStay, AsksStay, ReadingsAreAsks, SessionsAreAnswered};
+ghost use Rattle.rds_commands.specs.Sessions.{SettlingsAreTakes};
 
-/// A session of two files is events of the model of all replicas, where the replicas that the files hold are what the
-/// model's have kept. One asks and the other answers, and what the one receives is that answer, as
-/// [`two_sessions`](rds_session::two_sessions) says. Where its file then takes it, whatever happened meanwhile, the
+/// A session of two files is events of the model of all replicas, whatever commands change the files meanwhile. Each
+/// side reads its file: where that holds what the model's replica has kept, the replica asks. What the other receives
+/// is an answer of the model, from what the one had kept when it asked, as
+/// [`two_sessions`](rds_session::two_sessions) says. Where its file then takes that, whatever happened since, the
 /// replica was read, took the answer, and was saved: the file holds what the model's replica has kept by now. So the
-/// law over every list of events holds of sessions too. The function does nothing: its contract is these laws.
+/// law over all that may happen holds of sessions too. The function does nothing: its contract is these laws.
 pub fn sessions_are_events()
-    ensures asks { SessionsAreAnswered }
+    ensures reads { ReadingsAreAsks }
+    ensures asks_stay { AsksStay }
+    ensures answers { SessionsAreAnswered }
+    ensures answers_stay { AnswersStay }
     ensures takes { SettlingsAreTakes }
 {}
 

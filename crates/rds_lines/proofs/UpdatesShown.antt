@@ -1,5 +1,6 @@
 -- Lines that are met one after the other are answered by the updates held by then.
 use Rattle.std.proofs.Common.{◌≡◌, ◌∙◌, ◌≤◌, ◌++◌, ◌∷◌, [], ◌||◌, ℕ, Bool, true, false, List, length, map, Option, Some, None, Result, Ok, Err, refl, sym, ap, subst, inl, inr, append_assoc, append-nil}
+use Rattle.std.specs.Prelude.{option_map}
 use Rattle.std.specs.List.{flat_map, list_any}
 use Rattle.std.proofs.lemmas.List.Elements.{All-cons, All-nil, filter_map-append}
 use Rattle.rds_names.specs.declared.fault.Fault.{Fault}
@@ -18,13 +19,13 @@ use Rattle.rds_world.specs.Events.{roster_after}
 use Rattle.rds_world.specs.Law.{held_after, world_after}
 use Rattle.rds_world.specs.Simulation.{roster_in}
 use Rattle.rds_world.specs.Updates.{ShowsUpdates}
-use Rattle.rds_world.specs.World.{World, Accepted, after, refusal_of, start}
+use Rattle.rds_world.specs.World.{World, Happening, Of, Accepted, after, refusal_of, start}
 use Rattle.rds_world.specs.declared.event.Event.{Event}
 use Rattle.rds_world.specs.declared.event.Done.{Done as Outcome}
 use Rattle.rds_world.specs.declared.event.Done.TheVariants as outcomes
 use Rattle.rds_world.proofs.Rosters.{few_names}
 use Rattle.rds_world.proofs.Runs.{accepted_on, run_on}
-use Rattle.rds_world.proofs.Simulated.{documents_throughout, roster_goes_on}
+use Rattle.rds_world.proofs.Simulated.{law_holds, roster_goes_on}
 use Rattle.rds_output.specs.Reply.{is_refusal, reply_line}
 use Rattle.rds_output.specs.declared.reply.Reply.{Reply}
 use Rattle.rds_output.specs.declared.reply.Reply.TheVariants.{Done}
@@ -113,20 +114,20 @@ few_named bytes roster is =
 -- ---- the group after events
 
 -- the group is the one after these events, none of which the model refuses
-record IsAfter (roster : RosterValue) (es : List Event) (g : Group) : Type 0 where
+record IsAfter (roster : RosterValue) (es : List Happening) (g : Group) : Type 0 where
   world : g.world ≡ world_after roster.names es
   same : g.roster ≡ roster_in roster (world_after roster.names es)
   accepted : Accepted es (start roster.names)
 
-after_one : (roster : RosterValue) (es : List Event) (g : Group) (e : Event) → IsAfter roster es g → refusal_of g.world e ≡ None → IsAfter roster (es ++ e ∷ []) (group_after g e)
+after_one : (roster : RosterValue) (es : List Happening) (g : Group) (e : Event) → IsAfter roster es g → refusal_of g.world e ≡ None → IsAfter roster (es ++ Of e ∷ []) (group_after g e)
 after_one roster es g e at due =
     let w = world_after roster.names es in
-    let on : world_after roster.names (es ++ e ∷ []) ≡ after w e = run_on es (e ∷ []) (start roster.names) in
+    let on : world_after roster.names (es ++ Of e ∷ []) ≡ after w e = run_on es (Of e ∷ []) (start roster.names) in
     let here : refusal_of w e ≡ None = subst (λ (x : World). refusal_of x e ≡ None) at.world due in
     record {
       world = ap (λ (x : World). after x e) at.world ∙ sym on;
       same = ap (λ (r : RosterValue). roster_after r e) at.same ∙ sym (roster_goes_on roster w e) ∙ ap (roster_in roster) (sym on);
-      accepted = (accepted_on es (e ∷ []) (start roster.names)).1 (at.accepted, (here, tt));
+      accepted = (accepted_on es (Of e ∷ []) (start roster.names)).1 (at.accepted, (here, tt));
     }
 
 -- ---- lines of a group, one after the other
@@ -183,33 +184,33 @@ line_first roster done w next a rest out after_it refused more came out_is refus
 }
 
 module _ (roster : RosterValue) (few : length roster.names ≤ 256) where
-  held_shown : (es : List Event) (g : Group) → IsAfter roster es g → (number : ℕ) (path : List (List ℕ)) (answer : Reply) (state : StateValue) → coordinates state ≡ g.world.memory number
+  held_shown : (es : List Happening) (g : Group) → IsAfter roster es g → (number : ℕ) (path : List (List ℕ)) (answer : Reply) (state : StateValue) → coordinates state ≡ g.world.memory number
       → ShowsView Compact state path answer → ShowsHeld es number path answer
   held_shown es g at number path answer state memory shown =
       let here : (world_after roster.names es).memory number ≡ coordinates state = ap (λ (w : World). w.memory number) (sym at.world) ∙ sym memory in
-      let updates = documents_throughout roster.names es es [] (sym (append-nil es)) at.accepted few InMemory number in
+      let updates = (law_holds roster.names es at.accepted).documents few InMemory number in
       record {
         state = state;
         updates = subst (λ (a : Coordinates). ShowsUpdates (held_after es).update (held_after es).size ((held_after es).memory number) a) here updates;
         shown = shown;
       }
 
-  asked : (es : List Event) (g : Group) → IsAfter roster es g → (bytes : List ℕ) (request : Request) → (line_of_bytes bytes >>= request_of g.roster) ≡ Ok request → AsksFor roster es bytes request
+  asked : (es : List Happening) (g : Group) → IsAfter roster es g → (bytes : List ℕ) (request : Request) → (line_of_bytes bytes >>= request_of g.roster) ≡ Ok request → AsksFor roster es bytes request
   asked es g at bytes request is = subst (λ (r : RosterValue). (line_of_bytes bytes >>= request_of r) ≡ Ok request) at.same is
 
   -- the group is the same after a line by which nothing happened
   after_none : (done : List AnsweredLine) (line : List ℕ) (answer : Reply) (g : Group) → IsAfter roster (events_of done) g → IsAfter roster (events_of (done ++ record { line = line; answer = answer; event = None } ∷ [])) g
   after_none done line answer g at =
       let a : AnsweredLine = record { line = line; answer = answer; event = None } in
-      let same : events_of (done ++ a ∷ []) ≡ events_of done = filter_map-append (λ (b : AnsweredLine). b.event) done (a ∷ []) ∙ append-nil (events_of done) in
-      subst (λ (es : List Event). IsAfter roster es g) (sym same) at
+      let same : events_of (done ++ a ∷ []) ≡ events_of done = filter_map-append (λ (b : AnsweredLine). option_map Of b.event) done (a ∷ []) ∙ append-nil (events_of done) in
+      subst (λ (es : List Happening). IsAfter roster es g) (sym same) at
 
   after_some : (done : List AnsweredLine) (line : List ℕ) (answer : Reply) (e : Event) (g : Group) → IsAfter roster (events_of done) g → refusal_of g.world e ≡ None
       → IsAfter roster (events_of (done ++ record { line = line; answer = answer; event = Some e } ∷ [])) (group_after g e)
   after_some done line answer e g at due =
       let a : AnsweredLine = record { line = line; answer = answer; event = Some e } in
-      let same : events_of (done ++ a ∷ []) ≡ events_of done ++ e ∷ [] = filter_map-append (λ (b : AnsweredLine). b.event) done (a ∷ []) in
-      subst (λ (es : List Event). IsAfter roster es (group_after g e)) (sym same) (after_one roster (events_of done) g e at due)
+      let same : events_of (done ++ a ∷ []) ≡ events_of done ++ Of e ∷ [] = filter_map-append (λ (b : AnsweredLine). option_map Of b.event) done (a ∷ []) in
+      subst (λ (es : List Happening). IsAfter roster es (group_after g e)) (sym same) (after_one roster (events_of done) g e at due)
 
   -- one line, where those after it are known
   one_line : (done : List AnsweredLine) (g : Group) → IsAfter roster (events_of done) g → (bytes : List ℕ) (answer : Reply) (next : Option Group) → Met g bytes answer next

@@ -1,5 +1,5 @@
 -- What lines of `sim` came to: events in their order, that the model accepts, and documents of the updates held by then.
-use Rattle.std.specs.Prelude.{◌≡◌, ◌⊎◌, ℕ, Bool, true, false, List, ◌∷◌, ◌++◌, map, Option, Some, None, Ok}
+use Rattle.std.specs.Prelude.{◌≡◌, ◌⊎◌, ℕ, Bool, true, false, List, ◌∷◌, ◌++◌, map, option_map, Option, Some, None, Ok}
 use Rattle.std.specs.List.{All, filter_map, flat_map, list_any}
 use Rattle.rds_names.specs.AndThen.{◌>>=◌}
 use Rattle.rds_names.specs.Roster.{RosterValue}
@@ -8,7 +8,7 @@ use Rattle.rds_json.specs.declared.line.Line.TheVariants as lines
 use Rattle.rds_world.specs.Law.{held_after, world_after}
 use Rattle.rds_world.specs.Simulation.{roster_in}
 use Rattle.rds_world.specs.Updates.{ShowsUpdates}
-use Rattle.rds_world.specs.World.{Accepted, start}
+use Rattle.rds_world.specs.World.{Happening, Of, Accepted, start}
 use Rattle.rds_world.specs.declared.event.Event.{Event}
 use Rattle.rds_output.specs.Reply.{is_refusal, reply_line}
 use Rattle.rds_output.specs.declared.reply.Reply.{Reply}
@@ -26,20 +26,20 @@ pub record AnsweredLine : Type 0 where
   pub event : Option Event
 
 -- the events, in the order of their lines
-abbrev pub events_of : List AnsweredLine → List Event
-events_of answered = filter_map (λ a. a.event) answered
+abbrev pub events_of : List AnsweredLine → List Happening
+events_of answered = filter_map (λ a. option_map Of a.event) answered
 
 -- it was refused, and nothing happened by it
 abbrev pub IsRefusal : AnsweredLine → Type 0
 IsRefusal a = (is_refusal a.answer ≡ true) × (a.event ≡ None)
 
 -- what the bytes of a line ask of the replicas that there are after these events, if the group began with this roster
-abbrev pub AsksFor : RosterValue → List Event → List ℕ → Request → Type 0
+abbrev pub AsksFor : RosterValue → List Happening → List ℕ → Request → Type 0
 AsksFor roster es bytes request =
     (line_of_bytes bytes >>= request_of (roster_in roster (world_after roster.names es))) ≡ Ok request
 
 -- the view at a path of the document of those updates that a replica's memory holds after these events
-pub record ShowsHeld (es : List Event) (number : ℕ) (path : List (List ℕ)) (answer : Reply) : Type 0 where
+pub record ShowsHeld (es : List Happening) (number : ℕ) (path : List (List ℕ)) (answer : Reply) : Type 0 where
   pub state : StateValue
   pub updates : ShowsUpdates (held_after es).update (held_after es).size ((held_after es).memory number)
       (coordinates state)

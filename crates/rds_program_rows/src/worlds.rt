@@ -11,9 +11,9 @@ use rds_rows::told::said;
 use rds_rows::words::{first, number, roster, small};
 use rds_state::Replica;
 use rds_world::{
-    Event, World, a_step_has_one_result, answers_bring_what_was_kept,
-    coherent_replicas_are_friends, edits_are_steps, lost_dots_are_used_again, rosters_grow,
-    runs_go_on, simulate, states_are_joins_of_updates, worlds_have_one_value, worlds_stay_coherent,
+    Event, World, a_step_has_one_result, coherent_replicas_are_friends, edits_are_steps,
+    lost_dots_are_used_again, replicas_obey_the_law, rosters_grow, runs_go_on, simulate,
+    worlds_have_one_value, worlds_stay_coherent,
 };
 use std::alloc::Global;
 use std::mem;
@@ -143,8 +143,7 @@ fn laws(alloc: Global) -> Result<String, Fault> {
     a_step_has_one_result();
     coherent_replicas_are_friends();
     edits_are_steps();
-    states_are_joins_of_updates();
-    answers_bring_what_was_kept();
+    replicas_obey_the_law();
     runs_go_on();
     lost_dots_are_used_again();
     said(alloc, "called")

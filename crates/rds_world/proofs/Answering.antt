@@ -3,83 +3,137 @@ use Rattle.std.proofs.Common.{◌≡◌, length, ℕ, List, [], ◌∷◌, ◌++
 use Rattle.std.proofs.Common.{slice_get}
 use Rattle.rds_state.specs.Coordinates.{AtMost, AreCompatible}
 use Rattle.rds_state.proofs.JoinLaws.{reflexive, transitive}
-use Rattle.rds_world.specs.declared.event.Event.{Event}
 use Rattle.rds_world.specs.declared.event.Event.TheVariants.{Edit, Save, Crash, Ask, Answer, Take, Grow}
-use Rattle.rds_world.specs.World.{World, Question, Reply, start, reply, after_answer, after_take, after, run, Accepted}
+use Rattle.rds_world.specs.World.{World, Happening, Of, AnswerLent, Question, Reply, start, lend, reply_from, after_reply}
+use Rattle.rds_world.specs.World.{after_answer, after_lent, after_take, next, run, Accepted}
 use Rattle.rds_world.specs.Coherent.{IsCoherent}
-use Rattle.rds_world.specs.Law.{world_after, BringsWhatWasKept, EachAnswerBringsWhatWasKept}
+use Rattle.rds_world.specs.Law.{world_after, BringsWhatWasKept}
 use Rattle.rds_delta.proofs.LeastLaws.{grown_delta, least_delta}
-use Rattle.rds_world.proofs.Coherent.{kept_grows, event_coherent, coherent_start, run_coherent}
+use Rattle.rds_world.proofs.Coherent.{agree_in, kept_grows, next_coherent, coherent_start, of_ask, of_memory, run_coherent}
 use Rattle.rds_world.proofs.Runs.{run_on, accepted_on}
 use Rattle.rds_world.proofs.Steps.{kept_agrees}
 use Rattle.rds_world.proofs.Tables.{get_front, get_last}
 
--- ---- what is kept only grows
+-- ---- what is kept only grows, and what was asked stands
 
-answered_kept : (w : World) (s k : ℕ) (o : Option Question) → (after_answer w s k o).kept ≡ w.kept
-answered_kept w s k None = refl
-answered_kept w s k (Some q) = refl
+replied_same : (w : World) (p : Question) (k : ℕ) (o : Option Question) → ((after_reply w p k o).kept ≡ w.kept) × ((after_reply w p k o).asks ≡ w.asks)
+replied_same w p k None = (refl, refl)
+replied_same w p k (Some q) = (refl, refl)
 
-taken_kept : (w : World) (o : Option Reply) → (after_take w o).kept ≡ w.kept
-taken_kept w None = refl
-taken_kept w (Some m) = refl
+lent_same : (w : World) (o : Option Question) (k : ℕ) → ((after_lent w o k).kept ≡ w.kept) × ((after_lent w o k).asks ≡ w.asks)
+lent_same w None k = (refl, refl)
+lent_same w (Some p) k = replied_same w p k (slice_get w.asks k)
 
-kept_step : (w : World) (i : IsCoherent w) (e : Event) (r : ℕ) → AtMost (w.kept r) ((after w e).kept r)
-kept_step w i (Edit s c) r = reflexive (w.kept r)
-kept_step w i (Save s) r = kept_grows w i s r
-kept_step w i (Crash s) r = reflexive (w.kept r)
-kept_step w i (Ask s) r = reflexive (w.kept r)
-kept_step w i (Grow s name) r = reflexive (w.kept r)
-kept_step w i (Answer s k) r = subst (λ f. AtMost (w.kept r) (f r)) (sym (answered_kept w s k (slice_get w.asks k))) (reflexive (w.kept r))
-kept_step w i (Take k) r = subst (λ f. AtMost (w.kept r) (f r)) (sym (taken_kept w (slice_get w.answers k))) (reflexive (w.kept r))
+taken_same : (w : World) (o : Option Reply) → ((after_take w o).kept ≡ w.kept) × ((after_take w o).asks ≡ w.asks)
+taken_same w None = (refl, refl)
+taken_same w (Some m) = (refl, refl)
 
-kept_run : (es : List Event) (w : World) → IsCoherent w → Accepted es w → (r : ℕ) → AtMost (w.kept r) ((run es w).kept r)
+kept_step : (w : World) (i : IsCoherent w) (e : Happening) (r : ℕ) → AtMost (w.kept r) ((next w e).kept r)
+kept_step w i (Of (Edit s c)) r = reflexive (w.kept r)
+kept_step w i (Of (Save s)) r = kept_grows w i s r
+kept_step w i (Of (Crash s)) r = reflexive (w.kept r)
+kept_step w i (Of (Ask s)) r = reflexive (w.kept r)
+kept_step w i (Of (Grow s name)) r = reflexive (w.kept r)
+kept_step w i (Of (Answer s k)) r = subst (λ f. AtMost (w.kept r) (f r)) (sym (replied_same w (lend w s) k (slice_get w.asks k)).0) (reflexive (w.kept r))
+kept_step w i (Of (Take k)) r = subst (λ f. AtMost (w.kept r) (f r)) (sym (taken_same w (slice_get w.answers k)).0) (reflexive (w.kept r))
+kept_step w i (AnswerLent j k) r = subst (λ f. AtMost (w.kept r) (f r)) (sym (lent_same w (slice_get w.asks j) k).0) (reflexive (w.kept r))
+
+kept_run : (es : List Happening) (w : World) → IsCoherent w → Accepted es w → (r : ℕ) → AtMost (w.kept r) ((run es w).kept r)
 kept_run [] w i a r = reflexive (w.kept r)
-kept_run (e ∷ es) w i a r = transitive _ _ _ (kept_step w i e r) (kept_run es (after w e) (event_coherent w i e a.0) a.1 r)
+kept_run (e ∷ es) w i a r = transitive _ _ _ (kept_step w i e r) (kept_run es (next w e) (next_coherent w i e a.0) a.1 r)
+
+asks_step : (w : World) (e : Happening) (k : ℕ) (q : Question) → slice_get w.asks k ≡ Some q → slice_get (next w e).asks k ≡ Some q
+asks_step w (Of (Edit s c)) k q e = e
+asks_step w (Of (Save s)) k q e = e
+asks_step w (Of (Crash s)) k q e = e
+asks_step w (Of (Ask s)) k q e = get_front w.asks (lend w s ∷ []) k q e
+asks_step w (Of (Grow s name)) k q e = e
+asks_step w (Of (Answer s j)) k q e = subst (λ l. slice_get l k ≡ Some q) (sym (replied_same w (lend w s) j (slice_get w.asks j)).1) e
+asks_step w (Of (Take j)) k q e = subst (λ l. slice_get l k ≡ Some q) (sym (taken_same w (slice_get w.answers j)).1) e
+asks_step w (AnswerLent i j) k q e = subst (λ l. slice_get l k ≡ Some q) (sym (lent_same w (slice_get w.asks i) j).1) e
+
+pub asks_run : (es : List Happening) (w : World) (k : ℕ) (q : Question) → slice_get w.asks k ≡ Some q → slice_get (run es w).asks k ≡ Some q
+asks_run [] w k q e = e
+asks_run (f ∷ es) w k q e = asks_run es (next w f) k q (asks_step w f k q e)
 
 -- ---- an answer keeps its number
 
-answered_stands : (w : World) (s j : ℕ) (o : Option Question) (k : ℕ) (m : Reply) → slice_get w.answers k ≡ Some m → slice_get (after_answer w s j o).answers k ≡ Some m
-answered_stands w s j None k m e = e
-answered_stands w s j (Some q) k m e = get_front w.answers (reply w s j q ∷ []) k m e
+replied_stands : (w : World) (p : Question) (j : ℕ) (o : Option Question) (k : ℕ) (m : Reply) → slice_get w.answers k ≡ Some m → slice_get (after_reply w p j o).answers k ≡ Some m
+replied_stands w p j None k m e = e
+replied_stands w p j (Some q) k m e = get_front w.answers (reply_from p j q ∷ []) k m e
+
+lent_stands : (w : World) (o : Option Question) (j k : ℕ) (m : Reply) → slice_get w.answers k ≡ Some m → slice_get (after_lent w o j).answers k ≡ Some m
+lent_stands w None j k m e = e
+lent_stands w (Some p) j k m e = replied_stands w p j (slice_get w.asks j) k m e
 
 taken_stands : (w : World) (o : Option Reply) (k : ℕ) (m : Reply) → slice_get w.answers k ≡ Some m → slice_get (after_take w o).answers k ≡ Some m
 taken_stands w None k m e = e
 taken_stands w (Some q) k m e = e
 
-stands_step : (w : World) (e : Event) (k : ℕ) (m : Reply) → slice_get w.answers k ≡ Some m → slice_get (after w e).answers k ≡ Some m
-stands_step w (Edit s c) k m e = e
-stands_step w (Save s) k m e = e
-stands_step w (Crash s) k m e = e
-stands_step w (Ask s) k m e = e
-stands_step w (Grow s name) k m e = e
-stands_step w (Answer s j) k m e = answered_stands w s j (slice_get w.asks j) k m e
-stands_step w (Take j) k m e = taken_stands w (slice_get w.answers j) k m e
+stands_step : (w : World) (e : Happening) (k : ℕ) (m : Reply) → slice_get w.answers k ≡ Some m → slice_get (next w e).answers k ≡ Some m
+stands_step w (Of (Edit s c)) k m e = e
+stands_step w (Of (Save s)) k m e = e
+stands_step w (Of (Crash s)) k m e = e
+stands_step w (Of (Ask s)) k m e = e
+stands_step w (Of (Grow s name)) k m e = e
+stands_step w (Of (Answer s j)) k m e = replied_stands w (lend w s) j (slice_get w.asks j) k m e
+stands_step w (Of (Take j)) k m e = taken_stands w (slice_get w.answers j) k m e
+stands_step w (AnswerLent i j) k m e = lent_stands w (slice_get w.asks i) j k m e
 
-stands_run : (es : List Event) (w : World) (k : ℕ) (m : Reply) → slice_get w.answers k ≡ Some m → slice_get (run es w).answers k ≡ Some m
+pub stands_run : (es : List Happening) (w : World) (k : ℕ) (m : Reply) → slice_get w.answers k ≡ Some m → slice_get (run es w).answers k ≡ Some m
 stands_run [] w k m e = e
-stands_run (f ∷ es) w k m e = stands_run es (after w f) k m (stands_step w f k m e)
+stands_run (f ∷ es) w k m e = stands_run es (next w f) k m (stands_step w f k m e)
 
-answer_brings : (w : World) → IsCoherent w → (es : List Event) (s k : ℕ) (q : Question) → slice_get w.asks k ≡ Some q → Accepted (Answer s k ∷ es) w
-    → AreCompatible ((run (Answer s k ∷ es) w).memory q.asker) (w.kept s) → BringsWhatWasKept w (run (Answer s k ∷ es) w) s k q
-answer_brings w i es s k q e a agree =
-    let next = event_coherent w i (Answer s k) a.0 in
-    let last = run_coherent es (after w (Answer s k)) next a.1 in
-    let up : AtMost q.state ((run es (after w (Answer s k))).memory q.asker) =
-    transitive _ _ _ (i.asks_below k q e) (transitive _ _ _ (kept_step w i (Answer s k) q.asker) (transitive _ _ _ (kept_run es (after w (Answer s k)) next a.1 q.asker) (last.kept_below q.asker))) in
-    record {
-      stands = stands_run es (after w (Answer s k)) (length w.answers) (reply w s k q)
-          (subst (λ o. slice_get (after_answer w s k o).answers (length w.answers) ≡ Some (reply w s k q)) (sym e) (get_last w.answers (reply w s k q)));
-      compatible = agree;
-      effect = grown_delta (w.kept s) q.state ((run es (after w (Answer s k))).memory q.asker) up;
-      least = λ c h p. least_delta (w.kept s) q.state c p;
-    }
+-- ---- what it brings
 
-pub each_answer_brings : (n : List (List ℕ)) (es : List Event) → Accepted es (start n) → EachAnswerBringsWhatWasKept n es
-each_answer_brings n es a before later s k q is e =
-    let whole : Accepted (before ++ Answer s k ∷ later) (start n) = subst (λ fs. Accepted fs (start n)) is a in
-    let both = (accepted_on before (Answer s k ∷ later) (start n)).0 whole in
-    let there : run (Answer s k ∷ later) (world_after n before) ≡ world_after n es = sym (run_on before (Answer s k ∷ later) (start n)) ∙ ap (λ fs. run fs (start n)) (sym is) in
-    let agree : AreCompatible ((run (Answer s k ∷ later) (world_after n before)).memory q.asker) ((world_after n before).kept s) =
-    subst (λ (w : World). AreCompatible (w.memory q.asker) ((world_after n before).kept s)) (run_on before (Answer s k ∷ later) (start n)) (kept_agrees n before (Answer s k ∷ later) whole q.asker s) in
-    subst (λ w. BringsWhatWasKept (world_after n before) w s k q) there (answer_brings (world_after n before) (run_coherent before (start n) (coherent_start n) both.0) later s k q e both.1 agree)
+module _ (w : World) (i : IsCoherent w) (lent : Question) (k : ℕ) (q : Question) (asked : slice_get w.asks k ≡ Some q) where
+  reply_brings : (e : Happening) (es : List Happening) → next w e ≡ after_reply w lent k (Some q) → Accepted (e ∷ es) w → AreCompatible ((run (e ∷ es) w).memory q.asker) lent.state
+      → BringsWhatWasKept (run (e ∷ es) w) (length w.answers) lent k q
+  reply_brings e es is a agree =
+      let now = next_coherent w i e a.0 in
+      let last = run_coherent es (next w e) now a.1 in
+      let up : AtMost q.state ((run es (next w e)).memory q.asker) =
+      transitive _ _ _ (i.asks_below k q asked) (transitive _ _ _ (kept_step w i e q.asker) (transitive _ _ _ (kept_run es (next w e) now a.1 q.asker) (last.kept_below q.asker))) in
+      record {
+        stands = stands_run es (next w e) (length w.answers) (reply_from lent k q)
+            (subst (λ (v : World). slice_get v.answers (length w.answers) ≡ Some (reply_from lent k q)) (sym is) (get_last w.answers (reply_from lent k q)));
+        compatible = agree;
+        effect = grown_delta lent.state q.state ((run es (next w e)).memory q.asker) up;
+        least = λ c h p. least_delta lent.state q.state c p;
+      }
+
+-- where it is one of a list
+module _ (n : List (List ℕ)) (es : List Happening) (a : Accepted es (start n)) (before later : List Happening) (e : Happening) (is : es ≡ before ++ e ∷ later) where
+  abbrev old : World
+  old = world_after n before
+
+  whole : Accepted (before ++ e ∷ later) (start n)
+  whole = subst (λ fs. Accepted fs (start n)) is a
+
+  there : run (e ∷ later) old ≡ world_after n es
+  there = sym (run_on before (e ∷ later) (start n)) ∙ ap (λ fs. run fs (start n)) (sym is)
+
+  it_brings : (lent : Question) (k : ℕ) (q : Question) → slice_get old.asks k ≡ Some q → next old e ≡ after_reply old lent k (Some q) → AreCompatible ((world_after n es).memory q.asker) lent.state
+      → BringsWhatWasKept (world_after n es) (length old.answers) lent k q
+  it_brings lent k q asked does agree =
+      let both = (accepted_on before (e ∷ later) (start n)).0 whole in
+      subst (λ w. BringsWhatWasKept w (length old.answers) lent k q) there
+      (reply_brings old (run_coherent before (start n) (coherent_start n) both.0) lent k q asked e later does both.1 (subst (λ (w : World). AreCompatible (w.memory q.asker) lent.state) (sym there) agree))
+
+pub each_answer_brings : (n : List (List ℕ)) (es : List Happening) → Accepted es (start n) → (before later : List Happening) (s k : ℕ) (q : Question) → es ≡ before ++ Of (Answer s k) ∷ later
+    → slice_get (world_after n before).asks k ≡ Some q → BringsWhatWasKept (world_after n es) (length (world_after n before).answers) (lend (world_after n before) s) k q
+each_answer_brings n es a before later s k q is asked =
+    let w = world_after n before in
+    let e = Of (Answer s k) in
+    it_brings n es a before later e is (lend w s) k q asked (ap (after_answer w s k) asked)
+    (subst (λ fs. AreCompatible ((world_after n fs).memory q.asker) (w.kept s)) (sym is) (kept_agrees n before (e ∷ later) (whole n es a before later e is) q.asker s))
+
+pub each_lent_brings : (n : List (List ℕ)) (es : List Happening) → Accepted es (start n) → (before later : List Happening) (j k : ℕ) (p q : Question) → es ≡ before ++ AnswerLent j k ∷ later
+    → slice_get (world_after n before).asks j ≡ Some p → slice_get (world_after n before).asks k ≡ Some q → BringsWhatWasKept (world_after n es) (length (world_after n before).answers) p k q
+each_lent_brings n es a before later j k p q is lent asked =
+    let w = world_after n before in
+    let e = AnswerLent j k in
+    let last = world_after n es in
+    let stays : slice_get last.asks j ≡ Some p = subst (λ (v : World). slice_get v.asks j ≡ Some p) (there n es a before later e is) (asks_run (e ∷ later) w j p lent) in
+    it_brings n es a before later e is p k q asked (ap (λ o. after_lent w o k) lent ∙ ap (after_reply w p k) asked)
+    (agree_in last (run_coherent es (start n) (coherent_start n) a) (last.memory q.asker) p.state (of_memory q.asker) (of_ask j p stays))

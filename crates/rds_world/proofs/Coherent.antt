@@ -20,8 +20,9 @@ use Rattle.rds_state.proofs.JoinLaws.{reflexive, transitive, above_left, compati
 use Rattle.rds_delta.specs.Ranks.{ranks}
 use Rattle.rds_world.specs.declared.event.Event.{Event}
 use Rattle.rds_world.specs.declared.event.Event.TheVariants.{Edit, Save, Crash, Ask, Answer, Take, Grow}
-use Rattle.rds_world.specs.World.{World, Question, Reply, empty, put, start, after_edit, reply, after_answer}
-use Rattle.rds_world.specs.World.{after_take, after, refusal_of, run, Accepted}
+use Rattle.rds_world.specs.World.{World, Happening, Of, AnswerLent, Question, Reply, empty, put, start, after_edit, lend}
+use Rattle.rds_world.specs.World.{reply_from, after_reply, after_lent, after_take, after, refusal_of, next, hindrance, run}
+use Rattle.rds_world.specs.World.{Accepted}
 use Rattle.rds_world.specs.Coherent.{Position, AtMemory, AtKept, AtAsk, AtAnswer, state_asked, state_answered, state_at}
 use Rattle.rds_world.specs.Coherent.{AnswersIts, IsCoherent}
 use Rattle.rds_delta.proofs.LeastLaws.{compatible_sym, compatible_least, least_part, least_above}
@@ -244,17 +245,14 @@ module _ (w : World) (i : IsCoherent w) where
 
   -- ---- Ask
 
-  abbrev question : ℕ → Question
-  question r = record { asker = r; names = w.kept_names r; state = w.kept r }
-
   asking_in : (r : ℕ) (a : Coordinates) → IsIn (after w (Ask r)) a → IsIn w a
   asking_in r a (of_memory t) = of_memory t
   asking_in r a (of_kept t) = of_kept t
-  asking_in r a (of_ask k q e) = elim (last_get w.asks (question r) q k e) [ inl p ↦ of_ask k q p | inr p ↦ subst (λ x. IsIn w x.state) (sym p) (of_kept r) ]
+  asking_in r a (of_ask k q e) = elim (last_get w.asks (lend w r) q k e) [ inl p ↦ of_ask k q p | inr p ↦ subst (λ x. IsIn w x.state) (sym p) (of_kept r) ]
   asking_in r a (of_answer k m e) = of_answer k m e
 
-  still_its : (r : ℕ) (m : Reply) → AnswersIts w.asks m → AnswersIts (w.asks ++ question r ∷ []) m
-  still_its r m a = record { question = a.question; asked = get_front w.asks (question r ∷ []) m.question a.question a.asked; asker = a.asker; above = a.above }
+  still_its : (r : ℕ) (m : Reply) → AnswersIts w.asks m → AnswersIts (w.asks ++ lend w r ∷ []) m
+  still_its r m a = record { question = a.question; asked = get_front w.asks (lend w r ∷ []) m.question a.question a.asked; asker = a.asker; above = a.above }
 
   ask_coherent : (r : ℕ) → r < w.replicas → IsCoherent (after w (Ask r))
   ask_coherent r lt = record {
@@ -262,56 +260,64 @@ module _ (w : World) (i : IsCoherent w) where
     fits = none_fit w (after w (Ask r)) i (asking_in r);
     in_memory = i.in_memory;
     in_kept = i.in_kept;
-    in_asks = λ k q e s. elim (last_get w.asks (question r) q k e) [ inl p ↦ i.in_asks k q p s | inr p ↦ subst (λ x. KnowsItsOwn s (w.kept s) x.state) (sym p) (i.in_kept r s) ];
+    in_asks = λ k q e s. elim (last_get w.asks (lend w r) q k e) [ inl p ↦ i.in_asks k q p s | inr p ↦ subst (λ x. KnowsItsOwn s (w.kept s) x.state) (sym p) (i.in_kept r s) ];
     in_answers = i.in_answers;
     kept_below = i.kept_below;
-    asks_below = λ k q e. elim (last_get w.asks (question r) q k e) [ inl p ↦ i.asks_below k q p | inr p ↦ subst (λ x. AtMost x.state (w.kept x.asker)) (sym p) (reflexive (w.kept r)) ];
+    asks_below = λ k q e. elim (last_get w.asks (lend w r) q k e) [ inl p ↦ i.asks_below k q p | inr p ↦ subst (λ x. AtMost x.state (w.kept x.asker)) (sym p) (reflexive (w.kept r)) ];
     answers_below = i.answers_below;
-    askers = λ k q e. elim (last_get w.asks (question r) q k e) [ inl p ↦ i.askers k q p | inr p ↦ subst (λ x. x.asker < w.replicas) (sym p) lt ];
+    askers = λ k q e. elim (last_get w.asks (lend w r) q k e) [ inl p ↦ i.askers k q p | inr p ↦ subst (λ x. x.asker < w.replicas) (sym p) lt ];
     makers = i.makers;
     answers_its = λ k m e. still_its r m (i.answers_its k m e);
   }
 
-  -- ---- Answer
+  -- ---- Answer, of what was lent
 
-  module _ (s k : ℕ) (q : Question) (asked : slice_get w.asks k ≡ Some q) (lt : s < w.replicas) where
-    abbrev new : Reply
-    new = reply w s k q
+  module _ (p : Question) (lent : IsIn w p.state) (known : (t : ℕ) → KnowsItsOwn t (w.kept t) p.state) (below : AtMost p.state (w.kept p.asker)) (lt : p.asker < w.replicas) where
+    module _ (k : ℕ) (q : Question) (asked : slice_get w.asks k ≡ Some q) where
+      abbrev new : Reply
+      new = reply_from p k q
 
-    answering_in : (a : Coordinates) → IsIn (after_answer w s k (Some q)) a → IsIn w a ⊎ (a ≡ new.state)
-    answering_in a (of_memory t) = inl (of_memory t)
-    answering_in a (of_kept t) = inl (of_kept t)
-    answering_in a (of_ask j p e) = inl (of_ask j p e)
-    answering_in a (of_answer j m e) = elim (last_get w.answers new m j e) [ inl p ↦ inl (of_answer j m p) | inr p ↦ inr (ap (λ x. x.state) p) ]
+      answering_in : (a : Coordinates) → IsIn (after_reply w p k (Some q)) a → IsIn w a ⊎ (a ≡ new.state)
+      answering_in a (of_memory t) = inl (of_memory t)
+      answering_in a (of_kept t) = inl (of_kept t)
+      answering_in a (of_ask j r e) = inl (of_ask j r e)
+      answering_in a (of_answer j m e) = elim (last_get w.answers new m j e) [ inl o ↦ inl (of_answer j m o) | inr o ↦ inr (ap (λ x. x.state) o) ]
 
-    new_agrees : (a : Coordinates) → IsIn w a → AreCompatible new.state a
-    new_agrees a x = compatible_sym a new.state (compatible_least (w.kept s) (ranks q.state) a (agree_in w i a (w.kept s) x (of_kept s)))
+      new_agrees : (a : Coordinates) → IsIn w a → AreCompatible new.state a
+      new_agrees a x = compatible_sym a new.state (compatible_least p.state (ranks q.state) a (agree_in w i a p.state x lent))
 
-    new_fits : Fits w.replicas new.state
-    new_fits = fits_below w.replicas new.state (w.kept s) (least_part (w.kept s) (ranks q.state)) (fits_in w i (w.kept s) (of_kept s))
+      new_fits : Fits w.replicas new.state
+      new_fits = fits_below w.replicas new.state p.state (least_part p.state (ranks q.state)) (fits_in w i p.state lent)
 
-    new_its : AnswersIts w.asks new
-    new_its = record { question = q; asked = asked; asker = refl; above = least_above (w.kept s) (ranks q.state) }
+      new_its : AnswersIts w.asks new
+      new_its = record { question = q; asked = asked; asker = refl; above = least_above p.state (ranks q.state) }
 
-    answer_coherent : IsCoherent (after_answer w s k (Some q))
-    answer_coherent = record {
-      compatible = one_more w (after_answer w s k (Some q)) i new.state answering_in new_agrees;
-      fits = one_fits w (after_answer w s k (Some q)) i new.state answering_in new_fits;
-      in_memory = i.in_memory;
-      in_kept = i.in_kept;
-      in_asks = i.in_asks;
-      in_answers = λ j m e t. elim (last_get w.answers new m j e) [ inl p ↦ i.in_answers j m p t | inr p ↦ subst (λ x. KnowsItsOwn t (w.kept t) x.state) (sym p) (knows_less t (w.kept t) (w.kept s) new.state (i.in_kept s t) (least_part (w.kept s) (ranks q.state))) ];
-      kept_below = i.kept_below;
-      asks_below = i.asks_below;
-      answers_below = λ j m e. elim (last_get w.answers new m j e) [ inl p ↦ i.answers_below j m p | inr p ↦ subst (λ x. AtMost x.state (w.kept x.maker)) (sym p) (least_part (w.kept s) (ranks q.state)) ];
-      askers = i.askers;
-      makers = λ j m e. elim (last_get w.answers new m j e) [ inl p ↦ i.makers j m p | inr p ↦ subst (λ x. x.maker < w.replicas) (sym p) lt ];
-      answers_its = λ j m e. elim (last_get w.answers new m j e) [ inl p ↦ i.answers_its j m p | inr p ↦ subst (AnswersIts w.asks) (sym p) new_its ];
-    }
+      reply_coherent : IsCoherent (after_reply w p k (Some q))
+      reply_coherent = record {
+        compatible = one_more w (after_reply w p k (Some q)) i new.state answering_in new_agrees;
+        fits = one_fits w (after_reply w p k (Some q)) i new.state answering_in new_fits;
+        in_memory = i.in_memory;
+        in_kept = i.in_kept;
+        in_asks = i.in_asks;
+        in_answers = λ j m e t. elim (last_get w.answers new m j e) [ inl o ↦ i.in_answers j m o t | inr o ↦ subst (λ x. KnowsItsOwn t (w.kept t) x.state) (sym o) (knows_less t (w.kept t) p.state new.state (known t) (least_part p.state (ranks q.state))) ];
+        kept_below = i.kept_below;
+        asks_below = i.asks_below;
+        answers_below = λ j m e. elim (last_get w.answers new m j e) [ inl o ↦ i.answers_below j m o | inr o ↦ subst (λ x. AtMost x.state (w.kept x.maker)) (sym o) (transitive _ _ _ (least_part p.state (ranks q.state)) below) ];
+        askers = i.askers;
+        makers = λ j m e. elim (last_get w.answers new m j e) [ inl o ↦ i.makers j m o | inr o ↦ subst (λ x. x.maker < w.replicas) (sym o) lt ];
+        answers_its = λ j m e. elim (last_get w.answers new m j e) [ inl o ↦ i.answers_its j m o | inr o ↦ subst (AnswersIts w.asks) (sym o) new_its ];
+      }
 
-  answer_any : (s k : ℕ) (o : Option Question) → slice_get w.asks k ≡ o → s < w.replicas → IsCoherent (after_answer w s k o)
-  answer_any s k None e lt = i
-  answer_any s k (Some q) e lt = answer_coherent s k q e lt
+    reply_any : (k : ℕ) (o : Option Question) → slice_get w.asks k ≡ o → IsCoherent (after_reply w p k o)
+    reply_any k None e = i
+    reply_any k (Some q) e = reply_coherent k q e
+
+  answer_coherent : (s k : ℕ) → s < w.replicas → IsCoherent (after w (Answer s k))
+  answer_coherent s k lt = reply_any (lend w s) (of_kept s) (i.in_kept s) (reflexive (w.kept s)) lt k (slice_get w.asks k) refl
+
+  lent_coherent : (j k : ℕ) (o : Option Question) → slice_get w.asks j ≡ o → IsCoherent (after_lent w o k)
+  lent_coherent j k None e = i
+  lent_coherent j k (Some p) e = reply_any p (of_ask j p e) (i.in_asks j p e) (i.asks_below j p e) (i.askers j p e) k (slice_get w.asks k) refl
 
   -- ---- Grow
 
@@ -350,7 +356,7 @@ event_coherent w i (Edit r c) ok = edit_coherent w i r c (is_there r w.replicas 
 event_coherent w i (Save r) ok = save_coherent w i r
 event_coherent w i (Crash r) ok = crash_coherent w i r
 event_coherent w i (Ask r) ok = ask_coherent w i r (is_there r w.replicas None ok)
-event_coherent w i (Answer s k) ok = answer_any w i s k (slice_get w.asks k) refl (is_there s w.replicas (cond (is_some (slice_get w.asks k)) None (Some NoSuch)) ok)
+event_coherent w i (Answer s k) ok = answer_coherent w i s k (is_there s w.replicas (cond (is_some (slice_get w.asks k)) None (Some NoSuch)) ok)
 event_coherent w i (Take k) ok = take_coherent w i k (slice_get w.answers k) refl
 event_coherent w i (Grow r name) ok = grow_coherent w i r name
 
@@ -379,6 +385,10 @@ coherent_start ns = record {
   answers_its = λ k m e. cc;
 }
 
-pub run_coherent : (es : List Event) (w : World) → IsCoherent w → Accepted es w → IsCoherent (run es w)
+pub next_coherent : (w : World) (i : IsCoherent w) (e : Happening) → hindrance w e ≡ None → IsCoherent (next w e)
+next_coherent w i (Of e) ok = event_coherent w i e ok
+next_coherent w i (AnswerLent j k) ok = lent_coherent w i j k (slice_get w.asks j) refl
+
+pub run_coherent : (es : List Happening) (w : World) → IsCoherent w → Accepted es w → IsCoherent (run es w)
 run_coherent [] w i a = i
-run_coherent (e ∷ es) w i a = run_coherent es (after w e) (event_coherent w i e a.0) a.1
+run_coherent (e ∷ es) w i a = run_coherent es (next w e) (next_coherent w i e a.0) a.1

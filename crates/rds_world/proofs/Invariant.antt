@@ -29,12 +29,11 @@ pub record IsBacked (T : ℕ → Update) (kept : ℕ → ℕ → Bool) (S : ℕ 
   pub backed : (i : ℕ) → S i ≡ true → kept (T i).replica i ≡ true
 
 -- an ask has a state that its asker kept, and still has
-pub record IsAsk (T : ℕ → Update) (B : ℕ → Coordinates) (h : Holdings) (w : World) (q : Question) (asker : ℕ) : Type 0 where
-  pub same : q.asker ≡ asker
+pub record IsAsk (T : ℕ → Update) (B : ℕ → Coordinates) (h : Holdings) (w : World) (q : Question) (a : Remembered) : Type 0 where
+  pub same : q.asker ≡ a.asker
   pub below : AtMost q.state (w.kept q.asker)
-  pub set : ℕ → Bool
-  pub backed : IsBacked T h.kept set
-  pub join : IsGathered (effect_of T B) set q.state
+  pub backed : IsBacked T h.kept a.held
+  pub join : IsGathered (effect_of T B) a.held q.state
 
 -- an answer has what its maker had kept beyond what was asked from, which the asker still has
 pub record IsAnswer (T : ℕ → Update) (B : ℕ → Coordinates) (h : Holdings) (w : World) (m : Reply) (a : Remembered) : Type 0 where

@@ -21,8 +21,9 @@ use Rattle.rds_delta.specs.Ranks.{ranks}
 use Rattle.rds_delta.proofs.LeastLaws.{least_part}
 use Rattle.rds_world.specs.declared.event.Event.{Event}
 use Rattle.rds_world.specs.declared.event.Event.TheVariants.{Edit, Save, Crash, Ask, Answer, Take, Grow}
-use Rattle.rds_world.specs.World.{World, Question, Reply, put, start, after_edit, reply, after_answer, after_take}
-use Rattle.rds_world.specs.World.{after, refusal_of, run, Accepted}
+use Rattle.rds_world.specs.World.{World, Happening, Of, AnswerLent, Question, Reply, put, start, after_edit, lend}
+use Rattle.rds_world.specs.World.{reply_from, after_reply, after_lent, after_take, after, refusal_of, next, hindrance, run}
+use Rattle.rds_world.specs.World.{Accepted}
 use Rattle.rds_world.specs.Coherent.{HasRosters}
 use Rattle.rds_world.proofs.Coherent.{is_there, there, empty_fits}
 use Rattle.rds_world.proofs.States.{by_life, fits_join, fits_below}
@@ -97,9 +98,6 @@ module _ (w : World) (i : HasRosters w) where
     answers = i.answers;
   }
 
-  abbrev question : ℕ → Question
-  question r = record { asker = r; names = w.kept_names r; state = w.kept r }
-
   ask_rosters : (r : ℕ) → r < w.replicas → HasRosters (after w (Ask r))
   ask_rosters r h = record {
     named = i.named;
@@ -108,14 +106,14 @@ module _ (w : World) (i : HasRosters w) where
     memory_within = i.memory_within;
     memory = i.memory;
     kept = i.kept;
-    askers = λ k q e. elim (last_get w.asks (question r) q k e) [ inl p ↦ i.askers k q p | inr p ↦ subst (λ (x : Question). x.asker < x.names) (sym p) (i.own r h) ];
-    asks = λ k q e. elim (last_get w.asks (question r) q k e) [ inl p ↦ i.asks k q p | inr p ↦ subst (λ x. Fits x.names x.state × (x.names ≤ w.kept_names x.asker)) (sym p) (i.kept r, omega arith) ];
+    askers = λ k q e. elim (last_get w.asks (lend w r) q k e) [ inl p ↦ i.askers k q p | inr p ↦ subst (λ (x : Question). x.asker < x.names) (sym p) (i.own r h) ];
+    asks = λ k q e. elim (last_get w.asks (lend w r) q k e) [ inl p ↦ i.asks k q p | inr p ↦ subst (λ x. Fits x.names x.state × (x.names ≤ w.kept_names x.asker)) (sym p) (i.kept r, omega arith) ];
     answers = i.answers;
   }
 
-  answer_rosters : (s k : ℕ) (o : Option Question) → HasRosters (after_answer w s k o)
-  answer_rosters s k None = i
-  answer_rosters s k (Some q) = record {
+  reply_rosters : (p : Question) → Fits p.names p.state → p.names ≤ w.kept_names p.asker → (k : ℕ) (o : Option Question) → HasRosters (after_reply w p k o)
+  reply_rosters p fits le k None = i
+  reply_rosters p fits le k (Some q) = record {
     named = i.named;
     own = i.own;
     kept_within = i.kept_within;
@@ -124,11 +122,15 @@ module _ (w : World) (i : HasRosters w) where
     kept = i.kept;
     askers = i.askers;
     asks = i.asks;
-    answers = λ j m e. elim (last_get w.answers (reply w s k q) m j e) [
-      | inl p ↦ i.answers j m p
-      | inr p ↦ subst (λ x. Fits x.names x.state × (x.names ≤ w.kept_names x.maker)) (sym p) (fits_below (w.kept_names s) (reply w s k q).state (w.kept s) (least_part (w.kept s) (ranks q.state)) (i.kept s), omega arith)
+    answers = λ j m e. elim (last_get w.answers (reply_from p k q) m j e) [
+      | inl o ↦ i.answers j m o
+      | inr o ↦ subst (λ x. Fits x.names x.state × (x.names ≤ w.kept_names x.maker)) (sym o) (fits_below p.names (reply_from p k q).state p.state (least_part p.state (ranks q.state)) fits, le)
     ];
   }
+
+  lent_rosters : (j k : ℕ) (o : Option Question) → slice_get w.asks j ≡ o → HasRosters (after_lent w o k)
+  lent_rosters j k None e = i
+  lent_rosters j k (Some p) e = let x = i.asks j p e in reply_rosters p x.0 x.1 k (slice_get w.asks k)
 
   take_rosters : (k : ℕ) (o : Option Reply) → slice_get w.answers k ≡ o → HasRosters (after_take w o)
   take_rosters k None e = i
@@ -177,13 +179,17 @@ event_rosters w i (Edit r c) ok = edit_rosters w i r c (is_there r w.replicas (r
 event_rosters w i (Save r) ok = save_rosters w i r
 event_rosters w i (Crash r) ok = crash_rosters w i r
 event_rosters w i (Ask r) ok = ask_rosters w i r (is_there r w.replicas None ok)
-event_rosters w i (Answer s k) ok = answer_rosters w i s k (slice_get w.asks k)
+event_rosters w i (Answer s k) ok = reply_rosters w i (lend w s) (i.kept s) (omega arith) k (slice_get w.asks k)
 event_rosters w i (Take k) ok = take_rosters w i k (slice_get w.answers k) refl
 event_rosters w i (Grow r name) ok = let x = grow_allowed r w.replicas (w.memory_names r == w.replicas) (are_names (w.roster ++ name ∷ [])) ok in grow_rosters w i r name x.0 (same_number (w.memory_names r) w.replicas x.1)
 
-pub run_rosters : (es : List Event) (w : World) → HasRosters w → Accepted es w → HasRosters (run es w)
+pub next_rosters : (w : World) (i : HasRosters w) (e : Happening) → hindrance w e ≡ None → HasRosters (next w e)
+next_rosters w i (Of e) ok = event_rosters w i e ok
+next_rosters w i (AnswerLent j k) ok = lent_rosters w i j k (slice_get w.asks j) refl
+
+pub run_rosters : (es : List Happening) (w : World) → HasRosters w → Accepted es w → HasRosters (run es w)
 run_rosters [] w i a = i
-run_rosters (e ∷ es) w i a = run_rosters es (after w e) (event_rosters w i e a.0) a.1
+run_rosters (e ∷ es) w i a = run_rosters es (next w e) (next_rosters w i e a.0) a.1
 
 -- ---- at most 256 names
 
@@ -195,9 +201,13 @@ named_few true true due h = refl
 named_few true false due h = cc
 named_few false c due h = cc
 
-answer_replicas : (w : World) (s k : ℕ) (o : Option Question) → (after_answer w s k o).replicas ≡ w.replicas
-answer_replicas w s k None = refl
-answer_replicas w s k (Some q) = refl
+reply_replicas : (w : World) (p : Question) (k : ℕ) (o : Option Question) → (after_reply w p k o).replicas ≡ w.replicas
+reply_replicas w p k None = refl
+reply_replicas w p k (Some q) = refl
+
+lent_replicas : (w : World) (o : Option Question) (k : ℕ) → (after_lent w o k).replicas ≡ w.replicas
+lent_replicas w None k = refl
+lent_replicas w (Some p) k = reply_replicas w p k (slice_get w.asks k)
 
 take_replicas : (w : World) (o : Option Reply) → (after_take w o).replicas ≡ w.replicas
 take_replicas w None = refl
@@ -208,13 +218,17 @@ few_after w i (Edit r c) ok le = le
 few_after w i (Save r) ok le = le
 few_after w i (Crash r) ok le = le
 few_after w i (Ask r) ok le = le
-few_after w i (Answer s k) ok le = subst (λ n. n ≤ 256) (sym (answer_replicas w s k (slice_get w.asks k))) le
+few_after w i (Answer s k) ok le = subst (λ n. n ≤ 256) (sym (reply_replicas w (lend w s) k (slice_get w.asks k))) le
 few_after w i (Take k) ok le = subst (λ n. n ≤ 256) (sym (take_replicas w (slice_get w.answers k))) le
 few_after w i (Grow r name) ok le =
     let due = there (nat_lt r w.replicas) (cond (w.memory_names r == w.replicas) (cond (are_names (w.roster ++ name ∷ [])) None (Some BadRoster)) (Some WrongRoster)) ok in
     let names : are_names (w.roster ++ name ∷ []) ≡ true = named_few (w.memory_names r == w.replicas) (are_names (w.roster ++ name ∷ [])) WrongRoster due in
     subst (λ n. n ≤ 256) (sym (one_longer w.roster name w.replicas i.named)) (few_names (w.roster ++ name ∷ []) names)
 
-pub few_run : (es : List Event) (w : World) → HasRosters w → Accepted es w → w.replicas ≤ 256 → (run es w).replicas ≤ 256
+few_next : (w : World) (i : HasRosters w) (e : Happening) → hindrance w e ≡ None → w.replicas ≤ 256 → (next w e).replicas ≤ 256
+few_next w i (Of e) ok le = few_after w i e ok le
+few_next w i (AnswerLent j k) ok le = subst (λ n. n ≤ 256) (sym (lent_replicas w (slice_get w.asks j) k)) le
+
+pub few_run : (es : List Happening) (w : World) → HasRosters w → Accepted es w → w.replicas ≤ 256 → (run es w).replicas ≤ 256
 few_run [] w i a le = le
-few_run (e ∷ es) w i a le = few_run es (after w e) (event_rosters w i e a.0) a.1 (few_after w i e a.0 le)
+few_run (e ∷ es) w i a le = few_run es (next w e) (next_rosters w i e a.0) a.1 (few_next w i e a.0 le)

@@ -1,35 +1,31 @@
 -- A run goes on by one event; and what holds of the model's run holds of the world that stands for it.
 use Rattle.std.proofs.Common.{◌≡◌, Result, Ok, Err, IfOk, IfErr, MatchResult, ℕ, ◌<◌, ◌≤◌, ◌+◌, suc, zero, List, []}
-use Rattle.std.proofs.Common.{◌∷◌, ◌++◌, length, take, drop, get_or, Option, Some, None, refl, sym, ap, ◌∙◌, subst}
+use Rattle.std.proofs.Common.{◌∷◌, ◌++◌, length, map, take, drop, get_or, Option, Some, None, refl, sym, ap, ◌∙◌, subst}
 use Rattle.std.proofs.Common.{arith, slice_get, inl, inr}
 use Rattle.std.proofs.lemmas.List.{take_more}
 use Rattle.rds_names.specs.Roster.{RosterValue}
 use Rattle.rds_names.specs.declared.fault.Fault.{Fault}
+use Rattle.rds_state.specs.Coordinates.{Coordinates}
 use Rattle.rds_state.specs.Fits.{ReplicaValue}
 use Rattle.rds_state.specs.Value.{coordinates}
-use Rattle.rds_state.proofs.JoinLaws.{same_value}
 use Rattle.rds_world.specs.declared.event.Event.{Event}
 use Rattle.rds_world.specs.declared.event.Event.TheVariants.{Edit, Save, Crash, Ask, Answer, Take, Grow}
-use Rattle.rds_world.specs.World.{World, Question, Reply, after, after_answer, after_take, run, start, Accepted}
+use Rattle.rds_world.specs.World.{World, Of, Question, Reply, after, after_answer, after_take, run, start, Accepted}
 use Rattle.rds_world.specs.Coherent.{Store, Memory, Kept, state_in}
 use Rattle.rds_world.specs.Events.{IsAccepted, Refuses, roster_after}
-use Rattle.rds_world.specs.Law.{IsCoherentAfter, HasRostersAfter, AreFriendsAfter, EachIsTheJoin, EachDotIsExplained}
-use Rattle.rds_world.specs.Law.{EachShowsItsUpdates, SameUpdatesSameState, EachAnswerBringsWhatWasKept, world_after}
-use Rattle.rds_world.specs.Law.{held_after, bases_after, effects_after, held_in}
+use Rattle.rds_world.specs.Law.{Afterwards, Law, bases_after, held_after, world_after}
+use Rattle.rds_world.specs.Reached.{replicas_in}
 use Rattle.rds_world.specs.Replies.{EachAnswerIsCertified}
-use Rattle.rds_world.specs.Simulation.{roster_in, AllHappen, Happens, Reaches, Stops, Throughout, replicas_in}
-use Rattle.rds_world.specs.Simulation.{ReplicasAreJoins, ReplicasShowTheirUpdates, SameUpdatesSameReplicas}
+use Rattle.rds_world.specs.Simulation.{roster_in, AllHappen, Happens, Reaches, Stops}
 use Rattle.rds_world.specs.Stands.{state_of, Stands}
 use Rattle.rds_world.specs.Stored.{AnswerText, WorldValue}
-use Rattle.rds_world.specs.Updates.{IsJoinOf, ShowsUpdates}
-use Rattle.rds_world.proofs.Answering.{each_answer_brings}
+use Rattle.rds_world.proofs.Answering.{each_answer_brings, each_lent_brings}
 use Rattle.rds_world.proofs.Certified.{each_certified}
 use Rattle.rds_world.proofs.Coherent.{coherent_start, run_coherent}
 use Rattle.rds_world.proofs.Counters.{store_shows}
-use Rattle.rds_world.proofs.Friends.{friends}
 use Rattle.rds_world.proofs.Facts.{store_join, explained, same_states}
+use Rattle.rds_world.proofs.Friends.{friends}
 use Rattle.rds_world.proofs.Rosters.{few_run, rosters_start, run_rosters}
-use Rattle.rds_world.proofs.Runs.{run_on}
 use Rattle.rds_world.proofs.Steps.{lawful}
 
 -- ---- one event more
@@ -54,36 +50,44 @@ roster_goes_on roster w (Answer s k) = ap (λ names. record roster { names = nam
 roster_goes_on roster w (Take k) = ap (λ names. record roster { names = names }) (take_roster w (slice_get w.answers k))
 roster_goes_on roster w (Grow r name) = refl
 
-happens_last : (roster : RosterValue) (es : List Event) (e : Event) (w : World) → AllHappen roster es w → Happens roster (run es w) e → AllHappen roster (es ++ e ∷ []) w
+happens_last : (roster : RosterValue) (es : List Event) (e : Event) (w : World) → AllHappen roster es w → Happens roster (run (map Of es) w) e → AllHappen roster (es ++ e ∷ []) w
 happens_last roster [] e w all last = (last, tt)
 happens_last roster (x ∷ es) e w all last = (all.0, happens_last roster es e (after w x) all.1 last)
 
 -- what happens, the model doesn't refuse
-accepted_by_model : (roster : RosterValue) (es : List Event) (w : World) → AllHappen roster es w → Accepted es w
+accepted_by_model : (roster : RosterValue) (es : List Event) (w : World) → AllHappen roster es w → Accepted (map Of es) w
 accepted_by_model roster [] w all = tt
 accepted_by_model roster (e ∷ es) w all = (all.0.accepted.due, accepted_by_model roster es (after w e) all.1)
+
+run_last : (es : List Event) (e : Event) (w : World) → run (map Of (es ++ e ∷ [])) w ≡ after (run (map Of es) w) e
+run_last [] e w = refl
+run_last (x ∷ es) e w = run_last es e (after w x)
 
 module _ (roster : RosterValue) (xs : List Event) (i : ℕ) (e : Event) (lt : i < length xs) (is : get_or xs i e ≡ e) (v : WorldValue) (reached : Reaches roster (take i xs) v) where
   abbrev n : List (List ℕ)
   n = roster.names
 
-  pub reaches_more : (u : WorldValue) → u.roster ≡ roster_after v.roster e → IsAccepted v (world_after n (take i xs)) e → Stands u (after (world_after n (take i xs)) e) → Reaches roster (take (i + 1) xs) u
+  abbrev w : World
+  w = world_after n (map Of (take i xs))
+
+  pub reaches_more : (u : WorldValue) → u.roster ≡ roster_after v.roster e → IsAccepted v w e → Stands u (after w e) → Reaches roster (take (i + 1) xs) u
   reaches_more u same accepted stands =
       let more : take (i + 1) xs ≡ take i xs ++ e ∷ [] = take_more xs i e lt ∙ ap (λ x. take i xs ++ x ∷ []) is in
+      let last : world_after n (map Of (take i xs ++ e ∷ [])) ≡ after w e = run_last (take i xs) e (start n) in
       subst (λ es. Reaches roster es u) (sym more) (record {
         happened = happens_last roster (take i xs) e (start n) reached.happened (record { value = v; of_roster = reached.of_roster; stands = reached.stands; accepted = accepted });
-        stands = subst (Stands u) (sym (run_on (take i xs) (e ∷ []) (start n))) stands;
-        of_roster = same ∙ ap (λ r. roster_after r e) reached.of_roster ∙ sym (roster_goes_on roster (world_after n (take i xs)) e) ∙ ap (roster_in roster) (sym (run_on (take i xs) (e ∷ []) (start n)));
+        stands = subst (Stands u) (sym last) stands;
+        of_roster = same ∙ ap (λ r. roster_after r e) reached.of_roster ∙ sym (roster_goes_on roster w e) ∙ ap (roster_in roster) (sym last);
       })
 
-  pub stops_here : (u : WorldValue) (f : Fault) → u ≡ v → Refuses v (world_after n (take i xs)) e f → Stops roster xs u f
+  pub stops_here : (u : WorldValue) (f : Fault) → u ≡ v → Refuses v w e f → Stops roster xs u f
   stops_here u f same refused = inl (record {
     before = take i xs;
     last = e;
     later = drop (suc i) xs;
     whole = split xs i e lt is;
     reached = subst (Reaches roster (take i xs)) (sym same) reached;
-    refused = subst (λ z. Refuses z (world_after n (take i xs)) e f) (sym same) refused;
+    refused = subst (λ z. Refuses z w e f) (sym same) refused;
   })
     where
       split : (xs : List Event) (i : ℕ) (e : Event) → i < length xs → get_or xs i e ≡ e → xs ≡ take i xs ++ e ∷ drop (suc i) xs
@@ -93,70 +97,38 @@ module _ (roster : RosterValue) (xs : List Event) (i : ℕ) (e : Event) (lt : i 
 
 -- ---- the law
 
-joins : (n : List (List ℕ)) (es : List Event) → Accepted es (start n) → EachIsTheJoin n es
-joins n es a = store_join (held_after es).update (bases_after n es) (held_after es) (world_after n es) (lawful n es a)
-
-same : (n : List (List ℕ)) (es : List Event) → Accepted es (start n) → SameUpdatesSameState n es
-same n es a = same_states (held_after es).update (bases_after n es) (held_after es) (world_after n es) (lawful n es a)
-
-shows : (n : List (List ℕ)) (es : List Event) → Accepted es (start n) → EachShowsItsUpdates n es
-shows n es a le = store_shows (held_after es).update (bases_after n es) (held_after es) (world_after n es) (lawful n es a) 256 refl (few_run es (start n) (rosters_start n) a le)
-
-pub coherent_throughout : (n : List (List ℕ)) (es : List Event) → Throughout n es IsCoherentAfter
-coherent_throughout n es before later is a = run_coherent before (start n) (coherent_start n) a
-
-pub friends_throughout : (n : List (List ℕ)) (es : List Event) → Throughout n es AreFriendsAfter
-friends_throughout n es before later is a = friends (world_after n before) (run_coherent before (start n) (coherent_start n) a)
-
-pub rosters_throughout : (n : List (List ℕ)) (es : List Event) → Throughout n es HasRostersAfter
-rosters_throughout n es before later is a = run_rosters before (start n) (rosters_start n) a
-
-pub joins_throughout : (n : List (List ℕ)) (es : List Event) → Throughout n es EachIsTheJoin
-joins_throughout n es before later is a = joins n before a
-
-pub dots_throughout : (n : List (List ℕ)) (es : List Event) → Throughout n es EachDotIsExplained
-dots_throughout n es before later is a = explained (held_after before).update (bases_after n before) (held_after before) (world_after n before) (lawful n before a)
-
-pub documents_throughout : (n : List (List ℕ)) (es : List Event) → Throughout n es EachShowsItsUpdates
-documents_throughout n es before later is a = shows n before a
-
-pub same_throughout : (n : List (List ℕ)) (es : List Event) → Throughout n es SameUpdatesSameState
-same_throughout n es before later is a = same n before a
-
-pub answers_throughout : (n : List (List ℕ)) (es : List Event) → Throughout n es EachAnswerBringsWhatWasKept
-answers_throughout n es before later is a = each_answer_brings n before a
+pub law_holds : Afterwards Law
+law_holds n es a =
+    let coherent = run_coherent es (start n) (coherent_start n) a in
+    let its = lawful n es a in
+    record {
+      coherent = coherent;
+      rosters = run_rosters es (start n) (rosters_start n) a;
+      friends = friends (world_after n es) coherent;
+      joins = store_join (held_after es).update (bases_after n es) (held_after es) (world_after n es) its;
+      dots = explained (held_after es).update (bases_after n es) (held_after es) (world_after n es) its;
+      documents = λ le. store_shows (held_after es).update (bases_after n es) (held_after es) (world_after n es) its 256 refl (few_run es (start n) (rosters_start n) a le);
+      same = same_states (held_after es).update (bases_after n es) (held_after es) (world_after n es) its;
+      answers = each_answer_brings n es a;
+      lent = each_lent_brings n es a;
+    }
 
 -- ---- the world that was reached
 
 module _ (roster : RosterValue) (es : List Event) (v : WorldValue) (r : Reaches roster es v) where
-  abbrev names : List (List ℕ)
-  names = roster.names
+  pub obeyed : Law roster.names (map Of es)
+  obeyed = law_holds roster.names (map Of es) (accepted_by_model roster es (start roster.names) r.happened)
 
-  pub accepted : Accepted es (start names)
-  accepted = accepted_by_model roster es (start names) r.happened
-
-  pub stored : (x : Store) (k : ℕ) (m : ReplicaValue) → slice_get (replicas_in v x) k ≡ Some m → state_in (world_after names es) x k ≡ coordinates m.state
+  pub stored : (x : Store) (k : ℕ) (m : ReplicaValue) → slice_get (replicas_in v x) k ≡ Some m → state_in (world_after roster.names (map Of es)) x k ≡ coordinates m.state
   stored Memory k m e = r.stands.memory k ∙ ap state_of e
   stored Kept k m e = r.stands.kept k ∙ ap state_of e
 
-  pub replicas_are_joins : ReplicasAreJoins names es v
-  replicas_are_joins x k m e = subst (IsJoinOf (effects_after names es) (held_in (held_after es) x k)) (stored x k m e) (joins names es accepted x k)
+  -- what the law says of a state, it says of the replica that stands for it
+  pub of_stored : (P : Coordinates → Type 0) (x : Store) (k : ℕ) (m : ReplicaValue) → slice_get (replicas_in v x) k ≡ Some m → P (state_in (world_after roster.names (map Of es)) x k) → P (coordinates m.state)
+  of_stored P x k m e = subst P (stored x k m e)
 
-  pub replicas_show : length names ≤ 256 → ReplicasShowTheirUpdates names es v
-  replicas_show le x k m e = subst (ShowsUpdates (held_after es).update (held_after es).size (held_in (held_after es) x k)) (stored x k m e) (shows names es accepted le x k)
-
-  pub same_replicas : SameUpdatesSameReplicas names es v
-  same_replicas x y k j a b ea eb held = same_value a.state b.state (sym (stored x k a ea) ∙ same names es accepted x y k j held ∙ stored y j b eb)
-
-pub if_ok : {T E : Type 0} (P Q : T → Type 0) (r : Result T E) → ((x : T) → P x → Q x) → IfOk r P → IfOk r Q
-if_ok P Q (Ok x) f p = f x p
-if_ok P Q (Err e) f p = tt
-
-certified_where : (roster : RosterValue) (es : List Event) (v : WorldValue) → Reaches roster es v → EachAnswerIsCertified v
-certified_where roster es v r =
-    let n = roster.names in
-    let accepted = accepted_by_model roster es (start n) r.happened in
-    each_certified v (record { world = world_after n es; stands = r.stands; coherent = run_coherent es (start n) (coherent_start n) accepted; rosters = run_rosters es (start n) (rosters_start n) accepted })
+  certified_where : EachAnswerIsCertified v
+  certified_where = each_certified v (record { world = world_after roster.names (map Of es); stands = r.stands; coherent = obeyed.coherent; rosters = obeyed.rosters })
 
 no_answers : (v : WorldValue) → v.answers ≡ [] → EachAnswerIsCertified v
 no_answers v is k a e = let bad : None ≡ Some a = ap (λ (xs : List AnswerText). slice_get xs k) (sym is) ∙ e in cc

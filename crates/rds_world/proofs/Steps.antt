@@ -10,10 +10,10 @@ use Rattle.rds_state.specs.declared.command.Command.{Command}
 use Rattle.rds_state.proofs.JoinLaws.{reflexive, transitive}
 use Rattle.rds_world.specs.declared.event.Event.{Event}
 use Rattle.rds_world.specs.declared.event.Event.TheVariants.{Edit, Save, Crash, Ask, Answer, Take, Grow}
-use Rattle.rds_world.specs.World.{World, Question, Reply, empty, put, start, reply, after, after_answer, after_take}
-use Rattle.rds_world.specs.World.{refusal_of, run, Accepted}
-use Rattle.rds_world.specs.Held.{Update, Remembered, Holdings, both, with_update, nothing_held, hold, remembers, takes}
-use Rattle.rds_world.specs.Held.{holdings_after}
+use Rattle.rds_world.specs.World.{World, Happening, Of, AnswerLent, Question, Reply, empty, put, start, lend, reply_from}
+use Rattle.rds_world.specs.World.{after, after_reply, after_lent, after_take, refusal_of, next, hindrance, run, Accepted}
+use Rattle.rds_world.specs.Held.{Update, Remembered, Holdings, both, with_update, nothing_held, hold, remembers}
+use Rattle.rds_world.specs.Held.{remembers_lent, takes, held_next, holdings_after}
 use Rattle.rds_world.specs.Updates.{effect_of, bases_with, bases}
 use Rattle.rds_delta.proofs.LeastLaws.{grown_delta}
 use Rattle.rds_world.proofs.Effects.{effect_agrees}
@@ -89,8 +89,7 @@ module _ (T : ℕ → Update) (B : ℕ → Coordinates) (h : Holdings) (w : Worl
     asks = matched_weaker (IsAsk T B h w) (IsAsk T B (hold h (Save r)) (after w (Save r))) w.asks h.asks (λ m a x. record {
       same = x.same;
       below = transitive _ _ _ x.below (kept_state_grows r m.asker);
-      set = x.set;
-      backed = backed_grows r x.set x.backed;
+      backed = backed_grows r a.held x.backed;
       join = x.join;
     }) l.asks;
     answers = matched_weaker (IsAnswer T B h w) (IsAnswer T B (hold h (Save r)) (after w (Save r))) w.answers h.answers (λ m a x. record {
@@ -109,8 +108,7 @@ module _ (T : ℕ → Update) (B : ℕ → Coordinates) (h : Holdings) (w : Worl
   asks_stay h' w' p q = matched_weaker (IsAsk T B h w) (IsAsk T B h' w') w.asks h.asks (λ m a x. record {
     same = x.same;
     below = subst (λ f. AtMost m.state (f m.asker)) (sym q) x.below;
-    set = x.set;
-    backed = subst (λ K. IsBacked T K x.set) (sym p) x.backed;
+    backed = subst (λ K. IsBacked T K a.held) (sym p) x.backed;
     join = x.join;
   }) l.asks
 
@@ -142,7 +140,7 @@ module _ (T : ℕ → Update) (B : ℕ → Coordinates) (h : Holdings) (w : Worl
   }
 
   -- nothing changes but what was asked and answered
-  texts_keep : (asked : List ℕ) (answered : List Remembered) (qs : List Question) (ms : List Reply)
+  texts_keep : (asked answered : List Remembered) (qs : List Question) (ms : List Reply)
       → AllZip (IsAsk T B (record h { asks = asked; answers = answered }) (record w { asks = qs; answers = ms })) qs asked
       → AllZip (IsAnswer T B (record h { asks = asked; answers = answered }) (record w { asks = qs; answers = ms })) ms answered
       → Lawful T B (record h { asks = asked; answers = answered }) (record w { asks = qs; answers = ms })
@@ -163,12 +161,11 @@ module _ (T : ℕ → Update) (B : ℕ → Coordinates) (h : Holdings) (w : Worl
 
   ask_keeps : (r : ℕ) → Lawful T B (hold h (Ask r)) (after w (Ask r))
   ask_keeps r =
-      let q : Question = record { asker = r; names = w.kept_names r; state = w.kept r } in
-      texts_keep (h.asks ++ r ∷ []) h.answers (w.asks ++ q ∷ []) w.answers
-      (matched_last (IsAsk T B (hold h (Ask r)) (after w (Ask r))) w.asks h.asks q r (asks_stay (hold h (Ask r)) (after w (Ask r)) refl refl) (record {
+      let a : Remembered = record { asker = r; held = h.kept r } in
+      texts_keep (h.asks ++ a ∷ []) h.answers (w.asks ++ lend w r ∷ []) w.answers
+      (matched_last (IsAsk T B (hold h (Ask r)) (after w (Ask r))) w.asks h.asks (lend w r) a (asks_stay (hold h (Ask r)) (after w (Ask r)) refl refl) (record {
         same = refl;
         below = reflexive (w.kept r);
-        set = h.kept r;
         backed = l.kept_backed r;
         join = l.kept r;
       }))
@@ -190,23 +187,37 @@ module _ (T : ℕ → Update) (B : ℕ → Coordinates) (h : Holdings) (w : Worl
     answers = answers_stay (hold h (Grow r name)) (after w (Grow r name)) refl refl;
   }
 
-  answer_keeps : (s k : ℕ) (m : Option Question) (a : Option ℕ) → Together (IsAsk T B h w) m a → Lawful T B (remembers h s a) (after_answer w s k m)
-  answer_keeps s k None None x = l
-  answer_keeps s k None (Some a) x = absurd x
-  answer_keeps s k (Some m) None x = absurd x
-  answer_keeps s k (Some m) (Some a) x =
-      let g = remembers h s (Some a) in
-      let u = after_answer w s k (Some m) in
-      texts_keep h.asks (h.answers ++ record { asker = a; held = h.kept s } ∷ []) w.asks (w.answers ++ reply w s k m ∷ []) (asks_stay g u refl refl)
-      (matched_last (IsAnswer T B g u) w.answers h.answers (reply w s k m) (record { asker = a; held = h.kept s }) (answers_stay g u refl refl) (record {
+  -- an answer, of a state that was kept once
+  reply_keeps : (p : Question) (held : ℕ → Bool) → IsBacked T h.kept held → IsGathered (effect_of T B) held p.state → (k : ℕ) (m : Option Question) (a : Option Remembered) → Together (IsAsk T B h w) m a
+      → Lawful T B (remembers h held a) (after_reply w p k m)
+  reply_keeps p held backed join k None None x = l
+  reply_keeps p held backed join k None (Some a) x = absurd x
+  reply_keeps p held backed join k (Some m) None x = absurd x
+  reply_keeps p held backed join k (Some m) (Some a) x =
+      let g = remembers h held (Some a) in
+      let u = after_reply w p k (Some m) in
+      texts_keep h.asks (h.answers ++ record { asker = a.asker; held = held } ∷ []) w.asks (w.answers ++ reply_from p k m ∷ []) (asks_stay g u refl refl)
+      (matched_last (IsAnswer T B g u) w.answers h.answers (reply_from p k m) (record { asker = a.asker; held = held }) (answers_stay g u refl refl) (record {
         same = x.same;
-        full = w.kept s;
+        full = p.state;
         asked = m.state;
         sent = refl;
         below = x.below;
-        backed = l.kept_backed s;
-        join = l.kept s;
+        backed = backed;
+        join = join;
       }))
+
+  both_asked : (k : ℕ) → Together (IsAsk T B h w) (slice_get w.asks k) (slice_get h.asks k)
+  both_asked k = matched_at (IsAsk T B h w) w.asks h.asks k l.asks
+
+  answer_keeps : (s k : ℕ) → Lawful T B (hold h (Answer s k)) (after w (Answer s k))
+  answer_keeps s k = reply_keeps (lend w s) (h.kept s) (l.kept_backed s) (l.kept s) k (slice_get w.asks k) (slice_get h.asks k) (both_asked k)
+
+  lent_keeps : (k : ℕ) (m : Option Question) (a : Option Remembered) → Together (IsAsk T B h w) m a → Lawful T B (remembers_lent h a k) (after_lent w m k)
+  lent_keeps k None None x = l
+  lent_keeps k None (Some a) x = absurd x
+  lent_keeps k (Some m) None x = absurd x
+  lent_keeps k (Some m) (Some a) x = reply_keeps m a.held x.backed x.join k (slice_get w.asks k) (slice_get h.asks k) (both_asked k)
 
   kept_below : (r : ℕ) → AtMost (w.kept r) (w.memory r)
   kept_below r = gathered_smaller (effect_of T B) (h.kept r) (h.memory r) (w.kept r) (w.memory r) (l.kept r) (l.memory r) (l.within r)
@@ -302,115 +313,126 @@ module _ (T : ℕ → Update) (B : ℕ → Coordinates) (h : Holdings) (w : Worl
       answers = answers_stay (hold h (Edit r c)) (after w (Edit r c)) refl refl;
     }
 
--- what the tables say of an event
-abbrev pub IsInTables : (ℕ → Update) → (ℕ → Coordinates) → Holdings → World → Event → Type 0
-IsInTables T B h w (Edit r c) = (T h.size ≡ record { replica = r; command = c; past = h.memory r }) × (B h.size ≡ w.memory r)
-IsInTables T B h w (Save r) = Unit {0}
-IsInTables T B h w (Crash r) = Unit {0}
-IsInTables T B h w (Ask r) = Unit {0}
-IsInTables T B h w (Answer s k) = Unit {0}
-IsInTables T B h w (Take k) = Unit {0}
-IsInTables T B h w (Grow r name) = Unit {0}
+-- what the tables say of what happens
+abbrev pub IsInTables : (ℕ → Update) → (ℕ → Coordinates) → Holdings → World → Happening → Type 0
+IsInTables T B h w (Of (Edit r c)) = (T h.size ≡ record { replica = r; command = c; past = h.memory r }) × (B h.size ≡ w.memory r)
+IsInTables T B h w e = Unit {0}
 
-pub event_keeps : (T : ℕ → Update) (B : ℕ → Coordinates) (h : Holdings) (w : World) (e : Event) → Lawful T B h w → refusal_of w e ≡ None → IsInTables T B h w e → Lawful T B (hold h e) (after w e)
+pub event_keeps : (T : ℕ → Update) (B : ℕ → Coordinates) (h : Holdings) (w : World) (e : Event) → Lawful T B h w → refusal_of w e ≡ None → IsInTables T B h w (Of e) → Lawful T B (hold h e) (after w e)
 event_keeps T B h w (Edit r c) l ok t = edit_keeps T B h w l r c (is_there r w.replicas (refusal (w.memory r) r c) ok) (there (nat_lt r w.replicas) (refusal (w.memory r) r c) ok) (ap (λ u. u.replica) t.0) (ap (λ u. u.command) t.0) (ap (λ u. u.past) t.0) t.1
 event_keeps T B h w (Save r) l ok t = save_keeps T B h w l r
 event_keeps T B h w (Crash r) l ok t = crash_keeps T B h w l r
 event_keeps T B h w (Ask r) l ok t = ask_keeps T B h w l r
-event_keeps T B h w (Answer s k) l ok t = answer_keeps T B h w l s k (slice_get w.asks k) (slice_get h.asks k) (matched_at (IsAsk T B h w) w.asks h.asks k l.asks)
+event_keeps T B h w (Answer s k) l ok t = answer_keeps T B h w l s k
 event_keeps T B h w (Take k) l ok t = take_keeps T B h w l (slice_get w.answers k) (slice_get h.answers k) (matched_at (IsAnswer T B h w) w.answers h.answers k l.answers)
 event_keeps T B h w (Grow r name) l ok t = grow_keeps T B h w l r name
 
-remembers_same : (h : Holdings) (s : ℕ) (o : Option ℕ) → ((remembers h s o).size ≡ h.size) × ((remembers h s o).update ≡ h.update)
-remembers_same h s None = (refl, refl)
-remembers_same h s (Some a) = (refl, refl)
+next_keeps : (T : ℕ → Update) (B : ℕ → Coordinates) (h : Holdings) (w : World) (e : Happening) → Lawful T B h w → hindrance w e ≡ None → IsInTables T B h w e → Lawful T B (held_next h e) (next w e)
+next_keeps T B h w (Of e) l ok t = event_keeps T B h w e l ok t
+next_keeps T B h w (AnswerLent j k) l ok t = lent_keeps T B h w l k (slice_get w.asks j) (slice_get h.asks j) (both_asked T B h w l j)
+
+remembers_same : (h : Holdings) (held : ℕ → Bool) (o : Option Remembered) → ((remembers h held o).size ≡ h.size) × ((remembers h held o).update ≡ h.update)
+remembers_same h held None = (refl, refl)
+remembers_same h held (Some a) = (refl, refl)
+
+lent_same : (h : Holdings) (o : Option Remembered) (k : ℕ) → ((remembers_lent h o k).size ≡ h.size) × ((remembers_lent h o k).update ≡ h.update)
+lent_same h None k = (refl, refl)
+lent_same h (Some a) k = remembers_same h a.held (slice_get h.asks k)
 
 takes_same : (h : Holdings) (o : Option Remembered) → ((takes h o).size ≡ h.size) × ((takes h o).update ≡ h.update)
 takes_same h None = (refl, refl)
 takes_same h (Some a) = (refl, refl)
 
-hold_same : (h : Holdings) (e : Event) (i : ℕ) → i < h.size → (i < (hold h e).size) × ((hold h e).update i ≡ h.update i)
-hold_same h (Edit r c) i k = (omega arith, put_there h.update h.size (record { replica = r; command = c; past = h.memory r }) i (λ e. absurd (omega arith)))
-hold_same h (Save r) i k = (k, refl)
-hold_same h (Crash r) i k = (k, refl)
-hold_same h (Ask r) i k = (k, refl)
-hold_same h (Grow r name) i k = (k, refl)
-hold_same h (Answer s n) i k = let x = remembers_same h s (slice_get h.asks n) in (subst (λ m. i < m) (sym x.0) k, ap (λ f. f i) x.1)
-hold_same h (Take n) i k = let x = takes_same h (slice_get h.answers n) in (subst (λ m. i < m) (sym x.0) k, ap (λ f. f i) x.1)
+hold_same : (h : Holdings) (e : Happening) (i : ℕ) → i < h.size → (i < (held_next h e).size) × ((held_next h e).update i ≡ h.update i)
+hold_same h (Of (Edit r c)) i k = (omega arith, put_there h.update h.size (record { replica = r; command = c; past = h.memory r }) i (λ e. absurd (omega arith)))
+hold_same h (Of (Save r)) i k = (k, refl)
+hold_same h (Of (Crash r)) i k = (k, refl)
+hold_same h (Of (Ask r)) i k = (k, refl)
+hold_same h (Of (Grow r name)) i k = (k, refl)
+hold_same h (Of (Answer s n)) i k = let x = remembers_same h (h.kept s) (slice_get h.asks n) in (subst (λ m. i < m) (sym x.0) k, ap (λ f. f i) x.1)
+hold_same h (Of (Take n)) i k = let x = takes_same h (slice_get h.answers n) in (subst (λ m. i < m) (sym x.0) k, ap (λ f. f i) x.1)
+hold_same h (AnswerLent j n) i k = let x = lent_same h (slice_get h.asks j) n in (subst (λ m. i < m) (sym x.0) k, ap (λ f. f i) x.1)
 
-noted_same : (base : ℕ → Coordinates) (n : ℕ) (w : World) (e : Event) (i : ℕ) → i < n → bases_with base n w e i ≡ base i
-noted_same base n w (Edit r c) i k = put_there base n (w.memory r) i (λ e. absurd (omega arith))
-noted_same base n w (Save r) i k = refl
-noted_same base n w (Crash r) i k = refl
-noted_same base n w (Ask r) i k = refl
-noted_same base n w (Answer s m) i k = refl
-noted_same base n w (Take m) i k = refl
-noted_same base n w (Grow r name) i k = refl
+noted_same : (base : ℕ → Coordinates) (n : ℕ) (w : World) (e : Happening) (i : ℕ) → i < n → bases_with base n w e i ≡ base i
+noted_same base n w (Of (Edit r c)) i k = put_there base n (w.memory r) i (λ e. absurd (omega arith))
+noted_same base n w (Of (Save r)) i k = refl
+noted_same base n w (Of (Crash r)) i k = refl
+noted_same base n w (Of (Ask r)) i k = refl
+noted_same base n w (Of (Answer s m)) i k = refl
+noted_same base n w (Of (Take m)) i k = refl
+noted_same base n w (Of (Grow r name)) i k = refl
+noted_same base n w (AnswerLent j m) i k = refl
 
-held_same : (es : List Event) (h : Holdings) (i : ℕ) → i < h.size → (holdings_after es h).update i ≡ h.update i
+held_same : (es : List Happening) (h : Holdings) (i : ℕ) → i < h.size → (holdings_after es h).update i ≡ h.update i
 held_same [] h i k = refl
-held_same (e ∷ es) h i k = let x = hold_same h e i k in held_same es (hold h e) i x.0 ∙ x.1
+held_same (e ∷ es) h i k = let x = hold_same h e i k in held_same es (held_next h e) i x.0 ∙ x.1
 
-bases_same : (es : List Event) (base : ℕ → Coordinates) (h : Holdings) (w : World) (i : ℕ) → i < h.size → bases es base h w i ≡ base i
+bases_same : (es : List Happening) (base : ℕ → Coordinates) (h : Holdings) (w : World) (i : ℕ) → i < h.size → bases es base h w i ≡ base i
 bases_same [] base h w i k = refl
-bases_same (e ∷ es) base h w i k = bases_same es (bases_with base h.size w e) (hold h e) (after w e) i (hold_same h e i k).0 ∙ noted_same base h.size w e i k
+bases_same (e ∷ es) base h w i k = bases_same es (bases_with base h.size w e) (held_next h e) (next w e) i (hold_same h e i k).0 ∙ noted_same base h.size w e i k
 
-in_tables : (es : List Event) (base : ℕ → Coordinates) (h : Holdings) (w : World) (e : Event) → IsInTables (holdings_after es (hold h e)).update (bases es (bases_with base h.size w e) (hold h e) (after w e)) h w e
-in_tables es base h w (Edit r c) = (
+in_tables : (es : List Happening) (base : ℕ → Coordinates) (h : Holdings) (w : World) (e : Happening) → IsInTables (holdings_after es (held_next h e)).update (bases es (bases_with base h.size w e) (held_next h e) (next w e)) h w e
+in_tables es base h w (Of (Edit r c)) = (
   held_same es (hold h (Edit r c)) h.size (omega arith) ∙ put_here h.update h.size (record { replica = r; command = c; past = h.memory r }),
-  bases_same es (bases_with base h.size w (Edit r c)) (hold h (Edit r c)) (after w (Edit r c)) h.size (omega arith) ∙ put_here base h.size (w.memory r),
+  bases_same es (bases_with base h.size w (Of (Edit r c))) (hold h (Edit r c)) (after w (Edit r c)) h.size (omega arith) ∙ put_here base h.size (w.memory r),
 )
-in_tables es base h w (Save r) = tt
-in_tables es base h w (Crash r) = tt
-in_tables es base h w (Ask r) = tt
-in_tables es base h w (Answer s k) = tt
-in_tables es base h w (Take k) = tt
-in_tables es base h w (Grow r name) = tt
+in_tables es base h w (Of (Save r)) = tt
+in_tables es base h w (Of (Crash r)) = tt
+in_tables es base h w (Of (Ask r)) = tt
+in_tables es base h w (Of (Answer s k)) = tt
+in_tables es base h w (Of (Take k)) = tt
+in_tables es base h w (Of (Grow r name)) = tt
+in_tables es base h w (AnswerLent j k) = tt
 
-run_keeps : (es : List Event) (base : ℕ → Coordinates) (h : Holdings) (w : World) → Lawful (holdings_after es h).update (bases es base h w) h w → Accepted es w → Lawful (holdings_after es h).update (bases es base h w) (holdings_after es h) (run es w)
+run_keeps : (es : List Happening) (base : ℕ → Coordinates) (h : Holdings) (w : World) → Lawful (holdings_after es h).update (bases es base h w) h w → Accepted es w → Lawful (holdings_after es h).update (bases es base h w) (holdings_after es h) (run es w)
 run_keeps [] base h w l a = l
-run_keeps (e ∷ es) base h w l a = run_keeps es (bases_with base h.size w e) (hold h e) (after w e)
-    (event_keeps (holdings_after es (hold h e)).update (bases es (bases_with base h.size w e) (hold h e) (after w e)) h w e l a.0 (in_tables es base h w e)) a.1
+run_keeps (e ∷ es) base h w l a = run_keeps es (bases_with base h.size w e) (held_next h e) (next w e)
+    (next_keeps (holdings_after es (held_next h e)).update (bases es (bases_with base h.size w e) (held_next h e) (next w e)) h w e l a.0 (in_tables es base h w e)) a.1
 
 -- ---- what was kept once
 
-answered_holds : (h : Holdings) (s : ℕ) (o : Option ℕ) → (remembers h s o).kept ≡ h.kept
-answered_holds h s None = refl
-answered_holds h s (Some a) = refl
+answered_holds : (h : Holdings) (held : ℕ → Bool) (o : Option Remembered) → (remembers h held o).kept ≡ h.kept
+answered_holds h held None = refl
+answered_holds h held (Some a) = refl
+
+lent_holds : (h : Holdings) (o : Option Remembered) (k : ℕ) → (remembers_lent h o k).kept ≡ h.kept
+lent_holds h None k = refl
+lent_holds h (Some a) k = answered_holds h a.held (slice_get h.asks k)
 
 taken_holds : (h : Holdings) (o : Option Remembered) → (takes h o).kept ≡ h.kept
 taken_holds h None = refl
 taken_holds h (Some a) = refl
 
 -- what was backed stays so
-stays_backed : (T : ℕ → Update) (B : ℕ → Coordinates) (h : Holdings) (w : World) (l : Lawful T B h w) (e : Event) (S : ℕ → Bool) → IsBacked T h.kept S → IsBacked T (hold h e).kept S
-stays_backed T B h w l (Edit r c) S b = b
-stays_backed T B h w l (Save r) S b = backed_grows T B h w l r S b
-stays_backed T B h w l (Crash r) S b = b
-stays_backed T B h w l (Ask r) S b = b
-stays_backed T B h w l (Grow r name) S b = b
-stays_backed T B h w l (Answer s k) S b = subst (λ K. IsBacked T K S) (sym (answered_holds h s (slice_get h.asks k))) b
-stays_backed T B h w l (Take k) S b = subst (λ K. IsBacked T K S) (sym (taken_holds h (slice_get h.answers k))) b
+stays_backed : (T : ℕ → Update) (B : ℕ → Coordinates) (h : Holdings) (w : World) (l : Lawful T B h w) (e : Happening) (S : ℕ → Bool) → IsBacked T h.kept S → IsBacked T (held_next h e).kept S
+stays_backed T B h w l (Of (Edit r c)) S b = b
+stays_backed T B h w l (Of (Save r)) S b = backed_grows T B h w l r S b
+stays_backed T B h w l (Of (Crash r)) S b = b
+stays_backed T B h w l (Of (Ask r)) S b = b
+stays_backed T B h w l (Of (Grow r name)) S b = b
+stays_backed T B h w l (Of (Answer s k)) S b = subst (λ K. IsBacked T K S) (sym (answered_holds h (h.kept s) (slice_get h.asks k))) b
+stays_backed T B h w l (Of (Take k)) S b = subst (λ K. IsBacked T K S) (sym (taken_holds h (slice_get h.answers k))) b
+stays_backed T B h w l (AnswerLent j k) S b = subst (λ K. IsBacked T K S) (sym (lent_holds h (slice_get h.asks j) k)) b
 
 -- each later memory is compatible with a join of updates that were backed
-backed_agrees : (es : List Event) (base : ℕ → Coordinates) (h : Holdings) (w : World) → Lawful (holdings_after es h).update (bases es base h w) h w → Accepted es w
+backed_agrees : (es : List Happening) (base : ℕ → Coordinates) (h : Holdings) (w : World) → Lawful (holdings_after es h).update (bases es base h w) h w → Accepted es w
     → (S : ℕ → Bool) (a : Coordinates) → IsBacked (holdings_after es h).update h.kept S → IsGathered (effect_of (holdings_after es h).update (bases es base h w)) S a → (r : ℕ) → AreCompatible ((run es w).memory r) a
 backed_agrees [] base h w l ok S a b j r = compatible h.update base h w l (h.memory r) S (w.memory r) a (l.memory r) j (own h.update base h w l r) (kept_own h.update base h w l S b)
 backed_agrees (e ∷ es) base h w l ok S a b j r =
-    let T = (holdings_after es (hold h e)).update in
-    let B = bases es (bases_with base h.size w e) (hold h e) (after w e) in
-    backed_agrees es (bases_with base h.size w e) (hold h e) (after w e) (event_keeps T B h w e l ok.0 (in_tables es base h w e)) ok.1 S a (stays_backed T B h w l e S b) j r
+    let T = (holdings_after es (held_next h e)).update in
+    let B = bases es (bases_with base h.size w e) (held_next h e) (next w e) in
+    backed_agrees es (bases_with base h.size w e) (held_next h e) (next w e) (next_keeps T B h w e l ok.0 (in_tables es base h w e)) ok.1 S a (stays_backed T B h w l e S b) j r
 
-kept_agrees_from : (es later : List Event) (base : ℕ → Coordinates) (h : Holdings) (w : World) → Lawful (holdings_after (es ++ later) h).update (bases (es ++ later) base h w) h w → Accepted (es ++ later) w
+kept_agrees_from : (es later : List Happening) (base : ℕ → Coordinates) (h : Holdings) (w : World) → Lawful (holdings_after (es ++ later) h).update (bases (es ++ later) base h w) h w → Accepted (es ++ later) w
     → (r s : ℕ) → AreCompatible ((run (es ++ later) w).memory r) ((run es w).kept s)
 kept_agrees_from [] later base h w l ok r s = backed_agrees later base h w l ok (h.kept s) (w.kept s) (l.kept_backed s) (l.kept s) r
-kept_agrees_from (e ∷ es) later base h w l ok r s = kept_agrees_from es later (bases_with base h.size w e) (hold h e) (after w e)
-    (event_keeps (holdings_after (es ++ later) (hold h e)).update (bases (es ++ later) (bases_with base h.size w e) (hold h e) (after w e)) h w e l ok.0 (in_tables (es ++ later) base h w e)) ok.1 r s
+kept_agrees_from (e ∷ es) later base h w l ok r s = kept_agrees_from es later (bases_with base h.size w e) (held_next h e) (next w e)
+    (next_keeps (holdings_after (es ++ later) (held_next h e)).update (bases (es ++ later) (bases_with base h.size w e) (held_next h e) (next w e)) h w e l ok.0 (in_tables (es ++ later) base h w e)) ok.1 r s
 
 -- each memory is compatible with all that was kept at an earlier moment
-pub kept_agrees : (n : List (List ℕ)) (es later : List Event) → Accepted (es ++ later) (start n) → (r s : ℕ) → AreCompatible ((run (es ++ later) (start n)).memory r) ((run es (start n)).kept s)
+pub kept_agrees : (n : List (List ℕ)) (es later : List Happening) → Accepted (es ++ later) (start n) → (r s : ℕ) → AreCompatible ((run (es ++ later) (start n)).memory r) ((run es (start n)).kept s)
 kept_agrees n es later ok = kept_agrees_from es later (λ i. empty) nothing_held (start n) (lawful_start (holdings_after (es ++ later) nothing_held).update (bases (es ++ later) (λ i. empty) nothing_held (start n)) n) ok
 
 -- after any list of events none of which is refused
-pub lawful : (n : List (List ℕ)) (es : List Event) → Accepted es (start n) → Lawful (holdings_after es nothing_held).update (bases es (λ i. empty) nothing_held (start n)) (holdings_after es nothing_held) (run es (start n))
+pub lawful : (n : List (List ℕ)) (es : List Happening) → Accepted es (start n) → Lawful (holdings_after es nothing_held).update (bases es (λ i. empty) nothing_held (start n)) (holdings_after es nothing_held) (run es (start n))
 lawful n es a = run_keeps es (λ i. empty) nothing_held (start n) (lawful_start (holdings_after es nothing_held).update (bases es (λ i. empty) nothing_held (start n)) n) a

@@ -12,7 +12,7 @@ use Rattle.rds_state.specs.declared.command.Command.{Command}
 use Rattle.rds_state.specs.declared.command.Command.TheVariants.{Clear, Inc, Dec}
 use Rattle.rds_world.specs.declared.event.Event.{Event}
 use Rattle.rds_world.specs.declared.event.Event.TheVariants.{Edit, Save, Crash, Ask, Answer, Take, Grow}
-use Rattle.rds_world.specs.World.{put}
+use Rattle.rds_world.specs.World.{Happening, Of, AnswerLent, put}
 
 -- an edit, and which updates its replica's memory held just before
 pub record Update : Type 0 where
@@ -20,18 +20,18 @@ pub record Update : Type 0 where
   pub command : Command
   pub past : ℕ → Bool
 
--- an answer: for whom it was made, and which updates its maker had kept
+-- an ask or an answer: who asked, and which updates who made it had kept
 pub record Remembered : Type 0 where
   pub asker : ℕ
   pub held : ℕ → Bool
 
--- Updates are numbered from 0 on, in the order of their events. Of an ask only the asker is remembered.
+-- Updates are numbered from 0 on, in the order of their events.
 pub record Holdings : Type 0 where
   pub size : ℕ
   pub update : ℕ → Update
   pub memory : ℕ → ℕ → Bool
   pub kept : ℕ → ℕ → Bool
-  pub asks : List ℕ
+  pub asks : List Remembered
   pub answers : List Remembered
 
 abbrev pub none : ℕ → Bool
@@ -50,9 +50,13 @@ both s t i = s i || t i
 abbrev pub with_update : (ℕ → Bool) → ℕ → ℕ → Bool
 with_update s n i = s i || i == n
 
-abbrev pub remembers : Holdings → ℕ → Option ℕ → Holdings
-remembers h s None = h
-remembers h s (Some asker) = record h { answers = h.answers ++ record { asker = asker; held = h.kept s } ∷ [] }
+abbrev pub remembers : Holdings → (ℕ → Bool) → Option Remembered → Holdings
+remembers h held None = h
+remembers h held (Some q) = record h { answers = h.answers ++ record { asker = q.asker; held = held } ∷ [] }
+
+abbrev pub remembers_lent : Holdings → Option Remembered → ℕ → Holdings
+remembers_lent h None k = h
+remembers_lent h (Some lent) k = remembers h lent.held (slice_get h.asks k)
 
 abbrev pub takes : Holdings → Option Remembered → Holdings
 takes h None = h
@@ -67,14 +71,18 @@ hold h (Edit r c) = record h {
 }
 hold h (Save r) = record h { kept = put h.kept r (h.memory r) }
 hold h (Crash r) = record h { memory = put h.memory r (h.kept r) }
-hold h (Ask r) = record h { asks = h.asks ++ r ∷ [] }
-hold h (Answer s k) = remembers h s (slice_get h.asks k)
+hold h (Ask r) = record h { asks = h.asks ++ record { asker = r; held = h.kept r } ∷ [] }
+hold h (Answer s k) = remembers h (h.kept s) (slice_get h.asks k)
 hold h (Take k) = takes h (slice_get h.answers k)
 hold h (Grow r name) = h
 
-abbrev pub holdings_after : List Event → Holdings → Holdings
+abbrev pub held_next : Holdings → Happening → Holdings
+held_next h (Of e) = hold h e
+held_next h (AnswerLent j k) = remembers_lent h (slice_get h.asks j) k
+
+abbrev pub holdings_after : List Happening → Holdings → Holdings
 holdings_after [] h = h
-holdings_after (e ∷ es) h = holdings_after es (hold h e)
+holdings_after (e ∷ es) h = holdings_after es (held_next h e)
 
 -- ---- the document of a set of updates
 

@@ -3,6 +3,7 @@ pub mod Events
 pub mod Example
 pub mod Held
 pub mod Law
+pub mod Reached
 pub mod Replies
 pub mod Shows
 pub mod Simulation

@@ -7,26 +7,20 @@ use Rattle.rds_state.specs.Coordinates.{Coordinates, AtMost}
 use Rattle.rds_state.specs.Document.{IsShown, IsCounted, value_in}
 use Rattle.rds_state.specs.Edit.{covers, effect, new_dot}
 use Rattle.rds_state.specs.Made.{entry_made}
-use Rattle.rds_world.specs.declared.event.Event.{Event}
-use Rattle.rds_world.specs.declared.event.Event.TheVariants.{Edit, Save, Crash, Ask, Answer, Take, Grow}
-use Rattle.rds_world.specs.World.{World, put, after}
-use Rattle.rds_world.specs.Held.{Update, Holdings, hold, IsPresent, IsChanged, value_of}
+use Rattle.rds_world.specs.declared.event.Event.TheVariants.{Edit}
+use Rattle.rds_world.specs.World.{World, Happening, Of, put, next}
+use Rattle.rds_world.specs.Held.{Update, Holdings, held_next, IsPresent, IsChanged, value_of}
 
 -- ---- the states on which edits ran
 
-abbrev pub bases_with : (ℕ → Coordinates) → ℕ → World → Event → ℕ → Coordinates
-bases_with base n w (Edit r c) = put base n (w.memory r)
-bases_with base n w (Save r) = base
-bases_with base n w (Crash r) = base
-bases_with base n w (Ask r) = base
-bases_with base n w (Answer s k) = base
-bases_with base n w (Take k) = base
-bases_with base n w (Grow r name) = base
+abbrev pub bases_with : (ℕ → Coordinates) → ℕ → World → Happening → ℕ → Coordinates
+bases_with base n w (Of (Edit r c)) = put base n (w.memory r)
+bases_with base n w e = base
 
 -- the states on which the edits ran, by the numbers of their updates
-abbrev pub bases : List Event → (ℕ → Coordinates) → Holdings → World → ℕ → Coordinates
+abbrev pub bases : List Happening → (ℕ → Coordinates) → Holdings → World → ℕ → Coordinates
 bases [] base h w = base
-bases (e ∷ es) base h w = bases es (bases_with base h.size w e) (hold h e) (after w e)
+bases (e ∷ es) base h w = bases es (bases_with base h.size w e) (held_next h e) (next w e)
 
 -- ---- for updates T that ran on the states B
 

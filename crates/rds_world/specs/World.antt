@@ -13,7 +13,12 @@ use Rattle.rds_delta.specs.Least.{least}
 use Rattle.rds_world.specs.declared.event.Event.{Event}
 use Rattle.rds_world.specs.declared.event.Event.TheVariants.{Edit, Save, Crash, Ask, Answer, Take, Grow}
 
--- an ask: who asked, how many names it had kept, and what state
+-- what happens: an event of code; or, as AnswerLent j k, who made ask j answers ask k from what it had kept then
+pub data Happening : Type 0 where
+  Of : Event → Happening
+  AnswerLent : ℕ → ℕ → Happening
+
+-- an ask: who asked, how many names it had kept, and what state; these it lends to later answers
 pub record Question : Type 0 where
   pub asker : ℕ
   pub names : ℕ
@@ -44,7 +49,16 @@ abbrev pub empty : Coordinates
 empty = record { life = λ d. None; number = λ q. 0 }
 
 abbrev pub start : List (List ℕ) → World
-start ns = record { roster = ns; replicas = length ns; memory_names = λ r. length ns; kept_names = λ r. length ns; memory = λ r. empty; kept = λ r. empty; asks = []; answers = [] }
+start ns = record {
+  roster = ns;
+  replicas = length ns;
+  memory_names = λ r. length ns;
+  kept_names = λ r. length ns;
+  memory = λ r. empty;
+  kept = λ r. empty;
+  asks = [];
+  answers = [];
+}
 
 -- the function with another value at one place
 abbrev pub put : {A : Type 0} → (ℕ → A) → ℕ → A → ℕ → A
@@ -54,13 +68,33 @@ put f r x s = cond (s == r) x (f s)
 abbrev pub after_edit : Coordinates → ℕ → Command → Coordinates
 after_edit a own c = join a (effect a own c (entry_made c))
 
--- what a replica has kept, as the least delta for who asked
+-- what a replica has kept, as it asks
+abbrev pub lend : World → ℕ → Question
+lend w r = record { asker = r; names = w.kept_names r; state = w.kept r }
+
+-- what was lent, as the least delta for who asked
+abbrev pub reply_from : Question → ℕ → Question → Reply
+reply_from lent k q = record {
+  question = k;
+  asker = q.asker;
+  maker = lent.asker;
+  names = lent.names;
+  state = least lent.state (ranks q.state);
+}
+
 abbrev pub reply : World → ℕ → ℕ → Question → Reply
-reply w s k q = record { question = k; asker = q.asker; maker = s; names = w.kept_names s; state = least (w.kept s) (ranks q.state) }
+reply w s = reply_from (lend w s)
+
+abbrev pub after_reply : World → Question → ℕ → Option Question → World
+after_reply w lent k None = w
+after_reply w lent k (Some q) = record w { answers = w.answers ++ reply_from lent k q ∷ [] }
 
 abbrev pub after_answer : World → ℕ → ℕ → Option Question → World
-after_answer w s k None = w
-after_answer w s k (Some q) = record w { answers = w.answers ++ reply w s k q ∷ [] }
+after_answer w s = after_reply w (lend w s)
+
+abbrev pub after_lent : World → Option Question → ℕ → World
+after_lent w None k = w
+after_lent w (Some lent) k = after_reply w lent k (slice_get w.asks k)
 
 abbrev pub after_take : World → Option Reply → World
 after_take w None = w
@@ -75,7 +109,7 @@ abbrev pub after : World → Event → World
 after w (Edit r c) = record w { memory = put w.memory r (after_edit (w.memory r) r c) }
 after w (Save r) = record w { kept = put w.kept r (w.memory r); kept_names = put w.kept_names r (w.memory_names r) }
 after w (Crash r) = record w { memory = put w.memory r (w.kept r); memory_names = put w.memory_names r (w.kept_names r) }
-after w (Ask r) = record w { asks = w.asks ++ record { asker = r; names = w.kept_names r; state = w.kept r } ∷ [] }
+after w (Ask r) = record w { asks = w.asks ++ lend w r ∷ [] }
 after w (Answer s k) = after_answer w s k (slice_get w.asks k)
 after w (Take k) = after_take w (slice_get w.answers k)
 -- the new replica has the next number, and has kept the new roster
@@ -98,13 +132,24 @@ refusal_of w (Crash r) = unless_there (nat_lt r w.replicas) None
 refusal_of w (Ask r) = unless_there (nat_lt r w.replicas) None
 refusal_of w (Answer s k) = unless_there (nat_lt s w.replicas) (unless_there (is_some (slice_get w.asks k)) None)
 refusal_of w (Take k) = unless_there (is_some (slice_get w.answers k)) None
-refusal_of w (Grow r name) = unless_there (nat_lt r w.replicas) (cond (w.memory_names r == w.replicas) (cond (are_names (w.roster ++ name ∷ [])) None (Some BadRoster)) (Some WrongRoster))
+refusal_of w (Grow r name) = unless_there (nat_lt r w.replicas)
+    (cond (w.memory_names r == w.replicas) (cond (are_names (w.roster ++ name ∷ [])) None (Some BadRoster)) (Some WrongRoster))
 
-abbrev pub run : List Event → World → World
+-- the same of whatever happens
+abbrev pub next : World → Happening → World
+next w (Of e) = after w e
+next w (AnswerLent j k) = after_lent w (slice_get w.asks j) k
+
+abbrev pub hindrance : World → Happening → Option Fault
+hindrance w (Of e) = refusal_of w e
+hindrance w (AnswerLent j k) =
+    unless_there (is_some (slice_get w.asks j)) (unless_there (is_some (slice_get w.asks k)) None)
+
+abbrev pub run : List Happening → World → World
 run [] w = w
-run (e ∷ es) w = run es (after w e)
+run (e ∷ es) w = run es (next w e)
 
--- no event of the list is refused
-abbrev pub Accepted : List Event → World → Type 0
+-- nothing of the list is refused
+abbrev pub Accepted : List Happening → World → Type 0
 Accepted [] w = Unit {0}
-Accepted (e ∷ es) w = (refusal_of w e ≡ None) × Accepted es (after w e)
+Accepted (e ∷ es) w = (hindrance w e ≡ None) × Accepted es (next w e)

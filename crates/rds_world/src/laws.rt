@@ -1,4 +1,4 @@
-//! The law over all replicas and every list of events.
+//! What the law over all replicas stands on, and what follows from it.
 ghost use Rattle.std.specs.Prelude.{◌≡◌, ◌↔◌, ◌++◌, List};
 ghost use Rattle.rds_dots.specs.Lacking.{dot_of};
 ghost use Rattle.rds_life.specs.Life.{entry_of};
@@ -14,30 +14,29 @@ ghost use Rattle.rds_world.specs.Coherent.{
   StartsWithRosters,
   KeepsRosters,
 };
-ghost use Rattle.rds_world.specs.Law.{
-  Afterwards,
-  IsCoherentAfter,
-  HasRostersAfter,
-  EachIsTheJoin,
-  EachDotIsExplained,
-  EachShowsItsUpdates,
-  SameUpdatesSameState,
-  EachAnswerBringsWhatWasKept,
-};
 ghost use Rattle.rds_world.specs.Example.{add_to_s, three, lost_and_again};
+ghost use Rattle.rds_world.specs.Reached.{
+  OfReached,
+  OfAnswered,
+  ReplicasAreJoins,
+  ReplicasExplainTheirDots,
+  ReplicasShowTheirUpdates,
+  SameUpdatesSameReplicas,
+  AnswersBringTheirAskers,
+  ReplicasAreCoherent,
+  ReplicasStayFriends,
+};
 ghost use Rattle.rds_world.specs.Stands.{WorldsHaveOneValue};
 ghost use Rattle.rds_world.specs.Steps.{StepsHaveOneResult};
-ghost use Rattle.rds_world.specs.World.{World, start, run, Accepted};
-ghost use Rattle.rds_world.specs.declared.event.Event.{Event};
+ghost use Rattle.rds_world.specs.World.{World, Happening, start, run, Accepted};
 
 /// In a coherent world every two states are compatible, whether in memory, kept, asked from or answered; what is kept
 /// lies below memory, and what was sent below what its sender has kept; and what others have of a replica, it has kept.
-/// The world without events is coherent, and each event that isn't refused leaves it so, a crash included. So it is
-/// after all lists of events. The function does nothing: its contract is these laws.
+/// The world without events is coherent, and each event that isn't refused leaves it so, a crash included. The function
+/// does nothing: its contract is these laws.
 pub fn worlds_stay_coherent()
     ensures start { StartsCoherent }
     ensures step { KeepsCoherence }
-    ensures after { Afterwards IsCoherentAfter }
 {}
 
 /// Each replica's roster names it, and is no longer than the world's. What is kept is no longer than what is in
@@ -46,7 +45,6 @@ pub fn worlds_stay_coherent()
 pub fn rosters_grow()
     ensures start { StartsWithRosters }
     ensures step { KeepsRosters }
-    ensures after { Afterwards HasRostersAfter }
 {}
 
 /// In a coherent world every two replicas are friends, and no take of an answer is refused but for want of memory,
@@ -78,29 +76,27 @@ pub fn edits_are_steps()
     ensures { EditsAreSteps }
 {}
 
-/// After all lists of events, each memory and each kept state is the join of the effects of the updates that it holds,
-/// as these follow from the events alone; each dot seen there is that of exactly one update held; and the document
-/// is that of the updates. So states that hold the same updates are equal. The function does nothing: its contract is
-/// these laws.
-pub fn states_are_joins_of_updates()
-    ensures join { Afterwards EachIsTheJoin }
-    ensures dots { Afterwards EachDotIsExplained }
-    ensures documents { Afterwards EachShowsItsUpdates }
-    ensures same { Afterwards SameUpdatesSameState }
-{}
-
-/// An answer brings what its maker had kept, whenever it is taken: its asker's memory always has a join with that,
-/// which is what it becomes; and the answer is the least that does so. The function does nothing: its contract is
-/// this law.
-pub fn answers_bring_what_was_kept()
-    ensures { Afterwards EachAnswerBringsWhatWasKept }
+/// The replicas that [`simulate`](crate::simulate) answers obey the law, as its clauses `reached` and `stopped` say what
+/// they stand for. Where all events happened, each state is the join of the effects of the updates that it holds, and
+/// those that hold the same updates are equal; each dot seen is that of exactly one update held; the document is that of
+/// the updates; and the bytes of each answer bring its asker the join with what its maker had kept. Wherever the list
+/// stopped, every two states are compatible, and every two replicas are friends. The function does nothing: its contract
+/// is these laws.
+pub fn replicas_obey_the_law()
+    ensures joins { OfReached ReplicasAreJoins }
+    ensures documents { OfReached ReplicasShowTheirUpdates }
+    ensures same { OfReached SameUpdatesSameReplicas }
+    ensures dots { OfReached ReplicasExplainTheirDots }
+    ensures answers { OfReached AnswersBringTheirAskers }
+    ensures coherent { OfAnswered ReplicasAreCoherent }
+    ensures friends { OfAnswered ReplicasStayFriends }
 {}
 
 /// A run of two lists is the run of the first, and then of the second; so each beginning of an accepted list is
 /// accepted. The function does nothing: its contract is these laws.
 pub fn runs_go_on()
-    ensures run { (es fs : List Event) (w : World) → run (es ++ fs) w ≡ run fs (run es w) }
-    ensures accepted { (es fs : List Event) (w : World) → Accepted (es ++ fs) w
+    ensures run { (es fs : List Happening) (w : World) → run (es ++ fs) w ≡ run fs (run es w) }
+    ensures accepted { (es fs : List Happening) (w : World) → Accepted (es ++ fs) w
         ↔ (Accepted es w × Accepted fs (run es w)) }
 {}
 

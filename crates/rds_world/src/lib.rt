@@ -5,16 +5,16 @@
 mod event;
 mod laws;
 mod messages;
+mod replicas;
 mod simulating;
-mod stepping;
 mod texts;
 mod world;
 
 pub use event::{Done, Event};
 pub use laws::{
-    a_step_has_one_result, answers_bring_what_was_kept, coherent_replicas_are_friends,
-    edits_are_steps, lost_dots_are_used_again, rosters_grow, runs_go_on,
-    states_are_joins_of_updates, worlds_have_one_value, worlds_stay_coherent,
+    a_step_has_one_result, coherent_replicas_are_friends, edits_are_steps,
+    lost_dots_are_used_again, replicas_obey_the_law, rosters_grow, runs_go_on,
+    worlds_have_one_value, worlds_stay_coherent,
 };
 pub use simulating::simulate;
 pub use world::World;

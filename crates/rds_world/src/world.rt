@@ -1,23 +1,26 @@
-//! All replicas of a document, in memory and as kept.
-ghost use Rattle.std.specs.Prelude.{◌≡◌, ◌≤◌, ◌<◌, ◌⊎◌, [], Some, None, Err, IfOk, IfErr, OnOk, MatchResult, length};
+//! All replicas of a document, in memory and as kept, and what an event does to them.
+ghost use Rattle.std.specs.Prelude.{◌≡◌, ◌≤◌, ◌⊎◌, [], Some, None, Err, IfOk, IfErr, OnOk, OnErr, MatchResult, length};
 ghost use Rattle.std.specs.Prelude.{take, slice_get};
-ghost use Rattle.std.specs.FinMap as map;
-ghost use Rattle.rds_codec.specs.StateTexts.{snapshot_text};
-ghost use Rattle.rds_codec.specs.declared.limits.TheConstants.{LIMIT};
 ghost use Rattle.rds_names.specs.Roster.{Begins};
-ghost use Rattle.rds_names.specs.declared.fault.Fault.TheVariants.{Memory, NoSuch, TooLong};
+ghost use Rattle.rds_names.specs.declared.fault.Fault.TheVariants.{Memory, NoSuch};
 ghost use Rattle.rds_tree.specs.Shown.{shown_view};
+ghost use Rattle.rds_world.specs.declared.event.Event.TheVariants.{Edit, Save, Crash, Ask, Answer, Take, Grow};
+ghost use Rattle.rds_world.specs.Events.{IsAccepted, Refuses, IsDone, roster_after};
 ghost use Rattle.rds_world.specs.Shows.{IsNoSuch, ShowsAt};
 ghost use Rattle.rds_world.specs.Simulation.{HasNoReplicas};
-ghost use Rattle.rds_world.specs.Stands.{Stands, IsNew, AreNew, IsWhole};
+ghost use Rattle.rds_world.specs.Stands.{Stands, AreNew, IsWhole};
+ghost use Rattle.rds_world.specs.Steps.{IsStep, IsStopped, MayGrow};
 ghost use Rattle.rds_world.specs.Stored.{ask_bytes_at, answer_bytes_at};
-ghost use Rattle.rds_world.specs.World.{start};
+ghost use Rattle.rds_world.specs.World.{World as ModelWorld, after, start};
 
+use crate::event::{Done, Event};
+use crate::messages;
+use crate::replicas::{empty_replicas, indexed, keep, newcomer, push_both};
 use crate::texts::{Answering, Asking};
 use rds_dots::DotSet;
-use rds_keep::{Counted, Kept, write_snapshot};
-use rds_names::{Fault, Path, Roster};
-use rds_state::Replica;
+use rds_keep::Kept;
+use rds_names::{Fault, Name, Path, Roster};
+use rds_state::{Command, Replica};
 use rds_tree::{Index, View};
 use std::alloc::Global;
 use std::marker::Model;
@@ -26,11 +29,11 @@ use std::marker::Model;
 /// bytes. In memory an [`Index`] holds each.
 #[derive(Drop)]
 pub struct World<S: DotSet> {
-    pub(crate) roster: Roster,
-    pub(crate) memory: Vec<Index<S>>,
-    pub(crate) kept: Vec<Kept<S>>,
-    pub(crate) asks: Vec<Asking>,
-    pub(crate) answers: Vec<Answering>,
+    roster: Roster,
+    memory: Vec<Index<S>>,
+    kept: Vec<Kept<S>>,
+    asks: Vec<Asking>,
+    answers: Vec<Answering>,
 }
 
 impl<S: DotSet> Model for World<S> {
@@ -184,96 +187,155 @@ impl<S: DotSet> World<S> {
     }
 }
 
-/// A replica without any component for each number of the roster, and the same as kept.
-fn empty_replicas<S: DotSet>(
-    alloc: Global,
-    roster: &Roster,
-) -> Result<(Vec<Index<S>>, Vec<Kept<S>>), Fault>
-    ensures memory { IfOk result (λ p. AreNew roster.now p.0.items (length roster.now.names)) }
-    ensures kept { IfOk result (λ p. AreNew roster.now p.1.items (length roster.now.names)) }
-    ensures few { length roster.now.names ≤ 256 }
-    ensures fault { IfErr result (λ fault. fault ≡ Memory) }
-{
-    let replicas = replicas_of(roster);
-    let mut memory = Vec::new(alloc);
-    let mut kept = Vec::new(alloc);
-    'making: for number in 0..replicas {
-        let (index, empty) = newcomer(alloc, roster, number as u8)?;
-        kept.push(empty)?;
-        memory.push(index)?;
+impl<S: DotSet> World<S> {
+    /// Makes the event happen, if nothing is in its way, and says what it did.
+    ///
+    /// Refuses `NoSuch` where there is no such replica, ask or answer; what an edit refuses; `WrongRoster` where the
+    /// roster grows at a replica that doesn't know all of it, then `BadRoster` where the name is known or there are
+    /// 256; and `TooLong` where the text of a snapshot, an ask or an answer would be above the limit. No other fault
+    /// comes but `Memory`, and that one only where no fault is due that is found without memory, and where the event
+    /// may take memory, as an edit does only if it adds a live dot or a number: every answer is taken, whenever and
+    /// however often it comes.
+    pub fn step(&mut self, alloc: Global, event: &Event) -> Result<Done, Fault>
+        ensures accepted { OnOk result ((w : ModelWorld) → Stands self.old w → IsAccepted self.old w event.now) }
+        ensures after { OnOk result ((w : ModelWorld) → Stands self.old w → Stands self.new (after w event.now)) }
+        ensures done { IfOk result (λ done. (w : ModelWorld) → Stands self.old w → IsDone self.old w event.now done) }
+        ensures refused { IfErr result (λ fault. (w : ModelWorld) → Stands self.old w → Refuses self.old w event.now fault) }
+        ensures err { OnErr result (self.new ≡ self.old) }
+        ensures roster { OnOk result (self.new.roster ≡ roster_after self.old.roster event.now) }
+        ensures begins { Begins self.old.roster self.new.roster }
+    {
+        self.perform(alloc, event)
     }
-    Ok((memory, kept))
-}
 
-/// The replica with this number, without any component, in memory and as kept.
-pub fn newcomer<S: DotSet>(
-    alloc: Global,
-    roster: &Roster,
-    number: u8,
-) -> Result<(Index<S>, Kept<S>), Fault>
-    requires { number < length roster.now.names }
-    ensures memory { IfOk result (λ p. IsNew roster.now number p.0) }
-    ensures kept { IfOk result (λ p. IsNew roster.now number p.1) }
-    ensures fault { IfErr result (λ fault. fault ≡ Memory) }
-{
-    let replica = empty_replica(alloc, roster, number)?;
-    let kept = keep_empty(alloc, &replica)?;
-    let index = Index::of(alloc, replica)?;
-    Ok((index, kept))
-}
-
-/// How many replicas the roster names.
-fn replicas_of(roster: &Roster) -> u16
-    ensures count { result ≡ length roster.now.names }
-    ensures few { result ≤ 256 }
-{
-    roster.len()
-}
-
-/// The replica with this number, without any component.
-fn empty_replica<S: DotSet>(alloc: Global, roster: &Roster, number: u8) -> Result<Replica<S>, Fault>
-    requires { number < length roster.now.names }
-    ensures ok { IfOk result (IsNew roster.now number) }
-    ensures fault { IfErr result (λ fault. fault ≡ Memory) }
-{
-    let copy = roster.copy(alloc)?;
-    Replica::new(alloc, copy, number)
-}
-
-/// Keeps a replica without components, whose snapshot is never too long.
-fn keep_empty<S: DotSet>(alloc: Global, replica: &Replica<S>) -> Result<Kept<S>, Fault>
-    requires lives { replica.now.state.lives ≡ map.empty }
-    requires counts { replica.now.state.counts ≡ map.empty }
-    ensures ok { IfOk result (λ kept. kept ≡ replica.now) }
-    ensures fault { IfErr result (λ fault. fault ≡ Memory) }
-{
-    keep(alloc, replica)
-}
-
-/// Writes the replica's snapshot into memory: it is kept. To find its length takes memory too, so `Memory` may come
-/// where it is too long.
-pub fn keep<S: DotSet>(alloc: Global, replica: &Replica<S>) -> Result<Kept<S>, Fault>
-    ensures ok { IfOk result (λ kept. kept ≡ replica.now) }
-    ensures short { OnOk result (length (snapshot_text replica.now) ≤ LIMIT) }
-    ensures small { replica.now.state.lives ≡ map.empty → replica.now.state.counts ≡ map.empty
-        → IfErr result (λ fault. fault ≡ Memory) }
-    ensures fault { IfErr result
-        (λ fault. (fault ≡ Memory) ⊎ ((fault ≡ TooLong) × (LIMIT < length (snapshot_text replica.now)))) }
-{
-    let mut file = Counted::new(Vec::<u8>::new(alloc));
-    match write_snapshot(alloc, replica.copy(alloc)?, &mut file) {
-        Ok(kept) => Ok(kept),
-        Err(Fault::Device) => Err(Fault::Memory),
-        Err(fault) => Err(fault),
+    fn perform(&mut self, alloc: Global, event: &Event) -> Result<Done, Fault>
+        ensures ok { IfOk result (λ done. IsStep self.old event.now done self.new) }
+        ensures err { IfErr result (λ fault. IsStopped self.old event.now fault self.new) }
+    {
+        match event {
+            Event::Edit(number, command) => self.edit(*number, command),
+            Event::Save(number) => self.save(alloc, *number),
+            Event::Crash(number) => self.crash(alloc, *number),
+            Event::Ask(number) => self.ask(alloc, *number),
+            Event::Answer(number, question) => self.answer(alloc, *number, *question),
+            Event::Take(number) => self.take(alloc, *number),
+            Event::Grow(number, name) => self.grow(alloc, *number, *name),
+        }
     }
-}
 
-/// An index that holds a copy of a replica.
-pub fn indexed<S: DotSet>(alloc: Global, replica: &Replica<S>) -> Result<Index<S>, Fault>
-    ensures ok { IfOk result (λ index. index ≡ replica.now) }
-    ensures memory { IfErr result (λ fault. fault ≡ Memory) }
-{
-    let copy = replica.copy(alloc)?;
-    let index = Index::of(alloc, copy)?;
-    Ok(index)
+    fn edit(&mut self, number: u8, command: &Command) -> Result<Done, Fault>
+        ensures ok { IfOk result (λ done. IsStep self.old (Edit number command.now) done self.new) }
+        ensures err { IfErr result (λ fault. IsStopped self.old (Edit number command.now) fault self.new) }
+    {
+        let at = usize::from(number);
+        if at >= self.memory.len() {
+            return Err(Fault::NoSuch);
+        }
+        let edited = self.memory[at].edit_by(command)?;
+        Ok(Done::Edited(edited))
+    }
+
+    fn save(&mut self, alloc: Global, number: u8) -> Result<Done, Fault>
+        ensures ok { IfOk result (λ done. IsStep self.old (Save number) done self.new) }
+        ensures err { IfErr result (λ fault. IsStopped self.old (Save number) fault self.new) }
+    {
+        let at = usize::from(number);
+        if at >= self.memory.len() {
+            return Err(Fault::NoSuch);
+        }
+        let kept = keep(alloc, self.memory[at].replica())?;
+        self.kept[at] = kept;
+        Ok(Done::Plain)
+    }
+
+    fn crash(&mut self, alloc: Global, number: u8) -> Result<Done, Fault>
+        ensures ok { IfOk result (λ done. IsStep self.old (Crash number) done self.new) }
+        ensures err { IfErr result (λ fault. IsStopped self.old (Crash number) fault self.new) }
+    {
+        let at = usize::from(number);
+        if at >= self.memory.len() {
+            return Err(Fault::NoSuch);
+        }
+        let replica = indexed(alloc, self.kept[at].view_of())?;
+        self.memory[at] = replica;
+        Ok(Done::Plain)
+    }
+
+    fn ask(&mut self, alloc: Global, number: u8) -> Result<Done, Fault>
+        ensures ok { IfOk result (λ done. IsStep self.old (Ask number) done self.new) }
+        ensures err { IfErr result (λ fault. IsStopped self.old (Ask number) fault self.new) }
+    {
+        let at = usize::from(number);
+        if at >= self.memory.len() {
+            return Err(Fault::NoSuch);
+        }
+        let kept = self.kept[at].view_of();
+        let ask = messages::ask(alloc, kept)?;
+        let question = self.asks.len() as u64;
+        self.asks.push(ask)?;
+        Ok(Done::Asked(question))
+    }
+
+    fn answer(&mut self, alloc: Global, number: u8, question: u64) -> Result<Done, Fault>
+        ensures ok { IfOk result (λ done. IsStep self.old (Answer number question) done self.new) }
+        ensures err { IfErr result (λ fault. IsStopped self.old (Answer number question) fault self.new) }
+    {
+        let at = usize::from(number);
+        if at >= self.memory.len() {
+            return Err(Fault::NoSuch);
+        }
+        if question >= self.asks.len() as u64 {
+            return Err(Fault::NoSuch);
+        }
+        let kept = self.kept[at].view_of();
+        let ask = &self.asks[question as usize];
+        let (answer, components) = messages::answer(alloc, kept, question, ask)?;
+        let number = self.answers.len() as u64;
+        self.answers.push(answer)?;
+        Ok(Done::Answered(number, components))
+    }
+
+    fn take(&mut self, alloc: Global, number: u64) -> Result<Done, Fault>
+        ensures ok { IfOk result (λ done. IsStep self.old (Take number) done self.new) }
+        ensures err { IfErr result (λ fault. IsStopped self.old (Take number) fault self.new) }
+    {
+        if number >= self.answers.len() as u64 {
+            return Err(Fault::NoSuch);
+        }
+        let answer = &self.answers[number as usize];
+        let ask = &self.asks[answer.question as usize];
+        let replica = &mut self.memory[usize::from(answer.asker)];
+        messages::take(alloc, replica, ask, answer)?;
+        Ok(Done::Plain)
+    }
+
+    fn grow(&mut self, alloc: Global, number: u8, name: Name) -> Result<Done, Fault>
+        ensures ok { IfOk result (λ done. IsStep self.old (Grow number name) done self.new) }
+        ensures err { IfErr result (λ fault. IsStopped self.old (Grow number name) fault self.new) }
+    {
+        let roster = self.roster_with(alloc, number, name)?;
+        let (index, kept) = newcomer(alloc, &roster, self.memory.len() as u8)?;
+        let own = roster.copy(alloc)?;
+        push_both(&mut self.memory, index, &mut self.kept, kept)?;
+        // Its own roster begins this one, so nothing is refused any more.
+        self.memory[usize::from(number)].grow(own)?;
+        self.roster = roster;
+        Ok(Done::Plain)
+    }
+
+    /// The roster with the name after all others, by a replica that knows them.
+    fn roster_with(&self, alloc: Global, number: u8, name: Name) -> Result<Roster, Fault>
+        ensures ok { IfOk result (MayGrow self.now number name) }
+        ensures err { IfErr result (λ fault. IsStopped self.now (Grow number name) fault self.now) }
+    {
+        let at = usize::from(number);
+        if at >= self.memory.len() {
+            return Err(Fault::NoSuch);
+        }
+        let own = self.memory[at].replica().roster();
+        if usize::from(own.len()) < self.memory.len() {
+            return Err(Fault::WrongRoster);
+        }
+        own.grown(alloc, &[name])
+    }
 }

@@ -1,5 +1,4 @@
-use Rattle.rds_world.specs.World.{start}
-use Rattle.rds_world.proofs.Rosters.{rosters_start, event_rosters, run_rosters}
+use Rattle.rds_world.proofs.Rosters.{rosters_start, event_rosters}
 use Rattle.rds_world.proofs.laws.rosters_grow.Goals as goal
 
 pub returns-clause-start : goal.returns-clause-start
@@ -7,6 +6,3 @@ returns-clause-start c = rosters_start
 
 pub returns-clause-step : goal.returns-clause-step
 returns-clause-step c = λ w e i ok. event_rosters w i e ok
-
-pub returns-clause-after : goal.returns-clause-after
-returns-clause-after c = λ n es a. run_rosters es (start n) (rosters_start n) a

@@ -1,5 +1,4 @@
-use Rattle.rds_world.specs.World.{start}
-use Rattle.rds_world.proofs.Coherent.{coherent_start, event_coherent, run_coherent}
+use Rattle.rds_world.proofs.Coherent.{coherent_start, event_coherent}
 use Rattle.rds_world.proofs.laws.worlds_stay_coherent.Goals as goal
 
 pub returns-clause-start : goal.returns-clause-start
@@ -7,6 +6,3 @@ returns-clause-start c = coherent_start
 
 pub returns-clause-step : goal.returns-clause-step
 returns-clause-step c = λ w e i ok. event_coherent w i e ok
-
-pub returns-clause-after : goal.returns-clause-after
-returns-clause-after c = λ n es a. run_coherent es (start n) (coherent_start n) a

@@ -1,7 +1,8 @@
-use Rattle.std.proofs.Common.{take, take_all, sym, subst, refl}
+use Rattle.std.proofs.Common.{map, take, take_all, sym, subst, refl}
 use Rattle.rds_names.specs.Roster.{Begins}
 use Rattle.rds_world.specs.Simulation.{Reaches}
 use Rattle.rds_world.specs.Law.{world_after}
+use Rattle.rds_world.specs.World.{Of}
 use Rattle.rds_world.proofs.Meeting.{begins_itself, begins_on}
 use Rattle.rds_world.proofs.Simulated.{reaches_start, reaches_more, stops_here}
 use Rattle.rds_world.proofs.simulating.go_through.Goals as goal
@@ -13,7 +14,7 @@ pub returns-in-Err-step-clause-stopped : goal.returns-in-Err-step-clause-stopped
 returns-in-Err-step-clause-stopped g c =
     let n = c.args.roster.names in
     let i = c.happening.event-index in
-    let w = world_after n (take i c.args.events.now) in
+    let w = world_after n (map Of (take i c.args.events.now)) in
     stops_here c.args.roster c.args.events.now i c.event-item.result c.happening-test.true (sym c.event-item.is) c.happening.world c.happening.invariant.0 c.step.new.self c.in-Err-step.fault c.in-Err-step.ensures.err
     (c.in-Err-step.ensures.refused w c.happening.invariant.0.stands)
 
@@ -27,7 +28,7 @@ pub happening-preserved : goal.happening-preserved
 happening-preserved g c =
     let n = c.args.roster.names in
     let i = c.happening.event-index in
-    let w = world_after n (take i c.args.events.now) in (
+    let w = world_after n (map Of (take i c.args.events.now)) in (
       reaches_more c.args.roster c.args.events.now i c.event-item.result c.happening-test.true (sym c.event-item.is) c.happening.world c.happening.invariant.0 c.step.new.self
           c.in-Ok-step.ensures.roster (c.in-Ok-step.ensures.accepted w c.happening.invariant.0.stands) (c.in-Ok-step.ensures.after w c.happening.invariant.0.stands),
       begins_on c.args.roster c.happening.world.roster c.step.new.self.roster c.happening.invariant.1 c.step.ensures.begins,

@@ -1,7 +1,7 @@
 use Rattle.std.proofs.Common.{rules, ◌≡◌, subst, length}
 use Rattle.rds_world.specs.Stands.{AreNew}
 use Rattle.rds_world.proofs.Openings.{more_new, none_new}
-use Rattle.rds_world.proofs.world.empty_replicas.Goals as goal
+use Rattle.rds_world.proofs.replicas.empty_replicas.Goals as goal
 
 pub making-init : goal.making-init
 making-init g c = (none_new c.args.roster.now c.new-memory.result.items c.new-memory.ensures.items, none_new c.args.roster.now c.new-kept.result.items c.new-kept.ensures.items)

@@ -1,5 +1,5 @@
 use Rattle.rds_world.specs.Stands.{AreNew}
-use Rattle.rds_world.proofs.world.empty_replicas.Given as goal
+use Rattle.rds_world.proofs.replicas.empty_replicas.Given as goal
 
 -- a replica for each number so far
 abbrev pub invariant-making : goal.invariant-making

@@ -1,6 +1,6 @@
 use Rattle.std.proofs.Common.{arith}
 use Rattle.rds_world.proofs.Rosters.{few_names}
-use Rattle.rds_world.proofs.world.replicas_of.Goals as goal
+use Rattle.rds_world.proofs.replicas.replicas_of.Goals as goal
 
 pub returns-clause-few : goal.returns-clause-few
 returns-clause-few c =
