@@ -6,7 +6,15 @@ ghost use Rattle.serde_json.specs.Written.{compact_text};
 ghost use Rattle.rds_names.specs.declared.fault.Fault.TheVariants.{Memory};
 ghost use Rattle.rds_tree.specs.Distinct.{is_last};
 ghost use Rattle.rds_tree.specs.Document.{key_cmp, sums_of};
-ghost use Rattle.rds_lines.specs.Overview.{AreAmounts, IsOverview, TellsOverview, dead_count, much_text, overview_text, own_name};
+ghost use Rattle.rds_lines.specs.Overview.{
+  AreAmounts,
+  IsOverview,
+  TellsOverview,
+  dead_count,
+  much_text,
+  overview_text,
+  own_name,
+};
 
 use rds_codec::snapshot_length;
 use rds_counts::Counts;
