@@ -78,6 +78,35 @@ class State:
         return len(self.lives) + sum((number > 0) for pair in self.numbers.values() for number in pair)
 
 
+# Marks: docs/MODEL.md.
+def mixed(mark, words):
+    """A mark, its halves, with words of 64 bits mixed in."""
+    for word in words:
+        product = (mark[0] ^ word) * 0x9E3779B97F4A7C15
+        mark = mark[1] ^ product >> 64, product % 2**64
+    return mark
+
+
+def words_of(text):
+    """How many bytes a text has, these eight at a time, and the last eight."""
+    text = text.encode()
+    return [len(text), *(int.from_bytes(text[at : at + 8], "big") for at in range(0, len(text) - 7, 8)), int.from_bytes(text[-8:], "big")]
+
+
+def live_words(dot, entry):
+    path, kind, (tag, value) = entry
+    said = {3: lambda: [value % 2**64], 4: lambda: words_of(value)}.get(tag, list)
+    return [*dot, len(path), *(word for key in path for word in words_of(key)), kind, tag, *said()]
+
+
+def mark_of(state):
+    """The mark of a state, 32 hex digits."""
+    rows = [(0x243F6A8885A308D3, live_words(*row)) for row in state.live().items()]
+    rows += [(0x13198A2E03707344, [*words_of(key), replica, *pair]) for (key, replica), pair in state.numbers.items()]
+    marks = [mixed((first, 0), words + [0] * 5) for first, words in rows]
+    return "".join(f"{sum(halves) % 2**64:016x}" for halves in zip(*marks, (0, 0)))
+
+
 Replica = collections.namedtuple("Replica", "group names own state")
 
 

@@ -14,8 +14,10 @@ mod Loops
 pub mod MetKeys
 pub mod NumberLaws
 pub mod NumberedTexts
+mod PackedFormats
 pub mod PartFormats
 mod PlaceLaws
+mod ReadPacked
 mod RowAlgebra
 mod RowSets
 mod RunSteps
@@ -26,3 +28,4 @@ pub mod SteadyRows
 pub mod TableFormats
 pub mod TableLaws
 pub mod TabledFormats
+mod WrittenPacked

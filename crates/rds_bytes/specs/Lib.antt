@@ -3,6 +3,7 @@ pub mod Entries
 pub mod Marks
 pub mod Numbers
 pub mod OneText
+pub mod Packed
 pub mod Places
 pub mod Reading
 pub mod RowDots
@@ -12,6 +13,7 @@ pub mod Spelling
 pub mod Steady
 pub mod SteadyLaws
 pub mod SteadyParts
+pub mod SteadyReaders
 pub mod SteadyTables
 pub mod Table
 pub mod TableTexts

@@ -1,5 +1,5 @@
 -- The readers of the parts are steady.
-use Rattle.std.proofs.Common.{ℕ, true, false, List, Option, eqb}
+use Rattle.std.proofs.Common.{ℕ, zero, suc, Bool, true, false, cond, ltb, List, Option, eqb}
 use Rattle.std.specs.Int.{w16, w32, w64}
 use Rattle.rds_names.specs.declared.entry.Entry.{Entry}
 use Rattle.rds_names.specs.declared.scalar.Scalar.TheVariants.{Null, Bool as Truth}
@@ -11,7 +11,8 @@ use Rattle.rds_bytes.specs.declared.dots.Gap.{Gap}
 use Rattle.rds_bytes.specs.declared.dots.DotRow.{DotRow}
 use Rattle.rds_bytes.specs.Entries.{entry_of}
 use Rattle.rds_bytes.specs.RowDots.{dots_of_rows}
-use Rattle.rds_bytes.specs.Reading.{Reader, last, magic_at, short_at, key_at, name_at, new_name_at, names_at, roster_by, roster_at, replica_at, member_at, header_at, gap_by, gap_at, gaps_at, numbers_at, dot_row_by, dot_row_at, dot_rows_at, dots_at, row_head_by, row_head_at, row_gaps_at, kind_by, kind_at, int_at, text_at, int_scalar, text_scalar, text_scalar_at, tagged_at, scalar_at, dot_by, dot_at, counts_at, count_row_by, keyed_path_at, keyed_entry_at, keyed_live_row_at, keyed_live_rows_at, keyed_place_at, keyed_count_row_at, keyed_count_rows_at, keyed_counters_at, path_at, entry_at, live_row_at, live_rows_at, place_at, count_row_at, count_rows_at, counters_at}
+use Rattle.rds_bytes.specs.Packed.{packed_by, nothing_at, packed_up_to, packed_at}
+use Rattle.rds_bytes.specs.Reading.{Reader, when_at, last, magic_at, short_at, key_at, name_at, new_name_at, names_at, roster_by, roster_at, replica_at, member_at, header_at, gap_by, gap_at, gaps_at, numbers_at, dot_row_by, dot_row_at, dot_rows_at, dots_at, row_head_by, row_head_at, row_gaps_at, kind_by, kind_at, int_at, text_at, int_scalar, text_scalar, text_scalar_at, tagged_at, scalar_at, dot_by, dot_at, counts_at, count_row_by, keyed_path_at, keyed_entry_at, keyed_live_row_at, keyed_live_rows_at, keyed_place_at, keyed_count_row_at, keyed_count_rows_at, keyed_counters_at, path_at, entry_at, live_row_at, live_rows_at, place_at, count_row_at, count_rows_at, counters_at}
 use Rattle.rds_bytes.specs.Steady.{IsSteady}
 use Rattle.rds_bytes.specs.SteadyLaws.{agrees_bind, made_steady, then_steady, pair_steady, when_steady, drawn_steady, chosen_steady, given_steady, bad_steady, rows_steady, list_steady, byte_steady, number_steady, bytes_steady, string_steady}
 
@@ -184,3 +185,20 @@ count_row_steady = keyed_count_row_steady key_at key_steady
 pub counters_steady : (replicas : ℕ) → IsSteady (counters_at replicas)
 unfolding counters_at count_rows_at count_row_at place_at keyed_counters_at keyed_count_rows_at keyed_count_row_at keyed_place_at
 counters_steady = keyed_counters_steady key_at key_steady
+
+-- ---- packed numbers
+
+either_steady : {A : Type 0} (b : Bool) (f g : Reader A) → IsSteady f → IsSteady g → IsSteady (cond b f g)
+either_steady true f g s t = s
+either_steady false f g s t = t
+
+packed_up_to_steady : (more : ℕ) → IsSteady (packed_up_to more)
+unfolding packed_up_to
+packed_up_to_steady zero = when_steady _ _ byte_steady
+packed_up_to_steady (suc more) =
+    made_steady packed_by _
+    (then_steady _ _ byte_steady
+    (λ b. either_steady (ltb b 128) nothing_at (when_at (ltb 0) (packed_up_to more)) (given_steady 0) (when_steady _ _ (packed_up_to_steady more))))
+
+pub packed_steady : IsSteady packed_at
+packed_steady = packed_up_to_steady 6

@@ -5,7 +5,20 @@ ghost use Rattle.std.specs.List.{flat_map, AllByRecursion};
 ghost use Rattle.rds_counts.specs.Counted.{number};
 ghost use Rattle.rds_counts.specs.Place.{Place};
 ghost use Rattle.rds_counts.specs.RowsOf.{count_rows};
-ghost use Rattle.rds_bytes.specs.Reading.{Reads, ReadsExactly, number_at, when_at, last, comes_after_row as is_after_row, is_count as is_count_of, is_second, counts_at, count_row_at, keyed_place_at, keyed_count_row_at};
+ghost use Rattle.rds_bytes.specs.Reading.{
+  Reads,
+  ReadsExactly,
+  number_at,
+  when_at,
+  last,
+  comes_after_row as is_after_row,
+  is_count as is_count_of,
+  is_second,
+  counts_at,
+  count_row_at,
+  keyed_place_at,
+  keyed_count_row_at,
+};
 ghost use Rattle.rds_bytes.specs.SteadyParts.{count_row_steady};
 ghost use Rattle.rds_bytes.specs.Values.{AreCountsOf, IsKeyed};
 ghost use Rattle.rds_bytes.specs.Spelling.{count_row_text, counters_text, place_text, counts_text, count_rows_text};

@@ -7,7 +7,16 @@ ghost use Rattle.std.specs.List.{flat_map};
 ghost use Rattle.std.specs.Int.{w64};
 ghost use Rattle.rds_dots.specs.Runs.{runs_of};
 ghost use Rattle.rds_dots.specs.Dots.{IsRun, last_of as last_dot};
-ghost use Rattle.rds_bytes.specs.Reading.{ReadsExactly, number_at, byte_at, when_at, is_between, least_lo as lo_after, gap_at, is_next_replica};
+ghost use Rattle.rds_bytes.specs.Reading.{
+  ReadsExactly,
+  number_at,
+  byte_at,
+  when_at,
+  is_between,
+  least_lo as lo_after,
+  gap_at,
+  is_next_replica,
+};
 ghost use Rattle.rds_bytes.specs.DotRows.{a_gap, gap_before, rows_from, row_of_run, row_end, CanCountAll, Follows};
 ghost use Rattle.rds_bytes.specs.Spelling.{gap_text, dot_row_text, dots_text};
 ghost use Rattle.rds_bytes.specs.Writing.{Adds};

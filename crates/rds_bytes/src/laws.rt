@@ -1,5 +1,5 @@
 //! Laws of the texts of sets and of tables, and of reading.
-ghost use Rattle.std.specs.Prelude.{◌≡◌, ◌≢◌, ◌↔◌, ℕ, ◌+◌, true, List, [], ◌∷◌, ◌++◌, length, fold, Option, Some, Ok, Err};
+ghost use Rattle.std.specs.Prelude.{◌≡◌, ◌≢◌, ◌↔◌, ℕ, ◌+◌, true, List, [], ◌∷◌, ◌++◌, length, fold, Some, Ok, Err};
 ghost use Rattle.rds_names.specs.declared.fault.Fault.{Fault};
 ghost use Rattle.rds_names.specs.declared.fault.Fault.TheVariants.{Cut};
 ghost use Rattle.rds_names.specs.declared.entry.Entry.{Entry};
@@ -7,8 +7,21 @@ ghost use Rattle.rds_dots.specs.declared.dot.Dot.{Dot};
 ghost use Rattle.rds_dots.specs.Dots.{Dots};
 ghost use Rattle.rds_counts.specs.declared.row.CountRow.{CountRow};
 ghost use Rattle.rds_bytes.specs.declared.dots.DotRow.{DotRow};
-ghost use Rattle.rds_bytes.specs.declared.dots.Gap.{Gap};
-ghost use Rattle.rds_bytes.specs.Reading.{Reader, keyed_live_rows_at, keyed_counters_at, then_at, made_at, rows_after, last, least_replica, row_head_at, row_gaps_at, row_by, key_at, name_at, roster_at, replica_at, member_at, header_at, gap_at, dot_row_at, dots_at, scalar_at, entry_at, live_row_at, live_rows_at, count_row_at, counters_at};
+ghost use Rattle.rds_bytes.specs.Packed.{packed_at, packed_text, HasPackedText};
+ghost use Rattle.rds_bytes.specs.Reading.{
+  Reader,
+  keyed_live_rows_at,
+  keyed_counters_at,
+  then_at,
+  made_at,
+  rows_after,
+  last,
+  least_replica,
+  row_head_at,
+  row_gaps_at,
+  row_by,
+  dot_row_at,
+};
 ghost use Rattle.std.specs.List.{list_all};
 ghost use Rattle.rds_names.specs.Roster.{all_differ};
 ghost use Rattle.rds_bytes.specs.OneText.{HasOneText};
@@ -17,6 +30,7 @@ ghost use Rattle.rds_bytes.specs.SetRows.{AreRowsOf, IsSpelledByRows, RowsStand}
 ghost use Rattle.rds_bytes.specs.Sources.{after_rows, after_counts};
 ghost use Rattle.rds_bytes.specs.Spelling.{dots_text, dot_rows_text, keyed_live_rows_text, keyed_counters_text};
 ghost use Rattle.rds_bytes.specs.Steady.{IsSteady};
+ghost use Rattle.rds_bytes.specs.SteadyReaders.{NamesAreSteady, DotsAreSteady, EntriesAreSteady, CountersAreSteady};
 ghost use Rattle.rds_bytes.specs.Table.{AreIn, IsTable, table_of, after_key, used_keys, is_tabled};
 ghost use Rattle.rds_bytes.specs.TableTexts.{table_text, number_text, table_at, numbered_at};
 ghost use Rattle.rds_bytes.specs.TableValue.{TableValue, meeting};
@@ -39,22 +53,16 @@ pub fn sets_are_spelled_by_rows()
 /// fault whatever follows: a part is refused (`Bad`) only where no continuation of its bytes would be read. The function
 /// does nothing: its contract is the law.
 pub fn readers_are_steady()
-    ensures key { IsSteady key_at }
-    ensures name { IsSteady name_at }
-    ensures roster { IsSteady roster_at }
-    ensures member { IsSteady member_at }
-    ensures header { IsSteady header_at }
-    ensures replica { (replicas : ℕ) → IsSteady (replica_at replicas) }
-    ensures scalar { IsSteady scalar_at }
-    ensures entry { IsSteady entry_at }
-    ensures gap { (top : ℕ) (before : Option Gap) → IsSteady (gap_at top before) }
-    ensures row_head { (replicas least : ℕ) → IsSteady (row_head_at replicas least) }
-    ensures dot_row { (replicas : ℕ) (before : List DotRow) → IsSteady (dot_row_at replicas before) }
-    ensures dots { (replicas : ℕ) → IsSteady (dots_at replicas) }
-    ensures live_row { (seen : Dots) (before : List (Dot × Entry)) → IsSteady (live_row_at seen before) }
-    ensures live_rows { (seen : Dots) → IsSteady (live_rows_at seen) }
-    ensures count_row { (replicas : ℕ) (before : List CountRow) → IsSteady (count_row_at replicas before) }
-    ensures counters { (replicas : ℕ) → IsSteady (counters_at replicas) }
+    ensures names { NamesAreSteady }
+    ensures dots { DotsAreSteady }
+    ensures entries { EntriesAreSteady }
+    ensures counters { CountersAreSteady }
+    ensures packed { IsSteady packed_at }
+{}
+
+/// A packed number has one text. The function does nothing: its contract is the law.
+pub fn packed_numbers_have_one_text()
+    ensures { HasOneText packed_at packed_text HasPackedText }
 {}
 
 /// A row of a set of dots is what it begins with, and then its gaps. So it is read a gap at a time, however many it

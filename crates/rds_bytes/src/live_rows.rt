@@ -3,7 +3,15 @@ ghost use Rattle.std.specs.Prelude.{◌≡◌, fold, IfOk, ◌*◌, ◌^◌, ◌
 ghost use Rattle.std.specs.List.{flat_map, AllByRecursion};
 ghost use Rattle.rds_dots.specs.Dots.{comes_after};
 ghost use Rattle.rds_life.specs.Life.{live_rows};
-ghost use Rattle.rds_bytes.specs.Reading.{Reads, ReadsExactly, dot_at, live_row_at, keyed_live_row_at, dot_of_row, last};
+ghost use Rattle.rds_bytes.specs.Reading.{
+  Reads,
+  ReadsExactly,
+  dot_at,
+  live_row_at,
+  keyed_live_row_at,
+  dot_of_row,
+  last,
+};
 ghost use Rattle.rds_bytes.specs.SteadyParts.{live_row_steady};
 ghost use Rattle.rds_bytes.specs.Values.{IsLiveRow};
 ghost use Rattle.rds_bytes.specs.Spelling.{live_row_text, live_rows_text};

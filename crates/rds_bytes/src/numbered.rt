@@ -1,20 +1,42 @@
 //! Tables, and rows whose keys are numbers of a table: their lengths, and writing them.
-ghost use Rattle.std.specs.Prelude.{◌≡◌, ◌++◌, ◌+◌, ◌*◌, ◌<◌, ◌≤◌, ◌^◌, ℕ, List, [], ◌∷◌, length, drop, map as each, IfOk};
+ghost use Rattle.std.specs.Prelude.{
+  ◌≡◌,
+  ◌++◌,
+  ◌+◌,
+  ◌*◌,
+  ◌<◌,
+  ◌≤◌,
+  ◌^◌,
+  ℕ,
+  List,
+  [],
+  ◌∷◌,
+  length,
+  drop,
+  map as each,
+  IfOk,
+};
 ghost use Rattle.std.specs.List.{flat_map, AllByRecursion};
 ghost use Rattle.rds_life.specs.Life.{live_rows};
 ghost use Rattle.rds_counts.specs.RowsOf.{count_rows};
-ghost use Rattle.rds_bytes.specs.Numbers.{numbers_text, numbered_row_text, numbered_rows_text, numbered_counts_text, keys_in};
+ghost use Rattle.rds_bytes.specs.Numbers.{
+  numbers_text,
+  numbered_row_text,
+  numbered_rows_text,
+  numbered_counts_text,
+  keys_in,
+};
 ghost use Rattle.rds_bytes.specs.Spelling.{short_text, scalar_text, keyed_live_rows_text, keyed_counters_text};
 ghost use Rattle.rds_bytes.specs.Table.{number_of, rows_table, used_keys};
 ghost use Rattle.rds_bytes.specs.TableTexts.{table_text, number_text};
-ghost use Rattle.rds_bytes.specs.Values.{IsKeyText, IsEntry};
+ghost use Rattle.rds_bytes.specs.Values.{IsKeyText, IsScalar};
 ghost use Rattle.rds_bytes.specs.Writing.{Adds};
 
 use crate::counters::put_counts;
 use crate::entries::put_kind;
 use crate::keys::{key_length, put_key};
 use crate::numbers::{put_byte, put_u32, put_u64};
-use crate::paths::{keys_length, put_keys};
+use crate::paths::put_keys;
 use crate::scalars::{put_scalar, scalar_length};
 use rds_counts::{CountRow, Counts};
 use rds_dots::{Dot, DotSet};
@@ -48,12 +70,9 @@ pub fn table_length(keys: &[Key]) -> u128
 pub fn numbered_row_length(entry: &Entry) -> u128
     ensures length { result ≡ 11 + 4 * length entry.now.path + length (scalar_text entry.now.value) }
     ensures most { result ≤ 2048 }
-    ensures is_entry { IsEntry entry.now }
+    ensures scalar { IsScalar entry.now.value }
 {
-    // That its keys are text shows where they are measured.
-    let keys = entry.path.keys();
-    let _spelled = keys_length(keys);
-    (11 + 4 * keys.len() + scalar_length(&entry.value)) as u128
+    (11 + 4 * entry.path.len() + scalar_length(&entry.value)) as u128
 }
 
 /// The length of counters with numbers in place of their keys. It doesn't depend on the table.

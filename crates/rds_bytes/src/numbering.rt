@@ -1,13 +1,16 @@
 //! Numbering the keys that rows use, in the order in which they come.
-ghost use Rattle.std.specs.Prelude.{◌≡◌, ◌++◌, ◌∷◌, [], false, length, fold, map as each, OnOk, IfOk, IfErr};
+ghost use Rattle.std.specs.Prelude.{◌≡◌, ◌++◌, ◌∷◌, [], true, false, length, fold, map as each, OnOk, IfOk, IfErr};
+ghost use Rattle.std.specs.List.{list_all};
 ghost use Rattle.rds_names.specs.declared.fault.Fault.TheVariants.{Memory};
 ghost use Rattle.rds_life.specs.Life.{live_rows};
 ghost use Rattle.rds_counts.specs.RowsOf.{count_rows};
 ghost use Rattle.rds_bytes.specs.Marks.{mark as its_mark};
 ghost use Rattle.rds_bytes.specs.Numbers.{AreMeasured, numbers_from};
 ghost use Rattle.rds_bytes.specs.Places.{AreFound};
+ghost use Rattle.rds_bytes.specs.Values.{is_key_text};
 ghost use Rattle.rds_bytes.specs.Table.{has_key, add_key, number_of, rows_table, live_keys, counter_keys, used_keys};
 
+use crate::keys::key_length;
 use crate::marks::mark_of;
 use crate::numbered::numbered_row_length;
 use crate::places::{KeyPlaces, has_at, in_four_bytes};
@@ -67,7 +70,7 @@ impl Numbering {
         ensures memory { IfErr result (λ fault. fault ≡ Memory) }
     {
         let number = self.keys.len();
-        self.places.add(alloc, self.keys.as_slice(), mark, key)?;
+        self.places.add(alloc, self.keys.as_slice(), mark, key, 0)?;
         self.keys.push(key.copy(alloc)?)?;
         Ok(number)
     }
@@ -140,6 +143,7 @@ impl Numbering {
         ensures keys { OnOk result (self.new.keys.items ≡ fold add_key self.old.keys.items keys.entry.now) }
         ensures numbers { OnOk result (self.new.numbers.items
             ≡ self.old.numbers.items ++ numbers_from self.old.keys.items keys.entry.now) }
+        ensures texts { OnOk result (list_all is_key_text keys.entry.now ≡ true) }
         ensures memory { IfErr result (λ fault. fault ≡ Memory) }
     {
         let mut near = last;
@@ -150,6 +154,8 @@ impl Numbering {
             };
             let guess = self.noted(near);
             self.add(alloc, guess, key)?;
+            // Whoever sees the length of a key sees that it is text.
+            let _spelled = key_length(key);
             near = near.wrapping_add(1);
             keys = later;
         }

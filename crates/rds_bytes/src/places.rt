@@ -1,5 +1,24 @@
 //! Where the numbers of keys are found.
-ghost use Rattle.std.specs.Prelude.{◌≡◌, ℕ, List, ◌++◌, ◌∷◌, [], true, false, suc, length, bit_and, slice_get, Some, IsTrue, if◌then◌else◌, OnOk, IfOk, IfErr};
+ghost use Rattle.std.specs.Prelude.{
+  ◌≡◌,
+  ℕ,
+  List,
+  ◌++◌,
+  ◌∷◌,
+  [],
+  true,
+  false,
+  suc,
+  length,
+  bit_and,
+  slice_get,
+  Some,
+  IsTrue,
+  if◌then◌else◌,
+  OnOk,
+  IfOk,
+  IfErr,
+};
 ghost use Rattle.rds_names.specs.declared.fault.Fault.TheVariants.{Memory};
 ghost use Rattle.rds_names.specs.Roster.{all_differ};
 ghost use Rattle.rds_bytes.specs.Marks.{mark as its_mark};
@@ -189,12 +208,12 @@ impl KeyPlaces {
         Ok(())
     }
 
-    /// No keys, and buckets whose room so many keys take half of.
+    /// No keys, and buckets whose room so many keys take half of at most.
     fn with_room(alloc: Global, keys: usize) -> Result<KeyPlaces, Fault>
         ensures found { IfOk result (λ places. AreFound places []) }
         ensures memory { IfErr result (λ fault. fault ≡ Memory) }
     {
-        let count = (keys / (ROOM / 2)).next_power_of_two();
+        let count = keys.div_ceil(ROOM / 2).next_power_of_two();
         let mut buckets = Vec::new(alloc);
         buckets.resize(count, EMPTY)?;
         Ok(KeyPlaces {
@@ -217,8 +236,16 @@ impl KeyPlaces {
         Ok(places)
     }
 
-    /// Notes that a new key follows these. Where these take half of the room, there is four times as much first.
-    pub fn add(&mut self, alloc: Global, keys: &[Key], mark: u64, key: &Key) -> Result<(), Fault>
+    /// Notes that a new key follows these. Where these take half of the room, there is four times as much first, or as
+    /// much as these and so many that are still to come take half of.
+    pub fn add(
+        &mut self,
+        alloc: Global,
+        keys: &[Key],
+        mark: u64,
+        key: &Key,
+        coming: usize,
+    ) -> Result<(), Fault>
         requires found { AreFound self.old keys.now }
         requires new { has_key keys.now key.now ≡ false }
         requires mark { mark ≡ its_mark key.now }
@@ -226,7 +253,9 @@ impl KeyPlaces {
         ensures memory { IfErr result (λ fault. fault ≡ Memory) }
     {
         if keys.len() >= self.buckets.len().saturating_mul(ROOM / 2) {
-            *self = KeyPlaces::with_keys(alloc, keys.len().saturating_mul(4), keys)?;
+            let known = keys.len().saturating_add(coming).saturating_add(1);
+            let room = keys.len().saturating_mul(4).max(known);
+            *self = KeyPlaces::with_keys(alloc, room, keys)?;
         }
         self.note(alloc, keys.len(), mark, key)
     }

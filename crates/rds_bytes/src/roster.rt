@@ -5,7 +5,20 @@ ghost use Rattle.std.specs.List.{list_all};
 ghost use Rattle.rds_names.specs.declared.fault.Fault.TheVariants.{Bad};
 ghost use Rattle.rds_names.specs.Name.{is_name};
 ghost use Rattle.rds_names.specs.Roster.{are_names};
-ghost use Rattle.rds_bytes.specs.Reading.{Reads, ReadsExactly, is_new as is_new_name, name_at, new_name_at, names_at, roster_at, replica_at, member_at, when_at, is_between, number_at};
+ghost use Rattle.rds_bytes.specs.Reading.{
+  Reads,
+  ReadsExactly,
+  is_new as is_new_name,
+  name_at,
+  new_name_at,
+  names_at,
+  roster_at,
+  replica_at,
+  member_at,
+  when_at,
+  is_between,
+  number_at,
+};
 ghost use Rattle.rds_bytes.specs.SteadyParts.{new_name_steady};
 ghost use Rattle.rds_bytes.specs.Values.{IsMember};
 ghost use Rattle.rds_bytes.specs.Spelling.{names_text, member_text};

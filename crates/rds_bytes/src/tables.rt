@@ -1,5 +1,20 @@
 //! Tables of keys, and keys that are read by their numbers in one.
-ghost use Rattle.std.specs.Prelude.{◌≡◌, ◌↔◌, ◌⊎◌, ◌<◌, ◌^◌, true, Some, None, length, slice_get, IsTrue, IfOk, IfErr, refl};
+ghost use Rattle.std.specs.Prelude.{
+  ◌≡◌,
+  ◌↔◌,
+  ◌⊎◌,
+  ◌<◌,
+  ◌^◌,
+  true,
+  Some,
+  None,
+  length,
+  slice_get,
+  IsTrue,
+  IfOk,
+  IfErr,
+  refl,
+};
 ghost use Rattle.rds_names.specs.declared.fault.Fault.TheVariants.{Memory, Bad};
 ghost use Rattle.rds_names.specs.Roster.{all_differ};
 ghost use Rattle.rds_bytes.specs.Reading.{Reads};

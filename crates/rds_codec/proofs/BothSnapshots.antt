@@ -14,11 +14,10 @@ use Rattle.rds_codec.specs.declared.limits.TheConstants.{LIMIT}
 use Rattle.rds_codec.specs.declared.formats.Format.{Format}
 use Rattle.rds_codec.specs.declared.formats.Format.TheVariants.{One, Two}
 use Rattle.rds_codec.specs.FormatTexts as texts
-use Rattle.rds_codec.specs.FormatTexts.{state_text_in, state_at_in, magic_of, format_of, Snapshot, snapshot_of, snapshot_text_in, snapshot_kind_in}
-use Rattle.rds_codec.specs.StateTexts.{IsStateOf, IsSnapshot, snapshot_text}
-use Rattle.rds_codec.specs.SpelledTexts.{spelled_snapshot_text}
-use Rattle.rds_codec.proofs.SpelledStates.{CanCountState, spelled_format, spelled_within}
-use Rattle.rds_codec.proofs.TabledStates.{CanCountTabled, tabled_format, tabled_within}
+use Rattle.rds_codec.specs.FormatTexts.{format_of, Snapshot, snapshot_of, snapshot_kind_in}
+use Rattle.rds_codec.specs.StateTexts.{IsSnapshot, magic_of, snapshot_text_in, state_at_in, state_text_in}
+use Rattle.rds_codec.proofs.StateFormats.{CanCountIn, FitsIn, state_in_format, state_in_within}
+use Rattle.rds_codec.proofs.Texts.{snapshot_length}
 use Rattle.rds_codec.proofs.Whole.{IsReaderOf, reader_of}
 
 -- ---- the first four bytes
@@ -44,23 +43,6 @@ format_back t f len e = (tt, which (bytes_eq (magic_of One) t) (bytes_eq (magic_
 format_format : IsFormat texts.format_at magic_of (λ _. Unit {0})
 unfolding texts.format_at
 format_format = drawn_format format_of magic_of (bytes_at 4) (λ t. t) _ (λ _. Unit {0}) format_there format_back (known_format 4)
-
--- ---- the state
-
-abbrev CanCountIn : Format → StateValue → Type 0
-CanCountIn One = CanCountState
-CanCountIn Two = CanCountTabled
-
-abbrev FitsIn : Format → ℕ → StateValue → Type 0
-FitsIn f n v = IsStateOf n v × CanCountIn f v
-
-state_in_format : (f : Format) (n : ℕ) → IsFormat (state_at_in f n) (state_text_in f) (FitsIn f n)
-state_in_format One = spelled_format
-state_in_format Two = tabled_format
-
-state_in_within : (f : Format) (v : StateValue) → length (state_text_in f v) ≤ LIMIT → CanCountIn f v
-state_in_within One = spelled_within
-state_in_within Two = tabled_within
 
 -- ---- the roster, the own number and the state
 
@@ -112,30 +94,15 @@ there s h = ((tt, (member_pair s.1.roster s.1.own h.0.member, (h.0.state, h.1)))
 back : (p : Parts) → AreParts p → Fits (snapshot_of p) × (parts_of (snapshot_of p) ≡ p)
 back p h = ((record { member = of_member_pair p.1.0 h.1.0; state = h.1.1.0 }, h.1.1.1), refl)
 
--- what each format spells is the same four bytes, and the same parts
-pub text_parts : (f : Format) (v : ReplicaValue) → parts_text (parts_of (f, v)) ≡ snapshot_text_in f v
-unfolding spelled_snapshot_text snapshot_text
-text_parts One v = refl
-text_parts Two v = refl
-
 abbrev text_of : Snapshot → List ℕ
 text_of s = snapshot_text_in s.0 s.1
 
-same_texts : (λ (s : Snapshot). parts_text (parts_of s)) ≡ text_of
-same_texts = λ i s. text_parts s.0 s.1 i
-
 snapshot_format : IsFormat texts.snapshot_in_at text_of Fits
-unfolding texts.snapshot_in_at
-snapshot_format =
-    subst (λ (text : Snapshot → List ℕ). IsFormat texts.snapshot_in_at text Fits) same_texts
-    (made_format snapshot_of parts_of _ parts_text AreParts Fits there back parts_format)
+unfolding texts.snapshot_in_at snapshot_text_in
+snapshot_format = made_format snapshot_of parts_of _ parts_text AreParts Fits there back parts_format
 
 fits_within : (s : Snapshot) → IsSnapshot s.1 → length (text_of s) ≤ LIMIT → Fits s
-fits_within s is le =
-    let same = ap length (text_parts s.0 s.1) in
-    let a = length-append (magic_of s.0) (member_text s.1.roster s.1.own ++ state_text_in s.0 s.1.state) in
-    let b = length-append (member_text s.1.roster s.1.own) (state_text_in s.0 s.1.state) in
-    (is, state_in_within s.0 s.1.state (omega arith))
+fits_within s is le = let all = snapshot_length s.0 s.1 in (is, state_in_within s.0 s.1.state (omega (arith, all, le)))
 
 pub snapshot_in_reader : IsReaderOf snapshot_kind_in texts.snapshot_in_at
 snapshot_in_reader =
@@ -148,5 +115,5 @@ differ n one two = omega (arith, one, two)
 
 -- no snapshot of one format begins one of the other
 pub formats_differ : (v w : ReplicaValue) (x y : List ℕ) → snapshot_text_in One v ++ x ≡ snapshot_text_in Two w ++ y → ⊥
-unfolding spelled_snapshot_text snapshot_text
+unfolding snapshot_text_in
 formats_differ v w x y e = differ 49 refl (ap (λ (t : List ℕ). get_or t 3 0) e)

@@ -154,11 +154,7 @@ module _ (digest : DigestValue) (asker : ℕ) (held : StateValue) (a : AnswerVal
 
 -- ---- the text of an answer
 
--- what encoding in a format answers: the text within the limit, or why it isn't written
-written_in : (format : Format) (text : List ℕ) (bytes : Vec ℕ) → EncodesIn format text (Ok bytes) → (bytes.items ≡ text) × (length text ≤ LIMIT)
-written_in One text bytes h = h
-written_in Two text bytes h = h
-
+-- why encoding in a format writes nothing
 unwritten_in : (format : Format) (text : List ℕ) (fault : Fault) (IsLong : Type 0) → (LIMIT < length text → IsLong) → EncodesIn format text (Err fault) → IsLost IsLong fault
 unwritten_in One text fault IsLong long h = unwritten (length text) fault IsLong long h
 unwritten_in Two text fault IsLong long h = elim h [ inl m ↦ inl m | inr l ↦ inr (l.0, long l.1) ]
@@ -168,16 +164,15 @@ module _ (format : Format) (digest : DigestValue) (asker : ℕ) (held delta : St
       → ((n : ℕ) → Fits n (coordinates delta) → AreDotsOf n (seen_of delta.lives))
       → ((n : ℕ) (peer : Ranks) → asker < n → Fits n (coordinates delta) → IsAbove (coordinates delta) peer → IsCertificate peer delta rows → IsAnswerOf n (answer asker delta rows))
       → IsReplyIn format digest asker held bytes.items components
-  is_reply bytes components encodes sized dots again =
-      let text = written_in format (answer_text_in format (answer asker delta rows)) bytes encodes in record {
-        value = answer asker delta rows;
-        answers = is;
-        text = text.0;
-        within = subst (λ (t : List ℕ). length t ≤ LIMIT) (sym text.0) text.1;
-        sized = sized;
-        dots = λ n fits. dots n (answer_fits digest asker held (answer asker delta rows) is n fits);
-        again = λ n below fits. again n (ranks_in digest) below (answer_fits digest asker held (answer asker delta rows) is n fits) (answer_is_above digest asker held (answer asker delta rows) is) is.certificate;
-      }
+  is_reply bytes components text sized dots again = record {
+    value = answer asker delta rows;
+    answers = is;
+    text = text.0;
+    within = subst (λ (t : List ℕ). length t ≤ LIMIT) (sym text.0) text.1;
+    sized = sized;
+    dots = λ n fits. dots n (answer_fits digest asker held (answer asker delta rows) is n fits);
+    again = λ n below fits. again n (ranks_in digest) below (answer_fits digest asker held (answer asker delta rows) is n fits) (answer_is_above digest asker held (answer asker delta rows) is) is.certificate;
+  }
 
   pub no_reply : (e : Fault) → EncodesIn format (answer_text_in format (answer asker delta rows)) (Err e) → IsLost (IsLongAnswerIn format digest asker held) e
   no_reply e encodes =

@@ -14,13 +14,9 @@ mod ReadWithin
 pub mod Replicas
 mod ReplicaTests
 mod SmallTexts
-pub mod SpelledAnswers
-pub mod SpelledStates
+pub mod StateFormats
 pub mod StateKeys
-pub mod TabledAnswers
-mod TabledParts
-pub mod TabledStates
-pub mod TabledWritten
 mod Texts
+mod TwoParts
 pub mod Whole
 mod Within

@@ -12,15 +12,13 @@ use Rattle.rds_counts.specs.Counted.{Counted}
 use Rattle.rds_state.specs.Value.{StateValue}
 use Rattle.rds_delta.specs.declared.row.Row.{Row}
 use Rattle.rds_delta.specs.Digested.{DigestValue, IsInside}
-use Rattle.rds_bytes.specs.Reading.{◌>>=◌, Reader, then_at, pair_at, made_at, replica_at, dots_at, live_rows_at, counters_at}
-use Rattle.rds_codec.specs.SpelledTexts.{spelled_at, spelled_answer_at}
-use Rattle.rds_codec.specs.StateTexts.{StateParts, state_by, state_at}
+use Rattle.rds_bytes.specs.Reading.{◌>>=◌, Reader, then_at, pair_at, made_at, replica_at, dots_at, path_at, entry_at, live_row_at, live_rows_at, place_at, count_row_at, count_rows_at, counters_at, keyed_path_at, keyed_entry_at, keyed_live_row_at, keyed_live_rows_at, keyed_place_at, keyed_count_row_at, keyed_count_rows_at, keyed_counters_at}
+use Rattle.rds_codec.specs.StateTexts.{StateParts, body_at, state_by, state_at_in}
 use Rattle.rds_codec.specs.AnswerValues.{AnswerValue}
-use Rattle.rds_codec.specs.AnswerTexts.{answer, answer_by, answer_at}
+use Rattle.rds_codec.specs.AnswerTexts.{answer, answer_at_in}
 use Rattle.rds_codec.specs.CertificateTexts.{certificate_at}
-use Rattle.rds_codec.specs.FormatTexts.{state_at_in, answer_at_in}
 use Rattle.rds_codec.specs.declared.formats.Format.{Format}
-use Rattle.rds_codec.specs.declared.formats.Format.TheVariants.{One, Two}
+use Rattle.rds_codec.specs.declared.formats.Format.TheVariants.{One}
 use Rattle.rds_codec.specs.DigestTexts.{DigestParts, digest_by, are_seen, live_dots_at, digest_at}
 use Rattle.rds_feeds.specs.LiveRows.{lives_by}
 use Rattle.rds_feeds.specs.Parts.{makes, RefusesValue}
@@ -103,14 +101,18 @@ module _ (replicas : ℕ) where
   after_dots (Ok s) = after_rows s.0 (live_rows_at s.0 s.1)
   after_dots (Err e) = refl
 
-  pub spelled_read : (lives : Reader Lived) (counters : Reader Counted) → ((bytes : List ℕ) → lives bytes ≡ made_at lives_by (then_at (dots_at replicas) live_rows_at) bytes)
+  -- the parts are those whose keys are short texts
+  by_keys : made_at state_by (then_at (dots_at replicas) (λ seen. pair_at (live_rows_at seen) (counters_at replicas))) ≡ state_at_in One replicas
+  unfolding state_at_in body_at path_at entry_at live_row_at live_rows_at place_at count_row_at count_rows_at counters_at keyed_path_at keyed_entry_at keyed_live_row_at keyed_live_rows_at keyed_place_at keyed_count_row_at keyed_count_rows_at keyed_counters_at
+  by_keys = refl
+
+  pub one_read : (lives : Reader Lived) (counters : Reader Counted) → ((bytes : List ℕ) → lives bytes ≡ made_at lives_by (then_at (dots_at replicas) live_rows_at) bytes)
       → ((bytes : List ℕ) → counters bytes ≡ counters_at replicas bytes) → (pairs : Reader (Lived × Counted)) → ((bytes : List ℕ) → pairs bytes ≡ pair_at lives counters bytes)
-      → (bytes : List ℕ) → makes pairs state_of bytes ≡ spelled_at replicas bytes
-  unfolding spelled_at
-  spelled_read lives counters first second pairs are bytes =
+      → (bytes : List ℕ) → makes pairs state_of bytes ≡ state_at_in One replicas bytes
+  one_read lives counters first second pairs are bytes =
       ap (λ (x : Result ((Lived × Counted) × List ℕ) Fault). x >>= state_made)
       (are bytes ∙ pair_same lives (made_at lives_by (then_at (dots_at replicas) live_rows_at)) counters (counters_at replicas) first second bytes)
-      ∙ after_dots (dots_at replicas bytes)
+      ∙ after_dots (dots_at replicas bytes) ∙ ap (λ (f : Reader StateValue). f bytes) by_keys
 
 -- ---- a digest
 
@@ -240,34 +242,13 @@ module _ (replicas : ℕ) where
   abbrev answer_made : (ℕ × (StateValue × List Row)) × List ℕ → Result (AnswerValue × List ℕ) Fault
   answer_made = made_one answer_of
 
-  -- for any reader of its delta
-  answer_from : (whole state : Reader StateValue) (certificate : Reader (List Row)) (delta : Reader (StateValue × List Row)) (all : Reader (ℕ × (StateValue × List Row)))
-      → ((bytes : List ℕ) → state bytes ≡ whole bytes) → ((bytes : List ℕ) → certificate bytes ≡ certificate_at replicas bytes)
-      → ((bytes : List ℕ) → delta bytes ≡ pair_at state certificate bytes) → ((bytes : List ℕ) → all bytes ≡ pair_at asker_at delta bytes)
-      → (bytes : List ℕ) → makes all answer_of bytes ≡ made_at answer_by (pair_at (replica_at replicas) (pair_at whole (certificate_at replicas))) bytes
-  answer_from whole state certificate delta all first second third are bytes =
-      ap (λ (x : Result ((ℕ × (StateValue × List Row)) × List ℕ) Fault). x >>= answer_made)
-      (are bytes
-      ∙ pair_same asker_at (replica_at replicas) delta (pair_at whole (certificate_at replicas)) (λ b. same_part (replica_at replicas b))
-      (λ b. third b ∙ pair_same state whole certificate (certificate_at replicas) first second b) bytes)
-
-  spelled_answer_read : (state : Reader StateValue) (certificate : Reader (List Row)) (delta : Reader (StateValue × List Row)) (all : Reader (ℕ × (StateValue × List Row)))
-      → ((bytes : List ℕ) → state bytes ≡ spelled_at replicas bytes) → ((bytes : List ℕ) → certificate bytes ≡ certificate_at replicas bytes)
-      → ((bytes : List ℕ) → delta bytes ≡ pair_at state certificate bytes) → ((bytes : List ℕ) → all bytes ≡ pair_at asker_at delta bytes)
-      → (bytes : List ℕ) → makes all answer_of bytes ≡ spelled_answer_at replicas bytes
-  unfolding spelled_answer_at
-  spelled_answer_read = answer_from (spelled_at replicas)
-
-  answer_read : (state : Reader StateValue) (certificate : Reader (List Row)) (delta : Reader (StateValue × List Row)) (all : Reader (ℕ × (StateValue × List Row)))
-      → ((bytes : List ℕ) → state bytes ≡ state_at replicas bytes) → ((bytes : List ℕ) → certificate bytes ≡ certificate_at replicas bytes)
-      → ((bytes : List ℕ) → delta bytes ≡ pair_at state certificate bytes) → ((bytes : List ℕ) → all bytes ≡ pair_at asker_at delta bytes)
-      → (bytes : List ℕ) → makes all answer_of bytes ≡ answer_at replicas bytes
-  unfolding answer_at
-  answer_read = answer_from (state_at replicas)
-
   pub answer_in_read : (format : Format) (state : Reader StateValue) (certificate : Reader (List Row)) (delta : Reader (StateValue × List Row)) (all : Reader (ℕ × (StateValue × List Row)))
       → ((bytes : List ℕ) → state bytes ≡ state_at_in format replicas bytes) → ((bytes : List ℕ) → certificate bytes ≡ certificate_at replicas bytes)
       → ((bytes : List ℕ) → delta bytes ≡ pair_at state certificate bytes) → ((bytes : List ℕ) → all bytes ≡ pair_at asker_at delta bytes)
       → (bytes : List ℕ) → makes all answer_of bytes ≡ answer_at_in format replicas bytes
-  answer_in_read One = spelled_answer_read
-  answer_in_read Two = answer_read
+  unfolding answer_at_in
+  answer_in_read format state certificate delta all first second third are bytes =
+      ap (λ (x : Result ((ℕ × (StateValue × List Row)) × List ℕ) Fault). x >>= answer_made)
+      (are bytes
+      ∙ pair_same asker_at (replica_at replicas) delta (pair_at (state_at_in format replicas) (certificate_at replicas)) (λ b. same_part (replica_at replicas b))
+      (λ b. third b ∙ pair_same state (state_at_in format replicas) certificate (certificate_at replicas) first second b) bytes)

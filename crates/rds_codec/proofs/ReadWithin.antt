@@ -30,9 +30,7 @@ use Rattle.rds_bytes.specs.RowDots.{run_before, runs_between, row_runs, dots_of_
 use Rattle.rds_bytes.specs.Reading.{Reader, then_at, pair_at, made_at, when_at, rows_after, list_at, byte_at, number_at, last, is_number, replica_at, roster_at, member_at, least_replica, is_next_replica, dot_row_by, numbers_at, dot_row_at, dot_rows_at, dots_at, live_rows_at, comes_after_row, is_next_place, key_at, place_with, place_at, counts_at, count_row_by, count_row_with, count_row_at, count_rows_at, counters_at, keyed_live_rows_at, keyed_place_at, keyed_count_row_at, keyed_count_rows_at, keyed_counters_at}
 use Rattle.rds_bytes.specs.TableTexts.{table_at, numbered_at}
 use Rattle.rds_bytes.proofs.Format.{bind_ok, ok_is}
-use Rattle.rds_codec.specs.FormatTexts.{state_at_in}
-use Rattle.rds_codec.specs.SpelledTexts.{spelled_at}
-use Rattle.rds_codec.specs.StateTexts.{state_by, has_its_table, tabled_by, body_at, state_at}
+use Rattle.rds_codec.specs.StateTexts.{state_by, has_its_table, without_table, body_at, state_at_in}
 use Rattle.rds_codec.specs.declared.formats.Format.{Format}
 use Rattle.rds_codec.specs.declared.formats.Format.TheVariants.{One, Two}
 use Rattle.rds_feeds.specs.WasRead.{made_read, then_read, when_read}
@@ -144,10 +142,6 @@ module _ (replicas : ℕ) where
       let all = all_below made.0 (list_passes row count_below (count_is_below key) (number_at w32) bytes made.0 rest made.1) in
       numbers_below replicas made.0 all q (subst (λ n. 0 < n) (sym (get-counts_of made.0 m made.2 q)) has)
 
-  counters_below : ReadsBelow (counters_at replicas)
-  unfolding counters_at count_rows_at count_row_at place_at
-  counters_below = counts_are_below key_at
-
   keyed_counters_below : (key : Reader (List ℕ)) → ReadsBelow (keyed_counters_at key replicas)
   unfolding keyed_counters_at keyed_count_rows_at keyed_count_row_at keyed_place_at
   keyed_counters_below = counts_are_below
@@ -172,27 +166,20 @@ module _ (replicas : ℕ) where
         numbers = λ q has. below rows.middle rows.second rest rows.second_is q has;
       })
 
-  spelled_fits : ReadsFit (spelled_at replicas)
-  unfolding spelled_at
-  spelled_fits = parts_fit live_rows_at (counters_at replicas) counters_below
-
   body_fits : (key : Reader (List ℕ)) → ReadsFit (body_at key replicas)
   unfolding body_at
   body_fits key = parts_fit (keyed_live_rows_at key) (keyed_counters_at key replicas) (keyed_counters_below key)
 
-  state_fits : ReadsFit (state_at replicas)
-  unfolding state_at
-  state_fits bytes v rest e =
+  pub state_in_fits : (format : Format) → ReadsFit (state_at_in format replicas)
+  unfolding state_at_in
+  state_in_fits One bytes v rest e = body_fits key_at bytes v rest e
+  state_in_fits Two bytes v rest e =
       let body = λ (table : List (List ℕ)). body_at (numbered_at table) replicas in
-      let made = made_read tabled_by (when_at has_its_table (then_at table_at body)) bytes v rest e in
+      let made = made_read without_table (when_at has_its_table (then_at table_at body)) bytes v rest e in
       let has = when_read has_its_table (then_at table_at body) bytes made.0 rest made.1 in
       let both = then_read table_at body bytes made.0 rest has.0 in
-      let same : both.second ≡ v = ap tabled_by both.are ∙ made.2 in
+      let same : both.second ≡ v = ap without_table both.are ∙ made.2 in
       subst (λ (w : StateValue). Fits replicas (coordinates w)) same (body_fits (numbered_at both.first) both.middle both.second rest both.second_is)
-
-  pub state_in_fits : (format : Format) → ReadsFit (state_at_in format replicas)
-  state_in_fits One = spelled_fits
-  state_in_fits Two = state_fits
 
 -- ---- a roster, and the own number
 

@@ -25,12 +25,12 @@ use Rattle.rds_bytes.specs.DotRows.{rows_from}
 use Rattle.rds_bytes.specs.Spelling.{dot_rows_text, dots_text, live_row_text, keyed_live_rows_text, count_rows_text, keyed_count_rows_text, counters_text, keyed_counters_text, member_text}
 use Rattle.rds_bytes.specs.Table.{table_of, rows_table}
 use Rattle.rds_bytes.specs.TableTexts.{table_text, number_text}
-use Rattle.rds_codec.specs.SpelledTexts.{spelled_text, spelled_snapshot_text}
-use Rattle.rds_codec.specs.StateTexts.{snapshot_text, table_in, state_text}
+use Rattle.rds_codec.specs.StateTexts.{snapshot_text_in, table_in, state_text_in}
+use Rattle.rds_codec.specs.declared.formats.Format.{Format}
+use Rattle.rds_codec.specs.declared.formats.Format.TheVariants.{One, Two}
 use Rattle.rds_codec.specs.Writing.{IsUnwritten}
 use Rattle.rds_codec.specs.declared.limits.TheConstants.{LIMIT}
-use Rattle.rds_codec.proofs.TabledWritten.{numbered_rows_text, numbered_counters_text, tabled_length, tabled_snapshot_length}
-use Rattle.rds_codec.proofs.Texts.{spelled_length, snapshot_length}
+use Rattle.rds_codec.proofs.Texts.{numbered_rows_text, numbered_counters_text, one_length, two_length, snapshot_length}
 
 none_seen : (d : Dot) → set.contains (seen_of map.empty) d ≡ false
 none_seen d = contains-seen_of map.empty d ∙ ap is_some (map.get-empty {X = Life} dot_cmp d)
@@ -55,9 +55,9 @@ no_counters : length (counters_text map.empty) ≡ 4
 unfolding counters_text
 no_counters = ap (λ (es : List (Place × Above)). length (count_rows_text (rows_of es))) no_counts
 
-empty_length : (v : StateValue) → v.lives ≡ map.empty → v.counts ≡ map.empty → length (spelled_text v) ≡ 10
-empty_length v lives counts =
-    sym (spelled_length v 2 0 4 (sym (ap (λ (l : Lived). length (dots_text (seen_of l))) lives ∙ no_dots))
+empty_one : (v : StateValue) → v.lives ≡ map.empty → v.counts ≡ map.empty → length (state_text_in One v) ≡ 10
+empty_one v lives counts =
+    sym (one_length v 2 0 4 (sym (ap (λ (l : Lived). length (dots_text (seen_of l))) lives ∙ no_dots))
     (sym (ap (λ (l : Lived). length (flat_map live_row_text (live_rows l))) lives ∙ no_live)) (sym (ap (λ (m : Counted). length (counters_text m)) counts ∙ no_counters)))
 
 -- ---- in format 2
@@ -81,9 +81,9 @@ lengths_are : (v : StateValue) → length (table_text (table_in v)) + length (nu
 unfolding keyed_counters_text
 lengths_are v = refl
 
-empty_tabled_length : (v : StateValue) → v.lives ≡ map.empty → v.counts ≡ map.empty → length (state_text v) ≡ 14
-empty_tabled_length v lives counts =
-    let whole = tabled_length v in
+empty_two : (v : StateValue) → v.lives ≡ map.empty → v.counts ≡ map.empty → length (state_text_in Two v) ≡ 14
+empty_two v lives counts =
+    let whole = two_length v in
     let dots = ap (λ (l : Lived). length (dots_text (seen_of l))) lives ∙ no_dots in
     let rows = ap live_rows lives ∙ no_rows in
     let counted = ap count_rows counts ∙ no_count_rows in
@@ -92,16 +92,14 @@ empty_tabled_length v lives counts =
 
 -- ---- a snapshot
 
-pub small_spelled_snapshot : (v : ReplicaValue) → length (member_text v.roster v.own) ≤ 4420 → v.state.lives ≡ map.empty → v.state.counts ≡ map.empty → length (spelled_snapshot_text v) ≤ LIMIT
-small_spelled_snapshot v few lives counts =
-    let whole = snapshot_length v in
-    let state = empty_length v.state lives counts in
-    omega (arith, few, whole, state)
+empty_within : (format : Format) (v : StateValue) → v.lives ≡ map.empty → v.counts ≡ map.empty → length (state_text_in format v) ≤ 14
+empty_within One v lives counts = let e = empty_one v lives counts in omega (arith, e)
+empty_within Two v lives counts = let e = empty_two v lives counts in omega (arith, e)
 
-pub small_tabled_snapshot : (v : ReplicaValue) → length (member_text v.roster v.own) ≤ 4420 → v.state.lives ≡ map.empty → v.state.counts ≡ map.empty → length (snapshot_text v) ≤ LIMIT
-small_tabled_snapshot v few lives counts =
-    let whole = tabled_snapshot_length v in
-    let state = empty_tabled_length v.state lives counts in
+pub small_snapshot : (format : Format) (v : ReplicaValue) → length (member_text v.roster v.own) ≤ 4420 → v.state.lives ≡ map.empty → v.state.counts ≡ map.empty → length (snapshot_text_in format v) ≤ LIMIT
+small_snapshot format v few lives counts =
+    let whole = snapshot_length format v in
+    let state = empty_within format v.state lives counts in
     omega (arith, few, whole, state)
 
 -- a text within the limit wants nothing but memory

@@ -89,11 +89,11 @@ counts_are replicas m h =
     subst (AllByRecursion (IsCountRowOf replicas)) (sym (ap count_rows (sym h.value) ∙ count_rows-counts_of h.rows h.are_rows)) h.each_row
 
 -- the keys of a state that has a text are text
+pub state_keys : (replicas : ℕ) (v : StateValue) → IsStateOf replicas v → HasStateKeys IsKeyText v
+state_keys replicas v is = record { rows = text_rows (live_rows v.lives) is.entries; counts = text_counts replicas (count_rows v.counts) (counts_are replicas v.counts is.counts) }
+
 pub keys_are_texts : (replicas : ℕ) (v : StateValue) → IsStateOf replicas v → list_all is_key_text (keys_in v) ≡ true
-keys_are_texts replicas v is =
-    path_text (keys_in v)
-    (keys_have IsKeyText v
-    (record { rows = text_rows (live_rows v.lives) is.entries; counts = text_counts replicas (count_rows v.counts) (counts_are replicas v.counts is.counts) }))
+keys_are_texts replicas v is = path_text (keys_in v) (keys_have IsKeyText v (state_keys replicas v is))
 
 -- ---- they are text where those of the table are
 

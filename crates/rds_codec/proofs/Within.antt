@@ -37,9 +37,6 @@ pub dots_within : (s : Dots) → length (dots_text s) ≤ LIMIT → CanCountDots
 unfolding dots_text
 dots_within s le = rows_within LIMIT (omega arith) (rows_from 0 (runs_of s)) (omega arith)
 
-pub live_within : (rows : List (Dot × Entry)) → length (live_rows_text rows) ≤ LIMIT → CanCountRows rows
-live_within rows le = let e = longer live_row_text (λ row. omega arith) rows in omega arith
-
 pub counts_within : (m : Counted) → length (counters_text m) ≤ LIMIT → length (count_rows m) < 2 ^ 32
 unfolding counters_text
 counts_within m le = let e = longer count_row_text (λ r. omega arith) (count_rows m) in omega arith

@@ -108,6 +108,13 @@ IsLost IsLong fault = (fault ≡ Memory) ⊎ ((fault ≡ TooLong) × IsLong)
 abbrev pub IsWithin : StateValue → AnswerValue → Type 0
 IsWithin asked a = (length (digest_text (digest_of asked)) ≤ LIMIT) × (length (answer_text a) ≤ LIMIT)
 
+-- what was answered is for the one that asked, within the limit, and passes its check; and their rosters meet
+pub record IsPulled (answerer asked asker : ReplicaValue) (a : AnswerValue) : Type 0 where
+  pub meet : OneBegins asker.roster answerer.roster
+  pub own : a.asker ≡ asker.own
+  pub within : IsWithin asked.state a
+  pub checked : PassesCheck (replicas_of_both answerer asker) asked.state a
+
 -- the ask or the answer is too long
 abbrev pub IsLongExchange : ReplicaValue → ReplicaValue → ReplicaValue → Type 0
 IsLongExchange answerer asked asker =

@@ -4,13 +4,10 @@ use Rattle.std.specs.Int.{w32, w64}
 use Rattle.rds_dots.specs.Dots.{Dots}
 use Rattle.rds_bytes.specs.Steady.{IsSteady}
 use Rattle.rds_bytes.specs.SteadyLaws.{agrees_bind, made_steady, then_steady, pair_steady, when_steady, chosen_steady, bad_steady, list_steady, byte_steady, number_steady}
-use Rattle.rds_bytes.specs.SteadyParts.{key_steady, replica_steady, member_steady, dots_steady, live_rows_steady, counters_steady}
-use Rattle.rds_codec.specs.AnswerTexts.{answer_by}
+use Rattle.rds_bytes.specs.SteadyParts.{key_steady, replica_steady, member_steady, dots_steady, counters_steady}
 use Rattle.rds_codec.specs.CertificateTexts.{claimed_dot_at, ends_at, run_by, run_at, dead_at, which_by, which_at, amount_at, claim_at, counter_at, number_claim_at, live_by, dead_by, count_by, tagged_row_at, row_at, certificate_at}
 use Rattle.rds_codec.specs.DigestTexts.{live_dots_at, digest_by, digest_at}
 use Rattle.rds_codec.specs.HelloTexts.{version_at, hello_by, hello_at}
-use Rattle.rds_codec.specs.SpelledTexts.{spelled_at, spelled_answer_at}
-use Rattle.rds_codec.specs.StateTexts.{state_by}
 
 -- ---- a certificate
 
@@ -66,10 +63,6 @@ certificate_steady replicas = list_steady _ _ (number_steady w32) (λ _. row_ste
 
 -- ---- whole texts
 
-pub spelled_steady : (replicas : ℕ) → IsSteady (spelled_at replicas)
-unfolding spelled_at
-spelled_steady replicas = made_steady state_by _ (then_steady _ _ (dots_steady replicas) (λ seen. pair_steady _ _ (live_rows_steady seen) (counters_steady replicas)))
-
 pub live_dots_steady : (replicas : ℕ) (seen : Dots) → IsSteady (live_dots_at replicas seen)
 unfolding live_dots_at
 live_dots_steady replicas seen = when_steady _ _ (dots_steady replicas)
@@ -77,10 +70,6 @@ live_dots_steady replicas seen = when_steady _ _ (dots_steady replicas)
 pub digest_steady : (replicas : ℕ) → IsSteady (digest_at replicas)
 unfolding digest_at
 digest_steady replicas = made_steady digest_by _ (then_steady _ _ (dots_steady replicas) (λ seen. pair_steady _ _ (live_dots_steady replicas seen) (counters_steady replicas)))
-
-pub spelled_answer_steady : (replicas : ℕ) → IsSteady (spelled_answer_at replicas)
-unfolding spelled_answer_at
-spelled_answer_steady replicas = made_steady answer_by _ (pair_steady _ _ (replica_steady replicas) (pair_steady _ _ (spelled_steady replicas) (certificate_steady replicas)))
 
 version_steady : IsSteady version_at
 unfolding version_at

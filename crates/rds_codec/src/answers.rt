@@ -1,5 +1,5 @@
 //! The text of an answer: who asked, the delta, and its certificate.
-ghost use Rattle.std.specs.Prelude.{◌≡◌, ◌<◌, ℕ, List, Ok, OnOk};
+ghost use Rattle.std.specs.Prelude.{◌≡◌, ◌<◌, ◌≤◌, ◌+◌, ◌^◌, ℕ, List, length, Ok, OnOk};
 ghost use Rattle.std.specs.List.{AllByRecursion};
 ghost use Rattle.rds_delta.specs.Claims.{IsCertificate};
 ghost use Rattle.rds_delta.specs.Least.{IsAbove};
@@ -8,27 +8,33 @@ ghost use Rattle.rds_state.specs.Fits.{Fits};
 ghost use Rattle.rds_state.specs.Value.{coordinates};
 ghost use Rattle.rds_life.specs.Life.{seen_of};
 ghost use Rattle.rds_codec.specs.AnswerTexts.{IsAnswerOf, answer, answer_text, answer_at, answer_kind};
-ghost use Rattle.rds_codec.specs.CertificateTexts.{RowFits};
+ghost use Rattle.rds_codec.specs.CertificateTexts.{IsHeldRow, RowFits, certificate_text};
 ghost use Rattle.rds_codec.specs.Decoding.{Decodes, ReadsAll};
 ghost use Rattle.rds_codec.specs.FormatTexts.{answer_text_in, answer_at_in, answer_kind_in};
 ghost use Rattle.rds_codec.specs.FormatWriting.{EncodesIn, EncodesTabled};
+ghost use Rattle.rds_codec.specs.Measured.{IsMeasured, format_with};
+ghost use Rattle.rds_codec.specs.declared.limits.TheConstants.{LIMIT};
 ghost use Rattle.rds_bytes.specs.Reading.{replica_at};
 ghost use Rattle.rds_bytes.specs.SteadyParts.{replica_steady};
 ghost use Rattle.rds_bytes.specs.Values.{AreDotsOf};
+ghost use Rattle.rds_bytes.specs.Writing.{Adds};
 
-use crate::certificates::{UnfinishedCertificate, unfinished_certificate};
+use crate::certificates::{
+    UnfinishedCertificate, certificate_length, put_certificate, unfinished_certificate,
+};
 use crate::fed::read_whole;
+use crate::format_one::measure_one;
 use crate::formats::Format;
-use crate::spelled::{encode_spelled_answer, measure_spelled_answer};
+use crate::limits::room_for;
+use crate::measured::{Measured, measure, put_state};
 use crate::states::{UnfinishedState, unfinished_state};
-use crate::tabled::encode_tabled_answer;
-use rds_bytes::read_replica;
+use rds_bytes::{put_byte, read_replica};
 use rds_delta::Certificate;
 use rds_dots::DotSet;
 use rds_feeds::{Made, Making, Once, Pair, Part, Progress, Unfinished, pair};
 use rds_names::Fault;
 use rds_state::State;
-use std::alloc::Global;
+use std::alloc::{AllocError, Global};
 use std::marker::Model;
 
 /// What answers a digest: the delta for the replica that asked, and the certificate of it.
@@ -169,6 +175,34 @@ pub fn decode_answer_in<S: DotSet>(
     )
 }
 
+/// The length of the text of an answer whose delta was measured.
+fn answer_length(measured: &Measured, certificate: &Certificate) -> u128
+    requires { measured.now.text_length ≤ 2 ^ 101 }
+    ensures length { result ≡ 1 + measured.now.text_length + length (certificate_text certificate.now) }
+    ensures held { AllByRecursion IsHeldRow certificate.now }
+{
+    1 + measured.text_length + certificate_length(certificate)
+}
+
+/// The asker, the delta and the certificate.
+fn put_answer<S: DotSet>(
+    out: &mut Vec<u8>,
+    asker: u8,
+    state: &State<S>,
+    measured: &Measured,
+    certificate: &Certificate,
+) -> Result<(), AllocError>
+    requires measured { IsMeasured state.now measured.now }
+    requires within { length (answer_text_in (format_with measured.now.keys) (answer asker state.now certificate.now))
+        ≤ LIMIT }
+    ensures { Adds out.old.items out.new.items
+        (answer_text_in (format_with measured.now.keys) (answer asker state.now certificate.now)) result }
+{
+    put_byte(out, asker)?;
+    put_state(out, state, measured)?;
+    put_certificate(out, certificate)
+}
+
 /// The text of an answer with these parts, in a format. It is refused as that of the delta is
 /// ([`encode_state_in`](crate::encode_state_in)). That the parts make an answer shows where it is measured.
 pub fn encode_answer_in<S: DotSet>(
@@ -185,10 +219,10 @@ pub fn encode_answer_in<S: DotSet>(
         → Fits replicas (coordinates state.now) → IsAbove (coordinates state.now) peer
         → IsCertificate peer state.now certificate.now → IsAnswerOf replicas (answer asker state.now certificate.now)) }
 {
-    match format {
-        Format::One => encode_spelled_answer(alloc, asker, state, certificate),
-        Format::Two => encode_tabled_answer(alloc, asker, state, certificate),
-    }
+    let measured = measure(alloc, format, state)?;
+    let mut out = room_for(alloc, answer_length(&measured, certificate))?;
+    put_answer(&mut out, asker, state, &measured, certificate)?;
+    Ok(out)
 }
 
 /// The answer whose text the bytes are, of a roster of so many replicas. Whether its certificate is that of its
@@ -234,5 +268,6 @@ pub fn answers_have_texts<S: DotSet>(asker: u8, state: &State<S>, certificate: &
         → IsAbove (coordinates state.now) peer → IsCertificate peer state.now certificate.now
         → IsAnswerOf replicas (answer asker state.now certificate.now) }
 {
-    measure_spelled_answer(asker, state, certificate);
+    measure_one(state);
+    certificate_length(certificate);
 }

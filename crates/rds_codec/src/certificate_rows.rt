@@ -1,7 +1,24 @@
 //! The rows of a certificate, each after a tag.
 ghost use Rattle.std.specs.Prelude.{◌≡◌, ◌≤◌, length};
 ghost use Rattle.std.specs.Int.{w64};
-ghost use Rattle.rds_codec.specs.CertificateTexts.{IsHeldRow, run_text, which_byte, claim_text, row_text, claimed_dot_at, ends_at, run_at, dead_at, which_at, amount_at, claim_at, counter_at, number_claim_at, tagged_row_at, row_at};
+ghost use Rattle.rds_codec.specs.CertificateTexts.{
+  IsHeldRow,
+  run_text,
+  which_byte,
+  claim_text,
+  row_text,
+  claimed_dot_at,
+  ends_at,
+  run_at,
+  dead_at,
+  which_at,
+  amount_at,
+  claim_at,
+  counter_at,
+  number_claim_at,
+  tagged_row_at,
+  row_at,
+};
 ghost use Rattle.rds_bytes.specs.Reading.{Reads, ReadsExactly, number_at, when_at, is_between};
 ghost use Rattle.rds_bytes.specs.Spelling.{byte_text, dot_text};
 ghost use Rattle.rds_bytes.specs.Writing.{Adds};

@@ -1,7 +1,16 @@
 //! The text of a certificate: its rows, in any order.
 ghost use Rattle.std.specs.Prelude.{◌≡◌, ℕ, List, ◌≤◌, ◌<◌, ◌*◌, ◌^◌, length, Ok};
 ghost use Rattle.std.specs.List.{flat_map, AllByRecursion};
-ghost use Rattle.rds_codec.specs.CertificateTexts.{IsHeldRow, RowFits, IsCertificateOf, row_text, certificate_text, row_at, certificate_at, certificate_kind};
+ghost use Rattle.rds_codec.specs.CertificateTexts.{
+  IsHeldRow,
+  RowFits,
+  IsCertificateOf,
+  row_text,
+  certificate_text,
+  row_at,
+  certificate_at,
+  certificate_kind,
+};
 ghost use Rattle.rds_codec.specs.Decoding.{Decodes, ReadsAll};
 ghost use Rattle.rds_codec.specs.SteadyTexts.{row_steady};
 ghost use Rattle.rds_codec.specs.Writing.{Encodes};

@@ -3,14 +3,29 @@ ghost use Rattle.std.specs.Prelude.{◌≡◌, ◌<◌, ◌≤◌, ◌⊎◌, �
 ghost use Rattle.rds_state.specs.Coordinates.{join};
 ghost use Rattle.rds_state.specs.Fits.{Fits};
 ghost use Rattle.rds_state.specs.Grown.{TakeWithGives};
-ghost use Rattle.rds_names.specs.Roster.{OneBegins, longer};
+ghost use Rattle.rds_names.specs.Roster.{longer};
 ghost use Rattle.rds_state.specs.Value.{coordinates};
 ghost use Rattle.rds_life.specs.Life.{seen_of};
 ghost use Rattle.rds_delta.specs.Digested.{digest_of};
 ghost use Rattle.rds_codec.specs.AnswerTexts.{answer_text};
 ghost use Rattle.rds_codec.specs.Decoding.{IsTextOf};
 ghost use Rattle.rds_codec.specs.DigestTexts.{digest_text, digest_kind};
-ghost use Rattle.rds_codec.specs.Exchanged.{CanExchange, CanRead, IsAnswerTo, IsAskOf, IsCertified, IsLongAnswer, IsLongAnswerIn, IsLongDigest, IsLost, IsRefusal, IsReplyIn, IsReplyTo, IsWithin, PassesCheck, TakesCertified, replicas_of_both};
+ghost use Rattle.rds_codec.specs.Exchanged.{
+  CanExchange,
+  CanRead,
+  IsAnswerTo,
+  IsAskOf,
+  IsCertified,
+  IsLongAnswer,
+  IsLongAnswerIn,
+  IsLongDigest,
+  IsLost,
+  IsPulled,
+  IsRefusal,
+  IsReplyIn,
+  IsReplyTo,
+  TakesCertified,
+};
 ghost use Rattle.rds_codec.specs.declared.limits.TheConstants.{LIMIT};
 
 use crate::answers::{Answer, decode_answer, encode_answer_in};
@@ -173,10 +188,7 @@ pub fn pull<S: DotSet>(
 ) -> Result<Answer<S>, Fault>
     ensures taken { IfOk result (λ answer. coordinates asker.new.state
         ≡ join (coordinates asker.old.state) (coordinates answer.state)) }
-    ensures asked { IfOk result (λ answer. answer.asker ≡ asker.old.own) }
-    ensures checked { IfOk result (PassesCheck (replicas_of_both answerer.now asker.old) asked.now.state) }
-    ensures within { IfOk result (IsWithin asked.now.state) }
-    ensures meet { IfOk result (λ _. OneBegins asker.old.roster answerer.now.roster) }
+    ensures pulled { IfOk result (IsPulled answerer.now asked.now asker.old) }
     ensures takes { IfOk result (λ answer.
         TakeWithGives asker.old.roster answerer.now.roster asker.old.state asker.old.own answer.state result) }
     ensures answer { CanRead answerer.now asked.now asker.old

@@ -1,12 +1,17 @@
 //! The formats of texts that hold a state.
 ghost use Rattle.std.specs.Prelude.{◌≡◌};
 ghost use Rattle.rds_bytes.specs.Reading.{ReadsExactly};
+ghost use Rattle.rds_bytes.specs.Writing.{Adds};
 ghost use Rattle.rds_codec.specs.FormatTexts.{format_at};
 ghost use Rattle.rds_codec.specs.HelloTexts.{format_spoken, version_of};
+ghost use Rattle.rds_codec.specs.StateTexts.{magic_of};
 
-use crate::tabled::TABLED_MAGIC;
 use rds_bytes::MAGIC;
 use rds_names::Fault;
+use std::alloc::AllocError;
+
+/// What a snapshot of format 2 begins with.
+const MAGIC_TWO: &[u8; 4] = b"RDS2";
 
 /// How the keys of a state are written.
 #[derive(Clone, Copy, Debug, PartialEq, Eq)]
@@ -52,8 +57,18 @@ pub fn read_format(bytes: &[u8]) -> Result<(Format, &[u8]), Fault>
     if front == MAGIC.as_slice() {
         return Ok((Format::One, rest));
     }
-    if front == TABLED_MAGIC.as_slice() {
+    if front == MAGIC_TWO.as_slice() {
         return Ok((Format::Two, rest));
     }
     Err(Fault::Bad)
+}
+
+/// The four bytes in front of a snapshot in a format.
+pub fn put_magic(out: &mut Vec<u8>, format: Format) -> Result<(), AllocError>
+    ensures { Adds out.old.items out.new.items (magic_of format) result }
+{
+    match format {
+        Format::One => out.extend_from_slice(MAGIC),
+        Format::Two => out.extend_from_slice(MAGIC_TWO),
+    }
 }

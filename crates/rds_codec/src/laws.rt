@@ -8,10 +8,20 @@ ghost use Rattle.rds_codec.specs.AnswerValues.{AnswerValue};
 ghost use Rattle.rds_codec.specs.CertificateTexts.{certificate_kind, certificate_at};
 ghost use Rattle.rds_codec.specs.Decoding.{all_of};
 ghost use Rattle.rds_codec.specs.DigestTexts.{digest_kind, digest_at};
-ghost use Rattle.rds_codec.specs.FormatTexts.{state_kind_in, state_text_in, state_at_in, answer_kind_in, answer_text_in, answer_at_in, Snapshot, snapshot_text_in, snapshot_kind_in, snapshot_in_at};
+ghost use Rattle.rds_codec.specs.FormatTexts.{
+  state_kind_in,
+  state_text_in,
+  state_at_in,
+  answer_kind_in,
+  answer_text_in,
+  answer_at_in,
+  Snapshot,
+  snapshot_text_in,
+  snapshot_kind_in,
+  snapshot_in_at,
+};
 ghost use Rattle.rds_codec.specs.HelloTexts.{hello_kind, hello_at};
 ghost use Rattle.rds_codec.specs.Laws.{DecodesOnce, HasText, IsSameAmongMore, StandApart};
-ghost use Rattle.rds_codec.specs.SpelledTexts.{spelled_at, spelled_text};
 ghost use Rattle.rds_codec.specs.StateTexts.{body_at, body_text};
 ghost use Rattle.rds_codec.specs.declared.formats.Format.{Format};
 ghost use Rattle.rds_codec.specs.declared.formats.Format.TheVariants.{One, Two};
@@ -36,8 +46,8 @@ pub fn texts_stand_apart()
 /// The parts of a state of format 2 are those of format 1, but for how their keys are spelled and read. The function
 /// does nothing: its contract is this law.
 pub fn formats_have_the_same_parts()
-    ensures texts { (v : StateValue) → body_text short_text v ≡ spelled_text v }
-    ensures readers { (replicas : ℕ) → body_at key_at replicas ≡ spelled_at replicas }
+    ensures texts { (v : StateValue) → body_text short_text v ≡ state_text_in One v }
+    ensures readers { (replicas : ℕ) → body_at key_at replicas ≡ state_at_in One replicas }
 {}
 
 /// In each format all of a value's text within the limit is read as this value, and a snapshot as this replica in this

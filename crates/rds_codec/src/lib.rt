@@ -6,27 +6,29 @@
 //! all of its bytes is fed them at once.
 //!
 //! To be read in this order: `limits`, and `fed`, which feeds all bytes; `digests`; `certificate_rows` and
-//! `certificates`; `spelled`, which has format 1, `tabled`, which has format 2, `formats`, which tells them apart, and
-//! `either`, one of two ways to read; the kinds of texts, `states`, `snapshots`, `answers` and `hellos`; `exchanges`,
-//! which brings texts from one replica to another; `laws`, and `steady`, the law of reading texts as their bytes come.
+//! `certificates`; `formats`, which tells the two apart, `format_one` and `format_two`, which read, measure and write
+//! a state in one of them, `in_format`, what is read in either, and `measured`, which measures and writes in any format;
+//! the kinds of texts, `states`, `snapshots`, `answers` and `hellos`; `exchanges`, which brings texts from one replica
+//! to another; `laws`, and `steady`, the law of reading texts as their bytes come.
 #![tactic(auto)]
 
 mod answers;
 mod certificate_rows;
 mod certificates;
 mod digests;
-mod either;
 mod exchanges;
 mod fed;
+mod format_one;
+mod format_two;
 mod formats;
 mod hellos;
+mod in_format;
 mod laws;
 mod limits;
+mod measured;
 mod snapshots;
-mod spelled;
 mod states;
 mod steady;
-mod tabled;
 
 pub use answers::{
     Answer, UnfinishedAnswer, answers_have_texts, decode_answer, decode_answer_in, encode_answer,
@@ -60,12 +62,10 @@ pub use rds_bytes::{
 };
 pub use snapshots::{
     UnfinishedSnapshot, decode_snapshot, decode_snapshot_with_format, encode_snapshot,
-    encode_snapshot_in, snapshots_have_texts, unfinished_snapshot,
+    encode_snapshot_in, snapshot_length, snapshots_have_texts, unfinished_snapshot,
 };
-pub use spelled::{UnfinishedSpelled, unfinished_spelled};
 pub use states::{
     UnfinishedState, decode_state, decode_state_in, encode_state, encode_state_in,
     states_have_texts, unfinished_state,
 };
 pub use steady::texts_are_read_steadily;
-pub use tabled::{UnfinishedTabled, snapshot_length, unfinished_tabled};

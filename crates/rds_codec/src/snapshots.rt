@@ -1,31 +1,41 @@
 //! The text of a snapshot in either format: four bytes that say the format, the roster, the replica's own number, and its
 //! state, of as many replicas as the roster has names.
-ghost use Rattle.std.specs.Prelude.{◌≡◌, ◌≤◌, ℕ, List, length, Ok, IfOk, IfErr};
+ghost use Rattle.std.specs.Prelude.{◌≡◌, ◌≤◌, ◌^◌, ℕ, List, length, Ok, IfOk, IfErr};
 ghost use Rattle.std.specs.FinMap as map;
 ghost use Rattle.rds_names.specs.declared.fault.Fault.TheVariants.{Memory};
 ghost use Rattle.rds_codec.specs.DecodedSnapshots.{DecodesSnapshot};
 ghost use Rattle.rds_codec.specs.Decoding.{Decodes, ReadsAll, all_of};
 ghost use Rattle.rds_codec.specs.FormatTexts.{snapshot_in_at, snapshot_text_in, snapshot_kind_in};
 ghost use Rattle.rds_codec.specs.FormatWriting.{EncodesIn, EncodesTabled};
-ghost use Rattle.rds_codec.specs.Openings.{opening_at, opening_steady, opening_as_it_is, state_after_opening, snapshot_of_parts};
+ghost use Rattle.rds_codec.specs.Measured.{IsMeasured, format_with};
+ghost use Rattle.rds_codec.specs.Openings.{
+  opening_at,
+  opening_steady,
+  opening_as_it_is,
+  state_after_opening,
+  snapshot_of_parts,
+};
 ghost use Rattle.rds_codec.specs.StateTexts.{IsSnapshot, snapshot_text};
 ghost use Rattle.rds_codec.specs.declared.formats.Format.{Format};
 ghost use Rattle.rds_codec.specs.declared.formats.Format.TheVariants.{Two};
 ghost use Rattle.rds_codec.specs.declared.limits.TheConstants.{LIMIT};
+ghost use Rattle.rds_bytes.specs.Values.{IsMember};
+ghost use Rattle.rds_bytes.specs.Writing.{Adds};
 ghost use Rattle.rds_feeds.specs.Chained.{then_finish};
 ghost use Rattle.rds_feeds.specs.Parts.{makes};
 
 use crate::fed::read_whole;
-use crate::formats::{Format, read_format};
-use crate::spelled::{encode_spelled_snapshot, measure_spelled_snapshot};
+use crate::format_one::measure_one;
+use crate::formats::{Format, put_magic, read_format};
+use crate::limits::room_for;
+use crate::measured::{Measured, measure, put_state};
 use crate::states::{UnfinishedState, unfinished_state};
-use crate::tabled::encode_tabled_snapshot;
-use rds_bytes::read_member;
+use rds_bytes::{member_length, put_member, read_member};
 use rds_dots::DotSet;
 use rds_feeds::{Beside, Following, Made, Making, Once, Part, Progress, Then, Unfinished};
 use rds_names::{Fault, Roster};
 use rds_state::{Replica, State};
-use std::alloc::Global;
+use std::alloc::{AllocError, Global};
 use std::marker::PhantomData;
 
 /// The format, the roster and the own number. They are short, and read as one part.
@@ -174,6 +184,42 @@ pub fn decode_snapshot<S: DotSet>(alloc: Global, bytes: &[u8]) -> Result<Replica
     Ok(replica)
 }
 
+/// The length of the text of a snapshot whose state was measured. That of a replica without components is within the
+/// limit.
+fn length_of<S: DotSet>(replica: &Replica<S>, measured: &Measured) -> u128
+    requires measured { IsMeasured replica.now.state measured.now }
+    requires few { measured.now.text_length ≤ 2 ^ 101 }
+    ensures length { result ≡ length (snapshot_text_in (format_with measured.now.keys) replica.now) }
+    ensures small { replica.now.state.lives ≡ map.empty → replica.now.state.counts ≡ map.empty → result ≤ LIMIT }
+    ensures member { IsMember replica.now.roster replica.now.own }
+{
+    4 + member_length(replica.roster(), replica.own()) as u128 + measured.text_length
+}
+
+/// The length of the text of the replica's snapshot, be it within the limit or not. To number its keys takes memory.
+pub fn snapshot_length<S: DotSet>(alloc: Global, replica: &Replica<S>) -> Result<u128, Fault>
+    ensures length { IfOk result (λ found. found ≡ length (snapshot_text replica.now)) }
+    ensures memory { IfErr result (λ fault. fault ≡ Memory) }
+{
+    let measured = measure(alloc, Format::Two, replica.state())?;
+    Ok(length_of(replica, &measured))
+}
+
+/// The bytes in front, the roster and the own number, and the state.
+fn put_snapshot<S: DotSet>(
+    out: &mut Vec<u8>,
+    replica: &Replica<S>,
+    measured: &Measured,
+) -> Result<(), AllocError>
+    requires measured { IsMeasured replica.now.state measured.now }
+    requires within { length (snapshot_text_in (format_with measured.now.keys) replica.now) ≤ LIMIT }
+    ensures { Adds out.old.items out.new.items (snapshot_text_in (format_with measured.now.keys) replica.now) result }
+{
+    put_magic(out, measured.keys.format())?;
+    put_member(out, replica.roster(), replica.own())?;
+    put_state(out, replica.state(), measured)
+}
+
 /// The text of the replica's snapshot in a format. It is refused as that of the state is
 /// ([`encode_state_in`](crate::encode_state_in)). All of the text, read again, is this very replica in this format.
 /// Nothing but want of memory hinders that of a replica without components.
@@ -187,10 +233,10 @@ pub fn encode_snapshot_in<S: DotSet>(
     ensures small { replica.now.state.lives ≡ map.empty → replica.now.state.counts ≡ map.empty
         → IfErr result (λ fault. fault ≡ Memory) }
 {
-    match format {
-        Format::One => encode_spelled_snapshot(alloc, replica),
-        Format::Two => encode_tabled_snapshot(alloc, replica),
-    }
+    let measured = measure(alloc, format, replica.state())?;
+    let mut out = room_for(alloc, length_of(replica, &measured))?;
+    put_snapshot(&mut out, replica, &measured)?;
+    Ok(out)
 }
 
 /// The text of the replica's snapshot. Its keys are numbered first, which takes memory. Above the limit the text is
@@ -212,5 +258,6 @@ pub fn snapshots_have_texts<S: DotSet>(replica: &Replica<S>)
         → length (snapshot_text_in format replica.now) ≤ LIMIT }
     ensures value { IsSnapshot replica.now }
 {
-    measure_spelled_snapshot(replica);
+    measure_one(replica.state());
+    member_length(replica.roster(), replica.own());
 }

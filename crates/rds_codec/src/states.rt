@@ -11,18 +11,20 @@ ghost use Rattle.rds_codec.specs.FormatWriting.{EncodesIn, EncodesTabled};
 ghost use Rattle.rds_codec.specs.Kinds.{state_kind};
 ghost use Rattle.rds_codec.specs.StateTexts.{IsStateOf, state_at, state_text};
 
-use crate::either::Either;
 use crate::fed::read_whole;
+use crate::format_one::{UnfinishedOne, measure_one, unfinished_one};
+use crate::format_two::{UnfinishedTwo, unfinished_two};
 use crate::formats::Format;
-use crate::spelled::{UnfinishedSpelled, encode_spelled, measure_spelled, unfinished_spelled};
-use crate::tabled::{UnfinishedTabled, encode_tabled, unfinished_tabled};
+use crate::in_format::InFormat;
+use crate::limits::room_for;
+use crate::measured::{measure, put_state};
 use rds_dots::DotSet;
 use rds_feeds::{Progress, Unfinished};
 use rds_names::Fault;
 use rds_state::State;
 use std::alloc::Global;
 
-type FormatParts<S> = Either<UnfinishedSpelled<S>, UnfinishedTabled<S>>;
+type FormatParts<S> = InFormat<UnfinishedOne<S>, UnfinishedTwo<S>>;
 
 /// A state in a format, which is being read. No more than one row or gap is held, and in format 2 the table.
 #[derive(Drop)]
@@ -59,10 +61,10 @@ pub fn unfinished_state<S: DotSet>(
 {
     match format {
         Format::One => UnfinishedState {
-            parts: Either::First(unfinished_spelled(alloc, replicas)),
+            parts: InFormat::One(unfinished_one(alloc, replicas)),
         },
         Format::Two => UnfinishedState {
-            parts: Either::Second(unfinished_tabled(alloc, replicas)),
+            parts: InFormat::Two(unfinished_two(alloc, replicas)),
         },
     }
 }
@@ -91,10 +93,10 @@ pub fn encode_state_in<S: DotSet>(
 ) -> Result<Vec<u8>, Fault>
     ensures text { EncodesIn format (state_text_in format state.now) result }
 {
-    match format {
-        Format::One => encode_spelled(alloc, state),
-        Format::Two => encode_tabled(alloc, state),
-    }
+    let measured = measure(alloc, format, state)?;
+    let mut out = room_for(alloc, measured.text_length)?;
+    put_state(&mut out, state, &measured)?;
+    Ok(out)
 }
 
 /// The state whose text the bytes are, where the roster has so many replicas. Refused are bytes as
@@ -125,5 +127,5 @@ pub fn states_have_texts<S: DotSet>(state: &State<S>)
         → AreDotsOf replicas (seen_of state.now.lives) }
     ensures value { (replicas : ℕ) → Fits replicas (coordinates state.now) → IsStateOf replicas state.now }
 {
-    measure_spelled(state);
+    measure_one(state);
 }

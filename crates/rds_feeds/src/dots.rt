@@ -7,11 +7,22 @@ ghost use Rattle.rds_dots.specs.Dots.{Dots};
 ghost use Rattle.rds_bytes.specs.RowDots.{first_after_gap, run_before};
 ghost use Rattle.rds_bytes.specs.Reading.{Reads, made_at, row_head_at, gap_at, dots_at};
 ghost use Rattle.rds_bytes.specs.SteadyParts.{row_head_steady, gap_steady};
-ghost use Rattle.rds_feeds.specs.SeenDots.{RowsValue, GapsValue, IsBelowTop, with_runs, begin_row, add_gap, end_row, last_run, gaps_of, next_row};
+ghost use Rattle.rds_feeds.specs.SeenDots.{
+  RowsValue,
+  GapsValue,
+  IsBelowTop,
+  with_runs,
+  begin_row,
+  add_gap,
+  end_row,
+  last_run,
+  gaps_of,
+  next_row,
+};
 
 use crate::made::{Made, Making};
 use crate::many::{CountWidth, Many, Repeating};
-use crate::once::{Once, Part};
+use crate::once::{Gathering, Once, Part};
 use crate::then::{Following, Then};
 use crate::unfinished::Unfinished;
 use rds_bytes::{Gap, RowHead, read_gap, read_row_head};
@@ -175,24 +186,25 @@ impl<S: DotSet> Part for GapsSoFar<S> {
     }
 
     fn make(self, part: Gap) -> Result<GapsSoFar<S>, Fault> {
-        let GapsSoFar {
-            replicas,
-            replica,
-            top,
-            before,
-            mut seen,
-        } = self;
-        insert_before(&mut seen, replica, first_after(before), part.lo)?;
-        Ok(GapsSoFar {
-            replicas,
-            replica,
-            top,
-            before: Some(part),
-            seen,
-        })
+        let mut whole = self;
+        whole.add(part, 0, 0)?;
+        Ok(whole)
     }
 
     ghost steady = { λ g. gap_steady g.top g.before };
+}
+
+impl<S: DotSet> Gathering for GapsSoFar<S> {
+    fn add(&mut self, part: Gap, _coming: u32, _bytes: usize) -> Result<(), Fault> {
+        insert_before(
+            &mut self.seen,
+            self.replica,
+            first_after(self.before),
+            part.lo,
+        )?;
+        self.before = Some(part);
+        Ok(())
+    }
 }
 
 /// The gaps of a row that is begun.
@@ -262,6 +274,15 @@ impl<S: DotSet> Repeating
             from: Then::First(Once { part: rows }, GapsFollow {}),
             maker: RowEnds {},
         }
+    }
+
+    fn read_next<'a>(
+        _rows: &mut RowsSoFar<S>,
+        _alloc: Global,
+        _coming: u32,
+        _bytes: &'a [u8],
+    ) -> Result<Option<&'a [u8]>, Fault> {
+        Ok(None)
     }
 }
 

@@ -7,7 +7,7 @@ ghost use Rattle.rds_feeds.specs.Parts.{WasRead};
 ghost use Rattle.rds_feeds.specs.Rows.{width_of};
 
 use crate::many::{CountWidth, Many, Repeating};
-use crate::once::{Once, Part};
+use crate::once::{Gathering, Once, Part};
 use crate::unfinished::Unfinished;
 use rds_bytes::PartReader;
 use rds_names::Fault;
@@ -58,19 +58,44 @@ impl<R: RowReader<T>, T: Drop> Part for Listed<R, T> {
     }
 
     fn make(self, part: T) -> Result<Listed<R, T>, Fault> {
-        let Listed { reader, mut rows } = self;
-        rows.push(part)?;
-        Ok(Listed { reader, rows })
+        let mut whole = self;
+        whole.add(part, 0, 0)?;
+        Ok(whole)
     }
 
     ghost steady = { λ l. R.steady l.0 l.1 };
 }
 
-impl<P: Part<Whole = P>> Repeating for Once<P> {
+impl<R: RowReader<T>, T: Drop> Gathering for Listed<R, T> {
+    fn add(&mut self, part: T, _coming: u32, _bytes: usize) -> Result<(), Fault> {
+        self.rows.push(part)?;
+        Ok(())
+    }
+}
+
+impl<P: Gathering> Repeating for Once<P> {
     ghost next = { λ p. made_at (P.made p) (P.reader p) };
 
     fn again(rows: P) -> Once<P> {
         Once { part: rows }
+    }
+
+    fn read_next<'a>(
+        rows: &mut P,
+        alloc: Global,
+        coming: u32,
+        bytes: &'a [u8],
+    ) -> Result<Option<&'a [u8]>, Fault> {
+        match rows.read(alloc, bytes) {
+            Ok((part, rest)) => {
+                rows.add(part, coming, rest.len())?;
+                Ok(Some(rest))
+            }
+            Err(fault) => match fault {
+                Fault::Cut => Ok(None),
+                fault => Err(fault),
+            },
+        }
     }
 }
 

@@ -1,5 +1,5 @@
 //! A count, and that many rows.
-ghost use Rattle.std.specs.Prelude.{◌≡◌, ℕ, List, ◌++◌, Result, IfOk, IfErr};
+ghost use Rattle.std.specs.Prelude.{◌≡◌, ℕ, List, ◌++◌, Result, Ok, MatchOption, IfOk, IfErr};
 ghost use Rattle.rds_names.specs.declared.fault.Fault.{Fault};
 ghost use Rattle.rds_bytes.specs.Reading.{ReadsExactly, number_at};
 ghost use Rattle.rds_feeds.specs.Pieces.{ReadsOn, Refuses};
@@ -25,6 +25,18 @@ pub trait Repeating: Unfinished {
     /// Begins the next row.
     fn again(rows: Self::Whole) -> Self
         ensures { (more : List ℕ) → Self.finish result more ≡ next rows more };
+
+    /// Reads the next row in the place of those before it, and answers the bytes after it; or nothing, where it is to be
+    /// begun as any other value. At most so many more come after it.
+    fn read_next<'a>(
+        rows: &mut Self::Whole,
+        alloc: Global,
+        coming: u32,
+        bytes: &'a [u8],
+    ) -> Result<Option<&'a [u8]>, Fault>
+        ensures ok { IfOk result (λ after. MatchOption after (rows.new ≡ rows.old)
+            (λ rest. (more : List ℕ) → next rows.old (bytes.now ++ more) ≡ Ok (rows.new, rest.now ++ more))) }
+        ensures err { IfErr result (Refuses (λ more. next rows.old (bytes.now ++ more))) };
 }
 
 /// A count, and that many rows. No count takes memory: what a row needs is taken when it is there.
@@ -74,6 +86,11 @@ fn read_rows<'a, U: Repeating>(
     let mut rest = bytes;
     'rows: while left > 0 {
         left -= 1;
+        let next = U::read_next(&mut rows, alloc, left, rest)?;
+        if let Some(after) = next {
+            rest = after;
+            continue;
+        }
         let row = U::again(rows);
         let (progress, after) = row.read_on(alloc, rest)?;
         match progress {

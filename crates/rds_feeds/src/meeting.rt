@@ -9,7 +9,7 @@ ghost use Rattle.rds_feeds.specs.Numbered.{with_met};
 ghost use Rattle.rds_feeds.specs.Parts.{WasRead};
 
 use crate::many::{CountWidth, Many};
-use crate::once::{Once, Part};
+use crate::once::{Gathering, Once, Part};
 use crate::unfinished::Unfinished;
 use rds_names::Fault;
 use std::alloc::Global;
@@ -86,17 +86,21 @@ impl<R: MeetingReader<T>, T: Drop> Part for MetRows<R, T> {
     }
 
     fn make(self, part: (T, Option<usize>)) -> Result<MetRows<R, T>, Fault> {
-        let MetRows {
-            reader,
-            mut rows,
-            met: _,
-        } = self;
-        let (row, met) = part;
-        rows.push(row)?;
-        Ok(MetRows { reader, rows, met })
+        let mut whole = self;
+        whole.add(part, 0, 0)?;
+        Ok(whole)
     }
 
     ghost steady = { λ m. made_steady (with_met (R.met_by m.0) m.1) (R.reader m.0 m.1) (R.steady m.0 m.1) };
+}
+
+impl<R: MeetingReader<T>, T: Drop> Gathering for MetRows<R, T> {
+    fn add(&mut self, part: (T, Option<usize>), _coming: u32, _bytes: usize) -> Result<(), Fault> {
+        let (row, met) = part;
+        self.rows.push(row)?;
+        self.met = met;
+        Ok(())
+    }
 }
 
 /// Rows by the numbers of a table, of which the first is still to come after their count.

@@ -3,7 +3,13 @@ ghost use Rattle.std.specs.Prelude.{◌≡◌, ℕ, List, true, false, MatchOpti
 ghost use Rattle.rds_life.specs.Life.{AreRows, lives_of, live_rows};
 ghost use Rattle.rds_counts.specs.Counted.{AreCountRows, counts_of};
 ghost use Rattle.rds_counts.specs.RowsOf.{count_rows};
-ghost use Rattle.rds_bytes.specs.Reading.{made_at, keyed_live_row_at, keyed_live_rows_at, keyed_count_row_at, keyed_counters_at};
+ghost use Rattle.rds_bytes.specs.Reading.{
+  made_at,
+  keyed_live_row_at,
+  keyed_live_rows_at,
+  keyed_count_row_at,
+  keyed_counters_at,
+};
 ghost use Rattle.rds_bytes.specs.SteadyParts.{keyed_live_row_steady, keyed_count_row_steady};
 ghost use Rattle.rds_bytes.specs.SteadyTables.{numbered_steady};
 ghost use Rattle.rds_bytes.specs.Table.{live_keys, used_keys};

@@ -1,5 +1,5 @@
 //! One part, which is held until it is there as a whole.
-ghost use Rattle.std.specs.Prelude.{◌≡◌, ℕ, List, ◌++◌, Result, IfOk, IfErr};
+ghost use Rattle.std.specs.Prelude.{◌≡◌, ℕ, List, ◌++◌, Result, IfOk, IfErr, OnOk};
 ghost use Rattle.rds_names.specs.declared.fault.Fault.{Fault};
 ghost use Rattle.rds_names.specs.declared.fault.Fault.TheVariants.{Memory};
 ghost use Rattle.rds_bytes.specs.Reading.{Reads, made_at};
@@ -36,6 +36,16 @@ pub trait Part: Sized + Drop {
 
     /// More bytes change neither what was read nor that nothing can be.
     ghost steady: { (part : Self) → IsSteady (reader part) };
+}
+
+/// What parts are added to in its place, one after the other.
+pub trait Gathering: Part<Whole = Self> {
+    /// Adds a part that was read. At most so many more come, from so many bytes that are at hand. Only memory may be
+    /// wanting.
+    fn add(&mut self, part: Self::Read, coming: u32, bytes: usize) -> Result<(), Fault>
+        requires { WasRead (Self.reader self.old) part }
+        ensures ok { OnOk result (self.new ≡ Self.made self.old part) }
+        ensures memory { IfErr result (λ fault. fault ≡ Memory) };
 }
 
 /// One part.

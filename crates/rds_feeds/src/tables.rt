@@ -5,12 +5,15 @@ ghost use Rattle.rds_feeds.specs.MarkedKeys.{marked_key_at, marked_key_steady};
 
 use crate::made::{Made, Making};
 use crate::many::{CountWidth, Many};
-use crate::once::{Once, Part};
+use crate::once::{Gathering, Once, Part};
 use crate::unfinished::Unfinished;
 use rds_bytes::{KeyPlaces, Table, mark_of, read_key};
 use rds_names::{Fault, Key};
 use std::alloc::Global;
 use std::marker::Model;
+
+/// The fewest bytes of a key: its length, and one.
+const LEAST_BYTES: usize = 2;
 
 /// The keys of a table that were read, in turn, and where each is found.
 #[derive(Drop)]
@@ -51,22 +54,43 @@ impl Part for KeysSoFar {
     }
 
     fn make(self, part: (Key, u64)) -> Result<KeysSoFar, Fault> {
-        let KeysSoFar {
-            alloc,
-            mut keys,
-            mut places,
-        } = self;
-        let (key, mark) = part;
-        places.add(alloc, keys.as_slice(), mark, &key)?;
-        keys.push(key)?;
-        Ok(KeysSoFar {
-            alloc,
-            keys,
-            places,
-        })
+        let mut whole = self;
+        whole.add(part, 0, 0)?;
+        Ok(whole)
     }
 
     ghost steady = { marked_key_steady };
+}
+
+impl KeysSoFar {
+    /// No keys.
+    fn new(alloc: Global) -> KeysSoFar
+        ensures { result ≡ [] }
+    {
+        KeysSoFar {
+            alloc,
+            keys: Vec::new(alloc),
+            places: KeyPlaces::new(alloc),
+        }
+    }
+}
+
+impl Gathering for KeysSoFar {
+    fn add(&mut self, part: (Key, u64), coming: u32, bytes: usize) -> Result<(), Fault> {
+        let (key, mark) = part;
+        let alloc = self.alloc;
+        let coming = (coming as usize).min(bytes / LEAST_BYTES);
+        self.keys.reserve(1)?;
+        if let Err(fault) = self
+            .places
+            .add(alloc, self.keys.as_slice(), mark, &key, coming)
+        {
+            *self = KeysSoFar::new(alloc);
+            return Err(fault);
+        }
+        self.keys.push_reserved(key);
+        Ok(())
+    }
 }
 
 /// The table of keys that were read.
@@ -96,13 +120,8 @@ pub type UnfinishedTable = Made<Many<Once<KeysSoFar>, KeysSoFar>, KeysAreTable>;
 pub fn unfinished_table(alloc: Global) -> UnfinishedTable
     ensures { (bytes : List ℕ) → ⟦<UnfinishedTable as Unfinished>⟧.finish result bytes ≡ table_at bytes }
 {
-    let keys = KeysSoFar {
-        alloc,
-        keys: Vec::new(alloc),
-        places: KeyPlaces::new(alloc),
-    };
     Made {
-        from: Many::Count(CountWidth::Four, keys),
+        from: Many::Count(CountWidth::Four, KeysSoFar::new(alloc)),
         maker: KeysAreTable {},
     }
 }

@@ -9,8 +9,6 @@ use Rattle.rds_bytes.specs.Reading.{short_at, key_at, roster_at, member_at}
 use Rattle.rds_codec.specs.DecodedSnapshots.{DecodesSnapshot}
 use Rattle.rds_codec.specs.Decoding.{Decodes, all_of}
 use Rattle.rds_codec.specs.FormatTexts.{Snapshot, format_of, format_at, magic_of, member_state_at, snapshot_in_at, snapshot_kind_in, snapshot_text_in}
-use Rattle.rds_codec.specs.SpelledTexts.{spelled_snapshot_text}
-use Rattle.rds_codec.specs.StateTexts.{snapshot_text}
 use Rattle.rds_codec.specs.declared.formats.Format.{Format}
 use Rattle.rds_codec.specs.declared.formats.Format.TheVariants.{One, Two}
 use Rattle.rds_codec.specs.declared.limits.TheConstants.{LIMIT}
@@ -24,7 +22,7 @@ abbrev text_of : Snapshot → List ℕ
 text_of s = snapshot_text_in s.0 s.1
 
 begins_in : (f : Format) (v : ReplicaValue) (rest : List ℕ) → take 4 (snapshot_text_in f v ++ rest) ≡ magic_of f
-unfolding snapshot_text spelled_snapshot_text
+unfolding snapshot_text_in
 begins_in One v rest = refl
 begins_in Two v rest = refl
 

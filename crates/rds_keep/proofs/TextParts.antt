@@ -5,12 +5,12 @@ use Rattle.std.proofs.KnownBytes.{Appends-nil, Appends-kept}
 use Rattle.std.proofs.lemmas.List.{take_all}
 use Rattle.rds_names.specs.declared.fault.Fault.{Fault}
 use Rattle.rds_state.specs.Fits.{ReplicaValue}
-use Rattle.rds_codec.specs.StateTexts.{snapshot_text}
+use Rattle.rds_codec.specs.StateTexts.{snapshot_text, snapshot_text_in}
 use Rattle.rds_keep.specs.Parts.{AppendsFront, AppendsPart}
 
 -- a snapshot's text has bytes
 has_bytes : (v : ReplicaValue) → 0 < length (snapshot_text v)
-unfolding snapshot_text
+unfolding snapshot_text_in
 has_bytes v = omega arith
 
 -- nothing of it was written

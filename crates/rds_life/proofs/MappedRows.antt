@@ -1,5 +1,6 @@
 -- A map's entries as rows.
-use Rattle.std.proofs.Common.{◌≡◌, true, false, not, cond, List, [], ◌∷◌, Some, refl, sym, ◌∙◌, ap}
+use Rattle.std.proofs.Common.{◌≡◌, suc, true, false, not, cond, List, [], ◌∷◌, ◌++◌, append_assoc, length, Some, refl}
+use Rattle.std.proofs.Common.{sym, ◌∙◌, ap}
 use Rattle.std.specs.List.{list_all, AllByRecursion}
 use Rattle.std.specs.List.Sorted.{IsStrictlySortedBy}
 use Rattle.std.specs.Ordering.{eq_by_cmp, is_eq, is_lt, match_ordering}
@@ -16,6 +17,7 @@ use Rattle.rds_dots.specs.Ascending.{ascends, is_above}
 use Rattle.rds_dots.specs.Sets.{same_dot}
 use Rattle.rds_life.specs.Life.{keys}
 use Rattle.rds_life.specs.Removed.{without}
+use Rattle.rds_life.proofs.Puts.{put_before}
 
 abbrev Rows : Type 0
 Rows = List (Dot × Entry)
@@ -32,6 +34,13 @@ insert-put d e (r ∷ rows) =
       | Equal ↦ λ _. refl
       | Greater ↦ λ _. ap (λ xs. r ∷ xs) (insert-put d e rows)
     ] refl
+
+-- the last row of a list, moved to the front of the map that has those behind it
+pub moved_on : (all list left moved later : Rows) (r : Dot × Entry) → ascends (keys all) ≡ true → list ≡ left ++ r ∷ [] → list ++ moved ≡ all → later ≡ insert_entry dot_cmp moved r.0 r.1 → (left ++ later ≡ all) × (length later ≡ suc (length moved))
+moved_on all list left moved later r rise last whole is =
+    let parts = sym (append_assoc left (r ∷ []) moved) ∙ ap (λ l. l ++ moved) (sym last) ∙ whole in
+    let put = is ∙ insert-put r.0 r.1 moved ∙ put_before all left moved r rise parts in
+    (ap (λ l. left ++ l) put ∙ parts, ap length put)
 
 -- strictly sorted keys ascend
 all_above : (d : Dot) (rows : Rows) → AllByRecursion (λ y. dot_cmp d y ≡ Less) (keys rows) → list_all (is_above d) (keys rows) ≡ true

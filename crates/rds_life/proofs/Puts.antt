@@ -1,6 +1,6 @@
 -- One more row in its place, and one less.
 use Rattle.std.proofs.Common.{◌≡◌, ℕ, zero, suc, ◌<◌, ◌≤◌, Bool, true, false, not, cond, List, [], ◌∷◌, ◌++◌}
-use Rattle.std.proofs.Common.{append_assoc, length, get_or, Option, Some, None, refl, sym, ◌∙◌, ap, arith}
+use Rattle.std.proofs.Common.{length, get_or, Option, Some, None, refl, sym, ◌∙◌, ap, arith}
 use Rattle.std.specs.List.{list_all, insert, remove}
 use Rattle.std.specs.List.Sorted.{IsBinarySearchResult}
 use Rattle.std.specs.Ordering.{eq_by_cmp, is_eq}
@@ -97,19 +97,16 @@ remove_at (x ∷ rows) rise e (suc at) lt d same =
     ap (λ l. x ∷ l) (remove_at rows (and_right (list_all (is_above x.0) (keys rows)) _ rise) e at (omega arith) d same)
     ∙ sym (ap (λ o. cond (not (is_eq o)) (x ∷ without d rows) (without d rows)) (before_after x.0 d less))
 
--- a row that comes after all others goes to the end
-pub put_end : {X : Type 0} (rows : List (Dot × X)) (r : Dot × X) (later : List (Dot × X)) → ascends (keys (rows ++ r ∷ later)) ≡ true → put dot_cmp r.0 r.1 rows ≡ rows ++ r ∷ []
-put_end [] r later rise = refl
-put_end {X = X} (x ∷ rows) r later rise =
-    ap (λ o. by_order o (r ∷ x ∷ rows) ((x.0, r.1) ∷ rows) (x ∷ put dot_cmp r.0 r.1 rows)) (before_after x.0 r.0 (less_of (dot_cmp x.0 r.0) (all_of rows (and_left (list_all (is_above x.0) (keys (rows ++ r ∷ later))) _ rise))))
-    ∙ ap (λ l. x ∷ l) (put_end rows r later (and_right (list_all (is_above x.0) (keys (rows ++ r ∷ later))) _ rise))
+-- a row that comes before all others goes to the front
+pub put_before : {X : Type 0} (rows before later : List (Dot × X)) (r : Dot × X) → ascends (keys rows) ≡ true → before ++ r ∷ later ≡ rows → put dot_cmp r.0 r.1 later ≡ r ∷ later
+put_before {X = X} rows before later r rise is = first later (behind before (ap (λ l. ascends (keys l)) is ∙ rise))
   where
-    all_of : (rest : List (Dot × X)) → list_all (is_above x.0) (keys (rest ++ r ∷ later)) ≡ true → is_above x.0 r.0 ≡ true
-    all_of [] all = and_left (is_above x.0 r.0) _ all
-    all_of (y ∷ rest) all = all_of rest (and_right (is_above x.0 y.0) _ all)
+    behind : (some : List (Dot × X)) → ascends (keys (some ++ r ∷ later)) ≡ true → ascends (keys (r ∷ later)) ≡ true
+    behind [] rise_all = rise_all
+    behind (x ∷ some) rise_all = behind some (and_right (list_all (is_above x.0) (keys (some ++ r ∷ later))) _ rise_all)
 
--- the next of rows that are put in order
-pub put_next : {X : Type 0} (rows done was later : List (Dot × X)) (r : Dot × X) → ascends (keys rows) ≡ true → done ++ was ≡ rows → was ≡ r ∷ later → put dot_cmp r.0 r.1 done ++ later ≡ rows
-put_next rows done was later r rise all is =
-    let whole = ap (λ l. done ++ l) (sym is) ∙ all in
-    ap (λ l. l ++ later) (put_end done r later (ap (λ l. ascends (keys l)) whole ∙ rise)) ∙ append_assoc done (r ∷ []) later ∙ whole
+    first : (rest : List (Dot × X)) → ascends (keys (r ∷ rest)) ≡ true → put dot_cmp r.0 r.1 rest ≡ r ∷ rest
+    first [] rise_all = refl
+    first (x ∷ rest) rise_all =
+        ap (λ o. by_order o (r ∷ x ∷ rest) ((x.0, r.1) ∷ rest) (x ∷ put dot_cmp r.0 r.1 rest))
+        (less_of (dot_cmp r.0 x.0) (and_left (is_above r.0 x.0) _ (and_left (list_all (is_above r.0) (keys (x ∷ rest))) _ rise_all)))

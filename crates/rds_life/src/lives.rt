@@ -200,8 +200,8 @@ impl<S: DotSet> Lives<S> {
 }
 
 impl<S: DotSet> Lives<S> {
-    /// Puts the live dots into a map, with copies of their entries. From then on, to make a dot
-    /// live or dead costs a search, where a list has to move all that come after the dot.
+    /// Moves the live dots with their entries into a map. From then on, to make a dot live or dead
+    /// costs a search, where a list has to move all that come after the dot.
     pub fn index(&mut self) -> Result<(), Fault>
         ensures same { self.new ≡ self.old }
         ensures memory { IfErr result (λ fault. fault ≡ Memory) }

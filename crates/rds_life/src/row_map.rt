@@ -1,5 +1,6 @@
 //! The entries of live dots in a map, where a row is put and taken out at no cost of the others.
-ghost use Rattle.std.specs.Prelude.{◌≡◌, ◌++◌, ◌∷◌, [], true, not, length, count_by, IfOk, IfErr, OnOk, OnErr};
+ghost use Rattle.std.specs.Prelude.{◌≡◌, ◌≤◌, ◌+◌, ◌++◌, ◌∷◌, [], true, not, length, count_by, IfOk, IfErr, OnOk};
+ghost use Rattle.std.specs.Prelude.{OnErr, vec_len, vec_capacity};
 ghost use Rattle.std.specs.List.{filter};
 ghost use Rattle.std.specs.FinMap as map;
 ghost use Rattle.std.specs.Option.{option_copied, option_map};
@@ -36,28 +37,22 @@ impl Model for RowMap {
 }
 
 impl RowMap {
-    /// No row. Takes no memory.
-    pub fn new(alloc: Global) -> RowMap
-        ensures { result ≡ [] }
-    {
-        RowMap {
-            rows: BTreeMap::new(alloc),
-        }
-    }
-
-    /// Copies of the rows of a list.
-    pub fn of(alloc: Global, rows: &[(Dot, Entry)]) -> Result<RowMap, Fault>
-        requires { ascends (keys rows.now) ≡ true }
-        ensures ok { IfOk result (λ map. map ≡ rows.now) }
+    /// The rows of a list, which are moved from its end. Where memory ends they are moved back.
+    pub fn of(alloc: Global, list: &mut Vec<(Dot, Entry)>) -> Result<RowMap, Fault>
+        requires { ascends (keys list.old.items) ≡ true }
+        ensures ok { IfOk result (λ map. map ≡ list.old.items) }
+        ensures err { OnErr result (list.new.items ≡ list.old.items) }
         ensures memory { IfErr result (λ fault. fault ≡ Memory) }
     {
-        let mut map = RowMap::new(alloc);
-        let mut rest = rows;
-        'adding: while let Some((row, later)) = rest.split_first() {
-            map.insert(row.0, row.1.copy(alloc)?)?;
-            rest = later;
+        let mut rows = BTreeMap::new(alloc);
+        'moving: while let Some((dot, entry)) = list.pop() {
+            if let Err(refused) = rows.insert(dot, entry) {
+                list.push_reserved(refused.value);
+                move_back(rows, list);
+                return Err(Fault::Memory);
+            }
         }
-        Ok(map)
+        Ok(RowMap { rows })
     }
 
     /// Takes out the rows that are chosen, in place, and says how many there were.
@@ -141,6 +136,16 @@ impl RowMap {
             push_copy(alloc, &mut list, *dot, entry)?;
         }
         Ok(list)
+    }
+}
+
+/// Moves all rows to the end of a list, which has room for them.
+fn move_back(mut rows: BTreeMap<Dot, Entry>, list: &mut Vec<(Dot, Entry)>)
+    requires { vec_len list.old + length rows.entries ≤ vec_capacity list.old }
+    ensures { list.new.items ≡ list.old.items ++ rows.entries }
+{
+    'moving: while let Some(row) = rows.pop_first() {
+        list.push_reserved(row);
     }
 }
 

@@ -327,13 +327,13 @@ impl Rows {
         Ok(Rows::listed(self.copy_list(alloc)?))
     }
 
-    /// Puts the rows into a map, if they are in a list.
+    /// Moves the rows into a map, if they are in a list.
     pub fn index(&mut self) -> Result<(), Fault>
         requires { ascends (keys self.old) ≡ true }
         ensures same { self.new ≡ self.old }
         ensures memory { IfErr result (λ fault. fault ≡ Memory) }
     {
-        if let Form::Listed(rows) = &self.form {
+        if let Form::Listed(rows) = &mut self.form {
             let rows = RowMap::of(self.alloc, rows)?;
             self.form = Form::Mapped(rows);
         }

@@ -2,8 +2,6 @@
 use Rattle.std.proofs.Common.{◌≡◌, ℕ, List, ◌++◌, get_or, ap, refl, arith}
 use Rattle.rds_state.specs.Fits.{ReplicaValue}
 use Rattle.rds_codec.specs.FormatTexts.{snapshot_text_in}
-use Rattle.rds_codec.specs.SpelledTexts.{spelled_snapshot_text}
-use Rattle.rds_codec.specs.StateTexts.{snapshot_text}
 use Rattle.rds_codec.specs.declared.formats.Format.{Format}
 use Rattle.rds_codec.specs.declared.formats.Format.TheVariants.{One, Two}
 use Rattle.rds_questions.specs.Laws.{AreToldApart}
@@ -31,12 +29,12 @@ unfolding question_text response_text
 question_response q r x y e = differ_81_65 81 refl (ap (λ (t : List ℕ). get_or t 3 0) e)
 
 question_snapshot : (q : QuestionValue) (f : Format) (v : ReplicaValue) (x y : List ℕ) → question_text q ++ x ≡ snapshot_text_in f v ++ y → ⊥
-unfolding question_text spelled_snapshot_text snapshot_text
+unfolding question_text snapshot_text_in
 question_snapshot q One v x y e = differ_81_49 81 refl (ap (λ (t : List ℕ). get_or t 3 0) e)
 question_snapshot q Two v x y e = differ_81_50 81 refl (ap (λ (t : List ℕ). get_or t 3 0) e)
 
 response_snapshot : (r : ResponseValue) (f : Format) (v : ReplicaValue) (x y : List ℕ) → response_text r ++ x ≡ snapshot_text_in f v ++ y → ⊥
-unfolding response_text spelled_snapshot_text snapshot_text
+unfolding response_text snapshot_text_in
 response_snapshot r One v x y e = differ_65_49 65 refl (ap (λ (t : List ℕ). get_or t 3 0) e)
 response_snapshot r Two v x y e = differ_65_50 65 refl (ap (λ (t : List ℕ). get_or t 3 0) e)
 

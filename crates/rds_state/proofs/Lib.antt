@@ -9,6 +9,7 @@ pub mod FriendLemmas
 pub mod GrownLemmas
 pub mod JoinLaws
 pub mod MadeLemmas
+pub mod MarkSums
 pub mod Nothing
 pub mod OneAhead
 pub mod OneResult

@@ -9,6 +9,7 @@ pub mod Fits
 pub mod Friends
 pub mod Grown
 pub mod Made
+pub mod Mark
 pub mod Results
 pub mod RowsAhead
 pub mod Value

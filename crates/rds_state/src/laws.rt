@@ -1,11 +1,16 @@
 //! The laws of the join, and of what a replica does.
-ghost use Rattle.std.specs.Prelude.{◌≡◌, ◌≢◌, ℕ, List, Result, Err};
+ghost use Rattle.std.specs.Prelude.{◌≡◌, ◌≢◌, ℕ, List, Result, Err, None, Some};
+ghost use Rattle.std.specs.FinMap as map;
+ghost use Rattle.rds_names.specs.declared.entry.Entry.{Entry};
 ghost use Rattle.rds_names.specs.declared.fault.Fault.{Fault};
 ghost use Rattle.rds_names.specs.declared.fault.Fault.TheVariants.{Memory};
+ghost use Rattle.rds_dots.specs.declared.dot.Dot.{Dot};
+ghost use Rattle.rds_life.specs.Life.{Dead, Live, entry_of};
 ghost use Rattle.rds_counts.specs.Value.{value_of};
 ghost use Rattle.rds_state.specs.Coordinates.{Coordinates, AtMost, AreCompatible, join};
 ghost use Rattle.rds_state.specs.Document.{value_in};
 ghost use Rattle.rds_state.specs.Friends.{FriendsAreTaken};
+ghost use Rattle.rds_state.specs.Mark.{live_mark, mark_of, plus};
 ghost use Rattle.rds_state.specs.Results.{IsEdited, IsMerged, IsTaken};
 ghost use Rattle.rds_state.specs.Value.{StateValue, coordinates};
 ghost use Rattle.rds_state.specs.declared.command.Command.{Command};
@@ -54,4 +59,15 @@ pub fn a_change_has_one_result()
     ensures edit { (a v w : StateValue) (own : ℕ) (command : Command) (r s : Result Edited Fault)
         → IsEdited a own command r v → IsEdited a own command s w → r ≢ Err Memory → s ≢ Err Memory
         → (r ≡ s) × (v ≡ w) }
+{}
+
+/// The mark of a state is a sum: a dot that is made live adds its own mark, and one that dies takes it away. The
+/// function does nothing: its contract is these laws.
+pub fn marks_add_up()
+    ensures live { (v : StateValue) (d : Dot) (e : Entry) → entry_of (map.get v.lives d) ≡ None
+        → mark_of (record { lives = map.insert v.lives d (Live e); counts = v.counts })
+        ≡ plus (mark_of v) (live_mark d e) }
+    ensures dead { (v : StateValue) (d : Dot) (e : Entry) → map.get v.lives d ≡ Some (Live e)
+        → plus (mark_of (record { lives = map.insert v.lives d Dead; counts = v.counts })) (live_mark d e)
+        ≡ mark_of v }
 {}

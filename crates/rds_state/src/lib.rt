@@ -7,6 +7,7 @@ mod command;
 mod covering;
 mod editing;
 mod laws;
+mod mark;
 mod replica;
 mod sameness;
 mod state;
@@ -14,6 +15,8 @@ mod state;
 pub use command::{Command, Edited};
 pub use laws::{
     a_change_has_one_result, documents_have_the_sums, friends_take_each_other, join_laws,
+    marks_add_up,
 };
+pub use mark::Mark;
 pub use replica::Replica;
 pub use state::State;

@@ -12,8 +12,10 @@ ghost use Rattle.rds_life.specs.Life.{AreCompatible, Live, MergeGives, live_rows
 ghost use Rattle.rds_state.specs.Chosen.{AreRaised};
 ghost use Rattle.rds_state.specs.Coordinates.{join};
 ghost use Rattle.rds_state.specs.Edit.{count_fault, makes_pair, IsDue};
+ghost use Rattle.rds_state.specs.Mark.{mark_of};
 ghost use Rattle.rds_state.specs.Value.{coordinates, size};
 
+use crate::mark::Mark;
 use crate::sameness::are_same_lives;
 use rds_counts::{Counts, Which};
 use rds_dots::{Dot, DotSet};
@@ -101,6 +103,17 @@ impl<S: DotSet> State<S> {
         let dots = self.lives.seen().count();
         let numbers = self.counts.components();
         u128::from(dots) + numbers
+    }
+
+    /// The mark by which the state is compared at a glance, in one pass over its live dots and rows of counters. Takes
+    /// no memory.
+    #[tactic(auto, unfolding(crate::specs::Mark::mark_of))]
+    pub fn mark(&self) -> Mark
+        ensures { result ≡ mark_of self.now }
+    {
+        Mark::empty()
+            .plus_live(self.lives.live())
+            .plus_counts(self.counts.rows())
     }
 
     /// Whether the two are equal at each coordinate.

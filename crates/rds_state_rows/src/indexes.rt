@@ -41,6 +41,21 @@ pub fn index_edit<S: DotSet>(
     edited_text(alloc, edited)
 }
 
+/// `index_delta NAME STATE COMMAND` edits an index, and keeps what that changed as the state of this name.
+pub fn index_delta<S: DotSet>(
+    documents: &mut Documents<S>,
+    alloc: Global,
+    rest: &str,
+) -> Result<String, Fault> {
+    let mut words = Words::new(rest);
+    let name = words.word()?;
+    let state = words.word()?;
+    let command = command(alloc, &mut words)?;
+    let (edited, delta) = documents.indexes.get_mut(name)?.edit_with_delta(&command)?;
+    documents.states.put(alloc, state, delta)?;
+    edited_text(alloc, edited)
+}
+
 /// `index_take NAME STATE` has an index take a state.
 pub fn index_take<S: DotSet>(
     documents: &mut Documents<S>,

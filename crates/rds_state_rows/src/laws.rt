@@ -9,6 +9,7 @@ use rds_names::Fault;
 use rds_rows::told::said;
 use rds_state::{
     a_change_has_one_result, documents_have_the_sums, friends_take_each_other, join_laws,
+    marks_add_up,
 };
 use rds_tree::{same_documents_show_the_same, views_show_what_is_live};
 use std::alloc::Global;
@@ -24,6 +25,7 @@ pub fn laws(alloc: Global) -> Result<String, Fault> {
     a_delta_has_one_result();
     friends_take_each_other();
     documents_have_the_sums();
+    marks_add_up();
     least_delta_laws();
     checked_delta_laws();
     friends_exchange_deltas();

@@ -134,3 +134,13 @@ pub fn components<S: DotSet>(
     let components = documents.state(rest)?.components();
     Ok(components.to_string(alloc)?)
 }
+
+/// `mark STATE` writes the mark of a state.
+pub fn mark<S: DotSet>(
+    documents: &Documents<S>,
+    alloc: Global,
+    rest: &str,
+) -> Result<String, Fault> {
+    let mark = documents.state(rest)?.mark();
+    Ok(mark.to_string(alloc)?)
+}

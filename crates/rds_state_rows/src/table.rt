@@ -3,10 +3,14 @@ use crate::certificates::{certificate, check, given};
 use crate::deltas::delta;
 use crate::digests::{digest, digest_of_sets, inside, pair_in, rank_in};
 use crate::documents::Documents;
-use crate::indexes::{covered, index, index_edit, index_take, index_view, step, step_take};
+use crate::indexes::{
+    covered, index, index_delta, index_edit, index_take, index_view, step, step_take,
+};
 use crate::laws::laws;
 use crate::replicas::{copy, edit, fits, hold, make, rejoin, take};
-use crate::states::{components, copy_of, empty, lives, merge, rank, same, show, state, value};
+use crate::states::{
+    components, copy_of, empty, lives, mark, merge, rank, same, show, state, value,
+};
 use crate::views::show_view;
 use rds_dots::DotSet;
 use rds_names::Fault;
@@ -23,6 +27,7 @@ impl<S: DotSet> Table for Documents<S> {
                 digest_answer(self, alloc, name, rest)
             }
             "index"
+            | "index_delta"
             | "index_edit"
             | "index_take"
             | "index_view"
@@ -66,6 +71,7 @@ fn index_answer<S: DotSet>(
 ) -> Result<String, Fault> {
     match name {
         "index" => index(documents, alloc, rest),
+        "index_delta" => index_delta(documents, alloc, rest),
         "index_edit" => index_edit(documents, alloc, rest),
         "index_take" => index_take(documents, alloc, rest),
         "index_view" => index_view(documents, alloc, rest),
@@ -90,6 +96,7 @@ fn state_answer<S: DotSet>(
         "merge" => merge(documents, alloc, rest),
         "show" => show(documents, alloc, rest),
         "same" => same(documents, alloc, rest),
+        "mark" => mark(documents, alloc, rest),
         "rank" => rank(documents, alloc, rest),
         "value" => value(documents, alloc, rest),
         "components" => components(documents, alloc, rest),

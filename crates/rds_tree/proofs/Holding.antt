@@ -93,7 +93,7 @@ goes_alike t u deep (k ∷ p) (x ∷ q) l same = ap (λ b. is_eq (key_cmp k x) &
 live_one : (e f : Entry) → Some (Live e) ≡ Some (Live f) → e ≡ f
 live_one e f h = cc
 
-tied : (d : Dot) → eq_by_cmp dot_cmp d d ≡ true
+pub tied : (d : Dot) → eq_by_cmp dot_cmp d d ≡ true
 tied d = ap is_eq (tied_itself dots_total d)
 
 pub finds : (c : Command) (path : List (List ℕ)) (v : Lived) (tree : List Row) → path ≡ path_in c → Holds (live_rows v) tree → (d : Dot) (e : Entry) → map.get v d ≡ Some (Live e) → found_at (covered_leaf c) (is_deep c) path tree d e ≡ covers c e

@@ -21,7 +21,7 @@ use Rattle.rds_tree.specs.Row.{Row, under, at_end, rows_of}
 use Rattle.rds_tree.proofs.Adding.{any-rows, no_keys}
 use Rattle.rds_tree.proofs.Cutting.{at_key, keys_exact, same_some, AreOthers, others_above, others_none, goes_all}
 
-abbrev Test : Type 0
+abbrev pub Test : Type 0
 Test = Dot → Entry → Bool
 
 -- tests that say the same kill the same

@@ -3,7 +3,10 @@ pub mod CountedKeys
 pub mod Cutting
 pub mod Deltas
 pub mod Distinct
+pub mod EffectMade
 pub mod Effects
+pub mod FoundLives
+pub mod Gathering
 pub mod Grouped
 pub mod Growing
 pub mod HeldLeaves

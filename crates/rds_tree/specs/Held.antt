@@ -1,5 +1,6 @@
 -- Dots by the value that they hold.
-use Rattle.std.specs.Prelude.{Option, Some, None, Bool, false, not, ◌&&◌, List, [], ◌∷◌, ◌++◌, map}
+use Rattle.std.specs.Prelude.{◌≡◌, Option, Some, None, Bool, false, cond, not, ◌&&◌, ◌||◌, List, [], ◌∷◌}
+use Rattle.std.specs.Prelude.{◌++◌, map}
 use Rattle.std.specs.List.{list_any}
 use Rattle.std.specs.Ordering.{is_eq, eq_by_cmp}
 use Rattle.rds_names.specs.declared.entry.Entry.{Entry}
@@ -10,6 +11,7 @@ use Rattle.rds_names.specs.Orders.{scalar_cmp}
 use Rattle.rds_dots.specs.declared.dot.Dot.{Dot}
 use Rattle.rds_dots.specs.Dots.{dot_cmp}
 use Rattle.rds_life.specs.Killed.{is_same}
+use Rattle.rds_life.specs.Life.{Life, Dead}
 use Rattle.rds_tree.specs.declared.dot_list.Which.{Which}
 use Rattle.rds_tree.specs.declared.dot_list.Which.TheVariants.{AllBut, One}
 use Rattle.rds_tree.specs.declared.leaf.Leaf.{Leaf}
@@ -43,6 +45,14 @@ among_any lists d e = list_any (λ dots. among_dots dots d e) lists
 -- the dot is one of those of a value that passes
 abbrev pub among_held : (Scalar → Bool) → List (Scalar × List Dot) → Dot → Entry → Bool
 among_held p held d e = any_held (λ v x. p v && eq_by_cmp dot_cmp x d) held
+
+-- the dots are the old ones and those that pass
+pub record IsGathered (found : Dot → Entry → Bool) (old new : List Dot) : Type 0 where
+  pub any : (d : Dot) (e : Entry) → among_dots new d e ≡ (among_dots old d e || found d e)
+
+-- the dots of the list are dead, and all others unseen
+abbrev pub killed_in : List Dot → Dot → Option Life
+killed_in dots d = cond (list_any (λ x. eq_by_cmp dot_cmp x d) dots) (Some Dead) None
 
 -- the leaves of dots by value
 abbrev pub leaves_of : Kind → List (Scalar × List Dot) → List Leaf

@@ -1,6 +1,7 @@
 pub mod Cuts
 pub mod Distinct
 pub mod Document
+pub mod EditsWithDelta
 pub mod Gathered
 pub mod Growing
 pub mod Held

@@ -10,7 +10,7 @@ ghost use Rattle.rds_life.specs.Killed.{but_for, killed_by};
 ghost use Rattle.rds_names.specs.declared.fault.Fault.TheVariants.{Memory};
 ghost use Rattle.rds_names.specs.declared.scalar.Scalar.{Scalar};
 ghost use Rattle.rds_names.specs.Orders.{scalar_cmp};
-ghost use Rattle.rds_tree.specs.Held.{among_held, any_held, at_value, means};
+ghost use Rattle.rds_tree.specs.Held.{among_held, any_held, at_value, means, IsGathered};
 ghost use Rattle.rds_tree.specs.Row.{is_full};
 
 use crate::dot_list::{DotList, Which};
@@ -134,6 +134,29 @@ impl ByValue {
         match self.values.get(value) {
             None => {}
             Some(dots) => dots.kill(lives, but),
+        }
+    }
+
+    /// Puts the dots of all values behind others.
+    pub fn gather(&self, dots: &mut Vec<Dot>) -> Result<(), Fault>
+        ensures ok { OnOk result (IsGathered (among_held (λ v. true) self.now) dots.old.items dots.new.items) }
+        ensures memory { IfErr result (λ fault. fault ≡ Memory) }
+    {
+        for list in self.values.values() {
+            list.gather(dots)?;
+        }
+        Ok(())
+    }
+
+    /// Puts the dots of one value behind others.
+    pub fn gather_value(&self, value: &Scalar, dots: &mut Vec<Dot>) -> Result<(), Fault>
+        ensures ok { OnOk result (IsGathered (among_held (at_value value.now) self.now) dots.old.items dots.new.items) }
+        ensures memory { IfErr result (λ fault. fault ≡ Memory) }
+    {
+        let _in_order = self.values.len();
+        match self.values.get(value) {
+            None => Ok(()),
+            Some(list) => list.gather(dots),
         }
     }
 

@@ -4,7 +4,7 @@ ghost use Rattle.std.specs.FinMap as map;
 ghost use Rattle.rds_dots.specs.declared.dot.Dot.{Dot};
 ghost use Rattle.rds_life.specs.Killed.{but_for, is_the, killed_by};
 ghost use Rattle.rds_names.specs.declared.fault.Fault.TheVariants.{Memory};
-ghost use Rattle.rds_tree.specs.Held.{among_dots, is_but, means};
+ghost use Rattle.rds_tree.specs.Held.{among_dots, is_but, means, IsGathered};
 ghost use Rattle.rds_tree.specs.Row.{is_full};
 
 use rds_dots::{Dot, DotSet};
@@ -70,6 +70,15 @@ impl DotList {
         ensures { self.new ≡ filter (λ d. not (means which d)) self.old }
     {
         self.dots.retain(|dot| !is_meant(which, *dot));
+    }
+
+    /// Puts the dots behind others.
+    pub fn gather(&self, dots: &mut Vec<Dot>) -> Result<(), Fault>
+        ensures ok { OnOk result (IsGathered (among_dots self.now) dots.old.items dots.new.items) }
+        ensures memory { IfErr result (λ fault. fault ≡ Memory) }
+    {
+        dots.extend_from_slice(&self.dots)?;
+        Ok(())
     }
 
     /// Makes the dots dead, but the one that is to stay.

@@ -6,11 +6,13 @@ ghost use Rattle.rds_state.specs.Fits.{Fits};
 ghost use Rattle.rds_state.specs.Results.{EditsReplica, Grows, TakesDelta, TakesDeltaWith};
 ghost use Rattle.rds_state.specs.Value.{coordinates};
 ghost use Rattle.rds_tree.specs.Document.{document};
+ghost use Rattle.rds_tree.specs.EditsWithDelta.{EditsWithDelta};
 ghost use Rattle.rds_tree.specs.Growing.{Holds};
 ghost use Rattle.rds_tree.specs.Shown.{shown_view};
 ghost use Rattle.rds_tree.specs.View.{view_of};
 
 use crate::document::{counters_at, tree_of};
+use crate::edit_delta::edit_with_delta;
 use crate::indexing::edit;
 use crate::node::Node;
 use crate::taking::{take, take_with};
@@ -99,6 +101,14 @@ impl<S: DotSet> Index<S> {
         ensures { EditsReplica self.old command.now result self.new }
     {
         edit(self.alloc, &mut self.replica, &mut self.tree, command)
+    }
+
+    /// Edits the replica as [`edit`](Index::edit) does, and hands out what that changed, as a delta. It is found by what
+    /// the command touches, however much lives. A command that makes dots dead takes memory for it.
+    pub fn edit_with_delta(&mut self, command: &Command) -> Result<(Edited, State<S>), Fault>
+        ensures { EditsWithDelta self.old command.now result self.new }
+    {
+        edit_with_delta(self.alloc, &mut self.replica, &mut self.tree, command)
     }
 
     /// Joins a delta into the replica, as [`Replica::take`] does, and refuses as it does. The tree isn't built anew.

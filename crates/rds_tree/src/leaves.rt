@@ -6,6 +6,7 @@ ghost use Rattle.rds_life.specs.Killed.{but_for, killed_by};
 ghost use Rattle.rds_names.specs.declared.fault.Fault.TheVariants.{Memory};
 ghost use Rattle.rds_tree.specs.Cuts.{among_leaves, covered_leaf, covering, is_deep, is_leaf, IsLess};
 ghost use Rattle.rds_tree.specs.Gathered.{values_in};
+ghost use Rattle.rds_tree.specs.Held.{IsGathered};
 ghost use Rattle.rds_tree.specs.Row.{is_full, AddsLeaf};
 ghost use Rattle.rds_tree.specs.View.{values_once};
 
@@ -139,6 +140,32 @@ impl Leaves {
     {
         self.regs.kill(lives, but);
         self.elems.kill(lives, but);
+    }
+
+    /// Puts the dots that a command covers here behind others.
+    pub fn gather_covered(&self, command: &Command, dots: &mut Vec<Dot>) -> Result<(), Fault>
+        requires { is_deep command.now ≡ false }
+        ensures ok { OnOk result
+            (IsGathered (among_leaves (covered_leaf command.now) self.now) dots.old.items dots.new.items) }
+        ensures memory { IfErr result (λ fault. fault ≡ Memory) }
+    {
+        match command {
+            Command::Set(_, _) => self.regs.gather(dots),
+            Command::Add(_, value) => self.elems.gather_value(value, dots),
+            Command::Del(_, value) => self.elems.gather_value(value, dots),
+            Command::Clear(_) => Ok(()),
+            Command::Inc(_, _) => Ok(()),
+            Command::Dec(_, _) => Ok(()),
+        }
+    }
+
+    /// Puts all dots behind others.
+    pub fn gather(&self, dots: &mut Vec<Dot>) -> Result<(), Fault>
+        ensures ok { OnOk result (IsGathered (among_leaves (λ l. true) self.now) dots.old.items dots.new.items) }
+        ensures memory { IfErr result (λ fault. fault ≡ Memory) }
+    {
+        self.regs.gather(dots)?;
+        self.elems.gather(dots)
     }
 
     /// The values of a kind in ascending order, each once.

@@ -5,6 +5,7 @@ mod by_value;
 mod counting;
 mod document;
 mod dot_list;
+mod edit_delta;
 mod found;
 mod index;
 mod indexing;

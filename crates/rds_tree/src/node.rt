@@ -8,6 +8,7 @@ ghost use Rattle.rds_dots.specs.declared.dot.Dot.{Dot};
 ghost use Rattle.rds_life.specs.Killed.{but_for, killed_by};
 ghost use Rattle.rds_tree.specs.Cuts.{among, covered_leaf, found_at, is_deep, IsCut};
 ghost use Rattle.rds_tree.specs.Document.{key_cmp};
+ghost use Rattle.rds_tree.specs.Held.{IsGathered};
 ghost use Rattle.std.specs.Option.{option_to_list};
 ghost use Rattle.rds_names.specs.declared.fault.Fault.TheVariants.{Memory};
 ghost use Rattle.rds_tree.specs.View.{below_path, entries_view, goes_on, shown_to, values_here, with_key};
@@ -181,6 +182,43 @@ impl Node {
         for child in self.children.values() {
             child.kill_all(lives, but);
         }
+    }
+
+    /// Puts the dots that a command covers at the end of the path behind others, and those that stand below where all
+    /// goes.
+    pub fn gather(&self, path: &[Key], command: &Command, dots: &mut Vec<Dot>) -> Result<(), Fault>
+        ensures ok { OnOk result
+            (IsGathered (found_at (covered_leaf command.now) (is_deep command.now) path.now self.now)
+            dots.old.items dots.new.items) }
+        ensures memory { IfErr result (λ fault. fault ≡ Memory) }
+    {
+        match path.split_first() {
+            None => {
+                if is_deep(command) {
+                    return self.gather_all(dots);
+                }
+                self.leaves.gather_covered(command, dots)
+            }
+            Some((key, rest)) => {
+                let _in_order = self.children.len();
+                match self.children.get(key) {
+                    None => Ok(()),
+                    Some(child) => child.gather(rest, command, dots),
+                }
+            }
+        }
+    }
+
+    /// Puts all dots behind others.
+    fn gather_all(&self, dots: &mut Vec<Dot>) -> Result<(), Fault>
+        ensures ok { OnOk result (IsGathered (among self.now) dots.old.items dots.new.items) }
+        ensures memory { IfErr result (λ fault. fault ≡ Memory) }
+    {
+        self.leaves.gather(dots)?;
+        for child in self.children.values() {
+            child.gather_all(dots)?;
+        }
+        Ok(())
     }
 
     /// The node at the end of the path, unless nothing stands there or below.

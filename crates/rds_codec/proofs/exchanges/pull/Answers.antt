@@ -1,10 +1,12 @@
-use Rattle.std.proofs.Common.{◌≡◌, ◌<◌, ◌⊎◌, Ok, Err, length, max, sym, subst, ◌∙◌}
+use Rattle.std.proofs.Common.{◌≡◌, ◌<◌, ◌≤◌, ◌⊎◌, Ok, Err, length, max, sym, subst, ◌∙◌}
 use Rattle.std.proofs.lemmas.Result.{err_from_is_err_and}
 use Rattle.rds_names.specs.Roster.{RosterValue}
 use Rattle.rds_state.specs.Fits.{Fits}
 use Rattle.rds_state.specs.Grown.{TakeWithGives}
-use Rattle.rds_state.specs.Value.{coordinates}
+use Rattle.rds_state.specs.Value.{StateValue, coordinates}
 use Rattle.rds_delta.specs.Digested.{DigestValue, digest_of}
+use Rattle.rds_codec.specs.DigestTexts.{digest_text}
+use Rattle.rds_codec.specs.declared.limits.TheConstants.{LIMIT}
 use Rattle.rds_codec.specs.Exchanged.{CanRead, IsAnswerTo, IsCertified, IsLongDigest, IsLongAnswer, replicas_of_both}
 use Rattle.rds_codec.proofs.ExchangeLemmas.{IsAsked, checked_text, answer_is_above, answer_is_taken, answer_joins, asked_of, can_read, untaken}
 use Rattle.rds_codec.proofs.exchanges.pull.Given.{Over}
@@ -48,16 +50,21 @@ take_answer-requires g c =
     let delta = coordinates c.in_ok-answer.answer.state in
     subst (λ (r : RosterValue). Fits (max (length mine) (length r.names)) delta) (sym (same g x)) (subst (λ n. Fits n delta) (many g x) c.in_ok-answer.ensures.fits)
 
-pub returns-clause-checked : goal.returns-clause-checked
-returns-clause-checked g c = record {
-  digest = c.in_ok-digest.digest;
-  brought = checked_text c.args.asked.now.state c.replicas_of-replicas.result (replicas_of_both c.args.answerer.now c.args.asker.now) c.state.result.now c.in_ok-digest.digest
-      (many g (goal.at.returns-clause-checked g c).In_ok-roster) c.state.ensures.state c.in_ok-digest.ensures.brought;
-  certified = c.in_ok-take_answer.ensures.checked;
-}
-
-pub returns-clause-meet : goal.returns-clause-meet
-returns-clause-meet g c = (given g (goal.at.returns-clause-meet g c).In_ok-take_answer).0
+pub returns-clause-pulled : goal.returns-clause-pulled
+returns-clause-pulled g c =
+    let x = (goal.at.returns-clause-pulled g c).In_ok-take_answer in
+    let asked = c.args.asked.now.state in
+    record {
+      meet = (given g x).0;
+      own = c.in_ok-take_answer.ensures.asked;
+      within = (subst (λ (v : StateValue). length (digest_text (digest_of v)) ≤ LIMIT) c.state.ensures.state c.in_ok-digest.ensures.within, c.in_ok-answer.ensures.within);
+      checked = record {
+        digest = c.in_ok-digest.digest;
+        brought = checked_text asked c.replicas_of-replicas.result (replicas_of_both c.args.answerer.now c.args.asker.now) c.state.result.now c.in_ok-digest.digest
+            (many g (goal.at.returns-clause-pulled g c).In_ok-roster) c.state.ensures.state c.in_ok-digest.ensures.brought;
+        certified = c.in_ok-take_answer.ensures.checked;
+      };
+    }
 
 pub returns-clause-takes : goal.returns-clause-takes
 returns-clause-takes g c = given g (goal.at.returns-clause-takes g c).In_ok-take_answer

@@ -1,4 +1,4 @@
-use Rattle.rds_codec.specs.SteadyTabled as formats
+use Rattle.rds_codec.specs.SteadyFormats as formats
 use Rattle.rds_codec.specs.SteadyTexts as steady
 use Rattle.rds_codec.proofs.steady.texts_are_read_steadily.Goals as goal
 

@@ -1,9 +1,11 @@
-use Rattle.std.proofs.Common.{rules, ◌+◌, ◌≡◌, ◌++◌, ◌∙◌, ap, sym, List, ◌∷◌, ℕ}
+use Rattle.std.proofs.Common.{true, Bool, rules, ◌+◌, ◌≡◌, ◌++◌, ◌∙◌, ap, sym, List, ◌∷◌, ℕ}
 use Rattle.std.specs.Prelude.{fold}
 use Rattle.rds_names.specs.declared.entry.Entry.{Entry}
 use Rattle.rds_life.specs.Life.{live_rows}
 use Rattle.rds_dots.specs.declared.dot.Dot.{Dot}
 use Rattle.rds_bytes.specs.Numbers.{numbered_length, numbers_from}
+use Rattle.std.specs.List.{list_all}
+use Rattle.rds_bytes.specs.Values.{is_key_text, IsLiveRow}
 use Rattle.rds_bytes.specs.Table.{add_key, live_keys}
 use Rattle.rds_bytes.proofs.NumberedTexts.{lives_length}
 use Rattle.rds_bytes.proofs.NumberLaws.{row_folded, row_numbered}
@@ -19,7 +21,9 @@ loop-dot-preserved g c =
     let a = c.add_path.new.self.keys.items in
     let path = c.keys-keys.ensures.keys in
     let keys : a ≡ fold add_key t row.1.path = c.in_ok-add_path.ensures.keys ∙ ap (fold add_key t) path in
-    let numbers : c.add_path.new.self.numbers.items ≡ ns ++ numbers_from t row.1.path = c.in_ok-add_path.ensures.numbers ∙ ap (λ (x : List (List ℕ)). ns ++ numbers_from t x) path in (
+    let numbers : c.add_path.new.self.numbers.items ≡ ns ++ numbers_from t row.1.path = c.in_ok-add_path.ensures.numbers ∙ ap (λ (x : List (List ℕ)). ns ++ numbers_from t x) path in
+    let texts : list_all is_key_text row.1.path ≡ true = ap (λ (x : List (List ℕ)). list_all is_key_text x) (sym path) ∙ c.in_ok-add_path.ensures.texts in
+    let entry : IsLiveRow row = (texts, c.numbered_row_length-length.ensures.scalar) in (
       row_folded a t _ row rows (ap (λ (r : List (Dot × Entry)). fold add_key t (live_keys r)) (sym is) ∙ c.loop-dot.invariant.0) keys,
       (
         row_numbered a t c.add_path.new.self.numbers.items ns _ row rows (ap (λ (r : List (Dot × Entry)). ns ++ numbers_from t (live_keys r)) (sym is) ∙ c.loop-dot.invariant.1.0) keys numbers,

@@ -1,13 +1,13 @@
-use Rattle.std.proofs.Common.{◌∙◌, ◌++◌, ap}
-use Rattle.std.specs.FinMap as map
-use Rattle.rds_dots.specs.Dots.{dot_cmp}
-use Rattle.rds_life.proofs.Puts.{put_next}
+use Rattle.std.proofs.Common.{arith}
+use Rattle.rds_life.proofs.MappedRows.{moved_on}
 use Rattle.rds_life.proofs.row_map.RowMap.of.Goals as goal
 
-pub adding-preserved : goal.adding-preserved
-adding-preserved c =
-    let row = c.in-Some.row.now in
-    let later = c.in-Some.later.now in
-    ap (λ l. l ++ later) c.in_ok-insert.ensures.ok
-    ∙ ap (λ e. map.put dot_cmp row.0 e c.adding.map ++ later) c.in_ok-copy.ensures.ok
-    ∙ put_next c.args.rows.now c.adding.map c.adding.rest.now later row c.requires c.adding.invariant c.in-Some.ensures.cases.0
+pub moving-preserved-in_default-insert : goal.moving-preserved-in_default-insert
+moving-preserved-in_default-insert c =
+    let on = moved_on _ _ _ _ _ (c.in-Some.dot, c.in-Some.entry) c.requires c.in-Some.ensures.items c.moving.invariant.all c.in_default-insert.ensures.entries in
+    record { all = on.0; room = omega (arith, on.1, c.in-Some.ensures.len, c.in-Some.ensures.capacity, c.moving.invariant.room) }
+
+pub moving-preserved-in_default-insert-2 : goal.moving-preserved-in_default-insert-2
+moving-preserved-in_default-insert-2 c =
+    let on = moved_on _ _ _ _ _ (c.in-Some.dot, c.in-Some.entry) c.requires c.in-Some.ensures.items c.moving.invariant.all c.in_default-insert.ensures.entries in
+    record { all = on.0; room = omega (arith, on.1, c.in-Some.ensures.len, c.in-Some.ensures.capacity, c.moving.invariant.room) }

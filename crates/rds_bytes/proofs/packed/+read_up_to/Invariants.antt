@@ -1,0 +1,4 @@
+use Rattle.rds_bytes.proofs.packed.+read_up_to.Given as goal
+
+abbrev pub decreases-read_up_to : goal.decreases-read_up_to
+decreases-read_up_to l = l.more
