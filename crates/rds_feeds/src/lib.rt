@@ -1,9 +1,9 @@
 //! Values that are read as their bytes come, put together from few kinds.
 //!
 //! To be read in this order: `unfinished`, what each kind promises, and `laws`, what follows from it; `once`, `many`,
-//! `then`, `made` and `beside`, the kinds; `listed`, rows that are kept in a list; `dots`, `lives` and `counters`, which
-//! are put together from these. For rows whose keys are numbers of a table: `tables`, the table; `meeting`, rows beside
-//! what they meet of it; `numbered`, lives and counters by it.
+//! `then`, `made` and `beside`, the kinds; `packed`, a number; `listed`, rows that are kept in a list; `dots`, `lives`
+//! and `counters`, which are put together from these. For rows whose keys are numbers of a table: `tables`, the table;
+//! `meeting`, rows beside what they meet of it; `numbered`, lives and counters by it.
 #![tactic(auto)]
 
 mod beside;
@@ -17,6 +17,7 @@ mod many;
 mod meeting;
 mod numbered;
 mod once;
+mod packed;
 mod tables;
 mod then;
 mod unfinished;
@@ -33,7 +34,8 @@ pub use numbered::{
     NumberedLives, NumberedParts, UnfinishedNumberedCounters, UnfinishedNumberedLives,
     unfinished_numbered_counters, unfinished_numbered_lives,
 };
-pub use once::{Once, Part};
+pub use once::{Gathering, Once, Part};
+pub use packed::{PackedReader, UnfinishedPacked, unfinished_packed};
 pub use tables::{UnfinishedTable, unfinished_table};
 pub use then::{Following, Then};
 pub use unfinished::{Progress, Unfinished};

@@ -1,3 +1,4 @@
+pub mod Ascending
 pub mod EditsUnderstood
 pub mod LinesUnderstood
 pub mod Names
@@ -8,5 +9,6 @@ pub mod Proper
 pub mod ReadItems
 pub mod Sizes
 pub mod Spelled
+pub mod Tokens
 pub mod Understood
 pub mod Words

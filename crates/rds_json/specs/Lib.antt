@@ -12,3 +12,4 @@ pub mod Standing
 pub mod Texts
 pub mod Unnamed
 pub mod Verb
+pub mod Written

@@ -7,6 +7,8 @@ ghost use Rattle.serde_json.specs.Written.{compact_text};
 ghost use Rattle.rds_tree.specs.Shown.{shown_view, maps_shown};
 ghost use Rattle.rds_json.specs.Show.{IsPretty, scalar_data, scalars_data, values_data, sums_data, maps_data, data_of};
 
+use crate::writing::{Stop, text_of, write_view};
+use json::Writer;
 use rds_names::{Fault, Key, Scalar};
 use rds_tree::{Maps, Scalars, Sums, Values, View};
 use serde_json::{Map, Value};
@@ -38,7 +40,7 @@ fn scalar_value(alloc: Global, scalar: &Scalar) -> Result<Value, Fault>
     }
 }
 
-pub(crate) fn scalars_value(alloc: Global, scalars: &[Scalar]) -> Result<Value, Fault>
+fn scalars_value(alloc: Global, scalars: &[Scalar]) -> Result<Value, Fault>
     ensures ok { IfOk result (λ v. view v ≡ scalars_data scalars.now) }
     ensures memory { IfErr result (λ fault. fault ≡ Memory) }
 {
@@ -118,6 +120,19 @@ fn view_value(alloc: Global, shape: &View) -> Result<Value, Fault>
 /// and "sets". The keys ascend by their bytes, each with a view, an array of values in the view's order, or a sum;
 /// `view` of `rds_tree` makes views in which these ascend too.
 pub fn show(alloc: Global, view: &View) -> Result<String, Fault>
+    ensures ok { IfOk result (λ text. string_bytes text ≡ compact_text (data_of (shown_view view.now))) }
+    ensures memory { IfErr result (λ fault. fault ≡ Memory) }
+{
+    let mut out = Writer::new(Vec::new(alloc));
+    match write_view(&mut out, view) {
+        Ok(()) => text_of(out),
+        Err(Stop::Memory) => Err(Fault::Memory),
+        Err(Stop::Disorder) => show_sorted(alloc, view),
+    }
+}
+
+/// The same of a view whose keys don't ascend, by a value that puts them in order.
+fn show_sorted(alloc: Global, view: &View) -> Result<String, Fault>
     ensures ok { IfOk result (λ text. string_bytes text ≡ compact_text (data_of (shown_view view.now))) }
     ensures memory { IfErr result (λ fault. fault ≡ Memory) }
 {

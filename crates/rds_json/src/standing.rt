@@ -1,16 +1,16 @@
 //! What stands at a key of a view, as compact JSON.
-ghost use Rattle.std.specs.Prelude.{◌≡◌, Some, IfErr, IfOk, OnOk, option_map, string_bytes};
-ghost use Rattle.rds_names.specs.declared.fault.Fault.TheVariants.{Memory};
-ghost use Rattle.serde_json.specs.View.{view};
-ghost use Rattle.serde_json.specs.Written.{compact_text};
-ghost use Rattle.rds_tree.specs.Shown.{shown_view};
+ghost use Rattle.std.specs.Prelude.{◌≡◌, IfErr, IfOk, OnOk, string_bytes};
 ghost use Rattle.rds_json.specs.Standing.{counter_at, counter_data, standing_data, sum_at, values_at};
+ghost use Rattle.rds_json.specs.Written.{Adds, data_tokens};
+ghost use Rattle.rds_names.specs.declared.fault.Fault.TheVariants.{Memory};
+ghost use Rattle.rds_tree.specs.Shown.{shown_view};
+ghost use Rattle.serde_json.specs.Written.{compact_text};
 
-use crate::showing::{put, scalars_value};
+use crate::writing::{text_of, write_scalars};
+use json::Writer;
 use rds_names::{Fault, Key, Scalar};
 use rds_tree::{Sums, Values, View};
-use serde_json::{Map, Value};
-use std::alloc::Global;
+use std::alloc::{AllocError, Global};
 
 /// What stands at a key of a view, as compact JSON: an object with the members "counter" (null where there is none),
 /// "reg" and "set" (the values under the key, in the view's order).
@@ -18,51 +18,40 @@ pub fn show_at(alloc: Global, shape: &View, key: &Key) -> Result<String, Fault>
     ensures ok { IfOk result (λ text. string_bytes text ≡ compact_text (standing_data key.now (shown_view shape.now))) }
     ensures memory { IfErr result (λ fault. fault ≡ Memory) }
 {
-    let value = standing_value(alloc, shape, key)?;
-    Ok(value.to_string(alloc)?)
+    let mut out = Writer::new(Vec::new(alloc));
+    write_standing(&mut out, shape, key)?;
+    text_of(out)
 }
 
-fn standing_value(alloc: Global, shape: &View, key: &Key) -> Result<Value, Fault>
-    ensures ok { IfOk result (λ v. view v ≡ standing_data key.now (shown_view shape.now)) }
-    ensures memory { IfErr result (λ fault. fault ≡ Memory) }
+fn write_standing(out: &mut Writer, shape: &View, key: &Key) -> Result<(), AllocError>
+    ensures ok { OnOk result (Adds out.old out.new (data_tokens (standing_data key.now (shown_view shape.now)))) }
 {
-    let mut map = Map::new(alloc);
-    put(
-        alloc,
-        &mut map,
-        "counter",
-        counter_value(&shape.counters, key),
-    )?;
-    put(
-        alloc,
-        &mut map,
-        "reg",
-        scalars_value(alloc, values_at(&shape.regs, key))?,
-    )?;
-    put(
-        alloc,
-        &mut map,
-        "set",
-        scalars_value(alloc, values_at(&shape.sets, key))?,
-    )?;
-    Ok(Value::Object(map))
+    out.begin_object()?;
+    out.key("counter")?;
+    write_counter(out, counter_at(&shape.counters, key))?;
+    out.key("reg")?;
+    write_scalars(out, values_at(&shape.regs, key))?;
+    out.key("set")?;
+    write_scalars(out, values_at(&shape.sets, key))?;
+    out.end_object()
 }
 
-fn counter_value(counters: &Option<Sums>, key: &Key) -> Value
-    ensures { view result ≡ counter_data (counter_at key.now counters.now) }
+fn write_counter(out: &mut Writer, counter: Option<i64>) -> Result<(), AllocError>
+    ensures ok { OnOk result (Adds out.old out.new (data_tokens (counter_data counter))) }
 {
-    match counters {
-        Some(sums) => sum_value(sum_at(sums, key)),
-        None => Value::Null,
+    match counter {
+        Some(number) => out.i64(number),
+        None => out.null(),
     }
 }
 
-fn sum_value(sum: Option<i64>) -> Value
-    ensures { view result ≡ counter_data sum }
+/// What the counter of a key stands at, where there are counters.
+fn counter_at(counters: &Option<Sums>, key: &Key) -> Option<i64>
+    ensures { result ≡ counter_at key.now counters.now }
 {
-    match sum {
-        Some(number) => Value::from(number),
-        None => Value::Null,
+    match counters {
+        Some(sums) => sum_at(sums, key),
+        None => None,
     }
 }
 

@@ -1,4 +1,4 @@
-use Rattle.std.proofs.Common.{◌≡◌, ◌∷◌, ◌∙◌, Some, get_or, ap, sym, true, false, ◌==◌}
+use Rattle.std.proofs.Common.{◌≡◌, ◌∙◌, get_or, ap, sym, true, false, ◌==◌}
 use Rattle.serde_json.specs.Read.{number_of, number_from}
 use Rattle.fast_float.specs.Text.{scan}
 use Rattle.rds_json.proofs.numbers.number_of.Goals as goal

@@ -1,11 +1,11 @@
-use Rattle.std.proofs.Common.{◌≡◌, ◌∷◌, ◌++◌, ◌+◌, ◌<◌, ◌∙◌, [], suc, length, get_or, drop, map, Some, None, option_map, ap, sym, arith, drop-cons, add-one}
+use Rattle.std.proofs.Common.{◌≡◌, ◌∷◌, ◌++◌, ◌+◌, ◌∙◌, [], suc, drop, map, Some, option_map, ap, sym, arith, drop-cons, add-one}
 use Rattle.std.proofs.lemmas.List.{drop_all, map-append}
 use Rattle.json.specs.Json as json
 use Rattle.json.specs.Value as borrowed
 use Rattle.json.proofs.Trees as trees
-use Rattle.serde_json.specs.Data.{object, no_items, no_members}
-use Rattle.serde_json.specs.Read.{of_json, of_items, of_members}
-use Rattle.serde_json.specs.View.{view, members_view}
+use Rattle.serde_json.specs.Data.{object}
+use Rattle.serde_json.specs.Read.{of_json, of_items}
+use Rattle.serde_json.specs.View.{view}
 use Rattle.serde_json.proofs.Views.{view-Object}
 use Rattle.rds_json.proofs.ReadItems.{before, before_none, item_owned}
 use Rattle.rds_json.proofs.owned.+owning.Goals as goal

@@ -1,9 +1,7 @@
-use Rattle.std.proofs.Common.{◌∙◌, ap}
-use Rattle.serde_json.specs.Written.{compact_text, has_float}
-use Rattle.rds_json.proofs.Plain.{texts_plain}
+use Rattle.std.proofs.Common.{rules}
+use Rattle.std.proofs.lemmas.Result.{IfOk-weaker}
+use Rattle.rds_json.specs.Texts.{texts_data}
 use Rattle.rds_json.proofs.texts.show_names.Goals as goal
 
 pub returns-clause-ok : goal.returns-clause-ok
-returns-clause-ok c =
-    let is = c.in_ok-value.ensures.ok in
-    c.in_ok-to_string.ensures.text (ap has_float is ∙ texts_plain c.args.names.now) ∙ ap compact_text is
+returns-clause-ok c = IfOk-weaker c.text_of.result _ _ (λ text tells. tells (texts_data c.args.names.now) (search rules)) c.text_of.ensures.ok

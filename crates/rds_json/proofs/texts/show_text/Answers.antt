@@ -1,8 +1,7 @@
-use Rattle.std.proofs.Common.{◌∙◌, ap}
-use Rattle.serde_json.specs.Written.{compact_text, has_float}
+use Rattle.std.proofs.Common.{rules}
+use Rattle.std.proofs.lemmas.Result.{IfOk-weaker}
+use Rattle.serde_json.specs.Data.{string}
 use Rattle.rds_json.proofs.texts.show_text.Goals as goal
 
 pub returns-clause-ok : goal.returns-clause-ok
-returns-clause-ok c =
-    let is = c.in_ok-value.ensures.ok in
-    c.in_ok-to_string.ensures.text (ap has_float is) ∙ ap compact_text is
+returns-clause-ok c = IfOk-weaker c.text_of.result _ _ (λ text tells. tells (string c.args.text.now) (search rules)) c.text_of.ensures.ok
