@@ -1,26 +1,5 @@
 -- The JSON of a reply, and its line.
-use Rattle.std.specs.Prelude.{
-  ◌≡◌,
-  ℕ,
-  Bool,
-  true,
-  false,
-  List,
-  [],
-  ◌∷◌,
-  ◌++◌,
-  codes,
-  Option,
-  Some,
-  None,
-  Result,
-  Ok,
-  Err,
-  option_and_then,
-  option_map,
-  slice_get,
-  string_bytes,
-}
+use Rattle.std.specs.Prelude.{◌≡◌, ℕ, Bool, true, false, List, [], ◌∷◌, ◌++◌, codes, Option, Some, None, Result, Ok, Err, option_and_then, option_map, slice_get, string_bytes}
 use Rattle.std.specs.Fmt.{decimal}
 use Rattle.std.specs.Io.KnownBytes.{Appends}
 use Rattle.rds_names.specs.Roster.{RosterValue}
@@ -29,16 +8,7 @@ use Rattle.rds_names.specs.Fault.{number_of, name_of}
 use Rattle.rds_names.specs.declared.fault.Fault.{Fault}
 use Rattle.rds_output.specs.Output.{fault_line, fault_status}
 use Rattle.rds_output.specs.declared.reply.Reply.{Reply}
-use Rattle.rds_output.specs.declared.reply.Reply.TheVariants.{
-  Done,
-  Edited,
-  Asked,
-  Answered,
-  Taken,
-  Shown,
-  Refused,
-  RefusedLine,
-}
+use Rattle.rds_output.specs.declared.reply.Reply.TheVariants.{Done, Edited, Asked, Answered, Taken, Shown, Refused, RefusedLine}
 
 -- a dot as the array of its replica's name and its number there, or null
 abbrev pub dot_text : Option (List ℕ × ℕ) → List ℕ
