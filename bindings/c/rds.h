@@ -208,7 +208,8 @@ uint32_t rds_dump(rds *replica, const uint8_t *path, size_t path_length, uint8_t
                   size_t *length);
 
 /* Gives whose replica it is and how much it holds, as `rds_node status` does: {"group":..,"own":..,"names":[..],
- * "live":..,"dead":..,"counters":..,"components":..,"bytes":..}. `bytes` are those of its snapshot. */
+ * "live":..,"dead":..,"counters":..,"components":..,"bytes":..,"mark":".."}. `bytes` are those of its snapshot, and
+ * `mark` has 32 hex digits: replicas that hold the same entries and numbers have the same. */
 uint32_t rds_status_json(rds *replica, uint8_t *room, size_t room_length, size_t *length);
 
 /* Gives the snapshot, which rds_open, rds_merge and `rds_node` read (docs/FORMATS.md). Also RDS_TOO_LONG. */

@@ -30,7 +30,8 @@ class Edited(NamedTuple):
 
 
 class Status(NamedTuple):
-    """Whose replica it is, and how much it holds: `bytes` are those of its snapshot."""
+    """Whose replica it is, and how much it holds: `bytes` are those of its snapshot. Replicas that hold the same entries
+    and numbers have the same `mark`, 32 hex digits."""
 
     group: str
     own: str
@@ -40,6 +41,7 @@ class Status(NamedTuple):
     counters: int
     components: int
     bytes: int
+    mark: str
 
 
 def _bytes_of(text: str) -> bytes:

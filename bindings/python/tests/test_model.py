@@ -143,4 +143,5 @@ def test_a_status_counts_what_the_model_has() -> None:
     assert status.counters == len({key for key, _ in numbers})
     assert status.components == both.plain.state.size()
     assert status.bytes == len(model.snapshot_text(both.plain))
+    assert status.mark == model.mark_of(both.plain.state)
     assert json.dumps(both.real.show())

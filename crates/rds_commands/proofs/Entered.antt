@@ -1,5 +1,6 @@
 -- From what was entered to what is told.
-use Rattle.std.proofs.Common.{◌≡◌, ℕ, List, Option, Ok, Err, subst, inl, inr, refl}
+use Rattle.std.proofs.Common.{◌≡◌, ℕ, List, Option, Result, Ok, Err, subst, inl, inr, refl}
+use Rattle.std.specs.Prelude.{IfErr, IfOk}
 use Rattle.clap.specs.Words.{HasKind, Kinds, kind_of}
 use Rattle.clap.specs.declared.error.Error.{Error}
 use Rattle.clap.specs.declared.error.kind.ErrorKind.{ErrorKind}
@@ -11,7 +12,11 @@ use Rattle.rds_output.specs.Reply.{WritesReply}
 use Rattle.rds_output.specs.Output.{Writes}
 use Rattle.rds_output.specs.declared.reply.Reply.{Reply}
 use Rattle.rds_output.specs.declared.reply.Reply.TheVariants.{Taken}
-use Rattle.rds_commands.specs.OfFile.{WritesOfFile}
+use Rattle.rds_files.specs.Files.{ReplacedValue}
+use Rattle.rds_lines.specs.Streams.{Stream, Tells}
+use Rattle.rds_offline.specs.declared.copies.TakenFile.{TakenFile}
+use Rattle.rds_commands.specs.OfFile.{WritesOfFile, answer_of, taken_of}
+use Rattle.rds_commands.specs.declared.file_commands.FileAnswer.{FileAnswer}
 use Rattle.rds_commands.specs.Told.{AnswersMistake}
 use Rattle.rds_commands.specs.Unparsed.{WritesUnparsed}
 
@@ -29,13 +34,13 @@ mistaken kinds e before after status has told = elim has [
 ]
 
 -- the answer that came with a file
-pub told_of_file : {F : Type 0} (comes : F → Reply → Type 0) (refuses : Fault → Type 0) (file : F) (answer given : Reply) (before after : Option (List ℕ)) (status : ℕ) → comes file answer → given ≡ answer
-    → WritesReply (Ok given) before after status → WritesOfFile comes refuses before after status
-told_of_file comes refuses file answer given before after status came is writes =
-    inl (file, answer, came, subst (λ (a : Reply). WritesReply (Ok a) before after status) is writes)
+pub told_of_file : {F : Type 0} (comes : F → Reply → Type 0) (refuses : Fault → Type 0) (done : Result (FileAnswer F) Fault) (writing : Stream) (status : ℕ) → IfOk done (λ d. comes d.file d.answer) → IfErr done refuses
+    → Tells (WritesReply (answer_of done)) writing status → Tells (WritesOfFile comes refuses) writing status
+told_of_file comes refuses (Ok done) writing status came refused told = λ wrote. inl (done.file, done.answer, came, told wrote)
+told_of_file comes refuses (Err fault) writing status came refused told = λ wrote. inr (fault, refused, told wrote)
 
 -- how many components the file took
-pub taken_of_file : {F : Type 0} (takes : F → ℕ → Type 0) (refuses : Fault → Type 0) (file : F) (components given : ℕ) (before after : Option (List ℕ)) (status : ℕ) → takes file components → given ≡ components
-    → WritesReply (Ok (Taken given)) before after status → WritesOfFile (λ file answer. (components : ℕ) × takes file components × (answer ≡ Taken components)) refuses before after status
-taken_of_file takes refuses file components given before after status took is writes =
-    inl (file, Taken components, (components, took, refl), subst (λ (n : ℕ). WritesReply (Ok (Taken n)) before after status) is writes)
+pub taken_of_file : (takes : ReplacedValue → ℕ → Type 0) (refuses : Fault → Type 0) (done : Result TakenFile Fault) (writing : Stream) (status : ℕ) → IfOk done (λ d. takes d.file d.components) → IfErr done refuses
+    → Tells (WritesReply (taken_of done)) writing status → Tells (WritesOfFile (λ file answer. (components : ℕ) × takes file components × (answer ≡ Taken components)) refuses) writing status
+taken_of_file takes refuses (Ok done) writing status took refused told = λ wrote. inl (done.file, Taken done.components, (done.components, took, refl), told wrote)
+taken_of_file takes refuses (Err fault) writing status took refused told = λ wrote. inr (fault, refused, told wrote)

@@ -13,7 +13,7 @@ use Rattle.rds_files.specs.Files.{FileValue, IsReadAt}
 use Rattle.rds_listing.specs.declared.bare.Raw.{Raw}
 use Rattle.rds_listing.specs.declared.bare.Wanted.{Wanted}
 use Rattle.rds_state.specs.Value.{StateValue}
-use Rattle.rds_commands.specs.Listing.{ComparesFiles, GetsRaw, ListsFile, WritesList, WritesRaw, WritesValues, lines_status}
+use Rattle.rds_commands.specs.Listing.{ComparesFiles, GetsRaw, ListsFile, WritesLines, WritesList, WritesRaw, WritesValues}
 use Rattle.rds_commands.specs.Offline.{AreReadBy, ChecksRead, IsUnchecked, WritesAnswer, WritesNothing, WritesTake, WritesTakeOf, WritesTold}
 use Rattle.rds_commands.specs.Reading.{IsReadBy, is_piped, text_read}
 use Rattle.rds_offline.specs.Letters.{ChecksTexts, RefusesCheck}
@@ -25,9 +25,8 @@ values_written path text wanted file told raw before after status gets is writes
 
 -- the lines that were told
 pub lines_written : (lines_of : StateValue → List (List ℕ) → List ℕ) (some : ℕ) (path text : List ℕ) (file : FileValue) (told given : List ℕ) (before after : Option (List ℕ)) (status : ℕ) → ListsFile lines_of path text file told
-    → given ≡ told → Appends before after given → status ≡ lines_status some given → WritesList lines_of some path text before after status
-lines_written lines_of some path text file told given before after status lists is appends due =
-    inl (file, told, lists, subst (λ (t : List ℕ). Appends before after t) is appends, subst (λ (t : List ℕ). status ≡ lines_status some t) is due)
+    → given ≡ told → WritesLines some given before after status → WritesList lines_of some path text before after status
+lines_written lines_of some path text file told given before after status lists is writes = inl (file, told, lists, subst (λ (t : List ℕ). WritesLines some t before after status) is writes)
 
 -- the bytes that were told
 pub bytes_written : (comes : FileValue → List ℕ → Type 0) (refuses : Fault → Type 0) (file : FileValue) (told given : List ℕ) (before after : Option (List ℕ)) (status : ℕ) → comes file told → given ≡ told → Appends before after given → status ≡ 0

@@ -8,7 +8,7 @@ use Rattle.rds_lines.specs.Lines.{lines_in}
 use Rattle.rds_output.specs.Output.{Writes}
 use Rattle.rds_output.specs.declared.reply.Reply.{Reply}
 use Rattle.rds_files.specs.Files.{IsReplacedAt, IsUnkept, RefusesLock, ReplacedValue}
-use Rattle.rds_commands.specs.Reading.{Reading}
+use Rattle.rds_lines.specs.Streams.{NoneFailed, Stream}
 use Rattle.rds_commands.specs.declared.batch.TheConstants.{MOST}
 
 -- the file at this path was read under its lock, and keeps what the lines made of what it held then, which have these
@@ -43,7 +43,7 @@ WritesEdits path input before after status =
     ⊎ (((MOST < length input) × Writes (Err TooLong) before after status) ⊎ Writes (Err Memory) before after status)
 
 -- the same of the input of a run; where it can't be read, that is told
-abbrev pub WritesEditLines : List ℕ → Reading → Option (List ℕ) → Option (List ℕ) → ℕ → Type 0
+abbrev pub WritesEditLines : List ℕ → Stream → Option (List ℕ) → Option (List ℕ) → ℕ → Type 0
 WritesEditLines path reading before after status =
-    IfSome reading.held (λ input. (reading.MayHaveFailed → ⊥) → WritesEdits path input before after status)
+    IfSome reading.before (λ input. NoneFailed reading → WritesEdits path input before after status)
     × (reading.CountRose → Writes (Err Device) before after status)

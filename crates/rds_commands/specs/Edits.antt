@@ -15,7 +15,19 @@ use Rattle.rds_lines.specs.Views.{ShowsView}
 use Rattle.rds_lines.specs.declared.views.Layout.{Layout}
 use Rattle.rds_output.specs.declared.reply.Reply.{Reply}
 use Rattle.rds_output.specs.declared.reply.Reply.TheVariants.{Done, Edited}
-use Rattle.rds_files.specs.Files.{FileValue, IsHeldAt, IsReadAt, IsReplacedAt, IsUnkept, IsUnread, KeptFile, RefusesFile, RefusesLock, ReplacedValue, is_beside}
+use Rattle.rds_files.specs.Files.{
+  FileValue,
+  IsHeldAt,
+  IsReadAt,
+  IsReplacedAt,
+  IsUnkept,
+  IsUnread,
+  KeptFile,
+  RefusesFile,
+  RefusesLock,
+  ReplacedValue,
+  is_beside,
+}
 use Rattle.rds_words.specs.Meaning.{IsCommand, names_for, roster_for}
 use Rattle.rds_words.specs.declared.tasks.EditWords.{EditWords}
 use Rattle.rds_words.specs.declared.tasks.GrowWords.{GrowWords}

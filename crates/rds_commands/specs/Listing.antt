@@ -69,12 +69,16 @@ abbrev pub lines_status : ℕ → List ℕ → ℕ
 lines_status some [] = 0
 lines_status some (byte ∷ bytes) = some
 
--- the lines were written and nothing else, and their status is answered; or, for a fault, nothing
+-- the lines were written and nothing else, and their status is answered
+abbrev pub WritesLines : ℕ → List ℕ → Option (List ℕ) → Option (List ℕ) → ℕ → Type 0
+WritesLines some lines before after status = Appends before after lines × (status ≡ lines_status some lines)
+
+-- such lines were written; or, for a fault, nothing
 abbrev pub WritesList : (StateValue → List (List ℕ) → List ℕ) → ℕ → List ℕ → List ℕ → Option (List ℕ)
     → Option (List ℕ) → ℕ → Type 0
 WritesList lines_of some path text before after status =
-    ((file : FileValue) × (lines : List ℕ) × ListsFile lines_of path text file lines × Appends before after lines
-    × (status ≡ lines_status some lines))
+    ((file : FileValue) × (lines : List ℕ) × ListsFile lines_of path text file lines
+    × WritesLines some lines before after status)
     ⊎ ((fault : Fault) × RefusesList text fault × WritesNothing fault before after status)
 
 -- ---- what two documents show
@@ -87,9 +91,8 @@ pub record ComparesFiles (path other : List ℕ) (lines : List ℕ) : Type 0 whe
   pub second_read : IsReadAt other second
   pub are : lines ≡ differences_text first.kept.state second.kept.state []
 
--- the lines were written and nothing else, and their status is answered; or, for a fault, nothing
+-- such lines were written; or, for a fault, nothing
 abbrev pub WritesDiff : List ℕ → List ℕ → Option (List ℕ) → Option (List ℕ) → ℕ → Type 0
 WritesDiff path other before after status =
-    ((lines : List ℕ) × ComparesFiles path other lines × Appends before after lines
-    × (status ≡ lines_status found_status lines))
+    ((lines : List ℕ) × ComparesFiles path other lines × WritesLines found_status lines before after status)
     ⊎ ((fault : Fault) × IsUnread fault × WritesNothing fault before after status)

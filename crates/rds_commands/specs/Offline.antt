@@ -5,12 +5,21 @@ use Rattle.rds_names.specs.declared.fault.Fault.{Fault}
 use Rattle.rds_names.specs.declared.fault.Fault.TheVariants.{Device, Memory, Usage}
 use Rattle.rds_files.specs.Files.{FileValue, IsUnread}
 use Rattle.rds_offline.specs.Copies.{InitsFrom, MergesFile, RefusesInitFrom, RefusesMergeFile}
-use Rattle.rds_offline.specs.Letters.{AnswersFile, AsksFile, ChecksTexts, RefusesAnswer, RefusesCheck, RefusesTake, TakesFile}
+use Rattle.rds_offline.specs.Letters.{
+  AnswersFile,
+  AsksFile,
+  ChecksTexts,
+  RefusesAnswer,
+  RefusesCheck,
+  RefusesTake,
+  TakesFile,
+}
 use Rattle.rds_output.specs.Output.{Writes, fault_status}
 use Rattle.rds_output.specs.declared.reply.Reply.TheVariants.{Done, Taken}
 use Rattle.rds_words.specs.declared.tasks.InitFromWords.{InitFromWords}
 use Rattle.rds_commands.specs.OfFile.{WritesOfFile}
-use Rattle.rds_commands.specs.Reading.{IsReadBy, Reading, text_read}
+use Rattle.rds_commands.specs.Reading.{IsReadBy, text_read}
+use Rattle.rds_lines.specs.Streams.{NoneFailed, Stream}
 
 -- ---- copies
 
@@ -44,10 +53,10 @@ abbrev pub WritesAnswer : List ℕ → List ℕ → Option (List ℕ) → Option
 WritesAnswer path question = WritesTold (AnswersFile path question) (RefusesAnswer question)
 
 -- the answer to the question that the input is, or there is no input to be read
-abbrev pub WritesAnswerTo : List ℕ → Reading → Option (List ℕ) → Option (List ℕ) → ℕ → Type 0
+abbrev pub WritesAnswerTo : List ℕ → Stream → Option (List ℕ) → Option (List ℕ) → ℕ → Type 0
 WritesAnswerTo path reading before after status =
-    IfSome reading.held
-    (λ input. (reading.MayHaveFailed → ⊥)
+    IfSome reading.before
+    (λ input. NoneFailed reading
     → WritesAnswer path (text_read input) before after status ⊎ WritesNothing Memory before after status)
     × (reading.CountRose → WritesNothing Device before after status)
 

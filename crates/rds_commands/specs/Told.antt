@@ -1,10 +1,30 @@
 -- What the program tells for its words.
-use Rattle.std.specs.Prelude.{◌≡◌, ◌⊎◌, ◌==◌, ◌-◌, ◌^◌, ◌||◌, if◌then◌else◌, ℕ, Bool, true, false, List, Option, Some, None, Ok, Err}
+use Rattle.std.specs.Prelude.{
+  ◌≡◌,
+  ◌⊎◌,
+  ◌==◌,
+  ◌-◌,
+  ◌^◌,
+  ◌||◌,
+  if◌then◌else◌,
+  ℕ,
+  true,
+  false,
+  List,
+  Option,
+  Some,
+  None,
+  IfSome,
+  Ok,
+  Err,
+}
 use Rattle.clap.specs.Words.{IsAmong, Kinds, Text}
 use Rattle.clap.specs.declared.error.kind.ErrorKind.{ErrorKind}
 use Rattle.rds_names.specs.declared.fault.Fault.TheVariants.{Device, Memory, Usage}
-use Rattle.rds_keep.specs.Parts.{AppendsFront}
-use Rattle.rds_lines.specs.Answering.{WritesAnswers, WritesFront}
+use Rattle.rds_keep.specs.Parts.{AppendsFront, ConsumesAtMost, Grows}
+use Rattle.rds_lines.specs.Ahead.{most_given}
+use Rattle.rds_lines.specs.Answering.{WritesAnswers, WritesCut, WritesFront}
+use Rattle.rds_lines.specs.Streams.{NoneFailed, Stream, Tells}
 use Rattle.rds_output.specs.Output.{Writes, fault_line}
 use Rattle.rds_lines.specs.Sim.{IsSimOutput, MayBeSimulated}
 use Rattle.rds_lines.specs.declared.views.Layout.{Layout}
@@ -13,13 +33,32 @@ use Rattle.rds_files.specs.Files.{is_beside}
 use Rattle.rds_files.specs.Pairing.{WritesPair}
 use Rattle.rds_files.specs.Piping.{Pipes}
 use Rattle.rds_files.specs.Syncing.{WritesServing, WritesSync}
-use Rattle.rds_commands.specs.Edits.{EditsFile, EditsIfChanged, GrowsFile, InitsFile, RefusesEdit, RefusesGrow, RefusesInit, RefusesShow, ShowsFile}
+use Rattle.rds_commands.specs.Edits.{
+  EditsFile,
+  EditsIfChanged,
+  GrowsFile,
+  InitsFile,
+  RefusesEdit,
+  RefusesGrow,
+  RefusesInit,
+  RefusesShow,
+  ShowsFile,
+}
 use Rattle.rds_commands.specs.Looks.{WritesGet, WritesStatus}
 use Rattle.rds_commands.specs.Batch.{WritesEditLines}
 use Rattle.rds_commands.specs.Listing.{WritesDiff, WritesList, WritesRaw, wanted_of}
 use Rattle.rds_commands.specs.OfFile.{WritesOfFile}
-use Rattle.rds_commands.specs.Offline.{WritesAnswerTo, WritesAsk, WritesCheck, WritesInitFrom, WritesMerge, WritesNothing, WritesTake, WritesText}
-use Rattle.rds_commands.specs.Reading.{Reading, is_piped}
+use Rattle.rds_commands.specs.Offline.{
+  WritesAnswerTo,
+  WritesAsk,
+  WritesCheck,
+  WritesInitFrom,
+  WritesMerge,
+  WritesNothing,
+  WritesTake,
+  WritesText,
+}
+use Rattle.rds_commands.specs.Reading.{is_piped}
 use Rattle.rds_listing.specs.Conflicts.{conflicts_text}
 use Rattle.rds_listing.specs.Dump.{dump_text}
 use Rattle.rds_session.specs.declared.talk.Side.{Side}
@@ -34,20 +73,52 @@ use Rattle.rds_words.specs.declared.tasks.InitWords.{InitWords}
 use Rattle.rds_words.specs.declared.tasks.ServeWords.{ServeWords}
 use Rattle.rds_words.specs.declared.tasks.SyncWords.{SyncWords}
 use Rattle.rds_words.specs.declared.tasks.Task.{Task}
-use Rattle.rds_words.specs.declared.tasks.Task.TheVariants.{Join, Sim, Files, Faults, Init, InitFrom, Grow, Edit, EditIfChanged, EditLines, Get, GetRaw, Show, ShowPretty, Dump, Status, Serve, Sync, Pair, Ask, Answer, Take, Merge, Check, Conflicts, Diff}
+use Rattle.rds_words.specs.declared.tasks.Task.TheVariants.{
+  Join,
+  Sim,
+  Files,
+  Faults,
+  Init,
+  InitFrom,
+  Grow,
+  Edit,
+  EditIfChanged,
+  EditLines,
+  Get,
+  GetRaw,
+  Show,
+  ShowPretty,
+  Dump,
+  Status,
+  Serve,
+  Sync,
+  Pair,
+  Ask,
+  Answer,
+  Take,
+  Merge,
+  Check,
+  Conflicts,
+  Diff,
+}
 
 -- the answers to the lines of the input were written, and nothing else; or there was no memory to read the words
 abbrev pub WritesSim : List ℕ → Option (List ℕ) → Option (List ℕ) → ℕ → Type 0
 WritesSim input before after status =
     Writes (Err Memory) before after status ⊎ WritesAnswers (IsSimOutput input) before after status
 
--- a beginning of what the first lines that the reader gave are answered was written, or, where the reader failed, of all
--- that is due; or, where there was no memory to read the words, a beginning of that fault's line
-abbrev pub WritesSimFront : Type 0 → Option (List ℕ) → Option (List ℕ) → Option (List ℕ) → Option (List ℕ)
-    → Type 0
-WritesSimFront IsCut first now before after =
-    AppendsFront before after (fault_line Memory)
-    ⊎ WritesFront MayBeSimulated (fault_line Device) IsCut first now before after
+-- what becomes of a run of `sim`: what `AnswersLines` says of its lines; or, where there was no memory to read the
+-- words, that fault's line was written, or a beginning of it
+pub record RunsSim (reading writing : Stream) (status : ℕ) : Type 0 where
+  pub sim : IfSome reading.before (λ input. NoneFailed reading → Tells (WritesSim input) writing status)
+  pub cut : reading.CountRose → NoneFailed writing
+      → WritesCut MayBeSimulated (fault_line Device) reading.before reading.after writing.before writing.after
+      × (status ≡ 1)
+  pub part : writing.CountRose
+      → AppendsFront writing.before writing.after (fault_line Memory)
+      ⊎ WritesFront MayBeSimulated (fault_line Device) reading.MayHaveFailed
+      reading.before reading.after writing.before writing.after
+  pub bound : ConsumesAtMost reading.before reading.after (most_given reading.reads)
 
 abbrev pub WritesInit : InitWords → Option (List ℕ) → Option (List ℕ) → ℕ → Type 0
 WritesInit words = WritesOfFile (InitsFile words) (RefusesInit words)
@@ -76,9 +147,9 @@ RefusesServe words =
     ⊎ (IsAmount words.timeout.now (Err Usage) ⊎ (is_beside words.file.now ≡ true))
 
 -- one session of this side over the input and the output; or the words are refused, and nothing is written
-abbrev pub WritesPiped : Side → List ℕ → Type 0 → Reading → Option (List ℕ) → Option (List ℕ) → ℕ → Type 0
+abbrev pub WritesPiped : Side → List ℕ → Type 0 → Stream → Option (List ℕ) → Option (List ℕ) → ℕ → Type 0
 WritesPiped side path Refused reading before after status =
-    ((is_beside path ≡ false) × Pipes side path reading.held reading.left before after status)
+    ((is_beside path ≡ false) × Pipes side path reading.before reading.after before after status)
     ⊎ (Refused × WritesNothing Usage before after status)
 
 -- so many sessions as the words ask for; or they are refused
@@ -89,7 +160,7 @@ WritesServeAt words before after status =
     ⊎ (RefusesServe words × Writes (Err Usage) before after status)
 
 -- the same at an address, or one session over the input and the output
-abbrev pub WritesServe : ServeWords → Reading → Option (List ℕ) → Option (List ℕ) → ℕ → Type 0
+abbrev pub WritesServe : ServeWords → Stream → Option (List ℕ) → Option (List ℕ) → ℕ → Type 0
 WritesServe words reading before after status =
     ((is_piped words.addr.now ≡ false) × WritesServeAt words before after status)
     ⊎ ((is_piped words.addr.now ≡ true)
@@ -106,7 +177,7 @@ WritesSyncAt words before after status =
     ⊎ (RefusesSync words × Writes (Err Usage) before after status)
 
 -- the same at an address, or over the input and the output
-abbrev pub WritesSyncing : SyncWords → Reading → Option (List ℕ) → Option (List ℕ) → ℕ → Type 0
+abbrev pub WritesSyncing : SyncWords → Stream → Option (List ℕ) → Option (List ℕ) → ℕ → Type 0
 WritesSyncing words reading before after status =
     ((is_piped words.addr.now ≡ false) × WritesSyncAt words before after status)
     ⊎ ((is_piped words.addr.now ≡ true)
@@ -119,7 +190,7 @@ WritesPairing first second before after status =
     ⊎ (((is_beside first || is_beside second) ≡ true) × Writes (Err Usage) before after status)
 
 -- what is written for a task, with what became of the input; of `join` and `sim` it is said apart
-abbrev pub WritesTask : Task → Reading → Option (List ℕ) → Option (List ℕ) → ℕ → Type 0
+abbrev pub WritesTask : Task → Stream → Option (List ℕ) → Option (List ℕ) → ℕ → Type 0
 WritesTask Join reading before after status = Unit {0}
 WritesTask Sim reading before after status = Unit {0}
 WritesTask Files reading before after status = WritesText FILES_TEXT.now before after status
@@ -143,22 +214,22 @@ WritesTask (Pair first second) reading before after status = WritesPairing first
 WritesTask (Ask file) reading before after status = WritesAsk file.now before after status
 WritesTask (Answer file) reading before after status = WritesAnswerTo file.now reading before after status
 WritesTask (Take file question answer) reading before after status =
-    WritesTake file.now question.now answer.now reading.held before after status
+    WritesTake file.now question.now answer.now reading.before before after status
 WritesTask (Merge file from) reading before after status = WritesMerge file.now from.now before after status
 WritesTask (Check question answer) reading before after status =
-    WritesCheck question.now answer.now reading.held before after status
+    WritesCheck question.now answer.now reading.before before after status
 WritesTask (Conflicts file path) reading before after status =
     WritesList conflicts_text 3 file.now path.now before after status
 WritesTask (Diff file other) reading before after status = WritesDiff file.now other.now before after status
 
 -- what is written for a task in words, and `Usage` for none
-abbrev pub WritesNamed : Option (List Text) → Reading → Option (List ℕ) → Option (List ℕ) → ℕ → Type 0
+abbrev pub WritesNamed : Option (List Text) → Stream → Option (List ℕ) → Option (List ℕ) → ℕ → Type 0
 WritesNamed None reading before after status = Writes (Err Usage) before after status
 WritesNamed (Some words) reading before after status =
     (task : Task) × (words_of task ≡ words) × WritesTask task reading before after status
 
 -- the same, or that there was no memory to read the words
-abbrev pub MayWriteNamed : Option (List Text) → Reading → Option (List ℕ) → Option (List ℕ) → ℕ → Type 0
+abbrev pub MayWriteNamed : Option (List Text) → Stream → Option (List ℕ) → Option (List ℕ) → ℕ → Type 0
 MayWriteNamed named reading before after status =
     Writes (Err Memory) before after status ⊎ WritesNamed named reading before after status
 
@@ -167,3 +238,8 @@ abbrev pub AnswersMistake : Kinds → Option (List ℕ) → Option (List ℕ) �
 AnswersMistake kinds before after status =
     Writes (Err Memory) before after status
     ⊎ ((kind : ErrorKind) × IsAmong kind kinds × WritesUnparsed kind before after status)
+
+-- the same, or a beginning of some text
+pub record TellsMistake (kinds : Kinds) (writing : Stream) (status : ℕ) : Type 0 where
+  pub told : Tells (AnswersMistake kinds) writing status
+  pub part : Grows writing.before writing.after

@@ -1,12 +1,9 @@
 //! Many edits of the replica in a file, which is read and written once.
-ghost use Rattle.std.specs.Prelude.{◌≡◌, ◌≢◌, ◌≤◌, ◌⊎◌, Err, IfErr, IfOk, IfSome};
-ghost use Rattle.rds_names.specs.declared.fault.Fault.TheVariants.{Device, Memory};
-ghost use Rattle.rds_keep.specs.Counted.{HasFailed};
+ghost use Rattle.std.specs.Prelude.{◌≡◌, ◌≤◌, ◌⊎◌, Err, IfErr, IfOk};
+ghost use Rattle.rds_lines.specs.Streams.{Tells, stream_of};
 ghost use Rattle.rds_lines.specs.Editing.{EditsLines};
 ghost use Rattle.rds_lines.specs.Lines.{lines_in};
-ghost use Rattle.rds_output.specs.Output.{Writes};
 ghost use Rattle.rds_commands.specs.Batch.{EditsFileBy, RefusesLines, RefusesLinesIn, WritesEditLines, WritesEdits};
-ghost use Rattle.rds_commands.specs.Reading.{reading_of};
 
 use crate::notes::{note_file, note_input};
 use rds_files::{Disk, LockFile, LockedFile, ReplacedFile};
@@ -80,9 +77,8 @@ pub fn run_edit_lines<H: Disk, R: Read, W: Write>(
 ) -> u8
 where
     H::File: LockFile,
-    ensures written { (HasFailed writer.old writer.new → ⊥)
-        → WritesEditLines path.now (reading_of R.remaining reader.old reader.new)
-        (W.contents writer.old.inner) (W.contents writer.new.inner) result }
+    ensures written { Tells (WritesEditLines path.now (stream_of R.remaining reader.old reader.new))
+        (stream_of W.contents writer.old writer.new) result }
     ensures status { result ≤ 2 }
     ensures broken { (writer.new.failed ≡ writer.old.failed) ⊎ (result ≡ 1) }
 {
@@ -99,8 +95,7 @@ where
 fn edit_by<H: Disk, W: Write>(rt: &H, path: &str, input: &[u8], writer: &mut Counted<W>) -> u8
 where
     H::File: LockFile,
-    ensures written { (HasFailed writer.old writer.new → ⊥)
-        → WritesEdits path.now input.now (W.contents writer.old.inner) (W.contents writer.new.inner) result }
+    ensures written { Tells (WritesEdits path.now input.now) (stream_of W.contents writer.old writer.new) result }
     ensures status { result ≤ 2 }
     ensures broken { (writer.new.failed ≡ writer.old.failed) ⊎ (result ≡ 1) }
 {

@@ -5,7 +5,22 @@ ghost use Rattle.rds_names.specs.Gives.{Refuses};
 ghost use Rattle.rds_names.specs.Path.{path_of};
 ghost use Rattle.rds_names.specs.Roster.{grown_of};
 ghost use Rattle.rds_state.specs.Edit.{IsDue};
-ghost use Rattle.rds_commands.specs.Edits.{edit_refusal, EditsFile, EditsIfChanged, GrowsFile, InitsFile, IsEdited, IsGrown, RefusesEdit, RefusesEditIn, RefusesGrow, RefusesGrowIn, RefusesInit, RefusesShow, ShowsFile};
+ghost use Rattle.rds_commands.specs.Edits.{
+  edit_refusal,
+  EditsFile,
+  EditsIfChanged,
+  GrowsFile,
+  InitsFile,
+  IsEdited,
+  IsGrown,
+  RefusesEdit,
+  RefusesEditIn,
+  RefusesGrow,
+  RefusesGrowIn,
+  RefusesInit,
+  RefusesShow,
+  ShowsFile,
+};
 ghost use Rattle.rds_output.specs.declared.reply.Reply.TheVariants.{Done};
 ghost use Rattle.rds_words.specs.Meaning.{IsCommand, names_for, roster_for};
 
@@ -145,31 +160,13 @@ where
     Ok(FileAnswer { file, answer })
 }
 
-/// What became of a file whose edit may say nothing new, and what the command is answered.
-#[derive(Drop)]
-pub struct EditAnswer<'a> {
-    /// The file, where it was replaced.
-    pub file: Option<ReplacedFile<'a, GapSet>>,
-    /// The answer.
-    pub answer: Reply,
-}
-
-impl EditAnswer<'_> {
-    /// The answer alone: the file is let go.
-    pub fn into_answer(self) -> Reply
-        ensures { result ≡ self.entry.answer }
-    {
-        self.answer
-    }
-}
-
-/// Edits the replica in a file as `edit_file` does, unless what the edit says stands there already: then the file is left
-/// as it is.
+/// Edits the replica in a file as `edit_file` does, unless what the edit says stands there already: then the file is
+/// left as it is, and none is answered.
 pub fn edit_if_changed<'a, H: Disk>(
     rt: &H,
     path: &'a str,
     words: &EditWords<'_>,
-) -> Result<EditAnswer<'a>, Fault>
+) -> Result<FileAnswer<Option<ReplacedFile<'a, GapSet>>>, Fault>
 where
     H::File: LockFile,
     ensures edited { IfOk result (λ done. EditsIfChanged path.now words.now done.file done.answer) }
@@ -180,7 +177,7 @@ where
     let opened: LockedFile<'a, H, GapSet> = LockedFile::open(rt, path)?;
     let same = stands(alloc, opened.kept().view_of().state(), &command)?;
     if same {
-        return Ok(EditAnswer {
+        return Ok(FileAnswer {
             file: None,
             answer: Reply::Edited {
                 dot: None,
@@ -189,7 +186,7 @@ where
         });
     }
     let FileAnswer { file, answer } = edit_in(rt, opened, command)?;
-    Ok(EditAnswer {
+    Ok(FileAnswer {
         file: Some(file),
         answer,
     })

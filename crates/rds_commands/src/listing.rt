@@ -1,10 +1,19 @@
 //! Commands that tell scripts of the document of the replica in a file.
 ghost use Rattle.std.specs.Prelude.{◌≡◌, ◌≤◌, ◌⊎◌, [], IfErr, IfOk, string_bytes};
-ghost use Rattle.std.specs.Io.KnownBytes.{Appends};
-ghost use Rattle.rds_keep.specs.Counted.{HasFailed};
+ghost use Rattle.rds_lines.specs.Streams.{Tells, stream_of};
 ghost use Rattle.rds_listing.specs.Conflicts.{conflicts_text};
 ghost use Rattle.rds_listing.specs.Dump.{dump_text};
-ghost use Rattle.rds_commands.specs.Listing.{ComparesFiles, GetsRaw, ListsFile, RefusesList, WritesDiff, WritesList, WritesRaw, lines_status, wanted_of};
+ghost use Rattle.rds_commands.specs.Listing.{
+  ComparesFiles,
+  GetsRaw,
+  ListsFile,
+  RefusesList,
+  WritesDiff,
+  WritesLines,
+  WritesList,
+  WritesRaw,
+  wanted_of,
+};
 ghost use Rattle.rds_commands.specs.Looks.{RefusesGet};
 ghost use Rattle.rds_files.specs.Files.{IsUnread};
 ghost use Rattle.rds_names.specs.declared.fault.Fault.TheVariants.{Memory};
@@ -83,8 +92,7 @@ pub fn run_raw<H: Disk, W: Write>(
     wanted: Wanted,
     writer: &mut Counted<W>,
 ) -> u8
-    ensures written { (HasFailed writer.old writer.new → ⊥)
-        → WritesRaw path.now text.now wanted (W.contents writer.old.inner) (W.contents writer.new.inner) result }
+    ensures written { Tells (WritesRaw path.now text.now wanted) (stream_of W.contents writer.old writer.new) result }
     ensures status { result ≤ 3 }
     ensures broken { (writer.new.failed ≡ writer.old.failed) ⊎ (result ≡ 1) }
 {
@@ -138,8 +146,8 @@ pub fn conflicts_file<'a, H: Disk>(
 
 /// Writes the lines of `dump_file`. The registers of which they set several values are told on standard error.
 pub fn run_dump<H: Disk, W: Write>(rt: &H, path: &str, text: &str, writer: &mut Counted<W>) -> u8
-    ensures written { (HasFailed writer.old writer.new → ⊥)
-        → WritesList dump_text 0 path.now text.now (W.contents writer.old.inner) (W.contents writer.new.inner) result }
+    ensures written { Tells (WritesList dump_text 0 path.now text.now)
+        (stream_of W.contents writer.old writer.new) result }
     ensures status { result ≤ 3 }
     ensures broken { (writer.new.failed ≡ writer.old.failed) ⊎ (result ≡ 1) }
 {
@@ -162,9 +170,8 @@ pub fn run_conflicts<H: Disk, W: Write>(
     text: &str,
     writer: &mut Counted<W>,
 ) -> u8
-    ensures written { (HasFailed writer.old writer.new → ⊥)
-        → WritesList conflicts_text 3 path.now text.now
-        (W.contents writer.old.inner) (W.contents writer.new.inner) result }
+    ensures written { Tells (WritesList conflicts_text 3 path.now text.now)
+        (stream_of W.contents writer.old writer.new) result }
     ensures status { result ≤ 3 }
     ensures broken { (writer.new.failed ≡ writer.old.failed) ⊎ (result ≡ 1) }
 {
@@ -208,8 +215,7 @@ fn root_path(alloc: Global) -> Result<Path, Fault>
 
 /// Writes the lines of `compare_files`, and answers the status: 3 where there is one.
 pub fn run_diff<H: Disk, W: Write>(rt: &H, path: &str, other: &str, writer: &mut Counted<W>) -> u8
-    ensures written { (HasFailed writer.old writer.new → ⊥)
-        → WritesDiff path.now other.now (W.contents writer.old.inner) (W.contents writer.new.inner) result }
+    ensures written { Tells (WritesDiff path.now other.now) (stream_of W.contents writer.old writer.new) result }
     ensures status { result ≤ 3 }
     ensures broken { (writer.new.failed ≡ writer.old.failed) ⊎ (result ≡ 1) }
 {
@@ -225,9 +231,7 @@ pub fn run_diff<H: Disk, W: Write>(rt: &H, path: &str, other: &str, writer: &mut
 // Writes lines, and answers the status: this one where there are some.
 fn write_lines<W: Write>(writer: &mut Counted<W>, lines: &str, some: u8) -> u8
     requires { some ≤ 3 }
-    ensures written { (HasFailed writer.old writer.new → ⊥)
-        → Appends (W.contents writer.old.inner) (W.contents writer.new.inner) lines.now }
-    ensures due { (HasFailed writer.old writer.new → ⊥) → result ≡ lines_status some lines.now }
+    ensures written { Tells (WritesLines some lines.now) (stream_of W.contents writer.old writer.new) result }
     ensures status { result ≤ 3 }
     ensures broken { (writer.new.failed ≡ writer.old.failed) ⊎ (result ≡ 1) }
 {

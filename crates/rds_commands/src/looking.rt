@@ -2,18 +2,18 @@
 ghost use Rattle.std.specs.Prelude.{◌≡◌, ◌≤◌, ◌⊎◌, [], Err, IfErr, IfOk};
 ghost use Rattle.rds_names.specs.declared.fault.Fault.TheVariants.{BadPath};
 ghost use Rattle.rds_names.specs.Path.{path_of};
-ghost use Rattle.rds_keep.specs.Counted.{HasFailed};
+ghost use Rattle.rds_lines.specs.Streams.{Tells, stream_of};
 ghost use Rattle.rds_files.specs.Files.{IsUnread};
 ghost use Rattle.rds_commands.specs.Looks.{DescribesFile, GetsFile, RefusesGet, WritesGet, WritesStatus};
 
 use crate::file_commands::FileAnswer;
 use crate::notes::{note_file, note_part};
+use crate::told::told;
 use rds_files::{Disk, ReplicaFile};
 use rds_gaps::GapSet;
 use rds_keep::Counted;
 use rds_lines::{describe, place_of, shown_at};
 use rds_names::{Fault, Path};
-use rds_output::write_reply;
 use std::io::Write;
 
 /// Tells what stands at the path of a text in the document of the replica in a file. The path is judged first:
@@ -51,32 +51,20 @@ pub fn describe_file<'a, H: Disk>(
 
 /// Tells what stands at a path as `get_file` does, and writes the answer.
 pub fn run_get<H: Disk, W: Write>(rt: &H, path: &str, text: &str, writer: &mut Counted<W>) -> u8
-    ensures written { (HasFailed writer.old writer.new → ⊥)
-        → WritesGet path.now text.now (W.contents writer.old.inner) (W.contents writer.new.inner) result }
+    ensures written { Tells (WritesGet path.now text.now) (stream_of W.contents writer.old writer.new) result }
     ensures status { result ≤ 2 }
     ensures broken { (writer.new.failed ≡ writer.old.failed) ⊎ (result ≡ 1) }
 {
-    match get_file(rt, path, text) {
-        Ok(done) => write_reply(writer, Ok(done.into_answer())),
-        Err(fault) => {
-            note_part(rt, path, text, fault);
-            write_reply(writer, Err(fault))
-        }
-    }
+    let done = get_file(rt, path, text);
+    told(done, writer, |fault| note_part(rt, path, text, fault))
 }
 
 /// Tells whose replica a file holds as `describe_file` does, and writes the answer.
 pub fn run_status<H: Disk, W: Write>(rt: &H, path: &str, writer: &mut Counted<W>) -> u8
-    ensures written { (HasFailed writer.old writer.new → ⊥)
-        → WritesStatus path.now (W.contents writer.old.inner) (W.contents writer.new.inner) result }
+    ensures written { Tells (WritesStatus path.now) (stream_of W.contents writer.old writer.new) result }
     ensures status { result ≤ 2 }
     ensures broken { (writer.new.failed ≡ writer.old.failed) ⊎ (result ≡ 1) }
 {
-    match describe_file(rt, path) {
-        Ok(done) => write_reply(writer, Ok(done.into_answer())),
-        Err(fault) => {
-            note_file(rt, path, fault);
-            write_reply(writer, Err(fault))
-        }
-    }
+    let done = describe_file(rt, path);
+    told(done, writer, |fault| note_file(rt, path, fault))
 }

@@ -189,8 +189,8 @@ pub fn note_cleared<H: Eprint>(rt: &H, words: &EditWords<'_>, answer: &Reply) {
 }
 
 /// Tells that a file was changed, where the answer that says so couldn't be written.
-pub fn note_unwritten<H: Eprint>(rt: &H, path: &str, status: u8) {
-    if status != 0 {
+pub fn note_unwritten<H: Eprint>(rt: &H, path: &str, changed: bool, status: u8) {
+    if changed && status != 0 {
         let _ = eprintln!(rt; "{path} was changed, and the answer can't be written");
     }
 }

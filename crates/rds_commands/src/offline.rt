@@ -1,13 +1,27 @@
 //! Commands on files that meet without a connection, and what is written of them.
 ghost use Rattle.std.specs.Prelude.{◌≡◌, ◌≤◌, ◌⊎◌, false, IfErr, IfOk, string_bytes};
-ghost use Rattle.rds_keep.specs.Counted.{HasFailed};
+ghost use Rattle.rds_lines.specs.Streams.{Tells, stream_of};
 ghost use Rattle.rds_names.specs.declared.fault.Fault.TheVariants.{Device};
 ghost use Rattle.rds_output.specs.Output.{fault_status};
-ghost use Rattle.rds_commands.specs.Offline.{AreReadBy, ChecksRead, IsUnchecked, IsUngiven, WritesAnswer, WritesAnswerTo, WritesAsk, WritesCheck, WritesInitFrom, WritesMerge, WritesTake, WritesTakeOf};
-ghost use Rattle.rds_commands.specs.Reading.{IsReadBy, is_piped, reading_of};
+ghost use Rattle.rds_commands.specs.Offline.{
+  AreReadBy,
+  ChecksRead,
+  IsUnchecked,
+  IsUngiven,
+  WritesAnswer,
+  WritesAnswerTo,
+  WritesAsk,
+  WritesCheck,
+  WritesInitFrom,
+  WritesMerge,
+  WritesTake,
+  WritesTakeOf,
+};
+ghost use Rattle.rds_commands.specs.Reading.{IsReadBy, is_piped};
 
 use crate::letter_notes::{note_answer, note_check, note_take};
-use crate::notes::{note_file, note_init_from, note_input, note_merge, note_unwritten};
+use crate::notes::{note_file, note_init_from, note_input, note_merge};
+use crate::told::told_taken;
 use rds_codec::LIMIT;
 use rds_files::{Disk, LockFile};
 use rds_keep::Counted;
@@ -37,8 +51,7 @@ pub fn run_init_from<H: Disk, W: Write>(
 ) -> u8
 where
     H::File: LockFile,
-    ensures written { (HasFailed writer.old writer.new → ⊥)
-        → WritesInitFrom words.now (W.contents writer.old.inner) (W.contents writer.new.inner) result }
+    ensures written { Tells (WritesInitFrom words.now) (stream_of W.contents writer.old writer.new) result }
     ensures status { result ≤ 2 }
     ensures broken { (writer.new.failed ≡ writer.old.failed) ⊎ (result ≡ 1) }
 {
@@ -55,22 +68,18 @@ where
 pub fn run_merge<H: Disk, W: Write>(rt: &H, path: &str, from: &str, writer: &mut Counted<W>) -> u8
 where
     H::File: LockFile,
-    ensures written { (HasFailed writer.old writer.new → ⊥)
-        → WritesMerge path.now from.now (W.contents writer.old.inner) (W.contents writer.new.inner) result }
+    ensures written { Tells (WritesMerge path.now from.now) (stream_of W.contents writer.old writer.new) result }
     ensures status { result ≤ 2 }
     ensures broken { (writer.new.failed ≡ writer.old.failed) ⊎ (result ≡ 1) }
 {
-    match merge_file(rt, path, from) {
-        Ok(done) => {
-            let status = write_reply(writer, Ok(Reply::Taken(done.into_components())));
-            note_unwritten(rt, path, status);
-            status
-        }
-        Err(fault) => {
-            note_merge(rt, path, from, fault);
-            write_reply(writer, Err(fault))
-        }
-    }
+    let done = merge_file(rt, path, from);
+    told_taken(
+        rt,
+        path,
+        done,
+        writer,
+        |fault| note_merge(rt, path, from, fault),
+    )
 }
 
 /// Writes the question of the replica in a file as `ask_file` gives it, and nothing else. A fault is told on standard
@@ -78,8 +87,7 @@ where
 pub fn run_ask<H: Disk, W: Write>(rt: &H, path: &str, writer: &mut Counted<W>) -> u8
 where
     H::File: LockFile,
-    ensures written { (HasFailed writer.old writer.new → ⊥)
-        → WritesAsk path.now (W.contents writer.old.inner) (W.contents writer.new.inner) result }
+    ensures written { Tells (WritesAsk path.now) (stream_of W.contents writer.old writer.new) result }
     ensures status { result ≤ 2 }
     ensures broken { (writer.new.failed ≡ writer.old.failed) ⊎ (result ≡ 1) }
 {
@@ -102,9 +110,8 @@ pub fn run_answer<H: Disk, R: Read, W: Write>(
 ) -> u8
 where
     H::File: LockFile,
-    ensures written { (HasFailed writer.old writer.new → ⊥)
-        → WritesAnswerTo path.now (reading_of R.remaining reader.old reader.new)
-        (W.contents writer.old.inner) (W.contents writer.new.inner) result }
+    ensures written { Tells (WritesAnswerTo path.now (stream_of R.remaining reader.old reader.new))
+        (stream_of W.contents writer.old writer.new) result }
     ensures status { result ≤ 2 }
     ensures broken { (writer.new.failed ≡ writer.old.failed) ⊎ (result ≡ 1) }
 {
@@ -121,8 +128,7 @@ where
 fn answer_to<H: Disk, W: Write>(rt: &H, path: &str, question: &[u8], writer: &mut Counted<W>) -> u8
 where
     H::File: LockFile,
-    ensures written { (HasFailed writer.old writer.new → ⊥)
-        → WritesAnswer path.now question.now (W.contents writer.old.inner) (W.contents writer.new.inner) result }
+    ensures written { Tells (WritesAnswer path.now question.now) (stream_of W.contents writer.old writer.new) result }
     ensures status { result ≤ 2 }
     ensures broken { (writer.new.failed ≡ writer.old.failed) ⊎ (result ≡ 1) }
 {
@@ -145,9 +151,8 @@ pub fn run_take<H: Disk, R: Read, W: Write>(
 ) -> u8
 where
     H::File: LockFile,
-    ensures written { (HasFailed writer.old writer.new → ⊥)
-        → WritesTake words.entry.file.now words.entry.question.now words.entry.answer.now
-        (R.remaining reader.old.inner) (W.contents writer.old.inner) (W.contents writer.new.inner) result }
+    ensures written { Tells (WritesTake words.entry.file.now words.entry.question.now words.entry.answer.now (R.remaining reader.old.inner))
+        (stream_of W.contents writer.old writer.new) result }
     ensures status { result ≤ 2 }
     ensures broken { (writer.new.failed ≡ writer.old.failed) ⊎ (result ≡ 1) }
 {
@@ -167,23 +172,19 @@ fn take_both<H: Disk, W: Write>(
 ) -> u8
 where
     H::File: LockFile,
-    ensures written { (HasFailed writer.old writer.new → ⊥)
-        → WritesTakeOf path.now question.now answer.now
-        (W.contents writer.old.inner) (W.contents writer.new.inner) result }
+    ensures written { Tells (WritesTakeOf path.now question.now answer.now)
+        (stream_of W.contents writer.old writer.new) result }
     ensures status { result ≤ 2 }
     ensures broken { (writer.new.failed ≡ writer.old.failed) ⊎ (result ≡ 1) }
 {
-    match take_file(rt, path, question, answer) {
-        Ok(done) => {
-            let status = write_reply(writer, Ok(Reply::Taken(done.into_components())));
-            note_unwritten(rt, path, status);
-            status
-        }
-        Err(fault) => {
-            note_take(rt, path, question, answer, fault);
-            write_reply(writer, Err(fault))
-        }
-    }
+    let done = take_file(rt, path, question, answer);
+    told_taken(
+        rt,
+        path,
+        done,
+        writer,
+        |fault| note_take(rt, path, question, answer, fault),
+    )
 }
 
 /// Writes what an answer brings to a question as `check_texts` tells it, or why it brings nothing. They are read as for
@@ -195,9 +196,8 @@ pub fn run_check<H: Disk, R: Read, W: Write>(
     reader: &mut Counted<R>,
     writer: &mut Counted<W>,
 ) -> u8
-    ensures written { (HasFailed writer.old writer.new → ⊥)
-        → WritesCheck question.now answer.now (R.remaining reader.old.inner)
-        (W.contents writer.old.inner) (W.contents writer.new.inner) result }
+    ensures written { Tells (WritesCheck question.now answer.now (R.remaining reader.old.inner))
+        (stream_of W.contents writer.old writer.new) result }
     ensures status { result ≤ 2 }
     ensures broken { (writer.new.failed ≡ writer.old.failed) ⊎ (result ≡ 1) }
 {

@@ -1,17 +1,12 @@
 //! The program's commands.
-ghost use Rattle.std.specs.Prelude.{◌≡◌, ◌≢◌, [], ◌-◌, ◌≤◌, ◌⊎◌, Err, map, IfSome};
-ghost use Rattle.rds_names.specs.declared.fault.Fault.TheVariants.{Device};
-ghost use Rattle.rds_keep.specs.Counted.{HasFailed};
-ghost use Rattle.rds_keep.specs.Parts.{ConsumesAtMost, Grows};
-ghost use Rattle.rds_lines.specs.Ahead.{most_given};
-ghost use Rattle.rds_lines.specs.Answering.{WritesAnswers, WritesCut, WritesFront};
-ghost use Rattle.rds_output.specs.Output.{Writes, fault_line};
-ghost use Rattle.rds_lines.specs.Run.{WritesJoin, WritesJoinFront};
-ghost use Rattle.rds_lines.specs.Sim.{IsSimOutput, MayBeSimulated};
+ghost use Rattle.std.specs.Prelude.{◌≡◌, ◌≢◌, [], ◌≤◌, ◌⊎◌, map};
+ghost use Rattle.rds_lines.specs.Answering.{AnswersLines};
+ghost use Rattle.rds_lines.specs.Run.{RunsJoin};
+ghost use Rattle.rds_lines.specs.Sim.{MayBeSimulated};
+ghost use Rattle.rds_lines.specs.Streams.{Tells, stream_of};
 ghost use Rattle.rds_words.specs.Commands.{join_words, sim_words};
-ghost use Rattle.rds_commands.specs.Reading.{reading_of};
-ghost use Rattle.rds_commands.specs.Told.{AnswersMistake, MayWriteNamed, WritesSim, WritesSimFront, WritesTask};
 ghost use Rattle.rds_words.specs.Entered.{Names, mistakes_in, named_in};
+ghost use Rattle.rds_commands.specs.Told.{MayWriteNamed, RunsSim, TellsMistake, WritesTask};
 
 use crate::batch::run_edit_lines;
 use crate::listing::{run_conflicts, run_diff, run_dump, run_raw, wanted_of};
@@ -48,41 +43,20 @@ pub fn run<H: Disk + Net, R: Read, W: Write, S: AsStr>(
 ) -> u8
 where
     H::File: LockFile,
+    // The words of `join` and of `sim`.
     ensures join { Names (map S.text words.entry.now) join_words
-        → IfSome (R.remaining reader.old.inner)
-        (λ input. (HasFailed reader.old reader.new → ⊥) → (HasFailed writer.old writer.new → ⊥)
-        → WritesJoin input (W.contents writer.old.inner) (W.contents writer.new.inner) result) }
-    ensures join_part { Names (map S.text words.entry.now) join_words
-        → IfSome (R.remaining reader.old.inner) (λ input. (HasFailed reader.old reader.new → ⊥)
-        → WritesJoinFront input (W.contents writer.old.inner) (W.contents writer.new.inner)) }
-    ensures unread { Names (map S.text words.entry.now) join_words
-        → reader.new.failed ≢ reader.old.failed → (HasFailed writer.old writer.new → ⊥)
-        → Writes (Err Device) (W.contents writer.old.inner) (W.contents writer.new.inner) result }
+        → RunsJoin (stream_of R.remaining reader.old reader.new) (stream_of W.contents writer.old writer.new) result }
     ensures sim { Names (map S.text words.entry.now) sim_words
-        → IfSome (R.remaining reader.old.inner)
-        (λ input. (HasFailed reader.old reader.new → ⊥) → (HasFailed writer.old writer.new → ⊥)
-        → WritesSim input (W.contents writer.old.inner) (W.contents writer.new.inner) result) }
-    ensures cut { Names (map S.text words.entry.now) sim_words
-        → reader.new.failed ≢ reader.old.failed → (HasFailed writer.old writer.new → ⊥)
-        → WritesCut MayBeSimulated (fault_line Device)
-        (R.remaining reader.old.inner) (R.remaining reader.new.inner)
-        (W.contents writer.old.inner) (W.contents writer.new.inner) × (result ≡ 1) }
-    ensures sim_part { Names (map S.text words.entry.now) sim_words
-        → writer.new.failed ≢ writer.old.failed
-        → WritesSimFront (HasFailed reader.old reader.new)
-        (R.remaining reader.old.inner) (R.remaining reader.new.inner)
-        (W.contents writer.old.inner) (W.contents writer.new.inner) }
-    ensures sim_bound { Names (map S.text words.entry.now) sim_words
-        → ConsumesAtMost (R.remaining reader.old.inner) (R.remaining reader.new.inner)
-        (most_given (reader.old.turns - reader.new.left)) }
-    ensures task { mistakes_in (map S.text words.entry.now) ≡ [] → (HasFailed writer.old writer.new → ⊥)
-        → MayWriteNamed (named_in (map S.text words.entry.now)) (reading_of R.remaining reader.old reader.new)
-        (W.contents writer.old.inner) (W.contents writer.new.inner) result }
-    ensures mistake { mistakes_in (map S.text words.entry.now) ≢ [] → (HasFailed writer.old writer.new → ⊥)
-        → AnswersMistake (mistakes_in (map S.text words.entry.now))
-        (W.contents writer.old.inner) (W.contents writer.new.inner) result }
-    ensures mistake_part { mistakes_in (map S.text words.entry.now) ≢ []
-        → Grows (W.contents writer.old.inner) (W.contents writer.new.inner) }
+        → RunsSim (stream_of R.remaining reader.old reader.new) (stream_of W.contents writer.old writer.new) result }
+
+    // Other words that name a task, and words that the command line doesn't have.
+    ensures task { mistakes_in (map S.text words.entry.now) ≡ []
+        → Tells (MayWriteNamed (named_in (map S.text words.entry.now)) (stream_of R.remaining reader.old reader.new))
+        (stream_of W.contents writer.old writer.new) result }
+    ensures mistake { mistakes_in (map S.text words.entry.now) ≢ []
+        → TellsMistake (mistakes_in (map S.text words.entry.now)) (stream_of W.contents writer.old writer.new) result }
+
+    // Always.
     ensures status { result ≤ 3 }
     ensures broken { (writer.new.failed ≡ writer.old.failed) ⊎ (result ≡ 1) }
 {
@@ -105,34 +79,12 @@ fn run_task<H: Disk + Net, R: Read, W: Write>(
 ) -> u8
 where
     H::File: LockFile,
-    ensures join { task.entry ≡ Task.Join → IfSome (R.remaining reader.old.inner)
-        (λ input. (HasFailed reader.old reader.new → ⊥) → (HasFailed writer.old writer.new → ⊥)
-        → WritesJoin input (W.contents writer.old.inner) (W.contents writer.new.inner) result) }
-    ensures join_part { task.entry ≡ Task.Join → IfSome (R.remaining reader.old.inner)
-        (λ input. (HasFailed reader.old reader.new → ⊥)
-        → WritesJoinFront input (W.contents writer.old.inner) (W.contents writer.new.inner)) }
-    ensures unread { task.entry ≡ Task.Join
-        → reader.new.failed ≢ reader.old.failed → (HasFailed writer.old writer.new → ⊥)
-        → Writes (Err Device) (W.contents writer.old.inner) (W.contents writer.new.inner) result }
-    ensures sim { task.entry ≡ Task.Sim → IfSome (R.remaining reader.old.inner)
-        (λ input. (HasFailed reader.old reader.new → ⊥) → (HasFailed writer.old writer.new → ⊥)
-        → WritesAnswers (IsSimOutput input)
-        (W.contents writer.old.inner) (W.contents writer.new.inner) result) }
-    ensures cut { task.entry ≡ Task.Sim
-        → reader.new.failed ≢ reader.old.failed → (HasFailed writer.old writer.new → ⊥)
-        → WritesCut MayBeSimulated (fault_line Device)
-        (R.remaining reader.old.inner) (R.remaining reader.new.inner)
-        (W.contents writer.old.inner) (W.contents writer.new.inner) × (result ≡ 1) }
-    ensures sim_part { task.entry ≡ Task.Sim → writer.new.failed ≢ writer.old.failed
-        → WritesFront MayBeSimulated (fault_line Device) (HasFailed reader.old reader.new)
-        (R.remaining reader.old.inner) (R.remaining reader.new.inner)
-        (W.contents writer.old.inner) (W.contents writer.new.inner) }
-    ensures sim_bound { task.entry ≡ Task.Sim
-        → ConsumesAtMost (R.remaining reader.old.inner) (R.remaining reader.new.inner)
-        (most_given (reader.old.turns - reader.new.left)) }
-    ensures written { (HasFailed writer.old writer.new → ⊥)
-        → WritesTask task.entry (reading_of R.remaining reader.old reader.new)
-        (W.contents writer.old.inner) (W.contents writer.new.inner) result }
+    ensures join { task.entry ≡ Task.Join
+        → RunsJoin (stream_of R.remaining reader.old reader.new) (stream_of W.contents writer.old writer.new) result }
+    ensures sim { task.entry ≡ Task.Sim → AnswersLines MayBeSimulated
+        (stream_of R.remaining reader.old reader.new) (stream_of W.contents writer.old writer.new) result }
+    ensures written { Tells (WritesTask task.entry (stream_of R.remaining reader.old reader.new))
+        (stream_of W.contents writer.old writer.new) result }
     ensures status { result ≤ 3 }
     ensures broken { (writer.new.failed ≡ writer.old.failed) ⊎ (result ≡ 1) }
 {

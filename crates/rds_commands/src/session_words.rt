@@ -1,10 +1,19 @@
 //! The words of commands that make sessions.
-ghost use Rattle.std.specs.Prelude.{◌≡◌, ◌≤◌, ◌⊎◌, ◌||◌, true, false, Err};
+ghost use Rattle.std.specs.Prelude.{◌≡◌, ◌≤◌, ◌⊎◌, ◌||◌, Err};
 ghost use Rattle.rds_names.specs.declared.fault.Fault.TheVariants.{Usage};
-ghost use Rattle.rds_keep.specs.Counted.{HasFailed};
-ghost use Rattle.rds_commands.specs.Told.{RefusesServe, RefusesSync, WritesPairing, WritesPiped, WritesServe, WritesServeAt, WritesSyncAt, WritesSyncing, sessions_asked};
+ghost use Rattle.rds_lines.specs.Streams.{Tells, stream_of};
+ghost use Rattle.rds_commands.specs.Told.{
+  RefusesServe,
+  RefusesSync,
+  WritesPairing,
+  WritesPiped,
+  WritesServe,
+  WritesServeAt,
+  WritesSyncAt,
+  WritesSyncing,
+  sessions_asked,
+};
 ghost use Rattle.rds_commands.specs.Offline.{WritesNothing};
-ghost use Rattle.rds_commands.specs.Reading.{reading_of};
 ghost use Rattle.rds_files.specs.Files.{is_beside};
 ghost use Rattle.rds_session.specs.declared.talk.Side.TheVariants.{Client, Server};
 ghost use Rattle.rds_output.specs.Output.{Writes};
@@ -32,9 +41,8 @@ pub fn run_serve<H: Disk + Net, R: Read, W: Write>(
 ) -> u8
 where
     H::File: LockFile,
-    ensures written { (HasFailed writer.old writer.new → ⊥)
-        → WritesServe words.entry (reading_of R.remaining reader.old reader.new)
-        (W.contents writer.old.inner) (W.contents writer.new.inner) result }
+    ensures written { Tells (WritesServe words.entry (stream_of R.remaining reader.old reader.new))
+        (stream_of W.contents writer.old writer.new) result }
     ensures status { result ≤ 2 }
     ensures broken { (writer.new.failed ≡ writer.old.failed) ⊎ (result ≡ 1) }
 {
@@ -48,10 +56,9 @@ where
 fn serve_at<H: Disk + Net, W: Write>(rt: &H, words: ServeWords<'_>, writer: &mut Counted<W>) -> u8
 where
     H::File: LockFile,
-    ensures written { (HasFailed writer.old writer.new → ⊥)
-        → WritesServeAt words.entry (W.contents writer.old.inner) (W.contents writer.new.inner) result }
-    ensures refused { RefusesServe words.entry → (HasFailed writer.old writer.new → ⊥)
-        → Writes (Err Usage) (W.contents writer.old.inner) (W.contents writer.new.inner) result }
+    ensures written { Tells (WritesServeAt words.entry) (stream_of W.contents writer.old writer.new) result }
+    ensures refused { RefusesServe words.entry
+        → Tells (Writes (Err Usage)) (stream_of W.contents writer.old writer.new) result }
     ensures status { result ≤ 2 }
     ensures broken { (writer.new.failed ≡ writer.old.failed) ⊎ (result ≡ 1) }
 {
@@ -81,7 +88,7 @@ fn serve_piped<H: Disk, R: Read, W: Write>(
 where
     H::File: LockFile,
     ensures written { WritesPiped Server words.entry.file.now (RefusesServe words.entry)
-        (reading_of R.remaining reader.old reader.new)
+        (stream_of R.remaining reader.old reader.new)
         (W.contents writer.old.inner) (W.contents writer.new.inner) result }
     ensures refused { RefusesServe words.entry
         → WritesNothing Usage (W.contents writer.old.inner) (W.contents writer.new.inner) result }
@@ -109,9 +116,8 @@ pub fn run_sync<H: Disk + Net, R: Read, W: Write>(
 ) -> u8
 where
     H::File: LockFile,
-    ensures written { (HasFailed writer.old writer.new → ⊥)
-        → WritesSyncing words.entry (reading_of R.remaining reader.old reader.new)
-        (W.contents writer.old.inner) (W.contents writer.new.inner) result }
+    ensures written { Tells (WritesSyncing words.entry (stream_of R.remaining reader.old reader.new))
+        (stream_of W.contents writer.old writer.new) result }
     ensures status { result ≤ 2 }
     ensures broken { (writer.new.failed ≡ writer.old.failed) ⊎ (result ≡ 1) }
 {
@@ -125,10 +131,9 @@ where
 fn sync_at<H: Disk + Net, W: Write>(rt: &H, words: SyncWords<'_>, writer: &mut Counted<W>) -> u8
 where
     H::File: LockFile,
-    ensures written { (HasFailed writer.old writer.new → ⊥)
-        → WritesSyncAt words.entry (W.contents writer.old.inner) (W.contents writer.new.inner) result }
-    ensures refused { RefusesSync words.entry → (HasFailed writer.old writer.new → ⊥)
-        → Writes (Err Usage) (W.contents writer.old.inner) (W.contents writer.new.inner) result }
+    ensures written { Tells (WritesSyncAt words.entry) (stream_of W.contents writer.old writer.new) result }
+    ensures refused { RefusesSync words.entry
+        → Tells (Writes (Err Usage)) (stream_of W.contents writer.old writer.new) result }
     ensures status { result ≤ 2 }
     ensures broken { (writer.new.failed ≡ writer.old.failed) ⊎ (result ≡ 1) }
 {
@@ -153,7 +158,7 @@ fn sync_piped<H: Disk, R: Read, W: Write>(
 where
     H::File: LockFile,
     ensures written { WritesPiped Client words.entry.file.now (RefusesSync words.entry)
-        (reading_of R.remaining reader.old reader.new)
+        (stream_of R.remaining reader.old reader.new)
         (W.contents writer.old.inner) (W.contents writer.new.inner) result }
     ensures refused { RefusesSync words.entry
         → WritesNothing Usage (W.contents writer.old.inner) (W.contents writer.new.inner) result }
@@ -180,8 +185,7 @@ pub fn run_pair<H: Disk + Net, W: Write>(
 ) -> u8
 where
     H::File: LockFile,
-    ensures written { (HasFailed writer.old writer.new → ⊥)
-        → WritesPairing first.now second.now (W.contents writer.old.inner) (W.contents writer.new.inner) result }
+    ensures written { Tells (WritesPairing first.now second.now) (stream_of W.contents writer.old writer.new) result }
     ensures status { result ≤ 2 }
     ensures broken { (writer.new.failed ≡ writer.old.failed) ⊎ (result ≡ 1) }
 {

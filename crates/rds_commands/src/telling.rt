@@ -1,15 +1,16 @@
 //! Commands on the replica in a file, and what is written of them.
 ghost use Rattle.std.specs.Prelude.{◌≡◌, ◌≤◌, ◌⊎◌};
-ghost use Rattle.rds_keep.specs.Counted.{HasFailed};
+ghost use Rattle.rds_lines.specs.Streams.{Tells, stream_of};
 ghost use Rattle.rds_commands.specs.Offline.{WritesText};
 ghost use Rattle.rds_commands.specs.Told.{WritesEdit, WritesGrow, WritesIfChanged, WritesInit, WritesShow};
 
 use crate::file_commands::{edit_file, edit_if_changed, grow_file, init_file, show_file};
 use crate::notes::{note_cleared, note_edit, note_grow, note_init, note_part, note_unwritten};
+use crate::told::told;
 use rds_files::{Disk, LockFile};
 use rds_keep::Counted;
 use rds_lines::Layout;
-use rds_output::{status_of, write_reply};
+use rds_output::status_of;
 use rds_words::{EditWords, GrowWords, InitWords};
 use std::io::Write;
 
@@ -17,40 +18,27 @@ use std::io::Write;
 pub fn run_init<H: Disk, W: Write>(rt: &H, words: &InitWords<'_>, writer: &mut Counted<W>) -> u8
 where
     H::File: LockFile,
-    ensures written { (HasFailed writer.old writer.new → ⊥)
-        → WritesInit words.now (W.contents writer.old.inner) (W.contents writer.new.inner) result }
+    ensures written { Tells (WritesInit words.now) (stream_of W.contents writer.old writer.new) result }
     ensures status { result ≤ 2 }
     ensures broken { (writer.new.failed ≡ writer.old.failed) ⊎ (result ≡ 1) }
 {
-    match init_file(rt, words) {
-        Ok(done) => write_reply(writer, Ok(done.into_answer())),
-        Err(fault) => {
-            note_init(rt, words, fault);
-            write_reply(writer, Err(fault))
-        }
-    }
+    let done = init_file(rt, words);
+    told(done, writer, |fault| note_init(rt, words, fault))
 }
 
 /// Adds replicas to a group as `grow_file` does, and writes the answer.
 pub fn run_grow<H: Disk, W: Write>(rt: &H, words: &GrowWords<'_>, writer: &mut Counted<W>) -> u8
 where
     H::File: LockFile,
-    ensures written { (HasFailed writer.old writer.new → ⊥)
-        → WritesGrow words.now (W.contents writer.old.inner) (W.contents writer.new.inner) result }
+    ensures written { Tells (WritesGrow words.now) (stream_of W.contents writer.old writer.new) result }
     ensures status { result ≤ 2 }
     ensures broken { (writer.new.failed ≡ writer.old.failed) ⊎ (result ≡ 1) }
 {
-    match grow_file(rt, words) {
-        Ok(done) => {
-            let status = write_reply(writer, Ok(done.into_answer()));
-            note_unwritten(rt, words.file, status);
-            status
-        }
-        Err(fault) => {
-            note_grow(rt, words, fault);
-            write_reply(writer, Err(fault))
-        }
-    }
+    let done = grow_file(rt, words);
+    let changed = done.is_ok();
+    let status = told(done, writer, |fault| note_grow(rt, words, fault));
+    note_unwritten(rt, words.file, changed, status);
+    status
 }
 
 /// Edits the replica in a file as `edit_file` does, and writes the answer.
@@ -62,23 +50,18 @@ pub fn run_edit<H: Disk, W: Write>(
 ) -> u8
 where
     H::File: LockFile,
-    ensures written { (HasFailed writer.old writer.new → ⊥)
-        → WritesEdit path.now words.now (W.contents writer.old.inner) (W.contents writer.new.inner) result }
+    ensures written { Tells (WritesEdit path.now words.now) (stream_of W.contents writer.old writer.new) result }
     ensures status { result ≤ 2 }
     ensures broken { (writer.new.failed ≡ writer.old.failed) ⊎ (result ≡ 1) }
 {
-    match edit_file(rt, path, words) {
-        Ok(done) => {
-            note_cleared(rt, words, &done.answer);
-            let status = write_reply(writer, Ok(done.into_answer()));
-            note_unwritten(rt, path, status);
-            status
-        }
-        Err(fault) => {
-            note_edit(rt, path, words, fault);
-            write_reply(writer, Err(fault))
-        }
+    let done = edit_file(rt, path, words);
+    if let Ok(done) = &done {
+        note_cleared(rt, words, &done.answer);
     }
+    let changed = done.is_ok();
+    let status = told(done, writer, |fault| note_edit(rt, path, words, fault));
+    note_unwritten(rt, path, changed, status);
+    status
 }
 
 /// Edits the replica in a file as `edit_if_changed` does, and writes the answer.
@@ -90,25 +73,15 @@ pub fn run_edit_if_changed<H: Disk, W: Write>(
 ) -> u8
 where
     H::File: LockFile,
-    ensures written { (HasFailed writer.old writer.new → ⊥)
-        → WritesIfChanged path.now words.now (W.contents writer.old.inner) (W.contents writer.new.inner) result }
+    ensures written { Tells (WritesIfChanged path.now words.now) (stream_of W.contents writer.old writer.new) result }
     ensures status { result ≤ 2 }
     ensures broken { (writer.new.failed ≡ writer.old.failed) ⊎ (result ≡ 1) }
 {
-    match edit_if_changed(rt, path, words) {
-        Ok(done) => {
-            let is_changed = done.file.is_some();
-            let status = write_reply(writer, Ok(done.into_answer()));
-            if is_changed {
-                note_unwritten(rt, path, status);
-            }
-            status
-        }
-        Err(fault) => {
-            note_edit(rt, path, words, fault);
-            write_reply(writer, Err(fault))
-        }
-    }
+    let done = edit_if_changed(rt, path, words);
+    let changed = matches!(&done, Ok(done) if done.file.is_some());
+    let status = told(done, writer, |fault| note_edit(rt, path, words, fault));
+    note_unwritten(rt, path, changed, status);
+    status
 }
 
 /// Shows a part of the replica in a file as `show_file` does, and writes the answer.
@@ -119,24 +92,17 @@ pub fn run_show<H: Disk, W: Write>(
     layout: Layout,
     writer: &mut Counted<W>,
 ) -> u8
-    ensures written { (HasFailed writer.old writer.new → ⊥)
-        → WritesShow layout path.now text.now (W.contents writer.old.inner) (W.contents writer.new.inner) result }
+    ensures written { Tells (WritesShow layout path.now text.now) (stream_of W.contents writer.old writer.new) result }
     ensures status { result ≤ 2 }
     ensures broken { (writer.new.failed ≡ writer.old.failed) ⊎ (result ≡ 1) }
 {
-    match show_file(rt, path, text, layout) {
-        Ok(done) => write_reply(writer, Ok(done.into_answer())),
-        Err(fault) => {
-            note_part(rt, path, text, fault);
-            write_reply(writer, Err(fault))
-        }
-    }
+    let done = show_file(rt, path, text, layout);
+    told(done, writer, |fault| note_part(rt, path, text, fault))
 }
 
 /// Writes a topic of `help`.
 pub fn run_text<W: Write>(text: &str, writer: &mut Counted<W>) -> u8
-    ensures written { (HasFailed writer.old writer.new → ⊥)
-        → WritesText text.now (W.contents writer.old.inner) (W.contents writer.new.inner) result }
+    ensures written { Tells (WritesText text.now) (stream_of W.contents writer.old writer.new) result }
     ensures status { result ≤ 2 }
     ensures broken { (writer.new.failed ≡ writer.old.failed) ⊎ (result ≡ 1) }
 {

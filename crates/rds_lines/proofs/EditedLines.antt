@@ -15,6 +15,7 @@ use Rattle.rds_json.specs.Unnamed.{edit_of}
 use Rattle.rds_output.specs.Reply.{reply_line, is_refusal}
 use Rattle.rds_lines.specs.Editing.{AnswersAs, AnswersNext, EditsLines, EditsLinesBehind, EditsNext, IsEdited, WritesAll, MeetsCommand, MeetsEdit, replies_text, edit_of_bytes, edit_refusal}
 use Rattle.rds_lines.specs.Lines.{after_line, is_empty_line, is_text_line, lines_in, until_newline}
+use Rattle.rds_lines.specs.declared.ahead.TheConstants.{LINE_LIMIT}
 use Rattle.rds_output.specs.declared.reply.Reply.{Reply}
 use Rattle.rds_output.specs.declared.reply.Reply.TheVariants.{RefusedLine}
 use Rattle.rds_lines.proofs.EndedLines.{lines_first}
@@ -70,8 +71,8 @@ line_more rest later some is = ap length (lines_first rest some) ∙ ap (λ (l :
 -- ---- one line
 
 -- a line over the limit is no text
-pub long_is_none : (line : List ℕ) → 65536 < length line → is_text_line line ≡ false
-long_is_none line long = rw (lt-leb (length line) 65536 long) refl
+pub long_is_none : (line : List ℕ) → LINE_LIMIT < length line → is_text_line line ≡ false
+long_is_none line long = rw (lt-leb (length line) LINE_LIMIT long) refl
 
 -- the bytes are no text
 pub no_text : (number : ℕ) (line : List ℕ) (fault : Fault) (before after : ReplicaValue) → (fault ≡ BadLine) × (is_text_line line ≡ false) → after ≡ before → MeetsEdit number line before (RefusedLine number fault) after

@@ -8,7 +8,8 @@ use Rattle.rds_names.specs.declared.fault.Fault.{Fault}
 use Rattle.rds_names.specs.declared.fault.Fault.TheVariants.{TooLong}
 use Rattle.rds_lines.specs.Lines.{until_newline, after_line}
 use Rattle.rds_state.specs.Fits.{ReplicaValue}
-use Rattle.rds_lines.specs.Join.{line_limit, DigitsRead, LineRead, ReadsLine, AfterBoth, AfterSecond, AfterFirst, JoinsTo, MayJoinTo}
+use Rattle.rds_lines.specs.Join.{DigitsRead, LineRead, ReadsLine, AfterBoth, AfterSecond, AfterFirst, JoinsTo, MayJoinTo}
+use Rattle.rds_lines.specs.declared.join.TheConstants.{LINE_LIMIT}
 
 -- the line of a front that reaches past it, and what follows
 record IsFrontOf (n : ℕ) (xs : List ℕ) : Type 0 where
@@ -41,14 +42,14 @@ is_long (suc n) [] le = absurd (omega arith)
 is_long (suc n) (b ∷ xs) le = long_at (eqb b 10) n b xs le (is_long n xs)
 
 -- a line over the limit
-too_long : (line : List ℕ) (r : Result ReplicaValue Fault) → line_limit < length line → r ≡ Err TooLong → LineRead line r
-too_long line r lt e = let long : ltb line_limit (length line) ≡ true = lt-ltb _ _ lt in rw long e
+too_long : (line : List ℕ) (r : Result ReplicaValue Fault) → LINE_LIMIT < length line → r ≡ Err TooLong → LineRead line r
+too_long line r lt e = let long : ltb LINE_LIMIT (length line) ≡ true = lt-ltb _ _ lt in rw long e
 
-read_too_long : (line : List ℕ) (r : Result ReplicaValue Fault) → line_limit < length line → LineRead line r → r ≡ Err TooLong
-read_too_long line r lt h = let long : ltb line_limit (length line) ≡ true = lt-ltb _ _ lt in rw long at h
+read_too_long : (line : List ℕ) (r : Result ReplicaValue Fault) → LINE_LIMIT < length line → LineRead line r → r ≡ Err TooLong
+read_too_long line r lt h = let long : ltb LINE_LIMIT (length line) ≡ true = lt-ltb _ _ lt in rw long at h
 
 -- the first line of a front is read as that of the whole
-same_line : (n : ℕ) (xs : List ℕ) (r : Result ReplicaValue Fault) → line_limit < n → ReadsLine (until_newline (take n xs)) r → ReadsLine (until_newline xs) r
+same_line : (n : ℕ) (xs : List ℕ) (r : Result ReplicaValue Fault) → LINE_LIMIT < n → ReadsLine (until_newline (take n xs)) r → ReadsLine (until_newline xs) r
 same_line n xs r lt h = elim (cases_lt (length (until_newline xs)) n) [
   | inl short ↦ subst (λ (l : List ℕ). ReadsLine l r) (is_front n xs short).line h
   | inr long ↦
@@ -60,12 +61,12 @@ same_line n xs r lt h = elim (cases_lt (length (until_newline xs)) n) [
 abbrev done : ReplicaValue → Result ReplicaValue Fault
 done v = Ok v
 
-within : (long : Bool) (line : List ℕ) (v : ReplicaValue) → ltb line_limit (length line) ≡ long → MatchBool long (done v ≡ Err TooLong) (DigitsRead (decode_of line) (Ok v)) → length line ≤ line_limit
+within : (long : Bool) (line : List ℕ) (v : ReplicaValue) → ltb LINE_LIMIT (length line) ≡ long → MatchBool long (done v ≡ Err TooLong) (DigitsRead (decode_of line) (Ok v)) → length line ≤ LINE_LIMIT
 within true line v e h = absurd cc
-within false line v e h = ltb-false line_limit (length line) e
+within false line v e h = ltb-false LINE_LIMIT (length line) e
 
-is_within : (line : List ℕ) (v : ReplicaValue) → ReadsLine line (Ok v) → length line ≤ line_limit
-is_within line v h = within (ltb line_limit (length line)) line v refl h.1
+is_within : (line : List ℕ) (v : ReplicaValue) → ReadsLine line (Ok v) → length line ≤ LINE_LIMIT
+is_within line v h = within (ltb LINE_LIMIT (length line)) line v refl h.1
 
 -- a rest is empty where its front is
 same_rest : (n : ℕ) (ys : List ℕ) (v w : ReplicaValue) (r : Result (List ℕ) Fault) → 0 < n → AfterBoth (take n ys) v w r → AfterBoth ys v w r
@@ -73,7 +74,7 @@ same_rest zero ys v w r lt h = absurd (omega arith)
 same_rest (suc n) [] v w r lt h = h
 same_rest (suc n) (y ∷ ys) v w r lt h = h
 
-second_of : (n : ℕ) (rest : List ℕ) (v : ReplicaValue) (b : Result ReplicaValue Fault) (r : Result (List ℕ) Fault) → line_limit + 1 < n → ReadsLine (until_newline rest) b → AfterSecond (after_line (take n rest)) v b r
+second_of : (n : ℕ) (rest : List ℕ) (v : ReplicaValue) (b : Result ReplicaValue Fault) (r : Result (List ℕ) Fault) → LINE_LIMIT + 1 < n → ReadsLine (until_newline rest) b → AfterSecond (after_line (take n rest)) v b r
     → AfterSecond (after_line rest) v b r
 second_of n rest v (Err e) r lt read h = h
 second_of n rest v (Ok w) r lt read h =
@@ -81,7 +82,7 @@ second_of n rest v (Ok w) r lt read h =
     let front = is_front n rest (omega arith) in
     same_rest (n - (length (until_newline rest) + 1)) (after_line rest) v w r (omega arith) (subst (λ (l : List ℕ). AfterBoth l v w r) front.rest h)
 
-first_of : (n : ℕ) (input : List ℕ) (a : Result ReplicaValue Fault) (r : Result (List ℕ) Fault) → 2 * line_limit + 2 < n → ReadsLine (until_newline input) a → AfterFirst (after_line (take n input)) a r → AfterFirst (after_line input) a r
+first_of : (n : ℕ) (input : List ℕ) (a : Result ReplicaValue Fault) (r : Result (List ℕ) Fault) → 2 * LINE_LIMIT + 2 < n → ReadsLine (until_newline input) a → AfterFirst (after_line (take n input)) a r → AfterFirst (after_line input) a r
 first_of n input (Err e) r lt read h = h
 first_of n input (Ok v) r lt read h =
     let small = is_within (until_newline input) v read in
@@ -91,10 +92,10 @@ first_of n input (Ok v) r lt read h =
     let second = same_line m (after_line input) moved.0 (omega arith) moved.1 in
     (moved.0, second, second_of m (after_line input) v moved.0 r (omega arith) second moved.2)
 
-pub joins_whole : (n : ℕ) (input : List ℕ) (r : Result (List ℕ) Fault) → 2 * line_limit + 2 < n → JoinsTo (take n input) r → JoinsTo input r
+pub joins_whole : (n : ℕ) (input : List ℕ) (r : Result (List ℕ) Fault) → 2 * LINE_LIMIT + 2 < n → JoinsTo (take n input) r → JoinsTo input r
 joins_whole n input r lt h =
     let first = same_line n input h.0 (omega arith) h.1 in
     (h.0, first, first_of n input h.0 r lt first h.2)
 
-pub may_join_whole : (n : ℕ) (input : List ℕ) (r : Result (List ℕ) Fault) → 2 * line_limit + 2 < n → MayJoinTo (take n input) r → MayJoinTo input r
+pub may_join_whole : (n : ℕ) (input : List ℕ) (r : Result (List ℕ) Fault) → 2 * LINE_LIMIT + 2 < n → MayJoinTo (take n input) r → MayJoinTo input r
 may_join_whole n input r lt h = elim h [ inl memory ↦ inl memory | inr joins ↦ inr (joins_whole n input r lt joins) ]

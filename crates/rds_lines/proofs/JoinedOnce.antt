@@ -14,7 +14,8 @@ use Rattle.rds_dots.specs.Order.{dots_exact, after_before}
 use Rattle.rds_life.specs.Life.{Lived, IsFirstConflict}
 use Rattle.rds_state.specs.Value.{StateValue}
 use Rattle.rds_state.proofs.JoinLaws.{same_value}
-use Rattle.rds_lines.specs.Join.{line_limit, ReadsLine, IsJoined, JoinedTo, TextOfJoined, AfterBoth, AfterSecond, AfterFirst, JoinsTo}
+use Rattle.rds_lines.specs.Join.{ReadsLine, IsJoined, JoinedTo, TextOfJoined, AfterBoth, AfterSecond, AfterFirst, JoinsTo}
+use Rattle.rds_lines.specs.declared.join.TheConstants.{LINE_LIMIT}
 use Rattle.rds_lines.specs.JoinLaws.{SpellsLine, SpellsBoth, IsJoinedOnce, AnswersSpelled}
 use Rattle.rds_lines.specs.Lines.{until_newline, after_line}
 use Rattle.rds_state.specs.Fits.{ReplicaValue}
@@ -120,7 +121,7 @@ read_spelled : (line : List ℕ) (v : ReplicaValue) (r : Result ReplicaValue Fau
 read_spelled line v r spells reads =
     let text = snapshot_text_in spells.format v in
     let long = (decode_of-ok line text spells.digits).2 in
-    let short : ltb line_limit (length line) ≡ false = le-ltb line_limit (length line) (omega (arith, long, spells.within)) in
+    let short : ltb LINE_LIMIT (length line) ≡ false = le-ltb LINE_LIMIT (length line) (omega (arith, long, spells.within)) in
     decoded_spelled spells.format v text r spells.is_snapshot refl spells.within reads.0 (rw (short, spells.digits) at reads.1)
 
 spelled : (input : List ℕ) (v w : ReplicaValue) (joined : Result ReplicaValue Fault) (r : Result (List ℕ) Fault) → SpellsBoth input v w → JoinedTo v w joined → JoinsTo input r → TextOfJoined joined r

@@ -16,7 +16,8 @@ use Rattle.rds_codec.specs.DecodedSnapshots.{DecodesSnapshot}
 use Rattle.rds_codec.specs.FormatWriting.{EncodesTabled}
 use Rattle.rds_codec.specs.StateTexts.{snapshot_text}
 use Rattle.rds_codec.specs.declared.limits.TheConstants.{LIMIT}
-use Rattle.rds_lines.specs.Join.{line_limit, LineRead, JoinedTo, TextOfJoined, AfterBoth}
+use Rattle.rds_lines.specs.Join.{LineRead, JoinedTo, TextOfJoined, AfterBoth}
+use Rattle.rds_lines.specs.declared.join.TheConstants.{LINE_LIMIT}
 
 abbrev done : {A : Type 0} → A → Result A Fault
 done v = Ok v
@@ -25,9 +26,9 @@ abbrev failed : {A : Type 0} → Fault → Result A Fault
 failed e = Err e
 
 -- the digits' bytes are decoded as the line is read
-pub line_decoded : (line bytes items : List ℕ) (r : Result ReplicaValue Fault) → length line ≤ line_limit → decode_of line ≡ Ok items → bytes ≡ items → DecodesSnapshot bytes r → LineRead line r
+pub line_decoded : (line bytes items : List ℕ) (r : Result ReplicaValue Fault) → length line ≤ LINE_LIMIT → decode_of line ≡ Ok items → bytes ≡ items → DecodesSnapshot bytes r → LineRead line r
 line_decoded line bytes items r short digits same decoded =
-    let within : ltb line_limit (length line) ≡ false = le-ltb line_limit (length line) short in
+    let within : ltb LINE_LIMIT (length line) ≡ false = le-ltb LINE_LIMIT (length line) short in
     rw (within, digits) (subst (λ (b : List ℕ). DecodesSnapshot b r) same decoded)
 
 -- a join that was refused is the answer

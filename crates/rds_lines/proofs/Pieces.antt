@@ -9,6 +9,7 @@ use Rattle.std.specs.Global.{Global, Vec}
 use Rattle.std.specs.Prelude.{String}
 use Rattle.rds_names.specs.declared.fault.Fault.{Fault}
 use Rattle.rds_lines.specs.Lines.{IsOneLine, until_newline, after_line, is_text_line, ReadsText}
+use Rattle.rds_lines.specs.declared.ahead.TheConstants.{LINE_LIMIT}
 use Rattle.rds_lines.specs.Ahead.{IsHeld, LosesPiece, TakesLine}
 
 -- what stands before the rest
@@ -70,11 +71,11 @@ within_line : (n m : ℕ) → n ≤ m → nat_le n m ≡ true
 within_line n m h = le-leb n m h
 
 -- bytes that were held are a line's text where they are UTF-8
-pub text_is_line : (taken items : List ℕ) → (items ≡ taken) × (length taken ≤ 65536) → IsUtf8 items → is_text_line taken ≡ true
-text_is_line taken items h utf8 = rw (within_line (length taken) 65536 h.1, ap is_utf8 (sym h.0) ∙ is_utf8-from_IsUtf8 items utf8) refl
+pub text_is_line : (taken items : List ℕ) → (items ≡ taken) × (length taken ≤ LINE_LIMIT) → IsUtf8 items → is_text_line taken ≡ true
+text_is_line taken items h utf8 = rw (within_line (length taken) LINE_LIMIT h.1, ap is_utf8 (sym h.0) ∙ is_utf8-from_IsUtf8 items utf8) refl
 
-pub other_is_none : (taken items : List ℕ) → (items ≡ taken) × (length taken ≤ 65536) → (IsUtf8 items → ⊥) → is_text_line taken ≡ false
-other_is_none taken items h none = rw (within_line (length taken) 65536 h.1, ap is_utf8 (sym h.0) ∙ not_utf8 items none) refl
+pub other_is_none : (taken items : List ℕ) → (items ≡ taken) × (length taken ≤ LINE_LIMIT) → (IsUtf8 items → ⊥) → is_text_line taken ≡ false
+other_is_none taken items h none = rw (within_line (length taken) LINE_LIMIT h.1, ap is_utf8 (sym h.0) ∙ not_utf8 items none) refl
 
 -- a piece with a newline in it ends the line
 piece_ended : (bytes rest : List ℕ) → length (until_newline bytes) < length bytes → (until_newline (bytes ++ rest) ≡ until_newline bytes) × (after_line (bytes ++ rest) ≡ after_line bytes ++ rest)

@@ -16,12 +16,13 @@ use Rattle.rds_world.specs.declared.event.Event.{Event}
 use Rattle.rds_world.specs.declared.event.Event.TheVariants.{Edit, Save, Crash, Ask, Answer as Answering, Take, Grow}
 use Rattle.rds_world.specs.declared.event.Done.{Done as Outcome}
 use Rattle.rds_output.specs.Reply.{is_refusal, reply_line}
-use Rattle.rds_lines.specs.Answering.{WritesAnswers, WritesCut, WritesFront}
+use Rattle.rds_lines.specs.Answering.{AnswersLines, WritesAnswers, WritesCut, WritesFront}
 use Rattle.rds_lines.specs.Views.{ShowsView}
 use Rattle.rds_lines.specs.declared.views.Layout.TheVariants.{Compact}
 use Rattle.rds_lines.specs.Lines.{lines_in}
 use Rattle.rds_output.specs.Output.{fault_line}
 use Rattle.rds_lines.specs.Sim.{Group, IsSimOutput, MayBeSimulated, MeetsBytes, MeetsFirst, MeetsLines, MeetsRequest, done_reply, group_after, opening, request_of}
+use Rattle.rds_lines.specs.Streams.{NoneFailed, Stream, Tells}
 use Rattle.rds_lines.specs.Simulated.{IsGroup, LeadsTo, LineLeadsTo, StandsFor, reply_of}
 use Rattle.rds_output.specs.declared.reply.Reply.{Reply}
 use Rattle.rds_output.specs.declared.reply.Reply.TheVariants.{Done, Refused}
@@ -146,39 +147,49 @@ first_met bytes lines out refused result new now m later = record {
 
 -- ---- a whole run
 
-pub sim_written : (o a b : Option (List ℕ)) (world : Option WorldValue) (Steady Written : Type 0) (status : ℕ) → world ≡ None
-    → IfSome o (λ input. Steady → Written → WritesAnswers (λ out refused. (now : Option Group) → IsGroup world now → MeetsLines (lines_in input) now out refused) a b status)
-    → IfSome o (λ input. Steady → Written → WritesAnswers (IsSimOutput input) a b status)
-sim_written None a b world Steady Written status none h = tt
-sim_written (Some input) a b world Steady Written status none h = λ steady written.
-    let p = h steady written in
-    (p.0, p.1, p.2 None (subst (λ (w : Option WorldValue). IsGroup w None) (sym none) tt), p.3, p.4)
-
-pub sim_cut : (first last a b : Option (List ℕ)) (world : Option WorldValue) → world ≡ None
-    → WritesCut (λ lines out refused. (now : Option Group) → IsGroup world now → MeetsLines lines now out refused) (fault_line Device) first last a b
-    → WritesCut MayBeSimulated (fault_line Device) first last a b
-sim_cut first last a b world none h = record {
-  given = h.given;
-  is_given = h.is_given;
-  lines = h.lines;
-  are_lines = h.are_lines;
-  out = h.out;
-  refused = h.refused;
-  answered = h.answered None (subst (λ (w : Option WorldValue). IsGroup w None) (sym none) tt);
-  is_written = h.is_written;
+-- from a world on that no line has named, what lines may be answered is what `sim` may answer
+pub all_simulated : (reading writing : Stream) (world : Option WorldValue) (status : ℕ) → world ≡ None → AnswersLines (λ lines out refused. (now : Option Group) → IsGroup world now → MeetsLines lines now out refused) reading writing status
+    → AnswersLines MayBeSimulated reading writing status
+all_simulated reading writing world status none h = record {
+  answered = sim_written reading.before h.answered;
+  unread = λ read wrote. (sim_cut (h.unread read wrote).0, (h.unread read wrote).1);
+  part = λ wrote. sim_front (h.part wrote);
+  bound = h.bound;
 }
+  where
+    begun : IsGroup world None
+    begun = subst (λ (w : Option WorldValue). IsGroup w None) (sym none) tt
 
-pub sim_front : (first last a b : Option (List ℕ)) (world : Option WorldValue) (IsCut : Type 0) → world ≡ None
-    → WritesFront (λ lines out refused. (now : Option Group) → IsGroup world now → MeetsLines lines now out refused) (fault_line Device) IsCut first last a b
-    → WritesFront MayBeSimulated (fault_line Device) IsCut first last a b
-sim_front first last a b world IsCut none h = record {
-  given = h.given;
-  is_given = h.is_given;
-  lines = h.lines;
-  later = h.later;
-  are_lines = h.are_lines;
-  out = h.out;
-  refused = h.refused;
-  answered = h.answered None (subst (λ (w : Option WorldValue). IsGroup w None) (sym none) tt);
-  is_written = h.is_written;
-}
+    sim_written : (o : Option (List ℕ)) → IfSome o (λ input. NoneFailed reading → Tells (WritesAnswers (λ out refused. (now : Option Group) → IsGroup world now → MeetsLines (lines_in input) now out refused)) writing status)
+        → IfSome o (λ input. NoneFailed reading → Tells (WritesAnswers (IsSimOutput input)) writing status)
+    sim_written None h = tt
+    sim_written (Some input) h = λ steady written.
+        let p = h steady written in
+        (p.0, p.1, p.2 None begun, p.3, p.4)
+
+    sim_cut : WritesCut (λ lines out refused. (now : Option Group) → IsGroup world now → MeetsLines lines now out refused) (fault_line Device) reading.before reading.after writing.before writing.after
+        → WritesCut MayBeSimulated (fault_line Device) reading.before reading.after writing.before writing.after
+    sim_cut h = record {
+      given = h.given;
+      is_given = h.is_given;
+      lines = h.lines;
+      are_lines = h.are_lines;
+      out = h.out;
+      refused = h.refused;
+      answered = h.answered None begun;
+      is_written = h.is_written;
+    }
+
+    sim_front : WritesFront (λ lines out refused. (now : Option Group) → IsGroup world now → MeetsLines lines now out refused) (fault_line Device) reading.MayHaveFailed reading.before reading.after writing.before writing.after
+        → WritesFront MayBeSimulated (fault_line Device) reading.MayHaveFailed reading.before reading.after writing.before writing.after
+    sim_front h = record {
+      given = h.given;
+      is_given = h.is_given;
+      lines = h.lines;
+      later = h.later;
+      are_lines = h.are_lines;
+      out = h.out;
+      refused = h.refused;
+      answered = h.answered None begun;
+      is_written = h.is_written;
+    }

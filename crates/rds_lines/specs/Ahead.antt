@@ -5,14 +5,15 @@ use Rattle.std.specs.Io.KnownBytes.{Consumes, prepend_known}
 use Rattle.rds_names.specs.declared.fault.Fault.{Fault}
 use Rattle.rds_names.specs.declared.fault.Fault.TheVariants.{Memory, BadLine}
 use Rattle.rds_lines.specs.Lines.{IsOneLine, until_newline, after_line, ReadsText}
+use Rattle.rds_lines.specs.declared.ahead.TheConstants.{LINE_LIMIT, ROOM}
 
 -- what falls with each of the reads that are left, and with each byte that is taken
 abbrev pub left_of : List ℕ → ℕ → ℕ
-left_of bytes reads = reads * 8193 + length bytes
+left_of bytes reads = reads * (ROOM + 1) + length bytes
 
 -- how many bytes so many reads of lines give at most
 abbrev pub most_given : ℕ → ℕ
-most_given reads = 8192 * reads
+most_given reads = ROOM * reads
 
 -- what is still to be taken: the bytes that were read, and those that the reader holds
 abbrev pub bytes_untaken : List ℕ → Option (List ℕ) → Option (List ℕ)
@@ -20,8 +21,8 @@ bytes_untaken bytes held = prepend_known bytes held
 
 -- the bytes of a line so far, or why they aren't held
 abbrev pub IsHeld : List ℕ → Result (Vec ℕ) Fault → Type 0
-IsHeld taken (Ok v) = (v.items ≡ taken) × (length taken ≤ 65536)
-IsHeld taken (Err BadLine) = 65536 < length taken
+IsHeld taken (Ok v) = (v.items ≡ taken) × (length taken ≤ LINE_LIMIT)
+IsHeld taken (Err BadLine) = LINE_LIMIT < length taken
 IsHeld taken (Err Memory) = Unit {0}
 IsHeld taken (Err e) = ⊥
 

@@ -1,8 +1,12 @@
 -- What is written for the lines of an input.
-use Rattle.std.specs.Prelude.{◌≡◌, ◌⊎◌, ℕ, Bool, List, [], ◌++◌, Option, if◌then◌else◌}
+use Rattle.std.specs.Prelude.{◌≡◌, ◌⊎◌, ℕ, Bool, List, [], ◌++◌, Option, IfSome, if◌then◌else◌}
 use Rattle.std.specs.Io.KnownBytes.{Appends, Consumes, IsAtEnd}
-use Rattle.rds_keep.specs.Parts.{AppendsFront}
+use Rattle.rds_names.specs.declared.fault.Fault.TheVariants.{Device}
+use Rattle.rds_keep.specs.Parts.{AppendsFront, ConsumesAtMost}
+use Rattle.rds_output.specs.Output.{fault_line}
+use Rattle.rds_lines.specs.Ahead.{most_given}
 use Rattle.rds_lines.specs.Lines.{ended_lines, lines_in}
+use Rattle.rds_lines.specs.Streams.{NoneFailed, Stream, Tells}
 
 -- such answers were written, and nothing else; the status is 1 where a line was refused
 abbrev pub WritesAnswers : (List ℕ → Bool → Type 0) → Option (List ℕ) → Option (List ℕ) → ℕ → Type 0
@@ -39,3 +43,16 @@ pub record WritesFront (may : List (List ℕ) → List ℕ → Bool → Type 0) 
   pub refused : Bool
   pub answered : may lines out refused
   pub is_written : AppendsFront before after out ⊎ (IsCut × (later ≡ []) × AppendsFront before after (out ++ line))
+
+-- what becomes of a reader's lines that may be answered so: all are answered; where the reader failed, those before
+-- that, and then `Device`; where the writer failed, a beginning of that was written
+pub record AnswersLines (may : List (List ℕ) → List ℕ → Bool → Type 0) (reading writing : Stream) (status : ℕ)
+    : Type 0 where
+  pub answered : IfSome reading.before
+      (λ input. NoneFailed reading → Tells (WritesAnswers (may (lines_in input))) writing status)
+  pub unread : reading.CountRose → NoneFailed writing
+      → WritesCut may (fault_line Device) reading.before reading.after writing.before writing.after × (status ≡ 1)
+  pub part : writing.CountRose
+      → WritesFront may (fault_line Device) reading.MayHaveFailed
+      reading.before reading.after writing.before writing.after
+  pub bound : ConsumesAtMost reading.before reading.after (most_given reading.reads)

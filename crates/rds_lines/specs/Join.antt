@@ -2,7 +2,15 @@
 use Rattle.std.specs.Prelude.{◌≡◌, ◌≢◌, ℕ, ◌⊎◌, nat_lt, List, [], ◌∷◌, length, Result, Ok, Err, MatchBool}
 use Rattle.hex.specs.Hex.{decode_of}
 use Rattle.rds_names.specs.declared.fault.Fault.{Fault}
-use Rattle.rds_names.specs.declared.fault.Fault.TheVariants.{Memory, Conflict, Bad, Extra, TooLong, WrongGroup, WrongRoster}
+use Rattle.rds_names.specs.declared.fault.Fault.TheVariants.{
+  Memory,
+  Conflict,
+  Bad,
+  Extra,
+  TooLong,
+  WrongGroup,
+  WrongRoster,
+}
 use Rattle.rds_life.specs.Life.{IsFirstConflict}
 use Rattle.rds_state.specs.Coordinates.{AreCompatible, join}
 use Rattle.rds_state.specs.Value.{coordinates}
@@ -12,9 +20,7 @@ use Rattle.rds_lines.specs.Lines.{until_newline, after_line}
 use Rattle.rds_state.specs.Fits.{ReplicaValue}
 use Rattle.rds_names.specs.Roster.{OneBegins, longer}
 use Rattle.rds_codec.specs.declared.limits.TheConstants.{LIMIT}
-
-abbrev pub line_limit : ℕ
-line_limit = 536870912
+use Rattle.rds_lines.specs.declared.join.TheConstants.{LINE_LIMIT}
 
 -- the bytes of the digits are read from the left, in the format that they say, or there are other characters
 abbrev pub DigitsRead : {E : Type 0} → Result (List ℕ) E → Result ReplicaValue Fault → Type 0
@@ -23,7 +29,7 @@ DigitsRead (Err e) r = r ≡ Err Bad
 
 -- a line over the limit is too long, whatever it holds
 abbrev pub LineRead : List ℕ → Result ReplicaValue Fault → Type 0
-LineRead line r = MatchBool (nat_lt line_limit (length line)) (r ≡ Err TooLong) (DigitsRead (decode_of line) r)
+LineRead line r = MatchBool (nat_lt LINE_LIMIT (length line)) (r ≡ Err TooLong) (DigitsRead (decode_of line) r)
 
 -- what a line is read as, where there is memory
 abbrev pub ReadsLine : List ℕ → Result ReplicaValue Fault → Type 0

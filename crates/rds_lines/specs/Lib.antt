@@ -10,4 +10,5 @@ pub mod Run
 pub mod Sim
 pub mod SimLaws
 pub mod Simulated
+pub mod Streams
 pub mod Views

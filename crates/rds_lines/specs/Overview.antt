@@ -7,7 +7,9 @@ use Rattle.serde_json.specs.Written.{compact_text}
 use Rattle.rds_names.specs.Roster.{RosterValue}
 use Rattle.rds_life.specs.Life.{Lived, is_dead, live_rows}
 use Rattle.rds_state.specs.Fits.{ReplicaValue}
+use Rattle.rds_state.specs.Mark.{mark_of, mark_text}
 use Rattle.rds_state.specs.Value.{size}
+use Rattle.rds_state.specs.declared.mark.Mark.{Mark}
 use Rattle.rds_codec.specs.StateTexts.{snapshot_text}
 use Rattle.rds_tree.specs.Document.{sums_of}
 use Rattle.rds_json.specs.Texts.{texts_data}
@@ -41,16 +43,17 @@ abbrev pub much_text : Amounts → List ℕ
 much_text a =
     codes ",\"live\":" ++ (decimal a.live ++ (codes ",\"dead\":" ++ (decimal a.dead
     ++ (codes ",\"counters\":" ++ (decimal a.counters ++ (codes ",\"components\":" ++ (decimal a.components
-    ++ (codes ",\"bytes\":" ++ (decimal a.bytes ++ codes "}")))))))))
+    ++ (codes ",\"bytes\":" ++ decimal a.bytes))))))))
 
-abbrev pub overview_text : RosterValue → ℕ → Amounts → List ℕ
-overview_text roster own amounts = whose_text roster own ++ much_text amounts
+abbrev pub overview_text : RosterValue → ℕ → Amounts → Mark → List ℕ
+overview_text roster own amounts mark =
+    whose_text roster own ++ (much_text amounts ++ (codes ",\"mark\":\"" ++ (mark_text mark ++ codes "\"}")))
 
 -- the text says that of a replica
 pub record IsOverview (r : ReplicaValue) (text : List ℕ) : Type 0 where
   pub amounts : Amounts
   pub are : AreAmounts r amounts
-  pub told : text ≡ overview_text r.roster r.own amounts
+  pub told : text ≡ overview_text r.roster r.own amounts (mark_of r.state)
 
 -- the answer tells it
 pub record TellsOverview (r : ReplicaValue) (answer : Reply) : Type 0 where

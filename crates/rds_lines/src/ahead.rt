@@ -1,10 +1,35 @@
 //! The lines of a reader, one after the other.
-ghost use Rattle.std.specs.Prelude.{◌≡◌, ◌++◌, ◌-◌, ◌<◌, ◌≤◌, List, ℕ, [], length, MatchBool, IfOk, IfErr, IfSome, OnOk, OnErr, OnSome};
+ghost use Rattle.std.specs.Prelude.{
+  ◌≡◌,
+  ◌++◌,
+  ◌-◌,
+  ◌<◌,
+  ◌≤◌,
+  List,
+  ℕ,
+  [],
+  length,
+  MatchBool,
+  IfOk,
+  IfErr,
+  IfSome,
+  OnOk,
+  OnErr,
+  OnSome,
+};
 ghost use Rattle.std.specs.Io.KnownBytes.{IsAtEnd, Keeps};
 ghost use Rattle.rds_names.specs.declared.fault.Fault.TheVariants.{Device};
 ghost use Rattle.rds_keep.specs.Counted.{HasFailed};
 ghost use Rattle.rds_keep.specs.Parts.{ConsumesAtMost};
-ghost use Rattle.rds_lines.specs.Ahead.{IsHeld, IsOfSomeLine, LosesPiece, TakesLine, left_of, most_given, bytes_untaken};
+ghost use Rattle.rds_lines.specs.Ahead.{
+  IsHeld,
+  IsOfSomeLine,
+  LosesPiece,
+  TakesLine,
+  left_of,
+  most_given,
+  bytes_untaken,
+};
 ghost use Rattle.rds_lines.specs.Lines.{ReadsText, after_line, until_newline};
 
 use crate::lines::split_line;
@@ -31,6 +56,7 @@ pub struct Ahead {
 impl Model for Ahead {
     ghost use Rattle.std.specs.Prelude.{◌-◌, ◌≤◌, ℕ, List, take, drop};
     ghost use Rattle.std.specs.Coded.{coded_ℕ, coded_list};
+    ghost use Rattle.rds_lines.specs.declared.ahead.TheConstants.{ROOM};
 
     ghost Value = { List ℕ };
 
@@ -38,7 +64,7 @@ impl Model for Ahead {
 
     ghost view = { λ a. take (a.end - a.at) (drop a.at a.chunk) };
 
-    ghost invariant = { λ a. (a.at ≤ a.end) × (a.end ≤ 8192) };
+    ghost invariant = { λ a. (a.at ≤ a.end) × (a.end ≤ ROOM) };
 }
 
 impl Ahead {

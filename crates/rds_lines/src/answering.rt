@@ -1,12 +1,7 @@
 //! Lines that are answered one after the other.
-ghost use Rattle.std.specs.Prelude.{◌≡◌, ◌≢◌, ◌-◌, ◌≤◌, ◌++◌, ◌∷◌, ◌||◌, ◌⊎◌, IfSome};
-ghost use Rattle.rds_names.specs.declared.fault.Fault.TheVariants.{Device};
-ghost use Rattle.rds_keep.specs.Counted.{HasFailed};
-ghost use Rattle.rds_keep.specs.Parts.{ConsumesAtMost};
-ghost use Rattle.rds_lines.specs.Ahead.{most_given};
-ghost use Rattle.rds_lines.specs.Answering.{WritesAnswers, WritesCut, WritesFront};
-ghost use Rattle.rds_lines.specs.Lines.{lines_in};
-ghost use Rattle.rds_output.specs.Output.{fault_line};
+ghost use Rattle.std.specs.Prelude.{◌≡◌, ◌≤◌, ◌++◌, ◌∷◌, ◌||◌, ◌⊎◌};
+ghost use Rattle.rds_lines.specs.Answering.{AnswersLines};
+ghost use Rattle.rds_lines.specs.Streams.{stream_of};
 
 use crate::ahead::Ahead;
 use rds_keep::Counted;
@@ -43,20 +38,8 @@ pub fn answer_lines<A: Answers, R: Read, W: Write>(
     reader: &mut Counted<R>,
     writer: &mut Counted<W>,
 ) -> u8
-    ensures answered { IfSome (R.remaining reader.old.inner)
-        (λ input. (HasFailed reader.old reader.new → ⊥) → (HasFailed writer.old writer.new → ⊥)
-        → WritesAnswers (A.may_answer answers.old (lines_in input))
-        (W.contents writer.old.inner) (W.contents writer.new.inner) result) }
-    ensures unread { reader.new.failed ≢ reader.old.failed → (HasFailed writer.old writer.new → ⊥)
-        → WritesCut (A.may_answer answers.old) (fault_line Device)
-        (R.remaining reader.old.inner) (R.remaining reader.new.inner)
-        (W.contents writer.old.inner) (W.contents writer.new.inner) × (result ≡ 1) }
-    ensures part { writer.new.failed ≢ writer.old.failed
-        → WritesFront (A.may_answer answers.old) (fault_line Device) (HasFailed reader.old reader.new)
-        (R.remaining reader.old.inner) (R.remaining reader.new.inner)
-        (W.contents writer.old.inner) (W.contents writer.new.inner) }
-    ensures bound { ConsumesAtMost (R.remaining reader.old.inner) (R.remaining reader.new.inner)
-        (most_given (reader.old.turns - reader.new.left)) }
+    ensures answered { AnswersLines (A.may_answer answers.old) (stream_of R.remaining reader.old reader.new)
+        (stream_of W.contents writer.old writer.new) result }
     ensures status { result ≤ 1 }
     ensures broken { (writer.new.failed ≡ writer.old.failed) ⊎ (result ≡ 1) }
 {

@@ -4,9 +4,18 @@ ghost use Rattle.std.specs.Option.{option_copied};
 ghost use Rattle.serde_json.specs.Data.{string};
 ghost use Rattle.serde_json.specs.Written.{compact_text};
 ghost use Rattle.rds_names.specs.declared.fault.Fault.TheVariants.{Memory};
+ghost use Rattle.rds_state.specs.Mark.{mark_of};
 ghost use Rattle.rds_tree.specs.Distinct.{is_last};
 ghost use Rattle.rds_tree.specs.Document.{key_cmp, sums_of};
-ghost use Rattle.rds_lines.specs.Overview.{AreAmounts, IsOverview, TellsOverview, dead_count, much_text, overview_text, own_name};
+ghost use Rattle.rds_lines.specs.Overview.{
+  AreAmounts,
+  IsOverview,
+  TellsOverview,
+  dead_count,
+  much_text,
+  overview_text,
+  own_name,
+};
 
 use rds_codec::snapshot_length;
 use rds_counts::Counts;
@@ -38,7 +47,7 @@ pub fn describe<S: DotSet>(alloc: Global, kept: &Kept<S>) -> Result<Reply, Fault
 }
 
 /// Whose replica this is and how much there is of it, as JSON: its live entries, dots of dead ones, counters and
-/// components, and the bytes of its snapshot in format 2, which is what is written.
+/// components, the bytes of its snapshot in format 2, which is what is written, and the mark of its state.
 pub fn overview_json<S: DotSet>(alloc: Global, replica: &Replica<S>) -> Result<String, Fault>
     ensures told { IfOk result (λ text. IsOverview replica.now (string_bytes text)) }
     ensures memory { IfErr result (λ fault. fault ≡ Memory) }
@@ -103,7 +112,8 @@ fn overview_line<S: DotSet>(
     replica: &Replica<S>,
     amounts: Amounts,
 ) -> Result<String, Fault>
-    ensures text { IfOk result (λ text. string_bytes text ≡ overview_text replica.now.roster replica.now.own amounts) }
+    ensures text { IfOk result (λ text. string_bytes text
+        ≡ overview_text replica.now.roster replica.now.own amounts (mark_of replica.now.state)) }
     ensures memory { IfErr result (λ fault. fault ≡ Memory) }
 {
     let roster = replica.roster();
@@ -112,10 +122,11 @@ fn overview_line<S: DotSet>(
     let names = show_names(alloc, roster.names())?;
     let whose = format!(in alloc; "{{\"group\":{group},\"own\":{own},\"names\":{names}")?;
     let much = much_text(alloc, amounts)?;
-    Ok(format!(in alloc; "{whose}{much}")?)
+    let mark = replica.state().mark();
+    Ok(format!(in alloc; "{whose}{much},\"mark\":\"{mark}\"}}")?)
 }
 
-// How much there is, as the end of the line.
+// How much there is, in the line.
 fn much_text(alloc: Global, amounts: Amounts) -> Result<String, Fault>
     ensures text { IfOk result (λ text. string_bytes text ≡ much_text amounts) }
     ensures memory { IfErr result (λ fault. fault ≡ Memory) }
@@ -128,7 +139,7 @@ fn much_text(alloc: Global, amounts: Amounts) -> Result<String, Fault>
         bytes,
     } = amounts;
     Ok(format!(in alloc;
-        ",\"live\":{live},\"dead\":{dead},\"counters\":{counters},\"components\":{components},\"bytes\":{bytes}}}"
+        ",\"live\":{live},\"dead\":{dead},\"counters\":{counters},\"components\":{components},\"bytes\":{bytes}"
     )?)
 }
 

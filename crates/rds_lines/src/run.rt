@@ -1,14 +1,13 @@
 //! Commands that read their input alone.
-ghost use Rattle.std.specs.Prelude.{◌≡◌, ◌≢◌, ◌-◌, ◌≤◌, ◌⊎◌, Err, IfSome, IsErrAnd};
+ghost use Rattle.std.specs.Prelude.{◌≡◌, ◌≢◌, ◌≤◌, ◌⊎◌, IfSome, IsErrAnd};
 ghost use Rattle.rds_names.specs.declared.fault.Fault.TheVariants.{Device};
-ghost use Rattle.rds_keep.specs.Counted.{HasFailed};
-ghost use Rattle.rds_keep.specs.Parts.{AppendsFront, ConsumesAtMost};
-ghost use Rattle.rds_lines.specs.Ahead.{most_given};
-ghost use Rattle.rds_lines.specs.Answering.{WritesAnswers, WritesCut, WritesFront};
-ghost use Rattle.rds_output.specs.Output.{Writes, fault_line};
+ghost use Rattle.rds_keep.specs.Parts.{ConsumesAtMost};
+ghost use Rattle.rds_lines.specs.Answering.{AnswersLines};
 ghost use Rattle.rds_lines.specs.Refusal.{fault_of};
-ghost use Rattle.rds_lines.specs.Run.{WritesJoin, WritesJoinFront, IsJoinLine};
-ghost use Rattle.rds_lines.specs.Sim.{IsSimOutput, MayBeSimulated};
+ghost use Rattle.rds_lines.specs.Run.{RunsJoin, IsJoinLine};
+ghost use Rattle.rds_lines.specs.Sim.{MayBeSimulated};
+ghost use Rattle.rds_lines.specs.Streams.{NoneFailed, stream_of};
+ghost use Rattle.rds_lines.specs.declared.run.TheConstants.{MOST};
 
 use crate::answering::answer_lines;
 use crate::join::join;
@@ -31,20 +30,8 @@ pub fn run_sim<R: Read, W: Write>(
     reader: &mut Counted<R>,
     writer: &mut Counted<W>,
 ) -> u8
-    ensures sim { IfSome (R.remaining reader.old.inner)
-        (λ input. (HasFailed reader.old reader.new → ⊥) → (HasFailed writer.old writer.new → ⊥)
-        → WritesAnswers (IsSimOutput input)
-        (W.contents writer.old.inner) (W.contents writer.new.inner) result) }
-    ensures cut { reader.new.failed ≢ reader.old.failed → (HasFailed writer.old writer.new → ⊥)
-        → WritesCut MayBeSimulated (fault_line Device)
-        (R.remaining reader.old.inner) (R.remaining reader.new.inner)
-        (W.contents writer.old.inner) (W.contents writer.new.inner) × (result ≡ 1) }
-    ensures part { writer.new.failed ≢ writer.old.failed
-        → WritesFront MayBeSimulated (fault_line Device) (HasFailed reader.old reader.new)
-        (R.remaining reader.old.inner) (R.remaining reader.new.inner)
-        (W.contents writer.old.inner) (W.contents writer.new.inner) }
-    ensures bound { ConsumesAtMost (R.remaining reader.old.inner) (R.remaining reader.new.inner)
-        (most_given (reader.old.turns - reader.new.left)) }
+    ensures ran { AnswersLines MayBeSimulated (stream_of R.remaining reader.old reader.new)
+        (stream_of W.contents writer.old writer.new) result }
     ensures status { result ≤ 1 }
     ensures broken { (writer.new.failed ≡ writer.old.failed) ⊎ (result ≡ 1) }
 {
@@ -59,16 +46,8 @@ pub fn run_join<R: Read, W: Write>(
     reader: &mut Counted<R>,
     writer: &mut Counted<W>,
 ) -> u8
-    ensures join { IfSome (R.remaining reader.old.inner)
-        (λ input. (HasFailed reader.old reader.new → ⊥) → (HasFailed writer.old writer.new → ⊥)
-        → WritesJoin input (W.contents writer.old.inner) (W.contents writer.new.inner) result) }
-    ensures part { IfSome (R.remaining reader.old.inner) (λ input. (HasFailed reader.old reader.new → ⊥)
-        → WritesJoinFront input (W.contents writer.old.inner) (W.contents writer.new.inner)) }
-    ensures unread { reader.new.failed ≢ reader.old.failed → (HasFailed writer.old writer.new → ⊥)
-        → Writes (Err Device) (W.contents writer.old.inner) (W.contents writer.new.inner) result }
-    ensures unread_part { reader.new.failed ≢ reader.old.failed
-        → AppendsFront (W.contents writer.old.inner) (W.contents writer.new.inner) (fault_line Device) }
-    ensures most { ConsumesAtMost (R.remaining reader.old.inner) (R.remaining reader.new.inner) 1073741827 }
+    ensures ran { RunsJoin (stream_of R.remaining reader.old reader.new)
+        (stream_of W.contents writer.old writer.new) result }
     ensures status { result ≤ 2 }
     ensures broken { (writer.new.failed ≡ writer.old.failed) ⊎ (result ≡ 1) }
 {
@@ -81,10 +60,10 @@ pub fn run_join<R: Read, W: Write>(
 // The line that `join` answers for all that the reader holds.
 fn join_line<R: Read>(alloc: Global, reader: &mut Counted<R>) -> Result<String, Refusal>
     ensures line { IfSome (R.remaining reader.old.inner)
-        (λ input. (HasFailed reader.old reader.new → ⊥) → IsJoinLine input result) }
+        (λ input. NoneFailed (stream_of R.remaining reader.old reader.new) → IsJoinLine input result) }
     ensures unread { reader.new.failed ≢ reader.old.failed
         → IsErrAnd result (λ e. fault_of e ≡ Device) }
-    ensures most { ConsumesAtMost (R.remaining reader.old.inner) (R.remaining reader.new.inner) 1073741827 }
+    ensures most { ConsumesAtMost (R.remaining reader.old.inner) (R.remaining reader.new.inner) MOST }
 {
     let input = reader.read_front(alloc, MOST)?;
     let text = join(alloc, &input)?;

@@ -1,16 +1,16 @@
 //! A run of the program as a process: its words, its standard input and output, and its exit status.
 #![tactic(auto)]
 
-ghost use Rattle.std.specs.Prelude.{◌≡◌, ◌≢◌, ◌≤◌, ◌⊎◌, [], Err, false, map, IfOk, IfErr, IfSome};
+ghost use Rattle.std.specs.Prelude.{◌≡◌, ◌≢◌, ◌≤◌, ◌⊎◌, [], Err, false, map, IfOk, IfErr};
 ghost use Rattle.std.specs.Process.{exit_status};
 ghost use Rattle.rds_names.specs.declared.fault.Fault.TheVariants.{Memory, Usage};
-ghost use Rattle.rds_keep.specs.Counted.{HasFailed};
+ghost use Rattle.rds_keep.specs.declared.counted.TheConstants.{TURNS};
 ghost use Rattle.rds_output.specs.Output.{Writes};
-ghost use Rattle.rds_lines.specs.Run.{WritesJoin};
+ghost use Rattle.rds_lines.specs.Run.{RunsJoin};
+ghost use Rattle.rds_lines.specs.Streams.{Tells, stream_of};
 ghost use Rattle.rds_words.specs.Commands.{join_words, sim_words};
 ghost use Rattle.rds_words.specs.Entered.{Names, mistakes_in, named_in};
-ghost use Rattle.rds_commands.specs.Reading.{reading_of};
-ghost use Rattle.rds_commands.specs.Told.{AnswersMistake, MayWriteNamed, WritesSim};
+ghost use Rattle.rds_commands.specs.Told.{MayWriteNamed, RunsSim, TellsMistake};
 
 use rds_commands::run;
 use rds_files::{Disk, LockFile};
@@ -49,24 +49,27 @@ pub fn run_words<H: Disk + Net, R: Read, W: Write, S: AsStr>(
 ) -> ExitCode
 where
     H::File: LockFile,
-    ensures unread { IfErr words.entry (λ fault. (HasFailed writer.old writer.new → ⊥)
-        → Writes (Err fault) (W.contents writer.old.inner) (W.contents writer.new.inner) (exit_status result)) }
+    // There are no words.
+    ensures unread { IfErr words.entry
+        (λ fault. Tells (Writes (Err fault)) (stream_of W.contents writer.old writer.new) (exit_status result)) }
+
+    // The words of `join` and of `sim`.
     ensures join { IfOk words.entry (λ words. Names (map S.text words.now) join_words
-        → IfSome (R.remaining reader.old.inner)
-        (λ input. (HasFailed reader.old reader.new → ⊥) → (HasFailed writer.old writer.new → ⊥)
-        → WritesJoin input (W.contents writer.old.inner) (W.contents writer.new.inner) (exit_status result))) }
+        → RunsJoin (stream_of R.remaining reader.old reader.new) (stream_of W.contents writer.old writer.new)
+        (exit_status result)) }
     ensures sim { IfOk words.entry (λ words. Names (map S.text words.now) sim_words
-        → IfSome (R.remaining reader.old.inner)
-        (λ input. (HasFailed reader.old reader.new → ⊥) → (HasFailed writer.old writer.new → ⊥)
-        → WritesSim input (W.contents writer.old.inner) (W.contents writer.new.inner) (exit_status result))) }
+        → RunsSim (stream_of R.remaining reader.old reader.new) (stream_of W.contents writer.old writer.new)
+        (exit_status result)) }
+
+    // Other words that name a task, and words that the command line doesn't have.
     ensures task { IfOk words.entry (λ words. mistakes_in (map S.text words.now) ≡ []
-        → (HasFailed writer.old writer.new → ⊥)
-        → MayWriteNamed (named_in (map S.text words.now)) (reading_of R.remaining reader.old reader.new)
-        (W.contents writer.old.inner) (W.contents writer.new.inner) (exit_status result)) }
+        → Tells (MayWriteNamed (named_in (map S.text words.now)) (stream_of R.remaining reader.old reader.new))
+        (stream_of W.contents writer.old writer.new) (exit_status result)) }
     ensures mistake { IfOk words.entry (λ words. mistakes_in (map S.text words.now) ≢ []
-        → (HasFailed writer.old writer.new → ⊥)
-        → AnswersMistake (mistakes_in (map S.text words.now))
-        (W.contents writer.old.inner) (W.contents writer.new.inner) (exit_status result)) }
+        → TellsMistake (mistakes_in (map S.text words.now)) (stream_of W.contents writer.old writer.new)
+        (exit_status result)) }
+
+    // Always.
     ensures broken { (writer.new.failed ≡ writer.old.failed) ⊎ (exit_status result ≡ 1) }
     ensures status { exit_status result ≤ 3 }
 {
@@ -85,7 +88,7 @@ fn code_of(status: u8) -> ExitCode
 
 // The standard input or output: no call on it failed yet, and a loop makes at most so many reads.
 fn counted<T>(inner: T) -> Counted<T>
-    ensures { result ≡ record { inner = inner; failed = 0; turns = 2147483648; left = 2147483648; renamed = false } }
+    ensures { result ≡ record { inner = inner; failed = 0; turns = TURNS; left = TURNS; renamed = false } }
 {
     Counted::new(inner)
 }

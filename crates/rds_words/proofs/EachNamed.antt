@@ -14,7 +14,8 @@ use Rattle.rds_words.specs.Written.{AreData, HasNames, IsWritable, words_dashed,
 use Rattle.rds_words.proofs.CommandWords.{node_on_words}
 use Rattle.rds_words.proofs.Dashed.{Meets, undashed_fault, undashed_rows}
 use Rattle.rds_words.proofs.GrowNamed.{grow_dashed, grow_met}
-use Rattle.rds_words.proofs.OptionsNamed.{add_changed_named, add_text_changed_named, add_text_named, del_text_named, get_counter_named, get_raw_named, get_reg_named, get_set_named, init_dashed, init_from_named, pretty_named, serve_named, set_changed_named, set_text_changed_named, set_text_named, sync_named}
+use Rattle.rds_words.proofs.OptionPlans.{add_takes, set_takes}
+use Rattle.rds_words.proofs.OptionsNamed.{changed_named, del_text_named, get_counter_named, get_raw_named, get_reg_named, get_set_named, init_dashed, init_from_named, pretty_named, serve_named, sync_named, text_changed_named, text_named}
 use Rattle.rds_words.specs.declared.tasks.RawKind.TheVariants as kind
 
 -- words that are data need no dashes
@@ -385,13 +386,13 @@ task_written name Faults is = undashed name (codes "faults") [] _ faults_met is.
 task_written name (Init words) is = undashed name (codes "init") (words.file.now ∷ words.group.now ∷ words.own.now ∷ map (λ n. n.now) words.names.items) _ init_met is.1
     (init_behind name words.file.now words.group.now words.own.now words.names.items is.0)
 task_written name (InitFrom words) is = init_from_named name words.file.now words.own.now words.from.now is.1
-task_written name (Edit file (Set path (word.Text value))) is = set_text_named name file.now path.now value.now is.1
-task_written name (Edit file (Add path (word.Text value))) is = add_text_named name file.now path.now value.now is.1
+task_written name (Edit file (Set path (word.Text value))) is = text_named (codes "set") set_takes name file.now path.now value.now is.1
+task_written name (Edit file (Add path (word.Text value))) is = text_named (codes "add") add_takes name file.now path.now value.now is.1
 task_written name (Edit file (Del path (word.Text value))) is = del_text_named name file.now path.now value.now is.1
-task_written name (EditIfChanged file (Set path (word.Json value))) is = set_changed_named name file.now path.now value.now is.1
-task_written name (EditIfChanged file (Set path (word.Text value))) is = set_text_changed_named name file.now path.now value.now is.1
-task_written name (EditIfChanged file (Add path (word.Json value))) is = add_changed_named name file.now path.now value.now is.1
-task_written name (EditIfChanged file (Add path (word.Text value))) is = add_text_changed_named name file.now path.now value.now is.1
+task_written name (EditIfChanged file (Set path (word.Json value))) is = changed_named (codes "set") set_takes name file.now path.now value.now is.1
+task_written name (EditIfChanged file (Set path (word.Text value))) is = text_changed_named (codes "set") set_takes name file.now path.now value.now is.1
+task_written name (EditIfChanged file (Add path (word.Json value))) is = changed_named (codes "add") add_takes name file.now path.now value.now is.1
+task_written name (EditIfChanged file (Add path (word.Text value))) is = text_changed_named (codes "add") add_takes name file.now path.now value.now is.1
 task_written name (EditIfChanged file (Del path value)) is = absurd is.0
 task_written name (EditIfChanged file (Clear path)) is = absurd is.0
 task_written name (EditIfChanged file (Inc key by)) is = absurd is.0

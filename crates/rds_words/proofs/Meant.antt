@@ -3,19 +3,18 @@ use Rattle.std.proofs.Common.{◌≡◌, ◌⊎◌, ◌∙◌, Bool, List, [], �
 use Rattle.std.specs.Prelude.{⊤, find, if◌then◌else◌}
 use Rattle.std.specs.Str.{bytes_eq}
 use Rattle.std.proofs.lemmas.Slice.Eq.{bytes_eq-Decides}
-use Rattle.clap.specs.Words.{Shape, Text}
+use Rattle.clap.specs.Words.{Text}
 use Rattle.rds_words.specs.Entered.{Names, mistakes_in}
 use Rattle.rds_words.specs.Spelling.{AreSpelled, AreWordsOf, Count, IsCounted, OtherCommandsAreRefused, OtherWordsAreRefused, OtherWordsWithoutOptions, WordsMeanTheirSpelling, WordsWithoutOptions, counts, option_counts}
 use Rattle.rds_words.specs.WithOptions.{MeansWithOptions, OptionsMeanTheirSpelling, with_options}
-use Rattle.rds_words.proofs.Counting.{IsCountedCommand, refused_isnt}
+use Rattle.rds_words.proofs.Counting.{refused_isnt}
 use Rattle.rds_words.proofs.OptionCommands as options
 use Rattle.rds_words.proofs.OtherCommands.{command_or_not}
 use Rattle.rds_words.proofs.OptionPlans as plans
 use Rattle.rds_words.proofs.PlainCommands as plain
 use Rattle.rds_words.proofs.PlainForms.{IsKnown, IsPlain, known}
 use Rattle.rds_words.proofs.PlanMeant.{means}
-use Rattle.rds_words.proofs.Refusing.{HasRequestsAlone}
-use Rattle.rds_words.proofs.Splitting.{HasOption, IsCommand, mistaken_alike, named_alike, option_mistaken, split}
+use Rattle.rds_words.proofs.Splitting.{HasOption, mistaken_alike, named_alike, option_mistaken, split}
 
 same_words : {command : Text} {a b : List Text} → ◌≡◌ {A = Option (List Text)} (Some (command ∷ a)) (Some (command ∷ b)) → a ≡ b
 same_words e = cc

@@ -1,11 +1,11 @@
 -- The commands that have options, as they take them.
-use Rattle.std.proofs.Common.{◌≡◌, ◌∙◌, ◌⊎◌, ◌++◌, Bool, true, false, List, [], ◌∷◌, codes, Option, Some, None, refl, inl, inr}
+use Rattle.std.proofs.Common.{◌≡◌, ◌∙◌, ◌⊎◌, ◌++◌, ℕ, Bool, true, false, List, [], ◌∷◌, codes, Option, Some, None, refl, inl, inr}
 use Rattle.std.specs.Prelude.{fold, if◌then◌else◌, option_and_then, option_map, slice_get, unwrap_or}
 use Rattle.clap.specs.Words.{Row, Shape, Text}
-use Rattle.clap.specs.Walk.{arg_by_index, arg_by_long, has_long, has_short, option, with_default}
+use Rattle.clap.specs.Walk.{Waiting, arg_by_index, arg_by_long, has_long, has_short, idle, option, positional, with_default}
 use Rattle.rds_words.specs.Commands.{file_rule}
 use Rattle.rds_words.specs.Raw.{changed_words, init_words, raw_words}
-use Rattle.rds_words.specs.Task.{init_words_by, named_words, words_in}
+use Rattle.rds_words.specs.Task.{changed_words_in, init_words_by, named_words, words_in}
 use Rattle.rds_words.specs.WithOptions.{del_with, entry_with, get_with, init_with, serve_with, show_with, sync_with}
 use Rattle.rds_words.proofs.CommandWords.{node_on_words, shape_behind}
 use Rattle.rds_words.proofs.Dashed.{data_next, data_turn}
@@ -14,7 +14,7 @@ use Rattle.rds_words.proofs.PlanRows.{all_missing, all_there, first_missing, fir
 use Rattle.rds_words.proofs.PlanWalk.{AreChosen, AreTrue, Fits, IsFlag, IsFlagAt, IsThis, IsValued, IsValuedAt, Plan, Takes, free, held, ids_of, once_by, settles}
 use Rattle.rds_words.proofs.Plans.{AreAt, IsIn, Known, name_of, text_reading}
 use Rattle.rds_words.proofs.Refusing.{HasShortRequests, IsAlwaysRefused, IsOption, IsRefused, IsRequest, refused_first}
-use Rattle.rds_words.proofs.RuleFacts.{all_short, found_other}
+use Rattle.rds_words.proofs.RuleFacts.{EachOther, all_short, found_other}
 use Rattle.rds_words.proofs.Splitting.{IsCommand}
 
 -- ---- the options
@@ -57,6 +57,25 @@ joined (w ∷ ws) = option_and_then (λ word. option_map (λ words. word ∷ wor
 abbrev Chosen : List Known → Type 0
 Chosen known = (o : Known) × IsIn o known
 
+-- whether more names are waited for or nothing
+at_both : (P : Waiting → Type 0) → P positional → P idle → (b : Bool) → P (free b)
+at_both P more nothing true = more
+at_both P more nothing false = nothing
+
+-- each word that is an option is one of the known ones or is refused
+told_by : (s : Shape) (known : List Known) → ((name : Text) → ((o : Chosen known) × (name ≡ o.0.bare)) ⊎ IsRequest s (arg_by_long s.rules name)) → HasShortRequests s
+    → (word : Text) → IsOption word → ((o : Known) × IsIn o known × IsThis (name_of o) word) ⊎ IsAlwaysRefused s word
+told_by s known long short word is = elim (told s (Chosen known) (λ o. o.0.bare) long short word is) [
+  | inl this ↦ inl (this.0.0, this.0.1, this.1)
+  | inr refused ↦ inr refused
+]
+
+short_by : (s : Shape) → ((character : ℕ) → EachOther s (λ a. has_short a character) ⊥ s.rules) → HasShortRequests s
+short_by s each character = elim (found_other s (λ a. has_short a character) ⊥ s.rules (each character)) [
+  | inl none ↦ absurd none
+  | inr is ↦ is
+]
+
 -- ---- init
 
 abbrev init_shape : Shape
@@ -77,17 +96,12 @@ pub init_is : IsCommand (codes "init") init_shape
 unfolding node_on_words
 init_is = record { met = (refl, refl); found = refl; short = all_short init_shape.rules refl }
 
-init_from_at : (b : Bool) → IsValuedAt init_shape (codes "--from") (codes "FROM") (free b)
-unfolding node_on_words
-init_from_at true = record { waits = λ h position. refl; turn = λ h position. refl; valued = λ h position v. refl; valued_turn = λ h position v. refl }
-init_from_at false = record { waits = λ h position. refl; turn = λ h position. refl; valued = λ h position v. refl; valued_turn = λ h position v. refl }
-
 init_from : IsValued init_shape (codes "--from") (codes "FROM")
 unfolding IsRefused held node_on_words
 init_from = record {
   once = once_by init_shape text_reading (codes "FROM") (λ rows v. refl) (λ rows v. refl);
   bare = λ rows. tt;
-  at_free = init_from_at;
+  at_free = at_both (IsValuedAt init_shape (codes "--from") (codes "FROM")) (record { waits = λ h position. refl; turn = λ h position. refl; valued = λ h position v. refl; valued_turn = λ h position v. refl }) (record { waits = λ h position. refl; turn = λ h position. refl; valued = λ h position v. refl; valued_turn = λ h position v. refl });
   other = λ h is. is;
   takes = λ rows position v are.
       let h = held rows (Some (codes "FROM", [])) in
@@ -104,17 +118,7 @@ init_long name =
 
 init_short : HasShortRequests init_shape
 unfolding IsRefused node_on_words
-init_short character =
-    elim (found_other init_shape (λ a. has_short a character) ⊥ init_shape.rules (inl refl, (inl refl, (inl refl, (inl refl, (inr (inr is_none), (inr (inl (refl, λ rows. tt)), tt))))))) [
-      | inl none ↦ absurd none
-      | inr is ↦ is
-    ]
-
-init_told : (word : Text) → IsOption word → ((o : Known) × IsIn o (from_option ∷ []) × IsThis (name_of o) word) ⊎ IsAlwaysRefused init_shape word
-init_told word is = elim (told init_shape (Chosen (from_option ∷ [])) (λ o. o.0.bare) init_long init_short word is) [
-  | inl this ↦ inl (this.0.0, this.0.1, this.1)
-  | inr refused ↦ inr refused
-]
+init_short = short_by init_shape (λ character. (inl refl, (inl refl, (inl refl, (inl refl, (inr (inr is_none), (inr (inl (refl, λ rows. tt)), tt)))))))
 
 init_reads : (rows : List Row) (ws : List Text) (vs : Text → List Text) → AreAt (ids_of init_plan) (init_plan.more) ws rows → Fits (init_plan.required) (init_plan.optional) (init_plan.more) ws
     → AreChosen (init_plan.known) vs rows → AreTrue (init_plan.known) vs
@@ -143,7 +147,7 @@ unfolding IsRefused held node_on_words
 init_takes = record {
   is = init_is;
   options = (inl (refl, refl, init_from), tt);
-  told = init_told;
+  told = told_by init_shape (from_option ∷ []) init_long init_short;
   places = (record { rule = unwrap_or (arg_by_index init_shape.rules 1) file_rule; is = refl; single = refl; lone = refl; short = refl; called = refl; place_then = refl }, once_by init_shape text_reading (codes "FILE") (λ rows v. refl) (λ rows v. refl), (record { rule = unwrap_or (arg_by_index init_shape.rules 2) file_rule; is = refl; single = refl; lone = refl; short = refl; called = refl; place_then = refl }, once_by init_shape text_reading (codes "GROUP") (λ rows v. refl) (λ rows v. refl), (record { rule = unwrap_or (arg_by_index init_shape.rules 3) file_rule; is = refl; single = refl; lone = refl; short = refl; called = refl; place_then = refl }, once_by init_shape text_reading (codes "OWN") (λ rows v. refl) (λ rows v. refl), (record { rule = unwrap_or (arg_by_index init_shape.rules 4) file_rule; is = refl; single = refl; lone = refl; short = refl; called = refl; place_then = refl }, record { clean = λ rows v. refl; gives = λ rows v. refl }))));
   places_apart = refl;
   options_apart = refl;
@@ -158,181 +162,92 @@ init_takes = record {
   reads = init_reads;
 }
 
--- ---- set
+-- ---- set and add, which differ in their names alone
 
-abbrev set_shape : Shape
-set_shape = shape_behind (codes "set")
+module _ (command : Text) where
+  abbrev entry_shape : Shape
+  entry_shape = record (shape_behind (codes "set")) { name = command }
+
+  abbrev pub entry_plan : Plan
+  entry_plan = record {
+    command = command;
+    shape = entry_shape;
+    required = codes "FILE" ∷ codes "PATH" ∷ codes "VALUE" ∷ [];
+    optional = [];
+    more = None;
+    known = text_option ∷ changed_option ∷ [];
+    with_options = entry_with;
+  }
+
+  entry_text : IsFlag entry_shape flag_reading (codes "--text") (codes "TEXT")
+  unfolding IsRefused node_on_words
+  entry_text = record { at_free = at_both (IsFlagAt entry_shape flag_reading (codes "--text") (codes "TEXT")) (record { uses = λ h position. refl; turn = λ h position. refl }) (record { uses = λ h position. refl; turn = λ h position. refl }); other = λ h is. refused_first (settles entry_shape h) _ is; valued = λ v h skip. tt }
+
+  entry_if_changed : IsFlag entry_shape flag_reading (codes "--if-changed") (codes "IF_CHANGED")
+  unfolding IsRefused node_on_words
+  entry_if_changed = record { at_free = at_both (IsFlagAt entry_shape flag_reading (codes "--if-changed") (codes "IF_CHANGED")) (record { uses = λ h position. refl; turn = λ h position. refl }) (record { uses = λ h position. refl; turn = λ h position. refl }); other = λ h is. refused_first (settles entry_shape h) _ is; valued = λ v h skip. tt }
+
+  entry_long : (name : Text) → ((o : Chosen (text_option ∷ changed_option ∷ [])) × (name ≡ o.0.bare)) ⊎ IsRequest entry_shape (arg_by_long entry_shape.rules name)
+  unfolding IsRefused node_on_words
+  entry_long name =
+      found_other entry_shape (λ a. has_long a name) ((o : Chosen (text_option ∷ changed_option ∷ [])) × (name ≡ o.0.bare)) entry_shape.rules
+      (inl refl, (inl refl, (inl refl, (inr (inr (λ e. ((text_option, inl refl), is_name (codes "text") name e))), (inr (inr (λ e. ((changed_option, inr (inl refl)), is_name (codes "if-changed") name e))), (inr (inl (refl, λ rows. tt)), tt))))))
+
+  entry_short : HasShortRequests entry_shape
+  unfolding IsRefused node_on_words
+  entry_short = short_by entry_shape (λ character. (inl refl, (inl refl, (inl refl, (inr (inr is_none), (inr (inr is_none), (inr (inl (refl, λ rows. tt)), tt)))))))
+
+  entry_reads : ((rows : List Row) → words_in (Some (command, rows)) ≡ named_words command (changed_words_in rows)) → (rows : List Row) (ws : List Text) (vs : Text → List Text) → AreAt (ids_of entry_plan) (entry_plan.more) ws rows → Fits (entry_plan.required) (entry_plan.optional) (entry_plan.more) ws
+      → AreChosen (entry_plan.known) vs rows → AreTrue (entry_plan.known) vs
+      → words_in (Some (entry_shape.name, fold with_default rows entry_shape.rules)) ≡ option_map (λ words. command ∷ words) (entry_plan.with_options.words_for ws vs)
+  unfolding node_on_words
+  entry_reads named rows ([]) vs stands fits chosen are = absurd fits
+  entry_reads named rows (a ∷ []) vs stands fits chosen are = absurd fits
+  entry_reads named rows (a ∷ b ∷ []) vs stands fits chosen are = absurd fits
+  entry_reads named rows (a ∷ b ∷ c ∷ []) vs stands fits chosen are = named (fold with_default rows entry_shape.rules) ∙ (λ i. named_words command (option_map (changed_words (flag_given entry_shape.rules rows (codes "IF_CHANGED") (vs (codes "--if-changed")) (inr (refl, inr (refl, inr (refl, inr (refl, inl (refl, refl)))))) (are changed_option (inr (inl refl)) refl) (chosen changed_option (inr (inl refl))) i)) (option_map (λ words. words ++ (if flag_given entry_shape.rules rows (codes "TEXT") (vs (codes "--text")) (inr (refl, inr (refl, inr (refl, inl (refl, refl))))) (are text_option (inl refl) refl) (chosen text_option (inl refl)) i then codes "--text" ∷ [] else [])) (joined (first_there entry_shape.rules rows (codes "FILE") a text_reading stands.0 i ∷ first_there entry_shape.rules rows (codes "PATH") b text_reading stands.1.0 i ∷ first_there entry_shape.rules rows (codes "VALUE") c text_reading stands.1.1.0 i ∷ [])))))
+  entry_reads named rows (a ∷ b ∷ c ∷ d ∷ ws) vs stands fits chosen are = absurd fits
+
+  pub entry_takes : IsCommand command entry_shape → ((rows : List Row) → words_in (Some (command, rows)) ≡ named_words command (changed_words_in rows)) → Takes entry_plan
+  unfolding IsRefused held node_on_words
+  entry_takes is named = record {
+    is = is;
+    options = (inr (refl, entry_text), (inr (refl, entry_if_changed), tt));
+    told = told_by entry_shape (text_option ∷ changed_option ∷ []) entry_long entry_short;
+    places = (record { rule = unwrap_or (arg_by_index entry_shape.rules 1) file_rule; is = refl; single = refl; lone = refl; short = refl; called = refl; place_then = refl }, once_by entry_shape text_reading (codes "FILE") (λ rows v. refl) (λ rows v. refl), (record { rule = unwrap_or (arg_by_index entry_shape.rules 2) file_rule; is = refl; single = refl; lone = refl; short = refl; called = refl; place_then = refl }, once_by entry_shape text_reading (codes "PATH") (λ rows v. refl) (λ rows v. refl), (record { rule = unwrap_or (arg_by_index entry_shape.rules 3) file_rule; is = refl; single = refl; lone = refl; short = refl; called = refl; place_then = refl }, once_by entry_shape text_reading (codes "VALUE") (λ rows v. refl) (λ rows v. refl), λ h. tt)));
+    places_apart = refl;
+    options_apart = refl;
+    ids_apart = refl;
+    names_apart = refl;
+    checks = λ rows. refl;
+    quiet = (inl refl, (inl refl, (inl refl, (inr refl, (inr refl, (inl refl, tt))))));
+    no_default = ((inr refl, (inl refl, (inl refl, (inl refl, (inl refl, (inl refl, tt)))))), ((inl refl, (inr refl, (inl refl, (inl refl, (inl refl, (inl refl, tt)))))), ((inl refl, (inl refl, (inr refl, (inl refl, (inl refl, (inl refl, tt)))))), tt)));
+    listed = refl;
+    fits = fits_three (codes "FILE") (codes "PATH") (codes "VALUE");
+    taken = taken_three (codes "FILE") (codes "PATH") (codes "VALUE");
+    reads = entry_reads named;
+  }
 
 abbrev pub set_plan : Plan
-set_plan = record {
-  command = codes "set";
-  shape = set_shape;
-  required = codes "FILE" ∷ codes "PATH" ∷ codes "VALUE" ∷ [];
-  optional = [];
-  more = None;
-  known = text_option ∷ changed_option ∷ [];
-  with_options = entry_with;
-}
+set_plan = entry_plan (codes "set")
 
-pub set_is : IsCommand (codes "set") set_shape
+pub set_is : IsCommand (codes "set") (shape_behind (codes "set"))
 unfolding node_on_words
-set_is = record { met = (refl, refl); found = refl; short = all_short set_shape.rules refl }
-
-set_text_at : (b : Bool) → IsFlagAt set_shape flag_reading (codes "--text") (codes "TEXT") (free b)
-unfolding node_on_words
-set_text_at true = record { uses = λ h position. refl; turn = λ h position. refl }
-set_text_at false = record { uses = λ h position. refl; turn = λ h position. refl }
-
-set_text : IsFlag set_shape flag_reading (codes "--text") (codes "TEXT")
-unfolding IsRefused node_on_words
-set_text = record { at_free = set_text_at; other = λ h is. refused_first (settles set_shape h) _ is; valued = λ v h skip. tt }
-
-set_if_changed_at : (b : Bool) → IsFlagAt set_shape flag_reading (codes "--if-changed") (codes "IF_CHANGED") (free b)
-unfolding node_on_words
-set_if_changed_at true = record { uses = λ h position. refl; turn = λ h position. refl }
-set_if_changed_at false = record { uses = λ h position. refl; turn = λ h position. refl }
-
-set_if_changed : IsFlag set_shape flag_reading (codes "--if-changed") (codes "IF_CHANGED")
-unfolding IsRefused node_on_words
-set_if_changed = record { at_free = set_if_changed_at; other = λ h is. refused_first (settles set_shape h) _ is; valued = λ v h skip. tt }
-
-set_long : (name : Text) → ((o : Chosen (text_option ∷ changed_option ∷ [])) × (name ≡ o.0.bare)) ⊎ IsRequest set_shape (arg_by_long set_shape.rules name)
-unfolding IsRefused node_on_words
-set_long name =
-    found_other set_shape (λ a. has_long a name) ((o : Chosen (text_option ∷ changed_option ∷ [])) × (name ≡ o.0.bare)) set_shape.rules
-    (inl refl, (inl refl, (inl refl, (inr (inr (λ e. ((text_option, inl refl), is_name (codes "text") name e))), (inr (inr (λ e. ((changed_option, inr (inl refl)), is_name (codes "if-changed") name e))), (inr (inl (refl, λ rows. tt)), tt))))))
-
-set_short : HasShortRequests set_shape
-unfolding IsRefused node_on_words
-set_short character =
-    elim (found_other set_shape (λ a. has_short a character) ⊥ set_shape.rules (inl refl, (inl refl, (inl refl, (inr (inr is_none), (inr (inr is_none), (inr (inl (refl, λ rows. tt)), tt))))))) [
-      | inl none ↦ absurd none
-      | inr is ↦ is
-    ]
-
-set_told : (word : Text) → IsOption word → ((o : Known) × IsIn o (text_option ∷ changed_option ∷ []) × IsThis (name_of o) word) ⊎ IsAlwaysRefused set_shape word
-set_told word is = elim (told set_shape (Chosen (text_option ∷ changed_option ∷ [])) (λ o. o.0.bare) set_long set_short word is) [
-  | inl this ↦ inl (this.0.0, this.0.1, this.1)
-  | inr refused ↦ inr refused
-]
-
-set_reads : (rows : List Row) (ws : List Text) (vs : Text → List Text) → AreAt (ids_of set_plan) (set_plan.more) ws rows → Fits (set_plan.required) (set_plan.optional) (set_plan.more) ws
-    → AreChosen (set_plan.known) vs rows → AreTrue (set_plan.known) vs
-    → words_in (Some (set_shape.name, fold with_default rows set_shape.rules)) ≡ option_map (λ words. codes "set" ∷ words) (set_plan.with_options.words_for ws vs)
-unfolding node_on_words
-set_reads rows ([]) vs stands fits chosen are = absurd fits
-set_reads rows (a ∷ []) vs stands fits chosen are = absurd fits
-set_reads rows (a ∷ b ∷ []) vs stands fits chosen are = absurd fits
-set_reads rows (a ∷ b ∷ c ∷ []) vs stands fits chosen are = λ i. named_words (codes "set") (option_map (changed_words (flag_given set_shape.rules rows (codes "IF_CHANGED") (vs (codes "--if-changed")) (inr (refl, inr (refl, inr (refl, inr (refl, inl (refl, refl)))))) (are changed_option (inr (inl refl)) refl) (chosen changed_option (inr (inl refl))) i)) (option_map (λ words. words ++ (if flag_given set_shape.rules rows (codes "TEXT") (vs (codes "--text")) (inr (refl, inr (refl, inr (refl, inl (refl, refl))))) (are text_option (inl refl) refl) (chosen text_option (inl refl)) i then codes "--text" ∷ [] else [])) (joined (first_there set_shape.rules rows (codes "FILE") a text_reading stands.0 i ∷ first_there set_shape.rules rows (codes "PATH") b text_reading stands.1.0 i ∷ first_there set_shape.rules rows (codes "VALUE") c text_reading stands.1.1.0 i ∷ []))))
-set_reads rows (a ∷ b ∷ c ∷ d ∷ ws) vs stands fits chosen are = absurd fits
+set_is = record { met = (refl, refl); found = refl; short = all_short (shape_behind (codes "set")).rules refl }
 
 pub set_takes : Takes set_plan
-unfolding IsRefused held node_on_words
-set_takes = record {
-  is = set_is;
-  options = (inr (refl, set_text), (inr (refl, set_if_changed), tt));
-  told = set_told;
-  places = (record { rule = unwrap_or (arg_by_index set_shape.rules 1) file_rule; is = refl; single = refl; lone = refl; short = refl; called = refl; place_then = refl }, once_by set_shape text_reading (codes "FILE") (λ rows v. refl) (λ rows v. refl), (record { rule = unwrap_or (arg_by_index set_shape.rules 2) file_rule; is = refl; single = refl; lone = refl; short = refl; called = refl; place_then = refl }, once_by set_shape text_reading (codes "PATH") (λ rows v. refl) (λ rows v. refl), (record { rule = unwrap_or (arg_by_index set_shape.rules 3) file_rule; is = refl; single = refl; lone = refl; short = refl; called = refl; place_then = refl }, once_by set_shape text_reading (codes "VALUE") (λ rows v. refl) (λ rows v. refl), λ h. tt)));
-  places_apart = refl;
-  options_apart = refl;
-  ids_apart = refl;
-  names_apart = refl;
-  checks = λ rows. refl;
-  quiet = (inl refl, (inl refl, (inl refl, (inr refl, (inr refl, (inl refl, tt))))));
-  no_default = ((inr refl, (inl refl, (inl refl, (inl refl, (inl refl, (inl refl, tt)))))), ((inl refl, (inr refl, (inl refl, (inl refl, (inl refl, (inl refl, tt)))))), ((inl refl, (inl refl, (inr refl, (inl refl, (inl refl, (inl refl, tt)))))), tt)));
-  listed = refl;
-  fits = fits_three (codes "FILE") (codes "PATH") (codes "VALUE");
-  taken = taken_three (codes "FILE") (codes "PATH") (codes "VALUE");
-  reads = set_reads;
-}
-
--- ---- add
-
-abbrev add_shape : Shape
-add_shape = shape_behind (codes "add")
+unfolding node_on_words
+set_takes = entry_takes (codes "set") set_is (λ rows. refl)
 
 abbrev pub add_plan : Plan
-add_plan = record {
-  command = codes "add";
-  shape = add_shape;
-  required = codes "FILE" ∷ codes "PATH" ∷ codes "VALUE" ∷ [];
-  optional = [];
-  more = None;
-  known = text_option ∷ changed_option ∷ [];
-  with_options = entry_with;
-}
+add_plan = entry_plan (codes "add")
 
-pub add_is : IsCommand (codes "add") add_shape
+pub add_is : IsCommand (codes "add") (shape_behind (codes "add"))
 unfolding node_on_words
-add_is = record { met = (refl, refl); found = refl; short = all_short add_shape.rules refl }
-
-add_text_at : (b : Bool) → IsFlagAt add_shape flag_reading (codes "--text") (codes "TEXT") (free b)
-unfolding node_on_words
-add_text_at true = record { uses = λ h position. refl; turn = λ h position. refl }
-add_text_at false = record { uses = λ h position. refl; turn = λ h position. refl }
-
-add_text : IsFlag add_shape flag_reading (codes "--text") (codes "TEXT")
-unfolding IsRefused node_on_words
-add_text = record { at_free = add_text_at; other = λ h is. refused_first (settles add_shape h) _ is; valued = λ v h skip. tt }
-
-add_if_changed_at : (b : Bool) → IsFlagAt add_shape flag_reading (codes "--if-changed") (codes "IF_CHANGED") (free b)
-unfolding node_on_words
-add_if_changed_at true = record { uses = λ h position. refl; turn = λ h position. refl }
-add_if_changed_at false = record { uses = λ h position. refl; turn = λ h position. refl }
-
-add_if_changed : IsFlag add_shape flag_reading (codes "--if-changed") (codes "IF_CHANGED")
-unfolding IsRefused node_on_words
-add_if_changed = record { at_free = add_if_changed_at; other = λ h is. refused_first (settles add_shape h) _ is; valued = λ v h skip. tt }
-
-add_long : (name : Text) → ((o : Chosen (text_option ∷ changed_option ∷ [])) × (name ≡ o.0.bare)) ⊎ IsRequest add_shape (arg_by_long add_shape.rules name)
-unfolding IsRefused node_on_words
-add_long name =
-    found_other add_shape (λ a. has_long a name) ((o : Chosen (text_option ∷ changed_option ∷ [])) × (name ≡ o.0.bare)) add_shape.rules
-    (inl refl, (inl refl, (inl refl, (inr (inr (λ e. ((text_option, inl refl), is_name (codes "text") name e))), (inr (inr (λ e. ((changed_option, inr (inl refl)), is_name (codes "if-changed") name e))), (inr (inl (refl, λ rows. tt)), tt))))))
-
-add_short : HasShortRequests add_shape
-unfolding IsRefused node_on_words
-add_short character =
-    elim (found_other add_shape (λ a. has_short a character) ⊥ add_shape.rules (inl refl, (inl refl, (inl refl, (inr (inr is_none), (inr (inr is_none), (inr (inl (refl, λ rows. tt)), tt))))))) [
-      | inl none ↦ absurd none
-      | inr is ↦ is
-    ]
-
-add_told : (word : Text) → IsOption word → ((o : Known) × IsIn o (text_option ∷ changed_option ∷ []) × IsThis (name_of o) word) ⊎ IsAlwaysRefused add_shape word
-add_told word is = elim (told add_shape (Chosen (text_option ∷ changed_option ∷ [])) (λ o. o.0.bare) add_long add_short word is) [
-  | inl this ↦ inl (this.0.0, this.0.1, this.1)
-  | inr refused ↦ inr refused
-]
-
-add_reads : (rows : List Row) (ws : List Text) (vs : Text → List Text) → AreAt (ids_of add_plan) (add_plan.more) ws rows → Fits (add_plan.required) (add_plan.optional) (add_plan.more) ws
-    → AreChosen (add_plan.known) vs rows → AreTrue (add_plan.known) vs
-    → words_in (Some (add_shape.name, fold with_default rows add_shape.rules)) ≡ option_map (λ words. codes "add" ∷ words) (add_plan.with_options.words_for ws vs)
-unfolding node_on_words
-add_reads rows ([]) vs stands fits chosen are = absurd fits
-add_reads rows (a ∷ []) vs stands fits chosen are = absurd fits
-add_reads rows (a ∷ b ∷ []) vs stands fits chosen are = absurd fits
-add_reads rows (a ∷ b ∷ c ∷ []) vs stands fits chosen are = λ i. named_words (codes "add") (option_map (changed_words (flag_given add_shape.rules rows (codes "IF_CHANGED") (vs (codes "--if-changed")) (inr (refl, inr (refl, inr (refl, inr (refl, inl (refl, refl)))))) (are changed_option (inr (inl refl)) refl) (chosen changed_option (inr (inl refl))) i)) (option_map (λ words. words ++ (if flag_given add_shape.rules rows (codes "TEXT") (vs (codes "--text")) (inr (refl, inr (refl, inr (refl, inl (refl, refl))))) (are text_option (inl refl) refl) (chosen text_option (inl refl)) i then codes "--text" ∷ [] else [])) (joined (first_there add_shape.rules rows (codes "FILE") a text_reading stands.0 i ∷ first_there add_shape.rules rows (codes "PATH") b text_reading stands.1.0 i ∷ first_there add_shape.rules rows (codes "VALUE") c text_reading stands.1.1.0 i ∷ []))))
-add_reads rows (a ∷ b ∷ c ∷ d ∷ ws) vs stands fits chosen are = absurd fits
+add_is = record { met = (refl, refl); found = refl; short = all_short (shape_behind (codes "add")).rules refl }
 
 pub add_takes : Takes add_plan
-unfolding IsRefused held node_on_words
-add_takes = record {
-  is = add_is;
-  options = (inr (refl, add_text), (inr (refl, add_if_changed), tt));
-  told = add_told;
-  places = (record { rule = unwrap_or (arg_by_index add_shape.rules 1) file_rule; is = refl; single = refl; lone = refl; short = refl; called = refl; place_then = refl }, once_by add_shape text_reading (codes "FILE") (λ rows v. refl) (λ rows v. refl), (record { rule = unwrap_or (arg_by_index add_shape.rules 2) file_rule; is = refl; single = refl; lone = refl; short = refl; called = refl; place_then = refl }, once_by add_shape text_reading (codes "PATH") (λ rows v. refl) (λ rows v. refl), (record { rule = unwrap_or (arg_by_index add_shape.rules 3) file_rule; is = refl; single = refl; lone = refl; short = refl; called = refl; place_then = refl }, once_by add_shape text_reading (codes "VALUE") (λ rows v. refl) (λ rows v. refl), λ h. tt)));
-  places_apart = refl;
-  options_apart = refl;
-  ids_apart = refl;
-  names_apart = refl;
-  checks = λ rows. refl;
-  quiet = (inl refl, (inl refl, (inl refl, (inr refl, (inr refl, (inl refl, tt))))));
-  no_default = ((inr refl, (inl refl, (inl refl, (inl refl, (inl refl, (inl refl, tt)))))), ((inl refl, (inr refl, (inl refl, (inl refl, (inl refl, (inl refl, tt)))))), ((inl refl, (inl refl, (inr refl, (inl refl, (inl refl, (inl refl, tt)))))), tt)));
-  listed = refl;
-  fits = fits_three (codes "FILE") (codes "PATH") (codes "VALUE");
-  taken = taken_three (codes "FILE") (codes "PATH") (codes "VALUE");
-  reads = add_reads;
-}
+unfolding node_on_words
+add_takes = entry_takes (codes "add") add_is (λ rows. refl)
 
 -- ---- del
 
@@ -354,14 +269,9 @@ pub del_is : IsCommand (codes "del") del_shape
 unfolding node_on_words
 del_is = record { met = (refl, refl); found = refl; short = all_short del_shape.rules refl }
 
-del_text_at : (b : Bool) → IsFlagAt del_shape flag_reading (codes "--text") (codes "TEXT") (free b)
-unfolding node_on_words
-del_text_at true = record { uses = λ h position. refl; turn = λ h position. refl }
-del_text_at false = record { uses = λ h position. refl; turn = λ h position. refl }
-
 del_text : IsFlag del_shape flag_reading (codes "--text") (codes "TEXT")
 unfolding IsRefused node_on_words
-del_text = record { at_free = del_text_at; other = λ h is. refused_first (settles del_shape h) _ is; valued = λ v h skip. tt }
+del_text = record { at_free = at_both (IsFlagAt del_shape flag_reading (codes "--text") (codes "TEXT")) (record { uses = λ h position. refl; turn = λ h position. refl }) (record { uses = λ h position. refl; turn = λ h position. refl }); other = λ h is. refused_first (settles del_shape h) _ is; valued = λ v h skip. tt }
 
 del_long : (name : Text) → ((o : Chosen (text_option ∷ [])) × (name ≡ o.0.bare)) ⊎ IsRequest del_shape (arg_by_long del_shape.rules name)
 unfolding IsRefused node_on_words
@@ -371,17 +281,7 @@ del_long name =
 
 del_short : HasShortRequests del_shape
 unfolding IsRefused node_on_words
-del_short character =
-    elim (found_other del_shape (λ a. has_short a character) ⊥ del_shape.rules (inl refl, (inl refl, (inl refl, (inr (inr is_none), (inr (inl (refl, λ rows. tt)), tt)))))) [
-      | inl none ↦ absurd none
-      | inr is ↦ is
-    ]
-
-del_told : (word : Text) → IsOption word → ((o : Known) × IsIn o (text_option ∷ []) × IsThis (name_of o) word) ⊎ IsAlwaysRefused del_shape word
-del_told word is = elim (told del_shape (Chosen (text_option ∷ [])) (λ o. o.0.bare) del_long del_short word is) [
-  | inl this ↦ inl (this.0.0, this.0.1, this.1)
-  | inr refused ↦ inr refused
-]
+del_short = short_by del_shape (λ character. (inl refl, (inl refl, (inl refl, (inr (inr is_none), (inr (inl (refl, λ rows. tt)), tt))))))
 
 del_reads : (rows : List Row) (ws : List Text) (vs : Text → List Text) → AreAt (ids_of del_plan) (del_plan.more) ws rows → Fits (del_plan.required) (del_plan.optional) (del_plan.more) ws
     → AreChosen (del_plan.known) vs rows → AreTrue (del_plan.known) vs
@@ -398,7 +298,7 @@ unfolding IsRefused held node_on_words
 del_takes = record {
   is = del_is;
   options = (inr (refl, del_text), tt);
-  told = del_told;
+  told = told_by del_shape (text_option ∷ []) del_long del_short;
   places = (record { rule = unwrap_or (arg_by_index del_shape.rules 1) file_rule; is = refl; single = refl; lone = refl; short = refl; called = refl; place_then = refl }, once_by del_shape text_reading (codes "FILE") (λ rows v. refl) (λ rows v. refl), (record { rule = unwrap_or (arg_by_index del_shape.rules 2) file_rule; is = refl; single = refl; lone = refl; short = refl; called = refl; place_then = refl }, once_by del_shape text_reading (codes "PATH") (λ rows v. refl) (λ rows v. refl), (record { rule = unwrap_or (arg_by_index del_shape.rules 3) file_rule; is = refl; single = refl; lone = refl; short = refl; called = refl; place_then = refl }, once_by del_shape text_reading (codes "VALUE") (λ rows v. refl) (λ rows v. refl), λ h. tt)));
   places_apart = refl;
   options_apart = refl;
@@ -433,41 +333,21 @@ pub get_is : IsCommand (codes "get") get_shape
 unfolding node_on_words
 get_is = record { met = (refl, refl); found = refl; short = all_short get_shape.rules refl }
 
-get_raw_at : (b : Bool) → IsFlagAt get_shape flag_reading (codes "--raw") (codes "RAW") (free b)
-unfolding node_on_words
-get_raw_at true = record { uses = λ h position. refl; turn = λ h position. refl }
-get_raw_at false = record { uses = λ h position. refl; turn = λ h position. refl }
-
 get_raw : IsFlag get_shape flag_reading (codes "--raw") (codes "RAW")
 unfolding IsRefused node_on_words
-get_raw = record { at_free = get_raw_at; other = λ h is. refused_first (settles get_shape h) _ is; valued = λ v h skip. tt }
-
-get_reg_at : (b : Bool) → IsFlagAt get_shape flag_reading (codes "--reg") (codes "REG") (free b)
-unfolding node_on_words
-get_reg_at true = record { uses = λ h position. refl; turn = λ h position. refl }
-get_reg_at false = record { uses = λ h position. refl; turn = λ h position. refl }
+get_raw = record { at_free = at_both (IsFlagAt get_shape flag_reading (codes "--raw") (codes "RAW")) (record { uses = λ h position. refl; turn = λ h position. refl }) (record { uses = λ h position. refl; turn = λ h position. refl }); other = λ h is. refused_first (settles get_shape h) _ is; valued = λ v h skip. tt }
 
 get_reg : IsFlag get_shape flag_reading (codes "--reg") (codes "REG")
 unfolding IsRefused node_on_words
-get_reg = record { at_free = get_reg_at; other = λ h is. refused_first (settles get_shape h) _ is; valued = λ v h skip. tt }
-
-get_set_at : (b : Bool) → IsFlagAt get_shape flag_reading (codes "--set") (codes "SET") (free b)
-unfolding node_on_words
-get_set_at true = record { uses = λ h position. refl; turn = λ h position. refl }
-get_set_at false = record { uses = λ h position. refl; turn = λ h position. refl }
+get_reg = record { at_free = at_both (IsFlagAt get_shape flag_reading (codes "--reg") (codes "REG")) (record { uses = λ h position. refl; turn = λ h position. refl }) (record { uses = λ h position. refl; turn = λ h position. refl }); other = λ h is. refused_first (settles get_shape h) _ is; valued = λ v h skip. tt }
 
 get_set : IsFlag get_shape flag_reading (codes "--set") (codes "SET")
 unfolding IsRefused node_on_words
-get_set = record { at_free = get_set_at; other = λ h is. refused_first (settles get_shape h) _ is; valued = λ v h skip. tt }
-
-get_counter_at : (b : Bool) → IsFlagAt get_shape flag_reading (codes "--counter") (codes "COUNTER") (free b)
-unfolding node_on_words
-get_counter_at true = record { uses = λ h position. refl; turn = λ h position. refl }
-get_counter_at false = record { uses = λ h position. refl; turn = λ h position. refl }
+get_set = record { at_free = at_both (IsFlagAt get_shape flag_reading (codes "--set") (codes "SET")) (record { uses = λ h position. refl; turn = λ h position. refl }) (record { uses = λ h position. refl; turn = λ h position. refl }); other = λ h is. refused_first (settles get_shape h) _ is; valued = λ v h skip. tt }
 
 get_counter : IsFlag get_shape flag_reading (codes "--counter") (codes "COUNTER")
 unfolding IsRefused node_on_words
-get_counter = record { at_free = get_counter_at; other = λ h is. refused_first (settles get_shape h) _ is; valued = λ v h skip. tt }
+get_counter = record { at_free = at_both (IsFlagAt get_shape flag_reading (codes "--counter") (codes "COUNTER")) (record { uses = λ h position. refl; turn = λ h position. refl }) (record { uses = λ h position. refl; turn = λ h position. refl }); other = λ h is. refused_first (settles get_shape h) _ is; valued = λ v h skip. tt }
 
 get_long : (name : Text) → ((o : Chosen (raw_option ∷ register_option ∷ set_option ∷ counter_option ∷ [])) × (name ≡ o.0.bare)) ⊎ IsRequest get_shape (arg_by_long get_shape.rules name)
 unfolding IsRefused node_on_words
@@ -477,17 +357,7 @@ get_long name =
 
 get_short : HasShortRequests get_shape
 unfolding IsRefused node_on_words
-get_short character =
-    elim (found_other get_shape (λ a. has_short a character) ⊥ get_shape.rules (inl refl, (inl refl, (inr (inr is_none), (inr (inr is_none), (inr (inr is_none), (inr (inr is_none), (inr (inl (refl, λ rows. tt)), tt)))))))) [
-      | inl none ↦ absurd none
-      | inr is ↦ is
-    ]
-
-get_told : (word : Text) → IsOption word → ((o : Known) × IsIn o (raw_option ∷ register_option ∷ set_option ∷ counter_option ∷ []) × IsThis (name_of o) word) ⊎ IsAlwaysRefused get_shape word
-get_told word is = elim (told get_shape (Chosen (raw_option ∷ register_option ∷ set_option ∷ counter_option ∷ [])) (λ o. o.0.bare) get_long get_short word is) [
-  | inl this ↦ inl (this.0.0, this.0.1, this.1)
-  | inr refused ↦ inr refused
-]
+get_short = short_by get_shape (λ character. (inl refl, (inl refl, (inr (inr is_none), (inr (inr is_none), (inr (inr is_none), (inr (inr is_none), (inr (inl (refl, λ rows. tt)), tt))))))))
 
 get_reads : (rows : List Row) (ws : List Text) (vs : Text → List Text) → AreAt (ids_of get_plan) (get_plan.more) ws rows → Fits (get_plan.required) (get_plan.optional) (get_plan.more) ws
     → AreChosen (get_plan.known) vs rows → AreTrue (get_plan.known) vs
@@ -503,7 +373,7 @@ unfolding IsRefused held node_on_words
 get_takes = record {
   is = get_is;
   options = (inr (refl, get_raw), (inr (refl, get_reg), (inr (refl, get_set), (inr (refl, get_counter), tt))));
-  told = get_told;
+  told = told_by get_shape (raw_option ∷ register_option ∷ set_option ∷ counter_option ∷ []) get_long get_short;
   places = (record { rule = unwrap_or (arg_by_index get_shape.rules 1) file_rule; is = refl; single = refl; lone = refl; short = refl; called = refl; place_then = refl }, once_by get_shape text_reading (codes "FILE") (λ rows v. refl) (λ rows v. refl), (record { rule = unwrap_or (arg_by_index get_shape.rules 2) file_rule; is = refl; single = refl; lone = refl; short = refl; called = refl; place_then = refl }, once_by get_shape text_reading (codes "PATH") (λ rows v. refl) (λ rows v. refl), λ h. tt));
   places_apart = refl;
   options_apart = refl;
@@ -538,14 +408,9 @@ pub show_is : IsCommand (codes "show") show_shape
 unfolding node_on_words
 show_is = record { met = (refl, refl); found = refl; short = all_short show_shape.rules refl }
 
-show_pretty_at : (b : Bool) → IsFlagAt show_shape flag_reading (codes "--pretty") (codes "PRETTY") (free b)
-unfolding node_on_words
-show_pretty_at true = record { uses = λ h position. refl; turn = λ h position. refl }
-show_pretty_at false = record { uses = λ h position. refl; turn = λ h position. refl }
-
 show_pretty : IsFlag show_shape flag_reading (codes "--pretty") (codes "PRETTY")
 unfolding IsRefused node_on_words
-show_pretty = record { at_free = show_pretty_at; other = λ h is. refused_first (settles show_shape h) _ is; valued = λ v h skip. tt }
+show_pretty = record { at_free = at_both (IsFlagAt show_shape flag_reading (codes "--pretty") (codes "PRETTY")) (record { uses = λ h position. refl; turn = λ h position. refl }) (record { uses = λ h position. refl; turn = λ h position. refl }); other = λ h is. refused_first (settles show_shape h) _ is; valued = λ v h skip. tt }
 
 show_long : (name : Text) → ((o : Chosen (pretty_option ∷ [])) × (name ≡ o.0.bare)) ⊎ IsRequest show_shape (arg_by_long show_shape.rules name)
 unfolding IsRefused node_on_words
@@ -555,17 +420,7 @@ show_long name =
 
 show_short : HasShortRequests show_shape
 unfolding IsRefused node_on_words
-show_short character =
-    elim (found_other show_shape (λ a. has_short a character) ⊥ show_shape.rules (inl refl, (inl refl, (inr (inr is_none), (inr (inl (refl, λ rows. tt)), tt))))) [
-      | inl none ↦ absurd none
-      | inr is ↦ is
-    ]
-
-show_told : (word : Text) → IsOption word → ((o : Known) × IsIn o (pretty_option ∷ []) × IsThis (name_of o) word) ⊎ IsAlwaysRefused show_shape word
-show_told word is = elim (told show_shape (Chosen (pretty_option ∷ [])) (λ o. o.0.bare) show_long show_short word is) [
-  | inl this ↦ inl (this.0.0, this.0.1, this.1)
-  | inr refused ↦ inr refused
-]
+show_short = short_by show_shape (λ character. (inl refl, (inl refl, (inr (inr is_none), (inr (inl (refl, λ rows. tt)), tt)))))
 
 show_reads : (rows : List Row) (ws : List Text) (vs : Text → List Text) → AreAt (ids_of show_plan) (show_plan.more) ws rows → Fits (show_plan.required) (show_plan.optional) (show_plan.more) ws
     → AreChosen (show_plan.known) vs rows → AreTrue (show_plan.known) vs
@@ -581,7 +436,7 @@ unfolding IsRefused held node_on_words
 show_takes = record {
   is = show_is;
   options = (inr (refl, show_pretty), tt);
-  told = show_told;
+  told = told_by show_shape (pretty_option ∷ []) show_long show_short;
   places = (record { rule = unwrap_or (arg_by_index show_shape.rules 1) file_rule; is = refl; single = refl; lone = refl; short = refl; called = refl; place_then = refl }, once_by show_shape text_reading (codes "FILE") (λ rows v. refl) (λ rows v. refl), (record { rule = unwrap_or (arg_by_index show_shape.rules 2) file_rule; is = refl; single = refl; lone = refl; short = refl; called = refl; place_then = refl }, once_by show_shape text_reading (codes "PATH") (λ rows v. refl) (λ rows v. refl), λ h. tt));
   places_apart = refl;
   options_apart = refl;
@@ -616,17 +471,12 @@ pub sync_is : IsCommand (codes "sync") sync_shape
 unfolding node_on_words
 sync_is = record { met = (refl, refl); found = refl; short = all_short sync_shape.rules refl }
 
-sync_timeout_at : (b : Bool) → IsValuedAt sync_shape (codes "--timeout") (codes "TIMEOUT") (free b)
-unfolding node_on_words
-sync_timeout_at true = record { waits = λ h position. refl; turn = λ h position. refl; valued = λ h position v. refl; valued_turn = λ h position v. refl }
-sync_timeout_at false = record { waits = λ h position. refl; turn = λ h position. refl; valued = λ h position v. refl; valued_turn = λ h position v. refl }
-
 sync_timeout : IsValued sync_shape (codes "--timeout") (codes "TIMEOUT")
 unfolding IsRefused held node_on_words
 sync_timeout = record {
   once = once_by sync_shape text_reading (codes "TIMEOUT") (λ rows v. refl) (λ rows v. refl);
   bare = λ rows. tt;
-  at_free = sync_timeout_at;
+  at_free = at_both (IsValuedAt sync_shape (codes "--timeout") (codes "TIMEOUT")) (record { waits = λ h position. refl; turn = λ h position. refl; valued = λ h position v. refl; valued_turn = λ h position v. refl }) (record { waits = λ h position. refl; turn = λ h position. refl; valued = λ h position v. refl; valued_turn = λ h position v. refl });
   other = λ h is. is;
   takes = λ rows position v are.
       let h = held rows (Some (codes "TIMEOUT", [])) in
@@ -643,17 +493,7 @@ sync_long name =
 
 sync_short : HasShortRequests sync_shape
 unfolding IsRefused node_on_words
-sync_short character =
-    elim (found_other sync_shape (λ a. has_short a character) ⊥ sync_shape.rules (inl refl, (inl refl, (inr (inr is_none), (inr (inl (refl, λ rows. tt)), tt))))) [
-      | inl none ↦ absurd none
-      | inr is ↦ is
-    ]
-
-sync_told : (word : Text) → IsOption word → ((o : Known) × IsIn o (timeout_option ∷ []) × IsThis (name_of o) word) ⊎ IsAlwaysRefused sync_shape word
-sync_told word is = elim (told sync_shape (Chosen (timeout_option ∷ [])) (λ o. o.0.bare) sync_long sync_short word is) [
-  | inl this ↦ inl (this.0.0, this.0.1, this.1)
-  | inr refused ↦ inr refused
-]
+sync_short = short_by sync_shape (λ character. (inl refl, (inl refl, (inr (inr is_none), (inr (inl (refl, λ rows. tt)), tt)))))
 
 sync_reads : (rows : List Row) (ws : List Text) (vs : Text → List Text) → AreAt (ids_of sync_plan) (sync_plan.more) ws rows → Fits (sync_plan.required) (sync_plan.optional) (sync_plan.more) ws
     → AreChosen (sync_plan.known) vs rows → AreTrue (sync_plan.known) vs
@@ -669,7 +509,7 @@ unfolding IsRefused held node_on_words
 sync_takes = record {
   is = sync_is;
   options = (inl (refl, refl, sync_timeout), tt);
-  told = sync_told;
+  told = told_by sync_shape (timeout_option ∷ []) sync_long sync_short;
   places = (record { rule = unwrap_or (arg_by_index sync_shape.rules 1) file_rule; is = refl; single = refl; lone = refl; short = refl; called = refl; place_then = refl }, once_by sync_shape text_reading (codes "FILE") (λ rows v. refl) (λ rows v. refl), (record { rule = unwrap_or (arg_by_index sync_shape.rules 2) file_rule; is = refl; single = refl; lone = refl; short = refl; called = refl; place_then = refl }, once_by sync_shape text_reading (codes "ADDR") (λ rows v. refl) (λ rows v. refl), λ h. tt));
   places_apart = refl;
   options_apart = refl;
@@ -704,17 +544,12 @@ pub serve_is : IsCommand (codes "serve") serve_shape
 unfolding node_on_words
 serve_is = record { met = (refl, refl); found = refl; short = all_short serve_shape.rules refl }
 
-serve_sessions_at : (b : Bool) → IsValuedAt serve_shape (codes "--sessions") (codes "SESSIONS") (free b)
-unfolding node_on_words
-serve_sessions_at true = record { waits = λ h position. refl; turn = λ h position. refl; valued = λ h position v. refl; valued_turn = λ h position v. refl }
-serve_sessions_at false = record { waits = λ h position. refl; turn = λ h position. refl; valued = λ h position v. refl; valued_turn = λ h position v. refl }
-
 serve_sessions : IsValued serve_shape (codes "--sessions") (codes "SESSIONS")
 unfolding IsRefused held node_on_words
 serve_sessions = record {
   once = once_by serve_shape text_reading (codes "SESSIONS") (λ rows v. refl) (λ rows v. refl);
   bare = λ rows. tt;
-  at_free = serve_sessions_at;
+  at_free = at_both (IsValuedAt serve_shape (codes "--sessions") (codes "SESSIONS")) (record { waits = λ h position. refl; turn = λ h position. refl; valued = λ h position v. refl; valued_turn = λ h position v. refl }) (record { waits = λ h position. refl; turn = λ h position. refl; valued = λ h position v. refl; valued_turn = λ h position v. refl });
   other = λ h is. is;
   takes = λ rows position v are.
       let h = held rows (Some (codes "SESSIONS", [])) in
@@ -723,17 +558,12 @@ serve_sessions = record {
   valued_other = λ h v is. refused_first (settles serve_shape h) _ is;
 }
 
-serve_timeout_at : (b : Bool) → IsValuedAt serve_shape (codes "--timeout") (codes "TIMEOUT") (free b)
-unfolding node_on_words
-serve_timeout_at true = record { waits = λ h position. refl; turn = λ h position. refl; valued = λ h position v. refl; valued_turn = λ h position v. refl }
-serve_timeout_at false = record { waits = λ h position. refl; turn = λ h position. refl; valued = λ h position v. refl; valued_turn = λ h position v. refl }
-
 serve_timeout : IsValued serve_shape (codes "--timeout") (codes "TIMEOUT")
 unfolding IsRefused held node_on_words
 serve_timeout = record {
   once = once_by serve_shape text_reading (codes "TIMEOUT") (λ rows v. refl) (λ rows v. refl);
   bare = λ rows. tt;
-  at_free = serve_timeout_at;
+  at_free = at_both (IsValuedAt serve_shape (codes "--timeout") (codes "TIMEOUT")) (record { waits = λ h position. refl; turn = λ h position. refl; valued = λ h position v. refl; valued_turn = λ h position v. refl }) (record { waits = λ h position. refl; turn = λ h position. refl; valued = λ h position v. refl; valued_turn = λ h position v. refl });
   other = λ h is. is;
   takes = λ rows position v are.
       let h = held rows (Some (codes "TIMEOUT", [])) in
@@ -750,17 +580,7 @@ serve_long name =
 
 serve_short : HasShortRequests serve_shape
 unfolding IsRefused node_on_words
-serve_short character =
-    elim (found_other serve_shape (λ a. has_short a character) ⊥ serve_shape.rules (inl refl, (inl refl, (inr (inr is_none), (inr (inr is_none), (inr (inl (refl, λ rows. tt)), tt)))))) [
-      | inl none ↦ absurd none
-      | inr is ↦ is
-    ]
-
-serve_told : (word : Text) → IsOption word → ((o : Known) × IsIn o (sessions_option ∷ timeout_option ∷ []) × IsThis (name_of o) word) ⊎ IsAlwaysRefused serve_shape word
-serve_told word is = elim (told serve_shape (Chosen (sessions_option ∷ timeout_option ∷ [])) (λ o. o.0.bare) serve_long serve_short word is) [
-  | inl this ↦ inl (this.0.0, this.0.1, this.1)
-  | inr refused ↦ inr refused
-]
+serve_short = short_by serve_shape (λ character. (inl refl, (inl refl, (inr (inr is_none), (inr (inr is_none), (inr (inl (refl, λ rows. tt)), tt))))))
 
 serve_reads : (rows : List Row) (ws : List Text) (vs : Text → List Text) → AreAt (ids_of serve_plan) (serve_plan.more) ws rows → Fits (serve_plan.required) (serve_plan.optional) (serve_plan.more) ws
     → AreChosen (serve_plan.known) vs rows → AreTrue (serve_plan.known) vs
@@ -776,7 +596,7 @@ unfolding IsRefused held node_on_words
 serve_takes = record {
   is = serve_is;
   options = (inl (refl, refl, serve_sessions), (inl (refl, refl, serve_timeout), tt));
-  told = serve_told;
+  told = told_by serve_shape (sessions_option ∷ timeout_option ∷ []) serve_long serve_short;
   places = (record { rule = unwrap_or (arg_by_index serve_shape.rules 1) file_rule; is = refl; single = refl; lone = refl; short = refl; called = refl; place_then = refl }, once_by serve_shape text_reading (codes "FILE") (λ rows v. refl) (λ rows v. refl), (record { rule = unwrap_or (arg_by_index serve_shape.rules 2) file_rule; is = refl; single = refl; lone = refl; short = refl; called = refl; place_then = refl }, once_by serve_shape text_reading (codes "ADDR") (λ rows v. refl) (λ rows v. refl), λ h. tt));
   places_apart = refl;
   options_apart = refl;

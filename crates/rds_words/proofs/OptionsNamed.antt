@@ -7,7 +7,7 @@ use Rattle.rds_names.specs.Conditions.{and_left, and_right}
 use Rattle.rds_words.specs.Entered.{Names}
 use Rattle.rds_words.specs.Typed.{AreOnce, AreTyped, HaveOptionsOf, Part, typed_flag, typed_option, typed_word, values_among, words_among}
 use Rattle.rds_words.specs.Written.{AreData, is_data}
-use Rattle.rds_words.proofs.OptionPlans.{add_plan, add_takes, del_plan, del_takes, get_plan, get_takes, init_plan, init_takes, serve_plan, serve_takes, set_plan, set_takes, show_plan, show_takes, sync_plan, sync_takes}
+use Rattle.rds_words.proofs.OptionPlans.{del_plan, del_takes, entry_plan, get_plan, get_takes, init_plan, init_takes, serve_plan, serve_takes, show_plan, show_takes, sync_plan, sync_takes}
 use Rattle.rds_words.proofs.PlanMeant.{means}
 use Rattle.rds_words.proofs.PlanWalk.{Plan, Takes}
 
@@ -46,41 +46,25 @@ init_from_named name file own from are =
     (file ∷ own ∷ [], inl (refl, (and_left (is_data from) _ are)), (own ∷ [], refl, (and_left (is_data file) _ (and_right (is_data from) _ are)), ([], refl, (and_left (is_data own) _ (and_right (is_data file) _ (and_right (is_data from) _ are))), refl)))
     (refl, tt) (tt, tt) refl refl
 
-pub set_text_named : (name file path value : Text) → AreData (file ∷ path ∷ value ∷ []) → Names (name ∷ codes "set" ∷ codes "--text" ∷ file ∷ path ∷ value ∷ []) (codes "set" ∷ file ∷ path ∷ value ∷ codes "--text" ∷ [])
-set_text_named name file path value are =
-    typed_names set_plan set_takes name (codes "--text" ∷ file ∷ path ∷ value ∷ []) (file ∷ path ∷ value ∷ codes "--text" ∷ []) (typed_flag (codes "--text") ∷ typed_word file ∷ typed_word path ∷ typed_word value ∷ [])
-    (file ∷ path ∷ value ∷ [], refl, (path ∷ value ∷ [], refl, (and_left (is_data file) _ are), (value ∷ [], refl, (and_left (is_data path) _ (and_right (is_data file) _ are)), ([], refl, (and_left (is_data value) _ (and_right (is_data path) _ (and_right (is_data file) _ are))), refl))))
-    (refl, tt) (tt, (tt, tt)) refl refl
+-- `set` and `add`
+module _ (command : Text) (takes : Takes (entry_plan command)) where
+  pub text_named : (name file path value : Text) → AreData (file ∷ path ∷ value ∷ []) → Names (name ∷ command ∷ codes "--text" ∷ file ∷ path ∷ value ∷ []) (command ∷ file ∷ path ∷ value ∷ codes "--text" ∷ [])
+  text_named name file path value are =
+      typed_names (entry_plan command) takes name (codes "--text" ∷ file ∷ path ∷ value ∷ []) (file ∷ path ∷ value ∷ codes "--text" ∷ []) (typed_flag (codes "--text") ∷ typed_word file ∷ typed_word path ∷ typed_word value ∷ [])
+      (file ∷ path ∷ value ∷ [], refl, (path ∷ value ∷ [], refl, (and_left (is_data file) _ are), (value ∷ [], refl, (and_left (is_data path) _ (and_right (is_data file) _ are)), ([], refl, (and_left (is_data value) _ (and_right (is_data path) _ (and_right (is_data file) _ are))), refl))))
+      (refl, tt) (tt, (tt, tt)) refl refl
 
-pub set_changed_named : (name file path value : Text) → AreData (file ∷ path ∷ value ∷ []) → Names (name ∷ codes "set" ∷ codes "--if-changed" ∷ file ∷ path ∷ value ∷ []) (codes "set" ∷ file ∷ path ∷ value ∷ codes "--if-changed" ∷ [])
-set_changed_named name file path value are =
-    typed_names set_plan set_takes name (codes "--if-changed" ∷ file ∷ path ∷ value ∷ []) (file ∷ path ∷ value ∷ codes "--if-changed" ∷ []) (typed_flag (codes "--if-changed") ∷ typed_word file ∷ typed_word path ∷ typed_word value ∷ [])
-    (file ∷ path ∷ value ∷ [], refl, (path ∷ value ∷ [], refl, (and_left (is_data file) _ are), (value ∷ [], refl, (and_left (is_data path) _ (and_right (is_data file) _ are)), ([], refl, (and_left (is_data value) _ (and_right (is_data path) _ (and_right (is_data file) _ are))), refl))))
-    (refl, tt) (tt, (tt, tt)) refl refl
+  pub changed_named : (name file path value : Text) → AreData (file ∷ path ∷ value ∷ []) → Names (name ∷ command ∷ codes "--if-changed" ∷ file ∷ path ∷ value ∷ []) (command ∷ file ∷ path ∷ value ∷ codes "--if-changed" ∷ [])
+  changed_named name file path value are =
+      typed_names (entry_plan command) takes name (codes "--if-changed" ∷ file ∷ path ∷ value ∷ []) (file ∷ path ∷ value ∷ codes "--if-changed" ∷ []) (typed_flag (codes "--if-changed") ∷ typed_word file ∷ typed_word path ∷ typed_word value ∷ [])
+      (file ∷ path ∷ value ∷ [], refl, (path ∷ value ∷ [], refl, (and_left (is_data file) _ are), (value ∷ [], refl, (and_left (is_data path) _ (and_right (is_data file) _ are)), ([], refl, (and_left (is_data value) _ (and_right (is_data path) _ (and_right (is_data file) _ are))), refl))))
+      (refl, tt) (tt, (tt, tt)) refl refl
 
-pub set_text_changed_named : (name file path value : Text) → AreData (file ∷ path ∷ value ∷ []) → Names (name ∷ codes "set" ∷ codes "--if-changed" ∷ codes "--text" ∷ file ∷ path ∷ value ∷ []) (codes "set" ∷ file ∷ path ∷ value ∷ codes "--text" ∷ codes "--if-changed" ∷ [])
-set_text_changed_named name file path value are =
-    typed_names set_plan set_takes name (codes "--if-changed" ∷ codes "--text" ∷ file ∷ path ∷ value ∷ []) (file ∷ path ∷ value ∷ codes "--text" ∷ codes "--if-changed" ∷ []) (typed_flag (codes "--if-changed") ∷ typed_flag (codes "--text") ∷ typed_word file ∷ typed_word path ∷ typed_word value ∷ [])
-    (codes "--text" ∷ file ∷ path ∷ value ∷ [], refl, (file ∷ path ∷ value ∷ [], refl, (path ∷ value ∷ [], refl, (and_left (is_data file) _ are), (value ∷ [], refl, (and_left (is_data path) _ (and_right (is_data file) _ are)), ([], refl, (and_left (is_data value) _ (and_right (is_data path) _ (and_right (is_data file) _ are))), refl)))))
-    (refl, (refl, tt)) (tt, (tt, tt)) refl refl
-
-pub add_text_named : (name file path value : Text) → AreData (file ∷ path ∷ value ∷ []) → Names (name ∷ codes "add" ∷ codes "--text" ∷ file ∷ path ∷ value ∷ []) (codes "add" ∷ file ∷ path ∷ value ∷ codes "--text" ∷ [])
-add_text_named name file path value are =
-    typed_names add_plan add_takes name (codes "--text" ∷ file ∷ path ∷ value ∷ []) (file ∷ path ∷ value ∷ codes "--text" ∷ []) (typed_flag (codes "--text") ∷ typed_word file ∷ typed_word path ∷ typed_word value ∷ [])
-    (file ∷ path ∷ value ∷ [], refl, (path ∷ value ∷ [], refl, (and_left (is_data file) _ are), (value ∷ [], refl, (and_left (is_data path) _ (and_right (is_data file) _ are)), ([], refl, (and_left (is_data value) _ (and_right (is_data path) _ (and_right (is_data file) _ are))), refl))))
-    (refl, tt) (tt, (tt, tt)) refl refl
-
-pub add_changed_named : (name file path value : Text) → AreData (file ∷ path ∷ value ∷ []) → Names (name ∷ codes "add" ∷ codes "--if-changed" ∷ file ∷ path ∷ value ∷ []) (codes "add" ∷ file ∷ path ∷ value ∷ codes "--if-changed" ∷ [])
-add_changed_named name file path value are =
-    typed_names add_plan add_takes name (codes "--if-changed" ∷ file ∷ path ∷ value ∷ []) (file ∷ path ∷ value ∷ codes "--if-changed" ∷ []) (typed_flag (codes "--if-changed") ∷ typed_word file ∷ typed_word path ∷ typed_word value ∷ [])
-    (file ∷ path ∷ value ∷ [], refl, (path ∷ value ∷ [], refl, (and_left (is_data file) _ are), (value ∷ [], refl, (and_left (is_data path) _ (and_right (is_data file) _ are)), ([], refl, (and_left (is_data value) _ (and_right (is_data path) _ (and_right (is_data file) _ are))), refl))))
-    (refl, tt) (tt, (tt, tt)) refl refl
-
-pub add_text_changed_named : (name file path value : Text) → AreData (file ∷ path ∷ value ∷ []) → Names (name ∷ codes "add" ∷ codes "--if-changed" ∷ codes "--text" ∷ file ∷ path ∷ value ∷ []) (codes "add" ∷ file ∷ path ∷ value ∷ codes "--text" ∷ codes "--if-changed" ∷ [])
-add_text_changed_named name file path value are =
-    typed_names add_plan add_takes name (codes "--if-changed" ∷ codes "--text" ∷ file ∷ path ∷ value ∷ []) (file ∷ path ∷ value ∷ codes "--text" ∷ codes "--if-changed" ∷ []) (typed_flag (codes "--if-changed") ∷ typed_flag (codes "--text") ∷ typed_word file ∷ typed_word path ∷ typed_word value ∷ [])
-    (codes "--text" ∷ file ∷ path ∷ value ∷ [], refl, (file ∷ path ∷ value ∷ [], refl, (path ∷ value ∷ [], refl, (and_left (is_data file) _ are), (value ∷ [], refl, (and_left (is_data path) _ (and_right (is_data file) _ are)), ([], refl, (and_left (is_data value) _ (and_right (is_data path) _ (and_right (is_data file) _ are))), refl)))))
-    (refl, (refl, tt)) (tt, (tt, tt)) refl refl
+  pub text_changed_named : (name file path value : Text) → AreData (file ∷ path ∷ value ∷ []) → Names (name ∷ command ∷ codes "--if-changed" ∷ codes "--text" ∷ file ∷ path ∷ value ∷ []) (command ∷ file ∷ path ∷ value ∷ codes "--text" ∷ codes "--if-changed" ∷ [])
+  text_changed_named name file path value are =
+      typed_names (entry_plan command) takes name (codes "--if-changed" ∷ codes "--text" ∷ file ∷ path ∷ value ∷ []) (file ∷ path ∷ value ∷ codes "--text" ∷ codes "--if-changed" ∷ []) (typed_flag (codes "--if-changed") ∷ typed_flag (codes "--text") ∷ typed_word file ∷ typed_word path ∷ typed_word value ∷ [])
+      (codes "--text" ∷ file ∷ path ∷ value ∷ [], refl, (file ∷ path ∷ value ∷ [], refl, (path ∷ value ∷ [], refl, (and_left (is_data file) _ are), (value ∷ [], refl, (and_left (is_data path) _ (and_right (is_data file) _ are)), ([], refl, (and_left (is_data value) _ (and_right (is_data path) _ (and_right (is_data file) _ are))), refl)))))
+      (refl, (refl, tt)) (tt, (tt, tt)) refl refl
 
 pub del_text_named : (name file path value : Text) → AreData (file ∷ path ∷ value ∷ []) → Names (name ∷ codes "del" ∷ codes "--text" ∷ file ∷ path ∷ value ∷ []) (codes "del" ∷ file ∷ path ∷ value ∷ codes "--text" ∷ [])
 del_text_named name file path value are =

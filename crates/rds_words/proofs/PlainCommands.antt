@@ -1,5 +1,5 @@
 -- The commands that have no options, one by one.
-use Rattle.std.proofs.Common.{[], ◌∷◌, codes, refl, inl, inr}
+use Rattle.std.proofs.Common.{codes, refl, inl, inr}
 use Rattle.rds_words.specs.Spelling.{at_least, exactly, or_root}
 use Rattle.rds_words.proofs.CommandWords.{node_on_words}
 use Rattle.rds_words.proofs.EachNamed.{answer_dashed, answer_met, ask_dashed, ask_met, check_dashed, check_met, clear_dashed, clear_met, clear_root_dashed, conflicts_dashed, conflicts_met, conflicts_root_dashed, dec_dashed, dec_met, diff_dashed, diff_met, dump_dashed, dump_met, dump_root_dashed, edit_lines_dashed, edit_lines_met, faults_dashed, faults_met, files_dashed, files_met, inc_dashed, inc_met, join_dashed, join_met, merge_dashed, merge_met, pair_dashed, pair_met, sim_dashed, sim_met, status_dashed, status_met, take_dashed, take_met}

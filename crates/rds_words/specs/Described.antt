@@ -4,8 +4,24 @@ use Rattle.clap.specs.Words.{App, Rule, Text, new_app, new_rule, with_rule}
 use Rattle.rds_words.specs.declared.table.Described.{Described}
 use Rattle.rds_words.specs.declared.table.Word.{Word}
 use Rattle.rds_words.specs.declared.table.Kind.{Kind}
-use Rattle.rds_words.specs.declared.table.Kind.TheVariants.{Required, Optional, Repeated, Several, Defaulted, Valued, Flag}
-use Rattle.rds_words.specs.Commands.{defaulted_rule, flag_rule, repeated_rule, required_rule, several_rule, valued_rule, with_command}
+use Rattle.rds_words.specs.declared.table.Kind.TheVariants.{
+  Required,
+  Optional,
+  Repeated,
+  Several,
+  Defaulted,
+  Valued,
+  Flag,
+}
+use Rattle.rds_words.specs.Commands.{
+  defaulted_rule,
+  flag_rule,
+  repeated_rule,
+  required_rule,
+  several_rule,
+  valued_rule,
+  with_command,
+}
 
 abbrev pub rule_by : Kind → Text → Rule
 rule_by Required id = required_rule id

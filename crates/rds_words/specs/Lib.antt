@@ -1,6 +1,7 @@
 pub mod Commands
 pub mod Described
 pub mod Entered
+pub mod LeftOut
 pub mod Meaning
 pub mod Raw
 pub mod Spelling

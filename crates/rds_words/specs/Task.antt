@@ -1,11 +1,56 @@
 -- The task that a parse of the words names.
-use Rattle.std.specs.Prelude.{◌≡◌, Bool, true, false, List, [], ◌∷◌, ◌++◌, Option, Some, None, map, option_map, option_and_then, unwrap_or, codes, if◌then◌else◌}
+use Rattle.std.specs.Prelude.{
+  ◌≡◌,
+  Bool,
+  true,
+  false,
+  List,
+  [],
+  ◌∷◌,
+  ◌++◌,
+  Option,
+  Some,
+  None,
+  map,
+  option_map,
+  option_and_then,
+  unwrap_or,
+  codes,
+  if◌then◌else◌,
+}
 use Rattle.std.specs.Borrow.{Bor}
 use Rattle.std.specs.Option.{option_map_or}
 use Rattle.std.specs.Str.{bytes_eq}
 use Rattle.clap.specs.Words.{Row, Text, all_of, first_of}
 use Rattle.rds_words.specs.declared.tasks.Task.{Task}
-use Rattle.rds_words.specs.declared.tasks.Task.TheVariants.{Join, Sim, Files, Faults, Init, InitFrom, Grow, Edit, EditIfChanged, EditLines, Get, GetRaw, Show, ShowPretty, Dump, Status, Serve, Sync, Pair, Ask, Answer, Take, Merge, Check, Conflicts, Diff}
+use Rattle.rds_words.specs.declared.tasks.Task.TheVariants.{
+  Join,
+  Sim,
+  Files,
+  Faults,
+  Init,
+  InitFrom,
+  Grow,
+  Edit,
+  EditIfChanged,
+  EditLines,
+  Get,
+  GetRaw,
+  Show,
+  ShowPretty,
+  Dump,
+  Status,
+  Serve,
+  Sync,
+  Pair,
+  Ask,
+  Answer,
+  Take,
+  Merge,
+  Check,
+  Conflicts,
+  Diff,
+}
 use Rattle.rds_words.specs.declared.tasks.EditWords.{EditWords}
 use Rattle.rds_words.specs.declared.tasks.EditWords.TheVariants.{Set, Add, Del, Clear, Inc, Dec}
 use Rattle.rds_words.specs.declared.tasks.RawKind.{RawKind}

@@ -1,5 +1,26 @@
 -- The commands that have options: which words they take, and which task these name.
-use Rattle.std.specs.Prelude.{◌≡◌, ◌==◌, ◌||◌, ℕ, Bool, true, false, List, [], ◌∷◌, ◌++◌, Option, Some, codes, find, length, nat_le, option_map, if◌then◌else◌, slice_get}
+use Rattle.std.specs.Prelude.{
+  ◌≡◌,
+  ◌==◌,
+  ◌||◌,
+  ℕ,
+  Bool,
+  true,
+  false,
+  List,
+  [],
+  ◌∷◌,
+  ◌++◌,
+  Option,
+  Some,
+  codes,
+  find,
+  length,
+  nat_le,
+  option_map,
+  if◌then◌else◌,
+  slice_get,
+}
 use Rattle.std.specs.Str.{bytes_eq}
 use Rattle.clap.specs.Words.{Text}
 use Rattle.rds_words.specs.Entered.{mistakes_in, named_in}

@@ -4,7 +4,17 @@ use Rattle.std.specs.List.{list_all}
 use Rattle.std.specs.Str.{chars}
 use Rattle.clap.specs.Words.{Text}
 use Rattle.rds_words.specs.declared.tasks.Task.{Task}
-use Rattle.rds_words.specs.declared.tasks.Task.TheVariants.{Edit, EditIfChanged, GetRaw, Grow, Init, InitFrom, Serve, ShowPretty, Sync}
+use Rattle.rds_words.specs.declared.tasks.Task.TheVariants.{
+  Edit,
+  EditIfChanged,
+  GetRaw,
+  Grow,
+  Init,
+  InitFrom,
+  Serve,
+  ShowPretty,
+  Sync,
+}
 use Rattle.rds_words.specs.declared.tasks.EditWords.{EditWords}
 use Rattle.rds_words.specs.declared.tasks.EditWords.TheVariants.{Set, Add, Del, Clear, Inc, Dec}
 use Rattle.rds_words.specs.declared.tasks.ValueWord.{ValueWord}

@@ -419,9 +419,11 @@ Example: rds_node status notes.a";
 
 const STATUS_TEXT: &str = "\
 Output: one line, {\"group\":\"notes\",\"own\":\"a\",\"names\":[\"a\",\"b\"],\"live\":1,\"dead\":0,
-\"counters\":0,\"components\":1,\"bytes\":58}: the group, the replica's own name and the names
-of all; how many live entries, dots of dead ones and counters there are, how many
-components in all, and how many bytes the snapshot has.";
+\"counters\":0,\"components\":1,\"bytes\":76,\"mark\":\"3923e6a85fb4142d3ef808a12ecff18d\"}: the
+group, the replica's own name and the names of all; how many live entries, dots of dead
+ones and counters there are, how many components in all, how many bytes the snapshot
+has, and the mark of its state. Files that hold the same have the same mark, and others
+have it by chance alone.";
 
 pub const CHECK_ABOUT: &str =
     "Says whether the certificate of an answer holds, and prints its delta";

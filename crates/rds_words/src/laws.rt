@@ -1,9 +1,16 @@
 //! Which words name a task.
-ghost use Rattle.std.specs.Prelude.{[], ◌∷◌, ◌++◌, codes};
+ghost use Rattle.std.specs.Prelude.{[], ◌∷◌, codes};
 ghost use Rattle.clap.specs.Words.{Text};
 ghost use Rattle.rds_words.specs.declared.tasks.Task.{Task};
 ghost use Rattle.rds_words.specs.Entered.{Names};
-ghost use Rattle.rds_words.specs.Spelling.{OtherCommandsAreRefused, OtherWordsAreRefused, OtherWordsWithoutOptions, WordsMeanTheirSpelling, WordsWithoutOptions};
+ghost use Rattle.rds_words.specs.LeftOut.{ServeMayLackWords, ShowMayLackWords, SyncMayLackWords};
+ghost use Rattle.rds_words.specs.Spelling.{
+  OtherCommandsAreRefused,
+  OtherWordsAreRefused,
+  OtherWordsWithoutOptions,
+  WordsMeanTheirSpelling,
+  WordsWithoutOptions,
+};
 ghost use Rattle.rds_words.specs.Task.{words_of};
 ghost use Rattle.rds_words.specs.WithOptions.{OptionsMeanTheirSpelling};
 ghost use Rattle.rds_words.specs.Written.{AreData, HasNames, IsWritable, words_dashed, words_written};
@@ -19,44 +26,11 @@ pub fn word_laws()
         → Names (name ∷ words_written task) (words_of task) }
     ensures dashed { (name : Text) (task : Task) → HasNames task
         → Names (name ∷ words_dashed task) (words_of task) }
-    ensures root_shown { (name : Text) (file : Text) → AreData (file ∷ [])
-        → Names (name ∷ codes "show" ∷ file ∷ []) (codes "show" ∷ file ∷ [] ∷ []) }
-    ensures pretty_root { (name : Text) (file : Text) → AreData (file ∷ [])
-        → Names (name ∷ codes "show" ∷ codes "--pretty" ∷ file ∷ [])
-        (codes "show" ∷ file ∷ [] ∷ codes "--pretty" ∷ []) }
-    ensures pretty_root_dashed { (name : Text) (file : Text)
-        → Names (name ∷ codes "show" ∷ codes "--pretty" ∷ codes "--" ∷ file ∷ [])
-        (codes "show" ∷ file ∷ [] ∷ codes "--pretty" ∷ []) }
-    ensures pretty_behind { (name : Text) (file : Text) (path : Text) → AreData (file ∷ path ∷ [])
-        → Names (name ∷ codes "show" ∷ file ∷ path ∷ codes "--pretty" ∷ [])
-        (codes "show" ∷ file ∷ path ∷ codes "--pretty" ∷ []) }
-    ensures pretty_root_behind { (name : Text) (file : Text) → AreData (file ∷ [])
-        → Names (name ∷ codes "show" ∷ file ∷ codes "--pretty" ∷ [])
-        (codes "show" ∷ file ∷ [] ∷ codes "--pretty" ∷ []) }
     ensures root_cleared { (name : Text) (file : Text) → AreData (file ∷ [])
         → Names (name ∷ codes "clear" ∷ file ∷ []) (codes "clear" ∷ file ∷ [] ∷ []) }
-    ensures one_session { (name : Text) (file : Text) (addr : Text) → AreData (file ∷ addr ∷ [])
-        → Names (name ∷ codes "serve" ∷ file ∷ addr ∷ [])
-        (codes "serve" ∷ file ∷ addr ∷ codes "1" ∷ codes "60" ∷ []) }
-    ensures sessions_alone { (name : Text) (file : Text) (addr : Text) (sessions : Text)
-        → AreData (file ∷ addr ∷ sessions ∷ [])
-        → Names (name ∷ codes "serve" ∷ file ∷ addr ∷ codes "--sessions" ∷ sessions ∷ [])
-        (codes "serve" ∷ file ∷ addr ∷ sessions ∷ codes "60" ∷ []) }
-    ensures sessions_alone_dashed { (name : Text) (file : Text) (addr : Text) (sessions : Text)
-        → Names (name ∷ codes "serve" ∷ (codes "--sessions=" ++ sessions) ∷ codes "--" ∷ file ∷ addr ∷ [])
-        (codes "serve" ∷ file ∷ addr ∷ sessions ∷ codes "60" ∷ []) }
-    ensures timeout_alone { (name : Text) (file : Text) (addr : Text) (timeout : Text)
-        → AreData (file ∷ addr ∷ timeout ∷ [])
-        → Names (name ∷ codes "serve" ∷ file ∷ addr ∷ codes "--timeout" ∷ timeout ∷ [])
-        (codes "serve" ∷ file ∷ addr ∷ codes "1" ∷ timeout ∷ []) }
-    ensures timeout_alone_dashed { (name : Text) (file : Text) (addr : Text) (timeout : Text)
-        → Names (name ∷ codes "serve" ∷ (codes "--timeout=" ++ timeout) ∷ codes "--" ∷ file ∷ addr ∷ [])
-        (codes "serve" ∷ file ∷ addr ∷ codes "1" ∷ timeout ∷ []) }
-    ensures sync_alone { (name : Text) (file : Text) (addr : Text) → AreData (file ∷ addr ∷ [])
-        → Names (name ∷ codes "sync" ∷ file ∷ addr ∷ []) (codes "sync" ∷ file ∷ addr ∷ codes "60" ∷ []) }
-    ensures sync_alone_dashed { (name : Text) (file : Text) (addr : Text)
-        → Names (name ∷ codes "sync" ∷ codes "--" ∷ file ∷ addr ∷ [])
-        (codes "sync" ∷ file ∷ addr ∷ codes "60" ∷ []) }
+    ensures show { ShowMayLackWords }
+    ensures serve { ServeMayLackWords }
+    ensures sync { SyncMayLackWords }
 {}
 
 /// Of a command without options: what stands behind it names a task just where it is spelled so, the task's words in

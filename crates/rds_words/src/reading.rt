@@ -2,7 +2,30 @@
 ghost use Rattle.std.specs.Prelude.{◌≡◌, [], ◌∷◌, codes, map, None, option_map, Some, unwrap_or, IfOk};
 ghost use Rattle.clap.specs.Words.{all_of, first_of, found_of, rows_of, subcommand_rows_of};
 ghost use Rattle.rds_words.specs.Raw.{raw_words};
-ghost use Rattle.rds_words.specs.Task.{changed_words_in, delta_words_behind, edit_words_behind, entry_words_in, file_and_path, file_words_behind, get_words_in, grow_words_in, init_words_by, init_words_in, is_given, kind_words, looking_words_behind, named_words, plain_words_behind, raw_words_in, session_words_behind, show_words_in, value_words, words_in, words_of, words_under};
+ghost use Rattle.rds_words.specs.Task.{
+  changed_words_in,
+  delta_words_behind,
+  edit_words_behind,
+  entry_words_in,
+  file_and_path,
+  file_words_behind,
+  get_words_in,
+  grow_words_in,
+  init_words_by,
+  init_words_in,
+  is_given,
+  kind_words,
+  looking_words_behind,
+  named_words,
+  plain_words_behind,
+  raw_words_in,
+  session_words_behind,
+  show_words_in,
+  value_words,
+  words_in,
+  words_of,
+  words_under,
+};
 
 use crate::tasks::{
     EditWords, GrowWords, InitFromWords, InitWords, RawKind, ServeWords, SyncWords, Task, ValueWord,

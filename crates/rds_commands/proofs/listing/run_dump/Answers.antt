@@ -8,4 +8,4 @@ use Rattle.rds_commands.proofs.listing.run_dump.Goals as goal
 pub returns-in-Ok-clause-written : goal.returns-in-Ok-clause-written
 returns-in-Ok-clause-written g c = λ wrote.
     lines_written dump_text 0 c.args.path.now c.args.text.now c.in-Ok.done.file (string_bytes c.in-Ok.done.told) c.deref.result.now (g.W.Write.contents c.args.writer.now.inner) (g.W.Write.contents c.write_lines.new.writer.inner) c.write_lines.result
-    c.in-Ok.ensures.told (c.deref.ensures ∙ ap (λ (s : String Global). string_bytes s) c.into_told.ensures) (c.write_lines.ensures.written wrote) (c.write_lines.ensures.due wrote)
+    c.in-Ok.ensures.told (c.deref.ensures ∙ ap (λ (s : String Global). string_bytes s) c.into_told.ensures) (c.write_lines.ensures.written wrote)

@@ -1,8 +1,9 @@
 use Rattle.rds_commands.specs.Looks.{GetsFile, RefusesGet}
+use Rattle.rds_lines.specs.Streams.{stream_of}
 use Rattle.rds_commands.proofs.Entered.{told_of_file}
 use Rattle.rds_commands.proofs.looking.run_get.Goals as goal
 
-pub returns-in-Ok-clause-written : goal.returns-in-Ok-clause-written
-returns-in-Ok-clause-written g c = λ wrote.
-    told_of_file (GetsFile c.args.path.now c.args.text.now) (RefusesGet c.args.text.now) c.in-Ok.done.file c.in-Ok.done.answer c.into_answer.result (g.W.Write.contents c.args.writer.now.inner) (g.W.Write.contents c.write_reply.new.writer.inner) c.write_reply.result
-    c.in-Ok.ensures.told c.into_answer.ensures (c.write_reply.ensures.written wrote)
+pub returns-clause-written : goal.returns-clause-written
+returns-clause-written g c =
+    told_of_file (GetsFile c.args.path.now c.args.text.now) (RefusesGet c.args.text.now) c.get_file-done.result (stream_of g.W.Write.contents c.args.writer.now c.told.new.writer) c.told.result
+    c.get_file-done.ensures.told c.get_file-done.ensures.fault c.told.ensures.written

@@ -1,22 +1,10 @@
 use Rattle.rds_commands.proofs.program.run_task.Goals as goal
 
 pub returns-in-Join-clause-join : goal.returns-in-Join-clause-join
-returns-in-Join-clause-join g c = λ is. c.run_join.ensures.join
-
-pub returns-in-Join-clause-unread : goal.returns-in-Join-clause-unread
-returns-in-Join-clause-unread g c = λ is. c.run_join.ensures.unread
+returns-in-Join-clause-join g c = λ is. c.run_join.ensures.ran
 
 pub returns-in-Sim-clause-sim : goal.returns-in-Sim-clause-sim
-returns-in-Sim-clause-sim g c = λ is. c.run_sim.ensures.sim
-
-pub returns-in-Sim-clause-cut : goal.returns-in-Sim-clause-cut
-returns-in-Sim-clause-cut g c = λ is. c.run_sim.ensures.cut
-
-pub returns-in-Join-clause-join_part : goal.returns-in-Join-clause-join_part
-returns-in-Join-clause-join_part g c = λ is. c.run_join.ensures.part
-
-pub returns-in-Sim-clause-sim_part : goal.returns-in-Sim-clause-sim_part
-returns-in-Sim-clause-sim_part g c = λ is. c.run_sim.ensures.part
+returns-in-Sim-clause-sim g c = λ is. c.run_sim.ensures.ran
 
 pub returns-in-Init-clause-written : goal.returns-in-Init-clause-written
 returns-in-Init-clause-written g c = rw c.in-Init.is c.run_init.ensures.written

@@ -1,8 +1,9 @@
 use Rattle.rds_commands.specs.Edits.{EditsFile, RefusesEdit}
+use Rattle.rds_lines.specs.Streams.{stream_of}
 use Rattle.rds_commands.proofs.Entered.{told_of_file}
 use Rattle.rds_commands.proofs.telling.run_edit.Goals as goal
 
-pub returns-in-Ok-clause-written : goal.returns-in-Ok-clause-written
-returns-in-Ok-clause-written g c = λ wrote.
-    told_of_file (EditsFile c.args.path.now c.args.words.now) (RefusesEdit c.args.path.now c.args.words.now) c.in-Ok.done.file c.in-Ok.done.answer c.into_answer.result (g.W.Write.contents c.args.writer.now.inner) (g.W.Write.contents c.write_reply-status.new.writer.inner) c.write_reply-status.result
-    c.in-Ok.ensures.edited c.into_answer.ensures (c.write_reply-status.ensures.written wrote)
+pub returns-clause-written : goal.returns-clause-written
+returns-clause-written g c =
+    told_of_file (EditsFile c.args.path.now c.args.words.now) (RefusesEdit c.args.path.now c.args.words.now) c.edit_file-done.result (stream_of g.W.Write.contents c.args.writer.now c.told-status.new.writer) c.told-status.result
+    c.edit_file-done.ensures.edited c.edit_file-done.ensures.fault c.told-status.ensures.written

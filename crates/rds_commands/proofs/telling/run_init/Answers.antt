@@ -1,8 +1,9 @@
 use Rattle.rds_commands.specs.Edits.{InitsFile, RefusesInit}
+use Rattle.rds_lines.specs.Streams.{stream_of}
 use Rattle.rds_commands.proofs.Entered.{told_of_file}
 use Rattle.rds_commands.proofs.telling.run_init.Goals as goal
 
-pub returns-in-Ok-clause-written : goal.returns-in-Ok-clause-written
-returns-in-Ok-clause-written g c = λ wrote.
-    told_of_file (InitsFile c.args.words.now) (RefusesInit c.args.words.now) c.in-Ok.done.file c.in-Ok.done.answer c.into_answer.result (g.W.Write.contents c.args.writer.now.inner) (g.W.Write.contents c.write_reply.new.writer.inner) c.write_reply.result
-    c.in-Ok.ensures.made c.into_answer.ensures (c.write_reply.ensures.written wrote)
+pub returns-clause-written : goal.returns-clause-written
+returns-clause-written g c =
+    told_of_file (InitsFile c.args.words.now) (RefusesInit c.args.words.now) c.init_file-done.result (stream_of g.W.Write.contents c.args.writer.now c.told.new.writer) c.told.result
+    c.init_file-done.ensures.made c.init_file-done.ensures.fault c.told.ensures.written

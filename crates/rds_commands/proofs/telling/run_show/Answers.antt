@@ -1,8 +1,9 @@
 use Rattle.rds_commands.specs.Edits.{ShowsFile, RefusesShow}
+use Rattle.rds_lines.specs.Streams.{stream_of}
 use Rattle.rds_commands.proofs.Entered.{told_of_file}
 use Rattle.rds_commands.proofs.telling.run_show.Goals as goal
 
-pub returns-in-Ok-clause-written : goal.returns-in-Ok-clause-written
-returns-in-Ok-clause-written g c = λ wrote.
-    told_of_file (ShowsFile c.args.layout c.args.path.now c.args.text.now) (RefusesShow c.args.text.now) c.in-Ok.done.file c.in-Ok.done.answer c.into_answer.result (g.W.Write.contents c.args.writer.now.inner) (g.W.Write.contents c.write_reply.new.writer.inner) c.write_reply.result
-    c.in-Ok.ensures.shown c.into_answer.ensures (c.write_reply.ensures.written wrote)
+pub returns-clause-written : goal.returns-clause-written
+returns-clause-written g c =
+    told_of_file (ShowsFile c.args.layout c.args.path.now c.args.text.now) (RefusesShow c.args.text.now) c.show_file-done.result (stream_of g.W.Write.contents c.args.writer.now c.told.new.writer) c.told.result
+    c.show_file-done.ensures.shown c.show_file-done.ensures.fault c.told.ensures.written

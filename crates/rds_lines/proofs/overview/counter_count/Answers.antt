@@ -1,4 +1,4 @@
-use Rattle.std.proofs.Common.{◌≡◌, ◌+◌, ◌∙◌, [], drop, length, map as each, ap, arith}
+use Rattle.std.proofs.Common.{◌≡◌, [], drop, length, map as each, ap, arith}
 use Rattle.std.specs.Option.{option_copied}
 use Rattle.std.proofs.lemmas.List.{drop_all}
 use Rattle.rds_tree.specs.Distinct.{distinct}

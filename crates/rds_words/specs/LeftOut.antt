@@ -1,0 +1,44 @@
+-- Words of commands that leave some out, and stand by themselves or with an option behind them.
+use Rattle.std.specs.Prelude.{[], ◌∷◌, ◌++◌, codes}
+use Rattle.clap.specs.Words.{Text}
+use Rattle.rds_words.specs.Entered.{Names}
+use Rattle.rds_words.specs.Written.{AreData}
+
+-- a path that `show` lacks is the root; its option stands before the words or behind them
+pub record ShowMayLackWords : Type 0 where
+  pub root_shown : (name file : Text) → AreData (file ∷ [])
+      → Names (name ∷ codes "show" ∷ file ∷ []) (codes "show" ∷ file ∷ [] ∷ [])
+  pub pretty_root : (name file : Text) → AreData (file ∷ [])
+      → Names (name ∷ codes "show" ∷ codes "--pretty" ∷ file ∷ []) (codes "show" ∷ file ∷ [] ∷ codes "--pretty" ∷ [])
+  pub pretty_root_dashed : (name file : Text)
+      → Names (name ∷ codes "show" ∷ codes "--pretty" ∷ codes "--" ∷ file ∷ [])
+      (codes "show" ∷ file ∷ [] ∷ codes "--pretty" ∷ [])
+  pub pretty_behind : (name file path : Text) → AreData (file ∷ path ∷ [])
+      → Names (name ∷ codes "show" ∷ file ∷ path ∷ codes "--pretty" ∷ [])
+      (codes "show" ∷ file ∷ path ∷ codes "--pretty" ∷ [])
+  pub pretty_root_behind : (name file : Text) → AreData (file ∷ [])
+      → Names (name ∷ codes "show" ∷ file ∷ codes "--pretty" ∷ []) (codes "show" ∷ file ∷ [] ∷ codes "--pretty" ∷ [])
+
+-- `serve` has one session where it isn't told how many, and gives a silent peer 60 seconds where it isn't told how long
+pub record ServeMayLackWords : Type 0 where
+  pub one_session : (name file addr : Text) → AreData (file ∷ addr ∷ [])
+      → Names (name ∷ codes "serve" ∷ file ∷ addr ∷ []) (codes "serve" ∷ file ∷ addr ∷ codes "1" ∷ codes "60" ∷ [])
+  pub sessions_alone : (name file addr sessions : Text) → AreData (file ∷ addr ∷ sessions ∷ [])
+      → Names (name ∷ codes "serve" ∷ file ∷ addr ∷ codes "--sessions" ∷ sessions ∷ [])
+      (codes "serve" ∷ file ∷ addr ∷ sessions ∷ codes "60" ∷ [])
+  pub sessions_alone_dashed : (name file addr sessions : Text)
+      → Names (name ∷ codes "serve" ∷ (codes "--sessions=" ++ sessions) ∷ codes "--" ∷ file ∷ addr ∷ [])
+      (codes "serve" ∷ file ∷ addr ∷ sessions ∷ codes "60" ∷ [])
+  pub timeout_alone : (name file addr timeout : Text) → AreData (file ∷ addr ∷ timeout ∷ [])
+      → Names (name ∷ codes "serve" ∷ file ∷ addr ∷ codes "--timeout" ∷ timeout ∷ [])
+      (codes "serve" ∷ file ∷ addr ∷ codes "1" ∷ timeout ∷ [])
+  pub timeout_alone_dashed : (name file addr timeout : Text)
+      → Names (name ∷ codes "serve" ∷ (codes "--timeout=" ++ timeout) ∷ codes "--" ∷ file ∷ addr ∷ [])
+      (codes "serve" ∷ file ∷ addr ∷ codes "1" ∷ timeout ∷ [])
+
+-- `sync` likewise
+pub record SyncMayLackWords : Type 0 where
+  pub alone : (name file addr : Text) → AreData (file ∷ addr ∷ [])
+      → Names (name ∷ codes "sync" ∷ file ∷ addr ∷ []) (codes "sync" ∷ file ∷ addr ∷ codes "60" ∷ [])
+  pub alone_dashed : (name file addr : Text)
+      → Names (name ∷ codes "sync" ∷ codes "--" ∷ file ∷ addr ∷ []) (codes "sync" ∷ file ∷ addr ∷ codes "60" ∷ [])
