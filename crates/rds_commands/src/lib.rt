@@ -1,5 +1,5 @@
 //! The program's commands: words in, what is written and the exit status out. Read from above: `program`, `telling`,
-//! `told`, `file_commands`, `batch`, `looking`, `listing`, `offline`, `session_words`, `unparsed` and
+//! `outcome`, `file_commands`, `batch`, `looking`, `listing`, `offline`, `session_words`, `unparsed` and
 //! `laws`. What people are told beside it is in `notes`, `letter_notes`, `tips` and `causes`.
 #![tactic(auto)]
 
@@ -12,11 +12,11 @@ mod listing;
 mod looking;
 mod notes;
 mod offline;
+mod outcome;
 mod program;
 mod session_words;
 mod telling;
 mod tips;
-mod told;
 mod unparsed;
 
 pub use laws::{letters_are_events, sessions_are_events};

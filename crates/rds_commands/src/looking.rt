@@ -8,7 +8,7 @@ ghost use Rattle.rds_commands.specs.Looks.{DescribesFile, GetsFile, RefusesGet, 
 
 use crate::file_commands::FileAnswer;
 use crate::notes::{note_file, note_part};
-use crate::told::told;
+use crate::outcome::told;
 use rds_files::{Disk, ReplicaFile};
 use rds_gaps::GapSet;
 use rds_keep::Counted;

@@ -21,7 +21,7 @@ ghost use Rattle.rds_commands.specs.Reading.{IsReadBy, is_piped};
 
 use crate::letter_notes::{note_answer, note_check, note_take};
 use crate::notes::{note_file, note_init_from, note_input, note_merge};
-use crate::told::told_taken;
+use crate::outcome::told_taken;
 use rds_codec::LIMIT;
 use rds_files::{Disk, LockFile};
 use rds_keep::Counted;

@@ -6,7 +6,7 @@ ghost use Rattle.rds_commands.specs.Told.{WritesEdit, WritesGrow, WritesIfChange
 
 use crate::file_commands::{edit_file, edit_if_changed, grow_file, init_file, show_file};
 use crate::notes::{note_cleared, note_edit, note_grow, note_init, note_part, note_unwritten};
-use crate::told::told;
+use crate::outcome::told;
 use rds_files::{Disk, LockFile};
 use rds_keep::Counted;
 use rds_lines::Layout;

@@ -4,7 +4,6 @@
 ghost use Rattle.std.specs.Prelude.{◌≡◌, ◌≢◌, ◌≤◌, ◌⊎◌, [], Err, false, map, IfOk, IfErr};
 ghost use Rattle.std.specs.Process.{exit_status};
 ghost use Rattle.rds_names.specs.declared.fault.Fault.TheVariants.{Memory, Usage};
-ghost use Rattle.rds_keep.specs.declared.counted.TheConstants.{TURNS};
 ghost use Rattle.rds_output.specs.Output.{Writes};
 ghost use Rattle.rds_lines.specs.Run.{RunsJoin};
 ghost use Rattle.rds_lines.specs.Streams.{Tells, stream_of};
@@ -88,7 +87,7 @@ fn code_of(status: u8) -> ExitCode
 
 // The standard input or output: no call on it failed yet, and a loop makes at most so many reads.
 fn counted<T>(inner: T) -> Counted<T>
-    ensures { result ≡ record { inner = inner; failed = 0; turns = TURNS; left = TURNS; renamed = false } }
+    ensures { result ≡ record { inner = inner; failed = 0; turns = 2147483648; left = 2147483648; renamed = false } }
 {
     Counted::new(inner)
 }

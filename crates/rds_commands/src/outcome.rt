@@ -42,7 +42,7 @@ pub fn told_taken<H: Disk, W: Write, N: FnOnce(Fault) + Drop>(
     note: N,
 ) -> u8
     requires { N.IsAlwaysCallable note }
-    ensures written { Tells (WritesReply (taken_of done)) (stream_of W.contents writer.old writer.new) result }
+    ensures written { Tells (WritesReply (taken_of done.entry)) (stream_of W.contents writer.old writer.new) result }
     ensures status { result ≤ 2 }
     ensures broken { (writer.new.failed ≡ writer.old.failed) ⊎ (result ≡ 1) }
 {
