@@ -1,11 +1,10 @@
 -- What becomes of questions, answers and snapshots.
-use Rattle.std.proofs.Common.{◌≡◌, ◌≤◌, ◌∙◌, ℕ, List, length, Result, Ok, Err, subst, inl, inr}
+use Rattle.std.proofs.Common.{◌≡◌, ◌≤◌, ℕ, List, length, Result, Ok, Err, inl, inr}
 use Rattle.std.specs.Prelude.{IfErr, IfOk, OnOk}
 use Rattle.std.specs.Global.{Vec}
 use Rattle.rds_codec.specs.DecodedSnapshots.{DecodesSnapshot}
 use Rattle.rds_codec.specs.Decoding.{IsTextOf}
 use Rattle.rds_codec.specs.declared.limits.TheConstants.{LIMIT}
-use Rattle.rds_names.specs.Roster.{RosterValue, longer}
 use Rattle.rds_names.specs.declared.fault.Fault.{Fault}
 use Rattle.rds_names.specs.declared.fault.Fault.TheVariants.{Memory}
 use Rattle.rds_offline.specs.Letters.{BringsNothing, IsTaken, TakesResponse}
@@ -13,11 +12,9 @@ use Rattle.rds_offline.specs.Merging.{CountsLacking, IsMerged, RefusesMerge}
 use Rattle.rds_questions.specs.Questions.{QuestionValue, question_kind}
 use Rattle.rds_questions.specs.Receiving.{IsReceivedFrom, ReceivedValue}
 use Rattle.rds_questions.specs.Responding.{RespondGives}
-use Rattle.rds_questions.specs.Taking.{HasAllOf, HeldGives, IsAsker, TakesReceived}
+use Rattle.rds_questions.specs.Taking.{HasAllOf, IsAsker, TakesReceived}
 use Rattle.rds_state.specs.Fits.{ReplicaValue}
-use Rattle.rds_state.specs.Grown.{TakeWithGives}
-use Rattle.rds_state.specs.Results.{TakesDeltaWith}
-use Rattle.rds_state.specs.Value.{StateValue, size}
+use Rattle.rds_state.specs.Value.{size}
 use Rattle.rds_store.specs.Meetings.{MayAnswer, MergesSnapshot, RefusesSnapshot, RefusesTaking}
 
 abbrev pub IsGiven : List ℕ → QuestionValue → Type 0
@@ -63,24 +60,6 @@ module _ (question answer : List ℕ) (asked : QuestionValue) (is : IsGiven ques
 
 abbrev pub Has : QuestionValue → ReplicaValue → Type 0
 Has q v = IsAsker q v × HasAllOf q.digest v.state
-
-module _ (q : QuestionValue) (x : ReceivedValue) (held : ReplicaValue) (roster : RosterValue) (same : roster ≡ x.roster) where
-  gives_here : (r : Result (Unit {0}) Fault) → TakeWithGives {T = Unit {0}} held.roster roster held.state held.own x.delta r → TakeWithGives {T = Unit {0}} held.roster x.roster held.state held.own x.delta r
-  gives_here r = subst (λ (s : RosterValue). TakeWithGives {T = Unit {0}} held.roster s held.state held.own x.delta r) same
-
-  pub taken : (after : ReplicaValue) → TakesDeltaWith held roster x.delta (Ok tt) after → IsTaken x held after
-  taken after done =
-      let gives = gives_here (Ok tt) done.gives in
-      record {
-        rosters = gives.0;
-        roster = subst (λ (s : RosterValue). after.roster ≡ longer held.roster s) same done.roster;
-        own = done.own;
-        joined = done.ok;
-        known = gives.1.0;
-      }
-
-  pub not_taken : (after : ReplicaValue) (fault : Fault) → Has q held → TakesDeltaWith held roster x.delta (Err fault) after → TakesReceived q held x (Err fault)
-  not_taken after fault has done = inr (has, inr (gives_here (Err fault) done.gives))
 
 -- there is no memory for its roster
 pub no_copy : (q : QuestionValue) (x : ReceivedValue) (held : ReplicaValue) (fault : Fault) → Has q held → fault ≡ Memory → TakesReceived q held x (Err fault)

@@ -1,5 +1,5 @@
 -- What documents answer one another, and take.
-use Rattle.std.specs.Prelude.{◌≡◌, ◌⊎◌, ◌≤◌, ℕ, List, length, Result, Ok, Err}
+use Rattle.std.specs.Prelude.{◌⊎◌, ◌≤◌, ℕ, List, length, Result, Ok, Err}
 use Rattle.std.specs.Global.{Vec}
 use Rattle.rds_codec.specs.DecodedSnapshots.{DecodesSnapshot}
 use Rattle.rds_codec.specs.Decoding.{Decodes, IsTextOf}

@@ -12,6 +12,7 @@ ghost use Rattle.rds_store.specs.Documents.{IsGrownBy, RefusesGrowth, first_of, 
 
 use rds_codec::{decode_snapshot, encode_snapshot};
 use rds_gaps::GapSet;
+use rds_json::LineReader;
 use rds_names::{Fault, Key, Name, Roster};
 use rds_state::Replica;
 use rds_tree::Index;
@@ -19,18 +20,20 @@ use std::alloc::Global;
 use std::marker::Model;
 
 /// A replica of a document, in memory: what it has seen of all replicas, and which of them it is. Its contracts speak
-/// of it as of the replica.
+/// of it as of the replica. Some 16 kB of it are for reading lines.
 pub struct Document {
     pub(crate) alloc: Global,
     pub(crate) index: Index<GapSet>,
+    pub(crate) reader: LineReader,
 }
 
 // Written out, so that where a document is let go a caller's proof has one call.
 impl Drop for Document {
     fn drop(self) {
         let Document {
-            alloc: _,
+            alloc: _alloc,
             index: _index,
+            reader: _reader,
         } = self;
     }
 }
@@ -68,8 +71,11 @@ impl Document {
         ensures ok { IfOk result (λ document. document ≡ replica) }
         ensures memory { IfErr result (λ fault. fault ≡ Memory) }
     {
-        let index = Index::of(alloc, replica)?;
-        Ok(Document { alloc, index })
+        Ok(Document {
+            alloc,
+            index: Index::of(alloc, replica)?,
+            reader: LineReader::new(alloc),
+        })
     }
 
     /// The document whose snapshot the bytes are, in whichever format; a file of `rds_node` is one. Bytes that are none
@@ -92,7 +98,11 @@ impl Document {
     pub fn into_replica(self) -> Replica<GapSet>
         ensures { result ≡ self }
     {
-        let Document { alloc: _, index } = self;
+        let Document {
+            alloc: _,
+            index,
+            reader: _reader,
+        } = self;
         index.into_replica()
     }
 

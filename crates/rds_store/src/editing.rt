@@ -8,7 +8,6 @@ ghost use Rattle.rds_state.specs.Results.{EditsReplica};
 ghost use Rattle.rds_store.specs.Edits.{MayEdit};
 
 use crate::document::Document;
-use rds_json::LineReader;
 use rds_lines::edit_lines;
 use rds_names::Fault;
 use rds_output::Reply;
@@ -25,13 +24,12 @@ impl Document {
 
     /// Edits the document as a line of JSON says, which names no replica: `["set",PATH,VALUE]`, `["add",PATH,VALUE]`,
     /// `["del",PATH,VALUE]`, `["clear",PATH]`, `["inc",KEY,AMOUNT]`, `["dec",KEY,AMOUNT]`. The line is judged first, as
-    /// [`LineReader::edit`] does (`BadLine`, `BadPath`, `BadKey`, `BadScalar`).
+    /// [`LineReader::edit`](rds_json::LineReader::edit) does (`BadLine`, `BadPath`, `BadKey`, `BadScalar`).
     pub fn edit_line(&mut self, line: &str) -> Result<Edited, Fault>
         ensures edited { MayEdit (edit_of line.now) self.old result self.new }
         ensures err { OnErr result (self.new ≡ self.old) }
     {
-        let mut reader = LineReader::new(self.alloc);
-        let command = reader.edit(self.alloc, line)?;
+        let command = self.reader.edit(self.alloc, line)?;
         self.edit(command)
     }
 

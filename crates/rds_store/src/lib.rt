@@ -17,6 +17,6 @@ pub use files::{DocumentFile, create_file};
 pub use rds_gaps::GapSet;
 pub use rds_names::{Fault, Key, Name, Path, Roster, Scalar};
 pub use rds_output::Reply;
-pub use rds_state::{Command, Edited, Replica};
+pub use rds_state::{Command, Edited, Mark, Replica};
 pub use rds_tree::View;
 pub use threads::sent_document;

@@ -4,6 +4,7 @@ ghost use Rattle.rds_lines.specs.Overview.{IsOverview};
 ghost use Rattle.rds_listing.specs.Conflicts.{conflicts_text};
 ghost use Rattle.rds_listing.specs.Dump.{dump_text};
 ghost use Rattle.rds_names.specs.declared.fault.Fault.TheVariants.{Memory};
+ghost use Rattle.rds_state.specs.Mark.{mark_of};
 ghost use Rattle.rds_store.specs.Looks.{IsValueText, MayShow, MayTell, RefusesPlace, told_at, view_text};
 
 use crate::document::Document;
@@ -11,6 +12,7 @@ use rds_json::{show, show_at};
 use rds_lines::{overview_json, place_of};
 use rds_listing::{conflicts, dump};
 use rds_names::{Fault, Path};
+use rds_state::Mark;
 use rds_tree::View;
 
 impl Document {
@@ -57,6 +59,14 @@ impl Document {
     {
         let path = Path::new(self.alloc, path)?;
         dump(self.alloc, self.index.replica().state(), &path)
+    }
+
+    /// The mark by which replicas are compared at a glance: those that have the same updates have the same. It is one
+    /// pass over live entries and counters, and takes no memory.
+    pub fn mark(&self) -> Mark
+        ensures { result ≡ mark_of self.now.state }
+    {
+        self.index.replica().state().mark()
     }
 
     /// Whose replica this is and how much there is of it, as the JSON that `rds_node status` tells: group, own name and

@@ -1,11 +1,9 @@
-use Rattle.std.proofs.Common.{◌≡◌, Err, inl, subst}
+use Rattle.std.proofs.Common.{Err, inl, subst}
 use Rattle.std.proofs.lemmas.Result.{err_from_is_err_and}
-use Rattle.rds_questions.specs.Receiving.{ReceivedValue}
-use Rattle.rds_questions.specs.Taking.{HeldGives, TakesReceived}
+use Rattle.rds_questions.specs.Taking.{HeldGives}
 use Rattle.rds_state.specs.Fits.{ReplicaValue}
-use Rattle.rds_store.proofs.Taken.{Has, no_copy, not_taken, taken}
+use Rattle.rds_store.proofs.Taken.{Has, no_copy}
 use Rattle.rds_store.proofs.meeting.take_in.Goals as goal
-use Rattle.rds_offline.specs.Letters.{IsTaken}
 
 pub returns-in_err-judge_held-clause-fault : goal.returns-in_err-judge_held-clause-fault
 returns-in_err-judge_held-clause-fault c =
