@@ -43,6 +43,7 @@ fn shown(
         "conflicts" => told(alloc, document.conflicts(path)?.as_str()),
         "dump" => told(alloc, document.dump(path)?.as_str()),
         "status" => document.status(),
+        "mark" => Ok(format!(in alloc; "{}", document.mark())?),
         _ => Err(Fault::Usage),
     }
 }
