@@ -261,7 +261,7 @@ static uint32_t look(rds_file *file) {
 }
 
 static uint32_t look_at_all(rds_file *file) {
-    static gives *const whole[] = {rds_snapshot, rds_snapshot, rds_ask, rds_ask, rds_status_json, rds_told};
+    static gives *const whole[] = {rds_snapshot, rds_snapshot, rds_ask, rds_ask, rds_status_json, rds_mark, rds_told};
     return given(&file->replica, ONE_OF(whole), NULL, block(0));
 }
 

@@ -35,8 +35,9 @@
  *     hold.
  *   - Want of memory is RDS_MEMORY. No call ends the process, prints anything, or keeps anything outside its replica.
  *
- * Threads: two replicas share nothing, so each may be used on a thread of its own. A replica stays on the thread that
- * opened it. Call nothing from a signal handler.
+ * Threads: two replicas share nothing, so each may be used on a thread of its own. A replica may be opened, used and
+ * closed on different threads, one call at a time: order its calls by a lock, or by the start or join of a thread. Call
+ * nothing from a signal handler.
  *
  * The premise: a replica is edited at one place, and what it has sent or answered is never taken back. So:
  *   - edit no copy of a file beside the original, and open no snapshot twice for editing;
@@ -184,8 +185,8 @@ uint32_t rds_edit_lines(rds *replica, const uint8_t *lines, size_t lines_length,
 
 /* ---- Looking ----
  *
- * All give JSON, as UTF-8. The empty path is the root. Each returns RDS_NO_ROOM, RDS_CLOSED, RDS_MEMORY, and those with
- * a path RDS_BAD_KEY, RDS_BAD_PATH, RDS_NOT_UTF8 besides. */
+ * All but the mark and the snapshot give JSON, as UTF-8. The empty path is the root. Each returns RDS_NO_ROOM,
+ * RDS_CLOSED, RDS_MEMORY, and those with a path RDS_BAD_KEY, RDS_BAD_PATH, RDS_NOT_UTF8 besides. */
 
 /* Gives what the document shows at a path and below: {"maps":{..},"regs":{..},"sets":{..}} by the keys below it, and
  * at the root {"counters":{..},..} too. Registers and sets are lists of values; a register has several where it was set
@@ -211,6 +212,10 @@ uint32_t rds_dump(rds *replica, const uint8_t *path, size_t path_length, uint8_t
  * "live":..,"dead":..,"counters":..,"components":..,"bytes":..,"mark":".."}. `bytes` are those of its snapshot, and
  * `mark` has 32 hex digits: replicas that hold the same entries and numbers have the same. */
 uint32_t rds_status_json(rds *replica, uint8_t *room, size_t room_length, size_t *length);
+
+/* Gives the mark of the document: 32 hex digits, by which replicas are compared at a glance. Those that have the same
+ * updates have the same mark. That others have another isn't promised, since values can be chosen for it. */
+uint32_t rds_mark(rds *replica, uint8_t *room, size_t room_length, size_t *length);
 
 /* Gives the snapshot, which rds_open, rds_merge and `rds_node` read (docs/FORMATS.md). Also RDS_TOO_LONG. */
 uint32_t rds_snapshot(rds *replica, uint8_t *room, size_t room_length, size_t *length);
@@ -248,7 +253,7 @@ uint32_t rds_grow(rds *replica, const uint8_t *name, size_t name_length);
 
 /* Gives, after RDS_NO_ROOM, the bytes that didn't fit, and after a fault (1 to 63) of an open replica what it was, as
  * "Conflict: the dot 7 of replica 1 has two entries". It is to be the next call of that replica; it may be called
- * several times. After any other call the bytes are none, or are those of an earlier one. */
+ * several times. After any other call the bytes are none, or are those of an earlier one. RDS_NO_ROOM, RDS_CLOSED. */
 uint32_t rds_told(rds *replica, uint8_t *room, size_t room_length, size_t *length);
 
 /* The name of a status, as "BadKey", and what it says, as "the text is no key". Both are texts that stay, ended by a 0,

@@ -56,7 +56,6 @@ from ._faults import (
     WrongAsker,
     WrongGroup,
     WrongRoster,
-    WrongThread,
     WrongVersion,
 )
 from ._replica import Edit, Edited, Place, Replica, Scalar, Status
@@ -96,6 +95,5 @@ __all__ = [
     "WrongAsker",
     "WrongGroup",
     "WrongRoster",
-    "WrongThread",
     "WrongVersion",
 ]

@@ -135,10 +135,6 @@ class Beside(RdsError, ValueError):
     """The path ends in .new, as files do that are written beside others."""
 
 
-class WrongThread(RuntimeError):
-    """A replica was used on another thread than the one that opened it."""
-
-
 _CLASSES: Dict[int, Type[RdsError]] = {
     2: BadName,
     3: BadKey,

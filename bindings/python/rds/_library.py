@@ -47,6 +47,7 @@ _CALLS: Dict[str, List[Any]] = {
     "conflicts": [_REPLICA, *_BYTES, *_ROOM],
     "dump": [_REPLICA, *_BYTES, *_ROOM],
     "status_json": [_REPLICA, *_ROOM],
+    "mark": [_REPLICA, *_ROOM],
     "snapshot": [_REPLICA, *_ROOM],
     "ask": [_REPLICA, *_ROOM],
     "answer": [_REPLICA, *_BYTES, *_ROOM],

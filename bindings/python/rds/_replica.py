@@ -7,7 +7,7 @@ import threading
 from ctypes import byref, c_size_t, c_uint64, create_string_buffer, string_at
 from typing import Any, Dict, Iterable, Iterator, List, NamedTuple, NoReturn, Optional, Tuple, Union, cast
 
-from ._faults import RdsError, WrongThread, fault, refuse
+from ._faults import RdsError, fault, refuse
 from ._library import BAD_SCALAR, DEVICE, LAST_FAULT, LIB, MEMORY, NO_ROOM, EditedSlot, FileSlot
 
 Scalar = Union[None, bool, int, str]
@@ -183,14 +183,14 @@ class Place:
 class Replica:
     """A replica of a group: a document that is edited here, and that joins with the group's others.
 
-    It is open until `close`, or the end of its `with` block. Its calls are for the thread that opened it, and others
-    get `WrongThread`. A replica has no copy and isn't pickled (`TypeError`).
+    It is open until `close`, or the end of its `with` block. It may be used on any thread: calls on several wait for
+    each other, and not for those of other replicas. A replica has no copy and isn't pickled (`TypeError`).
 
     A replica that lives in a file is locked there while it is open. `keep` writes it, and what wasn't kept is lost at
     `close`. What goes to others (`ask`, `answer`, `bytes`) is kept first, so that nobody has what the file may lose.
     """
 
-    __slots__ = ("_slot", "_at", "_room", "_length", "_edited", "_thread", "_file", "_is_ahead", "__weakref__")
+    __slots__ = ("_slot", "_at", "_room", "_length", "_edited", "_lock", "_file", "_is_ahead", "__weakref__")
 
     def __init__(self) -> None:
         self._slot = FileSlot()
@@ -198,7 +198,8 @@ class Replica:
         self._room = create_string_buffer(_ROOM)
         self._length = c_size_t()
         self._edited = EditedSlot()
-        self._thread = threading.get_ident()
+        # ctypes lets other threads run during a call, and the library takes one call of a replica at a time.
+        self._lock = threading.RLock()
         self._file: Optional[str] = None
         self._is_ahead = False
 
@@ -249,14 +250,14 @@ class Replica:
 
     def keep(self) -> None:
         """Keeps the replica in its file: all edits so far outlast a crash of the machine. `Closed` without a file."""
-        self._here()
-        self._done(LIB.rds_keep(byref(self._slot)), self._file)
-        self._is_ahead = False
+        with self._lock:
+            self._done(LIB.rds_keep(byref(self._slot)), self._file)
+            self._is_ahead = False
 
     def close(self) -> None:
         """Frees what the replica has, and lets its file go. A second one does nothing."""
-        self._here()
-        LIB.rds_close(byref(self._slot))
+        with self._lock:
+            LIB.rds_close(byref(self._slot))
 
     def __enter__(self) -> Replica:
         return self
@@ -272,10 +273,6 @@ class Replica:
     def __reduce__(self) -> NoReturn:
         raise TypeError("a replica lives at one place: it has no copy and isn't pickled")
 
-    def _here(self) -> None:
-        if threading.get_ident() != self._thread:
-            raise WrongThread("a replica stays on the thread that opened it")
-
     def _done(self, status: int, given: Optional[str] = None) -> None:
         """Raises what a status says, with the words that the library has for it."""
         if not status:
@@ -290,25 +287,25 @@ class Replica:
 
     def _gives(self, given: Optional[str], call: Any, *arguments: Any) -> bytes:
         """The bytes that a call gives."""
-        self._here()
         length = self._length
-        status = call(self._at, *arguments, self._room, _ROOM, byref(length))
-        if status == NO_ROOM:
-            room = create_string_buffer(length.value)
-            self._done(LIB.rds_told(self._at, room, len(room), byref(length)), given)
-            return room.raw
-        self._done(status, given)
-        return string_at(self._room, length.value)
+        with self._lock:
+            status = call(self._at, *arguments, self._room, _ROOM, byref(length))
+            if status == NO_ROOM:
+                room = create_string_buffer(length.value)
+                self._done(LIB.rds_told(self._at, room, len(room), byref(length)), given)
+                return room.raw
+            self._done(status, given)
+            return string_at(self._room, length.value)
 
     def _change(self, given: str, call: Any, *arguments: Any) -> Edited:
         """What an edit did."""
-        self._here()
         done = self._edited
-        status = call(self._at, *arguments, byref(done))
-        if status:
-            self._done(status, given)
-        self._is_ahead = True
-        return Edited(done.number if done.has_dot else None, done.killed)
+        with self._lock:
+            status = call(self._at, *arguments, byref(done))
+            if status:
+                self._done(status, given)
+            self._is_ahead = True
+            return Edited(done.number if done.has_dot else None, done.killed)
 
     def _edit(self, verb: str, place: Place, value: Scalar) -> Edited:
         path, at = place.path, place._at
@@ -346,8 +343,9 @@ class Replica:
         """
         given = list(edits)
         lines = "\n".join(map(json.dumps, given)).encode()
-        self._is_ahead = True
-        answers = self._gives(None, LIB.rds_edit_lines, lines, len(lines)).splitlines()
+        with self._lock:
+            self._is_ahead = True
+            answers = self._gives(None, LIB.rds_edit_lines, lines, len(lines)).splitlines()
         if len(answers) < len(given):
             raise MemoryError("rds: the edits were made, but there was no memory to tell what they did")
         return [_answer(json.loads(answer), one) for answer, one in zip(answers, given)]
@@ -368,15 +366,29 @@ class Replica:
         """Whose replica it is, and how much it holds."""
         return Status(**json.loads(self._gives(None, LIB.rds_status_json)))
 
+    def mark(self) -> str:
+        """The mark of the document, 32 hex digits, by which replicas are compared at a glance. Those that have the same
+        updates have the same mark. That others have another isn't promised, since values can be chosen for it.
+
+        >>> names = ["a", "b"]
+        >>> with Replica.new("g", names, "a") as a, Replica.new("g", names, "b") as b:
+        ...     edited = a["k"].set(1)
+        ...     taken = b.pull(a)
+        ...     a.mark() == b.mark(), len(a.mark())
+        (True, 32)
+        """
+        return self._gives(None, LIB.rds_mark).decode()
+
     def __bytes__(self) -> bytes:
         """The snapshot."""
         return self._gives_kept(LIB.rds_snapshot)
 
     def _gives_kept(self, call: Any, *arguments: Any) -> bytes:
         """Bytes that may go to others: of a replica in a file, once it is kept."""
-        if self._file is not None and self._is_ahead:
-            self.keep()
-        return self._gives(None, call, *arguments)
+        with self._lock:
+            if self._file is not None and self._is_ahead:
+                self.keep()
+            return self._gives(None, call, *arguments)
 
     def ask(self) -> bytes:
         """What asks another replica for what this one lacks."""
@@ -407,18 +419,18 @@ class Replica:
         return self._taken(LIB.rds_merge, snapshot, len(snapshot))
 
     def _taken(self, call: Any, *arguments: Any) -> int:
-        self._here()
         taken = c_uint64()
-        self._done(call(self._at, *arguments, byref(taken)))
-        self._is_ahead = True
+        with self._lock:
+            self._done(call(self._at, *arguments, byref(taken)))
+            self._is_ahead = True
         return taken.value
 
     def grow(self, name: str) -> None:
         """Puts a name last in the roster, for a new replica. To be done at one replica alone, for good."""
-        self._here()
         text = _bytes_of(name)
-        self._done(LIB.rds_grow(self._at, text, len(text)), name)
-        self._is_ahead = True
+        with self._lock:
+            self._done(LIB.rds_grow(self._at, text, len(text)), name)
+            self._is_ahead = True
 
 
 def _answer(answer: Dict[str, Any], edit: Edit) -> Union[Edited, RdsError]:

@@ -1,8 +1,7 @@
 """What replicas take of each other."""
 import copy
 import pickle
-import threading
-from typing import Callable, List, Tuple
+from typing import Tuple
 
 import pytest
 
@@ -23,7 +22,6 @@ from rds import (
     WrongAsker,
     WrongGroup,
     WrongRoster,
-    WrongThread,
 )
 
 Pair = Tuple[Replica, Replica]
@@ -38,6 +36,18 @@ def test_two_replicas_meet(pair: Pair) -> None:
     assert shop.pull(store) == 1
     assert shop.show() == store.show()
     assert shop.pull(store) == 0
+
+
+def test_marks_are_compared_at_a_glance(pair: Pair) -> None:
+    shop, store = pair
+    assert shop.mark() == store.mark() == "0" * 32
+    shop["apples"].increase(3)
+    assert shop.mark() != store.mark()
+    store.pull(shop)
+    assert shop.mark() == store.mark()
+    store["k"].set(1)
+    store["k"].clear()
+    assert shop.mark() == store.mark()
 
 
 def test_an_add_wins(pair: Pair) -> None:
@@ -205,21 +215,3 @@ def test_no_copies(shop: Replica) -> None:
         copy.deepcopy(shop)
     with pytest.raises(TypeError):
         pickle.dumps(shop)
-
-
-def test_another_thread(shop: Replica) -> None:
-    calls: List[Callable[[], object]] = [shop.show, shop.close, shop.ask, lambda: shop["k"].set(1)]
-    seen: List[WrongThread] = []
-
-    def use() -> None:
-        for call in calls:
-            try:
-                call()
-            except WrongThread as error:
-                seen.append(error)
-
-    thread = threading.Thread(target=use)
-    thread.start()
-    thread.join()
-    assert len(seen) == len(calls)
-    assert shop["k"].register == []

@@ -1,6 +1,6 @@
 """The library beside the plain model of bench/plain_model.py, which is written from the documents alone.
 
-Random edits and meetings have to leave the same snapshot, question, answer and document, byte by byte.
+Random edits and meetings have to leave the same snapshot, question, answer, document and mark, byte by byte.
 """
 import importlib.util
 import json
@@ -79,6 +79,7 @@ class Both:
     def check(self) -> None:
         assert bytes(self.real) == model.snapshot_text(self.plain)
         assert self.real.show() == shown(model.document(self.plain.state, ()))
+        assert self.real.mark() == model.mark_of(self.plain.state)
 
 
 class Letter:

@@ -1,3 +1,2 @@
-mod Answered
 mod AsBox
-mod TextEdits
+mod Done

@@ -1,10 +1,11 @@
 -- What is told to C.
-use Rattle.std.specs.Prelude.{◌≡◌, ℕ, ◌-◌, ◌^◌, nat_lt, List, take, length, Option, Some}
+use Rattle.std.specs.Prelude.{◌≡◌, ◌⊎◌, ℕ, ◌-◌, ◌^◌, nat_lt, List, [], take, length, Option, Some}
 use Rattle.std.specs.Prelude.{None, Result, Ok, Err, String, string_bytes, if◌then◌else◌}
 use Rattle.std.specs.Global.{Global, Vec}
 use Rattle.rds_dots.specs.declared.dot.Dot.{Dot}
 use Rattle.rds_lines.specs.Editing.{EditsLines}
 use Rattle.rds_lines.specs.Lines.{lines_in}
+use Rattle.rds_names.specs.Fault.{text_of_fault}
 use Rattle.rds_names.specs.declared.fault.Fault.{Fault}
 use Rattle.rds_output.specs.declared.reply.Reply.{Reply}
 use Rattle.rds_state.specs.Fits.{ReplicaValue}
@@ -18,15 +19,28 @@ pub record IsTold (text room : List ℕ) (n : ℕ) : Type 0 where
   pub length_is : n ≡ length text
   pub bytes : take n room ≡ text
 
+-- the text is left to be told, and the length is the text's
+pub record IsLeft (text left : List ℕ) (n : ℕ) : Type 0 where
+  pub length_is : n ≡ length text
+  pub bytes : left ≡ text
+
 -- the bytes that were made
 abbrev pub IsToldBytes : Result (Vec ℕ) Fault → List ℕ → ℕ → Type 0
 IsToldBytes (Ok bytes) room n = IsTold bytes.items room n
 IsToldBytes (Err fault) room n = ⊥
 
--- the text that was made
-abbrev pub IsToldText : Result (String Global) Fault → List ℕ → ℕ → Type 0
-IsToldText (Ok text) room n = IsTold (string_bytes text) room n
-IsToldText (Err fault) room n = ⊥
+abbrev pub IsLeftBytes : Result (Vec ℕ) Fault → List ℕ → ℕ → Type 0
+IsLeftBytes (Ok bytes) left n = IsLeft bytes.items left n
+IsLeftBytes (Err fault) left n = ⊥
+
+-- the bytes of the text that was made
+abbrev pub IsBytesOf : Result (String Global) Fault → List ℕ → Type 0
+IsBytesOf (Ok text) bytes = bytes ≡ string_bytes text
+IsBytesOf (Err fault) bytes = ⊥
+
+-- the words of a fault, or none where there was no memory for them
+abbrev pub IsWordsOf : Fault → List ℕ → Type 0
+IsWordsOf fault text = (text ≡ text_of_fault fault) ⊎ (text ≡ [])
 
 -- a dot or none, and how many live dots were killed
 abbrev pub told_edit : Option Dot → ℕ → EditedC

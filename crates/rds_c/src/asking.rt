@@ -7,7 +7,7 @@ use rds_store::{Command, Fault, Key, Path, Scalar};
 use std::alloc::Global;
 
 /// What becomes of a value at a path.
-#[derive(Clone, Copy, Debug, PartialEq, Eq)]
+#[derive(Clone, Copy)]
 pub enum Verb {
     /// The register has it alone.
     Set,

@@ -1,10 +1,9 @@
 //! Edits of the document in a slot.
-ghost use Rattle.std.specs.Prelude.{◌≡◌};
-ghost use Rattle.rds_c.specs.Asked.{cleared_of, lowered_of, raised_of, valued_of};
-ghost use Rattle.rds_c.specs.Promises.{Edits, IsKeptUnlessDone, replica_in};
+ghost use Rattle.rds_c.specs.Asked.{valued_of};
+ghost use Rattle.rds_c.specs.Promises.{Edits};
 ghost use Rattle.rds_names.specs.Scalar.{scalar_of_text};
 
-use crate::asking::{Verb, cleared, lowered, raised, valued};
+use crate::asking::{Verb, valued};
 use crate::slot::{Slot, put_back, take_out};
 use crate::status::{CLOSED, EditedC, NOT_UTF8};
 use rds_store::{Command, Fault, Scalar};
@@ -17,9 +16,7 @@ pub fn edit_as(
     asked: Result<Command, Fault>,
     edited: &mut EditedC,
 ) -> u32
-    ensures edited { result ≡ 0
-        → Edits asked (replica_in slot.old.handle.document) (replica_in slot.new.handle.document) edited.new }
-    ensures kept { IsKeptUnlessDone result slot.old.handle.document slot.new.handle.document }
+    ensures { Edits asked result slot.old slot.new edited.new }
 {
     let Some(mut held) = take_out(alloc, slot) else {
         return CLOSED;
@@ -38,9 +35,7 @@ pub fn edit_value(
     value: Result<Scalar, Fault>,
     edited: &mut EditedC,
 ) -> u32
-    ensures edited { result ≡ 0 → Edits (valued_of verb path.now value)
-        (replica_in slot.old.handle.document) (replica_in slot.new.handle.document) edited.new }
-    ensures kept { IsKeptUnlessDone result slot.old.handle.document slot.new.handle.document }
+    ensures { Edits (valued_of verb path.now value) result slot.old slot.new edited.new }
 {
     let Ok(path) = str::from_utf8(path) else {
         return NOT_UTF8;
@@ -57,48 +52,10 @@ pub fn edit_text(
     text: &[u8],
     edited: &mut EditedC,
 ) -> u32
-    ensures edited { result ≡ 0 → Edits (valued_of verb path.now (scalar_of_text text.now))
-        (replica_in slot.old.handle.document) (replica_in slot.new.handle.document) edited.new }
-    ensures kept { IsKeptUnlessDone result slot.old.handle.document slot.new.handle.document }
+    ensures { Edits (valued_of verb path.now (scalar_of_text text.now)) result slot.old slot.new edited.new }
 {
     let Ok(text) = str::from_utf8(text) else {
         return NOT_UTF8;
     };
     edit_value(alloc, slot, verb, path, Scalar::text(alloc, text), edited)
-}
-
-/// Clears all at or below the path that the bytes are.
-pub fn clear(alloc: Global, slot: &mut Slot, path: &[u8], edited: &mut EditedC) -> u32
-    ensures edited { result ≡ 0 → Edits (cleared_of path.now)
-        (replica_in slot.old.handle.document) (replica_in slot.new.handle.document) edited.new }
-    ensures kept { IsKeptUnlessDone result slot.old.handle.document slot.new.handle.document }
-{
-    let Ok(path) = str::from_utf8(path) else {
-        return NOT_UTF8;
-    };
-    edit_as(alloc, slot, cleared(alloc, path), edited)
-}
-
-/// Raises the counter of the key that the bytes are.
-pub fn raise(alloc: Global, slot: &mut Slot, key: &[u8], by: u64, edited: &mut EditedC) -> u32
-    ensures edited { result ≡ 0 → Edits (raised_of key.now by)
-        (replica_in slot.old.handle.document) (replica_in slot.new.handle.document) edited.new }
-    ensures kept { IsKeptUnlessDone result slot.old.handle.document slot.new.handle.document }
-{
-    let Ok(key) = str::from_utf8(key) else {
-        return NOT_UTF8;
-    };
-    edit_as(alloc, slot, raised(alloc, key, by), edited)
-}
-
-/// Lowers the counter of the key that the bytes are.
-pub fn lower(alloc: Global, slot: &mut Slot, key: &[u8], by: u64, edited: &mut EditedC) -> u32
-    ensures edited { result ≡ 0 → Edits (lowered_of key.now by)
-        (replica_in slot.old.handle.document) (replica_in slot.new.handle.document) edited.new }
-    ensures kept { IsKeptUnlessDone result slot.old.handle.document slot.new.handle.document }
-{
-    let Ok(key) = str::from_utf8(key) else {
-        return NOT_UTF8;
-    };
-    edit_as(alloc, slot, lowered(alloc, key, by), edited)
 }

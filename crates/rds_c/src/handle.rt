@@ -30,6 +30,9 @@ impl Model for Handle {
     ghost also_owns = { λ h. held_owns h.alloc h.at h.document };
 }
 
+// Proved beside it: it moves as the document does at its pointer.
+unsafe impl Send for Handle {}
+
 /// The handle of no document.
 pub fn closed(alloc: Global) -> Handle
     ensures { result.document ≡ None }

@@ -1,36 +1,36 @@
 //! rds for C: a replica in the caller's process. `bindings/c/rds.h` is its header, which says what C has to uphold;
-//! here stands what the calls do. Read `parts`, `handle` and `slot` first, then `status`, `opened`, `asking` and
-//! `editing`.
+//! here stands what the calls do. Read `parts`, `handle` and `slot` first, then `status`, `opened`, `asking`, `editing`
+//! and `looking`; `threads` says that a slot may move to another thread.
 #![tactic(auto)]
 
 ghost use Rattle.std.specs.Prelude.{◌≡◌, ◌⊎◌, ◌==◌, None, Ok, IfOk, not};
 ghost use Rattle.rds_codec.specs.DecodedSnapshots.{DecodesSnapshot};
-ghost use Rattle.rds_codec.specs.StateTexts.{snapshot_text};
 ghost use Rattle.rds_c.specs.Asked.{cleared_of, lowered_of, raised_of, valued_of};
-ghost use Rattle.rds_c.specs.Promises.{Changes, Edits, Holds, IsFirst, IsKept, IsKeptUnlessDone, IsMade};
-ghost use Rattle.rds_c.specs.Promises.{Merges, Responds, Takes, Tells, replica_in};
-ghost use Rattle.rds_c.specs.Told.{MakesEdits};
+ghost use Rattle.rds_c.specs.Looks.{IsTextAt, IsTextOf};
+ghost use Rattle.rds_c.specs.Promises.{Changes, Edits, Holds, IsFirst, IsKeptUnlessDone, IsMade};
+ghost use Rattle.rds_c.specs.Promises.{Merges, Responds, Takes, Tells, left_in};
+ghost use Rattle.rds_c.specs.Told.{IsLeft, IsTold, MakesEdits};
 ghost use Rattle.rds_c.specs.declared.asking.Verb.TheVariants.{Set, Add, Del};
+ghost use Rattle.rds_c.specs.declared.looking.Look.TheVariants.{View, Value, Conflicts, Dump};
+ghost use Rattle.rds_c.specs.declared.looking.Whole.TheVariants.{Snapshot, Status, Mark, Question};
 ghost use Rattle.rds_json.specs.Unnamed.{edit_of};
-ghost use Rattle.rds_lines.specs.Overview.{IsOverview};
-ghost use Rattle.rds_listing.specs.Conflicts.{conflicts_text};
-ghost use Rattle.rds_listing.specs.Dump.{dump_text};
 ghost use Rattle.rds_names.specs.Scalar.{scalar_of_text};
 ghost use Rattle.rds_names.specs.declared.scalar.Scalar.TheVariants.{Null, Bool, Int};
-ghost use Rattle.rds_questions.specs.Questions.{question_of, question_text};
 ghost use Rattle.rds_store.specs.Documents.{IsGrownBy};
-ghost use Rattle.rds_store.specs.Looks.{IsValueText, told_at, view_text};
 
 mod asking;
 mod editing;
 mod handle;
+mod looking;
 mod opened;
 mod parts;
 mod slot;
 mod status;
+mod threads;
 
-use asking::Verb;
-use editing::{clear, edit_as, edit_text, edit_value, lower, raise};
+use asking::{Verb, cleared, lowered, raised};
+use editing::{edit_as, edit_text, edit_value};
+use looking::{Look, Whole, answer_of, look_at, look_whole};
 use opened::Opened;
 use rds_json::{Line, LineReader};
 use rds_store::{Document, Fault, Scalar};
@@ -40,8 +40,8 @@ use std::alloc::Global;
 
 /// Opens a slot that is closed.
 fn fill(alloc: Global, slot: &mut Slot, made: Result<Document, Fault>) -> u32
-    ensures done { result ≡ 0 → IsMade made (replica_in slot.new.handle.document) }
-    ensures kept { IsKeptUnlessDone result slot.old.handle.document slot.new.handle.document }
+    ensures done { result ≡ 0 → IsMade made slot.new }
+    ensures kept { IsKeptUnlessDone result slot.old slot.new }
 {
     let document = match made {
         Ok(document) => document,
@@ -78,8 +78,8 @@ fn first(alloc: Global, line: &str, own: u8) -> Result<Document, Fault>
 /// Opens an empty replica: number `own` of the roster that the line of JSON has.
 #[unsafe(no_mangle)]
 pub extern "C" fn rds_new(alloc: Global, slot: &mut Slot, line: &[u8], own: u8) -> u32
-    ensures opened { result ≡ 0 → Holds (IsFirst line.now own) (replica_in slot.new.handle.document) }
-    ensures kept { IsKeptUnlessDone result slot.old.handle.document slot.new.handle.document }
+    ensures opened { result ≡ 0 → Holds (IsFirst line.now own) slot.new }
+    ensures kept { IsKeptUnlessDone result slot.old slot.new }
 {
     let Ok(line) = str::from_utf8(line) else {
         return NOT_UTF8;
@@ -90,9 +90,8 @@ pub extern "C" fn rds_new(alloc: Global, slot: &mut Slot, line: &[u8], own: u8) 
 /// Opens the replica of a snapshot.
 #[unsafe(no_mangle)]
 pub extern "C" fn rds_open(alloc: Global, slot: &mut Slot, snapshot: &[u8]) -> u32
-    ensures opened { result ≡ 0 → Holds (λ v. DecodesSnapshot snapshot.now (Ok v))
-        (replica_in slot.new.handle.document) }
-    ensures kept { IsKeptUnlessDone result slot.old.handle.document slot.new.handle.document }
+    ensures opened { result ≡ 0 → Holds (λ v. DecodesSnapshot snapshot.now (Ok v)) slot.new }
+    ensures kept { IsKeptUnlessDone result slot.old slot.new }
 {
     fill(alloc, slot, Document::open(alloc, snapshot))
 }
@@ -108,15 +107,17 @@ pub extern "C" fn rds_free(alloc: Global, slot: &mut Slot)
 /// Edits as a line of JSON says.
 #[unsafe(no_mangle)]
 pub extern "C" fn rds_edit(alloc: Global, slot: &mut Slot, line: &[u8], edited: &mut EditedC) -> u32
-    ensures edited { result ≡ 0 → Edits (edit_of line.now)
-        (replica_in slot.old.handle.document) (replica_in slot.new.handle.document) edited.new }
-    ensures kept { IsKeptUnlessDone result slot.old.handle.document slot.new.handle.document }
+    ensures { Edits (edit_of line.now) result slot.old slot.new edited.new }
 {
     let Ok(line) = str::from_utf8(line) else {
         return NOT_UTF8;
     };
-    let mut reader = LineReader::new(alloc);
-    edit_as(alloc, slot, reader.edit(alloc, line), edited)
+    let Some(mut held) = take_out(alloc, slot) else {
+        return CLOSED;
+    };
+    let ended = held.edit_line(alloc, line, edited);
+    put_back(slot, held);
+    ended
 }
 
 /// Edits as lines of JSON say, one after the other, and tells their answers, a line each. At 66 the edits are made too;
@@ -129,11 +130,9 @@ pub extern "C" fn rds_edit_lines(
     room: &mut [u8],
     length: &mut usize,
 ) -> u32
-    ensures told { result ≡ 0 → Changes (MakesEdits lines.now)
-        (replica_in slot.old.handle.document) (replica_in slot.new.handle.document) }
-    ensures made { result ≡ 66 → Changes (MakesEdits lines.now)
-        (replica_in slot.old.handle.document) (replica_in slot.new.handle.document) }
-    ensures kept { (result ≡ 66) ⊎ IsKeptUnlessDone result slot.old.handle.document slot.new.handle.document }
+    ensures told { result ≡ 0 → Changes (MakesEdits lines.now) slot.old slot.new }
+    ensures made { result ≡ 66 → Changes (MakesEdits lines.now) slot.old slot.new }
+    ensures kept { (result ≡ 66) ⊎ IsKeptUnlessDone result slot.old slot.new }
 {
     let Some(mut held) = take_out(alloc, slot) else {
         return CLOSED;
@@ -152,9 +151,7 @@ pub extern "C" fn rds_set_text(
     text: &[u8],
     edited: &mut EditedC,
 ) -> u32
-    ensures edited { result ≡ 0 → Edits (valued_of Set path.now (scalar_of_text text.now))
-        (replica_in slot.old.handle.document) (replica_in slot.new.handle.document) edited.new }
-    ensures kept { IsKeptUnlessDone result slot.old.handle.document slot.new.handle.document }
+    ensures { Edits (valued_of Set path.now (scalar_of_text text.now)) result slot.old slot.new edited.new }
 {
     edit_text(alloc, slot, Verb::Set, path, text, edited)
 }
@@ -168,18 +165,10 @@ pub extern "C" fn rds_set_int(
     number: i64,
     edited: &mut EditedC,
 ) -> u32
-    ensures edited { result ≡ 0 → Edits (valued_of Set path.now (Ok (Int number)))
-        (replica_in slot.old.handle.document) (replica_in slot.new.handle.document) edited.new }
-    ensures kept { IsKeptUnlessDone result slot.old.handle.document slot.new.handle.document }
+    ensures { Edits (valued_of Set path.now (Ok (Int number))) result slot.old slot.new edited.new }
 {
-    edit_value(
-        alloc,
-        slot,
-        Verb::Set,
-        path,
-        Ok(Scalar::Int(number)),
-        edited,
-    )
+    let integer = Scalar::Int(number);
+    edit_value(alloc, slot, Verb::Set, path, Ok(integer), edited)
 }
 
 /// Sets the register at a path to a truth: 0 is false, any other number true.
@@ -191,18 +180,10 @@ pub extern "C" fn rds_set_bool(
     truth: u8,
     edited: &mut EditedC,
 ) -> u32
-    ensures edited { result ≡ 0 → Edits (valued_of Set path.now (Ok (Bool (not (truth == 0)))))
-        (replica_in slot.old.handle.document) (replica_in slot.new.handle.document) edited.new }
-    ensures kept { IsKeptUnlessDone result slot.old.handle.document slot.new.handle.document }
+    ensures { Edits (valued_of Set path.now (Ok (Bool (not (truth == 0))))) result slot.old slot.new edited.new }
 {
-    edit_value(
-        alloc,
-        slot,
-        Verb::Set,
-        path,
-        Ok(Scalar::Bool(truth != 0)),
-        edited,
-    )
+    let boolean = Scalar::Bool(truth != 0);
+    edit_value(alloc, slot, Verb::Set, path, Ok(boolean), edited)
 }
 
 /// Sets the register at a path to null.
@@ -213,9 +194,7 @@ pub extern "C" fn rds_set_null(
     path: &[u8],
     edited: &mut EditedC,
 ) -> u32
-    ensures edited { result ≡ 0 → Edits (valued_of Set path.now (Ok Null))
-        (replica_in slot.old.handle.document) (replica_in slot.new.handle.document) edited.new }
-    ensures kept { IsKeptUnlessDone result slot.old.handle.document slot.new.handle.document }
+    ensures { Edits (valued_of Set path.now (Ok Null)) result slot.old slot.new edited.new }
 {
     edit_value(alloc, slot, Verb::Set, path, Ok(Scalar::Null), edited)
 }
@@ -229,9 +208,7 @@ pub extern "C" fn rds_add_text(
     text: &[u8],
     edited: &mut EditedC,
 ) -> u32
-    ensures edited { result ≡ 0 → Edits (valued_of Add path.now (scalar_of_text text.now))
-        (replica_in slot.old.handle.document) (replica_in slot.new.handle.document) edited.new }
-    ensures kept { IsKeptUnlessDone result slot.old.handle.document slot.new.handle.document }
+    ensures { Edits (valued_of Add path.now (scalar_of_text text.now)) result slot.old slot.new edited.new }
 {
     edit_text(alloc, slot, Verb::Add, path, text, edited)
 }
@@ -245,18 +222,10 @@ pub extern "C" fn rds_add_int(
     number: i64,
     edited: &mut EditedC,
 ) -> u32
-    ensures edited { result ≡ 0 → Edits (valued_of Add path.now (Ok (Int number)))
-        (replica_in slot.old.handle.document) (replica_in slot.new.handle.document) edited.new }
-    ensures kept { IsKeptUnlessDone result slot.old.handle.document slot.new.handle.document }
+    ensures { Edits (valued_of Add path.now (Ok (Int number))) result slot.old slot.new edited.new }
 {
-    edit_value(
-        alloc,
-        slot,
-        Verb::Add,
-        path,
-        Ok(Scalar::Int(number)),
-        edited,
-    )
+    let integer = Scalar::Int(number);
+    edit_value(alloc, slot, Verb::Add, path, Ok(integer), edited)
 }
 
 /// Adds to the set at a path a truth: 0 is false, any other number true.
@@ -268,18 +237,10 @@ pub extern "C" fn rds_add_bool(
     truth: u8,
     edited: &mut EditedC,
 ) -> u32
-    ensures edited { result ≡ 0 → Edits (valued_of Add path.now (Ok (Bool (not (truth == 0)))))
-        (replica_in slot.old.handle.document) (replica_in slot.new.handle.document) edited.new }
-    ensures kept { IsKeptUnlessDone result slot.old.handle.document slot.new.handle.document }
+    ensures { Edits (valued_of Add path.now (Ok (Bool (not (truth == 0))))) result slot.old slot.new edited.new }
 {
-    edit_value(
-        alloc,
-        slot,
-        Verb::Add,
-        path,
-        Ok(Scalar::Bool(truth != 0)),
-        edited,
-    )
+    let boolean = Scalar::Bool(truth != 0);
+    edit_value(alloc, slot, Verb::Add, path, Ok(boolean), edited)
 }
 
 /// Adds to the set at a path null.
@@ -290,9 +251,7 @@ pub extern "C" fn rds_add_null(
     path: &[u8],
     edited: &mut EditedC,
 ) -> u32
-    ensures edited { result ≡ 0 → Edits (valued_of Add path.now (Ok Null))
-        (replica_in slot.old.handle.document) (replica_in slot.new.handle.document) edited.new }
-    ensures kept { IsKeptUnlessDone result slot.old.handle.document slot.new.handle.document }
+    ensures { Edits (valued_of Add path.now (Ok Null)) result slot.old slot.new edited.new }
 {
     edit_value(alloc, slot, Verb::Add, path, Ok(Scalar::Null), edited)
 }
@@ -306,9 +265,7 @@ pub extern "C" fn rds_del_text(
     text: &[u8],
     edited: &mut EditedC,
 ) -> u32
-    ensures edited { result ≡ 0 → Edits (valued_of Del path.now (scalar_of_text text.now))
-        (replica_in slot.old.handle.document) (replica_in slot.new.handle.document) edited.new }
-    ensures kept { IsKeptUnlessDone result slot.old.handle.document slot.new.handle.document }
+    ensures { Edits (valued_of Del path.now (scalar_of_text text.now)) result slot.old slot.new edited.new }
 {
     edit_text(alloc, slot, Verb::Del, path, text, edited)
 }
@@ -322,18 +279,10 @@ pub extern "C" fn rds_del_int(
     number: i64,
     edited: &mut EditedC,
 ) -> u32
-    ensures edited { result ≡ 0 → Edits (valued_of Del path.now (Ok (Int number)))
-        (replica_in slot.old.handle.document) (replica_in slot.new.handle.document) edited.new }
-    ensures kept { IsKeptUnlessDone result slot.old.handle.document slot.new.handle.document }
+    ensures { Edits (valued_of Del path.now (Ok (Int number))) result slot.old slot.new edited.new }
 {
-    edit_value(
-        alloc,
-        slot,
-        Verb::Del,
-        path,
-        Ok(Scalar::Int(number)),
-        edited,
-    )
+    let integer = Scalar::Int(number);
+    edit_value(alloc, slot, Verb::Del, path, Ok(integer), edited)
 }
 
 /// Deletes from the set at a path a truth: 0 is false, any other number true.
@@ -345,18 +294,10 @@ pub extern "C" fn rds_del_bool(
     truth: u8,
     edited: &mut EditedC,
 ) -> u32
-    ensures edited { result ≡ 0 → Edits (valued_of Del path.now (Ok (Bool (not (truth == 0)))))
-        (replica_in slot.old.handle.document) (replica_in slot.new.handle.document) edited.new }
-    ensures kept { IsKeptUnlessDone result slot.old.handle.document slot.new.handle.document }
+    ensures { Edits (valued_of Del path.now (Ok (Bool (not (truth == 0))))) result slot.old slot.new edited.new }
 {
-    edit_value(
-        alloc,
-        slot,
-        Verb::Del,
-        path,
-        Ok(Scalar::Bool(truth != 0)),
-        edited,
-    )
+    let boolean = Scalar::Bool(truth != 0);
+    edit_value(alloc, slot, Verb::Del, path, Ok(boolean), edited)
 }
 
 /// Deletes from the set at a path null.
@@ -367,9 +308,7 @@ pub extern "C" fn rds_del_null(
     path: &[u8],
     edited: &mut EditedC,
 ) -> u32
-    ensures edited { result ≡ 0 → Edits (valued_of Del path.now (Ok Null))
-        (replica_in slot.old.handle.document) (replica_in slot.new.handle.document) edited.new }
-    ensures kept { IsKeptUnlessDone result slot.old.handle.document slot.new.handle.document }
+    ensures { Edits (valued_of Del path.now (Ok Null)) result slot.old slot.new edited.new }
 {
     edit_value(alloc, slot, Verb::Del, path, Ok(Scalar::Null), edited)
 }
@@ -382,11 +321,12 @@ pub extern "C" fn rds_clear(
     path: &[u8],
     edited: &mut EditedC,
 ) -> u32
-    ensures edited { result ≡ 0 → Edits (cleared_of path.now)
-        (replica_in slot.old.handle.document) (replica_in slot.new.handle.document) edited.new }
-    ensures kept { IsKeptUnlessDone result slot.old.handle.document slot.new.handle.document }
+    ensures { Edits (cleared_of path.now) result slot.old slot.new edited.new }
 {
-    clear(alloc, slot, path, edited)
+    let Ok(path) = str::from_utf8(path) else {
+        return NOT_UTF8;
+    };
+    edit_as(alloc, slot, cleared(alloc, path), edited)
 }
 
 /// Raises the counter of a key.
@@ -398,11 +338,12 @@ pub extern "C" fn rds_inc(
     by: u64,
     edited: &mut EditedC,
 ) -> u32
-    ensures edited { result ≡ 0 → Edits (raised_of key.now by)
-        (replica_in slot.old.handle.document) (replica_in slot.new.handle.document) edited.new }
-    ensures kept { IsKeptUnlessDone result slot.old.handle.document slot.new.handle.document }
+    ensures { Edits (raised_of key.now by) result slot.old slot.new edited.new }
 {
-    raise(alloc, slot, key, by, edited)
+    let Ok(key) = str::from_utf8(key) else {
+        return NOT_UTF8;
+    };
+    edit_as(alloc, slot, raised(alloc, key, by), edited)
 }
 
 /// Lowers the counter of a key.
@@ -414,11 +355,12 @@ pub extern "C" fn rds_dec(
     by: u64,
     edited: &mut EditedC,
 ) -> u32
-    ensures edited { result ≡ 0 → Edits (lowered_of key.now by)
-        (replica_in slot.old.handle.document) (replica_in slot.new.handle.document) edited.new }
-    ensures kept { IsKeptUnlessDone result slot.old.handle.document slot.new.handle.document }
+    ensures { Edits (lowered_of key.now by) result slot.old slot.new edited.new }
 {
-    lower(alloc, slot, key, by, edited)
+    let Ok(key) = str::from_utf8(key) else {
+        return NOT_UTF8;
+    };
+    edit_as(alloc, slot, lowered(alloc, key, by), edited)
 }
 
 /// Tells, as JSON, what the document shows at a path; the empty one is the root.
@@ -430,20 +372,9 @@ pub extern "C" fn rds_view(
     room: &mut [u8],
     length: &mut usize,
 ) -> u32
-    ensures told { result ≡ 0 → Tells (λ v text. told_at view_text v.state path.now ≡ Ok text)
-        (replica_in slot.old.handle.document) room.new length.new }
-    ensures kept { IsKept slot.old.handle.document slot.new.handle.document }
+    ensures { Tells (IsTextAt View path.now) result slot.old slot.new room.new length.new }
 {
-    let Ok(path) = str::from_utf8(path) else {
-        return NOT_UTF8;
-    };
-    let Some(mut held) = take_out(alloc, slot) else {
-        return CLOSED;
-    };
-    let made = held.document.view_json(path);
-    let ended = held.tell_text(alloc, made, room, length);
-    put_back(slot, held);
-    ended
+    look_at(alloc, slot, Look::View, path, room, length)
 }
 
 /// Tells, as JSON, what stands at a path.
@@ -455,20 +386,9 @@ pub extern "C" fn rds_get(
     room: &mut [u8],
     length: &mut usize,
 ) -> u32
-    ensures told { result ≡ 0 → Tells (λ v text. IsValueText v.state path.now text)
-        (replica_in slot.old.handle.document) room.new length.new }
-    ensures kept { IsKept slot.old.handle.document slot.new.handle.document }
+    ensures { Tells (IsTextAt Value path.now) result slot.old slot.new room.new length.new }
 {
-    let Ok(path) = str::from_utf8(path) else {
-        return NOT_UTF8;
-    };
-    let Some(mut held) = take_out(alloc, slot) else {
-        return CLOSED;
-    };
-    let made = held.document.value_json(path);
-    let ended = held.tell_text(alloc, made, room, length);
-    put_back(slot, held);
-    ended
+    look_at(alloc, slot, Look::Value, path, room, length)
 }
 
 /// Tells the registers below a path that have more than one value, a line of JSON each.
@@ -480,20 +400,9 @@ pub extern "C" fn rds_conflicts(
     room: &mut [u8],
     length: &mut usize,
 ) -> u32
-    ensures told { result ≡ 0 → Tells (λ v text. told_at conflicts_text v.state path.now ≡ Ok text)
-        (replica_in slot.old.handle.document) room.new length.new }
-    ensures kept { IsKept slot.old.handle.document slot.new.handle.document }
+    ensures { Tells (IsTextAt Conflicts path.now) result slot.old slot.new room.new length.new }
 {
-    let Ok(path) = str::from_utf8(path) else {
-        return NOT_UTF8;
-    };
-    let Some(mut held) = take_out(alloc, slot) else {
-        return CLOSED;
-    };
-    let made = held.document.conflicts(path);
-    let ended = held.tell_text(alloc, made, room, length);
-    put_back(slot, held);
-    ended
+    look_at(alloc, slot, Look::Conflicts, path, room, length)
 }
 
 /// Tells the edits that make what the document has below a path, a line of JSON each.
@@ -505,20 +414,9 @@ pub extern "C" fn rds_dump(
     room: &mut [u8],
     length: &mut usize,
 ) -> u32
-    ensures told { result ≡ 0 → Tells (λ v text. told_at dump_text v.state path.now ≡ Ok text)
-        (replica_in slot.old.handle.document) room.new length.new }
-    ensures kept { IsKept slot.old.handle.document slot.new.handle.document }
+    ensures { Tells (IsTextAt Dump path.now) result slot.old slot.new room.new length.new }
 {
-    let Ok(path) = str::from_utf8(path) else {
-        return NOT_UTF8;
-    };
-    let Some(mut held) = take_out(alloc, slot) else {
-        return CLOSED;
-    };
-    let made = held.document.dump(path);
-    let ended = held.tell_text(alloc, made, room, length);
-    put_back(slot, held);
-    ended
+    look_at(alloc, slot, Look::Dump, path, room, length)
 }
 
 /// Tells the snapshot.
@@ -529,17 +427,9 @@ pub extern "C" fn rds_snapshot(
     room: &mut [u8],
     length: &mut usize,
 ) -> u32
-    ensures told { result ≡ 0 → Tells (λ v text. text ≡ snapshot_text v)
-        (replica_in slot.old.handle.document) room.new length.new }
-    ensures kept { IsKept slot.old.handle.document slot.new.handle.document }
+    ensures { Tells (IsTextOf Snapshot) result slot.old slot.new room.new length.new }
 {
-    let Some(mut held) = take_out(alloc, slot) else {
-        return CLOSED;
-    };
-    let made = held.document.snapshot();
-    let ended = held.tell(alloc, made, room, length);
-    put_back(slot, held);
-    ended
+    look_whole(alloc, slot, Whole::Snapshot, room, length)
 }
 
 /// Tells, as JSON, whose replica this is and how much there is of it.
@@ -550,17 +440,22 @@ pub extern "C" fn rds_status_json(
     room: &mut [u8],
     length: &mut usize,
 ) -> u32
-    ensures told { result ≡ 0 → Tells IsOverview
-        (replica_in slot.old.handle.document) room.new length.new }
-    ensures kept { IsKept slot.old.handle.document slot.new.handle.document }
+    ensures { Tells (IsTextOf Status) result slot.old slot.new room.new length.new }
 {
-    let Some(mut held) = take_out(alloc, slot) else {
-        return CLOSED;
-    };
-    let made = held.document.status();
-    let ended = held.tell_text(alloc, made, room, length);
-    put_back(slot, held);
-    ended
+    look_whole(alloc, slot, Whole::Status, room, length)
+}
+
+/// Tells the mark by which replicas are compared at a glance.
+#[unsafe(no_mangle)]
+pub extern "C" fn rds_mark(
+    alloc: Global,
+    slot: &mut Slot,
+    room: &mut [u8],
+    length: &mut usize,
+) -> u32
+    ensures { Tells (IsTextOf Mark) result slot.old slot.new room.new length.new }
+{
+    look_whole(alloc, slot, Whole::Mark, room, length)
 }
 
 /// Tells what asks another replica for what this one lacks.
@@ -571,17 +466,9 @@ pub extern "C" fn rds_ask(
     room: &mut [u8],
     length: &mut usize,
 ) -> u32
-    ensures told { result ≡ 0 → Tells (λ v text. text ≡ question_text (question_of v))
-        (replica_in slot.old.handle.document) room.new length.new }
-    ensures kept { IsKept slot.old.handle.document slot.new.handle.document }
+    ensures { Tells (IsTextOf Question) result slot.old slot.new room.new length.new }
 {
-    let Some(mut held) = take_out(alloc, slot) else {
-        return CLOSED;
-    };
-    let made = held.document.ask();
-    let ended = held.tell(alloc, made, room, length);
-    put_back(slot, held);
-    ended
+    look_whole(alloc, slot, Whole::Question, room, length)
 }
 
 /// Tells what answers such a question.
@@ -593,14 +480,12 @@ pub extern "C" fn rds_answer(
     room: &mut [u8],
     length: &mut usize,
 ) -> u32
-    ensures told { result ≡ 0 → Tells (Responds question.now)
-        (replica_in slot.old.handle.document) room.new length.new }
-    ensures kept { IsKept slot.old.handle.document slot.new.handle.document }
+    ensures { Tells (Responds question.now) result slot.old slot.new room.new length.new }
 {
     let Some(mut held) = take_out(alloc, slot) else {
         return CLOSED;
     };
-    let made = held.document.answer(question);
+    let made = answer_of(&held.document, question);
     let ended = held.tell(alloc, made, room, length);
     put_back(slot, held);
     ended
@@ -614,7 +499,9 @@ pub extern "C" fn rds_told(
     room: &mut [u8],
     length: &mut usize,
 ) -> u32
-    ensures kept { IsKept slot.old.handle.document slot.new.handle.document }
+    ensures told { result ≡ 0 → IsTold (left_in slot.old) room.new length.new }
+    ensures left { result ≡ 66 → IsLeft (left_in slot.old) (left_in slot.new) length.new }
+    ensures kept { slot.new.handle.document ≡ slot.old.handle.document }
 {
     let Some(held) = take_out(alloc, slot) else {
         return CLOSED;
@@ -633,9 +520,8 @@ pub extern "C" fn rds_take(
     answer: &[u8],
     taken: &mut u64,
 ) -> u32
-    ensures taken { result ≡ 0 → Takes question.now answer.now
-        (replica_in slot.old.handle.document) (replica_in slot.new.handle.document) taken.new }
-    ensures kept { IsKeptUnlessDone result slot.old.handle.document slot.new.handle.document }
+    ensures taken { result ≡ 0 → Takes question.now answer.now slot.old slot.new taken.new }
+    ensures kept { IsKeptUnlessDone result slot.old slot.new }
 {
     let Some(mut held) = take_out(alloc, slot) else {
         return CLOSED;
@@ -649,9 +535,8 @@ pub extern "C" fn rds_take(
 /// Takes all that a snapshot has, and tells how many components of it were lacking.
 #[unsafe(no_mangle)]
 pub extern "C" fn rds_merge(alloc: Global, slot: &mut Slot, snapshot: &[u8], taken: &mut u64) -> u32
-    ensures taken { result ≡ 0 → Merges snapshot.now
-        (replica_in slot.old.handle.document) (replica_in slot.new.handle.document) taken.new }
-    ensures kept { IsKeptUnlessDone result slot.old.handle.document slot.new.handle.document }
+    ensures taken { result ≡ 0 → Merges snapshot.now slot.old slot.new taken.new }
+    ensures kept { IsKeptUnlessDone result slot.old slot.new }
 {
     let Some(mut held) = take_out(alloc, slot) else {
         return CLOSED;
@@ -665,9 +550,8 @@ pub extern "C" fn rds_merge(alloc: Global, slot: &mut Slot, snapshot: &[u8], tak
 /// Puts a name last in the roster.
 #[unsafe(no_mangle)]
 pub extern "C" fn rds_grow(alloc: Global, slot: &mut Slot, name: &[u8]) -> u32
-    ensures grown { result ≡ 0 → Changes (IsGrownBy name.now)
-        (replica_in slot.old.handle.document) (replica_in slot.new.handle.document) }
-    ensures kept { IsKeptUnlessDone result slot.old.handle.document slot.new.handle.document }
+    ensures grown { result ≡ 0 → Changes (IsGrownBy name.now) slot.old slot.new }
+    ensures kept { IsKeptUnlessDone result slot.old slot.new }
 {
     let Ok(name) = str::from_utf8(name) else {
         return NOT_UTF8;

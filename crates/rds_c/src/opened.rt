@@ -1,8 +1,9 @@
 //! A document that is open for C, and the text that its last call left to be told.
-ghost use Rattle.std.specs.Prelude.{◌≡◌, ◌≢◌, ◌⊎◌, Ok, IfOk, OnErr, OnOk};
+ghost use Rattle.std.specs.Prelude.{◌≡◌, ◌≢◌, ◌⊎◌, ◌≤◌, length, false, true, IfOk, OnErr, OnOk};
+ghost use Rattle.rds_c.specs.Told.{EditsDocument, IsLeft, IsLeftBytes, IsNarrowed, IsTold, IsToldBytes};
+ghost use Rattle.rds_c.specs.Told.{IsWordsOf, MakesEdits, edited_for_c};
+ghost use Rattle.rds_json.specs.Unnamed.{edit_of};
 ghost use Rattle.rds_names.specs.Fault.{number_of};
-ghost use Rattle.rds_c.specs.Told.{EditsDocument, IsNarrowed, IsTold, IsToldBytes, IsToldText};
-ghost use Rattle.rds_c.specs.Told.{MakesEdits, edited_for_c};
 
 use crate::status::{EditedC, OK, ROOM, edited_for_c, narrowed, status, words_of};
 use rds_store::{Command, Document, Edited, Fault, Reply, answers_text};
@@ -16,10 +17,12 @@ pub struct Opened {
 }
 
 impl Opened {
-    /// Refuses: the fault's number. Its words are told to who asks for them.
+    /// Refuses: the fault's number. Its words are left to be told.
     pub fn refuse(&mut self, alloc: Global, fault: Fault) -> u32
         ensures number { result ≡ number_of fault }
         ensures some { result ≢ 0 }
+        ensures few { result ≤ 63 }
+        ensures words { IsWordsOf fault self.new.told.items }
         ensures kept { self.new.document ≡ self.old.document }
     {
         self.told = words_of(alloc, fault);
@@ -36,6 +39,7 @@ impl Opened {
         length: &mut usize,
     ) -> u32
         ensures told { result ≡ 0 → IsToldBytes made room.new length.new }
+        ensures left { result ≡ 66 → IsLeftBytes made self.new.told.items length.new }
         ensures kept { self.new.document ≡ self.old.document }
     {
         match made {
@@ -44,42 +48,30 @@ impl Opened {
         }
     }
 
-    /// The same of a text.
-    pub fn tell_text(
-        &mut self,
-        alloc: Global,
-        made: Result<String, Fault>,
-        room: &mut [u8],
-        length: &mut usize,
-    ) -> u32
-        ensures told { result ≡ 0 → IsToldText made room.new length.new }
-        ensures kept { self.new.document ≡ self.old.document }
-    {
-        match made {
-            Ok(text) => self.give(alloc, text.into_bytes(), room, length),
-            Err(fault) => self.refuse(alloc, fault),
-        }
-    }
-
     fn give(&mut self, alloc: Global, bytes: Vec<u8>, room: &mut [u8], length: &mut usize) -> u32
         ensures told { result ≡ 0 → IsTold bytes.items room.new length.new }
+        ensures left { result ≡ 66 → IsLeft bytes.items self.new.told.items length.new }
         ensures status { (result ≡ 0) ⊎ (result ≡ 66) }
         ensures kept { self.new.document ≡ self.old.document }
     {
-        let answer = put(bytes.as_slice(), room, length);
-        self.told = if answer == ROOM {
-            bytes
-        } else {
-            Vec::new(alloc)
-        };
-        answer
+        if put(bytes.as_slice(), room, length) {
+            self.told = Vec::new(alloc);
+            return OK;
+        }
+        self.told = bytes;
+        ROOM
     }
 
     /// Tells what was left to be told. It is left on.
     pub fn tell_again(&self, room: &mut [u8], length: &mut usize) -> u32
         ensures told { result ≡ 0 → IsTold self.now.told.items room.new length.new }
+        ensures left { result ≡ 66 → IsLeft self.now.told.items self.now.told.items length.new }
     {
-        put(self.told.as_slice(), room, length)
+        if put(self.told.as_slice(), room, length) {
+            OK
+        } else {
+            ROOM
+        }
     }
 
     /// Edits the document by what was asked for, and tells what that did.
@@ -99,6 +91,16 @@ impl Opened {
         self.tell_edit(alloc, done, edited)
     }
 
+    /// Edits the document as a line says, and tells what that did.
+    pub fn edit_line(&mut self, alloc: Global, line: &str, edited: &mut EditedC) -> u32
+        ensures edited { result ≡ 0
+            → EditsDocument (edit_of line.now) self.old.document self.new.document edited.new }
+        ensures kept { (result ≡ 0) ⊎ (self.new.document ≡ self.old.document) }
+    {
+        let done = self.document.edit_line(line);
+        self.tell_edit(alloc, done, edited)
+    }
+
     /// Edits the document by lines, and tells their answers. Where there is no memory for the text of the answers, its
     /// length is 0, and there is no room for it.
     pub fn edit_lines(
@@ -114,7 +116,7 @@ impl Opened {
     {
         match self.document.edit_lines(lines) {
             Ok(answers) => self.tell_answers(alloc, answers.as_slice(), room, length),
-            Err(_) => self.refuse(alloc, Fault::Memory),
+            Err(fault) => self.refuse(alloc, fault),
         }
     }
 
@@ -193,15 +195,15 @@ impl Opened {
     }
 }
 
-/// Tells how many bytes there are, and the bytes where there is room for them.
-fn put(bytes: &[u8], room: &mut [u8], length: &mut usize) -> u32
-    ensures told { result ≡ 0 → IsTold bytes.now room.new length.new }
-    ensures status { (result ≡ 0) ⊎ (result ≡ 66) }
+/// Tells how many bytes there are, and the bytes where there is room for them, and answers whether there is.
+fn put(bytes: &[u8], room: &mut [u8], told: &mut usize) -> bool
+    ensures told { result ≡ true → IsTold bytes.now room.new told.new }
+    ensures number { told.new ≡ length bytes.now }
 {
-    *length = bytes.len();
+    *told = bytes.len();
     if room.len() < bytes.len() {
-        return ROOM;
+        return false;
     }
     room[..bytes.len()].copy_from_slice(bytes);
-    OK
+    true
 }

@@ -1,7 +1,7 @@
 //! How a call ended, as a number, and what an edit did, as C has it.
-ghost use Rattle.std.specs.Prelude.{◌≡◌, ◌≢◌};
+ghost use Rattle.std.specs.Prelude.{◌≡◌, ◌≢◌, ◌≤◌};
 ghost use Rattle.rds_names.specs.Fault.{number_of};
-ghost use Rattle.rds_c.specs.Told.{IsNarrowed, edited_for_c};
+ghost use Rattle.rds_c.specs.Told.{IsNarrowed, IsWordsOf, edited_for_c};
 
 use rds_store::{Edited, Fault};
 use std::alloc::Global;
@@ -34,12 +34,15 @@ pub struct EditedC {
 pub fn status(fault: Fault) -> u32
     ensures number { result ≡ number_of fault }
     ensures some { result ≢ 0 }
+    ensures few { result ≤ 63 }
 {
     u32::from(fault.number())
 }
 
 /// A fault in words. There are none where there is no memory for them.
-pub fn words_of(alloc: Global, fault: Fault) -> Vec<u8> {
+pub fn words_of(alloc: Global, fault: Fault) -> Vec<u8>
+    ensures { IsWordsOf fault result.items }
+{
     match format!(in alloc; "{fault}") {
         Ok(words) => words.into_bytes(),
         Err(_) => Vec::new(alloc),
