@@ -79,6 +79,8 @@ pub enum Fault {
     NoSuch,
     /// The words of the command line are none that the program takes.
     Usage,
+    /// What was to be kept is written, and the system doesn't say that it lasts: it may be there or not.
+    Unsure,
 }
 
 impl Fault {
@@ -114,6 +116,7 @@ impl Fault {
             Fault::BadLine => 25,
             Fault::NoSuch => 26,
             Fault::Usage => 27,
+            Fault::Unsure => 29,
         }
     }
 
@@ -149,6 +152,7 @@ impl Fault {
             Fault::BadLine => "BadLine",
             Fault::NoSuch => "NoSuch",
             Fault::Usage => "Usage",
+            Fault::Unsure => "Unsure",
         }
     }
 }
@@ -231,6 +235,7 @@ impl fmt::Display for Words {
             Fault::Usage => f.write_str(
                 "the words of the command line are none that the program takes",
             ),
+            Fault::Unsure => f.write_str("it is written, and may not last: read before you repeat"),
         }
     }
 }

@@ -183,6 +183,7 @@ are told on standard error alone.
   25 BadLine         a line is no command, or VALUE no JSON
   26 NoSuch          no such replica, ask or answer
   27 Usage           words that the program doesn't take
+  29 Unsure          FILE is written, and may not last: read it before you repeat
 
 Exit status: 0 where the command succeeded, 1 where it answered a fault, 2 for fault 27,
 3 where 'get --raw' finds nothing, and where 'conflicts' or 'diff' finds something.
