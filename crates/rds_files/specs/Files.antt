@@ -3,7 +3,7 @@ use Rattle.std.specs.Prelude.{◌≡◌, ◌==◌, ◌⊎◌, ◌<◌, ℕ, Bool
 use Rattle.std.specs.List.{ends_with}
 use Rattle.std.specs.Coded.{Coded, code_by, coded×, coded_list, coded_ℕ}
 use Rattle.rds_names.specs.declared.fault.Fault.{Fault}
-use Rattle.rds_names.specs.declared.fault.Fault.TheVariants.{Memory, Device, TooLong, Usage}
+use Rattle.rds_names.specs.declared.fault.Fault.TheVariants.{Memory, Device, TooLong, Unsure, Usage}
 use Rattle.rds_state.specs.Fits.{ReplicaValue, coded_replica}
 use Rattle.rds_codec.specs.Decoding.{IsOtherFault}
 use Rattle.rds_codec.specs.StateTexts.{IsSnapshot, snapshot_text}
@@ -101,10 +101,12 @@ HoldsTooMuch {F} remaining = (file : F) × IfSome (remaining file) (λ input. LI
 abbrev pub RefusesLock : List ℕ → Fault → Type 0
 RefusesLock path fault = ((fault ≡ Usage) × (is_beside path ≡ true)) ⊎ IsUnread fault
 
--- why a replica can't be kept in a file: a call on a file failed, or its text is above the limit; or want of memory
+-- why a replica can't be kept in a file: a call on a file failed, or its text is above the limit; or want of memory; or
+-- it is written, and the system doesn't say that it lasts
 abbrev pub IsUnkept : ReplicaValue → Fault → Type 0
 IsUnkept replica fault =
-    (fault ≡ Memory) ⊎ ((fault ≡ Device) ⊎ ((fault ≡ TooLong) × (LIMIT < length (snapshot_text replica))))
+    (fault ≡ Memory)
+    ⊎ ((fault ≡ Device) ⊎ ((fault ≡ Unsure) ⊎ ((fault ≡ TooLong) × (LIMIT < length (snapshot_text replica)))))
 
 -- why a replica isn't kept whose text is above the limit: for that, or for want of memory to find how long it is
 abbrev pub IsTooLongOrLost : Fault → Type 0

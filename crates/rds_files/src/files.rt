@@ -3,6 +3,7 @@ ghost use Rattle.std.specs.Prelude.{◌≡◌, ◌≤◌, ◌<◌, ◌⊎◌, tr
 ghost use Rattle.rds_names.specs.declared.fault.Fault.TheVariants.{Device, TooLong, Usage};
 ghost use Rattle.rds_codec.specs.StateTexts.{IsSnapshot, snapshot_text};
 ghost use Rattle.rds_codec.specs.declared.limits.TheConstants.{LIMIT};
+ghost use Rattle.rds_keep.specs.Changes.{IsChanged};
 ghost use Rattle.rds_files.specs.Files.{HoldsTooMuch, IsHeldAt, IsNoPlace, IsReadAt, IsReadBy, IsTooLongOrLost, IsUnkept, IsUnread, RefusesFile, RefusesLock, is_beside, read_more};
 
 use crate::beside::{folder_of, keep_new, keep_over};
@@ -12,7 +13,7 @@ use crate::locks::{LockFile, lock, lock_if_free};
 use crate::past::Past;
 use crate::targets::Target;
 use rds_dots::DotSet;
-use rds_keep::{Counted, Kept, read_snapshot};
+use rds_keep::{Change, Counted, Kept, read_snapshot};
 use rds_names::Fault;
 use rds_state::Replica;
 use std::fs;
@@ -329,6 +330,21 @@ where
         } = self;
         let kept = keep_over(rt, replica, target.path(), &file)?;
         Ok(ReplacedFile { path, before, kept })
+    }
+
+    /// Keeps this replica in the file, which a change made of the one that the file holds, and then lets the lock go.
+    pub fn keep(
+        self,
+        rt: &H,
+        replica: Replica<S>,
+        _change: Change<'_, S>,
+    ) -> Result<ReplacedFile<'a, S>, Fault>
+        requires changed { IsChanged self.kept _change replica }
+        ensures replaced { IfOk result
+            (λ file. file ≡ record { path = self.entry.path; before = self.entry.kept; kept = replica }) }
+        ensures fault { IfErr result (IsUnkept replica) }
+    {
+        self.replace(rt, replica)
     }
 }
 

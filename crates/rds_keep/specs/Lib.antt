@@ -1,3 +1,4 @@
+pub mod Changes
 pub mod Counted
 pub mod FedTexts
 pub mod Feeding

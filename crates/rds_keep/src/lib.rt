@@ -2,6 +2,7 @@
 //! `Kept` is a replica whose text was written whole or read whole.
 #![tactic(auto)]
 
+mod change;
 mod counted;
 mod fed;
 mod feeding;
@@ -14,6 +15,7 @@ mod snapshots;
 mod texts;
 mod writing;
 
+pub use change::Change;
 pub use counted::Counted;
 pub use fed::Fed;
 pub use feeding::read_fed;
