@@ -13,6 +13,6 @@ mod torn;
 
 pub use appending::{AppendError, append};
 pub use device::{Device, DeviceError};
-pub use laws::journals_outlast_crashes;
+pub use laws::{journals_outlast_crashes, records_outlast_appends};
 pub use records::{HEAD, MOST, first_record, put_record, record_length};
 pub use torn::{SCAN, is_torn};
