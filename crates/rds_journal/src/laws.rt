@@ -12,8 +12,8 @@ pub fn journals_outlast_crashes()
 
 /// What an append acknowledged is read for good. Behind it the records are those from before and the new one. And after
 /// however many more appends, each at the end of the whole records that are there, and each of them done or broken off
-/// by a crash at any moment, these are the first that are read. A record that is read once, though it wasn't acknowledged,
-/// stays likewise. The function does nothing: its contract is this law, which `append` meets by `written` and `any_moment`.
+/// by a crash at any moment, these are the first that are read. The function does nothing: its contract is this law.
+/// `append` meets its premises by `written`, and by `any_moment` where a crash leaves nothing but the file from before.
 pub fn records_outlast_appends()
     ensures appended { (start end : ℕ) (file payload : List ℕ) (payloads : List (List ℕ)) →
         ReadsAppended start file payloads end payload }
