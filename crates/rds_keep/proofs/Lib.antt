@@ -8,7 +8,7 @@ mod Foreign
 mod FrontSoFar
 mod Fronts
 mod KeptTexts
-mod Leading
+mod LedSoFar
 pub mod PiecesSoFar
 mod ReadWhole
 mod Replaying

@@ -126,11 +126,11 @@ fn ended<S: DotSet>(
 ) -> Result<Stored<S>, Refused>
     requires value { IsSnapshot replay.replica }
     requires file { (bytes : List ℕ) × IsFile bytes format snapshot replay.replica × (replay.whole ≡ length bytes) }
-    ensures stored { (bytes : List ℕ) → IsFile bytes format snapshot replay.entry.replica
-        → replay.entry.whole ≡ length bytes → IfOk result (λ s. IsStored (bytes ++ rest.now) s.kept s.layout) }
+    ensures stored { (bytes : List ℕ) → IsFile bytes format snapshot replay.replica
+        → replay.whole ≡ length bytes → IfOk result (λ s. IsStored (bytes ++ rest.now) s.kept s.layout) }
     ensures value { IfOk result (λ s. IsSnapshot s.kept) }
-    ensures at { IfErr result (λ r. r.at ≡ replay.entry.whole) }
-    ensures refused { IfErr result (λ r. RefusesEnd replay.entry.whole rest.now r.fault) }
+    ensures at { IfErr result (λ r. r.at ≡ replay.whole) }
+    ensures refused { IfErr result (λ r. RefusesEnd replay.whole rest.now r.fault) }
 {
     let whole = replay.whole();
     if !is_torn(rest) {
@@ -170,15 +170,15 @@ fn read_behind<S: DotSet, R: Read>(
     requires first { IsFirst first.format first.replica first.length }
     requires held { length behind.items ≤ MOST + HEAD → IsAtEnd (R.remaining reader.old.inner) }
     ensures stored { IfOk result (λ s. IfSome (R.remaining reader.old.inner)
-        (λ input. IsStored (first_and first.entry.format first.entry.replica (behind.items ++ input)) s.kept s.layout)) }
+        (λ input. IsStored (first_and first.format first.replica (behind.items ++ input)) s.kept s.layout)) }
     ensures value { IfOk result (λ s. IsSnapshot s.kept) }
     ensures end { OnOk result (IsAtEnd (R.remaining reader.new.inner)) }
     ensures bound { OnOk result (ConsumesAtMost (R.remaining reader.old.inner) (R.remaining reader.new.inner)
         (most_read (reader.old.left - reader.new.left))) }
     ensures refused { IfErr result (λ r. IfSome (R.remaining reader.old.inner)
-        (λ input. RefusesBytes (first_and first.entry.format first.entry.replica (behind.items ++ input)) r.fault)) }
+        (λ input. RefusesBytes (first_and first.format first.replica (behind.items ++ input)) r.fault)) }
     ensures at { IfErr result (λ r. IfSome (R.remaining reader.old.inner)
-        (λ input. AreWhole (first_and first.entry.format first.entry.replica (behind.items ++ input)) r.at)) }
+        (λ input. AreWhole (first_and first.format first.replica (behind.items ++ input)) r.at)) }
     ensures fault { IfErr result (λ r. (r.fault ≡ Device) ⊎ IsOtherFault r.fault) }
     ensures counted { IfErr result (λ r. r.fault ≡ Device → HasFailed reader.old reader.new) }
     ensures steady { MatchResult result (λ _. reader.new.failed ≡ reader.old.failed)
@@ -259,10 +259,10 @@ fn decode_behind<S: DotSet>(
     behind: &[u8],
 ) -> Result<Stored<S>, Refused>
     requires first { IsFirst first.format first.replica first.length }
-    ensures stored { IfOk result (λ s. IsStored (first_and first.entry.format first.entry.replica behind.now) s.kept s.layout) }
+    ensures stored { IfOk result (λ s. IsStored (first_and first.format first.replica behind.now) s.kept s.layout) }
     ensures value { IfOk result (λ s. IsSnapshot s.kept) }
-    ensures refused { IfErr result (λ r. RefusesBytes (first_and first.entry.format first.entry.replica behind.now) r.fault) }
-    ensures at { IfErr result (λ r. AreWhole (first_and first.entry.format first.entry.replica behind.now) r.at) }
+    ensures refused { IfErr result (λ r. RefusesBytes (first_and first.format first.replica behind.now) r.fault) }
+    ensures at { IfErr result (λ r. AreWhole (first_and first.format first.replica behind.now) r.at) }
     ensures fault { IfErr result (λ r. IsOtherFault r.fault) }
 {
     let First {
