@@ -1,9 +1,11 @@
 mod Appended
+mod BehindParts
 mod Chains
 mod ChangeTexts
 mod FedSoFar
 mod FeedSteps
 mod Files
+mod FirstParts
 mod Foreign
 mod FrontSoFar
 mod Fronts

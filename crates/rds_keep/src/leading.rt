@@ -6,6 +6,7 @@ ghost use Rattle.rds_codec.specs.Decoding.{IsOtherFault};
 ghost use Rattle.rds_codec.specs.declared.limits.TheConstants.{LIMIT};
 ghost use Rattle.rds_feeds.specs.Pieces.{ReadsOn};
 ghost use Rattle.rds_keep.specs.Counted.{HasFailed, most_read};
+ghost use Rattle.rds_keep.specs.Feeding.{AreBytes};
 ghost use Rattle.rds_keep.specs.Leading.{Leads, RefusesFront, RefusesStep};
 
 use crate::counted::Counted;
@@ -27,6 +28,11 @@ pub struct Leading<W> {
     /// Those of them that stand behind the value.
     pub behind: Vec<u8>,
 }
+
+// Each of a slice's bytes is below 256. The function does nothing: its contract is this law.
+fn hold_bytes(bytes: &[u8])
+    ensures { AreBytes bytes.now }
+{}
 
 /// Reads on as far as the bytes go. Whatever else they are refused for than want of memory, they are `Bad`.
 pub fn read_step<U: Unfinished>(
@@ -70,6 +76,7 @@ impl<R: Read> Counted<R> {
     {
         let mut unfinished = unfinished;
         let mut count = front.len();
+        hold_bytes(front.as_slice());
         let mut held = front;
         'reading: loop {
             let (progress, rest) = read_step(alloc, unfinished, &held)?;
@@ -93,6 +100,7 @@ impl<R: Read> Counted<R> {
             if held.len() == before {
                 return Err(Fault::Cut);
             }
+            hold_bytes(held.as_slice());
             count += held.len() - before;
         }
     }
