@@ -1,5 +1,6 @@
 -- A change of a kept replica that is put behind the others.
 use Rattle.std.proofs.Common.{◌≡◌, ℕ, ◌+◌, ◌<◌, ◌≤◌, List, [], ◌∷◌, ◌++◌, length, take, Option, Some, None, refl, sym, ap, ◌∙◌, subst, arith, append_assoc, append-nil}
+use Rattle.std.specs.Prelude.{IfSome}
 use Rattle.std.proofs.lemmas.List.{length-append, take_at}
 use Rattle.rds_names.specs.Roster.{RosterValue, Begins}
 use Rattle.rds_bytes.specs.Values.{IsMember}
@@ -12,7 +13,7 @@ use Rattle.rds_state.specs.Fits.{Fits, ReplicaValue}
 use Rattle.rds_state.specs.Value.{StateValue, coordinates}
 use Rattle.rds_journal.specs.Appending.{IsEnd, appended}
 use Rattle.rds_journal.specs.Records.{IsPayload, record_text}
-use Rattle.rds_keep.specs.Changed.{ChangedValue, IsRecordOf, with_record}
+use Rattle.rds_keep.specs.Changed.{ChangedValue, IsRecordOf, IsSeen, with_record}
 use Rattle.rds_keep.specs.Changes.{ChangeValue, IsChanged, IsRedone, change_text, roster_after}
 use Rattle.rds_keep.specs.Kept.{IsFile, IsKept, IsStored, records_text}
 use Rattle.rds_keep.specs.declared.layout.Layout.{Layout}
@@ -98,3 +99,9 @@ end_of file v layout stored =
     let parts = ap length stored.parts in
     let lengths = length-append stored.whole stored.torn in
     (omega (arith, size, all, parts, lengths), λ none. omega (arith, size, all, parts, lengths, none))
+
+-- what is seen then
+pub appended_seen : (old new : Option (List ℕ)) (c : ChangedValue) (layout : Layout) → IfSome old (λ file. IsStored file c.before layout) → IfSome old (λ file. new ≡ Some (appended file layout.whole c.bytes)) → IsRecordOf c
+    → IfSome old (λ _. IsSeen new c.after (with_record layout (length c.bytes)))
+appended_seen None new c layout stored same is = tt
+appended_seen (Some file) new c layout stored same is = (appended file layout.whole c.bytes, same, stored_more file layout c stored is)

@@ -1,6 +1,6 @@
 -- The records behind a snapshot, and the rest that ends a file or is refused.
 use Rattle.std.proofs.Common.{◌≡◌, ℕ, ◌+◌, ◌^◌, ◌<◌, ◌≤◌, ◌⊎◌, inl, inr, List, [], ◌∷◌, ◌++◌, length, take, Option, Some, None, Result, Ok, Err, refl, sym, ap, ◌∙◌, subst, arith, append_assoc, append-nil}
-use Rattle.std.specs.Prelude.{IfOk, IfErr, IfSome}
+use Rattle.std.specs.Prelude.{IfOk, IfErr, IfSome, OnOk}
 use Rattle.std.specs.Io.KnownBytes.{Consumes, IsAtEnd}
 use Rattle.std.proofs.lemmas.List.{length-append, take-append-le}
 use Rattle.rds_names.specs.declared.fault.Fault.{Fault}
@@ -22,13 +22,21 @@ use Rattle.rds_keep.proofs.SnapshotsStay.{all_snapshots}
 
 -- ---- results
 
-pub ok_then : {A E : Type 0} {P Q : A → Type 0} (r : Result A E) → ((a : A) → P a → Q a) → IfOk r P → IfOk r Q
-ok_then (Ok a) next has = next a has
-ok_then (Err e) next has = tt
+pub ok_then : {A E : Type 0} {P Q : A → Type 0} (r : Result A E) → IfOk r P → ((a : A) → P a → Q a) → IfOk r Q
+ok_then (Ok a) has next = next a has
+ok_then (Err e) has next = tt
 
-pub err_then : {A E : Type 0} {P Q : E → Type 0} (r : Result A E) → ((e : E) → P e → Q e) → IfErr r P → IfErr r Q
-err_then (Ok a) next has = tt
-err_then (Err e) next has = next e has
+pub err_then : {A E : Type 0} {P Q : E → Type 0} (r : Result A E) → IfErr r P → ((e : E) → P e → Q e) → IfErr r Q
+err_then (Ok a) has next = tt
+err_then (Err e) has next = next e has
+
+pub on_then : {A E : Type 0} {P : A → Type 0} {Q : Type 0} (r : Result A E) → IfOk r P → ((a : A) → P a → Q) → OnOk r Q
+on_then (Ok a) has next = next a has
+on_then (Err e) has next = tt
+
+pub on_on : {A E : Type 0} {P Q : Type 0} (r : Result A E) → OnOk r P → (P → Q) → OnOk r Q
+on_on (Ok a) has next = next has
+on_on (Err e) has next = tt
 
 -- ---- the faults
 
@@ -59,7 +67,7 @@ whole_more bytes more at is some =
 
 module _ (format : Format) (first : ReplicaValue) (count : ℕ) (now : ReplayValue) (bytes rest : List ℕ) (is : IsFirst format first count) (taken : TakesRecords (start first count) now bytes rest) where
   -- all before the rest
-  pub taken_bytes : List ℕ
+  abbrev pub taken_bytes : List ℕ
   taken_bytes = snapshot_text_in format first ++ records_text first.own taken.changes
 
   pub taken_is_file : IsFile taken_bytes format count now.replica
@@ -116,7 +124,7 @@ no_more : (after : Option (List ℕ)) (more : List ℕ) → after ≡ Some more 
 no_more after more is end = subst IsAtEnd is end
 
 module _ (format : Format) (first : ReplicaValue) (count : ℕ) (now : ReplayValue) (before after : Option (List ℕ)) (behind rest : List ℕ) (is : IsFirst format first count) (read : ReadsRecords (start first count) now before after behind rest) where
-  pub read_bytes : List ℕ
+  abbrev pub read_bytes : List ℕ
   read_bytes = taken_bytes format first count now (behind ++ read.given) rest is read.taken
 
   pub read_is_file : IsFile read_bytes format count now.replica

@@ -62,7 +62,7 @@ unread_refuses (Some input) e (inl memory) = rw memory tt
 unread_refuses (Some input) e (inr device) = rw device tt
 
 -- so many bytes were read that they are above the limit
-pub long_refuses : (first last : Option (List ℕ)) (given : List ℕ) (count : ℕ) (e : Fault) → Consumes first last given → count ≡ length given → (e ≡ Memory) ⊎ ((e ≡ TooLong) × (LIMIT < count)) → IfSome first (λ input. RefusesBytes input e)
+pub long_refuses : (first last : Option (List ℕ)) (given : List ℕ) (count : ℕ) (e : Fault) → Consumes first last given → count ≤ length given → (e ≡ Memory) ⊎ ((e ≡ TooLong) × (LIMIT < count)) → IfSome first (λ input. RefusesBytes input e)
 long_refuses None last given count e consumed size why = tt
 long_refuses (Some xs) None given count e consumed size why = absurd consumed
 long_refuses (Some xs) (Some ys) given count e consumed size (inl memory) = rw memory tt
@@ -70,19 +70,22 @@ long_refuses (Some xs) (Some ys) given count e consumed size (inr long) = rw (lo
 
 -- ---- there is one
 
+abbrev read_as : Snapshot → List ℕ → Result (Snapshot × List ℕ) Fault
+read_as s rest = Ok (s, rest)
+
 -- what was read up to it, and the bytes behind it
 pub leading_is : (read : Reader Snapshot) (front : List ℕ) (before after : Option (List ℕ)) (s : Snapshot) (count : ℕ) (behind : List ℕ) → ((bytes : List ℕ) → read bytes ≡ snapshot_in_at bytes)
     → (leads : Leads read front before after s count behind) → (front ++ leads.given ≡ first_and s.0 s.1 behind) × IsSnapshot s.1
 leading_is read front before after s count behind same leads =
     let whole = leads.whole [] in
     let found : snapshot_in_at (front ++ leads.given) ≡ Ok (s, behind) =
-    sym (same (front ++ leads.given)) ∙ ap (λ (t : List ℕ). read (front ++ t)) (sym (append-nil leads.given)) ∙ whole ∙ ap (λ (t : List ℕ). Ok {E = Fault} (s, t)) (append-nil behind) in
+    sym (same (front ++ leads.given)) ∙ ap (λ (t : List ℕ). read (front ++ t)) (sym (append-nil leads.given)) ∙ whole ∙ ap (read_as s) (append-nil behind) in
     front_is (front ++ leads.given) behind s leads.bytes found
 
 -- and more behind it
 module _ (read : Reader Snapshot) (same : (bytes : List ℕ) → read bytes ≡ snapshot_in_at bytes) (front : List ℕ) (first mid now last : Option (List ℕ)) (s : Snapshot) (count : ℕ) (behind held : List ℕ)
     (consumed : Consumes first mid front) (leads : Leads read front mid now s count behind) (more : HoldsMore now last behind held) where
-  pub all_given : List ℕ
+  abbrev pub all_given : List ℕ
   all_given = front ++ (leads.given ++ more.given)
 
   pub all_consumed : Consumes first last all_given
@@ -96,17 +99,17 @@ module _ (read : Reader Snapshot) (same : (bytes : List ℕ) → read bytes ≡ 
   pub loses_first : LosesFirst first last s.0 s.1 held
   loses_first = record { given = all_given; consumed = all_consumed; parts = all_parts }
 
-  all_size : count + (length held - length behind) ≡ length all_given
-  all_size = omega (arith, leads.size, ap length more.held, length-append behind more.given, length-append leads.given more.given, length-append front (leads.given ++ more.given))
-
-  pub first_size : count + (length held - length behind) ≡ length (first_and s.0 s.1 held)
-  first_size = all_size ∙ ap length all_parts
+  pub text_size : count ≡ length (snapshot_text_in s.0 s.1) + length behind
+  text_size =
+      let is = leading_is read front mid now s count behind same leads in
+      omega (arith, leads.size, ap length (is.0), length-append front leads.given, length-append (snapshot_text_in s.0 s.1) behind)
 
   pub first_value : IsSnapshot s.1
   first_value = (leading_is read front mid now s count behind same leads).1
 
-  pub too_long_refuses : (total : ℕ) (e : Fault) → total ≡ count + (length held - length behind) → (e ≡ Memory) ⊎ ((e ≡ TooLong) × (LIMIT < total)) → IfSome first (λ input. RefusesBytes input e)
-  too_long_refuses total e size why = long_refuses first last all_given total e all_consumed (size ∙ all_size) why
+  pub too_long_refuses : (size : ℕ) (e : Fault) → size ≡ length (snapshot_text_in s.0 s.1) → (e ≡ Memory) ⊎ ((e ≡ TooLong) × (LIMIT < size)) → IfSome first (λ input. RefusesBytes input e)
+  too_long_refuses size e is why =
+      long_refuses first last all_given size e all_consumed (omega (arith, is, ap length all_parts, length-append (snapshot_text_in s.0 s.1) held)) why
 
   pub first_bound : (turns left left2 left3 : ℕ) → IsMagic front → 4 ≤ most_read (turns - left) → count ≤ length front + most_read (left - left2) → length held ≤ length behind + most_read (left2 - left3)
       → left ≤ turns → left2 ≤ left → left3 ≤ left2 → ConsumesAtMost first last (most_read (turns - left3))
@@ -147,20 +150,27 @@ none_whole (Some input) = λ some. absurd (omega (arith, some))
 -- ---- bytes that are there
 
 -- the snapshot that they begin with
-pub step_is : {U : Type 0} (finish : U → Reader Snapshot) (u : U) (bytes rest : List ℕ) (p : Progress U Snapshot) (s : Snapshot) → ((t : List ℕ) → finish u t ≡ snapshot_in_at t) → AreBytes bytes → p ≡ Whole s
-    → ReadsOn finish (λ more. finish u (bytes ++ more)) p rest → (bytes ≡ first_and s.0 s.1 rest) × IsSnapshot s.1
-step_is {U} finish u bytes rest p s same fits is reads =
-    let on : ReadsOn finish (λ more. finish u (bytes ++ more)) (Whole s) rest = subst (λ (q : Progress U Snapshot). ReadsOn finish (λ more. finish u (bytes ++ more)) q rest) is reads in
-    let found : snapshot_in_at bytes ≡ Ok (s, rest) =
-    sym (same bytes) ∙ ap (finish u) (sym (append-nil bytes)) ∙ on [] ∙ ap (λ (t : List ℕ). Ok {E = Fault} (s, t)) (append-nil rest) in
-    front_is bytes rest s fits found
+module _ {U : Type 0} (finish : U → Reader Snapshot) (read : Reader Snapshot) (same : (t : List ℕ) → read t ≡ snapshot_in_at t) (bytes : List ℕ) where
+  pub step_is : (rest : List ℕ) (p : Progress U Snapshot) (s : Snapshot) → AreBytes bytes → p ≡ Whole s → ReadsOn finish (λ more. read (bytes ++ more)) p rest → (bytes ≡ first_and s.0 s.1 rest) × IsSnapshot s.1
+  step_is rest p s fits is reads =
+      let on : ReadsOn finish (λ more. read (bytes ++ more)) (Whole s) rest = subst (λ (q : Progress U Snapshot). ReadsOn finish (λ more. read (bytes ++ more)) q rest) is reads in
+      let found : snapshot_in_at bytes ≡ Ok (s, rest) =
+      sym (same bytes) ∙ ap read (sym (append-nil bytes)) ∙ on [] ∙ ap (read_as s) (append-nil rest) in
+      front_is bytes rest s fits found
 
-pub step_cut : {U : Type 0} (finish : U → Reader Snapshot) (u next : U) (bytes rest : List ℕ) (p : Progress U Snapshot) → ((t : List ℕ) → finish u t ≡ snapshot_in_at t) → p ≡ More next
-    → ReadsOn finish (λ more. finish u (bytes ++ more)) p rest → RefusesBytes bytes Cut
-step_cut {U} finish u next bytes rest p same is reads =
-    let on : ReadsOn finish (λ more. finish u (bytes ++ more)) (More next) rest = subst (λ (q : Progress U Snapshot). ReadsOn finish (λ more. finish u (bytes ++ more)) q rest) is reads in
-    sym (same bytes) ∙ ap (finish u) (sym (append-nil bytes)) ∙ on.0 [] ∙ ap (finish next) (append-nil rest) ∙ on.1
+  pub step_size : (rest : List ℕ) (p : Progress U Snapshot) (s : Snapshot) → AreBytes bytes → p ≡ Whole s → ReadsOn finish (λ more. read (bytes ++ more)) p rest → length bytes ≡ length (snapshot_text_in s.0 s.1) + length rest
+  step_size rest p s fits is reads = let parts = step_is rest p s fits is reads in omega (arith, ap length (parts.0), length-append (snapshot_text_in s.0 s.1) rest)
 
-pub step_refuses : {U : Type 0} (finish : U → Reader Snapshot) (u : U) (bytes : List ℕ) (e : Fault) → ((t : List ℕ) → finish u t ≡ snapshot_in_at t) → RefusesStep (λ more. finish u (bytes ++ more)) e → RefusesBytes bytes e
-step_refuses finish u bytes e same (inl memory) = rw memory tt
-step_refuses finish u bytes e same (inr bad) = rw (bad.0) (let is = bad.1 in none_stored bytes is.0 (sym (same bytes) ∙ ap (finish u) (sym (append-nil bytes)) ∙ is.1 []))
+  pub step_long : (rest : List ℕ) (p : Progress U Snapshot) (s : Snapshot) (size : ℕ) (e : Fault) → AreBytes bytes → p ≡ Whole s → ReadsOn finish (λ more. read (bytes ++ more)) p rest → size ≡ length (snapshot_text_in s.0 s.1)
+      → (e ≡ Memory) ⊎ ((e ≡ TooLong) × (LIMIT < size)) → RefusesBytes bytes e
+  step_long rest p s size e fits is reads total (inl memory) = rw memory tt
+  step_long rest p s size e fits is reads total (inr long) = rw (long.0) (let many = long.1 in omega (arith, many, total, step_size rest p s fits is reads))
+
+  pub step_cut : (next : U) (rest : List ℕ) (p : Progress U Snapshot) → p ≡ More next → ReadsOn finish (λ more. read (bytes ++ more)) p rest → RefusesBytes bytes Cut
+  step_cut next rest p is reads =
+      let on : ReadsOn finish (λ more. read (bytes ++ more)) (More next) rest = subst (λ (q : Progress U Snapshot). ReadsOn finish (λ more. read (bytes ++ more)) q rest) is reads in
+      sym (same bytes) ∙ ap read (sym (append-nil bytes)) ∙ on.0 [] ∙ ap (finish next) (append-nil rest) ∙ on.1
+
+pub step_refuses : (read : Reader Snapshot) (bytes : List ℕ) (e : Fault) → ((t : List ℕ) → read t ≡ snapshot_in_at t) → RefusesStep (λ more. read (bytes ++ more)) e → RefusesBytes bytes e
+step_refuses read bytes e same (inl memory) = rw memory tt
+step_refuses read bytes e same (inr bad) = rw (bad.0) (let is = bad.1 in none_stored bytes is.0 (sym (same bytes) ∙ ap read (sym (append-nil bytes)) ∙ is.1 []))

@@ -29,8 +29,8 @@ pub struct Leading<W> {
     pub behind: Vec<u8>,
 }
 
-// Each of a slice's bytes is below 256. The function does nothing: its contract is this law.
-fn hold_bytes(bytes: &[u8])
+/// Each of a slice's bytes is below 256. The function does nothing: its contract is this law.
+pub fn hold_bytes(bytes: &[u8])
     ensures { AreBytes bytes.now }
 {}
 

@@ -3,6 +3,7 @@ ghost use Rattle.std.specs.Prelude.{◌≡◌, ◌≢◌, ◌≤◌, ◌<◌, �
 ghost use Rattle.std.specs.Io.KnownBytes.{IsAtEnd};
 ghost use Rattle.rds_names.specs.declared.fault.Fault.TheVariants.{Device, Memory, TooLong};
 ghost use Rattle.rds_codec.specs.Decoding.{IsOtherFault};
+ghost use Rattle.rds_codec.specs.FormatTexts.{snapshot_text_in};
 ghost use Rattle.rds_codec.specs.StateTexts.{IsSnapshot};
 ghost use Rattle.rds_codec.specs.declared.limits.TheConstants.{LIMIT};
 ghost use Rattle.rds_journal.specs.declared.records.TheConstants.{MOST, HEAD};
@@ -15,7 +16,7 @@ ghost use Rattle.rds_keep.specs.Stored.{IsFirst, LosesFirst, RefusesEnd, first_a
 use crate::counted::Counted;
 use crate::kept::Kept;
 use crate::layout::Layout;
-use crate::leading::{Leading, read_step};
+use crate::leading::{Leading, hold_bytes, read_step};
 use crate::replay::{Replay, hold_more};
 use crate::snapshots::read_magic;
 use rds_codec::{Format, LIMIT, unfinished_snapshot};
@@ -53,21 +54,20 @@ struct First<S: DotSet> {
     length: usize,
 }
 
-// The snapshot that so many bytes are, but for those behind it, where it isn't above the limit.
+// A snapshot of so many bytes, where that isn't above the limit. The replica gets an index where bytes are behind it.
 fn first_of<S: DotSet>(
     format: Format,
     replica: Replica<S>,
-    count: usize,
+    size: usize,
     behind: &[u8],
 ) -> Result<First<S>, Fault>
-    requires count { count ≡ length (first_and format replica behind.now) }
+    requires size { size ≡ length (snapshot_text_in format replica) }
     requires value { IsSnapshot replica }
     ensures same { IfOk result (λ first. (first.format ≡ format) × (first.replica ≡ replica)) }
     ensures first { IfOk result (λ first. IsFirst format replica first.length) }
-    ensures fault { IfErr result (λ e. (e ≡ Memory) ⊎ ((e ≡ TooLong) × (LIMIT < count))) }
+    ensures fault { IfErr result (λ e. (e ≡ Memory) ⊎ ((e ≡ TooLong) × (LIMIT < size))) }
 {
-    let length = count.saturating_sub(behind.len());
-    if LIMIT < length {
+    if LIMIT < size {
         return Err(Fault::TooLong);
     }
     let mut replica = replica;
@@ -77,7 +77,7 @@ fn first_of<S: DotSet>(
     Ok(First {
         format,
         replica,
-        length,
+        length: size,
     })
 }
 
@@ -109,11 +109,11 @@ fn read_first<S: DotSet, R: Read>(
         count,
         behind,
     } = leading;
+    let size = count.saturating_sub(behind.len());
     let mut behind = behind;
-    let before = behind.len();
     hold_more(reader, &mut behind)?;
     let (format, replica) = value;
-    let first = first_of(format, replica, count + (behind.len() - before), &behind)?;
+    let first = first_of(format, replica, size, behind.as_slice())?;
     Ok((first, behind))
 }
 
@@ -242,11 +242,13 @@ fn decode_first<S: DotSet>(alloc: Global, bytes: &[u8]) -> Result<(First<S>, &[u
     ensures refused { IfErr result (RefusesBytes bytes.now) }
     ensures fault { IfErr result IsOtherFault }
 {
+    hold_bytes(bytes);
     let (progress, rest) = read_step(alloc, unfinished_snapshot::<S>(), bytes)?;
     match progress {
         Progress::More(_) => Err(Fault::Cut),
         Progress::Whole((format, replica)) => {
-            let first = first_of(format, replica, bytes.len(), rest)?;
+            let size = bytes.len().saturating_sub(rest.len());
+            let first = first_of(format, replica, size, rest)?;
             Ok((first, rest))
         }
     }
