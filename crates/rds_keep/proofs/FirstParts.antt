@@ -12,14 +12,11 @@ use Rattle.rds_codec.specs.FormatTexts.{Snapshot, snapshot_in_at, snapshot_text_
 use Rattle.rds_codec.specs.StateTexts.{IsSnapshot}
 use Rattle.rds_codec.specs.declared.formats.Format.{Format}
 use Rattle.rds_codec.specs.declared.limits.TheConstants.{LIMIT}
-use Rattle.rds_feeds.specs.declared.unfinished.Progress.{Progress}
-use Rattle.rds_feeds.specs.declared.unfinished.Progress.TheVariants.{More, Whole}
-use Rattle.rds_feeds.specs.Pieces.{ReadsOn}
 use Rattle.rds_state.specs.Fits.{ReplicaValue}
 use Rattle.rds_keep.specs.Counted.{most_read}
 use Rattle.rds_keep.specs.Feeding.{AreBytes}
 use Rattle.rds_keep.specs.Kept.{AreWhole, RefusesBytes}
-use Rattle.rds_keep.specs.Leading.{Leads, RefusesFront, RefusesStep}
+use Rattle.rds_keep.specs.Leading.{Leads, RefusesFront}
 use Rattle.rds_keep.specs.Parts.{ConsumesAtMost}
 use Rattle.rds_keep.specs.Replay.{HoldsMore}
 use Rattle.rds_keep.specs.Snapshots.{IsForeign, IsMagic, IsShort}
@@ -150,27 +147,18 @@ none_whole (Some input) = λ some. absurd (omega (arith, some))
 -- ---- bytes that are there
 
 -- the snapshot that they begin with
-module _ {U : Type 0} (finish : U → Reader Snapshot) (read : Reader Snapshot) (same : (t : List ℕ) → read t ≡ snapshot_in_at t) (bytes : List ℕ) where
-  pub step_is : (rest : List ℕ) (p : Progress U Snapshot) (s : Snapshot) → AreBytes bytes → p ≡ Whole s → ReadsOn finish (λ more. read (bytes ++ more)) p rest → (bytes ≡ first_and s.0 s.1 rest) × IsSnapshot s.1
-  step_is rest p s fits is reads =
-      let on : ReadsOn finish (λ more. read (bytes ++ more)) (Whole s) rest = subst (λ (q : Progress U Snapshot). ReadsOn finish (λ more. read (bytes ++ more)) q rest) is reads in
-      let found : snapshot_in_at bytes ≡ Ok (s, rest) =
-      sym (same bytes) ∙ ap read (sym (append-nil bytes)) ∙ on [] ∙ ap (read_as s) (append-nil rest) in
+module _ (read : Reader Snapshot) (same : (t : List ℕ) → read t ≡ snapshot_in_at t) (bytes rest : List ℕ) (s : Snapshot) (fits : AreBytes bytes) (reads : (more : List ℕ) → read (bytes ++ more) ≡ Ok (s, rest ++ more)) where
+  pub step_is : (bytes ≡ first_and s.0 s.1 rest) × IsSnapshot s.1
+  step_is =
+      let found : snapshot_in_at bytes ≡ Ok (s, rest) = sym (same bytes) ∙ ap read (sym (append-nil bytes)) ∙ reads [] ∙ ap (read_as s) (append-nil rest) in
       front_is bytes rest s fits found
 
-  pub step_size : (rest : List ℕ) (p : Progress U Snapshot) (s : Snapshot) → AreBytes bytes → p ≡ Whole s → ReadsOn finish (λ more. read (bytes ++ more)) p rest → length bytes ≡ length (snapshot_text_in s.0 s.1) + length rest
-  step_size rest p s fits is reads = let parts = step_is rest p s fits is reads in omega (arith, ap length (parts.0), length-append (snapshot_text_in s.0 s.1) rest)
+  pub step_size : length bytes ≡ length (snapshot_text_in s.0 s.1) + length rest
+  step_size = omega (arith, ap length (step_is.0), length-append (snapshot_text_in s.0 s.1) rest)
 
-  pub step_long : (rest : List ℕ) (p : Progress U Snapshot) (s : Snapshot) (size : ℕ) (e : Fault) → AreBytes bytes → p ≡ Whole s → ReadsOn finish (λ more. read (bytes ++ more)) p rest → size ≡ length (snapshot_text_in s.0 s.1)
-      → (e ≡ Memory) ⊎ ((e ≡ TooLong) × (LIMIT < size)) → RefusesBytes bytes e
-  step_long rest p s size e fits is reads total (inl memory) = rw memory tt
-  step_long rest p s size e fits is reads total (inr long) = rw (long.0) (let many = long.1 in omega (arith, many, total, step_size rest p s fits is reads))
+  pub step_long : (size : ℕ) (e : Fault) → size ≡ length (snapshot_text_in s.0 s.1) → (e ≡ Memory) ⊎ ((e ≡ TooLong) × (LIMIT < size)) → RefusesBytes bytes e
+  step_long size e total (inl memory) = rw memory tt
+  step_long size e total (inr long) = rw (long.0) (let many = long.1 in omega (arith, many, total, step_size))
 
-  pub step_cut : (next : U) (rest : List ℕ) (p : Progress U Snapshot) → p ≡ More next → ReadsOn finish (λ more. read (bytes ++ more)) p rest → RefusesBytes bytes Cut
-  step_cut next rest p is reads =
-      let on : ReadsOn finish (λ more. read (bytes ++ more)) (More next) rest = subst (λ (q : Progress U Snapshot). ReadsOn finish (λ more. read (bytes ++ more)) q rest) is reads in
-      sym (same bytes) ∙ ap read (sym (append-nil bytes)) ∙ on.0 [] ∙ ap (finish next) (append-nil rest) ∙ on.1
-
-pub step_refuses : (read : Reader Snapshot) (bytes : List ℕ) (e : Fault) → ((t : List ℕ) → read t ≡ snapshot_in_at t) → RefusesStep (λ more. read (bytes ++ more)) e → RefusesBytes bytes e
-step_refuses read bytes e same (inl memory) = rw memory tt
-step_refuses read bytes e same (inr bad) = rw (bad.0) (let is = bad.1 in none_stored bytes is.0 (sym (same bytes) ∙ ap read (sym (append-nil bytes)) ∙ is.1 []))
+pub bytes_refused : (read : Reader Snapshot) (bytes : List ℕ) (e : Fault) → ((t : List ℕ) → read t ≡ snapshot_in_at t) → IsOtherFault e → RefusesFront read bytes e → RefusesBytes bytes e
+bytes_refused read bytes e same fault why = front_refuses read bytes e (same bytes) (inr fault) why

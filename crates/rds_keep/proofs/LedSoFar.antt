@@ -114,3 +114,19 @@ module _ {U V : Type 0} (finish : U → Reader V) where
   pub failed : (begun : U) (front : List ℕ) (before : Option (List ℕ)) (e : Fault) → (e ≡ Device) → IfSome before (λ input. RefusesFront (finish begun) (front ++ input) e)
   failed begun front None e device = tt
   failed begun front (Some xs) e device = rw device tt
+
+  -- ---- bytes that are there
+
+  pub step_front : (u : U) (bytes : List ℕ) (e : Fault) → RefusesStep (λ more. finish u (bytes ++ more)) e → RefusesFront (finish u) bytes e
+  step_front u bytes e (inl memory) = rw memory tt
+  step_front u bytes e (inr bad) = rw (bad.0) (let is = bad.1 in (is.0, ap (finish u) (sym (append-nil bytes)) ∙ is.1 []))
+
+  pub step_short : (u next : U) (bytes rest : List ℕ) (p : Progress U V) → p ≡ More next → ReadsOn finish (λ more. finish u (bytes ++ more)) p rest → finish u bytes ≡ Err Cut
+  step_short u next bytes rest p is reads =
+      let on : ReadsOn finish (λ more. finish u (bytes ++ more)) (More next) rest = subst (λ (q : Progress U V). ReadsOn finish (λ more. finish u (bytes ++ more)) q rest) is reads in
+      ap (finish u) (sym (append-nil bytes)) ∙ on.0 [] ∙ ap (finish next) (append-nil rest) ∙ on.1
+
+  pub step_whole : (u : U) (bytes rest : List ℕ) (p : Progress U V) (v : V) → p ≡ Whole v → ReadsOn finish (λ more. finish u (bytes ++ more)) p rest → (more : List ℕ) → finish u (bytes ++ more) ≡ Ok (v, rest ++ more)
+  step_whole u bytes rest p v is reads =
+      let on : ReadsOn finish (λ more. finish u (bytes ++ more)) (Whole v) rest = subst (λ (q : Progress U V). ReadsOn finish (λ more. finish u (bytes ++ more)) q rest) is reads in
+      on

@@ -13,6 +13,7 @@ mod KeptTexts
 mod LedSoFar
 pub mod PiecesSoFar
 mod ReadWhole
+mod ReplaySteps
 mod Replaying
 pub mod Showing
 mod SnapshotsStay

@@ -1,5 +1,5 @@
 //! A value that bytes begin with, which is read as they come. What stands behind it is left.
-ghost use Rattle.std.specs.Prelude.{◌≡◌, ◌≢◌, ◌≤◌, ◌-◌, ◌+◌, ◌++◌, ◌⊎◌, length, Err, IfOk, IfErr, IfSome, OnOk};
+ghost use Rattle.std.specs.Prelude.{◌≡◌, ◌≢◌, ◌≤◌, ◌-◌, ◌+◌, ◌++◌, ◌⊎◌, ℕ, List, length, Ok, Err, IfOk, IfErr, IfSome, OnOk};
 ghost use Rattle.std.specs.Io.KnownBytes.{Consumes};
 ghost use Rattle.rds_names.specs.declared.fault.Fault.TheVariants.{Memory, Bad, Device};
 ghost use Rattle.rds_codec.specs.Decoding.{IsOtherFault};
@@ -47,6 +47,25 @@ pub fn read_step<U: Unfinished>(
         Ok(read) => Ok(read),
         Err(Fault::Memory) => Err(Fault::Memory),
         Err(_) => Err(Fault::Bad),
+    }
+}
+
+/// The value that bytes begin with, and those behind it. Refuses `Cut` where there are fewer bytes than the value has, and
+/// `Bad` where no bytes that may follow would help.
+pub fn decode_leading<U: Unfinished>(
+    alloc: Global,
+    unfinished: U,
+    bytes: &[u8],
+) -> Result<(U::Whole, &[u8]), Fault>
+    ensures whole { IfOk result (λ x. (more : List ℕ)
+        → U.finish unfinished (bytes.now ++ more) ≡ Ok (x.0, x.1.now ++ more)) }
+    ensures refused { IfErr result (RefusesFront (U.finish unfinished) bytes.now) }
+    ensures fault { IfErr result IsOtherFault }
+{
+    let (progress, rest) = read_step(alloc, unfinished, bytes)?;
+    match progress {
+        Progress::More(_) => Err(Fault::Cut),
+        Progress::Whole(value) => Ok((value, rest)),
     }
 }
 

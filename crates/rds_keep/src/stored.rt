@@ -16,12 +16,11 @@ ghost use Rattle.rds_keep.specs.Stored.{IsFirst, LosesFirst, RefusesEnd, first_a
 use crate::counted::Counted;
 use crate::kept::Kept;
 use crate::layout::Layout;
-use crate::leading::{Leading, hold_bytes, read_step};
+use crate::leading::{Leading, decode_leading, hold_bytes};
 use crate::replay::{Replay, hold_more};
 use crate::snapshots::read_magic;
 use rds_codec::{Format, LIMIT, unfinished_snapshot};
 use rds_dots::DotSet;
-use rds_feeds::Progress;
 use rds_journal::is_torn;
 use rds_names::Fault;
 use rds_state::Replica;
@@ -243,15 +242,11 @@ fn decode_first<S: DotSet>(alloc: Global, bytes: &[u8]) -> Result<(First<S>, &[u
     ensures fault { IfErr result IsOtherFault }
 {
     hold_bytes(bytes);
-    let (progress, rest) = read_step(alloc, unfinished_snapshot::<S>(), bytes)?;
-    match progress {
-        Progress::More(_) => Err(Fault::Cut),
-        Progress::Whole((format, replica)) => {
-            let size = bytes.len().saturating_sub(rest.len());
-            let first = first_of(format, replica, size, rest)?;
-            Ok((first, rest))
-        }
-    }
+    let (value, rest) = decode_leading(alloc, unfinished_snapshot::<S>(), bytes)?;
+    let (format, replica) = value;
+    let size = bytes.len().saturating_sub(rest.len());
+    let first = first_of(format, replica, size, rest)?;
+    Ok((first, rest))
 }
 
 // The records behind a snapshot.

@@ -5,7 +5,7 @@ use Rattle.rds_keep.proofs.stored.decode_behind.Goals as goal
 
 pub take_records-requires : goal.take_records-requires
 take_records-requires g c =
-    rw c.of-replay.ensures (let is = c.requires.first.value in is.member)
+    rw c.of-replay.ensures (record { member = c.requires.first.value.member })
 
 pub ended-requires-clause-value : goal.ended-requires-clause-value
 ended-requires-clause-value g c =

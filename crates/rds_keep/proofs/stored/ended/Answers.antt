@@ -2,6 +2,7 @@ use Rattle.std.proofs.Common.{◌≡◌, ◌+◌, ◌∙◌, length, refl, sym, 
 use Rattle.std.proofs.lemmas.Grind.{common_steps}
 use Rattle.rds_state.specs.Fits.{ReplicaValue}
 use Rattle.rds_keep.specs.Kept.{IsKept, IsStored}
+use Rattle.rds_keep.specs.declared.layout.Layout.{Layout}
 use Rattle.rds_keep.proofs.Files.{file_kept, file_stored, is_replica}
 use Rattle.rds_keep.proofs.stored.ended.Goals as goal
 
@@ -19,6 +20,6 @@ returns-clause-stored g c = λ bytes file size.
     let same : c.new.result ≡ c.args.replay.replica = (let made = c.new.ensures in let is = c.in-Some-into_replica.ensures in cc) in
     let torn = c.is_torn.ensures.0 c.if-not-is_torn.false in
     let sum : c.in-Some.length ≡ c.whole-whole.result + length c.args.rest.now = grind (arith, common_steps) in
-    let layout = record { format = c.args.format; snapshot = c.args.snapshot; whole = c.whole-whole.result; length = c.in-Some.length } in
+    let layout : Layout = record { format = c.args.format; snapshot = c.args.snapshot; whole = c.whole-whole.result; length = c.in-Some.length } in
     subst (λ (v : ReplicaValue). IsStored _ v layout) (sym same)
     (file_stored c.args.format c.args.snapshot c.args.replay.replica bytes c.args.rest.now layout file refl refl (c.whole-whole.ensures ∙ size) sum torn)
