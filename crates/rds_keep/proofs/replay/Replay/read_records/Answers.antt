@@ -15,7 +15,7 @@ returns-in_err-rest-clause-stops g c =
 pub returns-then-rest-len-clause-read : goal.returns-then-rest-len-clause-read
 returns-then-rest-len-clause-read g c =
     let taken = rw c.deref.ensures.value at c.in_ok-rest.ensures.taken in
-    read_all c.args.self.now c.reading.self c.take_records.new.self _ _ c.args.behind.items c.reading.held.items c.in_ok-rest.rest.now c.reading.invariant.read taken (c.if-rest-len.true ∙ c.len.ensures)
+    read_all c.args.self.now c.reading.self c.take_records.new.self _ _ c.args.behind.items c.reading.held.items c.in_ok-rest.rest.now c.reading.invariant.read taken (omega (arith, c.if-rest-len.true, c.len.ensures, c.reading.held.ok.0))
 
 pub returns-in_err-rest-2-clause-stops : goal.returns-in_err-rest-2-clause-stops
 returns-in_err-rest-2-clause-stops g c =
