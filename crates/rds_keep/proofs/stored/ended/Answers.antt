@@ -1,4 +1,4 @@
-use Rattle.std.proofs.Common.{◌≡◌, ◌+◌, ◌∙◌, length, refl, sym, subst, arith}
+use Rattle.std.proofs.Common.{◌≡◌, ◌+◌, ◌++◌, ◌∙◌, length, refl, sym, subst, arith}
 use Rattle.std.proofs.lemmas.Grind.{common_steps}
 use Rattle.rds_state.specs.Fits.{ReplicaValue}
 use Rattle.rds_keep.specs.Kept.{IsKept, IsStored}
@@ -21,5 +21,5 @@ returns-clause-stored g c = λ bytes file size.
     let torn = c.is_torn.ensures.0 c.if-not-is_torn.false in
     let sum : c.in-Some.length ≡ c.whole-whole.result + length c.args.rest.now = grind (arith, common_steps) in
     let layout : Layout = record { format = c.args.format; snapshot = c.args.snapshot; whole = c.whole-whole.result; length = c.in-Some.length } in
-    subst (λ (v : ReplicaValue). IsStored _ v layout) (sym same)
+    subst (λ (v : ReplicaValue). IsStored (bytes ++ c.args.rest.now) v layout) (sym same)
     (file_stored c.args.format c.args.snapshot c.args.replay.replica bytes c.args.rest.now layout file refl refl (c.whole-whole.ensures ∙ size) sum torn)
