@@ -149,7 +149,7 @@ module _ (format : Format) (first : ReplicaValue) (count : ℕ) (now : ReplayVal
   behind_refused e none end why =
       read_known (λ (t : List ℕ). RefusesBytes (first_and format first t) e) before after behind read.given read.consumed
       (λ more at. end_refused format first count now (behind ++ read.given) rest is read.taken more e (none_behind rest more (λ few. no_more after more at (end few)) none)
-        (torn_before rest more (λ few. no_more after more at (end few))) why)
+      (torn_before rest more (λ few. no_more after more at (end few))) why)
 
   pub behind_whole : (at : ℕ) → at ≡ now.whole → IfSome before (λ input. AreWhole (first_and format first (behind ++ input)) at)
   behind_whole at same =

@@ -113,7 +113,7 @@ module _ (read : Reader Snapshot) (same : (bytes : List ℕ) → read bytes ≡ 
   first_bound turns left left2 left3 magic one two three le le2 le3 = (
     all_given,
     (let four = magic_is_four front magic in
-    omega (arith, four, one, two, three, le, le2, le3, leads.size, ap length more.held, length-append behind more.given, length-append leads.given more.given, length-append front (leads.given ++ more.given))),
+        omega (arith, four, one, two, three, le, le2, le3, leads.size, ap length more.held, length-append behind more.given, length-append leads.given more.given, length-append front (leads.given ++ more.given))),
     all_consumed,
   )
 

@@ -18,10 +18,11 @@ ended-requires-clause-value g c =
 pub ended-requires-clause-file : goal.ended-requires-clause-file
 ended-requires-clause-file g c =
     let first = c.args.first in
-    let read = rw c.of-replay.ensures at c.in-Ok.ensures.read in
-    (read_bytes first.format first.replica first.length c.read_records.new.self (g.R.Read.remaining c.args.reader.now.inner) (g.R.Read.remaining c.read_records.new.reader.inner) c.args.behind.items c.in-Ok.rest.items c.requires.first read,
-    read_is_file first.format first.replica first.length c.read_records.new.self (g.R.Read.remaining c.args.reader.now.inner) (g.R.Read.remaining c.read_records.new.reader.inner) c.args.behind.items c.in-Ok.rest.items c.requires.first read,
-    read_length first.format first.replica first.length c.read_records.new.self (g.R.Read.remaining c.args.reader.now.inner) (g.R.Read.remaining c.read_records.new.reader.inner) c.args.behind.items c.in-Ok.rest.items c.requires.first read)
+    let read = rw c.of-replay.ensures at c.in-Ok.ensures.read in (
+      read_bytes first.format first.replica first.length c.read_records.new.self (g.R.Read.remaining c.args.reader.now.inner) (g.R.Read.remaining c.read_records.new.reader.inner) c.args.behind.items c.in-Ok.rest.items c.requires.first read,
+      read_is_file first.format first.replica first.length c.read_records.new.self (g.R.Read.remaining c.args.reader.now.inner) (g.R.Read.remaining c.read_records.new.reader.inner) c.args.behind.items c.in-Ok.rest.items c.requires.first read,
+      read_length first.format first.replica first.length c.read_records.new.self (g.R.Read.remaining c.args.reader.now.inner) (g.R.Read.remaining c.read_records.new.reader.inner) c.args.behind.items c.in-Ok.rest.items c.requires.first read,
+    )
 
 pub returns-in-Ok-clause-stored : goal.returns-in-Ok-clause-stored
 returns-in-Ok-clause-stored g c =

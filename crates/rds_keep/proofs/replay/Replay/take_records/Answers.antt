@@ -12,7 +12,7 @@ returns-in_err-redo-clause-stops g c =
     let first = c.in-Some.ensures.first in
     rw (p.1, p.2)
     (unredone c.args.self.now c.taking.self c.redo.new.self c.args.bytes.now c.taking.rest.now c.in-Some.payload.now c.in-Some.behind.now _ c.taking.invariant.taken first.parts first.short
-      c.in_err-redo.ensures.same c.in_err-redo.ensures.whole c.in_err-redo.ensures.refused)
+    c.in_err-redo.ensures.same c.in_err-redo.ensures.whole c.in_err-redo.ensures.refused)
 
 pub taking-preserved : goal.taking-preserved
 taking-preserved g c =
