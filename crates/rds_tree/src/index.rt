@@ -12,7 +12,7 @@ ghost use Rattle.rds_tree.specs.Shown.{shown_view};
 ghost use Rattle.rds_tree.specs.View.{view_of};
 
 use crate::document::{counters_at, tree_of};
-use crate::edit_delta::edit_with_delta;
+use crate::edit_delta::edit_tree_with_delta;
 use crate::indexing::edit;
 use crate::node::Node;
 use crate::taking::{take, take_with};
@@ -108,7 +108,7 @@ impl<S: DotSet> Index<S> {
     pub fn edit_with_delta(&mut self, command: &Command) -> Result<(Edited, State<S>), Fault>
         ensures { EditsWithDelta self.old command.now result self.new }
     {
-        edit_with_delta(self.alloc, &mut self.replica, &mut self.tree, command)
+        edit_tree_with_delta(self.alloc, &mut self.replica, &mut self.tree, command)
     }
 
     /// Joins a delta into the replica, as [`Replica::take`] does, and refuses as it does. The tree isn't built anew.
