@@ -4,7 +4,7 @@ use crate::deltas::delta;
 use crate::digests::{digest, digest_of_sets, inside, pair_in, rank_in};
 use crate::documents::Documents;
 use crate::indexes::{
-    covered, index, index_delta, index_edit, index_take, index_view, step, step_take,
+    covered, index, index_covered, index_delta, index_edit, index_take, index_view, step, step_take,
 };
 use crate::laws::laws;
 use crate::replicas::{copy, edit, edit_delta, fits, hold, make, rejoin, take};
@@ -27,6 +27,7 @@ impl<S: DotSet> Table for Documents<S> {
                 digest_answer(self, alloc, name, rest)
             }
             "index"
+            | "index_covered"
             | "index_delta"
             | "index_edit"
             | "index_take"
@@ -72,6 +73,7 @@ fn index_answer<S: DotSet>(
 ) -> Result<String, Fault> {
     match name {
         "index" => index(documents, alloc, rest),
+        "index_covered" => index_covered(documents, alloc, rest),
         "index_delta" => index_delta(documents, alloc, rest),
         "index_edit" => index_edit(documents, alloc, rest),
         "index_take" => index_take(documents, alloc, rest),
