@@ -3,6 +3,7 @@
 //! `copies` and `letters`.
 #![tactic(auto)]
 
+mod changes;
 mod copies;
 mod letters;
 mod merging;
