@@ -61,7 +61,7 @@ taken old came delta new joined fits = record {
   own = joined.own;
   joined = joined.joined;
   fits = subst (λ (r : RosterValue). Fits (length r.names) (coordinates delta)) (sym joined.roster)
-    (fits_more (length came.names) (length (longer old.roster came).names) (coordinates delta) (most_names old.roster came) fits);
+      (fits_more (length came.names) (length (longer old.roster came).names) (coordinates delta) (most_names old.roster came) fits);
 }
 
 -- no roster is needed where it has as many names as before

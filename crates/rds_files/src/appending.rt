@@ -1,12 +1,16 @@
 //! The end of a file, to which records are appended.
-ghost use Rattle.std.specs.Prelude.{◌-◌, ◌^◌, None};
+ghost use Rattle.std.specs.Prelude.{◌≡◌, ◌⊎◌, ◌-◌, ◌^◌, None, IfErr, IfOk, IfSome};
+ghost use Rattle.rds_names.specs.declared.fault.Fault.TheVariants.{Device, Unsure};
+ghost use Rattle.rds_keep.specs.Kept.{IsStored};
 
 use crate::beside::{folder_of, is_unsupported};
 use crate::disk::{Disk, note};
 use crate::locks::LockFile;
 use rds_codec::Format;
+use rds_dots::DotSet;
 use rds_journal::{Device, DeviceError};
-use rds_keep::Layout;
+use rds_keep::{Changed, Layout, WasKept};
+use rds_names::Fault;
 use std::fs::{OpenFile, OpenOptions};
 use std::io::ErrorKind;
 use std::{fs, io};
@@ -16,10 +20,27 @@ const LEAST: u64 = 65_536;
 
 /// Whether one more record of so many bytes is worth its place: the snapshot is of format 2, and the records are then no
 /// longer than it, or than 64 kB.
-pub fn takes_record(layout: &Layout, record: u64) -> bool {
+pub fn takes_record(layout: &Layout, record: usize) -> bool {
     let records = layout.whole.saturating_sub(layout.snapshot);
     let most = layout.snapshot.max(LEAST);
-    matches!(layout.format, Format::Two) && records.saturating_add(record) <= most
+    matches!(layout.format, Format::Two) && records.saturating_add(record as u64) <= most
+}
+
+/// Appends the record of a change. There is nothing where the file would be too long.
+pub fn append_to<D: Device, S: DotSet>(
+    device: &mut D,
+    changed: Changed<S>,
+    layout: &Layout,
+) -> Result<Option<(WasKept<S>, Layout)>, Fault>
+    requires stored { IfSome (D.seen device.old) (λ file. IsStored file changed.before layout.now) }
+    ensures kept { IfOk result (λ some. IfSome some (λ appended. appended.0 ≡ changed.entry.after)) }
+    ensures fault { IfErr result (λ e. (e ≡ Device) ⊎ (e ≡ Unsure)) }
+{
+    match changed.append(device, layout) {
+        Ok(appended) => Ok(Some(appended)),
+        Err(Fault::TooLong) => Ok(None),
+        Err(fault) => Err(fault),
+    }
 }
 
 /// A file that was opened for writing, and its folder. A call that fails is told on standard error.

@@ -6,7 +6,7 @@ ghost use Rattle.rds_codec.specs.declared.limits.TheConstants.{LIMIT};
 ghost use Rattle.rds_keep.specs.Changes.{IsChanged};
 ghost use Rattle.rds_files.specs.Files.{HoldsTooMuch, IsHeldAt, IsNoPlace, IsReadAt, IsReadBy, IsTooLongOrLost, IsUnkept, IsUnread, RefusesFile, RefusesLock, is_beside, read_more};
 
-use crate::appending::{Tail, takes_record};
+use crate::appending::{Tail, append_to, takes_record};
 use crate::beside::{Renewed, folder_of, keep_new, keep_over, renew};
 use crate::disk::{Disk, note};
 use crate::lasting::make_last;
@@ -14,7 +14,7 @@ use crate::locks::{LockFile, lock, lock_if_free};
 use crate::reading::{read_kept, read_now, read_to_last};
 use crate::targets::Target;
 use rds_dots::DotSet;
-use rds_keep::{Appended, Change, Changed, Kept, Layout, Stored, WasKept};
+use rds_keep::{Change, Changed, Kept, Layout, Stored, WasKept};
 use rds_names::Fault;
 use rds_state::Replica;
 use std::fs;
@@ -378,8 +378,12 @@ where
             (λ file. file ≡ record { path = self.entry.path; before = self.entry.kept; kept = replica }) }
         ensures fault { IfErr result (IsUnkept replica) }
     {
-        match self.append(rt, &replica, change)? {
-            Some(appended) => Ok(self.appended(appended.kept.again(replica))),
+        match self.append(rt, &replica, &change)? {
+            Some((kept, _)) => Ok(ReplacedFile {
+                path: self.path,
+                before: self.held,
+                kept: kept.again(replica),
+            }),
             None => self.replace(rt, replica),
         }
     }
@@ -390,25 +394,25 @@ where
         &self,
         rt: &H,
         replica: &Replica<S>,
-        change: Change<'_, S>,
-    ) -> Result<Option<Appended<S>>, Fault>
-        requires changed { IsChanged self.now.kept change replica.now }
-        ensures kept { IfOk result (λ some. IfSome some (λ appended. appended.kept ≡ replica.now)) }
+        change: &Change<'_, S>,
+    ) -> Result<Option<(WasKept<S>, Layout)>, Fault>
+        requires changed { IsChanged self.now.kept change.now replica.now }
+        ensures kept { IfOk result (λ some. IfSome some (λ appended. appended.0 ≡ replica.now)) }
         ensures fault { IfErr result (IsUnkept replica.now) }
     {
         let Some(layout) = self.layout else {
             return Ok(None);
         };
-        let changed = match Changed::of(rt.alloc(), &self.held, replica, change) {
+        let changed = match Changed::new(rt.alloc(), &self.held, replica, change) {
             Ok(changed) => changed,
-            Err(Fault::TooLong) => return Ok(None),
-            Err(fault) => return Err(fault),
+            Err(Fault::Memory) => return Err(Fault::Memory),
+            Err(_) => return Ok(None),
         };
         if !takes_record(&layout, changed.record_length()) {
             return Ok(None);
         }
         match Tail::open(rt, self.target.path(), &self.file) {
-            Some(mut tail) => Ok(Some(changed.append(&mut tail, layout)?)),
+            Some(mut tail) => append_to(&mut tail, changed, &layout),
             None => Ok(None),
         }
     }
@@ -426,10 +430,10 @@ where
         ensures same { OnErr result (self.new ≡ self.old) }
         ensures fault { IfErr result (IsUnkept replica.now) }
     {
-        match self.append(rt, replica, change) {
-            Ok(Some(appended)) => {
-                self.held = appended.kept;
-                self.layout = Some(appended.layout);
+        match self.append(rt, replica, &change) {
+            Ok(Some((kept, layout))) => {
+                self.held = kept;
+                self.layout = Some(layout);
                 Ok(())
             }
             Ok(None) => self.replace_on(rt, replica),
