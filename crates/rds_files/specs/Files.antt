@@ -105,7 +105,7 @@ pub record IsHeldAt (path : List ℕ) (file : KeptFile) : Type 0 where
   pub value : IsSnapshot file.kept
   pub place : is_beside path ≡ false
 
--- the file at this path was read under its lock, and replaced
+-- the file at this path was read under its lock, and holds another replica since
 pub record IsReplacedAt (path : List ℕ) (file : ReplacedValue) : Type 0 where
   pub at : file.path ≡ path
   pub value : IsSnapshot file.before
@@ -113,7 +113,7 @@ pub record IsReplacedAt (path : List ℕ) (file : ReplacedValue) : Type 0 where
 
 -- ---- refusals
 
--- why a file gives no replica: it can't be had, or holds no snapshot; or want of memory
+-- why a file gives no replica: it can't be had, or holds none; or want of memory
 abbrev pub IsUnread : Fault → Type 0
 IsUnread fault = (fault ≡ Device) ⊎ IsOtherFault fault
 
