@@ -2,7 +2,6 @@
 ghost use Rattle.std.specs.Prelude.{◌≡◌, ◌≢◌, ◌≤◌, ◌<◌, ◌-◌, ◌+◌, ◌++◌, ◌⊎◌, List, ℕ, length, Err, IfOk, IfErr, IfSome, OnOk, MatchResult};
 ghost use Rattle.std.specs.Io.KnownBytes.{IsAtEnd};
 ghost use Rattle.rds_names.specs.declared.fault.Fault.TheVariants.{Device, Memory, TooLong};
-ghost use Rattle.rds_state.specs.Fits.{IsReplica};
 ghost use Rattle.rds_codec.specs.Decoding.{IsOtherFault};
 ghost use Rattle.rds_codec.specs.StateTexts.{IsSnapshot};
 ghost use Rattle.rds_codec.specs.declared.limits.TheConstants.{LIMIT};
@@ -19,7 +18,7 @@ use crate::layout::Layout;
 use crate::leading::{Leading, read_step};
 use crate::replay::{Replay, hold_more};
 use crate::snapshots::read_magic;
-use rds_codec::{Format, LIMIT, snapshots_have_texts, unfinished_snapshot};
+use rds_codec::{Format, LIMIT, unfinished_snapshot};
 use rds_dots::DotSet;
 use rds_feeds::Progress;
 use rds_journal::is_torn;
@@ -125,7 +124,7 @@ fn ended<S: DotSet>(
     snapshot: u64,
     rest: &[u8],
 ) -> Result<Stored<S>, Refused>
-    requires replica { IsReplica replay.replica }
+    requires value { IsSnapshot replay.replica }
     requires file { (bytes : List ℕ) × IsFile bytes format snapshot replay.replica × (replay.whole ≡ length bytes) }
     ensures stored { (bytes : List ℕ) → IsFile bytes format snapshot replay.entry.replica
         → replay.entry.whole ≡ length bytes → IfOk result (λ s. IsStored (bytes ++ rest.now) s.kept s.layout) }
@@ -149,7 +148,6 @@ fn ended<S: DotSet>(
     let Some(replica) = replay.into_replica() else {
         unreachable!();
     };
-    snapshots_have_texts(&replica);
     let layout = Layout {
         format,
         snapshot,
