@@ -44,7 +44,7 @@ abbrev pub format_if : Bool → Format
 format_if false = One
 format_if true = Two
 
-format_back : (f : Format) → format_if (is_two f) ≡ f
+abbrev pub format_back : (f : Format) → format_if (is_two f) ≡ f
 format_back One = refl
 format_back Two = refl
 

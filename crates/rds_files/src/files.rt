@@ -410,8 +410,7 @@ where
         }
     }
 
-    // Appends the record of the change, where the file takes it: it is laid out so that one more is worth its place, and
-    // it can be opened for writing.
+    // Appends the record of the change, where it is known how the file is laid out, and it takes the record.
     fn append(
         &self,
         rt: &H,
@@ -422,20 +421,41 @@ where
         ensures kept { IfOk result (λ some. IfSome some (λ appended. appended.0 ≡ replica.now)) }
         ensures fault { IfErr result (IsUnkept replica.now) }
     {
-        let Some(layout) = self.layout else {
-            return Ok(None);
-        };
+        match self.layout {
+            Some(layout) => self.append_at(rt, replica, change, &layout),
+            None => Ok(None),
+        }
+    }
+
+    // Appends the record of the change, where one more is worth its place, and the file can be opened for writing.
+    fn append_at(
+        &self,
+        rt: &H,
+        replica: &Replica<S>,
+        change: &Change<'_, S>,
+        layout: &Layout,
+    ) -> Result<Option<(WasKept<S>, Layout)>, Fault>
+        requires changed { IsChanged self.now.kept change.now replica.now }
+        ensures kept { IfOk result (λ some. IfSome some (λ appended. appended.0 ≡ replica.now)) }
+        ensures fault { IfErr result (IsUnkept replica.now) }
+    {
         let changed = match Changed::new(rt.alloc(), &self.held, replica, change) {
             Ok(changed) => changed,
             Err(Fault::Memory) => return Err(Fault::Memory),
             Err(_) => return Ok(None),
         };
-        if !takes_record(&layout, changed.record_length()) {
-            return Ok(None);
-        }
-        match Tail::open(rt, self.target.path(), &self.file) {
-            Some(mut tail) => append_to(&mut tail, changed, &layout),
+        match self.tail(rt, layout, changed.record_length()) {
+            Some(mut tail) => append_to(&mut tail, changed, layout),
             None => Ok(None),
+        }
+    }
+
+    // The file, opened for writing, where one more record of so many bytes is worth its place.
+    fn tail<'b>(&'b self, rt: &'b H, layout: &Layout, count: usize) -> Option<Tail<'b, H>> {
+        if takes_record(layout, count) {
+            Tail::open(rt, self.target.path(), &self.file)
+        } else {
+            None
         }
     }
 

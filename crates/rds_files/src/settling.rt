@@ -1,5 +1,5 @@
 //! What a session leaves of the replica in its file.
-ghost use Rattle.std.specs.Prelude.{◌≡◌, ◌↔◌, length, None, IfErr, IfOk, IsTrue, MatchOption, OnOk};
+ghost use Rattle.std.specs.Prelude.{◌≡◌, ◌↔◌, length, option_map, None, IfErr, IfOk, IsTrue, MatchOption, OnOk};
 ghost use Rattle.rds_names.specs.declared.fault.Fault.TheVariants.{Memory};
 ghost use Rattle.rds_session.specs.Judging.{roster_among};
 ghost use Rattle.rds_session.specs.Received.{HasChecked, IsChecked, delivery_of};
@@ -184,11 +184,14 @@ where
     ensures fault { IfErr result (IsUnkept replica) }
 {
     let grown = grown_roster(rt.alloc(), replica.roster(), replicas)?;
-    let change = Change {
-        roster: grown.as_ref(),
-        delta,
-    };
-    file.keep(rt, replica, change)
+    file.keep(rt, replica, change_of(grown.as_ref(), delta))
+}
+
+// A delta, and a longer roster where one comes with it.
+fn change_of<'b, S: DotSet>(roster: Option<&'b Roster>, delta: &'b State<S>) -> Change<'b, S>
+    ensures { result ≡ record { roster = option_map (λ r. r.now) roster; delta = delta.now } }
+{
+    Change { roster, delta }
 }
 
 // A copy of the roster, where it doesn't have so many names.
