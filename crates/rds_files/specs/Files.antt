@@ -90,6 +90,11 @@ pub record IsReadAt (path : List ℕ) (file : FileValue) : Type 0 where
   pub at : file.path ≡ path
   pub value : IsSnapshot file.kept
 
+-- the same, whether it was read under its lock or not
+pub record IsKeptAt (path : List ℕ) (file : KeptFile) : Type 0 where
+  pub at : file.path ≡ path
+  pub value : IsSnapshot file.kept
+
 -- it was read by this path, after so many readings
 pub record IsReadBy (at : PathValue) (file : FileValue) : Type 0 where
   pub read : IsReadAt at.path file

@@ -189,7 +189,7 @@ where
 
 // A delta, and a longer roster where one comes with it.
 fn change_of<'b, S: DotSet>(roster: Option<&'b Roster>, delta: &'b State<S>) -> Change<'b, S>
-    ensures { result ≡ record { roster = option_map (λ r. r.now) roster; delta = delta.now } }
+    ensures { result ≡ record { roster = option_map (λ r. r.now) roster.entry; delta = delta.now } }
 {
     Change { roster, delta }
 }
