@@ -1,5 +1,7 @@
 //! One replica of a document, with what finds its entries.
-ghost use Rattle.std.specs.Prelude.{◌≡◌, ◌⊎◌, ◌∷◌, [], Ok, Err, IfOk, IfErr, MatchResult, OnErr, OnOk, map};
+ghost use Rattle.std.specs.Prelude.{◌≡◌, ◌⊎◌, ◌∷◌, [], false, length, max, Ok, Err, IfOk, IfErr, MatchResult, OnErr, OnOk};
+ghost use Rattle.std.specs.Prelude.{map};
+ghost use Rattle.std.specs.Result.{result_map_both};
 ghost use Rattle.rds_codec.specs.Decoding.{all_of};
 ghost use Rattle.rds_codec.specs.DecodedSnapshots.{DecodesSnapshot};
 ghost use Rattle.rds_codec.specs.FormatTexts.{snapshot_in_at};
@@ -7,14 +9,19 @@ ghost use Rattle.rds_codec.specs.FormatWriting.{EncodesTabled};
 ghost use Rattle.rds_codec.specs.StateTexts.{snapshot_text};
 ghost use Rattle.rds_codec.specs.declared.formats.Format.TheVariants.{Two};
 ghost use Rattle.rds_json.specs.MayGive.{MayGive};
+ghost use Rattle.rds_json.specs.Unnamed.{edit_of};
 ghost use Rattle.rds_names.specs.declared.fault.Fault.TheVariants.{Memory};
+ghost use Rattle.rds_state.specs.Fits.{Fits};
+ghost use Rattle.rds_state.specs.Results.{EditsReplica, TakesDeltaWith};
+ghost use Rattle.rds_state.specs.Value.{coordinates};
 ghost use Rattle.rds_store.specs.Documents.{IsGrownBy, RefusesGrowth, first_of, named_roster, names_in};
+ghost use Rattle.rds_tree.specs.EditsWithDelta.{EditsWithDelta};
 
 use rds_codec::{decode_snapshot, encode_snapshot};
 use rds_gaps::GapSet;
 use rds_json::LineReader;
 use rds_names::{Fault, Key, Name, Roster};
-use rds_state::Replica;
+use rds_state::{Command, Edited, Replica, State};
 use rds_tree::Index;
 use std::alloc::Global;
 use std::marker::Model;
@@ -128,6 +135,45 @@ impl Document {
             Ok(()) => Ok(()),
             Err(_) => Err(Fault::Memory),
         }
+    }
+}
+
+/// The steps of what changes a document.
+impl Document {
+    /// The edit that a line of JSON asks for.
+    pub(crate) fn read_edit(&mut self, line: &str) -> Result<Command, Fault>
+        ensures read { MayGive result (edit_of line.now) }
+        ensures same { self.new ≡ self.old }
+    {
+        self.reader.edit(self.alloc, line)
+    }
+
+    /// Edits the document, by a command that the caller keeps.
+    pub(crate) fn edit_by(&mut self, command: &Command) -> Result<Edited, Fault>
+        ensures { EditsReplica self.old command.now result self.new }
+    {
+        self.index.edit_by(command)
+    }
+
+    /// Edits the document, and hands out what that changed.
+    pub(crate) fn edit_with_delta(
+        &mut self,
+        command: &Command,
+    ) -> Result<(Edited, State<GapSet>), Fault>
+        ensures { EditsWithDelta self.old command.now result self.new }
+    {
+        self.index.edit_with_delta(command)
+    }
+
+    /// Takes a delta that comes with a roster, and tells whether its own roster grew by that.
+    pub(crate) fn take_with(&mut self, roster: Roster, delta: &State<GapSet>) -> Result<bool, Fault>
+        requires { Fits (max (length self.old.roster.names) (length roster.names)) (coordinates delta.now) }
+        ensures taken { TakesDeltaWith self.old roster delta.now (result_map_both (λ _. tt) (λ fault. fault) result) self.new }
+        ensures grew { IfOk result (λ grew. grew ≡ false → self.new.roster ≡ self.old.roster) }
+    {
+        let names = self.index.replica().roster().len();
+        self.index.take_with(roster, delta)?;
+        Ok(names < self.index.replica().roster().len())
     }
 }
 
