@@ -17,7 +17,7 @@ use Rattle.rds_c.specs.declared.status.EditedC.{EditedC}
 
 abbrev pub replica_of : Option the_row.Denot → Option ReplicaValue
 replica_of None = None
-replica_of (Some d) = Some d.document
+replica_of (Some d) = Some d.draft.document
 
 abbrev pub left_of : Option the_row.Denot → List ℕ
 left_of None = []

@@ -33,7 +33,7 @@ use editing::{edit_as, edit_text, edit_value};
 use looking::{Look, Whole, answer_of, look_at, look_whole};
 use opened::Opened;
 use rds_json::{Line, LineReader};
-use rds_store::{Document, Fault, Scalar};
+use rds_store::{Document, Draft, Fault, Scalar};
 use slot::{Slot, put_back, take_out};
 use status::{CLOSED, EditedC, NOT_UTF8, OK, OPENED, status};
 use std::alloc::Global;
@@ -52,7 +52,7 @@ fn fill(alloc: Global, slot: &mut Slot, made: Result<Document, Fault>) -> u32
         return OPENED;
     }
     let opened = Opened {
-        document,
+        draft: Draft::of(document),
         told: Vec::new(alloc),
     };
     match Box::new(alloc, opened) {
@@ -485,7 +485,7 @@ pub extern "C" fn rds_answer(
     let Some(mut held) = take_out(alloc, slot) else {
         return CLOSED;
     };
-    let made = answer_of(&held.document, question);
+    let made = answer_of(held.draft.document(), question);
     let ended = held.tell(alloc, made, room, length);
     put_back(slot, held);
     ended
@@ -526,7 +526,7 @@ pub extern "C" fn rds_take(
     let Some(mut held) = take_out(alloc, slot) else {
         return CLOSED;
     };
-    let outcome = held.document.take(question, answer);
+    let outcome = held.draft.take(question, answer);
     let ended = held.tell_count(alloc, outcome, taken);
     put_back(slot, held);
     ended
@@ -541,7 +541,7 @@ pub extern "C" fn rds_merge(alloc: Global, slot: &mut Slot, snapshot: &[u8], tak
     let Some(mut held) = take_out(alloc, slot) else {
         return CLOSED;
     };
-    let outcome = held.document.merge(snapshot);
+    let outcome = held.draft.merge(snapshot);
     let ended = held.tell_count(alloc, outcome, taken);
     put_back(slot, held);
     ended
@@ -559,7 +559,7 @@ pub extern "C" fn rds_grow(alloc: Global, slot: &mut Slot, name: &[u8]) -> u32
     let Some(mut held) = take_out(alloc, slot) else {
         return CLOSED;
     };
-    let outcome = held.document.grow(name);
+    let outcome = held.draft.grow(name);
     let ended = held.tell_done(alloc, outcome);
     put_back(slot, held);
     ended

@@ -101,7 +101,7 @@ pub fn look_at(
     let Some(mut held) = take_out(alloc, slot) else {
         return CLOSED;
     };
-    let made = look.of(&held.document, path);
+    let made = look.of(held.draft.document(), path);
     let ended = held.tell(alloc, made, room, length);
     put_back(slot, held);
     ended
@@ -120,7 +120,7 @@ pub fn look_whole(
     let Some(mut held) = take_out(alloc, slot) else {
         return CLOSED;
     };
-    let made = whole.of(alloc, &held.document);
+    let made = whole.of(alloc, held.draft.document());
     let ended = held.tell(alloc, made, room, length);
     put_back(slot, held);
     ended

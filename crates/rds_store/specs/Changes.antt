@@ -1,7 +1,6 @@
 -- What changed a document since it was kept.
-use Rattle.std.specs.Prelude.{◌≡◌, ◌⊎◌, Bool, false, List, [], ◌∷◌, Option, None, IfSome, refl}
-use Rattle.std.specs.Coded.{Coded, code_by, coded×, coded_option}
-use Rattle.rds_keep.specs.Changes.{ChangeValue, IsChanged}
+use Rattle.std.specs.Prelude.{◌≡◌, Bool, false, List, [], ◌∷◌, refl}
+use Rattle.std.specs.Coded.{Coded, code_by, coded×}
 use Rattle.rds_names.specs.Roster.{Begins}
 use Rattle.rds_state.specs.Coordinates.{Coordinates, join}
 use Rattle.rds_state.specs.Fits.{ReplicaValue, coded_replica}
@@ -12,27 +11,19 @@ abbrev pub with_deltas : Coordinates → List StateValue → Coordinates
 with_deltas a [] = a
 with_deltas a (d ∷ ds) = with_deltas (join a (coordinates d)) ds
 
--- a replica that another was joined with deltas to, and whose roster is the same, but where it is said to have grown
+-- what became of a replica: it was joined with deltas, and its roster is the same, unless it is said to have grown
 pub record IsSince (before : ReplicaValue) (deltas : List StateValue) (grown : Bool) (now : ReplicaValue) : Type 0 where
   pub joined : coordinates now.state ≡ with_deltas (coordinates before.state) deltas
   pub begins : Begins before.roster now.roster
   pub roster : grown ≡ false → now.roster ≡ before.roster
   pub own : now.own ≡ before.own
 
--- a document, and what it was when it was kept, if that is noted
+-- a document, and what it was when it was kept
 pub record DraftValue : Type 0 where
   pub document : ReplicaValue
-  pub kept : Option ReplicaValue
+  pub kept : ReplicaValue
 
 abbrev pub coded_draft : Coded DraftValue
 coded_draft =
-    code_by (ReplicaValue × Option ReplicaValue) (coded× coded_replica (coded_option coded_replica))
-    (λ d. (d.document, d.kept)) (λ p. record { document = p.0; kept = p.1 }) (λ _. refl)
-
--- what is noted goes on, or ends, as there is too much of it
-abbrev pub GoesOn : Option ReplicaValue → Option ReplicaValue → Type 0
-GoesOn old new = (new ≡ old) ⊎ (new ≡ None)
-
--- the change made the document of what it was when it was kept
-abbrev pub IsChangeOf : DraftValue → ChangeValue → Type 0
-IsChangeOf draft change = IfSome draft.kept (λ before. IsChanged before change draft.document)
+    code_by (ReplicaValue × ReplicaValue) (coded× coded_replica coded_replica) (λ d. (d.document, d.kept))
+    (λ p. record { document = p.0; kept = p.1 }) (λ _. refl)

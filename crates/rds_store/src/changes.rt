@@ -1,98 +1,114 @@
 //! What changed a document since it was kept.
-ghost use Rattle.std.specs.Prelude.{◌≡◌, ◌<◌, IfOk, IfErr, IfSome, length, vec_capacity, vec_len};
+ghost use Rattle.std.specs.Prelude.{◌≡◌, ◌<◌, true, None, Some, IfOk, IfErr, IfSome, length, vec_capacity, vec_len};
+ghost use Rattle.std.specs.Prelude.{if◌then◌else◌, option_map};
 ghost use Rattle.rds_names.specs.declared.fault.Fault.TheVariants.{Memory};
 ghost use Rattle.rds_state.specs.Coordinates.{Coordinates, join};
 ghost use Rattle.rds_state.specs.Fits.{ReplicaValue};
 ghost use Rattle.rds_state.specs.Value.{coordinates};
-ghost use Rattle.rds_store.specs.Changes.{GoesOn, IsSince, with_deltas};
-ghost use Rattle.rds_store.specs.Noting.{AddsDelta, AreSince, IsSaidGrown, kept_in};
+ghost use Rattle.rds_store.specs.Changes.{IsSince, with_deltas};
+ghost use Rattle.rds_store.specs.Noting.{AreSince, Notes};
 
 use crate::document::Document;
 use crate::past::Past;
 use rds_gaps::GapSet;
-use rds_names::Fault;
+use rds_names::{Fault, Roster};
 use rds_state::State;
 use std::alloc::Global;
 
 /// The most deltas that are noted. Where there are more, the document is written anew.
 const MOST: usize = 4_096;
 
-/// What a document was when it was kept, the deltas that it was joined with since, and whether its roster grew.
+/// What a document was when it was kept, the deltas that it was joined with since, if they are noted, and whether its
+/// roster grew.
 #[derive(Drop)]
 pub struct Changes {
     pub kept: Past<Document>,
-    pub deltas: Vec<State<GapSet>>,
+    pub deltas: Option<Vec<State<GapSet>>>,
     pub is_grown: bool,
 }
 
 impl Changes {
-    /// Those of a document that was kept just now: there are none.
-    pub fn of(alloc: Global, document: &Document) -> Changes
+    /// Those of a document from now on, which aren't noted.
+    pub fn unnoted(document: &Document) -> Changes
         ensures kept { result.kept.value ≡ document.now }
-        ensures since { IsSince document.now result.deltas.items result.is_grown document.now }
+        ensures none { result.deltas ≡ None }
     {
         Changes {
             kept: Past::of(document),
-            deltas: Vec::new(alloc),
+            deltas: None,
             is_grown: false,
         }
     }
 
-    /// All deltas as one.
-    pub fn delta(&self, alloc: Global) -> Result<State<GapSet>, Fault>
-        ensures { IfOk result (λ delta. (a : Coordinates)
-            → with_deltas a self.now.deltas.items ≡ join a (coordinates delta)) }
+    /// Those of a document from now on: there are none yet.
+    pub fn none(alloc: Global, document: &Document) -> Changes
+        ensures kept { result.kept.value ≡ document.now }
+        ensures since { AreSince result document.now }
     {
-        joined(alloc, &self.deltas)
+        Changes {
+            kept: Past::of(document),
+            deltas: Some(Vec::new(alloc)),
+            is_grown: false,
+        }
     }
-}
 
-/// Makes room for one more delta. Where there are too many, no more is noted.
-pub fn make_room(changes: &mut Option<Changes>) -> Result<(), Fault>
-    ensures room { IfSome changes.new (λ c. vec_len c.deltas < vec_capacity c.deltas) }
-    ensures since { (now : ReplicaValue) → AreSince changes.old now → AreSince changes.new now }
-    ensures kept { GoesOn (kept_in changes.old) (kept_in changes.new) }
-    ensures memory { IfErr result (λ fault. fault ≡ Memory) }
-{
-    if is_full(changes) {
-        *changes = None;
+    /// Makes room for one more delta. Where there are too many, they are noted no more.
+    pub fn make_room(&mut self) -> Result<(), Fault>
+        ensures room { IfSome self.new.deltas (λ deltas. vec_len deltas < vec_capacity deltas) }
+        ensures since { (now : ReplicaValue) → AreSince self.old now → AreSince self.new now }
+        ensures kept { self.new.kept.value ≡ self.old.kept.value }
+        ensures memory { IfErr result (λ fault. fault ≡ Memory) }
+    {
+        if self.are_full() {
+            self.deltas = None;
+        }
+        match &mut self.deltas {
+            Some(deltas) => Ok(deltas.reserve(1)?),
+            None => Ok(()),
+        }
     }
-    match changes {
-        Some(noted) => Ok(noted.deltas.reserve(1)?),
-        None => Ok(()),
-    }
-}
 
-/// Whether no more delta is to be noted.
-fn is_full(changes: &Option<Changes>) -> bool {
-    match changes {
-        Some(noted) => noted.deltas.len() >= MOST,
-        None => false,
+    /// Whether there are too many deltas for one more.
+    fn are_full(&self) -> bool {
+        match &self.deltas {
+            Some(deltas) => deltas.len() >= MOST,
+            None => false,
+        }
     }
-}
 
-/// Notes a delta that a document was joined with, and whether its roster grew by that. There is room.
-pub fn note(changes: &mut Option<Changes>, delta: State<GapSet>, grew: bool)
-    requires room { IfSome changes.old (λ c. vec_len c.deltas < vec_capacity c.deltas) }
-    ensures { AddsDelta delta grew changes.old changes.new }
-{
-    if let Some(noted) = changes {
-        noted.deltas.push_reserved(delta);
-        noted.is_grown |= grew;
+    /// Notes a delta that the document was joined with, and whether its roster grew by that. There is room.
+    pub fn note(&mut self, delta: State<GapSet>, grew: bool)
+        requires room { IfSome self.old.deltas (λ deltas. vec_len deltas < vec_capacity deltas) }
+        ensures { Notes delta grew self.old self.new }
+    {
+        if let Some(deltas) = &mut self.deltas {
+            deltas.push_reserved(delta);
+        }
+        self.is_grown |= grew;
     }
-}
 
-/// Notes that the roster of a document grew.
-pub fn note_grown(changes: &mut Option<Changes>)
-    ensures { IsSaidGrown changes.old changes.new }
-{
-    if let Some(noted) = changes {
-        noted.is_grown = true;
+    /// Notes that the roster grew.
+    pub fn note_grown(&mut self)
+        ensures { self.new ≡ record self.old { is_grown = true } }
+    {
+        self.is_grown = true;
+    }
+
+    /// The roster of the document, where it grew.
+    pub fn roster<'a>(&self, document: &'a Document) -> Option<&'a Roster>
+        ensures { option_map (λ roster. roster.now) result
+            ≡ (if self.now.is_grown then Some document.now.roster else None) }
+    {
+        if self.is_grown {
+            Some(document.replica().roster())
+        } else {
+            None
+        }
     }
 }
 
 /// Deltas joined to one, by halves: each is copied as often as they can be halved, and no oftener.
-fn joined(alloc: Global, deltas: &[State<GapSet>]) -> Result<State<GapSet>, Fault>
+pub fn joined(alloc: Global, deltas: &[State<GapSet>]) -> Result<State<GapSet>, Fault>
     ensures { IfOk result (λ delta. (a : Coordinates) → with_deltas a deltas.now ≡ join a (coordinates delta)) }
 {
     if deltas.len() < 2 {

@@ -5,17 +5,18 @@ ghost use Rattle.rds_lines.specs.Editing.{EditsLines};
 ghost use Rattle.rds_lines.specs.Lines.{lines_in};
 ghost use Rattle.rds_names.specs.declared.fault.Fault.TheVariants.{Memory};
 ghost use Rattle.rds_offline.specs.Letters.{TakesResponse};
-ghost use Rattle.rds_store.specs.Changes.{GoesOn, IsChangeOf};
+ghost use Rattle.rds_keep.specs.Changes.{IsChanged};
 ghost use Rattle.rds_store.specs.Documents.{IsGrownBy, RefusesGrowth};
 ghost use Rattle.rds_store.specs.Edits.{MayEdit};
 ghost use Rattle.rds_store.specs.Meetings.{MergesSnapshot, RefusesSnapshot, RefusesTaking};
-ghost use Rattle.rds_store.specs.Noting.{AreSince, kept_in};
+ghost use Rattle.rds_store.specs.Noting.{AreSince};
 
-use crate::changes::{Changes, make_room, note_grown};
+use crate::changes::{Changes, joined};
 use crate::document::Document;
 use crate::meeting::{merge_snapshot, take_answer};
 use rds_gaps::GapSet;
 use rds_keep::Change;
+use rds_lines::{Edits, edit_lines};
 use rds_names::{Fault, Roster};
 use rds_output::Reply;
 use rds_state::{Command, Edited, State};
@@ -25,7 +26,7 @@ use std::marker::Model;
 /// keep costs by that, and not by what lives. After very many edits no more is noted, until the document is kept.
 pub struct Draft {
     document: Document,
-    changes: Option<Changes>,
+    changes: Changes,
 }
 
 // Written out, so that where a draft is let go a caller's proof has one call.
@@ -40,27 +41,24 @@ impl Drop for Draft {
 
 impl Model for Draft {
     ghost use Rattle.rds_store.specs.Changes.{DraftValue, coded_draft};
-    ghost use Rattle.rds_store.specs.Noting.{AreSince, kept_in};
+    ghost use Rattle.rds_store.specs.Noting.{AreSince};
 
     ghost Value = { DraftValue };
 
     ghost coded = { coded_draft };
 
-    ghost view = { λ d. record { document = d.document; kept = kept_in d.changes } };
+    ghost view = { λ d. record { document = d.document; kept = d.changes.kept.value } };
 
     ghost invariant = { λ d. AreSince d.changes d.document };
 }
 
 impl Draft {
-    /// Of a document that was never kept. Nothing is noted. Takes no memory.
+    /// Of a document that is kept nowhere: what changes it isn't noted. Takes no memory.
     pub fn of(document: Document) -> Draft
-        ensures document { result.document ≡ document }
-        ensures kept { result.kept ≡ None }
+        ensures { result ≡ record { document = document; kept = document } }
     {
-        Draft {
-            document,
-            changes: None,
-        }
+        let changes = Changes::unnoted(&document);
+        Draft { document, changes }
     }
 
     /// The document.
@@ -72,30 +70,27 @@ impl Draft {
 
     /// The document was kept as it is now: from here on what changes it is noted. Takes no memory.
     pub fn set_kept(&mut self)
-        ensures document { self.new.document ≡ self.old.document }
-        ensures kept { self.new.kept ≡ Some self.old.document }
+        ensures { self.new ≡ record { document = self.old.document; kept = self.old.document } }
     {
-        self.changes = Some(Changes::of(self.document.alloc, &self.document));
+        self.changes = Changes::none(self.document.alloc, &self.document);
     }
 
     /// What changed the document since it was kept, in one. `None` where that isn't noted, or there is no memory for it.
     pub fn noted(&self) -> Option<Noted<'_>>
-        ensures { IfSome result (IsChangeOf self.now) }
+        ensures { IfSome result (λ noted. IsChanged self.now.kept noted self.now.document) }
     {
-        let changes = self.changes.as_ref()?;
-        let delta = changes.delta(self.document.alloc).ok()?;
-        let roster = if changes.is_grown {
-            Some(self.document.replica().roster())
-        } else {
-            None
-        };
-        Some(Noted { roster, delta })
+        let deltas = self.changes.deltas.as_ref()?;
+        let delta = joined(self.document.alloc, deltas).ok()?;
+        Some(Noted {
+            roster: self.changes.roster(&self.document),
+            delta,
+        })
     }
 
     /// Edits the document, as [`Document::edit`] does. To note what it changes takes memory.
     pub fn edit(&mut self, command: Command) -> Result<Edited, Fault>
         ensures edited { MayEdit (Ok command) self.old.document result self.new.document }
-        ensures kept { GoesOn self.old.kept self.new.kept }
+        ensures kept { self.new.kept ≡ self.old.kept }
     {
         edit_noted(&mut self.document, &mut self.changes, &command)
     }
@@ -103,7 +98,7 @@ impl Draft {
     /// Edits the document as a line of JSON says, as [`Document::edit_line`] does.
     pub fn edit_line(&mut self, line: &str) -> Result<Edited, Fault>
         ensures edited { MayEdit (edit_of line.now) self.old.document result self.new.document }
-        ensures kept { GoesOn self.old.kept self.new.kept }
+        ensures kept { self.new.kept ≡ self.old.kept }
     {
         let command = self.document.read_edit(line)?;
         self.edit(command)
@@ -115,10 +110,9 @@ impl Draft {
             (λ answers. EditsLines (lines_in lines.now) self.old.document self.new.document answers.items) }
         ensures memory { IfErr result (λ fault. fault ≡ Memory) }
         ensures err { OnErr result (self.new.document ≡ self.old.document) }
-        ensures kept { GoesOn self.old.kept self.new.kept }
+        ensures kept { self.new.kept ≡ self.old.kept }
     {
-        self.changes = None;
-        self.document.edit_lines(lines)
+        edit_lines(self.document.alloc, self, lines)
     }
 
     /// Puts a name last in the roster, as [`Document::grow`] does.
@@ -126,7 +120,7 @@ impl Draft {
         ensures grown { OnOk result (IsGrownBy name.now self.old.document self.new.document) }
         ensures fault { IfErr result (RefusesGrowth name.now self.old.document) }
         ensures err { OnErr result (self.new.document ≡ self.old.document) }
-        ensures kept { GoesOn self.old.kept self.new.kept }
+        ensures kept { self.new.kept ≡ self.old.kept }
     {
         grow_noted(&mut self.document, &mut self.changes, name)
     }
@@ -137,7 +131,7 @@ impl Draft {
             (TakesResponse question.now answer.now self.old.document self.new.document) }
         ensures fault { IfErr result (RefusesTaking question.now answer.now self.old.document) }
         ensures err { OnErr result (self.new.document ≡ self.old.document) }
-        ensures kept { GoesOn self.old.kept self.new.kept }
+        ensures kept { self.new.kept ≡ self.old.kept }
     {
         take_answer(&mut self.document, &mut self.changes, question, answer)
     }
@@ -147,10 +141,28 @@ impl Draft {
         ensures merged { IfOk result (MergesSnapshot snapshot.now self.old.document self.new.document) }
         ensures fault { IfErr result (RefusesSnapshot snapshot.now self.old.document) }
         ensures err { OnErr result (self.new.document ≡ self.old.document) }
-        ensures kept { GoesOn self.old.kept self.new.kept }
+        ensures kept { self.new.kept ≡ self.old.kept }
     {
         merge_snapshot(&mut self.document, &mut self.changes, snapshot)
     }
+}
+
+impl Edits for Draft {
+    ghost replica = { λ draft. draft.document };
+
+    ghost stays = { λ old new. new.kept ≡ old.kept };
+
+    fn roster(&self) -> &Roster {
+        self.document.replica().roster()
+    }
+
+    fn edit_by(&mut self, command: &Command) -> Result<Edited, Fault> {
+        edit_noted(&mut self.document, &mut self.changes, command)
+    }
+
+    ghost same = { λ draft. refl };
+
+    ghost then = { λ a b c first later. later ∙ first };
 }
 
 /// What changed a document: the roster where it grew, and the deltas that it was joined with, as one.
@@ -186,39 +198,33 @@ impl<'a> Noted<'a> {
 /// Edits a document, and notes what that changed.
 fn edit_noted(
     document: &mut Document,
-    changes: &mut Option<Changes>,
+    changes: &mut Changes,
     command: &Command,
 ) -> Result<Edited, Fault>
     requires since { AreSince changes.old document.old }
     ensures since { AreSince changes.new document.new }
     ensures edited { MayEdit (Ok command.now) document.old result document.new }
-    ensures kept { GoesOn (kept_in changes.old) (kept_in changes.new) }
+    ensures kept { changes.new.kept.value ≡ changes.old.kept.value }
 {
-    make_room(changes)?;
-    match changes {
-        Some(noted) => {
-            let (edited, delta) = document.edit_with_delta(command)?;
-            noted.deltas.push_reserved(delta);
-            Ok(edited)
-        }
-        None => document.edit_by(command),
+    changes.make_room()?;
+    if changes.deltas.is_none() {
+        return document.edit_by(command);
     }
+    let (edited, delta) = document.edit_with_delta(command)?;
+    changes.note(delta, false);
+    Ok(edited)
 }
 
 /// Puts a name last in the roster of a document, and notes that.
-fn grow_noted(
-    document: &mut Document,
-    changes: &mut Option<Changes>,
-    name: &str,
-) -> Result<(), Fault>
+fn grow_noted(document: &mut Document, changes: &mut Changes, name: &str) -> Result<(), Fault>
     requires since { AreSince changes.old document.old }
     ensures since { AreSince changes.new document.new }
     ensures grown { OnOk result (IsGrownBy name.now document.old document.new) }
     ensures fault { IfErr result (RefusesGrowth name.now document.old) }
     ensures err { OnErr result (document.new ≡ document.old) }
-    ensures kept { kept_in changes.new ≡ kept_in changes.old }
+    ensures kept { changes.new.kept.value ≡ changes.old.kept.value }
 {
     document.grow(name)?;
-    note_grown(changes);
+    changes.note_grown();
     Ok(())
 }

@@ -1,12 +1,11 @@
 //! Documents in files.
-ghost use Rattle.std.specs.Prelude.{◌≡◌, ◌⊎◌, Ok, Some, IfErr, IfOk, OnErr, OnOk};
+ghost use Rattle.std.specs.Prelude.{◌≡◌, ◌⊎◌, Ok, IfErr, IfOk, OnErr, OnOk};
 ghost use Rattle.rds_files.specs.Files.{IsHeldAt, IsUnkept, RefusesFile, RefusesLock};
 ghost use Rattle.rds_json.specs.Unnamed.{edit_of};
 ghost use Rattle.rds_lines.specs.Editing.{EditsLines};
 ghost use Rattle.rds_lines.specs.Lines.{lines_in};
 ghost use Rattle.rds_names.specs.declared.fault.Fault.TheVariants.{Memory};
 ghost use Rattle.rds_offline.specs.Letters.{TakesResponse};
-ghost use Rattle.rds_store.specs.Changes.{GoesOn};
 ghost use Rattle.rds_store.specs.Documents.{IsGrownBy, RefusesGrowth};
 ghost use Rattle.rds_store.specs.Edits.{MayEdit};
 ghost use Rattle.rds_store.specs.Meetings.{MergesSnapshot, RefusesSnapshot, RefusesTaking};
@@ -53,8 +52,7 @@ impl<H: Disk> Drop for DocumentFile<'_, H> {
 }
 
 impl<'a, H: Disk> Model for DocumentFile<'a, H> {
-    ghost use Rattle.std.specs.Prelude.{Some};
-    ghost use Rattle.rds_store.specs.Changes.{GoesOn};
+    ghost use Rattle.std.specs.Prelude.{◌≡◌};
     ghost use Rattle.rds_store.specs.Files.{OpenValue, coded_open};
 
     ghost Value = { OpenValue };
@@ -63,7 +61,7 @@ impl<'a, H: Disk> Model for DocumentFile<'a, H> {
 
     ghost view = { λ f. record { path = f.file.path; document = f.draft.document; kept = f.file.kept } };
 
-    ghost invariant = { λ f. GoesOn (Some f.file.kept) f.draft.kept };
+    ghost invariant = { λ f. f.draft.kept ≡ f.file.kept };
 }
 
 impl<'a, H: Disk> DocumentFile<'a, H>
@@ -174,8 +172,8 @@ fn keep_in<H: Disk>(
 ) -> Result<(), Fault>
 where
     H::File: LockFile,
-    requires noted { GoesOn (Some file.old.kept) draft.old.kept }
-    ensures noted { GoesOn (Some file.new.kept) draft.new.kept }
+    requires noted { draft.old.kept ≡ file.old.kept }
+    ensures noted { draft.new.kept ≡ file.new.kept }
     ensures kept { OnOk result (file.new.kept ≡ draft.old.document) }
     ensures err { OnErr result (file.new.kept ≡ file.old.kept) }
     ensures document { draft.new.document ≡ draft.old.document }

@@ -10,11 +10,10 @@ ghost use Rattle.rds_questions.specs.Questions.{question_of, question_text};
 ghost use Rattle.rds_questions.specs.Taking.{HasAllOf, IsAsker, TakesReceived};
 ghost use Rattle.rds_state.specs.Fits.{Fits};
 ghost use Rattle.rds_state.specs.Value.{coordinates, size};
-ghost use Rattle.rds_store.specs.Changes.{GoesOn};
 ghost use Rattle.rds_store.specs.Meetings.{MayAnswer, MergesSnapshot, RefusesSnapshot, RefusesTaking};
-ghost use Rattle.rds_store.specs.Noting.{AreSince, kept_in};
+ghost use Rattle.rds_store.specs.Noting.{AreSince};
 
-use crate::changes::{Changes, make_room, note};
+use crate::changes::Changes;
 use crate::document::Document;
 use rds_codec::decode_snapshot;
 use rds_delta::{Digest, delta};
@@ -53,7 +52,8 @@ impl Document {
         ensures fault { IfErr result (RefusesTaking question.now answer.now self.old) }
         ensures err { OnErr result (self.new ≡ self.old) }
     {
-        take_answer(self, &mut None, question, answer)
+        let mut changes = Changes::unnoted(self);
+        take_answer(self, &mut changes, question, answer)
     }
 
     /// Joins all that the replica of a snapshot has seen, and tells how many components of it were lacking. Bytes that
@@ -64,7 +64,8 @@ impl Document {
         ensures fault { IfErr result (RefusesSnapshot snapshot.now self.old) }
         ensures err { OnErr result (self.new ≡ self.old) }
     {
-        merge_snapshot(self, &mut None, snapshot)
+        let mut changes = Changes::unnoted(self);
+        merge_snapshot(self, &mut changes, snapshot)
     }
 }
 
@@ -79,13 +80,13 @@ fn respond_to(alloc: Global, held: &Replica<GapSet>, question: &[u8]) -> Result<
 /// Takes the answer whose text the second bytes are to the question whose text the first are, and notes what came.
 pub fn take_answer(
     document: &mut Document,
-    changes: &mut Option<Changes>,
+    changes: &mut Changes,
     question: &[u8],
     answer: &[u8],
 ) -> Result<u128, Fault>
     requires since { AreSince changes.old document.old }
     ensures since { AreSince changes.new document.new }
-    ensures kept { GoesOn (kept_in changes.old) (kept_in changes.new) }
+    ensures kept { changes.new.kept.value ≡ changes.old.kept.value }
     ensures taken { IfOk result (TakesResponse question.now answer.now document.old document.new) }
     ensures fault { IfErr result (RefusesTaking question.now answer.now document.old) }
     ensures err { OnErr result (document.new ≡ document.old) }
@@ -98,14 +99,14 @@ pub fn take_answer(
 /// Takes what was received for a question, as [`take_response`](rds_questions::take_response) does, and notes it.
 fn take_in(
     document: &mut Document,
-    changes: &mut Option<Changes>,
+    changes: &mut Changes,
     question: &Question<GapSet>,
     received: Received<GapSet>,
 ) -> Result<u128, Fault>
     requires since { AreSince changes.old document.old }
     requires fits { Fits (length received.roster.names) (coordinates received.delta) }
     ensures since { AreSince changes.new document.new }
-    ensures kept { GoesOn (kept_in changes.old) (kept_in changes.new) }
+    ensures kept { changes.new.kept.value ≡ changes.old.kept.value }
     ensures replica { OnOk result (IsAsker question.now document.old) }
     ensures has_all { OnOk result (HasAllOf question.now.digest document.old.state) }
     ensures taken { OnOk result (IsTaken received document.old document.new) }
@@ -114,7 +115,7 @@ fn take_in(
     ensures err { OnErr result (document.new ≡ document.old) }
 {
     judge_held(document.alloc, question, document.replica())?;
-    make_room(changes)?;
+    changes.make_room()?;
     let Received {
         delta,
         roster,
@@ -122,19 +123,19 @@ fn take_in(
     } = received;
     let components = delta.components();
     let grew = document.take_with(roster, &delta)?;
-    note(changes, delta, grew);
+    changes.note(delta, grew);
     Ok(components)
 }
 
 /// Joins all that the replica of a snapshot has seen, and notes what was lacking.
 pub fn merge_snapshot(
     document: &mut Document,
-    changes: &mut Option<Changes>,
+    changes: &mut Changes,
     snapshot: &[u8],
 ) -> Result<u128, Fault>
     requires since { AreSince changes.old document.old }
     ensures since { AreSince changes.new document.new }
-    ensures kept { GoesOn (kept_in changes.old) (kept_in changes.new) }
+    ensures kept { changes.new.kept.value ≡ changes.old.kept.value }
     ensures merged { IfOk result (MergesSnapshot snapshot.now document.old document.new) }
     ensures fault { IfErr result (RefusesSnapshot snapshot.now document.old) }
     ensures err { OnErr result (document.new ≡ document.old) }
@@ -146,23 +147,23 @@ pub fn merge_snapshot(
 /// Joins all that another replica has seen, notes what of it was lacking, and answers how many components that were.
 fn merge_in(
     document: &mut Document,
-    changes: &mut Option<Changes>,
+    changes: &mut Changes,
     source: &Replica<GapSet>,
 ) -> Result<u128, Fault>
     requires since { AreSince changes.old document.old }
     ensures since { AreSince changes.new document.new }
-    ensures kept { GoesOn (kept_in changes.old) (kept_in changes.new) }
+    ensures kept { changes.new.kept.value ≡ changes.old.kept.value }
     ensures merged { OnOk result (IsMerged source.now document.old document.new) }
     ensures counted { IfOk result (CountsLacking source.now document.old) }
     ensures fault { IfErr result (RefusesMerge source.now document.old) }
     ensures err { OnErr result (document.new ≡ document.old) }
 {
     let lacking = lacking_in(document, source)?;
-    make_room(changes)?;
+    changes.make_room()?;
     let roster = source.roster().copy(document.alloc)?;
     let grew = document.take_with(roster, source.state())?;
     let components = lacking.components();
-    note(changes, lacking, grew);
+    changes.note(lacking, grew);
     Ok(components)
 }
 
