@@ -77,9 +77,12 @@ where
     {
         let locked: LockedFile<'a, H, GapSet> = LockedFile::open(rt, path)?;
         let (replica, file) = locked.into_parts();
-        let mut draft = Draft::of(Document::of(rt.alloc(), replica)?);
-        draft.set_kept();
-        Ok(DocumentFile { draft, file })
+        let mut opened = Draft::of(Document::of(rt.alloc(), replica)?);
+        opened.set_kept();
+        Ok(DocumentFile {
+            draft: opened,
+            file,
+        })
     }
 
     /// Keeps the document in its file, which it may be again and again: what changed since it was kept last is written
