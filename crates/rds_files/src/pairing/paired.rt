@@ -122,10 +122,11 @@ where
     ensures settles { SettlesDelta asked.entry.path asked.entry.kept (delta.now, roster) result.settled result.file }
 {
     let (mut replica, file) = asked.into_parts();
+    let replicas = replica.roster().len();
     if let Err(fault) = take_own(&mut replica, delta, roster) {
         return Settlement::without_file(Settled::Refused(fault));
     }
-    keep_taken(rt, file, replica, delta.components())
+    keep_taken(rt, file, replica, delta, replicas)
 }
 
 // Takes the delta, and the roster that it came with, into the replica that asked for it.

@@ -29,11 +29,11 @@ use denote.Triple.Entry.{alive}
 use denote.Triple.Spec.{Meets, triple_of}
 use denote.Triple.Table.{entered}
 use denote.Triple.Walked.{says, Stays, stay_dropped, walk_of, ends_at, walk_Meets, Goes-dropped}
-use Rattle.rds_files.specs.contracts.past.Past as Past
-use Rattle.rds_files.specs.contracts.past.Past.of as F
-use Rattle.rds_files.specs.contracts.past.Past.of.Key.{name as #self}
-use Rattle.rds_files.proofs.past.Past.of.Statement as stated
-use Rattle.rds_files.proofs.past.Past.of.Code as code
+use Rattle.rds_keep.specs.contracts.past.Past as Past
+use Rattle.rds_keep.specs.contracts.past.Past.of as F
+use Rattle.rds_keep.specs.contracts.past.Past.of.Key.{name as #self}
+use Rattle.rds_keep.proofs.past.Past.of.Statement as stated
+use Rattle.rds_keep.proofs.past.Past.of.Code as code
 
 module _ (T : RattleType) where
   abbrev args : Args
