@@ -1,0 +1,6 @@
+pub mod Crashes
+mod Cutting
+mod Ends
+pub mod Format
+pub mod Moments
+mod Places

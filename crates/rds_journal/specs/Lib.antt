@@ -1,0 +1,4 @@
+pub mod Appending
+pub mod Crashes
+pub mod Device
+pub mod Records
