@@ -9,8 +9,8 @@ ghost use Rattle.rds_store.specs.Changes.{IsSince, with_deltas};
 ghost use Rattle.rds_store.specs.Noting.{AreSince, Notes};
 
 use crate::document::Document;
-use crate::past::Past;
 use rds_gaps::GapSet;
+use rds_keep::Past;
 use rds_names::{Fault, Roster};
 use rds_state::State;
 use std::alloc::Global;

@@ -1,7 +1,6 @@
 //! A replica of a document in a program: made or opened, edited, looked at, met with others, and kept in a file. Read
-//! `document` first, then `editing`, `looking`, `changes`, `meeting`, `drafts` and `files`; `past` has what contracts
-//! alone see, `answers` the lines that edits are answered, and `threads` says that a document may move to another
-//! thread.
+//! `document` first, then `editing`, `looking`, `changes`, `meeting`, `drafts` and `files`; `answers` has the lines that
+//! edits are answered, and `threads` says that a document may move to another thread.
 #![tactic(auto)]
 
 mod answers;
@@ -12,7 +11,6 @@ mod editing;
 mod files;
 mod looking;
 mod meeting;
-mod past;
 mod threads;
 
 pub use answers::answers_text;

@@ -14,8 +14,7 @@ ghost use Rattle.rds_store.specs.Meetings.{MayAnswer, MergesSnapshot, RefusesSna
 ghost use Rattle.rds_store.specs.Noting.{AreSince};
 
 use crate::changes::Changes;
-use crate::document::Document;
-use rds_codec::decode_snapshot;
+use crate::document::{Document, decode_file};
 use rds_delta::{Digest, delta};
 use rds_gaps::GapSet;
 use rds_names::Fault;
@@ -56,8 +55,8 @@ impl Document {
         take_answer(self, &mut changes, question, answer)
     }
 
-    /// Joins all that the replica of a snapshot has seen, and tells how many components of it were lacking. Bytes that
-    /// are no snapshot are refused as `open` does; then the replica as a take does (`WrongGroup`, `WrongRoster`,
+    /// Joins all that the replica of a snapshot or a file has seen, and tells how many components of it were lacking. Bytes
+    /// that are neither are refused as `open` does; then the replica as a take does (`WrongGroup`, `WrongRoster`,
     /// `OwnAhead`, `Conflict`).
     pub fn merge(&mut self, snapshot: &[u8]) -> Result<u128, Fault>
         ensures merged { IfOk result (MergesSnapshot snapshot.now self.old self.new) }
@@ -140,7 +139,7 @@ pub fn merge_snapshot(
     ensures fault { IfErr result (RefusesSnapshot snapshot.now document.old) }
     ensures err { OnErr result (document.new ≡ document.old) }
 {
-    let source: Replica<GapSet> = decode_snapshot(document.alloc, snapshot)?;
+    let (source, _layout) = decode_file(document.alloc, snapshot)?;
     merge_in(document, changes, &source)
 }
 
