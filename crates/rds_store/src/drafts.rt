@@ -91,6 +91,7 @@ impl Draft {
     pub fn edit(&mut self, command: Command) -> Result<Edited, Fault>
         ensures edited { MayEdit (Ok command) self.old.document result self.new.document }
         ensures kept { self.new.kept ≡ self.old.kept }
+        ensures err { OnErr result (self.new ≡ self.old) }
     {
         edit_noted(&mut self.document, &mut self.changes, &command)
     }
@@ -99,6 +100,7 @@ impl Draft {
     pub fn edit_line(&mut self, line: &str) -> Result<Edited, Fault>
         ensures edited { MayEdit (edit_of line.now) self.old.document result self.new.document }
         ensures kept { self.new.kept ≡ self.old.kept }
+        ensures err { OnErr result (self.new ≡ self.old) }
     {
         let command = self.document.read_edit(line)?;
         self.edit(command)
@@ -109,8 +111,8 @@ impl Draft {
         ensures edited { IfOk result
             (λ answers. EditsLines (lines_in lines.now) self.old.document self.new.document answers.items) }
         ensures memory { IfErr result (λ fault. fault ≡ Memory) }
-        ensures err { OnErr result (self.new.document ≡ self.old.document) }
         ensures kept { self.new.kept ≡ self.old.kept }
+        ensures err { OnErr result (self.new ≡ self.old) }
     {
         edit_lines(self.document.alloc, self, lines)
     }
@@ -119,8 +121,8 @@ impl Draft {
     pub fn grow(&mut self, name: &str) -> Result<(), Fault>
         ensures grown { OnOk result (IsGrownBy name.now self.old.document self.new.document) }
         ensures fault { IfErr result (RefusesGrowth name.now self.old.document) }
-        ensures err { OnErr result (self.new.document ≡ self.old.document) }
         ensures kept { self.new.kept ≡ self.old.kept }
+        ensures err { OnErr result (self.new ≡ self.old) }
     {
         grow_noted(&mut self.document, &mut self.changes, name)
     }
@@ -130,8 +132,8 @@ impl Draft {
         ensures taken { IfOk result
             (TakesResponse question.now answer.now self.old.document self.new.document) }
         ensures fault { IfErr result (RefusesTaking question.now answer.now self.old.document) }
-        ensures err { OnErr result (self.new.document ≡ self.old.document) }
         ensures kept { self.new.kept ≡ self.old.kept }
+        ensures err { OnErr result (self.new ≡ self.old) }
     {
         take_answer(&mut self.document, &mut self.changes, question, answer)
     }
@@ -140,8 +142,8 @@ impl Draft {
     pub fn merge(&mut self, snapshot: &[u8]) -> Result<u128, Fault>
         ensures merged { IfOk result (MergesSnapshot snapshot.now self.old.document self.new.document) }
         ensures fault { IfErr result (RefusesSnapshot snapshot.now self.old.document) }
-        ensures err { OnErr result (self.new.document ≡ self.old.document) }
         ensures kept { self.new.kept ≡ self.old.kept }
+        ensures err { OnErr result (self.new ≡ self.old) }
     {
         merge_snapshot(&mut self.document, &mut self.changes, snapshot)
     }
@@ -204,6 +206,7 @@ fn edit_noted(
     requires since { AreSince changes.old document.old }
     ensures since { AreSince changes.new document.new }
     ensures edited { MayEdit (Ok command.now) document.old result document.new }
+    ensures err { OnErr result (document.new ≡ document.old) }
     ensures kept { changes.new.kept.value ≡ changes.old.kept.value }
 {
     changes.make_room()?;

@@ -91,9 +91,9 @@ where
     /// it may have the document, and a later keep makes it sure.
     pub fn keep(&mut self, rt: &H) -> Result<(), Fault>
         ensures kept { OnOk result (self.new.kept ≡ self.old.document) }
-        ensures err { OnErr result (self.new.kept ≡ self.old.kept) }
         ensures document { self.new.document ≡ self.old.document }
         ensures path { self.new.path ≡ self.old.path }
+        ensures err { OnErr result (self.new ≡ self.old) }
         ensures fault { IfErr result (IsUnkept self.old.document) }
     {
         keep_in(rt, &mut self.draft, &mut self.file)
@@ -112,6 +112,7 @@ impl<H: Disk> DocumentFile<'_, H> {
     pub fn edit(&mut self, command: Command) -> Result<Edited, Fault>
         ensures edited { MayEdit (Ok command) self.old.document result self.new.document }
         ensures file { (self.new.path ≡ self.old.path) × (self.new.kept ≡ self.old.kept) }
+        ensures err { OnErr result (self.new ≡ self.old) }
     {
         self.draft.edit(command)
     }
@@ -120,6 +121,7 @@ impl<H: Disk> DocumentFile<'_, H> {
     pub fn edit_line(&mut self, line: &str) -> Result<Edited, Fault>
         ensures edited { MayEdit (edit_of line.now) self.old.document result self.new.document }
         ensures file { (self.new.path ≡ self.old.path) × (self.new.kept ≡ self.old.kept) }
+        ensures err { OnErr result (self.new ≡ self.old) }
     {
         self.draft.edit_line(line)
     }
@@ -129,8 +131,8 @@ impl<H: Disk> DocumentFile<'_, H> {
         ensures edited { IfOk result
             (λ answers. EditsLines (lines_in lines.now) self.old.document self.new.document answers.items) }
         ensures memory { IfErr result (λ fault. fault ≡ Memory) }
-        ensures err { OnErr result (self.new.document ≡ self.old.document) }
         ensures file { (self.new.path ≡ self.old.path) × (self.new.kept ≡ self.old.kept) }
+        ensures err { OnErr result (self.new ≡ self.old) }
     {
         self.draft.edit_lines(lines)
     }
@@ -139,8 +141,8 @@ impl<H: Disk> DocumentFile<'_, H> {
     pub fn grow(&mut self, name: &str) -> Result<(), Fault>
         ensures grown { OnOk result (IsGrownBy name.now self.old.document self.new.document) }
         ensures fault { IfErr result (RefusesGrowth name.now self.old.document) }
-        ensures err { OnErr result (self.new.document ≡ self.old.document) }
         ensures file { (self.new.path ≡ self.old.path) × (self.new.kept ≡ self.old.kept) }
+        ensures err { OnErr result (self.new ≡ self.old) }
     {
         self.draft.grow(name)
     }
@@ -150,8 +152,8 @@ impl<H: Disk> DocumentFile<'_, H> {
         ensures taken { IfOk result
             (TakesResponse question.now answer.now self.old.document self.new.document) }
         ensures fault { IfErr result (RefusesTaking question.now answer.now self.old.document) }
-        ensures err { OnErr result (self.new.document ≡ self.old.document) }
         ensures file { (self.new.path ≡ self.old.path) × (self.new.kept ≡ self.old.kept) }
+        ensures err { OnErr result (self.new ≡ self.old) }
     {
         self.draft.take(question, answer)
     }
@@ -160,8 +162,8 @@ impl<H: Disk> DocumentFile<'_, H> {
     pub fn merge(&mut self, snapshot: &[u8]) -> Result<u128, Fault>
         ensures merged { IfOk result (MergesSnapshot snapshot.now self.old.document self.new.document) }
         ensures fault { IfErr result (RefusesSnapshot snapshot.now self.old.document) }
-        ensures err { OnErr result (self.new.document ≡ self.old.document) }
         ensures file { (self.new.path ≡ self.old.path) × (self.new.kept ≡ self.old.kept) }
+        ensures err { OnErr result (self.new ≡ self.old) }
     {
         self.draft.merge(snapshot)
     }
@@ -178,9 +180,9 @@ where
     requires noted { draft.old.kept ≡ file.old.kept }
     ensures noted { draft.new.kept ≡ file.new.kept }
     ensures kept { OnOk result (file.new.kept ≡ draft.old.document) }
-    ensures err { OnErr result (file.new.kept ≡ file.old.kept) }
     ensures document { draft.new.document ≡ draft.old.document }
     ensures path { file.new.path ≡ file.old.path }
+    ensures err { OnErr result (file.new ≡ file.old) }
     ensures fault { IfErr result (IsUnkept draft.old.document) }
 {
     match draft.noted() {
