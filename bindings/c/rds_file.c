@@ -306,7 +306,8 @@ static uint32_t write_over(const held *it, int beside, const uint8_t *bytes, siz
     return status;
 }
 
-/* Puts the replica's snapshot in the place of the file that is held, if any. From the rename on, it is what is held. */
+/* Puts the replica's snapshot in the place of the file that is held, if any. From the rename on, it is what is held, also
+ * where the folder can't be synced (RDS_UNSURE). */
 static uint32_t put(rds *replica, held *it, const struct stat *like) {
     uint8_t *bytes = NULL;
     size_t length = 0;
@@ -324,7 +325,7 @@ static uint32_t put(rds *replica, held *it, const struct stat *like) {
     let_go(it->file);
     it->file = beside;
     it->length = length;
-    return sync_folder(it);
+    return sync_folder(it) == RDS_OK ? RDS_OK : RDS_UNSURE;
 }
 
 uint32_t rds_keep(rds_file *file) {
