@@ -442,7 +442,7 @@ static uint32_t keep_file(rds_file *file) {
     text after = bytes_of(file);
     if (status == RDS_OK && !is_same(after, due))
         stop("the file hasn't what was kept");
-    if (status != RDS_OK && !is_same(after, before) && !(status == RDS_DEVICE && is_same(after, due)))
+    if (status != RDS_OK && !is_same(after, before) && !(status == RDS_UNSURE && is_same(after, due)))
         stop("the file is neither old nor new");
     free(before.bytes);
     free(after.bytes);

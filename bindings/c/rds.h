@@ -99,6 +99,7 @@ enum rds_status {
     RDS_SAME_REPLICA = 21,    /* both sides are the same replica */
     RDS_DEVICE = 24,          /* a call of the system failed, and errno says how (files alone) */
     RDS_BAD_LINE = 25,        /* a line is no command */
+    RDS_UNSURE = 29,          /* all was written, and the system couldn't say that it lasts; errno says how (files alone) */
     /* of this header: */
     RDS_CLOSED = 64,       /* the replica isn't open; of rds_keep: it has no file */
     RDS_OPEN_ALREADY = 65, /* the replica, or the file, is open already */
@@ -279,14 +280,14 @@ uint32_t rds_open_file(rds_file *file, const uint8_t *path, size_t path_length);
 
 /* Makes a file at a path, where nothing may be, for the replica in `file`, which was opened by rds_new or rds_open, and
  * locks it. RDS_EXISTS, RDS_BESIDE, RDS_BUSY, RDS_CLOSED, RDS_OPEN_ALREADY (it has a file), RDS_TOO_LONG, RDS_DEVICE,
- * RDS_MEMORY. */
+ * RDS_MEMORY. At RDS_UNSURE the file is there, and is the replica's: call rds_keep before anything is told of it. */
 uint32_t rds_make_file(rds_file *file, const uint8_t *path, size_t path_length);
 
 /* Keeps the replica in its file: at RDS_OK all edits and takes so far outlast a crash of the machine. It costs by what
  * changed since the last keep, but where the file is written anew. The file has the mode that it had. RDS_REPLACED,
- * RDS_LINKED, RDS_TOO_LONG, RDS_DEVICE, RDS_CLOSED, RDS_MEMORY: the file is as it was, but for a record that may be
- * begun behind it, which nobody reads. RDS_UNSURE: it may have what was kept, or not. In each case the replica stays
- * open, and rds_keep may be called again: at RDS_OK all of it is sure. */
+ * RDS_LINKED, RDS_TOO_LONG, RDS_DEVICE, RDS_CLOSED, RDS_MEMORY: the file holds what it did. RDS_UNSURE, where only a
+ * last sync failed: it holds the replica, and may not outlast a loss of power. In each case the replica stays open, and
+ * rds_keep may be called again. */
 uint32_t rds_keep(rds_file *file);
 
 /* Closes the replica and lets the file go. Edits since the last rds_keep are lost. Does nothing to what is closed. */

@@ -343,7 +343,8 @@ static uint32_t make_sure(held *it) {
     return it->unsure ? RDS_UNSURE : RDS_OK;
 }
 
-/* Puts the replica's snapshot in the place of the file that is held, if any. From the rename on, it is what is held. */
+/* Puts the replica's snapshot in the place of the file that is held, if any. From the rename on, it is what is held,
+ * also where the folder can't be synced (RDS_UNSURE). */
 static uint32_t put(rds *replica, held *it, const struct stat *like) {
     uint8_t *bytes = NULL;
     size_t length = 0;
@@ -393,16 +394,18 @@ static int has_room(const layout *it, size_t length) {
     return it->whole - it->snapshot + length <= most && it->whole + length <= LIMIT;
 }
 
-/* Appends a record to the file. Where all was written and isn't synced, it may last or not; the next keep takes its
- * place, with what it had. */
+/* Appends a record to the file. Where all was written and isn't synced, it may last or not: the next keep is a new
+ * file. */
 static uint32_t append(rds *replica, held *it, off_t size, const uint8_t *record, size_t length) {
     uint32_t status = size == (off_t)it->layout.whole ? RDS_OK : cut_off(it);
     if (status == RDS_OK)
         status = write_at(it->file, record, length, (off_t)it->layout.whole);
     if (status != RDS_OK)
         return status;
-    if (fsync(it->file) != 0)
+    if (fsync(it->file) != 0) {
+        it->layout.takes_records = 0;
         return RDS_UNSURE;
+    }
     it->layout.whole += length;
     file_kept(replica);
     return it->unsure ? make_sure(it) : RDS_OK;

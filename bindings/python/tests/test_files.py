@@ -9,7 +9,8 @@ from typing import List
 
 import pytest
 
-from rds import Beside, BadText, Busy, Closed, Exists, Linked, Replaced, Replica, TooLong
+from rds import Beside, BadText, Busy, Closed, Exists, Linked, RdsError, Replaced, Replica, TooLong, Unsure
+from rds._faults import fault
 
 NAMES = ["shop", "store"]
 
@@ -243,3 +244,23 @@ def test_an_end_at_any_time_leaves_a_whole_file(file: Path) -> None:
         with Replica.open(file) as shop:
             (found,) = shop["n"].register
             assert isinstance(found, int) and found - told in (0, 1)
+
+
+def test_what_may_not_last(file: Path) -> None:
+    """The folder of a file can't be synced: what is kept is there, and the call says so."""
+    source = Path(__file__).with_name("unsynced.c")
+    library = file.with_name("unsynced.so")
+    if subprocess.run(["cc", "-shared", "-fPIC", "-o", str(library), str(source), "-ldl"]).returncode:
+        pytest.skip("there is no C compiler")
+    code = "import sys, rds; shop = rds.Replica.open(sys.argv[1]); shop['b'].set(2); print('open', flush=True); shop.keep()"
+    words = [sys.executable, "-c", code, str(file)]
+    ran = subprocess.run(words, env={**os.environ, "LD_PRELOAD": str(library)}, capture_output=True, text=True)
+    assert (ran.returncode, ran.stdout) == (1, "open\n")
+    assert "Unsure: it is written, and may not last: read before you repeat" in ran.stderr
+    with Replica.open(file) as shop:
+        assert shop["b"].register == [2]
+
+
+def test_statuses_have_their_names() -> None:
+    assert type(fault(29)) is Unsure and fault(29).words.startswith("Unsure: ")
+    assert type(fault(28)) is RdsError and fault(28).words.startswith("Unknown: ")
