@@ -1,8 +1,10 @@
 -- Deltas one after the other and as one, and what became of a document.
-use Rattle.std.proofs.Common.{◌≡◌, ◌∙◌, ◌++◌, ◌||◌, ◌≤◌, ◌<◌, ℕ, Bool, true, false, max, List, [], ◌∷◌, length, Option, Some, None, Result, Ok, Err, refl, sym, ap, subst, inl, inr, arith}
+use Rattle.std.proofs.Common.{◌≡◌, ◌∙◌, ◌++◌, ◌||◌, ◌≤◌, ◌<◌, ℕ, Bool, true, false, max, List, [], ◌∷◌, length, Option, Some, None, Result, Ok, Err, refl, sym, ap, ap₂, subst, take, drop, inl, inr, arith}
 use Rattle.std.specs.Prelude.{IfSome, is_some, if◌then◌else◌, nat_le}
 use Rattle.std.specs.FinMap as map
+use Rattle.std.specs.List.{slice_get}
 use Rattle.std.specs.Global.{Vec}
+use Rattle.std.proofs.lemmas.List.{take-append-drop}
 use Rattle.std.proofs.lemmas.Bool.Decides.{nat_tests}
 use Rattle.rds_counts.specs.Place.{Place}
 use Rattle.rds_dots.specs.declared.dot.Dot.{Dot}
@@ -57,14 +59,25 @@ none_at_all all lives counts a =
 pub one_alone : (delta all : StateValue) → all ≡ delta → IsAll all (delta ∷ [])
 one_alone delta all same a = ap (λ (v : StateValue). join a (coordinates v)) (sym same)
 
-pub both_halves : (left right deltas : List StateValue) (l r all : StateValue) → deltas ≡ left ++ right → IsAll l left → IsAll r right → coordinates all ≡ join (coordinates l) (coordinates r) → IsAll all deltas
-both_halves left right deltas l r all parts is_l is_r merged a =
-    ap (with_deltas a) parts ∙ (with_both a left right ∙ (ap (λ (b : Coordinates). with_deltas b right) (is_l a)
+none_first : (ds : List StateValue) → None ≡ slice_get ds 0 → ds ≡ []
+none_first [] none = refl
+none_first (d ∷ ds) none = absurd cc
+
+-- the same where there is no first
+pub none_there : (deltas : List StateValue) (all : StateValue) → None ≡ slice_get deltas 0 → all.lives ≡ map.empty → all.counts ≡ map.empty → IsAll all deltas
+none_there deltas all none lives counts = rw (none_first deltas none) (none_at_all all lives counts)
+
+parts_of : (n : ℕ) (left right deltas : List StateValue) → left ≡ take n deltas → right ≡ drop n deltas → deltas ≡ left ++ right
+parts_of n left right deltas front back = sym (ap₂ (λ (xs ys : List StateValue). xs ++ ys) front back ∙ take-append-drop n deltas)
+
+pub both_halves : (n : ℕ) (left right deltas : List StateValue) (l r all : StateValue) → left ≡ take n deltas → right ≡ drop n deltas → IsAll l left → IsAll r right → coordinates all ≡ join (coordinates l) (coordinates r) → IsAll all deltas
+both_halves n left right deltas l r all front back is_l is_r merged a =
+    ap (with_deltas a) (parts_of n left right deltas front back) ∙ (with_both a left right ∙ (ap (λ (b : Coordinates). with_deltas b right) (is_l a)
     ∙ (is_r (join a (coordinates l)) ∙ (associative a (coordinates l) (coordinates r) ∙ ap (join a) (sym merged)))))
 
 -- ---- rosters
 
-chosen : (b : Bool) (r s : RosterValue) → (if b then Ok r else Err {A = RosterValue} BadRoster) ≡ Ok s → r ≡ s
+chosen : (b : Bool) (r s : RosterValue) → ◌≡◌ {A = Result RosterValue Fault} (if b then Ok r else Err BadRoster) (Ok s) → r ≡ s
 chosen true r s is = cc
 chosen false r s is = absurd cc
 
@@ -72,11 +85,6 @@ pub grown_begins : (r s : RosterValue) (name : List ℕ) → grown_of r (name �
 grown_begins r s name is =
     let made : RosterValue = record { group = r.group; names = r.names ++ name ∷ [] } in
     subst (Begins r) (chosen (are_names (r.names ++ name ∷ [])) made s is) (refl, (name ∷ [], refl))
-
-no_longer : (names more : List (List ℕ)) → length (names ++ more) ≤ length names → names ++ more ≡ names
-no_longer [] [] le = refl
-no_longer [] (m ∷ more) le = absurd (omega (arith, le))
-no_longer (n ∷ names) more le = ap (λ (ns : List (List ℕ)). n ∷ ns) (no_longer names more (omega (arith, le)))
 
 -- of two rosters of which one begins the other, each begins the one with more names
 pub begins_longer : (r s : RosterValue) → OneBegins r s → Begins r (longer r s)
@@ -89,12 +97,17 @@ begins_longer r s (inr begins) = by_length (nat_le (length s.names) (length r.na
   where
     by_length : (b : Bool) → nat_le (length s.names) (length r.names) ≡ b → Begins r (if b then r else s)
     by_length true e = begins_itself r
-    by_length false e = absurd (longer_than s.names begins.1.0 r.names begins.1.1 (grind (arith, nat_tests)))
+    by_length false e =
+        let lt : length r.names < length s.names = grind (arith, nat_tests) in
+        absurd (longer_than s.names begins.1.0 r.names begins.1.1 lt)
       where
         longer_than : (xs more ys : List (List ℕ)) → ys ≡ xs ++ more → length ys < length xs → ⊥
         longer_than [] more ys is lt = absurd (omega (arith, lt))
         longer_than (x ∷ xs) more [] is lt = absurd cc
-        longer_than (x ∷ xs) more (y ∷ ys) is lt = longer_than xs more ys cc (omega (arith, lt))
+        longer_than (x ∷ xs) more (y ∷ ys) is lt =
+            let tails : ys ≡ xs ++ more = cc in
+            let less : length ys < length xs = omega (arith, lt) in
+            longer_than xs more ys tails less
 
 same_if : (b : Bool) (r s : RosterValue) → nat_le (length s.names) (length r.names) ≡ b → length (if b then r else s).names ≤ length r.names → (if b then r else s) ≡ r
 same_if true r s e le = refl
