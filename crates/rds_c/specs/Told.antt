@@ -6,13 +6,12 @@ use Rattle.rds_codec.specs.declared.formats.Format.{Format}
 use Rattle.rds_codec.specs.declared.formats.Format.TheVariants.{One, Two}
 use Rattle.rds_dots.specs.declared.dot.Dot.{Dot}
 use Rattle.rds_keep.specs.declared.layout.Layout.{Layout}
-use Rattle.rds_lines.specs.Editing.{EditsLines}
+use Rattle.rds_lines.specs.Editing.{DoesEdit, EditsLines}
 use Rattle.rds_lines.specs.Lines.{lines_in}
 use Rattle.rds_names.specs.Fault.{text_of_fault}
 use Rattle.rds_names.specs.declared.fault.Fault.{Fault}
 use Rattle.rds_output.specs.declared.reply.Reply.{Reply}
 use Rattle.rds_state.specs.Fits.{ReplicaValue}
-use Rattle.rds_state.specs.Results.{EditsReplica}
 use Rattle.rds_state.specs.declared.command.Command.{Command}
 use Rattle.rds_state.specs.declared.command.Edited.{Edited}
 use Rattle.rds_c.specs.declared.status.EditedC.{EditedC}
@@ -68,7 +67,7 @@ pub record EditsDocument (asked : Result Command Fault) (before after : ReplicaV
   pub command : Command
   pub asks : asked ≡ Ok command
   pub edited : Edited
-  pub edits : EditsReplica before command (Ok edited) after
+  pub edits : DoesEdit before command (Ok edited) after
   pub is_told : told ≡ edited_for_c edited
 
 -- the lines were done, one after the other

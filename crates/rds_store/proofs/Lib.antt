@@ -1,3 +1,3 @@
+mod ChangeLemmas
 mod Naming
-mod Noted
 mod Taken

@@ -13,6 +13,7 @@ use Rattle.rds_questions.specs.Receiving.{IsReceivedFrom, ReceivedValue}
 use Rattle.rds_questions.specs.Responding.{RespondGives}
 use Rattle.rds_questions.specs.Taking.{HasAllOf, IsAsker, TakesReceived}
 use Rattle.rds_state.specs.Fits.{ReplicaValue}
+use Rattle.rds_state.specs.Results.{TakesDeltaWith}
 use Rattle.rds_state.specs.Value.{size}
 use Rattle.rds_store.specs.Documents.{IsHeldBy}
 use Rattle.rds_store.specs.Meetings.{MayAnswer, MergesSnapshot, RefusesSnapshot, RefusesTaking}
@@ -64,6 +65,16 @@ Has q v = IsAsker q v × HasAllOf q.digest v.state
 -- there is no memory for its roster
 pub no_copy : (q : QuestionValue) (x : ReceivedValue) (held : ReplicaValue) (fault : Fault) → Has q held → fault ≡ Memory → TakesReceived q held x (Err fault)
 no_copy q x held fault has memory = inr (has, inl memory)
+
+-- a take of it is refused
+pub not_taken : (q : QuestionValue) (x : ReceivedValue) (held after : ReplicaValue) (fault : Fault) → Has q held → TakesDeltaWith held x.roster x.delta (Err fault) after → TakesReceived q held x (Err fault)
+not_taken q x held after fault has takes = inr (has, inr takes.gives)
+
+pub is_taken : (x : ReceivedValue) (before after : ReplicaValue) → TakesDeltaWith before x.roster x.delta (Ok tt) after → IsTaken x before after
+is_taken x before after takes = record { rosters = takes.gives.0; roster = takes.roster; own = takes.own; joined = takes.ok; known = takes.gives.1.0 }
+
+pub is_merged : (source before after : ReplicaValue) → TakesDeltaWith before source.roster source.state (Ok tt) after → IsMerged source before after
+is_merged source before after takes = record { rosters = takes.gives.0; roster = takes.roster; own = takes.own; joined = takes.ok; known = takes.gives.1.0 }
 
 -- ---- a snapshot
 

@@ -1,5 +1,5 @@
 //! What changed a document since it was kept.
-ghost use Rattle.std.specs.Prelude.{◌≡◌, ◌<◌, true, None, Some, IfOk, IfErr, IfSome, length, vec_capacity, vec_len};
+ghost use Rattle.std.specs.Prelude.{◌≡◌, ◌<◌, true, None, Some, IfOk, IfErr, IfSome, OnOk, length, vec_capacity, vec_len};
 ghost use Rattle.std.specs.Prelude.{if◌then◌else◌, option_map};
 ghost use Rattle.rds_names.specs.declared.fault.Fault.TheVariants.{Memory};
 ghost use Rattle.rds_state.specs.Coordinates.{Coordinates, join};
@@ -54,7 +54,7 @@ impl Changes {
 
     /// Makes room for one more delta. Where there are too many, they are noted no more.
     pub fn make_room(&mut self) -> Result<(), Fault>
-        ensures room { IfSome self.new.deltas (λ deltas. vec_len deltas < vec_capacity deltas) }
+        ensures room { OnOk result (IfSome self.new.deltas (λ deltas. vec_len deltas < vec_capacity deltas)) }
         ensures since { (now : ReplicaValue) → AreSince self.old now → AreSince self.new now }
         ensures kept { self.new.kept.value ≡ self.old.kept.value }
         ensures memory { IfErr result (λ fault. fault ≡ Memory) }

@@ -80,11 +80,14 @@ impl Draft {
         ensures { IfSome result (λ noted. IsChanged self.now.kept noted self.now.document) }
     {
         let deltas = self.changes.deltas.as_ref()?;
-        let delta = joined(self.document.alloc, deltas).ok()?;
-        Some(Noted {
-            roster: self.changes.roster(&self.document),
-            delta,
-        })
+        let _within = self.document.replica().state();
+        match joined(self.document.alloc, deltas) {
+            Ok(delta) => Some(Noted {
+                roster: self.changes.roster(&self.document),
+                delta,
+            }),
+            Err(_) => None,
+        }
     }
 
     /// Edits the document, as [`Document::edit`] does. To note what it changes takes memory.
@@ -150,6 +153,8 @@ impl Draft {
 }
 
 impl Edits for Draft {
+    ghost use Rattle.std.proofs.Common.{◌≡◌, ◌∙◌, refl};
+
     ghost replica = { λ draft. draft.document };
 
     ghost stays = { λ old new. new.kept ≡ old.kept };

@@ -169,7 +169,7 @@ impl<H: Disk> DocumentFile<'_, H> {
     }
 }
 
-/// Keeps a document in its file, by what changed it where that is noted.
+/// Keeps a document in its file, and notes from there on what changes it.
 fn keep_in<H: Disk>(
     rt: &H,
     draft: &mut Draft,
@@ -185,10 +185,27 @@ where
     ensures err { OnErr result (file.new ≡ file.old) }
     ensures fault { IfErr result (IsUnkept draft.old.document) }
 {
-    match draft.noted() {
-        Some(noted) => file.keep_on(rt, draft.document().replica(), noted.change())?,
-        None => file.replace_on(rt, draft.document().replica())?,
-    }
+    write_in(rt, draft, file)?;
     draft.set_kept();
     Ok(())
+}
+
+/// Writes a document to its file, by what changed it where that is noted.
+fn write_in<H: Disk>(
+    rt: &H,
+    draft: &Draft,
+    file: &mut EmptiedFile<'_, H, GapSet>,
+) -> Result<(), Fault>
+where
+    H::File: LockFile,
+    requires noted { draft.now.kept ≡ file.old.kept }
+    ensures kept { OnOk result (file.new ≡ record { path = file.old.path; kept = draft.now.document }) }
+    ensures err { OnErr result (file.new ≡ file.old) }
+    ensures fault { IfErr result (IsUnkept draft.now.document) }
+{
+    let replica = draft.document().replica();
+    match draft.noted() {
+        Some(noted) => file.keep_on(rt, replica, noted.change()),
+        None => file.replace_on(rt, replica),
+    }
 }

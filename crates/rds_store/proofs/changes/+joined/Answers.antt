@@ -1,5 +1,5 @@
 use Rattle.std.proofs.Common.{length, ◌/◌}
-use Rattle.rds_store.proofs.Noted.{both_halves}
+use Rattle.rds_store.proofs.ChangeLemmas.{both_halves}
 use Rattle.rds_store.proofs.changes.+joined.Goals as goal
 
 pub returns : goal.returns

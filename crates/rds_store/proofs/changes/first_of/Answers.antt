@@ -1,4 +1,4 @@
-use Rattle.rds_store.proofs.Noted.{none_there}
+use Rattle.rds_store.proofs.ChangeLemmas.{none_there}
 use Rattle.rds_store.proofs.changes.first_of.Goals as goal
 
 pub returns-in-None : goal.returns-in-None

@@ -11,15 +11,20 @@ use Rattle.rds_dots.specs.declared.dot.Dot.{Dot}
 use Rattle.rds_dots.specs.Dots.{dot_cmp}
 use Rattle.rds_keep.specs.Changes.{IsChanged, roster_after}
 use Rattle.rds_life.specs.Life.{Dead, Life, Live, Lived, join_life}
+use Rattle.rds_lines.specs.Editing.{DoesEdit}
 use Rattle.rds_names.specs.Roster.{RosterValue, Begins, OneBegins, are_names, grown_of, longer}
 use Rattle.rds_names.specs.declared.fault.Fault.{Fault}
 use Rattle.rds_names.specs.declared.fault.Fault.TheVariants.{BadRoster}
-use Rattle.rds_state.proofs.JoinLaws.{associative, same_coordinates}
+use Rattle.rds_delta.proofs.LeastLaws.{grown_delta}
+use Rattle.rds_delta.specs.Least.{least}
+use Rattle.rds_delta.specs.Ranks.{ranks}
+use Rattle.rds_state.proofs.JoinLaws.{associative, reflexive, same_coordinates}
 use Rattle.rds_state.proofs.MadeLemmas.{made_is}
 use Rattle.rds_state.specs.Coordinates.{Coordinates, join}
 use Rattle.rds_state.specs.Edit.{effect}
 use Rattle.rds_state.specs.Fits.{Fits, ReplicaValue}
 use Rattle.rds_state.specs.Made.{entry_made}
+use Rattle.rds_state.specs.Results.{EditsReplica, TakesDeltaWith}
 use Rattle.rds_state.specs.Value.{StateValue, coordinates}
 use Rattle.rds_state.specs.declared.command.Command.{Command}
 use Rattle.rds_state.specs.declared.command.Edited.{Edited}
@@ -164,6 +169,36 @@ edit_made now after command edited delta edits =
       roster = λ none. edits.roster;
       own = edits.own;
     }
+
+-- a delta that came with a roster
+pub take_made : (now after : ReplicaValue) (came : RosterValue) (delta : StateValue) (grew : Bool) → TakesDeltaWith now came delta (Ok tt) after → (grew ≡ false → after.roster ≡ now.roster) → IsMadeBy delta grew now after
+take_made now after came delta grew takes same = record {
+  joined = takes.ok;
+  begins = subst (Begins now.roster) (sym takes.roster) (begins_longer now.roster came takes.gives.0);
+  roster = same;
+  own = takes.own;
+}
+
+-- of another's state what was lacking
+pub merge_made : (now after source : ReplicaValue) (lacking : StateValue) (grew : Bool) → TakesDeltaWith now source.roster source.state (Ok tt) after
+    → coordinates lacking ≡ least (coordinates source.state) (ranks (coordinates now.state)) → (grew ≡ false → after.roster ≡ now.roster) → IsMadeBy lacking grew now after
+merge_made now after source lacking grew takes is same = record {
+  joined = takes.ok ∙ sym (ap (join (coordinates now.state)) is ∙ grown_delta (coordinates source.state) (coordinates now.state) (coordinates now.state) (reflexive (coordinates now.state)));
+  begins = subst (Begins now.roster) (sym takes.roster) (begins_longer now.roster source.roster takes.gives.0);
+  roster = same;
+  own = takes.own;
+}
+
+-- ---- an edit that was done, or refused
+
+pub does_edit : (before after : ReplicaValue) (command : Command) (answer : Result Edited Fault) → EditsReplica before command answer after → DoesEdit before command answer after
+does_edit before after command answer edits = record { edited = edits.edited; roster = edits.roster; own = edits.own; err = edits.err }
+
+pub does_with_delta : (before after : ReplicaValue) (command : Command) (edited : Edited) (delta : StateValue) → EditsWithDelta before command (Ok (edited, delta)) after → DoesEdit before command (Ok edited) after
+does_with_delta before after command edited delta edits = record { edited = edits.edited; roster = edits.roster; own = edits.own; err = tt }
+
+pub does_nothing : (before after : ReplicaValue) (command : Command) (fault : Fault) → EditsWithDelta before command (Err fault) after → DoesEdit before command (Err fault) after
+does_nothing before after command fault edits = record { edited = edits.edited; roster = edits.roster; own = edits.own; err = edits.err }
 
 -- ---- the change
 
