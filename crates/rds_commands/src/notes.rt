@@ -17,6 +17,11 @@ const PATH: &str = "1 to 8 keys with '/' between them, each of 1 to 64 bytes";
 pub fn note_file<H: Eprint>(rt: &H, path: &str, fault: Fault) {
     match fault {
         Fault::Device | Fault::Cut | Fault::Bad | Fault::Extra => (),
+        Fault::Unsure => {
+            let _ = eprintln!(rt;
+                "{path}: may have the change or not: read it before you give the command again"
+            );
+        }
         _ => {
             let _ = eprintln!(rt; "{path}: {fault}");
         }
