@@ -11,7 +11,7 @@ use crate::notes::{note_file, note_part};
 use crate::outcome::told;
 use rds_files::{Disk, ReplicaFile};
 use rds_gaps::GapSet;
-use rds_keep::Counted;
+use rds_keep::{Counted, Layout};
 use rds_lines::{describe, place_of, shown_at};
 use rds_names::{Fault, Path};
 use std::io::Write;
@@ -36,7 +36,8 @@ pub fn get_file<'a, H: Disk>(
     Ok(FileAnswer { file, answer })
 }
 
-/// Tells whose replica a file holds, and how much there is of it.
+/// Tells whose replica a file holds, how much there is of it, and how many bytes the file's snapshot has and the records
+/// behind it.
 pub fn describe_file<'a, H: Disk>(
     rt: &H,
     path: &'a str,
@@ -45,7 +46,13 @@ pub fn describe_file<'a, H: Disk>(
     ensures fault { IfErr result IsUnread }
 {
     let file = ReplicaFile::open(rt, path)?;
-    let answer = describe(rt.alloc(), file.kept())?;
+    let Layout {
+        snapshot,
+        whole,
+        ..
+    } = file.layout();
+    let records = whole.saturating_sub(snapshot);
+    let answer = describe(rt.alloc(), file.kept(), snapshot, records)?;
     Ok(FileAnswer { file, answer })
 }
 
