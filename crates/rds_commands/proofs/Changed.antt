@@ -4,24 +4,31 @@ use Rattle.std.specs.FinMap as map
 use Rattle.std.specs.Prelude.{IfOk}
 use Rattle.rds_names.specs.Roster.{Begins, RosterValue}
 use Rattle.rds_names.specs.declared.fault.Fault.{Fault}
-use Rattle.rds_life.specs.Life.{Dead, IsNoLater, Life, Live, join_life}
+use Rattle.rds_dots.specs.Dots.{dot_cmp}
+use Rattle.rds_counts.specs.Counted.{Above, Counted}
+use Rattle.rds_counts.specs.Place.{place_cmp}
+use Rattle.rds_life.specs.Life.{Dead, IsNoLater, Life, Live, Lived, join_life}
 use Rattle.rds_state.specs.Coordinates.{AtMost, Coordinates, join}
 use Rattle.rds_state.specs.Edit.{JoinsEffect, effect}
 use Rattle.rds_state.specs.Fits.{Fits, ReplicaValue}
 use Rattle.rds_state.specs.Made.{entry_made}
-use Rattle.rds_state.specs.Value.{StateValue, coordinates}
+use Rattle.rds_state.specs.Value.{StateValue, coordinates, size}
 use Rattle.rds_state.specs.declared.command.Command.{Command}
+use Rattle.rds_state.proofs.FitsLemmas.{empty_fits}
+use Rattle.rds_state.proofs.Nothing.{joins_nothing}
 use Rattle.rds_state.proofs.JoinLaws.{above_left, reflexive, same_coordinates, transitive}
 use Rattle.rds_state.proofs.MadeLemmas.{made_is}
 use Rattle.rds_delta.specs.Least.{least}
 use Rattle.rds_delta.specs.Ranks.{ranks}
 use Rattle.rds_delta.proofs.Exchanges.{least_fits}
 use Rattle.rds_delta.proofs.LeastLaws.{grown_delta}
-use Rattle.rds_keep.specs.Changes.{IsChanged}
+use Rattle.rds_keep.specs.Changes.{ChangeValue, IsChanged}
+use Rattle.rds_files.specs.Files.{KeptFile}
 use Rattle.rds_lines.specs.Editing.{EditsFirst, EditsLines, EditsLinesBehind, EditsNext, MeetsCommand, MeetsEdit, edit_of_bytes}
 use Rattle.rds_lines.specs.Lines.{is_empty_line}
 use Rattle.rds_output.specs.declared.reply.Reply.{Reply}
-use Rattle.rds_commands.specs.Edits.{delta_alone}
+use Rattle.rds_commands.specs.Edits.{IsGrown, delta_alone}
+use Rattle.rds_commands.proofs.Growing.{grown_begins}
 
 begins_self : (r s : RosterValue) → s ≡ r → Begins r s
 begins_self r s same = subst (Begins r) (sym same) (refl, ([], sym (append-nil r.names)))
@@ -117,3 +124,27 @@ lines_changed lines before after answers delta edits is fits =
       joined = sym (ap (join a) is ∙ grown_delta b a a (reflexive a) ∙ join_above a b raises.above);
       fits = subst (Fits (length after.roster.names)) (sym is) (least_fits (length after.roster.names) b (ranks a) fits);
     }
+
+-- ---- a longer roster
+
+none_counted : (nothing : StateValue) → nothing.lives ≡ map.empty → nothing.counts ≡ map.empty → size nothing ≡ 0
+none_counted nothing no_lives no_counts =
+    let lives : map.len nothing.lives ≡ 0 = ap (λ (v : Lived). map.len v) no_lives ∙ map.len-empty dot_cmp Life in
+    let counts : map.len nothing.counts ≡ 0 = ap (λ (v : Counted). map.len v) no_counts ∙ map.len-empty place_cmp Above in
+    omega (arith, lives, counts)
+
+pub changed_by_names : (names : List (List ℕ)) (old new : ReplicaValue) (roster : RosterValue) (nothing : StateValue) → IsGrown names old new → roster ≡ new.roster → nothing.lives ≡ map.empty → nothing.counts ≡ map.empty
+    → IsChanged old (record { roster = Some roster; delta = nothing }) new
+changed_by_names names old new roster nothing grown is no_lives no_counts = record {
+  roster = sym is;
+  begins = grown_begins old.roster new.roster names grown.roster;
+  own = grown.own;
+  joined = ap coordinates grown.state ∙ joins_nothing nothing (none_counted nothing no_lives no_counts) old.state;
+  fits = empty_fits (length new.roster.names) nothing no_lives no_counts;
+}
+
+-- ---- in a file
+
+pub changed_in : (file emptied : KeptFile) (old new : ReplicaValue) (change : ChangeValue) → old ≡ file.kept → emptied ≡ file → IsChanged old change new → IsChanged emptied.kept change new
+changed_in file emptied old new change same is changed =
+    subst (λ (r : ReplicaValue). IsChanged r change new) (same ∙ sym (ap (λ (f : KeptFile). f.kept) is)) changed

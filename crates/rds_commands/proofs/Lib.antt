@@ -1,5 +1,6 @@
 pub mod Batches
 pub mod Changed
+pub mod Compacted
 pub mod Entered
 pub mod Events
 pub mod Getting
