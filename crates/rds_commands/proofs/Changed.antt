@@ -4,10 +4,7 @@ use Rattle.std.specs.FinMap as map
 use Rattle.std.specs.Prelude.{IfOk}
 use Rattle.rds_names.specs.Roster.{Begins, RosterValue}
 use Rattle.rds_names.specs.declared.fault.Fault.{Fault}
-use Rattle.rds_dots.specs.Dots.{dot_cmp}
-use Rattle.rds_counts.specs.Counted.{Above, Counted}
-use Rattle.rds_counts.specs.Place.{place_cmp}
-use Rattle.rds_life.specs.Life.{Dead, IsNoLater, Life, Live, Lived, join_life}
+use Rattle.rds_life.specs.Life.{Dead, IsNoLater, Life, Live, join_life}
 use Rattle.rds_state.specs.Coordinates.{AtMost, Coordinates, join}
 use Rattle.rds_state.specs.Edit.{JoinsEffect, effect}
 use Rattle.rds_state.specs.Fits.{Fits, ReplicaValue}
@@ -129,8 +126,8 @@ lines_changed lines before after answers delta edits is fits =
 
 none_counted : (nothing : StateValue) → nothing.lives ≡ map.empty → nothing.counts ≡ map.empty → size nothing ≡ 0
 none_counted nothing no_lives no_counts =
-    let lives : map.len nothing.lives ≡ 0 = ap (λ (v : Lived). map.len v) no_lives ∙ map.len-empty dot_cmp Life in
-    let counts : map.len nothing.counts ≡ 0 = ap (λ (v : Counted). map.len v) no_counts ∙ map.len-empty place_cmp Above in
+    let lives : map.len nothing.lives ≡ 0 = ap (λ v. map.len v) no_lives ∙ map.len-empty _ _ in
+    let counts : map.len nothing.counts ≡ 0 = ap (λ v. map.len v) no_counts ∙ map.len-empty _ _ in
     omega (arith, lives, counts)
 
 pub changed_by_names : (names : List (List ℕ)) (old new : ReplicaValue) (roster : RosterValue) (nothing : StateValue) → IsGrown names old new → roster ≡ new.roster → nothing.lives ≡ map.empty → nothing.counts ≡ map.empty

@@ -439,7 +439,7 @@ Example: rds_node status notes.a";
 
 const STATUS_TEXT: &str = "\
 Output: one line, {\"group\":\"notes\",\"own\":\"a\",\"names\":[\"a\",\"b\"],\"live\":1,\"dead\":0,
-\"counters\":0,\"components\":1,\"bytes\":76,\"snapshot\":40,\"records\":80,
+\"counters\":0,\"components\":1,\"bytes\":76,\"snapshot\":31,\"records\":96,
 \"mark\":\"3923e6a85fb4142d3ef808a12ecff18d\"}: the group, the replica's own name and the
 names of all; how many live entries, dots of dead ones and counters there are, and how
 many components in all; how many bytes FILE would have if it were written anew, how many
