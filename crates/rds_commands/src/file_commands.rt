@@ -142,8 +142,8 @@ where
     ensures same { IfOk result (λ done. CompactsFile path.now done.file done.answer) }
     ensures fault { IfErr result (RefusesCompact path.now) }
 {
-    let opened = LockedFile::open(rt, path)?;
-    let (replica, emptied) = opened.into_parts();
+    let held = LockedFile::open(rt, path)?;
+    let (replica, emptied) = held.into_parts();
     let file = emptied.replace(rt, replica)?;
     Ok(FileAnswer {
         file,
@@ -186,13 +186,13 @@ where
     ensures due { IfOk result (λ _. edit_refusal file.entry.kept command ≡ None) }
     ensures fault { IfErr result (RefusesEditIn command file.entry.kept) }
 {
-    let (mut replica, emptied) = file.into_parts();
+    let (mut replica, file) = file.into_parts();
     let (answer, delta) = edited(rt.alloc(), &mut replica, &command)?;
     let change = Change {
         roster: None,
         delta: &delta,
     };
-    let file = emptied.keep(rt, replica, change)?;
+    let file = file.keep(rt, replica, change)?;
     Ok(FileAnswer { file, answer })
 }
 
