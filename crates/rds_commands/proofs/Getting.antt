@@ -5,7 +5,7 @@ use Rattle.rds_names.specs.declared.fault.Fault.TheVariants.{BadPath, Memory}
 use Rattle.rds_names.specs.Gives.{Refuses}
 use Rattle.rds_names.specs.Path.{path_of}
 use Rattle.rds_state.specs.Fits.{ReplicaValue}
-use Rattle.rds_keep.specs.declared.stored.Layout.{Layout}
+use Rattle.rds_keep.specs.declared.layout.Layout.{Layout}
 use Rattle.rds_lines.specs.Overview.{TellsOverview}
 use Rattle.rds_output.specs.declared.reply.Reply.{Reply}
 use Rattle.rds_files.specs.Files.{FileValue, IsReadAt, IsUnread}
