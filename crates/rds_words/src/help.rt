@@ -132,12 +132,13 @@ How files are read and written, and what the words of commands are.
 
 Writing: a command that changes FILE does so under a lock, for which it waits ten
 seconds at most. FILE is a snapshot with records of changes behind it: the command adds
-a record, syncs FILE, and then answers. Where the records would have more bytes than the
-snapshot, and more than 65,536, it writes FILE anew without them, as 'compact' does:
-FILE.new is made beside it with mode 0600, gets FILE's mode, is written and synced, and
-then renamed to FILE. A record that wasn't written to its end is passed over, and the
-next one takes its place. So FILE holds what it held before a command, or what it holds
-after it, whole. What isn't said to change FILE only reads it.
+a record, syncs FILE, and then answers. What changes nothing adds none. Where the change
+has more than 65,536 bytes, or all records would have more than that and more than the
+snapshot, or FILE is of format 1, it writes FILE anew, as 'compact' does: FILE.new is
+made beside it with mode 0600, gets FILE's mode, is written and synced, and then renamed
+to FILE. A record that wasn't written to its end is passed over, and the next one takes
+its place. So FILE holds what it held before a command or what it holds after it, whole.
+What isn't said to change FILE only reads it.
 
 Places: a FILE that is a link is followed, and stays a link. One that has several names
 (hard links), or no write bit, isn't changed: fault 24. One whose name ends in '.new' is
@@ -340,9 +341,9 @@ Example: rds_node compact notes.a";
 
 const COMPACT_TEXT: &str = "\
 A command that changes FILE adds a record to it. This writes FILE anew as one snapshot,
-which holds the same. Other commands do so by themselves once there are many records, so
-none has to. It is of use before FILE is copied or kept for long, and where it is read
-often and seldom changed. 'status' tells how many bytes the records have.
+which holds the same. Commands do so by themselves where the records get long, so it need
+not be called. It is of use before FILE is copied or kept for long, and where it is read
+often and seldom changed: 'status' tells how many bytes the records have.
 Output: {\"ok\":true}.";
 
 pub const PAIR_ABOUT: &str = "Has a session between the replicas in two files";
