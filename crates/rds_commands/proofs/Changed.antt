@@ -6,11 +6,15 @@ use Rattle.rds_names.specs.Roster.{Begins, RosterValue}
 use Rattle.rds_names.specs.declared.fault.Fault.{Fault}
 use Rattle.rds_life.specs.Life.{Dead, IsNoLater, Life, Live, join_life}
 use Rattle.rds_state.specs.Coordinates.{AtMost, Coordinates, join}
-use Rattle.rds_state.specs.Edit.{JoinsEffect, effect}
+use Rattle.rds_dots.specs.declared.dot.Dot.{Dot}
+use Rattle.rds_state.specs.Edit.{JoinsEffect, effect, new_dot}
 use Rattle.rds_state.specs.Fits.{Fits, ReplicaValue}
 use Rattle.rds_state.specs.Made.{entry_made}
 use Rattle.rds_state.specs.Value.{StateValue, coordinates, size}
 use Rattle.rds_state.specs.declared.command.Command.{Command}
+use Rattle.rds_state.specs.declared.command.Edited.{Edited}
+use Rattle.rds_tree.specs.EditsWithDelta.{EditsWithDelta}
+use Rattle.rds_output.specs.Reply.{edit_reply}
 use Rattle.rds_state.proofs.FitsLemmas.{empty_fits}
 use Rattle.rds_state.proofs.Nothing.{joins_nothing}
 use Rattle.rds_state.proofs.JoinLaws.{above_left, reflexive, same_coordinates, transitive}
@@ -21,7 +25,7 @@ use Rattle.rds_delta.proofs.Exchanges.{least_fits}
 use Rattle.rds_delta.proofs.LeastLaws.{grown_delta}
 use Rattle.rds_keep.specs.Changes.{ChangeValue, IsChanged}
 use Rattle.rds_files.specs.Files.{KeptFile}
-use Rattle.rds_lines.specs.Editing.{EditsFirst, EditsLines, EditsLinesBehind, EditsNext, MeetsCommand, MeetsEdit, edit_of_bytes}
+use Rattle.rds_lines.specs.Editing.{EditsFirst, EditsLines, EditsLinesBehind, EditsNext, IsEdited, MeetsCommand, MeetsEdit, edit_of_bytes}
 use Rattle.rds_lines.specs.Lines.{is_empty_line}
 use Rattle.rds_output.specs.declared.reply.Reply.{Reply}
 use Rattle.rds_commands.specs.Edits.{IsGrown, delta_alone}
@@ -145,3 +149,18 @@ changed_by_names names old new roster nothing grown is no_lives no_counts = reco
 pub changed_in : (file emptied : KeptFile) (old new : ReplicaValue) (change : ChangeValue) → old ≡ file.kept → emptied ≡ file → IsChanged old change new → IsChanged emptied.kept change new
 changed_in file emptied old new change same is changed =
     subst (λ (r : ReplicaValue). IsChanged r change new) (same ∙ sym (ap (λ (f : KeptFile). f.kept) is)) changed
+
+-- ---- one edit, as it is answered
+
+module _ (old new : ReplicaValue) (command : Command) (told : Edited) (delta : StateValue) (edits : EditsWithDelta old command (Ok (told, delta)) new) where
+  pub edited_told : (roster : RosterValue) (answer : Reply) → roster ≡ new.roster → answer ≡ edit_reply roster told.dot told.killed → IsEdited command old new answer
+  edited_told roster answer same is = record {
+    roster = edits.roster;
+    own = edits.own;
+    joined = edits.edited.joined;
+    told = is ∙ ap (λ (r : RosterValue). edit_reply r told.dot told.killed) (same ∙ edits.roster) ∙ ap (λ (d : Option Dot). edit_reply old.roster d told.killed) edits.edited.dot
+        ∙ ap (edit_reply old.roster (new_dot (coordinates old.state) old.own command)) edits.edited.killed;
+  }
+
+  pub edited_changed : IsChanged old (delta_alone delta) new
+  edited_changed = changed_by_delta old new delta edits.roster edits.own (joined_effect (coordinates old.state) (coordinates new.state) (coordinates delta) old.own command edits.edited.joined edits.delta) edits.fits
