@@ -5,7 +5,7 @@ use rds_state::State;
 use std::marker::Model;
 
 /// What changes a kept replica: a delta that its state is joined with, and a roster that its own begins, where that grows.
-#[derive(Clone, Copy)]
+#[derive(Drop)]
 pub struct Change<'a, S: DotSet> {
     /// The roster from then on, where it grows.
     pub roster: Option<&'a Roster>,
