@@ -11,7 +11,7 @@ use crate::notes::{note_file, note_part};
 use crate::outcome::told;
 use rds_files::{Disk, ReplicaFile};
 use rds_gaps::GapSet;
-use rds_keep::{Counted, Layout};
+use rds_keep::Counted;
 use rds_lines::{describe, place_of, shown_at};
 use rds_names::{Fault, Path};
 use std::io::Write;
@@ -46,13 +46,9 @@ pub fn describe_file<'a, H: Disk>(
     ensures fault { IfErr result IsUnread }
 {
     let file = ReplicaFile::open(rt, path)?;
-    let Layout {
-        snapshot,
-        whole,
-        ..
-    } = file.layout();
-    let records = whole.saturating_sub(snapshot);
-    let answer = describe(rt.alloc(), file.kept(), snapshot, records)?;
+    let layout = file.layout();
+    let records = layout.whole.saturating_sub(layout.snapshot);
+    let answer = describe(rt.alloc(), file.kept(), layout.snapshot, records)?;
     Ok(FileAnswer { file, answer })
 }
 
