@@ -85,6 +85,7 @@ impl<S: DotSet> Changed<S> {
         {
             return Err(Fault::Bad);
         }
+        before.stands();
         states_have_texts(change.delta);
         member_length(replica.roster(), replica.own());
         let record = encode_record(alloc, replica.own(), change)?;
