@@ -1,7 +1,4 @@
 pub mod Batches
-pub mod EditEvents
-pub mod Changed
-pub mod Compacted
 pub mod Entered
 pub mod Events
 pub mod Getting

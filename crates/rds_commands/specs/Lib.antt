@@ -1,5 +1,4 @@
 pub mod Batch
-pub mod Changing
 pub mod Edits
 pub mod Letters
 pub mod Listing

@@ -1,4 +1,3 @@
-pub mod Growing
 pub mod Heard
 pub mod Hearing
 pub mod Paired

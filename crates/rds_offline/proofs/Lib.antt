@@ -1,6 +1,3 @@
-mod Changed
 mod Copied
-mod Lacking
-mod Longer
 pub mod Lettered
 mod NextReplicas

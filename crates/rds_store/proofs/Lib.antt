@@ -1,3 +1,2 @@
-mod ChangeLemmas
 mod Naming
 mod Taken

@@ -99,27 +99,24 @@ each_plain = (
           (
             plain.dump_plain,
             (
-              plain.compact_plain,
+              plain.pair_plain,
               (
-                plain.pair_plain,
+                plain.ask_plain,
                 (
-                  plain.ask_plain,
+                  plain.answer_plain,
                   (
-                    plain.answer_plain,
+                    plain.take_plain,
                     (
-                      plain.take_plain,
+                      plain.merge_plain,
                       (
-                        plain.merge_plain,
+                        plain.status_plain,
                         (
-                          plain.status_plain,
+                          plain.check_plain,
                           (
-                            plain.check_plain,
+                            plain.conflicts_plain,
                             (
-                              plain.conflicts_plain,
-                              (
-                                plain.diff_plain,
-                                (plain.join_plain, (plain.sim_plain, (plain.files_plain, (plain.faults_plain, tt)))),
-                              ),
+                              plain.diff_plain,
+                              (plain.join_plain, (plain.sim_plain, (plain.files_plain, (plain.faults_plain, tt)))),
                             ),
                           ),
                         ),
