@@ -3,8 +3,10 @@ use Rattle.std.specs.Prelude.{◌≡◌, ℕ, List, [], length, ◌∷◌, ◌++
 use Rattle.std.specs.Coded.{Coded, code_by, coded×, coded_option}
 use Rattle.rds_names.specs.Roster.{RosterValue, Begins}
 use Rattle.rds_bytes.specs.Spelling.{member_text}
-use Rattle.rds_codec.specs.StateTexts.{state_text}
-use Rattle.rds_state.specs.Coordinates.{join}
+use Rattle.rds_bytes.specs.Values.{IsMember}
+use Rattle.rds_codec.specs.Kinds.{Kind}
+use Rattle.rds_codec.specs.StateTexts.{IsStateOf, state_text}
+use Rattle.rds_state.specs.Coordinates.{AreCompatible, join}
 use Rattle.rds_state.specs.Fits.{Fits, ReplicaValue, coded_roster}
 use Rattle.rds_state.specs.Value.{StateValue, coordinates, coded_state}
 
@@ -39,3 +41,22 @@ pub record IsChanged (old : ReplicaValue) (c : ChangeValue) (new : ReplicaValue)
   pub own : new.own ≡ old.own
   pub joined : coordinates new.state ≡ join (coordinates old.state) (coordinates c.delta)
   pub fits : Fits (length new.roster.names) (coordinates c.delta)
+
+-- ---- what is read again
+
+-- A change that its text gives again to a replica of this number, whose roster is the old one: the roster from then on
+-- has a text, and the delta is a state of as many replicas.
+pub record IsChangeFor (old : RosterValue) (own : ℕ) (c : ChangeValue) : Type 0 where
+  pub begins : Begins old (roster_after old c.roster)
+  pub member : IsMember (roster_after old c.roster) own
+  pub delta : IsStateOf (length (roster_after old c.roster).names) c.delta
+
+-- the texts of changes
+abbrev pub change_kind : RosterValue → ℕ → Kind ChangeValue
+change_kind old own = record { is_value = IsChangeFor old own; text = change_text own }
+
+-- a replica took a change that its text gives again, and no dot has two entries
+pub record IsRedone (old : ReplicaValue) (c : ChangeValue) (new : ReplicaValue) : Type 0 where
+  pub change : IsChangeFor old.roster old.own c
+  pub changed : IsChanged old c new
+  pub compatible : AreCompatible (coordinates old.state) (coordinates c.delta)

@@ -1,7 +1,12 @@
+pub mod Changed
 pub mod Changes
 pub mod Counted
 pub mod FedTexts
 pub mod Feeding
 pub mod Kept
+pub mod Leading
 pub mod Parts
+pub mod ReadChanges
+pub mod Replay
 pub mod Snapshots
+pub mod Stored

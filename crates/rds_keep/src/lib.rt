@@ -3,24 +3,34 @@
 #![tactic(auto)]
 
 mod change;
+mod changed;
 mod counted;
 mod fed;
 mod feeding;
 mod feeds;
 mod keeping;
 mod kept;
+mod layout;
+mod leading;
+mod past;
 mod place;
 mod reading;
+mod replay;
 mod snapshots;
+mod stored;
 mod texts;
 mod writing;
 
 pub use change::Change;
+pub use changed::{Changed, encode_record};
 pub use counted::Counted;
 pub use fed::Fed;
 pub use feeding::read_fed;
 pub use feeds::Feed;
 pub use keeping::keep_in;
 pub use kept::Kept;
+pub use layout::Layout;
+pub use past::{Past, WasKept};
 pub use place::Place;
 pub use snapshots::{read_snapshot, write_snapshot};
+pub use stored::{Refused, Stored, decode_stored, read_stored};

@@ -69,7 +69,7 @@ pub fn write_snapshot<S: DotSet, W: Write>(
 /// Reads the first four bytes of all that the reader holds, by which a snapshot says its format.
 ///
 /// Refuses `Cut` where there are fewer, and `Bad` where they are those of no format.
-fn read_magic<R: Read>(alloc: Global, reader: &mut Counted<R>) -> Result<Vec<u8>, Fault>
+pub(crate) fn read_magic<R: Read>(alloc: Global, reader: &mut Counted<R>) -> Result<Vec<u8>, Fault>
     ensures magic { IfOk result (λ front. IsMagic front.items) }
     ensures bytes { IfOk result (λ front. Consumes (R.remaining reader.old.inner)
         (R.remaining reader.new.inner) front.items) }

@@ -1,0 +1,30 @@
+-- A value that bytes begin with.
+use Rattle.std.specs.Prelude.{◌≡◌, ◌+◌, ◌<◌, ◌⊎◌, ℕ, List, ◌++◌, length, Option, Ok, Err}
+use Rattle.std.specs.Io.KnownBytes.{Consumes}
+use Rattle.rds_names.specs.declared.fault.Fault.{Fault}
+use Rattle.rds_names.specs.declared.fault.Fault.TheVariants.{Memory, Cut, Bad, TooLong, Device}
+use Rattle.rds_bytes.specs.Reading.{Reader}
+use Rattle.rds_codec.specs.declared.limits.TheConstants.{LIMIT}
+use Rattle.rds_keep.specs.Feeding.{AreBytes}
+
+-- Known bytes lose a beginning. With those of a front, so many bytes in all, a value is whole, and some are behind it.
+pub record Leads {V : Type 0} (read : Reader V) (front : List ℕ) (before after : Option (List ℕ)) (v : V) (count : ℕ)
+    (behind : List ℕ) : Type 0 where
+  pub given : List ℕ
+  pub consumed : Consumes before after given
+  pub whole : (more : List ℕ) → read (front ++ (given ++ more)) ≡ Ok (v, behind ++ more)
+  pub size : count ≡ length front + length given
+  pub bytes : AreBytes (front ++ given)
+
+-- memory ran out, or the bytes are Bad, since they are refused whatever follows them
+abbrev pub RefusesStep : {V : Type 0} → Reader V → Fault → Type 0
+RefusesStep read e = (e ≡ Memory) ⊎ ((e ≡ Bad) × ((d : Fault) × ((more : List ℕ) → read more ≡ Err d)))
+
+-- why no value is at the front of bytes
+abbrev pub RefusesFront : {V : Type 0} → Reader V → List ℕ → Fault → Type 0
+RefusesFront read bytes Memory = Unit {0}
+RefusesFront read bytes Device = Unit {0}
+RefusesFront read bytes Cut = read bytes ≡ Err Cut
+RefusesFront read bytes TooLong = LIMIT < length bytes
+RefusesFront read bytes Bad = (e : Fault) × (read bytes ≡ Err e)
+RefusesFront read bytes e = ⊥

@@ -1,0 +1,293 @@
+//! What a file holds: a snapshot, records of changes, and a torn end.
+ghost use Rattle.std.specs.Prelude.{◌≡◌, ◌≢◌, ◌≤◌, ◌<◌, ◌-◌, ◌+◌, ◌++◌, ◌⊎◌, List, ℕ, length, Err, IfOk, IfErr, IfSome, OnOk, MatchResult};
+ghost use Rattle.std.specs.Io.KnownBytes.{IsAtEnd};
+ghost use Rattle.rds_names.specs.declared.fault.Fault.TheVariants.{Device, Memory, TooLong};
+ghost use Rattle.rds_codec.specs.Decoding.{IsOtherFault};
+ghost use Rattle.rds_codec.specs.FormatTexts.{snapshot_text_in};
+ghost use Rattle.rds_codec.specs.StateTexts.{IsSnapshot};
+ghost use Rattle.rds_codec.specs.declared.limits.TheConstants.{LIMIT};
+ghost use Rattle.rds_journal.specs.declared.records.TheConstants.{MOST, HEAD};
+ghost use Rattle.rds_keep.specs.Counted.{HasFailed, most_read};
+ghost use Rattle.rds_keep.specs.Kept.{AreWhole, IsFile, IsStored, RefusesBytes};
+ghost use Rattle.rds_keep.specs.Parts.{ConsumesAtMost};
+ghost use Rattle.rds_keep.specs.Snapshots.{IsForeign};
+ghost use Rattle.rds_keep.specs.Stored.{IsFirst, LosesFirst, RefusesEnd, first_and};
+
+use crate::counted::Counted;
+use crate::kept::Kept;
+use crate::layout::Layout;
+use crate::leading::{Leading, decode_leading, hold_bytes};
+use crate::replay::{Replay, hold_more};
+use crate::snapshots::read_magic;
+use rds_codec::{Format, LIMIT, unfinished_snapshot};
+use rds_dots::DotSet;
+use rds_journal::is_torn;
+use rds_names::Fault;
+use rds_state::Replica;
+use std::alloc::Global;
+use std::io::Read;
+
+/// What a file holds.
+#[derive(Drop)]
+pub struct Stored<S: DotSet> {
+    /// The replica.
+    pub kept: Kept<S>,
+    /// Where the parts of the file stand.
+    pub layout: Layout,
+}
+
+/// Why a file holds no replica.
+#[derive(Clone, Copy, Debug, PartialEq, Eq)]
+pub struct Refused {
+    /// The fault.
+    pub fault: Fault,
+    /// Where the bytes are refused: those before it are a whole file. 0 where that is inside of the snapshot.
+    pub at: u64,
+}
+
+// A snapshot that bytes begin with.
+#[derive(Drop)]
+struct First<S: DotSet> {
+    format: Format,
+    replica: Replica<S>,
+    length: usize,
+}
+
+// A snapshot of so many bytes, where that isn't above the limit. The replica gets an index where bytes are behind it.
+fn first_of<S: DotSet>(
+    format: Format,
+    replica: Replica<S>,
+    size: usize,
+    behind: &[u8],
+) -> Result<First<S>, Fault>
+    requires size { size ≡ length (snapshot_text_in format replica) }
+    requires value { IsSnapshot replica }
+    ensures same { IfOk result (λ first. (first.format ≡ format) × (first.replica ≡ replica)) }
+    ensures first { IfOk result (λ first. IsFirst format replica first.length) }
+    ensures fault { IfErr result (λ e. (e ≡ Memory) ⊎ ((e ≡ TooLong) × (LIMIT < size))) }
+{
+    if LIMIT < size {
+        return Err(Fault::TooLong);
+    }
+    let mut replica = replica;
+    if !behind.is_empty() {
+        replica.index()?;
+    }
+    Ok(First {
+        format,
+        replica,
+        length: size,
+    })
+}
+
+// Reads the snapshot that all that the reader holds begins with, and some bytes behind it.
+fn read_first<S: DotSet, R: Read>(
+    alloc: Global,
+    reader: &mut Counted<R>,
+) -> Result<(First<S>, Vec<u8>), Fault>
+    ensures loses { IfOk result (λ x. LosesFirst (R.remaining reader.old.inner) (R.remaining reader.new.inner)
+        x.0.format x.0.replica x.1.items) }
+    ensures first { IfOk result (λ x. IsFirst x.0.format x.0.replica x.0.length) }
+    ensures end { IfOk result (λ x. length x.1.items ≤ MOST + HEAD → IsAtEnd (R.remaining reader.new.inner)) }
+    ensures bound { OnOk result (ConsumesAtMost (R.remaining reader.old.inner) (R.remaining reader.new.inner)
+        (most_read (reader.old.turns - reader.new.left))) }
+    ensures refused { IfErr result (λ e. IfSome (R.remaining reader.old.inner) (λ input. RefusesBytes input e)) }
+    ensures foreign { IfSome (R.remaining reader.old.inner) (λ input. IsForeign input
+        → ConsumesAtMost (R.remaining reader.old.inner) (R.remaining reader.new.inner) 4) }
+    ensures fault { IfErr result (λ e. (e ≡ Device) ⊎ IsOtherFault e) }
+    ensures counted { result ≡ Err Device → HasFailed reader.old reader.new }
+    ensures steady { result ≢ Err Device → reader.new.failed ≡ reader.old.failed }
+    ensures left { reader.new.left ≤ reader.old.turns }
+    ensures turns { reader.new.turns ≡ reader.old.turns }
+    ensures renamed { reader.new.renamed ≡ reader.old.renamed }
+{
+    let front = read_magic(alloc, reader)?;
+    let leading = reader.read_leading(alloc, unfinished_snapshot::<S>(), front)?;
+    let Leading {
+        value,
+        count,
+        behind,
+    } = leading;
+    let size = count.saturating_sub(behind.len());
+    let mut behind = behind;
+    hold_more(reader, &mut behind)?;
+    let (format, replica) = value;
+    let first = first_of(format, replica, size, behind.as_slice())?;
+    Ok((first, behind))
+}
+
+// What was read, where the rest is a torn end.
+fn ended<S: DotSet>(
+    replay: Replay<S>,
+    format: Format,
+    snapshot: u64,
+    rest: &[u8],
+) -> Result<Stored<S>, Refused>
+    requires value { IsSnapshot replay.replica }
+    requires file { (bytes : List ℕ) × IsFile bytes format snapshot replay.replica × (replay.whole ≡ length bytes) }
+    ensures stored { (bytes : List ℕ) → IsFile bytes format snapshot replay.replica
+        → replay.whole ≡ length bytes → IfOk result (λ s. IsStored (bytes ++ rest.now) s.kept s.layout) }
+    ensures value { IfOk result (λ s. IsSnapshot s.kept) }
+    ensures at { IfErr result (λ r. r.at ≡ replay.whole) }
+    ensures refused { IfErr result (λ r. RefusesEnd replay.whole rest.now r.fault) }
+{
+    let whole = replay.whole();
+    if !is_torn(rest) {
+        return Err(Refused {
+            fault: Fault::Bad,
+            at: whole,
+        });
+    }
+    let Some(length) = whole.checked_add(rest.len() as u64) else {
+        return Err(Refused {
+            fault: Fault::TooLong,
+            at: whole,
+        });
+    };
+    let Some(replica) = replay.into_replica() else {
+        unreachable!();
+    };
+    let layout = Layout {
+        format,
+        snapshot,
+        whole,
+        length,
+    };
+    Ok(Stored {
+        kept: Kept::new(replica),
+        layout,
+    })
+}
+
+// Reads the records behind a snapshot.
+fn read_behind<S: DotSet, R: Read>(
+    alloc: Global,
+    reader: &mut Counted<R>,
+    first: First<S>,
+    behind: Vec<u8>,
+) -> Result<Stored<S>, Refused>
+    requires first { IsFirst first.format first.replica first.length }
+    requires held { length behind.items ≤ MOST + HEAD → IsAtEnd (R.remaining reader.old.inner) }
+    ensures stored { IfOk result (λ s. IfSome (R.remaining reader.old.inner)
+        (λ input. IsStored (first_and first.format first.replica (behind.items ++ input)) s.kept s.layout)) }
+    ensures value { IfOk result (λ s. IsSnapshot s.kept) }
+    ensures end { OnOk result (IsAtEnd (R.remaining reader.new.inner)) }
+    ensures bound { OnOk result (ConsumesAtMost (R.remaining reader.old.inner) (R.remaining reader.new.inner)
+        (most_read (reader.old.left - reader.new.left))) }
+    ensures refused { IfErr result (λ r. IfSome (R.remaining reader.old.inner)
+        (λ input. RefusesBytes (first_and first.format first.replica (behind.items ++ input)) r.fault)) }
+    ensures at { IfErr result (λ r. IfSome (R.remaining reader.old.inner)
+        (λ input. AreWhole (first_and first.format first.replica (behind.items ++ input)) r.at)) }
+    ensures fault { IfErr result (λ r. (r.fault ≡ Device) ⊎ IsOtherFault r.fault) }
+    ensures counted { IfErr result (λ r. r.fault ≡ Device → HasFailed reader.old reader.new) }
+    ensures steady { MatchResult result (λ _. reader.new.failed ≡ reader.old.failed)
+        (λ r. r.fault ≢ Device → reader.new.failed ≡ reader.old.failed) }
+    ensures left { reader.new.left ≤ reader.old.left }
+    ensures turns { reader.new.turns ≡ reader.old.turns }
+    ensures renamed { reader.new.renamed ≡ reader.old.renamed }
+{
+    let First {
+        format,
+        replica,
+        length,
+    } = first;
+    let snapshot = length as u64;
+    let mut replay = Replay::of(replica, snapshot);
+    match replay.read_records(alloc, reader, behind) {
+        Ok(rest) => ended(replay, format, snapshot, &rest),
+        Err(fault) => Err(Refused {
+            fault,
+            at: replay.whole(),
+        }),
+    }
+}
+
+/// Reads all that the reader holds: a snapshot in either format, the records of changes behind it, and a torn end. Of all
+/// that it holds no more than the replica, a part of the snapshot or some records, and in format 2 the table of its keys.
+///
+/// Refuses `Cut` where the bytes end inside of the snapshot, `TooLong` where that is above the limit, and `Bad` where they
+/// are no file, as soon as that is known: of those whose first four bytes are those of no format no more than these
+/// are read. A read that fails, and more reads than the reader's bound of turns, are `Device`.
+pub fn read_stored<S: DotSet, R: Read>(
+    alloc: Global,
+    reader: &mut Counted<R>,
+) -> Result<Stored<S>, Refused>
+    ensures stored { IfOk result (λ s. IfSome (R.remaining reader.old.inner) (λ input. IsStored input s.kept s.layout)) }
+    ensures value { IfOk result (λ s. IsSnapshot s.kept) }
+    ensures end { OnOk result (IsAtEnd (R.remaining reader.new.inner)) }
+    ensures bound { OnOk result (ConsumesAtMost (R.remaining reader.old.inner) (R.remaining reader.new.inner)
+        (most_read reader.old.turns)) }
+    ensures refused { IfErr result (λ r. IfSome (R.remaining reader.old.inner) (λ input. RefusesBytes input r.fault)) }
+    ensures at { IfErr result (λ r. IfSome (R.remaining reader.old.inner) (λ input. AreWhole input r.at)) }
+    ensures foreign { IfSome (R.remaining reader.old.inner) (λ input. IsForeign input
+        → ConsumesAtMost (R.remaining reader.old.inner) (R.remaining reader.new.inner) 4) }
+    ensures fault { IfErr result (λ r. (r.fault ≡ Device) ⊎ IsOtherFault r.fault) }
+    ensures counted { IfErr result (λ r. r.fault ≡ Device → HasFailed reader.old reader.new) }
+    ensures steady { MatchResult result (λ _. reader.new.failed ≡ reader.old.failed)
+        (λ r. r.fault ≢ Device → reader.new.failed ≡ reader.old.failed) }
+    ensures turns { reader.new.turns ≡ reader.old.turns }
+    ensures renamed { reader.new.renamed ≡ reader.old.renamed }
+{
+    match read_first(alloc, reader) {
+        Ok((first, behind)) => read_behind(alloc, reader, first, behind),
+        Err(fault) => Err(Refused { fault, at: 0 }),
+    }
+}
+
+// The snapshot that bytes begin with, and those behind it.
+fn decode_first<S: DotSet>(alloc: Global, bytes: &[u8]) -> Result<(First<S>, &[u8]), Fault>
+    ensures parts { IfOk result (λ x. bytes.now ≡ first_and x.0.format x.0.replica x.1.now) }
+    ensures first { IfOk result (λ x. IsFirst x.0.format x.0.replica x.0.length) }
+    ensures refused { IfErr result (RefusesBytes bytes.now) }
+    ensures fault { IfErr result IsOtherFault }
+{
+    hold_bytes(bytes);
+    let (value, rest) = decode_leading(alloc, unfinished_snapshot::<S>(), bytes)?;
+    let (format, replica) = value;
+    let size = bytes.len().saturating_sub(rest.len());
+    let first = first_of(format, replica, size, rest)?;
+    Ok((first, rest))
+}
+
+// The records behind a snapshot.
+fn decode_behind<S: DotSet>(
+    alloc: Global,
+    first: First<S>,
+    behind: &[u8],
+) -> Result<Stored<S>, Refused>
+    requires first { IsFirst first.format first.replica first.length }
+    ensures stored { IfOk result (λ s. IsStored (first_and first.format first.replica behind.now) s.kept s.layout) }
+    ensures value { IfOk result (λ s. IsSnapshot s.kept) }
+    ensures refused { IfErr result (λ r. RefusesBytes (first_and first.format first.replica behind.now) r.fault) }
+    ensures at { IfErr result (λ r. AreWhole (first_and first.format first.replica behind.now) r.at) }
+    ensures fault { IfErr result (λ r. IsOtherFault r.fault) }
+{
+    let First {
+        format,
+        replica,
+        length,
+    } = first;
+    let snapshot = length as u64;
+    let mut replay = Replay::of(replica, snapshot);
+    match replay.take_records(alloc, behind) {
+        Ok(rest) => ended(replay, format, snapshot, rest),
+        Err(fault) => Err(Refused {
+            fault,
+            at: replay.whole(),
+        }),
+    }
+}
+
+/// The replica whose file the bytes are, and where the parts of the file stand. Refuses as `read_stored` does.
+pub fn decode_stored<S: DotSet>(alloc: Global, bytes: &[u8]) -> Result<Stored<S>, Refused>
+    ensures stored { IfOk result (λ s. IsStored bytes.now s.kept s.layout) }
+    ensures value { IfOk result (λ s. IsSnapshot s.kept) }
+    ensures refused { IfErr result (λ r. RefusesBytes bytes.now r.fault) }
+    ensures at { IfErr result (λ r. AreWhole bytes.now r.at) }
+    ensures fault { IfErr result (λ r. IsOtherFault r.fault) }
+{
+    match decode_first(alloc, bytes) {
+        Ok((first, behind)) => decode_behind(alloc, first, behind),
+        Err(fault) => Err(Refused { fault, at: 0 }),
+    }
+}
