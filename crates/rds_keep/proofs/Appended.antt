@@ -1,18 +1,20 @@
 -- A change of a kept replica that is put behind the others.
-use Rattle.std.proofs.Common.{◌≡◌, ℕ, ◌+◌, ◌<◌, ◌≤◌, List, [], ◌∷◌, ◌++◌, length, take, Option, Some, None, refl, sym, ap, ◌∙◌, subst, arith, append_assoc, append-nil}
+use Rattle.std.proofs.Common.{◌≡◌, ℕ, ◌+◌, ◌<◌, ◌≤◌, true, false, List, [], ◌∷◌, ◌++◌, length, take, Option, Some, None, refl, sym, ap, ◌∙◌, subst, arith, append_assoc, append-nil}
+use Rattle.std.specs.Prelude.{IfSome, is_some, option_map}
 use Rattle.std.proofs.lemmas.List.{length-append, take_at}
 use Rattle.rds_names.specs.Roster.{RosterValue, Begins}
 use Rattle.rds_bytes.specs.Values.{IsMember}
 use Rattle.rds_codec.specs.FormatTexts.{snapshot_text_in}
 use Rattle.rds_codec.specs.StateTexts.{IsStateOf}
 use Rattle.rds_codec.specs.declared.formats.Format.{Format}
-use Rattle.rds_life.specs.Life.{Agree, AreCompatible as AreAlike, Dead, Life, Live, join_life}
+use Rattle.rds_dots.specs.declared.dot.Dot.{Dot}
+use Rattle.rds_life.specs.Life.{Agree, AreCompatible as AreAlike, Conflicts, Dead, Life, Live, Lived, join_life}
 use Rattle.rds_state.specs.Coordinates.{AreCompatible, Coordinates}
 use Rattle.rds_state.specs.Fits.{Fits, ReplicaValue}
 use Rattle.rds_state.specs.Value.{StateValue, coordinates}
 use Rattle.rds_journal.specs.Appending.{IsEnd, appended}
 use Rattle.rds_journal.specs.Records.{IsPayload, record_text}
-use Rattle.rds_keep.specs.Changed.{ChangedValue, IsRecordOf, with_record}
+use Rattle.rds_keep.specs.Changed.{ChangedValue, IsRecordOf, IsSeen, with_record}
 use Rattle.rds_keep.specs.Changes.{ChangeValue, IsChanged, IsRedone, change_text, roster_after}
 use Rattle.rds_keep.specs.Kept.{IsFile, IsKept, IsStored, records_text}
 use Rattle.rds_keep.specs.declared.layout.Layout.{Layout}
@@ -70,7 +72,7 @@ file_more bytes format count c file is =
 
 pub stored_more : (file : List ℕ) (layout : Layout) (c : ChangedValue) → IsStored file c.before layout → IsRecordOf c → IsStored (appended file layout.whole c.bytes) c.after (with_record layout (length c.bytes))
 stored_more file layout c stored is =
-    let front : take layout.whole file ≡ stored.whole = ap (take layout.whole) stored.parts ∙ take_at stored.whole stored.torn layout.whole stored.size in
+    let front : take layout.whole file ≡ stored.whole = ap (take layout.whole) stored.parts ∙ take_at stored.whole stored.torn layout.whole (sym stored.size) in
     let size = stored.size in
     let all : length (take layout.whole file ++ c.bytes) ≡ layout.whole + length c.bytes = omega (arith, size, ap length front, length-append (take layout.whole file) c.bytes) in
     record {
@@ -98,3 +100,24 @@ end_of file v layout stored =
     let parts = ap length stored.parts in
     let lengths = length-append stored.whole stored.torn in
     (omega (arith, size, all, parts, lengths), λ none. omega (arith, size, all, parts, lengths, none))
+
+-- what is seen then
+pub appended_seen : (old new : Option (List ℕ)) (c : ChangedValue) (layout : Layout) → IfSome old (λ file. IsStored file c.before layout) → new ≡ option_map (λ file. appended file layout.whole c.bytes) old → IsRecordOf c
+    → IfSome old (λ _. IsSeen new c.after (with_record layout (length c.bytes)))
+appended_seen None new c layout stored same is = tt
+appended_seen (Some file) new c layout stored same is = (appended file layout.whole c.bytes, same, stored_more file layout c stored is)
+
+no_conflict : (a b : Lived) (found : Option Dot) → is_some found ≡ false → Conflicts a b found → AreAlike a b
+no_conflict a b None none is = is
+no_conflict a b (Some d) none is = absurd (let no : true ≡ false = none in cc)
+
+-- the record of a change, and why it can be read again
+pub is_record : (before after : ReplicaValue) (c : ChangeValue) (bytes : List ℕ) (found : Option Dot) → IsChanged before c after → is_some found ≡ false → Conflicts after.state.lives c.delta.lives found → ((n : ℕ) → Fits n (coordinates c.delta) → IsStateOf n c.delta)
+    → (after.own < length after.roster.names → IsMember after.roster after.own) → after.own < length after.roster.names → bytes ≡ record_text (change_text after.own c) → IsPayload (change_text after.own c)
+    → IsRecordOf (record { before = before; after = after; bytes = bytes })
+is_record before after c bytes found changed none conflicts delta member below text short = record {
+  change = c;
+  redone = redone_by before c after changed (no_conflict after.state.lives c.delta.lives found none conflicts) delta member below;
+  payload = subst (λ (n : ℕ). IsPayload (change_text n c)) changed.own short;
+  bytes = text ∙ ap (λ (n : ℕ). record_text (change_text n c)) changed.own;
+}

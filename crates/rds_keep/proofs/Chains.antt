@@ -1,7 +1,6 @@
 -- Changes that were made one after the other, and the records of them.
 use Rattle.std.proofs.Common.{◌≡◌, ℕ, ◌+◌, ◌<◌, ◌≤◌, List, [], ◌∷◌, ◌++◌, length, map, drop, Option, Some, None, Ok, refl, sym, ap, ◌∙◌, subst, arith, append_assoc, append-nil}
-use Rattle.std.proofs.lemmas.List.{length-append}
-use Rattle.std.proofs.lemmas.Grind.{map-append}
+use Rattle.std.proofs.lemmas.List.{length-append, map-append}
 use Rattle.rds_names.specs.Roster.{RosterValue, Begins}
 use Rattle.rds_bytes.proofs.Format.{ok_is}
 use Rattle.rds_bytes.specs.Values.{IsMember}

@@ -1,21 +1,21 @@
 -- The text of a change, read again.
-use Rattle.std.proofs.Common.{◌≡◌, ℕ, ◌+◌, ◌≤◌, inl, inr, List, [], ◌∷◌, ◌++◌, length, Option, Some, None, Result, Ok, Err, refl, sym, ap, ◌∙◌, subst, arith, append-nil}
+use Rattle.std.proofs.Common.{◌≡◌, ℕ, ◌+◌, ◌≤◌, ◌⊎◌, inl, inr, List, [], ◌∷◌, ◌++◌, length, Option, Some, None, Result, Ok, Err, refl, sym, ap, ◌∙◌, subst, arith, append-nil}
 use Rattle.std.proofs.lemmas.List.{length-append}
 use Rattle.rds_names.specs.declared.fault.Fault.{Fault}
 use Rattle.rds_names.specs.declared.fault.Fault.TheVariants.{Memory}
 use Rattle.rds_names.specs.Roster.{RosterValue, Begins}
-use Rattle.rds_bytes.specs.Reading.{byte_at, member_at}
+use Rattle.rds_bytes.specs.Reading.{Fails, byte_at, member_at}
 use Rattle.rds_bytes.specs.Spelling.{member_text}
 use Rattle.rds_bytes.specs.Values.{IsMember}
 use Rattle.rds_bytes.proofs.Format.{IsBytes, byte_format, err_is, ok_is}
 use Rattle.rds_bytes.proofs.PartFormats.{IsMemberPair, member_format}
-use Rattle.rds_codec.specs.Decoding.{Decodes, IsTextOf}
+use Rattle.rds_codec.specs.Decoding.{IsTextOf, ReadsAll, all_of}
 use Rattle.rds_codec.specs.Kinds.{Kind, state_kind}
-use Rattle.rds_codec.specs.StateTexts.{IsStateOf, state_text}
+use Rattle.rds_codec.specs.StateTexts.{IsStateOf, state_at, state_text}
 use Rattle.rds_codec.specs.declared.limits.TheConstants.{LIMIT}
 use Rattle.rds_codec.specs.declared.formats.Format.TheVariants.{Two}
 use Rattle.rds_codec.proofs.InFormats.{state_in_reader}
-use Rattle.rds_codec.proofs.Whole.{stand_apart}
+use Rattle.rds_codec.proofs.Whole.{fails_is, stand_apart, text_again}
 use Rattle.rds_state.specs.Value.{StateValue}
 use Rattle.rds_keep.specs.Changes.{ChangeValue, IsChangeFor, change_kind, change_text}
 use Rattle.rds_keep.specs.ReadChanges.{IsNoText}
@@ -31,18 +31,19 @@ tail_of (b ∷ bytes) = bytes
 abbrev with_delta : Option RosterValue → StateValue → ChangeValue
 with_delta roster delta = record { roster = roster; delta = delta }
 
--- bytes that are refused so are no value's text
-pub refused_text : {V : Type 0} (kind : Kind V) (bytes : List ℕ) (e : Fault) → Decodes kind bytes (Err e) → length bytes ≤ LIMIT → (e ≡ Memory → ⊥) → (v : V) → IsTextOf kind bytes v → ⊥
-refused_text {V} kind bytes e decoded within not v is = elim (decoded.found v within is) [
-  | inl ok ↦ absurd cc
-  | inr memory ↦ not (err_is {A = V} e Memory memory)
+-- what reading a state refuses so is none's text, unless memory ran out
+pub refused_state : (n : ℕ) (bytes : List ℕ) (e : Fault) → ReadsAll (state_at n) bytes (Err e) → length bytes ≤ LIMIT → (e ≡ Memory) ⊎ ((d : StateValue) → IsTextOf (state_kind n) bytes d → ⊥)
+refused_state n bytes e reads within = elim (fails_is e (all_of (state_at n) bytes) (reads within)) [
+  | inl memory ↦ inl memory
+  | inr is ↦ inr (λ d has.
+      (let short : length (state_text d) ≤ LIMIT = subst (λ (t : List ℕ). length t ≤ LIMIT) has.spelled within in
+      let again : all_of (state_at n) bytes ≡ Ok d = ap (all_of (state_at n)) has.spelled ∙ text_again (state_kind n) (state_at n) (state_in_reader Two n) d has.is_value short in
+      absurd (let both = sym is ∙ again in cc)))
 ]
 
 pub byte_is : (bytes rest : List ℕ) (b : ℕ) → byte_at bytes ≡ Ok (b, rest) → bytes ≡ b ∷ rest
 byte_is [] rest b e = absurd cc
-byte_is (x ∷ xs) rest b e =
-    let same = ok_is (x, xs) (b, rest) e in
-    cc
+byte_is (x ∷ xs) rest b e = ap (λ (p : ℕ × List ℕ). p.0 ∷ p.1) (ok_is (x, xs) (b, rest) e)
 
 pub no_byte : (bytes : List ℕ) (e : Fault) → byte_at bytes ≡ Err e → bytes ≡ []
 no_byte [] e is = refl
@@ -98,8 +99,11 @@ module _ (old : RosterValue) (own : ℕ) where
   none_grown : (bytes : List ℕ) → ((r : RosterValue) (d : StateValue) → Has (2 ∷ bytes) (with_delta (Some r) d) → ⊥) → IsNoText (change_kind old own) (2 ∷ bytes)
   none_grown bytes none c has = grown_by bytes none c.roster c.delta has
 
-  pub no_member : (bytes : List ℕ) (e : Fault) → member_at bytes ≡ Err e → IsNoText (change_kind old own) (2 ∷ bytes)
+  no_member : (bytes : List ℕ) (e : Fault) → member_at bytes ≡ Err e → IsNoText (change_kind old own) (2 ∷ bytes)
   no_member bytes e is = none_grown bytes (λ r d has. absurd (let both = sym is ∙ member_there bytes r d has in cc))
+
+  pub member_refused : (bytes : List ℕ) (e : Fault) → Fails e (member_at bytes) → (e ≡ Memory) ⊎ IsNoText (change_kind old own) (2 ∷ bytes)
+  member_refused bytes e fails = elim (fails_is e (member_at bytes) fails) [ inl memory ↦ inl memory | inr is ↦ inr (no_member bytes e is) ]
 
   abbrev found : RosterValue → ℕ → List ℕ → Result ((RosterValue × ℕ) × List ℕ) Fault
   found r number rest = Ok ((r, number), rest)
@@ -119,6 +123,15 @@ module _ (old : RosterValue) (own : ℕ) where
   no_delta bytes rest r number e none = none_grown bytes (λ s d has.
       (let same = same_member bytes rest r s number d e has in
       none d (record { is_value = subst (λ (x : RosterValue). IsStateOf (length x.names) d) same.0.0 has.is_value.delta; spelled = same.1 })))
+
+  pub delta_refused : (bytes rest : List ℕ) (r : RosterValue) (number : ℕ) (e : Fault) → IsBytes bytes → member_at bytes ≡ Ok ((r, number), rest) → length bytes ≤ LIMIT → ReadsAll (state_at (length r.names)) rest (Err e)
+      → (e ≡ Memory) ⊎ IsNoText (change_kind old own) (2 ∷ bytes)
+  delta_refused bytes rest r number e fits is within reads =
+      let parts = (member_format.takes bytes ((r, number), rest) fits is).0.parts in
+      elim (refused_state (length r.names) rest e reads (omega (arith, within, ap length parts, length-append (member_text r number) rest))) [
+        | inl memory ↦ inl memory
+        | inr none ↦ inr (no_delta bytes rest r number is none)
+      ]
 
   -- ---- another first byte
 
@@ -163,8 +176,8 @@ module _ (old : RosterValue) (own : ℕ) where
   changes_by : (a b : Option RosterValue) (d e : StateValue) → IsChangeFor old own (with_delta a d) → IsChangeFor old own (with_delta b e)
       → change_text own (with_delta a d) ≡ change_text own (with_delta b e) → length (change_text own (with_delta a d)) ≤ LIMIT → with_delta a d ≡ with_delta b e
   changes_by None None d e p q same within = ap (with_delta None) (alone_same d e p.delta q.delta (ap tail_of same) (omega (arith, within)))
-  changes_by None (Some s) d e p q same within = (let wrong : 1 ≡ 2 = ap head_of same in omega (arith, wrong))
-  changes_by (Some r) None d e p q same within = (let wrong : 2 ≡ 1 = ap head_of same in omega (arith, wrong))
+  changes_by None (Some s) d e p q same within = (let wrong : 1 ≡ 2 = ap head_of same in absurd (omega (arith, wrong)))
+  changes_by (Some r) None d e p q same within = (let wrong : 2 ≡ 1 = ap head_of same in absurd (omega (arith, wrong)))
   changes_by (Some r) (Some s) d e p q same within = grown_same r s d e p q (ap tail_of same) (omega (arith, within, length-append (member_text r own) (state_text d)))
 
   pub same_change : (c d : ChangeValue) → IsChangeFor old own c → IsChangeFor old own d → change_text own c ≡ change_text own d → length (change_text own c) ≤ LIMIT → c ≡ d

@@ -86,7 +86,7 @@ taken_whole format first count now bytes rest is taken some =
     let parts = taken_parts format first count now bytes rest taken in
     let text = taken_text format first taken.changes in
     let size : now.whole ≡ length text = file.1 in
-    let front : take now.whole (first_and format first bytes) ≡ text = ap (take now.whole) parts ∙ take_at text rest now.whole size in (
+    let front : take now.whole (first_and format first bytes) ≡ text = ap (take now.whole) parts ∙ take_at text rest now.whole (sym size) in (
       omega (arith, size, ap length parts, length-append text rest),
       (format, count, now.replica, subst (λ (t : List ℕ). IsFile t format count now.replica) (sym front) file.0),
     )
@@ -167,22 +167,17 @@ nothing_torn = record { short = omega arith; few = omega arith; none = none_begu
     none_begun zero begins = no_text begins.0 begins.1 begins.3
     none_begun (suc k) begins = no_text begins.0 begins.1 begins.3
 
+pub file_kept : (format : Format) (count : ℕ) (v : ReplicaValue) (bytes : List ℕ) → IsFile bytes format count v → IsKept v
+file_kept format count v bytes file = record {
+  bytes = bytes;
+  layout = record { format = format; snapshot = count; whole = length bytes; length = length bytes };
+  stored = record { whole = bytes; torn = []; parts = sym (append-nil bytes); file = file; end = nothing_torn; size = refl; all = refl };
+}
+
 pub snapshot_kept : (format : Format) (v : ReplicaValue) → IsSnapshot v → length (snapshot_text_in format v) ≤ LIMIT → IsKept v
 snapshot_kept format v is within =
     let text = snapshot_text_in format v in
-    record {
-      bytes = text;
-      layout = record { format = format; snapshot = length text; whole = length text; length = length text };
-      stored = record {
-        whole = text;
-        torn = [];
-        parts = sym (append-nil text);
-        file = record { first = v; changes = []; parts = sym (append-nil text); value = is; within = within; made = refl; size = refl };
-        end = nothing_torn;
-        size = refl;
-        all = refl;
-      };
-    }
+    file_kept format (length text) v text (record { first = v; changes = []; parts = sym (append-nil text); value = is; within = within; made = refl; size = refl })
 
 -- what has a text is a replica
 pub is_replica : (v : ReplicaValue) → IsSnapshot v → IsReplica v

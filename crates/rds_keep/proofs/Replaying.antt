@@ -7,17 +7,69 @@ use Rattle.std.proofs.KnownBytes.{Consumes-nil, Consumes-trans, starts_with_rest
 use Rattle.std.proofs.lemmas.List.{length-append, take-append-le, take_at}
 use Rattle.rds_names.specs.declared.fault.Fault.{Fault}
 use Rattle.rds_names.specs.declared.fault.Fault.TheVariants.{Memory, Bad, Device, TooLong}
+use Rattle.rds_names.specs.Roster.{Begins, RosterValue}
 use Rattle.rds_bytes.specs.Values.{IsMember}
-use Rattle.rds_state.specs.Fits.{ReplicaValue}
+use Rattle.rds_codec.specs.Decoding.{IsTextOf}
+use Rattle.rds_codec.specs.declared.limits.TheConstants.{LIMIT}
+use Rattle.rds_codec.proofs.Replicas.{state_fits}
+use Rattle.rds_state.specs.Coordinates.{AreCompatible, join}
+use Rattle.rds_state.specs.Fits.{Fits, ReplicaValue}
+use Rattle.rds_state.specs.Value.{coordinates}
 use Rattle.rds_journal.specs.Records.{IsBegun, IsPayload, IsTorn, record_text}
 use Rattle.rds_journal.specs.declared.records.TheConstants.{MOST, HEAD}
 use Rattle.rds_journal.proofs.Format.{length_record}
-use Rattle.rds_keep.specs.Changes.{ChangeValue, IsRedone, change_text}
+use Rattle.rds_keep.specs.Changes.{ChangeValue, change_kind, change_text, roster_after}
 use Rattle.rds_keep.specs.Counted.{CountedValue, most_read}
 use Rattle.rds_keep.specs.Kept.{AreMade, EndsAs, records_text}
 use Rattle.rds_keep.specs.Parts.{ConsumesAtMost}
+use Rattle.rds_keep.specs.ReadChanges.{HasNoText}
 use Rattle.rds_keep.specs.Replay.{HoldsMore, ReadsRecords, Redoes, RefusesPayload, RefusesRest, ReplayValue, StopsAtRecord, StopsReading, TakesRecords}
-use Rattle.rds_keep.proofs.Chains.{all_members, ends_after, ends_nowhere, ends_torn, made_more, own_stays, records_more}
+use Rattle.rds_keep.proofs.ChangeTexts.{same_change}
+use Rattle.rds_keep.proofs.Chains.{all_members, ends_nowhere, made_more, own_stays, records_more}
+
+-- ---- one change
+
+same_redone : (old : ReplicaValue) (payload : List ℕ) (c : ChangeValue) (new : ReplicaValue) → IsPayload payload → IsTextOf (change_kind old.roster old.own) payload c → (redoes : Redoes old payload new) → c ≡ redoes.0
+same_redone old payload c new short is redoes =
+    let within : length (change_text old.own c) ≤ LIMIT = subst (λ (t : List ℕ). length t ≤ LIMIT) is.spelled (omega (arith, short)) in
+    same_change old.roster old.own c redoes.0 is.is_value redoes.2.change (sym is.spelled ∙ redoes.1) within
+
+-- a dot would have two entries
+pub unjoined : (old : ReplicaValue) (payload : List ℕ) (c : ChangeValue) (e : Fault) → IsPayload payload → IsTextOf (change_kind old.roster old.own) payload c
+    → (e ≡ Memory) ⊎ ((e ≡ Bad) × ¬ (AreCompatible (coordinates old.state) (coordinates c.delta))) → RefusesPayload old payload e
+unjoined old payload c e short is why = elim why [
+  | inl memory ↦ inl memory
+  | inr bad ↦ inr (
+    bad.0,
+    λ new redoes.
+        bad.1 (subst (λ (d : ChangeValue). AreCompatible (coordinates old.state) (coordinates d.delta)) (sym (same_redone old payload c new short is redoes)) redoes.2.compatible),
+  )
+]
+
+-- no change has this text
+pub undecoded : (old : ReplicaValue) (payload : List ℕ) (e : Fault) → HasNoText (change_kind old.roster old.own) payload e → RefusesPayload old payload e
+undecoded old payload e why = elim why [
+  | inl memory ↦ inl memory
+  | inr bad ↦ inr (bad.0, λ new redoes. bad.1 redoes.0 (record { is_value = redoes.2.change; spelled = redoes.1 }))
+]
+
+pub redone : (old : ReplicaValue) (payload : List ℕ) (c : ChangeValue) (new : ReplicaValue) → IsTextOf (change_kind old.roster old.own) payload c → new.roster ≡ roster_after old.roster c.roster → new.own ≡ old.own
+    → coordinates new.state ≡ join (coordinates old.state) (coordinates c.delta) → AreCompatible (coordinates old.state) (coordinates c.delta) → Redoes old payload new
+redone old payload c new is roster own joined compatible = (
+  c,
+  is.spelled,
+  record {
+    change = is.is_value;
+    changed = record {
+      roster = roster;
+      begins = subst (λ (r : RosterValue). Begins old.roster r) (sym roster) is.is_value.begins;
+      own = own;
+      joined = joined;
+      fits = subst (λ (r : RosterValue). Fits (length r.names) (coordinates c.delta)) (sym roster) (state_fits (length (roster_after old.roster c.roster).names) c.delta is.is_value.delta);
+    };
+    compatible = compatible;
+  },
+)
 
 -- ---- one after the other
 

@@ -104,3 +104,9 @@ pub returns-clause-foreign : goal.returns-clause-foreign
 returns-clause-foreign g c =
     never_foreign (ConsumesAtMost (g.R.Read.remaining c.args.reader.now.inner) (g.R.Read.remaining c.read_fed.new.reader.inner) 4) (g.R.Read.remaining c.args.reader.now.inner)
     (g.R.Read.remaining c.read_magic.new.reader.inner) c.in_ok-front.front.items c.in_ok-front.ensures.magic c.in_ok-front.ensures.bytes
+
+pub returns-clause-value : goal.returns-clause-value
+returns-clause-value g c =
+    let stands = rw c.as_slice.ensures.value at (c.in_ok-feed.ensures.adds snapshot_in_at [] c.snapshot.ensures) in
+    let text = c.in_ok-_format.ensures.value Two 0 c.in_ok-front.front.items stands in
+    rw c.new.ensures text.is_value

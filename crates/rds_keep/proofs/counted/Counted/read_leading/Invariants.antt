@@ -1,4 +1,4 @@
-use Rattle.rds_keep.proofs.Leading.{IsLedSoFar}
+use Rattle.rds_keep.proofs.LedSoFar.{IsLedSoFar}
 use Rattle.rds_keep.proofs.counted.Counted.read_leading.Given as goal
 
 abbrev pub invariant-reading : goal.invariant-reading

@@ -4,7 +4,7 @@ use Rattle.std.specs.Prelude.{IfSome}
 use Rattle.std.specs.Io.{StartsWith, appended_bytes}
 use Rattle.std.specs.Io.KnownBytes.{Consumes, IsAtEnd}
 use Rattle.std.proofs.KnownBytes.{Consumes-nil, Consumes-trans, starts_with_rest}
-use Rattle.std.proofs.lemmas.List.{length-append}
+use Rattle.std.proofs.lemmas.List.{get_or-drop, length-append}
 use Rattle.rds_names.specs.declared.fault.Fault.{Fault}
 use Rattle.rds_names.specs.declared.fault.Fault.TheVariants.{Memory, Cut, Bad, TooLong, Device}
 use Rattle.rds_bytes.specs.Reading.{Reader}
@@ -13,6 +13,8 @@ use Rattle.rds_feeds.specs.declared.unfinished.Progress.{Progress}
 use Rattle.rds_feeds.specs.declared.unfinished.Progress.TheVariants.{More, Whole}
 use Rattle.rds_feeds.specs.Pieces.{ReadsOn}
 use Rattle.rds_keep.specs.Counted.{CountedValue, most_read}
+use Rattle.rds_keep.specs.Feeding.{AreBytes}
+use Rattle.rds_keep.proofs.FeedSteps.{bytes-append}
 use Rattle.rds_keep.specs.Leading.{Leads, RefusesFront, RefusesStep}
 
 module _ {R U V : Type 0} (remaining : R → Option (List ℕ)) (finish : U → Reader V) where
@@ -22,6 +24,7 @@ module _ {R U V : Type 0} (remaining : R → Option (List ℕ)) (finish : U → 
     pub consumed : Consumes (remaining first.inner) (remaining now.inner) given
     pub same : (more : List ℕ) → finish begun (front ++ (given ++ more)) ≡ finish unfinished (held ++ more)
     pub size : count ≡ length front + length given
+    pub bytes : AreBytes (front ++ given)
     pub spent : length given ≤ most_read (first.left - now.left)
     pub steady : now.failed ≡ first.failed
     pub left : now.left ≤ first.left
@@ -50,12 +53,18 @@ module _ {U V : Type 0} (finish : U → Reader V) where
       ∙ led (appended_bytes rest held ++ more)
       ∙ ap (finish u) (sym (append_assoc rest (appended_bytes rest held) more) ∙ ap (λ (t : List ℕ). t ++ more) (sym (starts_with_rest held rest kept)))
 
+  -- they are bytes
+  pub more_bytes : (front given rest held : List ℕ) → StartsWith held rest → AreBytes (front ++ given) → AreBytes held → AreBytes (front ++ (given ++ appended_bytes rest held))
+  more_bytes front given rest held kept first bytes =
+      let later : AreBytes (appended_bytes rest held) = λ i. (rw get_or-drop (bytes (length rest + i))) in
+      subst AreBytes (append_assoc front given (appended_bytes rest held)) (bytes-append finish (front ++ given) (appended_bytes rest held) first later)
+
   -- the value is whole
   pub leads : (begun u : U) (front given held rest : List ℕ) (before after : Option (List ℕ)) (count : ℕ) (p : Progress U V) (v : V) → p ≡ Whole v → Led begun front given u held → Consumes before after given
-      → count ≡ length front + length given → ReadsOn finish (λ more. finish u (held ++ more)) p rest → Leads (finish begun) front before after v count rest
-  leads begun u front given held rest before after count p v is led consumed size reads =
+      → count ≡ length front + length given → AreBytes (front ++ given) → ReadsOn finish (λ more. finish u (held ++ more)) p rest → Leads (finish begun) front before after v count rest
+  leads begun u front given held rest before after count p v is led consumed size bytes reads =
       let on : ReadsOn finish (λ more. finish u (held ++ more)) (Whole v) rest = subst (λ (q : Progress U V). ReadsOn finish (λ more. finish u (held ++ more)) q rest) is reads in
-      record { given = given; consumed = consumed; whole = λ more. led more ∙ on more; size = size }
+      record { given = given; consumed = consumed; whole = λ more. led more ∙ on more; size = size; bytes = bytes }
 
   -- ---- why there is none
 
@@ -105,3 +114,19 @@ module _ {U V : Type 0} (finish : U → Reader V) where
   pub failed : (begun : U) (front : List ℕ) (before : Option (List ℕ)) (e : Fault) → (e ≡ Device) → IfSome before (λ input. RefusesFront (finish begun) (front ++ input) e)
   failed begun front None e device = tt
   failed begun front (Some xs) e device = rw device tt
+
+  -- ---- bytes that are there
+
+  pub step_front : (u : U) (bytes : List ℕ) (e : Fault) → RefusesStep (λ more. finish u (bytes ++ more)) e → RefusesFront (finish u) bytes e
+  step_front u bytes e (inl memory) = rw memory tt
+  step_front u bytes e (inr bad) = rw (bad.0) (let is = bad.1 in (is.0, ap (finish u) (sym (append-nil bytes)) ∙ is.1 []))
+
+  pub step_short : (u next : U) (bytes rest : List ℕ) (p : Progress U V) → p ≡ More next → ReadsOn finish (λ more. finish u (bytes ++ more)) p rest → finish u bytes ≡ Err Cut
+  step_short u next bytes rest p is reads =
+      let on : ReadsOn finish (λ more. finish u (bytes ++ more)) (More next) rest = subst (λ (q : Progress U V). ReadsOn finish (λ more. finish u (bytes ++ more)) q rest) is reads in
+      ap (finish u) (sym (append-nil bytes)) ∙ on.0 [] ∙ ap (finish next) (append-nil rest) ∙ on.1
+
+  pub step_whole : (u : U) (bytes rest : List ℕ) (p : Progress U V) (v : V) → p ≡ Whole v → ReadsOn finish (λ more. finish u (bytes ++ more)) p rest → (more : List ℕ) → finish u (bytes ++ more) ≡ Ok (v, rest ++ more)
+  step_whole u bytes rest p v is reads =
+      let on : ReadsOn finish (λ more. finish u (bytes ++ more)) (Whole v) rest = subst (λ (q : Progress U V). ReadsOn finish (λ more. finish u (bytes ++ more)) q rest) is reads in
+      on
