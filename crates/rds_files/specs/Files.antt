@@ -48,9 +48,12 @@ abbrev pub format_back : (f : Format) → format_if (is_two f) ≡ f
 format_back One = refl
 format_back Two = refl
 
+abbrev pub coded_format : Coded Format
+coded_format = code_by Bool coded_bool is_two format_if format_back
+
 abbrev pub coded_layout : Coded Layout
 coded_layout =
-    code_by (Format × (ℕ × (ℕ × ℕ))) (coded× (code_by Bool coded_bool is_two format_if format_back) (coded× coded_ℕ (coded× coded_ℕ coded_ℕ)))
+    code_by (Format × (ℕ × (ℕ × ℕ))) (coded× coded_format (coded× coded_ℕ (coded× coded_ℕ coded_ℕ)))
     (λ l. (l.format, (l.snapshot, (l.whole, l.length))))
     (λ p. record { format = p.0; snapshot = p.1.0; whole = p.1.1.0; length = p.1.1.1 }) (λ _. refl)
 

@@ -18,8 +18,8 @@ use std::{fs, io};
 /// How many bytes of records a file may have, however short its snapshot is.
 const LEAST: u64 = 65_536;
 
-/// Whether one more record of so many bytes is worth its place: the snapshot is of format 2, and the records are then no
-/// longer than it, or than 64 kB.
+/// Whether one more record of so many bytes is worth its place: the snapshot is of format 2, and the records are then
+/// no longer than it, or than 64 kB.
 pub fn takes_record(layout: &Layout, count: usize) -> bool {
     let records = layout.whole.saturating_sub(layout.snapshot);
     let most = layout.snapshot.max(LEAST);

@@ -73,7 +73,8 @@ pub struct Renewed<S: DotSet> {
 }
 
 /// Keeps the replica in the file of this path in place of what it holds, as `keep_over` does, and holds that file from
-/// then on: FILE.new is locked before it takes FILE's place, and is the file where it has done that, whatever the answer.
+/// then on: FILE.new is locked before it takes FILE's place, and is the file where it has done that, whatever the
+/// answer.
 pub fn renew<H: Disk, S: DotSet>(
     rt: &H,
     replica: &Replica<S>,

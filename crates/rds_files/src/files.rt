@@ -55,9 +55,9 @@ impl<'a> FilePath<'a> {
         self.path
     }
 
-    /// Reads the file as it is now, and counts that. It takes no lock: what another command is about to append is a torn
-    /// end until it is whole. Refuses `Device` where it can't be opened or read, and else as `read_stored` does, where it
-    /// holds no replica. A full count stays.
+    /// Reads the file as it is now, and counts that. It takes no lock: what another command is about to append is a
+    /// torn end until it is whole. Refuses `Device` where it can't be opened or read, and else as `read_stored` does,
+    /// where it holds no replica. A full count stays.
     pub fn read<H: Disk, S: DotSet>(&mut self, rt: &H) -> Result<ReplicaFile<'a, S>, Fault>
         ensures read { IfOk result (IsReadBy self.old) }
         ensures counted { self.new ≡ read_more self.old }
@@ -367,12 +367,12 @@ where
     /// end is cut off, the record of the change is appended, and FILE and its folder are synced. The file isn't touched
     /// where nothing changed: no component came, and no roster.
     ///
-    /// FILE is written anew instead, as `replace` does, where a record isn't worth its place: in a file of format 1, and
-    /// where the records would be longer than the snapshot and than 64 kB. So it is where the record is longer than one
-    /// may be, and where FILE can't be opened for writing.
+    /// FILE is written anew instead, as `replace` does, where a record isn't worth its place: in a file of format 1,
+    /// and where the records would be longer than the snapshot and than 64 kB. So it is where the record is longer than
+    /// one may be, and where FILE can't be opened for writing.
     ///
-    /// Refuses `Device` where the record can't be written: FILE holds what it held, with a torn end. Where it is written
-    /// and can't be synced that is `Unsure`. Else it refuses as `replace` does.
+    /// Refuses `Device` where the record can't be written: FILE holds what it held, with a torn end. Where it is
+    /// written and can't be synced that is `Unsure`. Else it refuses as `replace` does.
     pub fn keep(
         self,
         rt: &H,
@@ -459,8 +459,8 @@ where
         }
     }
 
-    /// Keeps this replica in the file as `keep` does, and holds the lock on. Where a call fails, the file is the next time
-    /// written anew.
+    /// Keeps this replica in the file as `keep` does, and holds the lock on. Where a call fails, the file is the next
+    /// time written anew.
     pub fn keep_on(
         &mut self,
         rt: &H,
@@ -515,8 +515,8 @@ fn is_nothing<S: DotSet>(change: &Change<'_, S>) -> bool
 }
 
 /// A replica that is kept in the file of a path in place of another, which was read there under the file's lock. Only
-/// `EmptiedFile::keep` and `EmptiedFile::replace` make one, and nothing changes it. What the file held before is seen by
-/// contracts alone.
+/// `EmptiedFile::keep` and `EmptiedFile::replace` make one, and nothing changes it. What the file held before is seen
+/// by contracts alone.
 #[derive(Drop)]
 pub struct ReplacedFile<'a, S: DotSet> {
     path: &'a str,

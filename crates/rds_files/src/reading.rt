@@ -103,8 +103,8 @@ fn is_damage(refused: &Refused) -> bool {
     refused.at > 0 && matches!(refused.fault, Fault::Bad)
 }
 
-// Tells why a file gives no replica, and answers that: it can't be read, or what it holds is none, or is damaged behind a
-// whole one.
+// Tells why a file gives no replica, and answers that: it can't be read, or what it holds is none, or is damaged behind
+// a whole one.
 fn told<H: Eprint>(rt: &H, path: &str, refused: Refused) -> Fault
     ensures { result ≡ refused.fault }
 {

@@ -80,9 +80,10 @@ impl<S: DotSet> Settlement<'_, S> {
 }
 
 /// Takes what a session of the replica in the file received into what the file holds now: others may have changed it
-/// since the session began, and what they did stays. The file is locked, read, joined with the delta, kept and unlocked. Its roster is then the longest of three: the one that it has now, the one that the session's replica had,
-/// and the peer's where that came. A delta without components is taken as any other. Where nothing was received,
-/// or nothing changes, the file isn't touched.
+/// since the session began, and what they did stays. The file is locked, read, joined with the delta, kept and
+/// unlocked. Its roster is then the longest of three: the one that it has now, the one that the session's replica had,
+/// and the peer's where that came. A delta without components is taken as any other. Where nothing was received, or
+/// nothing changes, the file isn't touched.
 ///
 /// Refuses `WrongAsker` where the file holds another replica by now, and `WrongRoster` where its roster and the peer's
 /// have grown apart. A file that takes nothing stays as it was, its roster too.
