@@ -51,7 +51,7 @@ def line_of(number):
     return f"fault {number}: {NAMES[number]}\n"
 
 
-# The model. An entry is (path, kind, scalar), and a scalar (tag, value), so that both are in the order of docs/PROMISES.md.
+# The model. An entry is (path, kind, scalar), and a scalar (tag, value), so that both are in the order of docs/MODEL.md.
 class State:
     """The life of each dot that is seen, None where it is dead, and the two numbers of each counter and replica."""
 

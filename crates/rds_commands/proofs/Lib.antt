@@ -1,4 +1,7 @@
 pub mod Batches
+pub mod EditEvents
+pub mod Changed
+pub mod Compacted
 pub mod Entered
 pub mod Events
 pub mod Getting

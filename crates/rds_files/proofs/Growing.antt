@@ -1,13 +1,15 @@
 -- What changed a replica that took a delta.
-use Rattle.std.proofs.Common.{◌≡◌, ℕ, ◌≤◌, List, [], ◌∷◌, ◌++◌, length, Option, Some, None, MatchOption, inl, inr, refl, sym, ap, subst, ◌∙◌, arith, length-append}
+use Rattle.std.proofs.Common.{◌≡◌, ℕ, ◌≤◌, true, false, List, [], ◌∷◌, ◌++◌, length, Option, Some, None, MatchOption, inl, inr, refl, sym, ap, subst, ◌∙◌, arith, length-append}
 use Rattle.std.specs.Prelude.{nat_le}
 use Rattle.std.proofs.lemmas.Bool.{cases_lt, lt-leb, le-leb}
 use Rattle.std.proofs.lemmas.List.{append-nil}
 use Rattle.rds_names.specs.Roster.{RosterValue, Begins, OneBegins, longer}
 use Rattle.rds_state.specs.Fits.{Fits, ReplicaValue}
-use Rattle.rds_state.specs.Value.{StateValue, coordinates}
+use Rattle.rds_state.specs.Value.{StateValue, coordinates, size}
 use Rattle.rds_state.proofs.FitsLemmas.{fits_more}
-use Rattle.rds_keep.specs.Changes.{IsChanged}
+use Rattle.rds_state.proofs.JoinLaws.{same_value}
+use Rattle.rds_state.proofs.Nothing.{joins_nothing}
+use Rattle.rds_keep.specs.Changes.{ChangeValue, IsChanged, roster_after}
 use Rattle.rds_files.specs.Settling.{HasTaken, IsJoined}
 
 -- ---- rosters
@@ -81,3 +83,17 @@ changed old new delta (Some roster) replicas took count same = record {
   joined = took.joined;
   fits = took.fits;
 }
+
+same_parts : (v w : ReplicaValue) → v.roster ≡ w.roster → v.own ≡ w.own → v.state ≡ w.state → v ≡ w
+same_parts v w roster own state =
+    ap (λ (r : RosterValue). let t : ReplicaValue = record { roster = r; own = v.own; state = v.state } in t) roster
+    ∙ (ap (λ (n : ℕ). let t : ReplicaValue = record { roster = w.roster; own = n; state = v.state } in t) own
+    ∙ ap (λ (s : StateValue). let t : ReplicaValue = record { roster = w.roster; own = w.own; state = s } in t) state)
+
+-- nothing changes where no roster came, and no component
+pub unchanged : (old : ReplicaValue) (c : ChangeValue) (new : ReplicaValue) → IsChanged old c new → c.roster ≡ None → size c.delta ≡ 0 → new ≡ old
+unchanged old c new is none nothing =
+    same_parts new old
+    (is.roster ∙ ap (roster_after old.roster) none)
+    is.own
+    (same_value new.state old.state (is.joined ∙ sym (joins_nothing c.delta nothing old.state)))

@@ -44,7 +44,7 @@ abbrev pub format_if : Bool → Format
 format_if false = One
 format_if true = Two
 
-format_back : (f : Format) → format_if (is_two f) ≡ f
+abbrev pub format_back : (f : Format) → format_if (is_two f) ≡ f
 format_back One = refl
 format_back Two = refl
 
@@ -90,6 +90,11 @@ pub record IsReadAt (path : List ℕ) (file : FileValue) : Type 0 where
   pub at : file.path ≡ path
   pub value : IsSnapshot file.kept
 
+-- the same, whether it was read under its lock or not
+pub record IsKeptAt (path : List ℕ) (file : KeptFile) : Type 0 where
+  pub at : file.path ≡ path
+  pub value : IsSnapshot file.kept
+
 -- it was read by this path, after so many readings
 pub record IsReadBy (at : PathValue) (file : FileValue) : Type 0 where
   pub read : IsReadAt at.path file
@@ -105,7 +110,7 @@ pub record IsHeldAt (path : List ℕ) (file : KeptFile) : Type 0 where
   pub value : IsSnapshot file.kept
   pub place : is_beside path ≡ false
 
--- the file at this path was read under its lock, and replaced
+-- the file at this path was read under its lock, and holds another replica since
 pub record IsReplacedAt (path : List ℕ) (file : ReplacedValue) : Type 0 where
   pub at : file.path ≡ path
   pub value : IsSnapshot file.before
@@ -113,7 +118,7 @@ pub record IsReplacedAt (path : List ℕ) (file : ReplacedValue) : Type 0 where
 
 -- ---- refusals
 
--- why a file gives no replica: it can't be had, or holds no snapshot; or want of memory
+-- why a file gives no replica: it can't be had, or holds none; or want of memory
 abbrev pub IsUnread : Fault → Type 0
 IsUnread fault = (fault ≡ Device) ⊎ IsOtherFault fault
 

@@ -88,7 +88,7 @@ KeepsTaken file replica components (Taken n) (Some new) =
 KeepsTaken file replica components (Unkept fault) None = IsUnkept replica fault
 KeepsTaken file replica components settled new = ⊥
 
--- what became of a delta: the file took it and was replaced, or it wasn't taken, or the file couldn't be replaced
+-- what became of a delta: the file took it and keeps it, or it wasn't taken, or the file couldn't be kept
 abbrev pub SettlesDelta : List ℕ → ReplicaValue → Delivery → Settled → Option ReplacedValue → Type 0
 SettlesDelta path asked delivery (Taken components) (Some file) =
     TakesDelta path asked delivery file × (components ≡ size delivery.0)

@@ -20,10 +20,10 @@ const LEAST: u64 = 65_536;
 
 /// Whether one more record of so many bytes is worth its place: the snapshot is of format 2, and the records are then no
 /// longer than it, or than 64 kB.
-pub fn takes_record(layout: &Layout, record: usize) -> bool {
+pub fn takes_record(layout: &Layout, count: usize) -> bool {
     let records = layout.whole.saturating_sub(layout.snapshot);
     let most = layout.snapshot.max(LEAST);
-    matches!(layout.format, Format::Two) && records.saturating_add(record as u64) <= most
+    matches!(layout.format, Format::Two) && records.saturating_add(count as u64) <= most
 }
 
 /// Appends the record of a change. There is nothing where the file would be too long.
@@ -33,7 +33,7 @@ pub fn append_to<D: Device, S: DotSet>(
     layout: &Layout,
 ) -> Result<Option<(WasKept<S>, Layout)>, Fault>
     requires stored { IfSome (D.seen device.old) (λ file. IsStored file changed.before layout.now) }
-    ensures kept { IfOk result (λ some. IfSome some (λ appended. appended.0 ≡ changed.entry.after)) }
+    ensures kept { IfOk result (λ some. IfSome some (λ appended. appended.0 ≡ changed.after)) }
     ensures fault { IfErr result (λ e. (e ≡ Device) ⊎ (e ≡ Unsure)) }
 {
     match changed.append(device, layout) {

@@ -1,9 +1,10 @@
 //! Replicas in files.
-ghost use Rattle.std.specs.Prelude.{◌≡◌, ◌≤◌, ◌<◌, ◌⊎◌, true, false, length, Err, IfOk, IfErr, IfSome, OnOk};
+ghost use Rattle.std.specs.Prelude.{◌≡◌, ◌≤◌, ◌<◌, ◌⊎◌, true, false, length, None, Err, IfOk, IfErr, IfSome, IsTrue, OnErr, OnOk};
 ghost use Rattle.rds_names.specs.declared.fault.Fault.TheVariants.{Device, TooLong, Usage};
 ghost use Rattle.rds_codec.specs.StateTexts.{IsSnapshot, snapshot_text};
 ghost use Rattle.rds_codec.specs.declared.limits.TheConstants.{LIMIT};
 ghost use Rattle.rds_keep.specs.Changes.{IsChanged};
+ghost use Rattle.rds_state.specs.Value.{size};
 ghost use Rattle.rds_files.specs.Files.{HoldsTooMuch, IsHeldAt, IsNoPlace, IsReadAt, IsReadBy, IsTooLongOrLost, IsUnkept, IsUnread, RefusesFile, RefusesLock, is_beside, read_more};
 
 use crate::appending::{Tail, append_to, takes_record};
@@ -54,8 +55,9 @@ impl<'a> FilePath<'a> {
         self.path
     }
 
-    /// Reads the file as it is now, and counts that. A file is always whole, so this takes no lock. Refuses `Device`
-    /// where it can't be opened or read, and as decoding does where it holds no snapshot. A full count stays.
+    /// Reads the file as it is now, and counts that. It takes no lock: what another command is about to append is a torn
+    /// end until it is whole. Refuses `Device` where it can't be opened or read, and else as `read_stored` does, where it
+    /// holds no replica. A full count stays.
     pub fn read<H: Disk, S: DotSet>(&mut self, rt: &H) -> Result<ReplicaFile<'a, S>, Fault>
         ensures read { IfOk result (IsReadBy self.old) }
         ensures counted { self.new ≡ read_more self.old }
@@ -192,7 +194,7 @@ where
     /// Refuses `Usage` where the path ends in `.new`, as the files do that are written beside others; then `Device`
     /// where the file can't be opened or read, or isn't one to be replaced: a link leads to a file that ends in `.new`,
     /// its mode lets nobody write it, or it has several names. So it does where another has its lock for more than ten
-    /// seconds; and as decoding does where the file holds no snapshot.
+    /// seconds; and as `read_stored` does where the file holds no replica.
     pub fn open(rt: &H, path: &'a str) -> Result<LockedFile<'a, H, S>, Fault>
         ensures held { IfOk result (IsHeldAt path.now) }
         ensures beside { is_beside path.now ≡ true → result ≡ Err Usage }
@@ -315,7 +317,7 @@ pub struct EmptiedFile<'a, H: Disk, S: DotSet> {
     path: &'a str,
     target: Target<'a>,
     held: WasKept<S>,
-    // Where its parts stand. There is none behind a record that couldn't be appended.
+    // Where its parts stand. That isn't known where a call on it failed.
     layout: Option<Layout>,
     file: H::File,
 }
@@ -341,7 +343,8 @@ where
     ///
     /// Refuses `TooLong` where the replica's text is above the limit, and else `Device` where a file can't be removed,
     /// made, given its mode, written, synced or renamed. `Memory` goes before both, where there is too little to find
-    /// how long the text is. FILE is then as it was, but where only the folder couldn't be synced.
+    /// how long the text is. FILE is then as it was. Last, where only the folder can't be synced, FILE is the new one,
+    /// and that is `Unsure`.
     pub fn replace(self, rt: &H, replica: Replica<S>) -> Result<ReplacedFile<'a, S>, Fault>
         ensures replaced { IfOk result
             (λ file. file ≡ record { path = self.entry.path; before = self.entry.kept; kept = replica }) }
@@ -360,13 +363,16 @@ where
         Ok(ReplacedFile { path, before, kept })
     }
 
-    /// Keeps this replica in the file, which a change made of the one that it holds, and then lets the lock go. The
-    /// record of the change is appended and synced, and the folder is synced too. FILE is written anew in place of that,
-    /// as `replace` does, where it is of format 1, or the record is too long or the records are by now longer than the
-    /// snapshot and 64 kB, or FILE can't be opened for writing.
+    /// Keeps this replica in the file, which a change made of the one that it holds, and then lets the lock go. A torn
+    /// end is cut off, the record of the change is appended, and FILE and its folder are synced. The file isn't touched
+    /// where nothing changed: no component came, and no roster.
     ///
-    /// Refuses `Unsure` where the record is written and can't be synced; `Device` where it can't be written, and then FILE
-    /// holds what it held, but for a torn end; and else as `replace` does.
+    /// FILE is written anew instead, as `replace` does, where a record isn't worth its place: in a file of format 1, and
+    /// where the records would be longer than the snapshot and than 64 kB. So it is where the record is longer than one
+    /// may be, and where FILE can't be opened for writing.
+    ///
+    /// Refuses `Device` where the record can't be written: FILE holds what it held, with a torn end. Where it is written
+    /// and can't be synced that is `Unsure`. Else it refuses as `replace` does.
     pub fn keep(
         self,
         rt: &H,
@@ -378,6 +384,9 @@ where
             (λ file. file ≡ record { path = self.entry.path; before = self.entry.kept; kept = replica }) }
         ensures fault { IfErr result (IsUnkept replica) }
     {
+        if is_nothing(&change) {
+            return Ok(self.unchanged(replica));
+        }
         match self.append(rt, &replica, &change)? {
             Some((kept, _)) => Ok(ReplacedFile {
                 path: self.path,
@@ -388,8 +397,20 @@ where
         }
     }
 
-    // Appends the record of the change, where the file takes it: it is laid out so that one more is worth its place, and
-    // it can be opened for writing.
+    // The file with the replica that it holds.
+    fn unchanged(self, replica: Replica<S>) -> ReplacedFile<'a, S>
+        requires same { replica ≡ self.kept }
+        ensures { result ≡ record { path = self.entry.path; before = self.entry.kept; kept = replica } }
+    {
+        let kept = self.held.again(replica);
+        ReplacedFile {
+            path: self.path,
+            before: WasKept::of(&kept),
+            kept,
+        }
+    }
+
+    // Appends the record of the change, where it is known how the file is laid out, and it takes the record.
     fn append(
         &self,
         rt: &H,
@@ -400,25 +421,46 @@ where
         ensures kept { IfOk result (λ some. IfSome some (λ appended. appended.0 ≡ replica.now)) }
         ensures fault { IfErr result (IsUnkept replica.now) }
     {
-        let Some(layout) = self.layout else {
-            return Ok(None);
-        };
+        match self.layout {
+            Some(layout) => self.append_at(rt, replica, change, &layout),
+            None => Ok(None),
+        }
+    }
+
+    // Appends the record of the change, where one more is worth its place, and the file can be opened for writing.
+    fn append_at(
+        &self,
+        rt: &H,
+        replica: &Replica<S>,
+        change: &Change<'_, S>,
+        layout: &Layout,
+    ) -> Result<Option<(WasKept<S>, Layout)>, Fault>
+        requires changed { IsChanged self.now.kept change.now replica.now }
+        ensures kept { IfOk result (λ some. IfSome some (λ appended. appended.0 ≡ replica.now)) }
+        ensures fault { IfErr result (IsUnkept replica.now) }
+    {
         let changed = match Changed::new(rt.alloc(), &self.held, replica, change) {
             Ok(changed) => changed,
             Err(Fault::Memory) => return Err(Fault::Memory),
             Err(_) => return Ok(None),
         };
-        if !takes_record(&layout, changed.record_length()) {
-            return Ok(None);
-        }
-        match Tail::open(rt, self.target.path(), &self.file) {
-            Some(mut tail) => append_to(&mut tail, changed, &layout),
+        match self.tail(rt, layout, changed.record_length()) {
+            Some(mut tail) => append_to(&mut tail, changed, layout),
             None => Ok(None),
         }
     }
 
-    /// Keeps this replica in the file as `keep` does, and holds the lock on. After a fault the next one is kept by a new
-    /// file.
+    // The file, opened for writing, where one more record of so many bytes is worth its place.
+    fn tail<'b>(&'b self, rt: &'b H, layout: &Layout, count: usize) -> Option<Tail<'b, H>> {
+        if takes_record(layout, count) {
+            Tail::open(rt, self.target.path(), &self.file)
+        } else {
+            None
+        }
+    }
+
+    /// Keeps this replica in the file as `keep` does, and holds the lock on. Where a call fails, the file is the next time
+    /// written anew.
     pub fn keep_on(
         &mut self,
         rt: &H,
@@ -430,6 +472,9 @@ where
         ensures same { OnErr result (self.new ≡ self.old) }
         ensures fault { IfErr result (IsUnkept replica.now) }
     {
+        if is_nothing(&change) {
+            return Ok(());
+        }
         match self.append(rt, replica, &change) {
             Ok(Some((kept, layout))) => {
                 self.held = kept;
@@ -437,6 +482,7 @@ where
                 Ok(())
             }
             Ok(None) => self.replace_on(rt, replica),
+            Err(Fault::Memory) => Err(Fault::Memory),
             Err(fault) => {
                 self.layout = None;
                 Err(fault)
@@ -461,9 +507,16 @@ where
     }
 }
 
-/// A replica that was written whole to the file of a path in place of another, which was read there under the file's
-/// lock. Only `EmptiedFile::replace` makes one, and nothing changes it. What the file held before is seen by contracts
-/// alone.
+// Whether a change changes nothing.
+fn is_nothing<S: DotSet>(change: &Change<'_, S>) -> bool
+    ensures { IsTrue result → (change.now.roster ≡ None) × (size change.now.delta ≡ 0) }
+{
+    change.roster.is_none() && change.delta.components() == 0
+}
+
+/// A replica that is kept in the file of a path in place of another, which was read there under the file's lock. Only
+/// `EmptiedFile::keep` and `EmptiedFile::replace` make one, and nothing changes it. What the file held before is seen by
+/// contracts alone.
 #[derive(Drop)]
 pub struct ReplacedFile<'a, S: DotSet> {
     path: &'a str,

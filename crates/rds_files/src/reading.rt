@@ -51,10 +51,7 @@ fn read_unlocked<H: Disk, S: DotSet>(
     match read_stored(rt.alloc(), &mut Counted::new(&mut file)) {
         Ok(stored) => Ok((file, stored)),
         Err(refused) if is_damage(&refused) => read_again(rt, path, place),
-        Err(refused) => {
-            note_refused(rt, path, &refused);
-            Err(refused.fault)
-        }
+        Err(refused) => Err(told(rt, path, refused)),
     }
 }
 
@@ -97,10 +94,7 @@ pub fn read_kept<H: Disk, S: DotSet, R: Read>(
 {
     match read_stored(rt.alloc(), &mut Counted::new(file)) {
         Ok(stored) => Ok(stored),
-        Err(refused) => {
-            note_refused(rt, path, &refused);
-            Err(refused.fault)
-        }
+        Err(refused) => Err(told(rt, path, refused)),
     }
 }
 
@@ -109,12 +103,16 @@ fn is_damage(refused: &Refused) -> bool {
     refused.at > 0 && matches!(refused.fault, Fault::Bad)
 }
 
-// Tells why a file gives no replica: it can't be read, or what it holds is none, or was one and is damaged.
-fn note_refused<H: Eprint>(rt: &H, path: &str, refused: &Refused) {
-    let (fault, at) = (refused.fault, refused.at);
+// Tells why a file gives no replica, and answers that: it can't be read, or what it holds is none, or is damaged behind a
+// whole one.
+fn told<H: Eprint>(rt: &H, path: &str, refused: Refused) -> Fault
+    ensures { result ≡ refused.fault }
+{
+    let Refused { fault, at } = refused;
     let _ = match fault {
         Fault::Device | Fault::Memory => eprintln!(rt; "{path}: can't be read: {fault}"),
         Fault::Bad if at > 0 => eprintln!(rt; "{path}: damaged at byte {at}"),
         _ => eprintln!(rt; "{path}: isn't an rds file: {fault}"),
     };
+    fault
 }

@@ -1,5 +1,5 @@
 //! What a session leaves of the replica in its file.
-ghost use Rattle.std.specs.Prelude.{◌≡◌, ◌↔◌, length, None, IfErr, IfOk, IsTrue, MatchOption, OnOk};
+ghost use Rattle.std.specs.Prelude.{◌≡◌, ◌↔◌, length, option_map, None, IfErr, IfOk, IsTrue, MatchOption, OnOk};
 ghost use Rattle.rds_names.specs.declared.fault.Fault.TheVariants.{Memory};
 ghost use Rattle.rds_session.specs.Judging.{roster_among};
 ghost use Rattle.rds_session.specs.Received.{HasChecked, IsChecked, delivery_of};
@@ -81,8 +81,8 @@ impl<S: DotSet> Settlement<'_, S> {
 
 /// Takes what a session of the replica in the file received into what the file holds now: others may have changed it
 /// since the session began, and what they did stays. The file is locked, read, joined with the delta, kept and unlocked. Its roster is then the longest of three: the one that it has now, the one that the session's replica had,
-/// and the peer's where that came. A delta without components is taken and kept as any other; where nothing was
-/// received the file isn't touched.
+/// and the peer's where that came. A delta without components is taken as any other. Where nothing was received,
+/// or nothing changes, the file isn't touched.
 ///
 /// Refuses `WrongAsker` where the file holds another replica by now, and `WrongRoster` where its roster and the peer's
 /// have grown apart. A file that takes nothing stays as it was, its roster too.
@@ -184,11 +184,14 @@ where
     ensures fault { IfErr result (IsUnkept replica) }
 {
     let grown = grown_roster(rt.alloc(), replica.roster(), replicas)?;
-    let change = Change {
-        roster: grown.as_ref(),
-        delta,
-    };
-    file.keep(rt, replica, change)
+    file.keep(rt, replica, change_of(grown.as_ref(), delta))
+}
+
+// A delta, and a longer roster where one comes with it.
+fn change_of<'b, S: DotSet>(roster: Option<&'b Roster>, delta: &'b State<S>) -> Change<'b, S>
+    ensures { result ≡ record { roster = option_map (λ r. r.now) roster.entry; delta = delta.now } }
+{
+    Change { roster, delta }
 }
 
 // A copy of the roster, where it doesn't have so many names.

@@ -14,8 +14,8 @@ pub enum AppendError {
     Unsure,
 }
 
-/// Puts a record behind the whole records of a file, which end at `end`, and syncs it. A torn end behind them is cut off
-/// first, and that is synced, so that nothing of it can stand behind the record.
+/// Puts a record behind the whole records of a file, which end at `end`, and syncs it. A torn end behind them is cut
+/// off first, and that is synced, so that nothing of it can stand behind the record.
 pub fn append<D: Device>(
     device: &mut D,
     end: u64,

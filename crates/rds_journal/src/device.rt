@@ -6,8 +6,8 @@ ghost use Rattle.rds_journal.specs.Device.{written, Cut, Elapses, Follows, HasCa
 #[derive(Clone, Copy, Debug, PartialEq, Eq)]
 pub struct DeviceError;
 
-/// A file that is written at places that are named, cut and synced. Of a real one nothing is known: what stands in it is
-/// `None`, and of a crash it says that it leaves nothing. One in memory knows both.
+/// A file that is written at places that are named, cut and synced. Of a real one nothing is known: what stands in it
+/// is `None`, and of a crash it tells nothing. One in memory knows both.
 pub trait Device {
     /// What stands in it, where that is known.
     ghost seen: { Self → Option (List ℕ) };
@@ -24,12 +24,13 @@ pub trait Device {
     /// How often it has failed. One that doesn't count has a full count.
     ghost faults: { Self → ℕ };
 
-    /// Writes all of the bytes, over what is there and past the end. Until a sync a crash may leave any bytes in their
-    /// place.
+    /// Writes all of the bytes, over what is there and past the end. Until a sync a crash may leave any bytes in
+    /// their place.
     fn write_at(&mut self, at: u64, bytes: &[u8]) -> Result<(), DeviceError>
         requires { IfSome (seen self.old) (λ file. at ≤ length file) }
         ensures written { OnOk result (seen self.new ≡ option_map (λ file. written file at bytes.now) (seen self.old)) }
-        ensures short { OnErr result (IfSome (seen self.old) (λ file. IsWrittenShort file at bytes.now (seen self.new))) }
+        ensures short { OnErr result (IfSome (seen self.old)
+            (λ file. IsWrittenShort file at bytes.now (seen self.new))) }
         ensures crash { Follows (Torn at (length bytes.now)) (may_leave self.old) (may_leave self.new) }
         ensures time { Elapses (moment self.old) (moment self.new) (left_since self.old) (left_since self.new)
             (may_leave self.new) }

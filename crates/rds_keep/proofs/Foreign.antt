@@ -29,7 +29,7 @@ begins_in Two v rest = refl
 text_begins : (s : Snapshot) (rest : List ℕ) → take 4 (text_of s ++ rest) ≡ magic_of s.0
 text_begins s rest = begins_in s.0 s.1 rest
 
-no_text : (input : List ℕ) (s : Snapshot) (rest : List ℕ) → IsForeign input → input ≡ text_of s ++ rest → ⊥
+pub no_text : (input : List ℕ) (s : Snapshot) (rest : List ℕ) → IsForeign input → input ≡ text_of s ++ rest → ⊥
 no_text input s rest is same = none_foreign s.0 (take 4 input) (ap (take 4) same ∙ text_begins s rest) is.1
 
 format_bad : (input : List ℕ) → IsForeign input → format_at input ≡ Err Bad
@@ -39,6 +39,10 @@ format_bad input is =
 reads_bad : (input : List ℕ) → IsForeign input → all_of snapshot_in_at input ≡ Err Bad
 unfolding snapshot_in_at
 reads_bad input is = rw (format_bad input is) refl
+
+pub front_bad : (input : List ℕ) → IsForeign input → snapshot_in_at input ≡ Err Bad
+unfolding snapshot_in_at
+front_bad input is = rw (format_bad input is) refl
 
 decodes_bad : (input : List ℕ) → IsForeign input → length input ≤ LIMIT → Decodes snapshot_kind_in input (Err Bad)
 decodes_bad input is within = record {
@@ -74,6 +78,10 @@ format_cut input short = read_is input ∙ ap (λ b. read_by b (take 4 input) (d
 reads_cut : (input : List ℕ) → length input < 4 → all_of snapshot_in_at input ≡ Err Cut
 unfolding snapshot_in_at
 reads_cut input short = rw (format_cut input short) refl
+
+pub front_cut : (input : List ℕ) → length input < 4 → snapshot_in_at input ≡ Err Cut
+unfolding snapshot_in_at
+front_cut input short = rw (format_cut input short) refl
 
 decodes_cut : (input : List ℕ) → length input < 4 → Decodes snapshot_kind_in input (Err Cut)
 decodes_cut input short = record {

@@ -1,11 +1,21 @@
+mod Appended
+mod BehindParts
+mod Chains
+mod ChangeTexts
 mod FedSoFar
 mod FeedSteps
+mod Files
+mod FirstParts
 mod Foreign
 mod FrontSoFar
 mod Fronts
 mod KeptTexts
+mod LedSoFar
 pub mod PiecesSoFar
 mod ReadWhole
+mod ReplaySteps
+mod Replaying
 pub mod Showing
+mod SnapshotsStay
 pub mod TextParts
 pub mod WrittenSoFar

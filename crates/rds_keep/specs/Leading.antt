@@ -5,6 +5,7 @@ use Rattle.rds_names.specs.declared.fault.Fault.{Fault}
 use Rattle.rds_names.specs.declared.fault.Fault.TheVariants.{Memory, Cut, Bad, TooLong, Device}
 use Rattle.rds_bytes.specs.Reading.{Reader}
 use Rattle.rds_codec.specs.declared.limits.TheConstants.{LIMIT}
+use Rattle.rds_keep.specs.Feeding.{AreBytes}
 
 -- Known bytes lose a beginning. With those of a front, so many bytes in all, a value is whole, and some are behind it.
 pub record Leads {V : Type 0} (read : Reader V) (front : List ℕ) (before after : Option (List ℕ)) (v : V) (count : ℕ)
@@ -13,6 +14,7 @@ pub record Leads {V : Type 0} (read : Reader V) (front : List ℕ) (before after
   pub consumed : Consumes before after given
   pub whole : (more : List ℕ) → read (front ++ (given ++ more)) ≡ Ok (v, behind ++ more)
   pub size : count ≡ length front + length given
+  pub bytes : AreBytes (front ++ given)
 
 -- memory ran out, or the bytes are Bad, since they are refused whatever follows them
 abbrev pub RefusesStep : {V : Type 0} → Reader V → Fault → Type 0

@@ -57,7 +57,7 @@ impl<S: DotSet> Model for ReadChange<S> {
 
 // What stands before the delta: a byte that says whether a roster comes too, and that roster with the own number.
 fn put_front(out: &mut Vec<u8>, own: u8, roster: Option<&Roster>) -> Result<(), AllocError>
-    ensures { Adds out.old.items out.new.items (front_text own (option_map (λ r. r.now) roster)) result }
+    ensures { Adds out.old.items out.new.items (front_text own (option_map (λ r. r.now) roster.entry)) result }
 {
     match roster {
         None => put_byte(out, 1),

@@ -85,6 +85,7 @@ impl<S: DotSet> Changed<S> {
         {
             return Err(Fault::Bad);
         }
+        before.stands();
         states_have_texts(change.delta);
         member_length(replica.roster(), replica.own());
         let record = encode_record(alloc, replica.own(), change)?;
@@ -114,18 +115,18 @@ impl<S: DotSet> Changed<S> {
         layout: &Layout,
     ) -> Result<(WasKept<S>, Layout), Fault>
         requires stored { IfSome (D.seen device.old) (λ file. IsStored file self.before layout.now) }
-        ensures kept { IfOk result (λ x. x.0 ≡ self.entry.after) }
-        ensures layout { IfOk result (λ x. x.1 ≡ with_record layout.now (length self.entry.bytes)) }
+        ensures kept { IfOk result (λ x. x.0 ≡ self.after) }
+        ensures layout { IfOk result (λ x. x.1 ≡ with_record layout.now (length self.bytes)) }
         ensures stored { OnOk result (IfSome (D.seen device.old)
-            (λ _. IsSeen (D.seen device.new) self.entry.after (with_record layout.now (length self.entry.bytes)))) }
+            (λ _. IsSeen (D.seen device.new) self.after (with_record layout.now (length self.bytes)))) }
         ensures lasts { OnOk result (IfSome (D.seen device.old)
             (λ _. Lasts (D.seen device.new) (D.may_leave device.new))) }
         ensures unsure { result ≡ Err Unsure → IfSome (D.seen device.old)
-            (λ _. IsSeen (D.seen device.new) self.entry.after (with_record layout.now (length self.entry.bytes))) }
+            (λ _. IsSeen (D.seen device.new) self.after (with_record layout.now (length self.bytes))) }
         ensures unwritten { result ≡ Err Device → IfSome (D.seen device.old)
-            (λ file. IsUnwritten file layout.now.whole self.entry.bytes (D.seen device.new)) }
+            (λ file. IsUnwritten file layout.now.whole self.bytes (D.seen device.new)) }
         ensures any_moment { LeavesOnly D.moment D.left_since device.old device.new (λ c. (d : List ℕ)
-            × D.may_leave device.old d × KeepsFront layout.now.whole (length self.entry.bytes) d c) }
+            × D.may_leave device.old d × KeepsFront layout.now.whole (length self.bytes) d c) }
         ensures failed { IfErr result (λ e. e ≢ TooLong → HasRisen (D.faults device.old) (D.faults device.new)) }
         ensures fault { IfErr result (λ e. (e ≡ TooLong) ⊎ ((e ≡ Device) ⊎ (e ≡ Unsure))) }
     {

@@ -1,11 +1,12 @@
 //! A value that bytes begin with, which is read as they come. What stands behind it is left.
-ghost use Rattle.std.specs.Prelude.{◌≡◌, ◌≢◌, ◌≤◌, ◌-◌, ◌+◌, ◌++◌, ◌⊎◌, length, Err, IfOk, IfErr, IfSome, OnOk};
+ghost use Rattle.std.specs.Prelude.{◌≡◌, ◌≢◌, ◌≤◌, ◌-◌, ◌+◌, ◌++◌, ◌⊎◌, ℕ, List, length, Ok, Err, IfOk, IfErr, IfSome, OnOk};
 ghost use Rattle.std.specs.Io.KnownBytes.{Consumes};
 ghost use Rattle.rds_names.specs.declared.fault.Fault.TheVariants.{Memory, Bad, Device};
 ghost use Rattle.rds_codec.specs.Decoding.{IsOtherFault};
 ghost use Rattle.rds_codec.specs.declared.limits.TheConstants.{LIMIT};
 ghost use Rattle.rds_feeds.specs.Pieces.{ReadsOn};
 ghost use Rattle.rds_keep.specs.Counted.{HasFailed, most_read};
+ghost use Rattle.rds_keep.specs.Feeding.{AreBytes};
 ghost use Rattle.rds_keep.specs.Leading.{Leads, RefusesFront, RefusesStep};
 
 use crate::counted::Counted;
@@ -28,6 +29,11 @@ pub struct Leading<W> {
     pub behind: Vec<u8>,
 }
 
+/// Each of a slice's bytes is below 256. The function does nothing: its contract is this law.
+pub fn hold_bytes(bytes: &[u8])
+    ensures { AreBytes bytes.now }
+{}
+
 /// Reads on as far as the bytes go. Whatever else they are refused for than want of memory, they are `Bad`.
 pub fn read_step<U: Unfinished>(
     alloc: Global,
@@ -41,6 +47,25 @@ pub fn read_step<U: Unfinished>(
         Ok(read) => Ok(read),
         Err(Fault::Memory) => Err(Fault::Memory),
         Err(_) => Err(Fault::Bad),
+    }
+}
+
+/// The value that bytes begin with, and those behind it. Refuses `Cut` where there are fewer bytes than the value has, and
+/// `Bad` where no bytes that may follow would help.
+pub fn decode_leading<U: Unfinished>(
+    alloc: Global,
+    unfinished: U,
+    bytes: &[u8],
+) -> Result<(U::Whole, &[u8]), Fault>
+    ensures whole { IfOk result (λ x. (more : List ℕ)
+        → U.finish unfinished (bytes.now ++ more) ≡ Ok (x.0, x.1.now ++ more)) }
+    ensures refused { IfErr result (RefusesFront (U.finish unfinished) bytes.now) }
+    ensures fault { IfErr result IsOtherFault }
+{
+    let (progress, rest) = read_step(alloc, unfinished, bytes)?;
+    match progress {
+        Progress::More(_) => Err(Fault::Cut),
+        Progress::Whole(value) => Ok((value, rest)),
     }
 }
 
@@ -70,6 +95,7 @@ impl<R: Read> Counted<R> {
     {
         let mut unfinished = unfinished;
         let mut count = front.len();
+        hold_bytes(front.as_slice());
         let mut held = front;
         'reading: loop {
             let (progress, rest) = read_step(alloc, unfinished, &held)?;
@@ -93,6 +119,7 @@ impl<R: Read> Counted<R> {
             if held.len() == before {
                 return Err(Fault::Cut);
             }
+            hold_bytes(held.as_slice());
             count += held.len() - before;
         }
     }

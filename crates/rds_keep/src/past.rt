@@ -66,6 +66,13 @@ impl<S: DotSet> WasKept<S> {
         WasKept { replica }
     }
 
+    /// The function does nothing: its contract is what holds of each.
+    pub(crate) fn stands(&self)
+        ensures { IsKept self.now }
+    {
+        let _replica = &self.replica;
+    }
+
     /// The kept replica, where its like is at hand.
     pub fn again(self, replica: Replica<S>) -> Kept<S>
         requires { replica ≡ self }

@@ -89,7 +89,8 @@ pub fn hold_more<R: Read>(reader: &mut Counted<R>, held: &mut Vec<u8>) -> Result
     ensures renamed { reader.new.renamed ≡ reader.old.renamed }
 {
     let most = held.len().max(HELD);
-    reader.read_on(held, most)
+    reader.read_on(held, most)?;
+    Ok(())
 }
 
 impl<S: DotSet> Replay<S> {

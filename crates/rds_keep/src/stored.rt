@@ -2,8 +2,8 @@
 ghost use Rattle.std.specs.Prelude.{◌≡◌, ◌≢◌, ◌≤◌, ◌<◌, ◌-◌, ◌+◌, ◌++◌, ◌⊎◌, List, ℕ, length, Err, IfOk, IfErr, IfSome, OnOk, MatchResult};
 ghost use Rattle.std.specs.Io.KnownBytes.{IsAtEnd};
 ghost use Rattle.rds_names.specs.declared.fault.Fault.TheVariants.{Device, Memory, TooLong};
-ghost use Rattle.rds_state.specs.Fits.{IsReplica};
 ghost use Rattle.rds_codec.specs.Decoding.{IsOtherFault};
+ghost use Rattle.rds_codec.specs.FormatTexts.{snapshot_text_in};
 ghost use Rattle.rds_codec.specs.StateTexts.{IsSnapshot};
 ghost use Rattle.rds_codec.specs.declared.limits.TheConstants.{LIMIT};
 ghost use Rattle.rds_journal.specs.declared.records.TheConstants.{MOST, HEAD};
@@ -16,12 +16,11 @@ ghost use Rattle.rds_keep.specs.Stored.{IsFirst, LosesFirst, RefusesEnd, first_a
 use crate::counted::Counted;
 use crate::kept::Kept;
 use crate::layout::Layout;
-use crate::leading::{Leading, read_step};
+use crate::leading::{Leading, decode_leading, hold_bytes};
 use crate::replay::{Replay, hold_more};
 use crate::snapshots::read_magic;
-use rds_codec::{Format, LIMIT, snapshots_have_texts, unfinished_snapshot};
+use rds_codec::{Format, LIMIT, unfinished_snapshot};
 use rds_dots::DotSet;
-use rds_feeds::Progress;
 use rds_journal::is_torn;
 use rds_names::Fault;
 use rds_state::Replica;
@@ -54,21 +53,20 @@ struct First<S: DotSet> {
     length: usize,
 }
 
-// The snapshot that so many bytes are, but for those behind it, where it isn't above the limit.
+// A snapshot of so many bytes, where that isn't above the limit. The replica gets an index where bytes are behind it.
 fn first_of<S: DotSet>(
     format: Format,
     replica: Replica<S>,
-    count: usize,
+    size: usize,
     behind: &[u8],
 ) -> Result<First<S>, Fault>
-    requires count { count ≡ length (first_and format replica behind.now) }
+    requires size { size ≡ length (snapshot_text_in format replica) }
     requires value { IsSnapshot replica }
     ensures same { IfOk result (λ first. (first.format ≡ format) × (first.replica ≡ replica)) }
     ensures first { IfOk result (λ first. IsFirst format replica first.length) }
-    ensures fault { IfErr result (λ e. (e ≡ Memory) ⊎ ((e ≡ TooLong) × (LIMIT < count))) }
+    ensures fault { IfErr result (λ e. (e ≡ Memory) ⊎ ((e ≡ TooLong) × (LIMIT < size))) }
 {
-    let length = count.saturating_sub(behind.len());
-    if LIMIT < length {
+    if LIMIT < size {
         return Err(Fault::TooLong);
     }
     let mut replica = replica;
@@ -78,7 +76,7 @@ fn first_of<S: DotSet>(
     Ok(First {
         format,
         replica,
-        length,
+        length: size,
     })
 }
 
@@ -110,11 +108,11 @@ fn read_first<S: DotSet, R: Read>(
         count,
         behind,
     } = leading;
+    let size = count.saturating_sub(behind.len());
     let mut behind = behind;
-    let before = behind.len();
     hold_more(reader, &mut behind)?;
     let (format, replica) = value;
-    let first = first_of(format, replica, count + (behind.len() - before), &behind)?;
+    let first = first_of(format, replica, size, behind.as_slice())?;
     Ok((first, behind))
 }
 
@@ -125,13 +123,13 @@ fn ended<S: DotSet>(
     snapshot: u64,
     rest: &[u8],
 ) -> Result<Stored<S>, Refused>
-    requires replica { IsReplica replay.replica }
+    requires value { IsSnapshot replay.replica }
     requires file { (bytes : List ℕ) × IsFile bytes format snapshot replay.replica × (replay.whole ≡ length bytes) }
-    ensures stored { (bytes : List ℕ) → IsFile bytes format snapshot replay.entry.replica
-        → replay.entry.whole ≡ length bytes → IfOk result (λ s. IsStored (bytes ++ rest.now) s.kept s.layout) }
+    ensures stored { (bytes : List ℕ) → IsFile bytes format snapshot replay.replica
+        → replay.whole ≡ length bytes → IfOk result (λ s. IsStored (bytes ++ rest.now) s.kept s.layout) }
     ensures value { IfOk result (λ s. IsSnapshot s.kept) }
-    ensures at { IfErr result (λ r. r.at ≡ replay.entry.whole) }
-    ensures refused { IfErr result (λ r. RefusesEnd replay.entry.whole rest.now r.fault) }
+    ensures at { IfErr result (λ r. r.at ≡ replay.whole) }
+    ensures refused { IfErr result (λ r. RefusesEnd replay.whole rest.now r.fault) }
 {
     let whole = replay.whole();
     if !is_torn(rest) {
@@ -149,7 +147,6 @@ fn ended<S: DotSet>(
     let Some(replica) = replay.into_replica() else {
         unreachable!();
     };
-    snapshots_have_texts(&replica);
     let layout = Layout {
         format,
         snapshot,
@@ -172,15 +169,15 @@ fn read_behind<S: DotSet, R: Read>(
     requires first { IsFirst first.format first.replica first.length }
     requires held { length behind.items ≤ MOST + HEAD → IsAtEnd (R.remaining reader.old.inner) }
     ensures stored { IfOk result (λ s. IfSome (R.remaining reader.old.inner)
-        (λ input. IsStored (first_and first.entry.format first.entry.replica (behind.items ++ input)) s.kept s.layout)) }
+        (λ input. IsStored (first_and first.format first.replica (behind.items ++ input)) s.kept s.layout)) }
     ensures value { IfOk result (λ s. IsSnapshot s.kept) }
     ensures end { OnOk result (IsAtEnd (R.remaining reader.new.inner)) }
     ensures bound { OnOk result (ConsumesAtMost (R.remaining reader.old.inner) (R.remaining reader.new.inner)
         (most_read (reader.old.left - reader.new.left))) }
     ensures refused { IfErr result (λ r. IfSome (R.remaining reader.old.inner)
-        (λ input. RefusesBytes (first_and first.entry.format first.entry.replica (behind.items ++ input)) r.fault)) }
+        (λ input. RefusesBytes (first_and first.format first.replica (behind.items ++ input)) r.fault)) }
     ensures at { IfErr result (λ r. IfSome (R.remaining reader.old.inner)
-        (λ input. AreWhole (first_and first.entry.format first.entry.replica (behind.items ++ input)) r.at)) }
+        (λ input. AreWhole (first_and first.format first.replica (behind.items ++ input)) r.at)) }
     ensures fault { IfErr result (λ r. (r.fault ≡ Device) ⊎ IsOtherFault r.fault) }
     ensures counted { IfErr result (λ r. r.fault ≡ Device → HasFailed reader.old reader.new) }
     ensures steady { MatchResult result (λ _. reader.new.failed ≡ reader.old.failed)
@@ -244,14 +241,12 @@ fn decode_first<S: DotSet>(alloc: Global, bytes: &[u8]) -> Result<(First<S>, &[u
     ensures refused { IfErr result (RefusesBytes bytes.now) }
     ensures fault { IfErr result IsOtherFault }
 {
-    let (progress, rest) = read_step(alloc, unfinished_snapshot::<S>(), bytes)?;
-    match progress {
-        Progress::More(_) => Err(Fault::Cut),
-        Progress::Whole((format, replica)) => {
-            let first = first_of(format, replica, bytes.len(), rest)?;
-            Ok((first, rest))
-        }
-    }
+    hold_bytes(bytes);
+    let (value, rest) = decode_leading(alloc, unfinished_snapshot::<S>(), bytes)?;
+    let (format, replica) = value;
+    let size = bytes.len().saturating_sub(rest.len());
+    let first = first_of(format, replica, size, rest)?;
+    Ok((first, rest))
 }
 
 // The records behind a snapshot.
@@ -261,10 +256,10 @@ fn decode_behind<S: DotSet>(
     behind: &[u8],
 ) -> Result<Stored<S>, Refused>
     requires first { IsFirst first.format first.replica first.length }
-    ensures stored { IfOk result (λ s. IsStored (first_and first.entry.format first.entry.replica behind.now) s.kept s.layout) }
+    ensures stored { IfOk result (λ s. IsStored (first_and first.format first.replica behind.now) s.kept s.layout) }
     ensures value { IfOk result (λ s. IsSnapshot s.kept) }
-    ensures refused { IfErr result (λ r. RefusesBytes (first_and first.entry.format first.entry.replica behind.now) r.fault) }
-    ensures at { IfErr result (λ r. AreWhole (first_and first.entry.format first.entry.replica behind.now) r.at) }
+    ensures refused { IfErr result (λ r. RefusesBytes (first_and first.format first.replica behind.now) r.fault) }
+    ensures at { IfErr result (λ r. AreWhole (first_and first.format first.replica behind.now) r.at) }
     ensures fault { IfErr result (λ r. IsOtherFault r.fault) }
 {
     let First {

@@ -150,6 +150,20 @@ pub fn covered<S: DotSet>(
     listed(alloc, &dots)
 }
 
+/// `index_covered NAME COMMAND` lists the live dots that the command covers, as the tree finds them.
+pub fn index_covered<S: DotSet>(
+    documents: &Documents<S>,
+    alloc: Global,
+    rest: &str,
+) -> Result<String, Fault> {
+    let mut words = Words::new(rest);
+    let index = documents.indexes.get(words.word()?)?;
+    let command = command(alloc, &mut words)?;
+    let mut dots = Vec::new(alloc);
+    index.gather_covered(&command, &mut dots)?;
+    listed(alloc, &dots)
+}
+
 fn listed(alloc: Global, dots: &[Dot]) -> Result<String, Fault> {
     let mut listing = Listing::new(alloc);
     for dot in dots {

@@ -8,6 +8,7 @@ use rds_names::{Fault, Roster};
 use rds_rows::told::{said, said_if};
 use rds_rows::words;
 use rds_state::{Replica, State};
+use rds_tree::edit_with_delta;
 use std::alloc::Global;
 
 /// The roster of the group g with its replicas a, b and c.
@@ -65,6 +66,22 @@ pub fn edit<S: DotSet>(
     let name = words.word()?;
     let command = command(alloc, &mut words)?.copy(alloc)?;
     let edited = documents.replicas.get_mut(name)?.edit(command)?;
+    edited_text(alloc, edited)
+}
+
+/// `edit_delta NAME STATE COMMAND` edits a replica, and keeps what that changed as the state of this name.
+pub fn edit_delta<S: DotSet>(
+    documents: &mut Documents<S>,
+    alloc: Global,
+    rest: &str,
+) -> Result<String, Fault> {
+    let mut words = Words::new(rest);
+    let name = words.word()?;
+    let state = words.word()?;
+    let command = command(alloc, &mut words)?;
+    let replica = documents.replicas.get_mut(name)?;
+    let (edited, delta) = edit_with_delta(alloc, replica, &command)?;
+    documents.states.put(alloc, state, delta)?;
     edited_text(alloc, edited)
 }
 

@@ -4,10 +4,10 @@ use crate::deltas::delta;
 use crate::digests::{digest, digest_of_sets, inside, pair_in, rank_in};
 use crate::documents::Documents;
 use crate::indexes::{
-    covered, index, index_delta, index_edit, index_take, index_view, step, step_take,
+    covered, index, index_covered, index_delta, index_edit, index_take, index_view, step, step_take,
 };
 use crate::laws::laws;
-use crate::replicas::{copy, edit, fits, hold, make, rejoin, take};
+use crate::replicas::{copy, edit, edit_delta, fits, hold, make, rejoin, take};
 use crate::states::{
     components, copy_of, empty, lives, mark, merge, rank, same, show, state, value,
 };
@@ -20,13 +20,14 @@ use std::alloc::Global;
 impl<S: DotSet> Table for Documents<S> {
     fn answer(&mut self, alloc: Global, name: &str, rest: &str) -> Result<String, Fault> {
         match name {
-            "new" | "hold" | "edit" | "take" | "copy" | "rejoin" | "fits" => {
+            "new" | "hold" | "edit" | "edit_delta" | "take" | "copy" | "rejoin" | "fits" => {
                 replica_answer(self, alloc, name, rest)
             }
             "digest" | "digest_of_sets" | "inside" | "rank_in" | "pair_in" => {
                 digest_answer(self, alloc, name, rest)
             }
             "index"
+            | "index_covered"
             | "index_delta"
             | "index_edit"
             | "index_take"
@@ -55,6 +56,7 @@ fn replica_answer<S: DotSet>(
         "new" => make(documents, alloc, rest),
         "hold" => hold(documents, alloc, rest),
         "edit" => edit(documents, alloc, rest),
+        "edit_delta" => edit_delta(documents, alloc, rest),
         "take" => take(documents, alloc, rest),
         "copy" => copy(documents, alloc, rest),
         "rejoin" => rejoin(documents, alloc, rest),
@@ -71,6 +73,7 @@ fn index_answer<S: DotSet>(
 ) -> Result<String, Fault> {
     match name {
         "index" => index(documents, alloc, rest),
+        "index_covered" => index_covered(documents, alloc, rest),
         "index_delta" => index_delta(documents, alloc, rest),
         "index_edit" => index_edit(documents, alloc, rest),
         "index_take" => index_take(documents, alloc, rest),

@@ -2,11 +2,12 @@
 use Rattle.std.proofs.Common.{◌≡◌, ℕ, ◌+◌, ◌<◌, ◌≤◌, Bool, true, false, ◌&&◌, cond, max, List, []}
 use Rattle.std.proofs.Common.{◌∷◌, nat_le, nat_lt, ◌⊎◌, inl, inr, refl, sym, ◌∙◌, ap, subst, arith}
 use Rattle.std.proofs.lemmas.Bool.Decides.{nat_tests}
-use Rattle.std.specs.Prelude.{Option, Some, None, is_some, Result, Ok, Err, IfOk}
+use Rattle.std.specs.Prelude.{Option, Some, None, is_some, length, Result, Ok, Err, IfOk}
 use Rattle.std.specs.Ordering.{eq_by_cmp}
 use Rattle.std.specs.FinMap as map
 use Rattle.rds_names.specs.Conditions.{equal_of}
 use Rattle.rds_names.specs.Entry.{HasParts}
+use Rattle.rds_names.specs.Roster.{RosterValue}
 use Rattle.rds_names.specs.declared.entry.Entry.{Entry}
 use Rattle.rds_dots.specs.declared.dot.Dot.{Dot}
 use Rattle.rds_names.specs.declared.fault.Fault.{Fault}
@@ -25,14 +26,17 @@ use Rattle.rds_state.specs.Chosen.{Parts, parts_of, same_dot, AreRaised}
 use Rattle.rds_state.specs.Coordinates.{Coordinates, join}
 use Rattle.rds_state.specs.Edit.{effect, effect_number, is_next, life_killed, life_made, number_raised, own_top}
 use Rattle.rds_state.specs.Edit.{count_fault, path_fault, seq_fault, IsDue, JoinsEffect}
-use Rattle.rds_state.specs.Fits.{Fits}
+use Rattle.rds_state.specs.Fits.{Fits, ReplicaValue}
 use Rattle.rds_state.specs.Made.{entry_from, entry_made}
+use Rattle.rds_state.specs.Results.{EditsReplica}
 use Rattle.rds_state.specs.Value.{StateValue, coordinates}
 use Rattle.rds_state.specs.declared.command.Command.{Command}
 use Rattle.rds_state.specs.declared.command.Command.TheVariants.{Set, Add, Del, Clear, Inc, Dec}
+use Rattle.rds_state.specs.declared.command.Edited.{Edited}
 use Rattle.rds_state.proofs.CountLemmas.{same_dot-tied}
 use Rattle.rds_state.proofs.EditLemmas.{made_of_parts}
 use Rattle.rds_state.proofs.JoinLaws.{same_coordinates}
+use Rattle.rds_tree.specs.EditsWithDelta.{EditsWithDelta}
 use Rattle.rds_state.proofs.MadeLemmas.{made_is}
 
 pub no_count : (v : Counted) → v ≡ map.empty → (q : Place) → number v q ≡ 0
@@ -172,3 +176,16 @@ effect_fits n a b delta own c is joins fits = record {
 
     more : {x y : ℕ} → x ≡ y → 0 < y → 0 < x
     more same h = omega (arith, same, h)
+
+-- an edit, and the effect that was made before it
+pub edits_with_delta : (old new : ReplicaValue) (c : Command) (edited : Edited) (delta : StateValue) → EditsReplica old c (Ok edited) new → coordinates delta ≡ effect (coordinates old.state) old.own c (entry_made c) → Fits (length new.roster.names) (coordinates new.state)
+    → EditsWithDelta old c (Ok (edited, delta)) new
+edits_with_delta old new c edited delta done is fits = record {
+  edited = done.edited;
+  delta = is;
+  fits = subst (λ (r : RosterValue). Fits (length r.names) (coordinates delta)) done.roster
+      (effect_fits (length new.roster.names) old.state new.state delta old.own c is done.edited.joined fits);
+  roster = done.roster;
+  own = done.own;
+  err = done.err;
+}

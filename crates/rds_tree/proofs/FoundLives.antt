@@ -1,5 +1,5 @@
 -- The lives of the dots that a command covers, once these are found in a tree.
-use Rattle.std.proofs.Common.{◌≡◌, ℕ, ◌+◌, Bool, true, false, cond, ◌&&◌, ◌||◌, List, [], ◌∷◌, refl, sym, ◌∙◌, ap, eqb}
+use Rattle.std.proofs.Common.{◌≡◌, ℕ, Bool, true, false, cond, ◌&&◌, ◌||◌, List, [], ◌∷◌, refl, sym, ◌∙◌, ap, eqb}
 use Rattle.std.proofs.Common.{arith}
 use Rattle.std.proofs.lemmas.Bool.Decides.{nat_tests}
 use Rattle.std.proofs.lemmas.Bool.{false_from_ne_true, leb-true}
@@ -16,59 +16,104 @@ use Rattle.rds_dots.specs.Dots.{dot_cmp, is_dot}
 use Rattle.rds_dots.specs.Order.{dots_total}
 use Rattle.rds_dots.specs.Sets.{same_dot as dot_is}
 use Rattle.rds_life.specs.Life.{Life, Live, Dead, Lived, live_rows}
+use Rattle.rds_state.specs.CoveredDots.{covered_dots}
 use Rattle.rds_state.specs.Edit.{covers, life_killed}
 use Rattle.rds_state.specs.declared.command.Command.{Command}
 use Rattle.rds_state.proofs.CountLemmas.{same_dot-tied}
 use Rattle.rds_tree.specs.Cuts.{covered_leaf, found_at, goes, is_deep, path_in}
-use Rattle.rds_tree.specs.Growing.{row_of, Holds}
-use Rattle.rds_tree.specs.Held.{killed_in, IsGathered}
+use Rattle.rds_tree.specs.Growing.{Holds}
+use Rattle.rds_tree.specs.Held.{among_dots, is_covered, killed_in, IsGathered}
 use Rattle.rds_tree.specs.Row.{Row}
-use Rattle.rds_tree.proofs.Effects.{live_passes}
-use Rattle.rds_tree.proofs.Holding.{finds, tied}
-use Rattle.rds_tree.proofs.Witness.{or_left, or_right}
+use Rattle.rds_tree.proofs.Effects.{any_alike, live_passes, passes_live}
+use Rattle.rds_tree.proofs.Holding.{goes_covers, tied}
+use Rattle.rds_tree.proofs.Witness.{both_ways, or_left, or_right}
 
 -- some entry: what is found doesn't ask for it
 some_entry : Entry
 some_entry = record { path = [] ∷ []; kind = Reg; value = Null; below_root = leb-true _ _ refl; within = leb-true _ _ refl }
 
-abbrev pub IsLive : Option Life → Type 0
-IsLive o = (e : Entry) × (o ≡ Some (Live e))
+-- ---- a live dot that is covered
 
-none_lives : (o : Option Life) → o ≡ None → IsLive o → ⊥
-none_lives o is p = no p.0 (sym is ∙ p.1)
-  where
-    no : (e : Entry) → None ≡ Some (Live e) → ⊥
-    no e h = cc
+none_lives : (e : Entry) → None ≡ Some (Live e) → ⊥
+none_lives e h = cc
 
-dead_lives : (o : Option Life) → o ≡ Some Dead → IsLive o → ⊥
-dead_lives o is p = no p.0 (sym is ∙ p.1)
-  where
-    no : (e : Entry) → Some Dead ≡ Some (Live e) → ⊥
-    no e h = cc
+dead_lives : (e : Entry) → Some Dead ≡ Some (Live e) → ⊥
+dead_lives e h = cc
 
-module _ (c : Command) (path : List (List ℕ)) (v : Lived) (tree : List Row) (dots : List Dot) (at : path ≡ path_in c) (holds : Holds (live_rows v) tree) (gathered : IsGathered (found_at (covered_leaf c) (is_deep c) path tree) [] dots) where
-  abbrev listed : Dot → Bool
-  listed d = list_any (λ x. eq_by_cmp dot_cmp x d) dots
+live_one : (e f : Entry) → Some (Live e) ≡ Some (Live f) → e ≡ f
+live_one e f h = cc
 
-  -- only live dots were found
-  pub listed_lives : (d : Dot) → listed d ≡ true → IsLive (map.get v d)
-  listed_lives d h =
-      let p = live_passes (λ r. hit (row_of r)) v (sym (holds.any hit) ∙ sym (gathered.any d some_entry) ∙ h) in
-      (p.1.0, ap (map.get v) (sym (dot_is p.0 d (and_right (goes (covered_leaf c) (is_deep c) path p.1.0.path (row_of (p.0, p.1.0)).leaf) _ p.1.1.1))) ∙ p.1.1.0)
+cond_itself : (b : Bool) → b ≡ is_some (cond b (Some Dead) None)
+cond_itself true = refl
+cond_itself false = refl
+
+module _ (c : Command) (v : Lived) (d : Dot) where
+  abbrev hit : Dot × Entry → Bool
+  hit r = covers c r.1 && eq_by_cmp dot_cmp r.0 d
+
+  -- the row that is hit is the dot's
+  hit_lives : (r : Dot × Entry) → map.get v r.0 ≡ Some (Live r.1) → hit r ≡ true → map.get v d ≡ Some (Live r.1)
+  hit_lives r got h = ap (map.get v) (sym (dot_is r.0 d (and_right (covers c r.1) _ h))) ∙ got
+
+  any_hit : (e : Entry) → list_any hit (live_rows v) ≡ is_covered c v d e
+  any_hit e = by (map.get v d) refl
     where
-      hit : Row → Bool
-      hit r = goes (covered_leaf c) (is_deep c) path r.path r.leaf && eq_by_cmp dot_cmp r.leaf.dot d
+      by : (o : Option Life) → map.get v d ≡ o → list_any hit (live_rows v) ≡ is_some (life_killed c o)
+      by None is = false_from_ne_true _ (λ h. let p = live_passes hit v h in none_lives p.1.0 (sym is ∙ hit_lives (p.0, p.1.0) p.1.1.0 p.1.1.1))
+      by (Some Dead) is = false_from_ne_true _ (λ h. let p = live_passes hit v h in dead_lives p.1.0 (sym is ∙ hit_lives (p.0, p.1.0) p.1.1.0 p.1.1.1))
+      by (Some (Live f)) is = both_ways _ _
+          (λ h. let p = live_passes hit v h in
+          let same : p.1.0 ≡ f = live_one p.1.0 f (sym (hit_lives (p.0, p.1.0) p.1.1.0 p.1.1.1) ∙ is) in
+          ap (covers c) (sym same) ∙ and_left (covers c p.1.0) _ p.1.1.1)
+          (λ h. passes_live hit v d f is (and_true _ _ h (tied d)))
+          ∙ cond_itself (covers c f)
 
-  pub listed_seen : (d : Dot) → listed d ≡ true → is_some (map.get v d) ≡ true
-  listed_seen d h = ap is_some (listed_lives d h).1
-
-  pub listed_killed : (d : Dot) → killed_in dots d ≡ life_killed c (map.get v d)
-  listed_killed d = by (map.get v d) refl
+  killed_or_none : (e : Entry) → cond (is_covered c v d e) (Some Dead) None ≡ life_killed c (map.get v d)
+  killed_or_none e = by (map.get v d)
     where
-      by : (o : Option Life) → map.get v d ≡ o → killed_in dots d ≡ life_killed c o
-      by None is = ap (λ b. cond b (Some Dead) None) (false_from_ne_true (listed d) (λ h. none_lives _ is (listed_lives d h)))
-      by (Some (Live e)) is = ap (λ b. cond b (Some Dead) None) (gathered.any d e ∙ finds c path v tree at holds d e is)
-      by (Some Dead) is = ap (λ b. cond b (Some Dead) None) (false_from_ne_true (listed d) (λ h. dead_lives _ is (listed_lives d h)))
+      by_covered : (b : Bool) → cond (is_some (cond b (Some Dead) None)) (Some Dead) None ≡ cond b (Some Dead) None
+      by_covered true = refl
+      by_covered false = refl
+
+      by : (o : Option Life) → cond (is_some (life_killed c o)) (Some Dead) None ≡ life_killed c o
+      by None = refl
+      by (Some (Live f)) = by_covered (covers c f)
+      by (Some Dead) = refl
+
+  killed_seen : (e : Entry) → is_covered c v d e ≡ true → is_some (map.get v d) ≡ true
+  killed_seen e = by (map.get v d)
+    where
+      by : (o : Option Life) → is_some (life_killed c o) ≡ true → is_some o ≡ true
+      by None h = h
+      by (Some l) h = refl
+
+-- ---- the lists of them
+
+-- found in a tree
+pub found_covered : (c : Command) (path : List (List ℕ)) (v : Lived) (tree : List Row) → path ≡ path_in c → Holds (live_rows v) tree → (d : Dot) (e : Entry) → found_at (covered_leaf c) (is_deep c) path tree d e ≡ is_covered c v d e
+found_covered c path v tree at holds d e =
+    ap (λ p. found_at (covered_leaf c) (is_deep c) p tree d e) at
+    ∙ holds.any (λ r. goes (covered_leaf c) (is_deep c) (path_in c) r.path r.leaf && eq_by_cmp dot_cmp r.leaf.dot d)
+    ∙ any_alike _ (hit c v d) v (λ q f live. ap (λ b. b && eq_by_cmp dot_cmp q d) (goes_covers c (q, f)))
+    ∙ any_hit c v d e
+
+-- found by a look at each row
+any-covered : (c : Command) (d : Dot) (rows : List (Dot × Entry)) → list_any (λ x. eq_by_cmp dot_cmp x d) (covered_dots c rows) ≡ list_any (λ r. covers c r.1 && eq_by_cmp dot_cmp r.0 d) rows
+any-covered c d [] = refl
+any-covered c d (r ∷ rows) = elim (covers c r.1) as (λ b. list_any (λ x. eq_by_cmp dot_cmp x d) (cond b (r.0 ∷ covered_dots c rows) (covered_dots c rows)) ≡ ((b && eq_by_cmp dot_cmp r.0 d) || list_any (λ r. covers c r.1 && eq_by_cmp dot_cmp r.0 d) rows)) [
+  | true ↦ ap (λ b. eq_by_cmp dot_cmp r.0 d || b) (any-covered c d rows)
+  | false ↦ any-covered c d rows
+]
+
+pub covered_gathered : (c : Command) (v : Lived) (dots : List Dot) → dots ≡ covered_dots c (live_rows v) → IsGathered (is_covered c v) [] dots
+covered_gathered c v dots are = record { any = λ d e. ap (λ ds. among_dots ds d e) are ∙ any-covered c d (live_rows v) ∙ any_hit c v d e }
+
+module _ (c : Command) (v : Lived) (dots : List Dot) (gathered : IsGathered (is_covered c v) [] dots) where
+  pub gathered_killed : (d : Dot) → killed_in dots d ≡ life_killed c (map.get v d)
+  gathered_killed d = ap (λ b. cond b (Some Dead) None) (gathered.any d some_entry) ∙ killed_or_none c v d some_entry
+
+  pub gathered_seen : (d : Dot) → list_any (λ x. eq_by_cmp dot_cmp x d) dots ≡ true → is_some (map.get v d) ≡ true
+  gathered_seen d h = killed_seen c v d some_entry (sym (gathered.any d some_entry) ∙ h)
 
 pub all_dots : (dots : List Dot) → ((q : Dot) → list_any (λ x. eq_by_cmp dot_cmp x q) dots ≡ true → is_dot q ≡ true) → list_all is_dot dots ≡ true
 all_dots [] each = refl

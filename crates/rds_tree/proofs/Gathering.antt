@@ -1,5 +1,5 @@
 -- Dots of a tree that are gathered one after another.
-use Rattle.std.proofs.Common.{◌≡◌, Bool, true, false, ◌||◌, List, ◌++◌, Result, Ok, Err, OnOk, refl, sym, ◌∙◌, ap}
+use Rattle.std.proofs.Common.{◌≡◌, Bool, true, false, ◌||◌, List, [], ◌++◌, Result, Ok, Err, OnOk, refl, sym, ◌∙◌, ap}
 use Rattle.std.proofs.Math.Bool.{or-false}
 use Rattle.std.proofs.lemmas.List.Folds.{list_any-append}
 use Rattle.std.proofs.lemmas.List.Sorted.{list_any-IsPermutation}
@@ -34,6 +34,12 @@ gathers_next f rest old new h d e = ap (λ b. b || rest d e) (h.any d e) ∙ the
 pub gathers_both : (f g h : Test) (old mid new : List Dot) → IsGathered f old mid → IsGathered g mid new → ((d : Dot) (e : Entry) → h d e ≡ (f d e || g d e)) → IsGathered h old new
 gathers_both f g h old mid new first second either = record {
   any = λ d e. second.any d e ∙ gathers_next f g old mid first d e ∙ ap (λ b. among_dots old d e || b) (sym (either d e));
+}
+
+-- some that were found, behind others
+pub gathers_more : (f : Test) (old found new : List Dot) → new ≡ old ++ found → IsGathered f [] found → IsGathered f old new
+gathers_more f old found new is h = record {
+  any = λ d e. (gathers_list found old new is).any d e ∙ ap (λ b. among_dots old d e || b) (h.any d e);
 }
 
 -- the last of several walks

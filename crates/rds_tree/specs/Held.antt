@@ -1,6 +1,7 @@
 -- Dots by the value that they hold.
-use Rattle.std.specs.Prelude.{◌≡◌, Option, Some, None, Bool, false, cond, not, ◌&&◌, ◌||◌, List, [], ◌∷◌}
+use Rattle.std.specs.Prelude.{◌≡◌, Option, Some, None, is_some, Bool, false, cond, not, ◌&&◌, ◌||◌, List, [], ◌∷◌}
 use Rattle.std.specs.Prelude.{◌++◌, map}
+use Rattle.std.specs.FinMap as map_of
 use Rattle.std.specs.List.{list_any}
 use Rattle.std.specs.Ordering.{is_eq, eq_by_cmp}
 use Rattle.rds_names.specs.declared.entry.Entry.{Entry}
@@ -11,7 +12,9 @@ use Rattle.rds_names.specs.Orders.{scalar_cmp}
 use Rattle.rds_dots.specs.declared.dot.Dot.{Dot}
 use Rattle.rds_dots.specs.Dots.{dot_cmp}
 use Rattle.rds_life.specs.Killed.{is_same}
-use Rattle.rds_life.specs.Life.{Life, Dead}
+use Rattle.rds_life.specs.Life.{Life, Dead, Lived}
+use Rattle.rds_state.specs.Edit.{life_killed}
+use Rattle.rds_state.specs.declared.command.Command.{Command}
 use Rattle.rds_tree.specs.declared.dot_list.Which.{Which}
 use Rattle.rds_tree.specs.declared.dot_list.Which.TheVariants.{AllBut, One}
 use Rattle.rds_tree.specs.declared.leaf.Leaf.{Leaf}
@@ -45,6 +48,10 @@ among_any lists d e = list_any (λ dots. among_dots dots d e) lists
 -- the dot is one of those of a value that passes
 abbrev pub among_held : (Scalar → Bool) → List (Scalar × List Dot) → Dot → Entry → Bool
 among_held p held d e = any_held (λ v x. p v && eq_by_cmp dot_cmp x d) held
+
+-- the dot lives, and the command covers its entry
+abbrev pub is_covered : Command → Lived → Dot → Entry → Bool
+is_covered c v d e = is_some (life_killed c (map_of.get v d))
 
 -- the dots are the old ones and those that pass
 pub record IsGathered (found : Dot → Entry → Bool) (old new : List Dot) : Type 0 where

@@ -1,5 +1,5 @@
 //! Edits that hand out their effect, as a state.
-ghost use Rattle.std.specs.Prelude.{◌≡◌, ◌+◌, ◌≤◌, true, Some, IfOk, IfErr};
+ghost use Rattle.std.specs.Prelude.{◌≡◌, ◌+◌, ◌≤◌, true, Some, IfOk, IfErr, IfSome};
 ghost use Rattle.std.specs.FinMap as map;
 ghost use Rattle.std.specs.List.{list_all};
 ghost use Rattle.rds_counts.specs.Counted.{number, place};
@@ -18,6 +18,7 @@ ghost use Rattle.rds_tree.specs.EditsWithDelta.{EditsWithDelta};
 ghost use Rattle.rds_tree.specs.Growing.{Holds};
 ghost use Rattle.rds_tree.specs.Held.{killed_in};
 
+use crate::covered::covered;
 use crate::indexing::edit;
 use crate::node::Node;
 use rds_counts::{Counts, MAX_COUNT, Which};
@@ -27,8 +28,24 @@ use rds_names::{Entry, Fault, Key, Kind, Path, Scalar};
 use rds_state::{Command, Edited, Replica, State};
 use std::alloc::Global;
 
-/// Edits the replica and its tree, and hands out the effect. All of it is made before anything changes.
+/// Edits a replica, as [`Replica::edit_by`] does, and hands out what that changed, as a delta. What the command covers is
+/// found by a look at each live entry, so that no tree has to be built. A command that makes dots dead takes memory for
+/// it.
 pub fn edit_with_delta<S: DotSet>(
+    alloc: Global,
+    replica: &mut Replica<S>,
+    command: &Command,
+) -> Result<(Edited, State<S>), Fault>
+    ensures { EditsWithDelta replica.old command.now result replica.new }
+{
+    let delta = effect(alloc, replica, None, command)?;
+    let edited = replica.edit_by(command)?;
+    let _within = replica.state();
+    Ok((edited, delta))
+}
+
+/// Edits the replica and its tree, and hands out the effect. All of it is made before anything changes.
+pub fn edit_tree_with_delta<S: DotSet>(
     alloc: Global,
     replica: &mut Replica<S>,
     tree: &mut Node,
@@ -38,20 +55,20 @@ pub fn edit_with_delta<S: DotSet>(
     ensures holds { Holds (live_rows replica.new.state.lives) tree.new }
     ensures edited { EditsWithDelta replica.old command.now result replica.new }
 {
-    let delta = effect(alloc, replica, tree, command)?;
+    let delta = effect(alloc, replica, Some(&*tree), command)?;
     let edited = edit(alloc, replica, tree, command)?;
     let _within = replica.state();
     Ok((edited, delta))
 }
 
-/// The effect of a command, or why it is refused.
+/// The effect of a command, or why it is refused. Where the replica keeps a tree, what the command covers is found there.
 fn effect<S: DotSet>(
     alloc: Global,
     replica: &Replica<S>,
-    tree: &Node,
+    tree: Option<&Node>,
     command: &Command,
 ) -> Result<State<S>, Fault>
-    requires holds { Holds (live_rows replica.now.state.lives) tree.now }
+    requires holds { IfSome tree (λ t. Holds (live_rows replica.now.state.lives) t.now) }
     ensures ok { IfOk result (λ delta. coordinates delta
         ≡ effect (coordinates replica.now.state) replica.now.own command.now (entry_made command.now)) }
     ensures due { IfErr result (IsDue (refusal (coordinates replica.now.state) replica.now.own command.now)) }
@@ -79,7 +96,7 @@ fn effect<S: DotSet>(
 fn put<S: DotSet>(
     alloc: Global,
     replica: &Replica<S>,
-    tree: &Node,
+    tree: Option<&Node>,
     command: &Command,
     path: &Path,
     kind: Kind,
@@ -87,7 +104,7 @@ fn put<S: DotSet>(
 ) -> Result<State<S>, Fault>
     requires parts { let parts : Parts = record { path = path.now; kind = kind; value = value.now } in
         parts_of command.now ≡ Some parts }
-    requires holds { Holds (live_rows replica.now.state.lives) tree.now }
+    requires holds { IfSome tree (λ t. Holds (live_rows replica.now.state.lives) t.now) }
     ensures ok { IfOk result (λ delta. coordinates delta
         ≡ effect (coordinates replica.now.state) replica.now.own command.now (entry_made command.now)) }
     ensures due { IfErr result (IsDue (refusal (coordinates replica.now.state) replica.now.own command.now)) }
@@ -142,20 +159,18 @@ fn number_of(counts: &Counts, key: &Key, replica: u8, which: Which) -> u64
 fn killed<S: DotSet>(
     alloc: Global,
     replica: &Replica<S>,
-    tree: &Node,
+    tree: Option<&Node>,
     command: &Command,
     path: &Path,
 ) -> Result<Lives<S>, Fault>
     requires path { path.now ≡ path_in command.now }
-    requires holds { Holds (live_rows replica.now.state.lives) tree.now }
+    requires holds { IfSome tree (λ t. Holds (live_rows replica.now.state.lives) t.now) }
     ensures ok { IfOk result (λ lives. (d : Dot)
         → map.get lives d ≡ life_killed command.now (map.get replica.now.state.lives d)) }
     ensures memory { IfErr result (λ fault. fault ≡ Memory) }
 {
     let _dots_alone = replica.state().lives().seen();
-    let mut dots = Vec::new(alloc);
-    tree.gather(path.keys(), command, &mut dots)?;
-    dots.sort_unstable();
+    let dots = covered(alloc, replica, tree, command, path)?;
     dead(alloc, &dots)
 }
 

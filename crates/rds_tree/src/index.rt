@@ -1,5 +1,5 @@
 //! A replica with the tree of its live dots.
-ghost use Rattle.std.specs.Prelude.{◌≡◌, max, IfOk, IfErr, length};
+ghost use Rattle.std.specs.Prelude.{◌≡◌, max, IfOk, IfErr, OnErr, OnOk, length};
 ghost use Rattle.rds_life.specs.Life.{live_rows};
 ghost use Rattle.rds_names.specs.declared.fault.Fault.TheVariants.{Memory};
 ghost use Rattle.rds_state.specs.Fits.{Fits};
@@ -8,16 +8,18 @@ ghost use Rattle.rds_state.specs.Value.{coordinates};
 ghost use Rattle.rds_tree.specs.Document.{document};
 ghost use Rattle.rds_tree.specs.EditsWithDelta.{EditsWithDelta};
 ghost use Rattle.rds_tree.specs.Growing.{Holds};
+ghost use Rattle.rds_tree.specs.Held.{is_covered, IsGathered};
 ghost use Rattle.rds_tree.specs.Shown.{shown_view};
 ghost use Rattle.rds_tree.specs.View.{view_of};
 
+use crate::covered::gather_covered;
 use crate::document::{counters_at, tree_of};
-use crate::edit_delta::edit_with_delta;
+use crate::edit_delta::edit_tree_with_delta;
 use crate::indexing::edit;
 use crate::node::Node;
 use crate::taking::{take, take_with};
 use crate::views::View;
-use rds_dots::DotSet;
+use rds_dots::{Dot, DotSet};
 use rds_names::{Fault, Path, Roster};
 use rds_state::{Command, Edited, Replica, State};
 use std::alloc::Global;
@@ -108,7 +110,18 @@ impl<S: DotSet> Index<S> {
     pub fn edit_with_delta(&mut self, command: &Command) -> Result<(Edited, State<S>), Fault>
         ensures { EditsWithDelta self.old command.now result self.new }
     {
-        edit_with_delta(self.alloc, &mut self.replica, &mut self.tree, command)
+        edit_tree_with_delta(self.alloc, &mut self.replica, &mut self.tree, command)
+    }
+
+    /// Puts the live dots behind others that a command covers, in order, as the tree finds them. `Inc` and `Dec` cover
+    /// none. One that covers none takes no memory.
+    pub fn gather_covered(&self, command: &Command, dots: &mut Vec<Dot>) -> Result<(), Fault>
+        ensures gathered { OnOk result
+            (IsGathered (is_covered command.now self.now.state.lives) dots.old.items dots.new.items) }
+        ensures err { OnErr result (dots.new.items ≡ dots.old.items) }
+        ensures memory { IfErr result (λ fault. fault ≡ Memory) }
+    {
+        gather_covered(self.alloc, &self.replica, &self.tree, command, dots)
     }
 
     /// Joins a delta into the replica, as [`Replica::take`] does, and refuses as it does. The tree isn't built anew.

@@ -3,6 +3,7 @@
 
 mod by_value;
 mod counting;
+mod covered;
 mod document;
 mod dot_list;
 mod edit_delta;
@@ -19,6 +20,7 @@ mod taking;
 mod views;
 
 pub use document::view;
+pub use edit_delta::edit_with_delta;
 pub use index::Index;
 pub use laws::{same_documents_show_the_same, views_show_what_is_live};
 pub use views::{Maps, Scalars, Sums, Values, View};

@@ -5,6 +5,7 @@ use Rattle.rds_codec.specs.FormatTexts.{snapshot_in_at}
 use Rattle.rds_codec.specs.declared.formats.Format.TheVariants.{Two}
 use Rattle.rds_keep.specs.Parts.{ConsumesAtMost}
 use Rattle.rds_keep.specs.Snapshots.{IsUnread, ReadsWhole, WantsMoreReads}
+use Rattle.rds_keep.proofs.Files.{snapshot_kept}
 use Rattle.rds_keep.proofs.Fronts.{never_foreign}
 use Rattle.rds_keep.proofs.ReadWhole.{input_refused, each_known, magic_refused, input_read, input_spelled, input_bound, failed_later}
 use Rattle.rds_keep.proofs.snapshots.read_snapshot.Goals as goal
@@ -80,7 +81,7 @@ pub new-requires : goal.new-requires
 new-requires g c =
     let stands = rw c.as_slice.ensures.value at (c.in_ok-feed.ensures.adds snapshot_in_at [] c.snapshot.ensures) in
     let text = c.in_ok-_format.ensures.value Two 0 c.in_ok-front.front.items stands in
-    record { format = c.in_ok-_format._format; within = text.within; value = text.is_value }
+    snapshot_kept c.in_ok-_format._format c.in_ok-_format.replica text.is_value text.within
 
 pub returns-clause-text : goal.returns-clause-text
 returns-clause-text g c =
@@ -103,3 +104,9 @@ pub returns-clause-foreign : goal.returns-clause-foreign
 returns-clause-foreign g c =
     never_foreign (ConsumesAtMost (g.R.Read.remaining c.args.reader.now.inner) (g.R.Read.remaining c.read_fed.new.reader.inner) 4) (g.R.Read.remaining c.args.reader.now.inner)
     (g.R.Read.remaining c.read_magic.new.reader.inner) c.in_ok-front.front.items c.in_ok-front.ensures.magic c.in_ok-front.ensures.bytes
+
+pub returns-clause-value : goal.returns-clause-value
+returns-clause-value g c =
+    let stands = rw c.as_slice.ensures.value at (c.in_ok-feed.ensures.adds snapshot_in_at [] c.snapshot.ensures) in
+    let text = c.in_ok-_format.ensures.value Two 0 c.in_ok-front.front.items stands in
+    rw c.new.ensures text.is_value

@@ -1,4 +1,4 @@
-use Rattle.std.proofs.Common.{◌∙◌, ap, refl}
+use Rattle.std.proofs.Common.{◌∙◌, ap}
 use Rattle.std.specs.FinMap as map
 use Rattle.rds_state.specs.Chosen.{parts_of}
 use Rattle.rds_state.specs.Edit.{effect_number}

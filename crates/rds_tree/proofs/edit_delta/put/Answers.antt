@@ -1,4 +1,4 @@
-use Rattle.std.proofs.Common.{◌∙◌, sym, rules}
+use Rattle.std.proofs.Common.{◌∙◌, rules}
 use Rattle.rds_names.specs.Entry.{HasParts}
 use Rattle.rds_state.specs.Chosen.{Parts}
 use Rattle.rds_tree.proofs.EffectMade.{next_is_dot, put_is}

@@ -1,4 +1,4 @@
-use Rattle.std.proofs.Common.{ap, sym, true}
+use Rattle.std.proofs.Common.{ap, true}
 use Rattle.rds_tree.specs.Cuts.{among_leaves, covered_leaf}
 use Rattle.rds_tree.specs.Held.{among_held, at_value}
 use Rattle.rds_tree.proofs.Gathering.{gathers_none, gathers_same_if}

@@ -1,0 +1,164 @@
+-- The snapshot at the front of a file: how it is read, and why not.
+use Rattle.std.proofs.Common.{◌≡◌, ℕ, ◌+◌, ◌-◌, ◌<◌, ◌≤◌, ◌⊎◌, inl, inr, List, [], ◌∷◌, ◌++◌, length, Option, Some, None, Result, Ok, Err, refl, sym, ap, ◌∙◌, subst, arith, append_assoc, append-nil}
+use Rattle.std.specs.Prelude.{IfSome}
+use Rattle.std.specs.Io.KnownBytes.{Consumes, IsAtEnd}
+use Rattle.std.proofs.KnownBytes.{Consumes-trans}
+use Rattle.std.proofs.lemmas.List.{length-append}
+use Rattle.rds_names.specs.declared.fault.Fault.{Fault}
+use Rattle.rds_names.specs.declared.fault.Fault.TheVariants.{Memory, Cut, Bad, Extra, TooLong, Device}
+use Rattle.rds_bytes.specs.Reading.{Reader}
+use Rattle.rds_codec.specs.Decoding.{IsOtherFault}
+use Rattle.rds_codec.specs.FormatTexts.{Snapshot, snapshot_in_at, snapshot_text_in}
+use Rattle.rds_codec.specs.StateTexts.{IsSnapshot}
+use Rattle.rds_codec.specs.declared.formats.Format.{Format}
+use Rattle.rds_codec.specs.declared.limits.TheConstants.{LIMIT}
+use Rattle.rds_state.specs.Fits.{ReplicaValue}
+use Rattle.rds_keep.specs.Counted.{most_read}
+use Rattle.rds_keep.specs.Feeding.{AreBytes}
+use Rattle.rds_keep.specs.Kept.{AreWhole, RefusesBytes}
+use Rattle.rds_keep.specs.Leading.{Leads, RefusesFront}
+use Rattle.rds_keep.specs.Parts.{ConsumesAtMost}
+use Rattle.rds_keep.specs.Replay.{HoldsMore}
+use Rattle.rds_keep.specs.Snapshots.{IsForeign, IsMagic, IsShort}
+use Rattle.rds_keep.specs.Stored.{LosesFirst, first_and}
+use Rattle.rds_keep.proofs.Files.{front_is, none_stored}
+use Rattle.rds_keep.proofs.Foreign.{front_bad, front_cut, no_text}
+use Rattle.rds_keep.proofs.Fronts.{magic_is_four}
+
+-- ---- why there is none
+
+-- the first four bytes
+pub magic_refuses : (known : Option (List ℕ)) (turns : ℕ) (e : Fault) → (e ≡ Bad → IfSome known IsForeign) → (e ≡ Cut → IfSome known (IsShort turns)) → (e ≡ Bad) ⊎ ((e ≡ Cut) ⊎ ((e ≡ Memory) ⊎ (e ≡ Device)))
+    → IfSome known (λ input. RefusesBytes input e)
+magic_refuses None turns e foreign short why = tt
+magic_refuses (Some input) turns e foreign short (inl bad) = rw bad (none_stored input Bad (front_bad input (foreign bad)))
+magic_refuses (Some input) turns e foreign short (inr (inl cut)) = rw cut (let is = short cut in front_cut input is.0)
+magic_refuses (Some input) turns e foreign short (inr (inr (inl memory))) = rw memory tt
+magic_refuses (Some input) turns e foreign short (inr (inr (inr device))) = rw device tt
+
+-- those behind them
+front_refuses : (read : Reader Snapshot) (bytes : List ℕ) (e : Fault) → read bytes ≡ snapshot_in_at bytes → (e ≡ Device) ⊎ IsOtherFault e → RefusesFront read bytes e → RefusesBytes bytes e
+front_refuses read bytes e same (inl device) why = rw device tt
+front_refuses read bytes e same (inr (inl memory)) why = rw memory tt
+front_refuses read bytes e same (inr (inr (inl long))) why = rw long (subst (RefusesFront read bytes) long why)
+front_refuses read bytes e same (inr (inr (inr (inl extra)))) why = absurd (subst (RefusesFront read bytes) extra why)
+front_refuses read bytes e same (inr (inr (inr (inr (inl cut))))) why = rw cut (sym same ∙ subst (RefusesFront read bytes) cut why)
+front_refuses read bytes e same (inr (inr (inr (inr (inr bad))))) why = rw bad (let is = subst (RefusesFront read bytes) bad why in none_stored bytes is.0 (sym same ∙ is.1))
+
+pub leading_refuses : (read : Reader Snapshot) (first mid : Option (List ℕ)) (front : List ℕ) (e : Fault) → ((bytes : List ℕ) → read bytes ≡ snapshot_in_at bytes) → Consumes first mid front
+    → (e ≡ Device) ⊎ IsOtherFault e → IfSome mid (λ input. RefusesFront read (front ++ input) e) → IfSome first (λ input. RefusesBytes input e)
+leading_refuses read None mid front e same consumed fault why = tt
+leading_refuses read (Some xs) None front e same consumed fault why = absurd consumed
+leading_refuses read (Some xs) (Some ys) front e same consumed fault why =
+    subst (λ (t : List ℕ). RefusesBytes t e) (sym consumed) (front_refuses read (front ++ ys) e (same (front ++ ys)) fault why)
+
+-- a call failed, or memory ran out
+pub unread_refuses : (known : Option (List ℕ)) (e : Fault) → (e ≡ Memory) ⊎ (e ≡ Device) → IfSome known (λ input. RefusesBytes input e)
+unread_refuses None e why = tt
+unread_refuses (Some input) e (inl memory) = rw memory tt
+unread_refuses (Some input) e (inr device) = rw device tt
+
+-- so many bytes were read that they are above the limit
+pub long_refuses : (first last : Option (List ℕ)) (given : List ℕ) (count : ℕ) (e : Fault) → Consumes first last given → count ≤ length given → (e ≡ Memory) ⊎ ((e ≡ TooLong) × (LIMIT < count)) → IfSome first (λ input. RefusesBytes input e)
+long_refuses None last given count e consumed size why = tt
+long_refuses (Some xs) None given count e consumed size why = absurd consumed
+long_refuses (Some xs) (Some ys) given count e consumed size (inl memory) = rw memory tt
+long_refuses (Some xs) (Some ys) given count e consumed size (inr long) = rw (long.0) (let many = long.1 in omega (arith, many, size, ap length consumed, length-append given ys))
+
+-- ---- there is one
+
+abbrev read_as : Snapshot → List ℕ → Result (Snapshot × List ℕ) Fault
+read_as s rest = Ok (s, rest)
+
+-- what was read up to it, and the bytes behind it
+pub leading_is : (read : Reader Snapshot) (front : List ℕ) (before after : Option (List ℕ)) (s : Snapshot) (count : ℕ) (behind : List ℕ) → ((bytes : List ℕ) → read bytes ≡ snapshot_in_at bytes)
+    → (leads : Leads read front before after s count behind) → (front ++ leads.given ≡ first_and s.0 s.1 behind) × IsSnapshot s.1
+leading_is read front before after s count behind same leads =
+    let whole = leads.whole [] in
+    let found : snapshot_in_at (front ++ leads.given) ≡ Ok (s, behind) =
+    sym (same (front ++ leads.given)) ∙ ap (λ (t : List ℕ). read (front ++ t)) (sym (append-nil leads.given)) ∙ whole ∙ ap (read_as s) (append-nil behind) in
+    front_is (front ++ leads.given) behind s leads.bytes found
+
+-- and more behind it
+module _ (read : Reader Snapshot) (same : (bytes : List ℕ) → read bytes ≡ snapshot_in_at bytes) (front : List ℕ) (first mid now last : Option (List ℕ)) (s : Snapshot) (count : ℕ) (behind held : List ℕ)
+    (consumed : Consumes first mid front) (leads : Leads read front mid now s count behind) (more : HoldsMore now last behind held) where
+  abbrev pub all_given : List ℕ
+  all_given = front ++ (leads.given ++ more.given)
+
+  pub all_consumed : Consumes first last all_given
+  all_consumed = Consumes-trans first mid last front (leads.given ++ more.given) consumed (Consumes-trans mid now last leads.given more.given leads.consumed more.consumed)
+
+  all_parts : all_given ≡ first_and s.0 s.1 held
+  all_parts =
+      let is = leading_is read front mid now s count behind same leads in
+      sym (append_assoc front leads.given more.given) ∙ ap (λ (t : List ℕ). t ++ more.given) is.0 ∙ append_assoc (snapshot_text_in s.0 s.1) behind more.given ∙ ap (λ (t : List ℕ). snapshot_text_in s.0 s.1 ++ t) (sym more.held)
+
+  pub loses_first : LosesFirst first last s.0 s.1 held
+  loses_first = record { given = all_given; consumed = all_consumed; parts = all_parts }
+
+  pub text_size : count ≡ length (snapshot_text_in s.0 s.1) + length behind
+  text_size =
+      let is = leading_is read front mid now s count behind same leads in
+      omega (arith, leads.size, ap length (is.0), length-append front leads.given, length-append (snapshot_text_in s.0 s.1) behind)
+
+  pub first_value : IsSnapshot s.1
+  first_value = (leading_is read front mid now s count behind same leads).1
+
+  pub too_long_refuses : (size : ℕ) (e : Fault) → size ≡ length (snapshot_text_in s.0 s.1) → (e ≡ Memory) ⊎ ((e ≡ TooLong) × (LIMIT < size)) → IfSome first (λ input. RefusesBytes input e)
+  too_long_refuses size e is why =
+      long_refuses first last all_given size e all_consumed (omega (arith, is, ap length all_parts, length-append (snapshot_text_in s.0 s.1) held)) why
+
+  pub first_bound : (turns left left2 left3 : ℕ) → IsMagic front → 4 ≤ most_read (turns - left) → count ≤ length front + most_read (left - left2) → length held ≤ length behind + most_read (left2 - left3)
+      → left ≤ turns → left2 ≤ left → left3 ≤ left2 → ConsumesAtMost first last (most_read (turns - left3))
+  first_bound turns left left2 left3 magic one two three le le2 le3 = (
+    all_given,
+    (let four = magic_is_four front magic in
+        omega (arith, four, one, two, three, le, le2, le3, leads.size, ap length more.held, length-append behind more.given, length-append leads.given more.given, length-append front (leads.given ++ more.given))),
+    all_consumed,
+  )
+
+-- ---- what is behind it
+
+-- what holds of the snapshot and all behind it holds of the input
+pub lost_first : (P : List ℕ → Type 0) (first mid : Option (List ℕ)) (format : Format) (v : ReplicaValue) (behind : List ℕ) → LosesFirst first mid format v behind → IfSome mid (λ input. P (first_and format v (behind ++ input)))
+    → IfSome first P
+lost_first P None mid format v behind loses has = tt
+lost_first P (Some xs) None format v behind loses has = absurd loses.consumed
+lost_first P (Some xs) (Some ys) format v behind loses has =
+    subst P (sym (loses.consumed ∙ ap (λ (t : List ℕ). t ++ ys) loses.parts ∙ append_assoc (snapshot_text_in format v) behind ys)) has
+
+-- it isn't foreign
+pub first_own : (Q : Type 0) (first mid : Option (List ℕ)) (format : Format) (v : ReplicaValue) (behind : List ℕ) → LosesFirst first mid format v behind → IfSome first (λ input. IsForeign input → Q)
+first_own Q None mid format v behind loses = tt
+first_own Q (Some xs) None format v behind loses = absurd loses.consumed
+first_own Q (Some xs) (Some ys) format v behind loses = λ foreign.
+    absurd (no_text xs (format, v) (behind ++ ys) foreign (loses.consumed ∙ ap (λ (t : List ℕ). t ++ ys) loses.parts ∙ append_assoc (snapshot_text_in format v) behind ys))
+
+pub both_consumed : (first mid last : Option (List ℕ)) (one two most : ℕ) → ConsumesAtMost first mid one → ConsumesAtMost mid last two → one + two ≤ most → ConsumesAtMost first last most
+both_consumed first mid last one two most p q le =
+    let few = p.1 in
+    let more = q.1 in
+    (p.0 ++ q.0, omega (arith, few, more, le, length-append p.0 q.0), Consumes-trans first mid last p.0 q.0 p.2 q.2)
+
+pub none_whole : (known : Option (List ℕ)) → IfSome known (λ input. AreWhole input 0)
+none_whole None = tt
+none_whole (Some input) = λ some. absurd (omega (arith, some))
+
+-- ---- bytes that are there
+
+-- the snapshot that they begin with
+module _ (read : Reader Snapshot) (same : (t : List ℕ) → read t ≡ snapshot_in_at t) (bytes rest : List ℕ) (s : Snapshot) (fits : AreBytes bytes) (reads : (more : List ℕ) → read (bytes ++ more) ≡ Ok (s, rest ++ more)) where
+  pub step_is : (bytes ≡ first_and s.0 s.1 rest) × IsSnapshot s.1
+  step_is =
+      let found : snapshot_in_at bytes ≡ Ok (s, rest) = sym (same bytes) ∙ ap read (sym (append-nil bytes)) ∙ reads [] ∙ ap (read_as s) (append-nil rest) in
+      front_is bytes rest s fits found
+
+  pub step_size : length bytes ≡ length (snapshot_text_in s.0 s.1) + length rest
+  step_size = omega (arith, ap length (step_is.0), length-append (snapshot_text_in s.0 s.1) rest)
+
+  pub step_long : (size : ℕ) (e : Fault) → size ≡ length (snapshot_text_in s.0 s.1) → (e ≡ Memory) ⊎ ((e ≡ TooLong) × (LIMIT < size)) → RefusesBytes bytes e
+  step_long size e total (inl memory) = rw memory tt
+  step_long size e total (inr long) = rw (long.0) (let many = long.1 in omega (arith, many, total, step_size))
+
+pub bytes_refused : (read : Reader Snapshot) (bytes : List ℕ) (e : Fault) → ((t : List ℕ) → read t ≡ snapshot_in_at t) → IsOtherFault e → RefusesFront read bytes e → RefusesBytes bytes e
+bytes_refused read bytes e same fault why = front_refuses read bytes e (same bytes) (inr fault) why

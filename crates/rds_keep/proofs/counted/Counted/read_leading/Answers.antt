@@ -1,0 +1,56 @@
+use Rattle.std.proofs.Common.{rules, ◌≡◌, ◌≤◌, ◌++◌, ◌∙◌, [], length, refl, sym, ap, subst, arith, append-nil}
+use Rattle.std.specs.Io.{appended_bytes}
+use Rattle.std.proofs.KnownBytes.{Consumes-nil, Consumes-trans}
+use Rattle.std.proofs.lemmas.Grind.{common_steps}
+use Rattle.rds_feeds.specs.Pieces.{ReadsOn}
+use Rattle.rds_keep.specs.Feeding.{AreBytes}
+use Rattle.rds_keep.proofs.LedSoFar.{cut_refused, led_cut, led_more, led_on, more_bytes}
+use Rattle.rds_keep.proofs.counted.Counted.read_leading.Goals as goal
+
+pub reading-init : goal.reading-init
+reading-init g c = record {
+  given = [];
+  consumed = Consumes-nil (g.R.Read.remaining c.args.self.now.inner);
+  same = λ more. refl;
+  size = grind (arith, common_steps);
+  bytes = subst AreBytes (sym (append-nil c.args.front.items)) (rw c.as_slice.ensures.value at c.hold_bytes.ensures);
+  spent = omega arith;
+  steady = refl;
+  left = omega arith;
+  turns = refl;
+  renamed = refl;
+}
+
+pub reading-preserved : goal.reading-preserved
+reading-preserved g c =
+    let finish = g.U.Unfinished.finish in
+    let led = c.reading.invariant in
+    let rest = c.in_ok-rest.rest.items in
+    let held = c.read_on.new.front.items in
+    let reads : ReadsOn finish (λ more. finish c.reading.unfinished (c.reading.held.items ++ more)) c.in_ok-progress.progress rest = rw (c.deref.ensures.value, ← c.in_ok-rest.ensures.items) at c.in_ok-progress.ensures.ok in
+    record {
+      given = led.given ++ appended_bytes rest held;
+      consumed = Consumes-trans _ _ _ led.given (appended_bytes rest held) led.consumed c.in_ok-read_on.ensures.bytes;
+      same = led_more finish c.args.unfinished c.in-More.next c.args.front.items led.given rest held
+          (led_on finish c.args.unfinished c.reading.unfinished c.in-More.next c.args.front.items led.given c.reading.held.items rest c.in_ok-progress.progress c.in-More.is led.same reads) c.in_ok-read_on.ensures.appends;
+      size = grind (arith, common_steps);
+      bytes = more_bytes finish c.args.front.items led.given rest held c.in_ok-read_on.ensures.appends led.bytes (rw c.as_slice-in-reading.ensures.value at c.hold_bytes-in-reading.ensures);
+      spent = grind (arith, common_steps);
+      steady = search rules;
+      left = grind (arith, common_steps);
+      turns = search rules;
+      renamed = search rules;
+    }
+
+pub returns-then-len-before-clause-refused : goal.returns-then-len-before-clause-refused
+returns-then-len-before-clause-refused g c =
+    let finish = g.U.Unfinished.finish in
+    let led = c.reading.invariant in
+    let rest = c.in_ok-rest.rest.items in
+    let held = c.read_on.new.front.items in
+    let reads : ReadsOn finish (λ more. finish c.reading.unfinished (c.reading.held.items ++ more)) c.in_ok-progress.progress rest = rw (c.deref.ensures.value, ← c.in_ok-rest.ensures.items) at c.in_ok-progress.ensures.ok in
+    let same : length held ≡ length rest = grind (arith, common_steps) in
+    cut_refused finish c.args.unfinished c.in-More.next c.args.front.items led.given rest held _ _ _
+    (led_on finish c.args.unfinished c.reading.unfinished c.in-More.next c.args.front.items led.given c.reading.held.items rest c.in_ok-progress.progress c.in-More.is led.same reads)
+    led.consumed c.in_ok-read_on.ensures.appends c.in_ok-read_on.ensures.bytes same (c.in_ok-read_on.ensures.end (grind (arith, common_steps)))
+    (led_cut finish c.reading.unfinished c.in-More.next c.reading.held.items rest c.in_ok-progress.progress c.in-More.is reads)

@@ -1,0 +1,29 @@
+use Rattle.std.proofs.Common.{rules, arith}
+use Rattle.std.proofs.lemmas.Grind.{common_steps}
+use Rattle.std.proofs.lemmas.Result.{err_from_is_err_and}
+use Rattle.rds_keep.proofs.FirstParts.{bytes_refused, step_is, step_long, step_size}
+use Rattle.rds_keep.proofs.stored.decode_first.Goals as goal
+
+pub returns-in_err-value-clause-refused : goal.returns-in_err-value-clause-refused
+returns-in_err-value-clause-refused g c =
+    let p = err_from_is_err_and c.from_residual.result c.from_residual.ensures.1 in
+    rw (p.1, p.2) (bytes_refused _ c.args.bytes.now _ c.unfinished_snapshot.ensures c.in_err-value.ensures.fault c.in_err-value.ensures.refused)
+
+pub first_of-requires-clause-size : goal.first_of-requires-clause-size
+first_of-requires-clause-size g c =
+    let size = step_size _ c.unfinished_snapshot.ensures c.args.bytes.now c.in_ok-value.rest.now c.in_ok-value.value c.hold_bytes.ensures c.in_ok-value.ensures.whole in
+    grind (arith, common_steps)
+
+pub first_of-requires-clause-value : goal.first_of-requires-clause-value
+first_of-requires-clause-value g c = (step_is _ c.unfinished_snapshot.ensures c.args.bytes.now c.in_ok-value.rest.now c.in_ok-value.value c.hold_bytes.ensures c.in_ok-value.ensures.whole).1
+
+pub returns-in_err-first-clause-refused : goal.returns-in_err-first-clause-refused
+returns-in_err-first-clause-refused g c =
+    let p = err_from_is_err_and c.from_residual-in_err-first.result c.from_residual-in_err-first.ensures.1 in
+    let size = step_size _ c.unfinished_snapshot.ensures c.args.bytes.now c.in_ok-value.rest.now c.in_ok-value.value c.hold_bytes.ensures c.in_ok-value.ensures.whole in
+    rw (p.1, p.2) (step_long _ c.unfinished_snapshot.ensures c.args.bytes.now c.in_ok-value.rest.now c.in_ok-value.value c.hold_bytes.ensures c.in_ok-value.ensures.whole c.saturating_sub-size.result _ (grind (arith, common_steps)) c.in_err-first.ensures.fault)
+
+pub returns-clause-parts : goal.returns-clause-parts
+returns-clause-parts g c =
+    let is = c.in_ok-first.ensures.same in
+    rw (is.0, is.1) ((step_is _ c.unfinished_snapshot.ensures c.args.bytes.now c.in_ok-value.rest.now c.in_ok-value.value c.hold_bytes.ensures c.in_ok-value.ensures.whole).0)
