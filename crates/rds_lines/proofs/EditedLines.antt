@@ -9,13 +9,14 @@ use Rattle.rds_names.specs.declared.fault.Fault.{Fault}
 use Rattle.rds_names.specs.declared.fault.Fault.TheVariants.{BadLine, Memory}
 use Rattle.rds_state.specs.Edit.{IsDue}
 use Rattle.rds_state.specs.Fits.{ReplicaValue}
+use Rattle.rds_state.specs.Results.{EditsReplica}
 use Rattle.rds_state.specs.declared.command.Command.{Command}
 use Rattle.rds_state.specs.declared.command.Edited.{Edited}
 use Rattle.rds_json.specs.MayGive.{MayGive}
 use Rattle.rds_json.specs.Unnamed.{edit_of}
 use Rattle.rds_names.specs.Roster.{RosterValue}
 use Rattle.rds_output.specs.Reply.{edit_reply, reply_line, is_refusal}
-use Rattle.rds_lines.specs.Editing.{AnswersAs, AnswersNext, DoesCommand, EditsLines, EditsLinesBehind, EditsNext, IsEdited, WritesAll, MeetsCommand, MeetsEdit, replies_text, edit_of_bytes, edit_refusal}
+use Rattle.rds_lines.specs.Editing.{AnswersAs, AnswersNext, DoesCommand, DoesEdit, EditsLines, EditsLinesBehind, EditsNext, IsEdited, WritesAll, MeetsCommand, MeetsEdit, replies_text, edit_of_bytes, edit_refusal}
 use Rattle.rds_lines.specs.Lines.{after_line, is_empty_line, is_text_line, lines_in, until_newline}
 use Rattle.rds_lines.specs.declared.ahead.TheConstants.{LINE_LIMIT}
 use Rattle.rds_output.specs.declared.reply.Reply.{Reply}
@@ -69,6 +70,14 @@ some_left (x ∷ xs) b e f = omega arith
 -- a line is left, and those after it
 pub line_more : (rest later : List ℕ) → 0 < length rest → later ≡ after_line rest → length (lines_in rest) ≡ suc (length (lines_in later))
 line_more rest later some is = ap length (lines_first rest some) ∙ ap (λ (l : List ℕ). suc (length (lines_in l))) (sym is)
+
+-- ---- an edit
+
+pub does_edit : (before after : ReplicaValue) (command : Command) (answer : Result Edited Fault) → EditsReplica before command answer after → DoesEdit before command answer after
+does_edit before after command answer edits = record { edited = edits.edited; roster = edits.roster; own = edits.own; err = edits.err }
+
+pub does_command : (before after : ReplicaValue) (command : Command) (answer : Result Edited Fault) → EditsReplica before command answer after → DoesCommand before command answer after
+does_command before after command answer edits = inr (does_edit before after command answer edits)
 
 -- ---- one line
 

@@ -24,7 +24,7 @@ use Rattle.rds_state.specs.Coordinates.{Coordinates, join}
 use Rattle.rds_state.specs.Edit.{effect}
 use Rattle.rds_state.specs.Fits.{Fits, ReplicaValue}
 use Rattle.rds_state.specs.Made.{entry_made}
-use Rattle.rds_state.specs.Results.{EditsReplica, TakesDeltaWith}
+use Rattle.rds_state.specs.Results.{TakesDeltaWith}
 use Rattle.rds_state.specs.Value.{StateValue, coordinates}
 use Rattle.rds_state.specs.declared.command.Command.{Command}
 use Rattle.rds_state.specs.declared.command.Edited.{Edited}
@@ -190,9 +190,6 @@ merge_made now after source lacking grew takes is same = record {
 }
 
 -- ---- an edit that was done, or refused
-
-pub does_edit : (before after : ReplicaValue) (command : Command) (answer : Result Edited Fault) → EditsReplica before command answer after → DoesEdit before command answer after
-does_edit before after command answer edits = record { edited = edits.edited; roster = edits.roster; own = edits.own; err = edits.err }
 
 pub does_with_delta : (before after : ReplicaValue) (command : Command) (edited : Edited) (delta : StateValue) → EditsWithDelta before command (Ok (edited, delta)) after → DoesEdit before command (Ok edited) after
 does_with_delta before after command edited delta edits = record { edited = edits.edited; roster = edits.roster; own = edits.own; err = tt }

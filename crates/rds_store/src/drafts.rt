@@ -79,15 +79,7 @@ impl Draft {
     pub fn noted(&self) -> Option<Noted<'_>>
         ensures { IfSome result (λ noted. IsChanged self.now.kept noted self.now.document) }
     {
-        let deltas = self.changes.deltas.as_ref()?;
-        let _within = self.document.replica().state();
-        match joined(self.document.alloc, deltas) {
-            Ok(delta) => Some(Noted {
-                roster: self.changes.roster(&self.document),
-                delta,
-            }),
-            Err(_) => None,
-        }
+        noted_in(&self.document, &self.changes)
     }
 
     /// Edits the document, as [`Document::edit`] does. To note what it changes takes memory.
@@ -199,6 +191,22 @@ impl<'a> Noted<'a> {
             roster: self.roster,
             delta: &self.delta,
         }
+    }
+}
+
+/// What changed a document, in one.
+fn noted_in<'a>(document: &'a Document, changes: &Changes) -> Option<Noted<'a>>
+    requires since { AreSince changes.now document.now }
+    ensures { IfSome result (λ noted. IsChanged changes.now.kept.value noted document.now) }
+{
+    let deltas = changes.deltas.as_ref()?;
+    let _within = document.replica().state();
+    match joined(document.alloc, deltas) {
+        Ok(delta) => Some(Noted {
+            roster: changes.roster(document),
+            delta,
+        }),
+        Err(_) => None,
     }
 }
 
