@@ -8,7 +8,9 @@ use Rattle.rds_commands.proofs.batch.edit_in_by.Goals as goal
 
 pub keep-requires : goal.keep-requires
 keep-requires g c =
-    changed_in c.args.file c.into_parts-replica.result.1 c.into_parts-replica.result.0 c.in_ok-replica.replica _ c.into_parts-replica.ensures.replica c.into_parts-replica.ensures.file c.in_ok-replica.ensures.changed
+    record {
+      changed = changed_in c.args.file c.into_parts-replica.result.1 c.into_parts-replica.result.0 c.in_ok-replica.replica _ c.into_parts-replica.ensures.replica c.into_parts-replica.ensures.file c.in_ok-replica.ensures.changed;
+    }
 
 pub returns-in_err-replica-clause-fault : goal.returns-in_err-replica-clause-fault
 returns-in_err-replica-clause-fault g c =

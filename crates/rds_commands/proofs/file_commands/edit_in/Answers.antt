@@ -26,4 +26,6 @@ returns-clause-due g c = search rules steps 1000000
 
 pub keep-requires : goal.keep-requires
 keep-requires g c =
-    changed_in c.args.file c.into_parts-replica.result.1 _ c.edited.new.replica _ c.into_parts-replica.ensures.replica c.into_parts-replica.ensures.file c.in_ok-answer.ensures.changed
+    record {
+      changed = changed_in c.args.file c.into_parts-replica.result.1 _ c.edited.new.replica _ c.into_parts-replica.ensures.replica c.into_parts-replica.ensures.file c.in_ok-answer.ensures.changed;
+    }

@@ -21,5 +21,7 @@ returns-clause-grown g c =
 
 pub keep-requires : goal.keep-requires
 keep-requires g c =
-    changed_in c.args.file c.into_parts-replica.result.1 _ c.grow.new.replica _ c.into_parts-replica.ensures.replica c.into_parts-replica.ensures.file
-    (changed_by_names c.args.names.now _ c.grow.new.replica c.in_ok-roster.roster c.empty-nothing.result c.in_ok-roster.ensures.grown c.in_ok-roster.ensures.roster c.empty-nothing.ensures.lives c.empty-nothing.ensures.counts)
+    record {
+      changed = changed_in c.args.file c.into_parts-replica.result.1 _ c.grow.new.replica _ c.into_parts-replica.ensures.replica c.into_parts-replica.ensures.file
+          (changed_by_names c.args.names.now _ c.grow.new.replica c.in_ok-roster.roster c.empty-nothing.result c.in_ok-roster.ensures.grown c.in_ok-roster.ensures.roster c.empty-nothing.ensures.lives c.empty-nothing.ensures.counts);
+    }
