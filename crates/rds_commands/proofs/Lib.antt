@@ -1,4 +1,5 @@
 pub mod Batches
+pub mod EditEvents
 pub mod Entered
 pub mod Events
 pub mod Getting

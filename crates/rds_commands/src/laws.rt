@@ -1,4 +1,5 @@
 //! The laws of sessions of files, and of questions and answers that go as texts.
+ghost use Rattle.rds_commands.specs.Changing.{EditingsAreEdits, LinesAreEdits};
 ghost use Rattle.rds_commands.specs.Letters.{AnswersAreAnswers, QuestionsAreAsks, TakesAreTakes};
 ghost use Rattle.rds_commands.specs.Sessions.{AnswersStay, AsksStay, ReadingsAreAsks, SessionsAreAnswered};
 ghost use Rattle.rds_commands.specs.Sessions.{SettlingsAreTakes};
@@ -25,4 +26,13 @@ pub fn letters_are_events()
     ensures asks { QuestionsAreAsks }
     ensures answers { AnswersAreAnswers }
     ensures takes { TakesAreTakes }
+{}
+
+/// A command that edits the replica in a file is events of the model of all replicas: where the file holds what the
+/// model's replica has kept, that is read, edited, and saved. The file then holds what the model's replica has kept by
+/// now. Lines do the same by the commands of those that aren't refused. What isn't kept is the model's crash: the next
+/// reading begins with one. The function does nothing: its contract is these laws.
+pub fn edits_are_events()
+    ensures edits { EditingsAreEdits }
+    ensures lines { LinesAreEdits }
 {}

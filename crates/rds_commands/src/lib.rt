@@ -19,5 +19,5 @@ mod telling;
 mod tips;
 mod unparsed;
 
-pub use laws::{letters_are_events, sessions_are_events};
+pub use laws::{edits_are_events, letters_are_events, sessions_are_events};
 pub use program::run;
