@@ -1,5 +1,5 @@
 //! A file in memory that tears: a call may fail, and may be lost or cut short by a crash until the next sync.
-ghost use Rattle.std.specs.Prelude.{◌≡◌, ◌≤◌, ◌∷◌, [], ◌++◌, length, take, Some, OnErr, OnOk};
+ghost use Rattle.std.specs.Prelude.{◌≡◌, ◌≤◌, ◌∷◌, [], ◌++◌, length, take, Some, IfOk, OnErr, OnOk};
 ghost use Rattle.rds_journal.specs.Device.{written, HasRisen};
 ghost use Rattle.rds_text_rows.specs.Disks.{Outcome, OutcomeSince, counts_now, only_now};
 
@@ -34,8 +34,12 @@ pub struct Disk {
 }
 
 impl Disk {
+    ghost use Rattle.rds_text_rows.specs.Standing.{disk_bytes};
+
     /// A file with these bytes.
-    pub fn new(alloc: Global, bytes: &[u8], plan: Plan) -> Result<Disk, AllocError> {
+    pub fn new(alloc: Global, bytes: &[u8], plan: Plan) -> Result<Disk, AllocError>
+        ensures { IfOk result (λ disk. disk_bytes disk ≡ bytes.now) }
+    {
         Ok(Disk {
             alloc,
             plan,

@@ -1,4 +1,7 @@
 //! Rows about records, and about a record that is appended to a file.
+ghost use Rattle.std.specs.Prelude.{IsTrue};
+ghost use Rattle.rds_journal.specs.Appending.{IsEnd};
+
 use crate::disk::{Disk, Plan};
 use rds_journal::{AppendError, MOST, append, first_record, is_torn, put_record, record_length};
 use rds_names::Fault;
@@ -145,7 +148,7 @@ fn appended(alloc: Global, row: &str) -> Result<String, Fault> {
     let text = bytes_of(alloc, text)?;
     let end = number(end)?;
     let is_torn = torn == "torn";
-    if (file.len() as u64) < end || (!is_torn && end < file.len() as u64) {
+    if !is_end(end, is_torn, &file) {
         return Err(Fault::Usage);
     }
     let mut disk = Disk::new(alloc, &file, plan)?;
@@ -155,6 +158,18 @@ fn appended(alloc: Global, row: &str) -> Result<String, Fault> {
         Err(AppendError::Unsure) => "unsure",
     };
     disk_text(alloc, came, &disk)
+}
+
+// Whether the whole records of the file may end there.
+fn is_end(end: u64, is_torn: bool, file: &[u8]) -> bool
+    ensures { IsTrue result → IsEnd end is_torn file.now }
+{
+    let length = file.len() as u64;
+    if is_torn {
+        end <= length
+    } else {
+        end == length
+    }
 }
 
 fn disk_text(alloc: Global, came: &str, disk: &Disk) -> Result<String, Fault> {
