@@ -1,9 +1,10 @@
-"""A plain model of a document, its texts and its sessions: docs/MODEL.md and docs/FORMATS.md in a few lines of Python.
+"""A plain model of a document, its texts, files and sessions: docs/MODEL.md and docs/FORMATS.md in a few lines of Python.
 
-`bench/random` compares the program with it. It is written from these two pages alone, over sets and dictionaries. Texts are read
-and written in both formats; where none is named it is format 2.
+`bench/random`, `bench/records`, `bench/power` and others compare the program with it. It is written from these two pages alone, over
+sets and dictionaries. Texts are read and written in both formats; where none is named it is format 2.
 """
 import collections
+import hashlib
 import re
 
 GREATEST = 281_474_976_710_655
@@ -12,7 +13,9 @@ MANY = 100_000
 NAMES = {12: "Cut", 13: "Bad", 14: "Extra"} | {3: "BadKey", 4: "BadPath", 5: "BadScalar", 8: "CounterFull", 9: "Conflict"}
 NAMES |= {2: "BadName", 6: "BadRoster"}
 NAMES |= {10: "OwnAhead", 11: "WrongAsker", 17: "BadCertificate", 18: "WrongVersion", 19: "WrongGroup", 20: "WrongRoster"}
-NAMES |= {21: "SameReplica", 22: "OutOfTurn", 23: "PeerEnded", 25: "BadLine", 26: "NoSuch", 27: "Usage"}
+NAMES |= {21: "SameReplica", 22: "OutOfTurn", 23: "PeerEnded", 25: "BadLine", 26: "NoSuch", 27: "Usage", 29: "Unsure"}
+# The most bytes of a record's payload, how many stand before it, and how long records may always be before a file is written anew.
+MOST, HEAD, FEW = 65_536, 36, 65_536
 REGISTER, ELEMENT = 1, 2
 HELLO, DIGEST, DELTA, BYE = 1, 2, 3, 4
 # The bye that tells of a fault; 5 for those that aren't here.
@@ -25,6 +28,14 @@ class Refused(Exception):
     @property
     def number(self):
         return self.args[0]
+
+
+class Damaged(Refused):
+    """Behind the records that end at this byte stands what is no torn end, or a record that doesn't fit."""
+
+    def __init__(self, at):
+        super().__init__(13, at)
+        self.at = at
 
 
 class TooMany(Exception):
@@ -64,15 +75,17 @@ class State:
         return State(lives, {at: above(pair, numbers.get(at, (0, 0))) for at, pair in self.numbers.items()})
 
     def joined(self, other):
-        lives = dict(self.lives)
+        return State(self.lives, self.numbers).join(other)
+
+    def join(self, other):
+        """Joins this very state with another."""
         for dot, entry in other.lives.items():
-            mine = lives.get(dot, entry)
+            mine = self.lives.get(dot, entry)
             refuse_if(mine and entry and mine != entry, 9)
-            lives[dot] = mine and entry
-        numbers = dict(self.numbers)
+            self.lives[dot] = mine and entry
         for at, pair in other.numbers.items():
-            numbers[at] = tuple(map(max, pair, numbers.get(at, (0, 0))))
-        return State(lives, numbers)
+            self.numbers[at] = tuple(map(max, pair, self.numbers.get(at, (0, 0))))
+        return self
 
     def size(self):
         return len(self.lives) + sum((number > 0) for pair in self.numbers.values() for number in pair)
@@ -554,15 +567,20 @@ def who(reader):
     return group, names, reader.number(1, 0, len(names) - 1)
 
 
-def read_parts(text):
-    """Who a snapshot of either format is of, and the parts of its state."""
+def read_front(text):
+    """Who the snapshot of either format is of that begins a text, the parts of its state, and its length."""
     reader = Reader(text)
     format = {b"RDS1": 1, b"RDS2": 2}.get(reader.bytes(4))
     refuse_if(format is None, 13)
     is_of = who(reader)
     parts = Parts(text[reader.at :], len(is_of[1]))
-    state = parts.state(format)
-    parts.end()
+    return is_of, parts.state(format), reader.at + parts.at
+
+
+def read_parts(text):
+    """Who a snapshot of either format is of, and the parts of its state."""
+    is_of, state, length = read_front(text)
+    refuse_if(length < len(text), 14)
     return is_of, state
 
 
@@ -576,6 +594,71 @@ def written_anew(text):
     """What is written of the replica of a text, which isn't held."""
     is_of, state = read_parts(text)
     return b"RDS2" + who_text(Replica(*is_of, None)) + parts_text(*state)
+
+
+# Files: a snapshot, records of changes behind it, and perhaps a torn end.
+# What a file holds, and in bytes how long its snapshot is, where its last whole record ends, and how long it is.
+File = collections.namedtuple("File", "replica snapshot whole length")
+
+
+def change_text(own, delta, grown=None):
+    """A delta; with it comes the replica whose roster is the longer one, where it grows."""
+    return (b"\1" if grown is None else b"\2" + who_text(grown)) + state_text(delta)
+
+
+def record(payload):
+    return number(len(payload), 4) + hashlib.sha256(payload).digest() + payload
+
+
+def record_at(text, at):
+    """The payload of the whole record that begins at a byte, if one does."""
+    size = int.from_bytes(text[at : at + 4], "big")
+    payload = text[at + HEAD : at + HEAD + size]
+    is_whole = size <= MOST and at + HEAD + size <= len(text) and hashlib.sha256(payload).digest() == text[at + 4 : at + HEAD]
+    return payload if is_whole else None
+
+
+def is_torn(rest):
+    """Whether bytes behind whole records may be what is left of one more."""
+    return len(rest) <= MOST + HEAD and all(record_at(rest, at) is None for at in range(len(rest)))
+
+
+def with_change(replica, payload):
+    """A replica that a record's change is joined to, which fits it."""
+    kind, names = payload[:1], replica.names
+    reader = Reader(payload[1:])
+    refuse_if(kind not in (b"\1", b"\2"), 13)
+    if kind == b"\2":
+        group, names, own = who(reader)
+        refuse_if((group, own, names[: len(replica.names)]) != (replica.group, replica.own, replica.names), 13)
+    parts = Parts(payload[1 + reader.at :], len(names))
+    delta = state_of(*parts.state())
+    parts.end()
+    return replica._replace(names=names, state=replica.state.join(delta))
+
+
+def read_file(text):
+    """What a file holds: its snapshot, and each whole record behind it joined to that."""
+    is_of, state, snapshot = read_front(text)
+    replica, at = Replica(*is_of, state_of(*state)), snapshot
+    while (payload := record_at(text, at)) is not None:
+        try:
+            replica = with_change(replica, payload)
+        except Refused:
+            raise Damaged(at)
+        at += HEAD + len(payload)
+    if not is_torn(text[at:]):
+        raise Damaged(at)
+    return File(replica, snapshot, at, len(text))
+
+
+def appended(text, payload):
+    """A file with one more record, in place of a torn end. It is None where the file is to be written anew."""
+    file = read_file(text)
+    records = file.whole - file.snapshot + HEAD + len(payload)
+    if text[:4] != b"RDS2" or len(payload) > MOST or records > max(file.snapshot, FEW):
+        return None
+    return text[: file.whole] + record(payload)
 
 
 def joined(first, second):

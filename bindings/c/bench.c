@@ -5,7 +5,9 @@
 
 #include <stdio.h>
 #include <stdlib.h>
+#include <string.h>
 #include <time.h>
+#include <unistd.h>
 
 #define ROSTER "[\"roster\",\"g\",\"a\",\"b\"]"
 
@@ -136,6 +138,34 @@ static void time_meetings(long times) {
     say("take", taking / (double)times, 0);
 }
 
+static void open_and_close(const char *path) {
+    rds_file file = RDS_CLOSED_FILE;
+    need(rds_open_file(&file, (const uint8_t *)path, strlen(path)));
+    rds_close(&file);
+}
+
+static void set_and_keep(rds_file *file, long number) {
+    set(&file->replica, number * 37 % elements, number);
+    need(rds_keep(file));
+}
+
+/* Each keep is synced, so it tells of the disk as well. */
+static void time_files(long times) {
+    char path[PATH];
+    rds_file file = RDS_CLOSED_FILE;
+    snprintf(path, PATH, "%s/rds-bench-%ld.rds", P_tmpdir, (long)getpid());
+    need(rds_snapshot(&first, snapshot, ROOM, &snapshot_length));
+    need(rds_open(&file.replica, snapshot, snapshot_length));
+    need(rds_make_file(&file, (const uint8_t *)path, strlen(path)));
+    EACH("edit in a file: an old register set anew", EDITS, 0, set(&file.replica, i * 37 % elements, i));
+    EACH("edit in a file: a new register", EDITS, 0, set(&file.replica, elements + EDITS + i, i));
+    EACH("keep of these", 1, 0, need(rds_keep(&file)));
+    EACH("edit and keep", 100, 0, set_and_keep(&file, i));
+    rds_close(&file);
+    EACH("file opened, and closed", times, 0, open_and_close(path));
+    unlink(path);
+}
+
 int main(int count, char **words) {
     elements = count > 1 ? atol(words[1]) : 0;
     if (elements < 1) {
@@ -151,6 +181,7 @@ int main(int count, char **words) {
     time_snapshots(times);
     time_meetings(times);
     time_edits();
+    time_files(times);
     rds_free(&first);
     rds_free(&second);
     return 0;

@@ -7,8 +7,8 @@
  *   - the status is one of the header's, and want of memory comes only where an allocation failed;
  *   - after a refusal, and after a call that only looks, the snapshot is what it was, byte by byte;
  *   - bytes that were given fit into the room, and those that weren't didn't.
- * After a file was kept it has the snapshot's bytes; where keeping failed it has them or is as it was. Now and then a
- * replica's view is compared with that of its snapshot, opened anew.
+ * After a file was kept it holds the replica; where keeping failed it holds what it did, or the replica too where that is
+ * unsure. Now and then a replica's view is compared with that of its snapshot, opened anew.
  *
  * With FAIL, what the library asks for fails by chance: of a call's allocations and system calls, one in a number from
  * 2 to FAIL. For that it is linked with --wrap of each name below that begins with __wrap_. */
@@ -98,6 +98,10 @@ MAY_BREAK(int, renameat, (int from, const char *name, int to, const char *other)
 /* A part of what was asked for is read or written, too. */
 MAY_BREAK(ssize_t, read, (int file, void *room, size_t size), (file, room, failing && size > 1 ? size / 2 : size))
 MAY_BREAK(ssize_t, write, (int file, const void *all, size_t size), (file, all, failing && size > 1 ? size / 2 : size))
+
+MAY_BREAK(ssize_t, pwrite, (int file, const void *all, size_t size, off_t at),
+          (file, all, failing && size > 1 ? size / 2 : size, at))
+MAY_BREAK(int, ftruncate, (int file, off_t size), (file, size))
 
 int __real_openat(int folder, const char *name, int how, ...);
 
@@ -427,6 +431,16 @@ static text bytes_of(const rds_file *file) {
     return found;
 }
 
+/* The snapshot of the replica that a file holds; nothing where it holds none. */
+static text held_by(const rds_file *file) {
+    text bytes = bytes_of(file), found = block(ROOM);
+    rds anew = RDS_CLOSED_REPLICA;
+    found.length = rds_open(&anew, bytes.bytes, bytes.length) == RDS_OK ? snapshot_of(&anew, found.bytes) : 0;
+    rds_free(&anew);
+    free(bytes.bytes);
+    return found;
+}
+
 static int is_same(text one, text other) {
     return one.length == other.length && memcmp(one.bytes, other.bytes, one.length) == 0;
 }
@@ -435,15 +449,15 @@ static uint32_t keep_file(rds_file *file) {
     static uint8_t room[ROOM];
     uint32_t was = failing;
     failing = 0;
-    text before = bytes_of(file), due = {room, snapshot_of(&file->replica, room)};
+    text before = held_by(file), due = {room, snapshot_of(&file->replica, room)};
     failing = was;
     uint32_t status = rds_keep(file);
     failing = 0;
-    text after = bytes_of(file);
+    text after = held_by(file);
     if (status == RDS_OK && !is_same(after, due))
         stop("the file hasn't what was kept");
-    if (status != RDS_OK && !is_same(after, before) && !(status == RDS_DEVICE && is_same(after, due)))
-        stop("the file is neither old nor new");
+    if (status != RDS_OK && !is_same(after, before) && !(status == RDS_UNSURE && is_same(after, due)))
+        stop("the file holds neither the old nor the new");
     free(before.bytes);
     free(after.bytes);
     return status;
@@ -513,7 +527,7 @@ static void compare_views(rds *replica) {
 }
 
 static void judge(const deed *done, uint32_t status, int is_kept, int was_starved) {
-    if (status > 27 && (status < RDS_CLOSED || status > RDS_BESIDE))
+    if (status > RDS_UNSURE && (status < RDS_CLOSED || status > RDS_BESIDE))
         stop("the status is none of the header's");
     if (status == RDS_MEMORY && !was_starved)
         stop("there was no memory, though no allocation failed");

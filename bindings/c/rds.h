@@ -99,6 +99,7 @@ enum rds_status {
     RDS_SAME_REPLICA = 21,    /* both sides are the same replica */
     RDS_DEVICE = 24,          /* a call of the system failed, and errno says how (files alone) */
     RDS_BAD_LINE = 25,        /* a line is no command */
+    RDS_UNSURE = 29,          /* all was written, and the system couldn't say that it lasts; errno says how (files alone) */
     /* of this header: */
     RDS_CLOSED = 64,       /* the replica isn't open; of rds_keep: it has no file */
     RDS_OPEN_ALREADY = 65, /* the replica, or the file, is open already */
@@ -126,8 +127,8 @@ typedef struct rds_edited {
  * RDS_BAD_LINE, RDS_BAD_KEY (the group), RDS_BAD_NAME, RDS_BAD_ROSTER, RDS_NOT_UTF8, RDS_OPEN_ALREADY, RDS_MEMORY. */
 uint32_t rds_new(rds *replica, const uint8_t *line, size_t line_length, uint8_t own);
 
-/* Opens the replica of a snapshot: bytes that rds_snapshot gave, or a file of `rds_node`.
- * RDS_CUT, RDS_BAD, RDS_EXTRA, RDS_TOO_LONG, RDS_OPEN_ALREADY, RDS_MEMORY. */
+/* Opens the replica of a snapshot: bytes that rds_snapshot gave, or those of a file of `rds_node`.
+ * RDS_CUT, RDS_BAD, RDS_TOO_LONG, RDS_OPEN_ALREADY, RDS_MEMORY. */
 uint32_t rds_open(rds *replica, const uint8_t *snapshot, size_t snapshot_length);
 
 /* Closes a replica and frees what it has. It does nothing to one that is closed. */
@@ -240,7 +241,7 @@ uint32_t rds_answer(rds *replica, const uint8_t *question, size_t question_lengt
 uint32_t rds_take(rds *replica, const uint8_t *question, size_t question_length, const uint8_t *answer,
                   size_t answer_length, uint64_t *taken);
 
-/* Takes all that a snapshot of another replica has seen. *taken becomes the number of components that were lacking.
+/* Takes all that a snapshot of another replica has seen, or its file. *taken becomes the number of components that were lacking.
  * As rds_open and rds_take. A snapshot of this same replica is taken where nothing of its own is lacking here, and is
  * RDS_OWN_AHEAD else. */
 uint32_t rds_merge(rds *replica, const uint8_t *snapshot, size_t snapshot_length, uint64_t *taken);
@@ -264,9 +265,11 @@ const char *rds_status_text(uint32_t status);
 /* ---- Files ----
  *
  * The files are those of `rds_node`, and so are the rules. A file is opened under its lock (flock), which is held until
- * rds_close: meanwhile `rds_node` and other programs with this library wait for it or are refused. It is always whole:
- * a new one is written beside it (FILE.new), synced and renamed. Where a path is a symbolic link, that is done to the
- * file that it leads to. A system without these calls has no such files: Windows isn't supported.
+ * rds_close: meanwhile `rds_node` and other programs with this library wait for it or are refused. It is a snapshot, and
+ * behind it records of what changed since. Each keep appends a record, or writes a new file beside it (FILE.new), which
+ * is synced and renamed: that is where the records would be longer than the snapshot. Where a path is a symbolic link,
+ * all that is done to the file that it leads to. A system without these calls has no such files: Windows isn't
+ * supported.
  *
  * A process that forks keeps the lock until the child too has ended or called exec. */
 
@@ -277,13 +280,14 @@ uint32_t rds_open_file(rds_file *file, const uint8_t *path, size_t path_length);
 
 /* Makes a file at a path, where nothing may be, for the replica in `file`, which was opened by rds_new or rds_open, and
  * locks it. RDS_EXISTS, RDS_BESIDE, RDS_BUSY, RDS_CLOSED, RDS_OPEN_ALREADY (it has a file), RDS_TOO_LONG, RDS_DEVICE,
- * RDS_MEMORY. */
+ * RDS_MEMORY. At RDS_UNSURE the file is there, and is the replica's: call rds_keep before anything is told of it. */
 uint32_t rds_make_file(rds_file *file, const uint8_t *path, size_t path_length);
 
-/* Keeps the replica in its file: at RDS_OK all edits and takes so far outlast a crash of the machine. The file has the
- * mode that it had. RDS_REPLACED, RDS_LINKED, RDS_TOO_LONG, RDS_DEVICE, RDS_CLOSED, RDS_MEMORY: the file is as it was,
- * but where only the folder couldn't be synced (RDS_DEVICE): then it is the new one, which may not outlast a loss of
- * power. In each case the replica stays open, and rds_keep may be called again. */
+/* Keeps the replica in its file: at RDS_OK all edits and takes so far outlast a crash of the machine. It costs by what
+ * changed since the last keep, but where the file is written anew. The file has the mode that it had. RDS_REPLACED,
+ * RDS_LINKED, RDS_TOO_LONG, RDS_DEVICE, RDS_CLOSED, RDS_MEMORY: the file holds what it did. RDS_UNSURE, where only a
+ * last sync failed: it holds the replica, and may not outlast a loss of power. In each case the replica stays open, and
+ * rds_keep may be called again. */
 uint32_t rds_keep(rds_file *file);
 
 /* Closes the replica and lets the file go. Edits since the last rds_keep are lost. Does nothing to what is closed. */

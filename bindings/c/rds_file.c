@@ -11,20 +11,38 @@
 #include <sys/stat.h>
 #include <unistd.h>
 
-/* The most bytes of a snapshot. */
+/* The most bytes of a file. */
 #define LIMIT 268435456u
+
+/* The most bytes of a record, and how many records of a small file may come to. */
+#define RECORD (36 + 65536)
+#define RECORDS 65536u
 
 /* How often a file is opened again that was replaced between its opening and its lock. */
 #define TRIES 100
 
+/* Where the parts of a file stand, as the proved library tells it. */
+typedef struct layout {
+    uint64_t takes_records; /* 1 where records may follow the snapshot */
+    uint64_t snapshot;      /* where the snapshot ends */
+    uint64_t whole;         /* where the last whole record ends */
+} layout;
+
 /* The file of a replica. The folder is held open, so that a change of the process's folder changes nothing. */
 typedef struct held {
-    int file;        /* open and locked */
-    int folder;      /* open */
-    char *name;      /* of the file, in the folder */
-    char *beside;    /* the same with .new */
-    size_t length;   /* of the snapshot that was read or kept last */
+    int file;      /* open and locked */
+    int folder;    /* open */
+    int unsure;    /* 1 where a rename may not last, since the folder wasn't synced */
+    char *name;    /* of the file, in the folder */
+    char *beside;  /* the same with .new */
+    layout layout; /* of the file; it takes no records where it isn't open for writing */
 } held;
+
+/* Calls of the proved library that rds.h doesn't have: they open a file's replica, tell the record of what changed it
+ * since it was kept (RDS_TOO_LONG where there is none), and say that it was kept. */
+uint32_t file_open(rds *replica, const uint8_t *bytes, size_t length, layout *layout);
+uint32_t file_change(rds *replica, uint8_t *room, size_t room_length, size_t *length);
+uint32_t file_kept(rds *replica);
 
 static void let_go(int descriptor) {
     int was = errno;
@@ -148,11 +166,21 @@ static uint32_t is_replaceable(const struct stat *about) {
     return about->st_nlink > 1 ? RDS_LINKED : RDS_OK;
 }
 
+/* Opens the file for reading and writing, or for reading where it can't be written: then it is kept by a new one. */
+static int open_there(held *it) {
+    int flags = O_NONBLOCK | O_NOFOLLOW | O_CLOEXEC;
+    int file = openat(it->folder, it->name, O_RDWR | flags);
+    it->layout.takes_records = file >= 0;
+    if (file < 0 && (errno == EACCES || errno == EPERM || errno == EROFS || errno == ETXTBSY || errno == EISDIR))
+        file = openat(it->folder, it->name, O_RDONLY | flags);
+    return file;
+}
+
 /* Opens and locks the file. One that is replaced meanwhile keeps the lock of whoever replaced it, so it is opened
  * anew. */
 static uint32_t open_locked(held *it, struct stat *about) {
     for (int tries = 0; tries < TRIES; tries++) {
-        it->file = openat(it->folder, it->name, O_RDONLY | O_NONBLOCK | O_NOFOLLOW | O_CLOEXEC);
+        it->file = open_there(it);
         if (it->file < 0)
             return RDS_DEVICE;
         uint32_t status = lock(it->file);
@@ -201,13 +229,16 @@ static uint32_t read_all(const held *it, off_t size, uint8_t **bytes, size_t *le
 /* Reads the file into the replica. What others did to it lasts from then on, as this replica may tell of it. */
 static uint32_t read_replica(rds *replica, held *it, const struct stat *about) {
     uint8_t *bytes = NULL;
-    uint32_t status = read_all(it, about->st_size, &bytes, &it->length);
+    size_t length = 0;
+    uint64_t can_write = it->layout.takes_records;
+    uint32_t status = read_all(it, about->st_size, &bytes, &length);
     if (status == RDS_OK && fsync(it->file) != 0)
         status = RDS_DEVICE;
     if (status == RDS_OK)
         status = sync_folder(it);
     if (status == RDS_OK)
-        status = rds_open(replica, bytes, it->length);
+        status = file_open(replica, bytes, length, &it->layout);
+    it->layout.takes_records &= can_write;
     free(bytes);
     return status;
 }
@@ -306,11 +337,18 @@ static uint32_t write_over(const held *it, int beside, const uint8_t *bytes, siz
     return status;
 }
 
-/* Puts the replica's snapshot in the place of the file that is held, if any. From the rename on, it is what is held. */
+/* Syncs the folder after a rename. Where that fails the new file is there, and may not last. */
+static uint32_t make_sure(held *it) {
+    it->unsure = sync_folder(it) != RDS_OK;
+    return it->unsure ? RDS_UNSURE : RDS_OK;
+}
+
+/* Puts the replica's snapshot in the place of the file that is held, if any. From the rename on, it is what is held,
+ * also where the folder can't be synced (RDS_UNSURE). */
 static uint32_t put(rds *replica, held *it, const struct stat *like) {
     uint8_t *bytes = NULL;
     size_t length = 0;
-    uint32_t status = snapshot_of(replica, it->length, &bytes, &length);
+    uint32_t status = snapshot_of(replica, it->layout.snapshot, &bytes, &length);
     if (status != RDS_OK)
         return status;
     int beside = make_beside(it, like);
@@ -323,8 +361,54 @@ static uint32_t put(rds *replica, held *it, const struct stat *like) {
     }
     let_go(it->file);
     it->file = beside;
-    it->length = length;
-    return sync_folder(it);
+    it->layout = (layout){1, length, length};
+    file_kept(replica);
+    return make_sure(it);
+}
+
+/* Cuts off what stands behind the last whole record. */
+static uint32_t cut_off(const held *it) {
+    if (ftruncate(it->file, (off_t)it->layout.whole) != 0)
+        return RDS_DEVICE;
+    return fsync(it->file) == 0 ? RDS_OK : RDS_DEVICE;
+}
+
+/* Writes bytes at a place of the file. */
+static uint32_t write_at(int descriptor, const uint8_t *bytes, size_t length, off_t at) {
+    while (length > 0) {
+        ssize_t count = pwrite(descriptor, bytes, length, at);
+        if (count < 0 && errno == EINTR)
+            continue;
+        if (count <= 0)
+            return count < 0 ? RDS_DEVICE : device(EIO);
+        bytes += count;
+        length -= (size_t)count;
+        at += count;
+    }
+    return RDS_OK;
+}
+
+/* Whether a record of this length may follow: the records may come to as much as the snapshot. */
+static int has_room(const layout *it, size_t length) {
+    uint64_t most = it->snapshot < RECORDS ? RECORDS : it->snapshot;
+    return it->whole - it->snapshot + length <= most && it->whole + length <= LIMIT;
+}
+
+/* Appends a record to the file. Where all was written and isn't synced, it may last or not: the next keep is a new
+ * file. */
+static uint32_t append(rds *replica, held *it, off_t size, const uint8_t *record, size_t length) {
+    uint32_t status = size == (off_t)it->layout.whole ? RDS_OK : cut_off(it);
+    if (status == RDS_OK)
+        status = write_at(it->file, record, length, (off_t)it->layout.whole);
+    if (status != RDS_OK)
+        return status;
+    if (fsync(it->file) != 0) {
+        it->layout.takes_records = 0;
+        return RDS_UNSURE;
+    }
+    it->layout.whole += length;
+    file_kept(replica);
+    return it->unsure ? make_sure(it) : RDS_OK;
 }
 
 uint32_t rds_keep(rds_file *file) {
@@ -337,7 +421,13 @@ uint32_t rds_keep(rds_file *file) {
         status = is_replaceable(&about);
     if (status != RDS_OK)
         return status;
-    return put(&file->replica, it, &about);
+    uint8_t record[RECORD];
+    size_t length = 0;
+    if (it->layout.takes_records && about.st_size >= (off_t)it->layout.whole)
+        status = file_change(&file->replica, record, sizeof record, &length);
+    if (length == 0 || status != RDS_OK || !has_room(&it->layout, length))
+        return put(&file->replica, it, &about);
+    return append(&file->replica, it, about.st_size, record, length);
 }
 
 /* Puts the replica in a new file, under the folder's lock, so that of two at once one is refused. */

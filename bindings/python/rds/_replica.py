@@ -8,7 +8,7 @@ from ctypes import byref, c_size_t, c_uint64, create_string_buffer, string_at
 from typing import Any, Dict, Iterable, Iterator, List, NamedTuple, NoReturn, Optional, Tuple, Union, cast
 
 from ._faults import RdsError, fault, refuse
-from ._library import BAD_SCALAR, DEVICE, LAST_FAULT, LIB, MEMORY, NO_ROOM, EditedSlot, FileSlot
+from ._library import BAD_SCALAR, DEVICE, LAST_FAULT, LIB, MEMORY, NO_ROOM, UNSURE, EditedSlot, FileSlot
 
 Scalar = Union[None, bool, int, str]
 """A value: None, a bool, a whole number of 64 bits with sign, or a text of at most 1,024 bytes."""
@@ -249,7 +249,8 @@ class Replica:
         self._file = name
 
     def keep(self) -> None:
-        """Keeps the replica in its file: all edits so far outlast a crash of the machine. `Closed` without a file."""
+        """Keeps the replica in its file: all edits so far outlast a crash of the machine. `Closed` without a file. At `Unsure`
+        they are in the file, and may not outlast a crash."""
         with self._lock:
             self._done(LIB.rds_keep(byref(self._slot)), self._file)
             self._is_ahead = False
@@ -277,7 +278,8 @@ class Replica:
         """Raises what a status says, with the words that the library has for it."""
         if not status:
             return
-        refuse(status, self._words() if status <= LAST_FAULT and status not in (MEMORY, DEVICE) else "", given)
+        is_of_the_library = status <= LAST_FAULT and status not in (MEMORY, DEVICE, UNSURE)
+        refuse(status, self._words() if is_of_the_library else "", given)
 
     def _words(self) -> str:
         """The words of the last fault; none where the replica is closed."""

@@ -9,7 +9,8 @@ from typing import List
 
 import pytest
 
-from rds import Beside, BadText, Busy, Closed, Exists, Linked, Replaced, Replica, TooLong
+from rds import Beside, BadText, Busy, Closed, Exists, Linked, RdsError, Replaced, Replica, TooLong, Unsure
+from rds._faults import fault
 
 NAMES = ["shop", "store"]
 
@@ -27,10 +28,22 @@ def names_in(folder: Path) -> List[str]:
     return sorted(it.name for it in folder.iterdir())
 
 
+def held_by(file: Path) -> bytes:
+    """The snapshot of the replica that a file holds."""
+    with Replica.from_bytes(file.read_bytes()) as held:
+        return bytes(held)
+
+
+def change_much(replica: Replica) -> None:
+    """Sets so much that no record has it: the file is written anew."""
+    for number in range(100):
+        replica[f"much/{number}"].set("x" * 1000)
+
+
 def test_a_file_is_kept(file: Path) -> None:
     with Replica.open(file) as shop:
         assert shop["a"].register == ["ü"]
-        assert file.read_bytes() == bytes(shop)
+        assert held_by(file) == bytes(shop)
         shop["b"].set(1)
         assert list(Replica.from_bytes(file.read_bytes())) == ["a"]
         shop.keep()
@@ -39,6 +52,49 @@ def test_a_file_is_kept(file: Path) -> None:
     with Replica.open(str(file)) as shop:
         assert list(shop) == ["a", "b"]
     assert names_in(file.parent) == ["shop.rds"]
+
+
+def test_what_changed_is_appended(file: Path) -> None:
+    with Replica.open(file) as shop:
+        for number in range(50):
+            before = file.read_bytes()
+            shop["b"].set(number)
+            shop.keep()
+            after = file.read_bytes()
+            assert after.startswith(before) and len(before) < len(after) < len(before) + 100
+            assert held_by(file) == bytes(shop)
+        change_much(shop)
+        shop.keep()
+        assert file.read_bytes() == bytes(shop)
+        shop["b"].clear()
+        shop["n"].increase(3)
+        shop.grow("depot")
+        shop.keep()
+        assert file.read_bytes() != bytes(shop)
+    with Replica.open(file) as again:
+        assert (again["b"].register, again["n"].counter, again.status().names[-1]) == ([], 3, "depot")
+
+
+def test_an_end_that_was_torn(file: Path) -> None:
+    with Replica.open(file) as shop:
+        whole = file.read_bytes()
+        shop["b"].set(1)
+        shop.keep()
+        longer = file.read_bytes()
+    for length in range(len(whole), len(longer)):
+        file.write_bytes(longer[:length])
+        with Replica.open(file) as shop:
+            assert shop["b"].register == []
+            assert file.read_bytes() == longer[:length]
+            shop["b"].set(1)
+            shop.keep()
+            assert file.read_bytes() == longer
+    damaged = bytearray(longer + longer[len(whole) :])
+    damaged[len(longer) - 1] ^= 1
+    file.write_bytes(damaged)
+    with pytest.raises(BadText):
+        Replica.open(file)
+    assert file.read_bytes() == damaged
 
 
 def test_what_goes_to_others_is_kept_first(file: Path) -> None:
@@ -85,7 +141,7 @@ def test_the_lock_is_that_of_the_program(file: Path) -> None:
 def test_one_who_waited_for_the_old_file(file: Path) -> None:
     with open(file) as old:
         with Replica.open(file) as shop:
-            shop["b"].set(1)
+            change_much(shop)
             shop.keep()
             # The old file is free, but it is no longer the one of that name.
             fcntl.flock(old, fcntl.LOCK_EX | fcntl.LOCK_NB)
@@ -204,16 +260,20 @@ def test_names_of_files_beside(file: Path, tmp_path: Path) -> None:
     with Replica.open(file) as shop:
         shop["b"].set(1)
         shop.keep()
+        assert names_in(tmp_path) == ["shop.rds", "shop.rds.new"]
+        change_much(shop)
+        shop.keep()
     assert names_in(tmp_path) == ["shop.rds"]
     left.mkdir()
     with Replica.open(file) as shop:
         shop["c"].set(1)
+        change_much(shop)
         with pytest.raises(OSError):
             shop.keep()
         left.rmdir()
         shop.keep()
     with Replica.open(file) as shop:
-        assert list(shop) == ["a", "b", "c"]
+        assert list(shop) == ["a", "b", "c", "much"]
 
 
 def test_a_new_file_replaces_nothing(file: Path) -> None:
@@ -243,3 +303,24 @@ def test_an_end_at_any_time_leaves_a_whole_file(file: Path) -> None:
         with Replica.open(file) as shop:
             (found,) = shop["n"].register
             assert isinstance(found, int) and found - told in (0, 1)
+
+
+def test_what_may_not_last(file: Path) -> None:
+    """The folder of a file can't be synced: what is kept is there, and the call says so."""
+    source = Path(__file__).with_name("unsynced.c")
+    library = file.with_name("unsynced.so")
+    if subprocess.run(["cc", "-shared", "-fPIC", "-o", str(library), str(source), "-ldl"]).returncode:
+        pytest.skip("there is no C compiler")
+    code = "import sys, rds; shop = rds.Replica.open(sys.argv[1]); shop['b'].set(2); print('open', flush=True)\n"
+    code += "for n in range(100): shop[f'much/{n}'].set('x' * 1000)\nshop.keep()"
+    words = [sys.executable, "-c", code, str(file)]
+    ran = subprocess.run(words, env={**os.environ, "LD_PRELOAD": str(library)}, capture_output=True, text=True)
+    assert (ran.returncode, ran.stdout) == (1, "open\n")
+    assert "Unsure: it is written, and may not last: read before you repeat" in ran.stderr
+    with Replica.open(file) as shop:
+        assert shop["b"].register == [2]
+
+
+def test_statuses_have_their_names() -> None:
+    assert type(fault(29)) is Unsure and fault(29).words.startswith("Unsure: ")
+    assert type(fault(28)) is RdsError and fault(28).words.startswith("Unknown: ")

@@ -16,6 +16,7 @@ use Rattle.rds_names.specs.declared.scalar.Scalar.{Scalar}
 use Rattle.rds_state.specs.Fits.{ReplicaValue}
 use Rattle.rds_state.specs.declared.command.Command.{Command}
 use Rattle.rds_state.specs.declared.command.Edited.{Edited}
+use Rattle.rds_store.specs.Changes.{DraftValue}
 use Rattle.rds_store.specs.Edits.{MayEdit}
 use Rattle.rds_store.specs.Meetings.{MayAnswer}
 
@@ -34,14 +35,14 @@ never : (verb : Verb) (fault : Fault) (path : Result (List (List ℕ)) Fault) (c
 never verb fault (Ok p) command is = absurd cc
 never verb fault (Err e) command is = absurd cc
 
-abbrev Does : Result Command Fault → EditedC → Option ReplicaValue → Option ReplicaValue → Type 0
+abbrev Does : Result Command Fault → EditedC → Option DraftValue → Option DraftValue → Type 0
 Does asked told = changes_of (λ v w. EditsDocument asked v w told)
 
 -- what was done with the value that was made was done with the text
-pub does_text : (verb : Verb) (path text : List ℕ) (made : Result Scalar Fault) (old new : Option ReplicaValue) (told : EditedC) → Gives made (scalar_of_text text) → Does (valued_of verb path made) told old new
+pub does_text : (verb : Verb) (path text : List ℕ) (made : Result Scalar Fault) (old new : Option DraftValue) (told : EditedC) → Gives made (scalar_of_text text) → Does (valued_of verb path made) told old new
     → Does (valued_of verb path (scalar_of_text text)) told old new
 does_text verb path text (Ok value) old new told gives edits = rw gives edits
-does_text verb path text (Err fault) (Some before) (Some after) told gives edits = absurd (never verb fault (path_of path) edits.command edits.asks)
+does_text verb path text (Err fault) (Some before) (Some after) told gives edits = absurd (never verb fault (path_of path) edits.0.command edits.0.asks)
 does_text verb path text (Err fault) (Some before) None told gives edits = absurd edits
 does_text verb path text (Err fault) None new told gives edits = absurd edits
 

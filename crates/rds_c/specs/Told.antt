@@ -2,17 +2,20 @@
 use Rattle.std.specs.Prelude.{◌≡◌, ◌⊎◌, ℕ, ◌-◌, ◌^◌, nat_lt, List, [], take, length, Option, Some}
 use Rattle.std.specs.Prelude.{None, Result, Ok, Err, String, string_bytes, if◌then◌else◌}
 use Rattle.std.specs.Global.{Global, Vec}
+use Rattle.rds_codec.specs.declared.formats.Format.{Format}
+use Rattle.rds_codec.specs.declared.formats.Format.TheVariants.{One, Two}
 use Rattle.rds_dots.specs.declared.dot.Dot.{Dot}
-use Rattle.rds_lines.specs.Editing.{EditsLines}
+use Rattle.rds_keep.specs.declared.layout.Layout.{Layout}
+use Rattle.rds_lines.specs.Editing.{DoesEdit, EditsLines}
 use Rattle.rds_lines.specs.Lines.{lines_in}
 use Rattle.rds_names.specs.Fault.{text_of_fault}
 use Rattle.rds_names.specs.declared.fault.Fault.{Fault}
 use Rattle.rds_output.specs.declared.reply.Reply.{Reply}
 use Rattle.rds_state.specs.Fits.{ReplicaValue}
-use Rattle.rds_state.specs.Results.{EditsReplica}
 use Rattle.rds_state.specs.declared.command.Command.{Command}
 use Rattle.rds_state.specs.declared.command.Edited.{Edited}
 use Rattle.rds_c.specs.declared.status.EditedC.{EditedC}
+use Rattle.rds_c.specs.declared.status.LayoutC.{LayoutC}
 
 -- room begins with the text, and the length is the text's
 pub record IsTold (text room : List ℕ) (n : ℕ) : Type 0 where
@@ -50,12 +53,21 @@ told_edit (Some dot) killed = record { has_dot = 1; number = dot.seq; killed = k
 abbrev pub edited_for_c : Edited → EditedC
 edited_for_c edited = told_edit edited.dot edited.killed
 
+-- whether records may follow a snapshot of a format
+abbrev pub takes_records : Format → ℕ
+takes_records One = 0
+takes_records Two = 1
+
+abbrev pub layout_for_c : Layout → LayoutC
+layout_for_c layout =
+    record { takes_records = takes_records layout.format; snapshot = layout.snapshot; whole = layout.whole }
+
 -- that was done which was asked for, and what it did is told
 pub record EditsDocument (asked : Result Command Fault) (before after : ReplicaValue) (told : EditedC) : Type 0 where
   pub command : Command
   pub asks : asked ≡ Ok command
   pub edited : Edited
-  pub edits : EditsReplica before command (Ok edited) after
+  pub edits : DoesEdit before command (Ok edited) after
   pub is_told : told ≡ edited_for_c edited
 
 -- the lines were done, one after the other

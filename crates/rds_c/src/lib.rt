@@ -4,10 +4,10 @@
 #![tactic(auto)]
 
 ghost use Rattle.std.specs.Prelude.{◌≡◌, ◌⊎◌, ◌==◌, None, Ok, IfOk, not};
-ghost use Rattle.rds_codec.specs.DecodedSnapshots.{DecodesSnapshot};
 ghost use Rattle.rds_c.specs.Asked.{cleared_of, lowered_of, raised_of, valued_of};
 ghost use Rattle.rds_c.specs.Looks.{IsTextAt, IsTextOf};
 ghost use Rattle.rds_c.specs.Promises.{Changes, Edits, Holds, IsFirst, IsKeptUnlessDone, IsMade};
+ghost use Rattle.rds_c.specs.Promises.{IsOpenedFrom, IsRecord, OpensFile, SetsKept, TellsOf};
 ghost use Rattle.rds_c.specs.Promises.{Merges, Responds, Takes, Tells, left_in};
 ghost use Rattle.rds_c.specs.Told.{IsLeft, IsTold, MakesEdits};
 ghost use Rattle.rds_c.specs.declared.asking.Verb.TheVariants.{Set, Add, Del};
@@ -16,7 +16,7 @@ ghost use Rattle.rds_c.specs.declared.looking.Whole.TheVariants.{Snapshot, Statu
 ghost use Rattle.rds_json.specs.Unnamed.{edit_of};
 ghost use Rattle.rds_names.specs.Scalar.{scalar_of_text};
 ghost use Rattle.rds_names.specs.declared.scalar.Scalar.TheVariants.{Null, Bool, Int};
-ghost use Rattle.rds_store.specs.Documents.{IsGrownBy};
+ghost use Rattle.rds_store.specs.Documents.{IsGrownBy, IsHeldBy};
 
 mod asking;
 mod editing;
@@ -30,21 +30,21 @@ mod threads;
 
 use asking::{Verb, cleared, lowered, raised};
 use editing::{edit_as, edit_text, edit_value};
-use looking::{Look, Whole, answer_of, look_at, look_whole};
+use looking::{Look, Whole, answer_of, look_at, look_whole, record_of};
 use opened::Opened;
 use rds_json::{Line, LineReader};
-use rds_store::{Document, Fault, Scalar};
+use rds_store::{Document, Draft, Fault, Scalar};
 use slot::{Slot, put_back, take_out};
-use status::{CLOSED, EditedC, NOT_UTF8, OK, OPENED, status};
+use status::{CLOSED, EditedC, LayoutC, NOT_UTF8, OK, OPENED, layout_for_c, status};
 use std::alloc::Global;
 
 /// Opens a slot that is closed.
-fn fill(alloc: Global, slot: &mut Slot, made: Result<Document, Fault>) -> u32
+fn fill(alloc: Global, slot: &mut Slot, made: Result<Draft, Fault>) -> u32
     ensures done { result ≡ 0 → IsMade made slot.new }
     ensures kept { IsKeptUnlessDone result slot.old slot.new }
 {
-    let document = match made {
-        Ok(document) => document,
+    let draft = match made {
+        Ok(draft) => draft,
         Err(fault) => return status(fault),
     };
     if let Some(held) = take_out(alloc, slot) {
@@ -52,7 +52,7 @@ fn fill(alloc: Global, slot: &mut Slot, made: Result<Document, Fault>) -> u32
         return OPENED;
     }
     let opened = Opened {
-        document,
+        draft,
         told: Vec::new(alloc),
     };
     match Box::new(alloc, opened) {
@@ -65,12 +65,12 @@ fn fill(alloc: Global, slot: &mut Slot, made: Result<Document, Fault>) -> u32
 }
 
 /// The empty replica of a line's roster.
-fn first(alloc: Global, line: &str, own: u8) -> Result<Document, Fault>
-    ensures first { IfOk result (IsFirst line.now own) }
+fn first(alloc: Global, line: &str, own: u8) -> Result<Draft, Fault>
+    ensures first { IfOk result (λ draft. IsFirst line.now own draft.document) }
 {
     let mut reader = LineReader::new(alloc);
     match reader.command(alloc, line)? {
-        Line::Roster(roster) => Document::first(alloc, roster, own),
+        Line::Roster(roster) => Ok(Draft::of(Document::first(alloc, roster, own)?)),
         _ => Err(Fault::BadLine),
     }
 }
@@ -87,13 +87,20 @@ pub extern "C" fn rds_new(alloc: Global, slot: &mut Slot, line: &[u8], own: u8) 
     fill(alloc, slot, first(alloc, line, own))
 }
 
-/// Opens the replica of a snapshot.
+/// Opens the replica of a snapshot, or of a file's bytes.
 #[unsafe(no_mangle)]
 pub extern "C" fn rds_open(alloc: Global, slot: &mut Slot, snapshot: &[u8]) -> u32
-    ensures opened { result ≡ 0 → Holds (λ v. DecodesSnapshot snapshot.now (Ok v)) slot.new }
+    ensures opened { result ≡ 0 → Holds (IsHeldBy snapshot.now) slot.new }
     ensures kept { IsKeptUnlessDone result slot.old slot.new }
 {
-    fill(alloc, slot, Document::open(alloc, snapshot))
+    fill(alloc, slot, opened(alloc, snapshot))
+}
+
+/// The replica of a snapshot, which is kept nowhere.
+fn opened(alloc: Global, snapshot: &[u8]) -> Result<Draft, Fault>
+    ensures { IfOk result (λ draft. IsHeldBy snapshot.now draft.document) }
+{
+    Ok(Draft::of(Document::open(alloc, snapshot)?))
 }
 
 /// Closes the slot, and frees what it had.
@@ -485,7 +492,7 @@ pub extern "C" fn rds_answer(
     let Some(mut held) = take_out(alloc, slot) else {
         return CLOSED;
     };
-    let made = answer_of(&held.document, question);
+    let made = answer_of(held.draft.document(), question);
     let ended = held.tell(alloc, made, room, length);
     put_back(slot, held);
     ended
@@ -526,7 +533,7 @@ pub extern "C" fn rds_take(
     let Some(mut held) = take_out(alloc, slot) else {
         return CLOSED;
     };
-    let outcome = held.document.take(question, answer);
+    let outcome = held.draft.take(question, answer);
     let ended = held.tell_count(alloc, outcome, taken);
     put_back(slot, held);
     ended
@@ -541,7 +548,7 @@ pub extern "C" fn rds_merge(alloc: Global, slot: &mut Slot, snapshot: &[u8], tak
     let Some(mut held) = take_out(alloc, slot) else {
         return CLOSED;
     };
-    let outcome = held.document.merge(snapshot);
+    let outcome = held.draft.merge(snapshot);
     let ended = held.tell_count(alloc, outcome, taken);
     put_back(slot, held);
     ended
@@ -559,8 +566,67 @@ pub extern "C" fn rds_grow(alloc: Global, slot: &mut Slot, name: &[u8]) -> u32
     let Some(mut held) = take_out(alloc, slot) else {
         return CLOSED;
     };
-    let outcome = held.document.grow(name);
+    let outcome = held.draft.grow(name);
     let ended = held.tell_done(alloc, outcome);
     put_back(slot, held);
     ended
+}
+
+/// Opens the replica of a file, which is kept as it is, and tells where the parts of the file stand.
+#[unsafe(no_mangle)]
+pub extern "C" fn file_open(
+    alloc: Global,
+    slot: &mut Slot,
+    bytes: &[u8],
+    layout: &mut LayoutC,
+) -> u32
+    ensures opened { result ≡ 0 → OpensFile bytes.now layout.new slot.new }
+    ensures kept { IsKeptUnlessDone result slot.old slot.new }
+{
+    fill(alloc, slot, opened_file(alloc, bytes, layout))
+}
+
+/// The replica of a file, which is kept as it is.
+fn opened_file(alloc: Global, bytes: &[u8], layout: &mut LayoutC) -> Result<Draft, Fault>
+    ensures { IfOk result (IsOpenedFrom bytes.now layout.new) }
+{
+    let (document, stands) = Document::open_stored(alloc, bytes)?;
+    *layout = layout_for_c(stands);
+    let mut draft = Draft::of(document);
+    draft.set_kept();
+    Ok(draft)
+}
+
+/// Tells the record of what changed the replica since it was kept. It is refused as too long where that isn't noted, or
+/// is more than a record has.
+#[unsafe(no_mangle)]
+pub extern "C" fn file_change(
+    alloc: Global,
+    slot: &mut Slot,
+    room: &mut [u8],
+    length: &mut usize,
+) -> u32
+    ensures { TellsOf IsRecord result slot.old slot.new room.new length.new }
+{
+    let Some(mut held) = take_out(alloc, slot) else {
+        return CLOSED;
+    };
+    let made = record_of(alloc, &held.draft);
+    let ended = held.tell(alloc, made, room, length);
+    put_back(slot, held);
+    ended
+}
+
+/// The replica was kept as it is now.
+#[unsafe(no_mangle)]
+pub extern "C" fn file_kept(alloc: Global, slot: &mut Slot) -> u32
+    ensures kept { result ≡ 0 → SetsKept slot.old slot.new }
+    ensures closed { IsKeptUnlessDone result slot.old slot.new }
+{
+    let Some(mut held) = take_out(alloc, slot) else {
+        return CLOSED;
+    };
+    held.draft.set_kept();
+    put_back(slot, held);
+    OK
 }

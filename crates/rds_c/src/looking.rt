@@ -1,13 +1,14 @@
 //! What is told of the document in a slot.
 ghost use Rattle.std.specs.Prelude.{◌≡◌, IfOk, string_bytes};
 ghost use Rattle.rds_c.specs.Looks.{IsTextAt, IsTextOf};
-ghost use Rattle.rds_c.specs.Promises.{Responds, Tells};
+ghost use Rattle.rds_c.specs.Promises.{IsRecord, Responds, Tells};
 ghost use Rattle.rds_c.specs.Told.{IsBytesOf};
 ghost use Rattle.rds_state.specs.Mark.{mark_text};
 
 use crate::slot::{Slot, put_back, take_out};
 use crate::status::{CLOSED, NOT_UTF8};
-use rds_store::{Document, Fault, Mark};
+use rds_keep::encode_record;
+use rds_store::{Document, Draft, Fault, Mark};
 use std::alloc::Global;
 
 /// What is told at a path.
@@ -84,6 +85,16 @@ pub fn answer_of(document: &Document, question: &[u8]) -> Result<Vec<u8>, Fault>
     document.answer(question)
 }
 
+/// The record of what changed a draft since it was kept.
+pub fn record_of(alloc: Global, draft: &Draft) -> Result<Vec<u8>, Fault>
+    ensures { IfOk result (λ bytes. IsRecord draft.now bytes.items) }
+{
+    match draft.noted() {
+        Some(noted) => encode_record(alloc, draft.document().replica().own(), &noted.change()),
+        None => Err(Fault::TooLong),
+    }
+}
+
 /// Tells what there is at the path that the bytes are.
 pub fn look_at(
     alloc: Global,
@@ -101,7 +112,7 @@ pub fn look_at(
     let Some(mut held) = take_out(alloc, slot) else {
         return CLOSED;
     };
-    let made = look.of(&held.document, path);
+    let made = look.of(held.draft.document(), path);
     let ended = held.tell(alloc, made, room, length);
     put_back(slot, held);
     ended
@@ -120,7 +131,7 @@ pub fn look_whole(
     let Some(mut held) = take_out(alloc, slot) else {
         return CLOSED;
     };
-    let made = whole.of(alloc, &held.document);
+    let made = whole.of(alloc, held.draft.document());
     let ended = held.tell(alloc, made, room, length);
     put_back(slot, held);
     ended

@@ -4,15 +4,16 @@ ghost use Rattle.rds_c.specs.Told.{EditsDocument, IsLeft, IsLeftBytes, IsNarrowe
 ghost use Rattle.rds_c.specs.Told.{IsWordsOf, MakesEdits, edited_for_c};
 ghost use Rattle.rds_json.specs.Unnamed.{edit_of};
 ghost use Rattle.rds_names.specs.Fault.{number_of};
+ghost use Rattle.rds_store.specs.Edits.{MayEdit};
 
 use crate::status::{EditedC, OK, ROOM, edited_for_c, narrowed, status, words_of};
-use rds_store::{Command, Document, Edited, Fault, Reply, answers_text};
+use rds_store::{Command, Draft, Edited, Fault, Reply, answers_text};
 use std::alloc::Global;
 
-/// A document, and a text to be told: the last one that didn't fit, or the words of the last fault.
+/// A document with what changed it since it was kept, and a text to be told: the last one that didn't fit, or the words of the last fault.
 #[derive(Drop)]
 pub struct Opened {
-    pub document: Document,
+    pub draft: Draft,
     pub told: Vec<u8>,
 }
 
@@ -23,7 +24,7 @@ impl Opened {
         ensures some { result ≢ 0 }
         ensures few { result ≤ 63 }
         ensures words { IsWordsOf fault self.new.told.items }
-        ensures kept { self.new.document ≡ self.old.document }
+        ensures kept { self.new.draft ≡ self.old.draft }
     {
         self.told = words_of(alloc, fault);
         status(fault)
@@ -40,7 +41,7 @@ impl Opened {
     ) -> u32
         ensures told { result ≡ 0 → IsToldBytes made room.new length.new }
         ensures left { result ≡ 66 → IsLeftBytes made self.new.told.items length.new }
-        ensures kept { self.new.document ≡ self.old.document }
+        ensures kept { self.new.draft ≡ self.old.draft }
     {
         match made {
             Ok(bytes) => self.give(alloc, bytes, room, length),
@@ -52,7 +53,7 @@ impl Opened {
         ensures told { result ≡ 0 → IsTold bytes.items room.new length.new }
         ensures left { result ≡ 66 → IsLeft bytes.items self.new.told.items length.new }
         ensures status { (result ≡ 0) ⊎ (result ≡ 66) }
-        ensures kept { self.new.document ≡ self.old.document }
+        ensures kept { self.new.draft ≡ self.old.draft }
     {
         if put(bytes.as_slice(), room, length) {
             self.told = Vec::new(alloc);
@@ -81,23 +82,22 @@ impl Opened {
         asked: Result<Command, Fault>,
         edited: &mut EditedC,
     ) -> u32
-        ensures edited { result ≡ 0 → EditsDocument asked self.old.document self.new.document edited.new }
-        ensures kept { (result ≡ 0) ⊎ (self.new.document ≡ self.old.document) }
+        ensures edited { result ≡ 0 → EditsDocument asked self.old.draft.document self.new.draft.document edited.new }
+        ensures kept { (result ≡ 0) ⊎ (self.new.draft ≡ self.old.draft) }
+        ensures since { self.new.draft.kept ≡ self.old.draft.kept }
     {
-        let done = match asked {
-            Ok(command) => self.document.edit(command),
-            Err(fault) => Err(fault),
-        };
+        let done = edit_asked(&mut self.draft, asked);
         self.tell_edit(alloc, done, edited)
     }
 
     /// Edits the document as a line says, and tells what that did.
     pub fn edit_line(&mut self, alloc: Global, line: &str, edited: &mut EditedC) -> u32
         ensures edited { result ≡ 0
-            → EditsDocument (edit_of line.now) self.old.document self.new.document edited.new }
-        ensures kept { (result ≡ 0) ⊎ (self.new.document ≡ self.old.document) }
+            → EditsDocument (edit_of line.now) self.old.draft.document self.new.draft.document edited.new }
+        ensures kept { (result ≡ 0) ⊎ (self.new.draft ≡ self.old.draft) }
+        ensures since { self.new.draft.kept ≡ self.old.draft.kept }
     {
-        let done = self.document.edit_line(line);
+        let done = self.draft.edit_line(line);
         self.tell_edit(alloc, done, edited)
     }
 
@@ -110,11 +110,12 @@ impl Opened {
         room: &mut [u8],
         length: &mut usize,
     ) -> u32
-        ensures told { result ≡ 0 → MakesEdits lines.now self.old.document self.new.document }
-        ensures made { result ≡ 66 → MakesEdits lines.now self.old.document self.new.document }
-        ensures kept { (result ≡ 66) ⊎ ((result ≡ 0) ⊎ (self.new.document ≡ self.old.document)) }
+        ensures told { result ≡ 0 → MakesEdits lines.now self.old.draft.document self.new.draft.document }
+        ensures made { result ≡ 66 → MakesEdits lines.now self.old.draft.document self.new.draft.document }
+        ensures kept { (result ≡ 66) ⊎ ((result ≡ 0) ⊎ (self.new.draft ≡ self.old.draft)) }
+        ensures since { self.new.draft.kept ≡ self.old.draft.kept }
     {
-        match self.document.edit_lines(lines) {
+        match self.draft.edit_lines(lines) {
             Ok(answers) => self.tell_answers(alloc, answers.as_slice(), room, length),
             Err(fault) => self.refuse(alloc, fault),
         }
@@ -128,7 +129,7 @@ impl Opened {
         length: &mut usize,
     ) -> u32
         ensures status { (result ≡ 0) ⊎ (result ≡ 66) }
-        ensures kept { self.new.document ≡ self.old.document }
+        ensures kept { self.new.draft ≡ self.old.draft }
     {
         match answers_text(alloc, answers) {
             Ok(text) => self.give(alloc, text, room, length),
@@ -150,7 +151,7 @@ impl Opened {
         ensures edited { IfOk done (λ e. edited.new ≡ edited_for_c e) }
         ensures done { OnOk done (result ≡ 0) }
         ensures refused { OnErr done (result ≢ 0) }
-        ensures kept { self.new.document ≡ self.old.document }
+        ensures kept { self.new.draft ≡ self.old.draft }
     {
         match done {
             Ok(done) => {
@@ -171,7 +172,7 @@ impl Opened {
         ensures taken { IfOk outcome (λ n. IsNarrowed n taken.new) }
         ensures done { OnOk outcome (result ≡ 0) }
         ensures refused { OnErr outcome (result ≢ 0) }
-        ensures kept { self.new.document ≡ self.old.document }
+        ensures kept { self.new.draft ≡ self.old.draft }
     {
         match outcome {
             Ok(components) => {
@@ -186,12 +187,24 @@ impl Opened {
     pub fn tell_done(&mut self, alloc: Global, outcome: Result<(), Fault>) -> u32
         ensures done { OnOk outcome (result ≡ 0) }
         ensures refused { OnErr outcome (result ≢ 0) }
-        ensures kept { self.new.document ≡ self.old.document }
+        ensures kept { self.new.draft ≡ self.old.draft }
     {
         match outcome {
             Ok(()) => OK,
             Err(fault) => self.refuse(alloc, fault),
         }
+    }
+}
+
+/// Edits by what was asked for, if it is a command.
+fn edit_asked(draft: &mut Draft, asked: Result<Command, Fault>) -> Result<Edited, Fault>
+    ensures edited { MayEdit asked draft.old.document result draft.new.document }
+    ensures kept { draft.new.kept ≡ draft.old.kept }
+    ensures err { OnErr result (draft.new ≡ draft.old) }
+{
+    match asked {
+        Ok(command) => draft.edit(command),
+        Err(fault) => Err(fault),
     }
 }
 

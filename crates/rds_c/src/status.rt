@@ -1,8 +1,10 @@
 //! How a call ended, as a number, and what an edit did, as C has it.
 ghost use Rattle.std.specs.Prelude.{◌≡◌, ◌≢◌, ◌≤◌};
 ghost use Rattle.rds_names.specs.Fault.{number_of};
-ghost use Rattle.rds_c.specs.Told.{IsNarrowed, IsWordsOf, edited_for_c};
+ghost use Rattle.rds_c.specs.Told.{IsNarrowed, IsWordsOf, edited_for_c, layout_for_c};
 
+use rds_codec::Format;
+use rds_keep::Layout;
 use rds_store::{Edited, Fault};
 use std::alloc::Global;
 
@@ -28,6 +30,31 @@ pub struct EditedC {
     pub has_dot: u64,
     pub number: u64,
     pub killed: u64,
+}
+
+/// Where the parts of a file stand: whether records may follow, as its snapshot is of the format that is written, where
+/// its snapshot ends, and where its last whole record does.
+#[repr(C)]
+#[derive(Drop)]
+pub struct LayoutC {
+    pub takes_records: u64,
+    pub snapshot: u64,
+    pub whole: u64,
+}
+
+/// Where the parts of a file stand, for C.
+pub fn layout_for_c(layout: Layout) -> LayoutC
+    ensures { result ≡ layout_for_c layout }
+{
+    let takes_records = match layout.format {
+        Format::One => 0,
+        Format::Two => 1,
+    };
+    LayoutC {
+        takes_records,
+        snapshot: layout.snapshot,
+        whole: layout.whole,
+    }
 }
 
 /// A fault's number.

@@ -1,10 +1,11 @@
 -- What stands at a path, or why nothing is told.
-use Rattle.std.proofs.Common.{◌≡◌, ◌∙◌, ◌⊎◌, ◌++◌, ◌∷◌, ℕ, List, [], Result, Ok, Err, ap, inl, inr, refl, subst, sym}
+use Rattle.std.proofs.Common.{◌≡◌, ◌∙◌, ◌⊎◌, ◌++◌, ◌-◌, ◌∷◌, ℕ, List, [], Result, Ok, Err, ap, inl, inr, refl, subst, sym}
 use Rattle.rds_names.specs.declared.fault.Fault.{Fault}
 use Rattle.rds_names.specs.declared.fault.Fault.TheVariants.{BadPath, Memory}
 use Rattle.rds_names.specs.Gives.{Refuses}
 use Rattle.rds_names.specs.Path.{path_of}
 use Rattle.rds_state.specs.Fits.{ReplicaValue}
+use Rattle.rds_keep.specs.declared.layout.Layout.{Layout}
 use Rattle.rds_lines.specs.Overview.{TellsOverview}
 use Rattle.rds_output.specs.declared.reply.Reply.{Reply}
 use Rattle.rds_files.specs.Files.{FileValue, IsReadAt, IsUnread}
@@ -12,8 +13,9 @@ use Rattle.rds_words.proofs.OneMeaning.{ok_isnt_err}
 use Rattle.rds_commands.specs.Looks.{DescribesFile, RefusesGet}
 
 -- it is told of what the file holds
-pub describes_file : (path : List ℕ) (file : FileValue) (kept : ReplicaValue) (answer : Reply) → IsReadAt path file → kept ≡ file.kept → TellsOverview kept answer → DescribesFile path file answer
-describes_file path file kept answer read same told = record { read = read; told = rw (← same) told }
+pub describes_file : (path : List ℕ) (file : FileValue) (kept : ReplicaValue) (layout : Layout) (records : ℕ) (answer : Reply) → IsReadAt path file → kept ≡ file.kept → layout ≡ file.layout → records ≡ layout.whole - layout.snapshot
+    → TellsOverview kept layout.snapshot records answer → DescribesFile path file answer
+describes_file path file kept layout records answer read same lies count told = record { read = read; told = rw (← lies, ← count, ← same) told }
 
 module _ (text : List ℕ) (keys : List (List ℕ)) (is : path_of text ≡ Ok keys) where
   -- the path is that of the root, or there is no memory

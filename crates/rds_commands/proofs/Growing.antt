@@ -20,7 +20,7 @@ ok_is : (x y : RosterValue) → (let a : Result RosterValue Fault = Ok x in a �
 ok_is x y e = cc
 
 -- a roster that grew begins with what it was
-grown_begins : (r s : RosterValue) (names : List (List ℕ)) → grown_of r names ≡ Ok s → Begins r s
+pub grown_begins : (r s : RosterValue) (names : List (List ℕ)) → grown_of r names ≡ Ok s → Begins r s
 grown_begins r s names is = by_some (leb 1 (length names)) is
   where
     longer : RosterValue

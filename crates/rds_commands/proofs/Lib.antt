@@ -1,4 +1,6 @@
 pub mod Batches
+pub mod Changed
+pub mod Compacted
 pub mod EditEvents
 pub mod Entered
 pub mod Events

@@ -8,7 +8,9 @@ use Rattle.rds_names.specs.Gives.{Refuses}
 use Rattle.rds_names.specs.Path.{path_of}
 use Rattle.rds_names.specs.Roster.{grown_of}
 use Rattle.rds_state.specs.Edit.{IsDue}
+use Rattle.rds_keep.specs.Changes.{ChangeValue}
 use Rattle.rds_state.specs.Fits.{ReplicaValue}
+use Rattle.rds_state.specs.Value.{StateValue}
 use Rattle.rds_state.specs.declared.command.Command.{Command}
 use Rattle.rds_listing.specs.Presence.{Stands}
 use Rattle.rds_lines.specs.Views.{ShowsView}
@@ -90,7 +92,23 @@ RefusesGrow words fault =
     ⊎ ((names : List (List ℕ)) × (names_for words ≡ Ok names)
     × (RefusesLock words.file.now fault ⊎ ((before : ReplicaValue) × RefusesGrowIn names before fault))))
 
+-- ---- compact
+
+-- the file at this path was read under its lock, and keeps what it held then, and that it was done is told
+pub record CompactsFile (path : List ℕ) (file : ReplacedValue) (answer : Reply) : Type 0 where
+  pub read : IsReplacedAt path file
+  pub same : file.kept ≡ file.before
+  pub told : answer ≡ Done
+
+-- why no file is written anew: it can't be locked and read, or what it holds can't be kept
+abbrev pub RefusesCompact : List ℕ → Fault → Type 0
+RefusesCompact path fault = RefusesLock path fault ⊎ ((before : ReplicaValue) × IsUnkept before fault)
+
 -- ---- edits
+
+-- a change without a longer roster
+abbrev pub delta_alone : StateValue → ChangeValue
+delta_alone delta = record { roster = None; delta = delta }
 
 -- an edited replica can't be kept
 abbrev pub IsEditedUnkept : Command → ReplicaValue → Fault → Type 0

@@ -1,5 +1,5 @@
 -- What commands come to that look at the replica in a file.
-use Rattle.std.specs.Prelude.{◌≡◌, ◌⊎◌, ◌++◌, ◌∷◌, ℕ, List, [], Option, Ok}
+use Rattle.std.specs.Prelude.{◌≡◌, ◌⊎◌, ◌++◌, ◌-◌, ◌∷◌, ℕ, List, [], Option, Ok}
 use Rattle.rds_names.specs.declared.fault.Fault.{Fault}
 use Rattle.rds_names.specs.declared.fault.Fault.TheVariants.{BadPath}
 use Rattle.rds_names.specs.Gives.{Refuses}
@@ -38,10 +38,10 @@ WritesGet path text = WritesOfFile (GetsFile path text) (RefusesGet text)
 
 -- ---- status
 
--- the file at this path was read, and this tells whose replica it held, and how much of it
+-- the file at this path was read, and this tells whose replica it held, how much of it, and in how many bytes
 pub record DescribesFile (path : List ℕ) (file : FileValue) (answer : Reply) : Type 0 where
   pub read : IsReadAt path file
-  pub told : TellsOverview file.kept answer
+  pub told : TellsOverview file.kept file.layout.snapshot (file.layout.whole - file.layout.snapshot) answer
 
 abbrev pub WritesStatus : List ℕ → Option (List ℕ) → Option (List ℕ) → ℕ → Type 0
 WritesStatus path = WritesOfFile (DescribesFile path) IsUnread

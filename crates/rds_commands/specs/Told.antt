@@ -28,16 +28,18 @@ use Rattle.rds_lines.specs.Streams.{NoneFailed, Stream, Tells}
 use Rattle.rds_output.specs.Output.{Writes, fault_line}
 use Rattle.rds_lines.specs.Sim.{IsSimOutput, MayBeSimulated}
 use Rattle.rds_lines.specs.declared.views.Layout.{Layout}
-use Rattle.rds_lines.specs.declared.views.Layout.TheVariants.{Compact, Indented}
+use Rattle.rds_lines.specs.declared.views.Layout.TheVariants as layout
 use Rattle.rds_files.specs.Files.{is_beside}
 use Rattle.rds_files.specs.Pairing.{WritesPair}
 use Rattle.rds_files.specs.Piping.{Pipes}
 use Rattle.rds_files.specs.Syncing.{WritesServing, WritesSync}
 use Rattle.rds_commands.specs.Edits.{
+  CompactsFile,
   EditsFile,
   EditsIfChanged,
   GrowsFile,
   InitsFile,
+  RefusesCompact,
   RefusesEdit,
   RefusesGrow,
   RefusesInit,
@@ -89,6 +91,7 @@ use Rattle.rds_words.specs.declared.tasks.Task.TheVariants.{
   Show,
   ShowPretty,
   Dump,
+  Compact,
   Status,
   Serve,
   Sync,
@@ -125,6 +128,9 @@ WritesInit words = WritesOfFile (InitsFile words) (RefusesInit words)
 
 abbrev pub WritesGrow : GrowWords → Option (List ℕ) → Option (List ℕ) → ℕ → Type 0
 WritesGrow words = WritesOfFile (GrowsFile words) (RefusesGrow words)
+
+abbrev pub WritesCompact : List ℕ → Option (List ℕ) → Option (List ℕ) → ℕ → Type 0
+WritesCompact path = WritesOfFile (CompactsFile path) (RefusesCompact path)
 
 abbrev pub WritesEdit : List ℕ → EditWords → Option (List ℕ) → Option (List ℕ) → ℕ → Type 0
 WritesEdit path words = WritesOfFile (EditsFile path words) (RefusesEdit path words)
@@ -204,9 +210,10 @@ WritesTask (EditLines file) reading before after status = WritesEditLines file.n
 WritesTask (Get file path) reading before after status = WritesGet file.now path.now before after status
 WritesTask (GetRaw file path kind) reading before after status =
     WritesRaw file.now path.now (wanted_of kind) before after status
-WritesTask (Show file path) reading before after status = WritesShow Compact file.now path.now before after status
-WritesTask (ShowPretty file path) reading before after status = WritesShow Indented file.now path.now before after status
+WritesTask (Show file path) reading before after status = WritesShow layout.Compact file.now path.now before after status
+WritesTask (ShowPretty file path) reading before after status = WritesShow layout.Indented file.now path.now before after status
 WritesTask (Dump file path) reading before after status = WritesList dump_text 0 file.now path.now before after status
+WritesTask (Compact file) reading before after status = WritesCompact file.now before after status
 WritesTask (Status file) reading before after status = WritesStatus file.now before after status
 WritesTask (Serve words) reading before after status = WritesServe words reading before after status
 WritesTask (Sync words) reading before after status = WritesSyncing words reading before after status

@@ -1,18 +1,24 @@
 //! Many edits of the replica in a file, which is read and written once.
 ghost use Rattle.std.specs.Prelude.{◌≡◌, ◌≤◌, ◌⊎◌, Err, IfErr, IfOk};
+ghost use Rattle.rds_names.specs.declared.fault.Fault.TheVariants.{Memory};
+ghost use Rattle.rds_keep.specs.Changes.{IsChanged};
 ghost use Rattle.rds_lines.specs.Streams.{Tells, stream_of};
 ghost use Rattle.rds_lines.specs.Editing.{EditsLines};
 ghost use Rattle.rds_lines.specs.Lines.{lines_in};
+ghost use Rattle.rds_commands.specs.Edits.{delta_alone};
 ghost use Rattle.rds_commands.specs.Batch.{EditsFileBy, RefusesLines, RefusesLinesIn, WritesEditLines, WritesEdits};
 
 use crate::notes::{note_file, note_input};
+use rds_delta::{Digest, delta};
 use rds_files::{Disk, LockFile, LockedFile, ReplacedFile};
 use rds_gaps::GapSet;
-use rds_keep::Counted;
+use rds_keep::{Change, Counted};
 use rds_lines::{edit_lines, write_replies};
 use rds_names::Fault;
 use rds_output::{Reply, write_fault};
+use rds_state::{Replica, State};
 use rds_tree::Index;
+use std::alloc::Global;
 use std::io::{Read, Write};
 
 /// The most bytes of an input.
@@ -25,6 +31,14 @@ pub struct FileAnswers<'a> {
     pub file: ReplacedFile<'a, GapSet>,
     /// The answers, in the order of the lines.
     pub answers: Vec<Reply>,
+}
+
+// A replica that lines edited, the delta that it was joined with, and what each line is answered.
+#[derive(Drop)]
+struct Edited {
+    replica: Replica<GapSet>,
+    delta: State<GapSet>,
+    answers: Vec<Reply>,
 }
 
 /// Edits the replica in a file as the lines of an input say. The file is locked and read once, its replica edited by
@@ -58,12 +72,36 @@ where
         (λ done. EditsLines (lines_in input.now) file.entry.kept done.file.kept done.answers.items) }
     ensures fault { IfErr result (RefusesLinesIn (lines_in input.now) file.entry.kept) }
 {
-    let alloc = rt.alloc();
     let (replica, emptied) = file.into_parts();
+    let Edited {
+        replica,
+        delta,
+        answers,
+    } = edited_by(rt.alloc(), replica, input)?;
+    let change = Change {
+        roster: None,
+        delta: &delta,
+    };
+    let file = emptied.keep(rt, replica, change)?;
+    Ok(FileAnswers { file, answers })
+}
+
+// Edits a replica by lines, and answers also the least delta that it was joined with by all of them.
+fn edited_by(alloc: Global, replica: Replica<GapSet>, input: &[u8]) -> Result<Edited, Fault>
+    ensures edited { IfOk result (λ done. EditsLines (lines_in input.now) replica done.replica done.answers.items) }
+    ensures changed { IfOk result (λ done. IsChanged replica (delta_alone done.delta) done.replica) }
+    ensures memory { IfErr result (λ fault. fault ≡ Memory) }
+{
+    let before = Digest::of(alloc, replica.state())?;
     let mut index = Index::of(alloc, replica)?;
     let answers = edit_lines(alloc, &mut index, input)?;
-    let file = emptied.replace(rt, index.into_replica())?;
-    Ok(FileAnswers { file, answers })
+    let replica = index.into_replica();
+    let delta = delta(alloc, replica.state(), &before)?;
+    Ok(Edited {
+        replica,
+        delta,
+        answers,
+    })
 }
 
 /// Edits the replica in a file as the lines say that the reader holds, and writes their answers once it is kept. All

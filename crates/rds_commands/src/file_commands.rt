@@ -1,11 +1,14 @@
 //! Commands on the replica in a file.
 ghost use Rattle.std.specs.Prelude.{◌≡◌, ◌⊎◌, None, Err, IfErr, IfOk, IsOk, MatchResult, OnErr, OnOk};
+ghost use Rattle.rds_keep.specs.Changes.{IsChanged};
 ghost use Rattle.rds_names.specs.declared.fault.Fault.TheVariants.{Memory};
 ghost use Rattle.rds_names.specs.Gives.{Refuses};
 ghost use Rattle.rds_names.specs.Path.{path_of};
 ghost use Rattle.rds_names.specs.Roster.{grown_of};
 ghost use Rattle.rds_state.specs.Edit.{IsDue};
 ghost use Rattle.rds_commands.specs.Edits.{
+  CompactsFile,
+  delta_alone,
   edit_refusal,
   EditsFile,
   EditsIfChanged,
@@ -13,6 +16,7 @@ ghost use Rattle.rds_commands.specs.Edits.{
   InitsFile,
   IsEdited,
   IsGrown,
+  RefusesCompact,
   RefusesEdit,
   RefusesEditIn,
   RefusesGrow,
@@ -27,11 +31,13 @@ ghost use Rattle.rds_words.specs.Meaning.{IsCommand, names_for, roster_for};
 use rds_dots::DotSet;
 use rds_files::{CreatedFile, Disk, LockFile, LockedFile, ReplacedFile, ReplicaFile};
 use rds_gaps::GapSet;
+use rds_keep::Change;
 use rds_lines::{Layout, shown};
 use rds_listing::stands;
-use rds_names::{Fault, Name, Path};
+use rds_names::{Fault, Name, Path, Roster};
 use rds_output::Reply;
-use rds_state::{Command, Replica};
+use rds_state::{Command, Replica, State};
+use rds_tree::edit_with_delta;
 use rds_words::{EditWords, GrowWords, InitWords, command_of, names_in, roster_in};
 use std::alloc::Global;
 
@@ -110,8 +116,34 @@ where
     ensures told { IfOk result (λ done. done.answer ≡ Done) }
     ensures fault { IfErr result (RefusesGrowIn names.now file.entry.kept) }
 {
+    let alloc = rt.alloc();
     let (mut replica, emptied) = file.into_parts();
-    grow(rt.alloc(), &mut replica, names)?;
+    let roster = grow(alloc, &mut replica, names)?;
+    let nothing = State::empty(alloc);
+    let change = Change {
+        roster: Some(&roster),
+        delta: &nothing,
+    };
+    let file = emptied.keep(rt, replica, change)?;
+    Ok(FileAnswer {
+        file,
+        answer: Reply::Done,
+    })
+}
+
+/// Writes the file of a replica anew, as one snapshot without records. The file is locked and read first, and what it
+/// holds stays.
+pub fn compact_file<'a, H: Disk>(
+    rt: &H,
+    path: &'a str,
+) -> Result<FileAnswer<ReplacedFile<'a, GapSet>>, Fault>
+where
+    H::File: LockFile,
+    ensures same { IfOk result (λ done. CompactsFile path.now done.file done.answer) }
+    ensures fault { IfErr result (RefusesCompact path.now) }
+{
+    let held = LockedFile::open(rt, path)?;
+    let (replica, emptied) = held.into_parts();
     let file = emptied.replace(rt, replica)?;
     Ok(FileAnswer {
         file,
@@ -155,8 +187,12 @@ where
     ensures fault { IfErr result (RefusesEditIn command file.entry.kept) }
 {
     let (mut replica, file) = file.into_parts();
-    let answer = edited(&mut replica, command)?;
-    let file = file.replace(rt, replica)?;
+    let (answer, delta) = edited(rt.alloc(), &mut replica, &command)?;
+    let change = Change {
+        roster: None,
+        delta: &delta,
+    };
+    let file = file.keep(rt, replica, change)?;
     Ok(FileAnswer { file, answer })
 }
 
@@ -211,26 +247,39 @@ pub fn show_file<'a, H: Disk>(
     Ok(FileAnswer { file, answer })
 }
 
-/// Edits a replica, and answers which dot is new and how many entries were taken away. Refuses as
-/// the edit does, and then nothing is changed.
-pub fn edited<S: DotSet>(replica: &mut Replica<S>, command: Command) -> Result<Reply, Fault>
-    ensures edited { IfOk result (IsEdited command replica.old replica.new) }
-    ensures refusal { let due = edit_refusal replica.old command in
+/// Edits a replica, and answers which dot is new and how many entries were taken away, and the delta that it was joined
+/// with. Refuses as the edit does, and then nothing is changed.
+pub fn edited<S: DotSet>(
+    alloc: Global,
+    replica: &mut Replica<S>,
+    command: &Command,
+) -> Result<(Reply, State<S>), Fault>
+    ensures edited { IfOk result (λ done. IsEdited command.now replica.old replica.new done.0) }
+    ensures changed { IfOk result (λ done. IsChanged replica.old (delta_alone done.1) replica.new) }
+    ensures refusal { let due = edit_refusal replica.old command.now in
         MatchResult result (λ _. due ≡ None) (IsDue due) }
     ensures err { OnErr result (replica.new ≡ replica.old) }
 {
-    let edited = replica.edit(command)?;
-    Ok(Reply::of_edit(replica.roster(), &edited))
+    let (edited, delta) = edit_with_delta(alloc, replica, command)?;
+    let answer = Reply::of_edit(replica.roster(), &edited);
+    Ok((answer, delta))
 }
 
-/// Puts names behind those of a replica's roster. Refuses `BadRoster` where there is none, where one stands twice and
-/// where there are more than 256 in all, and then nothing is changed.
-pub fn grow<S: DotSet>(alloc: Global, replica: &mut Replica<S>, names: &[Name]) -> Result<(), Fault>
-    ensures grown { OnOk result (IsGrown names.now replica.old replica.new) }
+/// Puts names behind those of a replica's roster, and answers the roster. Refuses `BadRoster` where there is none, where
+/// one stands twice and where there are more than 256 in all, and then nothing is changed.
+pub fn grow<S: DotSet>(
+    alloc: Global,
+    replica: &mut Replica<S>,
+    names: &[Name],
+) -> Result<Roster, Fault>
+    ensures grown { IfOk result (λ _. IsGrown names.now replica.old replica.new) }
+    ensures roster { IfOk result (λ roster. roster ≡ replica.new.roster) }
     ensures refusal { let due = grown_of replica.old.roster names.now in
         MatchResult result (λ _. IsOk due) (λ fault. Refuses fault due) }
     ensures err { OnErr result (replica.new ≡ replica.old) }
 {
-    let roster = replica.roster().grown(alloc, names)?;
-    replica.grow(roster)
+    let grown = replica.roster().grown(alloc, names)?;
+    let roster = grown.copy(alloc)?;
+    replica.grow(grown)?;
+    Ok(roster)
 }

@@ -36,7 +36,8 @@ pub fn get_file<'a, H: Disk>(
     Ok(FileAnswer { file, answer })
 }
 
-/// Tells whose replica a file holds, and how much there is of it.
+/// Tells whose replica a file holds, how much there is of it, and how many bytes the file's snapshot has and the records
+/// behind it.
 pub fn describe_file<'a, H: Disk>(
     rt: &H,
     path: &'a str,
@@ -45,7 +46,9 @@ pub fn describe_file<'a, H: Disk>(
     ensures fault { IfErr result IsUnread }
 {
     let file = ReplicaFile::open(rt, path)?;
-    let answer = describe(rt.alloc(), file.kept())?;
+    let layout = file.layout();
+    let records = layout.whole.saturating_sub(layout.snapshot);
+    let answer = describe(rt.alloc(), file.kept(), layout.snapshot, records)?;
     Ok(FileAnswer { file, answer })
 }
 

@@ -17,6 +17,11 @@ const PATH: &str = "1 to 8 keys with '/' between them, each of 1 to 64 bytes";
 pub fn note_file<H: Eprint>(rt: &H, path: &str, fault: Fault) {
     match fault {
         Fault::Device | Fault::Cut | Fault::Bad | Fault::Extra => (),
+        Fault::Unsure => {
+            let _ = eprintln!(rt;
+                "{path}: may have the change or not: read it before you give the command again"
+            );
+        }
         _ => {
             let _ = eprintln!(rt; "{path}: {fault}");
         }
@@ -40,8 +45,16 @@ pub fn note_init<H: Eprint>(rt: &H, words: &InitWords<'_>, fault: Fault) {
             let own = words.own;
             let _ = eprintln!(rt; "OWN '{own}' is none of NAMES");
         }
+        Fault::Unsure => note_made(rt, words.file),
         _ => note_file(rt, words.file, fault),
     }
+}
+
+// Tells that a file was made that may not last.
+fn note_made<H: Eprint>(rt: &H, path: &str) {
+    let _ = eprintln!(rt;
+        "{path}: is made, and may not last: see whether it is there before you give the command again"
+    );
 }
 
 /// Tells why `init` with `--from` was refused.
@@ -59,6 +72,7 @@ pub fn note_init_from<H: Eprint>(rt: &H, words: &InitFromWords<'_>, fault: Fault
                 "'{own}' is used: {from} is its file, or has seen something of it"
             );
         }
+        Fault::Unsure => note_made(rt, words.file),
         _ => note_file(rt, words.file, fault),
     }
 }

@@ -16,7 +16,9 @@ use crate::offline::{
     TakeWords, run_answer, run_ask, run_check, run_init_from, run_merge, run_take,
 };
 use crate::session_words::{run_pair, run_serve, run_sync};
-use crate::telling::{run_edit, run_edit_if_changed, run_grow, run_init, run_show, run_text};
+use crate::telling::{
+    run_compact, run_edit, run_edit_if_changed, run_grow, run_init, run_show, run_text,
+};
 use crate::unparsed::write_unparsed;
 use rds_files::{Disk, LockFile};
 use rds_keep::Counted;
@@ -105,6 +107,7 @@ where
         Task::ShowPretty { file, path } => run_show(rt, file, path, Layout::Indented, writer),
         Task::Status { file } => run_status(rt, file, writer),
         Task::Dump { file, path } => run_dump(rt, file, path, writer),
+        Task::Compact { file } => run_compact(rt, file, writer),
         Task::Conflicts { file, path } => run_conflicts(rt, file, path, writer),
         Task::Serve(words) => run_serve(rt, words, reader, writer),
         Task::Sync(words) => run_sync(rt, words, reader, writer),

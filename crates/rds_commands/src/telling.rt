@@ -2,10 +2,14 @@
 ghost use Rattle.std.specs.Prelude.{◌≡◌, ◌≤◌, ◌⊎◌};
 ghost use Rattle.rds_lines.specs.Streams.{Tells, stream_of};
 ghost use Rattle.rds_commands.specs.Offline.{WritesText};
-ghost use Rattle.rds_commands.specs.Told.{WritesEdit, WritesGrow, WritesIfChanged, WritesInit, WritesShow};
+ghost use Rattle.rds_commands.specs.Told.{WritesCompact, WritesEdit, WritesGrow, WritesIfChanged, WritesInit, WritesShow};
 
-use crate::file_commands::{edit_file, edit_if_changed, grow_file, init_file, show_file};
-use crate::notes::{note_cleared, note_edit, note_grow, note_init, note_part, note_unwritten};
+use crate::file_commands::{
+    compact_file, edit_file, edit_if_changed, grow_file, init_file, show_file,
+};
+use crate::notes::{
+    note_cleared, note_edit, note_file, note_grow, note_init, note_part, note_unwritten,
+};
 use crate::outcome::told;
 use rds_files::{Disk, LockFile};
 use rds_keep::Counted;
@@ -39,6 +43,18 @@ where
     let status = told(done, writer, |fault| note_grow(rt, words, fault));
     note_unwritten(rt, words.file, changed, status);
     status
+}
+
+/// Writes a file anew as `compact_file` does, and writes the answer.
+pub fn run_compact<H: Disk, W: Write>(rt: &H, path: &str, writer: &mut Counted<W>) -> u8
+where
+    H::File: LockFile,
+    ensures written { Tells (WritesCompact path.now) (stream_of W.contents writer.old writer.new) result }
+    ensures status { result ≤ 2 }
+    ensures broken { (writer.new.failed ≡ writer.old.failed) ⊎ (result ≡ 1) }
+{
+    let done = compact_file(rt, path);
+    told(done, writer, |fault| note_file(rt, path, fault))
 }
 
 /// Edits the replica in a file as `edit_file` does, and writes the answer.

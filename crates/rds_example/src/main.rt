@@ -1,38 +1,82 @@
-//! The smallest use of the library: two replicas are edited apart, and the store takes what it lacks of the shop.
+//! Two uses of the store: documents that meet in memory, and documents in files.
 #![tactic(auto)]
 
-use rds_codec::pull;
-use rds_gaps::GapSet;
-use rds_json::show;
-use rds_names::{Fault, Key, Name, Path, Roster, Scalar};
-use rds_state::{Command, Replica};
-use rds_tree::view;
+use rds_store::{Document, DocumentFile, Fault, create_file};
 use std::alloc::Global;
-use std::io;
+use std::{fs, io};
 
-/// The document of the store, once it has met the shop.
-fn document(alloc: Global) -> Result<String, Fault> {
+/// Two replicas are edited apart, and the store takes what it lacks of the shop.
+fn in_memory(alloc: Global) -> Result<String, Fault> {
     let mut shop = replica(alloc, 0)?;
     let mut store = replica(alloc, 1)?;
-    let tags = Path::new(alloc, "apples/tags")?;
-    shop.edit(Command::Add(tags, Scalar::text(alloc, "red")?))?;
-    store.edit(Command::Inc(Key::new(alloc, "apples")?, 10))?;
-
-    let asked = store.copy(alloc)?;
-    let _answer = pull(alloc, &shop, &asked, &mut store)?;
-    show(alloc, &view(alloc, store.state(), &Path::new(alloc, "")?)?)
+    shop.edit_line("[\"add\",\"apples/tags\",\"red\"]")?;
+    store.edit_line("[\"inc\",\"apples\",10]")?;
+    pull(&shop, &mut store)?;
+    store.view_json("")
 }
 
 /// An empty replica of the group, with this number.
-fn replica(alloc: Global, own: u8) -> Result<Replica<GapSet>, Fault> {
-    let names = [Name::new("shop")?, Name::new("store")?];
-    let roster = Roster::new(alloc, Key::new(alloc, "inventory")?, &names)?;
-    Replica::new(alloc, roster, own)
+fn replica(alloc: Global, own: u8) -> Result<Document, Fault> {
+    Document::new(alloc, "inventory", &["shop", "store"], own)
 }
 
-fn main(rt: HostRuntime) -> io::Result<()> {
-    match document(rt.alloc()) {
+/// One document takes what it lacks of another. The question and the answer are bytes, which anything may carry.
+fn pull(from: &Document, to: &mut Document) -> Result<(), Fault> {
+    let question = to.ask()?;
+    let answer = from.answer(&question)?;
+    to.take(&question, &answer)?;
+    Ok(())
+}
+
+/// The shop's file is edited and kept, twice under one lock.
+fn edit_shop(rt: &HostRuntime) -> Result<(), Fault> {
+    let mut shop = DocumentFile::open(rt, "shop.rds")?;
+    shop.edit_line("[\"set\",\"apples/price\",3]")?;
+    shop.keep(rt)?;
+    shop.edit_line("[\"add\",\"apples/tags\",\"ripe\"]")?;
+    shop.keep(rt)
+}
+
+/// The store's file takes what it lacks of the shop's.
+fn sync_store(rt: &HostRuntime) -> Result<String, Fault> {
+    let mut store = DocumentFile::open(rt, "store.rds")?;
+    let question = store.document().ask()?;
+    let answer = answer_of(rt, "shop.rds", &question)?;
+    store.take(&question, &answer)?;
+    store.keep(rt)?;
+    store.document().view_json("")
+}
+
+/// What the document of a file answers.
+fn answer_of(rt: &HostRuntime, path: &str, question: &[u8]) -> Result<Vec<u8>, Fault> {
+    DocumentFile::open(rt, path)?.document().answer(question)
+}
+
+/// Makes the files of the two replicas.
+fn make_files(rt: &HostRuntime) -> Result<(), Fault> {
+    create_file(rt, "shop.rds", replica(rt.alloc(), 0)?)?;
+    create_file(rt, "store.rds", replica(rt.alloc(), 1)?)?;
+    Ok(())
+}
+
+/// The document of the store's file in the end.
+fn in_files(rt: &HostRuntime) -> Result<String, Fault> {
+    make_files(rt)?;
+    edit_shop(rt)?;
+    sync_store(rt)
+}
+
+/// Prints a document, or why there is none.
+fn print(rt: &HostRuntime, document: Result<String, Fault>) -> io::Result<()> {
+    match document {
         Ok(document) => println!(rt; "{document}"),
         Err(fault) => println!(rt; "{fault}"),
     }
+}
+
+fn main(rt: HostRuntime) -> io::Result<()> {
+    print(&rt, in_memory(rt.alloc()))?;
+    print(&rt, in_files(&rt))?;
+    fs::remove_file(&rt, "shop.rds")?;
+    fs::remove_file(&rt, "store.rds")
 }

@@ -1,3 +1,4 @@
+pub mod Growing
 pub mod Heard
 pub mod Hearing
 pub mod Paired

@@ -61,7 +61,7 @@ taken_held path file asked delivery kept components (Taken n) (Some new) held sa
       keeps.1 ∙ count,
     )
 taken_held path file asked delivery kept components (Unkept fault) None held same joined count keeps =
-    record { held = file.kept; value = held.value; same = same; kept = kept; joined = joined; why = keeps.0; long = keeps.1 }
+    record { held = file.kept; value = held.value; same = same; kept = kept; joined = joined; why = keeps }
 taken_held path file asked delivery kept components settled new held same joined count keeps = absurd keeps
 
 -- ---- the replica that asked for it

@@ -1,14 +1,17 @@
 -- Replicas in files.
 use Rattle.std.specs.Prelude.{◌≡◌, ◌==◌, ◌⊎◌, ◌<◌, ℕ, Bool, true, false, List, length, codes, refl, Option, IfSome}
 use Rattle.std.specs.List.{ends_with}
-use Rattle.std.specs.Coded.{Coded, code_by, coded×, coded_list, coded_ℕ}
+use Rattle.std.specs.Coded.{Coded, code_by, coded×, coded_bool, coded_list, coded_ℕ}
 use Rattle.rds_names.specs.declared.fault.Fault.{Fault}
-use Rattle.rds_names.specs.declared.fault.Fault.TheVariants.{Memory, Device, TooLong, Usage}
+use Rattle.rds_names.specs.declared.fault.Fault.TheVariants.{Memory, Device, TooLong, Unsure, Usage}
 use Rattle.rds_state.specs.Fits.{ReplicaValue, coded_replica}
 use Rattle.rds_codec.specs.Decoding.{IsOtherFault}
 use Rattle.rds_codec.specs.StateTexts.{IsSnapshot, snapshot_text}
+use Rattle.rds_codec.specs.declared.formats.Format.{Format}
+use Rattle.rds_codec.specs.declared.formats.Format.TheVariants.{One, Two}
 use Rattle.rds_codec.specs.declared.limits.TheConstants.{LIMIT}
 use Rattle.rds_keep.specs.Counted.{one_more}
+use Rattle.rds_keep.specs.declared.layout.Layout.{Layout}
 
 -- ---- values
 
@@ -25,17 +28,41 @@ coded_path =
 abbrev pub read_more : PathValue → PathValue
 read_more at = record at { reads = one_more at.reads }
 
--- a replica that was read from a file, and how many readings by that path came before
+-- a replica that was read from a file, where the parts of the file stand, and how many readings by that path came
+-- before
 pub record FileValue : Type 0 where
   pub path : List ℕ
   pub kept : ReplicaValue
+  pub layout : Layout
   pub nth : ℕ
+
+abbrev pub is_two : Format → Bool
+is_two One = false
+is_two Two = true
+
+abbrev pub format_if : Bool → Format
+format_if false = One
+format_if true = Two
+
+abbrev pub format_back : (f : Format) → format_if (is_two f) ≡ f
+format_back One = refl
+format_back Two = refl
+
+abbrev pub coded_format : Coded Format
+coded_format = code_by Bool coded_bool is_two format_if format_back
+
+abbrev pub coded_layout : Coded Layout
+coded_layout =
+    code_by (Format × (ℕ × (ℕ × ℕ))) (coded× coded_format (coded× coded_ℕ (coded× coded_ℕ coded_ℕ)))
+    (λ l. (l.format, (l.snapshot, (l.whole, l.length))))
+    (λ p. record { format = p.0; snapshot = p.1.0; whole = p.1.1.0; length = p.1.1.1 }) (λ _. refl)
 
 abbrev pub coded_file : Coded FileValue
 coded_file =
-    code_by (List ℕ × (ReplicaValue × ℕ)) (coded× (coded_list coded_ℕ) (coded× coded_replica coded_ℕ))
-    (λ f. (f.path, (f.kept, f.nth)))
-    (λ p. record { path = p.0; kept = p.1.0; nth = p.1.1 }) (λ _. refl)
+    code_by (List ℕ × (ReplicaValue × (Layout × ℕ)))
+    (coded× (coded_list coded_ℕ) (coded× coded_replica (coded× coded_layout coded_ℕ)))
+    (λ f. (f.path, (f.kept, (f.layout, f.nth))))
+    (λ p. record { path = p.0; kept = p.1.0; layout = p.1.1.0; nth = p.1.1.1 }) (λ _. refl)
 
 -- a replica that a file holds
 pub record KeptFile : Type 0 where
@@ -61,8 +88,13 @@ coded_replaced =
 
 -- ---- what they hold
 
--- the file at this path was read, and what it held is the text of its replica
+-- the file at this path was read, and what it held makes its replica
 pub record IsReadAt (path : List ℕ) (file : FileValue) : Type 0 where
+  pub at : file.path ≡ path
+  pub value : IsSnapshot file.kept
+
+-- the same, whether it was read under its lock or not
+pub record IsKeptAt (path : List ℕ) (file : KeptFile) : Type 0 where
   pub at : file.path ≡ path
   pub value : IsSnapshot file.kept
 
@@ -81,7 +113,7 @@ pub record IsHeldAt (path : List ℕ) (file : KeptFile) : Type 0 where
   pub value : IsSnapshot file.kept
   pub place : is_beside path ≡ false
 
--- the file at this path was read under its lock, and replaced
+-- the file at this path was read under its lock, and holds another replica since
 pub record IsReplacedAt (path : List ℕ) (file : ReplacedValue) : Type 0 where
   pub at : file.path ≡ path
   pub value : IsSnapshot file.before
@@ -89,7 +121,7 @@ pub record IsReplacedAt (path : List ℕ) (file : ReplacedValue) : Type 0 where
 
 -- ---- refusals
 
--- why a file gives no replica: it can't be had, or holds no snapshot; or want of memory
+-- why a file gives no replica: it can't be had, or holds none; or want of memory
 abbrev pub IsUnread : Fault → Type 0
 IsUnread fault = (fault ≡ Device) ⊎ IsOtherFault fault
 
@@ -101,10 +133,12 @@ HoldsTooMuch {F} remaining = (file : F) × IfSome (remaining file) (λ input. LI
 abbrev pub RefusesLock : List ℕ → Fault → Type 0
 RefusesLock path fault = ((fault ≡ Usage) × (is_beside path ≡ true)) ⊎ IsUnread fault
 
--- why a replica can't be kept in a file: a call on a file failed, or its text is above the limit; or want of memory
+-- why a replica can't be kept in a file: a call on a file failed, or its text is above the limit; or want of memory; or
+-- it is written, and the system doesn't say that it lasts
 abbrev pub IsUnkept : ReplicaValue → Fault → Type 0
 IsUnkept replica fault =
-    (fault ≡ Memory) ⊎ ((fault ≡ Device) ⊎ ((fault ≡ TooLong) × (LIMIT < length (snapshot_text replica))))
+    (fault ≡ Memory)
+    ⊎ ((fault ≡ Device) ⊎ ((fault ≡ Unsure) ⊎ ((fault ≡ TooLong) × (LIMIT < length (snapshot_text replica)))))
 
 -- why a replica isn't kept whose text is above the limit: for that, or for want of memory to find how long it is
 abbrev pub IsTooLongOrLost : Fault → Type 0

@@ -8,7 +8,7 @@ use Rattle.rds_session.specs.declared.talk.Side.TheVariants.{Client, Server}
 use Rattle.rds_session.specs.Leaving.{HasHeard, Leaves, StandsAs}
 use Rattle.rds_session.specs.Received.{Delivery}
 use Rattle.rds_session.specs.Session.{Standing}
-use Rattle.rds_files.specs.Files.{FileValue, IsReadAt, ReplacedValue}
+use Rattle.rds_files.specs.Files.{IsKeptAt, KeptFile, ReplacedValue}
 use Rattle.rds_files.specs.Reports.{WritesNone, report_text, tells_fault, told_status}
 use Rattle.rds_files.specs.Settling.{Settles}
 use Rattle.rds_files.specs.declared.pairing.paired.PairedFile.{PairedFile}
@@ -26,13 +26,13 @@ abbrev pub StaysEnd : Standing → Ended → Standing → Ended → Type 0
 StaysEnd old was new is = (side : Side) (kept : ReplicaValue) → IsEnd side kept old was → IsEnd side kept new is
 
 -- what was read from a file of a pair
-abbrev pub file_of : {H S File Dir : Type 0} → PairedFile H S File Dir → FileValue
-file_of (Locked file) = record { path = file.path; kept = file.kept; nth = 0 }
-file_of (Read file) = file
+abbrev pub file_of : {H S File Dir : Type 0} → PairedFile H S File Dir → KeptFile
+file_of (Locked file) = file
+file_of (Read file) = record { path = file.path; kept = file.kept }
 
 -- what is told of an end, whose replica was read from this file, and whether a fault is told: what it received was
 -- settled in what the file held then
-pub record Tells (side : Side) (file : FileValue) (text : List ℕ) (told : Bool) : Type 0 where
+pub record Tells (side : Side) (file : KeptFile) (text : List ℕ) (told : Bool) : Type 0 where
   pub received : Option Delivery
   pub ended : Ended
   pub leaves : Leaves side file.kept received ended
@@ -44,7 +44,7 @@ pub record Tells (side : Side) (file : FileValue) (text : List ℕ) (told : Bool
 
 -- what is told of the client and then of the server was written, and nothing else; the status is 1 where a fault is
 -- told
-pub record WritesBoth (client server : FileValue) (before after : Option (List ℕ)) (status : ℕ) : Type 0 where
+pub record WritesBoth (client server : KeptFile) (before after : Option (List ℕ)) (status : ℕ) : Type 0 where
   pub first : List ℕ
   pub first_told : Bool
   pub tells_first : Tells Client client first first_told
@@ -56,10 +56,10 @@ pub record WritesBoth (client server : FileValue) (before after : Option (List �
 
 -- a session of the files at these paths, the first of which is the client, was told of, and nothing else
 pub record WritesSessionOf (first second : List ℕ) (before after : Option (List ℕ)) (status : ℕ) : Type 0 where
-  pub client : FileValue
-  pub client_read : IsReadAt first client
-  pub server : FileValue
-  pub server_read : IsReadAt second server
+  pub client : KeptFile
+  pub client_read : IsKeptAt first client
+  pub server : KeptFile
+  pub server_read : IsKeptAt second server
   pub both : WritesBoth client server before after status
 
 -- why there is no session alone, or what two replicas came to

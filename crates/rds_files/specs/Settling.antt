@@ -1,12 +1,12 @@
 -- What becomes of what a session received for the replica in a file.
-use Rattle.std.specs.Prelude.{◌≡◌, ◌⊎◌, ◌<◌, Bool, true, false, List, ℕ, length, Option, Some, None, Err}
+use Rattle.std.specs.Prelude.{◌≡◌, ◌⊎◌, Bool, true, false, List, ℕ, Option, Some, None, Err}
 use Rattle.rds_names.specs.Roster.{RosterValue, OneBegins, longer}
 use Rattle.rds_names.specs.declared.fault.Fault.{Fault}
 use Rattle.rds_names.specs.declared.fault.Fault.TheVariants.{Memory, OwnAhead, WrongAsker, WrongRoster}
-use Rattle.rds_codec.specs.StateTexts.{IsSnapshot, snapshot_text}
-use Rattle.rds_codec.specs.declared.limits.TheConstants.{LIMIT}
+use Rattle.rds_codec.specs.StateTexts.{IsSnapshot}
 use Rattle.rds_delta.specs.Least.{IsAbove}
 use Rattle.rds_delta.specs.Ranks.{ranks}
+use Rattle.rds_keep.specs.Changes.{IsChanged}
 use Rattle.rds_session.specs.Judging.{roster_among}
 use Rattle.rds_session.specs.Received.{Delivery}
 use Rattle.rds_state.specs.Ahead.{Ahead}
@@ -14,7 +14,7 @@ use Rattle.rds_state.specs.Coordinates.{join}
 use Rattle.rds_state.specs.Fits.{ReplicaValue}
 use Rattle.rds_state.specs.Grown.{TakeWithGives}
 use Rattle.rds_state.specs.Value.{StateValue, coordinates, size}
-use Rattle.rds_files.specs.Files.{IsReplacedAt, IsTooLongOrLost, IsUnkept, KeptFile, RefusesLock, ReplacedValue}
+use Rattle.rds_files.specs.Files.{IsReplacedAt, IsUnkept, KeptFile, RefusesLock, ReplacedValue}
 use Rattle.rds_files.specs.declared.settling.Settled.{Settled}
 use Rattle.rds_files.specs.declared.settling.Settled.TheVariants.{Nothing, Taken, Refused, Unkept}
 
@@ -68,8 +68,7 @@ pub record RefusesHeld (asked : ReplicaValue) (delivery : Delivery) (fault : Fau
 abbrev pub RefusesAt : List ℕ → ReplicaValue → Delivery → Fault → Type 0
 RefusesAt path asked delivery fault = RefusesLock path fault ⊎ RefusesHeld asked delivery fault
 
--- what a file held took a delta, and can't be kept: TooLong only where its text is above the limit, and there nothing
--- else but want of memory
+-- what a file held took a delta, and can't be kept
 pub record IsJoinedUnkept (asked : ReplicaValue) (delivery : Delivery) (fault : Fault) : Type 0 where
   pub held : ReplicaValue
   pub value : IsSnapshot held
@@ -77,17 +76,19 @@ pub record IsJoinedUnkept (asked : ReplicaValue) (delivery : Delivery) (fault : 
   pub kept : ReplicaValue
   pub joined : IsJoined held (roster_among asked.roster delivery.1) delivery.0 kept
   pub why : IsUnkept kept fault
-  pub long : LIMIT < length (snapshot_text kept) → IsTooLongOrLost fault
+
+-- a replica took a delta, and its roster may have grown
+abbrev pub HasTaken : ReplicaValue → StateValue → ReplicaValue → Type 0
+HasTaken old delta new = IsChanged old (record { roster = Some new.roster; delta = delta }) new
 
 -- a replica that took so many components was kept in a file, or couldn't be
 abbrev pub KeepsTaken : KeptFile → ReplicaValue → ℕ → Settled → Option ReplacedValue → Type 0
 KeepsTaken file replica components (Taken n) (Some new) =
     (new ≡ record { path = file.path; before = file.kept; kept = replica }) × (n ≡ components)
-KeepsTaken file replica components (Unkept fault) None =
-    IsUnkept replica fault × (LIMIT < length (snapshot_text replica) → IsTooLongOrLost fault)
+KeepsTaken file replica components (Unkept fault) None = IsUnkept replica fault
 KeepsTaken file replica components settled new = ⊥
 
--- what became of a delta: the file took it and was replaced, or it wasn't taken, or the file couldn't be replaced
+-- what became of a delta: the file took it and keeps it, or it wasn't taken, or the file couldn't be kept
 abbrev pub SettlesDelta : List ℕ → ReplicaValue → Delivery → Settled → Option ReplacedValue → Type 0
 SettlesDelta path asked delivery (Taken components) (Some file) =
     TakesDelta path asked delivery file × (components ≡ size delivery.0)

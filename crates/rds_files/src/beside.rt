@@ -7,9 +7,9 @@ ghost use Rattle.rds_files.specs.Files.{IsTooLongOrLost, IsUnkept};
 
 use crate::disk::{Disk, note};
 use crate::locks::LockFile;
-use rds_codec::{LIMIT, snapshot_length};
+use rds_codec::{Format, LIMIT, snapshot_length};
 use rds_dots::DotSet;
-use rds_keep::{Counted, Kept, Place, keep_in};
+use rds_keep::{Counted, Kept, Layout, Place, WasKept, keep_in};
 use rds_names::Fault;
 use rds_state::Replica;
 use std::fs::{OpenFile, OpenOptions};
@@ -64,6 +64,71 @@ where
     keep_beside(rt, replica, name.as_str(), made)
 }
 
+/// What a new file holds that took another's place, and where its parts stand.
+pub struct Renewed<S: DotSet> {
+    /// What it holds.
+    pub kept: WasKept<S>,
+    /// Where its parts stand.
+    pub layout: Layout,
+}
+
+/// Keeps the replica in the file of this path in place of what it holds, as `keep_over` does, and holds that file from
+/// then on: FILE.new is locked before it takes FILE's place, and is the file where it has done that, whatever the
+/// answer.
+pub fn renew<H: Disk, S: DotSet>(
+    rt: &H,
+    replica: &Replica<S>,
+    path: &str,
+    file: &mut H::File,
+) -> Result<Renewed<S>, Fault>
+where
+    H::File: LockFile,
+    ensures kept { IfOk result (λ new. new.kept ≡ replica.now) }
+    ensures fault { IfErr result (IsUnkept replica.now) }
+    ensures limit { OnOk result (length (snapshot_text replica.now) ≤ LIMIT) }
+    ensures long { LIMIT < length (snapshot_text replica.now) → IfErr result IsTooLongOrLost }
+{
+    let name = name_beside(rt, path)?;
+    match Beside::create_locked(rt, name.as_str(), path, file) {
+        Ok(beside) => renew_in(rt, replica, beside, file),
+        Err(error) => Err(unmade(rt, replica, name.as_str(), &error)),
+    }
+}
+
+// Keeps the replica in FILE.new, which then takes FILE's place and is held on.
+fn renew_in<H: Disk, S: DotSet>(
+    rt: &H,
+    replica: &Replica<S>,
+    mut beside: Beside<'_, H>,
+    file: &mut H::File,
+) -> Result<Renewed<S>, Fault>
+    ensures kept { IfOk result (λ new. new.kept ≡ replica.now) }
+    ensures fault { IfErr result (IsUnkept replica.now) }
+    ensures limit { OnOk result (length (snapshot_text replica.now) ≤ LIMIT) }
+    ensures long { LIMIT < length (snapshot_text replica.now) → IfErr result IsTooLongOrLost }
+{
+    let copy = replica.copy(rt.alloc())?;
+    let kept = keep_made(rt, copy, &mut beside);
+    let layout = snapshot_alone(beside.written);
+    if beside.is_renamed {
+        *file = beside.into_file();
+    }
+    Ok(Renewed {
+        kept: WasKept::of(&kept?),
+        layout,
+    })
+}
+
+// How a file is laid out that has a snapshot of so many bytes, and no records.
+fn snapshot_alone(length: u64) -> Layout {
+    Layout {
+        format: Format::Two,
+        snapshot: length,
+        whole: length,
+        length,
+    }
+}
+
 // The path of FILE.new.
 fn name_beside<H: Disk>(rt: &H, path: &str) -> Result<String, Fault>
     ensures memory { IfErr result (λ fault. fault ≡ Memory) }
@@ -87,8 +152,27 @@ fn keep_beside<H: Disk, S: DotSet>(
     ensures long { LIMIT < length (snapshot_text replica) → IfErr result IsTooLongOrLost }
 {
     match made {
-        Ok(beside) => keep_in(rt.alloc(), replica, &mut Counted::new(beside)),
+        Ok(mut beside) => keep_made(rt, replica, &mut beside),
         Err(error) => Err(unmade(rt, &replica, name, &error)),
+    }
+}
+
+// Keeps the replica in FILE.new, which then takes FILE's place. Where it has done that, and the folder can't be synced,
+// that is `Unsure`.
+fn keep_made<H: Disk, S: DotSet>(
+    rt: &H,
+    replica: Replica<S>,
+    beside: &mut Beside<'_, H>,
+) -> Result<Kept<S>, Fault>
+    ensures kept { IfOk result (λ kept. kept ≡ replica) }
+    ensures fault { IfErr result (IsUnkept replica) }
+    ensures limit { OnOk result (length (snapshot_text replica) ≤ LIMIT) }
+    ensures long { LIMIT < length (snapshot_text replica) → IfErr result IsTooLongOrLost }
+{
+    let kept = keep_in(rt.alloc(), replica, &mut Counted::new(&mut *beside));
+    match kept {
+        Err(Fault::Device) if beside.is_renamed => Err(Fault::Unsure),
+        kept => kept,
     }
 }
 
@@ -113,6 +197,7 @@ struct Beside<'a, H: Disk> {
     folder: H::File,
     name: &'a str,
     path: &'a str,
+    written: u64,
     is_synced: bool,
     is_renamed: bool,
 }
@@ -125,6 +210,7 @@ impl<H: Disk> Drop for Beside<'_, H> {
             folder: _folder,
             name,
             path: _,
+            written: _,
             is_synced: _,
             is_renamed,
         } = self;
@@ -150,9 +236,25 @@ impl<'a, H: Disk> Beside<'a, H> {
             folder,
             name,
             path,
+            written: 0,
             is_synced: false,
             is_renamed: false,
         })
+    }
+
+    // The file, which took the other's place.
+    fn into_file(self) -> H::File {
+        let Beside {
+            rt: _,
+            file,
+            folder: _folder,
+            name: _,
+            path: _,
+            written: _,
+            is_synced: _,
+            is_renamed: _,
+        } = self;
+        file
     }
 }
 
@@ -171,6 +273,20 @@ where
         beside.file.take_mode(old)?;
         Ok(beside)
     }
+
+    // The same, and its lock is held.
+    fn create_locked(
+        rt: &'a H,
+        name: &'a str,
+        path: &'a str,
+        old: &H::File,
+    ) -> io::Result<Beside<'a, H>> {
+        let beside = Beside::create_like(rt, name, path, old)?;
+        if !beside.file.try_lock_exclusive()? {
+            return Err(io::Error::from(ErrorKind::WouldBlock));
+        }
+        Ok(beside)
+    }
 }
 
 // Removes what was left behind under this name, if anything was.
@@ -186,7 +302,10 @@ impl<H: Disk> Write for Beside<'_, H> {
         self.is_synced = false;
         self.is_renamed = false;
         match self.file.write(buf) {
-            Ok(count) => Ok(count),
+            Ok(count) => {
+                self.written = self.written.saturating_add(count as u64);
+                Ok(count)
+            }
             Err(error) => Err(self.told("cannot write", error)),
         }
     }
@@ -196,10 +315,10 @@ impl<H: Disk> Write for Beside<'_, H> {
     }
 }
 
-impl<H: Disk> Place for Beside<'_, H> {
-    ghost synced = { λ p. p.is_synced };
+impl<H: Disk> Place for &mut Beside<'_, H> {
+    ghost synced = { λ p. p.now.is_synced };
 
-    ghost renamed = { λ p. p.is_renamed };
+    ghost renamed = { λ p. p.now.is_renamed };
 
     fn sync(&mut self) -> io::Result<()> {
         match self.file.sync_all() {

@@ -1,22 +1,25 @@
 //! Replicas in files.
-ghost use Rattle.std.specs.Prelude.{◌≡◌, ◌≤◌, ◌<◌, ◌⊎◌, true, false, length, Err, IfOk, IfErr, IfSome, OnOk};
+ghost use Rattle.std.specs.Prelude.{◌≡◌, ◌≤◌, ◌<◌, ◌⊎◌, true, false, length, None, Err, IfOk, IfErr, IfSome, IsTrue, OnErr, OnOk};
 ghost use Rattle.rds_names.specs.declared.fault.Fault.TheVariants.{Device, TooLong, Usage};
 ghost use Rattle.rds_codec.specs.StateTexts.{IsSnapshot, snapshot_text};
 ghost use Rattle.rds_codec.specs.declared.limits.TheConstants.{LIMIT};
+ghost use Rattle.rds_keep.specs.Changes.{IsChanged};
+ghost use Rattle.rds_state.specs.Value.{size};
 ghost use Rattle.rds_files.specs.Files.{HoldsTooMuch, IsHeldAt, IsNoPlace, IsReadAt, IsReadBy, IsTooLongOrLost, IsUnkept, IsUnread, RefusesFile, RefusesLock, is_beside, read_more};
 
-use crate::beside::{folder_of, keep_new, keep_over};
+use crate::appending::{Tail, append_to, takes_record};
+use crate::beside::{Renewed, folder_of, keep_new, keep_over, renew};
 use crate::disk::{Disk, note};
 use crate::lasting::make_last;
 use crate::locks::{LockFile, lock, lock_if_free};
-use crate::past::Past;
+use crate::reading::{read_kept, read_now, read_to_last};
 use crate::targets::Target;
 use rds_dots::DotSet;
-use rds_keep::{Counted, Kept, read_snapshot};
+use rds_keep::{Change, Changed, Kept, Layout, Stored, WasKept};
 use rds_names::Fault;
 use rds_state::Replica;
 use std::fs;
-use std::io::{ErrorKind, Read};
+use std::io::ErrorKind;
 use std::marker::Model;
 use std::rt::Files;
 
@@ -52,8 +55,9 @@ impl<'a> FilePath<'a> {
         self.path
     }
 
-    /// Reads the file as it is now, and counts that. A file is always whole, so this takes no lock. Refuses `Device`
-    /// where it can't be opened or read, and as decoding does where it holds no snapshot. A full count stays.
+    /// Reads the file as it is now, and counts that. It takes no lock: what another command is about to append is a
+    /// torn end until it is whole. Refuses `Device` where it can't be opened or read, and else as `read_stored` does,
+    /// where it holds no replica. A full count stays.
     pub fn read<H: Disk, S: DotSet>(&mut self, rt: &H) -> Result<ReplicaFile<'a, S>, Fault>
         ensures read { IfOk result (IsReadBy self.old) }
         ensures counted { self.new ≡ read_more self.old }
@@ -61,11 +65,11 @@ impl<'a> FilePath<'a> {
         ensures long { IfErr result (λ fault. fault ≡ TooLong → HoldsTooMuch H.File.remaining) }
     {
         let nth = self.count();
-        let mut file = open_file(rt, self.path)?;
-        let kept = read_kept(rt, self.path, &mut file)?;
+        let Stored { kept, layout } = read_now(rt, self.path)?;
         Ok(ReplicaFile {
             path: self.path,
             kept,
+            layout,
             nth,
         })
     }
@@ -79,10 +83,11 @@ impl<'a> FilePath<'a> {
         ensures long { IfErr result (λ fault. fault ≡ TooLong → HoldsTooMuch H.File.remaining) }
     {
         let nth = self.count();
-        let kept = read_to_last(rt, self.path)?;
+        let Stored { kept, layout } = read_to_last(rt, self.path)?;
         Ok(ReplicaFile {
             path: self.path,
             kept,
+            layout,
             nth,
         })
     }
@@ -103,6 +108,7 @@ impl<'a> FilePath<'a> {
 pub struct ReplicaFile<'a, S: DotSet> {
     path: &'a str,
     kept: Kept<S>,
+    layout: Layout,
     nth: u64,
 }
 
@@ -113,7 +119,7 @@ impl<'a, S: DotSet> Model for ReplicaFile<'a, S> {
 
     ghost coded = { coded_file };
 
-    ghost view = { λ f. record { path = f.path.now; kept = f.kept; nth = f.nth } };
+    ghost view = { λ f. record { path = f.path.now; kept = f.kept; layout = f.layout; nth = f.nth } };
 }
 
 impl<'a, S: DotSet> ReplicaFile<'a, S> {
@@ -148,6 +154,13 @@ impl<'a, S: DotSet> ReplicaFile<'a, S> {
     {
         &self.kept
     }
+
+    /// Where the parts of the file stand.
+    pub fn layout(&self) -> Layout
+        ensures { result ≡ self.now.layout }
+    {
+        self.layout
+    }
 }
 
 /// A replica that was read whole from the file of a path, whose lock is held as long as this is: no other command that
@@ -157,6 +170,7 @@ pub struct LockedFile<'a, H: Disk, S: DotSet> {
     path: &'a str,
     target: Target<'a>,
     kept: Kept<S>,
+    layout: Layout,
     file: H::File,
 }
 
@@ -180,7 +194,7 @@ where
     /// Refuses `Usage` where the path ends in `.new`, as the files do that are written beside others; then `Device`
     /// where the file can't be opened or read, or isn't one to be replaced: a link leads to a file that ends in `.new`,
     /// its mode lets nobody write it, or it has several names. So it does where another has its lock for more than ten
-    /// seconds; and as decoding does where the file holds no snapshot.
+    /// seconds; and as `read_stored` does where the file holds no replica.
     pub fn open(rt: &H, path: &'a str) -> Result<LockedFile<'a, H, S>, Fault>
         ensures held { IfOk result (IsHeldAt path.now) }
         ensures beside { is_beside path.now ≡ true → result ≡ Err Usage }
@@ -229,11 +243,12 @@ where
         ensures fault { IfErr result IsUnread }
         ensures long { IfErr result (λ fault. fault ≡ TooLong → HoldsTooMuch H.File.remaining) }
     {
-        let kept = read_kept(rt, path, &mut file)?;
+        let Stored { kept, layout } = read_kept(rt, path, &mut file)?;
         Ok(LockedFile {
             path,
             target,
             kept,
+            layout,
             file,
         })
     }
@@ -269,16 +284,29 @@ where
             path,
             target,
             kept,
+            layout,
             file,
         } = self;
-        let before = Past::of(&kept);
         let emptied = EmptiedFile {
             path,
             target,
-            before,
+            held: WasKept::of(&kept),
+            layout: Some(layout),
             file,
         };
         (kept.replica(), emptied)
+    }
+
+    /// Writes the file anew, with its replica in a snapshot and no records behind it, as `EmptiedFile::replace` does.
+    pub fn compact(self, rt: &H) -> Result<ReplacedFile<'a, S>, Fault>
+        ensures replaced { IfOk result (λ file. file
+            ≡ record { path = self.entry.path; before = self.entry.kept; kept = self.entry.kept }) }
+        ensures fault { IfErr result (IsUnkept self.entry.kept) }
+        ensures limit { OnOk result (length (snapshot_text self.entry.kept) ≤ LIMIT) }
+        ensures long { LIMIT < length (snapshot_text self.entry.kept) → IfErr result IsTooLongOrLost }
+    {
+        let (replica, file) = self.into_parts();
+        file.replace(rt, replica)
     }
 }
 
@@ -288,7 +316,9 @@ where
 pub struct EmptiedFile<'a, H: Disk, S: DotSet> {
     path: &'a str,
     target: Target<'a>,
-    before: Past<Kept<S>>,
+    held: WasKept<S>,
+    // Where its parts stand. That isn't known where a call on it failed.
+    layout: Option<Layout>,
     file: H::File,
 }
 
@@ -299,7 +329,7 @@ impl<'a, H: Disk, S: DotSet> Model for EmptiedFile<'a, H, S> {
 
     ghost coded = { coded_kept_file };
 
-    ghost view = { λ f. record { path = f.path.now; kept = f.before.value } };
+    ghost view = { λ f. record { path = f.path.now; kept = f.held } };
 }
 
 impl<'a, H: Disk, S: DotSet> EmptiedFile<'a, H, S>
@@ -313,7 +343,8 @@ where
     ///
     /// Refuses `TooLong` where the replica's text is above the limit, and else `Device` where a file can't be removed,
     /// made, given its mode, written, synced or renamed. `Memory` goes before both, where there is too little to find
-    /// how long the text is. FILE is then as it was, but where only the folder couldn't be synced.
+    /// how long the text is. FILE is then as it was. Last, where only the folder can't be synced, FILE is the new one,
+    /// and that is `Unsure`.
     pub fn replace(self, rt: &H, replica: Replica<S>) -> Result<ReplacedFile<'a, S>, Fault>
         ensures replaced { IfOk result
             (λ file. file ≡ record { path = self.entry.path; before = self.entry.kept; kept = replica }) }
@@ -324,21 +355,172 @@ where
         let EmptiedFile {
             path,
             target,
-            before,
+            held: before,
+            layout: _,
             file,
         } = self;
         let kept = keep_over(rt, replica, target.path(), &file)?;
         Ok(ReplacedFile { path, before, kept })
     }
+
+    /// Keeps this replica in the file, which a change made of the one that it holds, and then lets the lock go. A torn
+    /// end is cut off, the record of the change is appended, and FILE and its folder are synced. The file isn't touched
+    /// where nothing changed: no component came, and no roster.
+    ///
+    /// FILE is written anew instead, as `replace` does, where a record isn't worth its place: in a file of format 1,
+    /// and where the records would be longer than the snapshot and than 64 kB. So it is where the record is longer than
+    /// one may be, and where FILE can't be opened for writing.
+    ///
+    /// Refuses `Device` where the record can't be written: FILE holds what it held, with a torn end. Where it is
+    /// written and can't be synced that is `Unsure`. Else it refuses as `replace` does.
+    pub fn keep(
+        self,
+        rt: &H,
+        replica: Replica<S>,
+        change: Change<'_, S>,
+    ) -> Result<ReplacedFile<'a, S>, Fault>
+        requires changed { IsChanged self.kept change replica }
+        ensures replaced { IfOk result
+            (λ file. file ≡ record { path = self.entry.path; before = self.entry.kept; kept = replica }) }
+        ensures fault { IfErr result (IsUnkept replica) }
+    {
+        if is_nothing(&change) {
+            return Ok(self.unchanged(replica));
+        }
+        match self.append(rt, &replica, &change)? {
+            Some((kept, _)) => Ok(ReplacedFile {
+                path: self.path,
+                before: self.held,
+                kept: kept.again(replica),
+            }),
+            None => self.replace(rt, replica),
+        }
+    }
+
+    // The file with the replica that it holds.
+    fn unchanged(self, replica: Replica<S>) -> ReplacedFile<'a, S>
+        requires same { replica ≡ self.kept }
+        ensures { result ≡ record { path = self.entry.path; before = self.entry.kept; kept = replica } }
+    {
+        let kept = self.held.again(replica);
+        ReplacedFile {
+            path: self.path,
+            before: WasKept::of(&kept),
+            kept,
+        }
+    }
+
+    // Appends the record of the change, where it is known how the file is laid out, and it takes the record.
+    fn append(
+        &self,
+        rt: &H,
+        replica: &Replica<S>,
+        change: &Change<'_, S>,
+    ) -> Result<Option<(WasKept<S>, Layout)>, Fault>
+        requires changed { IsChanged self.now.kept change.now replica.now }
+        ensures kept { IfOk result (λ some. IfSome some (λ appended. appended.0 ≡ replica.now)) }
+        ensures fault { IfErr result (IsUnkept replica.now) }
+    {
+        match self.layout {
+            Some(layout) => self.append_at(rt, replica, change, &layout),
+            None => Ok(None),
+        }
+    }
+
+    // Appends the record of the change, where one more is worth its place, and the file can be opened for writing.
+    fn append_at(
+        &self,
+        rt: &H,
+        replica: &Replica<S>,
+        change: &Change<'_, S>,
+        layout: &Layout,
+    ) -> Result<Option<(WasKept<S>, Layout)>, Fault>
+        requires changed { IsChanged self.now.kept change.now replica.now }
+        ensures kept { IfOk result (λ some. IfSome some (λ appended. appended.0 ≡ replica.now)) }
+        ensures fault { IfErr result (IsUnkept replica.now) }
+    {
+        let changed = match Changed::new(rt.alloc(), &self.held, replica, change) {
+            Ok(changed) => changed,
+            Err(Fault::Memory) => return Err(Fault::Memory),
+            Err(_) => return Ok(None),
+        };
+        match self.tail(rt, layout, changed.record_length()) {
+            Some(mut tail) => append_to(&mut tail, changed, layout),
+            None => Ok(None),
+        }
+    }
+
+    // The file, opened for writing, where one more record of so many bytes is worth its place.
+    fn tail<'b>(&'b self, rt: &'b H, layout: &Layout, count: usize) -> Option<Tail<'b, H>> {
+        if takes_record(layout, count) {
+            Tail::open(rt, self.target.path(), &self.file)
+        } else {
+            None
+        }
+    }
+
+    /// Keeps this replica in the file as `keep` does, and holds the lock on. Where a call fails, the file is the next
+    /// time written anew.
+    pub fn keep_on(
+        &mut self,
+        rt: &H,
+        replica: &Replica<S>,
+        change: Change<'_, S>,
+    ) -> Result<(), Fault>
+        requires changed { IsChanged self.old.kept change replica.now }
+        ensures kept { OnOk result (self.new ≡ record { path = self.old.path; kept = replica.now }) }
+        ensures same { OnErr result (self.new ≡ self.old) }
+        ensures fault { IfErr result (IsUnkept replica.now) }
+    {
+        if is_nothing(&change) {
+            return Ok(());
+        }
+        match self.append(rt, replica, &change) {
+            Ok(Some((kept, layout))) => {
+                self.held = kept;
+                self.layout = Some(layout);
+                Ok(())
+            }
+            Ok(None) => self.replace_on(rt, replica),
+            Err(Fault::Memory) => Err(Fault::Memory),
+            Err(fault) => {
+                self.layout = None;
+                Err(fault)
+            }
+        }
+    }
+
+    /// Keeps this replica in the file in place of the one that it holds, as `replace` does, and holds the lock on:
+    /// FILE.new is locked before it is renamed.
+    pub fn replace_on(&mut self, rt: &H, replica: &Replica<S>) -> Result<(), Fault>
+        ensures kept { OnOk result (self.new ≡ record { path = self.old.path; kept = replica.now }) }
+        ensures same { OnErr result (self.new ≡ self.old) }
+        ensures fault { IfErr result (IsUnkept replica.now) }
+        ensures limit { OnOk result (length (snapshot_text replica.now) ≤ LIMIT) }
+        ensures long { LIMIT < length (snapshot_text replica.now) → IfErr result IsTooLongOrLost }
+    {
+        self.layout = None;
+        let Renewed { kept, layout } = renew(rt, replica, self.target.path(), &mut self.file)?;
+        self.held = kept;
+        self.layout = Some(layout);
+        Ok(())
+    }
 }
 
-/// A replica that was written whole to the file of a path in place of another, which was read there under the file's
-/// lock. Only `EmptiedFile::replace` makes one, and nothing changes it. What the file held before is seen by contracts
-/// alone.
+// Whether a change changes nothing.
+fn is_nothing<S: DotSet>(change: &Change<'_, S>) -> bool
+    ensures { IsTrue result → (change.now.roster ≡ None) × (size change.now.delta ≡ 0) }
+{
+    change.roster.is_none() && change.delta.components() == 0
+}
+
+/// A replica that is kept in the file of a path in place of another, which was read there under the file's lock. Only
+/// `EmptiedFile::keep` and `EmptiedFile::replace` make one, and nothing changes it. What the file held before is seen
+/// by contracts alone.
 #[derive(Drop)]
 pub struct ReplacedFile<'a, S: DotSet> {
     path: &'a str,
-    before: Past<Kept<S>>,
+    before: WasKept<S>,
     kept: Kept<S>,
 }
 
@@ -349,7 +531,7 @@ impl<'a, S: DotSet> Model for ReplacedFile<'a, S> {
 
     ghost coded = { coded_replaced };
 
-    ghost view = { λ f. record { path = f.path.now; before = f.before.value; kept = f.kept } };
+    ghost view = { λ f. record { path = f.path.now; before = f.before; kept = f.kept } };
 }
 
 impl<'a, S: DotSet> ReplacedFile<'a, S> {
@@ -439,31 +621,6 @@ pub fn is_there<H: Disk>(rt: &H, path: &str) -> Result<bool, Fault>
     }
 }
 
-fn open_file<H: Disk>(rt: &H, path: &str) -> Result<H::File, Fault>
-    ensures fault { IfErr result (λ e. e ≡ Device) }
-{
-    match fs::open(rt, path) {
-        Ok(file) => Ok(file),
-        Err(error) => {
-            note(rt, "cannot open", path, &error);
-            Err(Fault::Device)
-        }
-    }
-}
-
-// Reads the replica in the file that this path leads to, and makes it last.
-fn read_to_last<H: Disk, S: DotSet>(rt: &H, path: &str) -> Result<Kept<S>, Fault>
-    ensures value { IfOk result (λ kept. IsSnapshot kept) }
-    ensures fault { IfErr result IsUnread }
-    ensures long { IfErr result (λ fault. fault ≡ TooLong → HoldsTooMuch H.File.remaining) }
-{
-    let target = Target::find(rt, path)?;
-    let mut opened = open_file(rt, target.path())?;
-    let kept = read_kept(rt, path, &mut opened)?;
-    make_last(rt, target.path(), &opened)?;
-    Ok(kept)
-}
-
 // A file that is written beside another isn't replaced, whatever link leads to it.
 fn check_target<H: Disk>(rt: &H, path: &str, target: &Target<'_>) -> Result<(), Fault>
     ensures fault { IfErr result (λ e. e ≡ Device) }
@@ -523,32 +680,4 @@ fn is_replaceable<F: LockFile>(target: &Target<'_>, file: &F) -> bool {
     !is_beside(target.path())
         && matches!(file.is_read_only(), Ok(false))
         && matches!(file.links(), Ok(0 | 1))
-}
-
-// Reads the replica that a file holds.
-fn read_kept<H: Disk, S: DotSet, R: Read>(
-    rt: &H,
-    path: &str,
-    file: &mut R,
-) -> Result<Kept<S>, Fault>
-    ensures value { IfOk result (λ kept. IsSnapshot kept) }
-    ensures fault { IfErr result IsUnread }
-    ensures long { IfErr result
-        (λ fault. fault ≡ TooLong → IfSome (R.remaining file.old) (λ input. LIMIT < length input)) }
-{
-    match read_snapshot(rt.alloc(), &mut Counted::new(file)) {
-        Ok(kept) => Ok(kept),
-        Err(fault) => {
-            note_unread(rt, path, fault);
-            Err(fault)
-        }
-    }
-}
-
-// Tells why a file gives no replica: it can't be read, or what it holds is none.
-fn note_unread<H: Eprint>(rt: &H, path: &str, fault: Fault) {
-    let _ = match fault {
-        Fault::Device | Fault::Memory => eprintln!(rt; "{path}: can't be read: {fault}"),
-        _ => eprintln!(rt; "{path}: isn't an rds file: {fault}"),
-    };
 }

@@ -1,9 +1,10 @@
 //! Replicas in files, and their sessions: over a stream with a peer, over a reader and a writer, or of two files with
-//! one another. Read `disk`, `locks`, `targets`, `past`, `beside`, `lasting` and `files` first, then `settling`,
-//! `paced`, `meeting`, `reports`, `syncing` and `piping`; `pairing`, with `paired`, `pending`, `end` and `meeting` in
-//! its folder, stands on `files` and `settling` alone.
+//! one another. Read `disk`, `locks`, `targets`, `beside`, `appending`, `lasting`, `reading` and `files` first, then
+//! `settling`, `paced`, `meeting`, `reports`, `syncing` and `piping`; `pairing`, with `paired`, `pending`, `end` and
+//! `meeting` in its folder, stands on `files` and `settling` alone.
 #![tactic(auto)]
 
+mod appending;
 mod beside;
 mod disk;
 mod files;
@@ -12,8 +13,8 @@ mod locks;
 mod meeting;
 mod paced;
 mod pairing;
-mod past;
 mod piping;
+mod reading;
 mod reports;
 mod settling;
 mod syncing;

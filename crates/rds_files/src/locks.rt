@@ -1,11 +1,12 @@
 //! The lock that a command takes before it changes a file.
 ghost use Rattle.std.specs.Prelude.{◌≡◌, IfErr};
+ghost use Rattle.std.specs.Io.{WritesAtMost};
 ghost use Rattle.rds_names.specs.declared.fault.Fault.TheVariants.{Device};
 
 use crate::disk::{Disk, note};
 use rds_names::Fault;
 use std::fs::{File, OpenFile, TryLockError};
-use std::os::unix::fs::MetadataExt;
+use std::os::unix::fs::{FileExt, MetadataExt};
 use std::time::Duration;
 use std::{fs, io, thread};
 
@@ -31,6 +32,10 @@ pub trait LockFile {
 
     /// Gives it the mode of another file.
     fn take_mode(&self, other: &Self) -> io::Result<()>;
+
+    /// Writes some of the bytes at this place, and tells how many. The file's position stays where it is.
+    fn write_at(&self, at: u64, bytes: &[u8]) -> io::Result<usize>
+        ensures bound { WritesAtMost result bytes.now };
 }
 
 impl LockFile for File {
@@ -59,6 +64,10 @@ impl LockFile for File {
 
     fn take_mode(&self, other: &File) -> io::Result<()> {
         self.set_permissions(other.metadata()?.permissions())
+    }
+
+    fn write_at(&self, at: u64, bytes: &[u8]) -> io::Result<usize> {
+        FileExt::write_at(self, bytes, at)
     }
 }
 

@@ -1,13 +1,17 @@
 //! What a session leaves of the replica in its file.
-ghost use Rattle.std.specs.Prelude.{◌≡◌, ◌↔◌, None, IfErr, IsTrue, OnOk};
+ghost use Rattle.std.specs.Prelude.{◌≡◌, ◌↔◌, length, option_map, None, IfErr, IfOk, IsTrue, MatchOption, OnOk};
+ghost use Rattle.rds_names.specs.declared.fault.Fault.TheVariants.{Memory};
 ghost use Rattle.rds_session.specs.Judging.{roster_among};
 ghost use Rattle.rds_session.specs.Received.{HasChecked, IsChecked, delivery_of};
-ghost use Rattle.rds_files.specs.Settling.{IsJoined, IsSameReplica, KeepsTaken, RefusesJoin, Settles, SettlesDelta};
+ghost use Rattle.rds_state.specs.Value.{size};
+ghost use Rattle.rds_files.specs.Files.{IsUnkept};
+ghost use Rattle.rds_files.specs.Settling.{HasTaken, IsJoined, IsSameReplica, KeepsTaken, RefusesJoin, Settles, SettlesDelta};
 
 use crate::disk::Disk;
 use crate::files::{EmptiedFile, LockedFile, ReplacedFile, ReplicaFile};
 use crate::locks::LockFile;
 use rds_dots::DotSet;
+use rds_keep::Change;
 use rds_names::{Fault, Roster};
 use rds_session::Exchanged;
 use rds_state::{Replica, State};
@@ -76,10 +80,10 @@ impl<S: DotSet> Settlement<'_, S> {
 }
 
 /// Takes what a session of the replica in the file received into what the file holds now: others may have changed it
-/// since the session began, and what they did stays. The file is locked, read, joined with the delta, replaced and
+/// since the session began, and what they did stays. The file is locked, read, joined with the delta, kept and
 /// unlocked. Its roster is then the longest of three: the one that it has now, the one that the session's replica had,
-/// and the peer's where that came. A delta without components is taken and kept as any other; where nothing was
-/// received the file isn't touched.
+/// and the peer's where that came. A delta without components is taken as any other. Where nothing was received, or
+/// nothing changes, the file isn't touched.
 ///
 /// Refuses `WrongAsker` where the file holds another replica by now, and `WrongRoster` where its roster and the peer's
 /// have grown apart. A file that takes nothing stays as it was, its roster too.
@@ -133,31 +137,74 @@ where
         Err(fault) => return Settlement::without_file(Settled::Refused(fault)),
     };
     let (mut replica, file) = locked.into_parts();
+    let replicas = replica.roster().len();
     let before = asked.kept().view_of();
     if let Err(fault) = take_into(rt.alloc(), &mut replica, before, delta, roster) {
         return Settlement::without_file(Settled::Refused(fault));
     }
-    keep_taken(rt, file, replica, delta.components())
+    keep_taken(rt, file, replica, delta, replicas)
 }
 
-/// Keeps the replica in its file, which took a delta of so many components.
+/// Keeps the replica in its file, which took this delta when its roster had so many names.
 pub fn keep_taken<'a, H: Disk, S: DotSet>(
     rt: &H,
     file: EmptiedFile<'a, H, S>,
     replica: Replica<S>,
-    components: u128,
+    delta: &State<S>,
+    replicas: u16,
 ) -> Settlement<'a, S>
 where
     H::File: LockFile,
-    ensures { KeepsTaken file.entry replica components result.settled result.file }
+    requires took { HasTaken file.kept delta.now replica }
+    requires replicas { replicas ≡ length file.kept.roster.names }
+    ensures { KeepsTaken file.entry replica (size delta.now) result.settled result.file }
 {
-    match file.replace(rt, replica) {
+    match keep_change(rt, file, replica, delta, replicas) {
         Ok(file) => Settlement {
-            settled: Settled::Taken(components),
+            settled: Settled::Taken(delta.components()),
             file: Some(file),
         },
         Err(fault) => Settlement::without_file(Settled::Unkept(fault)),
     }
+}
+
+// Keeps the replica with the change that it took: the delta, and its roster where that has more names by now.
+fn keep_change<'a, H: Disk, S: DotSet>(
+    rt: &H,
+    file: EmptiedFile<'a, H, S>,
+    replica: Replica<S>,
+    delta: &State<S>,
+    replicas: u16,
+) -> Result<ReplacedFile<'a, S>, Fault>
+where
+    H::File: LockFile,
+    requires took { HasTaken file.kept delta.now replica }
+    requires replicas { replicas ≡ length file.kept.roster.names }
+    ensures replaced { IfOk result
+        (λ new. new ≡ record { path = file.entry.path; before = file.entry.kept; kept = replica }) }
+    ensures fault { IfErr result (IsUnkept replica) }
+{
+    let grown = grown_roster(rt.alloc(), replica.roster(), replicas)?;
+    file.keep(rt, replica, change_of(grown.as_ref(), delta))
+}
+
+// A delta, and a longer roster where one comes with it.
+fn change_of<'b, S: DotSet>(roster: Option<&'b Roster>, delta: &'b State<S>) -> Change<'b, S>
+    ensures { result ≡ record { roster = option_map (λ r. r.now) roster.entry; delta = delta.now } }
+{
+    Change { roster, delta }
+}
+
+// A copy of the roster, where it doesn't have so many names.
+fn grown_roster(alloc: Global, roster: &Roster, replicas: u16) -> Result<Option<Roster>, Fault>
+    ensures grown { IfOk result (λ grown. MatchOption grown (length roster.now.names ≡ replicas)
+        (λ copy. copy ≡ roster.now)) }
+    ensures fault { IfErr result (λ fault. fault ≡ Memory) }
+{
+    if roster.len() == replicas {
+        return Ok(None);
+    }
+    Ok(Some(roster.copy(alloc)?))
 }
 
 // Takes the delta, and the roster that it came with, into what a file held.

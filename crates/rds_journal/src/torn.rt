@@ -5,7 +5,7 @@ ghost use Rattle.rds_journal.specs.Records.{claimed, claimed_in_all, HasNoRecord
 use crate::records::{HEAD, MOST, first_record};
 
 /// The most bytes that are read to tell that no record begins at any place of a torn end.
-pub const SCAN: usize = 33_554_432;
+pub const SCAN: usize = 536_870_912;
 
 /// Whether the bytes behind the whole records are a torn end, which the next writer cuts off. Other bytes there are
 /// damage: a whole record may stand behind what was damaged.

@@ -1,5 +1,5 @@
 -- A change of a kept replica that is put behind the others.
-use Rattle.std.proofs.Common.{◌≡◌, ℕ, ◌+◌, ◌<◌, ◌≤◌, true, false, List, [], ◌∷◌, ◌++◌, length, take, Option, Some, None, refl, sym, ap, ◌∙◌, subst, arith, append_assoc, append-nil}
+use Rattle.std.proofs.Common.{◌≡◌, ℕ, ◌+◌, ◌<◌, ◌≤◌, true, false, List, [], ◌∷◌, ◌++◌, length, take, Option, Some, None, sym, ap, ◌∙◌, subst, arith, append_assoc, append-nil}
 use Rattle.std.specs.Prelude.{IfSome, is_some, option_map}
 use Rattle.std.proofs.lemmas.List.{length-append, take_at}
 use Rattle.rds_names.specs.Roster.{RosterValue, Begins}
@@ -11,11 +11,11 @@ use Rattle.rds_dots.specs.declared.dot.Dot.{Dot}
 use Rattle.rds_life.specs.Life.{Agree, AreCompatible as AreAlike, Conflicts, Dead, Life, Live, Lived, join_life}
 use Rattle.rds_state.specs.Coordinates.{AreCompatible, Coordinates}
 use Rattle.rds_state.specs.Fits.{Fits, ReplicaValue}
-use Rattle.rds_state.specs.Value.{StateValue, coordinates}
-use Rattle.rds_journal.specs.Appending.{IsEnd, appended}
+use Rattle.rds_state.specs.Value.{coordinates}
+use Rattle.rds_journal.specs.Appending.{appended}
 use Rattle.rds_journal.specs.Records.{IsPayload, record_text}
 use Rattle.rds_keep.specs.Changed.{ChangedValue, IsRecordOf, IsSeen, with_record}
-use Rattle.rds_keep.specs.Changes.{ChangeValue, IsChanged, IsRedone, change_text, roster_after}
+use Rattle.rds_keep.specs.Changes.{ChangeValue, IsChanged, IsRedone, change_text}
 use Rattle.rds_keep.specs.Kept.{IsFile, IsKept, IsStored, records_text}
 use Rattle.rds_keep.specs.declared.layout.Layout.{Layout}
 use Rattle.rds_keep.proofs.Chains.{made_more, own_stays, records_more}

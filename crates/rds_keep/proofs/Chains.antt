@@ -1,5 +1,5 @@
 -- Changes that were made one after the other, and the records of them.
-use Rattle.std.proofs.Common.{◌≡◌, ℕ, ◌+◌, ◌<◌, ◌≤◌, List, [], ◌∷◌, ◌++◌, length, map, drop, Option, Some, None, Ok, refl, sym, ap, ◌∙◌, subst, arith, append_assoc, append-nil}
+use Rattle.std.proofs.Common.{◌≡◌, ℕ, ◌≤◌, List, [], ◌∷◌, ◌++◌, length, map, Ok, refl, sym, ap, ◌∙◌, subst, arith, append_assoc, append-nil}
 use Rattle.std.proofs.lemmas.List.{length-append, map-append}
 use Rattle.rds_names.specs.Roster.{RosterValue, Begins}
 use Rattle.rds_bytes.proofs.Format.{ok_is}
@@ -8,9 +8,8 @@ use Rattle.rds_codec.specs.declared.limits.TheConstants.{LIMIT}
 use Rattle.rds_state.specs.Fits.{ReplicaValue}
 use Rattle.rds_state.proofs.JoinLaws.{same_value}
 use Rattle.rds_journal.specs.Records.{IsBegun, IsPayload, IsTorn, journal_text, record_at, record_text}
-use Rattle.rds_journal.specs.declared.records.TheConstants.{MOST, HEAD}
 use Rattle.rds_journal.proofs.Crashes.{journal_more}
-use Rattle.rds_journal.proofs.Format.{length_record, record_format}
+use Rattle.rds_journal.proofs.Format.{record_format}
 use Rattle.rds_keep.specs.Changes.{ChangeValue, IsRedone, change_text, roster_after}
 use Rattle.rds_keep.specs.Kept.{AreMade, EndsAs, records_text}
 use Rattle.rds_keep.specs.Replay.{Redoes}

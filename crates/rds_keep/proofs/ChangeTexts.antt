@@ -1,5 +1,5 @@
 -- The text of a change, read again.
-use Rattle.std.proofs.Common.{◌≡◌, ℕ, ◌+◌, ◌≤◌, ◌⊎◌, inl, inr, List, [], ◌∷◌, ◌++◌, length, Option, Some, None, Result, Ok, Err, refl, sym, ap, ◌∙◌, subst, arith, append-nil}
+use Rattle.std.proofs.Common.{◌≡◌, ℕ, ◌≤◌, ◌⊎◌, inl, inr, List, [], ◌∷◌, ◌++◌, length, Option, Some, None, Result, Ok, Err, refl, sym, ap, ◌∙◌, subst, arith, append-nil}
 use Rattle.std.proofs.lemmas.List.{length-append}
 use Rattle.rds_names.specs.declared.fault.Fault.{Fault}
 use Rattle.rds_names.specs.declared.fault.Fault.TheVariants.{Memory}
@@ -7,10 +7,10 @@ use Rattle.rds_names.specs.Roster.{RosterValue, Begins}
 use Rattle.rds_bytes.specs.Reading.{Fails, byte_at, member_at}
 use Rattle.rds_bytes.specs.Spelling.{member_text}
 use Rattle.rds_bytes.specs.Values.{IsMember}
-use Rattle.rds_bytes.proofs.Format.{IsBytes, byte_format, err_is, ok_is}
+use Rattle.rds_bytes.proofs.Format.{IsBytes, ok_is}
 use Rattle.rds_bytes.proofs.PartFormats.{IsMemberPair, member_format}
 use Rattle.rds_codec.specs.Decoding.{IsTextOf, ReadsAll, all_of}
-use Rattle.rds_codec.specs.Kinds.{Kind, state_kind}
+use Rattle.rds_codec.specs.Kinds.{state_kind}
 use Rattle.rds_codec.specs.StateTexts.{IsStateOf, state_at, state_text}
 use Rattle.rds_codec.specs.declared.limits.TheConstants.{LIMIT}
 use Rattle.rds_codec.specs.declared.formats.Format.TheVariants.{Two}

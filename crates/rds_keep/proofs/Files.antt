@@ -1,29 +1,25 @@
 -- What a file holds, from its front to its end.
-use Rattle.std.proofs.Common.{◌≡◌, ℕ, zero, suc, ◌+◌, ◌-◌, ◌^◌, ◌<◌, ◌≤◌, ◌⊎◌, inl, inr, List, [], ◌∷◌, ◌++◌, length, take, drop, Option, Some, None, Result, Ok, Err, refl, sym, ap, ◌∙◌, subst, arith, append_assoc, append-nil, take-append-drop}
-use Rattle.std.specs.Prelude.{IfSome}
-use Rattle.std.specs.Io.KnownBytes.{Consumes, IsAtEnd}
-use Rattle.std.proofs.KnownBytes.{Consumes-trans}
+use Rattle.std.proofs.Common.{◌≡◌, ℕ, zero, suc, ◌+◌, ◌<◌, ◌≤◌, inl, inr, List, [], ◌++◌, length, take, drop, Result, Ok, Err, refl, sym, ap, ◌∙◌, subst, arith, append_assoc, append-nil, take-append-drop}
 use Rattle.std.proofs.lemmas.List.{length-append, take-append-le, take_at}
 use Rattle.std.proofs.lemmas.Bool.{cases_lt}
 use Rattle.rds_names.specs.declared.fault.Fault.{Fault}
-use Rattle.rds_names.specs.declared.fault.Fault.TheVariants.{Memory, Cut, Bad, TooLong, Device}
 use Rattle.rds_bytes.proofs.Format.{IsBytes, ok_is}
-use Rattle.rds_codec.specs.FormatTexts.{Snapshot, snapshot_in_at, snapshot_kind_in, snapshot_text_in}
+use Rattle.rds_codec.specs.FormatTexts.{Snapshot, snapshot_in_at, snapshot_text_in}
 use Rattle.rds_codec.specs.StateTexts.{IsSnapshot}
 use Rattle.rds_codec.specs.declared.formats.Format.{Format}
 use Rattle.rds_codec.specs.declared.limits.TheConstants.{LIMIT}
 use Rattle.rds_codec.proofs.BothSnapshots.{snapshot_in_reader}
 use Rattle.rds_codec.proofs.Replicas.{state_fits}
 use Rattle.rds_state.specs.Fits.{IsReplica, ReplicaValue}
-use Rattle.rds_journal.specs.Records.{IsBegun, IsPayload, IsTorn, record_text}
+use Rattle.rds_journal.specs.Records.{IsBegun, IsTorn, record_text}
 use Rattle.rds_journal.specs.declared.records.TheConstants.{MOST, HEAD}
 use Rattle.rds_journal.proofs.Format.{length_record, no_text}
-use Rattle.rds_keep.specs.Changes.{ChangeValue, IsRedone, change_text}
-use Rattle.rds_keep.specs.Kept.{AreMade, AreWhole, EndsAs, IsFile, IsKept, IsStored, RefusesBytes, records_text}
-use Rattle.rds_keep.specs.Replay.{ReadsRecords, RefusesRest, ReplayValue, StopsReading, StopsAtRecord, TakesRecords}
-use Rattle.rds_keep.specs.Stored.{IsFirst, LosesFirst, RefusesEnd, first_and}
+use Rattle.rds_keep.specs.Changes.{ChangeValue}
+use Rattle.rds_keep.specs.Kept.{AreWhole, EndsAs, IsFile, IsKept, IsStored, RefusesBytes, records_text}
+use Rattle.rds_keep.specs.Replay.{RefusesRest, ReplayValue, TakesRecords}
+use Rattle.rds_keep.specs.Stored.{IsFirst, RefusesEnd, first_and}
 use Rattle.rds_keep.specs.declared.layout.Layout.{Layout}
-use Rattle.rds_keep.proofs.Chains.{ends_after, ends_torn, made_more, own_stays, records_more}
+use Rattle.rds_keep.proofs.Chains.{ends_after, ends_torn}
 
 -- ---- the snapshot at the front
 

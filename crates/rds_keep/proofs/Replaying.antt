@@ -1,10 +1,9 @@
 -- Records that are taken one after the other.
-use Rattle.std.proofs.Common.{◌≡◌, ℕ, ◌+◌, ◌-◌, ◌^◌, ◌<◌, ◌≤◌, ◌⊎◌, inl, inr, List, [], ◌∷◌, ◌++◌, length, take, drop, Option, Some, None, Result, Ok, Err, refl, sym, ap, ◌∙◌, subst, arith, append_assoc, append-nil, take-append-drop}
-use Rattle.std.specs.Prelude.{IfSome}
+use Rattle.std.proofs.Common.{◌≡◌, ℕ, ◌+◌, ◌-◌, ◌^◌, ◌<◌, ◌≤◌, ◌⊎◌, inl, inr, List, [], ◌∷◌, ◌++◌, length, Option, refl, sym, ap, ◌∙◌, subst, arith, append_assoc, append-nil}
 use Rattle.std.specs.Io.{StartsWith, appended_bytes}
 use Rattle.std.specs.Io.KnownBytes.{Consumes, IsAtEnd}
 use Rattle.std.proofs.KnownBytes.{Consumes-nil, Consumes-trans, starts_with_rest}
-use Rattle.std.proofs.lemmas.List.{length-append, take-append-le, take_at}
+use Rattle.std.proofs.lemmas.List.{length-append}
 use Rattle.rds_names.specs.declared.fault.Fault.{Fault}
 use Rattle.rds_names.specs.declared.fault.Fault.TheVariants.{Memory, Bad, Device, TooLong}
 use Rattle.rds_names.specs.Roster.{Begins, RosterValue}
@@ -15,15 +14,14 @@ use Rattle.rds_codec.proofs.Replicas.{state_fits}
 use Rattle.rds_state.specs.Coordinates.{AreCompatible, join}
 use Rattle.rds_state.specs.Fits.{Fits, ReplicaValue}
 use Rattle.rds_state.specs.Value.{coordinates}
-use Rattle.rds_journal.specs.Records.{IsBegun, IsPayload, IsTorn, record_text}
+use Rattle.rds_journal.specs.Records.{IsPayload, record_text}
 use Rattle.rds_journal.specs.declared.records.TheConstants.{MOST, HEAD}
-use Rattle.rds_journal.proofs.Format.{length_record}
 use Rattle.rds_keep.specs.Changes.{ChangeValue, change_kind, change_text, roster_after}
 use Rattle.rds_keep.specs.Counted.{CountedValue, most_read}
 use Rattle.rds_keep.specs.Kept.{AreMade, EndsAs, records_text}
 use Rattle.rds_keep.specs.Parts.{ConsumesAtMost}
 use Rattle.rds_keep.specs.ReadChanges.{HasNoText}
-use Rattle.rds_keep.specs.Replay.{HoldsMore, ReadsRecords, Redoes, RefusesPayload, RefusesRest, ReplayValue, StopsAtRecord, StopsReading, TakesRecords}
+use Rattle.rds_keep.specs.Replay.{HoldsMore, ReadsRecords, Redoes, RefusesPayload, ReplayValue, StopsAtRecord, StopsReading, TakesRecords}
 use Rattle.rds_keep.proofs.ChangeTexts.{same_change}
 use Rattle.rds_keep.proofs.Chains.{all_members, ends_nowhere, made_more, own_stays, records_more}
 

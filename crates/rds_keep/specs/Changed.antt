@@ -1,5 +1,5 @@
 -- A change of a kept replica that is put behind the others.
-use Rattle.std.specs.Prelude.{◌≡◌, ◌+◌, ℕ, List, length, Option, Some, refl}
+use Rattle.std.specs.Prelude.{◌≡◌, ◌+◌, ℕ, List, Option, Some, refl}
 use Rattle.std.specs.Coded.{Coded, code_by, coded×, coded_list, coded_ℕ}
 use Rattle.rds_state.specs.Fits.{ReplicaValue, coded_replica}
 use Rattle.rds_journal.specs.Device.{Only}

@@ -1,5 +1,5 @@
 -- What a file holds: a snapshot, records of changes behind it, and a torn end; and which replicas can be kept.
-use Rattle.std.specs.Prelude.{◌≡◌, ◌+◌, ◌<◌, ◌≤◌, ◌^◌, ℕ, List, [], ◌∷◌, ◌++◌, length, map, take, Err}
+use Rattle.std.specs.Prelude.{◌≡◌, ◌<◌, ◌≤◌, ℕ, List, [], ◌∷◌, ◌++◌, length, map, take, Err}
 use Rattle.rds_names.specs.declared.fault.Fault.{Fault}
 use Rattle.rds_names.specs.declared.fault.Fault.TheVariants.{Memory, Cut, Bad, TooLong, Device}
 use Rattle.rds_state.specs.Fits.{ReplicaValue}
@@ -7,7 +7,7 @@ use Rattle.rds_codec.specs.FormatTexts.{snapshot_in_at, snapshot_text_in}
 use Rattle.rds_codec.specs.StateTexts.{IsSnapshot}
 use Rattle.rds_codec.specs.declared.formats.Format.{Format}
 use Rattle.rds_codec.specs.declared.limits.TheConstants.{LIMIT}
-use Rattle.rds_journal.specs.Records.{IsPayload, IsTorn, journal_text, record_text}
+use Rattle.rds_journal.specs.Records.{IsPayload, IsTorn, journal_text}
 use Rattle.rds_keep.specs.Changes.{ChangeValue, IsRedone, change_text}
 use Rattle.rds_keep.specs.declared.layout.Layout.{Layout}
 

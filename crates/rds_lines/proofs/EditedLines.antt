@@ -1,5 +1,5 @@
 -- Lines that edit one replica, one after the other.
-use Rattle.std.proofs.Common.{◌≡◌, ◌∙◌, ◌<◌, ◌≤◌, ◌+◌, ◌++◌, ◌||◌, ℕ, suc, Bool, false, true, List, [], ◌∷◌, length, take, get_or, eqb, arith, Option, None, Result, Ok, Err, cond, refl, sym, ap, subst, inl, inr, append-nil, append_assoc}
+use Rattle.std.proofs.Common.{◌≡◌, ◌∙◌, ◌<◌, ◌≤◌, ◌+◌, ◌++◌, ◌||◌, ℕ, suc, Bool, false, true, List, [], ◌∷◌, length, take, get_or, eqb, arith, Option, None, Result, Ok, Err, cond, refl, sym, ap, ap₂, subst, inl, inr, append-nil, append_assoc}
 use Rattle.std.specs.Io.KnownBytes.{Appends}
 use Rattle.std.proofs.KnownBytes.{Appends-nil, Appends-trans}
 use Rattle.std.specs.List.{list_any}
@@ -9,11 +9,14 @@ use Rattle.rds_names.specs.declared.fault.Fault.{Fault}
 use Rattle.rds_names.specs.declared.fault.Fault.TheVariants.{BadLine, Memory}
 use Rattle.rds_state.specs.Edit.{IsDue}
 use Rattle.rds_state.specs.Fits.{ReplicaValue}
+use Rattle.rds_state.specs.Results.{EditsReplica}
 use Rattle.rds_state.specs.declared.command.Command.{Command}
+use Rattle.rds_state.specs.declared.command.Edited.{Edited}
 use Rattle.rds_json.specs.MayGive.{MayGive}
 use Rattle.rds_json.specs.Unnamed.{edit_of}
-use Rattle.rds_output.specs.Reply.{reply_line, is_refusal}
-use Rattle.rds_lines.specs.Editing.{AnswersAs, AnswersNext, EditsLines, EditsLinesBehind, EditsNext, IsEdited, WritesAll, MeetsCommand, MeetsEdit, replies_text, edit_of_bytes, edit_refusal}
+use Rattle.rds_names.specs.Roster.{RosterValue}
+use Rattle.rds_output.specs.Reply.{edit_reply, reply_line, is_refusal}
+use Rattle.rds_lines.specs.Editing.{AnswersAs, AnswersNext, DoesCommand, DoesEdit, EditsLines, EditsLinesBehind, EditsNext, IsEdited, WritesAll, MeetsCommand, MeetsEdit, replies_text, edit_of_bytes, edit_refusal}
 use Rattle.rds_lines.specs.Lines.{after_line, is_empty_line, is_text_line, lines_in, until_newline}
 use Rattle.rds_lines.specs.declared.ahead.TheConstants.{LINE_LIMIT}
 use Rattle.rds_output.specs.declared.reply.Reply.{Reply}
@@ -68,6 +71,14 @@ some_left (x ∷ xs) b e f = omega arith
 pub line_more : (rest later : List ℕ) → 0 < length rest → later ≡ after_line rest → length (lines_in rest) ≡ suc (length (lines_in later))
 line_more rest later some is = ap length (lines_first rest some) ∙ ap (λ (l : List ℕ). suc (length (lines_in l))) (sym is)
 
+-- ---- an edit
+
+pub does_edit : (before after : ReplicaValue) (command : Command) (answer : Result Edited Fault) → EditsReplica before command answer after → DoesEdit before command answer after
+does_edit before after command answer edits = record { edited = edits.edited; roster = edits.roster; own = edits.own; err = edits.err }
+
+pub does_command : (before after : ReplicaValue) (command : Command) (answer : Result Edited Fault) → EditsReplica before command answer after → DoesCommand before command answer after
+does_command before after command answer edits = inr (does_edit before after command answer edits)
+
 -- ---- one line
 
 -- a line over the limit is no text
@@ -104,6 +115,28 @@ module _ (number : ℕ) (line text : List ℕ) (is : (is_text_line line ≡ true
   -- the edit is made
   pub an_edit : (command : Command) (answer : Reply) → MayGive (Ok command) (edit_of text) → edit_refusal before command ≡ None → IsEdited command before after answer → MeetsEdit number line before answer after
   an_edit command answer given due edited = inr (subst (λ (r : Result Command Fault). MeetsCommand number r before answer after) (asked command given) (inl (due, edited)))
+
+  -- a command that wasn't done
+  pub not_done : (command : Command) (fault : Fault) → MayGive (Ok command) (edit_of text) → DoesCommand before command (Err fault) after → MeetsEdit number line before (RefusedLine number fault) after
+  not_done command fault given (inl memory) = inl (ap (RefusedLine number) (fault_is fault Memory memory.0), memory.1)
+    where
+      fault_is : (a b : Fault) → ◌≡◌ {A = Result Edited Fault} (Err a) (Err b) → a ≡ b
+      fault_is a b e = cc
+  not_done command fault given (inr does) = no_edit command fault given does.edited.due does.err
+
+  -- a command that was done, and is told
+  pub all_done : (command : Command) (edited : Edited) (answer : Reply) → MayGive (Ok command) (edit_of text) → DoesCommand before command (Ok edited) after → answer ≡ edit_reply after.roster edited.dot edited.killed
+      → MeetsEdit number line before answer after
+  all_done command edited answer given (inl memory) told = absurd (other edited Memory memory.0)
+    where
+      other : (e : Edited) (f : Fault) → ◌≡◌ {A = Result Edited Fault} (Ok e) (Err f) → ⊥
+      other e f is = absurd cc
+  all_done command edited answer given (inr does) told = an_edit command answer given does.edited.due (record {
+    roster = does.roster;
+    own = does.own;
+    joined = does.edited.joined;
+    told = told ∙ (ap (λ (r : RosterValue). edit_reply r edited.dot edited.killed) does.roster ∙ ap₂ (edit_reply before.roster) does.edited.dot does.edited.killed);
+  })
 
 -- ---- answers that are written
 

@@ -16,6 +16,7 @@ use Rattle.std.specs.Prelude.{
   Result,
   Ok,
   Err,
+  OnErr,
   count_by,
   if◌then◌else◌,
 }
@@ -26,8 +27,10 @@ use Rattle.rds_names.specs.declared.fault.Fault.TheVariants.{BadLine, Memory}
 use Rattle.rds_life.specs.Life.{live_rows}
 use Rattle.rds_state.specs.Edit.{IsDue, JoinsEffect, covers, new_dot, refusal}
 use Rattle.rds_state.specs.Fits.{ReplicaValue}
+use Rattle.rds_state.specs.Results.{IsEdited as IsEditedState}
 use Rattle.rds_state.specs.Value.{coordinates}
 use Rattle.rds_state.specs.declared.command.Command.{Command}
+use Rattle.rds_state.specs.declared.command.Edited.{Edited}
 use Rattle.rds_json.specs.Unnamed.{edit_of}
 use Rattle.rds_output.specs.Reply.{edit_reply, is_refusal, reply_line}
 use Rattle.rds_lines.specs.Lines.{is_empty_line, is_text_line}
@@ -42,6 +45,19 @@ pub record IsEdited (command : Command) (before after : ReplicaValue) (answer : 
   pub joined : JoinsEffect (coordinates before.state) before.own command (coordinates after.state)
   pub told : answer ≡ edit_reply before.roster (new_dot (coordinates before.state) before.own command)
       (count_by (λ r. covers command r.1) (live_rows before.state.lives))
+
+-- a command is done by a replica, or refused by what is due
+pub record DoesEdit (before : ReplicaValue) (command : Command) (answer : Result Edited Fault) (after : ReplicaValue)
+    : Type 0 where
+  pub edited : IsEditedState before.state before.own command answer after.state
+  pub roster : after.roster ≡ before.roster
+  pub own : after.own ≡ before.own
+  pub err : OnErr answer (after ≡ before)
+
+-- the same, unless there is no memory for it, which changes nothing
+abbrev pub DoesCommand : ReplicaValue → Command → Result Edited Fault → ReplicaValue → Type 0
+DoesCommand before command answer after =
+    ((answer ≡ Err Memory) × (after ≡ before)) ⊎ DoesEdit before command answer after
 
 -- what an edit itself is refused by, if it is
 abbrev pub edit_refusal : ReplicaValue → Command → Option Fault

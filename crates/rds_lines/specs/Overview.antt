@@ -45,17 +45,28 @@ much_text a =
     ++ (codes ",\"counters\":" ++ (decimal a.counters ++ (codes ",\"components\":" ++ (decimal a.components
     ++ (codes ",\"bytes\":" ++ decimal a.bytes))))))))
 
-abbrev pub overview_text : RosterValue → ℕ → Amounts → Mark → List ℕ
-overview_text roster own amounts mark =
-    whose_text roster own ++ (much_text amounts ++ (codes ",\"mark\":\"" ++ (mark_text mark ++ codes "\"}")))
+-- how many bytes the snapshot of a file has, and how many the records behind it
+abbrev pub file_text : ℕ → ℕ → List ℕ
+file_text snapshot records =
+    codes ",\"snapshot\":" ++ (decimal snapshot ++ (codes ",\"records\":" ++ decimal records))
 
--- the text says that of a replica
-pub record IsOverview (r : ReplicaValue) (text : List ℕ) : Type 0 where
+-- with what is told of a file, if anything
+abbrev pub overview_text : RosterValue → ℕ → Amounts → List ℕ → Mark → List ℕ
+overview_text roster own amounts of_file mark =
+    whose_text roster own
+    ++ (much_text amounts ++ (of_file ++ (codes ",\"mark\":\"" ++ (mark_text mark ++ codes "\"}"))))
+
+-- the text says that of a replica, and this of its file
+pub record IsOverviewWith (of_file : List ℕ) (r : ReplicaValue) (text : List ℕ) : Type 0 where
   pub amounts : Amounts
   pub are : AreAmounts r amounts
-  pub told : text ≡ overview_text r.roster r.own amounts (mark_of r.state)
+  pub told : text ≡ overview_text r.roster r.own amounts of_file (mark_of r.state)
 
--- the answer tells it
-pub record TellsOverview (r : ReplicaValue) (answer : Reply) : Type 0 where
-  pub overview : IsOverview r (reply_text answer)
+-- of a replica alone
+abbrev pub IsOverview : ReplicaValue → List ℕ → Type 0
+IsOverview r text = IsOverviewWith [] r text
+
+-- the answer tells it of a replica in a file with a snapshot and records of so many bytes
+pub record TellsOverview (r : ReplicaValue) (snapshot records : ℕ) (answer : Reply) : Type 0 where
+  pub overview : IsOverviewWith (file_text snapshot records) r (reply_text answer)
   pub done : is_refusal answer ≡ false

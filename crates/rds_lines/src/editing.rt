@@ -21,27 +21,28 @@ ghost use Rattle.rds_lines.specs.Lines.{is_empty_line, is_text_line, lines_in};
 ghost use Rattle.rds_lines.specs.Streams.{Tells, stream_of};
 
 use crate::ahead::LINE_LIMIT;
+use crate::edits::Edits;
 use crate::lines::split_line;
-use rds_dots::DotSet;
 use rds_json::LineReader;
 use rds_keep::Counted;
 use rds_names::Fault;
 use rds_output::Reply;
-use rds_tree::Index;
 use std::alloc::Global;
 use std::io::Write;
 
 /// Edits a replica as the lines of an input say, one after the other, and answers each but the empty ones. A line that
 /// is refused changes nothing, and the next is gone on with; its answer has its number, from 1 over all lines. Where
 /// there is no memory for the answers it is `Memory`, before any line is read.
-pub fn edit_lines<S: DotSet>(
+pub fn edit_lines<E: Edits>(
     alloc: Global,
-    index: &mut Index<S>,
+    editor: &mut E,
     input: &[u8],
 ) -> Result<Vec<Reply>, Fault>
-    ensures edited { IfOk result (λ answers. EditsLines (lines_in input.now) index.old index.new answers.items) }
+    ensures edited { IfOk result (λ answers. EditsLines (lines_in input.now) (E.replica editor.old)
+        (E.replica editor.new) answers.items) }
     ensures memory { IfErr result (λ fault. fault ≡ Memory) }
-    ensures err { OnErr result (index.new ≡ index.old) }
+    ensures err { OnErr result (E.replica editor.new ≡ E.replica editor.old) }
+    ensures stays { E.stays editor.old editor.new }
 {
     let mut reader = LineReader::new(alloc);
     let mut answers = Vec::with_capacity(alloc, count_lines(input))?;
@@ -53,7 +54,7 @@ pub fn edit_lines<S: DotSet>(
         }
         let (bytes, later) = split_line(rest);
         count += 1;
-        answer_next(alloc, &mut reader, index, count, bytes, &mut answers);
+        answer_next(alloc, &mut reader, editor, count, bytes, &mut answers);
         rest = later;
     }
 }
@@ -75,21 +76,23 @@ fn count_lines(input: &[u8]) -> usize
 }
 
 // Edits a replica as a line says, and adds its answer, for which there is room, unless the line is empty.
-fn answer_next<S: DotSet>(
+fn answer_next<E: Edits>(
     alloc: Global,
     reader: &mut LineReader,
-    index: &mut Index<S>,
+    editor: &mut E,
     line: u64,
     bytes: &[u8],
     answers: &mut Vec<Reply>,
 )
     requires { vec_len answers.old < vec_capacity answers.old }
-    ensures answered { AnswersNext line bytes.now index.old index.new answers.old.items answers.new.items }
+    ensures answered { AnswersNext line bytes.now (E.replica editor.old) (E.replica editor.new)
+        answers.old.items answers.new.items }
     ensures room { vec_capacity answers.new ≡ vec_capacity answers.old }
     ensures one { vec_len answers.new ≤ vec_len answers.old + 1 }
+    ensures stays { E.stays editor.old editor.new }
 {
     if !is_empty_line(bytes) {
-        answers.push_reserved(answer_to(alloc, reader, index, line, bytes));
+        answers.push_reserved(answer_to(alloc, reader, editor, line, bytes));
     }
 }
 
@@ -104,34 +107,37 @@ fn is_empty_line(bytes: &[u8]) -> bool
 }
 
 // Edits a replica as a line says, and answers it.
-fn answer_to<S: DotSet>(
+fn answer_to<E: Edits>(
     alloc: Global,
     reader: &mut LineReader,
-    index: &mut Index<S>,
+    editor: &mut E,
     line: u64,
     bytes: &[u8],
 ) -> Reply
-    ensures { MeetsEdit line bytes.now index.old result index.new }
+    ensures met { MeetsEdit line bytes.now (E.replica editor.old) result (E.replica editor.new) }
+    ensures stays { E.stays editor.old editor.new }
 {
-    match edited(alloc, reader, index, bytes) {
+    match edited(alloc, reader, editor, bytes) {
         Ok(answer) => answer,
         Err(fault) => Reply::RefusedLine { line, fault },
     }
 }
 
 // Edits a replica as a line says, or refuses it.
-fn edited<S: DotSet>(
+fn edited<E: Edits>(
     alloc: Global,
     reader: &mut LineReader,
-    index: &mut Index<S>,
+    editor: &mut E,
     line: &[u8],
 ) -> Result<Reply, Fault>
-    ensures { (number : ℕ) → MeetsEdit number line.now index.old (line_reply_of number result) index.new }
+    ensures met { (number : ℕ)
+        → MeetsEdit number line.now (E.replica editor.old) (line_reply_of number result) (E.replica editor.new) }
+    ensures stays { E.stays editor.old editor.new }
 {
     let text = text_of(line)?;
     let command = reader.edit(alloc, text)?;
-    let edited = index.edit(command)?;
-    Ok(Reply::of_edit(index.replica().roster(), &edited))
+    let edited = editor.edit_by(&command)?;
+    Ok(Reply::of_edit(editor.roster(), &edited))
 }
 
 // The text of a line.

@@ -10,8 +10,10 @@ ghost use Rattle.rds_tree.specs.Document.{key_cmp, sums_of};
 ghost use Rattle.rds_lines.specs.Overview.{
   AreAmounts,
   IsOverview,
+  IsOverviewWith,
   TellsOverview,
   dead_count,
+  file_text,
   much_text,
   overview_text,
   own_name,
@@ -38,12 +40,20 @@ pub struct Amounts {
     bytes: u128,
 }
 
-/// Tells whose replica this is and how much there is of it, as `overview_json` does.
-pub fn describe<S: DotSet>(alloc: Global, kept: &Kept<S>) -> Result<Reply, Fault>
-    ensures told { IfOk result (TellsOverview kept.now) }
+/// Tells whose replica a file holds and how much there is of it, as `overview_json` does, and how many bytes the file's
+/// snapshot has and the records behind it.
+pub fn describe<S: DotSet>(
+    alloc: Global,
+    kept: &Kept<S>,
+    snapshot: u64,
+    records: u64,
+) -> Result<Reply, Fault>
+    ensures told { IfOk result (TellsOverview kept.now snapshot records) }
     ensures memory { IfErr result (λ fault. fault ≡ Memory) }
 {
-    Ok(Reply::Shown(overview_json(alloc, kept.view_of())?))
+    let of_file = file_text(alloc, snapshot, records)?;
+    let text = overview_with(alloc, kept.view_of(), of_file.as_str())?;
+    Ok(Reply::Shown(text))
 }
 
 /// Whose replica this is and how much there is of it, as JSON: its live entries, dots of dead ones, counters and
@@ -52,8 +62,20 @@ pub fn overview_json<S: DotSet>(alloc: Global, replica: &Replica<S>) -> Result<S
     ensures told { IfOk result (λ text. IsOverview replica.now (string_bytes text)) }
     ensures memory { IfErr result (λ fault. fault ≡ Memory) }
 {
+    overview_with(alloc, replica, "")
+}
+
+// The same, with what is told of its file.
+fn overview_with<S: DotSet>(
+    alloc: Global,
+    replica: &Replica<S>,
+    of_file: &str,
+) -> Result<String, Fault>
+    ensures told { IfOk result (λ text. IsOverviewWith of_file.now replica.now (string_bytes text)) }
+    ensures memory { IfErr result (λ fault. fault ≡ Memory) }
+{
     let amounts = amounts_of(alloc, replica)?;
-    overview_line(alloc, replica, amounts)
+    overview_line(alloc, replica, amounts, of_file)
 }
 
 // How much there is of a replica.
@@ -111,9 +133,10 @@ fn overview_line<S: DotSet>(
     alloc: Global,
     replica: &Replica<S>,
     amounts: Amounts,
+    of_file: &str,
 ) -> Result<String, Fault>
     ensures text { IfOk result (λ text. string_bytes text
-        ≡ overview_text replica.now.roster replica.now.own amounts (mark_of replica.now.state)) }
+        ≡ overview_text replica.now.roster replica.now.own amounts of_file.now (mark_of replica.now.state)) }
     ensures memory { IfErr result (λ fault. fault ≡ Memory) }
 {
     let roster = replica.roster();
@@ -123,7 +146,7 @@ fn overview_line<S: DotSet>(
     let whose = format!(in alloc; "{{\"group\":{group},\"own\":{own},\"names\":{names}")?;
     let much = much_text(alloc, amounts)?;
     let mark = replica.state().mark();
-    Ok(format!(in alloc; "{whose}{much},\"mark\":\"{mark}\"}}")?)
+    Ok(format!(in alloc; "{whose}{much}{of_file},\"mark\":\"{mark}\"}}")?)
 }
 
 // How much there is, in the line.
@@ -141,6 +164,14 @@ fn much_text(alloc: Global, amounts: Amounts) -> Result<String, Fault>
     Ok(format!(in alloc;
         ",\"live\":{live},\"dead\":{dead},\"counters\":{counters},\"components\":{components},\"bytes\":{bytes}"
     )?)
+}
+
+// How many bytes there are in the file, in the line.
+fn file_text(alloc: Global, snapshot: u64, records: u64) -> Result<String, Fault>
+    ensures text { IfOk result (λ text. string_bytes text ≡ file_text snapshot records) }
+    ensures memory { IfErr result (λ fault. fault ≡ Memory) }
+{
+    Ok(format!(in alloc; ",\"snapshot\":{snapshot},\"records\":{records}")?)
 }
 
 // The replica's own name.

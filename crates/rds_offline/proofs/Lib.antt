@@ -1,3 +1,6 @@
+mod Changed
 mod Copied
+mod Lacking
+mod Longer
 pub mod Lettered
 mod NextReplicas

@@ -20,10 +20,15 @@ pub record IsMerged (source before after : ReplicaValue) : Type 0 where
   pub joined : coordinates after.state ≡ join (coordinates before.state) (coordinates source.state)
   pub known : Ahead before.state before.own source.state None
 
--- how many components of the other's it lacked, or had at a lower rank or number
+-- the other's components that it lacked, or had at a lower rank or number
+abbrev pub IsLacking : ReplicaValue → ReplicaValue → StateValue → Type 0
+IsLacking source before lacking =
+    coordinates lacking ≡ least (coordinates source.state) (ranks (coordinates before.state))
+
+-- how many they are
 pub record CountsLacking (source before : ReplicaValue) (components : ℕ) : Type 0 where
   pub lacking : StateValue
-  pub is_least : coordinates lacking ≡ least (coordinates source.state) (ranks (coordinates before.state))
+  pub is_least : IsLacking source before lacking
   pub count : components ≡ size lacking
 
 -- why it doesn't take the other's state: as a take gives it, or want of memory

@@ -5,6 +5,7 @@ ghost use Rattle.rds_names.specs.Name.{name_of};
 ghost use Rattle.rds_offline.specs.Copies.{InitsFrom, MergesFile, RefusesInitFrom, RefusesMergeFile, RefusesMergeIn};
 ghost use Rattle.rds_offline.specs.Merging.{CountsLacking, IsMerged};
 
+use crate::changes::change_by;
 use crate::merging::merge;
 use crate::next::next_replica;
 use rds_files::{CreatedFile, Disk, LockFile, LockedFile, ReplacedFile, ReplicaFile};
@@ -63,8 +64,11 @@ where
     ensures fault { IfErr result (RefusesMergeIn source.now file.entry.kept) }
 {
     let (mut replica, emptied) = file.into_parts();
-    let components = merge(rt.alloc(), &mut replica, source)?;
-    let file = emptied.replace(rt, replica)?;
+    let replicas = replica.roster().len();
+    let lacking = merge(rt.alloc(), &mut replica, source)?;
+    let components = lacking.components();
+    let change = change_by(replicas, source.roster(), &lacking);
+    let file = emptied.keep(rt, replica, change)?;
     Ok(TakenFile { file, components })
 }
 

@@ -6,6 +6,7 @@ ghost use Rattle.rds_questions.specs.Taking.{HasAllOf, IsAsker};
 ghost use Rattle.rds_state.specs.Fits.{Fits};
 ghost use Rattle.rds_state.specs.Value.{coordinates, size};
 
+use crate::changes::change_by;
 use crate::copies::TakenFile;
 use rds_files::{Disk, LockFile, LockedFile, ReplicaFile};
 use rds_gaps::GapSet;
@@ -128,7 +129,9 @@ where
 {
     let components = received.delta.components();
     let (mut replica, emptied) = file.into_parts();
+    let replicas = replica.roster().len();
     take_response(rt.alloc(), &mut replica, asked, received)?;
-    let file = emptied.replace(rt, replica)?;
+    let change = change_by(replicas, &received.roster, &received.delta);
+    let file = emptied.keep(rt, replica, change)?;
     Ok(TakenFile { file, components })
 }

@@ -1,8 +1,9 @@
 //! Replicas in files that meet without a connection: a copy of a peer's file is merged, the next replica of a group is
-//! made from another's file, and questions and answers go as texts, by any means. Read `next` and `merging` first, then
-//! `copies` and `letters`.
+//! made from another's file, and questions and answers go as texts, by any means. Read `next`, `merging` and `changes`
+//! first, then `copies` and `letters`.
 #![tactic(auto)]
 
+mod changes;
 mod copies;
 mod letters;
 mod merging;

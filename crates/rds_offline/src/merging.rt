@@ -1,15 +1,18 @@
 //! A replica that takes all that another has seen.
-ghost use Rattle.std.specs.Prelude.{◌≡◌, IfErr, IfOk, OnErr, OnOk};
-ghost use Rattle.rds_offline.specs.Merging.{CountsLacking, IsMerged, RefusesMerge};
+ghost use Rattle.std.specs.Prelude.{◌≡◌, length, IfErr, IfOk, OnErr, OnOk};
+ghost use Rattle.rds_state.specs.Coordinates.{join};
+ghost use Rattle.rds_state.specs.Fits.{Fits};
+ghost use Rattle.rds_state.specs.Value.{coordinates};
+ghost use Rattle.rds_offline.specs.Merging.{IsLacking, IsMerged, RefusesMerge};
 
 use rds_delta::{Digest, delta};
 use rds_dots::DotSet;
 use rds_names::Fault;
-use rds_state::Replica;
+use rds_state::{Replica, State};
 use std::alloc::Global;
 
-/// Joins all that another replica has seen into one, and answers how many components that one lacked. The longer of the
-/// two rosters is kept. Refuses as [`Replica::take_with`] does: `WrongGroup`, `WrongRoster`, `OwnAhead` where the other
+/// Joins all that another replica has seen into one, and answers what that one lacked, as a delta: joined into what it
+/// was, that alone gives what it is. The longer of the two rosters is kept. Refuses as [`Replica::take_with`] does: `WrongGroup`, `WrongRoster`, `OwnAhead` where the other
 /// has something of this replica's own that it lacks, `Conflict` and `Memory`.
 ///
 /// The other's state is taken whole, and not only what is lacking here: so a dot that is live at both with different
@@ -18,9 +21,12 @@ pub fn merge<S: DotSet>(
     alloc: Global,
     held: &mut Replica<S>,
     source: &Replica<S>,
-) -> Result<u128, Fault>
+) -> Result<State<S>, Fault>
     ensures merged { OnOk result (IsMerged source.now held.old held.new) }
-    ensures counted { IfOk result (CountsLacking source.now held.old) }
+    ensures lacking { IfOk result (IsLacking source.now held.old) }
+    ensures joined { IfOk result
+        (λ lacking. coordinates held.new.state ≡ join (coordinates held.old.state) (coordinates lacking)) }
+    ensures fits { IfOk result (λ lacking. Fits (length held.new.roster.names) (coordinates lacking)) }
     ensures fault { IfErr result (RefusesMerge source.now held.old) }
     ensures err { OnErr result (held.new ≡ held.old) }
 {
@@ -28,5 +34,5 @@ pub fn merge<S: DotSet>(
     let lacking = delta(alloc, source.state(), &digest)?;
     let roster = source.roster().copy(alloc)?;
     held.take_with(roster, source.state())?;
-    Ok(lacking.components())
+    Ok(lacking)
 }

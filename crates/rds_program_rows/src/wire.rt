@@ -95,7 +95,24 @@ pub fn answer_by_lines(rt: &HostRuntime, words: &str, input: &[u8]) -> Result<St
     run_over(rt, words, &Wire::new(rt.alloc(), ""), input)
 }
 
-/// `notes WORDS`: the same, but answers only what people are told on standard error, and the status.
+/// `failing CALL | WORDS`: the same where nobody is connected and this call fails. Answers also what people are told on
+/// standard error.
+pub fn answer_failing(rt: &HostRuntime, row: &str) -> Result<String, Fault> {
+    let Some((fails, words)) = row.split_once(" | ") else {
+        return Err(Fault::Usage);
+    };
+    let wire = Wire::new(rt.alloc(), fails);
+    let words = named(rt.alloc(), words)?;
+    let (written, status) = run_on_wire(rt, &words, &wire, b"");
+    let noted = wire.calls.noted();
+    let Ok(text) = str::from_utf8(&written) else {
+        return Err(Fault::Bad);
+    };
+    let end = format!(in rt.alloc(); "{noted}{text}status {status}")?;
+    wire.calls.told_with(end.as_str())
+}
+
+/// `notes WORDS`: the same where no call fails, but answers only what people are told on standard error, and the status.
 pub fn answer_notes(rt: &HostRuntime, words: &str) -> Result<String, Fault> {
     let wire = Wire::new(rt.alloc(), "");
     let words = named(rt.alloc(), words)?;

@@ -2,7 +2,6 @@
 use Rattle.std.proofs.Common.{◌≡◌, ◌≤◌, ℕ, List, length, Result, Ok, Err, inl, inr}
 use Rattle.std.specs.Prelude.{IfErr, IfOk, OnOk}
 use Rattle.std.specs.Global.{Vec}
-use Rattle.rds_codec.specs.DecodedSnapshots.{DecodesSnapshot}
 use Rattle.rds_codec.specs.Decoding.{IsTextOf}
 use Rattle.rds_codec.specs.declared.limits.TheConstants.{LIMIT}
 use Rattle.rds_names.specs.declared.fault.Fault.{Fault}
@@ -14,7 +13,9 @@ use Rattle.rds_questions.specs.Receiving.{IsReceivedFrom, ReceivedValue}
 use Rattle.rds_questions.specs.Responding.{RespondGives}
 use Rattle.rds_questions.specs.Taking.{HasAllOf, IsAsker, TakesReceived}
 use Rattle.rds_state.specs.Fits.{ReplicaValue}
+use Rattle.rds_state.specs.Results.{TakesDeltaWith}
 use Rattle.rds_state.specs.Value.{size}
+use Rattle.rds_store.specs.Documents.{IsHeldBy}
 use Rattle.rds_store.specs.Meetings.{MayAnswer, MergesSnapshot, RefusesSnapshot, RefusesTaking}
 
 abbrev pub IsGiven : List ℕ → QuestionValue → Type 0
@@ -65,14 +66,24 @@ Has q v = IsAsker q v × HasAllOf q.digest v.state
 pub no_copy : (q : QuestionValue) (x : ReceivedValue) (held : ReplicaValue) (fault : Fault) → Has q held → fault ≡ Memory → TakesReceived q held x (Err fault)
 no_copy q x held fault has memory = inr (has, inl memory)
 
+-- a take of it is refused
+pub not_taken : (q : QuestionValue) (x : ReceivedValue) (held after : ReplicaValue) (fault : Fault) → Has q held → TakesDeltaWith held x.roster x.delta (Err fault) after → TakesReceived q held x (Err fault)
+not_taken q x held after fault has takes = inr (has, inr takes.gives)
+
+pub is_taken : (x : ReceivedValue) (before after : ReplicaValue) → TakesDeltaWith before x.roster x.delta (Ok tt) after → IsTaken x before after
+is_taken x before after takes = record { rosters = takes.gives.0; roster = takes.roster; own = takes.own; joined = takes.ok; known = takes.gives.1.0 }
+
+pub is_merged : (source before after : ReplicaValue) → TakesDeltaWith before source.roster source.state (Ok tt) after → IsMerged source before after
+is_merged source before after takes = record { rosters = takes.gives.0; roster = takes.roster; own = takes.own; joined = takes.ok; known = takes.gives.1.0 }
+
 -- ---- a snapshot
 
-module _ (snapshot : List ℕ) (source before : ReplicaValue) (decoded : DecodesSnapshot snapshot (Ok source)) where
+module _ (snapshot : List ℕ) (source before : ReplicaValue) (held : IsHeldBy snapshot source) where
   pub merges : (after : ReplicaValue) (components : ℕ) → IsMerged source before after → CountsLacking source before components → MergesSnapshot snapshot before after components
-  merges after components merged counted = record { source = source; decoded = decoded; merged = merged; counted = counted }
+  merges after components merged counted = record { source = source; held = held; merged = merged; counted = counted }
 
   pub no_merge : (fault : Fault) → RefusesMerge source before fault → RefusesSnapshot snapshot before fault
-  no_merge fault refused = inr (source, decoded, refused)
+  no_merge fault refused = inr (source, held, refused)
 
   pub merges_all : (result : Result ℕ Fault) (after : ReplicaValue) → OnOk result (IsMerged source before after) → IfOk result (CountsLacking source before) → IfOk result (MergesSnapshot snapshot before after)
   merges_all (Ok n) after merged counted = merges after n merged counted

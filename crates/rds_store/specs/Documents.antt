@@ -1,6 +1,8 @@
 -- A new document, and one whose group grows.
 use Rattle.std.specs.Prelude.{◌≡◌, ◌⊎◌, ℕ, nat_lt, List, [], ◌∷◌, length, Result, Ok, Err, if◌then◌else◌}
 use Rattle.std.specs.FinMap as map
+use Rattle.rds_keep.specs.Kept.{IsStored}
+use Rattle.rds_keep.specs.declared.layout.Layout.{Layout}
 use Rattle.rds_names.specs.AndThen.{◌>>=◌}
 use Rattle.rds_names.specs.Key.{key_of}
 use Rattle.rds_names.specs.Name.{name_of}
@@ -44,3 +46,7 @@ abbrev pub RefusesGrowth : List ℕ → ReplicaValue → Fault → Type 0
 RefusesGrowth name before fault =
     (fault ≡ Memory)
     ⊎ ((name_of name ≡ Err fault) ⊎ (grown_of before.roster (name ∷ []) ≡ Err fault))
+
+-- the bytes of a file hold the replica
+abbrev pub IsHeldBy : List ℕ → ReplicaValue → Type 0
+IsHeldBy bytes v = (layout : Layout) × IsStored bytes v layout

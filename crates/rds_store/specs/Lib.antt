@@ -1,4 +1,7 @@
+pub mod Changes
 pub mod Documents
 pub mod Edits
+pub mod Files
 pub mod Looks
 pub mod Meetings
+pub mod Noting

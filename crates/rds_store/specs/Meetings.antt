@@ -1,9 +1,9 @@
 -- What documents answer one another, and take.
 use Rattle.std.specs.Prelude.{◌⊎◌, ◌≤◌, ℕ, List, length, Result, Ok, Err}
 use Rattle.std.specs.Global.{Vec}
-use Rattle.rds_codec.specs.DecodedSnapshots.{DecodesSnapshot}
 use Rattle.rds_codec.specs.Decoding.{Decodes, IsTextOf}
 use Rattle.rds_codec.specs.declared.limits.TheConstants.{LIMIT}
+use Rattle.rds_keep.specs.Kept.{RefusesBytes as RefusesFileBytes}
 use Rattle.rds_names.specs.declared.fault.Fault.{Fault}
 use Rattle.rds_offline.specs.Letters.{RefusesBytes}
 use Rattle.rds_offline.specs.Merging.{CountsLacking, IsMerged, RefusesMerge}
@@ -12,6 +12,7 @@ use Rattle.rds_questions.specs.Receiving.{IsReceivedFrom, ReceivedValue}
 use Rattle.rds_questions.specs.Responding.{RespondGives}
 use Rattle.rds_questions.specs.Taking.{TakesReceived}
 use Rattle.rds_state.specs.Fits.{ReplicaValue}
+use Rattle.rds_store.specs.Documents.{IsHeldBy}
 
 -- the bytes are the text of a question within the limit, and this is what a replica responds to it
 pub record RespondsTo (question : List ℕ) (held : ReplicaValue) (result : Result (Vec ℕ) Fault) : Type 0 where
@@ -39,15 +40,16 @@ RefusesTaking question answer before fault =
     Decodes question_kind question (Err fault)
     ⊎ (RefusesBytes question answer fault ⊎ RefusesReceived question answer before fault)
 
--- all that the replica of a snapshot has seen was joined, of which so many components were lacking
+-- all that the replica of a snapshot has seen, with the records behind it, was joined, of which so many components were
+-- lacking
 pub record MergesSnapshot (snapshot : List ℕ) (before after : ReplicaValue) (components : ℕ) : Type 0 where
   pub source : ReplicaValue
-  pub decoded : DecodesSnapshot snapshot (Ok source)
+  pub held : IsHeldBy snapshot source
   pub merged : IsMerged source before after
   pub counted : CountsLacking source before components
 
--- why a snapshot isn't merged: the bytes are none, or the replica doesn't take its state
+-- why a snapshot isn't merged: the bytes are none, or the replica doesn't take what the other has seen
 abbrev pub RefusesSnapshot : List ℕ → ReplicaValue → Fault → Type 0
 RefusesSnapshot snapshot before fault =
-    DecodesSnapshot snapshot (Err fault)
-    ⊎ ((source : ReplicaValue) × DecodesSnapshot snapshot (Ok source) × RefusesMerge source before fault)
+    RefusesFileBytes snapshot fault
+    ⊎ ((source : ReplicaValue) × IsHeldBy snapshot source × RefusesMerge source before fault)

@@ -1,20 +1,28 @@
 //! One replica of a document, with what finds its entries.
-ghost use Rattle.std.specs.Prelude.{◌≡◌, ◌⊎◌, ◌∷◌, [], Ok, Err, IfOk, IfErr, MatchResult, OnErr, OnOk, map};
+ghost use Rattle.std.specs.Prelude.{◌≡◌, ◌∷◌, [], false, length, max, Ok, Err, IfOk, IfErr, MatchResult, OnErr, OnOk};
+ghost use Rattle.std.specs.Prelude.{map};
+ghost use Rattle.std.specs.Result.{result_map_both};
 ghost use Rattle.rds_codec.specs.Decoding.{all_of};
-ghost use Rattle.rds_codec.specs.DecodedSnapshots.{DecodesSnapshot};
 ghost use Rattle.rds_codec.specs.FormatTexts.{snapshot_in_at};
 ghost use Rattle.rds_codec.specs.FormatWriting.{EncodesTabled};
 ghost use Rattle.rds_codec.specs.StateTexts.{snapshot_text};
 ghost use Rattle.rds_codec.specs.declared.formats.Format.TheVariants.{Two};
 ghost use Rattle.rds_json.specs.MayGive.{MayGive};
+ghost use Rattle.rds_json.specs.Unnamed.{edit_of};
+ghost use Rattle.rds_keep.specs.Kept.{IsStored, RefusesBytes};
 ghost use Rattle.rds_names.specs.declared.fault.Fault.TheVariants.{Memory};
-ghost use Rattle.rds_store.specs.Documents.{IsGrownBy, RefusesGrowth, first_of, named_roster, names_in};
+ghost use Rattle.rds_state.specs.Fits.{Fits};
+ghost use Rattle.rds_state.specs.Results.{EditsReplica, TakesDeltaWith};
+ghost use Rattle.rds_state.specs.Value.{coordinates};
+ghost use Rattle.rds_store.specs.Documents.{IsGrownBy, IsHeldBy, RefusesGrowth, first_of, named_roster, names_in};
+ghost use Rattle.rds_tree.specs.EditsWithDelta.{EditsWithDelta};
 
-use rds_codec::{decode_snapshot, encode_snapshot};
+use rds_codec::encode_snapshot;
 use rds_gaps::GapSet;
 use rds_json::LineReader;
+use rds_keep::{Layout, Stored, decode_stored};
 use rds_names::{Fault, Key, Name, Roster};
-use rds_state::Replica;
+use rds_state::{Command, Edited, Replica, State};
 use rds_tree::Index;
 use std::alloc::Global;
 use std::marker::Model;
@@ -78,13 +86,27 @@ impl Document {
         })
     }
 
-    /// The document whose snapshot the bytes are, in whichever format; a file of `rds_node` is one. Bytes that are none
-    /// are refused: `TooLong` above the limit, `Extra` where they go on after one, `Cut` where they end inside it,
-    /// `Bad` elsewhere.
-    pub fn open(alloc: Global, snapshot: &[u8]) -> Result<Document, Fault>
-        ensures { (result ≡ Err Memory) ⊎ DecodesSnapshot snapshot.now result }
+    /// The document of a file's bytes: a snapshot in whichever format, and records behind it. What [`snapshot`] gives is
+    /// such a file without records, and what `rds_node` writes is one. Bytes that are none are refused: `TooLong` above
+    /// the limit, `Cut` where they end inside of the snapshot, `Bad` elsewhere.
+    ///
+    /// [`snapshot`]: Document::snapshot
+    pub fn open(alloc: Global, bytes: &[u8]) -> Result<Document, Fault>
+        ensures held { IfOk result (IsHeldBy bytes.now) }
+        ensures fault { IfErr result (RefusesBytes bytes.now) }
     {
-        Document::of(alloc, decode_snapshot(alloc, snapshot)?)
+        let (document, _layout) = Document::open_stored(alloc, bytes)?;
+        Ok(document)
+    }
+
+    /// The same, and where the parts of the file stand.
+    pub fn open_stored(alloc: Global, bytes: &[u8]) -> Result<(Document, Layout), Fault>
+        ensures stored { IfOk result (λ opened. IsStored bytes.now opened.0 opened.1) }
+        ensures fault { IfErr result (RefusesBytes bytes.now) }
+    {
+        let (replica, layout) = decode_file(alloc, bytes)?;
+        let document = Document::of(alloc, replica)?;
+        Ok((document, layout))
     }
 
     /// The replica. Takes no memory.
@@ -128,6 +150,59 @@ impl Document {
             Ok(()) => Ok(()),
             Err(_) => Err(Fault::Memory),
         }
+    }
+}
+
+/// The steps of what changes a document.
+impl Document {
+    /// The edit that a line of JSON asks for.
+    pub(crate) fn read_edit(&mut self, line: &str) -> Result<Command, Fault>
+        ensures read { MayGive result (edit_of line.now) }
+        ensures same { self.new ≡ self.old }
+    {
+        self.reader.edit(self.alloc, line)
+    }
+
+    /// Edits the document, by a command that the caller keeps.
+    pub(crate) fn edit_by(&mut self, command: &Command) -> Result<Edited, Fault>
+        ensures { EditsReplica self.old command.now result self.new }
+    {
+        self.index.edit_by(command)
+    }
+
+    /// Edits the document, and hands out what that changed.
+    pub(crate) fn edit_with_delta(
+        &mut self,
+        command: &Command,
+    ) -> Result<(Edited, State<GapSet>), Fault>
+        ensures { EditsWithDelta self.old command.now result self.new }
+    {
+        self.index.edit_with_delta(command)
+    }
+
+    /// Takes a delta that comes with a roster, and tells whether its own roster grew by that.
+    pub(crate) fn take_with(&mut self, roster: Roster, delta: &State<GapSet>) -> Result<bool, Fault>
+        requires { Fits (max (length self.old.roster.names) (length roster.names)) (coordinates delta.now) }
+        ensures taken { TakesDeltaWith self.old roster delta.now (result_map_both (λ _. tt) (λ fault. fault) result) self.new }
+        ensures grew { IfOk result (λ grew. grew ≡ false → self.new.roster ≡ self.old.roster) }
+    {
+        let names = self.index.replica().roster().len();
+        self.index.take_with(roster, delta)?;
+        Ok(names < self.index.replica().roster().len())
+    }
+}
+
+/// The replica that a file's bytes hold, and where their parts stand.
+pub fn decode_file(alloc: Global, bytes: &[u8]) -> Result<(Replica<GapSet>, Layout), Fault>
+    ensures stored { IfOk result (λ opened. IsStored bytes.now opened.0 opened.1) }
+    ensures fault { IfErr result (RefusesBytes bytes.now) }
+{
+    match decode_stored(alloc, bytes) {
+        Ok(stored) => {
+            let Stored { kept, layout } = stored;
+            Ok((kept.replica(), layout))
+        }
+        Err(refused) => Err(refused.fault),
     }
 }
 

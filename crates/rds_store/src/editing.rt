@@ -29,7 +29,7 @@ impl Document {
         ensures edited { MayEdit (edit_of line.now) self.old result self.new }
         ensures err { OnErr result (self.new ≡ self.old) }
     {
-        let command = self.reader.edit(self.alloc, line)?;
+        let command = self.read_edit(line)?;
         self.edit(command)
     }
 

@@ -1,10 +1,12 @@
 //! A replica of a document in a program: made or opened, edited, looked at, met with others, and kept in a file. Read
-//! `document` first, then `editing`, `looking`, `meeting` and `files`; `answers` has the lines that edits are answered,
-//! and `threads` says that a document may move to another thread.
+//! `document` first, then `editing`, `looking`, `changes`, `meeting`, `drafts` and `files`; `answers` has the lines that
+//! edits are answered, and `threads` says that a document may move to another thread.
 #![tactic(auto)]
 
 mod answers;
+mod changes;
 mod document;
+mod drafts;
 mod editing;
 mod files;
 mod looking;
@@ -13,6 +15,7 @@ mod threads;
 
 pub use answers::answers_text;
 pub use document::Document;
+pub use drafts::{Draft, Noted};
 pub use files::{DocumentFile, create_file};
 pub use rds_gaps::GapSet;
 pub use rds_names::{Fault, Key, Name, Path, Roster, Scalar};

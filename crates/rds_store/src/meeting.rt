@@ -1,24 +1,27 @@
 //! What documents ask of one another, answer and take.
 ghost use Rattle.std.specs.Prelude.{◌≡◌, length, Err, IfOk, IfErr, OnErr, OnOk};
 ghost use Rattle.rds_codec.specs.FormatWriting.{EncodesTabled};
+ghost use Rattle.rds_delta.specs.Least.{least};
+ghost use Rattle.rds_delta.specs.Ranks.{ranks};
+ghost use Rattle.rds_names.specs.declared.fault.Fault.TheVariants.{Memory};
 ghost use Rattle.rds_offline.specs.Letters.{IsTaken, TakesResponse};
+ghost use Rattle.rds_offline.specs.Merging.{CountsLacking, IsMerged, RefusesMerge};
 ghost use Rattle.rds_questions.specs.Questions.{question_of, question_text};
 ghost use Rattle.rds_questions.specs.Taking.{HasAllOf, IsAsker, TakesReceived};
 ghost use Rattle.rds_state.specs.Fits.{Fits};
 ghost use Rattle.rds_state.specs.Value.{coordinates, size};
-ghost use Rattle.rds_offline.specs.Merging.{CountsLacking, IsMerged, RefusesMerge};
 ghost use Rattle.rds_store.specs.Meetings.{MayAnswer, MergesSnapshot, RefusesSnapshot, RefusesTaking};
+ghost use Rattle.rds_store.specs.Noting.{AreSince};
 
-use crate::document::Document;
-use rds_codec::decode_snapshot;
+use crate::changes::Changes;
+use crate::document::{Document, decode_file};
 use rds_delta::{Digest, delta};
 use rds_gaps::GapSet;
 use rds_names::Fault;
 use rds_questions::{
     Question, Received, decode_question, encode_question, judge_held, receive, respond,
 };
-use rds_state::Replica;
-use rds_tree::Index;
+use rds_state::{Replica, State};
 use std::alloc::Global;
 
 impl Document {
@@ -48,18 +51,20 @@ impl Document {
         ensures fault { IfErr result (RefusesTaking question.now answer.now self.old) }
         ensures err { OnErr result (self.new ≡ self.old) }
     {
-        take_answer(self.alloc, &mut self.index, question, answer)
+        let mut changes = Changes::unnoted(self);
+        take_answer(self, &mut changes, question, answer)
     }
 
-    /// Joins all that the replica of a snapshot has seen, and tells how many components of it were lacking. Bytes that
-    /// are no snapshot are refused as `open` does; then the replica as a take does (`WrongGroup`, `WrongRoster`,
+    /// Joins all that the replica of a snapshot or a file has seen, and tells how many components of it were lacking. Bytes
+    /// that are neither are refused as `open` does; then the replica as a take does (`WrongGroup`, `WrongRoster`,
     /// `OwnAhead`, `Conflict`).
     pub fn merge(&mut self, snapshot: &[u8]) -> Result<u128, Fault>
         ensures merged { IfOk result (MergesSnapshot snapshot.now self.old self.new) }
         ensures fault { IfErr result (RefusesSnapshot snapshot.now self.old) }
         ensures err { OnErr result (self.new ≡ self.old) }
     {
-        merge_snapshot(self.alloc, &mut self.index, snapshot)
+        let mut changes = Changes::unnoted(self);
+        merge_snapshot(self, &mut changes, snapshot)
     }
 }
 
@@ -71,67 +76,102 @@ fn respond_to(alloc: Global, held: &Replica<GapSet>, question: &[u8]) -> Result<
     respond(alloc, held, &asked)
 }
 
-/// Takes the answer whose text the second bytes are to the question whose text the first are.
-fn take_answer(
-    alloc: Global,
-    held: &mut Index<GapSet>,
+/// Takes the answer whose text the second bytes are to the question whose text the first are, and notes what came.
+pub fn take_answer(
+    document: &mut Document,
+    changes: &mut Changes,
     question: &[u8],
     answer: &[u8],
 ) -> Result<u128, Fault>
-    ensures taken { IfOk result (TakesResponse question.now answer.now held.old held.new) }
-    ensures fault { IfErr result (RefusesTaking question.now answer.now held.old) }
-    ensures err { OnErr result (held.new ≡ held.old) }
+    requires since { AreSince changes.old document.old }
+    ensures since { AreSince changes.new document.new }
+    ensures kept { changes.new.kept.value ≡ changes.old.kept.value }
+    ensures taken { IfOk result (TakesResponse question.now answer.now document.old document.new) }
+    ensures fault { IfErr result (RefusesTaking question.now answer.now document.old) }
+    ensures err { OnErr result (document.new ≡ document.old) }
 {
-    let asked: Question<GapSet> = decode_question(alloc, question)?;
-    let received = receive(alloc, &asked, answer)?;
-    take_in(alloc, held, &asked, &received)
+    let asked: Question<GapSet> = decode_question(document.alloc, question)?;
+    let received = receive(document.alloc, &asked, answer)?;
+    take_in(document, changes, &asked, received)
 }
 
-/// Takes what was received for a question, as [`take_response`](rds_questions::take_response) does.
+/// Takes what was received for a question, as [`take_response`](rds_questions::take_response) does, and notes it.
 fn take_in(
-    alloc: Global,
-    held: &mut Index<GapSet>,
+    document: &mut Document,
+    changes: &mut Changes,
     question: &Question<GapSet>,
-    received: &Received<GapSet>,
+    received: Received<GapSet>,
 ) -> Result<u128, Fault>
-    requires fits { Fits (length received.now.roster.names) (coordinates received.now.delta) }
-    ensures replica { OnOk result (IsAsker question.now held.old) }
-    ensures has_all { OnOk result (HasAllOf question.now.digest held.old.state) }
-    ensures taken { OnOk result (IsTaken received.now held.old held.new) }
-    ensures count { IfOk result (λ n. n ≡ size received.now.delta) }
-    ensures fault { IfErr result (λ fault. TakesReceived question.now held.old received.now (Err fault)) }
-    ensures err { OnErr result (held.new ≡ held.old) }
+    requires since { AreSince changes.old document.old }
+    requires fits { Fits (length received.roster.names) (coordinates received.delta) }
+    ensures since { AreSince changes.new document.new }
+    ensures kept { changes.new.kept.value ≡ changes.old.kept.value }
+    ensures replica { OnOk result (IsAsker question.now document.old) }
+    ensures has_all { OnOk result (HasAllOf question.now.digest document.old.state) }
+    ensures taken { OnOk result (IsTaken received document.old document.new) }
+    ensures count { IfOk result (λ n. n ≡ size received.delta) }
+    ensures fault { IfErr result (λ fault. TakesReceived question.now document.old received (Err fault)) }
+    ensures err { OnErr result (document.new ≡ document.old) }
 {
-    judge_held(alloc, question, held.replica())?;
-    let roster = received.roster.copy(alloc)?;
-    held.take_with(roster, &received.delta)?;
-    Ok(received.delta.components())
+    judge_held(document.alloc, question, document.replica())?;
+    changes.make_room()?;
+    let Received {
+        delta,
+        roster,
+        certificate: _certificate,
+    } = received;
+    let components = delta.components();
+    let grew = document.take_with(roster, &delta)?;
+    changes.note(delta, grew);
+    Ok(components)
 }
 
-/// Joins all that the replica of a snapshot has seen.
-fn merge_snapshot(alloc: Global, held: &mut Index<GapSet>, snapshot: &[u8]) -> Result<u128, Fault>
-    ensures merged { IfOk result (MergesSnapshot snapshot.now held.old held.new) }
-    ensures fault { IfErr result (RefusesSnapshot snapshot.now held.old) }
-    ensures err { OnErr result (held.new ≡ held.old) }
+/// Joins all that the replica of a snapshot has seen, and notes what was lacking.
+pub fn merge_snapshot(
+    document: &mut Document,
+    changes: &mut Changes,
+    snapshot: &[u8],
+) -> Result<u128, Fault>
+    requires since { AreSince changes.old document.old }
+    ensures since { AreSince changes.new document.new }
+    ensures kept { changes.new.kept.value ≡ changes.old.kept.value }
+    ensures merged { IfOk result (MergesSnapshot snapshot.now document.old document.new) }
+    ensures fault { IfErr result (RefusesSnapshot snapshot.now document.old) }
+    ensures err { OnErr result (document.new ≡ document.old) }
 {
-    let source: Replica<GapSet> = decode_snapshot(alloc, snapshot)?;
-    merge_in(alloc, held, &source)
+    let (source, _layout) = decode_file(document.alloc, snapshot)?;
+    merge_in(document, changes, &source)
 }
 
-/// Joins all that another replica has seen, and answers how many components of it were lacking.
+/// Joins all that another replica has seen, notes what of it was lacking, and answers how many components that were.
 fn merge_in(
-    alloc: Global,
-    held: &mut Index<GapSet>,
+    document: &mut Document,
+    changes: &mut Changes,
     source: &Replica<GapSet>,
 ) -> Result<u128, Fault>
-    ensures merged { OnOk result (IsMerged source.now held.old held.new) }
-    ensures counted { IfOk result (CountsLacking source.now held.old) }
-    ensures fault { IfErr result (RefusesMerge source.now held.old) }
-    ensures err { OnErr result (held.new ≡ held.old) }
+    requires since { AreSince changes.old document.old }
+    ensures since { AreSince changes.new document.new }
+    ensures kept { changes.new.kept.value ≡ changes.old.kept.value }
+    ensures merged { OnOk result (IsMerged source.now document.old document.new) }
+    ensures counted { IfOk result (CountsLacking source.now document.old) }
+    ensures fault { IfErr result (RefusesMerge source.now document.old) }
+    ensures err { OnErr result (document.new ≡ document.old) }
 {
-    let digest = Digest::of(alloc, held.replica().state())?;
-    let lacking = delta(alloc, source.state(), &digest)?;
-    let roster = source.roster().copy(alloc)?;
-    held.take_with(roster, source.state())?;
-    Ok(lacking.components())
+    let lacking = lacking_in(document, source)?;
+    changes.make_room()?;
+    let roster = source.roster().copy(document.alloc)?;
+    let grew = document.take_with(roster, source.state())?;
+    let components = lacking.components();
+    changes.note(lacking, grew);
+    Ok(components)
+}
+
+/// What another replica has seen that a document lacks.
+fn lacking_in(document: &Document, source: &Replica<GapSet>) -> Result<State<GapSet>, Fault>
+    ensures lacking { IfOk result (λ lacking. coordinates lacking
+        ≡ least (coordinates source.now.state) (ranks (coordinates document.now.state))) }
+    ensures memory { IfErr result (λ fault. fault ≡ Memory) }
+{
+    let digest = Digest::of(document.alloc, document.replica().state())?;
+    delta(document.alloc, source.state(), &digest)
 }

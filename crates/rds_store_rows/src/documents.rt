@@ -1,7 +1,7 @@
 //! Documents under their names.
 use rds_rows::told::said;
 use rds_rows::words::{cut, first, small};
-use rds_store::{Document, Edited, Fault, answers_text};
+use rds_store::{Document, Edited, Fault, Reply, answers_text};
 use std::alloc::Global;
 
 /// A document under a name, what it asked last, and what that was answered.
@@ -81,11 +81,7 @@ impl<'a> Documents<'a> {
         let (name, lines) = cut(rest)?;
         let lines = lines.replace(alloc, "|", "\n")?;
         let answers = self.named(name)?.document.edit_lines(lines.as_bytes())?;
-        let text = answers_text(alloc, answers.as_slice())?;
-        match str::from_utf8(text.as_slice()) {
-            Ok(text) => told(alloc, text),
-            Err(_) => Err(Fault::Bad),
-        }
+        told_answers(alloc, answers.as_slice())
     }
 
     /// `grow NAME NEWCOMER`
@@ -105,6 +101,15 @@ pub fn edited_text(alloc: Global, edited: Edited) -> Result<String, Fault> {
             Ok(format!(in alloc; "dot {replica} {seq}; killed {killed}")?)
         }
         None => Ok(format!(in alloc; "no dot; killed {killed}")?),
+    }
+}
+
+/// The lines of answers, without the last newline.
+pub fn told_answers(alloc: Global, answers: &[Reply]) -> Result<String, Fault> {
+    let text = answers_text(alloc, answers)?;
+    match str::from_utf8(text.as_slice()) {
+        Ok(text) => told(alloc, text),
+        Err(_) => Err(Fault::Bad),
     }
 }
 

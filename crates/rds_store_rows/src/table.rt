@@ -18,13 +18,29 @@ impl Table for Documents<'_> {
             "take" => self.take(alloc, rest),
             "turn" => self.turn(alloc, rest),
             "merge" => self.merge(alloc, rest),
-            "create" => self.create(alloc, rest),
-            "keep" => self.keep(alloc, rest),
-            "lose" => self.lose(alloc, rest),
-            "look" => self.look(rest),
-            "remove" => self.remove(alloc, rest),
-            _ => shown(self, alloc, name, rest),
+            _ => in_file(self, alloc, name, rest),
         }
+    }
+}
+
+// Rows about documents in files.
+fn in_file(
+    documents: &mut Documents<'_>,
+    alloc: Global,
+    what: &str,
+    rest: &str,
+) -> Result<String, Fault> {
+    match what {
+        "create" => documents.create(alloc, rest),
+        "keep" => documents.keep(alloc, rest),
+        "lose" => documents.lose(alloc, rest),
+        "keep_lines" => documents.keep_lines(alloc, rest),
+        "keep_grown" => documents.keep_grown(alloc, rest),
+        "keep_taken" => documents.keep_taken(alloc, rest),
+        "keep_merged" => documents.keep_merged(alloc, rest),
+        "look" => documents.look(rest),
+        "remove" => documents.remove(alloc, rest),
+        _ => shown(documents, alloc, what, rest),
     }
 }
 
@@ -43,6 +59,7 @@ fn shown(
         "conflicts" => told(alloc, document.conflicts(path)?.as_str()),
         "dump" => told(alloc, document.dump(path)?.as_str()),
         "status" => document.status(),
+        "mark" => Ok(format!(in alloc; "{}", document.mark())?),
         _ => Err(Fault::Usage),
     }
 }

@@ -1,11 +1,12 @@
 //! The snapshot that is held from row to row.
-use crate::{exchanges, places, reading, texts};
+use crate::{exchanges, journal, places, reading, texts};
 use rds_codec::{
     Format, decoding_has_one_result, formats_are_read_again, formats_have_the_same_parts,
     limits_of_texts, readers_are_steady, rows_are_read_in_steps, texts_are_read_steadily,
     texts_outlive_growth, texts_stand_apart,
 };
 use rds_dots::DotSet;
+use rds_journal::{journals_outlast_crashes, records_outlast_appends};
 use rds_names::Fault;
 use rds_rows::Table;
 use rds_rows::told::said;
@@ -32,6 +33,12 @@ impl<S: DotSet> Table for Held<S> {
             "place" => places::answer::<S>(alloc, &self.text, rest),
             "read" => reading::answer::<S>(alloc, &self.text, rest),
             "laws" => laws(alloc),
+            "record"
+            | "records"
+            | "record-cuts"
+            | "record-flips"
+            | "record-appended"
+            | "torn-times" => journal::answer(alloc, name, rest),
             _ => texts::answer::<S>(alloc, name, rest),
         }
     }
@@ -64,5 +71,7 @@ fn laws(alloc: Global) -> Result<String, Fault> {
     readers_are_steady();
     rows_are_read_in_steps();
     texts_are_read_steadily();
+    journals_outlast_crashes();
+    records_outlast_appends();
     said(alloc, "called")
 }

@@ -4,7 +4,7 @@ use Rattle.std.specs.Prelude.{map}
 use Rattle.std.specs.Borrow.{Bor}
 use Rattle.clap.specs.Words.{Text, built}
 use Rattle.rds_words.specs.declared.tasks.Task.{Task}
-use Rattle.rds_words.specs.declared.tasks.Task.TheVariants.{Join, Sim, Files, Faults, Init, InitFrom, Grow, Edit, EditIfChanged, EditLines, Get, GetRaw, Show, ShowPretty, Dump, Status, Serve, Sync, Pair, Ask, Answer, Take, Merge, Check, Conflicts, Diff}
+use Rattle.rds_words.specs.declared.tasks.Task.TheVariants.{Join, Sim, Files, Faults, Init, InitFrom, Grow, Edit, EditIfChanged, EditLines, Get, GetRaw, Show, ShowPretty, Dump, Compact, Status, Serve, Sync, Pair, Ask, Answer, Take, Merge, Check, Conflicts, Diff}
 use Rattle.rds_words.specs.declared.tasks.EditWords.TheVariants.{Set, Add, Del, Clear, Inc, Dec}
 use Rattle.rds_words.specs.declared.tasks.ValueWord.TheVariants as word
 use Rattle.rds_words.specs.Commands.{node_app}
@@ -52,6 +52,10 @@ edit_lines_dashed name file = (refl, refl)
 pub get_dashed : (name file path : Text) → Names (name ∷ codes "get" ∷ codes "--" ∷ file ∷ path ∷ []) (codes "get" ∷ file ∷ path ∷ [])
 unfolding node_on_words
 get_dashed name file path = (refl, refl)
+
+pub compact_dashed : (name file : Text) → Names (name ∷ codes "compact" ∷ codes "--" ∷ file ∷ []) (codes "compact" ∷ file ∷ [])
+unfolding node_on_words
+compact_dashed name file = (refl, refl)
 
 pub status_dashed : (name file : Text) → Names (name ∷ codes "status" ∷ codes "--" ∷ file ∷ []) (codes "status" ∷ file ∷ [])
 unfolding node_on_words
@@ -240,6 +244,10 @@ pub get_met : Meets (built node_app) (codes "get")
 unfolding node_on_words
 get_met = (refl, refl)
 
+pub compact_met : Meets (built node_app) (codes "compact")
+unfolding node_on_words
+compact_met = (refl, refl)
+
 pub status_met : Meets (built node_app) (codes "status")
 unfolding node_on_words
 status_met = (refl, refl)
@@ -365,6 +373,7 @@ task_dashed name (EditLines file) has = edit_lines_dashed name file.now
 task_dashed name (Get file path) has = get_dashed name file.now path.now
 task_dashed name (Show file path) has = show_dashed name file.now path.now
 task_dashed name (ShowPretty file path) has = pretty_dashed name file.now path.now
+task_dashed name (Compact file) has = compact_dashed name file.now
 task_dashed name (Status file) has = status_dashed name file.now
 task_dashed name (Sync words) has = sync_dashed name words.file.now words.addr.now words.timeout.now
 task_dashed name (Pair first second) has = pair_dashed name first.now second.now
@@ -412,6 +421,7 @@ task_written name (Edit file (Dec key by)) is = undashed name (codes "dec") (fil
 task_written name (EditLines file) is = undashed name (codes "edit") (file.now ∷ []) _ edit_lines_met is.1 (edit_lines_dashed name file.now)
 task_written name (Get file path) is = undashed name (codes "get") (file.now ∷ path.now ∷ []) _ get_met is.1 (get_dashed name file.now path.now)
 task_written name (ShowPretty file path) is = pretty_named name file.now path.now is.1
+task_written name (Compact file) is = undashed name (codes "compact") (file.now ∷ []) _ compact_met is.1 (compact_dashed name file.now)
 task_written name (Status file) is = undashed name (codes "status") (file.now ∷ []) _ status_met is.1 (status_dashed name file.now)
 task_written name (Show file path) is = undashed name (codes "show") (file.now ∷ path.now ∷ []) _ show_met is.1 (show_dashed name file.now path.now)
 task_written name (Sync words) is = sync_named name words.file.now words.addr.now words.timeout.now is.1

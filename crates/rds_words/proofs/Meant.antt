@@ -99,24 +99,27 @@ each_plain = (
           (
             plain.dump_plain,
             (
-              plain.pair_plain,
+              plain.compact_plain,
               (
-                plain.ask_plain,
+                plain.pair_plain,
                 (
-                  plain.answer_plain,
+                  plain.ask_plain,
                   (
-                    plain.take_plain,
+                    plain.answer_plain,
                     (
-                      plain.merge_plain,
+                      plain.take_plain,
                       (
-                        plain.status_plain,
+                        plain.merge_plain,
                         (
-                          plain.check_plain,
+                          plain.status_plain,
                           (
-                            plain.conflicts_plain,
+                            plain.check_plain,
                             (
-                              plain.diff_plain,
-                              (plain.join_plain, (plain.sim_plain, (plain.files_plain, (plain.faults_plain, tt)))),
+                              plain.conflicts_plain,
+                              (
+                                plain.diff_plain,
+                                (plain.join_plain, (plain.sim_plain, (plain.files_plain, (plain.faults_plain, tt)))),
+                              ),
                             ),
                           ),
                         ),

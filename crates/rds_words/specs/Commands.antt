@@ -120,6 +120,7 @@ commands =
     ∷ command_app (codes "get") (file_rule ∷ path_rule ∷ raw_rules)
     ∷ command_app (codes "show") (file_rule ∷ part_rule ∷ pretty_rule ∷ [])
     ∷ command_app (codes "dump") (file_rule ∷ part_rule ∷ [])
+    ∷ command_app (codes "compact") (file_rule ∷ [])
     ∷ command_app (codes "pair") (file_rule ∷ required_rule (codes "PEER") ∷ [])
     ∷ command_app (codes "sync") (file_rule ∷ address_rule ∷ timeout_rule ∷ [])
     ∷ command_app (codes "serve") (file_rule ∷ address_rule ∷ sessions_rule ∷ timeout_rule ∷ [])

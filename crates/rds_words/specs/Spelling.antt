@@ -59,6 +59,7 @@ counts =
     ∷ (codes "dec", exactly 3)
     ∷ (codes "edit", exactly 1)
     ∷ (codes "dump", or_root 2)
+    ∷ (codes "compact", exactly 1)
     ∷ (codes "pair", exactly 2)
     ∷ (codes "ask", exactly 1)
     ∷ (codes "answer", exactly 1)

@@ -39,6 +39,7 @@ use Rattle.rds_words.specs.declared.tasks.Task.TheVariants.{
   Show,
   ShowPretty,
   Dump,
+  Compact,
   Status,
   Serve,
   Sync,
@@ -103,6 +104,7 @@ words_of (GetRaw file path which) = codes "get" ∷ file.now ∷ path.now ∷ ra
 words_of (Show file path) = codes "show" ∷ file.now ∷ path.now ∷ []
 words_of (ShowPretty file path) = codes "show" ∷ file.now ∷ path.now ∷ codes "--pretty" ∷ []
 words_of (Dump file path) = codes "dump" ∷ file.now ∷ path.now ∷ []
+words_of (Compact file) = codes "compact" ∷ file.now ∷ []
 words_of (Status file) = codes "status" ∷ file.now ∷ []
 words_of (Serve words) = codes "serve" ∷ words.file.now ∷ words.addr.now ∷ words.sessions.now ∷ words.timeout.now ∷ []
 words_of (Sync words) = codes "sync" ∷ words.file.now ∷ words.addr.now ∷ words.timeout.now ∷ []
@@ -232,7 +234,8 @@ file_words_behind name rows =
     if bytes_eq name (codes "edit") then words_under (codes "FILE" ∷ []) rows
     else (if bytes_eq name (codes "get") then get_words_in rows
     else (if bytes_eq name (codes "status") then words_under (codes "FILE" ∷ []) rows
-    else looking_words_behind name rows))
+    else (if bytes_eq name (codes "compact") then words_under (codes "FILE" ∷ []) rows
+    else looking_words_behind name rows)))
 
 -- the words behind the name of a command but `init` and `grow`
 abbrev pub plain_words_behind : Text → List Row → Option (List Text)

@@ -15,6 +15,7 @@ pub enum Page {
     Get,
     Show,
     Dump,
+    Compact,
     Pair,
     Sync,
     Serve,
@@ -53,6 +54,7 @@ impl Page {
             Page::Get => GET_EXAMPLE,
             Page::Show => SHOW_EXAMPLE,
             Page::Dump => DUMP_EXAMPLE,
+            Page::Compact => COMPACT_EXAMPLE,
             Page::Pair => PAIR_EXAMPLE,
             Page::Sync => SYNC_EXAMPLE,
             Page::Serve => SERVE_EXAMPLE,
@@ -85,6 +87,7 @@ impl Page {
             Page::Get => GET_TEXT,
             Page::Show => SHOW_TEXT,
             Page::Dump => DUMP_TEXT,
+            Page::Compact => COMPACT_TEXT,
             Page::Pair => PAIR_TEXT,
             Page::Sync => SYNC_TEXT,
             Page::Serve => SERVE_TEXT,
@@ -111,7 +114,7 @@ pub const VERSION: &str = "0.1.0, reads formats 1 and 2, writes format 2";
 
 pub const AFTER_HELP: &str = "\
 Commands, by what they are for:
-  documents  init, grow, set, add, del, clear, inc, dec, edit, get, show, dump
+  documents  init, grow, set, add, del, clear, inc, dec, edit, get, show, dump, compact
   meeting    pair, sync, serve, ask, answer, take, merge
   looking    status, check, conflicts, diff
   machines   join, sim
@@ -128,8 +131,13 @@ pub const FILES_TEXT: &str = "\
 How files are read and written, and what the words of commands are.
 
 Writing: a command that changes FILE does so under a lock, for which it waits ten
-seconds at most. FILE.new is made beside it with mode 0600, gets FILE's mode, is written
-and synced, and then renamed to FILE. So FILE is the old one or the new one, whole.
+seconds at most. FILE is a snapshot with records of changes behind it: the command adds
+a record, syncs FILE, and then answers. What changes nothing adds none. Where the change
+has more than 65,536 bytes, or all records would have more than that and more than the
+snapshot, or FILE is of format 1, it writes FILE anew, as 'compact' does: FILE.new is
+made beside it with mode 0600, gets FILE's mode, is written and synced, and then renamed
+to FILE. A record that wasn't written to its end is passed over, and the next one takes
+its place. So FILE holds what it held before a command or what it holds after it, whole.
 What isn't said to change FILE only reads it.
 
 Places: a FILE that is a link is followed, and stays a link. One that has several names
@@ -169,7 +177,7 @@ are told on standard error alone.
   10 OwnAhead        FILE is older than what its replica has sent: a backup was put back
   11 WrongAsker      an answer to another replica, or to another question
   12 Cut             the bytes end too early: no rds file, or a part of one
-  13 Bad             no rds file, or no text of a session
+  13 Bad             no rds file, or a damaged one, or no text of a session
   14 Extra           more bytes behind a whole text
   15 TooLong         a text, a line or an input above its limit
   17 BadCertificate  the certificate of a delta doesn't hold
@@ -183,6 +191,7 @@ are told on standard error alone.
   25 BadLine         a line is no command, or VALUE no JSON
   26 NoSuch          no such replica, ask or answer
   27 Usage           words that the program doesn't take
+  29 Unsure          FILE is written, and may not last: read it before you repeat
 
 Exit status: 0 where the command succeeded, 1 where it answered a fault, 2 for fault 27,
 3 where 'get --raw' finds nothing, and where 'conflicts' or 'diff' finds something.
@@ -286,7 +295,7 @@ const EDIT_TEXT: &str = "\
 Input: lines, each one JSON array of at most 65,536 bytes; empty lines are skipped:
   [\"set\",PATH,VALUE] [\"add\",PATH,VALUE] [\"del\",PATH,VALUE] [\"clear\",PATH]
   [\"inc\",KEY,BY] [\"dec\",KEY,BY]
-Edits FILE by one line after the other, and writes it once. Output, once it is written: a
+Edits FILE by one line after the other, and writes once. Output, once that is written: a
 line of JSON for each, {\"dot\":[\"a\",1],\"killed\":0} as for 'set'. A refused one is answered
 {\"fault\":3,\"name\":\"BadKey\",\"line\":2} and changes nothing; the others stand, status 1.
 Faults of its own: 15 where the input has more than 1,073,741,824 bytes, 24 where it
@@ -324,6 +333,18 @@ Output: the lines that 'edit' reads, which give the same document: that below PA
 all of it with its counters. Of a register with several values one line sets each, so
 the last stands; a line on standard error says so before it.
 Faults of its own: 3 and 4 for a bad PATH.";
+
+pub const COMPACT_ABOUT: &str = "Writes the file of a replica anew, without records";
+
+const COMPACT_EXAMPLE: &str = "\
+Example: rds_node compact notes.a";
+
+const COMPACT_TEXT: &str = "\
+A command that changes FILE adds a record to it. This writes FILE anew as one snapshot,
+which holds the same. Commands do so by themselves where the records get long, so it need
+not be called. It is of use before FILE is copied or kept for long, and where it is read
+often and seldom changed: 'status' tells how many bytes the records have.
+Output: {\"ok\":true}.";
 
 pub const PAIR_ABOUT: &str = "Has a session between the replicas in two files";
 
@@ -405,8 +426,8 @@ const MERGE_EXAMPLE: &str = "\
 Example: rds_node merge notes.a stick/notes.b";
 
 const MERGE_TEXT: &str = "\
-Joins into FILE all that the snapshot in the file FROM has seen. FROM isn't written, so
-this is one way: a session has both.
+Joins into FILE all that the file FROM has seen. FROM isn't written, so this is one way:
+a session has both.
 Output: {\"taken\":1}, with the number of components that FILE lacked.
 Faults of its own: 10 where FROM is a copy of the same replica and has more of its own
 than FILE, 9 where the two have different entries for one dot, 19 for another group, 20
@@ -419,11 +440,12 @@ Example: rds_node status notes.a";
 
 const STATUS_TEXT: &str = "\
 Output: one line, {\"group\":\"notes\",\"own\":\"a\",\"names\":[\"a\",\"b\"],\"live\":1,\"dead\":0,
-\"counters\":0,\"components\":1,\"bytes\":76,\"mark\":\"3923e6a85fb4142d3ef808a12ecff18d\"}: the
-group, the replica's own name and the names of all; how many live entries, dots of dead
-ones and counters there are, how many components in all, how many bytes the snapshot
-has, and the mark of its state. Files that hold the same have the same mark, and others
-have it by chance alone.";
+\"counters\":0,\"components\":1,\"bytes\":76,\"snapshot\":31,\"records\":96,
+\"mark\":\"3923e6a85fb4142d3ef808a12ecff18d\"}: the group, the replica's own name and the
+names of all; how many live entries, dots of dead ones and counters there are, and how
+many components in all; how many bytes FILE would have if it were written anew, how many
+its snapshot has, and how many the records behind it have; and the mark of its state.
+Files that hold the same have the same mark, and others have it by chance alone.";
 
 pub const CHECK_ABOUT: &str =
     "Says whether the certificate of an answer holds, and prints its delta";

@@ -100,6 +100,10 @@ fn file_task<'a>(name: &str, inner: &ArgMatches<'a>) -> Option<Task<'a>>
             let file = word_under(inner, "FILE")?;
             Some(Task::Status { file })
         }
+        "compact" => {
+            let file = word_under(inner, "FILE")?;
+            Some(Task::Compact { file })
+        }
         _ => looking_task(name, inner),
     }
 }

@@ -219,7 +219,7 @@ const PEER: Word = Word {
 
 /// The commands, in the order in which help lists them: documents, meeting, looking, machines. The topics of `help`
 /// stand last, and in no list.
-pub static COMMANDS: [Described; 27] = [
+pub static COMMANDS: [Described; 28] = [
     Described {
         name: "init",
         about: help::INIT_ABOUT,
@@ -291,6 +291,12 @@ pub static COMMANDS: [Described; 27] = [
         about: help::DUMP_ABOUT,
         page: Page::Dump,
         words: &[FILE, PATH_OR_ROOT],
+    },
+    Described {
+        name: "compact",
+        about: help::COMPACT_ABOUT,
+        page: Page::Compact,
+        words: &[FILE],
     },
     Described {
         name: "pair",

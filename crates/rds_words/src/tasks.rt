@@ -85,6 +85,11 @@ pub enum Task<'a> {
         /// The path of the part, empty for the root.
         path: &'a str,
     },
+    /// Writes the file of a replica anew, without records.
+    Compact {
+        /// The file.
+        file: &'a str,
+    },
     /// Prints whose replica a file holds, and how much there is of it.
     Status {
         /// The file.

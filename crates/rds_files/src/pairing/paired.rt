@@ -2,7 +2,7 @@
 ghost use Rattle.std.specs.Prelude.{◌≡◌, IfErr, IfOk, OnOk};
 ghost use Rattle.rds_session.specs.Judging.{roster_among};
 ghost use Rattle.rds_session.specs.Received.{HasChecked, IsChecked, delivery_of};
-ghost use Rattle.rds_files.specs.Files.{IsReadAt, IsUnread};
+ghost use Rattle.rds_files.specs.Files.{IsKeptAt, IsUnread};
 ghost use Rattle.rds_files.specs.Pairing.{file_of};
 ghost use Rattle.rds_files.specs.Settling.{IsJoined, RefusesJoin, Settles, SettlesDelta};
 
@@ -32,7 +32,7 @@ where
     /// Reads the file of this path, under its lock where that is free, and makes what was read last, since the other is
     /// told of it. Refuses as `ReplicaFile::open_lasting` does, and `Device` also where the file can't be locked.
     pub fn open(rt: &H, path: &'a str) -> Result<PairedFile<'a, H, S>, Fault>
-        ensures read { IfOk result (λ file. IsReadAt path.now (file_of file)) }
+        ensures read { IfOk result (λ file. IsKeptAt path.now (file_of file)) }
         ensures fault { IfErr result IsUnread }
     {
         match LockedFile::open_if_free(rt, path)? {
@@ -47,7 +47,7 @@ where
     /// Reads another file. Where this one's lock isn't held, the other's isn't taken either: no command waits for a lock
     /// while it holds one.
     pub fn open_other(&self, rt: &H, path: &'a str) -> Result<PairedFile<'a, H, S>, Fault>
-        ensures read { IfOk result (λ file. IsReadAt path.now (file_of file)) }
+        ensures read { IfOk result (λ file. IsKeptAt path.now (file_of file)) }
         ensures fault { IfErr result IsUnread }
     {
         match self {
@@ -122,10 +122,11 @@ where
     ensures settles { SettlesDelta asked.entry.path asked.entry.kept (delta.now, roster) result.settled result.file }
 {
     let (mut replica, file) = asked.into_parts();
+    let replicas = replica.roster().len();
     if let Err(fault) = take_own(&mut replica, delta, roster) {
         return Settlement::without_file(Settled::Refused(fault));
     }
-    keep_taken(rt, file, replica, delta.components())
+    keep_taken(rt, file, replica, delta, replicas)
 }
 
 // Takes the delta, and the roster that it came with, into the replica that asked for it.

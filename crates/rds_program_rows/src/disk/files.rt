@@ -231,7 +231,7 @@ impl OpenFile for DiskFile<'_> {
     }
 
     fn set_len(&self, _size: u64) -> io::Result<()> {
-        Err(failure())
+        self.calls.call("cut", self.path.as_str())
     }
 
     fn sync_all(&self) -> io::Result<()> {
@@ -246,7 +246,7 @@ impl OpenFile for DiskFile<'_> {
     }
 
     fn sync_data(&self) -> io::Result<()> {
-        Err(failure())
+        self.calls.call("sync_data", self.path.as_str())
     }
 }
 
@@ -279,5 +279,13 @@ impl LockFile for DiskFile<'_> {
 
     fn take_mode(&self, _other: &Self) -> io::Result<()> {
         self.calls.call("mode", self.path.as_str())
+    }
+
+    fn write_at(&self, _at: u64, bytes: &[u8]) -> io::Result<usize> {
+        self.calls.call("write", self.path.as_str())?;
+        if self.calls.is("full", self.path.as_str())? {
+            return Ok(0);
+        }
+        Ok(bytes.len())
     }
 }

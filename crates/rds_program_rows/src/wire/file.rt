@@ -100,4 +100,9 @@ impl LockFile for WiredFile<'_> {
         self.call("mode")?;
         self.file.take_mode(&other.file)
     }
+
+    fn write_at(&self, at: u64, bytes: &[u8]) -> io::Result<usize> {
+        self.call("write")?;
+        self.file.write_at(at, bytes)
+    }
 }

@@ -1,6 +1,7 @@
 use Rattle.std.proofs.Common.{rules, ap}
 use Rattle.std.proofs.lemmas.Result.{err_from_is_err_and}
 use Rattle.rds_files.specs.Files.{ReplacedValue}
+use Rattle.rds_commands.proofs.Changed.{changed_in}
 use Rattle.rds_commands.proofs.Replaced.{kept_edit, refused_edit, unkept_edit}
 use Rattle.rds_commands.proofs.file_commands.edit_in.Goals as goal
 
@@ -22,3 +23,9 @@ returns-clause-edited g c =
 
 pub returns-clause-due : goal.returns-clause-due
 returns-clause-due g c = search rules steps 1000000
+
+pub keep-requires : goal.keep-requires
+keep-requires g c =
+    record {
+      changed = changed_in c.args.file c.into_parts-replica.result.1 _ c.edited.new.replica _ c.into_parts-replica.ensures.replica c.into_parts-replica.ensures.file c.in_ok-answer.ensures.changed;
+    }

@@ -42,6 +42,9 @@ returns-in-Status-clause-written g c = rw c.in-Status.is c.run_status.ensures.wr
 pub returns-in-Dump-clause-written : goal.returns-in-Dump-clause-written
 returns-in-Dump-clause-written g c = rw c.in-Dump.is c.run_dump.ensures.written
 
+pub returns-in-Compact-clause-written : goal.returns-in-Compact-clause-written
+returns-in-Compact-clause-written g c = rw c.in-Compact.is c.run_compact.ensures.written
+
 pub returns-in-Conflicts-clause-written : goal.returns-in-Conflicts-clause-written
 returns-in-Conflicts-clause-written g c = rw c.in-Conflicts.is c.run_conflicts.ensures.written
 

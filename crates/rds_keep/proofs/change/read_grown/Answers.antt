@@ -1,4 +1,4 @@
-use Rattle.std.proofs.Common.{◌≡◌, inr, arith}
+use Rattle.std.proofs.Common.{inr, arith}
 use Rattle.std.proofs.lemmas.Result.{err_from_is_err_and}
 use Rattle.rds_keep.proofs.ChangeTexts.{delta_grown, delta_refused, member_refused, other_member}
 use Rattle.rds_keep.proofs.change.read_grown.Goals.{then-number-own-via-then-number-own, then-number-own-via-else-number-own+then-not-begins}

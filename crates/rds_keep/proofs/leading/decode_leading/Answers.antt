@@ -1,6 +1,5 @@
-use Rattle.std.proofs.Common.{rules, arith}
 use Rattle.std.proofs.lemmas.Result.{err_from_is_err_and}
-use Rattle.rds_keep.proofs.LedSoFar.{step_front, step_short, step_whole}
+use Rattle.rds_keep.proofs.LedSoFar.{step_front, step_short}
 use Rattle.rds_keep.proofs.leading.decode_leading.Goals as goal
 
 pub returns-in_err-progress-clause-refused : goal.returns-in_err-progress-clause-refused

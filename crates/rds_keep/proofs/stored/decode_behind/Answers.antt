@@ -1,5 +1,3 @@
-use Rattle.std.proofs.Common.{rules, arith, ◌≡◌, inl, inr, ap}
-use Rattle.std.proofs.lemmas.Grind.{common_steps}
 use Rattle.rds_keep.proofs.BehindParts.{decoded_refused, decoded_stops, decoded_stored, decoded_whole, end_fault, err_then, ok_then, rest_fault, taken_bytes, taken_is_file, taken_length, taken_value}
 use Rattle.rds_keep.proofs.stored.decode_behind.Goals as goal
 

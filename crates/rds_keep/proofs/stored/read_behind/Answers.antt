@@ -1,6 +1,4 @@
-use Rattle.std.proofs.Common.{rules, arith, ◌≡◌, inl, inr, ap}
-use Rattle.std.proofs.lemmas.Grind.{common_steps}
-use Rattle.rds_keep.specs.Replay.{ReadsRecords, StopsReading}
+use Rattle.std.proofs.Common.{inr}
 use Rattle.rds_keep.proofs.BehindParts.{behind_end, behind_refused, behind_stops, behind_stops_whole, behind_stored, behind_whole, end_fault, err_then, ok_then, on_then, read_bytes, read_is_file, read_length, read_value, stop_fault}
 use Rattle.rds_keep.proofs.stored.read_behind.Goals as goal
 

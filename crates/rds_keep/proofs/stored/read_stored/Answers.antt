@@ -1,10 +1,8 @@
-use Rattle.std.proofs.Common.{rules, arith, ◌≡◌}
-use Rattle.std.proofs.lemmas.Grind.{common_steps}
+use Rattle.std.proofs.Common.{arith}
 use Rattle.rds_keep.specs.Kept.{AreWhole, IsStored, RefusesBytes}
 use Rattle.rds_keep.specs.Parts.{ConsumesAtMost}
 use Rattle.rds_keep.proofs.BehindParts.{err_then, ok_then, on_on}
 use Rattle.rds_keep.proofs.FirstParts.{both_consumed, first_own, lost_first, none_whole}
-use Rattle.rds_keep.proofs.ReadWhole.{failed_later}
 use Rattle.rds_keep.proofs.stored.read_stored.Goals as goal
 
 pub returns-in-Ok-clause-stored : goal.returns-in-Ok-clause-stored

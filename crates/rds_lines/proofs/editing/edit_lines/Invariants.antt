@@ -8,7 +8,7 @@ use Rattle.rds_lines.specs.Lines.{lines_in}
 -- is room for an answer to each line that is left
 abbrev pub invariant-lines : goal.invariant-lines
 invariant-lines g l = record {
-  follows : FollowsOn l.count l.input l.rest l.initial.index l.index l.answers.items;
+  follows : FollowsOn l.count l.input l.rest (g.E.Edits.replica l.initial.editor) (g.E.Edits.replica l.editor) l.answers.items;
   counted : l.count + length l.rest ≤ length l.input;
   room : vec_len l.answers + length (lines_in l.rest) ≤ vec_capacity l.answers;
 }

@@ -1,6 +1,33 @@
+use Rattle.std.proofs.Common.{◌≡◌, ◌∙◌, ap, cond, length, nat_le, subst, sym}
+use Rattle.std.specs.Prelude.{None, Some}
 use Rattle.std.proofs.lemmas.Result.{err_from_is_err_and}
+use Rattle.rds_names.specs.Roster.{RosterValue}
+use Rattle.rds_state.specs.Fits.{ReplicaValue}
+use Rattle.rds_state.specs.Value.{coordinates}
+use Rattle.rds_keep.specs.Changes.{IsChanged}
+use Rattle.rds_files.specs.Files.{KeptFile}
+use Rattle.rds_questions.specs.Receiving.{ReceivedValue}
 use Rattle.rds_offline.proofs.Lettered.{no_take, unkept_take}
+use Rattle.rds_offline.proofs.Changed.{is_changed}
+use Rattle.rds_offline.proofs.Longer.{longer_fits}
 use Rattle.rds_offline.proofs.letters.take_in.Goals as goal
+
+pub keep-requires : goal.keep-requires
+keep-requires g c =
+    let old = c.into_parts-replica.result.0 in
+    let new = c.take_response.new.held in
+    let replicas = c.len-replicas.result in
+    let change = c.change_by-change.result in
+    let came = c.args.received.now in
+    let took = c.in_ok-take_response.ensures in
+    let many : replicas ≡ length old.roster.names = c.len-replicas.ensures.names ∙ ap (λ (r : RosterValue). length r.names) c.roster.ensures in
+    let told = c.change_by-change.ensures.roster ∙ ap (λ (x : ReceivedValue). cond (nat_le (length x.roster.names) replicas) None (Some x.roster)) c.received.view_is in
+    let delta = c.change_by-change.ensures.delta ∙ ap (λ (x : ReceivedValue). x.delta) c.received.view_is in
+    record {
+      changed = subst (λ (v : ReplicaValue). IsChanged v change new) (c.into_parts-replica.ensures.replica ∙ sym (ap (λ (f : KeptFile). f.kept) c.into_parts-replica.ensures.file))
+          (is_changed old new came.roster came.delta replicas change many told delta took.takes.1.0 took.roster took.own took.ok
+          (longer_fits old.roster came.roster new.roster (coordinates came.delta) took.roster c.requires.fits));
+    }
 
 pub returns-in_err-take_response-clause-fault : goal.returns-in_err-take_response-clause-fault
 returns-in_err-take_response-clause-fault g c =

@@ -3,7 +3,7 @@ use Rattle.std.specs.Prelude.{is_some}
 use Rattle.rds_bytes.specs.Values.{IsMember}
 use Rattle.rds_codec.specs.StateTexts.{IsStateOf}
 use Rattle.rds_life.specs.Life.{Conflicts}
-use Rattle.rds_state.specs.Fits.{Fits, ReplicaValue}
+use Rattle.rds_state.specs.Fits.{Fits}
 use Rattle.rds_state.specs.Value.{coordinates}
 use Rattle.rds_journal.specs.Records.{IsPayload, record_text}
 use Rattle.rds_keep.specs.Changed.{IsRecordOf}

@@ -1,7 +1,6 @@
-use Rattle.std.proofs.Common.{rules, ◌≡◌, ◌∙◌, inl, inr, length, arith}
+use Rattle.std.proofs.Common.{rules, arith}
 use Rattle.std.proofs.lemmas.Grind.{common_steps}
 use Rattle.std.proofs.lemmas.Result.{err_from_is_err_and}
-use Rattle.rds_keep.specs.Replay.{TakesRecords}
 use Rattle.rds_keep.proofs.Replaying.{more_read, records_read, stopped_read, taken_member}
 use Rattle.rds_keep.proofs.ReplaySteps.{memory_stops, read_all, reading_stops, spent_within}
 use Rattle.rds_keep.proofs.replay.Replay.read_records.Goals as goal

@@ -1,6 +1,5 @@
-use Rattle.std.proofs.Common.{◌≡◌, ◌+◌, length, ap, arith}
+use Rattle.std.proofs.Common.{ap, arith}
 use Rattle.std.proofs.lemmas.Result.{err_from_is_err_and}
-use Rattle.rds_journal.specs.Records.{record_text}
 use Rattle.rds_keep.specs.Replay.{ReplayValue}
 use Rattle.rds_keep.proofs.Replaying.{unredone}
 use Rattle.rds_keep.proofs.ReplaySteps.{taken_on}
