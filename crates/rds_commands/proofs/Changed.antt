@@ -1,5 +1,5 @@
 -- What changed a replica, as the delta and the roster that it was joined with.
-use Rattle.std.proofs.Common.{◌≡◌, ◌∙◌, ◌+◌, ◌≤◌, ◌++◌, ◌∷◌, ℕ, Bool, true, false, List, [], length, append-nil, max, Option, Some, None, Result, Ok, Err, arith, refl, sym, ap, subst}
+use Rattle.std.proofs.Common.{◌≡◌, ◌∙◌, ◌+◌, ◌≤◌, ◌++◌, ◌∷◌, ℕ, Bool, true, false, List, [], length, append-nil, max, Option, Some, None, Result, Ok, Err, arith, refl, sym, ap, subst, inl, inr}
 use Rattle.std.specs.FinMap as map
 use Rattle.std.specs.Prelude.{IfOk}
 use Rattle.rds_names.specs.Roster.{Begins, RosterValue}
@@ -89,12 +89,11 @@ line_raises line bytes before after answer met = elim met [
 
 lines_raise : (count : ℕ) (lines : List (List ℕ)) (before after : ReplicaValue) (answers : List Reply) → EditsLinesBehind count lines before after answers → Raises before after
 lines_raise count [] before after answers edits = raises_self before after edits.0
-lines_raise count (bytes ∷ lines) before after answers edits = of (is_empty_line bytes) edits
+lines_raise count (bytes ∷ lines) before after answers edits = of (is_empty_line bytes) (lines_raise (count + 1) lines) edits
   where
-    of : (b : Bool) → EditsNext b (count + 1) bytes (EditsLinesBehind (count + 1) lines) before after answers → Raises before after
-    of true later = lines_raise (count + 1) lines before after answers later
-    of false first =
-        raises_then before first.next after (line_raises (count + 1) bytes before first.next first.answer first.met) (lines_raise (count + 1) lines first.next after first.rest first.later)
+    of : (b : Bool) → ((first last : ReplicaValue) (told : List Reply) → EditsLinesBehind (count + 1) lines first last told → Raises first last) → EditsNext b (count + 1) bytes (EditsLinesBehind (count + 1) lines) before after answers → Raises before after
+    of true later_raise later = later_raise before after answers later
+    of false later_raise first = raises_then before first.next after (line_raises (count + 1) bytes before first.next first.answer first.met) (later_raise first.next after first.rest first.later)
 
 -- a later life or number, joined into an earlier one, is what comes of it
 later_life : (x y : Option Life) → IsNoLater x y → join_life x y ≡ y
