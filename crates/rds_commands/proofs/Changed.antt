@@ -20,7 +20,7 @@ use Rattle.rds_state.proofs.Nothing.{joins_nothing}
 use Rattle.rds_state.proofs.JoinLaws.{above_left, reflexive, same_coordinates, transitive}
 use Rattle.rds_state.proofs.MadeLemmas.{made_is}
 use Rattle.rds_delta.specs.Least.{least}
-use Rattle.rds_delta.specs.Ranks.{ranks}
+use Rattle.rds_delta.specs.Ranks.{Ranks, ranks}
 use Rattle.rds_delta.proofs.Exchanges.{least_fits}
 use Rattle.rds_delta.proofs.LeastLaws.{grown_delta}
 use Rattle.rds_keep.specs.Changes.{ChangeValue, IsChanged}
@@ -110,6 +110,12 @@ greater_number x y h = omega (arith, h)
 
 join_above : (a b : Coordinates) → AtMost a b → join a b ≡ b
 join_above a b h = same_coordinates (join a b) b (λ d. later_life (a.life d) (b.life d) (h.lives d)) (λ q. greater_number (a.number q) (b.number q) (h.numbers q))
+
+-- the least delta of a state, against the ranks that a digest of another has
+pub least_against : (after before now was : StateValue) (delta : Coordinates) (seen : Ranks) → delta ≡ least (coordinates now) seen → seen ≡ ranks (coordinates was) → now ≡ after → was ≡ before
+    → delta ≡ least (coordinates after) (ranks (coordinates before))
+least_against after before now was delta seen is of same first =
+    is ∙ ap (least (coordinates now)) of ∙ ap (λ (s : StateValue). least (coordinates s) (ranks (coordinates was))) same ∙ ap (λ (s : StateValue). least (coordinates after) (ranks (coordinates s))) first
 
 -- the least delta of what lines left against what was there before is what they changed
 pub lines_changed : (lines : List (List ℕ)) (before after : ReplicaValue) (answers : List Reply) (delta : StateValue) → EditsLines lines before after answers
