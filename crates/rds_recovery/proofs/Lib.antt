@@ -1,0 +1,6 @@
+mod BrokenOff
+mod EventsOf
+mod Model
+mod OneChange
+mod Outlasting
+mod ReadingOn

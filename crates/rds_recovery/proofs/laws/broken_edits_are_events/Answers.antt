@@ -1,0 +1,8 @@
+use Rattle.rds_recovery.proofs.EventsOf.{edit_is_events, edits_are_events}
+use Rattle.rds_recovery.proofs.laws.broken_edits_are_events.Goals as goal
+
+pub returns-clause-edit : goal.returns-clause-edit
+returns-clause-edit c = edit_is_events
+
+pub returns-clause-edits : goal.returns-clause-edits
+returns-clause-edits c = edits_are_events
