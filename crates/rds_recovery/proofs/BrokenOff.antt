@@ -10,7 +10,7 @@ use Rattle.rds_keep.specs.Changed.{ChangedValue, IsRecordOf}
 use Rattle.rds_keep.specs.Changes.{ChangeValue, change_text}
 use Rattle.rds_keep.specs.Kept.{AreMade, IsStored, records_text}
 use Rattle.rds_keep.specs.declared.layout.Layout.{Layout}
-use Rattle.rds_recovery.specs.Recovery.{FrontsAreNoOthers, IsBrokenOff, IsNoOther, KeepsUpTo, NoneIsMadeUp, TearsAreNoOthers}
+use Rattle.rds_recovery.specs.Recovery.{InOrderIsNoOther, IsBrokenOff, IsNoOther, KeepsUpTo, NoneIsMadeUp, TornIsNoOther}
 use Rattle.rds_recovery.proofs.ReadingOn.{ends_there, first_record, read_on, redone_once, same_first, whole_front}
 
 nothing_begun : IsBegun [] → ⊥
@@ -44,7 +44,7 @@ none_made_up file change layout left found stored is broken read =
 -- ---- where no other record stands
 
 -- no record begins in a beginning of a torn end
-begun_further : (bytes more : List ℕ) → IsBegun bytes → IsBegun (bytes ++ more)
+abbrev begun_further : (bytes more : List ℕ) → IsBegun bytes → IsBegun (bytes ++ more)
 begun_further bytes more begun = (begun.0, begun.1 ++ more, begun.2, ap (λ (t : List ℕ). t ++ more) begun.3 ∙ append_assoc (record_text begun.0) begun.1 more)
 
 none_in_torn : (torn : List ℕ) (n : ℕ) → IsTorn torn → IsBegun (take n torn) → ⊥
@@ -105,8 +105,8 @@ module _ (file : List ℕ) (v : ReplicaValue) (layout : Layout) (stored : IsStor
   is_written : (bytes left : List ℕ) → left ≡ appended file layout.whole bytes → IsBrokenOff file layout.whole bytes left
   is_written bytes left is = written_part bytes left bytes is (λ begun. ([], sym (append-nil bytes), nothing_begun))
 
-pub fronts_no_others : (file : List ℕ) (change : ChangedValue) (layout : Layout) (left : List ℕ) → FrontsAreNoOthers file change layout left
-fronts_no_others file change layout left stored is how = elim how [
+pub in_order_no_other : (file : List ℕ) (change : ChangedValue) (layout : Layout) (left : List ℕ) → InOrderIsNoOther file change layout left
+in_order_no_other file change layout left stored is how = elim how [
   | inl part ↦ is_unwritten file change.before layout stored change.bytes left (change_text change.before.own is.change) is.bytes is.payload part
   | inr all ↦ is_written file change.before layout stored change.bytes left all
 ]
@@ -126,8 +126,8 @@ none_behind end bytes left rest short parts begun =
     let none : length rest ≡ 0 = (let same = ap length parts in omega (arith, short, same, length-drop end left, length-append bytes rest)) in
     nothing_begun (subst IsBegun (nil_from_length rest none) begun)
 
-pub tears_no_others : (file : List ℕ) (change : ChangedValue) (layout : Layout) (left : List ℕ) → TearsAreNoOthers file change layout left
-tears_no_others file change layout left stored leaves one = record { front = leaves.front; no_other = none leaves.behind }
+pub torn_no_other : (file : List ℕ) (change : ChangedValue) (layout : Layout) (left : List ℕ) → TornIsNoOther file change layout left
+torn_no_other file change layout left stored leaves one = record { front = leaves.front; no_other = none leaves.behind }
   where
     none : (take (length left) file ≡ left) ⊎ (length left ≤ layout.whole + length change.bytes) → IsNoOther change.bytes (drop layout.whole left)
     none (inl back) begun = absurd (none_left file change.before layout left stored back begun)

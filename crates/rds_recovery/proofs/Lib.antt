@@ -1,3 +1,4 @@
+mod AtAnyMoment
 mod BrokenOff
 mod EventsOf
 mod Model

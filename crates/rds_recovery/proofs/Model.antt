@@ -1,4 +1,4 @@
--- What edits do to a world, and what ends them.
+-- What edits do to a world, and what ends changes.
 use Rattle.std.proofs.Common.{◌≡◌, ◌≢◌, ◌<◌, ◌∙◌, ℕ, Bool, true, List, [], ◌∷◌, ◌++◌, length, ltb, map, refl, sym, ap, subst}
 use Rattle.std.proofs.lemmas.Bool.{lt-ltb}
 use Rattle.rds_names.specs.Roster.{RosterValue}
@@ -10,12 +10,14 @@ use Rattle.rds_world.specs.World.{World, Happening, Of, Accepted, after, after_e
 use Rattle.rds_world.specs.declared.event.Event.TheVariants.{Crash, Edit, Save}
 use Rattle.rds_world.proofs.Runs.{accepted_on, run_on}
 use Rattle.rds_world.proofs.Tables.{put_here, put_there}
-use Rattle.rds_recovery.specs.Events.{AreEdits, IsEdited, IsKeptIn, edit_events}
+use Rattle.rds_recovery.specs.Events.{AreDone, IsKeptIn, IsMadeBy, LeadsTo, MakeInMemory}
 
-abbrev edits : ℕ → List Command → List Happening
+-- ---- edits
+
+abbrev pub edits : ℕ → List Command → List Happening
 edits r commands = map (λ c. Of (Edit r c)) commands
 
--- the one replica's memory has come to this state, and all that is kept is as it was
+-- the one replica's memory has come to this state, and all else is as it was
 record Edits (w u : World) (r : ℕ) (b : Coordinates) : Type 0 where
   replicas : u.replicas ≡ w.replicas
   names : u.memory_names r ≡ w.memory_names r
@@ -23,97 +25,98 @@ record Edits (w u : World) (r : ℕ) (b : Coordinates) : Type 0 where
   kept : u.kept ≡ w.kept
   kept_names : u.kept_names ≡ w.kept_names
 
-edits_run : (commands : List Command) (w : World) (r : ℕ) (b : Coordinates) → r < w.replicas → AreEdits r (w.memory r) commands b → Accepted (edits r commands) w × Edits w (run (edits r commands) w) r b
+edits_run : (commands : List Command) (w : World) (r : ℕ) (b : Coordinates) → r < w.replicas → AreDone r (w.memory r) commands b → Accepted (edits r commands) w × Edits w (run (edits r commands) w) r b
 edits_run [] w r b there same = (tt, record { replicas = refl; names = refl; state = sym same; kept = refl; kept_names = refl })
-edits_run (c ∷ commands) w r b there made =
+edits_run (c ∷ commands) w r b there done =
     let w1 : World = after w (Edit r c) in
     let now : w1.memory r ≡ after_edit (w.memory r) r c = put_here w.memory r (after_edit (w.memory r) r c) in
     let test : ltb r w.replicas ≡ true = lt-ltb _ _ there in
-    let later = edits_run commands w1 r b there (subst (λ (a : Coordinates). AreEdits r a commands b) (sym now) made.1) in
+    let later = edits_run commands w1 r b there (subst (λ (a : Coordinates). AreDone r a commands b) (sym now) done.1) in
     let its = later.1 in
-    ((rw test made.0, later.0), record { replicas = its.replicas; names = its.names; state = its.state; kept = its.kept; kept_names = its.kept_names })
+    ((rw test done.0, later.0), record { replicas = its.replicas; names = its.names; state = its.state; kept = its.kept; kept_names = its.kept_names })
 
--- ---- a file is read and its replica edited
-
--- the world has then the replica after the edits in memory, and has kept what it had
-pub record Edited (w u : World) (r : ℕ) (v : ReplicaValue) : Type 0 where
-  pub there : r < u.replicas
-  pub names : u.memory_names r ≡ length v.roster.names
-  pub state : u.memory r ≡ coordinates v.state
-  pub replicas : u.replicas ≡ w.replicas
-  pub kept : u.kept ≡ w.kept
-  pub kept_names : u.kept_names ≡ w.kept_names
-
-pub begun : ℕ → List Command → World → World
-begun r commands w = run (edits r commands) (after w (Crash r))
-
-abbrev starts : (w : World) (before : ReplicaValue) (commands : List Command) (v : ReplicaValue) → IsKeptIn w before → IsEdited before commands v → Accepted (edits before.own commands) (after w (Crash before.own)) × Edits (after w (Crash before.own)) (begun before.own commands w) before.own (coordinates v.state)
-starts w before commands v keeps edited =
+pub edits_make : (w : World) (before : ReplicaValue) (commands : List Command) (v : ReplicaValue) → IsKeptIn w before → IsMadeBy before commands v → MakeInMemory (after w (Crash before.own)) (edits before.own commands) v
+edits_make w before commands v keeps made =
     let r : ℕ = before.own in
     let w0 : World = after w (Crash r) in
+    let u : World = run (edits r commands) w0 in
     let read : w0.memory r ≡ coordinates before.state = put_here w.memory r (w.kept r) ∙ keeps.state in
-    edits_run commands w0 r (coordinates v.state) keeps.there (subst (λ (a : Coordinates). AreEdits r a commands (coordinates v.state)) (sym read) edited.edits)
-
-pub is_edited : (w : World) (before : ReplicaValue) (commands : List Command) (v : ReplicaValue) → IsKeptIn w before → IsEdited before commands v → Edited w (begun before.own commands w) before.own v
-is_edited w before commands v keeps edited =
-    let r : ℕ = before.own in
-    let its = (starts w before commands v keeps edited).1 in
+    let all = edits_run commands w0 r (coordinates v.state) keeps.there (subst (λ (a : Coordinates). AreDone r a commands (coordinates v.state)) (sym read) made.done) in
+    let its = all.1 in
     record {
-      there = subst (λ (n : ℕ). r < n) (sym its.replicas) keeps.there;
-      names = its.names ∙ put_here w.memory_names r (w.kept_names r) ∙ keeps.names ∙ ap (λ (s : RosterValue). length s.names) (sym edited.roster);
-      state = its.state;
+      accepted = all.0;
       replicas = its.replicas;
+      names = ap u.memory_names made.own ∙ its.names ∙ put_here w.memory_names r (w.kept_names r) ∙ keeps.names ∙ ap (λ (s : RosterValue). length s.names) (sym made.roster);
+      state = ap u.memory made.own ∙ its.state;
       kept = its.kept;
       kept_names = its.kept_names;
     }
 
+-- ---- how changes end
+
 -- what comes behind is accepted there, and leads where it leads
-pub ends_so : (w : World) (before : ReplicaValue) (commands : List Command) (v : ReplicaValue) (ending : List Happening) → IsKeptIn w before → IsEdited before commands v → Accepted ending (begun before.own commands w)
-    → Accepted (edit_events before.own commands ending) w × (run (edit_events before.own commands ending) w ≡ run ending (begun before.own commands w))
-ends_so w before commands v ending keeps edited accepted =
-    let r : ℕ = before.own in
-    let w0 : World = after w (Crash r) in
-    let test : ltb r w.replicas ≡ true = lt-ltb _ _ keeps.there in
-    let its = (starts w before commands v keeps edited).0 in
-    ((rw test refl, (accepted_on (edits r commands) ending w0).1 (its, accepted)), run_on (edits r commands) ending w0)
+module _ (w : World) (before : ReplicaValue) (events : List Happening) (keeps : IsKeptIn w before) (accepted : Accepted events (after w (Crash before.own))) where
+  abbrev r : ℕ
+  r = before.own
 
--- ---- how it ends
+  abbrev w0 : World
+  w0 = after w (Crash before.own)
 
--- the replica with this number has kept this, and the others what they had
-pub record Keeps (w u : World) (r : ℕ) (v : ReplicaValue) : Type 0 where
-  pub there : r < u.replicas
-  pub names : u.kept_names r ≡ length v.roster.names
-  pub state : u.kept r ≡ coordinates v.state
-  pub others : (s : ℕ) → s ≢ r → u.kept s ≡ w.kept s
+  abbrev u : World
+  u = run events w0
 
-pub is_kept_in : (w u : World) (r : ℕ) (v : ReplicaValue) → Keeps w u r v → v.own ≡ r → IsKeptIn u v
-is_kept_in w u r v keeps own = record {
-  there = subst (λ (n : ℕ). n < u.replicas) (sym own) keeps.there;
-  names = ap u.kept_names own ∙ keeps.names;
-  state = ap u.kept own ∙ keeps.state;
-}
+  abbrev all : List Happening → List Happening
+  all ending = Of (Crash r) ∷ (events ++ ending)
 
-module _ (w u : World) (r : ℕ) (v : ReplicaValue) (edited : Edited w u r v) where
-  test : ltb r u.replicas ≡ true
-  test = lt-ltb _ _ edited.there
+  leads : (ending : List Happening) (v : ReplicaValue) → Accepted ending u → IsKeptIn (run ending u) v → ((s : ℕ) → s ≢ v.own → (run ending u).kept s ≡ w.kept s) → LeadsTo w (all ending) v
+  leads ending v ends kept others =
+      let test : ltb r w.replicas ≡ true = lt-ltb _ _ keeps.there in
+      let same : run (all ending) w ≡ run ending u = run_on events ending w0 in
+      record {
+        accepted = (rw test refl, (accepted_on events ending w0).1 (accepted, ends));
+        kept = subst (λ (x : World). IsKeptIn x v) (sym same) kept;
+        others = λ s other. ap (λ (x : World). x.kept s) same ∙ others s other;
+      }
 
-  pub saved : Accepted (Of (Save r) ∷ []) u × Keeps w (run (Of (Save r) ∷ []) u) r v
-  saved = ((rw test refl, tt), record {
-    there = edited.there;
-    names = put_here u.kept_names r (u.memory_names r) ∙ edited.names;
-    state = put_here u.kept r (u.memory r) ∙ edited.state;
-    others = λ s other. put_there u.kept r (u.memory r) s other ∙ ap (λ (f : ℕ → Coordinates). f s) edited.kept;
-  })
+module _ (w : World) (before after_it : ReplicaValue) (events : List Happening) (keeps : IsKeptIn w before) (own : after_it.own ≡ before.own) (made : MakeInMemory (after w (Crash before.own)) events after_it) where
+  abbrev mid : World
+  mid = run events (after w (Crash before.own))
 
-  pub found : Accepted (Of (Save r) ∷ Of (Crash r) ∷ []) u × Keeps w (run (Of (Save r) ∷ Of (Crash r) ∷ []) u) r v
+  replicas : mid.replicas ≡ w.replicas
+  replicas = made.replicas
+
+  there : before.own < mid.replicas
+  there = subst (λ (n : ℕ). before.own < n) (sym replicas) keeps.there
+
+  test : ltb before.own mid.replicas ≡ true
+  test = lt-ltb _ _ there
+
+  abbrev saved_world : World
+  saved_world = after mid (Save before.own)
+
+  saved_there : IsKeptIn saved_world after_it
+  saved_there = record {
+    there = subst (λ (n : ℕ). n < mid.replicas) (sym own) there;
+    names = ap saved_world.kept_names own ∙ put_here mid.kept_names before.own (mid.memory_names before.own) ∙ ap mid.memory_names (sym own) ∙ made.names;
+    state = ap saved_world.kept own ∙ put_here mid.kept before.own (mid.memory before.own) ∙ ap mid.memory (sym own) ∙ made.state;
+  }
+
+  saved_others : (s : ℕ) → s ≢ after_it.own → saved_world.kept s ≡ w.kept s
+  saved_others s other = put_there mid.kept before.own (mid.memory before.own) s (λ same. other (same ∙ sym own)) ∙ ap (λ (f : ℕ → Coordinates). f s) made.kept
+
+  -- acknowledged
+  pub saved : LeadsTo w (Of (Crash before.own) ∷ (events ++ Of (Save before.own) ∷ [])) after_it
+  saved = leads w before events keeps made.accepted (Of (Save before.own) ∷ []) after_it (rw test refl, tt) saved_there saved_others
+
+  -- there, though it wasn't
+  pub found : LeadsTo w (Of (Crash before.own) ∷ (events ++ Of (Save before.own) ∷ Of (Crash before.own) ∷ [])) after_it
   found =
-      let s = saved in
-      ((rw test refl, (rw test refl, tt)), record { there = s.1.there; names = s.1.names; state = s.1.state; others = s.1.others })
+      leads w before events keeps made.accepted (Of (Save before.own) ∷ Of (Crash before.own) ∷ []) after_it (rw test refl, (rw test refl, tt))
+      (record { there = saved_there.there; names = saved_there.names; state = saved_there.state }) saved_others
 
-  pub lost : (before : ReplicaValue) → before.own ≡ r → IsKeptIn w before → Accepted (Of (Crash r) ∷ []) u × Keeps w (run (Of (Crash r) ∷ []) u) r before
-  lost before own keeps = ((rw test refl, tt), record {
-    there = edited.there;
-    names = ap (λ (f : ℕ → ℕ). f r) edited.kept_names ∙ ap w.kept_names (sym own) ∙ keeps.names;
-    state = ap (λ (f : ℕ → Coordinates). f r) edited.kept ∙ ap w.kept (sym own) ∙ keeps.state;
-    others = λ s other. ap (λ (f : ℕ → Coordinates). f s) edited.kept;
-  })
+  -- gone
+  pub lost : LeadsTo w (Of (Crash before.own) ∷ (events ++ Of (Crash before.own) ∷ [])) before
+  lost =
+      leads w before events keeps made.accepted (Of (Crash before.own) ∷ []) before (rw test refl, tt)
+      (record { there = there; names = ap (λ (f : ℕ → ℕ). f before.own) made.kept_names ∙ keeps.names; state = ap (λ (f : ℕ → Coordinates). f before.own) made.kept ∙ keeps.state })
+      (λ s other. ap (λ (f : ℕ → Coordinates). f s) made.kept)

@@ -17,11 +17,11 @@ use Rattle.rds_codec.proofs.Whole.{stand_apart}
 use Rattle.rds_state.specs.Value.{StateValue}
 use Rattle.rds_keep.specs.Changes.{ChangeValue, IsChangeFor, change_text}
 
-head_of : List ℕ → ℕ
+abbrev head_of : List ℕ → ℕ
 head_of [] = 0
 head_of (b ∷ bytes) = b
 
-tail_of : List ℕ → List ℕ
+abbrev tail_of : List ℕ → List ℕ
 tail_of [] = []
 tail_of (b ∷ bytes) = bytes
 

@@ -1,5 +1,5 @@
 -- What a whole file begins is read as its replica, and on from there.
-use Rattle.std.proofs.Common.{◌≡◌, ℕ, ◌≤◌, List, [], ◌∷◌, ◌++◌, length, take, drop, Result, Ok, refl, sym, ap, ◌∙◌, subst, arith, append_assoc, take-append-drop}
+use Rattle.std.proofs.Common.{◌≡◌, ℕ, ◌≤◌, List, [], ◌∷◌, ◌++◌, length, take, drop, Result, Ok, refl, sym, ap, ◌∙◌, subst, arith, append_assoc, append-nil, take-append-drop}
 use Rattle.std.proofs.lemmas.List.{take_at}
 use Rattle.rds_names.specs.declared.fault.Fault.{Fault}
 use Rattle.rds_names.specs.Roster.{RosterValue, Begins}
@@ -17,7 +17,7 @@ use Rattle.rds_journal.proofs.Format.{record_format}
 use Rattle.rds_keep.specs.Changes.{ChangeValue, IsChanged, IsRedone, change_text}
 use Rattle.rds_keep.specs.Kept.{AreMade, EndsAs, IsFile, IsStored, records_text}
 use Rattle.rds_keep.specs.declared.layout.Layout.{Layout}
-use Rattle.rds_recovery.specs.Recovery.{Holds, HoldOne, IsGrown, KeepsUpTo}
+use Rattle.rds_recovery.specs.Recovery.{Holds, HoldsOne, IsGrown, KeepsUpTo}
 use Rattle.rds_recovery.proofs.OneChange.{same_change}
 
 -- ---- the same replica later on
@@ -131,7 +131,7 @@ ends_torn v bytes w (c ∷ changes) torn made parts none =
 pub ends_there : (v : ReplicaValue) (bytes : List ℕ) (w : ReplicaValue) → EndsAs v bytes w → (IsBegun bytes → ⊥) → v ≡ w
 ends_there v bytes w ends none = ends_torn v bytes w ends.changes ends.torn ends.made ends.parts none
 
-pub hold_one : (file : List ℕ) → HoldOne file
+pub hold_one : (file : List ℕ) → HoldsOne file
 hold_one file v w one other =
     let stored = one.1 in
     let ends = file_on stored.whole stored.torn one.0.format one.0.snapshot v w other.0 stored.file (subst (λ (t : List ℕ). IsStored t w other.0) stored.parts other.1) in

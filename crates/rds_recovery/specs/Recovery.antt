@@ -16,7 +16,11 @@ use Rattle.rds_keep.specs.declared.layout.Layout.{Layout}
 abbrev pub Holds : List ℕ → ReplicaValue → Type 0
 Holds file v = (layout : Layout) × IsStored file v layout
 
--- the same replica later on: names may have come behind its own, and it has all of the state
+-- a file is read as one replica
+abbrev pub HoldsOne : List ℕ → Type 0
+HoldsOne file = (v w : ReplicaValue) → Holds file v → Holds file w → v ≡ w
+
+-- the same replica later on: it has all of the state, and there may be names behind its own
 pub record IsGrown (old new : ReplicaValue) : Type 0 where
   pub roster : Begins old.roster new.roster
   pub own : new.own ≡ old.own
@@ -28,20 +32,20 @@ KeepsUpTo end old new = take end new ≡ take end old
 
 -- ---- changes, one after the other
 
--- a change that was appended, the layout that was read, whether it was acknowledged, and the file that is there then
+-- a change that was appended to a file of this layout, whether it was acknowledged, and the file that is there then
 pub record Append : Type 0 where
   pub change : ChangedValue
   pub layout : Layout
   pub is_kept : Bool
   pub left : List ℕ
 
--- What it leaves: where it was acknowledged, the replica after the change. Else whatever a crash leaves, which is up to
--- the end of the whole records what was there; or the replica after the change, which a crash may take away.
+-- What is there: where it was acknowledged, the replica after the change. Else what a crash leaves, which is up to the
+-- end of the whole records what was there; or the replica after the change, though that isn't known to last.
 abbrev pub Leaves : Bool → List ℕ → Append → Type 0
 Leaves true file a = Holds a.left a.change.after
 Leaves false file a = KeepsUpTo a.layout.whole file a.left ⊎ Holds a.left a.change.after
 
--- the file was read, and its replica's change appended
+-- a file was read, and a change of its replica appended
 pub record IsAppend (file : List ℕ) (a : Append) : Type 0 where
   pub read : IsStored file a.change.before a.layout
   pub delta : ChangeValue
@@ -57,47 +61,48 @@ abbrev pub last_left : List ℕ → List Append → List ℕ
 last_left file [] = file
 last_left file (a ∷ appends) = last_left a.left appends
 
--- what is read at the end has all that was there at first, and all that was acknowledged
+-- it has all that was there at first, and all that was acknowledged
 pub record HasAll (first : ReplicaValue) (appends : List Append) (found : ReplicaValue) : Type 0 where
   pub before : IsGrown first found
   pub acknowledged : AllByRecursion (λ a. a.is_kept ≡ true → IsGrown a.change.after found) appends
 
+-- what is read at the end
 abbrev pub NoneIsLost : List ℕ → List Append → Type 0
 NoneIsLost file appends =
-    (first found : ReplicaValue) → Holds file first → AreAppends file appends → Holds (last_left file appends) found → HasAll first appends found
+    (first found : ReplicaValue) → Holds file first → AreAppends file appends → Holds (last_left file appends) found
+    → HasAll first appends found
 
 -- ---- one change that was broken off
 
--- A record that seems to stand at the end of the whole ones is the one that was appended, and none stands behind it: no
--- other bytes are a record by chance.
+-- A whole record behind the others is the one that was appended, and none stands behind it: nothing else there is a
+-- record by chance.
 abbrev pub IsNoOther : List ℕ → List ℕ → Type 0
-IsNoOther bytes behind = IsBegun behind → (rest : List ℕ) × (behind ≡ bytes ++ rest) × (IsBegun rest → ⊥)
+IsNoOther record_bytes behind =
+    IsBegun behind → (rest : List ℕ) × (behind ≡ record_bytes ++ rest) × (IsBegun rest → ⊥)
 
--- what is there after a crash, where no other record came about
-pub record IsBrokenOff (file : List ℕ) (end : ℕ) (bytes left : List ℕ) : Type 0 where
+-- what a crash leaves, where no other record came about
+pub record IsBrokenOff (file : List ℕ) (end : ℕ) (record_bytes left : List ℕ) : Type 0 where
   pub front : KeepsUpTo end file left
-  pub no_other : IsNoOther bytes (drop end left)
+  pub no_other : IsNoOther record_bytes (drop end left)
 
--- it is the replica from before or the one after the change
+-- what is read is the replica before the change, or the one after it
 abbrev pub NoneIsMadeUp : List ℕ → ChangedValue → Layout → List ℕ → Type 0
 NoneIsMadeUp file change layout left =
-    (found : ReplicaValue) → IsStored file change.before layout → IsRecordOf change → IsBrokenOff file layout.whole change.bytes left
-    → Holds left found → (found ≡ change.before) ⊎ (found ≡ change.after)
+    (found : ReplicaValue) → IsStored file change.before layout → IsRecordOf change
+    → IsBrokenOff file layout.whole change.bytes left → Holds left found
+    → (found ≡ change.before) ⊎ (found ≡ change.after)
 
--- so where what is written comes to the disk from its front: a beginning of what stood there or of the record, or all of it
-abbrev pub FrontsAreNoOthers : List ℕ → ChangedValue → Layout → List ℕ → Type 0
-FrontsAreNoOthers file change layout left =
+-- No other record comes about where bytes come to the disk in their order: then a beginning of what stood there is left,
+-- or a beginning of the record, or all of it.
+abbrev pub InOrderIsNoOther : List ℕ → ChangedValue → Layout → List ℕ → Type 0
+InOrderIsNoOther file change layout left =
     IsStored file change.before layout → IsRecordOf change
     → IsUnwritten file layout.whole change.bytes (Some left) ⊎ (left ≡ appended file layout.whole change.bytes)
     → IsBrokenOff file layout.whole change.bytes left
 
--- and where it tears, if what seems a record there is the one
-abbrev pub TearsAreNoOthers : List ℕ → ChangedValue → Layout → List ℕ → Type 0
-TearsAreNoOthers file change layout left =
+-- Where they come in any order, it wants no more than that a whole record behind the others is the one.
+abbrev pub TornIsNoOther : List ℕ → ChangedValue → Layout → List ℕ → Type 0
+TornIsNoOther file change layout left =
     IsStored file change.before layout → LeavesEnd file layout.whole (length change.bytes) left
     → (IsBegun (drop layout.whole left) → (rest : List ℕ) × (drop layout.whole left ≡ change.bytes ++ rest))
     → IsBrokenOff file layout.whole change.bytes left
-
--- bytes are read as one replica
-abbrev pub HoldOne : List ℕ → Type 0
-HoldOne file = (v w : ReplicaValue) → Holds file v → Holds file w → v ≡ w

@@ -1,5 +1,8 @@
-use Rattle.rds_recovery.proofs.EventsOf.{edit_is_events, edits_are_events}
+use Rattle.rds_recovery.proofs.EventsOf.{change_is_events, edit_is_events, edits_are_events}
 use Rattle.rds_recovery.proofs.laws.broken_edits_are_events.Goals as goal
+
+pub returns-clause-change : goal.returns-clause-change
+returns-clause-change c = change_is_events
 
 pub returns-clause-edit : goal.returns-clause-edit
 returns-clause-edit c = edit_is_events
