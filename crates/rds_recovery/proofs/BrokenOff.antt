@@ -8,10 +8,11 @@ use Rattle.rds_journal.specs.Records.{IsBegun, IsPayload, IsTorn, record_text}
 use Rattle.rds_journal.proofs.Format.{no_text}
 use Rattle.rds_keep.specs.Changed.{ChangedValue, IsRecordOf}
 use Rattle.rds_keep.specs.Changes.{ChangeValue, change_text}
-use Rattle.rds_keep.specs.Kept.{AreMade, IsStored, records_text}
+use Rattle.rds_keep.specs.Kept.{AreMade, EndsAs, IsStored, records_text}
 use Rattle.rds_keep.specs.declared.layout.Layout.{Layout}
 use Rattle.rds_recovery.specs.Recovery.{InOrderIsNoOther, IsBrokenOff, IsNoOther, KeepsUpTo, NoneIsMadeUp, TornIsNoOther}
-use Rattle.rds_recovery.proofs.ReadingOn.{ends_there, first_record, read_on, redone_once, same_first, whole_front}
+use Rattle.rds_keep.proofs.Chains.{ends_behind, same_first}
+use Rattle.rds_recovery.proofs.ReadingOn.{ends_there, read_on, whole_front}
 
 nothing_begun : IsBegun [] → ⊥
 nothing_begun begun = no_text begun.0 begun.1 begun.3
@@ -19,27 +20,21 @@ nothing_begun begun = no_text begun.0 begun.1 begun.3
 -- ---- what is read
 
 -- behind the one record stands no other
-ends_by : (change : ChangedValue) (behind : List ℕ) (found : ReplicaValue) (changes : List ChangeValue) (torn : List ℕ) → IsRecordOf change → IsNoOther change.bytes behind
+ends_by : (change : ChangedValue) (behind : List ℕ) (found : ReplicaValue) (changes : List ChangeValue) (torn : List ℕ) → IsRecordOf change → IsNoOther change.bytes behind → EndsAs change.before behind found
     → AreMade change.before changes found → behind ≡ records_text change.before.own changes ++ torn → (found ≡ change.before) ⊎ (found ≡ change.after)
-ends_by change behind found [] torn is none made parts = inl (sym made)
-ends_by change behind found (c ∷ changes) torn is none made parts =
+ends_by change behind found [] torn is none ends made parts = inl (sym made)
+ends_by change behind found (c ∷ changes) torn is none ends made parts =
     let own = change.before.own in
-    let text = parts ∙ first_record own c changes torn in
-    let one = none (change_text own c, records_text own changes ++ torn, made.2, text) in
-    let same = same_first (change_text own is.change) one.0 (change_text own c) (records_text own changes ++ torn) is.payload made.2
-        (ap (λ (t : List ℕ). t ++ one.0) (sym is.bytes) ∙ sym one.1 ∙ text) in
-    let after : change.after ≡ made.0 = redone_once change.before is.change c change.after made.0 is.redone made.1 is.payload same.0 in
-    let numbered : one.0 ≡ records_text made.0.own changes ++ torn = same.1 ∙ ap (λ (n : ℕ). records_text n changes ++ torn) (sym made.1.changed.own) in
-    inr (sym (after ∙ last made.0 changes made.3 one.0 numbered one.2))
-  where
-    last : (v : ReplicaValue) (rest : List ChangeValue) → AreMade v rest found → (bytes : List ℕ) → bytes ≡ records_text v.own rest ++ torn → (IsBegun bytes → ⊥) → v ≡ found
-    last v [] made bytes parts none = made
-    last v (d ∷ rest) made bytes parts none = absurd (none (change_text v.own d, records_text v.own rest ++ torn, made.2, parts ∙ first_record v.own d rest torn))
+    let text = change_text own is.change in
+    let one = none (change_text own c, records_text own changes ++ torn, made.2, parts ∙ append_assoc (record_text (change_text own c)) (records_text own changes) torn) in
+    let here : behind ≡ record_text text ++ one.0 = one.1 ∙ ap (λ (t : List ℕ). t ++ one.0) is.bytes in
+    let on = ends_behind change.before text one.0 is.change change.after found is.payload refl is.redone (subst (λ (t : List ℕ). EndsAs change.before t found) here ends) in
+    inr (sym (ends_there change.after one.0 found on one.2))
 
 pub none_made_up : (file : List ℕ) (change : ChangedValue) (layout : Layout) (left : List ℕ) → NoneIsMadeUp file change layout left
 none_made_up file change layout left found stored is broken read =
     let ends = read_on file left change.before found layout stored broken.front read in
-    ends_by change (drop layout.whole left) found ends.changes ends.torn is broken.no_other ends.made ends.parts
+    ends_by change (drop layout.whole left) found ends.changes ends.torn is broken.no_other ends ends.made ends.parts
 
 -- ---- where no other record stands
 

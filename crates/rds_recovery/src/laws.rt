@@ -50,9 +50,9 @@ pub fn appends_are_safe_at_any_moment<D: Device>()
 /// other record comes about. Where they come in any order, no more is wanted than that a record which stands there is
 /// the one that was appended: other bytes would have their own SHA-256 in front of them by chance.
 ///
-/// Each [`Changed`](rds_keep::Changed) is a record of its change: that is its invariant. `unwritten` of its `append`
-/// gives that bytes came in their order, and `from_rest` of [`append`](rds_journal::append) that they came in any. The
-/// function does nothing: its contract is this law.
+/// [`Changed::new`](rds_keep::Changed::new) gives `IsRecordOf` by `record`. [`append`](rds_keep::Changed::append) gives
+/// the premise of `in_order` by `unwritten`, and that of `torn` by `from_rest`. The function does nothing: its contract
+/// is this law.
 pub fn crashes_make_nothing_up()
     ensures found { (file : List ℕ) (change : ChangedValue) (layout : Layout) (left : List ℕ) →
         NoneIsMadeUp file change layout left }
@@ -62,12 +62,13 @@ pub fn crashes_make_nothing_up()
         TornIsNoOther file change layout left }
 {}
 
-/// Edits of a file that crashes broke off are events of the model of all replicas, where no other record came about. Let
-/// the model's replica have kept what is read of the file. An edit that is acknowledged is a crash of that replica, its
-/// commands and a save. One that was broken off is a crash, its commands and another crash, or these with a save before
-/// the last. What is read next is what the model's replica has kept by then, and the other replicas have kept what they
-/// had. So it is of any number of edits, and what was said of one is again the premise of the next, whatever happens to
-/// other replicas between them. So the law over every list of events holds of files that crashes left.
+/// Changes of a file that crashes broke off are events of the model of all replicas, where no other record came about.
+/// Let the model's replica have kept what is read of the file. A change that is acknowledged is a crash of that replica,
+/// the events that made the change, and a save. One that was broken off is a crash, these events and another crash, or
+/// the same with a save before the last. What is read next is what the model's replica has kept by then, and the other
+/// replicas have kept what they had. The events of an edit are those of its commands. Of any number of edits it is so,
+/// and what was said of one is again the premise of the next, whatever happens to other replicas between them. So the
+/// law over every list of events holds of files that crashes left.
 ///
 /// The premises are met as those of [`acknowledged_changes_are_never_lost`] and [`crashes_make_nothing_up`]. The
 /// function does nothing: its contract is this law.
