@@ -2,12 +2,9 @@
 use Rattle.std.proofs.Common.{◌≡◌, ◌≤◌, ◌∙◌, ℕ, List, ◌++◌, length, take, drop, sym, ap, subst, arith, take-append-drop, take-take}
 use Rattle.rds_state.specs.Fits.{ReplicaValue}
 use Rattle.rds_journal.specs.Appending.{KeepsFront}
-use Rattle.rds_journal.specs.Device.{LeavesOnly, Only}
 use Rattle.rds_journal.proofs.Moments.{weaker}
 use Rattle.rds_keep.specs.Kept.{IsFile, IsStored}
-use Rattle.rds_keep.specs.declared.layout.Layout.{Layout}
 use Rattle.rds_recovery.specs.AtAnyMoment.{HasAllOf, IsSafe, SafeIsRead, StaysSafe, SyncedIsSafe}
-use Rattle.rds_recovery.specs.Recovery.{Holds, IsGrown}
 use Rattle.rds_recovery.proofs.ReadingOn.{ends_grown, file_on, whole_front}
 
 pub synced_safe : (may_leave : List ℕ → Type 0) → SyncedIsSafe may_leave
@@ -50,5 +47,6 @@ module _ {D : Type 0} (moment : D → ℕ) (left_since : D → ℕ → List ℕ 
     where
       Left : List ℕ → Type 0
       Left c = (d : List ℕ) × may_leave old d × KeepsFront end most d c
+
       begins : (c : List ℕ) → Left c → take (length bytes) c ≡ bytes
       begins c from = still_begins bytes from.0 c end most far (safe.each from.0 from.1) from.2

@@ -1,9 +1,9 @@
 -- What is read where a crash broke off one change.
-use Rattle.std.proofs.Common.{◌≡◌, ℕ, ◌≤◌, ◌<◌, ◌+◌, ◌-◌, ◌⊎◌, inl, inr, List, [], ◌∷◌, ◌++◌, length, take, drop, Option, Some, refl, sym, ap, ◌∙◌, subst, arith, ⊎_elim, append_assoc, append-nil, take-append-drop, take-take, length-append, length-take}
+use Rattle.std.proofs.Common.{◌≡◌, ℕ, ◌≤◌, ◌<◌, ◌+◌, ◌-◌, ◌⊎◌, inl, inr, List, [], ◌∷◌, ◌++◌, length, take, drop, Some, refl, sym, ap, ◌∙◌, subst, arith, append_assoc, append-nil, take-append-drop, take-take, length-append}
 use Rattle.std.proofs.lemmas.Bool.{cases_lt}
 use Rattle.std.proofs.lemmas.List.{drop_all, drop_at, nil_from_length, take_at, drop-take, length-drop}
 use Rattle.rds_state.specs.Fits.{ReplicaValue}
-use Rattle.rds_journal.specs.Appending.{appended, IsUnwritten, LeavesEnd}
+use Rattle.rds_journal.specs.Appending.{appended, IsUnwritten}
 use Rattle.rds_journal.specs.Records.{IsBegun, IsPayload, IsTorn, record_text}
 use Rattle.rds_journal.proofs.Format.{no_text}
 use Rattle.rds_keep.specs.Changed.{ChangedValue, IsRecordOf}

@@ -1,8 +1,8 @@
 -- What was acknowledged is read for good.
-use Rattle.std.proofs.Common.{◌≡◌, ℕ, Bool, true, false, List, [], ◌∷◌, drop, sym, subst, ⊎_elim}
+use Rattle.std.proofs.Common.{◌≡◌, ℕ, Bool, true, false, List, [], ◌∷◌, drop, subst, ⊎_elim}
 use Rattle.std.specs.List.{AllByRecursion}
 use Rattle.rds_state.specs.Fits.{ReplicaValue}
-use Rattle.rds_recovery.specs.Recovery.{Append, AreAppends, Holds, HasAll, IsAppend, IsGrown, KeepsUpTo, Leaves, NoneIsLost, last_left}
+use Rattle.rds_recovery.specs.Recovery.{Append, AreAppends, Holds, IsAppend, IsGrown, KeepsUpTo, Leaves, NoneIsLost, last_left}
 use Rattle.rds_recovery.proofs.ReadingOn.{changed_grown, ends_grown, grown_on, hold_one, not_grown, read_on}
 
 -- what is read of the first file, where there is one that is read at the end
@@ -19,12 +19,16 @@ one_on kept file a next is leaves read = by kept leaves
   where
     grown : IsGrown a.change.before a.change.after
     grown = changed_grown a.change.before is.delta a.change.after is.changed
+
     done : Holds a.left a.change.after → IsGrown a.change.after next
     done holds = subst (IsGrown a.change.after) (hold_one a.left a.change.after next holds read) (not_grown a.change.after)
+
     all : Holds a.left a.change.after → IsGrown a.change.before next
     all holds = grown_on a.change.before a.change.after next grown (done holds)
+
     front : KeepsUpTo a.layout.whole file a.left → IsGrown a.change.before next
     front keeps = ends_grown a.change.before (drop a.layout.whole a.left) next (read_on file a.left a.change.before next a.layout is.read keeps read)
+
     by : (k : Bool) → Leaves k file a → Goes a k next
     by true holds = record { before = all holds; after = λ e. done holds }
     by false left = record { before = ⊎_elim front all left; after = λ e. absurd cc }

@@ -1,5 +1,5 @@
 -- What a whole file begins is read as its replica, and on from there.
-use Rattle.std.proofs.Common.{◌≡◌, ℕ, List, [], ◌∷◌, ◌++◌, take, drop, refl, sym, ap, ◌∙◌, subst, append_assoc, append-nil, take-append-drop}
+use Rattle.std.proofs.Common.{◌≡◌, ℕ, List, [], ◌∷◌, ◌++◌, take, drop, refl, sym, ap, ◌∙◌, subst, append_assoc, take-append-drop}
 use Rattle.std.proofs.lemmas.List.{take_at}
 use Rattle.rds_names.specs.Roster.{RosterValue, Begins}
 use Rattle.rds_codec.specs.FormatTexts.{snapshot_text_in}
