@@ -1,5 +1,5 @@
 -- Changes of a file that crashes broke off, as events of the model.
-use Rattle.std.proofs.Common.{◌≡◌, ◌≢◌, ◌⊎◌, inl, inr, ◌∙◌, ℕ, Bool, true, false, List, [], ◌∷◌, ◌++◌, refl, sym, ap, subst}
+use Rattle.std.proofs.Common.{◌≡◌, inl, inr, ◌∙◌, ℕ, Bool, true, false, List, [], ◌∷◌, ◌++◌, refl, sym, ap, subst}
 use Rattle.rds_state.specs.Fits.{ReplicaValue}
 use Rattle.rds_world.specs.World.{World, Happening, Of, after, run}
 use Rattle.rds_world.specs.declared.event.Event.TheVariants.{Crash, Save}
