@@ -4,8 +4,9 @@ use Rattle.rds_state.specs.Fits.{ReplicaValue}
 use Rattle.rds_journal.specs.Appending.{KeepsFront}
 use Rattle.rds_journal.proofs.Moments.{weaker}
 use Rattle.rds_keep.specs.Kept.{IsFile, IsStored}
-use Rattle.rds_recovery.specs.AtAnyMoment.{HasAllOf, IsSafe, SafeIsRead, StaysSafe, SyncedIsSafe}
+use Rattle.rds_recovery.specs.AtAnyMoment.{HasAllOf, IsSafe, SafeIsRead, SafeIsWithin, StaysSafe, SyncedIsSafe}
 use Rattle.rds_recovery.proofs.ReadingOn.{ends_grown, file_on, whole_front}
+use Rattle.rds_recovery.proofs.WholeWithin.{whole_within}
 
 pub synced_safe : (may_leave : List ℕ → Type 0) → SyncedIsSafe may_leave
 synced_safe may_leave file v layout only stored =
@@ -27,6 +28,11 @@ begins_read v bytes may_leave safe c begins found holds =
 
 pub safe_read : (may_leave : List ℕ → Type 0) → SafeIsRead may_leave
 safe_read may_leave v bytes safe c left = begins_read v bytes may_leave safe c (safe.each c left)
+
+pub safe_within : (may_leave : List ℕ → Type 0) → SafeIsWithin may_leave
+safe_within may_leave v found bytes file layout safe begins read =
+    let parts : file ≡ bytes ++ drop (length bytes) file = sym (take-append-drop (length bytes) file) ∙ ap (λ (t : List ℕ). t ++ drop (length bytes) file) begins in
+    whole_within bytes (drop (length bytes) file) safe.format safe.snapshot v found layout safe.file (subst (λ (t : List ℕ). IsStored t found layout) parts read)
 
 still_begins : (bytes old new : List ℕ) (end most : ℕ) → length bytes ≤ end → take (length bytes) old ≡ bytes → KeepsFront end most old new → take (length bytes) new ≡ bytes
 still_begins bytes old new end most far begins keeps =

@@ -4,3 +4,4 @@ mod EventsOf
 mod Model
 mod Outlasting
 mod ReadingOn
+mod WholeWithin

@@ -30,7 +30,13 @@ abbrev pub SafeIsRead : (List ℕ → Type 0) → Type 0
 SafeIsRead may_leave =
     (v : ReplicaValue) (bytes : List ℕ) → IsSafe v bytes may_leave → (c : List ℕ) → may_leave c → HasAllOf v c
 
--- and so it does at any moment of an append that comes no further to the front, done or failed, and after it
+-- the whole records of a file that begins with these bytes end no further to the front
+abbrev pub SafeIsWithin : (List ℕ → Type 0) → Type 0
+SafeIsWithin may_leave =
+    (v found : ReplicaValue) (bytes file : List ℕ) (layout : Layout) → IsSafe v bytes may_leave
+    → take (length bytes) file ≡ bytes → IsStored file found layout → length bytes ≤ layout.whole
+
+-- it stays safe at any moment of an append behind it, done or failed, and after it
 abbrev pub StaysSafe : {D : Type 0} → (D → ℕ) → (D → ℕ → List ℕ → Type 0) → (D → List ℕ → Type 0) → D → D → Type 0
 StaysSafe moment left_since may_leave old new =
     (v : ReplicaValue) (bytes : List ℕ) (end most : ℕ) → IsSafe v bytes (may_leave old) → length bytes ≤ end

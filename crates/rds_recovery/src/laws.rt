@@ -2,7 +2,7 @@
 ghost use Rattle.std.specs.Prelude.{List, ℕ};
 ghost use Rattle.rds_keep.specs.Changed.{ChangedValue};
 ghost use Rattle.rds_keep.specs.declared.layout.Layout.{Layout};
-ghost use Rattle.rds_recovery.specs.AtAnyMoment.{SafeIsRead, StaysSafe, SyncedIsSafe};
+ghost use Rattle.rds_recovery.specs.AtAnyMoment.{SafeIsRead, SafeIsWithin, StaysSafe, SyncedIsSafe};
 ghost use Rattle.rds_recovery.specs.Events.{ChangeIsEvents, EditIsEvents, EditsAreEvents};
 ghost use Rattle.rds_recovery.specs.Recovery.{
   Append,
@@ -21,11 +21,11 @@ use rds_journal::Device;
 /// at the end has all of the state that was there at first, and of each replica whose change was acknowledged. Nothing
 /// is asked of the checksums. And a file is read as one replica.
 ///
-/// [`read_stored`](rds_keep::read_stored) gives `read` by its `stored`. [`Changed::new`](rds_keep::Changed::new) requires
-/// `changed`. [`Changed::append`](rds_keep::Changed::append) gives `leaves`: of a change that is acknowledged by
-/// `stored`; else by the front of its `any_moment`, where the file was all that a crash could leave when the append
-/// began, as it is after a crash, and by `lasts` after a change that was acknowledged. Where the append failed and no
-/// crash came, `unwritten` and `unsure` give it.
+/// [`read_stored`](rds_keep::read_stored) gives `read` by its `stored`, and [`Changed::new`](rds_keep::Changed::new)
+/// requires `changed`. [`Changed::append`](rds_keep::Changed::append) gives `leaves` by `stored` where the change was
+/// acknowledged, by `unwritten` and `unsure` where it failed, and by the front of `any_moment` where a crash came. For
+/// that the file has to be all that a crash could leave when the append began, as it is after a crash, and by `lasts`
+/// after a change that was acknowledged. Of a crash after appends that failed [`appends_are_safe_at_any_moment`] speaks.
 ///
 /// The function does nothing: its contract is this law.
 pub fn acknowledged_changes_are_never_lost()
@@ -34,14 +34,16 @@ pub fn acknowledged_changes_are_never_lost()
 {}
 
 /// The same of a device, for whatever a crash may leave at each moment. What was synced and is read as a replica is safe:
-/// whatever a crash leaves is read with all that the replica has. That stays so at any moment of each append behind it,
-/// whether it is done or fails, and after it.
+/// a crash leaves what is read with all that the replica has. It stays safe at any moment of each append behind it, and
+/// after it, whether the append was done or failed; and an append to what is read of a file that begins with it comes
+/// behind it.
 ///
 /// `Only` is given by `lasts` of [`Changed::append`](rds_keep::Changed::append), and `LeavesOnly` by its `any_moment`.
 /// The function does nothing: its contract is this law.
 pub fn appends_are_safe_at_any_moment<D: Device>()
     ensures synced { (device : D) → SyncedIsSafe (D.may_leave device) }
     ensures read { (device : D) → SafeIsRead (D.may_leave device) }
+    ensures within { (device : D) → SafeIsWithin (D.may_leave device) }
     ensures stays { (old new : D) → StaysSafe D.moment D.left_since D.may_leave old new }
 {}
 
