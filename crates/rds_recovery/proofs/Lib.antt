@@ -4,4 +4,5 @@ mod EventsOf
 mod Model
 mod Outlasting
 mod ReadingOn
+mod Staying
 mod WholeWithin

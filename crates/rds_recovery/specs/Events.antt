@@ -5,7 +5,7 @@ use Rattle.rds_state.specs.Edit.{refusal}
 use Rattle.rds_state.specs.Fits.{ReplicaValue}
 use Rattle.rds_state.specs.Value.{coordinates}
 use Rattle.rds_state.specs.declared.command.Command.{Command}
-use Rattle.rds_world.specs.World.{World, Happening, Of, Accepted, after, after_edit, run}
+use Rattle.rds_world.specs.World.{World, Happening, Of, Accepted, after, after_edit, next, run}
 use Rattle.rds_world.specs.declared.event.Event.TheVariants.{Crash, Edit, Save}
 use Rattle.rds_keep.specs.Changed.{IsRecordOf}
 use Rattle.rds_keep.specs.Kept.{IsStored}
@@ -16,6 +16,10 @@ pub record IsKeptIn (w : World) (v : ReplicaValue) : Type 0 where
   pub there : v.own < w.replicas
   pub names : w.kept_names v.own ≡ length v.roster.names
   pub state : w.kept v.own ≡ coordinates v.state
+
+-- no event but the replica's own save changes what it has kept
+abbrev pub KeptStays : Type 0
+KeptStays = (w : World) (v : ReplicaValue) (e : Happening) → IsKeptIn w v → e ≢ Of (Save v.own) → IsKeptIn (next w e) v
 
 -- ---- changes
 

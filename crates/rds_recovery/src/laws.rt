@@ -3,7 +3,7 @@ ghost use Rattle.std.specs.Prelude.{List, ℕ};
 ghost use Rattle.rds_keep.specs.Changed.{ChangedValue};
 ghost use Rattle.rds_keep.specs.declared.layout.Layout.{Layout};
 ghost use Rattle.rds_recovery.specs.AtAnyMoment.{SafeIsRead, SafeIsWithin, StaysSafe, SyncedIsSafe};
-ghost use Rattle.rds_recovery.specs.Events.{ChangeIsEvents, EditIsEvents, EditsAreEvents};
+ghost use Rattle.rds_recovery.specs.Events.{ChangeIsEvents, EditIsEvents, EditsAreEvents, KeptStays};
 ghost use Rattle.rds_recovery.specs.Recovery.{
   Append,
   HoldsOne,
@@ -69,8 +69,8 @@ pub fn crashes_make_nothing_up()
 /// the events that made the change, and a save. One that was broken off is a crash, these events and another crash, or
 /// the same with a save before the last. What is read next is what the model's replica has kept by then, and the other
 /// replicas have kept what they had. The events of an edit are those of its commands. Of any number of edits it is so,
-/// and what was said of one is again the premise of the next, whatever happens to other replicas between them. So the
-/// law over every list of events holds of files that crashes left.
+/// and what was said of one is again the premise of the next, whatever happens between them: no event but its own save
+/// changes what a replica has kept. So the law over every list of events holds of files that crashes left.
 ///
 /// The premises are met as those of [`acknowledged_changes_are_never_lost`] and [`crashes_make_nothing_up`]. The
 /// function does nothing: its contract is this law.
@@ -78,4 +78,5 @@ pub fn broken_edits_are_events()
     ensures change { (w : World) (file : List ℕ) (a : Append) → ChangeIsEvents w file a }
     ensures edit { (w : World) (file : List ℕ) (a : Append) → EditIsEvents w file a }
     ensures edits { (w : World) (file : List ℕ) (appends : List Append) → EditsAreEvents w file appends }
+    ensures stays { KeptStays }
 {}
