@@ -1,6 +1,6 @@
 //! One replica of a document, with what finds its entries.
 ghost use Rattle.std.specs.Prelude.{◌≡◌, ◌∷◌, [], false, length, max, Ok, Err, IfOk, IfErr, MatchResult, OnErr, OnOk};
-ghost use Rattle.std.specs.Prelude.{map};
+ghost use Rattle.std.specs.Prelude.{◌⊎◌, map};
 ghost use Rattle.std.specs.Result.{result_map_both};
 ghost use Rattle.rds_codec.specs.Decoding.{all_of};
 ghost use Rattle.rds_codec.specs.FormatTexts.{snapshot_in_at};
