@@ -1,17 +1,14 @@
 -- What was done, from what the library's calls answer.
-use Rattle.std.proofs.Common.{◌≡◌, ◌≢◌, ◌∙◌, ℕ, List, Option, Some, None, Result, Ok, Err, refl, sym, ap, ap₂, subst, inl, inr}
+use Rattle.std.proofs.Common.{◌≡◌, ◌≢◌, ◌∙◌, ℕ, List, Option, Some, None, Result, Ok, Err, refl, ap₂, inl, inr}
 use Rattle.std.specs.Prelude.{IfOk, OnErr}
 use Rattle.std.specs.Global.{Vec}
 use Rattle.rds_c.specs.Asked.{command_by, valued_of}
-use Rattle.rds_c.specs.Promises.{IsOpenedFrom, IsRecord, Responds, changes_of}
-use Rattle.rds_c.specs.Told.{EditsDocument, edited_for_c, layout_for_c}
+use Rattle.rds_c.specs.Promises.{IsRecord, Responds, changes_of}
+use Rattle.rds_c.specs.Told.{EditsDocument, edited_for_c}
 use Rattle.rds_c.specs.declared.asking.Verb.{Verb}
 use Rattle.rds_c.specs.declared.status.EditedC.{EditedC}
-use Rattle.rds_c.specs.declared.status.LayoutC.{LayoutC}
 use Rattle.rds_journal.specs.Records.{record_text}
 use Rattle.rds_keep.specs.Changes.{ChangeValue, IsChanged, change_text}
-use Rattle.rds_keep.specs.Kept.{IsStored}
-use Rattle.rds_keep.specs.declared.layout.Layout.{Layout}
 use Rattle.rds_names.specs.AndThen.{◌>>=◌}
 use Rattle.rds_names.specs.Gives.{Gives}
 use Rattle.rds_names.specs.Path.{path_of}
@@ -73,15 +70,3 @@ pub a_record : (v : DraftValue) (change given : ChangeValue) (own : ℕ) (made :
 a_record v change given own (Ok bytes) changed same number is =
     record { change = change; changed = changed; text_is = is ∙ ap₂ (λ (n : ℕ) (c : ChangeValue). record_text (change_text n c)) number same }
 a_record v change given own (Err fault) changed same number is = tt
-
--- what was opened is kept as it is
-pub opened_from : (bytes : List ℕ) (told : LayoutC) (document : ReplicaValue) (layout : Layout) (first v : DraftValue) → IsStored bytes document layout → told ≡ layout_for_c layout
-    → first ≡ record { document = document; kept = document } → v ≡ record { document = first.document; kept = first.document } → IsOpenedFrom bytes told v
-opened_from bytes told document layout first v stored is_told made set =
-    let at : v.document ≡ document = ap (λ (d : DraftValue). d.document) set ∙ ap (λ (d : DraftValue). d.document) made in
-    record {
-      layout = layout;
-      stored = subst (λ (w : ReplicaValue). IsStored bytes w layout) (sym at) stored;
-      is_told = is_told;
-      kept = ap (λ (d : DraftValue). d.kept) set ∙ sym (ap (λ (d : DraftValue). d.document) set);
-    }

@@ -5,7 +5,8 @@ use denote.Memory.{lone}
 use denote.RawPtr.{Ptr}
 use denote.Struct.Struct.{exits_of}
 use denote.Struct.Owning.{shape, fields, to}
-use denote.Param.Send.{IsSend, AllSend, owning_send, struct_send, sendable}
+use denote.Struct.Declared.{shape as shape_of}
+use denote.Param.Send.{IsSend, AllSend, owning_send, recorded_send, struct_send, view_send, sendable}
 use denote.RattleType.{RattleType}
 use Rattle.std.specs.Prelude.{Option, None, Some}
 use Rattle.std.specs.Global.{Global}
@@ -31,6 +32,7 @@ use Rattle.rds_tree.specs.contracts.index.Index as Index
 use Rattle.rds_store.specs.contracts.changes.Changes as Changes
 use Rattle.rds_store.specs.contracts.document.Document as Document
 use Rattle.rds_store.specs.contracts.drafts.Draft as Draft
+use Rattle.rds_store.specs.contracts.drafts.Draft.TheInside as inside
 use Rattle.rds_c.specs.contracts.opened.Opened as Opened
 use Rattle.rds_c.specs.contracts.handle.Handle.{the_row, the_type}
 
@@ -57,11 +59,11 @@ was = past Document.the_row document
 delta : IsSend (State.the_row GapSet.the_row ghosts)
 delta = search (sendable, heap.crosses, maps.crosses, state.the_send, seen.the_send) depth 8
 
-changes : IsSend Changes.the_row
-changes = search (sendable, heap.crosses, was, delta) depth 8
+changes : IsSend (Changes.the_field).row
+changes = struct_send (shape_of Changes.the_type) (was, (search (sendable, heap.crosses, delta) depth 8, (search sendable, tt)))
 
 draft : IsSend Draft.the_row
-draft = search (sendable, heap.crosses, document, changes) depth 8
+draft = view_send _ _ _ _ _ (recorded_send _ _ _ inside.the_type.to_one (struct_send (shape_of inside.the_type) (document, (changes, tt))))
 
 opened : IsSend Opened.the_row
 opened = search (sendable, heap.crosses, draft) depth 8
