@@ -1,10 +1,10 @@
 mod Appended
 mod BehindParts
-mod Chains
-mod ChangeTexts
+pub mod Chains
+pub mod ChangeTexts
 mod FedSoFar
 mod FeedSteps
-mod Files
+pub mod Files
 mod FirstParts
 mod Foreign
 mod FrontSoFar

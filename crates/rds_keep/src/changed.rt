@@ -1,10 +1,10 @@
 //! A change of a kept replica that is put behind the others.
 ghost use Rattle.std.specs.Prelude.{◌≡◌, ◌≢◌, ◌⊎◌, List, ℕ, length, Err, IfOk, IfErr, IfSome, OnOk};
 ghost use Rattle.rds_names.specs.declared.fault.Fault.TheVariants.{Memory, Bad, TooLong, Device, Unsure};
-ghost use Rattle.rds_journal.specs.Appending.{IsUnwritten, KeepsFront};
-ghost use Rattle.rds_journal.specs.Device.{HasRisen, LeavesOnly};
+ghost use Rattle.rds_journal.specs.Appending.{IsUnwritten, KeepsFront, LeavesEnd};
+ghost use Rattle.rds_journal.specs.Device.{HasRisen, LeavesOnly, Only};
 ghost use Rattle.rds_journal.specs.Records.{IsPayload, record_text};
-ghost use Rattle.rds_keep.specs.Changed.{IsSeen, Lasts, with_record};
+ghost use Rattle.rds_keep.specs.Changed.{IsRecordOf, IsSeen, Lasts, with_record};
 ghost use Rattle.rds_keep.specs.Changes.{IsChanged, change_text};
 ghost use Rattle.rds_keep.specs.Kept.{IsStored};
 ghost use Rattle.rds_keep.specs.ReadChanges.{RefusesChange};
@@ -75,6 +75,7 @@ impl<S: DotSet> Changed<S> {
         requires changed { IsChanged before.now change.now replica.now }
         ensures before { IfOk result (λ changed. changed.before ≡ before.now) }
         ensures after { IfOk result (λ changed. changed.after ≡ replica.now) }
+        ensures record { IfOk result IsRecordOf }
         ensures fault { IfErr result (λ e. (e ≡ Memory) ⊎ ((e ≡ TooLong) ⊎ (e ≡ Bad))) }
     {
         if replica
@@ -127,6 +128,8 @@ impl<S: DotSet> Changed<S> {
             (λ file. IsUnwritten file layout.now.whole self.bytes (D.seen device.new)) }
         ensures any_moment { LeavesOnly D.moment D.left_since device.old device.new (λ c. (d : List ℕ)
             × D.may_leave device.old d × KeepsFront layout.now.whole (length self.bytes) d c) }
+        ensures from_rest { IfSome (D.seen device.old) (λ file. Only file (D.may_leave device.old) → LeavesOnly D.moment
+            D.left_since device.old device.new (LeavesEnd file layout.now.whole (length self.bytes))) }
         ensures failed { IfErr result (λ e. e ≢ TooLong → HasRisen (D.faults device.old) (D.faults device.new)) }
         ensures fault { IfErr result (λ e. (e ≡ TooLong) ⊎ ((e ≡ Device) ⊎ (e ≡ Unsure))) }
     {

@@ -40,3 +40,18 @@ pub returns-clause-any_moment : goal.returns-clause-any_moment
 returns-clause-any_moment g c =
     let bytes : c.deref.result.now ≡ c.args.self.bytes = c.deref.ensures.value ∙ ap (λ (x : ChangedValue). x.bytes) c.self.view_is in
     rw bytes at c.append.ensures.any_moment
+
+pub returns-in-Ok-clause-from_rest : goal.returns-in-Ok-clause-from_rest
+returns-in-Ok-clause-from_rest g c =
+    let bytes : c.deref.result.now ≡ c.args.self.bytes = c.deref.ensures.value ∙ ap (λ (x : ChangedValue). x.bytes) c.self.view_is in
+    rw bytes at c.append.ensures.from_rest
+
+pub returns-in-Err-Unwritten-clause-from_rest : goal.returns-in-Err-Unwritten-clause-from_rest
+returns-in-Err-Unwritten-clause-from_rest g c =
+    let bytes : c.deref.result.now ≡ c.args.self.bytes = c.deref.ensures.value ∙ ap (λ (x : ChangedValue). x.bytes) c.self.view_is in
+    rw bytes at c.append.ensures.from_rest
+
+pub returns-clause-from_rest : goal.returns-clause-from_rest
+returns-clause-from_rest g c =
+    let bytes : c.deref.result.now ≡ c.args.self.bytes = c.deref.ensures.value ∙ ap (λ (x : ChangedValue). x.bytes) c.self.view_is in
+    rw bytes at c.append.ensures.from_rest
