@@ -16,6 +16,8 @@ NAMES |= {10: "OwnAhead", 11: "WrongAsker", 17: "BadCertificate", 18: "WrongVers
 NAMES |= {21: "SameReplica", 22: "OutOfTurn", 23: "PeerEnded", 25: "BadLine", 26: "NoSuch", 27: "Usage", 29: "Unsure"}
 # The most bytes of a record's payload, how many stand before it, and how long records may always be before a file is written anew.
 MOST, HEAD, FEW = 65_536, 36, 65_536
+# The most bytes that are read to tell that no record begins at any place of a torn end.
+SCAN = 536_870_912
 REGISTER, ELEMENT = 1, 2
 HELLO, DIGEST, DELTA, BYE = 1, 2, 3, 4
 # The bye that tells of a fault; 5 for those that aren't here.
@@ -618,9 +620,19 @@ def record_at(text, at):
     return payload if is_whole else None
 
 
+def claims_in(rest):
+    """Where records seem to begin in these bytes, by the lengths that stand there, and where each would end."""
+    for at in range(len(rest) - HEAD + 1):
+        size = int.from_bytes(rest[at : at + 4], "big")
+        if size <= MOST and at + HEAD + size <= len(rest):
+            yield at, at + HEAD + size
+
+
 def is_torn(rest):
     """Whether bytes behind whole records may be what is left of one more."""
-    return len(rest) <= MOST + HEAD and all(record_at(rest, at) is None for at in range(len(rest)))
+    if len(rest) > MOST + HEAD or sum(end - at for at, end in claims_in(rest)) > SCAN:
+        return False
+    return all(record_at(rest, at) is None for at, _ in claims_in(rest))
 
 
 def with_change(replica, payload):

@@ -12,8 +12,10 @@ use rds_state::{Replica, State};
 use std::alloc::Global;
 
 /// Joins all that another replica has seen into one, and answers what that one lacked, as a delta: joined into what it
-/// was, that alone gives what it is. The longer of the two rosters is kept. Refuses as [`Replica::take_with`] does: `WrongGroup`, `WrongRoster`, `OwnAhead` where the other
-/// has something of this replica's own that it lacks, `Conflict` and `Memory`.
+/// was, that alone gives what it is. The longer of the two rosters is kept.
+///
+/// Refuses as [`Replica::take_with`] does: `WrongGroup`, `WrongRoster`, `OwnAhead` where the other has something of this
+/// replica's own that it lacks, `Conflict` and `Memory`.
 ///
 /// The other's state is taken whole, and not only what is lacking here: so a dot that is live at both with different
 /// entries is found.

@@ -27,4 +27,5 @@ lines-preserved g c =
           some c.split_line.ensures.line c.split_line.ensures.rest c.lines.invariant.follows c.answer_next.ensures.answered;
       counted = omega (arith, shorter, c.lines.invariant.counted);
       room = omega (arith, more, c.lines.invariant.room, c.answer_next.ensures.one, c.answer_next.ensures.room);
+      stays = g.met.E.Edits.then c.args.editor.now c.lines.editor c.answer_next.new.editor c.lines.invariant.stays c.answer_next.ensures.stays;
     }

@@ -11,6 +11,7 @@ invariant-lines g l = record {
   follows : FollowsOn l.count l.input l.rest (g.E.Edits.replica l.initial.editor) (g.E.Edits.replica l.editor) l.answers.items;
   counted : l.count + length l.rest ≤ length l.input;
   room : vec_len l.answers + length (lines_in l.rest) ≤ vec_capacity l.answers;
+  stays : g.E.Edits.stays l.initial.editor l.editor;
 }
 
 abbrev pub decreases-lines : goal.decreases-lines

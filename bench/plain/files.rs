@@ -2,9 +2,9 @@
 //! the same bytes as `rds_node`, of format 2, for snapshots without counters whose values are whole numbers or texts. It panics at
 //! any other.
 //!
-//!     rustc --edition 2021 -O -o plain bench/plain.rs
-//!     plain join < LINES
-//!     plain pair FILE FILE
+//!     rustc --edition 2021 -O -o files bench/plain/files.rs
+//!     files join < LINES
+//!     files pair FILE FILE
 //!
 //! `pair` sends nothing: each file gets the live rows that it lacks, so nothing may have been deleted. Keys are numbered by a map
 //! with std's hasher, whose seed is random.

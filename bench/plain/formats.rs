@@ -2,8 +2,8 @@
 //! `rds_bench formats` makes, and prints the same figures: the dots, and of each format the bytes of the text and the fewest
 //! microseconds that encoding and decoding took.
 //!
-//!     rustc --edition 2021 -O -o plain_formats bench/plain_formats.rs
-//!     plain_formats DOTS KEYS
+//!     rustc --edition 2021 -O -o formats bench/plain/formats.rs
+//!     formats DOTS KEYS
 //!
 //! A path shares its keys, as it does there. Keys are numbered by a map with std's hasher, whose seed is random.
 use std::collections::{HashMap, HashSet};
@@ -198,7 +198,7 @@ fn time(state: &State, encode: fn(&State) -> Vec<u8>, decode: fn(&[u8]) -> Optio
 fn main() {
     let words: Vec<String> = std::env::args().skip(1).collect();
     let [dots, keys] = &words[..] else {
-        panic!("plain_formats DOTS KEYS");
+        panic!("formats DOTS KEYS");
     };
     let state = state(dots.parse().expect("a number of dots"), keys);
     let one = time(&state, encode_one, decode_one);
