@@ -7,8 +7,8 @@
  *   - the status is one of the header's, and want of memory comes only where an allocation failed;
  *   - after a refusal, and after a call that only looks, the snapshot is what it was, byte by byte;
  *   - bytes that were given fit into the room, and those that weren't didn't.
- * After a file was kept it holds the replica; where keeping failed it holds what it did, or the replica too where that is
- * unsure. Now and then a replica's view is compared with that of its snapshot, opened anew.
+ * After a file was kept it holds the replica; where keeping failed it holds what it did, or the replica too where that
+ * is unsure. Now and then a replica's view is compared with that of its snapshot, opened anew.
  *
  * With FAIL, what the library asks for fails by chance: of a call's allocations and system calls, one in a number from
  * 2 to FAIL. For that it is linked with --wrap of each name below that begins with __wrap_. */

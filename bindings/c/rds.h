@@ -99,7 +99,7 @@ enum rds_status {
     RDS_SAME_REPLICA = 21,    /* both sides are the same replica */
     RDS_DEVICE = 24,          /* a call of the system failed, and errno says how (files alone) */
     RDS_BAD_LINE = 25,        /* a line is no command */
-    RDS_UNSURE = 29,          /* all was written, and the system couldn't say that it lasts; errno says how (files alone) */
+    RDS_UNSURE = 29,          /* all was written, and may not last: errno says how (files alone) */
     /* of this header: */
     RDS_CLOSED = 64,       /* the replica isn't open; of rds_keep: it has no file */
     RDS_OPEN_ALREADY = 65, /* the replica, or the file, is open already */
@@ -241,9 +241,9 @@ uint32_t rds_answer(rds *replica, const uint8_t *question, size_t question_lengt
 uint32_t rds_take(rds *replica, const uint8_t *question, size_t question_length, const uint8_t *answer,
                   size_t answer_length, uint64_t *taken);
 
-/* Takes all that a snapshot of another replica has seen, or its file. *taken becomes the number of components that were lacking.
- * As rds_open and rds_take. A snapshot of this same replica is taken where nothing of its own is lacking here, and is
- * RDS_OWN_AHEAD else. */
+/* Takes all that a snapshot of another replica has seen, or its file. *taken becomes the number of components that were
+ * lacking. As rds_open and rds_take. A snapshot of this same replica is taken where nothing of its own is lacking here,
+ * and is RDS_OWN_AHEAD else. */
 uint32_t rds_merge(rds *replica, const uint8_t *snapshot, size_t snapshot_length, uint64_t *taken);
 
 /* Puts a name last in the roster, for a new replica. To be done at one replica alone, for good: rosters that grow at
@@ -265,10 +265,10 @@ const char *rds_status_text(uint32_t status);
 /* ---- Files ----
  *
  * The files are those of `rds_node`, and so are the rules. A file is opened under its lock (flock), which is held until
- * rds_close: meanwhile `rds_node` and other programs with this library wait for it or are refused. It is a snapshot, and
- * behind it records of what changed since. Each keep appends a record, or writes a new file beside it (FILE.new), which
- * is synced and renamed: that is where the records would be longer than the snapshot. Where a path is a symbolic link,
- * all that is done to the file that it leads to. A system without these calls has no such files: Windows isn't
+ * rds_close: meanwhile `rds_node` and other programs with this library wait for it or are refused. It is a snapshot,
+ * and behind it records of what changed since. Each keep appends a record, or writes a new file beside it (FILE.new),
+ * which is synced and renamed: that is where the records would be longer than the snapshot. Where a path is a symbolic
+ * link, all that is done to the file that it leads to. A system without these calls has no such files: Windows isn't
  * supported.
  *
  * A process that forks keeps the lock until the child too has ended or called exec. */

@@ -30,8 +30,8 @@ class Edited(NamedTuple):
 
 
 class Status(NamedTuple):
-    """Whose replica it is, and how much it holds: `bytes` are those of its snapshot. Replicas that hold the same entries
-    and numbers have the same `mark`, 32 hex digits."""
+    """Whose replica it is, and how much it holds: `bytes` are those of its snapshot. Replicas that hold the same
+    entries and numbers have the same `mark`, 32 hex digits."""
 
     group: str
     own: str
@@ -249,8 +249,8 @@ class Replica:
         self._file = name
 
     def keep(self) -> None:
-        """Keeps the replica in its file: all edits so far outlast a crash of the machine. `Closed` without a file. At `Unsure`
-        they are in the file, and may not outlast a crash."""
+        """Keeps the replica in its file: all edits so far outlast a crash of the machine. `Closed` without a file. At
+        `Unsure` they are in the file, and may not outlast a crash."""
         with self._lock:
             self._done(LIB.rds_keep(byref(self._slot)), self._file)
             self._is_ahead = False

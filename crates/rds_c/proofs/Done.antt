@@ -1,12 +1,14 @@
 -- What was done, from what the library's calls answer.
-use Rattle.std.proofs.Common.{◌≡◌, ◌≢◌, ℕ, List, Option, Some, None, Result, Ok, Err, refl, inl, inr}
+use Rattle.std.proofs.Common.{◌≡◌, ◌≢◌, ◌∙◌, ℕ, List, Option, Some, None, Result, Ok, Err, refl, ap₂, inl, inr}
 use Rattle.std.specs.Prelude.{IfOk, OnErr}
 use Rattle.std.specs.Global.{Vec}
 use Rattle.rds_c.specs.Asked.{command_by, valued_of}
-use Rattle.rds_c.specs.Promises.{Responds, changes_of}
+use Rattle.rds_c.specs.Promises.{IsRecord, Responds, changes_of}
 use Rattle.rds_c.specs.Told.{EditsDocument, edited_for_c}
 use Rattle.rds_c.specs.declared.asking.Verb.{Verb}
 use Rattle.rds_c.specs.declared.status.EditedC.{EditedC}
+use Rattle.rds_journal.specs.Records.{record_text}
+use Rattle.rds_keep.specs.Changes.{ChangeValue, IsChanged, change_text}
 use Rattle.rds_names.specs.AndThen.{◌>>=◌}
 use Rattle.rds_names.specs.Gives.{Gives}
 use Rattle.rds_names.specs.Path.{path_of}
@@ -59,3 +61,12 @@ does_line (Ok command) before after (Ok edited) status told (inr edits) tells re
     record { command = command; asks = refl; edited = edited; edits = edits; is_told = tells }
 does_line (Err fault) before after (Ok edited) status told (inr nothing) tells refused ended = absurd (other edited fault nothing.0)
 does_line asked before after (Ok edited) status told (inl memory) tells refused ended = absurd (other edited _ memory.0)
+
+-- ---- files
+
+-- the record of a change
+pub a_record : (v : DraftValue) (change given : ChangeValue) (own : ℕ) (made : Result (Vec ℕ) Fault) → IsChanged v.kept change v.document → given ≡ change → own ≡ v.document.own
+    → IfOk made (λ bytes. bytes.items ≡ record_text (change_text own given)) → IfOk made (λ bytes. IsRecord v bytes.items)
+a_record v change given own (Ok bytes) changed same number is =
+    record { change = change; changed = changed; text_is = is ∙ ap₂ (λ (n : ℕ) (c : ChangeValue). record_text (change_text n c)) number same }
+a_record v change given own (Err fault) changed same number is = tt

@@ -93,11 +93,11 @@ pub extern "C" fn rds_open(alloc: Global, slot: &mut Slot, snapshot: &[u8]) -> u
     ensures opened { result ≡ 0 → Holds (IsHeldBy snapshot.now) slot.new }
     ensures kept { IsKeptUnlessDone result slot.old slot.new }
 {
-    fill(alloc, slot, opened(alloc, snapshot))
+    fill(alloc, slot, opened_snapshot(alloc, snapshot))
 }
 
 /// The replica of a snapshot, which is kept nowhere.
-fn opened(alloc: Global, snapshot: &[u8]) -> Result<Draft, Fault>
+fn opened_snapshot(alloc: Global, snapshot: &[u8]) -> Result<Draft, Fault>
     ensures { IfOk result (λ draft. IsHeldBy snapshot.now draft.document) }
 {
     Ok(Draft::of(Document::open(alloc, snapshot)?))

@@ -10,7 +10,8 @@ use crate::status::{EditedC, OK, ROOM, edited_for_c, narrowed, status, words_of}
 use rds_store::{Command, Draft, Edited, Fault, Reply, answers_text};
 use std::alloc::Global;
 
-/// A document with what changed it since it was kept, and a text to be told: the last one that didn't fit, or the words of the last fault.
+/// A document with what changed it since it was kept, and a text to be told: the last one that didn't fit, or the words
+/// of the last fault.
 #[derive(Drop)]
 pub struct Opened {
     pub draft: Draft,

@@ -1,5 +1,5 @@
 -- What changed a replica, as the delta and the roster that it was joined with.
-use Rattle.std.proofs.Common.{◌≡◌, ◌∙◌, ◌+◌, ◌≤◌, ◌++◌, ◌∷◌, ℕ, Bool, true, false, List, [], length, append-nil, max, Option, Some, None, Result, Ok, Err, arith, refl, sym, ap, subst}
+use Rattle.std.proofs.Common.{◌≡◌, ◌∙◌, ◌+◌, ◌≤◌, ◌++◌, ◌∷◌, ℕ, Bool, true, false, List, [], length, append-nil, max, Option, Some, None, Result, Ok, Err, arith, refl, sym, ap, subst, inl, inr}
 use Rattle.std.specs.FinMap as map
 use Rattle.std.specs.Prelude.{IfOk}
 use Rattle.rds_names.specs.Roster.{Begins, RosterValue}
@@ -20,7 +20,7 @@ use Rattle.rds_state.proofs.Nothing.{joins_nothing}
 use Rattle.rds_state.proofs.JoinLaws.{above_left, reflexive, same_coordinates, transitive}
 use Rattle.rds_state.proofs.MadeLemmas.{made_is}
 use Rattle.rds_delta.specs.Least.{least}
-use Rattle.rds_delta.specs.Ranks.{ranks}
+use Rattle.rds_delta.specs.Ranks.{Ranks, ranks}
 use Rattle.rds_delta.proofs.Exchanges.{least_fits}
 use Rattle.rds_delta.proofs.LeastLaws.{grown_delta}
 use Rattle.rds_keep.specs.Changes.{ChangeValue, IsChanged}
@@ -89,12 +89,11 @@ line_raises line bytes before after answer met = elim met [
 
 lines_raise : (count : ℕ) (lines : List (List ℕ)) (before after : ReplicaValue) (answers : List Reply) → EditsLinesBehind count lines before after answers → Raises before after
 lines_raise count [] before after answers edits = raises_self before after edits.0
-lines_raise count (bytes ∷ lines) before after answers edits = of (is_empty_line bytes) edits
+lines_raise count (bytes ∷ lines) before after answers edits = of (is_empty_line bytes) (lines_raise (count + 1) lines) edits
   where
-    of : (b : Bool) → EditsNext b (count + 1) bytes (EditsLinesBehind (count + 1) lines) before after answers → Raises before after
-    of true later = lines_raise (count + 1) lines before after answers later
-    of false first =
-        raises_then before first.next after (line_raises (count + 1) bytes before first.next first.answer first.met) (lines_raise (count + 1) lines first.next after first.rest first.later)
+    of : (b : Bool) → ((first last : ReplicaValue) (told : List Reply) → EditsLinesBehind (count + 1) lines first last told → Raises first last) → EditsNext b (count + 1) bytes (EditsLinesBehind (count + 1) lines) before after answers → Raises before after
+    of true later_raise later = later_raise before after answers later
+    of false later_raise first = raises_then before first.next after (line_raises (count + 1) bytes before first.next first.answer first.met) (later_raise first.next after first.rest first.later)
 
 -- a later life or number, joined into an earlier one, is what comes of it
 later_life : (x y : Option Life) → IsNoLater x y → join_life x y ≡ y
@@ -111,6 +110,12 @@ greater_number x y h = omega (arith, h)
 
 join_above : (a b : Coordinates) → AtMost a b → join a b ≡ b
 join_above a b h = same_coordinates (join a b) b (λ d. later_life (a.life d) (b.life d) (h.lives d)) (λ q. greater_number (a.number q) (b.number q) (h.numbers q))
+
+-- the least delta of a state, against the ranks that a digest of another has
+pub least_against : (after before now was : StateValue) (delta : Coordinates) (seen : Ranks) → delta ≡ least (coordinates now) seen → seen ≡ ranks (coordinates was) → now ≡ after → was ≡ before
+    → delta ≡ least (coordinates after) (ranks (coordinates before))
+least_against after before now was delta seen is of same first =
+    is ∙ ap (least (coordinates now)) of ∙ ap (λ (s : StateValue). least (coordinates s) (ranks (coordinates was))) same ∙ ap (λ (s : StateValue). least (coordinates after) (ranks (coordinates s))) first
 
 -- the least delta of what lines left against what was there before is what they changed
 pub lines_changed : (lines : List (List ℕ)) (before after : ReplicaValue) (answers : List Reply) (delta : StateValue) → EditsLines lines before after answers

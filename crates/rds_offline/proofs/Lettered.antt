@@ -1,5 +1,5 @@
 -- A file that answers a question, and a file that takes an answer.
-use Rattle.std.proofs.Common.{◌≡◌, ◌≤◌, ◌<◌, ◌∙◌, ℕ, List, length, Result, Ok, Err, ap, subst, sym, inl, inr}
+use Rattle.std.proofs.Common.{◌≡◌, ◌≤◌, ◌<◌, ◌∙◌, ℕ, List, length, Result, Ok, Err, subst, sym, inl, inr}
 use Rattle.std.specs.Prelude.{IfOk}
 use Rattle.std.specs.Global.{Vec}
 use Rattle.std.proofs.lemmas.Bool.{cases_lt}
@@ -48,12 +48,17 @@ module _ (path question : List ℕ) (asked : QuestionValue) (file : FileValue) (
 pub no_take : (asked : QuestionValue) (received : ReceivedValue) (before old : ReplicaValue) (fault : Fault) → old ≡ before → TakesReceived asked old received (Err fault) → RefusesTakeIn asked received before fault
 no_take asked received before old fault same refused = inl (subst (λ (v : ReplicaValue). TakesReceived asked v received (Err fault)) same refused)
 
+-- a take of it was not refused
+pub is_taken : (asked : QuestionValue) (received : ReceivedValue) (before old after : ReplicaValue) → old ≡ before → TakesReceived asked old received (Ok tt)
+    → coordinates after.state ≡ join (coordinates old.state) (coordinates received.delta) → after.roster ≡ longer old.roster received.roster → after.own ≡ old.own → IsTaken received before after
+is_taken asked received before old after same takes joined roster own =
+    let taken : IsTaken received old after = record { rosters = takes.1.0; roster = roster; own = own; joined = joined; known = takes.1.1.0 } in
+    subst (λ (v : ReplicaValue). IsTaken received v after) same taken
+
 -- what was taken can't be kept
 pub unkept_take : (asked : QuestionValue) (received : ReceivedValue) (before old after : ReplicaValue) (fault : Fault) → old ≡ before → TakesReceived asked old received (Ok tt)
     → coordinates after.state ≡ join (coordinates old.state) (coordinates received.delta) → after.roster ≡ longer old.roster received.roster → after.own ≡ old.own → IsUnkept after fault → RefusesTakeIn asked received before fault
-unkept_take asked received before old after fault same takes joined roster own unkept =
-    let taken : IsTaken received old after = record { rosters = takes.1.0; roster = roster; own = own; joined = joined; known = takes.1.1.0 } in
-    inr (after, subst (λ (v : ReplicaValue). IsTaken received v after) same taken, unkept)
+unkept_take asked received before old after fault same takes joined roster own unkept = inr (after, is_taken asked received before old after same takes joined roster own, unkept)
 
 -- bytes that aren't received bring nothing
 pub brings_nothing : (asked : QuestionValue) (bytes : List ℕ) (fault : Fault) → (LIMIT < length bytes → ◌≡◌ {A = Result ReceivedValue Fault} (Err fault) (Err TooLong))

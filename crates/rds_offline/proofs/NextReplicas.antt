@@ -1,12 +1,9 @@
 -- A new replica that takes what another has seen.
-use Rattle.std.proofs.Common.{◌≡◌, ◌≢◌, ◌∙◌, ℕ, List, max, Option, Some, None, Result, Ok, Err, ap, ap₂, sym, refl, subst, arith}
+use Rattle.std.proofs.Common.{◌≡◌, ◌≢◌, ◌∙◌, ℕ, List, max, Option, None, Err, ap, ap₂, sym, refl, subst, arith}
 use Rattle.std.specs.FinMap as map
-use Rattle.std.specs.Str.{bytes_eq}
-use Rattle.std.specs.List.{position}
 use Rattle.rds_names.specs.declared.fault.Fault.{Fault}
-use Rattle.rds_names.specs.declared.fault.Fault.TheVariants.{Conflict, Memory, OwnAhead, SameReplica}
+use Rattle.rds_names.specs.declared.fault.Fault.TheVariants.{Conflict, Memory, OwnAhead}
 use Rattle.rds_names.specs.declared.fault.Own.{Own}
-use Rattle.rds_names.specs.Roster.{number_named}
 use Rattle.rds_dots.specs.declared.dot.Dot.{Dot}
 use Rattle.rds_dots.specs.Dots.{dot_cmp}
 use Rattle.rds_counts.specs.Counted.{Counted, number, number_from}
@@ -16,7 +13,7 @@ use Rattle.rds_state.specs.Ahead.{TakeGives}
 use Rattle.rds_state.specs.Coordinates.{join}
 use Rattle.rds_state.specs.Fits.{ReplicaValue}
 use Rattle.rds_state.specs.Value.{StateValue, coordinates}
-use Rattle.rds_offline.specs.Next.{IsNextOf, IsUsed, RefusesNext, nothing}
+use Rattle.rds_offline.specs.Next.{RefusesNext, nothing}
 
 -- the join of nothing and a state is that state
 pub joins_all : (v : StateValue) → join (coordinates nothing) (coordinates v) ≡ coordinates v

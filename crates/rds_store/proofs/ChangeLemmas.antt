@@ -179,6 +179,12 @@ take_made now after came delta grew takes same = record {
   own = takes.own;
 }
 
+-- another's state and roster, copied
+pub as_merged : (now after source : ReplicaValue) (came : RosterValue) (delta : StateValue) → came ≡ source.roster → delta ≡ source.state → TakesDeltaWith now came delta (Ok tt) after
+    → TakesDeltaWith now source.roster source.state (Ok tt) after
+as_merged now after source came delta roster state takes =
+    subst (λ (r : RosterValue). TakesDeltaWith now r source.state (Ok tt) after) roster (subst (λ (d : StateValue). TakesDeltaWith now came d (Ok tt) after) state takes)
+
 -- of another's state what was lacking
 pub merge_made : (now after source : ReplicaValue) (lacking : StateValue) (grew : Bool) → TakesDeltaWith now source.roster source.state (Ok tt) after
     → coordinates lacking ≡ least (coordinates source.state) (ranks (coordinates now.state)) → (grew ≡ false → after.roster ≡ now.roster) → IsMadeBy lacking grew now after

@@ -1,6 +1,6 @@
 //! What changed a document since it was kept.
-ghost use Rattle.std.specs.Prelude.{◌≡◌, ◌<◌, true, None, Some, IfOk, IfErr, IfSome, OnOk, length, vec_capacity, vec_len};
-ghost use Rattle.std.specs.Prelude.{if◌then◌else◌, option_map};
+ghost use Rattle.std.specs.Prelude.{◌≡◌, ◌<◌, true, None, Some, IfOk, IfErr, IfSome, OnOk, length, vec_capacity};
+ghost use Rattle.std.specs.Prelude.{if◌then◌else◌, option_map, vec_len};
 ghost use Rattle.rds_names.specs.declared.fault.Fault.TheVariants.{Memory};
 ghost use Rattle.rds_state.specs.Coordinates.{Coordinates, join};
 ghost use Rattle.rds_state.specs.Fits.{ReplicaValue};

@@ -1,6 +1,6 @@
 //! One replica of a document, with what finds its entries.
 ghost use Rattle.std.specs.Prelude.{◌≡◌, ◌∷◌, [], false, length, max, Ok, Err, IfOk, IfErr, MatchResult, OnErr, OnOk};
-ghost use Rattle.std.specs.Prelude.{map};
+ghost use Rattle.std.specs.Prelude.{◌⊎◌, map};
 ghost use Rattle.std.specs.Result.{result_map_both};
 ghost use Rattle.rds_codec.specs.Decoding.{all_of};
 ghost use Rattle.rds_codec.specs.FormatTexts.{snapshot_in_at};
@@ -86,9 +86,9 @@ impl Document {
         })
     }
 
-    /// The document of a file's bytes: a snapshot in whichever format, and records behind it. What [`snapshot`] gives is
-    /// such a file without records, and what `rds_node` writes is one. Bytes that are none are refused: `TooLong` above
-    /// the limit, `Cut` where they end inside of the snapshot, `Bad` elsewhere.
+    /// The document of a file's bytes: a snapshot in whichever format, and records behind it. What [`snapshot`] gives
+    /// is such a file without records, and what `rds_node` writes is one. Bytes that are none are refused: `TooLong`
+    /// above the limit, `Cut` where they end inside of the snapshot, `Bad` elsewhere.
     ///
     /// [`snapshot`]: Document::snapshot
     pub fn open(alloc: Global, bytes: &[u8]) -> Result<Document, Fault>
@@ -183,7 +183,8 @@ impl Document {
     /// Takes a delta that comes with a roster, and tells whether its own roster grew by that.
     pub(crate) fn take_with(&mut self, roster: Roster, delta: &State<GapSet>) -> Result<bool, Fault>
         requires { Fits (max (length self.old.roster.names) (length roster.names)) (coordinates delta.now) }
-        ensures taken { TakesDeltaWith self.old roster delta.now (result_map_both (λ _. tt) (λ fault. fault) result) self.new }
+        ensures taken { TakesDeltaWith self.old roster delta.now
+            (result_map_both (λ _. tt) (λ fault. fault) result) self.new }
         ensures grew { IfOk result (λ grew. grew ≡ false → self.new.roster ≡ self.old.roster) }
     {
         let names = self.index.replica().roster().len();

@@ -75,7 +75,8 @@ impl Draft {
         self.changes = Changes::none(self.document.alloc, &self.document);
     }
 
-    /// What changed the document since it was kept, in one. `None` where that isn't noted, or there is no memory for it.
+    /// What changed the document since it was kept, in one. `None` where that isn't noted, or there is no memory for
+    /// it.
     pub fn noted(&self) -> Option<Noted<'_>>
         ensures { IfSome result (λ noted. IsChanged self.now.kept noted self.now.document) }
     {

@@ -34,8 +34,8 @@ impl Document {
     }
 
     /// Edits the document as lines of JSON say, one after the other, and answers each but the empty ones. A line that
-    /// is refused changes nothing, and the next is gone on with; its answer has its number, from 1 over all lines. Where
-    /// there is no memory for the answers it is `Memory`, and no line is read.
+    /// is refused changes nothing, and the next is gone on with; its answer has its number, from 1 over all lines.
+    /// Where there is no memory for the answers it is `Memory`, and no line is read.
     pub fn edit_lines(&mut self, lines: &[u8]) -> Result<Vec<Reply>, Fault>
         ensures edited { IfOk result (λ answers. EditsLines (lines_in lines.now) self.old self.new answers.items) }
         ensures memory { IfErr result (λ fault. fault ≡ Memory) }

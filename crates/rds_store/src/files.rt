@@ -86,9 +86,9 @@ where
     }
 
     /// Keeps the document in its file, which it may be again and again: what changed since it was kept last is written
-    /// behind what the file has, or the file is written anew where that is shorter. What is kept lasts, whatever becomes
-    /// of the machine. Refuses as [`EmptiedFile::keep_on`] does. The file then has what it had, but after `Unsure`: then
-    /// it may have the document, and a later keep makes it sure.
+    /// behind what the file has, or the file is written anew where that is shorter. What is kept lasts, whatever
+    /// becomes of the machine. Refuses as [`EmptiedFile::keep_on`] does. The file then has what it had, but after
+    /// `Unsure`: then it may have the document, and a later keep makes it sure.
     pub fn keep(&mut self, rt: &H) -> Result<(), Fault>
         ensures kept { OnOk result (self.new.kept ≡ self.old.document) }
         ensures document { self.new.document ≡ self.old.document }

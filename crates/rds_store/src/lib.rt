@@ -1,6 +1,6 @@
 //! A replica of a document in a program: made or opened, edited, looked at, met with others, and kept in a file. Read
-//! `document` first, then `editing`, `looking`, `changes`, `meeting`, `drafts` and `files`; `answers` has the lines that
-//! edits are answered, and `threads` says that a document may move to another thread.
+//! `document` first, then `editing`, `looking`, `changes`, `meeting`, `drafts` and `files`; `answers` has the lines
+//! that edits are answered, and `threads` says that a document may move to another thread.
 #![tactic(auto)]
 
 mod answers;

@@ -55,8 +55,8 @@ impl Document {
         take_answer(self, &mut changes, question, answer)
     }
 
-    /// Joins all that the replica of a snapshot or a file has seen, and tells how many components of it were lacking. Bytes
-    /// that are neither are refused as `open` does; then the replica as a take does (`WrongGroup`, `WrongRoster`,
+    /// Joins all that the replica of a snapshot or a file has seen, and tells how many components of it were lacking.
+    /// Bytes that are neither are refused as `open` does; then the replica as a take does (`WrongGroup`, `WrongRoster`,
     /// `OwnAhead`, `Conflict`).
     pub fn merge(&mut self, snapshot: &[u8]) -> Result<u128, Fault>
         ensures merged { IfOk result (MergesSnapshot snapshot.now self.old self.new) }

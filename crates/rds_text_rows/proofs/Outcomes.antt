@@ -1,9 +1,9 @@
 -- One call more on a disk in memory.
-use Rattle.std.proofs.Common.{◌≡◌, ◌⊎◌, inl, inr, ⊎_elim, ℕ, ◌+◌, ◌≤◌, ◌<◌, List, [], ◌∷◌, ◌++◌, length, take, drop, Vec, Option, Some, Result, Ok, Err, OnOk, OnErr, refl, sym, ◌∙◌, ap, subst, arith, length-append, append-nil, add-zero, take-append-drop}
+use Rattle.std.proofs.Common.{◌≡◌, ◌⊎◌, inl, inr, ℕ, ◌≤◌, ◌<◌, List, [], ◌∷◌, ◌++◌, length, Vec, Some, refl, sym, ◌∙◌, ap, subst, arith, length-append, append-nil, add-zero, take-append-drop}
 use Rattle.std.specs.declared.alloc.Global.{Global}
 use Rattle.std.proofs.lemmas.List.{take_all, take-append-le}
 use Rattle.std.proofs.lemmas.Bool.{cases_lt}
-use Rattle.rds_journal.specs.Device.{written, Cut, Elapses, Follows, IsWrittenShort, Only, Torn}
+use Rattle.rds_journal.specs.Device.{Cut, Elapses, Follows, IsWrittenShort, Only, Torn}
 use Rattle.rds_text_rows.specs.Disks.{Outcome, OutcomeAfter, OutcomeSince}
 use Rattle.rds_text_rows.specs.declared.disk.Call.{Call}
 use Rattle.rds_text_rows.specs.declared.disk.Call.TheVariants.{Write, Shorten, Sync}

@@ -1,7 +1,7 @@
 -- What a crash may leave of a disk in memory: what was synced last, after each call since, of which each may have been
 -- cut short.
-use Rattle.std.specs.Prelude.{◌≡◌, ◌≤◌, ℕ, List, [], ◌∷◌, length, take, refl}
-use Rattle.std.proofs.Common.{sym, ◌∙◌, ap, subst, arith}
+use Rattle.std.specs.Prelude.{◌≡◌, ◌≤◌, ℕ, List, [], ◌∷◌, length, take}
+use Rattle.std.proofs.Common.{sym, subst, arith}
 use Rattle.std.proofs.lemmas.List.{take_all}
 use Rattle.rds_journal.specs.Device.{Cut, Torn}
 use Rattle.rds_text_rows.specs.declared.disk.Call.{Call}

@@ -6,7 +6,7 @@ use crate::disk::{Disk, Plan};
 use rds_journal::{AppendError, MOST, append, first_record, is_torn, put_record, record_length};
 use rds_names::Fault;
 use rds_rows::told::{digits_of, said};
-use rds_rows::words::{bytes_of, cut, first, number};
+use rds_rows::words::{bytes_of, cut, first, number, parted};
 use std::alloc::{AllocError, Global};
 
 /// What a row about records is answered.
@@ -118,14 +118,17 @@ fn flips(alloc: Global, digits: &str) -> Result<String, Fault> {
     Ok(told)
 }
 
-/// `torn-times COUNT BYTES`: whether the bytes, so many times one behind the other, are a torn end.
+/// `torn-times COUNT*BYTES ..`: whether the bytes, so many times one behind the other, are a torn end, where several are
+/// named behind one another.
 fn torn_times(alloc: Global, row: &str) -> Result<String, Fault> {
-    let (count, digits) = cut(row)?;
-    let count = number(count)?;
-    let bytes = bytes_of(alloc, digits)?;
     let mut all = Vec::new(alloc);
-    for _ in 0..count {
-        all.extend_from_slice(&bytes)?;
+    for part in row.split_whitespace() {
+        let (count, digits) = parted(part, "*")?;
+        let count = number(count)?;
+        let bytes = bytes_of(alloc, digits)?;
+        for _ in 0..count {
+            all.extend_from_slice(&bytes)?;
+        }
     }
     said(alloc, state_of(&all))
 }

@@ -5,9 +5,10 @@ use Rattle.rds_names.specs.Roster.{RosterValue}
 use Rattle.rds_state.specs.Fits.{ReplicaValue}
 use Rattle.rds_state.specs.Value.{coordinates}
 use Rattle.rds_keep.specs.Changes.{IsChanged}
-use Rattle.rds_files.specs.Files.{KeptFile}
+use Rattle.rds_files.specs.Files.{KeptFile, ReplacedValue}
 use Rattle.rds_questions.specs.Receiving.{ReceivedValue}
-use Rattle.rds_offline.proofs.Lettered.{no_take, unkept_take}
+use Rattle.rds_offline.specs.Letters.{IsTaken}
+use Rattle.rds_offline.proofs.Lettered.{is_taken, no_take, unkept_take}
 use Rattle.rds_offline.proofs.Changed.{is_changed}
 use Rattle.rds_offline.proofs.Longer.{longer_fits}
 use Rattle.rds_offline.proofs.letters.take_in.Goals as goal
@@ -39,3 +40,10 @@ returns-in_err-file-clause-fault g c =
     let p = err_from_is_err_and c.from_residual-in_err-file.result c.from_residual-in_err-file.ensures.1 in
     rw (p.1, p.2) (unkept_take c.args.asked.now c.args.received.now c.args.file.kept _ c.take_response.new.held c.in_err-file.field-0.0 c.into_parts-replica.ensures.replica c.in_ok-take_response.ensures.takes
     c.in_ok-take_response.ensures.ok c.in_ok-take_response.ensures.roster c.in_ok-take_response.ensures.own c.in_err-file.ensures.fault)
+
+pub returns-clause-taken : goal.returns-clause-taken
+returns-clause-taken g c =
+    let kept = ap (λ (f : ReplacedValue). f.kept) c.in_ok-file.ensures.replaced in
+    subst (IsTaken c.args.received.now c.args.file.kept) (sym kept)
+    (is_taken c.args.asked.now c.args.received.now c.args.file.kept _ c.take_response.new.held c.into_parts-replica.ensures.replica c.in_ok-take_response.ensures.takes
+    c.in_ok-take_response.ensures.ok c.in_ok-take_response.ensures.roster c.in_ok-take_response.ensures.own)

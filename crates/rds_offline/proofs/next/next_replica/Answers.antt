@@ -1,5 +1,4 @@
-use Rattle.std.proofs.Common.{◌≡◌, ◌≢◌, ◌∙◌, ℕ, Ok, ap, sym, subst, rules}
-use Rattle.rds_names.specs.Roster.{number_named}
+use Rattle.std.proofs.Common.{rules}
 use Rattle.rds_offline.proofs.NextReplicas.{all_joined, no_memory}
 use Rattle.rds_offline.proofs.next.next_replica.Goals as goal
 

@@ -1,0 +1,3 @@
+pub mod AtAnyMoment
+pub mod Events
+pub mod Recovery

@@ -1,0 +1,5 @@
+use Rattle.std.proofs.Common.{length}
+use Rattle.rds_text_rows.proofs.journal.records.Given as goal
+
+abbrev pub decreases-reading : goal.decreases-reading
+decreases-reading l = length l.rest
