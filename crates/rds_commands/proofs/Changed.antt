@@ -1,7 +1,6 @@
 -- What changed a replica, as the delta and the roster that it was joined with.
-use Rattle.std.proofs.Common.{◌≡◌, ◌∙◌, ◌+◌, ◌≤◌, ◌++◌, ◌∷◌, ℕ, Bool, true, false, List, [], length, append-nil, max, Option, Some, None, Result, Ok, Err, arith, refl, sym, ap, subst, inl, inr}
+use Rattle.std.proofs.Common.{◌≡◌, ◌∙◌, ◌+◌, ◌≤◌, ◌∷◌, ℕ, Bool, true, false, List, [], length, append-nil, max, Option, Some, None, Result, Ok, Err, arith, refl, sym, ap, subst, inl, inr}
 use Rattle.std.specs.FinMap as map
-use Rattle.std.specs.Prelude.{IfOk}
 use Rattle.rds_names.specs.Roster.{Begins, RosterValue}
 use Rattle.rds_names.specs.declared.fault.Fault.{Fault}
 use Rattle.rds_life.specs.Life.{Dead, IsNoLater, Life, Live, join_life}
@@ -25,7 +24,7 @@ use Rattle.rds_delta.proofs.Exchanges.{least_fits}
 use Rattle.rds_delta.proofs.LeastLaws.{grown_delta}
 use Rattle.rds_keep.specs.Changes.{ChangeValue, IsChanged}
 use Rattle.rds_files.specs.Files.{KeptFile}
-use Rattle.rds_lines.specs.Editing.{EditsFirst, EditsLines, EditsLinesBehind, EditsNext, IsEdited, MeetsCommand, MeetsEdit, edit_of_bytes}
+use Rattle.rds_lines.specs.Editing.{EditsLines, EditsLinesBehind, EditsNext, IsEdited, MeetsCommand, MeetsEdit, edit_of_bytes}
 use Rattle.rds_lines.specs.Lines.{is_empty_line}
 use Rattle.rds_output.specs.declared.reply.Reply.{Reply}
 use Rattle.rds_commands.specs.Edits.{IsGrown, delta_alone}

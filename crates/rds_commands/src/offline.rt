@@ -43,6 +43,21 @@ pub struct TakeWords<'a> {
     pub answer: &'a str,
 }
 
+impl<'a> TakeWords<'a> {
+    /// The words that take an answer into a file.
+    pub fn new(file: &'a str, question: &'a str, answer: &'a str) -> TakeWords<'a>
+        ensures file { result.file.now ≡ file.now }
+        ensures question { result.question.now ≡ question.now }
+        ensures answer { result.answer.now ≡ answer.now }
+    {
+        TakeWords {
+            file,
+            question,
+            answer,
+        }
+    }
+}
+
 /// Makes a file as `init_from` does, and writes the answer.
 pub fn run_init_from<H: Disk, W: Write>(
     rt: &H,

@@ -118,14 +118,7 @@ where
             file,
             question,
             answer,
-        } => {
-            let words = TakeWords {
-                file,
-                question,
-                answer,
-            };
-            run_take(rt, words, reader, writer)
-        }
+        } => run_take(rt, TakeWords::new(file, question, answer), reader, writer),
         Task::Merge { file, from } => run_merge(rt, file, from, writer),
         Task::Check { question, answer } => run_check(rt, question, answer, reader, writer),
         Task::Diff { file, other } => run_diff(rt, file, other, writer),

@@ -13,7 +13,7 @@ returns-clause-edited c =
 pub returns-clause-changed : goal.returns-clause-changed
 returns-clause-changed c =
     let edits = kept_lines (lines_in c.args.input.now) c.args.replica c.in_ok-index.index c.edit_lines.new.editor c.into_replica-replica.result c.in_ok-answers.answers.items c.in_ok-index.ensures.ok c.in_ok-answers.ensures.edited
-        c.into_replica-replica.ensures in
+    c.into_replica-replica.ensures in
     lines_changed (lines_in c.args.input.now) c.args.replica c.into_replica-replica.result c.in_ok-answers.answers.items c.in_ok-delta.delta edits
     (least_against c.into_replica-replica.result.state c.args.replica.state c.state-2.result.now c.state.result.now (coordinates c.in_ok-delta.delta) (ranks_in c.in_ok-before.before) c.in_ok-delta.ensures.ok c.in_ok-before.ensures.ranks c.state-2.ensures.state c.state.ensures.state)
     c.state-2.ensures.fits

@@ -1,4 +1,4 @@
-use Rattle.std.proofs.Common.{◌∙◌, inl, inr}
+use Rattle.std.proofs.Common.{inl, inr}
 use Rattle.std.proofs.lemmas.Result.{err_from_is_err_and}
 use Rattle.rds_commands.proofs.Compacted.{compacts_file}
 use Rattle.rds_commands.proofs.file_commands.compact_file.Goals as goal

@@ -64,7 +64,7 @@ pub returns-in-Answer-clause-written : goal.returns-in-Answer-clause-written
 returns-in-Answer-clause-written g c = rw c.in-Answer.is c.run_answer.ensures.written
 
 pub returns-in-Take-clause-written : goal.returns-in-Take-clause-written
-returns-in-Take-clause-written g c = rw c.in-Take.is c.run_take.ensures.written
+returns-in-Take-clause-written g c = rw (c.in-Take.is, ← c.new.ensures.file, ← c.new.ensures.question, ← c.new.ensures.answer) c.run_take.ensures.written
 
 pub returns-in-Merge-clause-written : goal.returns-in-Merge-clause-written
 returns-in-Merge-clause-written g c = rw c.in-Merge.is c.run_merge.ensures.written
