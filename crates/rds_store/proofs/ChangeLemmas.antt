@@ -6,7 +6,6 @@ use Rattle.std.specs.List.{slice_get}
 use Rattle.std.specs.Global.{Vec}
 use Rattle.std.proofs.lemmas.List.{take-append-drop}
 use Rattle.std.proofs.lemmas.Bool.Decides.{nat_tests}
-use Rattle.rds_counts.specs.Place.{Place}
 use Rattle.rds_dots.specs.declared.dot.Dot.{Dot}
 use Rattle.rds_dots.specs.Dots.{dot_cmp}
 use Rattle.rds_keep.specs.Changes.{IsChanged, roster_after}
@@ -23,7 +22,6 @@ use Rattle.rds_state.proofs.MadeLemmas.{made_is}
 use Rattle.rds_state.specs.Coordinates.{Coordinates, join}
 use Rattle.rds_state.specs.Edit.{effect}
 use Rattle.rds_state.specs.Fits.{Fits, ReplicaValue}
-use Rattle.rds_state.specs.Made.{entry_made}
 use Rattle.rds_state.specs.Results.{TakesDeltaWith}
 use Rattle.rds_state.specs.Value.{StateValue, coordinates}
 use Rattle.rds_state.specs.declared.command.Command.{Command}

@@ -9,7 +9,7 @@ pub returns-clause-since : goal.returns-clause-since
 returns-clause-since c =
     let v : ReplicaValue = c.args.source.now in
     let takes : TakesDeltaWith c.args.document.now v.roster v.state (Ok tt) c.take_with.new.self =
-        as_merged c.args.document.now c.take_with.new.self v c.in_ok-roster.roster c.state.result.now (c.in_ok-roster.ensures.ok ∙ c.roster.ensures) c.state.ensures.state c.in_ok-grew.ensures.taken
+    as_merged c.args.document.now c.take_with.new.self v c.in_ok-roster.roster c.state.result.now (c.in_ok-roster.ensures.ok ∙ c.roster.ensures) c.state.ensures.state c.in_ok-grew.ensures.taken
     in
     noted c.make_room.new.self c.note.new.self c.args.document.now c.take_with.new.self c.in_ok-grew.grew c.in_ok-lacking.lacking (c.make_room.ensures.since c.args.document.now c.requires.since) c.note.ensures
     (merge_made c.args.document.now c.take_with.new.self v c.in_ok-lacking.lacking c.in_ok-grew.grew takes c.in_ok-lacking.ensures.lacking c.in_ok-grew.ensures.grew)
