@@ -61,7 +61,8 @@ def test_what_changed_is_appended(file: Path) -> None:
             shop["b"].set(number)
             shop.keep()
             after = file.read_bytes()
-            assert after.startswith(before) and len(before) < len(after) < len(before) + 100
+            # As the first record of the example in docs/FORMATS.md, and 16 bytes for the gap before its dot.
+            assert after.startswith(before) and len(after) == len(before) + 90 + 16
             assert held_by(file) == bytes(shop)
         change_much(shop)
         shop.keep()
