@@ -213,6 +213,7 @@ where
     let opened: LockedFile<'a, H, GapSet> = LockedFile::open(rt, path)?;
     let same = stands(alloc, opened.kept().view_of().state(), &command)?;
     if same {
+        opened.make_last(rt)?;
         return Ok(FileAnswer {
             file: None,
             answer: Reply::Edited {

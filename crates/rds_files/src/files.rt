@@ -364,8 +364,8 @@ where
     }
 
     /// Keeps this replica in the file, which a change made of the one that it holds, and then lets the lock go. A torn
-    /// end is cut off, the record of the change is appended, and FILE and its folder are synced. The file isn't touched
-    /// where nothing changed: no component came, and no roster.
+    /// end is cut off, the record of the change is appended, and FILE and its folder are synced. Where nothing changed, no
+    /// component came and no roster, they are synced alone: another command may have died before it did that.
     ///
     /// FILE is written anew instead, as `replace` does, where a record isn't worth its place: in a file of format 1,
     /// and where the records would be longer than the snapshot and than 64 kB. So it is where the record is longer than
@@ -385,6 +385,7 @@ where
         ensures fault { IfErr result (IsUnkept replica) }
     {
         if is_nothing(&change) {
+            make_last(rt, self.target.path(), &self.file)?;
             return Ok(self.unchanged(replica));
         }
         match self.append(rt, &replica, &change)? {
@@ -473,6 +474,7 @@ where
         ensures fault { IfErr result (IsUnkept replica.now) }
     {
         if is_nothing(&change) {
+            make_last(rt, self.target.path(), &self.file)?;
             return Ok(());
         }
         match self.append(rt, replica, &change) {

@@ -83,7 +83,7 @@ impl<S: DotSet> Settlement<'_, S> {
 /// since the session began, and what they did stays. The file is locked, read, joined with the delta, kept and
 /// unlocked. Its roster is then the longest of three: the one that it has now, the one that the session's replica had,
 /// and the peer's where that came. A delta without components is taken as any other. Where nothing was received, or
-/// nothing changes, the file isn't touched.
+/// nothing changes, nothing is written.
 ///
 /// Refuses `WrongAsker` where the file holds another replica by now, and `WrongRoster` where its roster and the peer's
 /// have grown apart. A file that takes nothing stays as it was, its roster too.
