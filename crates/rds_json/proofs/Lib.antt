@@ -2,6 +2,7 @@ pub mod Ascending
 pub mod EditsUnderstood
 pub mod LinesUnderstood
 pub mod Names
+pub mod OneKey
 pub mod Outcomes
 pub mod Paths
 pub mod Plain

@@ -10,7 +10,7 @@ use rds_json::{show, show_at, show_pretty};
 use rds_names::{Fault, Key, Path};
 use rds_output::Reply;
 use rds_state::State;
-use rds_tree::{View, view};
+use rds_tree::{View, view, view_of_key};
 use std::alloc::Global;
 
 /// How JSON is laid out.
@@ -65,7 +65,7 @@ pub fn shown_at<S: DotSet>(
     ensures shown { IfOk result (TellsAt state.now above.now key.now) }
     ensures memory { IfErr result (λ fault. fault ≡ Memory) }
 {
-    let view = view(alloc, state, above)?;
+    let view = view_of_key(alloc, state, above, key)?;
     printed_at(alloc, &view, key)
 }
 

@@ -2,3 +2,4 @@ mod Amounts
 mod Examples
 mod Joined
 mod Merged
+mod OneKey

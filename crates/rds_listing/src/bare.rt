@@ -12,7 +12,7 @@ use rds_dots::DotSet;
 use rds_json::{counter_at, values_at};
 use rds_names::{Fault, Key, Path, Scalar};
 use rds_state::State;
-use rds_tree::{View, view};
+use rds_tree::{View, view_of_key};
 use std::alloc::Global;
 
 /// Of which kinds values are wanted.
@@ -50,7 +50,7 @@ pub fn raw_values<S: DotSet>(
     ensures raw { IfOk result (GivesRaw state.now above.now key.now wanted) }
     ensures memory { IfErr result (λ fault. fault ≡ Memory) }
 {
-    let shape = view(alloc, state, above)?;
+    let shape = view_of_key(alloc, state, above, key)?;
     raw_at(alloc, &shape, key, wanted)
 }
 

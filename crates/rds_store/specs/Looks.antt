@@ -10,6 +10,7 @@ use Rattle.rds_names.specs.declared.fault.Fault.{Fault}
 use Rattle.rds_names.specs.declared.fault.Fault.TheVariants.{BadPath, Memory}
 use Rattle.rds_state.specs.Value.{StateValue}
 use Rattle.rds_tree.specs.Document.{document}
+use Rattle.rds_tree.specs.Parts.{closed}
 use Rattle.rds_tree.specs.Shown.{Shown, shown_view}
 use Rattle.rds_tree.specs.View.{view_of}
 use Rattle.rds_tree.specs.declared.views.View.{View}
@@ -31,6 +32,10 @@ told_at text state path = path_of path >>= λ p. Ok (text state p)
 -- the view as compact JSON
 abbrev pub view_text : StateValue → List (List ℕ) → List ℕ
 view_text state path = compact_text (data_of (view_of (document state) path))
+
+-- the same without what is below the maps
+abbrev pub here_text : StateValue → List (List ℕ) → List ℕ
+here_text state path = compact_text (data_of (closed (view_of (document state) path)))
 
 -- the text that is due, or the fault, unless memory ran out
 abbrev pub MayTell : Result (String Global) Fault → Result (List ℕ) Fault → Type 0

@@ -16,7 +16,7 @@ use rds_state::State;
 use std::alloc::Global;
 
 /// The most deltas that are noted. Where there are more, the document is written anew.
-const MOST: usize = 4_096;
+const MOST: usize = 65_536;
 
 /// What a document was when it was kept, the deltas that it was joined with since, if they are noted, and whether its
 /// roster grew.

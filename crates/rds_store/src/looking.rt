@@ -1,17 +1,22 @@
 //! What is told of a document.
 ghost use Rattle.std.specs.Prelude.{◌≡◌, ◌⊎◌, IfOk, IfErr, string_bytes};
+ghost use Rattle.rds_json.specs.Standing.{standing_data};
 ghost use Rattle.rds_lines.specs.Overview.{IsOverview};
 ghost use Rattle.rds_listing.specs.Conflicts.{conflicts_text};
 ghost use Rattle.rds_listing.specs.Dump.{dump_text};
 ghost use Rattle.rds_names.specs.declared.fault.Fault.TheVariants.{Memory};
 ghost use Rattle.rds_state.specs.Mark.{mark_of};
-ghost use Rattle.rds_store.specs.Looks.{IsValueText, MayShow, MayTell, RefusesPlace, told_at, view_text};
+ghost use Rattle.rds_store.specs.Looks.{IsValueText, MayShow, MayTell, RefusesPlace, here_text, told_at};
+ghost use Rattle.rds_store.specs.Looks.{view_text};
+ghost use Rattle.rds_tree.specs.Document.{document};
+ghost use Rattle.rds_tree.specs.View.{view_of};
+ghost use Rattle.serde_json.specs.Written.{compact_text};
 
 use crate::document::Document;
 use rds_json::{show, show_at};
 use rds_lines::{overview_json, place_of};
 use rds_listing::{conflicts, dump};
-use rds_names::{Fault, Path};
+use rds_names::{Fault, Key, Path};
 use rds_state::Mark;
 use rds_tree::View;
 
@@ -32,6 +37,15 @@ impl Document {
         show(self.alloc, &view)
     }
 
+    /// The same of what stands at the path itself: each map there shows nothing, and isn't looked at.
+    pub fn here_json(&self, path: &str) -> Result<String, Fault>
+        ensures { MayTell result (told_at here_text self.now.state path.now) }
+    {
+        let path = Path::new(self.alloc, path)?;
+        let shown = self.index.view_here(&path)?;
+        show(self.alloc, &shown)
+    }
+
     /// What stands at a path, as compact JSON: the sum of its counter or null, the values of its register, and those of
     /// its set. The root is refused (`BadPath`), and a text that is no path (`BadPath`, `BadKey`).
     pub fn value_json(&self, path: &str) -> Result<String, Fault>
@@ -40,8 +54,17 @@ impl Document {
     {
         let path = Path::new(self.alloc, path)?;
         let (above, key) = place_of(self.alloc, &path)?;
-        let view = self.index.view(&above)?;
-        show_at(self.alloc, &view, &key)
+        self.standing(&above, &key)
+    }
+
+    /// What stands at a key below a path, as compact JSON.
+    fn standing(&self, above: &Path, key: &Key) -> Result<String, Fault>
+        ensures told { IfOk result (λ text. string_bytes text
+            ≡ compact_text (standing_data key.now (view_of (document self.now.state) above.now))) }
+        ensures memory { IfErr result (λ fault. fault ≡ Memory) }
+    {
+        let view = self.index.view_of_key(above, key)?;
+        show_at(self.alloc, &view, key)
     }
 
     /// The registers below a path that have more than one value, each as a line of JSON with its path from the root and

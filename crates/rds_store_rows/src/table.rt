@@ -55,6 +55,7 @@ fn shown(
     let document = &documents.named(name)?.document;
     match what {
         "view" => document.view_json(path),
+        "here" => document.here_json(path),
         "get" => document.value_json(path),
         "conflicts" => told(alloc, document.conflicts(path)?.as_str()),
         "dump" => told(alloc, document.dump(path)?.as_str()),

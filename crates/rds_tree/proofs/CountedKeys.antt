@@ -20,6 +20,8 @@ use Rattle.rds_counts.specs.Entries.{entries-counts_of}
 use Rattle.rds_tree.specs.Distinct.{distinct}
 use Rattle.rds_tree.specs.Document.{key_cmp, counted_keys, sums_of}
 use Rattle.rds_tree.proofs.Distinct.{NoLess, Climbs, once_distinct}
+use Rattle.rds_tree.proofs.Members.{any-once}
+use Rattle.rds_tree.proofs.SameDocument.{any-map}
 
 abbrev keys_of : List CountRow → List (List ℕ)
 keys_of rows = each (λ r. r.key) rows
@@ -77,3 +79,10 @@ pub sums_whole : (counts : Counted) (rows rest : List CountRow) (sums : List (Li
     → sums ++ sums_from counts last rest ≡ sums_from counts None rows → sums ≡ sums_of counts
 sums_whole counts rows rest sums last are is none told =
     sym (append-nil sums) ∙ ap (λ rs. sums ++ sums_from counts last rs) (sym (no_rows rest none)) ∙ told ∙ ap (each (λ k. (k, value_of counts k))) (sym (counted_keys-rows counts rows are is))
+
+-- a key is counted where a row has it
+pub any_counted : (t : List ℕ → Bool) (counts : Counted) (rows : List CountRow) → AreCountRows rows → counts ≡ counts_of rows → list_any (λ (r : CountRow). t r.key) rows ≡ list_any t (counted_keys counts)
+any_counted t counts rows are is =
+    sym (any-map t (λ (r : CountRow). r.key) rows) ∙ sym (any_key t rows are.are) ∙ ap (λ es. list_any t (place_keys es)) (sym (entries-counts_of rows are.rise))
+    ∙ ap (λ m. list_any t (place_keys (map.entries m))) (sym is)
+    ∙ sym (any-once nat_list_cmp_total (slice_cmp-IsAntisymmetric nat_cmp-IsAntisymmetric) t (place_keys (map.entries counts)))

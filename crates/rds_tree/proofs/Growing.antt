@@ -1,10 +1,9 @@
 -- A tree that grows by the live dots under a path.
-use Rattle.std.proofs.Common.{◌≡◌, ℕ, Bool, true, false, cond, not, ◌&&◌, ◌||◌, List, [], ◌∷◌, map, refl, sym, ◌∙◌, ap}
-use Rattle.std.proofs.Common.{length, leb, subst, arith, ◌≤◌}
+use Rattle.std.proofs.Common.{◌≡◌, ℕ, Bool, true, false, cond, ◌||◌, List, [], ◌∷◌, map, refl, sym, ◌∙◌, ap}
+use Rattle.std.proofs.Common.{subst}
 use Rattle.std.specs.Prelude.{ℤ, Option, Some, None, filter}
-use Rattle.std.proofs.lemmas.Bool.Decides.{nat_tests}
 use Rattle.std.proofs.lemmas.Map.Text.{is_eq-slice_cmp}
-use Rattle.std.specs.List.{list_any, list_all, starts_with, cons_option}
+use Rattle.std.specs.List.{list_any, starts_with, cons_option}
 use Rattle.std.specs.Str.{bytes_eq}
 use Rattle.rds_names.specs.declared.scalar.Scalar.{Scalar}
 use Rattle.rds_names.specs.declared.entry.Kind.{Kind}
@@ -12,7 +11,7 @@ use Rattle.rds_names.specs.declared.entry.Entry.{Entry}
 use Rattle.rds_dots.specs.declared.dot.Dot.{Dot}
 use Rattle.rds_tree.specs.Document.{Placed, entry_placed, entries_in}
 use Rattle.rds_tree.specs.View.{below, below_path, step_into, same_key, entries_view}
-use Rattle.rds_tree.specs.Row.{Row, placement, placed_all, fits}
+use Rattle.rds_tree.specs.Row.{Row, placement, placed_all}
 use Rattle.rds_tree.specs.Growing.{row_of, rows_under, Holds}
 use Rattle.rds_tree.proofs.Kids.{flip_eq}
 use Rattle.rds_tree.proofs.SameView.{SameMembers, same_below_path, same_entries_view}
@@ -31,21 +30,6 @@ any-map t f (x ∷ xs) = ap (λ b. t (f x) || b) (any-map t f xs)
 -- the tree's entries are those of the rows
 pub same_members : (rows : List (Dot × Entry)) (tree : List Row) → Holds rows tree → SameMembers (placed_all tree) (entries_in rows)
 same_members rows tree holds = record { any = λ t. any-map t placement tree ∙ holds.any (λ r. t (placement r)) ∙ sym (any-map t entry_placed rows) }
-
-not_any : {X : Type 0} (p : X → Bool) (xs : List X) → list_all p xs ≡ not (list_any (λ x. not (p x)) xs)
-not_any p [] = refl
-not_any p (x ∷ xs) = elim (p x) as (λ b. (b && list_all p xs) ≡ not (not b || list_any (λ x. not (p x)) xs)) [ true ↦ not_any p xs | false ↦ refl ]
-
-none_long : (rows : List (Dot × Entry)) → ((e : Entry) → leb (length e.path) 8 ≡ true) → list_any (λ r. not (leb (length (row_of r).path) 8)) rows ≡ false
-none_long [] short = refl
-none_long (r ∷ rows) short = ap (λ b. not b || list_any (λ r. not (leb (length (row_of r).path) 8)) rows) (short r.1) ∙ none_long rows short
-
-short_path : (e : Entry) → leb (length e.path) 8 ≡ true
-short_path e = let short : length e.path ≤ 8 = e.within in grind (arith, nat_tests)
-
--- no path in the tree is too long
-pub holds_fits : (rows : List (Dot × Entry)) (tree : List Row) → Holds rows tree → fits 8 tree ≡ true
-holds_fits rows tree holds = not_any (λ r. leb (length r.path) 8) tree ∙ ap not (holds.any (λ r. not (leb (length r.path) 8)) ∙ none_long rows short_path)
 
 -- ---- what isn't under a path isn't seen from there
 
@@ -86,9 +70,12 @@ below_path-under : (path : List (List ℕ)) (es : List Placed) → below_path pa
 below_path-under [] es = under_root es
 below_path-under (k ∷ path) es = ap (below_path path) (below-under k path es) ∙ below_path-under path (below k es)
 
--- at the path the tree shows what all entries show
+-- at the path the tree has the entries of all rows
+pub seen_rows : (path : List (List ℕ)) (rows : List (Dot × Entry)) (tree : List Row) → Holds (rows_under path rows) tree → SameMembers (below_path path (placed_all tree)) (below_path path (entries_in rows))
+seen_rows path rows tree holds =
+    subst (λ es. SameMembers (below_path path (placed_all tree)) es) (ap (below_path path) (entries-under path rows) ∙ below_path-under path (entries_in rows))
+    (same_below_path path _ _ (same_members (rows_under path rows) tree holds))
+
+-- and shows what they show
 pub shows_rows : (counters : Option (List (List ℕ × ℤ))) (path : List (List ℕ)) (rows : List (Dot × Entry)) (tree : List Row) → Holds (rows_under path rows) tree → entries_view counters path (placed_all tree) ≡ entries_view counters path (entries_in rows)
-shows_rows counters path rows tree holds =
-    let seen = below_path path (placed_all tree) in
-    let same : SameMembers seen (below_path path (entries_in (rows_under path rows))) = same_below_path path _ _ (same_members (rows_under path rows) tree holds) in
-    same_entries_view counters path _ _ (subst (λ es. SameMembers seen es) (ap (below_path path) (entries-under path rows) ∙ below_path-under path (entries_in rows)) same)
+shows_rows counters path rows tree holds = same_entries_view counters path _ _ (seen_rows path rows tree holds)

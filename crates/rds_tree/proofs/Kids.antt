@@ -20,7 +20,7 @@ use Rattle.rds_tree.specs.Once.{once_is}
 use Rattle.rds_tree.specs.Document.{Placed, key_cmp}
 use Rattle.rds_tree.specs.View.{keys_in, first_key, same_key, step_into, below, below_path, children}
 use Rattle.rds_tree.specs.Row.{Row, under, at_end, rows_below, rows_of, is_full, are_full, placement, placed_all}
-use Rattle.rds_tree.specs.Row.{placed_below, fits}
+use Rattle.rds_tree.specs.Row.{placed_below}
 
 abbrev heads : List Placed → List (List ℕ)
 heads es = filter_map (λ e. first_key e.path) es
@@ -140,10 +140,6 @@ le_less a n h = grind (arith, nat_tests)
 abbrev pub fit : ℕ → List Placed → Bool
 fit n es = list_all (λ e. leb (length e.path) n) es
 
-fit-placement : (n : ℕ) (rows : List Row) → fit n (placed_all rows) ≡ fits n rows
-fit-placement n [] = refl
-fit-placement n (r ∷ rows) = ap (λ b. leb (length r.path) n && b) (fit-placement n rows)
-
 stepped : (n : ℕ) (k : List ℕ) (path : List (List ℕ)) (kind : Kind) (value : Scalar) (rest : List Placed) → leb (length path) n ≡ true → fit n rest ≡ true → fit n (cons_option (step_into k kind value path) rest) ≡ true
 stepped n k [] kind value rest h all = all
 stepped n k (x ∷ path) kind value rest h all =
@@ -159,6 +155,3 @@ fit-below n k (e ∷ es) h = stepped n k e.path e.kind e.value (below k es) (and
 pub fit-below_path : (n : ℕ) (path : List (List ℕ)) (es : List Placed) → fit n es ≡ true → fit n (below_path path es) ≡ true
 fit-below_path n [] es h = h
 fit-below_path n (k ∷ path) es h = fit-below_path n path (below k es) (fit-below n k es h)
-
-pub fits_at : (n : ℕ) (path : List (List ℕ)) (rows node : List Row) → placed_all node ≡ below_path path (placed_all rows) → fits n rows ≡ true → fits n node ≡ true
-fits_at n path rows node is h = sym (fit-placement n node) ∙ ap (fit n) is ∙ fit-below_path n path (placed_all rows) (fit-placement n rows ∙ h)

@@ -1,5 +1,6 @@
 pub mod Adding
 pub mod CountedKeys
+pub mod Closed
 pub mod Cutting
 pub mod Deltas
 pub mod Distinct
@@ -17,12 +18,14 @@ pub mod Kids
 pub mod Killing
 pub mod MapsShown
 pub mod Members
+pub mod OneKey
 pub mod Reached
 pub mod Rows
 pub mod SameDocument
 pub mod SameView
 pub mod ScalarOrder
 pub mod Shows
+pub mod UnderKey
 pub mod Walked
 pub mod Whole
 pub mod Witness

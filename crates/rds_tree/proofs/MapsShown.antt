@@ -122,7 +122,7 @@ all_short (r ∷ rows) = and_true (leb (length r.1.path) 8) _ (short_path r.1) (
 
 -- ---- the view under a key
 
-below_path-end : (path : List (List ℕ)) (key : List ℕ) (es : List Placed) → below_path (path ++ key ∷ []) es ≡ below key (below_path path es)
+pub below_path-end : (path : List (List ℕ)) (key : List ℕ) (es : List Placed) → below_path (path ++ key ∷ []) es ≡ below key (below_path path es)
 below_path-end [] key es = refl
 below_path-end (k ∷ path) key es = below_path-end path key (below k es)
 

@@ -47,7 +47,7 @@ same_below_path (k ∷ path) es fs same = same_below_path path (below k es) (bel
 same_keys : (es fs : List Placed) → SameMembers es fs → keys_in es ≡ keys_in fs
 same_keys es fs same = once_same nat_list_cmp_total (slice_cmp-IsAntisymmetric nat_cmp-IsAntisymmetric) _ _ (λ q. same_picked (λ e. first_key e.path) es fs same (eq_by_cmp key_cmp q))
 
-same_values : (kind : Kind) (es fs : List Placed) → SameMembers es fs → values_here kind es ≡ values_here kind fs
+pub same_values : (kind : Kind) (es fs : List Placed) → SameMembers es fs → values_here kind es ≡ values_here kind fs
 same_values kind es fs same = once_same scalars_total scalars_exact _ _ (λ q. same_picked (λ e. value_here kind e.kind e.value e.path) es fs same (eq_by_cmp scalar_cmp q))
 
 pub filter_map-map : {X Y Z : Type 0} (h : Y → Option Z) (g : X → Y) (xs : List X) → filter_map h (map g xs) ≡ filter_map (λ x. h (g x)) xs

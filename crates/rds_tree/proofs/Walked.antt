@@ -1,7 +1,6 @@
 -- What a walk over a tree's children has gathered so far.
 use Rattle.std.proofs.Common.{◌≡◌, ℕ, zero, suc, Bool, true, false, ◌&&◌, List, [], ◌∷◌, ◌++◌, map, refl, sym, ◌∙◌, ap}
-use Rattle.std.proofs.Common.{length, leb, arith, append-nil, append_assoc, subst}
-use Rattle.rds_names.specs.Conditions.{and_right, and_left}
+use Rattle.std.proofs.Common.{leb, arith, append-nil, append_assoc, subst}
 use Rattle.std.specs.Prelude.{Option, Some, None, if◌then◌else◌, ℤ}
 use Rattle.std.specs.Option.{option_to_list}
 use Rattle.std.proofs.lemmas.Bool.Decides.{nat_tests}
@@ -13,8 +12,8 @@ use Rattle.rds_tree.specs.declared.leaf.Leaf.{Leaf}
 use Rattle.rds_tree.specs.Document.{key_cmp}
 use Rattle.rds_tree.specs.View.{values_by_key, values_here, with_key, goes_on, shown_to, children}
 use Rattle.rds_tree.specs.Gathered.{child_maps}
-use Rattle.rds_tree.specs.Row.{Row, under, rows_below, rows_of, are_full, placed_all, placed_below, fits, all_fit}
-use Rattle.rds_tree.specs.Shown.{Shown, ShownMaps, maps_step, view_step, shows, no_maps, maps_of, shown_view}
+use Rattle.rds_tree.specs.Row.{Row, rows_of, are_full, placed_all, placed_below}
+use Rattle.rds_tree.specs.Shown.{Shown, ShownMaps, maps_step, view_step, shows, maps_of, shown_view}
 use Rattle.rds_tree.specs.Shown.{maps_shown, views_shown}
 use Rattle.rds_tree.specs.declared.views.Maps.{Maps}
 use Rattle.rds_tree.specs.declared.views.Maps.TheViews.{roll-View}
@@ -22,11 +21,11 @@ use Rattle.rds_tree.specs.declared.views.Maps.TheFolds.{fold-roll-View}
 use Rattle.rds_tree.specs.declared.views.View.{View}
 use Rattle.rds_tree.proofs.Kids.{children-rows}
 
-pub record IsWalked (all left : List (List ℕ × List Row)) (regs sets : List (List ℕ × List Scalar)) (maps : List (List ℕ × Shown)) : Type 0 where
+-- what was gathered from some of the children, whose views are n keys deep
+pub record IsWalked (n : ℕ) (all left : List (List ℕ × List Row)) (regs sets : List (List ℕ × List Scalar)) (maps : List (List ℕ × Shown)) : Type 0 where
   pub of_regs : regs ++ values_by_key Reg (placed_below left) ≡ values_by_key Reg (placed_below all)
   pub of_sets : sets ++ values_by_key Elem (placed_below left) ≡ values_by_key Elem (placed_below all)
-  pub fit : (n : ℕ) → all_fit n all ≡ true → all_fit n left ≡ true
-  pub of_maps : (n : ℕ) → all_fit n all ≡ true → maps ++ child_maps n (placed_below left) ≡ child_maps n (placed_below all)
+  pub of_maps : maps ++ child_maps n (placed_below left) ≡ child_maps n (placed_below all)
 
 abbrev pub child_map : ℕ → List ℕ × List Row → Option (List ℕ × Shown)
 child_map n c = if goes_on (placed_all c.1) then Some (c.0, shown_to n None (placed_all c.1)) else None
@@ -36,17 +35,14 @@ pushed xs None ys = ap (λ zs. zs ++ ys) (append-nil xs)
 pushed xs (Some y) ys = append_assoc xs (y ∷ []) ys
 
 -- one more child
-pub walked_on : (all left rest : List (List ℕ × List Row)) (c : List ℕ × List Row) (regs sets regs' sets' : List (List ℕ × List Scalar)) (maps maps' : List (List ℕ × Shown)) → IsWalked all left regs sets maps → left ≡ c ∷ rest
+pub walked_on : (n : ℕ) (all left rest : List (List ℕ × List Row)) (c : List ℕ × List Row) (regs sets regs' sets' : List (List ℕ × List Scalar)) (maps maps' : List (List ℕ × Shown)) → IsWalked n all left regs sets maps → left ≡ c ∷ rest
     → regs' ≡ regs ++ option_to_list (with_key c.0 (values_here Reg (placed_all c.1))) → sets' ≡ sets ++ option_to_list (with_key c.0 (values_here Elem (placed_all c.1)))
-    → ((n : ℕ) → fits n c.1 ≡ true → maps' ≡ maps ++ option_to_list (child_map n c)) → IsWalked all rest regs' sets' maps'
-walked_on all left rest c regs sets regs' sets' maps maps' w is r s m =
-    let fit : (n : ℕ) → all_fit n all ≡ true → (fits n c.1 && all_fit n rest) ≡ true = λ n h. ap (all_fit n) (sym is) ∙ w.fit n h in
-    record {
-      of_regs = ap (λ xs. xs ++ values_by_key Reg (placed_below rest)) r ∙ pushed regs _ _ ∙ ap (λ cs. regs ++ values_by_key Reg (placed_below cs)) (sym is) ∙ w.of_regs;
-      of_sets = ap (λ xs. xs ++ values_by_key Elem (placed_below rest)) s ∙ pushed sets _ _ ∙ ap (λ cs. sets ++ values_by_key Elem (placed_below cs)) (sym is) ∙ w.of_sets;
-      fit = λ n h. and_right _ _ (fit n h);
-      of_maps = λ n h. ap (λ xs. xs ++ child_maps n (placed_below rest)) (m n (and_left _ _ (fit n h))) ∙ pushed maps (child_map n c) _ ∙ ap (λ cs. maps ++ child_maps n (placed_below cs)) (sym is) ∙ w.of_maps n h;
-    }
+    → maps' ≡ maps ++ option_to_list (child_map n c) → IsWalked n all rest regs' sets' maps'
+walked_on n all left rest c regs sets regs' sets' maps maps' w is r s m = record {
+  of_regs = ap (λ xs. xs ++ values_by_key Reg (placed_below rest)) r ∙ pushed regs _ _ ∙ ap (λ cs. regs ++ values_by_key Reg (placed_below cs)) (sym is) ∙ w.of_regs;
+  of_sets = ap (λ xs. xs ++ values_by_key Elem (placed_below rest)) s ∙ pushed sets _ _ ∙ ap (λ cs. sets ++ values_by_key Elem (placed_below cs)) (sym is) ∙ w.of_sets;
+  of_maps = ap (λ xs. xs ++ child_maps n (placed_below rest)) m ∙ pushed maps (child_map n c) _ ∙ ap (λ cs. maps ++ child_maps n (placed_below cs)) (sym is) ∙ w.of_maps;
+}
 
 pub no_fit : (a : ℕ) (b : Bool) → (leb (suc a) zero && b) ≡ true → ⊥
 no_fit a b h = grind (arith, nat_tests)
@@ -54,44 +50,17 @@ no_fit a b h = grind (arith, nat_tests)
 pub suc_le : (a n : ℕ) → leb (suc a) (suc n) ≡ leb a n
 suc_le a n = grind (arith, nat_tests)
 
-and_and : (a b c : Bool) → (a && (b && c)) ≡ ((a && b) && c)
-and_and true b c = refl
-and_and false b c = refl
-
-fits_none : (leaves : List Leaf) (cs : List (List ℕ × List Row)) → are_full cs ≡ true → fits zero (rows_of leaves cs) ≡ true → cs ≡ []
-fits_none [] [] full h = refl
-fits_none [] ((k, []) ∷ cs) full h = absurd (cc)
-fits_none [] ((k, (r ∷ rows)) ∷ cs) full h = absurd (no_fit (length r.path) _ h)
-fits_none (l ∷ leaves) cs full h = fits_none leaves cs full h
-
-fits-under : (n : ℕ) (k : List ℕ) (rows rest : List Row) → fits (suc n) (map (under k) rows ++ rest) ≡ (fits n rows && fits (suc n) rest)
-fits-under n k [] rest = refl
-fits-under n k (r ∷ rows) rest = ap (λ b. b && fits (suc n) (map (under k) rows ++ rest)) (suc_le (length r.path) n) ∙ ap (λ b. leb (length r.path) n && b) (fits-under n k rows rest) ∙ and_and (leb (length r.path) n) _ _
-
-fits_below : (n : ℕ) (cs : List (List ℕ × List Row)) → fits (suc n) (rows_below cs) ≡ all_fit n cs
-fits_below n [] = refl
-fits_below n (c ∷ cs) = fits-under n c.0 c.1 (rows_below cs) ∙ ap (λ b. fits n c.1 && b) (fits_below n cs)
-
-all_fit_of : (n : ℕ) (leaves : List Leaf) (cs : List (List ℕ × List Row)) → fits (suc n) (rows_of leaves cs) ≡ true → all_fit n cs ≡ true
-all_fit_of n [] cs h = sym (fits_below n cs) ∙ h
-all_fit_of n (l ∷ leaves) cs h = all_fit_of n leaves cs (and_right _ _ h)
-
 -- at the end the walk has the view
-pub walked_whole : (n : ℕ) (counters : Option (List (List ℕ × ℤ))) (leaves : List Leaf) (cs : List (List ℕ × List Row)) (regs sets : List (List ℕ × List Scalar)) (maps : List (List ℕ × Shown)) → are_full cs ≡ true → IsStrictlySortedBy key_cmp (map (λ c. c.0) cs) → IsWalked cs [] regs sets maps
-    → fits n (rows_of leaves cs) ≡ true → shows (maps_of maps) regs sets counters ≡ shown_to n counters (placed_all (rows_of leaves cs))
-walked_whole zero counters leaves cs regs sets maps full rise w h =
-    let none = fits_none leaves cs full h in
-    let r : regs ≡ [] = sym (append-nil regs) ∙ w.of_regs ∙ ap (λ ds. values_by_key Reg (placed_below ds)) none in
-    let s : sets ≡ [] = sym (append-nil sets) ∙ w.of_sets ∙ ap (λ ds. values_by_key Elem (placed_below ds)) none in
-    let m : maps ≡ [] = sym (append-nil maps) ∙ w.of_maps zero (ap (all_fit zero) none) ∙ ap (λ ds. child_maps zero (placed_below ds)) none in
-    ap (λ ms. shows (maps_of ms) regs sets counters) m ∙ ap (λ rs. shows no_maps rs sets counters) r ∙ ap (λ ss. shows no_maps [] ss counters) s
-walked_whole (suc n) counters leaves cs regs sets maps full rise w h =
+pub walked_whole : (n depth : ℕ) (counters : Option (List (List ℕ × ℤ))) (leaves : List Leaf) (cs : List (List ℕ × List Row)) (regs sets : List (List ℕ × List Scalar)) (maps : List (List ℕ × Shown)) → depth ≡ suc n → are_full cs ≡ true → IsStrictlySortedBy key_cmp (map (λ c. c.0) cs) → IsWalked n cs [] regs sets maps
+    → shows (maps_of maps) regs sets counters ≡ shown_to depth counters (placed_all (rows_of leaves cs))
+walked_whole n depth counters leaves cs regs sets maps deep full rise w =
     let kids = children-rows leaves cs full rise in
     let r : regs ≡ values_by_key Reg (children (placed_all (rows_of leaves cs))) = sym (append-nil regs) ∙ w.of_regs ∙ ap (values_by_key Reg) (sym kids) in
     let s : sets ≡ values_by_key Elem (children (placed_all (rows_of leaves cs))) = sym (append-nil sets) ∙ w.of_sets ∙ ap (values_by_key Elem) (sym kids) in
-    let m : maps ≡ child_maps n (children (placed_all (rows_of leaves cs))) = sym (append-nil maps) ∙ w.of_maps n (all_fit_of n leaves cs h) ∙ ap (child_maps n) (sym kids) in
+    let m : maps ≡ child_maps n (children (placed_all (rows_of leaves cs))) = sym (append-nil maps) ∙ w.of_maps ∙ ap (child_maps n) (sym kids) in
     ap (λ ms. shows (maps_of ms) regs sets counters) m ∙ ap (λ rs. shows (maps_of (child_maps n (children (placed_all (rows_of leaves cs))))) rs sets counters) r
     ∙ ap (λ ss. shows (maps_of (child_maps n (children (placed_all (rows_of leaves cs))))) (values_by_key Reg (children (placed_all (rows_of leaves cs)))) ss counters) s
+    ∙ ap (λ d. shown_to d counters (placed_all (rows_of leaves cs))) (sym deep)
 
 pub views_push : (xs : List (List ℕ × View)) (k : List ℕ) (v : View) → views_shown (xs ++ (k, v) ∷ []) ≡ views_shown xs ++ (k, shown_view v) ∷ []
 views_push [] k v = refl
@@ -104,9 +73,9 @@ with_map k rows maps shows_it on n is = rw on (ap (λ v. maps ++ (k, v) ∷ []) 
 pub without_map : (k : List ℕ) (rows : List Row) (maps : List (List ℕ × Shown)) → goes_on (placed_all rows) ≡ false → (n : ℕ) → maps ≡ maps ++ option_to_list (child_map n (k, rows))
 without_map k rows maps off n = rw off (sym (append-nil maps))
 
-pub walked_to : (all left cs : List (List ℕ × List Row)) (regs sets : List (List ℕ × List Scalar)) (maps : List (List ℕ × Shown)) → IsWalked all left regs sets maps → all ≡ cs → left ≡ [] → IsWalked cs [] regs sets maps
-walked_to all left cs regs sets maps w is none =
-    subst (λ ds. IsWalked ds [] regs sets maps) is (subst (λ ds. IsWalked all ds regs sets maps) none w)
+pub walked_to : (n : ℕ) (all left cs : List (List ℕ × List Row)) (regs sets : List (List ℕ × List Scalar)) (maps : List (List ℕ × Shown)) → IsWalked n all left regs sets maps → all ≡ cs → left ≡ [] → IsWalked n cs [] regs sets maps
+walked_to n all left cs regs sets maps w is none =
+    subst (λ ds. IsWalked n ds [] regs sets maps) is (subst (λ ds. IsWalked n all ds regs sets maps) none w)
 
 pub shown_view-roll : (m : Maps) (regs sets : List (List ℕ × List Scalar)) (counters : Option (List (List ℕ × ℤ))) → shown_view (roll-View (record { maps = m; regs = regs; sets = sets; counters = counters })) ≡ shows (maps_shown m) regs sets counters
 shown_view-roll m regs sets counters = fold-roll-View ShownMaps Shown maps_step view_step (record { maps = m; regs = regs; sets = sets; counters = counters })

@@ -6,6 +6,7 @@ pub mod Gathered
 pub mod Growing
 pub mod Held
 pub mod Once
+pub mod Parts
 pub mod Row
 pub mod RowWeight
 pub mod SameDocument

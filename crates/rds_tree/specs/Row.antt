@@ -1,6 +1,6 @@
 -- The rows of a tree: live dots with what is left of their paths.
-use Rattle.std.specs.Prelude.{◌≡◌, ℕ, ◌+◌, nat_le, suc, Bool, true, false, ◌&&◌, ◌||◌, List, [], ◌∷◌, ◌++◌, length, map}
-use Rattle.std.specs.List.{list_all, list_any}
+use Rattle.std.specs.Prelude.{◌≡◌, ℕ, ◌+◌, suc, Bool, true, false, ◌&&◌, ◌||◌, List, [], ◌∷◌, ◌++◌, length, map}
+use Rattle.std.specs.List.{list_any}
 use Rattle.rds_tree.specs.declared.leaf.Leaf.{Leaf}
 use Rattle.rds_tree.specs.Document.{Placed}
 
@@ -48,13 +48,6 @@ placed_all rows = map placement rows
 -- each child with what stands there, without dots
 abbrev pub placed_below : List (List ℕ × List Row) → List (List ℕ × List Placed)
 placed_below cs = map (λ c. (c.0, placed_all c.1)) cs
-
--- whether no path has more than n keys
-abbrev pub fits : ℕ → List Row → Bool
-fits n rows = list_all (λ r. nat_le (length r.path) n) rows
-
-abbrev pub all_fit : ℕ → List (List ℕ × List Row) → Bool
-all_fit n cs = list_all (λ c. fits n c.1) cs
 
 abbrev pub row_at : List (List ℕ) → Leaf → Row
 row_at path leaf = record { path = path; leaf = leaf }

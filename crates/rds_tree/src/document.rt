@@ -19,6 +19,9 @@ use rds_names::{Fault, Kind, Path, Scalar};
 use rds_state::State;
 use std::alloc::Global;
 
+/// The most keys of a path, so all that a view shows is that deep.
+pub const MOST_KEYS: u8 = 8;
+
 /// What the state's document shows at the path: the maps, the values of registers and the values of
 /// sets under each key there that has some, in ascending order and each once. At the root alone it
 /// shows the counters of which some number is above 0. A path at which nothing stands shows nothing.
@@ -28,7 +31,7 @@ pub fn view<S: DotSet>(alloc: Global, state: &State<S>, path: &Path) -> Result<V
 {
     let counters = counters_at(alloc, state.counts(), path)?;
     let tree = tree_of(alloc, state.lives().live(), path)?;
-    let view = tree.view_at(alloc, path.keys(), counters)?;
+    let view = tree.view_at(alloc, path.keys(), MOST_KEYS, counters)?;
     Ok(view)
 }
 

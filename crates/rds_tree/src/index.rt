@@ -9,18 +9,20 @@ ghost use Rattle.rds_tree.specs.Document.{document};
 ghost use Rattle.rds_tree.specs.EditsWithDelta.{EditsWithDelta};
 ghost use Rattle.rds_tree.specs.Growing.{Holds};
 ghost use Rattle.rds_tree.specs.Held.{is_covered, IsGathered};
+ghost use Rattle.rds_tree.specs.Parts.{closed, only_key};
 ghost use Rattle.rds_tree.specs.Shown.{shown_view};
 ghost use Rattle.rds_tree.specs.View.{view_of};
 
 use crate::covered::gather_covered;
-use crate::document::{counters_at, tree_of};
+use crate::document::{MOST_KEYS, counters_at, tree_of};
 use crate::edit_delta::edit_tree_with_delta;
 use crate::indexing::edit;
 use crate::node::Node;
+use crate::one_key::{counters_of_key, view_in};
 use crate::taking::{take, take_with};
 use crate::views::View;
 use rds_dots::{Dot, DotSet};
-use rds_names::{Fault, Path, Roster};
+use rds_names::{Fault, Key, Path, Roster};
 use rds_state::{Command, Edited, Replica, State};
 use std::alloc::Global;
 use std::marker::Model;
@@ -87,7 +89,32 @@ impl<S: DotSet> Index<S> {
         ensures memory { IfErr result (λ fault. fault ≡ Memory) }
     {
         let counters = counters_at(self.alloc, self.replica.state().counts(), path)?;
-        let view = self.tree.view_at(self.alloc, path.keys(), counters)?;
+        let view = self
+            .tree
+            .view_at(self.alloc, path.keys(), MOST_KEYS, counters)?;
+        Ok(view)
+    }
+
+    /// What the replica's document shows under one key of a path, as [`view_of_key`](crate::view_of_key) says. Only what
+    /// stands at the key or below it is looked at.
+    pub fn view_of_key(&self, above: &Path, key: &Key) -> Result<View, Fault>
+        ensures shown { IfOk result
+            (λ view. shown_view view ≡ only_key key.now (view_of (document self.now.state) above.now)) }
+        ensures memory { IfErr result (λ fault. fault ≡ Memory) }
+    {
+        let counters = counters_of_key(self.alloc, self.replica.state().counts(), above, key)?;
+        let view = view_in(self.alloc, &self.tree, above, key, counters)?;
+        Ok(view)
+    }
+
+    /// What the replica's document shows at the path, but that each map there shows nothing. What is further below isn't
+    /// looked at.
+    pub fn view_here(&self, path: &Path) -> Result<View, Fault>
+        ensures shown { IfOk result (λ view. shown_view view ≡ closed (view_of (document self.now.state) path.now)) }
+        ensures memory { IfErr result (λ fault. fault ≡ Memory) }
+    {
+        let counters = counters_at(self.alloc, self.replica.state().counts(), path)?;
+        let view = self.tree.view_at(self.alloc, path.keys(), 1, counters)?;
         Ok(view)
     }
 

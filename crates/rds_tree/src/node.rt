@@ -11,7 +11,7 @@ ghost use Rattle.rds_tree.specs.Document.{key_cmp};
 ghost use Rattle.rds_tree.specs.Held.{IsGathered};
 ghost use Rattle.std.specs.Option.{option_to_list};
 ghost use Rattle.rds_names.specs.declared.fault.Fault.TheVariants.{Memory};
-ghost use Rattle.rds_tree.specs.View.{below_path, entries_view, goes_on, shown_to, values_here, with_key};
+ghost use Rattle.rds_tree.specs.View.{below_path, goes_on, shown_to, values_here, with_key};
 
 use crate::leaf::Leaf;
 use crate::leaves::Leaves;
@@ -51,7 +51,7 @@ impl Model for Node {
 }
 
 impl Node {
-    ghost use Rattle.rds_tree.specs.Row.{is_full, placed_all, fits, row_at, Adds};
+    ghost use Rattle.rds_tree.specs.Row.{is_full, placed_all, row_at, Adds};
     ghost use Rattle.rds_tree.specs.Shown.{shown_view};
 
     /// A tree without leaves. Takes no memory.
@@ -238,27 +238,26 @@ impl Node {
         }
     }
 
-    /// The view of what stands below the path, with these counters.
+    /// The view of what stands below the path, `depth` keys deep, with these counters.
     pub fn view_at(
         &self,
         alloc: Global,
         path: &[Key],
+        depth: u8,
         counters: Option<Sums>,
     ) -> Result<View, Fault>
         ensures ok { IfOk result
-            (λ view. fits 8 self.now ≡ true → shown_view view ≡ entries_view counters path.now (placed_all self.now)) }
+            (λ view. shown_view view ≡ shown_to depth counters (below_path path.now (placed_all self.now))) }
         ensures memory { IfErr result (λ fault. fault ≡ Memory) }
     {
-        if let Some(node) = self.at(path) {
-            let view = node.view(alloc, counters)?;
-            return Ok(view);
+        match self.at(path) {
+            Some(node) => node.view(alloc, depth, counters),
+            None => Node::new(alloc).view(alloc, depth, counters),
         }
-        let view = Node::new(alloc).view(alloc, counters)?;
-        Ok(view)
     }
 
     /// The values of a kind that stand here, each once.
-    fn values(&self, alloc: Global, kind: Kind) -> Result<Vec<Scalar>, Fault>
+    pub fn values(&self, alloc: Global, kind: Kind) -> Result<Vec<Scalar>, Fault>
         ensures ok { IfOk result (λ values. values.items ≡ values_here kind (placed_all self.now)) }
         ensures memory { IfErr result (λ fault. fault ≡ Memory) }
     {
@@ -267,18 +266,21 @@ impl Node {
     }
 
     /// Whether a path goes on below.
-    fn goes_on(&self) -> bool
+    pub fn goes_on(&self) -> bool
         ensures { result ≡ goes_on (placed_all self.now) }
     {
         !self.children.is_empty()
     }
 
-    /// The view of what stands below, with these counters.
-    pub fn view(&self, alloc: Global, counters: Option<Sums>) -> Result<View, Fault>
-        ensures ok { IfOk result
-            (λ view. (n : ℕ) → fits n self.now ≡ true → shown_view view ≡ shown_to n counters (placed_all self.now)) }
+    /// The view of what stands below, `depth` keys deep, with these counters.
+    pub fn view(&self, alloc: Global, depth: u8, counters: Option<Sums>) -> Result<View, Fault>
+        ensures ok { IfOk result (λ view. shown_view view ≡ shown_to depth counters (placed_all self.now)) }
         ensures memory { IfErr result (λ fault. fault ≡ Memory) }
     {
+        if depth == 0 {
+            return Ok(View::of_counters(alloc, counters));
+        }
+        let left = depth - 1;
         let mut maps = Vec::new(alloc);
         let mut regs = Vec::new(alloc);
         let mut sets = Vec::new(alloc);
@@ -286,7 +288,7 @@ impl Node {
             push_values(alloc, &mut regs, key, child.values(alloc, Kind::Reg)?)?;
             push_values(alloc, &mut sets, key, child.values(alloc, Kind::Elem)?)?;
             if child.goes_on() {
-                maps.push((key.copy(alloc)?, child.view(alloc, None)?))?;
+                maps.push((key.copy(alloc)?, child.view(alloc, left, None)?))?;
             }
         }
         Ok(View {
@@ -299,7 +301,7 @@ impl Node {
 }
 
 /// Adds the values under the key, unless there are none.
-fn push_values(
+pub fn push_values(
     alloc: Global,
     rows: &mut Vec<(Key, Scalars)>,
     key: &Key,

@@ -1,7 +1,8 @@
 //! What a document shows at a path.
-ghost use Rattle.std.specs.Prelude.{◌≡◌};
+ghost use Rattle.std.specs.Prelude.{◌≡◌, []};
 
 use rds_names::{Key, Scalar};
+use std::alloc::Global;
 use std::marker::Model;
 
 /// Scalars, seen as their list; `view` puts them in ascending order, each once.
@@ -129,5 +130,21 @@ impl Sums {
         ensures { result.now ≡ self.now }
     {
         &self.sums
+    }
+}
+
+impl View {
+    ghost use Rattle.rds_tree.specs.Shown.{no_maps, shown_view, shows};
+
+    /// No map and no value, beside these counters. Takes no memory.
+    pub(crate) fn of_counters(alloc: Global, counters: Option<Sums>) -> View
+        ensures { shown_view result ≡ shows no_maps [] [] counters }
+    {
+        View {
+            maps: Maps::from_rows(Vec::new(alloc)),
+            regs: Values::from_rows(Vec::new(alloc)),
+            sets: Values::from_rows(Vec::new(alloc)),
+            counters,
+        }
     }
 }
