@@ -43,23 +43,29 @@ pub fn append_to<D: Device, S: DotSet>(
     }
 }
 
-/// A file that was opened for writing, and its folder. A call that fails is told on standard error.
+/// A file that was opened for writing, and its folder where that is synced too. A call that fails is told on standard
+/// error.
 #[derive(Drop)]
 pub struct Tail<'a, H: Disk> {
     rt: &'a H,
     path: &'a str,
     file: H::File,
-    folder: H::File,
+    folder: Option<H::File>,
 }
 
 impl<'a, H: Disk> Tail<'a, H>
 where
     H::File: LockFile,
 {
-    /// Opens what is at this path for writing. There is none where it isn't the locked file, or can't be opened so. The
-    /// folder is opened too: what can't be synced at the end isn't begun.
-    pub fn open(rt: &'a H, path: &'a str, locked: &H::File) -> Option<Tail<'a, H>> {
-        match open_both(rt, path) {
+    /// Opens what is at this path for writing. There is none where it isn't the locked file, or can't be opened so.
+    /// Where the folder is to be synced too, it is opened now: what can't be synced at the end isn't begun.
+    pub fn open(
+        rt: &'a H,
+        path: &'a str,
+        locked: &H::File,
+        with_folder: bool,
+    ) -> Option<Tail<'a, H>> {
+        match open_both(rt, path, with_folder) {
             Ok((file, folder)) if matches!(file.is_same(locked), Ok(true)) => Some(Tail {
                 rt,
                 path,
@@ -104,10 +110,10 @@ where
         if let Err(error) = self.file.sync_data() {
             return Err(self.told("cannot sync", &error));
         }
-        if let Err(error) = sync_folder(&self.folder) {
-            return Err(self.told("cannot sync the folder of", &error));
+        match &self.folder {
+            Some(folder) => self.sync_folder(folder),
+            None => Ok(()),
         }
-        Ok(())
     }
 
     ghost counts_now = { λ _ _ _ _ left. left };
@@ -116,6 +122,14 @@ where
 }
 
 impl<H: Disk> Tail<'_, H> {
+    // Syncs the folder, and tells where that fails.
+    fn sync_folder(&self, folder: &H::File) -> Result<(), DeviceError> {
+        match sync_folder(folder) {
+            Ok(()) => Ok(()),
+            Err(error) => Err(self.told("cannot sync the folder of", &error)),
+        }
+    }
+
     // A call failed, which is told.
     fn told(&self, what: &str, error: &io::Error) -> DeviceError {
         note(self.rt, what, self.path, error);
@@ -138,9 +152,17 @@ fn write_all_at<F: LockFile>(file: &F, at: u64, bytes: &[u8]) -> io::Result<()> 
     Ok(())
 }
 
-// The file of this path, for writing, and its folder.
-fn open_both<H: Disk>(rt: &H, path: &str) -> io::Result<(H::File, H::File)> {
-    let folder = fs::open(rt, folder_of(path))?;
+// The file of this path, for writing, and its folder where that is asked for.
+fn open_both<H: Disk>(
+    rt: &H,
+    path: &str,
+    with_folder: bool,
+) -> io::Result<(H::File, Option<H::File>)> {
+    let folder = if with_folder {
+        Some(fs::open(rt, folder_of(path))?)
+    } else {
+        None
+    };
     let file = OpenOptions::new().write(true).open(rt, path)?;
     Ok((file, folder))
 }

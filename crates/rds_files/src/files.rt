@@ -292,6 +292,7 @@ where
             target,
             held: WasKept::of(&kept),
             layout: Some(layout),
+            lasts: false,
             file,
         };
         (kept.replica(), emptied)
@@ -319,6 +320,8 @@ pub struct EmptiedFile<'a, H: Disk, S: DotSet> {
     held: WasKept<S>,
     // Where its parts stand. That isn't known where a call on it failed.
     layout: Option<Layout>,
+    // Whether what it holds was synced, and its folder, since it was locked.
+    lasts: bool,
     file: H::File,
 }
 
@@ -357,6 +360,7 @@ where
             target,
             held: before,
             layout: _,
+            lasts: _,
             file,
         } = self;
         let kept = keep_over(rt, replica, target.path(), &file)?;
@@ -454,14 +458,14 @@ where
     // The file, opened for writing, where one more record of so many bytes is worth its place.
     fn tail<'b>(&'b self, rt: &'b H, layout: &Layout, count: usize) -> Option<Tail<'b, H>> {
         if takes_record(layout, count) {
-            Tail::open(rt, self.target.path(), &self.file)
+            Tail::open(rt, self.target.path(), &self.file, !self.lasts)
         } else {
             None
         }
     }
 
-    /// Keeps this replica in the file as `keep` does, and holds the lock on. Where a call fails, the file is the next
-    /// time written anew.
+    /// Keeps this replica in the file as `keep` does, and holds the lock on. So the folder is synced once alone, and where
+    /// nothing changed again there is nothing to sync. Where a call fails, the file is the next time written anew.
     pub fn keep_on(
         &mut self,
         rt: &H,
@@ -474,22 +478,36 @@ where
         ensures fault { IfErr result (IsUnkept replica.now) }
     {
         if is_nothing(&change) {
-            make_last(rt, self.target.path(), &self.file)?;
+            self.make_sure(rt)?;
             return Ok(());
         }
         match self.append(rt, replica, &change) {
             Ok(Some((kept, layout))) => {
                 self.held = kept;
                 self.layout = Some(layout);
+                self.lasts = true;
                 Ok(())
             }
             Ok(None) => self.replace_on(rt, replica),
             Err(Fault::Memory) => Err(Fault::Memory),
             Err(fault) => {
                 self.layout = None;
+                self.lasts = false;
                 Err(fault)
             }
         }
+    }
+
+    // Syncs what the file holds, and its folder, where that wasn't done since it was locked.
+    fn make_sure(&mut self, rt: &H) -> Result<(), Fault>
+        ensures same { self.new ≡ self.old }
+        ensures fault { IfErr result (λ e. e ≡ Device) }
+    {
+        if !self.lasts {
+            make_last(rt, self.target.path(), &self.file)?;
+            self.lasts = true;
+        }
+        Ok(())
     }
 
     /// Keeps this replica in the file in place of the one that it holds, as `replace` does, and holds the lock on:
@@ -502,9 +520,11 @@ where
         ensures long { LIMIT < length (snapshot_text replica.now) → IfErr result IsTooLongOrLost }
     {
         self.layout = None;
+        self.lasts = false;
         let Renewed { kept, layout } = renew(rt, replica, self.target.path(), &mut self.file)?;
         self.held = kept;
         self.layout = Some(layout);
+        self.lasts = true;
         Ok(())
     }
 }

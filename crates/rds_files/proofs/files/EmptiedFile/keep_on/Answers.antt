@@ -1,4 +1,4 @@
-use Rattle.std.proofs.Common.{◌≡◌, refl}
+use Rattle.std.proofs.Common.{◌≡◌}
 use Rattle.rds_files.proofs.Growing.{unchanged}
 use Rattle.rds_files.proofs.files.EmptiedFile.keep_on.Goals as goal
 
@@ -6,4 +6,4 @@ pub returns-then-is_nothing-clause-kept : goal.returns-then-is_nothing-clause-ke
 returns-then-is_nothing-clause-kept g c =
     let nothing = c.is_nothing.ensures c.if-is_nothing.true in
     let same : c.args.replica.now ≡ c.args.self.now.kept = unchanged c.args.self.now.kept c.args.change c.args.replica.now c.requires.changed nothing.0 nothing.1 in
-    rw same refl
+    rw same (c.make_sure.ensures.same)
