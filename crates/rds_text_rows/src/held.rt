@@ -1,5 +1,5 @@
 //! The snapshot that is held from row to row.
-use crate::{exchanges, journal, places, reading, texts};
+use crate::{exchanges, journal, places, reading, stored, texts};
 use rds_codec::{
     Format, decoding_has_one_result, formats_are_read_again, formats_have_the_same_parts,
     limits_of_texts, readers_are_steady, rows_are_read_in_steps, texts_are_read_steadily,
@@ -32,6 +32,7 @@ impl<S: DotSet> Table for Held<S> {
             "length" => exchanges::length::<S>(alloc, &self.text),
             "place" => places::answer::<S>(alloc, &self.text, rest),
             "read" => reading::answer::<S>(alloc, &self.text, rest),
+            "stored" => stored::answer::<S>(alloc, rest),
             "laws" => laws(alloc),
             "record"
             | "records"

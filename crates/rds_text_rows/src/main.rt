@@ -14,6 +14,7 @@ mod journal;
 mod pieces;
 mod places;
 mod reading;
+mod stored;
 mod texts;
 
 use held::Held;
