@@ -20,6 +20,7 @@ use Rattle.std.specs.Prelude.{
 }
 use Rattle.clap.specs.Words.{IsAmong, Kinds, Text}
 use Rattle.clap.specs.declared.error.kind.ErrorKind.{ErrorKind}
+use Rattle.rds_names.specs.declared.fault.Fault.{Fault}
 use Rattle.rds_names.specs.declared.fault.Fault.TheVariants.{Device, Memory, Usage}
 use Rattle.rds_keep.specs.Parts.{AppendsFront, ConsumesAtMost, Grows}
 use Rattle.rds_lines.specs.Ahead.{most_given}
@@ -94,6 +95,7 @@ use Rattle.rds_words.specs.declared.tasks.Task.TheVariants.{
   Compact,
   Status,
   Serve,
+  Run,
   Sync,
   Pair,
   Ask,
@@ -195,6 +197,10 @@ WritesPairing first second before after status =
     ((is_beside first ≡ false) × (is_beside second ≡ false) × WritesPair first second before after status)
     ⊎ (((is_beside first || is_beside second) ≡ true) × Writes (Err Usage) before after status)
 
+-- a site serves until a fault ends it, which is written
+abbrev pub WritesSite : Option (List ℕ) → Option (List ℕ) → ℕ → Type 0
+WritesSite before after status = (fault : Fault) × Writes (Err fault) before after status
+
 -- what is written for a task, with what became of the input; of `join` and `sim` it is said apart
 abbrev pub WritesTask : Task → Stream → Option (List ℕ) → Option (List ℕ) → ℕ → Type 0
 WritesTask Join reading before after status = Unit {0}
@@ -216,6 +222,7 @@ WritesTask (Dump file path) reading before after status = WritesList dump_text 0
 WritesTask (Compact file) reading before after status = WritesCompact file.now before after status
 WritesTask (Status file) reading before after status = WritesStatus file.now before after status
 WritesTask (Serve words) reading before after status = WritesServe words reading before after status
+WritesTask (Run words) reading before after status = WritesSite before after status
 WritesTask (Sync words) reading before after status = WritesSyncing words reading before after status
 WritesTask (Pair first second) reading before after status = WritesPairing first.now second.now before after status
 WritesTask (Ask file) reading before after status = WritesAsk file.now before after status

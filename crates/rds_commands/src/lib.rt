@@ -1,5 +1,5 @@
 //! The program's commands: words in, what is written and the exit status out. Read from above: `program`, `telling`,
-//! `outcome`, `file_commands`, `batch`, `looking`, `listing`, `offline`, `session_words`, `unparsed` and
+//! `outcome`, `file_commands`, `batch`, `looking`, `listing`, `offline`, `session_words`, `site`, `unparsed` and
 //! `laws`. What people are told beside it is in `notes`, `letter_notes`, `tips` and `causes`.
 #![tactic(auto)]
 
@@ -15,9 +15,11 @@ mod offline;
 mod outcome;
 mod program;
 mod session_words;
+mod site;
 mod telling;
 mod tips;
 mod unparsed;
 
 pub use laws::{edits_are_events, letters_are_events, sessions_are_events};
 pub use program::run;
+pub use site::RunSite;

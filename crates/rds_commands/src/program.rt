@@ -16,6 +16,7 @@ use crate::offline::{
     TakeWords, run_answer, run_ask, run_check, run_init_from, run_merge, run_take,
 };
 use crate::session_words::{run_pair, run_serve, run_sync};
+use crate::site::RunSite;
 use crate::telling::{
     run_compact, run_edit, run_edit_if_changed, run_grow, run_init, run_show, run_text,
 };
@@ -31,15 +32,16 @@ use std::io::{Read, Write};
 use std::net::Net;
 
 /// Runs the command that the words name, and answers the exit status. The first word is the
-/// program's name, whatever it is.
+/// program's name, whatever it is. `run` is left to the site.
 ///
 /// A fault is written as the line `fault N: Name` and answered by 1. Words that the command line
 /// doesn't have are `Usage`: that line, then the library's text, and 2. Help and the version are written
 /// and answered by 0. A reader that fails, or that gives more reads than its bound of turns, is `Device`. Where
 /// the output itself fails the answer is 1, and of `join` and `sim` a beginning of what is due was written.
-pub fn run<H: Disk + Net, R: Read, W: Write, S: AsStr>(
+pub fn run<H: Disk + Net, R: Read, W: Write, S: AsStr, T: RunSite<H>>(
     rt: &H,
     words: &[S],
+    site: &T,
     reader: &mut Counted<R>,
     writer: &mut Counted<W>,
 ) -> u8
@@ -63,7 +65,7 @@ where
     ensures broken { (writer.new.failed ≡ writer.old.failed) ⊎ (result ≡ 1) }
 {
     match task_of(rt.alloc(), words) {
-        Ok(Some(task)) => run_task(rt, task, reader, writer),
+        Ok(Some(task)) => run_task(rt, task, site, reader, writer),
         Ok(None) => {
             note_together(rt);
             write_fault(writer, Fault::Usage)
@@ -73,9 +75,10 @@ where
 }
 
 // Runs a task.
-fn run_task<H: Disk + Net, R: Read, W: Write>(
+fn run_task<H: Disk + Net, R: Read, W: Write, T: RunSite<H>>(
     rt: &H,
     task: Task<'_>,
+    site: &T,
     reader: &mut Counted<R>,
     writer: &mut Counted<W>,
 ) -> u8
@@ -112,6 +115,7 @@ where
         Task::Serve(words) => run_serve(rt, words, reader, writer),
         Task::Sync(words) => run_sync(rt, words, reader, writer),
         Task::Pair { first, second } => run_pair(rt, first, second, writer),
+        Task::Run(words) => write_fault(writer, site.run_site(rt, words)),
         Task::Ask { file } => run_ask(rt, file, writer),
         Task::Answer { file } => run_answer(rt, file, reader, writer),
         Task::Take {

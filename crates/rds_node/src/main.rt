@@ -1,7 +1,10 @@
 //! A node of a document store: replicas of one document that are edited apart and joined.
 #![tactic(auto)]
 
-use rds_process::run_process;
+mod process;
+mod sites;
+
+use process::run_process;
 use std::process::ExitCode;
 
 fn main(rt: HostRuntime) -> ExitCode {

@@ -13,6 +13,7 @@ mod replicas;
 mod runs;
 mod sessions;
 mod simulated;
+mod site;
 mod sizes;
 mod told;
 mod transcript;

@@ -1,5 +1,6 @@
 //! Runs of the program.
 use crate::devices::{Narrow, reader_of, room_of};
+use crate::site::ToldSite;
 use crate::told::output_told;
 use rds_commands::run;
 use rds_keep::Counted;
@@ -68,7 +69,13 @@ fn run_words(rt: &HostRuntime, words: &[&str], input: &[u8]) -> Result<String, F
 pub fn run_on(rt: &HostRuntime, words: &[&str], input: &[u8]) -> (Vec<u8>, u8) {
     let mut written = Vec::new(rt.alloc());
     let mut reader = Counted::new(input);
-    let status = run(rt, words, &mut reader, &mut Counted::new(&mut written));
+    let status = run(
+        rt,
+        words,
+        &ToldSite,
+        &mut reader,
+        &mut Counted::new(&mut written),
+    );
     (written, status)
 }
 
@@ -98,7 +105,13 @@ pub fn run_reading(rt: &HostRuntime, rest: &str, input: &[u8]) -> Result<String,
     let (mut reader, words) = reader_of(rest, input)?;
     let words = named(rt.alloc(), words)?;
     let mut written = Vec::new(rt.alloc());
-    let status = run(rt, &words, &mut reader, &mut Counted::new(&mut written));
+    let status = run(
+        rt,
+        &words,
+        &ToldSite,
+        &mut reader,
+        &mut Counted::new(&mut written),
+    );
     let (failed, turns) = (reader.failed(), reader.turns());
     counted_told(rt.alloc(), &written, status, failed, turns)
 }
@@ -110,7 +123,7 @@ pub fn run_writing(rt: &HostRuntime, rest: &str, input: &[u8]) -> Result<String,
     let words = named(rt.alloc(), words)?;
     let mut narrow = Narrow::new(rt.alloc(), room);
     let mut writer = Counted::with_turns(&mut narrow, turns);
-    let status = run(rt, &words, &mut Counted::new(input), &mut writer);
+    let status = run(rt, &words, &ToldSite, &mut Counted::new(input), &mut writer);
     let (failed, turns) = (writer.failed(), writer.turns());
     counted_told(rt.alloc(), narrow.taken(), status, failed, turns)
 }

@@ -1,5 +1,6 @@
 //! Lines of `sim`, one row each.
 use crate::input::Input;
+use crate::site::ToldSite;
 use rds_commands::run;
 use rds_keep::Counted;
 use rds_names::Fault;
@@ -46,6 +47,7 @@ fn run_sim(rt: &HostRuntime, input: &[u8], written: &mut Vec<u8>) -> u8 {
     run(
         rt,
         &words,
+        &ToldSite,
         &mut Counted::new(input),
         &mut Counted::new(written),
     )

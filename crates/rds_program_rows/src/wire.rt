@@ -9,6 +9,7 @@ use crate::calls::Calls;
 use crate::replicas::read;
 use crate::runs::named;
 use crate::sessions::side_of;
+use crate::site::ToldSite;
 use crate::told::{bytes_told, lines_told};
 use host::Wired;
 use line::{Reads, Wire};
@@ -138,7 +139,13 @@ fn run_on_wire<'a>(
     let mut output = Output::new(&wire.calls);
     let mut lines = Counted::new(Lines::new(&wire.calls, input));
     let wired = Wired { rt, wire };
-    let status = run(&wired, words, &mut lines, &mut Counted::new(&mut output));
+    let status = run(
+        &wired,
+        words,
+        &ToldSite,
+        &mut lines,
+        &mut Counted::new(&mut output),
+    );
     (output.written, status)
 }
 

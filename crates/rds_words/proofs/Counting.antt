@@ -161,3 +161,20 @@ takes_two_before command left_out name f0 f1 over = record { named = named; coun
     counted called (a ∷ []) none = refused_isnt _ (f1 a called) none
     counted called (a ∷ b ∷ []) none = (a ∷ b ∷ left_out, (refl, refl))
     counted called (a ∷ b ∷ c ∷ more) none = refused_isnt _ (over a b c more called) none
+
+-- one, behind which options are left out
+
+pub takes_one_before : (command : Text) (left_out : List Text) → ((a called : Text) → Names (dashed called command (a ∷ [])) (command ∷ a ∷ left_out))
+    → (IsMistaken command [])
+    → ((a b : Text) (more : List Text) → IsMistaken command (a ∷ b ∷ more)) → IsCountedCommand command (before 1 left_out)
+takes_one_before command left_out name f0 over = record { named = named; counted = counted }
+  where
+    named : (called : Text) (given words : List Text) → IsCounted (before 1 left_out) given words → Names (dashed called command given) (command ∷ words)
+    named called [] words is = absurd (omega (arith, is.0))
+    named called (a ∷ []) words is = rw is.1 (name a called)
+    named called (a ∷ b ∷ more) words is = absurd (omega (arith, is.0))
+
+    counted : (called : Text) (given : List Text) → mistakes_in (dashed called command given) ≡ [] → (words : List Text) × IsCounted (before 1 left_out) given words
+    counted called [] none = refused_isnt _ (f0 called) none
+    counted called (a ∷ []) none = (a ∷ left_out, (refl, refl))
+    counted called (a ∷ b ∷ more) none = refused_isnt _ (over a b more called) none

@@ -3,7 +3,7 @@ use Rattle.std.proofs.Common.{◌≡◌, ◌∙◌, ℕ, List, [], ◌∷◌, co
 use Rattle.clap.specs.Words.{Text}
 use Rattle.rds_words.specs.Task.{EditsByLines, words_of}
 use Rattle.rds_words.specs.declared.tasks.Task.{Task}
-use Rattle.rds_words.specs.declared.tasks.Task.TheVariants.{Join, Sim, Files, Faults, Init, InitFrom, Grow, Edit, EditIfChanged, EditLines, Get, GetRaw, Show, ShowPretty, Dump, Compact, Status, Serve, Sync, Pair, Ask, Answer, Take, Merge, Check, Conflicts, Diff}
+use Rattle.rds_words.specs.declared.tasks.Task.TheVariants.{Join, Sim, Files, Faults, Init, InitFrom, Grow, Edit, EditIfChanged, EditLines, Get, GetRaw, Show, ShowPretty, Dump, Compact, Status, Serve, Run, Sync, Pair, Ask, Answer, Take, Merge, Check, Conflicts, Diff}
 use Rattle.rds_words.specs.declared.tasks.EditWords.TheVariants.{Set, Add, Del, Clear, Inc, Dec}
 
 -- the first byte of the command's name
@@ -39,6 +39,7 @@ told (ShowPretty file path) = (λ e. absurd cc, λ e. absurd cc, λ at e. absurd
 told (Compact file) = (λ e. absurd cc, λ e. absurd cc, λ at e. absurd cc)
 told (Status file) = (λ e. absurd cc, λ e. absurd cc, λ at e. absurd cc)
 told (Serve words) = (λ e. absurd cc, λ e. absurd cc, λ at e. absurd cc)
+told (Run words) = (λ e. absurd cc, λ e. absurd cc, λ at e. absurd cc)
 told (Sync words) = (λ e. absurd cc, λ e. absurd cc, λ at e. absurd cc)
 told (Pair first second) = (λ e. absurd cc, λ e. absurd cc, λ at e. absurd cc)
 told (Dump file path) = (λ e. absurd cc, λ e. absurd cc, λ at e. absurd cc)

@@ -2,9 +2,9 @@
 use Rattle.std.proofs.Common.{[], ◌∷◌, codes}
 use Rattle.rds_words.specs.Spelling.{before, exactly, or_root}
 use Rattle.rds_words.proofs.CommandWords.{node_on_words}
-use Rattle.rds_words.proofs.Counting.{IsCountedCommand, takes_part, takes_three, takes_two, takes_two_before}
-use Rattle.rds_words.proofs.EachNamed.{add_dashed, del_dashed, get_dashed, once_dashed, set_dashed, show_dashed, show_root_dashed, sync_alone_dashed}
-use Rattle.rds_words.proofs.OptionPlans.{add_is, del_is, get_is, serve_is, set_is, show_is, sync_is}
+use Rattle.rds_words.proofs.Counting.{IsCountedCommand, takes_one_before, takes_part, takes_three, takes_two, takes_two_before}
+use Rattle.rds_words.proofs.EachNamed.{add_dashed, del_dashed, get_dashed, once_dashed, run_alone_dashed, set_dashed, show_dashed, show_root_dashed, sync_alone_dashed}
+use Rattle.rds_words.proofs.OptionPlans.{add_is, del_is, get_is, run_is, serve_is, set_is, show_is, sync_is}
 use Rattle.rds_words.proofs.Refusing.{IsRefused}
 use Rattle.rds_words.proofs.Splitting.{refused_below}
 
@@ -48,3 +48,9 @@ unfolding IsRefused node_on_words
 sync_counted =
     takes_two_before (codes "sync") (codes "60" ∷ []) (λ a b called. sync_alone_dashed called a b) (λ called. tt) (λ a called. tt)
     (λ a b c more called. refused_below called _ _ (codes "--" ∷ a ∷ b ∷ c ∷ more) sync_is tt)
+
+pub run_counted : IsCountedCommand (codes "run") (before 1 (codes "127.0.0.1:7780" ∷ []))
+unfolding IsRefused node_on_words
+run_counted =
+    takes_one_before (codes "run") (codes "127.0.0.1:7780" ∷ []) (λ a called. run_alone_dashed called a) (λ called. tt)
+    (λ a b more called. refused_below called _ _ (codes "--" ∷ a ∷ b ∷ more) run_is tt)

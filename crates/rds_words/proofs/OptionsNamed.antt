@@ -1,13 +1,14 @@
 -- Words among which there are options name tasks.
-use Rattle.std.proofs.Common.{◌≡◌, List, [], ◌∷◌, ◌++◌, codes, length, true, Some, refl, ap, inl, inr, arith, ◌∙◌}
+use Rattle.std.proofs.Common.{◌≡◌, Bool, true, false, List, [], ◌∷◌, ◌++◌, codes, length, Option, Some, None, refl, ap, inl, inr, arith, ◌∙◌}
 use Rattle.std.specs.Prelude.{option_map}
 use Rattle.std.proofs.lemmas.Bool.{le-leb}
 use Rattle.clap.specs.Words.{Text}
 use Rattle.rds_names.specs.Conditions.{and_left, and_right}
 use Rattle.rds_words.specs.Entered.{Names}
+use Rattle.rds_words.specs.Raw.{access_words}
 use Rattle.rds_words.specs.Typed.{AreOnce, AreTyped, HaveOptionsOf, Part, typed_flag, typed_option, typed_word, values_among, words_among}
 use Rattle.rds_words.specs.Written.{AreData, is_data}
-use Rattle.rds_words.proofs.OptionPlans.{del_plan, del_takes, entry_plan, get_plan, get_takes, init_plan, init_takes, serve_plan, serve_takes, show_plan, show_takes, sync_plan, sync_takes}
+use Rattle.rds_words.proofs.OptionPlans.{del_plan, del_takes, entry_plan, get_plan, get_takes, init_plan, init_takes, run_plan, run_takes, serve_plan, serve_takes, show_plan, show_takes, sync_plan, sync_takes}
 use Rattle.rds_words.proofs.PlanMeant.{means}
 use Rattle.rds_words.proofs.PlanWalk.{Plan, Takes}
 
@@ -143,3 +144,33 @@ sync_named name file addr timeout are =
     typed_names sync_plan sync_takes name (file ∷ addr ∷ codes "--timeout" ∷ timeout ∷ []) (file ∷ addr ∷ timeout ∷ []) (typed_word file ∷ typed_word addr ∷ typed_option (codes "--timeout") timeout ∷ [])
     (addr ∷ codes "--timeout" ∷ timeout ∷ [], refl, (and_left (is_data file) _ are), (codes "--timeout" ∷ timeout ∷ [], refl, (and_left (is_data addr) _ (and_right (is_data file) _ are)), ([], inl (refl, (and_left (is_data timeout) _ (and_right (is_data addr) _ (and_right (is_data file) _ are)))), refl)))
     (refl, tt) (tt, tt) refl refl
+
+pub run_named : (name file http : Text) (token : Option Text) (open_to_all : Bool) → AreData (file ∷ http ∷ []) → Names (name ∷ codes "run" ∷ file ∷ codes "--http" ∷ http ∷ access_words token open_to_all) (codes "run" ∷ file ∷ http ∷ access_words token open_to_all)
+run_named name file http None false are =
+    typed_names run_plan run_takes name (file ∷ codes "--http" ∷ http ∷ []) (file ∷ http ∷ []) (typed_word file ∷ typed_option (codes "--http") http ∷ [])
+    (codes "--http" ∷ http ∷ [], refl, (and_left (is_data file) _ are), ([], inl (refl, (and_left (is_data http) _ (and_right (is_data file) _ are))), refl))
+    (refl, tt) (tt, (tt, (tt, tt))) refl refl
+run_named name file http None true are =
+    typed_names run_plan run_takes name (file ∷ codes "--http" ∷ http ∷ codes "--open" ∷ []) (file ∷ http ∷ codes "--open" ∷ []) (typed_word file ∷ typed_option (codes "--http") http ∷ typed_flag (codes "--open") ∷ [])
+    (codes "--http" ∷ http ∷ codes "--open" ∷ [], refl, (and_left (is_data file) _ are), (codes "--open" ∷ [], inl (refl, (and_left (is_data http) _ (and_right (is_data file) _ are))), ([], refl, refl)))
+    (refl, (refl, tt)) (tt, (tt, (tt, tt))) refl refl
+run_named name file http (Some token) false are =
+    typed_names run_plan run_takes name (file ∷ codes "--http" ∷ http ∷ (codes "--token-file=" ++ token) ∷ []) (file ∷ http ∷ (codes "--token-file=" ++ token) ∷ []) (typed_word file ∷ typed_option (codes "--http") http ∷ typed_option (codes "--token-file") token ∷ [])
+    (codes "--http" ∷ http ∷ (codes "--token-file=" ++ token) ∷ [], refl, (and_left (is_data file) _ are), ((codes "--token-file=" ++ token) ∷ [], inl (refl, (and_left (is_data http) _ (and_right (is_data file) _ are))), ([], inr refl, refl)))
+    (refl, (refl, tt)) (tt, (tt, (tt, tt))) refl refl
+run_named name file http (Some token) true are =
+    typed_names run_plan run_takes name (file ∷ codes "--http" ∷ http ∷ (codes "--token-file=" ++ token) ∷ codes "--open" ∷ []) (file ∷ http ∷ (codes "--token-file=" ++ token) ∷ codes "--open" ∷ []) (typed_word file ∷ typed_option (codes "--http") http ∷ typed_option (codes "--token-file") token ∷ typed_flag (codes "--open") ∷ [])
+    (codes "--http" ∷ http ∷ (codes "--token-file=" ++ token) ∷ codes "--open" ∷ [], refl, (and_left (is_data file) _ are), ((codes "--token-file=" ++ token) ∷ codes "--open" ∷ [], inl (refl, (and_left (is_data http) _ (and_right (is_data file) _ are))), (codes "--open" ∷ [], inr refl, ([], refl, refl))))
+    (refl, (refl, (refl, tt))) (tt, (tt, (tt, tt))) refl refl
+
+pub run_open_alone : (name file : Text) → AreData (file ∷ []) → Names (name ∷ codes "run" ∷ file ∷ codes "--open" ∷ []) (codes "run" ∷ file ∷ codes "127.0.0.1:7780" ∷ codes "--open" ∷ [])
+run_open_alone name file are =
+    typed_names run_plan run_takes name (file ∷ codes "--open" ∷ []) (file ∷ codes "127.0.0.1:7780" ∷ codes "--open" ∷ []) (typed_word file ∷ typed_flag (codes "--open") ∷ [])
+    (codes "--open" ∷ [], refl, (and_left (is_data file) _ are), ([], refl, refl))
+    (refl, tt) (tt, (tt, (tt, tt))) refl refl
+
+pub run_token_alone : (name file token : Text) → AreData (file ∷ token ∷ []) → Names (name ∷ codes "run" ∷ file ∷ codes "--token-file" ∷ token ∷ []) (codes "run" ∷ file ∷ codes "127.0.0.1:7780" ∷ (codes "--token-file=" ++ token) ∷ [])
+run_token_alone name file token are =
+    typed_names run_plan run_takes name (file ∷ codes "--token-file" ∷ token ∷ []) (file ∷ codes "127.0.0.1:7780" ∷ (codes "--token-file=" ++ token) ∷ []) (typed_word file ∷ typed_option (codes "--token-file") token ∷ [])
+    (codes "--token-file" ∷ token ∷ [], refl, (and_left (is_data file) _ are), ([], inl (refl, (and_left (is_data token) _ (and_right (is_data file) _ are))), refl))
+    (refl, tt) (tt, (tt, (tt, tt))) refl refl

@@ -55,6 +55,16 @@ flag_given c rows id (v ∷ vs) has are is =
 -- ---- how many words
 
 module _ (i j k : Text) where
+  pub fits_one : (ws : List Text) → Fits (i ∷ []) [] None ws → (length ws == 1) ≡ true
+  fits_one [] fits = absurd fits
+  fits_one (a ∷ []) fits = refl
+  fits_one (a ∷ b ∷ ws) fits = absurd fits
+
+  pub taken_one : (ws : List Text) → (length ws == 1) ≡ true → Fits (i ∷ []) [] None ws
+  taken_one [] e = absurd (omega (arith, eqb-true 0 1 e))
+  taken_one (a ∷ []) e = tt
+  taken_one (a ∷ b ∷ ws) e = absurd (omega (arith, eqb-true (length (a ∷ b ∷ ws)) 1 e))
+
   pub fits_two : (ws : List Text) → Fits (i ∷ j ∷ []) [] None ws → (length ws == 2) ≡ true
   fits_two [] fits = absurd fits
   fits_two (a ∷ []) fits = absurd fits

@@ -69,6 +69,18 @@ sessions_rule = defaulted_rule (codes "SESSIONS") (codes "sessions") (codes "1")
 abbrev pub timeout_rule : Rule
 timeout_rule = defaulted_rule (codes "TIMEOUT") (codes "timeout") (codes "60")
 
+-- where a site is served, as an option, on this machine alone where it isn't given
+abbrev pub http_rule : Rule
+http_rule = defaulted_rule (codes "HTTP") (codes "http") (codes "127.0.0.1:7780")
+
+-- the file of the token that a site asks for
+abbrev pub token_rule : Rule
+token_rule = valued_rule (codes "TOKEN_FILE") (codes "token-file")
+
+-- whether other machines may come to a site
+abbrev pub open_rule : Rule
+open_rule = flag_rule (codes "OPEN") (codes "open")
+
 -- the file from which the next replica is made
 abbrev pub from_rule : Rule
 from_rule = valued_rule (codes "FROM") (codes "from")
@@ -128,6 +140,7 @@ commands =
     ∷ command_app (codes "answer") (file_rule ∷ [])
     ∷ command_app (codes "take") (file_rule ∷ question_rule ∷ answer_rule ∷ [])
     ∷ command_app (codes "merge") (file_rule ∷ required_rule (codes "FROM") ∷ [])
+    ∷ command_app (codes "run") (file_rule ∷ http_rule ∷ token_rule ∷ open_rule ∷ [])
     ∷ command_app (codes "status") (file_rule ∷ [])
     ∷ command_app (codes "check") (question_rule ∷ answer_rule ∷ [])
     ∷ command_app (codes "conflicts") (file_rule ∷ part_rule ∷ [])

@@ -42,3 +42,16 @@ pub record SyncMayLackWords : Type 0 where
       → Names (name ∷ codes "sync" ∷ file ∷ addr ∷ []) (codes "sync" ∷ file ∷ addr ∷ codes "60" ∷ [])
   pub alone_dashed : (name file addr : Text)
       → Names (name ∷ codes "sync" ∷ codes "--" ∷ file ∷ addr ∷ []) (codes "sync" ∷ file ∷ addr ∷ codes "60" ∷ [])
+
+-- `run` serves at 127.0.0.1:7780 where it isn't told where
+pub record RunMayLackWords : Type 0 where
+  pub alone : (name file : Text) → AreData (file ∷ [])
+      → Names (name ∷ codes "run" ∷ file ∷ []) (codes "run" ∷ file ∷ codes "127.0.0.1:7780" ∷ [])
+  pub alone_dashed : (name file : Text)
+      → Names (name ∷ codes "run" ∷ codes "--" ∷ file ∷ []) (codes "run" ∷ file ∷ codes "127.0.0.1:7780" ∷ [])
+  pub open_alone : (name file : Text) → AreData (file ∷ [])
+      → Names (name ∷ codes "run" ∷ file ∷ codes "--open" ∷ [])
+      (codes "run" ∷ file ∷ codes "127.0.0.1:7780" ∷ codes "--open" ∷ [])
+  pub token_alone : (name file token : Text) → AreData (file ∷ token ∷ [])
+      → Names (name ∷ codes "run" ∷ file ∷ codes "--token-file" ∷ token ∷ [])
+      (codes "run" ∷ file ∷ codes "127.0.0.1:7780" ∷ (codes "--token-file=" ++ token) ∷ [])

@@ -27,6 +27,13 @@ init_words (file ∷ own ∷ []) (Some from) = Some (file ∷ own ∷ (codes "--
 init_words (file ∷ []) (Some from) = None
 init_words [] (Some from) = None
 
+-- who may come to a site: who knows the token in this file, where there is one, and whether other machines may
+abbrev pub access_words : Option Text → Bool → List Text
+access_words None false = []
+access_words None true = codes "--open" ∷ []
+access_words (Some token) false = (codes "--token-file=" ++ token) ∷ []
+access_words (Some token) true = (codes "--token-file=" ++ token) ∷ codes "--open" ∷ []
+
 -- the words, with the option that writes only what changes something
 abbrev pub changed_words : Bool → List Text → List Text
 changed_words true words = words ++ codes "--if-changed" ∷ []

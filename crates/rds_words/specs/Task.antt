@@ -42,6 +42,7 @@ use Rattle.rds_words.specs.declared.tasks.Task.TheVariants.{
   Compact,
   Status,
   Serve,
+  Run,
   Sync,
   Pair,
   Ask,
@@ -58,7 +59,7 @@ use Rattle.rds_words.specs.declared.tasks.RawKind.{RawKind}
 use Rattle.rds_words.specs.declared.tasks.RawKind.TheVariants as kind
 use Rattle.rds_words.specs.declared.tasks.ValueWord.{ValueWord}
 use Rattle.rds_words.specs.declared.tasks.ValueWord.TheVariants as word
-use Rattle.rds_words.specs.Raw.{changed_words, init_words, raw_words}
+use Rattle.rds_words.specs.Raw.{access_words, changed_words, init_words, raw_words}
 
 -- a value in words
 abbrev pub value_words : ValueWord → List Text
@@ -107,6 +108,9 @@ words_of (Dump file path) = codes "dump" ∷ file.now ∷ path.now ∷ []
 words_of (Compact file) = codes "compact" ∷ file.now ∷ []
 words_of (Status file) = codes "status" ∷ file.now ∷ []
 words_of (Serve words) = codes "serve" ∷ words.file.now ∷ words.addr.now ∷ words.sessions.now ∷ words.timeout.now ∷ []
+words_of (Run words) =
+    codes "run" ∷ words.file.now ∷ words.http.now
+    ∷ access_words (option_map (λ t. t.now) words.token_file) words.is_open
 words_of (Sync words) = codes "sync" ∷ words.file.now ∷ words.addr.now ∷ words.timeout.now ∷ []
 words_of (Pair first second) = codes "pair" ∷ first.now ∷ second.now ∷ []
 words_of (Ask file) = codes "ask" ∷ file.now ∷ []
@@ -163,6 +167,12 @@ get_words_in rows =
     option_and_then (λ words. option_map (λ kind. words ++ kind) (raw_words_in rows))
     (words_under (codes "FILE" ∷ codes "PATH" ∷ []) rows)
 
+-- a file and an address, and who may come
+abbrev pub run_words_in : List Row → Option (List Text)
+run_words_in rows =
+    option_map (λ words. words ++ access_words (first_of (codes "TOKEN_FILE") rows) (is_given (codes "OPEN") rows))
+    (words_under (codes "FILE" ∷ codes "HTTP" ∷ []) rows)
+
 abbrev pub counter_words_in : List Row → Option (List Text)
 counter_words_in = words_under (codes "FILE" ∷ codes "KEY" ∷ codes "BY" ∷ [])
 
@@ -211,14 +221,15 @@ delta_words_behind name rows =
     else (if bytes_eq name (codes "check") then words_under (codes "QUESTION" ∷ codes "ANSWER" ∷ []) rows
     else edit_words_behind name rows))))
 
--- the words behind the name of a command that makes sessions or carries a delta, or that edits a file's replica
+-- the words behind the name of a command that serves or makes sessions, carries a delta, or edits a file's replica
 abbrev pub session_words_behind : Text → List Row → Option (List Text)
 session_words_behind name rows =
     if bytes_eq name (codes "serve")
     then words_under (codes "FILE" ∷ codes "ADDR" ∷ codes "SESSIONS" ∷ codes "TIMEOUT" ∷ []) rows
     else (if bytes_eq name (codes "sync") then words_under (codes "FILE" ∷ codes "ADDR" ∷ codes "TIMEOUT" ∷ []) rows
     else (if bytes_eq name (codes "pair") then words_under (codes "FILE" ∷ codes "PEER" ∷ []) rows
-    else delta_words_behind name rows))
+    else (if bytes_eq name (codes "run") then run_words_in rows
+    else delta_words_behind name rows)))
 
 -- the words behind the name of a command that looks at documents, makes sessions, carries a delta or edits
 abbrev pub looking_words_behind : Text → List Row → Option (List Text)

@@ -24,7 +24,7 @@ use Rattle.std.specs.Prelude.{
 use Rattle.std.specs.Str.{bytes_eq}
 use Rattle.clap.specs.Words.{Text}
 use Rattle.rds_words.specs.Entered.{mistakes_in, named_in}
-use Rattle.rds_words.specs.Raw.{changed_words, init_words, raw_words}
+use Rattle.rds_words.specs.Raw.{access_words, changed_words, init_words, raw_words}
 use Rattle.rds_words.specs.Typed.{IsTyped, Options}
 
 -- a command's options, which numbers of words it takes, and the words of the task that its words and its options' values
@@ -76,6 +76,15 @@ sync_with = record {
   words_for = λ given values. Some (given ++ value_or (codes "60") (values (codes "--timeout")) ∷ []);
 }
 
+abbrev pub run_with : WithOptions
+run_with = record {
+  options = (codes "--http", true) ∷ (codes "--token-file", true) ∷ (codes "--open", false) ∷ [];
+  takes = λ n. n == 1;
+  words_for = λ given values.
+      Some (given ++ value_or (codes "127.0.0.1:7780") (values (codes "--http"))
+      ∷ access_words (slice_get (values (codes "--token-file")) 0) (is_there (values (codes "--open"))));
+}
+
 -- `set` and `add`
 abbrev pub entry_with : WithOptions
 entry_with = record {
@@ -120,6 +129,7 @@ with_options =
     ∷ (codes "show", show_with)
     ∷ (codes "sync", sync_with)
     ∷ (codes "serve", serve_with)
+    ∷ (codes "run", run_with)
     ∷ []
 
 -- the words and the options' values are typed so behind the command, and it takes so many words

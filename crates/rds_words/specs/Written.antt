@@ -1,5 +1,22 @@
 -- How a task is written on the command line.
-use Rattle.std.specs.Prelude.{◌≡◌, ⊤, Bool, true, not, ◌==◌, ◌&&◌, List, [], ◌∷◌, ◌++◌, codes, drop, is_some, slice_get}
+use Rattle.std.specs.Prelude.{
+  ◌≡◌,
+  ⊤,
+  Bool,
+  true,
+  not,
+  ◌==◌,
+  ◌&&◌,
+  List,
+  [],
+  ◌∷◌,
+  ◌++◌,
+  codes,
+  drop,
+  is_some,
+  option_map,
+  slice_get,
+}
 use Rattle.std.specs.List.{list_all}
 use Rattle.std.specs.Str.{chars}
 use Rattle.clap.specs.Words.{Text}
@@ -11,6 +28,7 @@ use Rattle.rds_words.specs.declared.tasks.Task.TheVariants.{
   Grow,
   Init,
   InitFrom,
+  Run,
   Serve,
   ShowPretty,
   Sync,
@@ -19,6 +37,7 @@ use Rattle.rds_words.specs.declared.tasks.EditWords.{EditWords}
 use Rattle.rds_words.specs.declared.tasks.EditWords.TheVariants.{Set, Add, Del, Clear, Inc, Dec}
 use Rattle.rds_words.specs.declared.tasks.ValueWord.{ValueWord}
 use Rattle.rds_words.specs.declared.tasks.ValueWord.TheVariants as word
+use Rattle.rds_words.specs.Raw.{access_words}
 use Rattle.rds_words.specs.Task.{raw_word, words_of}
 
 -- the word can't be taken for an option: it doesn't begin with a hyphen and a character behind it
@@ -56,8 +75,8 @@ edit_front flags (Clear path) = codes "clear" ∷ flags
 edit_front flags (Inc key by) = codes "inc" ∷ flags
 edit_front flags (Dec key by) = codes "dec" ∷ flags
 
--- the command, then its words; `serve` and `sync` have some of theirs behind options, and other options stand before the
--- words
+-- the command, then its words; `serve`, `sync` and `run` have some of theirs behind options, and other options stand
+-- before the words
 abbrev pub words_written : Task → List Text
 words_written (InitFrom words) =
     codes "init" ∷ codes "--from" ∷ words.from.now ∷ words.file.now ∷ words.own.now ∷ []
@@ -69,6 +88,9 @@ words_written (Serve words) =
     codes "serve" ∷ words.file.now ∷ words.addr.now
     ∷ codes "--sessions" ∷ words.sessions.now ∷ codes "--timeout" ∷ words.timeout.now ∷ []
 words_written (Sync words) = codes "sync" ∷ words.file.now ∷ words.addr.now ∷ codes "--timeout" ∷ words.timeout.now ∷ []
+words_written (Run words) =
+    codes "run" ∷ words.file.now ∷ codes "--http" ∷ words.http.now
+    ∷ access_words (option_map (λ t. t.now) words.token_file) words.is_open
 words_written task = words_of task
 
 -- two dashes stand between the command, with its options, and its words
@@ -89,6 +111,9 @@ words_dashed (Serve words) =
     ∷ codes "--" ∷ words.file.now ∷ words.addr.now ∷ []
 words_dashed (Sync words) =
     codes "sync" ∷ (codes "--timeout=" ++ words.timeout.now) ∷ codes "--" ∷ words.file.now ∷ words.addr.now ∷ []
+words_dashed (Run words) =
+    codes "run" ∷ (codes "--http=" ++ words.http.now)
+    ∷ (access_words (option_map (λ t. t.now) words.token_file) words.is_open ++ codes "--" ∷ words.file.now ∷ [])
 words_dashed task = dashes_in (words_of task)
 
 -- `set` and `add` alone can be told to write only what changes something
@@ -104,13 +129,14 @@ HasNames (Grow words) = words.names.items ≡ [] → ⊥
 HasNames (EditIfChanged file edit) = MayBeUnchanged edit
 HasNames task = ⊤
 
--- the words that are given behind the command, but for options without a value
+-- the words that are given behind the command, but for options without a value or in one word with it
 abbrev pub given_words : Task → List Text
 given_words (InitFrom words) = words.from.now ∷ words.file.now ∷ words.own.now ∷ []
 given_words (Edit file edit) = edit_given file.now edit
 given_words (EditIfChanged file edit) = edit_given file.now edit
 given_words (GetRaw file path which) = file.now ∷ path.now ∷ []
 given_words (ShowPretty file path) = file.now ∷ path.now ∷ []
+given_words (Run words) = words.file.now ∷ words.http.now ∷ []
 given_words task = drop 1 (words_of task)
 
 -- the words behind the command are data

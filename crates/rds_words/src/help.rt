@@ -23,6 +23,7 @@ pub enum Page {
     Answer,
     Take,
     Merge,
+    Run,
     Status,
     Check,
     Conflicts,
@@ -62,6 +63,7 @@ impl Page {
             Page::Answer => ANSWER_EXAMPLE,
             Page::Take => TAKE_EXAMPLE,
             Page::Merge => MERGE_EXAMPLE,
+            Page::Run => RUN_EXAMPLE,
             Page::Status => STATUS_EXAMPLE,
             Page::Check => CHECK_EXAMPLE,
             Page::Conflicts => CONFLICTS_EXAMPLE,
@@ -95,6 +97,7 @@ impl Page {
             Page::Answer => ANSWER_TEXT,
             Page::Take => TAKE_TEXT,
             Page::Merge => MERGE_TEXT,
+            Page::Run => RUN_TEXT,
             Page::Status => STATUS_TEXT,
             Page::Check => CHECK_TEXT,
             Page::Conflicts => CONFLICTS_TEXT,
@@ -116,6 +119,7 @@ pub const AFTER_HELP: &str = "\
 Commands, by what they are for:
   documents  init, grow, set, add, del, clear, inc, dec, edit, get, show, dump, compact
   meeting    pair, sync, serve, ask, answer, take, merge
+  serving    run
   looking    status, check, conflicts, diff
   machines   join, sim
 'rds_node COMMAND --help' has an example of each, and what is peculiar to it.
@@ -433,6 +437,33 @@ Faults of its own: 10 where FROM is a copy of the same replica and has more of i
 than FILE, 9 where the two have different entries for one dot, 19 for another group, 20
 for names that have grown apart.";
 
+pub const RUN_ABOUT: &str = "Serves the replica in a file to browsers and programs over HTTP";
+
+const RUN_EXAMPLE: &str = "\
+Example: rds_node run notes.a
+         curl -d '[\"set\",\"title\",\"Shopping\"]' http://127.0.0.1:7780/edits";
+
+const RUN_TEXT: &str = "\
+Serves FILE until it is stopped, and locks it: other commands can only read it. Each edit
+is on disk before it is answered. Standard error says where it listens, so port 0, any
+free one, will do. Requests, with the commands that print what they are answered:
+  GET /                 the page, which shows the document in a browser and edits it
+  GET /doc/PATH         show; at /here/PATH each map below PATH is shown empty
+  GET /value/PATH       get
+  GET /conflicts/PATH   conflicts
+  GET /status           status
+  GET /metrics          what was counted, for Prometheus
+  GET /live             a WebSocket, told {\"turn\":N} whenever more is on disk
+  POST /edits           edit; the body has its lines
+  POST /answer          answer; the body is the question
+  POST /take            take; the body is the question's length in 4 bytes, big-endian,
+                        the question and the answer
+  POST /login           a cookie for the token that the body is
+Without options this machine alone may come, by 127.0.0.1 or [::1]; another ADDR is fault
+27. With --token-file all but the page and /login ask for the token, 'Authorization:
+Bearer TOKEN' or the cookie: 16 to 128 of A-Z a-z 0-9 - . _ ~. Nothing is enciphered.
+Faults of its own: 24 where ADDR can't be used, or FILE is locked or can't be written.";
+
 pub const STATUS_ABOUT: &str = "Tells whose replica a file holds, and how much there is of it";
 
 const STATUS_EXAMPLE: &str = "\
@@ -558,6 +589,12 @@ pub const SESSIONS_HELP: &str = "How many sessions, a whole number, 0 for no end
 
 pub const TIMEOUT_HELP: &str =
     "After how many seconds a silent peer is given up, a whole number, 0 for never";
+
+pub const HTTP_HELP: &str = "The address and port that browsers and programs connect to";
+
+pub const TOKEN_FILE_HELP: &str = "The file of a token, without which nobody may come";
+
+pub const OPEN_HELP: &str = "Other machines may come, also where there is no token";
 
 pub const PRETTY_HELP: &str = "Prints the JSON on many lines, indented";
 

@@ -3,7 +3,7 @@ ghost use Rattle.std.specs.Prelude.{[], ◌∷◌, codes};
 ghost use Rattle.clap.specs.Words.{Text};
 ghost use Rattle.rds_words.specs.declared.tasks.Task.{Task};
 ghost use Rattle.rds_words.specs.Entered.{Names};
-ghost use Rattle.rds_words.specs.LeftOut.{ServeMayLackWords, ShowMayLackWords, SyncMayLackWords};
+ghost use Rattle.rds_words.specs.LeftOut.{RunMayLackWords, ServeMayLackWords, ShowMayLackWords, SyncMayLackWords};
 ghost use Rattle.rds_words.specs.Spelling.{
   OtherCommandsAreRefused,
   OtherWordsAreRefused,
@@ -19,8 +19,8 @@ ghost use Rattle.rds_words.specs.Written.{AreData, HasNames, IsWritable, words_d
 /// these can be taken for an option, as what begins with a hyphen and a character behind it, and, whatever they begin
 /// with, behind two dashes. A path that is left out is the root.
 /// `serve` has one session where it isn't told how many, and `serve` and `sync` give a silent peer 60 seconds where
-/// they aren't told how long. Other options stand before the words, and that of `show` also behind them. The function
-/// does nothing: its contract is these laws.
+/// they aren't told how long. `run` serves at 127.0.0.1:7780 where it isn't told where. Other options stand before the
+/// words, and those of `show` and `run` also behind them. The function does nothing: its contract is these laws.
 pub fn word_laws()
     ensures written { (name : Text) (task : Task) → IsWritable task
         → Names (name ∷ words_written task) (words_of task) }
@@ -31,6 +31,7 @@ pub fn word_laws()
     ensures show { ShowMayLackWords }
     ensures serve { ServeMayLackWords }
     ensures sync { SyncMayLackWords }
+    ensures run { RunMayLackWords }
 {}
 
 /// Of a command without options: what stands behind it names a task just where it is spelled so, the task's words in

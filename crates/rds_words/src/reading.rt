@@ -19,6 +19,7 @@ ghost use Rattle.rds_words.specs.Task.{
   named_words,
   plain_words_behind,
   raw_words_in,
+  run_words_in,
   session_words_behind,
   show_words_in,
   value_words,
@@ -28,7 +29,8 @@ ghost use Rattle.rds_words.specs.Task.{
 };
 
 use crate::tasks::{
-    EditWords, GrowWords, InitFromWords, InitWords, RawKind, ServeWords, SyncWords, Task, ValueWord,
+    EditWords, GrowWords, InitFromWords, InitWords, RawKind, RunWords, ServeWords, SyncWords, Task,
+    ValueWord,
 };
 use clap::ArgMatches;
 use std::alloc::{AllocError, Global};
@@ -130,7 +132,7 @@ fn looking_task<'a>(name: &str, inner: &ArgMatches<'a>) -> Option<Task<'a>>
     }
 }
 
-// The task of a command that makes sessions or carries a delta, or that edits the replica in a file.
+// The task of a command that serves or makes sessions, carries a delta, or edits the replica in a file.
 fn session_task<'a>(name: &str, inner: &ArgMatches<'a>) -> Option<Task<'a>>
     ensures { option_map words_of result
         ≡ named_words name.now (session_words_behind name.now (rows_of (found_of inner.now))) }
@@ -159,8 +161,25 @@ fn session_task<'a>(name: &str, inner: &ArgMatches<'a>) -> Option<Task<'a>>
             let (first, second) = two_words(inner, "FILE", "PEER")?;
             Some(Task::Pair { first, second })
         }
+        "run" => run_task(inner),
         _ => delta_task(name, inner),
     }
+}
+
+// The task of `run`.
+fn run_task<'a>(inner: &ArgMatches<'a>) -> Option<Task<'a>>
+    ensures { option_map words_of result
+        ≡ named_words (codes "run") (run_words_in (rows_of (found_of inner.now))) }
+{
+    let (file, http) = two_words(inner, "FILE", "HTTP")?;
+    let token_file = word_under(inner, "TOKEN_FILE");
+    let is_open = is_given(inner, "OPEN");
+    Some(Task::Run(RunWords {
+        file,
+        http,
+        token_file,
+        is_open,
+    }))
 }
 
 // The task of a command that carries a delta, or that edits the replica in a file.

@@ -145,6 +145,31 @@ const TIMEOUT: Word = Word {
     },
 };
 
+const HTTP: Word = Word {
+    id: "HTTP",
+    help: help::HTTP_HELP,
+    kind: Kind::Defaulted {
+        long: "http",
+        value_name: "ADDR",
+        default: "127.0.0.1:7780",
+    },
+};
+
+const TOKEN_FILE: Word = Word {
+    id: "TOKEN_FILE",
+    help: help::TOKEN_FILE_HELP,
+    kind: Kind::Valued {
+        long: "token-file",
+        value_name: "PATH",
+    },
+};
+
+const OPEN: Word = Word {
+    id: "OPEN",
+    help: help::OPEN_HELP,
+    kind: Kind::Flag { long: "open" },
+};
+
 const PRETTY: Word = Word {
     id: "PRETTY",
     help: help::PRETTY_HELP,
@@ -217,9 +242,9 @@ const PEER: Word = Word {
     kind: Kind::Required,
 };
 
-/// The commands, in the order in which help lists them: documents, meeting, looking, machines. The topics of `help`
-/// stand last, and in no list.
-pub static COMMANDS: [Described; 28] = [
+/// The commands, in the order in which help lists them: documents, meeting, serving, looking, machines. The topics of
+/// `help` stand last, and in no list.
+pub static COMMANDS: [Described; 29] = [
     Described {
         name: "init",
         about: help::INIT_ABOUT,
@@ -339,6 +364,12 @@ pub static COMMANDS: [Described; 28] = [
         about: help::MERGE_ABOUT,
         page: Page::Merge,
         words: &[FILE, FROM],
+    },
+    Described {
+        name: "run",
+        about: help::RUN_ABOUT,
+        page: Page::Run,
+        words: &[FILE, HTTP, TOKEN_FILE, OPEN],
     },
     Described {
         name: "status",

@@ -97,6 +97,8 @@ pub enum Task<'a> {
     },
     /// Serves the replica in a file to peers, one session after the other.
     Serve(ServeWords<'a>),
+    /// Serves the replica in a file to programs and people over HTTP.
+    Run(RunWords<'a>),
     /// Has one session with a replica that is served.
     Sync(SyncWords<'a>),
     /// Has one session between the replicas in two files.
@@ -212,6 +214,19 @@ pub struct ServeWords<'a> {
     pub sessions: &'a str,
     /// After how many seconds a silent peer is given up, 0 for never.
     pub timeout: &'a str,
+}
+
+/// A site over a file, in words.
+#[derive(Clone, Copy, Debug)]
+pub struct RunWords<'a> {
+    /// The file.
+    pub file: &'a str,
+    /// The address that browsers and programs connect to.
+    pub http: &'a str,
+    /// The file of the token that is asked for, where one is.
+    pub token_file: Option<&'a str>,
+    /// Whether other machines may come, also where there is no token.
+    pub is_open: bool,
 }
 
 /// A session with a replica that is served, in words.

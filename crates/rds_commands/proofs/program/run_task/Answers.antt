@@ -51,6 +51,9 @@ returns-in-Conflicts-clause-written g c = rw c.in-Conflicts.is c.run_conflicts.e
 pub returns-in-Serve-clause-written : goal.returns-in-Serve-clause-written
 returns-in-Serve-clause-written g c = rw c.in-Serve.is c.run_serve.ensures.written
 
+pub returns-in-Run-clause-written : goal.returns-in-Run-clause-written
+returns-in-Run-clause-written g c = rw c.in-Run.is (λ wrote. (c.run_site.result, c.write_fault.ensures.written wrote))
+
 pub returns-in-Sync-clause-written : goal.returns-in-Sync-clause-written
 returns-in-Sync-clause-written g c = rw c.in-Sync.is c.run_sync.ensures.written
 

@@ -1,0 +1,96 @@
+-- What a request changed, and how that is noted.
+use Rattle.std.proofs.Common.{◌≡◌, ◌≢◌, ◌||◌, ◌∙◌, ℕ, Bool, true, false, not, List, None, Some, Result, Ok, Err, String, string_bytes, OnOk, IfOk, IfErr, MatchResult, refl, sym, ap, subst, inl, inr}
+use Rattle.std.specs.Global.{Global}
+use Rattle.http.specs.declared.request.Request.{Request}
+use Rattle.http_server.specs.declared.response.Response.{Response}
+use Rattle.rds_lines.specs.Overview.{IsOverview}
+use Rattle.rds_names.specs.declared.fault.Fault.{Fault}
+use Rattle.rds_names.specs.declared.fault.Fault.TheVariants.{Memory}
+use Rattle.rds_state.specs.Fits.{ReplicaValue}
+use Rattle.rds_http.specs.Access.{denial}
+use Rattle.rds_http.specs.Answers.{Answers, AnswersBy, Does, DoesPost, KeepsRest, asked_in, may_change, place_in}
+use Rattle.rds_http.specs.Changes.{AnswersEdits, AnswersQuestion, AnswersTake, RefusesBody}
+use Rattle.rds_http.specs.Handshakes.{headers_of}
+use Rattle.rds_http.specs.Looks.{ShowsStatus}
+use Rattle.rds_http.specs.Refusals.{IsDenied, TellsFault, json}
+use Rattle.rds_http.specs.Replies.{Tells}
+use Rattle.rds_http.specs.Site.{SiteValue}
+use Rattle.rds_http.specs.declared.access.Denied.{Denied}
+use Rattle.rds_http.specs.declared.routes.Post.{Post}
+use Rattle.rds_http.specs.declared.routes.Post.TheVariants.{Answer}
+
+-- what follows from what holds where a call succeeds holds there
+pub on_ok : {T E : Type 0} (r : Result T E) {P Q : Type 0} → (P → Q) → OnOk r P → OnOk r Q
+on_ok (Ok x) f p = f p
+on_ok (Err e) f p = p
+
+-- what isn't noted didn't change: neither before nor now
+pub still_noted : (noted came : Bool) (before after kept still : ReplicaValue)
+    → (noted ≡ false → before ≡ kept) → (came ≡ false → after ≡ before) → still ≡ kept → (noted || came) ≡ false → after ≡ still
+still_noted true came before after kept still first later same quiet = absurd (cc)
+still_noted false true before after kept still first later same quiet = absurd (cc)
+still_noted false false before after kept still first later same quiet = later refl ∙ first refl ∙ sym same
+
+pub not_all : (all : Bool) → not all ≡ false → all ≡ true
+not_all true quiet = refl
+not_all false quiet = absurd (cc)
+
+-- nothing is done for want of memory
+pub edits_refused : (body : List ℕ) (before after : ReplicaValue) (response : Response) (fault : Fault)
+    → fault ≡ Memory → after ≡ before → TellsFault fault response → AnswersEdits body before after response
+edits_refused body before after response fault memory same told =
+    inr (record { same = same; told = subst (λ f. TellsFault f response) memory told })
+
+-- nothing is taken
+pub take_refused : (body : List ℕ) (before after : ReplicaValue) (response : Response) (fault : Fault)
+    → RefusesBody body before fault → after ≡ before → TellsFault fault response → AnswersTake body before after response
+take_refused body before after response fault why same told = inr (fault, why, record { same = same; told = told })
+
+pub status_shown : (told : Result (String Global) Fault) (document : ReplicaValue) (response : Response)
+    → IfOk told (λ text. IsOverview document (string_bytes text)) → IfErr told (λ fault. fault ≡ Memory)
+    → MatchResult told (λ text. Tells 200 json (string_bytes text) response) (λ fault. TellsFault fault response)
+    → ShowsStatus document response
+status_shown (Ok text) document response is none shown = inl (string_bytes text, is, shown)
+status_shown (Err fault) document response is none shown = inr (subst (λ f. TellsFault f response) none shown)
+
+-- ---- the whole answer
+
+keeps : (old new : SiteValue) → new ≡ old → KeepsRest old new
+keeps old new same = record {
+  path = ap (λ s. s.path) same;
+  kept = ap (λ s. s.kept) same;
+  turn = ap (λ s. s.turn) same;
+  access = ap (λ s. s.access) same;
+}
+
+-- who isn't let in
+pub is_denied : (old : SiteValue) (request : Request (List ℕ)) (response : Response) (new : SiteValue) (why : Denied)
+    → denial old.access (asked_in request) (headers_of request) ≡ Some why → IsDenied why response → new ≡ old
+    → Answers old request response new
+is_denied old request response new why denied told same = record {
+  answered = subst (λ d. AnswersBy d old request response new) (sym denied) told;
+  rest = keeps old new same;
+  refused = λ _. same;
+  looked = λ _. same;
+  denied = λ _. same;
+}
+
+-- who is
+pub is_let_in : (old : SiteValue) (request : Request (List ℕ)) (response : Response) (new : SiteValue)
+    → denial old.access (asked_in request) (headers_of request) ≡ None
+    → Does (asked_in request) (place_in request) old request response new → KeepsRest old new
+    → (response.status ≢ 200 → new ≡ old) → (may_change (asked_in request) ≡ false → new ≡ old)
+    → Answers old request response new
+is_let_in old request response new none done rest refused looked = record {
+  answered = subst (λ d. AnswersBy d old request response new) (sym none) done;
+  rest = rest;
+  refused = refused;
+  looked = looked;
+  denied = λ some. absurd (some none);
+}
+
+-- a question is answered of the document
+pub answers_question : (post : Post) (body : List ℕ) (old : SiteValue) (response : Response) (new : SiteValue) (document : ReplicaValue)
+    → post ≡ Answer → document ≡ old.document → AnswersQuestion body document response → DoesPost post body old response new
+answers_question post body old response new document is same answered =
+    subst (λ p. DoesPost p body old response new) (sym is) (subst (λ d. AnswersQuestion body d response) same answered)

@@ -1,0 +1,5 @@
+mod Changed
+mod Paths
+mod ReplyLines
+mod Takes
+mod Texts

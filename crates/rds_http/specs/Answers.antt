@@ -1,0 +1,75 @@
+-- What a site answers a request, and what becomes of it by that.
+use Rattle.std.specs.Prelude.{◌≡◌, ◌≢◌, ℕ, Bool, true, false, List, Option, None, Some}
+use Rattle.http.specs.Request.{body_of, head_of}
+use Rattle.http.specs.declared.request.Request.{Request}
+use Rattle.http_server.specs.declared.response.Response.{Response}
+use Rattle.http_uri.specs.Uri.{uri_path}
+use Rattle.rds_http.specs.Access.{denial}
+use Rattle.rds_http.specs.Changes.{AnswersEdits, AnswersQuestion, AnswersTake}
+use Rattle.rds_http.specs.Handshakes.{AnswersHandshake, headers_of}
+use Rattle.rds_http.specs.Login.{AnswersLogin}
+use Rattle.rds_http.specs.Looks.{AnswersLook}
+use Rattle.rds_http.specs.Refusals.{IsDenied, IsNotAllowed, IsUnknown}
+use Rattle.rds_http.specs.Routes.{asked_of, place_of}
+use Rattle.rds_http.specs.Site.{SiteValue}
+use Rattle.rds_http.specs.declared.access.Denied.{Denied}
+use Rattle.rds_http.specs.declared.routes.Asked.{Asked}
+use Rattle.rds_http.specs.declared.routes.Asked.TheVariants as Ask
+use Rattle.rds_http.specs.declared.routes.Post.{Post}
+use Rattle.rds_http.specs.declared.routes.Post.TheVariants.{Edits, Answer, Take, Login}
+
+-- what a request asks for, and the place that it names
+abbrev pub asked_in : Request (List ℕ) → Asked
+asked_in request = asked_of (head_of request).method (uri_path (head_of request).uri)
+
+abbrev pub place_in : Request (List ℕ) → List ℕ
+place_in request = place_of (uri_path (head_of request).uri)
+
+-- what may change the document
+abbrev pub is_changing : Post → Bool
+is_changing Edits = true
+is_changing Take = true
+is_changing Answer = false
+is_changing Login = false
+
+abbrev pub may_change : Asked → Bool
+may_change (Ask.Post post) = is_changing post
+may_change _ = false
+
+-- what is kept stays, and so does all but the document
+pub record KeepsRest (old new : SiteValue) : Type 0 where
+  pub path : new.path ≡ old.path
+  pub kept : new.kept ≡ old.kept
+  pub turn : new.turn ≡ old.turn
+  pub access : new.access ≡ old.access
+
+-- what a body that is posted is answered, and what it makes of the document
+abbrev pub DoesPost : Post → List ℕ → SiteValue → Response → SiteValue → Type 0
+DoesPost Edits body old response new = AnswersEdits body old.document new.document response
+DoesPost Take body old response new = AnswersTake body old.document new.document response
+DoesPost Answer body old response new = AnswersQuestion body old.document response
+DoesPost Login body old response new = AnswersLogin old.access.token body response
+
+-- what a request that is let in is answered, by what it asks for and the place that it names
+abbrev pub Does : Asked → List ℕ → SiteValue → Request (List ℕ) → Response → SiteValue → Type 0
+Does (Ask.Look look) place old request response new = AnswersLook look old.document place response
+Does (Ask.Post post) place old request response new = DoesPost post (body_of request) old response new
+Does Ask.Live place old request response new = AnswersHandshake (headers_of request) response
+Does (Ask.NotAllowed resource) place old request response new = IsNotAllowed resource response
+Does Ask.Unknown place old request response new = IsUnknown response
+
+-- who isn't let in is told so
+abbrev pub AnswersBy : Option Denied → SiteValue → Request (List ℕ) → Response → SiteValue → Type 0
+AnswersBy (Some why) old request response new = IsDenied why response
+AnswersBy None old request response new = Does (asked_in request) (place_in request) old request response new
+
+-- a request was answered
+pub record Answers (old : SiteValue) (request : Request (List ℕ)) (response : Response) (new : SiteValue) : Type 0 where
+  pub answered : AnswersBy (denial old.access (asked_in request) (headers_of request)) old request response new
+  -- what is kept is never changed by a request, nor is anything but the document
+  pub rest : KeepsRest old new
+  -- only an edit or a take that is done changes the document
+  pub refused : response.status ≢ 200 → new ≡ old
+  pub looked : may_change (asked_in request) ≡ false → new ≡ old
+  -- and who isn't let in changes nothing
+  pub denied : denial old.access (asked_in request) (headers_of request) ≢ None → new ≡ old

@@ -1,0 +1,12 @@
+pub mod Access
+pub mod Answers
+pub mod Changes
+pub mod Handshakes
+pub mod Lines
+pub mod Login
+pub mod Looks
+pub mod Refusals
+pub mod Replies
+pub mod Routes
+pub mod Site
+pub mod Tokens

@@ -1,0 +1,178 @@
+//! Requests that change the document.
+ghost use Rattle.std.specs.Prelude.{◌≡◌, ◌≢◌, ◌*◌, ◌≤◌, IfErr, IfOk, OnErr, OnOk, false, length, true};
+ghost use Rattle.std.specs.List.{list_all};
+ghost use Rattle.http_server.specs.Response.{IsBlank};
+ghost use Rattle.rds_lines.specs.Editing.{EditsLines};
+ghost use Rattle.rds_lines.specs.Lines.{lines_in};
+ghost use Rattle.rds_names.specs.declared.fault.Fault.TheVariants.{Cut, Memory};
+ghost use Rattle.rds_http.specs.Changes.{AnswersEdits, AnswersTake, HoldsBoth, RefusesBody, TakesFrom};
+ghost use Rattle.rds_http.specs.Lines.{is_short};
+ghost use Rattle.rds_http.specs.Site.{ChangesAreNoted, KeepsFile};
+ghost use Rattle.rds_http.specs.declared.lines.TheConstants.{LONGEST};
+
+use crate::lines::{LONGEST, are_refusals, line_count, put_lines};
+use crate::metrics::Metrics;
+use crate::refusals::refuse;
+use crate::replies::{JSON, LINES, add_field};
+use bytes::BufMut;
+use http::header::CONTENT_TYPE;
+use http_server::Response;
+use rds_files::Disk;
+use rds_names::Fault;
+use rds_output::Reply;
+use rds_store::{Document, DocumentFile};
+use std::alloc::{AllocError, Global};
+
+/// A document in its file, and whether it may have changed since it was kept.
+pub struct Held<'a, H: Disk> {
+    pub file: DocumentFile<'a, H>,
+    pub has_changed: bool,
+}
+
+impl<H: Disk> Drop for Held<'_, H> {
+    fn drop(self) {
+        let Held {
+            file: _file,
+            has_changed: _has_changed,
+        } = self;
+    }
+}
+
+/// Edits the document as the lines of a body say, and answers each but the empty ones. What that takes is there before
+/// the first is done, so that what is done is answered.
+pub fn edit<H: Disk>(
+    alloc: Global,
+    held: &mut Held<'_, H>,
+    metrics: &mut Metrics,
+    body: &[u8],
+    response: &mut Response,
+) -> Result<(), AllocError>
+    requires blank { IsBlank response.old }
+    requires noted { ChangesAreNoted held.old.has_changed held.old.file.document held.old.file.kept }
+    ensures answered { OnOk result (AnswersEdits body.now held.old.file.document held.new.file.document response.new) }
+    ensures noted { ChangesAreNoted held.new.has_changed held.new.file.document held.new.file.kept }
+    ensures file { KeepsFile held.old.file held.new.file }
+    ensures refused { OnOk result (response.new.status ≢ 200 → held.new ≡ held.old) }
+    ensures err { OnErr result (held.new ≡ held.old) }
+{
+    if make_room(response, line_count(body)).is_err() {
+        return refuse(alloc, Fault::Memory, response);
+    }
+    add_field(response, CONTENT_TYPE, LINES)?;
+    match edit_in(held, body) {
+        Ok(replies) => {
+            metrics.note_edits(&replies);
+            put_lines(&mut response.body, &replies);
+            Ok(())
+        }
+        Err(fault) => {
+            response.clear();
+            refuse(alloc, fault, response)
+        }
+    }
+}
+
+/// Edits the document as lines say, and notes whether one was done.
+fn edit_in<H: Disk>(held: &mut Held<'_, H>, lines: &[u8]) -> Result<Vec<Reply>, Fault>
+    requires noted { ChangesAreNoted held.old.has_changed held.old.file.document held.old.file.kept }
+    ensures edited { IfOk result
+        (λ replies. EditsLines (lines_in lines.now) held.old.file.document held.new.file.document replies.items) }
+    ensures short { IfOk result (λ replies. list_all is_short replies.items ≡ true) }
+    ensures few { IfOk result (λ replies. length replies.items ≤ length (lines_in lines.now)) }
+    ensures memory { IfErr result (λ fault. fault ≡ Memory) }
+    ensures noted { ChangesAreNoted held.new.has_changed held.new.file.document held.new.file.kept }
+    ensures file { KeepsFile held.old.file held.new.file }
+    ensures err { OnErr result (held.new ≡ held.old) }
+{
+    let replies = held.file.edit_lines(lines)?;
+    held.has_changed |= !are_refusals(&replies);
+    Ok(replies)
+}
+
+/// Takes what answers a question of this replica's, both in the body, and answers how many components that brought.
+pub fn take<H: Disk>(
+    alloc: Global,
+    held: &mut Held<'_, H>,
+    metrics: &mut Metrics,
+    body: &[u8],
+    response: &mut Response,
+) -> Result<(), AllocError>
+    requires blank { IsBlank response.old }
+    requires noted { ChangesAreNoted held.old.has_changed held.old.file.document held.old.file.kept }
+    ensures answered { OnOk result (AnswersTake body.now held.old.file.document held.new.file.document response.new) }
+    ensures noted { ChangesAreNoted held.new.has_changed held.new.file.document held.new.file.kept }
+    ensures file { KeepsFile held.old.file held.new.file }
+    ensures refused { OnOk result (response.new.status ≢ 200 → held.new ≡ held.old) }
+    ensures err { OnErr result (held.new ≡ held.old) }
+{
+    make_room(response, 1)?;
+    add_field(response, CONTENT_TYPE, JSON)?;
+    match take_in(held, body) {
+        Ok(components) => {
+            metrics.note_take();
+            put_lines(&mut response.body, &[Reply::Taken(components)]);
+            Ok(())
+        }
+        Err(fault) => {
+            response.clear();
+            refuse(alloc, fault, response)
+        }
+    }
+}
+
+/// Takes what a body brings.
+fn take_in<H: Disk>(held: &mut Held<'_, H>, body: &[u8]) -> Result<u128, Fault>
+    requires noted { ChangesAreNoted held.old.has_changed held.old.file.document held.old.file.kept }
+    ensures taken { IfOk result (TakesFrom body.now held.old.file.document held.new.file.document) }
+    ensures fault { IfErr result (RefusesBody body.now held.old.file.document) }
+    ensures noted { ChangesAreNoted held.new.has_changed held.new.file.document held.new.file.kept }
+    ensures file { KeepsFile held.old.file held.new.file }
+    ensures err { OnErr result (held.new ≡ held.old) }
+{
+    let (question, response) = letter_in(body)?;
+    let names = name_count(held.file.document());
+    let components = held.file.take(question, response)?;
+    held.has_changed |= has_come(components, names, name_count(held.file.document()));
+    Ok(components)
+}
+
+/// Whether components came, or names.
+fn has_come(components: u128, before: u16, after: u16) -> bool
+    ensures { result ≡ false → (components ≡ 0) × (after ≡ before) }
+{
+    components != 0 || after != before
+}
+
+/// How many names the roster of a document has.
+fn name_count(document: &Document) -> u16
+    ensures { result ≡ length document.now.roster.names }
+{
+    document.replica().roster().len()
+}
+
+/// The question and the response in a body: the length of the question in 4 bytes, big-endian, and both.
+fn letter_in(body: &[u8]) -> Result<(&[u8], &[u8]), Fault>
+    ensures ok { IfOk result (λ texts. HoldsBoth body.now texts.0.now texts.1.now) }
+    ensures err { IfErr result (λ fault. fault ≡ Cut) }
+{
+    let Some((length, rest)) = body.split_at_checked(4) else {
+        return Err(Fault::Cut);
+    };
+    let length = u32::from_be_bytes([length[0], length[1], length[2], length[3]]);
+    match rest.split_at_checked(length as usize) {
+        Some(texts) => Ok(texts),
+        None => Err(Fault::Cut),
+    }
+}
+
+/// Makes room for so many lines.
+fn make_room(response: &mut Response, lines: usize) -> Result<(), AllocError>
+    requires { IsBlank response.old }
+    ensures room { OnOk result (LONGEST * lines ≤ response.new.body.spare) }
+    ensures blank { IsBlank response.new }
+{
+    match lines.checked_mul(LONGEST) {
+        Some(bytes) => response.body.reserve(bytes),
+        None => Err(AllocError),
+    }
+}

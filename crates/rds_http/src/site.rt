@@ -1,0 +1,212 @@
+//! A site: a document in its file, who may come, and what is counted.
+ghost use Rattle.std.specs.Prelude.{◌≡◌, ◌≢◌, false, IfErr, OnErr, OnOk};
+ghost use Rattle.http_server.specs.Response.{IsBlank};
+ghost use Rattle.rds_files.specs.Files.{IsUnkept};
+ghost use Rattle.rds_http.specs.Answers.{Does, DoesPost, KeepsRest, is_changing, may_change};
+ghost use Rattle.rds_http.specs.Site.{after_keep};
+
+use crate::access::Access;
+use crate::changing::{Held, edit, take};
+use crate::live::upgrade;
+use crate::login::log_in;
+use crate::metrics::Metrics;
+use crate::reading::{answer, look};
+use crate::refusals::{deny, refuse_method, refuse_unknown};
+use crate::routes::{Asked, Post, Route, route_of};
+use bytes::Bytes;
+use http::Request;
+use http_server::{Response, Service};
+use rds_files::{Disk, LockFile};
+use rds_names::Fault;
+use rds_store::DocumentFile;
+use std::alloc::{AllocError, Global};
+use std::marker::Model;
+
+/// A document in its file, who may come, and what is counted. Requests look at the document or change it, in memory:
+/// [`keep`](Site::keep) keeps it.
+pub struct Site<'a, H: Disk> {
+    alloc: Global,
+    held: Held<'a, H>,
+    access: Access,
+    turn: u64,
+    metrics: Metrics,
+}
+
+// Written out, so that where a site is let go a caller's proof has one call.
+impl<H: Disk> Drop for Site<'_, H> {
+    fn drop(self) {
+        let Site {
+            alloc: _alloc,
+            held: _held,
+            access: _access,
+            turn: _turn,
+            metrics: _metrics,
+        } = self;
+    }
+}
+
+impl<'a, H: Disk> Model for Site<'a, H> {
+    ghost use Rattle.rds_http.specs.Site.{ChangesAreNoted, SiteValue, coded_site};
+
+    ghost Value = { SiteValue };
+
+    ghost coded = { coded_site };
+
+    ghost view = { λ s. record {
+      path = s.held.file.path;
+      document = s.held.file.document;
+      kept = s.held.file.kept;
+      has_changed = s.held.has_changed;
+      turn = s.turn;
+      access = s.access;
+    } };
+
+    ghost invariant = { λ s. ChangesAreNoted s.held.has_changed s.held.file.document s.held.file.kept };
+}
+
+impl<'a, H: Disk> Site<'a, H>
+where
+    H::File: LockFile,
+{
+    /// A site where nothing was asked for yet.
+    pub fn new(alloc: Global, file: DocumentFile<'a, H>, access: Access) -> Site<'a, H>
+        requires kept { file.document ≡ file.kept }
+        ensures { result ≡ record {
+          path = file.entry.path;
+          document = file.entry.document;
+          kept = file.entry.kept;
+          has_changed = false;
+          turn = 0;
+          access = access;
+        } }
+    {
+        Site {
+            alloc,
+            held: Held {
+                file,
+                has_changed: false,
+            },
+            access,
+            turn: 0,
+            metrics: Metrics::new(),
+        }
+    }
+
+    /// Whether the document may have changed since it was kept.
+    pub fn has_changed(&self) -> bool
+        ensures value { result ≡ self.now.has_changed }
+        ensures kept { result ≡ false → self.now.document ≡ self.now.kept }
+    {
+        self.held.has_changed
+    }
+
+    /// Keeps the document in its file, where it may have changed since it was kept, and counts that. Refuses as
+    /// [`DocumentFile::keep`] does.
+    pub fn keep(&mut self, rt: &H) -> Result<(), Fault>
+        ensures kept { OnOk result (self.new ≡ after_keep self.old) }
+        ensures err { OnErr result (self.new ≡ self.old) }
+        ensures fault { IfErr result (IsUnkept self.old.document) }
+    {
+        if self.held.has_changed {
+            self.held.file.keep(rt)?;
+            self.held.has_changed = false;
+            self.turn = self.turn.saturating_add(1);
+            self.metrics.note_sync();
+        }
+        Ok(())
+    }
+
+    /// How many times what had changed was kept. A full count stays.
+    pub fn turn(&self) -> u64
+        ensures { result ≡ self.now.turn }
+    {
+        self.turn
+    }
+
+    /// Notes how many connections there are, and how many of them listen, for the metrics.
+    pub fn note_clients(&mut self, clients: usize, listeners: usize)
+        ensures { self.new ≡ self.old }
+    {
+        self.metrics.clients = clients;
+        self.metrics.listeners = listeners;
+    }
+}
+
+impl<H: Disk> Site<'_, H> {
+    /// Answers a request that is let in.
+    fn respond(
+        &mut self,
+        route: Route<'_>,
+        request: &Request<Bytes>,
+        response: &mut Response,
+    ) -> Result<(), AllocError>
+        requires { IsBlank response.old }
+        ensures done { OnOk result
+            (Does route.entry.asked route.entry.place.now self.old request.now response.new self.new) }
+        ensures rest { KeepsRest self.old self.new }
+        ensures refused { OnOk result (response.new.status ≢ 200 → self.new ≡ self.old) }
+        ensures looked { may_change route.entry.asked ≡ false → self.new ≡ self.old }
+        ensures err { OnErr result (self.new ≡ self.old) }
+    {
+        let alloc = self.alloc;
+        let body = request.body().as_slice();
+        match route.asked {
+            Asked::Look(asked) => {
+                let document = self.held.file.document();
+                look(alloc, document, &self.metrics, asked, route.place, response)
+            }
+            Asked::Post(post) => self.respond_to_post(post, body, response),
+            Asked::Live => upgrade(alloc, request, response),
+            Asked::NotAllowed(resource) => refuse_method(alloc, resource, response),
+            Asked::Unknown => refuse_unknown(alloc, response),
+        }
+    }
+
+    /// Answers a body that is posted.
+    fn respond_to_post(
+        &mut self,
+        post: Post,
+        body: &[u8],
+        response: &mut Response,
+    ) -> Result<(), AllocError>
+        requires { IsBlank response.old }
+        ensures done { OnOk result (DoesPost post body.now self.old response.new self.new) }
+        ensures rest { KeepsRest self.old self.new }
+        ensures refused { OnOk result (response.new.status ≢ 200 → self.new ≡ self.old) }
+        ensures looked { is_changing post ≡ false → self.new ≡ self.old }
+        ensures err { OnErr result (self.new ≡ self.old) }
+    {
+        let alloc = self.alloc;
+        match post {
+            Post::Edits => edit(alloc, &mut self.held, &mut self.metrics, body, response),
+            Post::Take => take(alloc, &mut self.held, &mut self.metrics, body, response),
+            Post::Answer => answer(alloc, self.held.file.document(), body, response),
+            Post::Login => log_in(alloc, &self.access, body, response),
+        }
+    }
+}
+
+impl<H: Disk> Service for Site<'_, H> {
+    ghost use Rattle.rds_http.specs.Answers.{Answers};
+
+    ghost answers = { Answers };
+
+    fn call(
+        &mut self,
+        request: &Request<Bytes>,
+        response: &mut Response,
+    ) -> Result<(), AllocError> {
+        self.metrics.note_request();
+        let route = route_of(
+            request.method().as_str().as_bytes(),
+            request.uri().path().as_bytes(),
+        );
+        match self
+            .access
+            .denial(self.alloc, route.asked, request.headers())?
+        {
+            Some(why) => deny(self.alloc, why, response),
+            None => self.respond(route, request, response),
+        }
+    }
+}

@@ -1,0 +1,108 @@
+//! A site from its words to the fault that ends it.
+ghost use Rattle.std.specs.Prelude.{◌≡◌, ◌⊎◌, IfErr, IfOk, IsSome, OnErr, OnOk, is_some};
+ghost use Rattle.rds_names.specs.declared.fault.Fault.TheVariants.{Usage};
+ghost use Rattle.rds_site.specs.Addresses.{NamesPlace};
+
+use crate::addresses::{check_reach, read_address};
+use crate::arrivals::Door;
+use crate::secrets::read_token;
+use crate::table::Clients;
+use crate::turns::Turns;
+use crate::words::SiteWords;
+use rds_files::{Disk, LockFile};
+use rds_http::{Access, Site, Token};
+use rds_names::Fault;
+use rds_store::DocumentFile;
+use std::hash::RandomState;
+use std::io;
+use std::net::{Net, SocketAddr};
+use std::random::RandomSource;
+use std::time::Instant;
+
+/// Serves the document of a file over HTTP until a fault ends that, which is answered. The file is opened under its
+/// lock, and kept before anything is answered, since who wrote it may not have made it last. An answer goes out once
+/// all that came before it is kept.
+///
+/// `Usage` where the words name no place for a site, or the token's file has none. What [`DocumentFile::open`] and
+/// [`DocumentFile::keep`] refuse with. `Device` where the token's file can't be read, the address can't be had, or the
+/// system can't be waited for. `Memory` where there is none to begin. Standard error has a line once the site serves,
+/// and one that says why it ended, but where memory lacked. What a client does wrong ends that client alone.
+///
+/// There are at most 1,024 clients; more are let go at once. Each has 30 seconds for a whole request, and to take a
+/// byte of an answer. A body has at most 64 MB, and what waits unread of all clients 256 MB: who sends more is let go.
+/// A listener for which 64 kB wait is let go.
+pub fn run_site<H: Disk + Net + RandomSource>(rt: &H, words: &SiteWords<'_>) -> Fault
+where
+    H::File: LockFile,
+    ensures place { (result ≡ Usage) ⊎ NamesPlace words.now }
+{
+    let mut turns = match begin(rt, words) {
+        Ok(turns) => turns,
+        Err(fault) => return fault,
+    };
+    for _ in 0..u64::MAX {
+        if let Err(fault) = turns.turn(rt) {
+            return fault;
+        }
+    }
+    Fault::Device
+}
+
+// All that comes before the first turn.
+fn begin<'a, H: Disk + Net + RandomSource>(
+    rt: &H,
+    words: &SiteWords<'a>,
+) -> Result<Turns<'a, H>, Fault>
+where
+    H::File: LockFile,
+    ensures place { OnOk result (NamesPlace words.now) }
+    ensures token { IfOk result (λ turns. is_some turns.site.access.token ≡ is_some words.now.token_file) }
+    ensures fault { IfErr result (λ fault. (fault ≡ Usage) ⊎ NamesPlace words.now) }
+{
+    let address = read_address(rt, words.http)?;
+    let token = read_secret(rt, words.token_file)?;
+    check_reach(rt, address, token.is_some(), words.is_open)?;
+    let clients = Clients::new(rt.alloc())?;
+    let mut file = DocumentFile::open(rt, words.file)?;
+    file.keep(rt)?;
+    let (door, now) = open_door(rt, address)?;
+    let address = door.address().unwrap_or(address);
+    let access = Access::new(address, token, words.is_open);
+    let site = Site::new(rt.alloc(), file, access);
+    let _ = eprintln!(rt; "listening on http://{address}/");
+    Ok(Turns::new(site, door, clients, now))
+}
+
+// Reads the token in the file of this path, where there is a path.
+fn read_secret<H: Disk>(rt: &H, path: Option<&str>) -> Result<Option<Token>, Fault>
+    ensures token { IfOk result (λ token. is_some token ≡ is_some path.entry) }
+    ensures none { OnErr result (IsSome path.entry) }
+{
+    match path {
+        Some(path) => Ok(Some(read_token(rt, path)?)),
+        None => Ok(None),
+    }
+}
+
+// Opens the place where clients come in, and looks at the time.
+fn open_door<H: Disk + Net + RandomSource>(
+    rt: &H,
+    address: SocketAddr,
+) -> Result<(Door, Instant), Fault> {
+    match try_door(rt, address) {
+        Ok(opened) => Ok(opened),
+        Err(error) => {
+            let _ = eprintln!(rt; "cannot listen at {address}: {error}");
+            Err(Fault::Device)
+        }
+    }
+}
+
+fn try_door<H: Disk + Net + RandomSource>(
+    rt: &H,
+    address: SocketAddr,
+) -> io::Result<(Door, Instant)> {
+    let keys = RandomState::new(rt)?;
+    let door = Door::open(rt, keys, address)?;
+    Ok((door, Instant::now(rt)?))
+}

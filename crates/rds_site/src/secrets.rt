@@ -1,0 +1,39 @@
+//! The token of a site, in a file.
+use rds_files::Disk;
+use rds_http::Token;
+use rds_names::Fault;
+use std::io::Read;
+use std::{fs, io};
+
+/// So many bytes of a token's file are read at most: more than a token may have.
+const LONGEST: u64 = 256;
+
+/// Reads the token in the file of this path. What is no token is refused, and a file that can't be read (`Device`),
+/// with a line on standard error.
+pub fn read_token<H: Disk>(rt: &H, path: &str) -> Result<Token, Fault> {
+    let bytes = match read_file(rt, path) {
+        Ok(bytes) => bytes,
+        Err(error) => {
+            let _ = eprintln!(rt; "cannot read {path}: {error}");
+            return Err(Fault::Device);
+        }
+    };
+    match Token::read(rt.alloc(), &bytes) {
+        Ok(token) => Ok(token),
+        Err(fault) => {
+            if matches!(fault, Fault::Usage) {
+                let _ = eprintln!(rt;
+                    "{path} holds no token: that is 16 to 128 bytes of A-Z a-z 0-9 - . _ ~"
+                );
+            }
+            Err(fault)
+        }
+    }
+}
+
+// The first bytes of a file.
+fn read_file<H: Disk>(rt: &H, path: &str) -> io::Result<Vec<u8>> {
+    let mut bytes = Vec::new(rt.alloc());
+    fs::open(rt, path)?.take(LONGEST).read_to_end(&mut bytes)?;
+    Ok(bytes)
+}

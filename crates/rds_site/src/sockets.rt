@@ -1,0 +1,119 @@
+//! The sockets of clients.
+use crate::committed::Committed;
+use bytes::{Buf, BytesMut};
+use http_server::{Connection, Rope};
+use mio::net::TcpStream;
+use mio::{Interest, Registry, Token};
+use rds_files::Disk;
+use std::io;
+use std::io::{ErrorKind, Read, Write};
+use std::net::Shutdown;
+
+/// The room that a read of frames is given at least, in bytes.
+const ROOM: usize = 4096;
+
+/// How far a client was heard.
+#[derive(Clone, Copy, Debug, PartialEq, Eq)]
+pub enum Heard {
+    /// All that came: an event tells of more.
+    All,
+    /// A part of what came: the rest is heard in the next turn.
+    Part,
+    /// The connection is broken, or has ended.
+    Gone,
+}
+
+impl Heard {
+    /// After a read that failed.
+    pub fn after(error: &io::Error) -> Heard {
+        match error.kind() {
+            ErrorKind::WouldBlock => Heard::All,
+            ErrorKind::Interrupted => Heard::Part,
+            _ => Heard::Gone,
+        }
+    }
+}
+
+/// How far a client took what was due to it.
+#[derive(Clone, Copy, Debug, PartialEq, Eq)]
+pub enum Sent {
+    /// Nothing waits any more.
+    All,
+    /// An event tells when it takes more.
+    Part,
+    /// The connection is broken.
+    Gone,
+}
+
+impl Sent {
+    /// After a write that failed, where that ends the writing.
+    pub fn after(error: &io::Error) -> Option<Sent> {
+        match error.kind() {
+            ErrorKind::WouldBlock => Some(Sent::Part),
+            ErrorKind::Interrupted => None,
+            _ => Some(Sent::Gone),
+        }
+    }
+}
+
+/// A client's socket. It is read at any time. It is written only by who has a [`Committed`].
+#[derive(Drop)]
+pub struct Socket {
+    stream: TcpStream,
+}
+
+impl Socket {
+    /// Of a stream that was just accepted: small answers go at once. Whether that can be had changes nothing.
+    pub fn new(stream: TcpStream) -> Socket {
+        let _ = stream.set_nodelay(true);
+        Socket { stream }
+    }
+
+    /// Has the registry report the socket under the token.
+    pub fn register(&mut self, registry: &Registry, token: Token) -> io::Result<()> {
+        let interests = Interest::READABLE.add(Interest::WRITABLE);
+        registry.register(&mut self.stream, token, interests)
+    }
+
+    /// Reads requests, once.
+    pub fn receive(&mut self, connection: &mut Connection) -> io::Result<usize> {
+        connection.read_from(&mut self.stream)
+    }
+
+    /// Reads frames, once.
+    pub fn receive_frames(&mut self, input: &mut BytesMut) -> io::Result<usize> {
+        input.reserve(ROOM)?;
+        input.read_from(&mut self.stream)
+    }
+
+    /// Reads what nobody wants any more, once.
+    pub fn discard(&mut self) -> io::Result<usize> {
+        let mut bytes = [0; ROOM];
+        self.stream.read(&mut bytes)
+    }
+
+    /// Writes answers, once.
+    pub fn send<H: Disk>(
+        &mut self,
+        _committed: &Committed<'_, '_, H>,
+        connection: &mut Connection,
+    ) -> io::Result<usize> {
+        connection.write_to(&mut self.stream)
+    }
+
+    /// Writes frames, once.
+    pub fn send_frames<H: Disk>(
+        &mut self,
+        _committed: &Committed<'_, '_, H>,
+        output: &mut Rope,
+    ) -> io::Result<usize> {
+        let count = self.stream.write(output.chunk())?;
+        output.advance(count.min(output.len()));
+        Ok(count)
+    }
+
+    /// Tells the client that nothing follows. Whether that can be told changes nothing.
+    pub fn end(&self) {
+        let _ = self.stream.shutdown(Shutdown::Write);
+    }
+}

@@ -1,0 +1,202 @@
+//! The clients of a site.
+use crate::clients::{Client, Next};
+use crate::committed::Committed;
+use http_server::Service;
+use mio::Token;
+use rds_files::Disk;
+use slab::Slab;
+use std::alloc::{AllocError, Global};
+use std::mem;
+use std::time::Instant;
+
+/// A site has so many clients at most.
+pub const MOST_CLIENTS: usize = 1024;
+
+/// The requests of all clients take so much room at most, in bytes, and what one hearing brings.
+const MOST_ROOM: usize = 268_435_456;
+
+/// The clients of a site, and which of them have a turn.
+#[derive(Drop)]
+pub struct Clients {
+    alloc: Global,
+    table: Slab<Client>,
+    listeners: usize,
+    // How much room the requests of all have taken.
+    room: usize,
+    // Those that are heard in this turn, and those that are heard in the next one without an event.
+    due: Vec<usize>,
+    next: Vec<usize>,
+}
+
+impl Clients {
+    /// No clients, and room for all that may come.
+    pub fn new(alloc: Global) -> Result<Clients, AllocError> {
+        Ok(Clients {
+            alloc,
+            table: Slab::with_capacity(alloc, MOST_CLIENTS)?,
+            listeners: 0,
+            room: 0,
+            due: Vec::with_capacity(alloc, MOST_CLIENTS)?,
+            next: Vec::with_capacity(alloc, MOST_CLIENTS)?,
+        })
+    }
+
+    pub fn len(&self) -> usize {
+        self.table.len()
+    }
+
+    pub fn is_empty(&self) -> bool {
+        self.table.is_empty()
+    }
+
+    pub fn is_full(&self) -> bool {
+        MOST_CLIENTS <= self.table.len()
+    }
+
+    /// How many are told of changes.
+    pub fn listeners(&self) -> usize {
+        self.listeners
+    }
+
+    /// Whether any has a turn without an event.
+    pub fn has_next(&self) -> bool {
+        !self.next.is_empty()
+    }
+
+    /// By what token the next client that is put is known.
+    pub fn next_token(&self) -> Token {
+        Token(self.table.vacant_key())
+    }
+
+    /// Puts a client, which is heard in this turn. Without memory for it, it is let go.
+    pub fn put(&mut self, client: Client) {
+        if let Ok(key) = self.table.insert(client) {
+            list(&mut self.table, &mut self.due, key);
+        }
+    }
+
+    /// Begins a turn: those that were left to it have it.
+    pub fn begin_turn(&mut self) {
+        mem::swap(&mut self.due, &mut self.next);
+        self.next.clear();
+    }
+
+    /// Lists the client of this token for this turn. One that has gone meanwhile isn't.
+    pub fn list(&mut self, token: Token) {
+        list(&mut self.table, &mut self.due, token.0);
+    }
+
+    /// Hears those that have a turn. One that takes more room than is left for requests is let go.
+    pub fn hear<S: Service>(&mut self, service: &mut S) {
+        for at in 0..self.due.len() {
+            if let Some(key) = self.due.get(at).copied() {
+                self.hear_from(key, service);
+            }
+        }
+    }
+
+    fn hear_from<S: Service>(&mut self, key: usize, service: &mut S) {
+        let Some(client) = self.table.get_mut(key) else {
+            return;
+        };
+        let had = client.room();
+        client.hear(service);
+        let has = client.room();
+        self.room = changed(self.room, had, has);
+        if MOST_ROOM < self.room && had < has {
+            client.give_up();
+        }
+    }
+
+    /// Notes a text for all that are told of changes, which have a turn so.
+    pub fn push(&mut self, text: &str) {
+        if self.listeners == 0 {
+            return;
+        }
+        for key in 0..MOST_CLIENTS {
+            if let Some(client) = self.table.get_mut(key) {
+                if client.is_listener() {
+                    client.push(text);
+                    list(&mut self.table, &mut self.due, key);
+                }
+            }
+        }
+    }
+
+    /// Sends what is due to those that have a turn, and lets those go that are done.
+    pub fn send<H: Disk>(&mut self, committed: &Committed<'_, '_, H>, now: Instant) {
+        for at in 0..self.due.len() {
+            if let Some(key) = self.due.get(at).copied() {
+                self.send_to(committed, key, now);
+            }
+        }
+        self.due.clear();
+    }
+
+    fn send_to<H: Disk>(&mut self, committed: &Committed<'_, '_, H>, key: usize, now: Instant) {
+        let Some(client) = self.table.get_mut(key) else {
+            return;
+        };
+        let before = Share::of(client);
+        client.set_listed(false);
+        let next = client.send(self.alloc, committed, now);
+        let mut after = Share::of(client);
+        match next {
+            Next::Event => (),
+            Next::Turn => list(&mut self.table, &mut self.next, key),
+            Next::Never => {
+                after = Share::NONE;
+                let _ = self.table.try_remove(key);
+            }
+        }
+        self.listeners = changed(self.listeners, before.listeners, after.listeners);
+        self.room = changed(self.room, before.room, after.room);
+    }
+
+    /// Lets those go that are overdue: in the next turn, which comes at once.
+    pub fn sweep(&mut self, now: Instant) {
+        for key in 0..MOST_CLIENTS {
+            if let Some(client) = self.table.get_mut(key) {
+                if client.is_overdue(now) {
+                    client.give_up();
+                    list(&mut self.table, &mut self.next, key);
+                }
+            }
+        }
+    }
+}
+
+// What one client has of the table's counts.
+#[derive(Clone, Copy)]
+struct Share {
+    listeners: usize,
+    room: usize,
+}
+
+impl Share {
+    const NONE: Share = Share {
+        listeners: 0,
+        room: 0,
+    };
+
+    fn of(client: &Client) -> Share {
+        Share {
+            listeners: usize::from(client.is_listener()),
+            room: client.room(),
+        }
+    }
+}
+
+// A count of which one part has changed.
+fn changed(count: usize, before: usize, after: usize) -> usize {
+    count.saturating_sub(before).saturating_add(after)
+}
+
+// Lists the client of this key, once.
+fn list(table: &mut Slab<Client>, keys: &mut Vec<usize>, key: usize) {
+    if let Some(client) = table.get_mut(key) {
+        if !client.set_listed(true) && keys.push(key).is_err() {
+            client.set_listed(false);
+        }
+    }
+}
