@@ -86,3 +86,6 @@ DOES(connect, (int file, const void *address, unsigned size), (file, address, si
 DOES(accept4, (int file, void *address, unsigned *size, int flags), (file, address, size, flags))
 DOES(setsockopt, (int file, int level, int name, const void *value, unsigned size), (file, level, name, value, size))
 DOES(shutdown, (int file, int how), (file, how))
+DOES(epoll_create1, (int flags), (flags))
+DOES(epoll_ctl, (int poll, int operation, int file, void *event), (poll, operation, file, event))
+DOES(epoll_wait, (int poll, void *events, int most, int timeout), (poll, events, most, timeout))

@@ -1,5 +1,6 @@
 /* How long calls take, over a document of so many registers, m{0..99}/k{i}: bench ELEMENTS
- * Each line: what it was, microseconds, bytes or nothing, with tabs between. */
+ * Each line: what it was, how often, the processor's microseconds for one, bytes or nothing, with tabs between. Where it
+ * runs under callgrind, each has dumps of its own, by which `bindings/speeds --count` tells its instructions. */
 #define _GNU_SOURCE
 #include "rds.h"
 
@@ -8,21 +9,47 @@
 #include <string.h>
 #include <time.h>
 #include <unistd.h>
+#if __has_include(<valgrind/callgrind.h>)
+#include <valgrind/callgrind.h>
+#else
+#define CALLGRIND_ZERO_STATS
+#define CALLGRIND_DUMP_STATS_AT(what) (void)(what)
+#endif
 
 #define ROSTER "[\"roster\",\"g\",\"a\",\"b\"]"
 
-enum { EDITS = 2000, PATH = 64, LINE = 96 };
+enum { EDITS = 2000, PATH = 64, LINE = 56 };
+
+/* A text, made before it is needed, so that only the library is timed. */
+typedef struct text {
+    size_t length;
+    char bytes[LINE];
+} text;
 
 static const size_t ROOM = (size_t)1 << 27;
 static rds first = RDS_CLOSED_REPLICA, second = RDS_CLOSED_REPLICA;
 static uint8_t *room, *snapshot, *question, *answer;
+static text *paths, lines[EDITS];
 static size_t snapshot_length;
 static long elements;
+static double begun;
 
+/* What the process has used of a processor, in microseconds: what it waits for others or for a disk isn't in it. */
 static double now(void) {
     struct timespec at;
-    clock_gettime(CLOCK_MONOTONIC, &at);
+    clock_gettime(CLOCK_PROCESS_CPUTIME_ID, &at);
     return (double)at.tv_sec * 1e6 + (double)at.tv_nsec / 1e3;
+}
+
+static void start(void) {
+    CALLGRIND_ZERO_STATS;
+    begun = now();
+}
+
+static double stop(const char *what) {
+    double took = now() - begun;
+    CALLGRIND_DUMP_STATS_AT(what);
+    return took;
 }
 
 static void need(uint32_t status) {
@@ -32,62 +59,73 @@ static void need(uint32_t status) {
     exit(1);
 }
 
-static void *memory(void) {
-    void *made = malloc(ROOM);
+static void *memory(size_t size) {
+    void *made = malloc(size);
     if (made == NULL)
         exit(1);
     return made;
 }
 
-static void say(const char *what, double microseconds, size_t bytes) {
-    printf(bytes ? "%s\t%.4f\t%zu\n" : "%s\t%.4f\n", what, microseconds, bytes);
+static void say(const char *what, double microseconds, long times, size_t bytes) {
+    printf(bytes ? "%s\t%ld\t%.4f\t%zu\n" : "%s\t%ld\t%.4f\n", what, times, microseconds / (double)times, bytes);
 }
 
 /* Says how long a statement takes, which is done `times` times with i from 0 on. */
 #define EACH(what, times, bytes, statement)                                                                            \
     do {                                                                                                               \
-        double from_ = now();                                                                                          \
+        start();                                                                                                       \
         for (long i = 0; i < (times); i++)                                                                             \
             statement;                                                                                                 \
-        say(what, (now() - from_) / (double)(times), bytes);                                                           \
+        double took_ = stop(what);                                                                                     \
+        say(what, took_, times, bytes);                                                                                \
     } while (0)
 
-static size_t path_of(long number, char *path) {
-    return (size_t)snprintf(path, PATH, "m%ld/k%ld", number % 100, number);
+static void make_paths(long count) {
+    paths = memory((size_t)count * sizeof *paths);
+    for (long i = 0; i < count; i++)
+        paths[i].length = (size_t)snprintf(paths[i].bytes, LINE, "m%ld/k%ld", i % 100, i);
 }
 
 static void set(rds *replica, long number, int64_t value) {
-    char path[PATH];
-    size_t length = path_of(number, path);
+    const text *path = &paths[number];
     rds_edited edited;
-    need(rds_set_int(replica, (const uint8_t *)path, length, value, &edited));
+    need(rds_set_int(replica, (const uint8_t *)path->bytes, path->length, value, &edited));
 }
 
-static void set_by_json(long number, long value) {
-    char line[LINE];
-    int length = snprintf(line, LINE, "[\"set\",\"m%ld/k%ld\",%ld]", number % 100, number, value);
+/* Makes the lines that set some registers anew, from a number on. */
+static void make_lines(long first_number, long step, long most) {
+    for (long i = 0; i < EDITS; i++) {
+        const char *path = paths[first_number + i * step % most].bytes;
+        lines[i].length = (size_t)snprintf(lines[i].bytes, LINE, "[\"set\",\"%s\",%ld]\n", path, i);
+    }
+}
+
+static void set_by_json(const text *line) {
     rds_edited edited;
-    need(rds_edit(&first, (const uint8_t *)line, (size_t)length, &edited));
+    need(rds_edit(&first, (const uint8_t *)line->bytes, line->length - 1, &edited));
 }
 
 static void set_by_lines(void) {
-    static char lines[EDITS * LINE];
+    static char all[EDITS * LINE];
+    const char *what = "edit: one line of 2,000 in a call";
     size_t length = 0, told;
     for (long i = 0; i < EDITS; i++) {
-        long number = i * 37 % elements;
-        length += (size_t)snprintf(lines + length, LINE, "[\"set\",\"m%ld/k%ld\",%ld]\n", number % 100, number, -i);
+        memcpy(all + length, lines[i].bytes, lines[i].length);
+        length += lines[i].length;
     }
-    double from = now();
-    need(rds_edit_lines(&first, (const uint8_t *)lines, length, room, ROOM, &told));
-    say("edit: one line of 2,000 in a call", (now() - from) / EDITS, 0);
+    start();
+    need(rds_edit_lines(&first, (const uint8_t *)all, length, room, ROOM, &told));
+    say(what, stop(what), EDITS, 0);
 }
 
 static void time_edits(void) {
+    make_lines(0, 37, elements);
     set_by_lines();
-    EACH("edit: an old register set anew, by JSON", EDITS, 0, set_by_json(i * 37 % elements, i));
+    EACH("edit: an old register set anew, by JSON", EDITS, 0, set_by_json(&lines[i]));
     EACH("edit: an old register set anew", EDITS, 0, set(&first, i * 37 % elements, i));
     EACH("edit: a new register", EDITS, 0, set(&first, elements + i, i));
-    EACH("edit: a new register, by JSON", EDITS, 0, set_by_json(elements + EDITS + i, i));
+    make_lines(elements + EDITS, 1, EDITS);
+    EACH("edit: a new register, by JSON", EDITS, 0, set_by_json(&lines[i]));
 }
 
 static void time_looks(long times) {
@@ -119,23 +157,26 @@ static void time_snapshots(long times) {
 }
 
 static void time_meetings(long times) {
+    const char *ask = "ask, after ten edits", *give = "answer", *take = "take";
     double asking = 0, answering = 0, taking = 0;
     size_t asked = 0, answered = 0;
     uint64_t taken;
     for (long i = 0; i < times; i++) {
         for (long edit = 0; edit < 10; edit++)
             set(&first, (i * 10 + edit) * 91 % elements, -i);
-        double from = now();
+        start();
         need(rds_ask(&second, question, ROOM, &asked));
-        double then = now();
+        asking += stop(ask);
+        start();
         need(rds_answer(&first, question, asked, answer, ROOM, &answered));
-        double last = now();
+        answering += stop(give);
+        start();
         need(rds_take(&second, question, asked, answer, answered, &taken));
-        asking += then - from, answering += last - then, taking += now() - last;
+        taking += stop(take);
     }
-    say("ask, after ten edits", asking / (double)times, asked);
-    say("answer", answering / (double)times, answered);
-    say("take", taking / (double)times, 0);
+    say(ask, asking, times, asked);
+    say(give, answering, times, answered);
+    say(take, taking, times, 0);
 }
 
 static void open_and_close(const char *path) {
@@ -149,7 +190,7 @@ static void set_and_keep(rds_file *file, long number) {
     need(rds_keep(file));
 }
 
-/* Each keep is synced, so it tells of the disk as well. */
+/* Each keep is synced; the time that a disk takes isn't in it. */
 static void time_files(long times) {
     char path[PATH];
     rds_file file = RDS_CLOSED_FILE;
@@ -158,7 +199,7 @@ static void time_files(long times) {
     need(rds_open(&file.replica, snapshot, snapshot_length));
     need(rds_make_file(&file, (const uint8_t *)path, strlen(path)));
     EACH("edit in a file: an old register set anew", EDITS, 0, set(&file.replica, i * 37 % elements, i));
-    EACH("edit in a file: a new register", EDITS, 0, set(&file.replica, elements + EDITS + i, i));
+    EACH("edit in a file: a new register", EDITS, 0, set(&file.replica, elements + 2 * EDITS + i, i));
     EACH("keep of these", 1, 0, need(rds_keep(&file)));
     EACH("edit and keep", 100, 0, set_and_keep(&file, i));
     rds_close(&file);
@@ -173,7 +214,8 @@ int main(int count, char **words) {
         return 2;
     }
     long times = elements > 10000 ? 5 : 200;
-    room = memory(), snapshot = memory(), question = memory(), answer = memory();
+    room = memory(ROOM), snapshot = memory(ROOM), question = memory(ROOM), answer = memory(ROOM);
+    make_paths(elements + 3 * EDITS);
     need(rds_new(&first, RDS_TEXT(ROSTER), 0));
     need(rds_new(&second, RDS_TEXT(ROSTER), 1));
     EACH("edit: a new register, from an empty document on", elements, 0, set(&first, i, i));

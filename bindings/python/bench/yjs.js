@@ -6,13 +6,20 @@ const EDITS = 2000;
 const elements = Number(process.argv[2]);
 const times = elements > 10000 ? 5 : 200;
 
-const now = () => Number(process.hrtime.bigint()) / 1e3;
-const say = (...words) => console.log(words.filter(it => it !== undefined).join('\t'));
+// What the process has used of processors, in microseconds, with what collects its garbage and compiles it.
+function now() {
+  const used = process.cpuUsage();
+  return used.user + used.system;
+}
+
+function say(what, microseconds, times, size) {
+  console.log([what, times, (microseconds / times).toFixed(4), size].filter(it => it !== undefined).join('\t'));
+}
 
 function each(what, count, call, size) {
   const begun = now();
   for (let number = 0; number < count; number++) call(number);
-  say(what, ((now() - begun) / count).toFixed(4), size);
+  say(what, now() - begun, count, size);
 }
 
 // A set of one register is a transaction, as an edit of rds is a dot.
@@ -38,9 +45,9 @@ function meet(first, second) {
     Y.applyUpdate(second, answer);
     asking += asked - begun, answering += answered - asked, taking += now() - answered;
   }
-  say('ask, after ten edits', (asking / times).toFixed(4), question.length);
-  say('answer', (answering / times).toFixed(4), answer.length);
-  say('take', (taking / times).toFixed(4));
+  say('ask, after ten edits', asking, times, question.length);
+  say('answer', answering, times, answer.length);
+  say('take', taking, times);
 }
 
 const first = new Y.Doc(), second = new Y.Doc();

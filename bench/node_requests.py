@@ -1,0 +1,268 @@
+"""Requests to a node, one by one, and what each is due to be answered, by hand."""
+import json
+import re
+import signal
+import struct
+import subprocess
+import time
+
+from serving import LIMIT, TOKEN, UPGRADE, Node, Noted, running, want
+
+# A request, and below it the status, the kind of content and the body that are due. '|' ends a line of a body, and
+# '..' is anything.
+REQUESTS = """
+GET /doc
+  200 json {"counters":{},"maps":{},"regs":{},"sets":{}}
+POST /edits ["set","apples/price",3]|["add","apples/tags","red"]||["inc","apples",10]|
+  200 x-ndjson {"dot":["a",1],"killed":0}|{"dot":["a",2],"killed":0}|{"dot":null,"killed":0}|
+GET /doc
+  200 json {"counters":{"apples":10},"maps":{"apples":{"maps":{},"regs":{"price":[3]},"sets":{"tags":["red"]}}},"regs":{},"sets":{}}
+GET /doc/apples
+  200 json {"maps":{},"regs":{"price":[3]},"sets":{"tags":["red"]}}
+GET /here
+  200 json {"counters":{"apples":10},"maps":{"apples":{"maps":{},"regs":{},"sets":{}}},"regs":{},"sets":{}}
+GET /here/apples
+  200 json {"maps":{},"regs":{"price":[3]},"sets":{"tags":["red"]}}
+GET /value/apples
+  200 json {"counter":10,"reg":[],"set":[]}
+GET /value/apples/price?x=/y%
+  200 json {"counter":null,"reg":[3],"set":[]}
+GET /value/app%6ces%2Fprice
+  200 json {"counter":null,"reg":[3],"set":[]}
+GET /value
+  400 json {"fault":4,"name":"BadPath","text":".."}
+POST /edits ["set","a b/ü%20","é"]
+  200 x-ndjson {"dot":["a",3],"killed":0}|
+GET /value/a%20b/%C3%BC%2520
+  200 json {"counter":null,"reg":["é"],"set":[]}
+GET /doc/a//b
+  400 json {"fault":3,"name":"BadKey","text":".."}
+GET /doc/%FF
+  400 json {"fault":3,"name":"BadKey","text":".."}
+GET /doc/1/2/3/4/5/6/7/8/9
+  400 json {"fault":4,"name":"BadPath","text":".."}
+POST /edits ["set","",1]|oops|["del","apples/tags","red"]|
+  200 x-ndjson {"fault":4,"name":"BadPath","line":1}|{"fault":25,"name":"BadLine","line":2}|{"dot":null,"killed":1}|
+POST /edits
+  200 x-ndjson
+GET /conflicts
+  200 x-ndjson
+GET /status
+  200 json {"group":"g","own":"a","names":["a","b"],"live":2,"dead":1,"counters":1,"components":4,..}
+HEAD /doc
+  200 json
+HEAD /nothing
+  404 json
+GET /nothing
+  404 json {"status":404,"text":"no such resource"}
+GET /status/x
+  404 json {"status":404,"text":"no such resource"}
+POST /doc x
+  405 json {"status":405,"text":".."}
+GET /edits
+  405 json {"status":405,"text":".."}
+DELETE /live
+  405 json {"status":405,"text":".."}
+POST /answer oops
+  400 json {"fault":13,"name":"Bad","text":".."}
+POST /take oops
+  400 json {"fault":..,"name":"..","text":".."}
+POST /take
+  400 json {"fault":..,"name":"..","text":".."}
+"""
+
+# Who may come, at a node without a token and at one with it: a status, a request, and lines of its head.
+MAY_COME = """
+200 GET /doc | Host: localhost:PORT
+200 GET /doc | Host: [::1]:PORT
+403 GET /doc | Host: 127.0.0.1
+403 GET /doc | Host: example.org
+403 GET /doc | Host: example.org:PORT
+403 GET / | Host: example.org:PORT
+403 POST /edits | Host: example.org:PORT
+200 GET /doc | Origin: http://example.org
+200 POST /edits | Origin: http://127.0.0.1:PORT
+200 POST /edits | Origin: https://localhost:PORT | Host: localhost:PORT
+403 POST /edits | Origin: http://localhost:PORT
+403 POST /edits | Origin: http://example.org
+403 POST /edits | Origin: null
+403 POST /edits | Origin:
+403 POST /take | Origin: http://127.0.0.1
+403 GET /live | Origin: http://example.org:PORT | UPGRADE
+"""
+MAY_COME_WITH_TOKEN = """
+200 GET / | Cookie: a=b
+401 GET /doc | Cookie: a=b
+401 HEAD /status | Cookie: a=b
+401 GET /nothing | Cookie: a=b
+401 POST /edits | Cookie: a=b
+401 POST /edits | Cookie: rds=
+401 POST /edits | Cookie: rds=TOKENx
+401 POST /edits | Authorization: Bearer
+401 POST /edits | Authorization: Bearer 0123456789abcdef-._
+401 POST /edits | Authorization: Basic TOKEN
+401 GET /live | Cookie: a=b | UPGRADE
+403 POST /edits | Authorization: Bearer TOKEN | Origin: http://example.org
+403 POST /login | Origin: http://example.org
+200 POST /edits | Authorization: Bearer TOKEN
+200 POST /edits | Cookie: a=b; rds=TOKEN; c=d
+200 GET /doc | Host: example.org:PORT
+"""
+
+
+def judge(what, answer, due):
+    """Compares an answer with a status, a kind and a body."""
+    status, kind, body = (due.split(" ", 2) + ["", ""])[:3]
+    pattern = re.escape(body.replace("|", "\n")).replace(r"\.\.", ".*")
+    found = answer.body.decode(errors="replace")
+    found = found.removesuffix("\n") if kind == "json" else found
+    has_kind = answer.headers.get("content-type", "").startswith(f"application/{kind}")
+    is_due = (str(answer.status), has_kind) == (status, True) and re.fullmatch(pattern, found)
+    want(is_due, f"{what} is answered {answer}, where {due} is due")
+
+
+def judge_table(node):
+    """Makes each request of the table, all over one connection."""
+    rows, noted = REQUESTS.strip().split("\n"), Noted()
+    with node.link() as link:
+        for asked, due in zip(rows[::2], rows[1::2]):
+            method, target, *body = asked.split(" ", 2)
+            given = "".join(body).replace("|", "\n").encode() if method == "POST" else None
+            answer = link.answer(node.text(method, target, given), method == "HEAD")
+            with noted:
+                judge(asked, answer, due.strip())
+                want(answer.status != 405 or "allow" in answer.headers, f"{asked} is answered {answer}, without Allow")
+    noted.end()
+
+
+def judge_comers(node, table):
+    """Makes each request of such a table, each over a connection of its own."""
+    noted = Noted()
+    for row in table.strip().split("\n"):
+        row = row.replace("PORT", f"{node.port}").replace("TOKEN", TOKEN).replace("UPGRADE", " | ".join(UPGRADE))
+        first, *lines = row.split(" | ")
+        status, method, target = first.split()
+        answer = node.answer(method, target, b"" if method == "POST" else None, *lines)
+        asks = answer.headers.get("www-authenticate")
+        with noted:
+            want(answer.status == int(status), f"{row} is answered {answer}")
+            want(answer.status != 401 or asks == "Bearer", f"{row} is answered WWW-Authenticate: {asks}")
+    noted.end()
+
+
+def judge_heads(node):
+    """The page, and the numbers."""
+    page = node.answer("GET", "/")
+    want(page.status == 200 and page.body.lower().startswith(b"<!doctype html>"), f"GET / is answered {page}")
+    due = {
+        "content-type": "text/html; charset=utf-8",
+        "x-content-type-options": "nosniff",
+        "referrer-policy": "no-referrer",
+        "cache-control": "no-cache",
+    }
+    for name, value in due.items():
+        want(page.headers.get(name) == value, f"the page has {name}: {page.headers.get(name)}")
+    policy = page.headers.get("content-security-policy", "")
+    want("default-src 'none'" in policy, f"the page has the policy {policy}")
+    head = node.answer("HEAD", "/")
+    want(head.headers == page.headers, f"HEAD / has {head.headers}, and GET / {page.headers}")
+    for name, number in ("rds_edits_total", 5), ("rds_edits_refused_total", 2), ("rds_live_entries", 2):
+        want(node.count(name) == number, f"{name} is {node.count(name)}, where {number} is due")
+
+
+def judge_pipes(node):
+    """How requests stand behind one another on a connection, and how it ends."""
+    page = node.answer("GET", "/")
+    places = [b"apples", b"apples/price", b"nothing"] * 100
+    with node.link() as link:
+        link.socket.sendall(b"".join(node.text("GET", f"/value/{place.decode()}") for place in places))
+        bodies = [link.answer().body for _ in places]
+        is_due = len(set(bodies)) == 3 and bodies == bodies[:3] * 100
+        want(is_due, "requests that come at once are answered out of order")
+        link.socket.sendall(node.text("HEAD", "/") + node.text("GET", "/") * 300 + node.text("GET", "/value/apples"))
+        want(link.answer(b"", True).status == 200, "a HEAD before other requests isn't answered")
+        want({link.answer().body for _ in range(300)} == {page.body}, "300 pages that are asked for at once differ")
+        want(link.answer().body == bodies[0], "a request behind 300 pages isn't answered")
+        chunks = b'12\r\n["set","chunked/ax\r\n8\r\n/b",true\r\n2\r\n]\n\r\n0\r\n\r\n'
+        answer = link.answer(node.text("POST", "/edits", None, "Transfer-Encoding: chunked") + chunks)
+        judge("a body in chunks", answer, '200 x-ndjson {"dot":["a",4],"killed":0}|')
+        answer = link.answer(node.text("POST", "/edits", b"\n", "Expect: 100-continue"))
+        answer = link.answer() if answer.status == 100 else answer
+        want(answer.status == 200, f"a request that expects 100 is answered {answer}")
+    for line in "Connection: close", "Connection: Close, x":
+        with node.link() as link:
+            answer = link.answer(node.text("GET", "/doc", None, line))
+            want(answer.status == 200 and link.is_ended(5), f"{line} is answered {answer}, and the connection stays")
+    with node.link() as link:
+        answer = link.answer(node.text("GET", "/doc").replace(b"HTTP/1.1", b"HTTP/1.0"))
+        want(answer.status == 200 and link.is_ended(5), f"HTTP/1.0 is answered {answer}, and the connection stays")
+
+
+def judge_texts(node):
+    """What two replicas ask and answer each other, the one by requests and the other by commands."""
+    node.told("init", "b.rds", "g", "b", "a", "b")
+    node.told("set", "b.rds", "m/x", "7")
+    question = node.told("ask", "a.rds")
+    response = node.told("answer", "b.rds", given=question)
+    answer = node.answer("POST", "/take", struct.pack(">I", len(question)) + question + response)
+    judge("POST /take", answer, '200 json {"taken":1}')
+    (node.folder / "q").write_bytes(node.told("ask", "b.rds"))
+    answer = node.answer("POST", "/answer", (node.folder / "q").read_bytes())
+    is_due = answer.status == 200 and answer.headers["content-type"] == "application/octet-stream"
+    want(is_due, f"POST /answer is answered {answer}")
+    taken = json.loads(node.told("take", "b.rds", "q", "-", given=answer.body))["taken"]
+    want(taken > 1, f"of an answer {taken} are taken")
+    want(json.loads(node.told("show", "b.rds")) == node.document(), "two replicas that have met differ")
+    same = node.answer("POST", "/answer", node.told("ask", "a.rds"))
+    judge("a question of the node's own", same, '409 json {"fault":21,"name":"SameReplica","text":".."}')
+    node.told("init", "c.rds", "other", "b", "a", "b")
+    other = node.answer("POST", "/answer", node.told("ask", "c.rds"))
+    judge("a question of another group", other, '409 json {"fault":19,"name":"WrongGroup","text":".."}')
+
+
+def judge_login(node):
+    """What gives a page its cookie."""
+    answer = node.answer("POST", "/login", TOKEN.encode(), "Cookie: a=b")
+    cookie = f"rds={TOKEN}; Path=/; HttpOnly; SameSite=Strict"
+    want((answer.status, answer.headers.get("set-cookie")) == (204, cookie), f"POST /login is answered {answer}")
+    answer = node.answer("POST", "/login", TOKEN[1:].encode(), "Cookie: a=b")
+    is_due = answer.status == 401 and "set-cookie" not in answer.headers
+    want(is_due, f"POST /login of another token is answered {answer}")
+
+
+def judge_reach(node):
+    """An address that others reach wants a token, or the word that lets everybody in."""
+    words = [node.program, "run", "a.rds", "--http", f"0.0.0.0:{node.port}"]
+    refused = subprocess.run(words, cwd=node.folder, capture_output=True, timeout=LIMIT)
+    is_due = refused.returncode == 2 and refused.stdout == b"fault 27: Usage\n" and refused.stderr
+    want(is_due, f"an address that others reach, without a token, is answered {refused}")
+
+
+def stop_and_go_on(node):
+    """Stops the process for a moment, as a shell does: it has to serve again."""
+    node.child.send_signal(signal.SIGSTOP)
+    time.sleep(0.1)
+    node.child.send_signal(signal.SIGCONT)
+    want(node.answer("GET", "/status").status == 200, "a node that was stopped and goes on doesn't serve")
+
+
+def try_requests(asked, folder):
+    noted, node = Noted(), Node(asked.program, folder)
+    with running(node):
+        comers = lambda node: judge_comers(node, MAY_COME)
+        for part in judge_table, judge_heads, judge_pipes, judge_texts, comers, stop_and_go_on:
+            with noted:
+                part(node)
+        document = node.document()
+    with noted:
+        want(node.shown() == document, f"show of the file differs from /doc, {document}")
+    node = Node(asked.program, folder / "token", TOKEN)
+    with running(node):
+        for part in lambda node: judge_comers(node, MAY_COME_WITH_TOKEN), judge_login:
+            with noted:
+                part(node)
+    with noted:
+        judge_reach(node)
+    noted.end()
+    count = REQUESTS.count("\n  ") + sum(table.strip().count("\n") + 1 for table in (MAY_COME, MAY_COME_WITH_TOKEN))
+    return f"{count} requests by hand, 600 at once, and what two replicas send each other"
