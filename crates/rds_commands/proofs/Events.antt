@@ -11,47 +11,22 @@ use Rattle.rds_session.specs.Judging.{longer_than, roster_among}
 use Rattle.rds_session.specs.Meeting.{IsItsLeast}
 use Rattle.rds_session.specs.Received.{Delivery}
 use Rattle.rds_world.specs.Coherent.{HasRosters}
-use Rattle.rds_world.specs.World.{World, Accepted, Reply, after, after_lent, after_reply, after_take, lend, put, reply_from, run}
+use Rattle.rds_world.specs.Replicas.{IsAnsweredIn, IsAskedIn, IsKeptIn}
+use Rattle.rds_world.specs.World.{World, Accepted, Reply, after, after_lent, after_reply, after_take, put, reply_from, run}
 use Rattle.rds_world.specs.declared.event.Event.TheVariants.{Crash, Save}
-use Rattle.rds_world.proofs.Answering.{asks_run, stands_run}
+use Rattle.rds_world.proofs.Asked.{asks_now}
 use Rattle.rds_world.proofs.Meeting.{longer_length}
 use Rattle.rds_world.proofs.Tables.{get_last, put_here, put_there}
 use Rattle.rds_files.specs.Files.{ReplacedValue}
 use Rattle.rds_files.specs.Settling.{Settles, IsJoined}
 use Rattle.rds_files.specs.declared.settling.Settled.TheVariants.{Taken}
-use Rattle.rds_commands.specs.Sessions.{AnswersStay, AsksStay, IsAnsweredIn, IsAskedIn, IsKeptIn, LeavesFile, ReadingsAreAsks, SessionsAreAnswered}
+use Rattle.rds_commands.specs.Sessions.{LeavesFile, ReadingsAreAsks, SessionsAreAnswered}
 use Rattle.rds_commands.specs.Sessions.{SettlingsAreTakes, answering_events, settling_events}
 
 -- ---- a reading, and an answer from it
 
 pub readings_asked : ReadingsAreAsks
-readings_asked w read keeps =
-    let there : ltb read.own w.replicas ≡ true = lt-ltb _ _ keeps.there in (
-      (rw there refl, tt),
-      record { question = lend w read.own; ask = get_last w.asks (lend w read.own); asker = refl; names = keeps.names; state = keeps.state },
-    )
-
-pub asks_stay : AsksStay
-asks_stay w events number asked is = record {
-  question = is.question;
-  ask = asks_run events w number is.question is.ask;
-  asker = is.asker;
-  names = is.names;
-  state = is.state;
-}
-
-pub answers_stay : AnswersStay
-answers_stay w events number asked peer is = record {
-  reply = is.reply;
-  answer = stands_run events w number is.reply is.answer;
-  reply_asker = is.reply_asker;
-  reply_names = is.reply_names;
-  reply_state = is.reply_state;
-  question = is.question;
-  ask = asks_run events w is.reply.question is.question is.ask;
-  asker = is.asker;
-  names = is.names;
-}
+readings_asked = asks_now
 
 module _ (w : World) (number lent : ℕ) (asked peer : ReplicaValue) (asks : IsAskedIn w number asked) (answers : IsAskedIn w lent peer) where
   abbrev answer : Reply

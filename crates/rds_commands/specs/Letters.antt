@@ -4,9 +4,10 @@ use Rattle.rds_files.specs.Files.{FileValue, ReplacedValue}
 use Rattle.rds_offline.specs.Letters.{AnswersFile, AsksFile, TakesFile}
 use Rattle.rds_state.specs.Fits.{ReplicaValue}
 use Rattle.rds_world.specs.Coherent.{HasRosters}
+use Rattle.rds_world.specs.Replicas.{IsAnsweredIn, IsAskedIn, IsKeptIn}
 use Rattle.rds_world.specs.World.{World, Happening, Of, Accepted, run}
 use Rattle.rds_world.specs.declared.event.Event.TheVariants.{Answer}
-use Rattle.rds_commands.specs.Sessions.{IsAnsweredIn, IsAskedIn, IsKeptIn, LeavesFile, reading_events, settling_events}
+use Rattle.rds_commands.specs.Sessions.{LeavesFile, reading_events, settling_events}
 
 abbrev pub answer_events : ReplicaValue → ℕ → List Happening
 answer_events peer number = Of (Answer peer.own number) ∷ []

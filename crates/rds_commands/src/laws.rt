@@ -1,8 +1,9 @@
 //! The laws of sessions of files, and of questions and answers that go as texts.
 ghost use Rattle.rds_commands.specs.Changing.{EditingsAreEdits, LinesAreEdits};
 ghost use Rattle.rds_commands.specs.Letters.{AnswersAreAnswers, QuestionsAreAsks, TakesAreTakes};
-ghost use Rattle.rds_commands.specs.Sessions.{AnswersStay, AsksStay, ReadingsAreAsks, SessionsAreAnswered};
+ghost use Rattle.rds_commands.specs.Sessions.{ReadingsAreAsks, SessionsAreAnswered};
 ghost use Rattle.rds_commands.specs.Sessions.{SettlingsAreTakes};
+ghost use Rattle.rds_world.specs.Replicas.{AnswersStay, AsksStay};
 
 /// A session of two files is events of the model of all replicas, whatever commands change the files meanwhile. Each
 /// side reads its file: where that holds what the model's replica has kept, the replica asks. What the other receives

@@ -1,6 +1,7 @@
 pub mod Answered
 pub mod Beginnings
 pub mod EditedLines
+pub mod EditsMade
 pub mod EndedLines
 pub mod Fronts
 pub mod JoinedOnce

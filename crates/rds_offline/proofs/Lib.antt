@@ -1,3 +1,4 @@
+pub mod Brought
 mod Changed
 mod Copied
 mod Lacking

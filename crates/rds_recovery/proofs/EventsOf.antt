@@ -3,6 +3,8 @@ use Rattle.std.proofs.Common.{◌≡◌, inl, inr, ◌∙◌, ℕ, Bool, true, f
 use Rattle.rds_state.specs.Fits.{ReplicaValue}
 use Rattle.rds_world.specs.World.{World, Happening, Of, after, run}
 use Rattle.rds_world.specs.declared.event.Event.TheVariants.{Crash, Save}
+use Rattle.rds_world.specs.Replicas.{IsKeptIn, LeadsTo, MakeInMemory, edits}
+use Rattle.rds_world.proofs.Changes.{edits_make, found, lost, saved}
 use Rattle.rds_world.proofs.Runs.{accepted_on, run_on}
 use Rattle.rds_recovery.specs.Events.{
   AreEdits,
@@ -14,15 +16,11 @@ use Rattle.rds_recovery.specs.Events.{
   IsChange,
   IsEdit,
   IsEnding,
-  IsKeptIn,
-  LeadsTo,
   LeavesNoOther,
-  MakeInMemory,
   edit_events,
 }
 use Rattle.rds_recovery.specs.Recovery.{Append, Holds, last_left}
 use Rattle.rds_recovery.proofs.BrokenOff.{none_made_up}
-use Rattle.rds_recovery.proofs.Model.{edits, edits_make, found, lost, saved}
 use Rattle.rds_recovery.proofs.ReadingOn.{hold_one}
 
 -- ---- one change

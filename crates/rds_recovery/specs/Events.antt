@@ -1,25 +1,13 @@
 -- Edits of a file that crashes broke off, as events of the model.
-use Rattle.std.specs.Prelude.{◌≡◌, ◌≢◌, ◌⊎◌, ◌<◌, ℕ, Bool, true, false, List, [], ◌∷◌, ◌++◌, length, map, None}
-use Rattle.rds_state.specs.Coordinates.{Coordinates}
-use Rattle.rds_state.specs.Edit.{refusal}
+use Rattle.std.specs.Prelude.{◌≡◌, ◌⊎◌, ℕ, Bool, true, false, List, [], ◌∷◌, ◌++◌}
 use Rattle.rds_state.specs.Fits.{ReplicaValue}
-use Rattle.rds_state.specs.Value.{coordinates}
 use Rattle.rds_state.specs.declared.command.Command.{Command}
-use Rattle.rds_world.specs.World.{World, Happening, Of, Accepted, after, after_edit, next, run}
-use Rattle.rds_world.specs.declared.event.Event.TheVariants.{Crash, Edit, Save}
+use Rattle.rds_world.specs.Replicas.{IsKeptIn, IsMadeBy, LeadsTo, MakeInMemory, edits}
+use Rattle.rds_world.specs.World.{World, Happening, Of, after}
+use Rattle.rds_world.specs.declared.event.Event.TheVariants.{Crash, Save}
 use Rattle.rds_keep.specs.Changed.{IsRecordOf}
 use Rattle.rds_keep.specs.Kept.{IsStored}
 use Rattle.rds_recovery.specs.Recovery.{Append, Holds, IsBrokenOff, last_left}
-
--- it is what its replica has kept in the world
-pub record IsKeptIn (w : World) (v : ReplicaValue) : Type 0 where
-  pub there : v.own < w.replicas
-  pub names : w.kept_names v.own ≡ length v.roster.names
-  pub state : w.kept v.own ≡ coordinates v.state
-
--- no event but the replica's own save changes what it has kept
-abbrev pub KeptStays : Type 0
-KeptStays = (w : World) (v : ReplicaValue) (e : Happening) → IsKeptIn w v → e ≢ Of (Save v.own) → IsKeptIn (next w e) v
 
 -- ---- changes
 
@@ -34,25 +22,10 @@ pub record IsChange (file : List ℕ) (a : Append) : Type 0 where
   pub change : IsRecordOf a.change
   pub leaves : LeavesNoOther a.is_kept file a
 
--- the events make this replica in its memory, and what is kept stays
-pub record MakeInMemory (w : World) (events : List Happening) (v : ReplicaValue) : Type 0 where
-  pub accepted : Accepted events w
-  pub replicas : (run events w).replicas ≡ w.replicas
-  pub names : (run events w).memory_names v.own ≡ length v.roster.names
-  pub state : (run events w).memory v.own ≡ coordinates v.state
-  pub kept : (run events w).kept ≡ w.kept
-  pub kept_names : (run events w).kept_names ≡ w.kept_names
-
 -- what was acknowledged is saved; at any other change a crash comes, before it is saved or behind that
 abbrev pub IsEnding : Bool → ℕ → List Happening → Type 0
 IsEnding true own events = events ≡ Of (Save own) ∷ []
 IsEnding false own events = (events ≡ Of (Crash own) ∷ []) ⊎ (events ≡ Of (Save own) ∷ Of (Crash own) ∷ [])
-
--- the events happened, and this is what its replica has kept by now; the others have kept what they had
-pub record LeadsTo (w : World) (events : List Happening) (found : ReplicaValue) : Type 0 where
-  pub accepted : Accepted events w
-  pub kept : IsKeptIn (run events w) found
-  pub others : (r : ℕ) → r ≢ found.own → (run events w).kept r ≡ w.kept r
 
 -- what is read behind a change that some events made of the replica that was read
 abbrev pub ChangeIsEvents : World → List ℕ → Append → Type 0
@@ -63,17 +36,6 @@ ChangeIsEvents w file a =
     × LeadsTo w (Of (Crash a.change.before.own) ∷ (events ++ ending)) found
 
 -- ---- edits
-
--- none of the commands is refused, one after the other, and they make the last state of the first
-abbrev pub AreDone : ℕ → Coordinates → List Command → Coordinates → Type 0
-AreDone own a [] b = b ≡ a
-AreDone own a (c ∷ commands) b = (refusal a own c ≡ None) × AreDone own (after_edit a own c) commands b
-
--- the commands made the one replica of the other
-pub record IsMadeBy (before : ReplicaValue) (commands : List Command) (after : ReplicaValue) : Type 0 where
-  pub roster : after.roster ≡ before.roster
-  pub own : after.own ≡ before.own
-  pub done : AreDone before.own (coordinates before.state) commands (coordinates after.state)
 
 -- a file was read, its replica edited, and the change appended
 pub record IsEdit (file : List ℕ) (a : Append) : Type 0 where
@@ -88,7 +50,7 @@ AreEdits file (a ∷ appends) = IsEdit file a × AreEdits a.left appends
 
 -- a replica is read, and edited by one command after the other
 abbrev pub edit_events : ℕ → List Command → List Happening → List Happening
-edit_events own commands then = Of (Crash own) ∷ (map (λ c. Of (Edit own c)) commands ++ then)
+edit_events own commands then = Of (Crash own) ∷ (edits own commands ++ then)
 
 pub record AreEventsOf (a : Append) (events : List Happening) : Type 0 where
   pub commands : List Command

@@ -3,7 +3,7 @@ ghost use Rattle.std.specs.Prelude.{List, ℕ};
 ghost use Rattle.rds_keep.specs.Changed.{ChangedValue};
 ghost use Rattle.rds_keep.specs.declared.layout.Layout.{Layout};
 ghost use Rattle.rds_recovery.specs.AtAnyMoment.{SafeIsRead, SafeIsWithin, StaysSafe, SyncedIsSafe};
-ghost use Rattle.rds_recovery.specs.Events.{ChangeIsEvents, EditIsEvents, EditsAreEvents, KeptStays};
+ghost use Rattle.rds_recovery.specs.Events.{ChangeIsEvents, EditIsEvents, EditsAreEvents};
 ghost use Rattle.rds_recovery.specs.Recovery.{
   Append,
   HoldsOne,
@@ -12,6 +12,7 @@ ghost use Rattle.rds_recovery.specs.Recovery.{
   NoneIsMadeUp,
   TornIsNoOther,
 };
+ghost use Rattle.rds_world.specs.Replicas.{KeptStays};
 ghost use Rattle.rds_world.specs.World.{World};
 
 use rds_journal::Device;

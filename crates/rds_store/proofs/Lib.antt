@@ -1,3 +1,4 @@
 mod ChangeLemmas
+mod Events
 mod Naming
 mod Taken

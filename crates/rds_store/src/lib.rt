@@ -1,6 +1,7 @@
 //! A replica of a document in a program: made or opened, edited, looked at, met with others, and kept in a file. Read
 //! `document` first, then `editing`, `looking`, `changes`, `meeting`, `drafts` and `files`; `answers` has the lines
-//! that edits are answered, and `threads` says that a document may move to another thread.
+//! that edits are answered, `threads` says that a document may move to another thread, and `laws` what all of it is in
+//! the model of all replicas.
 #![tactic(auto)]
 
 mod answers;
@@ -9,6 +10,7 @@ mod document;
 mod drafts;
 mod editing;
 mod files;
+mod laws;
 mod looking;
 mod meeting;
 mod threads;
@@ -17,6 +19,7 @@ pub use answers::answers_text;
 pub use document::Document;
 pub use drafts::{Draft, Noted};
 pub use files::{DocumentFile, create_file};
+pub use laws::documents_are_events;
 pub use rds_gaps::GapSet;
 pub use rds_names::{Fault, Key, Name, Path, Roster, Scalar};
 pub use rds_output::Reply;

@@ -1,7 +1,9 @@
 pub mod Answering
 pub mod Answered
+pub mod Asked
 pub mod Brought
 pub mod Certified
+pub mod Changes
 pub mod Coherent
 pub mod Counters
 pub mod Edits
@@ -22,6 +24,7 @@ pub mod Rosters
 pub mod Runs
 pub mod Simulated
 pub mod Standing
+pub mod Staying
 pub mod States
 pub mod Steps
 pub mod Sums

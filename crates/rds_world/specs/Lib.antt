@@ -4,6 +4,7 @@ pub mod Example
 pub mod Held
 pub mod Law
 pub mod Reached
+pub mod Replicas
 pub mod Replies
 pub mod Shows
 pub mod Simulation

@@ -1,4 +1,5 @@
-use Rattle.rds_commands.proofs.Events.{answers_stay, asks_stay, readings_asked, sessions_answered, settlings_taken}
+use Rattle.rds_world.proofs.Staying.{answers_stay, asks_stay}
+use Rattle.rds_commands.proofs.Events.{readings_asked, sessions_answered, settlings_taken}
 use Rattle.rds_commands.proofs.laws.sessions_are_events.Goals as goal
 
 pub returns-clause-reads : goal.returns-clause-reads

@@ -1,5 +1,5 @@
 use Rattle.rds_recovery.proofs.EventsOf.{change_is_events, edit_is_events, edits_are_events}
-use Rattle.rds_recovery.proofs.Staying.{kept_stays}
+use Rattle.rds_world.proofs.Staying.{kept_stays}
 use Rattle.rds_recovery.proofs.laws.broken_edits_are_events.Goals as goal
 
 pub returns-clause-change : goal.returns-clause-change

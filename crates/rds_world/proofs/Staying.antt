@@ -1,11 +1,12 @@
--- What a replica has kept stays until it saves.
+-- What a replica has kept stays until it saves, and what was asked and answered stays.
 use Rattle.std.proofs.Common.{◌≡◌, ◌≢◌, ◌∙◌, ℕ, Option, Some, None, sym, ap, arith, slice_get, suc}
 use Rattle.rds_state.specs.Fits.{ReplicaValue}
 use Rattle.rds_world.specs.World.{World, Of, AnswerLent, Question, Reply, after, after_lent, after_reply, after_take, lend}
 use Rattle.rds_world.specs.declared.event.Event.{Event}
 use Rattle.rds_world.specs.declared.event.Event.TheVariants.{Answer, Ask, Crash, Edit, Grow, Save, Take}
+use Rattle.rds_world.proofs.Answering.{asks_run, stands_run}
 use Rattle.rds_world.proofs.Tables.{put_there}
-use Rattle.rds_recovery.specs.Events.{IsKeptIn, KeptStays}
+use Rattle.rds_world.specs.Replicas.{AnswersStay, AsksStay, IsKeptIn, KeptStays}
 
 module _ (w : World) (v : ReplicaValue) (kept : IsKeptIn w v) where
   reply_stays : (lent : Question) (k : ℕ) (asked : Option Question) → IsKeptIn (after_reply w lent k asked) v
@@ -42,3 +43,25 @@ module _ (w : World) (v : ReplicaValue) (kept : IsKeptIn w v) where
 pub kept_stays : KeptStays
 kept_stays w v (Of e) kept other = event_stays w v kept e other
 kept_stays w v (AnswerLent j k) kept other = lent_stays w v kept (slice_get w.asks j) k
+
+pub asks_stay : AsksStay
+asks_stay w events number asked is = record {
+  question = is.question;
+  ask = asks_run events w number is.question is.ask;
+  asker = is.asker;
+  names = is.names;
+  state = is.state;
+}
+
+pub answers_stay : AnswersStay
+answers_stay w events number asked peer is = record {
+  reply = is.reply;
+  answer = stands_run events w number is.reply is.answer;
+  reply_asker = is.reply_asker;
+  reply_names = is.reply_names;
+  reply_state = is.reply_state;
+  question = is.question;
+  ask = asks_run events w is.reply.question is.question is.ask;
+  asker = is.asker;
+  names = is.names;
+}

@@ -1,5 +1,5 @@
--- What edits do to a world, and what ends changes.
-use Rattle.std.proofs.Common.{◌≡◌, ◌≢◌, ◌<◌, ◌∙◌, ℕ, true, List, [], ◌∷◌, ◌++◌, length, ltb, map, refl, sym, ap, subst}
+-- What edits do to a world, and how changes of a file end in it.
+use Rattle.std.proofs.Common.{◌≡◌, ◌≢◌, ◌<◌, ◌∙◌, ℕ, true, List, [], ◌∷◌, ◌++◌, length, ltb, refl, sym, ap, subst}
 use Rattle.std.proofs.lemmas.Bool.{lt-ltb}
 use Rattle.rds_names.specs.Roster.{RosterValue}
 use Rattle.rds_state.specs.Coordinates.{Coordinates}
@@ -10,12 +10,9 @@ use Rattle.rds_world.specs.World.{World, Happening, Of, Accepted, after, after_e
 use Rattle.rds_world.specs.declared.event.Event.TheVariants.{Crash, Edit, Save}
 use Rattle.rds_world.proofs.Runs.{accepted_on, run_on}
 use Rattle.rds_world.proofs.Tables.{put_here, put_there}
-use Rattle.rds_recovery.specs.Events.{AreDone, IsKeptIn, IsMadeBy, LeadsTo, MakeInMemory}
+use Rattle.rds_world.specs.Replicas.{AreDone, IsInMemory, IsKeptIn, IsMadeBy, LeadsTo, MakeInMemory, edits}
 
 -- ---- edits
-
-abbrev pub edits : ℕ → List Command → List Happening
-edits r commands = map (λ c. Of (Edit r c)) commands
 
 -- the one replica's memory has come to this state, and all else is as it was
 record Edits (w u : World) (r : ℕ) (b : Coordinates) : Type 0 where
@@ -35,22 +32,32 @@ edits_run (c ∷ commands) w r b there done =
     let its = later.1 in
     ((rw test done.0, later.0), record { replicas = its.replicas; names = its.names; state = its.state; kept = its.kept; kept_names = its.kept_names })
 
-pub edits_make : (w : World) (before : ReplicaValue) (commands : List Command) (v : ReplicaValue) → IsKeptIn w before → IsMadeBy before commands v → MakeInMemory (after w (Crash before.own)) (edits before.own commands) v
-edits_make w before commands v keeps made =
+-- commands make in memory what they made of the replica there
+pub edits_in_memory : (w : World) (before : ReplicaValue) (commands : List Command) (v : ReplicaValue) → IsInMemory w before → IsMadeBy before commands v → MakeInMemory w (edits before.own commands) v
+edits_in_memory w before commands v held made =
     let r : ℕ = before.own in
-    let w0 : World = after w (Crash r) in
-    let u : World = run (edits r commands) w0 in
-    let read : w0.memory r ≡ coordinates before.state = put_here w.memory r (w.kept r) ∙ keeps.state in
-    let all = edits_run commands w0 r (coordinates v.state) keeps.there (subst (λ (a : Coordinates). AreDone r a commands (coordinates v.state)) (sym read) made.done) in
+    let u : World = run (edits r commands) w in
+    let all = edits_run commands w r (coordinates v.state) held.there (subst (λ (a : Coordinates). AreDone r a commands (coordinates v.state)) (sym held.state) made.done) in
     let its = all.1 in
     record {
       accepted = all.0;
       replicas = its.replicas;
-      names = ap u.memory_names made.own ∙ its.names ∙ put_here w.memory_names r (w.kept_names r) ∙ keeps.names ∙ ap (λ (s : RosterValue). length s.names) (sym made.roster);
+      names = ap u.memory_names made.own ∙ its.names ∙ held.names ∙ ap (λ (s : RosterValue). length s.names) (sym made.roster);
       state = ap u.memory made.own ∙ its.state;
       kept = its.kept;
       kept_names = its.kept_names;
     }
+
+-- what was kept is read again by a crash
+pub read_again : (w : World) (v : ReplicaValue) → IsKeptIn w v → IsInMemory (after w (Crash v.own)) v
+read_again w v keeps = record {
+  there = keeps.there;
+  names = put_here w.memory_names v.own (w.kept_names v.own) ∙ keeps.names;
+  state = put_here w.memory v.own (w.kept v.own) ∙ keeps.state;
+}
+
+pub edits_make : (w : World) (before : ReplicaValue) (commands : List Command) (v : ReplicaValue) → IsKeptIn w before → IsMadeBy before commands v → MakeInMemory (after w (Crash before.own)) (edits before.own commands) v
+edits_make w before commands v keeps made = edits_in_memory (after w (Crash before.own)) before commands v (read_again w before keeps) made
 
 -- ---- how changes end
 
