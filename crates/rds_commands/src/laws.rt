@@ -1,5 +1,5 @@
 //! The laws of sessions of files, and of questions and answers that go as texts.
-ghost use Rattle.rds_commands.specs.Changing.{EditingsAreEdits, LinesAreEdits};
+ghost use Rattle.rds_commands.specs.Changing.{EditingsAreEdits, LinesAreEdits, MergesAreTakes};
 ghost use Rattle.rds_commands.specs.Letters.{AnswersAreAnswers, QuestionsAreAsks, TakesAreTakes};
 ghost use Rattle.rds_commands.specs.Sessions.{ReadingsAreAsks, SessionsAreAnswered};
 ghost use Rattle.rds_commands.specs.Sessions.{SettlingsAreTakes};
@@ -36,4 +36,12 @@ pub fn letters_are_events()
 pub fn edits_are_events()
     ensures edits { EditingsAreEdits }
     ensures lines { LinesAreEdits }
+{}
+
+/// A file that takes a copy of another is events of the model of all replicas. What the other had kept when it was
+/// copied is as if it had asked then: what it lends to later answers. The file is read, its replica asks and is answered
+/// with that, takes the answer, and is saved. So the file holds what the model's replica has kept by now, however old the
+/// copy is. The function does nothing: its contract is this law.
+pub fn merges_are_events()
+    ensures merges { MergesAreTakes }
 {}

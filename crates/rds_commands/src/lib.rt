@@ -20,6 +20,6 @@ mod telling;
 mod tips;
 mod unparsed;
 
-pub use laws::{edits_are_events, letters_are_events, sessions_are_events};
+pub use laws::{edits_are_events, letters_are_events, merges_are_events, sessions_are_events};
 pub use program::run;
 pub use site::RunSite;

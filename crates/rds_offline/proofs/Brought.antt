@@ -1,7 +1,8 @@
 -- What a response brought to the replica that asked, in terms of the two replicas.
-use Rattle.std.proofs.Common.{◌≡◌, ◌≢◌, ◌≤◌, ◌∙◌, ℕ, List, length, Result, Ok, sym, ap, subst, inl, inr}
+use Rattle.std.proofs.Common.{◌≡◌, ◌≢◌, ◌≤◌, ◌∙◌, ℕ, List, max, length, Result, Ok, sym, ap, subst, arith, inl, inr}
 use Rattle.rds_names.specs.Roster.{RosterValue, OneBegins, longer}
 use Rattle.rds_names.specs.declared.fault.Fault.{Fault}
+use Rattle.rds_state.specs.Coordinates.{join}
 use Rattle.rds_state.specs.Fits.{ReplicaValue}
 use Rattle.rds_state.specs.Value.{coordinates}
 use Rattle.rds_delta.specs.Least.{least}
@@ -19,6 +20,8 @@ use Rattle.rds_questions.specs.Responses.{ResponseValue, response_at, response_k
 use Rattle.rds_questions.specs.Taking.{IsAsker}
 use Rattle.rds_questions.proofs.Meeting.{deltas_are_least, is_brought, replicas_ask_well}
 use Rattle.rds_questions.proofs.Readers.{question_reader, response_reader}
+use Rattle.rds_world.proofs.Meeting.{longer_length}
+use Rattle.rds_world.proofs.Open.{TakesAnswer}
 use Rattle.rds_offline.specs.Letters.{TakesResponse}
 
 same_ok : {V : Type 0} (a b : V) → ◌≡◌ {A = Result V Fault} (Ok a) (Ok b) → a ≡ b
@@ -98,4 +101,21 @@ module _ (asked peer before after : ReplicaValue) (question answer : List ℕ) (
     least = ap (λ (x : ReceivedValue). coordinates x.delta) is_received ∙ deltas_are_least asked peer r is_answered_by;
     roster = ap (λ (x : ReceivedValue). x.roster) is_received ∙ brings.roster;
     replica = subst (λ (q : QuestionValue). IsAsker q before) taken_question takes.replica;
+  }
+
+  names : length asked.roster.names ≤ length before.roster.names → length after.roster.names ≡ max (length before.roster.names) (length peer.roster.names)
+  names enough =
+      let both : length after.roster.names ≡ max (length before.roster.names) (length takes.received.roster.names) =
+          ap (λ (s : RosterValue). length s.names) takes.taken.roster ∙ longer_length before.roster takes.received.roster in
+      let came : length takes.received.roster.names ≡ max (length asked.roster.names) (length peer.roster.names) =
+          ap (λ (s : RosterValue). length s.names) brought.roster ∙ longer_length asked.roster peer.roster in
+      omega (arith, both, came, enough)
+
+  -- it is the model's take, where the roster of the one that asked is no shorter by then
+  pub takes_answer : length asked.roster.names ≤ length before.roster.names → TakesAnswer asked peer before after
+  takes_answer enough = record {
+    asker = brought.replica.own;
+    own = takes.taken.own;
+    joined = takes.taken.joined ∙ ap (join (coordinates before.state)) brought.least;
+    names = names enough;
   }

@@ -4,4 +4,5 @@ mod Copied
 mod Lacking
 mod Longer
 pub mod Lettered
+pub mod MergeEvents
 mod NextReplicas

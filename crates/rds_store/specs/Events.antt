@@ -1,5 +1,5 @@
 -- Documents of programs, as replicas of the model of all.
-use Rattle.std.specs.Prelude.{◌≡◌, ◌≢◌, ℕ, List, [], ◌∷◌, length, Ok}
+use Rattle.std.specs.Prelude.{◌≡◌, ℕ, List, [], ◌∷◌, length, Ok}
 use Rattle.std.specs.Global.{Vec}
 use Rattle.rds_codec.specs.StateTexts.{IsSnapshot}
 use Rattle.rds_lines.specs.Editing.{EditsLines}
@@ -10,23 +10,11 @@ use Rattle.rds_state.specs.Fits.{ReplicaValue}
 use Rattle.rds_state.specs.declared.command.Command.{Command}
 use Rattle.rds_state.specs.declared.command.Edited.{Edited}
 use Rattle.rds_world.specs.Coherent.{HasRosters}
-use Rattle.rds_world.specs.Replicas.{IsAnsweredIn, IsAskedIn, IsInMemory, IsKeptIn, edits}
-use Rattle.rds_world.specs.World.{World, Happening, Of, Accepted, run}
+use Rattle.rds_world.specs.Replicas.{IsAnsweredIn, IsAskedIn, IsKeptIn, IsOpenIn, MakeOpen, edits}
+use Rattle.rds_world.specs.World.{World, Of, AnswerLent, run}
 use Rattle.rds_world.specs.declared.event.Event.TheVariants.{Answer, Ask, Crash, Edit, Save, Take}
 use Rattle.rds_store.specs.Edits.{MayEdit}
-use Rattle.rds_store.specs.Meetings.{RespondsTo}
-
--- a replica of the world has this document in memory, and has kept this one
-pub record IsOpenIn (w : World) (document kept : ReplicaValue) : Type 0 where
-  pub memory : IsInMemory w document
-  pub kept : IsKeptIn w kept
-  pub own : document.own ≡ kept.own
-
--- the events happened, and a replica has this document by then and has kept this one; the others have kept what they had
-pub record MakeOpen (w : World) (events : List Happening) (document kept : ReplicaValue) : Type 0 where
-  pub accepted : Accepted events w
-  pub open : IsOpenIn (run events w) document kept
-  pub others : (r : ℕ) → r ≢ document.own → (run events w).kept r ≡ w.kept r
+use Rattle.rds_store.specs.Meetings.{MergesSnapshot, RespondsTo}
 
 -- what is kept is read again: what wasn't kept is lost
 abbrev pub OpeningsAreCrashes : Type 0
@@ -70,3 +58,12 @@ TakesAreTakes =
     → RespondsTo question peer (Ok answer) → IsAnsweredIn w number asked peer → IsOpenIn w before kept
     → TakesResponse question answer.items before after components
     → MakeOpen w (Of (Take number) ∷ []) after kept
+
+-- all that another has seen is taken of a copy, which that lent when it was copied: as if the document asked, and were
+-- answered with that
+abbrev pub MergesAreTakes : Type 0
+MergesAreTakes = (w : World) (lent components : ℕ) (snapshot : List ℕ) (before after : ReplicaValue)
+    → IsOpenIn w before before → (merges : MergesSnapshot snapshot before after components)
+    → IsAskedIn w lent merges.source
+    → MakeOpen w
+    (Of (Ask before.own) ∷ AnswerLent lent (length w.asks) ∷ Of (Take (length w.answers)) ∷ []) after before

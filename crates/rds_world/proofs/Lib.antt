@@ -1,6 +1,5 @@
 pub mod Answering
 pub mod Answered
-pub mod Asked
 pub mod Brought
 pub mod Certified
 pub mod Changes
@@ -17,6 +16,7 @@ mod Grown
 pub mod Meeting
 pub mod Sendings
 pub mod OneResult
+pub mod Open
 pub mod Openings
 pub mod Performed
 pub mod Readings

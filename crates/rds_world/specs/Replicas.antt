@@ -24,6 +24,12 @@ pub record IsInMemory (w : World) (v : ReplicaValue) : Type 0 where
   pub names : w.memory_names v.own ≡ length v.roster.names
   pub state : w.memory v.own ≡ coordinates v.state
 
+-- a replica of the world has this one in memory, and has kept the other
+pub record IsOpenIn (w : World) (v kept : ReplicaValue) : Type 0 where
+  pub memory : IsInMemory w v
+  pub kept : IsKeptIn w kept
+  pub own : v.own ≡ kept.own
+
 -- no event but the replica's own save changes what it has kept
 abbrev pub KeptStays : Type 0
 KeptStays = (w : World) (v : ReplicaValue) (e : Happening) → IsKeptIn w v → e ≢ Of (Save v.own) → IsKeptIn (next w e) v
@@ -70,6 +76,13 @@ pub record MakeInMemory (w : World) (events : List Happening) (v : ReplicaValue)
   pub state : (run events w).memory v.own ≡ coordinates v.state
   pub kept : (run events w).kept ≡ w.kept
   pub kept_names : (run events w).kept_names ≡ w.kept_names
+
+-- the events happened, and a replica has this one in memory by now and has kept the other; the others have kept what they
+-- had
+pub record MakeOpen (w : World) (events : List Happening) (v kept : ReplicaValue) : Type 0 where
+  pub accepted : Accepted events w
+  pub open : IsOpenIn (run events w) v kept
+  pub others : (r : ℕ) → r ≢ v.own → (run events w).kept r ≡ w.kept r
 
 -- the events happened, and this is what its replica has kept by now; the others have kept what they had
 pub record LeadsTo (w : World) (events : List Happening) (v : ReplicaValue) : Type 0 where

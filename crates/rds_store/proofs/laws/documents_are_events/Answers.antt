@@ -1,4 +1,4 @@
-use Rattle.rds_store.proofs.Events.{answers_answered, edits_edited, keeps_saved, lines_edited, openings_crashed, questions_asked, takes_taken}
+use Rattle.rds_store.proofs.Events.{answers_answered, edits_edited, keeps_saved, lines_edited, merges_taken, openings_crashed, questions_asked, takes_taken}
 use Rattle.rds_store.proofs.laws.documents_are_events.Goals as goal
 
 pub returns-clause-opens : goal.returns-clause-opens
@@ -21,3 +21,6 @@ returns-clause-answers c = answers_answered
 
 pub returns-clause-takes : goal.returns-clause-takes
 returns-clause-takes c = takes_taken
+
+pub returns-clause-merges : goal.returns-clause-merges
+returns-clause-merges c = merges_taken
