@@ -2,11 +2,12 @@
 ghost use Rattle.rds_store.specs.Events.{AnswersAreAnswers, EditsAreEdits, KeepsAreSaves, LinesAreEdits};
 ghost use Rattle.rds_store.specs.Events.{MergesAreTakes, OpeningsAreCrashes, QuestionsAreAsks, TakesAreTakes};
 
-/// What programs do with documents in files is events of the model of all replicas: to open a file is the model's
-/// crash, since what wasn't kept is lost; an edit is an edit, and lines are the commands of those that aren't refused;
-/// to keep is a save. What a document that is kept asks is what its replica asks, what it answers is the model's
-/// answer to that, and what is then taken is the model's take; so is what is taken of a copy. Any events may come between them. So the law over every
-/// list of events holds of programs and of nodes too: replicas that hold the same updates show equal documents.
+/// What programs do with documents in files is events of the model of all replicas. To open a file is the model's crash,
+/// since what wasn't kept is lost. An edit is an edit, and lines are the commands of those that aren't refused. To keep
+/// is a save. What a document that is kept asks is what its replica asks, what it answers is the model's answer to that,
+/// and what is then taken is the model's take; so is what is taken of a copy. Any events may come between them. So the
+/// law over every list of events holds of programs and of nodes too: replicas that hold the same updates show equal
+/// documents.
 ///
 /// The premises: a document is asked and answers only as it is kept, rosters are as the law has them, and the replicas
 /// that asked and answered have a text, as all that is kept has. The function does nothing: its contract is these laws.
