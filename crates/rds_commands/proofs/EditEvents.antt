@@ -2,11 +2,11 @@
 use Rattle.std.proofs.Common.{◌∷◌, ◌++◌, [], ℕ, List, length, refl, subst}
 use Rattle.rds_state.specs.Fits.{ReplicaValue}
 use Rattle.rds_state.specs.declared.command.Command.{Command}
-use Rattle.rds_world.specs.Replicas.{IsKeptIn, IsMadeBy}
+use Rattle.rds_world.specs.Replicas.{IsAskedIn, IsKeptIn, IsMadeBy, LeadsTo}
 use Rattle.rds_world.specs.World.{World, Happening, Of, AnswerLent, run}
 use Rattle.rds_world.specs.declared.event.Event.TheVariants.{Ask, Crash, Save, Take}
 use Rattle.rds_world.proofs.Changes.{edits_make, saved}
-use Rattle.rds_world.proofs.Open.{leads_to, merged_open, opened, saved_open, then_open}
+use Rattle.rds_world.proofs.Open.{TakesAnswer, leads_to, merged_open, opened, saved_open, then_open}
 use Rattle.rds_world.proofs.Staying.{asks_stay}
 use Rattle.rds_offline.proofs.MergeEvents.{merge_takes}
 use Rattle.rds_lines.proofs.EditsMade.{lines_made, one_made}
@@ -28,16 +28,18 @@ lines_edited w path lines file answers keeps edits =
 
 -- ---- a copy that is taken
 
-pub merges_taken : MergesAreTakes
-merges_taken w lent components path from file keeps merges lends =
-    let before = file.before in
-    let v = file.kept in
+-- a replica is read, takes what another lent, and is saved
+pub copy_taken : (w : World) (lent : ℕ) (source before v : ReplicaValue) → IsKeptIn w before → IsAskedIn w lent source → TakesAnswer before source before v → LeadsTo w (merging_events w before lent) v
+copy_taken w lent source before v keeps lends takes =
     let own : ℕ = before.own in
     let read = opened w before keeps in
     let w1 : World = run (Of (Crash own) ∷ []) w in
-    let takes = merge_takes merges.source.kept before v merges.merged in
-    let took = merged_open w1 lent merges.source.kept before v (asks_stay w (Of (Crash own) ∷ []) lent merges.source.kept lends) read.open takes in
+    let took = merged_open w1 lent source before v (asks_stay w (Of (Crash own) ∷ []) lent source lends) read.open takes in
     let taking : List Happening = Of (Ask own) ∷ AnswerLent lent (length w.asks) ∷ Of (Take (length w.answers)) ∷ [] in
     let save = saved_open (run taking w1) v before took.open in
     let all = then_open w (Of (Crash own) ∷ []) (taking ++ Of (Save v.own) ∷ []) before v before v takes.own read (then_open w1 taking (Of (Save v.own) ∷ []) v v before v refl took save) in
-    subst (λ (a : ℕ). LeavesFile w (Of (Crash own) ∷ Of (Ask own) ∷ AnswerLent lent (length w.asks) ∷ Of (Take (length w.answers)) ∷ Of (Save a) ∷ []) file) takes.own (leads_to w _ v all)
+    subst (λ (a : ℕ). LeadsTo w (Of (Crash own) ∷ Of (Ask own) ∷ AnswerLent lent (length w.asks) ∷ Of (Take (length w.answers)) ∷ Of (Save a) ∷ []) v) takes.own (leads_to w _ v all)
+
+pub merges_taken : MergesAreTakes
+merges_taken w lent components path from file keeps merges lends =
+    copy_taken w lent merges.source.kept file.before file.kept keeps lends (merge_takes merges.source.kept file.before file.kept merges.merged)

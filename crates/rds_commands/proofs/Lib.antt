@@ -10,6 +10,7 @@ pub mod LetterEvents
 pub mod Named
 pub mod Refused
 pub mod Replaced
+pub mod RosterEvents
 pub mod SimTold
 pub mod Told
 pub mod Values

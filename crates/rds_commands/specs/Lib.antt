@@ -7,6 +7,7 @@ pub mod Looks
 pub mod OfFile
 pub mod Offline
 pub mod Reading
+pub mod Rosters
 pub mod Sessions
 pub mod Told
 pub mod Unparsed

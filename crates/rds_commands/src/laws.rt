@@ -1,6 +1,7 @@
 //! The laws of sessions of files, and of questions and answers that go as texts.
 ghost use Rattle.rds_commands.specs.Changing.{EditingsAreEdits, LinesAreEdits, MergesAreTakes};
 ghost use Rattle.rds_commands.specs.Letters.{AnswersAreAnswers, QuestionsAreAsks, TakesAreTakes};
+ghost use Rattle.rds_commands.specs.Rosters.{CopiesAreTakes, GrowthsAreGrows, InitsAreStarts};
 ghost use Rattle.rds_commands.specs.Sessions.{ReadingsAreAsks, SessionsAreAnswered};
 ghost use Rattle.rds_commands.specs.Sessions.{SettlingsAreTakes};
 ghost use Rattle.rds_world.specs.Replicas.{AnswersStay, AsksStay};
@@ -38,10 +39,21 @@ pub fn edits_are_events()
     ensures lines { LinesAreEdits }
 {}
 
-/// A file that takes a copy of another is events of the model of all replicas. What the other had kept when it was
-/// copied is as if it had asked then: what it lends to later answers. The file is read, its replica asks and is answered
-/// with that, takes the answer, and is saved. So the file holds what the model's replica has kept by now, however old the
-/// copy is. The function does nothing: its contract is this law.
-pub fn merges_are_events()
+/// Files that take or are made of copies of others are events of the model of all replicas. What a replica had kept when
+/// its file was copied is as if it had asked then: what it lends to later answers. A merge is that a file is read, its
+/// replica asks, is answered with that, takes the answer, and is saved, however old the copy is. A file that is made of a
+/// copy is that of a replica which had nothing yet, and did the same. The function does nothing: its contract is these
+/// laws.
+pub fn copies_are_events()
     ensures merges { MergesAreTakes }
+    ensures copies { CopiesAreTakes }
+{}
+
+/// Files of new groups, and rosters that grow, are events of the model of all replicas: a file that is made for a name
+/// of a roster is that replica's as the world starts, and one whose roster grows is read, grows it by one name after the
+/// other, and is saved. The premise is that its replica knows the whole roster: that grows at one place. The function
+/// does nothing: its contract is these laws.
+pub fn rosters_are_events()
+    ensures inits { InitsAreStarts }
+    ensures grows { GrowthsAreGrows }
 {}

@@ -20,6 +20,9 @@ mod telling;
 mod tips;
 mod unparsed;
 
-pub use laws::{edits_are_events, letters_are_events, merges_are_events, sessions_are_events};
+pub use laws::{
+    copies_are_events, edits_are_events, letters_are_events, rosters_are_events,
+    sessions_are_events,
+};
 pub use program::run;
 pub use site::RunSite;

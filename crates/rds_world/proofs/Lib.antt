@@ -17,6 +17,7 @@ pub mod Meeting
 pub mod Sendings
 pub mod OneResult
 pub mod Open
+pub mod OpenGrown
 pub mod Openings
 pub mod Performed
 pub mod Readings

@@ -8,7 +8,7 @@ use Rattle.rds_state.specs.declared.command.Command.{Command}
 use Rattle.rds_delta.specs.Least.{least}
 use Rattle.rds_delta.specs.Ranks.{ranks}
 use Rattle.rds_world.specs.World.{World, Happening, Of, Accepted, Question, Reply, after_edit, next, run}
-use Rattle.rds_world.specs.declared.event.Event.TheVariants.{Edit, Save}
+use Rattle.rds_world.specs.declared.event.Event.TheVariants.{Edit, Grow, Save}
 
 -- ---- what they hold
 
@@ -104,3 +104,7 @@ pub record IsMadeBy (before : ReplicaValue) (commands : List Command) (after : R
 -- a replica is edited by one command after the other
 abbrev pub edits : ℕ → List Command → List Happening
 edits own commands = map (λ c. Of (Edit own c)) commands
+
+-- its roster grows by one name after the other
+abbrev pub grows : ℕ → List (List ℕ) → List Happening
+grows own names = map (λ n. Of (Grow own n)) names
