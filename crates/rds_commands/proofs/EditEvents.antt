@@ -34,9 +34,9 @@ copy_taken w lent source before v keeps lends takes =
     let own : ℕ = before.own in
     let read = opened w before keeps in
     let w1 : World = run (Of (Crash own) ∷ []) w in
-    let took = merged_open w1 lent source before v (asks_stay w (Of (Crash own) ∷ []) lent source lends) read.open takes in
+    let took = merged_open w1 lent source before v (asks_stay w (Of (Crash own) ∷ []) lent source lends) read.is_open takes in
     let taking : List Happening = Of (Ask own) ∷ AnswerLent lent (length w.asks) ∷ Of (Take (length w.answers)) ∷ [] in
-    let save = saved_open (run taking w1) v before took.open in
+    let save = saved_open (run taking w1) v before took.is_open in
     let all = then_open w (Of (Crash own) ∷ []) (taking ++ Of (Save v.own) ∷ []) before v before v takes.own read (then_open w1 taking (Of (Save v.own) ∷ []) v v before v refl took save) in
     subst (λ (a : ℕ). LeadsTo w (Of (Crash own) ∷ Of (Ask own) ∷ AnswerLent lent (length w.asks) ∷ Of (Take (length w.answers)) ∷ Of (Save a) ∷ []) v) takes.own (leads_to w _ v all)
 

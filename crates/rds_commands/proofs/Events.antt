@@ -38,9 +38,9 @@ file_takes w number asked peer file answered keeps takes =
     let v = file.kept in
     let read = opened w before keeps in
     let w1 : World = run (Of (Crash before.own) ∷ []) w in
-    let take = taken_open w1 number asked peer before v before (answers_stay w (Of (Crash before.own) ∷ []) number asked peer answered) read.open takes in
+    let take = taken_open w1 number asked peer before v before (answers_stay w (Of (Crash before.own) ∷ []) number asked peer answered) read.is_open takes in
     let w2 : World = run (Of (Take number) ∷ []) w1 in
-    let save = saved_open w2 v before take.open in
+    let save = saved_open w2 v before take.is_open in
     let all = then_open w (Of (Crash before.own) ∷ []) (Of (Take number) ∷ Of (Save v.own) ∷ []) before v before v takes.own read (then_open w1 (Of (Take number) ∷ []) (Of (Save v.own) ∷ []) v v before v refl take save) in
     let own : v.own ≡ asked.own = takes.own ∙ takes.asker in
     subst (λ (a : ℕ). LeavesFile w (Of (Crash a) ∷ Of (Take number) ∷ Of (Save asked.own) ∷ []) file) takes.asker

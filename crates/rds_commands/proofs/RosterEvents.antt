@@ -140,8 +140,8 @@ growths_grown w words file answer rosters keeps whole growth =
     let w1 : World = run (Of (Crash own) ∷ []) w in
     let named : are_names (w.roster ++ names) ≡ true = subst (λ (l : List (List ℕ)). are_names (l ++ names) ≡ true) whole grown.1 in
     let is : IsGrownBy names before v = record { own = growth.grown.own; state = growth.grown.state; roster = grown.0 } in
-    let grew : MakeOpen w1 (grows own names) v before = grown_open names w1 before before v read.open rosters.named whole named is in
-    let save = saved_open (run (grows own names) w1) v before grew.open in
+    let grew : MakeOpen w1 (grows own names) v before = grown_open names w1 before before v read.is_open rosters.named whole named is in
+    let save = saved_open (run (grows own names) w1) v before grew.is_open in
     let all = then_open w (Of (Crash own) ∷ []) (grows own names ++ Of (Save v.own) ∷ []) before v before v growth.grown.own read
     (then_open w1 (grows own names) (Of (Save v.own) ∷ []) v v before v refl grew save) in
     subst (λ (a : ℕ). LeavesFile w (Of (Crash own) ∷ (grows own names ++ Of (Save a) ∷ [])) file) growth.grown.own (leads_to w _ v all)

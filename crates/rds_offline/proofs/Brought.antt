@@ -106,9 +106,9 @@ module _ (asked peer before after : ReplicaValue) (question answer : List ℕ) (
   names : length asked.roster.names ≤ length before.roster.names → length after.roster.names ≡ max (length before.roster.names) (length peer.roster.names)
   names enough =
       let both : length after.roster.names ≡ max (length before.roster.names) (length takes.received.roster.names) =
-          ap (λ (s : RosterValue). length s.names) takes.taken.roster ∙ longer_length before.roster takes.received.roster in
+      ap (λ (s : RosterValue). length s.names) takes.taken.roster ∙ longer_length before.roster takes.received.roster in
       let came : length takes.received.roster.names ≡ max (length asked.roster.names) (length peer.roster.names) =
-          ap (λ (s : RosterValue). length s.names) brought.roster ∙ longer_length asked.roster peer.roster in
+      ap (λ (s : RosterValue). length s.names) brought.roster ∙ longer_length asked.roster peer.roster in
       omega (arith, both, came, enough)
 
   -- it is the model's take, where the roster of the one that asked is no shorter by then

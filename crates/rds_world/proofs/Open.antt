@@ -18,18 +18,18 @@ use Rattle.rds_world.proofs.Tables.{get_last, put_here, put_there}
 
 -- the same replica in two worlds that differ in what was asked and answered alone
 same_open : (w u : World) (v kept : ReplicaValue) → IsOpenIn w v kept → u.replicas ≡ w.replicas → u.memory_names ≡ w.memory_names → u.memory ≡ w.memory → u.kept_names ≡ w.kept_names → u.kept ≡ w.kept → IsOpenIn u v kept
-same_open w u v kept open replicas memory_names memory kept_names kept_is = record {
+same_open w u v kept is_open replicas memory_names memory kept_names kept_is = record {
   memory = record {
-    there = subst (λ (n : ℕ). v.own < n) (sym replicas) open.memory.there;
-    names = ap (λ (f : ℕ → ℕ). f v.own) memory_names ∙ open.memory.names;
-    state = ap (λ (f : ℕ → Coordinates). f v.own) memory ∙ open.memory.state;
+    there = subst (λ (n : ℕ). v.own < n) (sym replicas) is_open.memory.there;
+    names = ap (λ (f : ℕ → ℕ). f v.own) memory_names ∙ is_open.memory.names;
+    state = ap (λ (f : ℕ → Coordinates). f v.own) memory ∙ is_open.memory.state;
   };
   kept = record {
-    there = subst (λ (n : ℕ). kept.own < n) (sym replicas) open.kept.there;
-    names = ap (λ (f : ℕ → ℕ). f kept.own) kept_names ∙ open.kept.names;
-    state = ap (λ (f : ℕ → Coordinates). f kept.own) kept_is ∙ open.kept.state;
+    there = subst (λ (n : ℕ). kept.own < n) (sym replicas) is_open.kept.there;
+    names = ap (λ (f : ℕ → ℕ). f kept.own) kept_names ∙ is_open.kept.names;
+    state = ap (λ (f : ℕ → Coordinates). f kept.own) kept_is ∙ is_open.kept.state;
   };
-  own = open.own;
+  own = is_open.own;
 }
 
 -- ---- one event, or edits
@@ -39,7 +39,7 @@ opened w v keeps =
     let test : ltb v.own w.replicas ≡ true = lt-ltb _ _ keeps.there in
     record {
       accepted = (rw test refl, tt);
-      open = record {
+      is_open = record {
         memory = read_again w v keeps;
         kept = record { there = keeps.there; names = keeps.names; state = keeps.state };
         own = refl;
@@ -48,16 +48,16 @@ opened w v keeps =
     }
 
 pub saved_open : (w : World) (v kept : ReplicaValue) → IsOpenIn w v kept → MakeOpen w (Of (Save v.own) ∷ []) v v
-saved_open w v kept open =
-    let test : ltb v.own w.replicas ≡ true = lt-ltb _ _ open.memory.there in
+saved_open w v kept is_open =
+    let test : ltb v.own w.replicas ≡ true = lt-ltb _ _ is_open.memory.there in
     record {
       accepted = (rw test refl, tt);
-      open = record {
-        memory = record { there = open.memory.there; names = open.memory.names; state = open.memory.state };
+      is_open = record {
+        memory = record { there = is_open.memory.there; names = is_open.memory.names; state = is_open.memory.state };
         kept = record {
-          there = open.memory.there;
-          names = put_here w.kept_names v.own (w.memory_names v.own) ∙ open.memory.names;
-          state = put_here w.kept v.own (w.memory v.own) ∙ open.memory.state;
+          there = is_open.memory.there;
+          names = put_here w.kept_names v.own (w.memory_names v.own) ∙ is_open.memory.names;
+          state = put_here w.kept v.own (w.memory v.own) ∙ is_open.memory.state;
         };
         own = refl;
       };
@@ -65,26 +65,26 @@ saved_open w v kept open =
     }
 
 made_open : (w : World) (events : List Happening) (before after kept : ReplicaValue) → IsOpenIn w before kept → after.own ≡ before.own → MakeInMemory w events after → MakeOpen w events after kept
-made_open w events before after kept open own made = record {
+made_open w events before after kept is_open own made = record {
   accepted = made.accepted;
-  open = record {
+  is_open = record {
     memory = record {
-      there = subst (λ (n : ℕ). after.own < n) (sym made.replicas) (subst (λ (a : ℕ). a < w.replicas) (sym own) open.memory.there);
+      there = subst (λ (n : ℕ). after.own < n) (sym made.replicas) (subst (λ (a : ℕ). a < w.replicas) (sym own) is_open.memory.there);
       names = made.names;
       state = made.state;
     };
     kept = record {
-      there = subst (λ (n : ℕ). kept.own < n) (sym made.replicas) open.kept.there;
-      names = ap (λ (f : ℕ → ℕ). f kept.own) made.kept_names ∙ open.kept.names;
-      state = ap (λ (f : ℕ → Coordinates). f kept.own) made.kept ∙ open.kept.state;
+      there = subst (λ (n : ℕ). kept.own < n) (sym made.replicas) is_open.kept.there;
+      names = ap (λ (f : ℕ → ℕ). f kept.own) made.kept_names ∙ is_open.kept.names;
+      state = ap (λ (f : ℕ → Coordinates). f kept.own) made.kept ∙ is_open.kept.state;
     };
-    own = own ∙ open.own;
+    own = own ∙ is_open.own;
   };
   others = λ r other. ap (λ (f : ℕ → Coordinates). f r) made.kept;
 }
 
 pub edited_open : (w : World) (commands : List Command) (before after kept : ReplicaValue) → IsOpenIn w before kept → IsMadeBy before commands after → MakeOpen w (edits before.own commands) after kept
-edited_open w commands before after kept open made = made_open w (edits before.own commands) before after kept open made.own (edits_in_memory w before commands after open.memory made)
+edited_open w commands before after kept is_open made = made_open w (edits before.own commands) before after kept is_open made.own (edits_in_memory w before commands after is_open.memory made)
 
 pub asks_now : (w : World) (v : ReplicaValue) → IsKeptIn w v → Accepted (Of (Ask v.own) ∷ []) w × IsAskedIn (run (Of (Ask v.own) ∷ []) w) (length w.asks) v
 asks_now w v keeps =
@@ -94,7 +94,7 @@ asks_now w v keeps =
     )
 
 pub asked_open : (w : World) (v : ReplicaValue) → IsOpenIn w v v → MakeOpen w (Of (Ask v.own) ∷ []) v v
-asked_open w v open = record { accepted = (asks_now w v open.kept).0; open = same_open w (run (Of (Ask v.own) ∷ []) w) v v open refl refl refl refl refl; others = λ r other. refl }
+asked_open w v is_open = record { accepted = (asks_now w v is_open.kept).0; is_open = same_open w (run (Of (Ask v.own) ∷ []) w) v v is_open refl refl refl refl refl; others = λ r other. refl }
 
 -- what was lent answers a question
 module _ (w : World) (lent number : ℕ) (asked peer : ReplicaValue) (asks : IsAskedIn w number asked) (lends : IsAskedIn w lent peer) where
@@ -124,9 +124,9 @@ module _ (w : World) (lent number : ℕ) (asked peer : ReplicaValue) (asks : IsA
   lent_now = ((rw (lends.ask, asks.ask) refl, tt), subst (λ (u : World). IsAnsweredIn u (length w.answers) asked peer) (sym lent_is) lent_answers)
 
   pub lent_open : (v kept : ReplicaValue) → IsOpenIn w v kept → MakeOpen w (AnswerLent lent number ∷ []) v kept
-  lent_open v kept open = record {
+  lent_open v kept is_open = record {
     accepted = lent_now.0;
-    open = subst (λ (u : World). IsOpenIn u v kept) (sym lent_is) (same_open w lent_world v kept open refl refl refl refl refl);
+    is_open = subst (λ (u : World). IsOpenIn u v kept) (sym lent_is) (same_open w lent_world v kept is_open refl refl refl refl refl);
     others = λ r other. ap (λ (u : World). u.kept r) lent_is;
   }
 
@@ -160,9 +160,9 @@ module _ (w : World) (number : ℕ) (asked peer : ReplicaValue) (asks : IsAskedI
       ((rw (there, asks.ask) refl, tt), subst (λ (u : World). IsAnsweredIn u (length w.answers) asked peer) (sym answering_is) is_answered)
 
   pub answered_open : (v kept : ReplicaValue) → IsOpenIn w v kept → MakeOpen w (Of (Answer peer.own number) ∷ []) v kept
-  answered_open v kept open = record {
+  answered_open v kept is_open = record {
     accepted = answers_now.0;
-    open = subst (λ (u : World). IsOpenIn u v kept) (sym answering_is) (same_open w answering v kept open refl refl refl refl refl);
+    is_open = subst (λ (u : World). IsOpenIn u v kept) (sym answering_is) (same_open w answering v kept is_open refl refl refl refl refl);
     others = λ r other. ap (λ (u : World). u.kept r) answering_is;
   }
 
@@ -175,7 +175,7 @@ pub record TakesAnswer (asked peer before after : ReplicaValue) : Type 0 where
   pub joined : coordinates after.state ≡ join (coordinates before.state) (least (coordinates peer.state) (ranks (coordinates asked.state)))
   pub names : length after.roster.names ≡ max (length before.roster.names) (length peer.roster.names)
 
-module _ (w : World) (number : ℕ) (asked peer before after kept : ReplicaValue) (answered : IsAnsweredIn w number asked peer) (open : IsOpenIn w before kept) (takes : TakesAnswer asked peer before after) where
+module _ (w : World) (number : ℕ) (asked peer before after kept : ReplicaValue) (answered : IsAnsweredIn w number asked peer) (is_open : IsOpenIn w before kept) (takes : TakesAnswer asked peer before after) where
   abbrev m : Reply
   m = answered.reply
 
@@ -194,22 +194,22 @@ module _ (w : World) (number : ℕ) (asked peer before after kept : ReplicaValue
   state : took.memory after.own ≡ coordinates after.state
   state = ap took.memory after_own
       ∙ put_here w.memory m.asker (join (w.memory m.asker) m.state)
-      ∙ ap₂ join (ap w.memory (sym before_own) ∙ open.memory.state) answered.reply_state
+      ∙ ap₂ join (ap w.memory (sym before_own) ∙ is_open.memory.state) answered.reply_state
       ∙ sym takes.joined
 
   names : took.memory_names after.own ≡ length after.roster.names
   names = ap took.memory_names after_own
       ∙ put_here w.memory_names m.asker (max (w.memory_names m.asker) m.names)
-      ∙ ap₂ max (ap w.memory_names (sym before_own) ∙ open.memory.names) answered.reply_names
+      ∙ ap₂ max (ap w.memory_names (sym before_own) ∙ is_open.memory.names) answered.reply_names
       ∙ sym takes.names
 
   pub taken_open : MakeOpen w (Of (Take number) ∷ []) after kept
   taken_open = record {
     accepted = (rw answered.answer refl, tt);
-    open = subst (λ (u : World). IsOpenIn u after kept) (sym took_is) (record {
-      memory = record { there = subst (λ (a : ℕ). a < w.replicas) (sym takes.own) open.memory.there; names = names; state = state };
-      kept = record { there = open.kept.there; names = open.kept.names; state = open.kept.state };
-      own = takes.own ∙ open.own;
+    is_open = subst (λ (u : World). IsOpenIn u after kept) (sym took_is) (record {
+      memory = record { there = subst (λ (a : ℕ). a < w.replicas) (sym takes.own) is_open.memory.there; names = names; state = state };
+      kept = record { there = is_open.kept.there; names = is_open.kept.names; state = is_open.kept.state };
+      own = takes.own ∙ is_open.own;
     });
     others = λ r other. ap (λ (u : World). u.kept r) took_is;
   }
@@ -233,26 +233,26 @@ asked_within_kept w number asked peer before rosters answered keeps asker =
 pub then_open : (w : World) (es fs : List Happening) (u v kept last : ReplicaValue) → v.own ≡ u.own → MakeOpen w es u kept → MakeOpen (run es w) fs v last → MakeOpen w (es ++ fs) v last
 then_open w es fs u v kept last own first later = record {
   accepted = (accepted_on es fs w).1 (first.accepted, later.accepted);
-  open = subst (λ (x : World). IsOpenIn x v last) (sym (run_on es fs w)) later.open;
+  is_open = subst (λ (x : World). IsOpenIn x v last) (sym (run_on es fs w)) later.is_open;
   others = λ r other. ap (λ (x : World). x.kept r) (run_on es fs w) ∙ later.others r other ∙ first.others r (λ same. other (same ∙ sym own));
 }
 
 -- what is saved last is what is kept
 pub leads_to : (w : World) (events : List Happening) (v : ReplicaValue) → MakeOpen w events v v → LeadsTo w events v
-leads_to w events v made = record { accepted = made.accepted; kept = made.open.kept; others = made.others }
+leads_to w events v made = record { accepted = made.accepted; kept = made.is_open.kept; others = made.others }
 
 -- a replica asks, is answered with what another lent, and takes that
 pub merged_open : (w : World) (lent : ℕ) (source before after : ReplicaValue) → IsAskedIn w lent source → IsOpenIn w before before → TakesAnswer before source before after
     → MakeOpen w (Of (Ask before.own) ∷ AnswerLent lent (length w.asks) ∷ Of (Take (length w.answers)) ∷ []) after before
-merged_open w lent source before after lends open takes =
-    let ask = asked_open w before open in
+merged_open w lent source before after lends is_open takes =
+    let ask = asked_open w before is_open in
     let w1 : World = run (Of (Ask before.own) ∷ []) w in
-    let asks = (asks_now w before open.kept).1 in
+    let asks = (asks_now w before is_open.kept).1 in
     let lends1 = asks_stay w (Of (Ask before.own) ∷ []) lent source lends in
     let number : ℕ = length w.asks in
-    let answer = lent_open w1 lent number before source asks lends1 before before ask.open in
+    let answer = lent_open w1 lent number before source asks lends1 before before ask.is_open in
     let w2 : World = run (AnswerLent lent number ∷ []) w1 in
     let answered = (lent_now w1 lent number before source asks lends1).1 in
-    let take = taken_open w2 (length w.answers) before source before after before answered answer.open takes in
+    let take = taken_open w2 (length w.answers) before source before after before answered answer.is_open takes in
     then_open w (Of (Ask before.own) ∷ []) (AnswerLent lent number ∷ Of (Take (length w.answers)) ∷ []) before after before before takes.own ask
     (then_open w1 (AnswerLent lent number ∷ []) (Of (Take (length w.answers)) ∷ []) before after before before takes.own answer take)

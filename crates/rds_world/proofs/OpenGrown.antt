@@ -64,43 +64,43 @@ pub record IsGrownBy (names : List (List ℕ)) (v u : ReplicaValue) : Type 0 whe
   pub roster : u.roster.names ≡ v.roster.names ++ names
 
 pub grown_open : (names : List (List ℕ)) (w : World) (v kept u : ReplicaValue) → IsOpenIn w v kept → w.replicas ≡ length w.roster → v.roster.names ≡ w.roster → are_names (w.roster ++ names) ≡ true → IsGrownBy names v u → MakeOpen w (grows v.own names) u kept
-grown_open [] w v kept u open whole same named is = record {
+grown_open [] w v kept u is_open whole same named is = record {
   accepted = tt;
-  open = record {
+  is_open = record {
     memory = record {
-      there = subst (λ (a : ℕ). a < w.replicas) (sym is.own) open.memory.there;
-      names = ap w.memory_names is.own ∙ open.memory.names ∙ ap (λ (l : List (List ℕ)). length l) (sym (append-nil v.roster.names) ∙ sym is.roster);
-      state = ap w.memory is.own ∙ open.memory.state ∙ ap coordinates (sym is.state);
+      there = subst (λ (a : ℕ). a < w.replicas) (sym is.own) is_open.memory.there;
+      names = ap w.memory_names is.own ∙ is_open.memory.names ∙ ap (λ (l : List (List ℕ)). length l) (sym (append-nil v.roster.names) ∙ sym is.roster);
+      state = ap w.memory is.own ∙ is_open.memory.state ∙ ap coordinates (sym is.state);
     };
-    kept = open.kept;
-    own = is.own ∙ open.own;
+    kept = is_open.kept;
+    own = is.own ∙ is_open.own;
   };
   others = λ r other. refl;
 }
-grown_open (n ∷ names) w v kept u open whole same named is =
+grown_open (n ∷ names) w v kept u is_open whole same named is =
     let r : ℕ = v.own in
     let w1 : World = after w (Grow r n) in
     let v1 : ReplicaValue = record v { roster = record { group = v.roster.group; names = v.roster.names ++ n ∷ [] } } in
-    let there : ltb r w.replicas ≡ true = lt-ltb _ _ open.memory.there in
-    let knows : w.memory_names r ≡ w.replicas = open.memory.names ∙ ap (λ (l : List (List ℕ)). length l) same ∙ sym whole in
+    let there : ltb r w.replicas ≡ true = lt-ltb _ _ is_open.memory.there in
+    let knows : w.memory_names r ≡ w.replicas = is_open.memory.names ∙ ap (λ (l : List (List ℕ)). length l) same ∙ sym whole in
     let all : (w.memory_names r == w.replicas) ≡ true = same_test (w.memory_names r) w.replicas knows in
     let first : are_names (w.roster ++ n ∷ []) ≡ true = names_first w.roster names n named in
-    let here : r ≢ w.replicas = λ e. omega (arith, e, open.memory.there) in
-    let others_here : kept.own ≢ w.replicas = λ e. omega (arith, e, open.kept.there) in
+    let here : r ≢ w.replicas = λ e. omega (arith, e, is_open.memory.there) in
+    let others_here : kept.own ≢ w.replicas = λ e. omega (arith, e, is_open.kept.there) in
     let open1 : IsOpenIn w1 v1 kept = record {
       memory = record {
-        there = omega (arith, open.memory.there);
+        there = omega (arith, is_open.memory.there);
         names = put_there _ w.replicas (suc w.replicas) r here ∙ put_here w.memory_names r (suc w.replicas) ∙ one_more v.roster.names n w.replicas (whole ∙ ap (λ (l : List (List ℕ)). length l) (sym same));
-        state = open.memory.state;
+        state = is_open.memory.state;
       };
       kept = record {
-        there = omega (arith, open.kept.there);
-        names = put_there w.kept_names w.replicas (suc w.replicas) kept.own others_here ∙ open.kept.names;
-        state = open.kept.state;
+        there = omega (arith, is_open.kept.there);
+        names = put_there w.kept_names w.replicas (suc w.replicas) kept.own others_here ∙ is_open.kept.names;
+        state = is_open.kept.state;
       };
-      own = open.own;
+      own = is_open.own;
     } in
     let named1 : are_names ((w.roster ++ n ∷ []) ++ names) ≡ true = subst (λ (l : List (List ℕ)). are_names l ≡ true) (sym (append_assoc w.roster (n ∷ []) names)) named in
     let is1 : IsGrownBy names v1 u = record { own = is.own; state = is.state; roster = is.roster ∙ sym (append_assoc v.roster.names (n ∷ []) names) } in
     let later = grown_open names w1 v1 kept u open1 (one_more w.roster n w.replicas whole) (ap (λ (l : List (List ℕ)). l ++ n ∷ []) same) named1 is1 in
-    record { accepted = (rw (there, all, first) refl, later.accepted); open = later.open; others = later.others }
+    record { accepted = (rw (there, all, first) refl, later.accepted); is_open = later.is_open; others = later.others }

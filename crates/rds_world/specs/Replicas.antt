@@ -81,7 +81,7 @@ pub record MakeInMemory (w : World) (events : List Happening) (v : ReplicaValue)
 -- had
 pub record MakeOpen (w : World) (events : List Happening) (v kept : ReplicaValue) : Type 0 where
   pub accepted : Accepted events w
-  pub open : IsOpenIn (run events w) v kept
+  pub is_open : IsOpenIn (run events w) v kept
   pub others : (r : ℕ) → r ≢ v.own → (run events w).kept r ≡ w.kept r
 
 -- the events happened, and this is what its replica has kept by now; the others have kept what they had
