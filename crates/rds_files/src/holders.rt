@@ -103,7 +103,7 @@ where
         return Ok(None);
     }
     let mut file = fs::open(rt, name.as_str())?;
-    if file.try_lock_shared()? {
+    if file.try_share_lock()? {
         return Ok(None);
     }
     let bytes = read_note(rt.alloc(), &mut file)?;

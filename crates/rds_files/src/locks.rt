@@ -23,7 +23,7 @@ pub trait LockFile {
 
     /// Takes its shared advisory lock, which several may have, and tells whether nobody had the exclusive one. The lock is
     /// let go with the file.
-    fn try_lock_shared(&self) -> io::Result<bool>;
+    fn try_share_lock(&self) -> io::Result<bool>;
 
     /// Whether the two are one file, opened twice.
     fn is_same(&self, other: &Self) -> io::Result<bool>;
@@ -47,8 +47,8 @@ impl LockFile for File {
         was_free(self.try_lock())
     }
 
-    fn try_lock_shared(&self) -> io::Result<bool> {
-        was_free(File::try_lock_shared(self))
+    fn try_share_lock(&self) -> io::Result<bool> {
+        was_free(self.try_lock_shared())
     }
 
     fn is_same(&self, other: &File) -> io::Result<bool> {

@@ -258,7 +258,7 @@ impl LockFile for DiskFile<'_> {
         Ok(!self.calls.is("busy", self.path.as_str())?)
     }
 
-    fn try_lock_shared(&self) -> io::Result<bool> {
+    fn try_share_lock(&self) -> io::Result<bool> {
         self.calls.call("share", self.path.as_str())?;
         Ok(true)
     }

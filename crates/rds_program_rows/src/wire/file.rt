@@ -81,9 +81,9 @@ impl LockFile for WiredFile<'_> {
         self.file.try_lock_exclusive()
     }
 
-    fn try_lock_shared(&self) -> io::Result<bool> {
+    fn try_share_lock(&self) -> io::Result<bool> {
         self.call("share")?;
-        self.file.try_lock_shared()
+        self.file.try_share_lock()
     }
 
     fn is_same(&self, other: &Self) -> io::Result<bool> {

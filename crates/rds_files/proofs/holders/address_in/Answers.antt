@@ -12,11 +12,14 @@ returns-then-is_address c =
     let address = c.in_ok-address.address in
     let behind = c.in_ok-address.field-0-1 in
     let start : note ≡ codes "rds_node " ++ rest.now =
-        strip_prefix_is Decides-eqb note (codes "rds_node ") (Some rest) c.in_ok-rest.ensures.cases in
+    strip_prefix_is Decides-eqb note (codes "rds_node ") (Some rest) c.in_ok-rest.ensures.cases in
     let same : rest.now ≡ text = sym c.in-Ok.ensures.cases.0 in
     let parts = split_parts 10 text (Some (address, behind)) c.in_ok-address.ensures.cases (search rules) in
-    record { told = record {
+    record {
+      told = record {
         rest = behind.now;
         whole = search rules;
         spelled = start ∙ ap (λ r. codes "rds_node " ++ r) (same ∙ parts.0);
-        shown = search rules } }
+        shown = search rules;
+      };
+    }
