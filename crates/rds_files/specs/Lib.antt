@@ -1,5 +1,6 @@
 pub mod Ends
 pub mod Files
+pub mod Holders
 pub mod Pairing
 pub mod Piping
 pub mod Reports

@@ -137,8 +137,8 @@ impl<H: Disk> Tail<'_, H> {
     }
 }
 
-// Writes all of the bytes.
-fn write_all_at<F: LockFile>(file: &F, at: u64, bytes: &[u8]) -> io::Result<()> {
+/// Writes all of the bytes at this place.
+pub fn write_all_at<F: LockFile>(file: &F, at: u64, bytes: &[u8]) -> io::Result<()> {
     let mut place = at;
     let mut rest = bytes;
     'writing: while !rest.is_empty() {

@@ -10,6 +10,7 @@ ghost use Rattle.rds_files.specs.Files.{HoldsTooMuch, IsHeldAt, IsNoPlace, IsRea
 use crate::appending::{Tail, append_to, takes_record};
 use crate::beside::{Renewed, folder_of, keep_new, keep_over, renew};
 use crate::disk::{Disk, note};
+use crate::holders::lock_file;
 use crate::lasting::make_last;
 use crate::locks::{LockFile, lock, lock_if_free};
 use crate::reading::{read_kept, read_now, read_to_last};
@@ -193,8 +194,8 @@ where
     /// Locks the file of this path, and reads it. Where the path is a link's, that is the file which the link leads to.
     /// Refuses `Usage` where the path ends in `.new`, as the files do that are written beside others; then `Device`
     /// where the file can't be opened or read, or isn't one to be replaced: a link leads to a file that ends in `.new`,
-    /// its mode lets nobody write it, or it has several names. So it does where another has its lock for more than ten
-    /// seconds; and as `read_stored` does where the file holds no replica.
+    /// its mode lets nobody write it, or it has several names. So it does where a node has its lock, at once, and where
+    /// another command has it for more than ten seconds; and as `read_stored` does where the file holds no replica.
     pub fn open(rt: &H, path: &'a str) -> Result<LockedFile<'a, H, S>, Fault>
         ensures held { IfOk result (IsHeldAt path.now) }
         ensures beside { is_beside path.now ≡ true → result ≡ Err Usage }
@@ -206,7 +207,7 @@ where
         }
         let target = Target::find(rt, path)?;
         check_target(rt, path, &target)?;
-        let file = lock(rt, target.path())?;
+        let file = lock_file(rt, target.path())?;
         check_writable(rt, path, &file)?;
         check_alone(rt, path, &file)?;
         LockedFile::read(rt, path, target, file)

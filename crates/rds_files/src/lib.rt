@@ -1,6 +1,6 @@
 //! Replicas in files, and their sessions: over a stream with a peer, over a reader and a writer, or of two files with
-//! one another. Read `disk`, `locks`, `targets`, `beside`, `appending`, `lasting`, `reading` and `files` first, then
-//! `settling`, `paced`, `meeting`, `reports`, `syncing` and `piping`; `pairing`, with `paired`, `pending`, `end` and
+//! one another. Read `disk`, `locks`, `targets`, `beside`, `appending`, `holders`, `lasting`, `reading` and `files` first,
+//! then `settling`, `paced`, `meeting`, `reports`, `syncing` and `piping`; `pairing`, with `paired`, `pending`, `end` and
 //! `meeting` in its folder, stands on `files` and `settling` alone.
 #![tactic(auto)]
 
@@ -8,6 +8,7 @@ mod appending;
 mod beside;
 mod disk;
 mod files;
+mod holders;
 mod lasting;
 mod locks;
 mod meeting;
@@ -24,6 +25,7 @@ pub use disk::Disk;
 pub use files::{
     CreatedFile, EmptiedFile, FilePath, LockedFile, ReplacedFile, ReplicaFile, is_beside, is_there,
 };
+pub use holders::HolderNote;
 pub use locks::LockFile;
 pub use meeting::{Met, meet};
 pub use pairing::{Link, PairedFile, pair, pair_files};

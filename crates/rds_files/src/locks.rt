@@ -21,6 +21,10 @@ pub trait LockFile {
     /// Takes the file's exclusive advisory lock, and tells whether it was free. The lock is let go with the file.
     fn try_lock_exclusive(&self) -> io::Result<bool>;
 
+    /// Takes its shared advisory lock, which several may have, and tells whether nobody had the exclusive one. The lock is
+    /// let go with the file.
+    fn try_share_lock(&self) -> io::Result<bool>;
+
     /// Whether the two are one file, opened twice.
     fn is_same(&self, other: &Self) -> io::Result<bool>;
 
@@ -40,11 +44,11 @@ pub trait LockFile {
 
 impl LockFile for File {
     fn try_lock_exclusive(&self) -> io::Result<bool> {
-        match self.try_lock() {
-            Ok(()) => Ok(true),
-            Err(TryLockError::WouldBlock) => Ok(false),
-            Err(TryLockError::Error(error)) => Err(error),
-        }
+        was_free(self.try_lock())
+    }
+
+    fn try_share_lock(&self) -> io::Result<bool> {
+        was_free(self.try_lock_shared())
     }
 
     fn is_same(&self, other: &File) -> io::Result<bool> {
@@ -68,6 +72,15 @@ impl LockFile for File {
 
     fn write_at(&self, at: u64, bytes: &[u8]) -> io::Result<usize> {
         FileExt::write_at(self, bytes, at)
+    }
+}
+
+// Whether a lock was free that was tried for.
+fn was_free(tried: Result<(), TryLockError>) -> io::Result<bool> {
+    match tried {
+        Ok(()) => Ok(true),
+        Err(TryLockError::WouldBlock) => Ok(false),
+        Err(TryLockError::Error(error)) => Err(error),
     }
 }
 

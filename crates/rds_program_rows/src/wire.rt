@@ -10,17 +10,20 @@ use crate::replicas::read;
 use crate::runs::named;
 use crate::sessions::side_of;
 use crate::site::ToldSite;
-use crate::told::{bytes_told, lines_told};
+use crate::told::{bytes_told, joined, lines_told};
 use host::Wired;
 use line::{Reads, Wire};
 use lines::Lines;
 use output::Output;
 use rds_commands::run;
-use rds_files::{Settled, meet, pair_files, pipe_file};
+use rds_files::{HolderNote, LockFile, Settled, meet, pair_files, pipe_file};
 use rds_keep::Counted;
 use rds_names::Fault;
-use rds_rows::words::{cut, number};
+use rds_rows::words::{cut, first, number, parted};
 use rds_session::{Ended, Side};
+use std::fs;
+use std::fs::File;
+use std::net::SocketAddr;
 use std::time::Duration;
 
 // How many turns a session has.
@@ -99,18 +102,42 @@ pub fn answer_by_lines(rt: &HostRuntime, words: &str, input: &[u8]) -> Result<St
 /// `failing CALL | WORDS`: the same where nobody is connected and this call fails. Answers also what people are told on
 /// standard error.
 pub fn answer_failing(rt: &HostRuntime, row: &str) -> Result<String, Fault> {
-    let Some((fails, words)) = row.split_once(" | ") else {
-        return Err(Fault::Usage);
-    };
+    let (fails, words) = parted(row, " | ")?;
+    run_noted(rt, words, &Wire::new(rt.alloc(), fails))
+}
+
+/// `held FILE HOLDER CALL | WORDS`: the same while the file's lock is taken: by a node that is reached at the address HOLDER
+/// and writes its note, by one whose note is there already, where HOLDER is `node`, or by a command, where it is `command`.
+pub fn answer_held(rt: &HostRuntime, row: &str) -> Result<String, Fault> {
+    let (held, words) = parted(row, " | ")?;
+    let (path, held) = cut(held)?;
+    let (holder, fails) = first(held);
     let wire = Wire::new(rt.alloc(), fails);
-    let words = named(rt.alloc(), words)?;
-    let (written, status) = run_on_wire(rt, &words, &wire, b"");
-    let noted = wire.calls.noted();
-    let Ok(text) = str::from_utf8(&written) else {
-        return Err(Fault::Bad);
+    let _file = lock_of(rt, path)?;
+    let _left = note_left(rt, path, holder)?;
+    let wired = Wired { rt, wire: &wire };
+    let _note = match SocketAddr::parse_ascii(holder.as_bytes()) {
+        Ok(address) => HolderNote::write(&wired, path, address),
+        Err(_) => None,
     };
-    let end = format!(in rt.alloc(); "{noted}{text}status {status}")?;
-    wire.calls.told_with(end.as_str())
+    run_noted(rt, words, &wire)
+}
+
+// The locked note of the file at this path, where the holder is a node that has left one.
+fn note_left(rt: &HostRuntime, path: &str, holder: &str) -> Result<Option<File>, Fault> {
+    if holder != "node" {
+        return Ok(None);
+    }
+    let name = joined(rt.alloc(), &[path, ".node"])?;
+    Ok(Some(lock_of(rt, name.as_str())?))
+}
+
+// The file at this path, which is locked.
+fn lock_of(rt: &HostRuntime, path: &str) -> Result<File, Fault> {
+    match fs::open(rt, path) {
+        Ok(file) if matches!(file.try_lock_exclusive(), Ok(true)) => Ok(file),
+        _ => Err(Fault::Device),
+    }
 }
 
 /// `notes WORDS`: the same where no call fails, but answers only what people are told on standard error, and the status.
@@ -121,6 +148,18 @@ pub fn answer_notes(rt: &HostRuntime, words: &str) -> Result<String, Fault> {
     let noted = wire.calls.noted();
     let end = format!(in rt.alloc(); "status {status}")?;
     lines_told(rt.alloc(), &[noted.as_str(), end.as_str()])
+}
+
+// Answers the calls that were made, what people are told, what was written, and the status.
+fn run_noted(rt: &HostRuntime, words: &str, wire: &Wire<'_>) -> Result<String, Fault> {
+    let words = named(rt.alloc(), words)?;
+    let (written, status) = run_on_wire(rt, &words, wire, b"");
+    let noted = wire.calls.noted();
+    let Ok(text) = str::from_utf8(&written) else {
+        return Err(Fault::Bad);
+    };
+    let end = format!(in rt.alloc(); "{noted}{text}status {status}")?;
+    wire.calls.told_with(end.as_str())
 }
 
 fn run_over(rt: &HostRuntime, words: &str, wire: &Wire<'_>, input: &[u8]) -> Result<String, Fault> {

@@ -258,6 +258,11 @@ impl LockFile for DiskFile<'_> {
         Ok(!self.calls.is("busy", self.path.as_str())?)
     }
 
+    fn try_share_lock(&self) -> io::Result<bool> {
+        self.calls.call("share", self.path.as_str())?;
+        Ok(true)
+    }
+
     fn is_same(&self, _other: &Self) -> io::Result<bool> {
         self.calls.call("same", self.path.as_str())?;
         Ok(!self.calls.is("moved", self.path.as_str())?)

@@ -81,6 +81,11 @@ impl LockFile for WiredFile<'_> {
         self.file.try_lock_exclusive()
     }
 
+    fn try_share_lock(&self) -> io::Result<bool> {
+        self.call("share")?;
+        self.file.try_share_lock()
+    }
+
     fn is_same(&self, other: &Self) -> io::Result<bool> {
         self.call("same")?;
         self.file.is_same(&other.file)
