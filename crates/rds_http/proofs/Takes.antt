@@ -3,13 +3,12 @@ use Rattle.std.proofs.Common.{◌≡◌, ◌∙◌, ℕ, ◌≤◌, Bool, true, 
 use Rattle.std.specs.Prelude.{nat_le}
 use Rattle.std.proofs.lemmas.Bool.{le-leb}
 use Rattle.rds_names.specs.Roster.{RosterValue, longer}
-use Rattle.rds_offline.specs.Letters.{IsTaken}
+use Rattle.rds_offline.specs.Letters.{IsTaken, TakesResponse}
 use Rattle.rds_questions.specs.Receiving.{ReceivedValue}
 use Rattle.rds_state.specs.Fits.{ReplicaValue}
 use Rattle.rds_state.specs.Value.{StateValue, size}
 use Rattle.rds_state.proofs.JoinLaws.{same_value}
 use Rattle.rds_state.proofs.Nothing.{joins_nothing}
-use Rattle.rds_http.specs.Changes.{TakesFrom}
 
 of_test : (t : Bool) (r s : RosterValue) → nat_le (length s.names) (length r.names) ≡ t → length (cond t r s).names ≤ length r.names
     → cond t r s ≡ r
@@ -37,7 +36,7 @@ taken_nothing received before after taken none few =
     (same_value after.state before.state (taken.joined ∙ sym (joins_nothing received.delta none before.state)))
 
 -- where no component came, and no name, nothing changes
-pub takes_nothing : (body : List ℕ) (before after : ReplicaValue) (components : ℕ) → TakesFrom body before after components → components ≡ 0
+pub takes_nothing : (question answer : List ℕ) (before after : ReplicaValue) (components : ℕ) → TakesResponse question answer before after components → components ≡ 0
     → length after.roster.names ≡ length before.roster.names → after ≡ before
-takes_nothing body before after components takes none same =
-    taken_nothing takes.takes.received before after takes.takes.taken (sym takes.takes.count ∙ none) (omega (arith, same))
+takes_nothing question answer before after components takes none same =
+    taken_nothing takes.received before after takes.taken (sym takes.count ∙ none) (omega (arith, same))

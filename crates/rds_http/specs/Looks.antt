@@ -1,5 +1,6 @@
 -- What is shown of a document.
 use Rattle.std.specs.Prelude.{◌≡◌, ◌⊎◌, ℕ, List, [], ◌∷◌, codes, Result, Ok, Err, if◌then◌else◌}
+use Rattle.std.specs.Global.{Vec}
 use Rattle.std.specs.Str.{is_utf8}
 use Rattle.http1.specs.Fields.{Header}
 use Rattle.http_server.specs.declared.response.Response.{Response}
@@ -14,10 +15,11 @@ use Rattle.rds_page.specs.declared.TheConstants.{PAGE, POLICY}
 use Rattle.rds_state.specs.Fits.{ReplicaValue}
 use Rattle.rds_state.specs.Value.{StateValue}
 use Rattle.rds_store.specs.Looks.{IsValueText, RefusesPlace, here_text, told_at, view_text}
+use Rattle.rds_store.specs.Meetings.{MayAsk}
 use Rattle.rds_http.specs.Refusals.{TellsFault, json}
 use Rattle.rds_http.specs.Replies.{Tells, type_field}
 use Rattle.rds_http.specs.declared.routes.Look.{Look}
-use Rattle.rds_http.specs.declared.routes.Look.TheVariants.{Page, View, Here, Value, Conflicts, Status, Metrics}
+use Rattle.rds_http.specs.declared.routes.Look.TheVariants.{Page, View, Here, Value, Conflicts, Status, Metrics, Ask}
 
 abbrev pub lines_of_json : List ℕ
 lines_of_json = codes "application/x-ndjson"
@@ -54,6 +56,13 @@ abbrev pub ShowsStatus : ReplicaValue → Response → Type 0
 ShowsStatus document response =
     ((text : List ℕ) × IsOverview document text × Tells 200 json text response) ⊎ TellsFault Memory response
 
+-- what the document's replica asks is told, or the fault why there is no text of it
+abbrev pub ShowsQuestion : ReplicaValue → Response → Type 0
+ShowsQuestion document response =
+    ((bytes : Vec ℕ) × MayAsk document (Ok bytes)
+    × Tells 200 (codes "application/octet-stream") bytes.items response)
+    ⊎ ((fault : Fault) × MayAsk document (Err fault) × TellsFault fault response)
+
 -- the fields of the page
 abbrev pub page_fields : List Header
 page_fields =
@@ -74,3 +83,4 @@ AnswersLook Conflicts document place response =
     Shows lines_of_json (told_in conflicts_text document.state place) response
 AnswersLook Status document place response = ShowsStatus document response
 AnswersLook Metrics document place response = response.status ≡ 200
+AnswersLook Ask document place response = ShowsQuestion document response

@@ -4,6 +4,7 @@ use Rattle.std.specs.Prelude.{take, drop, Option, None, Some, if◌then◌else�
 use Rattle.std.specs.List.{prefix_len}
 use Rattle.rds_http.specs.declared.routes.Look.{Look}
 use Rattle.rds_http.specs.declared.routes.Look.TheVariants.{Page, View, Here, Value, Conflicts, Status, Metrics}
+use Rattle.rds_http.specs.declared.routes.Look.TheVariants as Shown
 use Rattle.rds_http.specs.declared.routes.Post.TheVariants.{Edits, Answer, Take, Login}
 use Rattle.rds_http.specs.declared.routes.Resource.{Resource}
 use Rattle.rds_http.specs.declared.routes.Resource.TheVariants as Of
@@ -38,8 +39,9 @@ lone_named name =
     if bytes_eq name (codes "") then Of.Look Page
     else (if bytes_eq name (codes "status") then Of.Look Status
     else (if bytes_eq name (codes "metrics") then Of.Look Metrics
+    else (if bytes_eq name (codes "ask") then Of.Look Shown.Ask
     else (if bytes_eq name (codes "live") then Of.Live
-    else posted_named name)))
+    else posted_named name))))
 
 abbrev pub resource_with : Option Look → Bool → List ℕ → Resource
 resource_with (Some look) has_place name = Of.Look look

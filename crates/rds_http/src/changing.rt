@@ -5,6 +5,8 @@ ghost use Rattle.http_server.specs.Response.{IsBlank};
 ghost use Rattle.rds_lines.specs.Editing.{EditsLines};
 ghost use Rattle.rds_lines.specs.Lines.{lines_in};
 ghost use Rattle.rds_names.specs.declared.fault.Fault.TheVariants.{Cut, Memory};
+ghost use Rattle.rds_offline.specs.Letters.{TakesResponse};
+ghost use Rattle.rds_store.specs.Meetings.{RefusesTaking};
 ghost use Rattle.rds_http.specs.Changes.{AnswersEdits, AnswersTake, HoldsBoth, RefusesBody, TakesFrom};
 ghost use Rattle.rds_http.specs.Lines.{is_short};
 ghost use Rattle.rds_http.specs.Site.{ChangesAreNoted, KeepsFile};
@@ -107,9 +109,8 @@ pub fn take<H: Disk>(
 {
     make_room(response, 1)?;
     add_field(response, CONTENT_TYPE, JSON)?;
-    match take_in(held, body) {
+    match take_in(held, metrics, body) {
         Ok(components) => {
-            metrics.note_take();
             put_lines(&mut response.body, &[Reply::Taken(components)]);
             Ok(())
         }
@@ -121,7 +122,11 @@ pub fn take<H: Disk>(
 }
 
 /// Takes what a body brings.
-fn take_in<H: Disk>(held: &mut Held<'_, H>, body: &[u8]) -> Result<u128, Fault>
+fn take_in<H: Disk>(
+    held: &mut Held<'_, H>,
+    metrics: &mut Metrics,
+    body: &[u8],
+) -> Result<u128, Fault>
     requires noted { ChangesAreNoted held.old.has_changed held.old.file.document held.old.file.kept }
     ensures taken { IfOk result (TakesFrom body.now held.old.file.document held.new.file.document) }
     ensures fault { IfErr result (RefusesBody body.now held.old.file.document) }
@@ -129,10 +134,29 @@ fn take_in<H: Disk>(held: &mut Held<'_, H>, body: &[u8]) -> Result<u128, Fault>
     ensures file { KeepsFile held.old.file held.new.file }
     ensures err { OnErr result (held.new ≡ held.old) }
 {
-    let (question, response) = letter_in(body)?;
+    let (question, answer) = letter_in(body)?;
+    take_answer(held, metrics, question, answer)
+}
+
+/// Takes what answers a question of this replica's, notes whether anything came, and counts the take.
+pub fn take_answer<H: Disk>(
+    held: &mut Held<'_, H>,
+    metrics: &mut Metrics,
+    question: &[u8],
+    answer: &[u8],
+) -> Result<u128, Fault>
+    requires noted { ChangesAreNoted held.old.has_changed held.old.file.document held.old.file.kept }
+    ensures taken { IfOk result
+        (TakesResponse question.now answer.now held.old.file.document held.new.file.document) }
+    ensures fault { IfErr result (RefusesTaking question.now answer.now held.old.file.document) }
+    ensures noted { ChangesAreNoted held.new.has_changed held.new.file.document held.new.file.kept }
+    ensures file { KeepsFile held.old.file held.new.file }
+    ensures err { OnErr result (held.new ≡ held.old) }
+{
     let names = name_count(held.file.document());
-    let components = held.file.take(question, response)?;
+    let components = held.file.take(question, answer)?;
     held.has_changed |= has_come(components, names, name_count(held.file.document()));
+    metrics.note_take();
     Ok(components)
 }
 

@@ -3,6 +3,19 @@
 use rds_output::Reply;
 use std::alloc::{AllocError, Global};
 
+/// The other nodes that are named, and what came of meeting them since the start.
+#[derive(Clone, Copy, Debug)]
+pub struct PeerCounts {
+    /// How many nodes are named.
+    pub named: usize,
+    /// How many of them were met when they were called last.
+    pub met: usize,
+    /// How many times an exchange was refused, or failed.
+    pub refused: u64,
+    /// Exchanges that went through.
+    pub exchanges: u64,
+}
+
 /// What was counted since the start. A full count stays.
 #[derive(Clone, Copy, Debug)]
 pub struct Metrics {
@@ -20,6 +33,8 @@ pub struct Metrics {
     pub clients: usize,
     /// How many of them listen.
     pub listeners: usize,
+    /// The other nodes.
+    pub peers: PeerCounts,
 }
 
 impl Metrics {
@@ -33,6 +48,12 @@ impl Metrics {
             requests: 0,
             clients: 0,
             listeners: 0,
+            peers: PeerCounts {
+                named: 0,
+                met: 0,
+                refused: 0,
+                exchanges: 0,
+            },
         }
     }
 
@@ -72,6 +93,7 @@ impl Metrics {
             requests,
             clients,
             listeners,
+            peers,
         } = *self;
         let mut text = String::new(alloc);
         push_line(&mut text, "rds_edits_total", "counter", edits)?;
@@ -82,8 +104,23 @@ impl Metrics {
         push_line(&mut text, "rds_clients", "gauge", clients as u64)?;
         push_line(&mut text, "rds_listeners", "gauge", listeners as u64)?;
         push_line(&mut text, "rds_live_entries", "gauge", live as u64)?;
+        push_peers(&mut text, peers)?;
         Ok(text)
     }
+}
+
+/// Adds the lines of the other nodes.
+fn push_peers(text: &mut String, peers: PeerCounts) -> Result<(), AllocError> {
+    let PeerCounts {
+        named,
+        met,
+        refused,
+        exchanges,
+    } = peers;
+    push_line(text, "rds_peers", "gauge", named as u64)?;
+    push_line(text, "rds_peers_met", "gauge", met as u64)?;
+    push_line(text, "rds_peer_refusals_total", "counter", refused)?;
+    push_line(text, "rds_peer_exchanges_total", "counter", exchanges)
 }
 
 /// Adds the lines of one number: its type, and what it is.

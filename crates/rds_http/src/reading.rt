@@ -6,7 +6,7 @@ ghost use Rattle.rds_listing.specs.Conflicts.{conflicts_text};
 ghost use Rattle.rds_names.specs.declared.fault.Fault.TheVariants.{Memory};
 ghost use Rattle.rds_store.specs.Looks.{MayTell, here_text, view_text};
 ghost use Rattle.rds_http.specs.Changes.{AnswersQuestion};
-ghost use Rattle.rds_http.specs.Looks.{AnswersLook, IsNoPlace, IsValueAt, page_fields, path_in, told_in};
+ghost use Rattle.rds_http.specs.Looks.{AnswersLook, IsNoPlace, IsValueAt, ShowsQuestion, page_fields, path_in, told_in};
 ghost use Rattle.rds_http.specs.Refusals.{TellsFault};
 ghost use Rattle.rds_http.specs.Replies.{Tells};
 
@@ -46,6 +46,7 @@ pub fn look(
         Look::Conflicts => show(alloc, conflicts_at(alloc, document, place), LINES, response),
         Look::Status => show(alloc, document.status(), JSON, response),
         Look::Metrics => show_metrics(alloc, document, metrics, response),
+        Look::Ask => show_question(alloc, document, response),
     }
 }
 
@@ -60,6 +61,21 @@ pub fn answer(
     ensures { OnOk result (AnswersQuestion question.now document.now response.new) }
 {
     match document.answer(question) {
+        Ok(bytes) => fill(response, StatusCode::OK, BYTES, bytes),
+        Err(fault) => refuse(alloc, fault, response),
+    }
+}
+
+/// Answers with what asks another replica for what the document lacks.
+fn show_question(
+    alloc: Global,
+    document: &Document,
+    response: &mut Response,
+) -> Result<(), AllocError>
+    requires { IsBlank response.old }
+    ensures { OnOk result (ShowsQuestion document.now response.new) }
+{
+    match document.ask() {
         Ok(bytes) => fill(response, StatusCode::OK, BYTES, bytes),
         Err(fault) => refuse(alloc, fault, response),
     }

@@ -31,6 +31,8 @@ pub enum Look {
     Status,
     /// What the site has counted.
     Metrics,
+    /// What asks another replica for what the document lacks.
+    Ask,
 }
 
 /// What may be posted.
@@ -190,6 +192,8 @@ fn lone_named(name: &[u8]) -> Resource
         Resource::Look(Look::Status)
     } else if name == b"metrics".as_slice() {
         Resource::Look(Look::Metrics)
+    } else if name == b"ask".as_slice() {
+        Resource::Look(Look::Ask)
     } else if name == b"live".as_slice() {
         Resource::Live
     } else {

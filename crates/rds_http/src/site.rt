@@ -25,11 +25,11 @@ use std::marker::Model;
 /// A document in its file, who may come, and what is counted. Requests look at the document or change it, in memory:
 /// [`keep`](Site::keep) keeps it.
 pub struct Site<'a, H: Disk> {
-    alloc: Global,
-    held: Held<'a, H>,
-    access: Access,
-    turn: u64,
-    metrics: Metrics,
+    pub(crate) alloc: Global,
+    pub(crate) held: Held<'a, H>,
+    pub(crate) access: Access,
+    pub(crate) turn: u64,
+    pub(crate) metrics: Metrics,
 }
 
 // Written out, so that where a site is let go a caller's proof has one call.

@@ -1,18 +1,28 @@
 -- What documents answer one another, and take.
-use Rattle.std.specs.Prelude.{◌⊎◌, ◌≤◌, ℕ, List, length, Result, Ok, Err}
+use Rattle.std.specs.Prelude.{◌≡◌, ◌⊎◌, ◌≤◌, ◌↔◌, ℕ, Bool, IsTrue, List, length, Result, Ok, Err}
 use Rattle.std.specs.Global.{Vec}
 use Rattle.rds_codec.specs.Decoding.{Decodes, IsTextOf}
+use Rattle.rds_codec.specs.FormatWriting.{EncodesTabled}
 use Rattle.rds_codec.specs.declared.limits.TheConstants.{LIMIT}
+use Rattle.rds_delta.specs.Digested.{digest_of}
 use Rattle.rds_keep.specs.Kept.{RefusesBytes as RefusesFileBytes}
 use Rattle.rds_names.specs.declared.fault.Fault.{Fault}
 use Rattle.rds_offline.specs.Letters.{RefusesBytes}
 use Rattle.rds_offline.specs.Merging.{CountsLacking, IsMerged, RefusesMerge}
-use Rattle.rds_questions.specs.Questions.{QuestionValue, question_kind}
+use Rattle.rds_questions.specs.Questions.{QuestionValue, question_kind, question_of, question_text}
 use Rattle.rds_questions.specs.Receiving.{IsReceivedFrom, ReceivedValue}
 use Rattle.rds_questions.specs.Responding.{RespondGives}
 use Rattle.rds_questions.specs.Taking.{TakesReceived}
 use Rattle.rds_state.specs.Fits.{ReplicaValue}
 use Rattle.rds_store.specs.Documents.{IsHeldBy}
+
+-- the text of what a replica asks, or why there is none: it is above the limit, or memory ran out
+abbrev pub MayAsk : ReplicaValue → Result (Vec ℕ) Fault → Type 0
+MayAsk held = EncodesTabled (question_text (question_of held))
+
+-- why the bytes are no question, or memory ran out
+abbrev pub IsNoQuestion : List ℕ → Fault → Type 0
+IsNoQuestion question fault = Decodes question_kind question (Err fault)
 
 -- the bytes are the text of a question within the limit, and this is what a replica responds to it
 pub record RespondsTo (question : List ℕ) (held : ReplicaValue) (result : Result (Vec ℕ) Fault) : Type 0 where
@@ -25,6 +35,19 @@ pub record RespondsTo (question : List ℕ) (held : ReplicaValue) (result : Resu
 abbrev pub MayAnswer : List ℕ → ReplicaValue → Result (Vec ℕ) Fault → Type 0
 MayAnswer question held (Ok bytes) = RespondsTo question held (Ok bytes)
 MayAnswer question held (Err fault) = Decodes question_kind question (Err fault) ⊎ RespondsTo question held (Err fault)
+
+-- the replica that asked has the same roster and the same digest as this one
+pub record IsLevel (asked : QuestionValue) (held : ReplicaValue) : Type 0 where
+  pub roster : asked.hello.roster ≡ held.roster
+  pub digest : asked.digest ≡ digest_of held.state
+
+-- the bytes are the text of a question within the limit, and it is told whether the replica that asked is level with
+-- this one
+pub record TellsLevel (question : List ℕ) (held : ReplicaValue) (level : Bool) : Type 0 where
+  pub asked : QuestionValue
+  pub within : length question ≤ LIMIT
+  pub is_question : IsTextOf question_kind question asked
+  pub exact : IsTrue level ↔ IsLevel asked held
 
 -- the replica doesn't take what a response to a question brought
 pub record RefusesReceived (question answer : List ℕ) (before : ReplicaValue) (fault : Fault) : Type 0 where

@@ -1,5 +1,5 @@
 //! What documents ask of one another, answer and take.
-ghost use Rattle.std.specs.Prelude.{◌≡◌, length, Err, IfOk, IfErr, OnErr, OnOk};
+ghost use Rattle.std.specs.Prelude.{◌≡◌, ◌↔◌, length, Err, IfOk, IfErr, IsTrue, OnErr, OnOk};
 ghost use Rattle.rds_codec.specs.FormatWriting.{EncodesTabled};
 ghost use Rattle.rds_delta.specs.Least.{least};
 ghost use Rattle.rds_delta.specs.Ranks.{ranks};
@@ -10,12 +10,13 @@ ghost use Rattle.rds_questions.specs.Questions.{question_of, question_text};
 ghost use Rattle.rds_questions.specs.Taking.{HasAllOf, IsAsker, TakesReceived};
 ghost use Rattle.rds_state.specs.Fits.{Fits};
 ghost use Rattle.rds_state.specs.Value.{coordinates, size};
-ghost use Rattle.rds_store.specs.Meetings.{MayAnswer, MergesSnapshot, RefusesSnapshot, RefusesTaking};
+ghost use Rattle.rds_store.specs.Meetings.{IsLevel, IsNoQuestion, MayAnswer, MergesSnapshot, RefusesSnapshot, RefusesTaking, TellsLevel};
 ghost use Rattle.rds_store.specs.Noting.{AreSince};
 
 use crate::changes::Changes;
 use crate::document::{Document, decode_file};
 use rds_delta::{Digest, delta};
+use rds_dots::same;
 use rds_gaps::GapSet;
 use rds_names::Fault;
 use rds_questions::{
@@ -41,6 +42,17 @@ impl Document {
         ensures { MayAnswer question.now self.now result }
     {
         respond_to(self.alloc, self.index.replica(), question)
+    }
+
+    /// Whether the replica that asked has the roster and the digest of this one: then neither lacks anything of the
+    /// other's. Bytes that are no question are refused as [`answer`](Document::answer) refuses them. Who asks isn't
+    /// judged: of a replica of another group this is false.
+    pub fn is_level_with(&self, question: &[u8]) -> Result<bool, Fault>
+        ensures level { IfOk result (TellsLevel question.now self.now) }
+        ensures fault { IfErr result (IsNoQuestion question.now) }
+    {
+        let asked = decode_question(self.alloc, question)?;
+        is_level(self.alloc, &asked, self.index.replica())
     }
 
     /// Takes what answers a question that this replica asked, now or earlier, and tells how many components that
@@ -74,6 +86,24 @@ fn respond_to(alloc: Global, held: &Replica<GapSet>, question: &[u8]) -> Result<
 {
     let asked: Question<GapSet> = decode_question(alloc, question)?;
     respond(alloc, held, &asked)
+}
+
+/// Whether the replica that asked has the roster and the digest of this one. Its live dots are gathered only where all
+/// else is the same.
+fn is_level(alloc: Global, asked: &Question<GapSet>, held: &Replica<GapSet>) -> Result<bool, Fault>
+    ensures level { IfOk result (λ level. IsTrue level ↔ IsLevel asked.now held.now) }
+    ensures memory { IfErr result (λ fault. fault ≡ Memory) }
+{
+    let lives = held.state().lives();
+    let digest = &asked.digest;
+    if !asked.hello.roster.same(held.roster())
+        || !same(digest.seen(), lives.seen())
+        || !digest.counts().same(held.state().counts())
+    {
+        return Ok(false);
+    }
+    let live = lives.live_dots(alloc)?;
+    Ok(same(digest.live(), &live))
 }
 
 /// Takes the answer whose text the second bytes are to the question whose text the first are, and notes what came.
