@@ -1,10 +1,11 @@
 //! Where clients come in.
 use crate::clients::Client;
+use crate::peer_table::{Peers, shorter};
 use crate::sockets::Socket;
 use crate::table::{Clients, MOST_CLIENTS};
 use http_server::{Config, Connection};
 use mio::net::{TcpListener, TcpStream};
-use mio::{Events, Interest, Poll, Token};
+use mio::{Events, Interest, Poll, Registry, Token};
 use rds_names::Fault;
 use std::alloc::Global;
 use std::hash::RandomState;
@@ -77,22 +78,34 @@ impl Door {
         self.listener.local_addr()
     }
 
-    /// Waits for events, and lists the clients that they tell of, for the turn that begins so.
-    pub fn wait(&mut self, clients: &mut Clients) -> io::Result<()> {
-        let timeout = self.timeout(clients);
+    /// By what the system is asked to tell of connections.
+    pub fn registry(&self) -> &Registry {
+        self.poll.registry()
+    }
+
+    /// Waits for events, or until something is to be done for a peer. Lists the clients and peers that events tell of,
+    /// for the turn that begins so.
+    pub fn wait(
+        &mut self,
+        clients: &mut Clients,
+        peers: &mut Peers<'_>,
+        now: Instant,
+    ) -> io::Result<()> {
+        let timeout = shorter(self.timeout(clients), peers.pause(now));
         clients.begin_turn();
         self.poll.poll(&mut self.events, timeout)?;
         for event in self.events.iter() {
-            if event.token() == ARRIVALS {
+            let token = event.token();
+            if token == ARRIVALS {
                 self.arrivals = Arrivals::Some;
-            } else {
-                clients.list(event.token());
+            } else if !peers.list(token) {
+                clients.list(token);
             }
         }
         Ok(())
     }
 
-    // How long to wait for an event.
+    // How long to wait for an event, as far as clients go.
     fn timeout(&self, clients: &Clients) -> Option<Duration> {
         if clients.has_next() || self.arrivals == Arrivals::Some {
             Some(Duration::ZERO)

@@ -1,17 +1,26 @@
 //! The loop of a node: a site that runs. One process and one thread hold a document in its file, and serve it over
-//! HTTP. Read `words`, `addresses`, `secrets`; then `committed`, `sockets`, `listeners`, `clients`; then `table`,
-//! `arrivals`, `turns`, `running`.
+//! HTTP, and meet other nodes over theirs. Read `words`, `addresses`, `secrets`; then `committed`, `sockets`,
+//! `listeners`, `clients`, `table`; then `destinations`, `schedule`, `requests`, `troubles`, `channels`, `exchanges`,
+//! `peers`, `peer_table`; then `arrivals`, `turns`, `running`.
 #![tactic(auto)]
 
 mod addresses;
 mod arrivals;
+mod channels;
 mod clients;
 mod committed;
+mod destinations;
+mod exchanges;
 mod listeners;
+mod peer_table;
+mod peers;
+mod requests;
 mod running;
+mod schedule;
 mod secrets;
 mod sockets;
 mod table;
+mod troubles;
 mod turns;
 mod words;
 

@@ -13,6 +13,9 @@ use websocket::protocol::{
 /// More bytes than this don't wait for a listener, nor are they taken of one in a frame.
 const MOST_WAITING: usize = 65_536;
 
+/// The room that a read of frames is given at least, in bytes.
+const ROOM: usize = 4096;
+
 /// How often a listener is read in one turn.
 const READS: u32 = 16;
 
@@ -50,7 +53,7 @@ impl Listener {
             if !self.socket.can_write() {
                 return Heard::All;
             }
-            match socket.receive_frames(&mut self.input) {
+            match socket.receive_bytes(&mut self.input, ROOM) {
                 Ok(0) => return Heard::Gone,
                 Ok(_) => (),
                 Err(error) => return Heard::after(&error),

@@ -5,6 +5,8 @@ ghost use Rattle.rds_site.specs.Addresses.{NamesPlace};
 
 use crate::addresses::{check_reach, read_address};
 use crate::arrivals::Door;
+use crate::destinations::find_peers;
+use crate::peer_table::Peers;
 use crate::secrets::read_token;
 use crate::table::Clients;
 use crate::turns::Turns;
@@ -23,14 +25,21 @@ use std::time::Instant;
 /// lock, and kept before anything is answered, since who wrote it may not have made it last. An answer goes out once
 /// all that came before it is kept.
 ///
-/// `Usage` where the words name no place for a site, or the token's file has none. What [`DocumentFile::open`] and
-/// [`DocumentFile::keep`] refuse with. `Device` where the token's file can't be read, the address can't be had, or the
-/// system can't be waited for. `Memory` where there is none to begin. Standard error has a line once the site serves,
+/// It meets each peer, another node, over that one's HTTP: at the start, 20 ms after what others changed, and every so
+/// many seconds. The peer takes what it lacks, and brings what this node lacks; a peer needs the same token.
+///
+/// `Usage` where the words name no place for a site or no peers, or the token's file has none. What
+/// [`DocumentFile::open`] and [`DocumentFile::keep`] refuse with. `Device` where the token's file can't be read, a peer
+/// isn't found, the address can't be had, or the system can't be waited for. `Memory` where there is none to begin. Standard error has a line once the site serves,
 /// and one that says why it ended, but where memory lacked. What a client does wrong ends that client alone.
 ///
 /// There are at most 1,024 clients; more are let go at once. Each has 30 seconds for a whole request, and to take a
 /// byte of an answer. A body has at most 64 MB, and what waits unread of all clients 256 MB: who sends more is let go.
 /// A listener for which 64 kB wait is let go.
+///
+/// There are at most 64 peers. One that can't be met, or is refused or refuses, is tried again after 1, 2, 4, .. up to
+/// 60 seconds, and standard error has a line where that begins and ends. A response has at most 256 MB, and within 30
+/// seconds a byte of it has to come.
 pub fn run_site<H: Disk + Net + RandomSource>(rt: &H, words: &SiteWords<'_>) -> Fault
 where
     H::File: LockFile,
@@ -62,15 +71,17 @@ where
     let address = read_address(rt, words.http)?;
     let token = read_secret(rt, words.token_file)?;
     check_reach(rt, address, token.is_some(), words.is_open)?;
+    let destinations = find_peers(rt, words.peers, address, token.as_ref())?;
     let clients = Clients::new(rt.alloc())?;
     let mut file = DocumentFile::open(rt, words.file)?;
     file.keep(rt)?;
     let (door, now) = open_door(rt, address)?;
+    let peers = Peers::new(rt.alloc(), destinations, words.every, now)?;
     let address = door.address().unwrap_or(address);
     let access = Access::new(address, token, words.is_open);
     let site = Site::new(rt.alloc(), file, access);
     let _ = eprintln!(rt; "listening on http://{address}/");
-    Ok(Turns::new(site, door, clients, now))
+    Ok(Turns::new(site, door, clients, peers, now))
 }
 
 // Reads the token in the file of this path, where there is a path.

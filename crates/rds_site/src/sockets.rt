@@ -1,4 +1,4 @@
-//! The sockets of clients.
+//! The sockets of clients and of peers.
 use crate::committed::Committed;
 use bytes::{Buf, BytesMut};
 use http_server::{Connection, Rope};
@@ -7,12 +7,12 @@ use mio::{Interest, Registry, Token};
 use rds_files::Disk;
 use std::io;
 use std::io::{ErrorKind, Read, Write};
-use std::net::Shutdown;
+use std::net::{Net, Shutdown, SocketAddr};
 
-/// The room that a read of frames is given at least, in bytes.
+/// The room that a read of what nobody wants is given, in bytes.
 const ROOM: usize = 4096;
 
-/// How far a client was heard.
+/// How far a client or a peer was heard.
 #[derive(Clone, Copy, Debug, PartialEq, Eq)]
 pub enum Heard {
     /// All that came: an event tells of more.
@@ -34,7 +34,7 @@ impl Heard {
     }
 }
 
-/// How far a client took what was due to it.
+/// How far a client or a peer took what was due to it.
 #[derive(Clone, Copy, Debug, PartialEq, Eq)]
 pub enum Sent {
     /// Nothing waits any more.
@@ -56,7 +56,15 @@ impl Sent {
     }
 }
 
-/// A client's socket. It is read at any time. It is written only by who has a [`Committed`].
+/// Under which token what happens to a peer's connections is told, and by what.
+#[derive(Clone, Copy)]
+pub struct Line<'r> {
+    pub registry: &'r Registry,
+    pub token: Token,
+}
+
+/// A socket of a client or of a peer. It is read at any time. It is written and dialed only by who has a
+/// [`Committed`].
 #[derive(Drop)]
 pub struct Socket {
     stream: TcpStream,
@@ -67,6 +75,30 @@ impl Socket {
     pub fn new(stream: TcpStream) -> Socket {
         let _ = stream.set_nodelay(true);
         Socket { stream }
+    }
+
+    /// Begins to connect with a peer. What follows is told by an event under the token.
+    pub fn dial<H: Disk + Net>(
+        rt: &H,
+        _committed: &Committed<'_, '_, H>,
+        address: SocketAddr,
+        line: &Line<'_>,
+    ) -> io::Result<Socket> {
+        let mut socket = Socket::new(TcpStream::connect(rt, address)?);
+        socket.register(line.registry, line.token)?;
+        Ok(socket)
+    }
+
+    /// Whether the connection with a peer stands. Refuses where it can't be made.
+    pub fn is_connected(&self) -> io::Result<bool> {
+        if let Some(error) = self.stream.take_error()? {
+            return Err(error);
+        }
+        match self.stream.peer_addr() {
+            Ok(_) => Ok(true),
+            Err(error) if error.kind() == ErrorKind::NotConnected => Ok(false),
+            Err(error) => Err(error),
+        }
     }
 
     /// Has the registry report the socket under the token.
@@ -80,9 +112,9 @@ impl Socket {
         connection.read_from(&mut self.stream)
     }
 
-    /// Reads frames, once.
-    pub fn receive_frames(&mut self, input: &mut BytesMut) -> io::Result<usize> {
-        input.reserve(ROOM)?;
+    /// Reads bytes, once, where there is so much room for them at least.
+    pub fn receive_bytes(&mut self, input: &mut BytesMut, room: usize) -> io::Result<usize> {
+        input.reserve(room)?;
         input.read_from(&mut self.stream)
     }
 
@@ -109,6 +141,18 @@ impl Socket {
     ) -> io::Result<usize> {
         let count = self.stream.write(output.chunk())?;
         output.advance(count.min(output.len()));
+        Ok(count)
+    }
+
+    /// Writes bytes, once.
+    pub fn send_bytes<H: Disk>(
+        &mut self,
+        _committed: &Committed<'_, '_, H>,
+        output: &mut BytesMut,
+    ) -> io::Result<usize> {
+        let count = self.stream.write(output.as_slice())?;
+        let len = output.len();
+        output.advance(count.min(len));
         Ok(count)
     }
 

@@ -3,17 +3,20 @@ ghost use Rattle.std.specs.Prelude.{◌≡◌};
 
 use crate::arrivals::Door;
 use crate::committed::{Committed, commit};
+use crate::peer_table::Peers;
 use crate::table::Clients;
 use rds_files::{Disk, LockFile};
 use rds_http::Site;
 use rds_names::Fault;
+use std::net::Net;
 use std::time::Instant;
 
-/// A site, its clients, and where they come in.
+/// A site, its clients, where they come in, and its peers.
 pub struct Turns<'a, H: Disk> {
     site: Site<'a, H>,
     door: Door,
     clients: Clients,
+    peers: Peers<'a>,
     // The time, when it was last looked at, and when clients were last looked at for being overdue.
     now: Instant,
     swept: Instant,
@@ -27,6 +30,7 @@ impl<H: Disk> Drop for Turns<'_, H> {
             site: _site,
             door: _door,
             clients: _clients,
+            peers: _peers,
             now: _,
             swept: _,
             told: _,
@@ -38,8 +42,14 @@ impl<'a, H: Disk> Turns<'a, H>
 where
     H::File: LockFile,
 {
-    /// A site that nobody has asked yet.
-    pub fn new(site: Site<'a, H>, door: Door, clients: Clients, now: Instant) -> Turns<'a, H>
+    /// A site that nobody has asked yet, and that has met no peer.
+    pub fn new(
+        site: Site<'a, H>,
+        door: Door,
+        clients: Clients,
+        peers: Peers<'a>,
+        now: Instant,
+    ) -> Turns<'a, H>
         ensures { result.site ≡ site.entry }
     {
         let told = site.turn();
@@ -47,6 +57,7 @@ where
             site,
             door,
             clients,
+            peers,
             now,
             swept: now,
             told,
@@ -55,21 +66,37 @@ where
 
     /// One turn. It ends the site where the system can't be waited for, or the document can't be kept: then nothing of
     /// the turn is sent.
-    pub fn turn(&mut self, rt: &H) -> Result<(), Fault> {
+    pub fn turn(&mut self, rt: &H) -> Result<(), Fault>
+    where
+        H: Net,
+    {
         self.begin(rt)?;
-        self.site
-            .note_clients(self.clients.len(), self.clients.listeners());
-        self.clients.hear(&mut self.site);
+        self.hear(rt);
         let committed = commit(rt, &mut self.site)?;
         tell(rt, &committed, &mut self.clients, &mut self.told, self.now);
+        self.peers
+            .send(rt, &committed, self.door.registry(), self.now);
         self.sweep();
         Ok(())
     }
 
-    // Waits for what comes, and lets those in that wait.
+    // Answers in memory what clients and peers say. What clients change is due to all peers.
+    fn hear(&mut self, rt: &H) {
+        self.site
+            .note_clients(self.clients.len(), self.clients.listeners());
+        self.site.note_peers(self.peers.counts());
+        self.clients.hear(&mut self.site);
+        if self.site.has_changed() {
+            self.peers.note_change(self.now);
+        }
+        self.peers.hear(rt, &mut self.site, self.now);
+    }
+
+    // Waits for what comes or is due, and lets those in that wait.
     fn begin(&mut self, rt: &H) -> Result<(), Fault> {
-        if let Err(error) = self.door.wait(&mut self.clients) {
-            let _ = eprintln!(rt; "cannot wait for clients: {error}");
+        let now = Instant::now(rt).unwrap_or(self.now);
+        if let Err(error) = self.door.wait(&mut self.clients, &mut self.peers, now) {
+            let _ = eprintln!(rt; "cannot wait for clients and peers: {error}");
             return Err(Fault::Device);
         }
         self.now = Instant::now(rt).unwrap_or(self.now);

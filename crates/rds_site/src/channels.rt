@@ -1,0 +1,134 @@
+//! A connection with a peer.
+use crate::committed::Committed;
+use crate::destinations::Destination;
+use crate::requests::{Resource, Response, Talk};
+use crate::sockets::{Heard, Sent, Socket};
+use crate::troubles::Trouble;
+use rds_files::Disk;
+use std::alloc::Global;
+use std::time::Instant;
+
+/// Within so many seconds a byte has to go or come.
+pub const PATIENCE: u64 = 30;
+
+/// The room that a read is given, in bytes.
+const ROOM: usize = 65_536;
+
+/// How often a peer is read in one turn at most.
+const READS: u32 = 16;
+
+/// A connection with a peer: its socket, and what is said over it.
+#[derive(Drop)]
+pub struct Channel {
+    socket: Socket,
+    talk: Talk,
+    // When a byte last went or came.
+    since: Instant,
+    heard: Heard,
+    // Whether anything came since the last request.
+    is_answered: bool,
+}
+
+impl Channel {
+    /// Over a socket that was just connected.
+    pub fn new(alloc: Global, socket: Socket, now: Instant) -> Channel {
+        Channel {
+            socket,
+            talk: Talk::new(alloc),
+            since: now,
+            heard: Heard::All,
+            is_answered: false,
+        }
+    }
+
+    /// When a byte last went or came.
+    pub fn since(&self) -> Instant {
+        self.since
+    }
+
+    /// Whether the peer is to be heard again without an event.
+    pub fn has_more(&self) -> bool {
+        self.heard == Heard::Part
+    }
+
+    /// Whether anything came since the last request.
+    pub fn is_answered(&self) -> bool {
+        self.is_answered
+    }
+
+    /// Writes a request, with a body of these pieces.
+    pub fn request(
+        &mut self,
+        destination: &Destination<'_>,
+        resource: Resource,
+        pieces: &[&[u8]],
+        now: Instant,
+    ) -> Result<(), Trouble> {
+        self.talk.request(destination, resource, pieces)?;
+        self.since = now;
+        self.is_answered = false;
+        Ok(())
+    }
+
+    /// Reads what the peer says, up to a limit, and until a response is whole.
+    pub fn hear(&mut self, now: Instant) -> Result<Option<Response>, Trouble> {
+        self.heard = Heard::Part;
+        for _ in 0..READS {
+            if let Some(response) = self.talk.next()? {
+                return Ok(Some(response));
+            }
+            match self.socket.receive_bytes(&mut self.talk.input, ROOM) {
+                Ok(0) => return self.talk.end(),
+                Ok(_) => {
+                    self.since = now;
+                    self.is_answered = true;
+                }
+                Err(error) => {
+                    self.heard = Heard::after(&error);
+                    if self.heard == Heard::Gone {
+                        return Err(Trouble::System(error));
+                    }
+                    return Ok(None);
+                }
+            }
+        }
+        Ok(None)
+    }
+
+    /// Sends what waits, as far as the peer takes it. Where it takes nothing any more, what it still says is heard.
+    pub fn send<H: Disk>(&mut self, committed: &Committed<'_, '_, H>, now: Instant) {
+        for _ in 0..u32::MAX {
+            if self.talk.output.is_empty() {
+                return;
+            }
+            match self.send_once(committed, now) {
+                None => (),
+                Some(Sent::Part) => return,
+                Some(Sent::All) | Some(Sent::Gone) => {
+                    self.talk.clear_output();
+                    self.heard = Heard::Part;
+                    return;
+                }
+            }
+        }
+    }
+
+    // Sends once. Answers how far the peer took what waits, where that ends the sending.
+    fn send_once<H: Disk>(
+        &mut self,
+        committed: &Committed<'_, '_, H>,
+        now: Instant,
+    ) -> Option<Sent> {
+        match self.socket.send_bytes(committed, &mut self.talk.output) {
+            Ok(0) => Some(Sent::Gone),
+            Ok(_) => {
+                self.since = now;
+                if self.talk.output.is_empty() {
+                    self.talk.clear_output();
+                }
+                None
+            }
+            Err(error) => Sent::after(&error),
+        }
+    }
+}

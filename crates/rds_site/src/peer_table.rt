@@ -1,0 +1,149 @@
+//! The peers of a site.
+use crate::committed::Committed;
+use crate::destinations::{Destination, MOST_PEERS};
+use crate::peers::{Outcome, Peer};
+use crate::sockets::Line;
+use mio::{Registry, Token};
+use rds_files::{Disk, LockFile};
+use rds_http::{PeerCounts, Site};
+use std::alloc::{AllocError, Global};
+use std::net::Net;
+use std::time::{Duration, Instant};
+
+/// By this the system tells of the first peer, and by one less of each further one.
+const FIRST: usize = usize::MAX - 1;
+
+/// The peers of a site, and what was counted of them.
+#[derive(Drop)]
+pub struct Peers<'a> {
+    table: Vec<Peer<'a>>,
+    // How many exchanges were done, and how many were refused.
+    exchanges: u64,
+    refused: u64,
+}
+
+impl<'a> Peers<'a> {
+    /// Peers at these places, which are met at once, and then every so many seconds.
+    pub fn new(
+        alloc: Global,
+        destinations: Vec<Destination<'a>>,
+        every: u32,
+        now: Instant,
+    ) -> Result<Peers<'a>, AllocError> {
+        let mut table = Vec::with_capacity(alloc, destinations.len())?;
+        for destination in destinations {
+            table.push(Peer::new(destination, every, now))?;
+        }
+        Ok(Peers {
+            table,
+            exchanges: 0,
+            refused: 0,
+        })
+    }
+
+    /// What was counted.
+    pub fn counts(&self) -> PeerCounts {
+        let mut met: usize = 0;
+        for peer in self.table.as_slice() {
+            met = met.saturating_add(usize::from(peer.is_met()));
+        }
+        PeerCounts {
+            named: self.table.len(),
+            met,
+            refused: self.refused,
+            exchanges: self.exchanges,
+        }
+    }
+
+    /// Lists the peer of this token for the turn that begins. Answers whether the token is a peer's.
+    pub fn list(&mut self, token: Token) -> bool {
+        let Some(at) = index_of(token) else {
+            return false;
+        };
+        if let Some(peer) = self.table.get_mut(at) {
+            peer.list();
+        }
+        true
+    }
+
+    /// How long nothing is to be done for any, but for events. `None` where there are no peers.
+    pub fn pause(&self, now: Instant) -> Option<Duration> {
+        let mut least = None;
+        for peer in self.table.as_slice() {
+            least = shorter(least, Some(peer.pause(now)));
+        }
+        least
+    }
+
+    /// Clients changed the document.
+    pub fn note_change(&mut self, now: Instant) {
+        for peer in self.table.as_mut_slice() {
+            peer.note_change(now);
+        }
+    }
+
+    /// Hears those that are listed, and goes on with their exchanges in memory. What one brings is due to the others.
+    pub fn hear<H: Disk>(&mut self, rt: &H, site: &mut Site<'_, H>, now: Instant)
+    where
+        H::File: LockFile,
+    {
+        for at in 0..self.table.len() {
+            if let Some(peer) = self.table.get_mut(at) {
+                let had_changed = site.has_changed();
+                let outcome = peer.hear(rt, site, now);
+                self.count(outcome);
+                if outcome == Outcome::Brought || !had_changed && site.has_changed() {
+                    self.note_brought(at, now);
+                }
+            }
+        }
+    }
+
+    fn count(&mut self, outcome: Outcome) {
+        match outcome {
+            Outcome::Done => self.exchanges = self.exchanges.saturating_add(1),
+            Outcome::Refused => self.refused = self.refused.saturating_add(1),
+            Outcome::None | Outcome::Brought => (),
+        }
+    }
+
+    // One peer brought something.
+    fn note_brought(&mut self, by: usize, now: Instant) {
+        for (at, peer) in self.table.as_mut_slice().iter_mut().enumerate() {
+            if at != by {
+                peer.note_change(now);
+            }
+        }
+    }
+
+    /// Begins the exchanges that are due, and sends what is due to all.
+    pub fn send<H: Disk + Net>(
+        &mut self,
+        rt: &H,
+        committed: &Committed<'_, '_, H>,
+        registry: &Registry,
+        now: Instant,
+    ) {
+        for (at, peer) in self.table.as_mut_slice().iter_mut().enumerate() {
+            let token = Token(FIRST.saturating_sub(at));
+            peer.send(rt, committed, &Line { registry, token }, now);
+        }
+    }
+}
+
+// Which peer has a token.
+fn index_of(token: Token) -> Option<usize> {
+    match FIRST.checked_sub(token.0) {
+        Some(at) if at < MOST_PEERS => Some(at),
+        _ => None,
+    }
+}
+
+/// The shorter of two waits, where `None` is without end.
+pub fn shorter(one: Option<Duration>, other: Option<Duration>) -> Option<Duration> {
+    match (one, other) {
+        (Some(one), Some(other)) => Some(one.min(other)),
+        (Some(wait), None) | (None, Some(wait)) => Some(wait),
+        (None, None) => None,
+    }
+}
