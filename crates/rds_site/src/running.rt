@@ -11,7 +11,7 @@ use crate::secrets::read_token;
 use crate::table::Clients;
 use crate::turns::Turns;
 use crate::words::SiteWords;
-use rds_files::{Disk, LockFile};
+use rds_files::{Disk, HolderNote, LockFile};
 use rds_http::{Access, Site, Token};
 use rds_names::Fault;
 use rds_store::DocumentFile;
@@ -24,6 +24,8 @@ use std::time::Instant;
 /// Serves the document of a file over HTTP until a fault ends that, which is answered. The file is opened under its
 /// lock, and kept before anything is answered, since who wrote it may not have made it last. An answer goes out once
 /// all that came before it is kept.
+///
+/// While it serves, it has a note beside the file, by which a command that finds the file locked tells who has it.
 ///
 /// It meets each peer, another node, over that one's HTTP: at the start, 20 ms after what others changed, and every so
 /// many seconds. The peer takes what it lacks, and brings what this node lacks; a peer needs the same token.
@@ -49,6 +51,7 @@ where
         Ok(turns) => turns,
         Err(fault) => return fault,
     };
+    let _note = note_holder(rt, words.file, &turns);
     for _ in 0..u64::MAX {
         if let Err(fault) = turns.turn(rt) {
             return fault;
@@ -82,6 +85,14 @@ where
     let site = Site::new(rt.alloc(), file, access);
     let _ = eprintln!(rt; "listening on http://{address}/");
     Ok(Turns::new(site, door, clients, peers, now))
+}
+
+// Notes beside the file where the site serves, for commands that find it locked.
+fn note_holder<H: Disk>(rt: &H, path: &str, turns: &Turns<'_, H>) -> Option<HolderNote<H>>
+where
+    H::File: LockFile,
+{
+    HolderNote::write(rt, path, turns.address().ok()?)
 }
 
 // Reads the token in the file of this path, where there is a path.

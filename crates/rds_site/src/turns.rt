@@ -8,7 +8,8 @@ use crate::table::Clients;
 use rds_files::{Disk, LockFile};
 use rds_http::Site;
 use rds_names::Fault;
-use std::net::Net;
+use std::io;
+use std::net::{Net, SocketAddr};
 use std::time::Instant;
 
 /// A site, its clients, where they come in, and its peers.
@@ -62,6 +63,11 @@ where
             swept: now,
             told,
         }
+    }
+
+    /// The address at which the site serves.
+    pub fn address(&self) -> io::Result<SocketAddr> {
+        self.door.address()
     }
 
     /// One turn. It ends the site where the system can't be waited for, or the document can't be kept: then nothing of
