@@ -12,7 +12,7 @@ use Rattle.rds_names.specs.Roster.{RosterValue, all_differ, are_names}
 use Rattle.rds_state.specs.Fits.{ReplicaValue}
 use Rattle.rds_state.specs.Value.{StateValue, coordinates}
 use Rattle.rds_world.specs.Replicas.{IsOpenIn, MakeOpen, grows}
-use Rattle.rds_world.specs.World.{World, Happening, Of, after, run}
+use Rattle.rds_world.specs.World.{World, Of, after, put}
 use Rattle.rds_world.specs.declared.event.Event.TheVariants.{Grow}
 use Rattle.rds_world.proofs.Tables.{put_here, put_there}
 
@@ -90,7 +90,7 @@ grown_open (n ∷ names) w v kept u is_open whole same named is =
     let open1 : IsOpenIn w1 v1 kept = record {
       memory = record {
         there = omega (arith, is_open.memory.there);
-        names = put_there _ w.replicas (suc w.replicas) r here ∙ put_here w.memory_names r (suc w.replicas) ∙ one_more v.roster.names n w.replicas (whole ∙ ap (λ (l : List (List ℕ)). length l) (sym same));
+        names = put_there (put w.memory_names r (suc w.replicas)) w.replicas (suc w.replicas) r here ∙ put_here w.memory_names r (suc w.replicas) ∙ one_more v.roster.names n w.replicas (whole ∙ ap (λ (l : List (List ℕ)). length l) (sym same));
         state = is_open.memory.state;
       };
       kept = record {

@@ -25,10 +25,10 @@ pub record IsInMemory (w : World) (v : ReplicaValue) : Type 0 where
   pub state : w.memory v.own ≡ coordinates v.state
 
 -- a replica of the world has this one in memory, and has kept the other
-pub record IsOpenIn (w : World) (v kept : ReplicaValue) : Type 0 where
+pub record IsOpenIn (w : World) (v saved : ReplicaValue) : Type 0 where
   pub memory : IsInMemory w v
-  pub kept : IsKeptIn w kept
-  pub own : v.own ≡ kept.own
+  pub kept : IsKeptIn w saved
+  pub own : v.own ≡ saved.own
 
 -- no event but the replica's own save changes what it has kept
 abbrev pub KeptStays : Type 0
@@ -79,9 +79,9 @@ pub record MakeInMemory (w : World) (events : List Happening) (v : ReplicaValue)
 
 -- the events happened, and a replica has this one in memory by now and has kept the other; the others have kept what they
 -- had
-pub record MakeOpen (w : World) (events : List Happening) (v kept : ReplicaValue) : Type 0 where
+pub record MakeOpen (w : World) (events : List Happening) (v saved : ReplicaValue) : Type 0 where
   pub accepted : Accepted events w
-  pub is_open : IsOpenIn (run events w) v kept
+  pub is_open : IsOpenIn (run events w) v saved
   pub others : (r : ℕ) → r ≢ v.own → (run events w).kept r ≡ w.kept r
 
 -- the events happened, and this is what its replica has kept by now; the others have kept what they had
