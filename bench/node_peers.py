@@ -145,10 +145,10 @@ def try_one_way(asked, folder):
 
 
 def try_ring(asked, folder):
-    """Three nodes, each of which names the next."""
+    """Three nodes, each of which names the next, by the name of this machine."""
     nodes = nodes_of(asked, folder, "abc")
     for node, following in zip(nodes, nodes[1:] + nodes[:1]):
-        node.meets(following.port, every=1)
+        node.meets(following.port, every=1, host="localhost")
     with all_running(*nodes):
         for node in nodes:
             are_met(node, 1)

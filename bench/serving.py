@@ -88,10 +88,10 @@ class Node:
         self.told("init", "a.rds", "g", own, *names)
         self.port, self.child = free_port(), None
 
-    def meets(self, *ports, every=None):
+    def meets(self, *ports, every=None, host=HOST):
         """Names its peers, by their ports, and how often it asks them."""
         for port in ports:
-            self.words += ["--peer", f"{HOST}:{port}"]
+            self.words += ["--peer", f"{host}:{port}"]
         if every:
             self.words += ["--every", f"{every}"]
 
