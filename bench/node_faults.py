@@ -8,7 +8,7 @@ import random
 import shutil
 import subprocess
 
-from serving import LIMIT, Ended, Node, Wrong, is_served, listener, running, soon, want
+from serving import LIMIT, Ended, Node, Wrong, are_equal, is_served, listener, running, soon, want
 
 HERE = pathlib.Path(__file__).resolve().parent
 # What is failed, and how a node may end by itself then: its status, and a line that it has to write.
@@ -35,12 +35,17 @@ class Sent:
             want(answer.status == 503 or b'"name":"Memory"' in answer.body, f"an edit is answered {answer}")
             self.sent.remove(number)
 
-    def judge(self, document):
-        regs = document["maps"].get("k", {"regs": {}})["regs"]
-        found = {int(name[1:]) for name in regs}
+    def judge(self, document, told):
+        """Compares what the file shows with what was sent and acknowledged, and with what a peer was told."""
+        found, known = numbers_in(document), numbers_in(told)
         lost, more = self.acknowledged - found, found - self.sent
         want(not lost, f"edits {lost} were acknowledged, and are lost")
         want(not more, f"edits {more} weren't sent, or were refused")
+        want(known <= found, f"edits {known - found} were told to a peer, and are lost")
+
+
+def numbers_in(document):
+    return {int(name[1:]) for name in document["maps"].get("k", {"regs": {}})["regs"]}
 
 
 def ask(node, sent):
@@ -55,8 +60,8 @@ def ask(node, sent):
                 sent.edit(node, link)
 
 
-def once(node, failing, kind, number):
-    """Runs a node so: what failed, and whether it went on."""
+def once(node, peer, failing, kind, number):
+    """Runs a node so, beside a peer: what failed, and whether it went on."""
     status, lines = KINDS[kind]
     sent, told = Sent(), node.folder / "told"
     with open(told, "wb") as file:
@@ -79,10 +84,11 @@ def once(node, failing, kind, number):
         want(is_due, f"call {number}, {told.read_text()}: the node ends with {node.child.poll()}: {node.said()[-300:]!r}")
     node.child.kill()
     node.child.wait()
+    shown = node.shown()
+    sent.judge(shown, peer.document())
     with running(node):
-        document = node.document()
-    want(document == node.shown(), f"call {number}, {told.read_text()}: show differs from /doc")
-    sent.judge(document)
+        document = are_equal([node, peer])[1]
+    want(document == shown, f"call {number}, {told.read_text()}: show differs from /doc")
     return told.read_text(), goes_on
 
 
@@ -91,8 +97,13 @@ def try_faults(asked, folder):
     subprocess.run(["cc", "-shared", "-fPIC", "-o", failing, HERE / "failing.c", "-ldl"], check=True, timeout=LIMIT)
     for kind in KINDS:
         for number in itertools.count(random.Random(asked.seed).randrange(asked.part) + 1, asked.part):
-            name, goes_on = once(Node(asked.program, folder / "node"), failing, kind, number)
-            shutil.rmtree(folder / "node")
+            node, peer = Node(asked.program, folder / "node"), Node(asked.program, folder / "peer", own="b")
+            node.meets(peer.port)
+            peer.meets(node.port)
+            with running(peer):
+                name, goes_on = once(node, peer, failing, kind, number)
+            for folder_of in node.folder, peer.folder:
+                shutil.rmtree(folder_of)
             if not name:
                 break
             counts[kind, "goes on" if goes_on else "ends"] += 1

@@ -51,6 +51,8 @@ GET /status
   200 json {"group":"g","own":"a","names":["a","b"],"live":2,"dead":1,"counters":1,"components":4,..}
 HEAD /doc
   200 json
+HEAD /ask
+  200 octet-stream
 HEAD /nothing
   404 json
 GET /nothing
@@ -62,6 +64,8 @@ POST /doc x
 GET /edits
   405 json {"status":405,"text":".."}
 DELETE /live
+  405 json {"status":405,"text":".."}
+POST /ask x
   405 json {"status":405,"text":".."}
 POST /answer oops
   400 json {"fault":13,"name":"Bad","text":".."}
@@ -78,6 +82,7 @@ MAY_COME = """
 403 GET /doc | Host: 127.0.0.1
 403 GET /doc | Host: example.org
 403 GET /doc | Host: example.org:PORT
+403 GET /ask | Host: example.org:PORT
 403 GET / | Host: example.org:PORT
 403 POST /edits | Host: example.org:PORT
 200 GET /doc | Origin: http://example.org
@@ -94,6 +99,7 @@ MAY_COME_WITH_TOKEN = """
 200 GET / | Cookie: a=b
 401 GET /doc | Cookie: a=b
 401 HEAD /status | Cookie: a=b
+401 GET /ask | Cookie: a=b
 401 GET /nothing | Cookie: a=b
 401 POST /edits | Cookie: a=b
 401 POST /edits | Cookie: rds=
@@ -166,7 +172,8 @@ def judge_heads(node):
     want("default-src 'none'" in policy, f"the page has the policy {policy}")
     head = node.answer("HEAD", "/")
     want(head.headers == page.headers, f"HEAD / has {head.headers}, and GET / {page.headers}")
-    for name, number in ("rds_edits_total", 5), ("rds_edits_refused_total", 2), ("rds_live_entries", 2):
+    due = {"rds_edits_total": 5, "rds_edits_refused_total": 2, "rds_live_entries": 2, "rds_peers": 0, "rds_peers_met": 0}
+    for name, number in due.items():
         want(node.count(name) == number, f"{name} is {node.count(name)}, where {number} is due")
 
 
@@ -206,6 +213,9 @@ def judge_texts(node):
     response = node.told("answer", "b.rds", given=question)
     answer = node.answer("POST", "/take", struct.pack(">I", len(question)) + question + response)
     judge("POST /take", answer, '200 json {"taken":1}')
+    answer = node.answer("GET", "/ask")
+    is_due = (answer.status, answer.body) == (200, node.told("ask", "a.rds"))
+    want(is_due and "octet-stream" in answer.headers["content-type"], f"GET /ask is answered {answer}")
     (node.folder / "q").write_bytes(node.told("ask", "b.rds"))
     answer = node.answer("POST", "/answer", (node.folder / "q").read_bytes())
     is_due = answer.status == 200 and answer.headers["content-type"] == "application/octet-stream"

@@ -13,6 +13,8 @@ from serving import HOST, TOKEN, UPGRADE, Ended, Node, Wrong, at, edit, frame_of
 
 # Statuses that mangled requests may be answered with.
 STATUSES = {100, 101, 200, 204, 400, 401, 403, 404, 405, 409, 411, 413, 414, 417, 426, 431, 501, 505}
+# What mangled requests look at.
+PATHS = ["", "doc", "doc/good/n1", "value/good/n1?x", "here/%C3%A9", "conflicts", "metrics", "status", "ask"]
 # Bytes that mangled requests get somewhere.
 NASTY = [
     *(b"\r\n", b"\n", b"\r", b"\0", b"\xff", b" ", b":", b"\r\n\r\n", b"%", b"%2", b"%00", b"%2F", b"//", b"{"),
@@ -27,8 +29,7 @@ def bases(node):
     """Requests that are mangled. No line of theirs is near to one that edits."""
     question = node.told("ask", "a.rds")
     lines = b'["sot","g//od",{}]\n[]\n["inc"]\n{"a":[1.5e300,"\\ud83d"]}\n'
-    for target in "/", "/doc", "/doc/good/n1", "/value/good/n1?x", "/here/%C3%A9", "/conflicts", "/metrics", "/status":
-        yield node.text("GET", target)
+    yield from (node.text("GET", f"/{path}") for path in PATHS)
     yield node.text("GET", "/live", None, *UPGRADE) + frame_of(b"hello") + frame_of(b"", 9)
     yield node.text("POST", "/edits", lines)
     chunks = b"%x\r\n%s\r\n0\r\n\r\n" % (len(lines), lines)

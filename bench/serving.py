@@ -57,32 +57,43 @@ class Noted:
         want(not self.problems, "\n  ".join(self.problems))
 
 
-def soon(holds, otherwise, seconds=10):
-    """Waits until something holds."""
-    until = time.monotonic() + seconds
+def soon(holds, otherwise, seconds=10, pause=0.05):
+    """Waits until something holds, and gives how many seconds that took."""
+    begun = time.monotonic()
     while not holds():
-        want(time.monotonic() < until, f"{otherwise}, after {seconds} s")
-        time.sleep(0.05)
+        if time.monotonic() - begun > seconds:
+            raise Wrong(f"{otherwise() if callable(otherwise) else otherwise}, after {seconds} s")
+        time.sleep(pause)
+    return time.monotonic() - begun
 
 
 def free_port():
-    with socket.socket() as free:
-        free.bind((HOST, 0))
-        return free.getsockname()[1]
+    """A free port, and none that the system gives to who calls: a node that is killed finds it free again."""
+    while True:
+        with contextlib.suppress(OSError), socket.socket() as free:
+            free.bind((HOST, random.randrange(20_000, 30_000)))
+            return free.getsockname()[1]
 
 
 class Node:
     """A node on a file in a folder, which is started and killed as often as one wants."""
 
-    def __init__(self, program, folder, token=None):
-        self.program, self.folder, self.token = program, pathlib.Path(folder), token
+    def __init__(self, program, folder, token=None, own="a", names="ab"):
+        self.program, self.folder, self.token, self.own = program, pathlib.Path(folder), token, own
         self.folder.mkdir(exist_ok=True)
         self.words = []
         if token:
             (self.folder / "token").write_text(f"{token}\n")
             self.words = ["--token-file", "token"]
-        self.told("init", "a.rds", "g", "a", "a", "b")
+        self.told("init", "a.rds", "g", own, *names)
         self.port, self.child = free_port(), None
+
+    def meets(self, *ports, every=None, host=HOST):
+        """Names its peers, by their ports, and how often it asks them."""
+        for port in ports:
+            self.words += ["--peer", f"{host}:{port}"]
+        if every:
+            self.words += ["--every", f"{every}"]
 
     def told(self, *words, given=b""):
         """What a command answers, which has to end with status 0."""
@@ -132,6 +143,9 @@ class Node:
 
     def document(self):
         return json.loads(self.answer("GET", "/doc").body)
+
+    def status(self):
+        return json.loads(self.answer("GET", "/status").body)
 
     def shown(self):
         return json.loads(self.told("show", "a.rds"))
@@ -255,7 +269,8 @@ def is_served(node):
 def edit(link, node, number, path="k"):
     """One edit, which has to be done."""
     answer = link.answer(node.text("POST", "/edits", b'["set","%s/n%d",%d]' % (path.encode(), number, number)))
-    want(answer.status == 200 and b'"dot":["a",' in answer.body, f"an edit is answered {answer}")
+    is_done = answer.status == 200 and b'"dot":["%s",' % node.own.encode() in answer.body
+    want(is_done, f"an edit is answered {answer}")
 
 
 def at(took, part):
@@ -325,3 +340,16 @@ def listener(node, room=None):
     found = answer.headers.get("sec-websocket-accept")
     want((answer.status, found) == (101, due), f"GET /live is answered {answer}, where {due} is due")
     return link
+
+
+def are_equal(nodes, seconds=10):
+    """Waits until all show one document under one mark: how many seconds that took, and the document."""
+    states = lambda: {(node.answer("GET", "/doc").body, node.status()["mark"]) for node in nodes}
+    found = []
+
+    def holds():
+        found[:] = states()
+        return len(found) == 1
+
+    took = soon(holds, lambda: f"{len(found)} documents and marks of {len(nodes)} nodes differ", seconds)
+    return took, json.loads(found[0][0])

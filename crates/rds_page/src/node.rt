@@ -249,8 +249,12 @@ function tellLink(state, text) {
   at("again").hidden = state !== "lost";
 }
 
+// What the node has counted under a name; 0 where it doesn't tell.
+const countOf = (metrics, name) => Number(metrics.match(new RegExp(`^${name} (\\d+)$`, "m"))?.[1] ?? 0);
+
 async function loadStatus() {
-  const status = JSON.parse(await ask("/status"));
+  const [text, metrics] = await Promise.all([ask("/status"), ask("/metrics")]);
+  const status = JSON.parse(text), peers = countOf(metrics, "rds_peers");
   document.title = `${status.group} – ${status.own}`;
   at("group").textContent = status.group;
   at("own").textContent = `at ${status.own}`;
@@ -259,6 +263,7 @@ async function loadStatus() {
   const facts = [counted(status.live, "entry", "entries")];
   if (status.counters > 0) facts.push(counted(status.counters, "counter", "counters"));
   facts.push(`${status.names.length === 1 ? "replica" : "replicas"} ${names.join(", ")}`);
+  if (peers > 0) facts.push(`${countOf(metrics, "rds_peers_met")} of ${counted(peers, "peer", "peers")} met`);
   at("facts").textContent = facts.join(" · ");
   at("tools").hidden = at("keys").hidden = false;
 }

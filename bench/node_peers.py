@@ -1,0 +1,337 @@
+"""Nodes that meet one another as peers: how soon edits get there, and peers that are shut, wrong, forked or gone."""
+import contextlib
+import itertools
+import json
+import pathlib
+import shutil
+import threading
+import time
+
+from node_fakes import Fake, fakes_of
+from serving import HOST, LIMIT, TOKEN, Node, Noted, are_equal, at, drive, running, soon, want
+
+# An edit that is told at once may take so many seconds, and one for which a peer asks by itself every second.
+AT_ONCE = 1
+EVERY_SECOND = 3
+# A read of a node whose peers are wrong may take so many milliseconds.
+READ = 100
+# A peer that says nothing is given up after so many seconds.
+PATIENCE = 30
+# How many exchanges a second there may be: one 20 ms after each change.
+RATE = 50
+
+
+# ---- What is done and told ----
+
+
+def put(node, number):
+    """Sets a register, which has to be done."""
+    answer = node.answer("POST", "/edits", b'["set","k/n%d",%d]' % (number, number))
+    is_done = answer.status == 200 and b'"dot":["%s",' % node.own.encode() in answer.body
+    want(is_done, f"an edit is answered {answer}")
+
+
+def shows(node, number):
+    return json.loads(node.answer("GET", f"/value/k/n{number}").body)["reg"] == [number]
+
+
+def arrives(node, number, seconds):
+    """Waits until a node shows what was set at another: how many seconds that took."""
+    return soon(lambda: shows(node, number), f"edit {number} isn't seen at {node.own}", seconds, 0.002)
+
+
+def told(node, port):
+    """What a node has said of a peer, each line."""
+    begin = f"peer {HOST}:{port}: "
+    return [line.removeprefix(begin) for line in node.said().splitlines() if line.startswith(begin)]
+
+
+def tells(node, port, words, seconds=10):
+    """Waits until what a node has said of a peer last has these words."""
+    has = lambda: (told(node, port) or [""])[-1]
+    soon(lambda: all(word in has() for word in words), lambda: f"of a peer {words} is due, and told is {has()!r}", seconds)
+
+
+def are_met(node, count, seconds=10):
+    """Waits until so many peers of a node are met."""
+    met = lambda: node.count("rds_peers_met")
+    soon(lambda: met() == count, lambda: f"{node.own} has met {met()} peers, where {count} are due", seconds)
+
+
+@contextlib.contextmanager
+def all_running(*nodes):
+    with contextlib.ExitStack() as stack:
+        for node in nodes:
+            stack.enter_context(running(node))
+        yield
+
+
+def nodes_of(asked, folder, owns, token=None):
+    """Nodes of one group, each in a folder of its own."""
+    folder.mkdir()
+    return [Node(asked.program, folder / own, token, own, "abc") for own in owns]
+
+
+def exchanges(node):
+    return node.count("rds_peer_exchanges_total")
+
+
+# ---- Peers that are as due ----
+
+
+def try_both(asked, folder):
+    """Two nodes that name each other."""
+    a, b = nodes = nodes_of(asked, folder, "ab")
+    a.meets(b.port)
+    b.meets(a.port)
+    with all_running(*nodes):
+        for node, other in (a, b), (b, a):
+            are_met(node, 1)
+            tells(node, other.port, ["met"])
+        took = []
+        for number in range(1, 41):
+            here, there = (a, b) if number % 2 else (b, a)
+            put(here, number)
+            took.append(arrives(there, number, AT_ONCE))
+        are_equal(nodes)
+        rest(nodes)
+        crowd(nodes)
+        for node, other in (a, b), (b, a):
+            lines = told(node, other.port)
+            want(lines[-1:] == ["met"] and len(lines) < 3, f"two nodes that met once say {lines}")
+    return f"an edit gets to a peer in {at(took, 0.5):.0f} ms, the longest {max(took) * 1000:.0f} ms"
+
+
+def rest(nodes):
+    """Nodes that are equal do nothing but ask every ten seconds."""
+    time.sleep(0.5)
+    before = [(exchanges(node), node.worked()) for node in nodes]
+    time.sleep(2)
+    for node, (count, worked) in zip(nodes, before):
+        more, work = exchanges(node) - count, node.worked() - worked
+        want(more <= 1 and work < 0.2, f"{node.own} makes {more} exchanges in 2 s at rest, and works {work:.2f} s")
+
+
+def crowd(nodes):
+    """Edits under load are told together: not an exchange for each."""
+    counts = [exchanges(node) for node in nodes]
+    numbers = iter(range(1_000, 1_000_000))
+    texts = (nodes[0].text("POST", "/edits", b'["set","k/n%d",%d]' % (number, number)) for number in numbers)
+    begun = time.monotonic()
+    done = len(drive(nodes[0].port, 8, ((0, text) for text in texts), lambda number, text: None, 2))
+    are_equal(nodes)
+    most = RATE * (time.monotonic() - begun) + 5
+    for node, count in zip(nodes, counts):
+        more = exchanges(node) - count
+        want(more <= most, f"{node.own} makes {more} exchanges for {done} edits, where {most:.0f} are the most")
+    want(done > 100, f"a node under load answers {done} edits in 2 s")
+
+
+def try_one_way(asked, folder):
+    """One of two nodes names the other."""
+    a, b = nodes = nodes_of(asked, folder, "ab")
+    a.meets(b.port, every=1)
+    with all_running(*nodes):
+        are_met(a, 1)
+        took = {a: [], b: []}
+        for number in range(1, 7):
+            here, there, most = (a, b, AT_ONCE) if number % 2 else (b, a, EVERY_SECOND)
+            put(here, number)
+            took[here].append(arrives(there, number, most))
+        are_equal(nodes)
+        counts = [(node.count("rds_peers"), node.count("rds_peers_met")) for node in nodes]
+        want(counts == [(1, 1), (0, 0)], f"of one peer that is named, and none, {counts} are counted")
+    return f"where one names the other, {max(took[a]) * 1000:.0f} ms there and {max(took[b]):.1f} s back at the most"
+
+
+def try_ring(asked, folder):
+    """Three nodes, each of which names the next, by the name of this machine."""
+    nodes = nodes_of(asked, folder, "abc")
+    for node, following in zip(nodes, nodes[1:] + nodes[:1]):
+        node.meets(following.port, every=1, host="localhost")
+    with all_running(*nodes):
+        for node in nodes:
+            are_met(node, 1)
+        for number in range(1, 301):
+            put(nodes[number % 3], number)
+        took, document = are_equal(nodes)
+        regs = document["maps"]["k"]["regs"]
+        due = {f"n{number}": [number] for number in range(1, 301)}
+        want(regs == due, f"three nodes have {len(regs)} of 300 edits, or others")
+        for node in nodes:
+            answer = node.answer("POST", "/edits", b'["inc","n",1]\n["set","title","%s"]\n' % node.own.encode())
+            want(answer.status == 200, f"edits are answered {answer}")
+        document = are_equal(nodes)[1]
+        want(document["counters"] == {"n": 3}, f"three nodes count {document['counters']}")
+    return f"three in a ring are equal {took:.1f} s after 300 edits"
+
+
+def try_token(asked, folder):
+    """A peer that has another token, and then the right one."""
+    a, b = nodes = nodes_of(asked, folder, "ab", TOKEN)
+    change_token(b, TOKEN[::-1])
+    a.meets(b.port, every=1)
+    with contextlib.ExitStack() as stack:
+        with running(b):
+            stack.enter_context(running(a))
+            tells(a, b.port, ["refused", "401"])
+            put(a, 1)
+            soon(lambda: a.count("rds_peer_refusals_total") > 1, "a peer that refuses isn't asked again")
+            counts = a.count("rds_peers_met"), shows(b, 1), len(told(a, b.port))
+            want(counts == (0, False, 1), f"a peer that refuses is met, has an edit, and is told of {counts} times")
+        change_token(b, TOKEN)
+        with running(b):
+            took = arrives(b, 1, LIMIT)
+            are_equal(nodes)
+            tells(a, b.port, ["met"])
+            are_met(a, 1)
+    return f"another token is refused, and the right one lets in after {took:.1f} s"
+
+
+def change_token(node, token):
+    node.token = token
+    (node.folder / "token").write_text(f"{token}\n")
+
+
+# ---- Peers that are wrong, forked or gone ----
+
+
+def try_wrong(asked, folder):
+    """A node with many peers that are wrong, and one that is as due."""
+    a, b, c = nodes_of(asked, folder, "abc")
+    put_in(c, 0)
+    (c.folder / "q").write_bytes(b.told("ask", "a.rds"))
+    fakes = fakes_of(c.told("ask", "a.rds"), c.told("answer", "a.rds", given=(c.folder / "q").read_bytes()))
+    with contextlib.ExitStack() as stack:
+        fakes = {what: stack.enter_context(Fake(act)) for what, act in fakes.items()}
+        a.meets(*(fake.port for fake in fakes.values()), b.port, every=1)
+        b.meets(a.port)
+        stack.enter_context(all_running(a, b))
+        are_met(a, 1)
+        took, there = serve(a, b, PATIENCE + 6)
+        are_equal([a, b])
+        judge_told(a, fakes)
+        tells(a, b.port, ["met"])
+        counts = a.count("rds_peers"), a.count("rds_peers_met")
+        want(counts == (len(fakes) + 1, 1), f"of {len(fakes) + 1} peers, one of which is as due, {counts} are counted")
+        peak = a.peak()
+    slow, longest = at(took, 0.99), max(took) * 1000
+    want(slow < READ, f"a read beside {len(fakes)} wrong peers takes {slow:.0f} ms (p99), the longest {longest:.0f}")
+    want(peak < 1_000, f"beside wrong peers the node takes {peak:.0f} MB")
+    return (f"beside {len(fakes)} wrong peers {len(took):,} reads (p99 {slow:.1f} ms, longest {longest:.0f} ms), an edit gets "
+            f"to a good one in {at(there, 0.5):.0f} ms, the longest {max(there) * 1000:.0f} ms; {peak:.0f} MB")
+
+
+def serve(a, b, seconds):
+    """Reads at a node for a while, and sees edits come to another, both ways: how long each took."""
+    until, there, problems = time.monotonic() + seconds, [], Noted()
+
+    def follow():
+        number = 0
+        while time.monotonic() < until and not problems.problems:
+            with problems:
+                number += 1
+                here, other = (a, b) if number % 2 else (b, a)
+                put(here, number)
+                there.append(arrives(other, number, 10))
+                time.sleep(0.5)
+
+    following = threading.Thread(target=follow)
+    following.start()
+    took = []
+    with a.link() as link:
+        while time.monotonic() < until:
+            begun = time.perf_counter()
+            answer = link.answer(a.text("GET", "/value/k/n1"))
+            took.append(time.perf_counter() - begun)
+            want(answer.status == 200, f"a read beside wrong peers is answered {answer}")
+            time.sleep(0.005)
+    following.join()
+    problems.end()
+    want(len(there) > 5, f"beside wrong peers {len(there)} edits get to a good one")
+    return took, there
+
+
+def judge_told(a, fakes):
+    """Each wrong peer was called, and told of: no line twice, and none that it is met."""
+    noted = Noted()
+    for what, fake in fakes.items():
+        lines, calls = told(a, fake.port), fake.calls()
+        with noted:
+            want(calls > 1 or what in ("is silent", "drips") and calls, f"a peer that {what} is called {calls} times")
+            want(lines or what == "drips", f"of a peer that {what} nothing is told")
+            want("met" not in lines, f"a peer that {what} is told to be met: {lines}")
+            again = any(line == following for line, following in itertools.pairwise(lines))
+            want(not again and len(lines) < 10, f"of a peer that {what} is told again and again: {lines}")
+    noted.end()
+
+
+def try_fork(asked, folder):
+    """Copies of a file that run as nodes of their own: one that meets the original, and one that meets its peer.
+
+    The first was edited as often as the original, so that both have seen the same dots."""
+    a, b = nodes_of(asked, folder, "ab")
+    copy, older = (Node(asked.program, folder / name, own="a", names="abc") for name in ("copy", "older"))
+    put_in(a, 1)
+    for node in copy, older:
+        shutil.copy(a.folder / "a.rds", node.folder / "a.rds")
+    put_in(a, 2)
+    put_in(copy, 3)
+    put_in(a, 4)
+    put_in(copy, 5)
+    a.meets(b.port)
+    copy.meets(a.port, every=1)
+    older.meets(b.port, every=1)
+    with all_running(a, b, copy, older):
+        arrives(b, 2, 10)
+        tells(copy, a.port, ["21", "SameReplica"])
+        tells(older, b.port, ["10", "OwnAhead"])
+        for node in copy, older:
+            counts = node.count("rds_peer_refusals_total"), node.count("rds_peers_met")
+            want(counts[0] and not counts[1], f"a fork is refused and met {counts} times")
+            put(node, 6)
+            want(node.answer("GET", "/doc").status == 200, "a fork doesn't serve")
+        put(a, 7)
+        arrives(b, 7, AT_ONCE)
+        want(not shows(a, 3) and not shows(b, 6), "an edit of a fork has come to others")
+    return "a fork is told by itself (21) and behind a peer (10), and goes on"
+
+
+def put_in(node, number):
+    """Sets a register in a file that no node has."""
+    node.told("set", "a.rds", f"k/n{number}", f"{number}")
+
+
+def try_gone(asked, folder):
+    """A peer that begins later, and one that is killed and begins again."""
+    a, b = nodes_of(asked, folder, "ab")
+    a.meets(b.port)
+    with running(a):
+        tells(a, b.port, ["lost"])
+        put(a, 1)
+        took = []
+        for number in 1, 3:
+            with running(b):
+                took.append(arrives(b, number, 20))
+                are_met(a, 1)
+                put(a, number + 1)
+                arrives(b, number + 1, AT_ONCE)
+            put(a, number + 2)
+            tells(a, b.port, ["lost"])
+            are_met(a, 0)
+        lines = [line.partition(":")[0] for line in told(a, b.port)]
+        want(lines == ["lost", "met", "lost", "met", "lost"], f"of a peer that comes and goes is told {lines}")
+    return f"a peer that begins is met {took[0]:.1f} s after that, and {took[1]:.1f} s after it was killed"
+
+
+PARTS = [try_both, try_one_way, try_ring, try_token, try_fork, try_gone, try_wrong]
+
+
+def try_peers(asked, folder):
+    """Each part in a folder of its own. What isn't as due in one is noted, and the others are tried."""
+    noted, said = Noted(), []
+    for part in PARTS:
+        with noted:
+            said.append(part(asked, pathlib.Path(folder) / part.__name__))
+    noted.end()
+    return ";\n  ".join(said)
