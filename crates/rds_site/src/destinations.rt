@@ -1,4 +1,8 @@
 //! Where the peers of a site are.
+ghost use Rattle.std.specs.Prelude.{◌≡◌, ◌<◌, ◌++◌, Err, codes, length, option_map, vec_len, IfOk};
+ghost use Rattle.rds_names.specs.declared.fault.Fault.TheVariants.{Usage};
+ghost use Rattle.rds_site.specs.declared.destinations.TheConstants.{MOST_PEERS};
+
 use rds_http::Token;
 use rds_names::Fault;
 use std::alloc::{AllocError, Global};
@@ -59,7 +63,10 @@ pub fn find_peers<'a, H: Net + Eprint + AllocGlobal>(
     names: &[&'a str],
     own: SocketAddr,
     token: Option<&Token>,
-) -> Result<Vec<Destination<'a>>, Fault> {
+) -> Result<Vec<Destination<'a>>, Fault>
+    ensures few { MOST_PEERS < length names.now → result ≡ Err Usage }
+    ensures all { IfOk result (λ found. vec_len found ≡ length names.now) }
+{
     if MOST_PEERS < names.len() {
         let _ = eprintln!(rt; "there are more than {MOST_PEERS} peers");
         return Err(Fault::Usage);
@@ -155,7 +162,11 @@ fn is_same_place(own: SocketAddr, address: SocketAddr) -> bool {
     own.port() == address.port() && (is_any || own.ip() == address.ip())
 }
 
-fn authorization(alloc: Global, token: Option<&Token>) -> Result<Option<Vec<u8>>, AllocError> {
+// What requests show of a token, where there is one.
+fn authorization(alloc: Global, token: Option<&Token>) -> Result<Option<Vec<u8>>, AllocError>
+    ensures shown { IfOk result (λ value. option_map (λ v. v.items) value
+        ≡ option_map (λ token. codes "Bearer " ++ token.now) token.entry) }
+{
     let Some(token) = token else {
         return Ok(None);
     };

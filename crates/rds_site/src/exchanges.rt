@@ -34,9 +34,9 @@ pub enum Progress {
     Brought,
     /// The exchange is done.
     Done,
-    /// The peer had ended the connection before an exchange began over it.
+    /// The peer ended the connection, which had served, while none was under way.
     Closed,
-    /// The peer had ended the connection before it was asked, over one that served before.
+    /// The same, while an exchange began: no request of it was answered.
     InVain,
 }
 
