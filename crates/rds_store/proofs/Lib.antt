@@ -1,3 +1,4 @@
 mod ChangeLemmas
+mod Levels
 mod Naming
 mod Taken
