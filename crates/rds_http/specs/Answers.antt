@@ -48,7 +48,7 @@ abbrev pub DoesPost : Post → List ℕ → SiteValue → Response → SiteValue
 DoesPost Edits body old response new = AnswersEdits body old.document new.document response
 DoesPost Take body old response new = AnswersTake body old.document new.document response
 DoesPost Answer body old response new = AnswersQuestion body old.document response
-DoesPost Login body old response new = AnswersLogin old.access.token body response
+DoesPost Login body old response new = AnswersLogin old.access.port old.access.token body response
 
 -- what a request that is let in is answered, by what it asks for and the place that it names
 abbrev pub Does : Asked → List ℕ → SiteValue → Request (List ℕ) → Response → SiteValue → Type 0

@@ -1,5 +1,5 @@
 -- Tokens, and what header fields show them.
-use Rattle.std.specs.Prelude.{ℕ, ◌-◌, Bool, false, ◌&&◌, ◌||◌, ◌==◌, nat_le, bytes_eq, codes, List, [], ◌∷◌, ◌++◌}
+use Rattle.std.specs.Prelude.{ℕ, ◌-◌, Bool, false, ◌&&◌, ◌||◌, ◌==◌, nat_le, bytes_eq, codes, decimal, List, [], ◌∷◌, ◌++◌}
 use Rattle.std.specs.Prelude.{length, map, take, slice_get, Option, None, Some, Result, Ok, Err, if◌then◌else◌}
 use Rattle.std.specs.Char.{is_ascii_alphanumeric}
 use Rattle.std.specs.List.{list_all, list_any, slice_split}
@@ -37,13 +37,17 @@ abbrev pub without_space : List ℕ → List ℕ
 without_space [] = []
 without_space (b ∷ cookie) = if b == 32 then cookie else b ∷ cookie
 
--- one of the cookies of a field, between semicolons, is the token
-abbrev pub has_cookie : List ℕ → List ℕ → Bool
-has_cookie token value =
-    list_any (λ cookie. bytes_eq (without_space cookie) (codes "rds=" ++ token)) (slice_split (λ b. b == 59) value)
+-- the name of the cookie of a site at a port, and the sign behind it. Sites of one host get each other's cookies.
+abbrev pub cookie_start : ℕ → List ℕ
+cookie_start port = codes "rds_" ++ (decimal port ++ codes "=")
 
--- header fields show the token
-abbrev pub is_shown : List ℕ → Entries FieldValue → Bool
-is_shown token headers =
+-- one of the cookies of a field, between semicolons, is the token behind such a start
+abbrev pub has_cookie : List ℕ → List ℕ → List ℕ → Bool
+has_cookie start token value =
+    list_any (λ cookie. bytes_eq (without_space cookie) (start ++ token)) (slice_split (λ b. b == 59) value)
+
+-- header fields show the token, by a cookie that begins so or without one
+abbrev pub is_shown : List ℕ → List ℕ → Entries FieldValue → Bool
+is_shown start token headers =
     list_any (λ value. bytes_eq value (codes "Bearer " ++ token)) (values_in headers (codes "authorization"))
-    || list_any (has_cookie token) (values_in headers (codes "cookie"))
+    || list_any (has_cookie start token) (values_in headers (codes "cookie"))

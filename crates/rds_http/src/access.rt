@@ -1,6 +1,8 @@
 //! Who may come.
 ghost use Rattle.std.specs.Prelude.{◌≡◌, ◌++◌, bytes_eq, codes, option_map, IfOk};
 ghost use Rattle.std.specs.List.{list_any};
+ghost use Rattle.std.specs.Net.Socket.{socket_port};
+ghost use Rattle.std.specs.Str.{str_eq_ignore_ascii_case};
 ghost use Rattle.rds_http.specs.Access.{
   allowed_hosts,
   are_own_origins,
@@ -15,7 +17,7 @@ ghost use Rattle.rds_http.specs.Access.{
 };
 
 use crate::routes::{Asked, Look, Post};
-use crate::token::Token;
+use crate::token::{Token, cookie_start};
 use http::HeaderMap;
 use http::header::{HOST, HeaderValue, ORIGIN};
 use std::alloc::{AllocError, Global};
@@ -43,25 +45,41 @@ pub struct Access {
 }
 
 impl Model for Access {
+    ghost use Rattle.std.specs.Net.Socket.{socket_port};
     ghost use Rattle.rds_http.specs.Access.{AccessValue, allowed_hosts, coded_access};
 
     ghost Value = { AccessValue };
 
     ghost coded = { coded_access };
 
-    ghost view = { λ a. record { hosts = allowed_hosts a.address a.token a.is_open; token = a.token } };
+    ghost view = { λ a. record {
+      hosts = allowed_hosts a.address a.token a.is_open;
+      port = socket_port a.address;
+      token = a.token;
+    } };
 }
 
 impl Access {
     /// Who may come to a site at this address.
     pub fn new(address: SocketAddr, token: Option<Token>, is_open: bool) -> Access
-        ensures { result ≡ record { hosts = allowed_hosts address token is_open; token = token } }
+        ensures { result ≡ record {
+          hosts = allowed_hosts address token is_open;
+          port = socket_port address;
+          token = token;
+        } }
     {
         Access {
             address,
             token,
             is_open,
         }
+    }
+
+    /// The port of the address.
+    pub fn port(&self) -> u16
+        ensures { result ≡ self.now.port }
+    {
+        self.address.port()
     }
 
     /// The token that is due, if one is.
@@ -86,7 +104,7 @@ impl Access {
         if is_watched(asked) && !are_own_origins(headers) {
             return Ok(Some(Denied::Origin));
         }
-        if needs_token(asked) && !self.is_shown_token(headers) {
+        if needs_token(asked) && !self.is_shown_token(alloc, headers)? {
             return Ok(Some(Denied::Token));
         }
         Ok(None)
@@ -106,19 +124,26 @@ impl Access {
     }
 
     /// Whether the token is shown, where one is due.
-    fn is_shown_token(&self, headers: &HeaderMap<HeaderValue>) -> bool
-        ensures { result ≡ shows_token self.now.token headers.now }
+    fn is_shown_token(
+        &self,
+        alloc: Global,
+        headers: &HeaderMap<HeaderValue>,
+    ) -> Result<bool, AllocError>
+        ensures { IfOk result (λ shown. shown ≡ shows_token self.now.port self.now.token headers.now) }
     {
         match &self.token {
-            Some(token) => token.is_shown(headers),
-            None => true,
+            Some(token) => {
+                let start = cookie_start(alloc, self.port())?;
+                Ok(token.is_shown(start.as_bytes(), headers))
+            }
+            None => Ok(true),
         }
     }
 }
 
-/// Whether a host names this machine, with the port of its address.
+/// Whether a host names this machine, in whatever case, with the port of its address.
 fn is_host_at(alloc: Global, address: SocketAddr, host: &[u8]) -> Result<bool, AllocError>
-    ensures { IfOk result (λ own. own ≡ list_any (bytes_eq host.now) (hosts_at address)) }
+    ensures { IfOk result (λ own. own ≡ list_any (str_eq_ignore_ascii_case host.now) (hosts_at address)) }
 {
     let port = address.port();
     let given = format!(in alloc; "{address}")?;
@@ -126,11 +151,18 @@ fn is_host_at(alloc: Global, address: SocketAddr, host: &[u8]) -> Result<bool, A
     let four = format!(in alloc; "127.0.0.1:{port}")?;
     let six = format!(in alloc; "[::1]:{port}")?;
     Ok(
-        host == given.as_bytes()
-            || host == name.as_bytes()
-            || host == four.as_bytes()
-            || host == six.as_bytes(),
+        are_same_names(host, given.as_bytes())
+            || are_same_names(host, name.as_bytes())
+            || are_same_names(host, four.as_bytes())
+            || are_same_names(host, six.as_bytes()),
     )
+}
+
+/// Whether two hosts are the same, whatever their case (RFC 9110, 2022).
+fn are_same_names(host: &[u8], other: &[u8]) -> bool
+    ensures { result ≡ str_eq_ignore_ascii_case host.now other.now }
+{
+    host.eq_ignore_ascii_case(other)
 }
 
 /// Whether it is asked for something that pages of other sites may not ask for.

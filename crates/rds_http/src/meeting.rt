@@ -1,7 +1,7 @@
 //! What a site asks of other replicas, answers them and takes from them, where no request of theirs leads to it.
 ghost use Rattle.std.specs.Prelude.{◌≡◌, IfErr, IfOk, OnErr};
 ghost use Rattle.rds_offline.specs.Letters.{TakesResponse};
-ghost use Rattle.rds_store.specs.Meetings.{IsNoQuestion, MayAnswer, MayAsk, RefusesTaking, TellsLevel};
+ghost use Rattle.rds_store.specs.Meetings.{MayAnswer, MayAsk, RefusesLevel, RefusesTaking, TellsLevel};
 ghost use Rattle.rds_http.specs.Answers.{KeepsRest};
 
 use crate::changing::take_answer;
@@ -38,10 +38,10 @@ impl<H: Disk> Site<'_, H> {
     }
 
     /// Whether the replica that asked has the document's roster and digest, as
-    /// [`Document::is_level_with`](rds_store::Document::is_level_with) tells: then neither lacks anything.
+    /// [`Document::is_level_with`](rds_store::Document::is_level_with) tells, and refuses: then neither lacks anything.
     pub fn is_level_with(&self, question: &[u8]) -> Result<bool, Fault>
         ensures level { IfOk result (TellsLevel question.now self.now.document) }
-        ensures fault { IfErr result (IsNoQuestion question.now) }
+        ensures fault { IfErr result (RefusesLevel question.now self.now.document) }
     {
         self.held.file.document().is_level_with(question)
     }

@@ -1,8 +1,9 @@
 //! The secret that requests show.
-ghost use Rattle.std.specs.Prelude.{◌≡◌, ◌⊎◌, ◌++◌, Ok, Err, bytes_eq, codes, MatchResult};
+ghost use Rattle.std.specs.Prelude.{◌≡◌, ◌⊎◌, ◌++◌, Ok, Err, bytes_eq, codes, string_bytes, IfOk, MatchResult};
 ghost use Rattle.std.specs.List.{list_all, list_any};
 ghost use Rattle.rds_names.specs.declared.fault.Fault.TheVariants.{Memory};
 ghost use Rattle.rds_http.specs.Tokens.{
+  cookie_start,
   has_cookie,
   is_shown,
   is_token,
@@ -16,7 +17,7 @@ ghost use Rattle.rds_http.specs.Tokens.{
 use http::HeaderMap;
 use http::header::{AUTHORIZATION, COOKIE, HeaderValue};
 use rds_names::Fault;
-use std::alloc::Global;
+use std::alloc::{AllocError, Global};
 use std::marker::Model;
 
 /// The least and the most bytes of a token.
@@ -66,12 +67,12 @@ impl Token {
         are_same(shown, &self.bytes)
     }
 
-    /// Whether header fields show it: `Authorization: Bearer TOKEN` (RFC 6750, 2012), or the cookie `rds=TOKEN`
-    /// (RFC 6265, 2011).
-    pub fn is_shown(&self, headers: &HeaderMap<HeaderValue>) -> bool
-        ensures { result ≡ is_shown self.now headers.now }
+    /// Whether header fields show it: `Authorization: Bearer TOKEN` (RFC 6750, 2012), or a cookie (RFC 6265, 2011) that
+    /// begins so and goes on with the token.
+    pub fn is_shown(&self, start: &[u8], headers: &HeaderMap<HeaderValue>) -> bool
+        ensures { result ≡ is_shown start.now self.now headers.now }
     {
-        self.is_borne(headers) || self.is_kept(headers)
+        self.is_borne(headers) || self.is_kept(start, headers)
     }
 
     /// Whether an `Authorization` field shows it.
@@ -88,11 +89,11 @@ impl Token {
     }
 
     /// Whether a `Cookie` field shows it.
-    fn is_kept(&self, headers: &HeaderMap<HeaderValue>) -> bool
-        ensures { result ≡ list_any (has_cookie self.now) (values_in headers.now (codes "cookie")) }
+    fn is_kept(&self, start: &[u8], headers: &HeaderMap<HeaderValue>) -> bool
+        ensures { result ≡ list_any (has_cookie start.now self.now) (values_in headers.now (codes "cookie")) }
     {
         for value in headers.get_all(COOKIE) {
-            if self.is_among(value.as_bytes()) {
+            if self.is_among(start, value.as_bytes()) {
                 return true;
             }
         }
@@ -100,12 +101,12 @@ impl Token {
     }
 
     /// Whether one of the cookies of a field shows it.
-    fn is_among(&self, cookies: &[u8]) -> bool
-        ensures { result ≡ has_cookie self.now cookies.now }
+    fn is_among(&self, start: &[u8], cookies: &[u8]) -> bool
+        ensures { result ≡ has_cookie start.now self.now cookies.now }
     {
         cookies
             .split(|b| *b == b';')
-            .any(|cookie| self.is_behind(b"rds=", without_space(cookie)))
+            .any(|cookie| self.is_behind(start, without_space(cookie)))
     }
 
     /// Whether bytes are these and then the token.
@@ -117,6 +118,14 @@ impl Token {
             None => false,
         }
     }
+}
+
+/// The name of the cookie that shows the token to a site at this port, and the sign behind it. A browser sends the
+/// cookies of a host to each of its ports, so that nodes on one machine need names of their own.
+pub fn cookie_start(alloc: Global, port: u16) -> Result<String, AllocError>
+    ensures { IfOk result (λ start. string_bytes start ≡ cookie_start port) }
+{
+    format!(in alloc; "rds_{port}=")
 }
 
 /// Whether bytes are the same, with all of them compared.

@@ -1,4 +1,5 @@
 mod ChangeLemmas
 mod Events
+mod Levels
 mod Naming
 mod Taken

@@ -1,6 +1,7 @@
 //! What documents ask of one another, answer and take.
-ghost use Rattle.std.specs.Prelude.{◌≡◌, ◌↔◌, length, Err, IfOk, IfErr, IsTrue, OnErr, OnOk};
+ghost use Rattle.std.specs.Prelude.{◌≡◌, ◌⊎◌, ◌↔◌, length, Err, Ok, IfOk, IfErr, IsTrue, OnErr, OnOk};
 ghost use Rattle.rds_codec.specs.FormatWriting.{EncodesTabled};
+ghost use Rattle.rds_delta.specs.Digested.{digest_of};
 ghost use Rattle.rds_delta.specs.Least.{least};
 ghost use Rattle.rds_delta.specs.Ranks.{ranks};
 ghost use Rattle.rds_names.specs.declared.fault.Fault.TheVariants.{Memory};
@@ -10,7 +11,7 @@ ghost use Rattle.rds_questions.specs.Questions.{question_of, question_text};
 ghost use Rattle.rds_questions.specs.Taking.{HasAllOf, IsAsker, TakesReceived};
 ghost use Rattle.rds_state.specs.Fits.{Fits};
 ghost use Rattle.rds_state.specs.Value.{coordinates, size};
-ghost use Rattle.rds_store.specs.Meetings.{IsLevel, IsNoQuestion, MayAnswer, MergesSnapshot, RefusesSnapshot, RefusesTaking, TellsLevel};
+ghost use Rattle.rds_store.specs.Meetings.{Greets, IsLevel, MayAnswer, MergesSnapshot, RefusesLevel, RefusesSnapshot, RefusesTaking, TellsLevel};
 ghost use Rattle.rds_store.specs.Noting.{AreSince};
 
 use crate::changes::Changes;
@@ -45,11 +46,11 @@ impl Document {
     }
 
     /// Whether the replica that asked has the roster and the digest of this one: then neither lacks anything of the
-    /// other's. Bytes that are no question are refused as [`answer`](Document::answer) refuses them. Who asks isn't
-    /// judged: of a replica of another group this is false.
+    /// other's. Bytes that are no question are refused, and then who asks, as [`answer`](Document::answer) refuses them:
+    /// so a copy of this very replica is refused (`SameReplica`), also where both have done as much since.
     pub fn is_level_with(&self, question: &[u8]) -> Result<bool, Fault>
         ensures level { IfOk result (TellsLevel question.now self.now) }
-        ensures fault { IfErr result (IsNoQuestion question.now) }
+        ensures fault { IfErr result (RefusesLevel question.now self.now) }
     {
         let asked = decode_question(self.alloc, question)?;
         is_level(self.alloc, &asked, self.index.replica())
@@ -88,18 +89,41 @@ fn respond_to(alloc: Global, held: &Replica<GapSet>, question: &[u8]) -> Result<
     respond(alloc, held, &asked)
 }
 
-/// Whether the replica that asked has the roster and the digest of this one. Its live dots are gathered only where all
-/// else is the same.
+/// Whether the replica that asked has the roster and the digest of this one, where they may talk.
 fn is_level(alloc: Global, asked: &Question<GapSet>, held: &Replica<GapSet>) -> Result<bool, Fault>
+    ensures greets { OnOk result (Greets asked.now held.now (Ok tt)) }
     ensures level { IfOk result (λ level. IsTrue level ↔ IsLevel asked.now held.now) }
+    ensures fault { IfErr result (λ fault. (fault ≡ Memory) ⊎ Greets asked.now held.now (Err fault)) }
+{
+    greet(held, asked)?;
+    if !asked.hello.roster.same(held.roster()) {
+        return Ok(false);
+    }
+    is_digest_of(alloc, &asked.digest, held.state())
+}
+
+/// Whether a replica may talk to the one that asked; else why not.
+fn greet(held: &Replica<GapSet>, asked: &Question<GapSet>) -> Result<(), Fault>
+    ensures { Greets asked.now held.now result }
+{
+    held.roster().may_meet(&asked.hello.roster)?;
+    if held.own() == asked.hello.own {
+        return Err(Fault::SameReplica);
+    }
+    Ok(())
+}
+
+/// Whether a digest is that of a state. The live dots are gathered only where all else is the same.
+fn is_digest_of(
+    alloc: Global,
+    digest: &Digest<GapSet>,
+    state: &State<GapSet>,
+) -> Result<bool, Fault>
+    ensures same { IfOk result (λ same. IsTrue same ↔ (digest.now ≡ digest_of state.now)) }
     ensures memory { IfErr result (λ fault. fault ≡ Memory) }
 {
-    let lives = held.state().lives();
-    let digest = &asked.digest;
-    if !asked.hello.roster.same(held.roster())
-        || !same(digest.seen(), lives.seen())
-        || !digest.counts().same(held.state().counts())
-    {
+    let lives = state.lives();
+    if !same(digest.seen(), lives.seen()) || !digest.counts().same(state.counts()) {
         return Ok(false);
     }
     let live = lives.live_dots(alloc)?;

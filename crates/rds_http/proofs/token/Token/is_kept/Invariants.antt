@@ -6,5 +6,5 @@ use Rattle.rds_http.proofs.token.Token.is_kept.Given as goal
 -- none of the values so far shows the token
 abbrev pub invariant-loop-value : goal.invariant-loop-value
 invariant-loop-value l =
-    list_any (has_cookie l.self) (map (λ v. v.bytes) l.value-iterator)
-    ≡ list_any (has_cookie l.self) (values_in l.headers (codes "cookie"))
+    list_any (has_cookie l.start l.self) (map (λ v. v.bytes) l.value-iterator)
+    ≡ list_any (has_cookie l.start l.self) (values_in l.headers (codes "cookie"))
