@@ -50,7 +50,7 @@ fn is_below_zero(word: &str) -> bool {
 
 // Whether all numbers of the command are 0 or more.
 fn has_amounts(command: &str) -> bool {
-    matches!(command, "inc" | "dec" | "serve" | "sync")
+    matches!(command, "inc" | "dec" | "serve" | "sync" | "run")
 }
 
 /// Tells what a number of the command is, where one below 0 was given.
@@ -72,6 +72,9 @@ fn note_amount<H: Eprint>(rt: &H, command: &str, word: &str) {
         ),
         "serve" | "sync" => eprintln!(rt;
             "'{word}' is below 0: --sessions and --timeout are whole numbers, 0 or more"
+        ),
+        "run" => eprintln!(rt;
+            "'{word}' is below 0: --every is a whole number of seconds from 1 to 86400"
         ),
         _ => Ok(()),
     };

@@ -3,7 +3,7 @@ use rds_commands::RunSite;
 use rds_files::{Disk, LockFile};
 use rds_names::Fault;
 use rds_site::{SiteWords, run_site};
-use rds_words::RunWords;
+use rds_words::{RunWords, interval_of};
 use std::net::Net;
 use std::random::RandomSource;
 
@@ -15,12 +15,23 @@ where
     H::File: LockFile,
 {
     fn run_site(&self, rt: &H, words: RunWords<'_>) -> Fault {
-        let words = SiteWords {
+        let Ok(every) = interval_of(words.every) else {
+            note_every(rt, words.every);
+            return Fault::Usage;
+        };
+        let site = SiteWords {
             file: words.file,
             http: words.http,
+            peers: &words.peers,
+            every,
             token_file: words.token_file,
             is_open: words.is_open,
         };
-        run_site(rt, &words)
+        run_site(rt, &site)
     }
+}
+
+// Tells that no site meets its peers so often.
+fn note_every<H: Eprint>(rt: &H, every: &str) {
+    let _ = eprintln!(rt; "--every '{every}' is no whole number of seconds from 1 to 86400");
 }

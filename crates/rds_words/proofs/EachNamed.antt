@@ -9,14 +9,13 @@ use Rattle.rds_words.specs.declared.tasks.EditWords.TheVariants.{Set, Add, Del, 
 use Rattle.rds_words.specs.declared.tasks.ValueWord.TheVariants as word
 use Rattle.rds_words.specs.Commands.{node_app}
 use Rattle.rds_words.specs.Entered.{Names}
-use Rattle.rds_words.specs.Raw.{access_words}
 use Rattle.rds_words.specs.Task.{words_in, words_of}
 use Rattle.rds_words.specs.Written.{AreData, HasNames, IsWritable, words_dashed, words_written}
 use Rattle.rds_words.proofs.CommandWords.{node_on_words}
 use Rattle.rds_words.proofs.Dashed.{Meets, undashed_fault, undashed_rows}
 use Rattle.rds_words.proofs.GrowNamed.{grow_dashed, grow_met}
 use Rattle.rds_words.proofs.OptionPlans.{add_takes, set_takes}
-use Rattle.rds_words.proofs.OptionsNamed.{changed_named, del_text_named, get_counter_named, get_raw_named, get_reg_named, get_set_named, init_dashed, init_from_named, pretty_named, run_named, serve_named, sync_named, text_changed_named, text_named}
+use Rattle.rds_words.proofs.OptionsNamed.{changed_named, del_text_named, get_counter_named, get_raw_named, get_reg_named, get_set_named, init_dashed, init_from_named, pretty_named, run_dashed, run_named, serve_named, sync_named, text_changed_named, text_named}
 use Rattle.rds_words.specs.declared.tasks.RawKind.TheVariants as kind
 
 -- words that are data need no dashes
@@ -115,15 +114,7 @@ pub once_dashed : (name file addr : Text) → Names (name ∷ codes "serve" ∷ 
 unfolding node_on_words
 once_dashed name file addr = (refl, refl)
 
-run_dashed : (name file http : Text) (token : Option Text) (open_to_all : Bool) → Names (name ∷ codes "run" ∷ (codes "--http=" ++ http) ∷ (access_words token open_to_all ++ codes "--" ∷ file ∷ []))
-    (codes "run" ∷ file ∷ http ∷ access_words token open_to_all)
-unfolding node_on_words
-run_dashed name file http None false = (refl, refl)
-run_dashed name file http None true = (refl, refl)
-run_dashed name file http (Some token) false = (refl, refl)
-run_dashed name file http (Some token) true = (refl, refl)
-
-pub run_alone_dashed : (name file : Text) → Names (name ∷ codes "run" ∷ codes "--" ∷ file ∷ []) (codes "run" ∷ file ∷ codes "127.0.0.1:7780" ∷ [])
+pub run_alone_dashed : (name file : Text) → Names (name ∷ codes "run" ∷ codes "--" ∷ file ∷ []) (codes "run" ∷ file ∷ codes "127.0.0.1:7780" ∷ codes "10" ∷ [])
 unfolding node_on_words
 run_alone_dashed name file = (refl, refl)
 
@@ -395,7 +386,7 @@ task_dashed name (Status file) has = status_dashed name file.now
 task_dashed name (Sync words) has = sync_dashed name words.file.now words.addr.now words.timeout.now
 task_dashed name (Pair first second) has = pair_dashed name first.now second.now
 task_dashed name (Serve words) has = serve_dashed name words.file.now words.addr.now words.sessions.now words.timeout.now
-task_dashed name (Run words) has = run_dashed name words.file.now words.http.now (option_map (λ t. t.now) words.token_file) words.is_open
+task_dashed name (Run words) has = run_dashed words.http.now words.every.now (map (λ p. p.now) words.peers.items) (option_map (λ t. t.now) words.token_file) words.is_open name words.file.now
 task_dashed name (Dump file path) has = dump_dashed name file.now path.now
 task_dashed name (Ask file) has = ask_dashed name file.now
 task_dashed name (Answer file) has = answer_dashed name file.now
@@ -445,7 +436,7 @@ task_written name (Show file path) is = undashed name (codes "show") (file.now �
 task_written name (Sync words) is = sync_named name words.file.now words.addr.now words.timeout.now is.1
 task_written name (Pair first second) is = undashed name (codes "pair") (first.now ∷ second.now ∷ []) _ pair_met is.1 (pair_dashed name first.now second.now)
 task_written name (Serve words) is = serve_named name words.file.now words.addr.now words.sessions.now words.timeout.now is.1
-task_written name (Run words) is = run_named name words.file.now words.http.now (option_map (λ t. t.now) words.token_file) words.is_open is.1
+task_written name (Run words) is = run_named words.http.now words.every.now (map (λ p. p.now) words.peers.items) (option_map (λ t. t.now) words.token_file) words.is_open name words.file.now is.1
 task_written name (Dump file path) is = undashed name (codes "dump") (file.now ∷ path.now ∷ []) _ dump_met is.1 (dump_dashed name file.now path.now)
 task_written name (Ask file) is = undashed name (codes "ask") (file.now ∷ []) _ ask_met is.1 (ask_dashed name file.now)
 task_written name (Answer file) is = undashed name (codes "answer") (file.now ∷ []) _ answer_met is.1 (answer_dashed name file.now)
@@ -469,5 +460,5 @@ once_served name file addr are = undashed name (codes "serve") (file ∷ addr �
 pub sync_alone : (name file addr : Text) → AreData (file ∷ addr ∷ []) → Names (name ∷ codes "sync" ∷ file ∷ addr ∷ []) (codes "sync" ∷ file ∷ addr ∷ codes "60" ∷ [])
 sync_alone name file addr are = undashed name (codes "sync") (file ∷ addr ∷ []) _ sync_met are (sync_alone_dashed name file addr)
 
-pub run_alone : (name file : Text) → AreData (file ∷ []) → Names (name ∷ codes "run" ∷ file ∷ []) (codes "run" ∷ file ∷ codes "127.0.0.1:7780" ∷ [])
+pub run_alone : (name file : Text) → AreData (file ∷ []) → Names (name ∷ codes "run" ∷ file ∷ []) (codes "run" ∷ file ∷ codes "127.0.0.1:7780" ∷ codes "10" ∷ [])
 run_alone name file are = undashed name (codes "run") (file ∷ []) _ run_met are (run_alone_dashed name file)

@@ -49,8 +49,8 @@ sync_counted =
     takes_two_before (codes "sync") (codes "60" ∷ []) (λ a b called. sync_alone_dashed called a b) (λ called. tt) (λ a called. tt)
     (λ a b c more called. refused_below called _ _ (codes "--" ∷ a ∷ b ∷ c ∷ more) sync_is tt)
 
-pub run_counted : IsCountedCommand (codes "run") (before 1 (codes "127.0.0.1:7780" ∷ []))
+pub run_counted : IsCountedCommand (codes "run") (before 1 (codes "127.0.0.1:7780" ∷ codes "10" ∷ []))
 unfolding IsRefused node_on_words
 run_counted =
-    takes_one_before (codes "run") (codes "127.0.0.1:7780" ∷ []) (λ a called. run_alone_dashed called a) (λ called. tt)
+    takes_one_before (codes "run") (codes "127.0.0.1:7780" ∷ codes "10" ∷ []) (λ a called. run_alone_dashed called a) (λ called. tt)
     (λ a b more called. refused_below called _ _ (codes "--" ∷ a ∷ b ∷ more) run_is tt)

@@ -4,13 +4,14 @@ use Rattle.std.specs.Prelude.{fold, if◌then◌else◌, option_and_then, option
 use Rattle.clap.specs.Words.{Row, Shape, Text}
 use Rattle.clap.specs.Walk.{Waiting, arg_by_index, arg_by_long, has_long, has_short, idle, option, positional, with_default}
 use Rattle.rds_words.specs.Commands.{file_rule}
-use Rattle.rds_words.specs.Raw.{access_words, changed_words, init_words, raw_words}
+use Rattle.rds_words.specs.Raw.{access_words, changed_words, init_words, peer_words, raw_words}
 use Rattle.rds_words.specs.Task.{changed_words_in, init_words_by, named_words, words_in}
+use Rattle.rds_words.specs.Typed.{many_values, no_value, one_value}
 use Rattle.rds_words.specs.WithOptions.{del_with, entry_with, get_with, init_with, run_with, serve_with, show_with, sync_with}
 use Rattle.rds_words.proofs.CommandWords.{node_on_words, shape_behind}
 use Rattle.rds_words.proofs.Dashed.{data_next, data_turn}
 use Rattle.rds_words.proofs.OptionNames.{is_name, is_none, told}
-use Rattle.rds_words.proofs.PlanRows.{all_missing, all_there, first_missing, first_there, fits_more, fits_one, fits_part, fits_three, fits_two, flag_given, flag_reading, taken_more, taken_one, taken_part, taken_three, taken_two, value_given, value_there}
+use Rattle.rds_words.proofs.PlanRows.{all_missing, all_there, first_missing, first_there, fits_more, fits_one, fits_part, fits_three, fits_two, flag_given, flag_reading, taken_more, taken_one, taken_part, taken_three, taken_two, value_given, value_there, values_there}
 use Rattle.rds_words.proofs.PlanWalk.{AreChosen, AreTrue, Fits, IsFlag, IsFlagAt, IsThis, IsValued, IsValuedAt, Plan, Takes, free, held, ids_of, once_by, settles}
 use Rattle.rds_words.proofs.Plans.{AreAt, IsIn, Known, name_of, text_reading}
 use Rattle.rds_words.proofs.Refusing.{HasShortRequests, IsAlwaysRefused, IsOption, IsRefused, IsRequest, refused_first}
@@ -20,43 +21,49 @@ use Rattle.rds_words.proofs.Splitting.{IsCommand}
 -- ---- the options
 
 abbrev pub from_option : Known
-from_option = record { bare = codes "from"; id = codes "FROM"; is_flag = false; reading = text_reading }
+from_option = record { bare = codes "from"; id = codes "FROM"; form = one_value; reading = text_reading }
 
 abbrev pub text_option : Known
-text_option = record { bare = codes "text"; id = codes "TEXT"; is_flag = true; reading = flag_reading }
+text_option = record { bare = codes "text"; id = codes "TEXT"; form = no_value; reading = flag_reading }
 
 abbrev pub changed_option : Known
-changed_option = record { bare = codes "if-changed"; id = codes "IF_CHANGED"; is_flag = true; reading = flag_reading }
+changed_option = record { bare = codes "if-changed"; id = codes "IF_CHANGED"; form = no_value; reading = flag_reading }
 
 abbrev pub raw_option : Known
-raw_option = record { bare = codes "raw"; id = codes "RAW"; is_flag = true; reading = flag_reading }
+raw_option = record { bare = codes "raw"; id = codes "RAW"; form = no_value; reading = flag_reading }
 
 abbrev pub register_option : Known
-register_option = record { bare = codes "reg"; id = codes "REG"; is_flag = true; reading = flag_reading }
+register_option = record { bare = codes "reg"; id = codes "REG"; form = no_value; reading = flag_reading }
 
 abbrev pub set_option : Known
-set_option = record { bare = codes "set"; id = codes "SET"; is_flag = true; reading = flag_reading }
+set_option = record { bare = codes "set"; id = codes "SET"; form = no_value; reading = flag_reading }
 
 abbrev pub counter_option : Known
-counter_option = record { bare = codes "counter"; id = codes "COUNTER"; is_flag = true; reading = flag_reading }
+counter_option = record { bare = codes "counter"; id = codes "COUNTER"; form = no_value; reading = flag_reading }
 
 abbrev pub pretty_option : Known
-pretty_option = record { bare = codes "pretty"; id = codes "PRETTY"; is_flag = true; reading = flag_reading }
+pretty_option = record { bare = codes "pretty"; id = codes "PRETTY"; form = no_value; reading = flag_reading }
 
 abbrev pub sessions_option : Known
-sessions_option = record { bare = codes "sessions"; id = codes "SESSIONS"; is_flag = false; reading = text_reading }
+sessions_option = record { bare = codes "sessions"; id = codes "SESSIONS"; form = one_value; reading = text_reading }
 
 abbrev pub timeout_option : Known
-timeout_option = record { bare = codes "timeout"; id = codes "TIMEOUT"; is_flag = false; reading = text_reading }
+timeout_option = record { bare = codes "timeout"; id = codes "TIMEOUT"; form = one_value; reading = text_reading }
 
 abbrev pub http_option : Known
-http_option = record { bare = codes "http"; id = codes "HTTP"; is_flag = false; reading = text_reading }
+http_option = record { bare = codes "http"; id = codes "HTTP"; form = one_value; reading = text_reading }
+
+abbrev pub peers_option : Known
+peers_option = record { bare = codes "peer"; id = codes "PEERS"; form = many_values; reading = text_reading }
+
+abbrev pub every_option : Known
+every_option = record { bare = codes "every"; id = codes "EVERY"; form = one_value; reading = text_reading }
 
 abbrev pub token_option : Known
-token_option = record { bare = codes "token-file"; id = codes "TOKEN_FILE"; is_flag = false; reading = text_reading }
+token_option = record { bare = codes "token-file"; id = codes "TOKEN_FILE"; form = one_value; reading = text_reading }
 
 abbrev pub open_option : Known
-open_option = record { bare = codes "open"; id = codes "OPEN"; is_flag = true; reading = flag_reading }
+open_option = record { bare = codes "open"; id = codes "OPEN"; form = no_value; reading = flag_reading }
 
 -- texts, where each is there
 abbrev joined : List (Option Text) → Option (List Text)
@@ -105,10 +112,10 @@ pub init_is : IsCommand (codes "init") init_shape
 unfolding node_on_words
 init_is = record { met = (refl, refl); found = refl; short = all_short init_shape.rules refl }
 
-init_from : IsValued init_shape (codes "--from") (codes "FROM")
+init_from : IsValued init_shape one_value (codes "--from") (codes "FROM")
 unfolding IsRefused held node_on_words
 init_from = record {
-  once = once_by init_shape text_reading (codes "FROM") (λ rows v. refl) (λ rows v. refl);
+  usage = once_by init_shape text_reading (codes "FROM") (λ rows v. refl) (λ rows v. refl);
   bare = λ rows. tt;
   at_free = at_both (IsValuedAt init_shape (codes "--from") (codes "FROM")) (record { waits = λ h position. refl; turn = λ h position. refl; valued = λ h position v. refl; valued_turn = λ h position v. refl }) (record { waits = λ h position. refl; turn = λ h position. refl; valued = λ h position v. refl; valued_turn = λ h position v. refl });
   other = λ h is. is;
@@ -480,10 +487,10 @@ pub sync_is : IsCommand (codes "sync") sync_shape
 unfolding node_on_words
 sync_is = record { met = (refl, refl); found = refl; short = all_short sync_shape.rules refl }
 
-sync_timeout : IsValued sync_shape (codes "--timeout") (codes "TIMEOUT")
+sync_timeout : IsValued sync_shape one_value (codes "--timeout") (codes "TIMEOUT")
 unfolding IsRefused held node_on_words
 sync_timeout = record {
-  once = once_by sync_shape text_reading (codes "TIMEOUT") (λ rows v. refl) (λ rows v. refl);
+  usage = once_by sync_shape text_reading (codes "TIMEOUT") (λ rows v. refl) (λ rows v. refl);
   bare = λ rows. tt;
   at_free = at_both (IsValuedAt sync_shape (codes "--timeout") (codes "TIMEOUT")) (record { waits = λ h position. refl; turn = λ h position. refl; valued = λ h position v. refl; valued_turn = λ h position v. refl }) (record { waits = λ h position. refl; turn = λ h position. refl; valued = λ h position v. refl; valued_turn = λ h position v. refl });
   other = λ h is. is;
@@ -553,10 +560,10 @@ pub serve_is : IsCommand (codes "serve") serve_shape
 unfolding node_on_words
 serve_is = record { met = (refl, refl); found = refl; short = all_short serve_shape.rules refl }
 
-serve_sessions : IsValued serve_shape (codes "--sessions") (codes "SESSIONS")
+serve_sessions : IsValued serve_shape one_value (codes "--sessions") (codes "SESSIONS")
 unfolding IsRefused held node_on_words
 serve_sessions = record {
-  once = once_by serve_shape text_reading (codes "SESSIONS") (λ rows v. refl) (λ rows v. refl);
+  usage = once_by serve_shape text_reading (codes "SESSIONS") (λ rows v. refl) (λ rows v. refl);
   bare = λ rows. tt;
   at_free = at_both (IsValuedAt serve_shape (codes "--sessions") (codes "SESSIONS")) (record { waits = λ h position. refl; turn = λ h position. refl; valued = λ h position v. refl; valued_turn = λ h position v. refl }) (record { waits = λ h position. refl; turn = λ h position. refl; valued = λ h position v. refl; valued_turn = λ h position v. refl });
   other = λ h is. is;
@@ -567,10 +574,10 @@ serve_sessions = record {
   valued_other = λ h v is. refused_first (settles serve_shape h) _ is;
 }
 
-serve_timeout : IsValued serve_shape (codes "--timeout") (codes "TIMEOUT")
+serve_timeout : IsValued serve_shape one_value (codes "--timeout") (codes "TIMEOUT")
 unfolding IsRefused held node_on_words
 serve_timeout = record {
-  once = once_by serve_shape text_reading (codes "TIMEOUT") (λ rows v. refl) (λ rows v. refl);
+  usage = once_by serve_shape text_reading (codes "TIMEOUT") (λ rows v. refl) (λ rows v. refl);
   bare = λ rows. tt;
   at_free = at_both (IsValuedAt serve_shape (codes "--timeout") (codes "TIMEOUT")) (record { waits = λ h position. refl; turn = λ h position. refl; valued = λ h position v. refl; valued_turn = λ h position v. refl }) (record { waits = λ h position. refl; turn = λ h position. refl; valued = λ h position v. refl; valued_turn = λ h position v. refl });
   other = λ h is. is;
@@ -632,7 +639,7 @@ run_plan = record {
   required = codes "FILE" ∷ [];
   optional = [];
   more = None;
-  known = http_option ∷ token_option ∷ open_option ∷ [];
+  known = http_option ∷ peers_option ∷ every_option ∷ token_option ∷ open_option ∷ [];
   with_options = run_with;
 }
 
@@ -640,10 +647,10 @@ pub run_is : IsCommand (codes "run") run_shape
 unfolding node_on_words
 run_is = record { met = (refl, refl); found = refl; short = all_short run_shape.rules refl }
 
-run_http : IsValued run_shape (codes "--http") (codes "HTTP")
+run_http : IsValued run_shape one_value (codes "--http") (codes "HTTP")
 unfolding IsRefused held node_on_words
 run_http = record {
-  once = once_by run_shape text_reading (codes "HTTP") (λ rows v. refl) (λ rows v. refl);
+  usage = once_by run_shape text_reading (codes "HTTP") (λ rows v. refl) (λ rows v. refl);
   bare = λ rows. tt;
   at_free = at_both (IsValuedAt run_shape (codes "--http") (codes "HTTP")) (record { waits = λ h position. refl; turn = λ h position. refl; valued = λ h position v. refl; valued_turn = λ h position v. refl }) (record { waits = λ h position. refl; turn = λ h position. refl; valued = λ h position v. refl; valued_turn = λ h position v. refl });
   other = λ h is. is;
@@ -654,10 +661,38 @@ run_http = record {
   valued_other = λ h v is. refused_first (settles run_shape h) _ is;
 }
 
-run_token : IsValued run_shape (codes "--token-file") (codes "TOKEN_FILE")
+run_peers : IsValued run_shape many_values (codes "--peer") (codes "PEERS")
+unfolding IsRefused held node_on_words
+run_peers = record {
+  usage = record { clean = λ rows v. refl; gives = λ rows v. refl };
+  bare = λ rows. tt;
+  at_free = at_both (IsValuedAt run_shape (codes "--peer") (codes "PEERS")) (record { waits = λ h position. refl; turn = λ h position. refl; valued = λ h position v. refl; valued_turn = λ h position v. refl }) (record { waits = λ h position. refl; turn = λ h position. refl; valued = λ h position v. refl; valued_turn = λ h position v. refl });
+  other = λ h is. is;
+  takes = λ rows position v are.
+      let h = held rows (Some (codes "PEERS", [])) in
+      let waiting = option (codes "PEERS") in
+      (data_next run_shape.rules h waiting position v are refl, data_turn run_shape h waiting position v are refl);
+  valued_other = λ h v is. refused_first (settles run_shape h) _ is;
+}
+
+run_every : IsValued run_shape one_value (codes "--every") (codes "EVERY")
+unfolding IsRefused held node_on_words
+run_every = record {
+  usage = once_by run_shape text_reading (codes "EVERY") (λ rows v. refl) (λ rows v. refl);
+  bare = λ rows. tt;
+  at_free = at_both (IsValuedAt run_shape (codes "--every") (codes "EVERY")) (record { waits = λ h position. refl; turn = λ h position. refl; valued = λ h position v. refl; valued_turn = λ h position v. refl }) (record { waits = λ h position. refl; turn = λ h position. refl; valued = λ h position v. refl; valued_turn = λ h position v. refl });
+  other = λ h is. is;
+  takes = λ rows position v are.
+      let h = held rows (Some (codes "EVERY", [])) in
+      let waiting = option (codes "EVERY") in
+      (data_next run_shape.rules h waiting position v are refl, data_turn run_shape h waiting position v are refl);
+  valued_other = λ h v is. refused_first (settles run_shape h) _ is;
+}
+
+run_token : IsValued run_shape one_value (codes "--token-file") (codes "TOKEN_FILE")
 unfolding IsRefused held node_on_words
 run_token = record {
-  once = once_by run_shape text_reading (codes "TOKEN_FILE") (λ rows v. refl) (λ rows v. refl);
+  usage = once_by run_shape text_reading (codes "TOKEN_FILE") (λ rows v. refl) (λ rows v. refl);
   bare = λ rows. tt;
   at_free = at_both (IsValuedAt run_shape (codes "--token-file") (codes "TOKEN_FILE")) (record { waits = λ h position. refl; turn = λ h position. refl; valued = λ h position v. refl; valued_turn = λ h position v. refl }) (record { waits = λ h position. refl; turn = λ h position. refl; valued = λ h position v. refl; valued_turn = λ h position v. refl });
   other = λ h is. is;
@@ -672,38 +707,45 @@ run_open : IsFlag run_shape flag_reading (codes "--open") (codes "OPEN")
 unfolding IsRefused node_on_words
 run_open = record { at_free = at_both (IsFlagAt run_shape flag_reading (codes "--open") (codes "OPEN")) (record { uses = λ h position. refl; turn = λ h position. refl }) (record { uses = λ h position. refl; turn = λ h position. refl }); other = λ h is. refused_first (settles run_shape h) _ is; valued = λ v h skip. tt }
 
-run_long : (name : Text) → ((o : Chosen (http_option ∷ token_option ∷ open_option ∷ [])) × (name ≡ o.0.bare)) ⊎ IsRequest run_shape (arg_by_long run_shape.rules name)
+run_long : (name : Text) → ((o : Chosen run_plan.known) × (name ≡ o.0.bare)) ⊎ IsRequest run_shape (arg_by_long run_shape.rules name)
 unfolding IsRefused node_on_words
 run_long name =
-    found_other run_shape (λ a. has_long a name) ((o : Chosen (http_option ∷ token_option ∷ open_option ∷ [])) × (name ≡ o.0.bare)) run_shape.rules
-    (inl refl, (inr (inr (λ e. ((http_option, inl refl), is_name (codes "http") name e))), (inr (inr (λ e. ((token_option, inr (inl refl)), is_name (codes "token-file") name e))), (inr (inr (λ e. ((open_option, inr (inr (inl refl))), is_name (codes "open") name e))), (inr (inl (refl, λ rows. tt)), tt)))))
+    found_other run_shape (λ a. has_long a name) ((o : Chosen run_plan.known) × (name ≡ o.0.bare)) run_shape.rules
+    (inl refl, (inr (inr (λ e. ((http_option, inl refl), is_name (codes "http") name e))), (inr (inr (λ e. ((peers_option, inr (inl refl)), is_name (codes "peer") name e))), (inr (inr (λ e. ((every_option, inr (inr (inl refl))), is_name (codes "every") name e))), (inr (inr (λ e. ((token_option, inr (inr (inr (inl refl)))), is_name (codes "token-file") name e))), (inr (inr (λ e. ((open_option, inr (inr (inr (inr (inl refl))))), is_name (codes "open") name e))), (inr (inl (refl, λ rows. tt)), tt)))))))
 
 run_short : HasShortRequests run_shape
 unfolding IsRefused node_on_words
-run_short = short_by run_shape (λ character. (inl refl, (inr (inr is_none), (inr (inr is_none), (inr (inr is_none), (inr (inl (refl, λ rows. tt)), tt))))))
+run_short = short_by run_shape (λ character. (inl refl, (inr (inr is_none), (inr (inr is_none), (inr (inr is_none), (inr (inr is_none), (inr (inr is_none), (inr (inl (refl, λ rows. tt)), tt))))))))
 
 run_reads : (rows : List Row) (ws : List Text) (vs : Text → List Text) → AreAt (ids_of run_plan) (run_plan.more) ws rows → Fits (run_plan.required) (run_plan.optional) (run_plan.more) ws
     → AreChosen (run_plan.known) vs rows → AreTrue (run_plan.known) vs
     → words_in (Some (run_shape.name, fold with_default rows run_shape.rules)) ≡ option_map (λ words. codes "run" ∷ words) (run_plan.with_options.words_for ws vs)
 unfolding node_on_words
 run_reads rows ([]) vs stands fits chosen are = absurd fits
-run_reads rows (a ∷ []) vs stands fits chosen are = λ i. named_words (codes "run") (option_map (λ words. words ++ access_words (value_there run_shape.rules rows (codes "TOKEN_FILE") (vs (codes "--token-file")) (inl refl, (inl refl, (inr refl, (inl refl, (inl refl, tt))))) (chosen token_option (inr (inl refl))) i) (flag_given run_shape.rules rows (codes "OPEN") (vs (codes "--open")) (inr (refl, inr (refl, inr (refl, inl (refl, refl))))) (are open_option (inr (inr (inl refl))) refl) (chosen open_option (inr (inr (inl refl)))) i)) (joined (first_there run_shape.rules rows (codes "FILE") a text_reading stands.0 i ∷ value_given run_shape.rules rows (codes "HTTP") (codes "127.0.0.1:7780") (vs (codes "--http")) (inr (refl, inl (refl, refl))) (chosen http_option (inl refl)) i ∷ [])))
+run_reads rows (a ∷ []) vs stands fits chosen are =
+    let file_is = first_there run_shape.rules rows (codes "FILE") a text_reading stands.0 in
+    let http_is = value_given run_shape.rules rows (codes "HTTP") (codes "127.0.0.1:7780") (vs (codes "--http")) (inr (refl, inl (refl, refl))) (chosen http_option (inl refl)) in
+    let peers_are = values_there run_shape.rules rows (codes "PEERS") (vs (codes "--peer")) (inl refl, (inl refl, (inr refl, (inl refl, (inl refl, (inl refl, (inl refl, tt))))))) (chosen peers_option (inr (inl refl))) in
+    let every_is = value_given run_shape.rules rows (codes "EVERY") (codes "10") (vs (codes "--every")) (inr (refl, inr (refl, inr (refl, inl (refl, refl))))) (chosen every_option (inr (inr (inl refl)))) in
+    let token_is = value_there run_shape.rules rows (codes "TOKEN_FILE") (vs (codes "--token-file")) (inl refl, (inl refl, (inl refl, (inl refl, (inr refl, (inl refl, (inl refl, tt))))))) (chosen token_option (inr (inr (inr (inl refl))))) in
+    let open_is = flag_given run_shape.rules rows (codes "OPEN") (vs (codes "--open")) (inr (refl, inr (refl, inr (refl, inr (refl, inr (refl, inl (refl, refl))))))) (are open_option (inr (inr (inr (inr (inl refl))))) refl) (chosen open_option (inr (inr (inr (inr (inl refl)))))) in
+    λ i. named_words (codes "run") (option_map (λ words. words ++ (peer_words (peers_are i) ++ access_words (token_is i) (open_is i))) (joined (file_is i ∷ http_is i ∷ every_is i ∷ [])))
 run_reads rows (a ∷ b ∷ ws) vs stands fits chosen are = absurd fits
 
 pub run_takes : Takes run_plan
 unfolding IsRefused held node_on_words
 run_takes = record {
   is = run_is;
-  options = (inl (refl, refl, run_http), (inl (refl, refl, run_token), (inr (refl, run_open), tt)));
-  told = told_by run_shape (http_option ∷ token_option ∷ open_option ∷ []) run_long run_short;
+  options = (inl (refl, refl, run_http), (inl (refl, refl, run_peers), (inl (refl, refl, run_every), (inl (refl, refl, run_token), (inr (refl, run_open), tt)))));
+  told = told_by run_shape run_plan.known run_long run_short;
   places = (record { rule = unwrap_or (arg_by_index run_shape.rules 1) file_rule; is = refl; single = refl; lone = refl; short = refl; called = refl; place_then = refl }, once_by run_shape text_reading (codes "FILE") (λ rows v. refl) (λ rows v. refl), λ h. tt);
   places_apart = refl;
   options_apart = refl;
   ids_apart = refl;
   names_apart = refl;
   checks = λ rows. refl;
-  quiet = (inl refl, (inr refl, (inl refl, (inr refl, (inl refl, tt)))));
-  no_default = ((inr refl, (inl refl, (inl refl, (inl refl, (inl refl, tt))))), tt);
+  quiet = (inl refl, (inr refl, (inl refl, (inr refl, (inl refl, (inr refl, (inl refl, tt)))))));
+  no_default = ((inr refl, (inl refl, (inl refl, (inl refl, (inl refl, (inl refl, (inl refl, tt))))))), tt);
   listed = refl;
   fits = fits_one (codes "FILE") [] [];
   taken = taken_one (codes "FILE") [] [];

@@ -1,12 +1,15 @@
 -- Words among which there are options name tasks.
-use Rattle.std.proofs.Common.{◌≡◌, Bool, true, false, List, [], ◌∷◌, ◌++◌, codes, length, Option, Some, None, refl, ap, inl, inr, arith, ◌∙◌}
-use Rattle.std.specs.Prelude.{option_map}
+use Rattle.std.proofs.Common.{◌≡◌, Bool, true, false, List, [], ◌∷◌, ◌++◌, codes, length, map, Option, Some, None, refl, sym, ap, subst, inl, inr, arith, ◌∙◌}
+use Rattle.std.specs.Prelude.{if◌then◌else◌, option_map, slice_get}
+use Rattle.std.specs.Str.{bytes_eq}
 use Rattle.std.proofs.lemmas.Bool.{le-leb}
+use Rattle.std.proofs.lemmas.List.{append-nil}
 use Rattle.clap.specs.Words.{Text}
 use Rattle.rds_names.specs.Conditions.{and_left, and_right}
 use Rattle.rds_words.specs.Entered.{Names}
-use Rattle.rds_words.specs.Raw.{access_words}
-use Rattle.rds_words.specs.Typed.{AreOnce, AreTyped, HaveOptionsOf, Part, typed_flag, typed_option, typed_word, values_among, words_among}
+use Rattle.rds_words.specs.Raw.{access_words, peer_words}
+use Rattle.rds_words.specs.Typed.{AreAllowed, AreTyped, AtMostOne, HaveOptionsOf, IsRest, Options, Part, typed_flag, typed_option, typed_word, values_among, words_among}
+use Rattle.rds_words.specs.WithOptions.{is_there}
 use Rattle.rds_words.specs.Written.{AreData, is_data}
 use Rattle.rds_words.proofs.OptionPlans.{del_plan, del_takes, entry_plan, get_plan, get_takes, init_plan, init_takes, run_plan, run_takes, serve_plan, serve_takes, show_plan, show_takes, sync_plan, sync_takes}
 use Rattle.rds_words.proofs.PlanMeant.{means}
@@ -15,11 +18,11 @@ use Rattle.rds_words.proofs.PlanWalk.{Plan, Takes}
 module _ (p : Plan) (c : Takes p) where
   -- parts with no rest behind them
   typed_names : (called : Text) (behind words : List Text) (parts : List Part) → AreTyped parts [] behind → HaveOptionsOf (p.with_options.options) parts
-      → AreOnce (p.with_options.options) (λ n. values_among n parts) → p.with_options.takes (length (words_among parts ++ [])) ≡ true
+      → AreAllowed (p.with_options.options) (λ n. values_among n parts) → p.with_options.takes (length (words_among parts ++ [])) ≡ true
       → p.with_options.words_for (words_among parts ++ []) (λ n. values_among n parts) ≡ Some words → Names (called ∷ p.command ∷ behind) (p.command ∷ words)
-  typed_names called behind words parts typed have once takes says =
+  typed_names called behind words parts typed have allowed takes says =
       let meant = (means p c called behind).1 (words_among parts ++ []) (λ n. values_among n parts) (
-        record { parts = parts; after = []; rest = []; are_typed = typed; is_rest = inl (refl, refl); have_options = have; once = once; given_are = refl; values_are = λ n. refl },
+        record { parts = parts; after = []; rest = []; are_typed = typed; is_rest = inl (refl, refl); have_options = have; allowed = allowed; given_are = refl; values_are = λ n. refl },
         takes,
       ) in
       (meant.0, meant.1 ∙ ap (option_map (λ words. p.command ∷ words)) says)
@@ -34,7 +37,7 @@ init_dashed name file group own last more =
         are_typed = refl;
         is_rest = inr refl;
         have_options = tt;
-        once = (tt, tt);
+        allowed = (tt, tt);
         given_are = refl;
         values_are = λ n. refl;
       },
@@ -145,32 +148,181 @@ sync_named name file addr timeout are =
     (addr ∷ codes "--timeout" ∷ timeout ∷ [], refl, (and_left (is_data file) _ are), (codes "--timeout" ∷ timeout ∷ [], refl, (and_left (is_data addr) _ (and_right (is_data file) _ are)), ([], inl (refl, (and_left (is_data timeout) _ (and_right (is_data addr) _ (and_right (is_data file) _ are)))), refl)))
     (refl, tt) (tt, tt) refl refl
 
-pub run_named : (name file http : Text) (token : Option Text) (open_to_all : Bool) → AreData (file ∷ http ∷ []) → Names (name ∷ codes "run" ∷ file ∷ codes "--http" ∷ http ∷ access_words token open_to_all) (codes "run" ∷ file ∷ http ∷ access_words token open_to_all)
-run_named name file http None false are =
-    typed_names run_plan run_takes name (file ∷ codes "--http" ∷ http ∷ []) (file ∷ http ∷ []) (typed_word file ∷ typed_option (codes "--http") http ∷ [])
-    (codes "--http" ∷ http ∷ [], refl, (and_left (is_data file) _ are), ([], inl (refl, (and_left (is_data http) _ (and_right (is_data file) _ are))), refl))
-    (refl, tt) (tt, (tt, (tt, tt))) refl refl
-run_named name file http None true are =
-    typed_names run_plan run_takes name (file ∷ codes "--http" ∷ http ∷ codes "--open" ∷ []) (file ∷ http ∷ codes "--open" ∷ []) (typed_word file ∷ typed_option (codes "--http") http ∷ typed_flag (codes "--open") ∷ [])
-    (codes "--http" ∷ http ∷ codes "--open" ∷ [], refl, (and_left (is_data file) _ are), (codes "--open" ∷ [], inl (refl, (and_left (is_data http) _ (and_right (is_data file) _ are))), ([], refl, refl)))
-    (refl, (refl, tt)) (tt, (tt, (tt, tt))) refl refl
-run_named name file http (Some token) false are =
-    typed_names run_plan run_takes name (file ∷ codes "--http" ∷ http ∷ (codes "--token-file=" ++ token) ∷ []) (file ∷ http ∷ (codes "--token-file=" ++ token) ∷ []) (typed_word file ∷ typed_option (codes "--http") http ∷ typed_option (codes "--token-file") token ∷ [])
-    (codes "--http" ∷ http ∷ (codes "--token-file=" ++ token) ∷ [], refl, (and_left (is_data file) _ are), ((codes "--token-file=" ++ token) ∷ [], inl (refl, (and_left (is_data http) _ (and_right (is_data file) _ are))), ([], inr refl, refl)))
-    (refl, (refl, tt)) (tt, (tt, (tt, tt))) refl refl
-run_named name file http (Some token) true are =
-    typed_names run_plan run_takes name (file ∷ codes "--http" ∷ http ∷ (codes "--token-file=" ++ token) ∷ codes "--open" ∷ []) (file ∷ http ∷ (codes "--token-file=" ++ token) ∷ codes "--open" ∷ []) (typed_word file ∷ typed_option (codes "--http") http ∷ typed_option (codes "--token-file") token ∷ typed_flag (codes "--open") ∷ [])
-    (codes "--http" ∷ http ∷ (codes "--token-file=" ++ token) ∷ codes "--open" ∷ [], refl, (and_left (is_data file) _ are), ((codes "--token-file=" ++ token) ∷ codes "--open" ∷ [], inl (refl, (and_left (is_data http) _ (and_right (is_data file) _ are))), (codes "--open" ∷ [], inr refl, ([], refl, refl))))
-    (refl, (refl, (refl, tt))) (tt, (tt, (tt, tt))) refl refl
+-- ---- run
 
-pub run_open_alone : (name file : Text) → AreData (file ∷ []) → Names (name ∷ codes "run" ∷ file ∷ codes "--open" ∷ []) (codes "run" ∷ file ∷ codes "127.0.0.1:7780" ∷ codes "--open" ∷ [])
+abbrev peer_parts : List Text → List Part
+peer_parts peers = map (λ peer. typed_option (codes "--peer") peer) peers
+
+abbrev access_parts : Option Text → Bool → List Part
+access_parts None false = []
+access_parts None true = typed_flag (codes "--open") ∷ []
+access_parts (Some token) false = typed_option (codes "--token-file") token ∷ []
+access_parts (Some token) true = typed_option (codes "--token-file") token ∷ typed_flag (codes "--open") ∷ []
+
+abbrev run_options : Options
+run_options = run_plan.with_options.options
+
+-- what the parts that say who may come have
+record IsAccess (token : Option Text) (open_to_all : Bool) : Type 0 where
+  typed : (rest : List Text) → AreTyped (access_parts token open_to_all) rest (access_words token open_to_all ++ rest)
+  have : HaveOptionsOf run_options (access_parts token open_to_all)
+  no_words : words_among (access_parts token open_to_all) ≡ []
+  no_http : values_among (codes "--http") (access_parts token open_to_all) ≡ []
+  no_peer : values_among (codes "--peer") (access_parts token open_to_all) ≡ []
+  no_every : values_among (codes "--every") (access_parts token open_to_all) ≡ []
+  token_once : AtMostOne (values_among (codes "--token-file") (access_parts token open_to_all))
+  open_once : AtMostOne (values_among (codes "--open") (access_parts token open_to_all))
+  token_is : slice_get (values_among (codes "--token-file") (access_parts token open_to_all)) 0 ≡ token
+  open_is : is_there (values_among (codes "--open") (access_parts token open_to_all)) ≡ open_to_all
+
+is_access : (token : Option Text) (open_to_all : Bool) → IsAccess token open_to_all
+is_access None false = record { typed = λ rest. refl; have = tt; no_words = refl; no_http = refl; no_peer = refl; no_every = refl; token_once = tt; open_once = tt; token_is = refl; open_is = refl }
+is_access None true = record { typed = λ rest. (rest, refl, refl); have = (refl, tt); no_words = refl; no_http = refl; no_peer = refl; no_every = refl; token_once = tt; open_once = tt; token_is = refl; open_is = refl }
+is_access (Some token) false = record { typed = λ rest. (rest, inr refl, refl); have = (refl, tt); no_words = refl; no_http = refl; no_peer = refl; no_every = refl; token_once = tt; open_once = tt; token_is = refl; open_is = refl }
+is_access (Some token) true = record { typed = λ rest. (codes "--open" ∷ rest, inr refl, (rest, refl, refl)); have = (refl, (refl, tt)); no_words = refl; no_http = refl; no_peer = refl; no_every = refl; token_once = tt; open_once = tt; token_is = refl; open_is = refl }
+
+-- peers before other parts
+module _ (others : List Part) where
+  peers_typed : (peers rest words : List Text) → AreTyped others rest words → AreTyped (peer_parts peers ++ others) rest (peer_words peers ++ words)
+  peers_typed [] rest words typed = typed
+  peers_typed (peer ∷ peers) rest words typed = (peer_words peers ++ words, inr refl, peers_typed peers rest words typed)
+
+  peers_have : (peers : List Text) → HaveOptionsOf run_options others → HaveOptionsOf run_options (peer_parts peers ++ others)
+  peers_have [] have = have
+  peers_have (peer ∷ peers) have = (refl, peers_have peers have)
+
+  peers_no_words : (peers : List Text) → words_among (peer_parts peers ++ others) ≡ words_among others
+  peers_no_words [] = refl
+  peers_no_words (peer ∷ peers) = peers_no_words peers
+
+  peers_past : (name : Text) → bytes_eq (codes "--peer") name ≡ false → (peers : List Text) → values_among name (peer_parts peers ++ others) ≡ values_among name others
+  peers_past name differs [] = refl
+  peers_past name differs (peer ∷ peers) =
+      ap (λ (b : Bool). (if b then peer ∷ [] else []) ++ values_among name (peer_parts peers ++ others)) differs ∙ peers_past name differs peers
+
+  peers_are : (peers : List Text) → values_among (codes "--peer") others ≡ [] → values_among (codes "--peer") (peer_parts peers ++ others) ≡ peers
+  peers_are [] none = none
+  peers_are (peer ∷ peers) none = ap (λ (ps : List Text). peer ∷ ps) (peers_are peers none)
+
+module _ (http every : Text) (peers : List Text) (token : Option Text) (open_to_all : Bool) where
+  abbrev access : IsAccess token open_to_all
+  access = is_access token open_to_all
+
+  abbrev behind_every : List Part
+  behind_every = peer_parts peers ++ access_parts token open_to_all
+
+  abbrev options : List Part
+  options = typed_option (codes "--http") http ∷ typed_option (codes "--every") every ∷ behind_every
+
+  none_past : (name : Text) → bytes_eq (codes "--peer") name ≡ false → values_among name (access_parts token open_to_all) ≡ [] → values_among name behind_every ≡ []
+  none_past name differs none = peers_past (access_parts token open_to_all) name differs peers ∙ none
+
+  options_allowed : AreAllowed run_options (λ name. values_among name options)
+  options_allowed = (
+    subst (λ (vs : List Text). AtMostOne (http ∷ vs)) (sym (none_past (codes "--http") refl access.no_http)) tt,
+    (
+      tt,
+      (
+        subst (λ (vs : List Text). AtMostOne (every ∷ vs)) (sym (none_past (codes "--every") refl access.no_every)) tt,
+        (
+          subst AtMostOne (sym (peers_past (access_parts token open_to_all) (codes "--token-file") refl peers)) access.token_once,
+          (subst AtMostOne (sym (peers_past (access_parts token open_to_all) (codes "--open") refl peers)) access.open_once, tt),
+        ),
+      ),
+    ),
+  )
+
+  options_have : HaveOptionsOf run_options options
+  options_have = (refl, (refl, peers_have (access_parts token open_to_all) peers access.have))
+
+  no_words_among : words_among options ≡ []
+  no_words_among = peers_no_words (access_parts token open_to_all) peers ∙ access.no_words
+
+  says : (file : Text) (given : List Text) → given ≡ file ∷ []
+      → run_plan.with_options.words_for given (λ name. values_among name options) ≡ Some (file ∷ http ∷ every ∷ (peer_words peers ++ access_words token open_to_all))
+  says file given is =
+      let peers_found = peers_are (access_parts token open_to_all) peers access.no_peer in
+      let token_found = ap (λ (vs : List Text). slice_get vs 0) (peers_past (access_parts token open_to_all) (codes "--token-file") refl peers) ∙ access.token_is in
+      let open_found = ap is_there (peers_past (access_parts token open_to_all) (codes "--open") refl peers) ∙ access.open_is in
+      λ i. Some (is i ++ http ∷ every ∷ (peer_words (peers_found i) ++ access_words (token_found i) (open_found i)))
+
+  run_names : (called : Text) (behind after rest : List Text) (file : Text) (front : List Part) → AreTyped (front ++ options) rest behind → IsRest after rest
+      → ((name : Text) → values_among name (front ++ options) ≡ values_among name options) → HaveOptionsOf run_options (front ++ options)
+      → words_among (front ++ options) ++ after ≡ file ∷ []
+      → Names (called ∷ codes "run" ∷ behind) (codes "run" ∷ file ∷ http ∷ every ∷ (peer_words peers ++ access_words token open_to_all))
+  run_names called behind after rest file front typed is same have words =
+      let meant = (means run_plan run_takes called behind).1 (file ∷ []) (λ name. values_among name options) (
+        record {
+          parts = front ++ options;
+          after = after;
+          rest = rest;
+          are_typed = typed;
+          is_rest = is;
+          have_options = have;
+          allowed = subst (λ (vs : Text → List Text). AreAllowed run_options vs) (λ i name. sym (same name) i) options_allowed;
+          given_are = sym words;
+          values_are = λ name. sym (same name);
+        },
+        refl,
+      ) in
+      (meant.0, meant.1 ∙ ap (option_map (λ words. codes "run" ∷ words)) (says file (file ∷ []) refl))
+
+  pub run_named : (name file : Text) → AreData (file ∷ http ∷ every ∷ [])
+      → Names (name ∷ codes "run" ∷ file ∷ codes "--http" ∷ http ∷ codes "--every" ∷ every ∷ (peer_words peers ++ access_words token open_to_all))
+      (codes "run" ∷ file ∷ http ∷ every ∷ (peer_words peers ++ access_words token open_to_all))
+  run_named name file are =
+      run_names name _ [] [] file (typed_word file ∷ []) (
+        _,
+        refl,
+        and_left (is_data file) _ are,
+        (
+          _,
+          inl (refl, and_left (is_data http) _ (and_right (is_data file) _ are)),
+          (
+            _,
+            inl (refl, and_left (is_data every) _ (and_right (is_data http) _ (and_right (is_data file) _ are))),
+            peers_typed (access_parts token open_to_all) peers [] (access_words token open_to_all)
+                (subst (AreTyped (access_parts token open_to_all) []) (append-nil (access_words token open_to_all)) (access.typed [])),
+          ),
+        ),
+      )
+      (inl (refl, refl)) (λ n. refl) options_have (ap (λ (ws : List Text). file ∷ (ws ++ [])) no_words_among)
+
+  pub run_dashed : (name file : Text)
+      → Names (name ∷ codes "run" ∷ (codes "--http=" ++ http) ∷ (codes "--every=" ++ every) ∷ (peer_words peers ++ (access_words token open_to_all ++ codes "--" ∷ file ∷ [])))
+      (codes "run" ∷ file ∷ http ∷ every ∷ (peer_words peers ++ access_words token open_to_all))
+  run_dashed name file =
+      run_names name _ (file ∷ []) (codes "--" ∷ file ∷ []) file [] (
+        _,
+        inr refl,
+        (
+          _,
+          inr refl,
+          peers_typed (access_parts token open_to_all) peers (codes "--" ∷ file ∷ []) (access_words token open_to_all ++ codes "--" ∷ file ∷ []) (access.typed (codes "--" ∷ file ∷ [])),
+        ),
+      )
+      (inr refl) (λ n. refl) options_have (ap (λ (ws : List Text). ws ++ file ∷ []) no_words_among)
+
+pub run_open_alone : (name file : Text) → AreData (file ∷ []) → Names (name ∷ codes "run" ∷ file ∷ codes "--open" ∷ []) (codes "run" ∷ file ∷ codes "127.0.0.1:7780" ∷ codes "10" ∷ codes "--open" ∷ [])
 run_open_alone name file are =
-    typed_names run_plan run_takes name (file ∷ codes "--open" ∷ []) (file ∷ codes "127.0.0.1:7780" ∷ codes "--open" ∷ []) (typed_word file ∷ typed_flag (codes "--open") ∷ [])
+    typed_names run_plan run_takes name (file ∷ codes "--open" ∷ []) (file ∷ codes "127.0.0.1:7780" ∷ codes "10" ∷ codes "--open" ∷ []) (typed_word file ∷ typed_flag (codes "--open") ∷ [])
     (codes "--open" ∷ [], refl, (and_left (is_data file) _ are), ([], refl, refl))
-    (refl, tt) (tt, (tt, (tt, tt))) refl refl
+    (refl, tt) (tt, (tt, (tt, (tt, (tt, tt))))) refl refl
 
-pub run_token_alone : (name file token : Text) → AreData (file ∷ token ∷ []) → Names (name ∷ codes "run" ∷ file ∷ codes "--token-file" ∷ token ∷ []) (codes "run" ∷ file ∷ codes "127.0.0.1:7780" ∷ (codes "--token-file=" ++ token) ∷ [])
+pub run_token_alone : (name file token : Text) → AreData (file ∷ token ∷ []) → Names (name ∷ codes "run" ∷ file ∷ codes "--token-file" ∷ token ∷ []) (codes "run" ∷ file ∷ codes "127.0.0.1:7780" ∷ codes "10" ∷ (codes "--token-file=" ++ token) ∷ [])
 run_token_alone name file token are =
-    typed_names run_plan run_takes name (file ∷ codes "--token-file" ∷ token ∷ []) (file ∷ codes "127.0.0.1:7780" ∷ (codes "--token-file=" ++ token) ∷ []) (typed_word file ∷ typed_option (codes "--token-file") token ∷ [])
+    typed_names run_plan run_takes name (file ∷ codes "--token-file" ∷ token ∷ []) (file ∷ codes "127.0.0.1:7780" ∷ codes "10" ∷ (codes "--token-file=" ++ token) ∷ []) (typed_word file ∷ typed_option (codes "--token-file") token ∷ [])
     (codes "--token-file" ∷ token ∷ [], refl, (and_left (is_data file) _ are), ([], inl (refl, (and_left (is_data token) _ (and_right (is_data file) _ are))), refl))
-    (refl, tt) (tt, (tt, (tt, tt))) refl refl
+    (refl, tt) (tt, (tt, (tt, (tt, (tt, tt))))) refl refl
+
+pub run_peer_alone : (name file peer : Text) → AreData (file ∷ peer ∷ []) → Names (name ∷ codes "run" ∷ file ∷ codes "--peer" ∷ peer ∷ []) (codes "run" ∷ file ∷ codes "127.0.0.1:7780" ∷ codes "10" ∷ (codes "--peer=" ++ peer) ∷ [])
+run_peer_alone name file peer are =
+    typed_names run_plan run_takes name (file ∷ codes "--peer" ∷ peer ∷ []) (file ∷ codes "127.0.0.1:7780" ∷ codes "10" ∷ (codes "--peer=" ++ peer) ∷ []) (typed_word file ∷ typed_option (codes "--peer") peer ∷ [])
+    (codes "--peer" ∷ peer ∷ [], refl, (and_left (is_data file) _ are), ([], inl (refl, (and_left (is_data peer) _ (and_right (is_data file) _ are))), refl))
+    (refl, tt) (tt, (tt, (tt, (tt, (tt, tt))))) refl refl
+
+pub run_every_alone : (name file every : Text) → AreData (file ∷ every ∷ []) → Names (name ∷ codes "run" ∷ file ∷ codes "--every" ∷ every ∷ []) (codes "run" ∷ file ∷ codes "127.0.0.1:7780" ∷ every ∷ [])
+run_every_alone name file every are =
+    typed_names run_plan run_takes name (file ∷ codes "--every" ∷ every ∷ []) (file ∷ codes "127.0.0.1:7780" ∷ every ∷ []) (typed_word file ∷ typed_option (codes "--every") every ∷ [])
+    (codes "--every" ∷ every ∷ [], refl, (and_left (is_data file) _ are), ([], inl (refl, (and_left (is_data every) _ (and_right (is_data file) _ are))), refl))
+    (refl, tt) (tt, (tt, (tt, (tt, (tt, tt))))) refl refl

@@ -13,7 +13,7 @@ use Rattle.clap.specs.Walk.{Held, Waiting, Walk, finished, has_row, idle, option
 use Rattle.rds_words.specs.Entered.{mistakes_in, named_in}
 use Rattle.rds_words.specs.Spelling.{AreSpelled}
 use Rattle.rds_words.specs.Task.{words_in}
-use Rattle.rds_words.specs.Typed.{AreOnce, AreTyped, AtMostOne, HaveOptionsOf, IsOptionWith, IsRest, Options, Part, has_none, has_value, typed_flag, typed_option, typed_word, values_among, words_among}
+use Rattle.rds_words.specs.Typed.{AreAllowed, AreTyped, AtMostOne, Form, HaveOptionsOf, IsAllowed, IsOptionWith, IsRest, Options, Part, has_none, has_value, many_values, no_value, one_value, typed_flag, typed_option, typed_word, values_among, words_among}
 use Rattle.rds_words.specs.WithOptions.{AreTaken, MeansWithOptions}
 use Rattle.rds_words.specs.Written.{is_data}
 use Rattle.rds_words.proofs.Counting.{refused_isnt}
@@ -22,8 +22,8 @@ use Rattle.rds_words.proofs.Defaulted.{quiet, row_kept, row_missing}
 use Rattle.rds_words.proofs.Leading.{Leads, comes_from, kinds_of, leads_on, mistakes_from, named_from, refused_at, refused_from, refused_step}
 use Rattle.rds_words.proofs.OptionNames.{is_none}
 use Rattle.rds_words.proofs.Passing.{Steps}
-use Rattle.rds_words.proofs.PlanWalk.{AreAsKnown, AreTrue, Fits, HaveNoDefault, IsAsKnown, IsFlag, IsGood, IsThis, IsTrue, IsValued, Plan, Takes, at_place, flag_good, flag_rows, flag_steps, free, frees, good_as, good_start, held, held_skip, ids_of, is_lacking, one_more, option_good, out_of_room, pending_is, repeats, rows_are, rows_fault, settled_good, settles, stands_at, valued_steps, waits_steps, was_given, with_pending, word_behind, word_next}
-use Rattle.rds_words.proofs.Plans.{AreAt, IsIn, Known, given_row, name_of, read_row, same_or, text_reading}
+use Rattle.rds_words.proofs.PlanWalk.{AreAsKnown, AreTrue, Fits, HaveNoDefault, IsAsKnown, IsFlag, IsGood, IsThis, IsTrue, IsUsedOnce, IsValued, MayMore, Plan, Takes, at_place, flag_good, flag_rows, flag_steps, free, frees, good_as, good_start, held, held_skip, ids_of, is_flag, is_lacking, more_or, one_more, option_good, out_of_room, pending_is, repeats, rows_are, rows_fault, settled_good, settles, stands_at, valued_steps, waits_steps, was_given, with_pending, word_behind, word_next}
+use Rattle.rds_words.proofs.Plans.{AreAt, IsIn, Known, name_of, read_row, same_or, text_reading, values_row}
 use Rattle.rds_words.proofs.Refusing.{IsOption, IsRefused, refused_first, refused_then}
 use Rattle.rds_words.proofs.RowsById.{one_row, row_at}
 
@@ -35,66 +35,109 @@ as_known s (k ∷ ks) are o (inl is) = subst (IsAsKnown s) is are.0
 as_known s (k ∷ ks) are o (inr is) = as_known s ks are.1 o is
 
 abbrev listed_of : List Known → Options
-listed_of ks = map (λ o. (name_of o, not o.is_flag)) ks
+listed_of ks = map (λ o. (name_of o, o.form)) ks
 
-valued_listed : (o : Known) (ks : List Known) → IsIn o ks → o.is_flag ≡ false → list_any (has_value (name_of o)) (listed_of ks) ≡ true
+has_value_by : (n m : Text) (form : Form) → is_flag form ≡ false → has_value n (m, form) ≡ bytes_eq n m
+has_value_by n m no_value flag = absurd (is_none (sym flag))
+has_value_by n m one_value flag = refl
+has_value_by n m many_values flag = refl
+
+has_none_by : (n m : Text) (form : Form) → is_flag form ≡ true → has_none n (m, form) ≡ bytes_eq n m
+has_none_by n m no_value flag = refl
+has_none_by n m one_value flag = absurd (is_none flag)
+has_none_by n m many_values flag = absurd (is_none flag)
+
+either_true : (a b : Bool) → b ≡ true → (a || b) ≡ true
+either_true true b e = refl
+either_true false b e = e
+
+first_true : (a b : Bool) → a ≡ true → (a || b) ≡ true
+first_true true b e = refl
+first_true false b e = absurd (is_none e)
+
+valued_listed : (o : Known) (ks : List Known) → IsIn o ks → is_flag o.form ≡ false → list_any (has_value (name_of o)) (listed_of ks) ≡ true
 valued_listed o [] is flag = absurd is
 valued_listed o (k ∷ ks) (inl is) flag =
-    subst (λ (k : Known). list_any (has_value (name_of o)) (listed_of (k ∷ ks)) ≡ true) (sym is) (rw (flag, (bytes_eq-Decides (name_of o) (name_of o)).1 refl) refl)
-valued_listed o (k ∷ ks) (inr is) flag = rw (valued_listed o ks is flag) (or_true (has_value (name_of o) (name_of k, not k.is_flag)))
-  where
-    or_true : (b : Bool) → (b || true) ≡ true
-    or_true true = refl
-    or_true false = refl
+    subst (λ (k : Known). list_any (has_value (name_of o)) (listed_of (k ∷ ks)) ≡ true) (sym is)
+    (first_true (has_value (name_of o) (name_of o, o.form)) (list_any (has_value (name_of o)) (listed_of ks)) (has_value_by (name_of o) (name_of o) o.form flag ∙ (bytes_eq-Decides (name_of o) (name_of o)).1 refl))
+valued_listed o (k ∷ ks) (inr is) flag = either_true (has_value (name_of o) (name_of k, k.form)) (list_any (has_value (name_of o)) (listed_of ks)) (valued_listed o ks is flag)
 
-flag_listed : (o : Known) (ks : List Known) → IsIn o ks → o.is_flag ≡ true → list_any (has_none (name_of o)) (listed_of ks) ≡ true
+flag_listed : (o : Known) (ks : List Known) → IsIn o ks → is_flag o.form ≡ true → list_any (has_none (name_of o)) (listed_of ks) ≡ true
 flag_listed o [] is flag = absurd is
 flag_listed o (k ∷ ks) (inl is) flag =
-    subst (λ (k : Known). list_any (has_none (name_of o)) (listed_of (k ∷ ks)) ≡ true) (sym is) (rw (flag, (bytes_eq-Decides (name_of o) (name_of o)).1 refl) refl)
-flag_listed o (k ∷ ks) (inr is) flag = rw (flag_listed o ks is flag) (or_true (has_none (name_of o) (name_of k, not k.is_flag)))
-  where
-    or_true : (b : Bool) → (b || true) ≡ true
-    or_true true = refl
-    or_true false = refl
+    subst (λ (k : Known). list_any (has_none (name_of o)) (listed_of (k ∷ ks)) ≡ true) (sym is)
+    (first_true (has_none (name_of o) (name_of o, o.form)) (list_any (has_none (name_of o)) (listed_of ks)) (has_none_by (name_of o) (name_of o) o.form flag ∙ (bytes_eq-Decides (name_of o) (name_of o)).1 refl))
+flag_listed o (k ∷ ks) (inr is) flag = either_true (has_none (name_of o) (name_of k, k.form)) (list_any (has_none (name_of o)) (listed_of ks)) (flag_listed o ks is flag)
 
 or_split : (a b : Bool) → (a || b) ≡ true → (a ≡ true) ⊎ (b ≡ true)
 or_split true b e = inl refl
 or_split false b e = inr e
 
-valued_among : (n : Text) (ks : List Known) → list_any (has_value n) (listed_of ks) ≡ true → (o : Known) × IsIn o ks × (n ≡ name_of o) × (o.is_flag ≡ false)
+valued_among : (n : Text) (ks : List Known) → list_any (has_value n) (listed_of ks) ≡ true → (o : Known) × IsIn o ks × (n ≡ name_of o) × (is_flag o.form ≡ false)
 valued_among n [] is = absurd (is_none is)
-valued_among n (k ∷ ks) is = by (valued_among n ks) (or_split (has_value n (name_of k, not k.is_flag)) _ is)
+valued_among n (k ∷ ks) is = by (valued_among n ks) (or_split (has_value n (name_of k, k.form)) _ is)
   where
-    this : (b : Bool) → k.is_flag ≡ b → has_value n (name_of k, not b) ≡ true → (n ≡ name_of k) × (k.is_flag ≡ false)
-    this true e h = absurd (is_none h)
-    this false e h = ((bytes_eq-Decides n (name_of k)).0 h, e)
+    this : (form : Form) → has_value n (name_of k, form) ≡ true → (n ≡ name_of k) × (is_flag form ≡ false)
+    this no_value h = absurd (is_none h)
+    this one_value h = ((bytes_eq-Decides n (name_of k)).0 h, refl)
+    this many_values h = ((bytes_eq-Decides n (name_of k)).0 h, refl)
 
-    by : (list_any (has_value n) (listed_of ks) ≡ true → (o : Known) × IsIn o ks × (n ≡ name_of o) × (o.is_flag ≡ false))
-        → (has_value n (name_of k, not k.is_flag) ≡ true) ⊎ (list_any (has_value n) (listed_of ks) ≡ true) → (o : Known) × IsIn o (k ∷ ks) × (n ≡ name_of o) × (o.is_flag ≡ false)
-    by on (inl here) = (let t = this k.is_flag refl here in (k, inl refl, t.0, t.1))
+    by : (list_any (has_value n) (listed_of ks) ≡ true → (o : Known) × IsIn o ks × (n ≡ name_of o) × (is_flag o.form ≡ false))
+        → (has_value n (name_of k, k.form) ≡ true) ⊎ (list_any (has_value n) (listed_of ks) ≡ true) → (o : Known) × IsIn o (k ∷ ks) × (n ≡ name_of o) × (is_flag o.form ≡ false)
+    by on (inl here) = (let t = this k.form here in (k, inl refl, t.0, t.1))
     by on (inr there) = (let o = on there in (o.0, inr o.1, o.2, o.3))
 
-flag_among : (n : Text) (ks : List Known) → list_any (has_none n) (listed_of ks) ≡ true → (o : Known) × IsIn o ks × (n ≡ name_of o) × (o.is_flag ≡ true)
+flag_among : (n : Text) (ks : List Known) → list_any (has_none n) (listed_of ks) ≡ true → (o : Known) × IsIn o ks × (n ≡ name_of o) × (is_flag o.form ≡ true)
 flag_among n [] is = absurd (is_none is)
-flag_among n (k ∷ ks) is = by (flag_among n ks) (or_split (has_none n (name_of k, not k.is_flag)) _ is)
+flag_among n (k ∷ ks) is = by (flag_among n ks) (or_split (has_none n (name_of k, k.form)) _ is)
   where
-    this : (b : Bool) → k.is_flag ≡ b → has_none n (name_of k, not b) ≡ true → (n ≡ name_of k) × (k.is_flag ≡ true)
-    this true e h = ((bytes_eq-Decides n (name_of k)).0 h, e)
-    this false e h = absurd (is_none h)
+    this : (form : Form) → has_none n (name_of k, form) ≡ true → (n ≡ name_of k) × (is_flag form ≡ true)
+    this no_value h = ((bytes_eq-Decides n (name_of k)).0 h, refl)
+    this one_value h = absurd (is_none h)
+    this many_values h = absurd (is_none h)
 
-    by : (list_any (has_none n) (listed_of ks) ≡ true → (o : Known) × IsIn o ks × (n ≡ name_of o) × (o.is_flag ≡ true))
-        → (has_none n (name_of k, not k.is_flag) ≡ true) ⊎ (list_any (has_none n) (listed_of ks) ≡ true) → (o : Known) × IsIn o (k ∷ ks) × (n ≡ name_of o) × (o.is_flag ≡ true)
-    by on (inl here) = (let t = this k.is_flag refl here in (k, inl refl, t.0, t.1))
+    by : (list_any (has_none n) (listed_of ks) ≡ true → (o : Known) × IsIn o ks × (n ≡ name_of o) × (is_flag o.form ≡ true))
+        → (has_none n (name_of k, k.form) ≡ true) ⊎ (list_any (has_none n) (listed_of ks) ≡ true) → (o : Known) × IsIn o (k ∷ ks) × (n ≡ name_of o) × (is_flag o.form ≡ true)
+    by on (inl here) = (let t = this k.form here in (k, inl refl, t.0, t.1))
     by on (inr there) = (let o = on there in (o.0, inr o.1, o.2, o.3))
 
-pub each_once : (ks : List Known) (vs : Text → List Text) → AreOnce (listed_of ks) vs → (o : Known) → IsIn o ks → AtMostOne (vs (name_of o))
-each_once [] vs are o is = absurd is
-each_once (k ∷ ks) vs are o (inl is) = subst (λ (k : Known). AtMostOne (vs (name_of k))) is are.0
-each_once (k ∷ ks) vs are o (inr is) = each_once ks vs are.1 o is
+-- nothing stands before what is there once
+only_before : (xs ys : List Text) (v : Text) (b : Bool) → b ≡ true → AtMostOne (xs ++ ((if b then v ∷ [] else []) ++ ys)) → xs ≡ []
+only_before [] ys v b is fits = refl
+only_before (x ∷ []) ys v true is fits = absurd fits
+only_before (x ∷ y ∷ xs) ys v true is fits = absurd fits
+only_before (x ∷ xs) ys v false is fits = absurd (is_none is)
 
-are_once : (ks : List Known) (vs : Text → List Text) → ((o : Known) → IsIn o ks → AtMostOne (vs (name_of o))) → AreOnce (listed_of ks) vs
-are_once [] vs each = tt
-are_once (k ∷ ks) vs each = (each k (inl refl), are_once ks vs (λ o is. each o (inr is)))
+pub each_allowed : (ks : List Known) (vs : Text → List Text) → AreAllowed (listed_of ks) vs → (o : Known) → IsIn o ks → IsAllowed o.form (vs (name_of o))
+each_allowed [] vs are o is = absurd is
+each_allowed (k ∷ ks) vs are o (inl is) = subst (λ (k : Known). IsAllowed k.form (vs (name_of k))) is are.0
+each_allowed (k ∷ ks) vs are o (inr is) = each_allowed ks vs are.1 o is
+
+are_allowed : (ks : List Known) (vs : Text → List Text) → ((o : Known) → IsIn o ks → IsAllowed o.form (vs (name_of o))) → AreAllowed (listed_of ks) vs
+are_allowed [] vs each = tt
+are_allowed (k ∷ ks) vs each = (each k (inl refl), are_allowed ks vs (λ o is. each o (inr is)))
+
+-- what may have one value may have it, and what may have none too
+allowed_once : (form : Form) (xs : List Text) → AtMostOne xs → IsAllowed form xs
+allowed_once no_value xs are = are
+allowed_once one_value xs are = are
+allowed_once many_values xs are = tt
+
+-- before one more
+may_before : (form : Form) (xs ys : List Text) (v : Text) (b : Bool) → b ≡ true → IsAllowed form (xs ++ ((if b then v ∷ [] else []) ++ ys)) → MayMore form xs
+may_before no_value xs ys v b is fits = inr (only_before xs ys v b is fits)
+may_before one_value xs ys v b is fits = inr (only_before xs ys v b is fits)
+may_before many_values xs ys v b is fits = inl refl
+
+-- an option without a value has it once
+flag_before : (form : Form) (xs : List Text) → is_flag form ≡ true → MayMore form xs → xs ≡ []
+flag_before no_value xs flag (inl many) = absurd (none_isnt_many many)
+  where
+    none_isnt_many : no_value ≡ many_values → ⊥
+    none_isnt_many e = absurd cc
+flag_before one_value xs flag may = absurd (is_none flag)
+flag_before many_values xs flag may = absurd (is_none flag)
+flag_before no_value xs flag (inr none) = none
 
 -- ---- the last checks
 
@@ -214,17 +257,17 @@ module _ (p : Plan) (c : Takes p) where
     are_typed : AreTyped parts rest words
     is_rest : IsRest after rest
     have_options : HaveOptionsOf (listed_of p.known) parts
-    once : (o : Known) → IsIn o p.known → AtMostOne (vs (name_of o) ++ values_among (name_of o) parts)
+    allowed : (o : Known) → IsIn o p.known → IsAllowed o.form (vs (name_of o) ++ values_among (name_of o) parts)
     fits : FitsPlan ((ws ++ words_among parts) ++ after)
 
   abbrev Refused : Held → Bool → List Text → List Text → Type 0
   Refused h b ws words = IsRefused (mistakes_from s (at h (free b) (at_place p ws) false) words)
 
-  abbrev EachOnce : (Text → List Text) → Type 0
-  EachOnce vs = (o : Known) → IsIn o p.known → AtMostOne (vs (name_of o))
+  abbrev EachAllowed : (Text → List Text) → Type 0
+  EachAllowed vs = (o : Known) → IsIn o p.known → IsAllowed o.form (vs (name_of o))
 
   abbrev Reads : List Text → Type 0
-  Reads words = (h : Held) (b : Bool) (ws : List Text) (vs : Text → List Text) → IsGood p h ws vs → EachOnce vs → Refused h b ws words ⊎ Found ws vs words
+  Reads words = (h : Held) (b : Bool) (ws : List Text) (vs : Text → List Text) → IsGood p h ws vs → EachAllowed vs → Refused h b ws words ⊎ Found ws vs words
 
   found_word : (ws : List Text) (vs : Text → List Text) (w : Text) (words : List Text) → is_data w ≡ true → Found (ws ++ w ∷ []) vs words → Found ws vs (w ∷ words)
   found_word ws vs w words are f = record {
@@ -234,11 +277,11 @@ module _ (p : Plan) (c : Takes p) where
     are_typed = (words, refl, are, f.are_typed);
     is_rest = f.is_rest;
     have_options = f.have_options;
-    once = f.once;
+    allowed = f.allowed;
     fits = subst (λ (us : List Text). FitsPlan (us ++ f.after)) (append_assoc ws (w ∷ []) (words_among f.parts)) f.fits;
   }
 
-  found_option : (ws : List Text) (vs : Text → List Text) (o : Known) → IsIn o p.known → o.is_flag ≡ false → (v : Text) (words behind : List Text) → IsOptionWith (name_of o) v words behind → Found ws (one_more vs (name_of o) v) behind
+  found_option : (ws : List Text) (vs : Text → List Text) (o : Known) → IsIn o p.known → is_flag o.form ≡ false → (v : Text) (words behind : List Text) → IsOptionWith (name_of o) v words behind → Found ws (one_more vs (name_of o) v) behind
       → Found ws vs words
   found_option ws vs o is flag v words behind typed f = record {
     parts = typed_option (name_of o) v ∷ f.parts;
@@ -247,11 +290,11 @@ module _ (p : Plan) (c : Takes p) where
     are_typed = (behind, typed, f.are_typed);
     is_rest = f.is_rest;
     have_options = (valued_listed o p.known is flag, f.have_options);
-    once = λ q also. subst AtMostOne (append_assoc (vs (name_of q)) (if bytes_eq (name_of o) (name_of q) then v ∷ [] else []) (values_among (name_of q) f.parts)) (f.once q also);
+    allowed = λ q also. subst (IsAllowed q.form) (append_assoc (vs (name_of q)) (if bytes_eq (name_of o) (name_of q) then v ∷ [] else []) (values_among (name_of q) f.parts)) (f.allowed q also);
     fits = f.fits;
   }
 
-  found_flag : (ws : List Text) (vs : Text → List Text) (o : Known) → IsIn o p.known → o.is_flag ≡ true → (words : List Text) → Found ws (one_more vs (name_of o) (codes "true")) words → Found ws vs (name_of o ∷ words)
+  found_flag : (ws : List Text) (vs : Text → List Text) (o : Known) → IsIn o p.known → is_flag o.form ≡ true → (words : List Text) → Found ws (one_more vs (name_of o) (codes "true")) words → Found ws vs (name_of o ∷ words)
   found_flag ws vs o is flag words f = record {
     parts = typed_flag (name_of o) ∷ f.parts;
     after = f.after;
@@ -259,20 +302,20 @@ module _ (p : Plan) (c : Takes p) where
     are_typed = (words, refl, f.are_typed);
     is_rest = f.is_rest;
     have_options = (flag_listed o p.known is flag, f.have_options);
-    once = λ q also.
-        subst AtMostOne (append_assoc (vs (name_of q)) (if bytes_eq (name_of o) (name_of q) then codes "true" ∷ [] else []) (values_among (name_of q) f.parts)) (f.once q also);
+    allowed = λ q also.
+        subst (IsAllowed q.form) (append_assoc (vs (name_of q)) (if bytes_eq (name_of o) (name_of q) then codes "true" ∷ [] else []) (values_among (name_of q) f.parts)) (f.allowed q also);
     fits = f.fits;
   }
 
-  found_rest : (ws : List Text) (vs : Text → List Text) (after rest : List Text) → IsRest after rest → EachOnce vs → FitsPlan (ws ++ after) → Found ws vs rest
-  found_rest ws vs after rest is once fits = record {
+  found_rest : (ws : List Text) (vs : Text → List Text) (after rest : List Text) → IsRest after rest → EachAllowed vs → FitsPlan (ws ++ after) → Found ws vs rest
+  found_rest ws vs after rest is allowed fits = record {
     parts = [];
     after = after;
     rest = rest;
     are_typed = refl;
     is_rest = is;
     have_options = tt;
-    once = λ o also. subst AtMostOne (sym (append-nil (vs (name_of o)))) (once o also);
+    allowed = λ o also. subst (IsAllowed o.form) (sym (append-nil (vs (name_of o)))) (allowed o also);
     fits = subst (λ (us : List Text). FitsPlan (us ++ after)) (sym (append-nil ws)) fits;
   }
 
@@ -318,21 +361,21 @@ module _ (p : Plan) (c : Takes p) where
   -- ---- all words, one by one
 
   reads_none : Reads []
-  reads_none h b ws vs g once = elim (ends_or [] h b ws vs g) [
+  reads_none h b ws vs g allowed = elim (ends_or [] h b ws vs g) [
     | inl refused ↦ inl (subst IsRefused (ended_alike h b (at_place p ws)) refused)
-    | inr fits ↦ inr (found_rest ws vs [] [] (inl (refl, refl)) once fits)
+    | inr fits ↦ inr (found_rest ws vs [] [] (inl (refl, refl)) allowed fits)
   ]
 
   reads_dashes : (words : List Text) → Reads (codes "--" ∷ words)
-  reads_dashes words h b ws vs g once = elim (ends_or words h b ws vs g) [
+  reads_dashes words h b ws vs g allowed = elim (ends_or words h b ws vs g) [
     | inl refused ↦ inl (refused_step s (at h (free b) (at_place p ws) false) (at h (free b) (at_place p ws) true) (codes "--") words (dashes_step h b (at_place p ws)) refused)
-    | inr fits ↦ inr (found_rest ws vs words (codes "--" ∷ words) (inr refl) once fits)
+    | inr fits ↦ inr (found_rest ws vs words (codes "--" ∷ words) (inr refl) allowed fits)
   ]
 
   reads_word : (w : Text) (words : List Text) → is_data w ≡ true → Reads words → Reads (w ∷ words)
-  reads_word w words are on h b ws vs g once = elim (word_next p c h b ws vs g w are) [
+  reads_word w words are on h b ws vs g allowed = elim (word_next p c h b ws vs g w are) [
     | inl full ↦ inl (refused_at s (at h (free b) (at_place p ws) false) w words (turn_of_word h b (at_place p ws) w are g.skip (full.0 h)))
-    | inr next ↦ elim (on next.0 next.1 (ws ++ w ∷ []) vs next.2 once) [
+    | inr next ↦ elim (on next.0 next.1 (ws ++ w ∷ []) vs next.2 allowed) [
       | inl refused ↦ inl (refused_step s (at h (free b) (at_place p ws) false) (at next.0 (free next.1) (at_place p (ws ++ w ∷ [])) false) w words next.3 refused)
       | inr f ↦ inr (found_word ws vs w words are f)
     ]
@@ -342,42 +385,49 @@ module _ (p : Plan) (c : Takes p) where
   at_most_if v true = tt
   at_most_if v false = tt
 
-  once_more : (vs : Text → List Text) (o : Known) (is : IsIn o p.known) (v : Text) → vs (name_of o) ≡ [] → EachOnce vs → EachOnce (one_more vs (name_of o) v)
-  once_more vs o is v none once q also = elim (same_or p.known c.ids_apart c.names_apart o q is also) [
-    | inl same ↦ subst (λ (q : Known). AtMostOne (one_more vs (name_of o) v (name_of q))) same
-        (subst (λ (xs : List Text). AtMostOne (xs ++ (if bytes_eq (name_of o) (name_of o) then v ∷ [] else []))) (sym none) (at_most_if v (bytes_eq (name_of o) (name_of o))))
-    | inr differs ↦ subst (λ (b : Bool). AtMostOne (vs (name_of q) ++ (if b then v ∷ [] else []))) (sym differs.1) (subst AtMostOne (sym (append-nil (vs (name_of q)))) (once q also))
+  allowed_more : (vs : Text → List Text) (o : Known) (is : IsIn o p.known) (v : Text) → MayMore o.form (vs (name_of o)) → EachAllowed vs → EachAllowed (one_more vs (name_of o) v)
+  allowed_more vs o is v may allowed q also = elim (same_or p.known c.ids_apart c.names_apart o q is also) [
+    | inl same ↦ subst (λ (q : Known). IsAllowed q.form (one_more vs (name_of o) v (name_of q))) same (this may)
+    | inr differs ↦ subst (λ (b : Bool). IsAllowed q.form (vs (name_of q) ++ (if b then v ∷ [] else []))) (sym differs.1) (subst (IsAllowed q.form) (sym (append-nil (vs (name_of q)))) (allowed q also))
   ]
+    where
+      this : MayMore o.form (vs (name_of o)) → IsAllowed o.form (one_more vs (name_of o) v (name_of o))
+      this (inl many) = subst (λ (form : Form). IsAllowed form (one_more vs (name_of o) v (name_of o))) (sym many) tt
+      this (inr none) = allowed_once o.form (one_more vs (name_of o) v (name_of o))
+          (subst (λ (xs : List Text). AtMostOne (xs ++ (if bytes_eq (name_of o) (name_of o) then v ∷ [] else []))) (sym none) (at_most_if v (bytes_eq (name_of o) (name_of o))))
 
   -- the option was given already
   was_used : (h : Held) (ws : List Text) (vs : Text → List Text) (g : IsGood p h ws vs) (o : Known) (is : IsIn o p.known) (x : Text) (xs : List Text) → vs (name_of o) ≡ x ∷ xs → has_row o.id g.rows ≡ true
-  was_used h ws vs g o is x xs e = one_row o.id g.rows (read_row o.reading o.id (x ∷ [])) (g.chosen o is ∙ ap (given_row o.reading o.id) e)
+  was_used h ws vs g o is x xs e = one_row o.id g.rows (read_row o.reading o.id (x ∷ xs)) (g.chosen o is ∙ ap (values_row o.reading o.id) e)
 
-  module _ (o : Known) (is : IsIn o p.known) (flag : o.is_flag ≡ false) (text : o.reading ≡ text_reading) (valued : IsValued s (name_of o) o.id) where
+  module _ (o : Known) (is : IsIn o p.known) (flag : is_flag o.form ≡ false) (text : o.reading ≡ text_reading) (valued : IsValued s o.form (name_of o) o.id) where
+    -- one more value may come, or the option was given and is used once
+    more_of : (vs : Text → List Text) → MayMore o.form (vs (name_of o)) ⊎ (IsUsedOnce s text_reading o.id × (x : Text) × (xs : List Text) × (vs (name_of o) ≡ x ∷ xs))
+    more_of vs = more_or s o.form o.id valued.usage (vs (name_of o))
+
     reads_valued : (v : Text) (words : List Text) → Reads words → Reads ((name_of o ++ codes "=" ++ v) ∷ words)
-    reads_valued v words on h b ws vs g once = by (vs (name_of o)) refl
+    reads_valued v words on h b ws vs g allowed = elim (more_of vs) [
+      | inl may ↦ new may
+      | inr used ↦ inl (refused_at s (at h (free b) (at_place p ws) false) (name_of o ++ codes "=" ++ v) words
+          (subst IsRefused (sym ((valued.at_free b).valued_turn h (at_place p ws) v))
+          (refused_first _ [] (refused_then (settles s h) (settles s (with_pending (settled s.rules h) o.id (v ∷ [])))
+          (subst (λ (k : Held). IsRefused (settles s k)) (sym (pending_is p c h g.rows o.id (v ∷ []) g.settled_is))
+          (used.0.again g.rows v (was_used h ws vs g o is used.1 used.2 used.3)))))))
+    ]
       where
-        new : vs (name_of o) ≡ [] → Refused h b ws ((name_of o ++ codes "=" ++ v) ∷ words) ⊎ Found ws vs ((name_of o ++ codes "=" ++ v) ∷ words)
-        new none =
+        new : MayMore o.form (vs (name_of o)) → Refused h b ws ((name_of o ++ codes "=" ++ v) ∷ words) ⊎ Found ws vs ((name_of o ++ codes "=" ++ v) ∷ words)
+        new may =
             let to = held g.rows (Some (o.id, v ∷ [])) in
-            let good = settled_good p c to ws (one_more vs (name_of o) v) (option_good p c o is text valued h ws vs g v none) in
-            elim (on (settled s.rules to) false ws (one_more vs (name_of o) v) good (once_more vs o is v none once)) [
+            let good = settled_good p c to ws (one_more vs (name_of o) v) (option_good p c o is text valued h ws vs g v may) in
+            elim (on (settled s.rules to) false ws (one_more vs (name_of o) v) good (allowed_more vs o is v may allowed)) [
               | inl refused ↦ inl (refused_step s (at h (free b) (at_place p ws) false) (at (settled s.rules to) idle (at_place p ws) false) (name_of o ++ codes "=" ++ v) words
-                  (valued_steps p c o is text valued h b ws vs g v none) refused)
+                  (valued_steps p c o is text valued h b ws vs g v may) refused)
               | inr f ↦ inr (found_option ws vs o is flag v ((name_of o ++ codes "=" ++ v) ∷ words) words (inr refl) f)
             ]
 
-        by : (xs : List Text) → vs (name_of o) ≡ xs → Refused h b ws ((name_of o ++ codes "=" ++ v) ∷ words) ⊎ Found ws vs ((name_of o ++ codes "=" ++ v) ∷ words)
-        by [] e = new e
-        by (x ∷ xs) e = inl (refused_at s (at h (free b) (at_place p ws) false) (name_of o ++ codes "=" ++ v) words
-            (subst IsRefused (sym ((valued.at_free b).valued_turn h (at_place p ws) v))
-            (refused_first _ [] (refused_then (settles s h) (settles s (with_pending (settled s.rules h) o.id (v ∷ [])))
-            (subst (λ (k : Held). IsRefused (settles s k)) (sym (pending_is p c h g.rows o.id (v ∷ []) g.settled_is))
-            (valued.once.again g.rows v (was_used h ws vs g o is x xs e)))))))
-
     reads_alone : (words : List Text) → Reads (drop 1 words) → Reads (name_of o ∷ words)
-    reads_alone words on h b ws vs g once = elim (value_or_not bare (held_skip g.rows (Some (o.id, []))) bad (at_place p ws) (stands_at p c bare ws vs h g bad) o.id words) [
-      | inl next ↦ by next.0 next.1 next.2 next.3 (vs (name_of o)) refl
+    reads_alone words on h b ws vs g allowed = elim (value_or_not bare (held_skip g.rows (Some (o.id, []))) bad (at_place p ws) (stands_at p c bare ws vs h g bad) o.id words) [
+      | inl next ↦ by next.0 next.1 next.2 next.3
       | inr refused ↦ inl (refused_step s (at h (free b) (at_place p ws) false) (at bare (option o.id) (at_place p ws) false) (name_of o) words steps refused)
     ]
       where
@@ -397,31 +447,36 @@ module _ (p : Plan) (c : Takes p) where
             (subst (λ (us : List Text). IsRefused (mistakes_from s (at bare (option o.id) (at_place p ws) false) us)) (sym e)
             (refused_step s (at bare (option o.id) (at_place p ws) false) (at (held g.rows (Some (o.id, v ∷ []))) idle (at_place p ws) false) v rest (valued.takes g.rows (at_place p ws) v are) refused))
 
-        by : (v : Text) (rest : List Text) → words ≡ v ∷ rest → is_data v ≡ true → (xs : List Text) → vs (name_of o) ≡ xs → Refused h b ws (name_of o ∷ words) ⊎ Found ws vs (name_of o ∷ words)
-        by v rest e are [] none =
+        new : (v : Text) (rest : List Text) → words ≡ v ∷ rest → is_data v ≡ true → MayMore o.form (vs (name_of o)) → Refused h b ws (name_of o ∷ words) ⊎ Found ws vs (name_of o ∷ words)
+        new v rest e are may =
             elim (subst Reads (ap (drop 1) e) on (held g.rows (Some (o.id, v ∷ []))) false ws (one_more vs (name_of o) v)
-            (option_good p c o is text valued h ws vs g v none) (once_more vs o is v none once)) [
+            (option_good p c o is text valued h ws vs g v may) (allowed_more vs o is v may allowed)) [
               | inl refused ↦ inl (behind v rest e are refused)
               | inr f ↦ inr (found_option ws vs o is flag v (name_of o ∷ words) rest (inl (ap (λ (us : List Text). name_of o ∷ us) e, are)) f)
             ]
-        by v rest e are (x ∷ xs) k =
-            let again = valued.once.again g.rows v (was_used h ws vs g o is x xs k) in
-            let twice = held g.rows (Some (o.id, v ∷ [])) in
-            inl (behind v rest e are (from_idle twice (held_skip g.rows (Some (o.id, v ∷ []))) again (at_place p ws) (stands_at p c twice ws vs h g again) rest))
+
+        by : (v : Text) (rest : List Text) → words ≡ v ∷ rest → is_data v ≡ true → Refused h b ws (name_of o ∷ words) ⊎ Found ws vs (name_of o ∷ words)
+        by v rest e are = elim (more_of vs) [
+          | inl may ↦ new v rest e are may
+          | inr used ↦
+              let again = used.0.again g.rows v (was_used h ws vs g o is used.1 used.2 used.3) in
+              let twice = held g.rows (Some (o.id, v ∷ [])) in
+              inl (behind v rest e are (from_idle twice (held_skip g.rows (Some (o.id, v ∷ []))) again (at_place p ws) (stands_at p c twice ws vs h g again) rest))
+        ]
 
   repeated_refused : IsRefused (repeats true)
   unfolding IsRefused
   repeated_refused = tt
 
-  reads_flag : (o : Known) (is : IsIn o p.known) (flag : o.is_flag ≡ true) (as_flag : IsFlag s o.reading (name_of o) o.id) (words : List Text) → Reads words → Reads (name_of o ∷ words)
-  reads_flag o is flag as_flag words on h b ws vs g once = by (vs (name_of o)) refl
+  reads_flag : (o : Known) (is : IsIn o p.known) (flag : is_flag o.form ≡ true) (as_flag : IsFlag s o.reading (name_of o) o.id) (words : List Text) → Reads words → Reads (name_of o ∷ words)
+  reads_flag o is flag as_flag words on h b ws vs g allowed = by (vs (name_of o)) refl
     where
       to : Held
       to = held (flag_rows p c o is as_flag g.rows) None
 
       by : (xs : List Text) → vs (name_of o) ≡ xs → Refused h b ws (name_of o ∷ words) ⊎ Found ws vs (name_of o ∷ words)
       by [] none =
-          elim (on to false ws (one_more vs (name_of o) (codes "true")) (flag_good p c o is as_flag h ws vs g none) (once_more vs o is (codes "true") none once)) [
+          elim (on to false ws (one_more vs (name_of o) (codes "true")) (flag_good p c o is as_flag h ws vs g none) (allowed_more vs o is (codes "true") (inr none) allowed)) [
             | inl refused ↦ inl (refused_step s (at h (free b) (at_place p ws) false) (at to idle (at_place p ws) false) (name_of o) words (flag_steps p c o is as_flag h b ws vs g none) refused)
             | inr f ↦ inr (found_flag ws vs o is flag words f)
           ]
@@ -435,7 +490,7 @@ module _ (p : Plan) (c : Takes p) where
   reads_option o is word words on behind (inr v) (inl k) = subst (λ (w : Text). Reads (w ∷ words)) (sym v.1) (reads_valued o is k.0 k.1 k.2 v.0 words on)
   reads_option o is word words on behind (inl same) (inr k) = subst (λ (w : Text). Reads (w ∷ words)) (sym same) (reads_flag o is k.0 k.1 words on)
   reads_option o is word words on behind (inr v) (inr k) =
-      λ h b ws vs g once. inl (refused_at s (at h (free b) (at_place p ws) false) word words
+      λ h b ws vs g allowed. inl (refused_at s (at h (free b) (at_place p ws) false) word words
       (turn_of_option h b (at_place p ws) word (subst (λ (w : Text). IsRefused (other_fault s None w h)) (sym v.1) (k.1.valued v.0 h g.skip))))
 
   reads_one : (word : Text) (words : List Text) → Reads words → Reads (drop 1 words) → Reads (word ∷ words)
@@ -445,7 +500,7 @@ module _ (p : Plan) (c : Takes p) where
       | inl are ↦ reads_word word words are on
       | inr taken ↦ elim (c.told word (record { taken = taken; other = other })) [
         | inl this ↦ reads_option this.0 this.1 word words on behind this.2 (known_as this.0 this.1)
-        | inr refused ↦ λ h b ws vs g once. inl (refused_at s (at h (free b) (at_place p ws) false) word words (turn_of_option h b (at_place p ws) word (refused h g.skip)))
+        | inr refused ↦ λ h b ws vs g allowed. inl (refused_at s (at h (free b) (at_place p ws) false) word words (turn_of_option h b (at_place p ws) word (refused h g.skip)))
       ]
     ]
   ]
@@ -463,7 +518,7 @@ module _ (p : Plan) (c : Takes p) where
       are_typed = f.are_typed;
       is_rest = f.is_rest;
       have_options = subst (λ (os : Options). HaveOptionsOf os f.parts) (sym c.listed) f.have_options;
-      once = subst (λ (os : Options). AreOnce os (λ n. values_among n f.parts)) (sym c.listed) (are_once p.known (λ n. values_among n f.parts) f.once);
+      allowed = subst (λ (os : Options). AreAllowed os (λ n. values_among n f.parts)) (sym c.listed) (are_allowed p.known (λ n. values_among n f.parts) f.allowed);
       given_are = refl;
       values_are = λ n. refl;
     },
@@ -472,7 +527,7 @@ module _ (p : Plan) (c : Takes p) where
 
   -- what isn't mistaken is spelled
   unmistaken : (called : Text) (behind : List Text) → mistakes_in (called ∷ p.command ∷ behind) ≡ [] → (given : List Text) × (values : Text → List Text) × AreTaken p.with_options behind given values
-  unmistaken called behind none = elim ((reads_both behind).0 nothing_held false [] (λ n. []) (good_start p c) (λ o is. tt)) [
+  unmistaken called behind none = elim ((reads_both behind).0 nothing_held false [] (λ n. []) (good_start p c) (λ o is. allowed_once o.form [] tt)) [
     | inl refused ↦ refused_isnt _ (refused_from p.command s c.is called behind behind (walk_from nothing_held) (refl, refl) refused) none
     | inr f ↦ (words_among f.parts ++ f.after, (λ n. values_among n f.parts), typed_of behind f)
   ]
@@ -504,51 +559,45 @@ module _ (p : Plan) (c : Takes p) where
     leads = leads_on s (at h (free b) (at_place p ws) d) (at mid (free m) (at_place p us) d) (at on.to (free on.many) (at_place p ends) e) word words others step on.leads;
   }
 
-  only_before : (xs ys : List Text) (v : Text) (b : Bool) → b ≡ true → AtMostOne (xs ++ ((if b then v ∷ [] else []) ++ ys)) → xs ≡ []
-  only_before [] ys v b is fits = refl
-  only_before (x ∷ []) ys v true is fits = absurd fits
-  only_before (x ∷ y ∷ xs) ys v true is fits = absurd fits
-  only_before (x ∷ xs) ys v false is fits = absurd (is_none is)
-
   abbrev Passes : List Part → Type 0
   Passes parts = (rest words after : List Text) (h : Held) (b : Bool) (ws : List Text) (vs : Text → List Text) → IsGood p h ws vs → AreTyped parts rest words → HaveOptionsOf (listed_of p.known) parts
-      → FitsPlan ((ws ++ words_among parts) ++ after) → ((o : Known) → IsIn o p.known → AtMostOne (vs (name_of o) ++ values_among (name_of o) parts))
+      → FitsPlan ((ws ++ words_among parts) ++ after) → ((o : Known) → IsIn o p.known → IsAllowed o.form (vs (name_of o) ++ values_among (name_of o) parts))
       → Goes h b ws words false false (ws ++ words_among parts) (λ n. vs n ++ values_among n parts) rest
 
   pass_word : (w : Text) (parts : List Part) → Passes parts → Passes (typed_word w ∷ parts)
-  pass_word w parts on rest words after h b ws vs g typed have fits once = elim (word_next p c h b ws vs g w typed.2) [
+  pass_word w parts on rest words after h b ws vs g typed have fits allowed = elim (word_next p c h b ws vs g w typed.2) [
     | inl full ↦ absurd (out_of_room p.required p.optional p.more ws w (words_among parts ++ after) full.1 (subst FitsPlan (append_assoc ws (w ∷ words_among parts) after) fits))
     | inr next ↦
         let further = on rest typed.0 after next.0 next.1 (ws ++ w ∷ []) vs next.2 typed.3 have
-        (subst (λ (us : List Text). FitsPlan (us ++ after)) (sym (append_assoc ws (w ∷ []) (words_among parts))) fits) once in
+        (subst (λ (us : List Text). FitsPlan (us ++ after)) (sym (append_assoc ws (w ∷ []) (words_among parts))) fits) allowed in
         subst (λ (us : List Text). Goes h b ws us false false (ws ++ w ∷ words_among parts) (λ n. vs n ++ values_among n parts) rest) (sym typed.1)
         (subst (λ (us : List Text). Goes h b ws (w ∷ typed.0) false false us (λ n. vs n ++ values_among n parts) rest) (append_assoc ws (w ∷ []) (words_among parts))
         (goes_on h next.0 b next.1 ws (ws ++ w ∷ []) ((ws ++ w ∷ []) ++ words_among parts) w typed.0 rest false false (λ n. vs n ++ values_among n parts) next.3 further))
   ]
 
   module _ (o : Known) (is : IsIn o p.known) (v : Text) (parts : List Part) (on : Passes parts) (rest typed after ws : List Text) (vs : Text → List Text) (have : HaveOptionsOf (listed_of p.known) parts)
-      (fits : FitsPlan ((ws ++ words_among parts) ++ after)) (once : (q : Known) → IsIn q p.known → AtMostOne (vs (name_of q) ++ ((if bytes_eq (name_of o) (name_of q) then v ∷ [] else []) ++ values_among (name_of q) parts)))
+      (fits : FitsPlan ((ws ++ words_among parts) ++ after)) (allowed : (q : Known) → IsIn q p.known → IsAllowed q.form (vs (name_of q) ++ ((if bytes_eq (name_of o) (name_of q) then v ∷ [] else []) ++ values_among (name_of q) parts)))
       (are : AreTyped parts rest typed) where
     abbrev Ends : Held → Bool → List Text → Type 0
     Ends h b words = Goes h b ws words false false (ws ++ words_among parts) (λ n. vs n ++ ((if bytes_eq (name_of o) n then v ∷ [] else []) ++ values_among n parts)) rest
 
-    none_before : vs (name_of o) ≡ []
-    none_before = only_before (vs (name_of o)) (values_among (name_of o) parts) v (bytes_eq (name_of o) (name_of o)) ((bytes_eq-Decides (name_of o) (name_of o)).1 refl) (once o is)
+    may_more : MayMore o.form (vs (name_of o))
+    may_more = may_before o.form (vs (name_of o)) (values_among (name_of o) parts) v (bytes_eq (name_of o) (name_of o)) ((bytes_eq-Decides (name_of o) (name_of o)).1 refl) (allowed o is)
 
-    once_behind : (q : Known) → IsIn q p.known → AtMostOne (one_more vs (name_of o) v (name_of q) ++ values_among (name_of q) parts)
-    once_behind q also = subst AtMostOne (sym (append_assoc (vs (name_of q)) (if bytes_eq (name_of o) (name_of q) then v ∷ [] else []) (values_among (name_of q) parts))) (once q also)
+    allowed_behind : (q : Known) → IsIn q p.known → IsAllowed q.form (one_more vs (name_of o) v (name_of q) ++ values_among (name_of q) parts)
+    allowed_behind q also = subst (IsAllowed q.form) (sym (append_assoc (vs (name_of q)) (if bytes_eq (name_of o) (name_of q) then v ∷ [] else []) (values_among (name_of q) parts))) (allowed q also)
 
     on_from : (k : Held) → IsGood p k ws (one_more vs (name_of o) v) → Ends k false typed
     on_from k good =
         subst (λ (xs : Text → List Text). Goes k false ws typed false false (ws ++ words_among parts) xs rest)
         (λ i n. append_assoc (vs n) (if bytes_eq (name_of o) n then v ∷ [] else []) (values_among n parts) i)
-        (on rest typed after k false ws (one_more vs (name_of o) v) good are have fits once_behind)
+        (on rest typed after k false ws (one_more vs (name_of o) v) good are have fits allowed_behind)
 
-    pass_valued : (text : o.reading ≡ text_reading) (valued : IsValued s (name_of o) o.id) (words : List Text) (h : Held) (b : Bool) (g : IsGood p h ws vs) → IsOptionWith (name_of o) v words typed → Ends h b words
+    pass_valued : (text : o.reading ≡ text_reading) (valued : IsValued s o.form (name_of o) o.id) (words : List Text) (h : Held) (b : Bool) (g : IsGood p h ws vs) → IsOptionWith (name_of o) v words typed → Ends h b words
     pass_valued text valued words h b g (inl typed_is) =
         let bare = held g.rows (Some (o.id, [])) in
         let whole = held g.rows (Some (o.id, v ∷ [])) in
-        let further = on_from whole (option_good p c o is text valued h ws vs g v none_before) in
+        let further = on_from whole (option_good p c o is text valued h ws vs g v may_more) in
         subst (Ends h b) (sym typed_is.0)
         (record {
           to = further.to;
@@ -561,31 +610,31 @@ module _ (p : Plan) (c : Takes p) where
         })
     pass_valued text valued words h b g (inr typed_is) =
         let whole = held g.rows (Some (o.id, v ∷ [])) in
-        let good = settled_good p c whole ws (one_more vs (name_of o) v) (option_good p c o is text valued h ws vs g v none_before) in
+        let good = settled_good p c whole ws (one_more vs (name_of o) v) (option_good p c o is text valued h ws vs g v may_more) in
         subst (Ends h b) (sym typed_is)
         (goes_on h (settled s.rules whole) b false ws ws (ws ++ words_among parts) (name_of o ++ codes "=" ++ v) typed rest false false
-        (λ n. vs n ++ ((if bytes_eq (name_of o) n then v ∷ [] else []) ++ values_among n parts)) (valued_steps p c o is text valued h b ws vs g v none_before) (on_from (settled s.rules whole) good))
+        (λ n. vs n ++ ((if bytes_eq (name_of o) n then v ∷ [] else []) ++ values_among n parts)) (valued_steps p c o is text valued h b ws vs g v may_more) (on_from (settled s.rules whole) good))
 
-  pass_flag : (o : Known) (is : IsIn o p.known) (as_flag : IsFlag s o.reading (name_of o) o.id) (parts : List Part) → Passes parts → (rest words after : List Text) (h : Held) (b : Bool) (ws : List Text) (vs : Text → List Text)
+  pass_flag : (o : Known) (is : IsIn o p.known) (flag : is_flag o.form ≡ true) (as_flag : IsFlag s o.reading (name_of o) o.id) (parts : List Part) → Passes parts → (rest words after : List Text) (h : Held) (b : Bool) (ws : List Text) (vs : Text → List Text)
       → IsGood p h ws vs → AreTyped (typed_flag (name_of o) ∷ parts) rest words → HaveOptionsOf (listed_of p.known) parts → FitsPlan ((ws ++ words_among parts) ++ after)
-      → ((q : Known) → IsIn q p.known → AtMostOne (vs (name_of q) ++ values_among (name_of q) (typed_flag (name_of o) ∷ parts)))
+      → ((q : Known) → IsIn q p.known → IsAllowed q.form (vs (name_of q) ++ values_among (name_of q) (typed_flag (name_of o) ∷ parts)))
       → Goes h b ws words false false (ws ++ words_among parts) (λ n. vs n ++ values_among n (typed_flag (name_of o) ∷ parts)) rest
-  pass_flag o is as_flag parts on rest words after h b ws vs g typed have fits once =
-      let none = none_before o is (codes "true") parts on rest typed.0 after ws vs have fits once typed.2 in
+  pass_flag o is flag as_flag parts on rest words after h b ws vs g typed have fits allowed =
+      let none = flag_before o.form (vs (name_of o)) flag (may_more o is (codes "true") parts on rest typed.0 after ws vs have fits allowed typed.2) in
       let to = held (flag_rows p c o is as_flag g.rows) None in
-      subst (Ends o is (codes "true") parts on rest typed.0 after ws vs have fits once typed.2 h b) (sym typed.1)
+      subst (Ends o is (codes "true") parts on rest typed.0 after ws vs have fits allowed typed.2 h b) (sym typed.1)
       (goes_on h to b false ws ws (ws ++ words_among parts) (name_of o) typed.0 rest false false
       (λ n. vs n ++ values_among n (typed_flag (name_of o) ∷ parts)) (flag_steps p c o is as_flag h b ws vs g none)
-      (on_from o is (codes "true") parts on rest typed.0 after ws vs have fits once typed.2 to (flag_good p c o is as_flag h ws vs g none)))
+      (on_from o is (codes "true") parts on rest typed.0 after ws vs have fits allowed typed.2 to (flag_good p c o is as_flag h ws vs g none)))
 
-  pass_named : (o : Known) (is : IsIn o p.known) (v : Text) (parts : List Part) → o.is_flag ≡ false → IsAsKnown s o → Passes parts → Passes (typed_option (name_of o) v ∷ parts)
-  pass_named o is v parts flag (inl k) on rest words after h b ws vs g typed have fits once =
-      pass_valued o is v parts on rest typed.0 after ws vs have.1 fits once typed.2 k.1 k.2 words h b g typed.1
-  pass_named o is v parts flag (inr k) on rest words after h b ws vs g typed have fits once = absurd (is_none (sym flag ∙ k.0))
+  pass_named : (o : Known) (is : IsIn o p.known) (v : Text) (parts : List Part) → is_flag o.form ≡ false → IsAsKnown s o → Passes parts → Passes (typed_option (name_of o) v ∷ parts)
+  pass_named o is v parts flag (inl k) on rest words after h b ws vs g typed have fits allowed =
+      pass_valued o is v parts on rest typed.0 after ws vs have.1 fits allowed typed.2 k.1 k.2 words h b g typed.1
+  pass_named o is v parts flag (inr k) on rest words after h b ws vs g typed have fits allowed = absurd (is_none (sym flag ∙ k.0))
 
-  pass_flagged : (o : Known) (is : IsIn o p.known) (parts : List Part) → o.is_flag ≡ true → IsAsKnown s o → Passes parts → Passes (typed_flag (name_of o) ∷ parts)
-  pass_flagged o is parts flag (inl k) on rest words after h b ws vs g typed have fits once = absurd (is_none (sym k.0 ∙ flag))
-  pass_flagged o is parts flag (inr k) on rest words after h b ws vs g typed have fits once = pass_flag o is k.1 parts on rest words after h b ws vs g typed have.1 fits once
+  pass_flagged : (o : Known) (is : IsIn o p.known) (parts : List Part) → is_flag o.form ≡ true → IsAsKnown s o → Passes parts → Passes (typed_flag (name_of o) ∷ parts)
+  pass_flagged o is parts flag (inl k) on rest words after h b ws vs g typed have fits allowed = absurd (is_none (sym k.0 ∙ flag))
+  pass_flagged o is parts flag (inr k) on rest words after h b ws vs g typed have fits allowed = pass_flag o is flag k.1 parts on rest words after h b ws vs g typed have.1 fits allowed
 
   pass_option : (n v : Text) (parts : List Part) → Passes parts → Passes (typed_option n v ∷ parts)
   pass_option n v parts on rest words after h b ws vs g typed have =
@@ -598,7 +647,7 @@ module _ (p : Plan) (c : Takes p) where
       subst (λ (m : Text). Passes (typed_flag m ∷ parts)) (sym o.2) (pass_flagged o.0 o.1 parts o.3 (known_as o.0 o.1) on) rest words after h b ws vs g typed have
 
   pass_none : Passes []
-  pass_none rest words after h b ws vs g typed have fits once = record {
+  pass_none rest words after h b ws vs g typed have fits allowed = record {
     to = h;
     many = b;
     good = good_as p c h ws (ws ++ []) vs (λ n. vs n ++ []) g (sym (append-nil ws)) (λ n. sym (append-nil (vs n)));
@@ -656,9 +705,9 @@ module _ (p : Plan) (c : Takes p) where
       let other = valued_among n p.known have.0 in
       true_one n v (values_among (name_of o) parts) (bytes_eq n (name_of o)) (λ same. absurd (not_both other.0 other.1 (sym ((bytes_eq-Decides n (name_of o)).0 same) ∙ other.2) other.3)) (flags_true parts have.1 o is flag)
     where
-      not_both : (q : Known) → IsIn q p.known → name_of o ≡ name_of q → q.is_flag ≡ false → ⊥
+      not_both : (q : Known) → IsIn q p.known → name_of o ≡ name_of q → is_flag q.form ≡ false → ⊥
       not_both q also names none = elim (same_or p.known c.ids_apart c.names_apart o q is also) [
-        | inl same ↦ is_none (sym none ∙ ap (λ (k : Known). k.is_flag) (sym same) ∙ flag)
+        | inl same ↦ is_none (sym none ∙ ap (λ (k : Known). is_flag k.form) (sym same) ∙ flag)
         | inr differs ↦ is_none (sym differs.1 ∙ (bytes_eq-Decides (name_of o) (name_of q)).1 names)
       ]
   flags_true (typed_flag n ∷ parts) have o is flag =
@@ -681,9 +730,9 @@ module _ (p : Plan) (c : Takes p) where
       let vs : Text → List Text = λ n. values_among n t.parts in
       let ws = words_among t.parts in
       let have = subst (λ (os : Options). HaveOptionsOf os t.parts) c.listed t.have_options in
-      let once = each_once p.known vs (subst (λ (os : Options). AreOnce os vs) c.listed t.once) in
+      let allowed = each_allowed p.known vs (subst (λ (os : Options). AreAllowed os vs) c.listed t.allowed) in
       let fits : FitsPlan (ws ++ t.after) = subst FitsPlan t.given_are (c.taken given are.1) in
-      let goes = passes t.parts t.rest behind t.after nothing_held false [] (λ n. []) (good_start p c) t.are_typed have fits once in
+      let goes = passes t.parts t.rest behind t.after nothing_held false [] (λ n. []) (good_start p c) t.are_typed have fits allowed in
       let from = comes_from_free called behind t.rest t.after goes.to goes.many (at_place p ws) goes.good.skip (dashes_or_none t.after t.rest t.is_rest) goes.leads in
       subst (λ (ws : List Text). Means called behind ws values) (sym t.given_are)
       (subst (λ (xs : Text → List Text). Means called behind (ws ++ t.after) xs) (λ i n. sym (t.values_are n) i)

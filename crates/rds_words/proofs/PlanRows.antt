@@ -1,6 +1,6 @@
 -- What stands under the ids of a command's words and options at the end, and how many words are taken.
 use Rattle.std.proofs.Common.{◌≡◌, ◌∙◌, ◌||◌, ◌==◌, Bool, true, false, List, [], ◌∷◌, codes, length, Option, Some, None, refl, sym, ap, arith, inl, inr}
-use Rattle.std.specs.Prelude.{fold, nat_le, option_and_then, option_map, slice_get}
+use Rattle.std.specs.Prelude.{fold, nat_le, option_and_then, option_map, slice_get, unwrap_or}
 use Rattle.std.specs.Option.{option_map_or}
 use Rattle.std.specs.Str.{bytes_eq}
 use Rattle.std.proofs.lemmas.Bool.{cases_Bool, eqb-true, le-leb}
@@ -15,7 +15,7 @@ use Rattle.rds_words.specs.WithOptions.{is_there, value_or}
 use Rattle.rds_words.proofs.Defaulted.{HasDefault, HasNoDefault, first_default, row_kept, row_missing}
 use Rattle.rds_words.proofs.OptionNames.{is_none}
 use Rattle.rds_words.proofs.PlanWalk.{Fits, IsTrue}
-use Rattle.rds_words.proofs.Plans.{given_row, read_row, text_reading}
+use Rattle.rds_words.proofs.Plans.{read_row, text_reading, values_row}
 use Rattle.rds_words.proofs.RowsById.{row_at}
 
 abbrev pub flag_reading : Reading
@@ -23,8 +23,11 @@ flag_reading = reading_of (parser_of_value (Some parser.Bool))
 
 -- ---- under an id
 
+first_among : (c : List Rule) (rows : List Row) (id v : Text) (vs : List Text) (reading : Reading) → row_at id rows ≡ Some (read_row reading id (v ∷ vs)) → first_of id (fold with_default rows c) ≡ Some v
+first_among c rows id v vs reading is = ap (λ (f : Option Row). option_and_then (λ r. slice_get r.values 0) f) (row_kept c rows id (read_row reading id (v ∷ vs)) is)
+
 pub first_there : (c : List Rule) (rows : List Row) (id v : Text) (reading : Reading) → row_at id rows ≡ Some (read_row reading id (v ∷ [])) → first_of id (fold with_default rows c) ≡ Some v
-first_there c rows id v reading is = ap (λ (f : Option Row). option_and_then (λ r. slice_get r.values 0) f) (row_kept c rows id (read_row reading id (v ∷ [])) is)
+first_there c rows id v reading is = first_among c rows id v [] reading is
 
 pub first_missing : (c : List Rule) (rows : List Row) (id : Text) → HasNoDefault id c → row_at id rows ≡ None → first_of id (fold with_default rows c) ≡ None
 first_missing c rows id has none = ap (λ (f : Option Row). option_and_then (λ r. slice_get r.values 0) f) (row_missing c rows id has none)
@@ -36,21 +39,27 @@ pub all_there : (c : List Rule) (rows : List Row) (id : Text) (vs : List Text) �
 all_there c rows id vs is = ap (option_map (λ (r : Row). r.values)) (row_kept c rows id (read_row text_reading id vs) is)
 
 -- an option with a value, which has this one where it isn't given
-pub value_given : (c : List Rule) (rows : List Row) (id d : Text) (given : List Text) → HasDefault id d c → row_at id rows ≡ given_row text_reading id given → first_of id (fold with_default rows c) ≡ Some (value_or d given)
+pub value_given : (c : List Rule) (rows : List Row) (id d : Text) (given : List Text) → HasDefault id d c → row_at id rows ≡ values_row text_reading id given → first_of id (fold with_default rows c) ≡ Some (value_or d given)
 value_given c rows id d [] has is = first_default c rows id d has is
-value_given c rows id d (v ∷ vs) has is = first_there c rows id v text_reading is
+value_given c rows id d (v ∷ vs) has is = first_among c rows id v vs text_reading is
 
 -- or none
-pub value_there : (c : List Rule) (rows : List Row) (id : Text) (given : List Text) → HasNoDefault id c → row_at id rows ≡ given_row text_reading id given → first_of id (fold with_default rows c) ≡ slice_get given 0
+pub value_there : (c : List Rule) (rows : List Row) (id : Text) (given : List Text) → HasNoDefault id c → row_at id rows ≡ values_row text_reading id given → first_of id (fold with_default rows c) ≡ slice_get given 0
 value_there c rows id [] has is = first_missing c rows id has is
-value_there c rows id (v ∷ vs) has is = first_there c rows id v text_reading is
+value_there c rows id (v ∷ vs) has is = first_among c rows id v vs text_reading is
+
+-- or any number of them
+pub values_there : (c : List Rule) (rows : List Row) (id : Text) (given : List Text) → HasNoDefault id c → row_at id rows ≡ values_row text_reading id given
+    → unwrap_or (all_of id (fold with_default rows c)) [] ≡ given
+values_there c rows id [] has is = ap (λ (ws : Option (List Text)). unwrap_or ws []) (all_missing c rows id has is)
+values_there c rows id (v ∷ vs) has is = ap (λ (ws : Option (List Text)). unwrap_or ws []) (all_there c rows id (v ∷ vs) is)
 
 -- an option without a value
-pub flag_given : (c : List Rule) (rows : List Row) (id : Text) (given : List Text) → HasDefault id (codes "false") c → IsTrue given → row_at id rows ≡ given_row flag_reading id given
+pub flag_given : (c : List Rule) (rows : List Row) (id : Text) (given : List Text) → HasDefault id (codes "false") c → IsTrue given → row_at id rows ≡ values_row flag_reading id given
     → is_given id (fold with_default rows c) ≡ is_there given
 flag_given c rows id [] has are is = ap (λ (w : Option Text). option_map_or (λ word. bytes_eq word (codes "true")) w false) (first_default c rows id (codes "false") has is)
 flag_given c rows id (v ∷ vs) has are is =
-    ap (λ (w : Option Text). option_map_or (λ word. bytes_eq word (codes "true")) w false) (first_there c rows id v flag_reading is) ∙ ap (λ (t : Text). bytes_eq t (codes "true")) are
+    ap (λ (w : Option Text). option_map_or (λ word. bytes_eq word (codes "true")) w false) (first_among c rows id v vs flag_reading is) ∙ ap (λ (t : Text). bytes_eq t (codes "true")) are
 
 -- ---- how many words
 

@@ -16,12 +16,13 @@ use Rattle.clap.specs.declared.error.kind.ErrorKind.TheVariants as kind
 use Rattle.clap.specs.declared.parser.matches.ValueSource.TheVariants.{CommandLine}
 use Rattle.rds_names.specs.Conditions.{and_left, and_right}
 use Rattle.rds_words.specs.Task.{words_in}
+use Rattle.rds_words.specs.Typed.{Form, many_values, no_value, one_value}
 use Rattle.rds_words.specs.WithOptions.{WithOptions}
 use Rattle.rds_words.specs.Written.{is_data}
 use Rattle.rds_words.proofs.Dashed.{at, data_turn, is_free, value_next}
 use Rattle.rds_words.proofs.Defaulted.{AreQuiet, HasNoDefault}
 use Rattle.rds_words.proofs.Passing.{Steps}
-use Rattle.rds_words.proofs.Plans.{AreAt, IsIn, Keeps, Known, all_in, are_apart, at_kept, differ, is_apart, more_ids, name_of, none_at, given_row, read_row, same_or, text_reading, other_differs, with_one, with_one_keeps, with_one_new, with_one_there}
+use Rattle.rds_words.proofs.Plans.{AreAt, IsIn, Keeps, Known, all_in, are_apart, at_kept, differ, is_apart, more_ids, name_of, none_at, read_row, same_or, text_reading, other_differs, values_row, with_one, with_one_keeps, with_one_new, with_one_there}
 use Rattle.rds_words.proofs.Refusing.{IsAlwaysRefused, IsOption, IsRefused}
 use Rattle.rds_words.proofs.RowsById.{at_no_row, find_new, find_past, no_row, row_at, without_none}
 use Rattle.rds_words.proofs.Splitting.{IsCommand}
@@ -60,6 +61,17 @@ pub record IsUsedOften (s : Shape) (id : Text) : Type 0 where
   pub clean : (rows : List Row) (v : Text) → settles s (held rows (Some (id, v ∷ []))) ≡ []
   pub gives : (rows : List Row) (v : Text) → settled s.rules (held rows (Some (id, v ∷ []))) ≡ held (with_one id v rows) None
 
+-- the value of an option of this form is used so
+abbrev pub IsUsedAs : Form → Shape → Text → Type 0
+IsUsedAs no_value s id = ⊥
+IsUsedAs one_value s id = IsUsedOnce s text_reading id
+IsUsedAs many_values s id = IsUsedOften s id
+
+abbrev pub is_flag : Form → Bool
+is_flag no_value = true
+is_flag one_value = false
+is_flag many_values = false
+
 -- what takes the word at this position, of those that are no options
 pub record IsPlace (s : Shape) (position next : ℕ) (id : Text) (many : Bool) : Type 0 where
   pub rule : Rule
@@ -86,8 +98,8 @@ pub record IsValuedAt (s : Shape) (name id : Text) (waiting : Waiting) : Type 0 
       → turn_fault s [] (at h waiting position false) (name ++ codes "=" ++ v) ≡ or_else (or_else (settles s h) (settles s (with_pending (settled s.rules h) id (v ∷ [])))) []
 
 -- an option of this name, which has a value
-pub record IsValued (s : Shape) (name id : Text) : Type 0 where
-  pub once : IsUsedOnce s text_reading id
+pub record IsValued (s : Shape) (form : Form) (name id : Text) : Type 0 where
+  pub usage : IsUsedAs form s id
   -- it can't do without a value
   pub bare : (rows : List Row) → IsRefused (settles s (held rows (Some (id, []))))
   pub at_free : (b : Bool) → IsValuedAt s name id (free b)
@@ -113,8 +125,8 @@ pub record IsFlag (s : Shape) (reading : Reading) (name id : Text) : Type 0 wher
 
 abbrev pub IsAsKnown : Shape → Known → Type 0
 IsAsKnown s o =
-    ((o.is_flag ≡ false) × (o.reading ≡ text_reading) × IsValued s (name_of o) o.id)
-    ⊎ ((o.is_flag ≡ true) × IsFlag s o.reading (name_of o) o.id)
+    ((is_flag o.form ≡ false) × (o.reading ≡ text_reading) × IsValued s o.form (name_of o) o.id)
+    ⊎ ((is_flag o.form ≡ true) × IsFlag s o.reading (name_of o) o.id)
 
 abbrev pub AreAsKnown : Shape → List Known → Type 0
 AreAsKnown s [] = ⊤
@@ -175,7 +187,7 @@ places_of p = ids_of p ++ more_ids p.more
 
 -- under each option's id stands what was given of it
 abbrev pub AreChosen : List Known → (Text → List Text) → List Row → Type 0
-AreChosen known vs rows = (o : Known) → IsIn o known → row_at o.id rows ≡ given_row o.reading o.id (vs (name_of o))
+AreChosen known vs rows = (o : Known) → IsIn o known → row_at o.id rows ≡ values_row o.reading o.id (vs (name_of o))
 
 -- what has no value has `true`
 abbrev pub IsTrue : List Text → Type 0
@@ -183,7 +195,7 @@ IsTrue [] = ⊤
 IsTrue (v ∷ vs) = v ≡ codes "true"
 
 abbrev pub AreTrue : List Known → (Text → List Text) → Type 0
-AreTrue known vs = (o : Known) → IsIn o known → o.is_flag ≡ true → IsTrue (vs (name_of o))
+AreTrue known vs = (o : Known) → IsIn o known → is_flag o.form ≡ true → IsTrue (vs (name_of o))
 
 -- the command takes it
 pub record Takes (p : Plan) : Type 0 where
@@ -201,7 +213,7 @@ pub record Takes (p : Plan) : Type 0 where
   pub checks : (rows : List Row) → check_fault p.shape rows false ≡ check_kinds false false (is_lacking p.required rows)
   pub quiet : AreQuiet p.shape.rules
   pub no_default : HaveNoDefault p.required p.shape.rules
-  pub listed : p.with_options.options ≡ map (λ o. (name_of o, not o.is_flag)) p.known
+  pub listed : p.with_options.options ≡ map (λ o. (name_of o, o.form)) p.known
   pub fits : (ws : List Text) → Fits p.required p.optional p.more ws → p.with_options.takes (length ws) ≡ true
   pub taken : (ws : List Text) → p.with_options.takes (length ws) ≡ true → Fits p.required p.optional p.more ws
   pub reads : (rows : List Row) (ws : List Text) (vs : Text → List Text) → AreAt (ids_of p) p.more ws rows → Fits p.required p.optional p.more ws
@@ -250,6 +262,43 @@ used_often s id v rows often = record {
   clean = often.clean rows v;
   gives = often.gives rows v;
   keeps = with_one_keeps id v rows;
+}
+
+-- ---- one more value of an option
+
+-- an option of this form with these values may have one more
+abbrev pub MayMore : Form → List Text → Type 0
+MayMore form xs = (form ≡ many_values) ⊎ (xs ≡ [])
+
+-- or it is used once, and was used
+pub more_or : (s : Shape) (form : Form) (id : Text) → IsUsedAs form s id → (xs : List Text)
+    → MayMore form xs ⊎ (IsUsedOnce s text_reading id × (x : Text) × (more : List Text) × (xs ≡ x ∷ more))
+more_or s no_value id usage xs = absurd usage
+more_or s one_value id usage [] = inl (inr refl)
+more_or s one_value id usage (x ∷ more) = inr (usage, x, more, refl)
+more_or s many_values id usage xs = inl (inl refl)
+
+one_isnt_many : one_value ≡ many_values → ⊥
+one_isnt_many e = absurd cc
+
+-- the value leads to rows in which it stands behind the others
+pub record IsUsedMore (s : Shape) (id v : Text) (rows : List Row) (xs : List Text) : Type 0 where
+  pub usage : IsUse s id v rows
+  pub there : row_at id usage.after ≡ values_row text_reading id (xs ++ v ∷ [])
+
+more_used : (s : Shape) (form : Form) (id v : Text) (rows : List Row) (xs : List Text) → IsUsedAs form s id → MayMore form xs → row_at id rows ≡ values_row text_reading id xs
+    → IsUsedMore s id v rows xs
+more_used s no_value id v rows xs usage may is = absurd usage
+more_used s one_value id v rows xs usage (inl many) is = absurd (one_isnt_many many)
+more_used s one_value id v rows xs usage (inr none) is =
+    let no_row_is = is ∙ ap (values_row text_reading id) none in record {
+      usage = used_once s text_reading id v rows usage no_row_is;
+      there = new_stands text_reading id v rows no_row_is ∙ ap (λ (xs : List Text). values_row text_reading id (xs ++ v ∷ [])) (sym none);
+    }
+more_used s many_values id v rows [] usage may is = record { usage = used_often s id v rows usage; there = with_one_new id v rows is }
+more_used s many_values id v rows (x ∷ xs) usage may is = record {
+  usage = used_often s id v rows usage;
+  there = with_one_there id v rows (read_row text_reading id (x ∷ xs)) is;
 }
 
 -- ---- the next word
@@ -462,35 +511,36 @@ module _ (p : Plan) (c : Takes p) where
   -- ---- an option
 
   pub none_of : (o : Known) (is : IsIn o p.known) (rows : List Row) (vs : Text → List Text) → AreChosen p.known vs rows → vs (name_of o) ≡ [] → row_at o.id rows ≡ None
-  none_of o is rows vs chosen none = chosen o is ∙ ap (given_row o.reading o.id) none
+  none_of o is rows vs chosen none = chosen o is ∙ ap (values_row o.reading o.id) none
 
-  chosen_on : (rows : List Row) (vs : Text → List Text) (o : Known) (is : IsIn o p.known) (v : Text) → AreChosen p.known vs rows → vs (name_of o) ≡ []
-      → AreChosen p.known (one_more vs (name_of o) v) (rows ++ read_row o.reading o.id (v ∷ []) ∷ [])
-  chosen_on rows vs o is v chosen none q also = elim (same_or p.known c.ids_apart c.names_apart o q is also) [
-    | inl same ↦ subst (λ (q : Known). row_at q.id (rows ++ read_row o.reading o.id (v ∷ []) ∷ []) ≡ given_row q.reading q.id (one_more vs (name_of o) v (name_of q))) same
-        (new_stands o.reading o.id v rows (none_of o is rows vs chosen none)
-        ∙ sym (ap₂ (λ (xs : List Text) (b : Bool). given_row o.reading o.id (xs ++ (if b then v ∷ [] else []))) none ((bytes_eq-Decides (name_of o) (name_of o)).1 refl)))
-    | inr differs ↦ new_keeps o.reading o.id v rows q.id differs.0 ∙ chosen q also
-        ∙ ap (given_row q.reading q.id) (sym (append-nil (vs (name_of q))) ∙ ap (λ (b : Bool). vs (name_of q) ++ (if b then v ∷ [] else [])) (sym differs.1))
+  chosen_on : (rows after : List Row) (vs : Text → List Text) (o : Known) (is : IsIn o p.known) (v : Text) → AreChosen p.known vs rows → Keeps o.id rows after
+      → row_at o.id after ≡ values_row o.reading o.id (vs (name_of o) ++ v ∷ []) → AreChosen p.known (one_more vs (name_of o) v) after
+  chosen_on rows after vs o is v chosen keeps there q also = elim (same_or p.known c.ids_apart c.names_apart o q is also) [
+    | inl same ↦ subst (λ (q : Known). row_at q.id after ≡ values_row q.reading q.id (one_more vs (name_of o) v (name_of q))) same
+        (there ∙ sym (ap (λ (b : Bool). values_row o.reading o.id (vs (name_of o) ++ (if b then v ∷ [] else []))) ((bytes_eq-Decides (name_of o) (name_of o)).1 refl)))
+    | inr differs ↦ keeps q.id differs.0 ∙ chosen q also
+        ∙ ap (values_row q.reading q.id) (sym (append-nil (vs (name_of q))) ∙ ap (λ (b : Bool). vs (name_of q) ++ (if b then v ∷ [] else [])) (sym differs.1))
   ]
 
-  stands_on : (rows : List Row) (ws : List Text) (o : Known) (is : IsIn o p.known) (v : Text) → AreAt (ids_of p) p.more ws rows → AreAt (ids_of p) p.more ws (rows ++ read_row o.reading o.id (v ∷ []) ∷ [])
-  stands_on rows ws o is v stands = at_kept (ids_of p) p.more ws rows (rows ++ read_row o.reading o.id (v ∷ []) ∷ []) o.id (new_keeps o.reading o.id v rows) (option_apart o is) stands
+  stands_on : (rows after : List Row) (ws : List Text) (o : Known) → IsIn o p.known → Keeps o.id rows after → AreAt (ids_of p) p.more ws rows → AreAt (ids_of p) p.more ws after
+  stands_on rows after ws o is keeps stands = at_kept (ids_of p) p.more ws rows after o.id keeps (option_apart o is) stands
 
-  module _ (o : Known) (is : IsIn o p.known) (text : o.reading ≡ text_reading) (valued : IsValued s (name_of o) o.id) where
-    once : IsUsedOnce s o.reading o.id
-    once = subst (λ (r : Reading). IsUsedOnce s r o.id) (sym text) valued.once
+  module _ (o : Known) (is : IsIn o p.known) (text : o.reading ≡ text_reading) (valued : IsValued s o.form (name_of o) o.id) where
+    used_more : (rows : List Row) (vs : Text → List Text) (v : Text) → AreChosen p.known vs rows → MayMore o.form (vs (name_of o)) → IsUsedMore s o.id v rows (vs (name_of o))
+    used_more rows vs v chosen may =
+        more_used s o.form o.id v rows (vs (name_of o)) valued.usage may (chosen o is ∙ ap (λ (r : Reading). values_row r o.id (vs (name_of o))) text)
 
-    pub option_good : (h : Held) (ws : List Text) (vs : Text → List Text) (g : IsGood p h ws vs) (v : Text) → vs (name_of o) ≡ [] → IsGood p (held g.rows (Some (o.id, v ∷ []))) ws (one_more vs (name_of o) v)
-    option_good h ws vs g v none =
-        let usage = used_once s o.reading o.id v g.rows once (none_of o is g.rows vs g.chosen none) in
+    pub option_good : (h : Held) (ws : List Text) (vs : Text → List Text) (g : IsGood p h ws vs) (v : Text) → MayMore o.form (vs (name_of o)) → IsGood p (held g.rows (Some (o.id, v ∷ []))) ws (one_more vs (name_of o) v)
+    option_good h ws vs g v may =
+        let used = used_more g.rows vs v g.chosen may in
         record {
-          rows = g.rows ++ read_row o.reading o.id (v ∷ []) ∷ [];
+          rows = used.usage.after;
           skip = held_skip g.rows (Some (o.id, v ∷ []));
-          clean = usage.clean;
-          settled_is = usage.gives;
-          stands = stands_on g.rows ws o is v g.stands;
-          chosen = chosen_on g.rows vs o is v g.chosen none;
+          clean = used.usage.clean;
+          settled_is = used.usage.gives;
+          stands = stands_on g.rows used.usage.after ws o is used.usage.keeps g.stands;
+          chosen = chosen_on g.rows used.usage.after vs o is v g.chosen used.usage.keeps
+              (used.there ∙ ap (λ (r : Reading). values_row r o.id (vs (name_of o) ++ v ∷ [])) (sym text));
         }
 
     -- an option that waits for its value
@@ -501,13 +551,13 @@ module _ (p : Plan) (c : Takes p) where
       (valued.at_free b).turn h (at_place p ws) ∙ ap (λ (k : Kinds). or_else k []) g.clean,
     )
 
-    pub valued_steps : (h : Held) (b : Bool) (ws : List Text) (vs : Text → List Text) (g : IsGood p h ws vs) (v : Text) → vs (name_of o) ≡ []
+    pub valued_steps : (h : Held) (b : Bool) (ws : List Text) (vs : Text → List Text) (g : IsGood p h ws vs) (v : Text) → MayMore o.form (vs (name_of o))
         → Steps s (at h (free b) (at_place p ws) false) (name_of o ++ codes "=" ++ v) (at (settled s.rules (held g.rows (Some (o.id, v ∷ [])))) idle (at_place p ws) false)
-    valued_steps h b ws vs g v none =
+    valued_steps h b ws vs g v may =
         let e = pending_is h g.rows o.id (v ∷ []) g.settled_is in (
           (valued.at_free b).valued h (at_place p ws) v ∙ ap (λ (k : Held). at (settled s.rules k) idle (at_place p ws) false) e,
           (valued.at_free b).valued_turn h (at_place p ws) v
-              ∙ ap₂ (λ (k l : Kinds). or_else (or_else k l) []) g.clean (ap (settles s) e ∙ (option_good h ws vs g v none).clean),
+              ∙ ap₂ (λ (k l : Kinds). or_else (or_else k l) []) g.clean (ap (settles s) e ∙ (option_good h ws vs g v may).clean),
         )
 
   -- what is pending may as well be settled
@@ -528,7 +578,7 @@ module _ (p : Plan) (c : Takes p) where
     clean = g.clean;
     settled_is = g.settled_is;
     stands = subst (λ (ws : List Text). AreAt (ids_of p) p.more ws g.rows) words g.stands;
-    chosen = λ o is. g.chosen o is ∙ ap (given_row o.reading o.id) (values (name_of o));
+    chosen = λ o is. g.chosen o is ∙ ap (values_row o.reading o.id) (values (name_of o));
   }
 
   pub rows_are : (h : Held) (ws : List Text) (vs : Text → List Text) (g : IsGood p h ws vs) → (settled s.rules h).rows ≡ g.rows
@@ -551,8 +601,10 @@ module _ (p : Plan) (c : Takes p) where
       skip = held_skip (flag_rows g.rows) None;
       clean = (settled_clean (flag_rows g.rows)).0;
       settled_is = (settled_clean (flag_rows g.rows)).1;
-      stands = stands_on g.rows ws o is (codes "true") g.stands;
-      chosen = chosen_on g.rows vs o is (codes "true") g.chosen none;
+      stands = stands_on g.rows (flag_rows g.rows) ws o is (new_keeps o.reading o.id (codes "true") g.rows) g.stands;
+      chosen = chosen_on g.rows (flag_rows g.rows) vs o is (codes "true") g.chosen (new_keeps o.reading o.id (codes "true") g.rows)
+          (new_stands o.reading o.id (codes "true") g.rows (none_of o is g.rows vs g.chosen none)
+          ∙ ap (λ (xs : List Text). values_row o.reading o.id (xs ++ codes "true" ∷ [])) (sym none));
     }
 
     pub flag_steps : (h : Held) (b : Bool) (ws : List Text) (vs : Text → List Text) (g : IsGood p h ws vs) → vs (name_of o) ≡ []

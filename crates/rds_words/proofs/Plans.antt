@@ -12,13 +12,14 @@ use Rattle.clap.specs.declared.builder.value_parser.Reading.{Reading}
 use Rattle.clap.specs.declared.builder.value_parser.ValueParser.TheVariants.{String}
 use Rattle.clap.specs.declared.parser.matches.ValueSource.TheVariants.{CommandLine}
 use Rattle.rds_names.specs.Conditions.{and_left, and_right}
+use Rattle.rds_words.specs.Typed.{Form}
 use Rattle.rds_words.proofs.RowsById.{find_in, row_at}
 
 -- an option, with the reading of its row
 pub record Known : Type 0 where
   pub bare : Text
   pub id : Text
-  pub is_flag : Bool
+  pub form : Form
   pub reading : Reading
 
 abbrev pub name_of : Known → Text
@@ -92,9 +93,9 @@ given_row reading id [] = None
 given_row reading id (v ∷ vs) = Some (read_row reading id (v ∷ []))
 
 -- the row of all of them
-abbrev pub all_row : Text → List Text → Option Row
-all_row id [] = None
-all_row id (v ∷ vs) = Some (read_row text_reading id (v ∷ vs))
+abbrev pub values_row : Reading → Text → List Text → Option Row
+values_row reading id [] = None
+values_row reading id (v ∷ vs) = Some (read_row reading id (v ∷ vs))
 
 -- nothing else changed but what stands under this id
 abbrev pub Keeps : Text → List Row → List Row → Type 0
@@ -111,7 +112,7 @@ more_ids (Some id) = id ∷ []
 -- these words stand under these ids, one each, and the others under the last
 abbrev pub AreAt : List Text → Option Text → List Text → List Row → Type 0
 AreAt [] None ws rows = ws ≡ []
-AreAt [] (Some m) ws rows = row_at m rows ≡ all_row m ws
+AreAt [] (Some m) ws rows = row_at m rows ≡ values_row text_reading m ws
 AreAt (i ∷ ids) more ws rows = (row_at i rows ≡ given_row text_reading i ws) × AreAt ids more (behind_first ws) rows
 
 pub at_kept : (ids : List Text) (more : Option Text) (ws : List Text) (rows after : List Row) (k : Text) → Keeps k rows after → is_apart k (ids ++ more_ids more) ≡ true → AreAt ids more ws rows → AreAt ids more ws after

@@ -19,6 +19,10 @@ several_rule id = record (new_rule id) { action = Some Append }
 abbrev pub valued_rule : Text → Text → Rule
 valued_rule id long = record (new_rule id) { long = Some long; value_names = 1 }
 
+-- words behind an option, one each time that it is given
+abbrev pub listed_rule : Text → Text → Rule
+listed_rule id long = record (valued_rule id long) { action = Some Append }
+
 -- a word behind an option, with the value that it has where it isn't given
 abbrev pub defaulted_rule : Text → Text → Text → Rule
 defaulted_rule id long default = record (new_rule id) { long = Some long; value_names = 1; defaults = default ∷ [] }
@@ -72,6 +76,14 @@ timeout_rule = defaulted_rule (codes "TIMEOUT") (codes "timeout") (codes "60")
 -- where a site is served, as an option, on this machine alone where it isn't given
 abbrev pub http_rule : Rule
 http_rule = defaulted_rule (codes "HTTP") (codes "http") (codes "127.0.0.1:7780")
+
+-- the peers that a site meets
+abbrev pub peers_rule : Rule
+peers_rule = listed_rule (codes "PEERS") (codes "peer")
+
+-- after how many seconds it meets them again, as an option, 10 where it isn't given
+abbrev pub every_rule : Rule
+every_rule = defaulted_rule (codes "EVERY") (codes "every") (codes "10")
 
 -- the file of the token that a site asks for
 abbrev pub token_rule : Rule
@@ -140,7 +152,7 @@ commands =
     ∷ command_app (codes "answer") (file_rule ∷ [])
     ∷ command_app (codes "take") (file_rule ∷ question_rule ∷ answer_rule ∷ [])
     ∷ command_app (codes "merge") (file_rule ∷ required_rule (codes "FROM") ∷ [])
-    ∷ command_app (codes "run") (file_rule ∷ http_rule ∷ token_rule ∷ open_rule ∷ [])
+    ∷ command_app (codes "run") (file_rule ∷ http_rule ∷ peers_rule ∷ every_rule ∷ token_rule ∷ open_rule ∷ [])
     ∷ command_app (codes "status") (file_rule ∷ [])
     ∷ command_app (codes "check") (question_rule ∷ answer_rule ∷ [])
     ∷ command_app (codes "conflicts") (file_rule ∷ part_rule ∷ [])

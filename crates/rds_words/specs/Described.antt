@@ -11,11 +11,13 @@ use Rattle.rds_words.specs.declared.table.Kind.TheVariants.{
   Several,
   Defaulted,
   Valued,
+  Listed,
   Flag,
 }
 use Rattle.rds_words.specs.Commands.{
   defaulted_rule,
   flag_rule,
+  listed_rule,
   repeated_rule,
   required_rule,
   several_rule,
@@ -29,6 +31,7 @@ rule_by Optional id = new_rule id
 rule_by Repeated id = repeated_rule id
 rule_by Several id = several_rule id
 rule_by (Valued long value_name) id = valued_rule id long.now
+rule_by (Listed long value_name) id = listed_rule id long.now
 rule_by (Defaulted long value_name default) id = defaulted_rule id long.now default.now
 rule_by (Flag long) id = flag_rule id long.now
 

@@ -43,15 +43,23 @@ pub record SyncMayLackWords : Type 0 where
   pub alone_dashed : (name file addr : Text)
       → Names (name ∷ codes "sync" ∷ codes "--" ∷ file ∷ addr ∷ []) (codes "sync" ∷ file ∷ addr ∷ codes "60" ∷ [])
 
--- `run` serves at 127.0.0.1:7780 where it isn't told where
+-- `run` serves at 127.0.0.1:7780 where it isn't told where, and meets its peers again after 10 seconds where it isn't
+-- told how long
 pub record RunMayLackWords : Type 0 where
   pub alone : (name file : Text) → AreData (file ∷ [])
-      → Names (name ∷ codes "run" ∷ file ∷ []) (codes "run" ∷ file ∷ codes "127.0.0.1:7780" ∷ [])
+      → Names (name ∷ codes "run" ∷ file ∷ []) (codes "run" ∷ file ∷ codes "127.0.0.1:7780" ∷ codes "10" ∷ [])
   pub alone_dashed : (name file : Text)
-      → Names (name ∷ codes "run" ∷ codes "--" ∷ file ∷ []) (codes "run" ∷ file ∷ codes "127.0.0.1:7780" ∷ [])
+      → Names (name ∷ codes "run" ∷ codes "--" ∷ file ∷ [])
+      (codes "run" ∷ file ∷ codes "127.0.0.1:7780" ∷ codes "10" ∷ [])
+  pub peer_alone : (name file peer : Text) → AreData (file ∷ peer ∷ [])
+      → Names (name ∷ codes "run" ∷ file ∷ codes "--peer" ∷ peer ∷ [])
+      (codes "run" ∷ file ∷ codes "127.0.0.1:7780" ∷ codes "10" ∷ (codes "--peer=" ++ peer) ∷ [])
+  pub every_alone : (name file every : Text) → AreData (file ∷ every ∷ [])
+      → Names (name ∷ codes "run" ∷ file ∷ codes "--every" ∷ every ∷ [])
+      (codes "run" ∷ file ∷ codes "127.0.0.1:7780" ∷ every ∷ [])
   pub open_alone : (name file : Text) → AreData (file ∷ [])
       → Names (name ∷ codes "run" ∷ file ∷ codes "--open" ∷ [])
-      (codes "run" ∷ file ∷ codes "127.0.0.1:7780" ∷ codes "--open" ∷ [])
+      (codes "run" ∷ file ∷ codes "127.0.0.1:7780" ∷ codes "10" ∷ codes "--open" ∷ [])
   pub token_alone : (name file token : Text) → AreData (file ∷ token ∷ [])
       → Names (name ∷ codes "run" ∷ file ∷ codes "--token-file" ∷ token ∷ [])
-      (codes "run" ∷ file ∷ codes "127.0.0.1:7780" ∷ (codes "--token-file=" ++ token) ∷ [])
+      (codes "run" ∷ file ∷ codes "127.0.0.1:7780" ∷ codes "10" ∷ (codes "--token-file=" ++ token) ∷ [])

@@ -1,5 +1,23 @@
 -- What the words of commands on files mean.
-use Rattle.std.specs.Prelude.{◌≡◌, ℕ, List, [], ◌∷◌, Option, Some, None, Result, Ok, Err, IfErr, MatchResult, map}
+use Rattle.std.specs.Prelude.{
+  ◌≡◌,
+  ◌&&◌,
+  ℕ,
+  List,
+  [],
+  ◌∷◌,
+  Option,
+  Some,
+  None,
+  Result,
+  Ok,
+  Err,
+  IfErr,
+  MatchResult,
+  if◌then◌else◌,
+  map,
+  nat_le,
+}
 use Rattle.std.specs.Str.Parse.{ParsesUnsigned}
 use Rattle.serde_json.specs.Data.{Data}
 use Rattle.serde_json.specs.Read.{read}
@@ -38,6 +56,13 @@ value_in (word.Text value) = scalar_of_text value.now
 -- a whole number of 64 bits, before which a plus may stand
 abbrev pub IsAmount : List ℕ → Result ℕ Fault → Type 0
 IsAmount text amount = ParsesUnsigned 64 10 text amount × IfErr amount (λ e. e ≡ Usage)
+
+-- a number of seconds from 1 to a day's
+abbrev pub interval_in : ℕ → Result ℕ Fault
+interval_in seconds = if nat_le 1 seconds && nat_le seconds 86400 then Ok seconds else Err Usage
+
+abbrev pub IsInterval : List ℕ → Result ℕ Fault → Type 0
+IsInterval text seconds = (amount : Result ℕ Fault) × IsAmount text amount × (seconds ≡ (amount >>= interval_in))
 
 -- the command of a key and an amount
 abbrev pub IsCount : (List ℕ → ℕ → Command) → List ℕ → List ℕ → Result Command Fault → Type 0

@@ -1,5 +1,5 @@
 -- What is chosen by options where a command's words have several forms.
-use Rattle.std.specs.Prelude.{Bool, true, false, List, [], ◌∷◌, ◌++◌, Option, Some, None, codes}
+use Rattle.std.specs.Prelude.{Bool, true, false, List, [], ◌∷◌, ◌++◌, Option, Some, None, codes, map}
 use Rattle.clap.specs.Words.{Text}
 
 -- which values `get` prints, by which of its options are given: `--raw`, `--reg`, `--set`, `--counter`. Two of the last
@@ -26,6 +26,10 @@ init_words (file ∷ group ∷ own ∷ names) (Some from) = None
 init_words (file ∷ own ∷ []) (Some from) = Some (file ∷ own ∷ (codes "--from=" ++ from) ∷ [])
 init_words (file ∷ []) (Some from) = None
 init_words [] (Some from) = None
+
+-- the peers that a site meets
+abbrev pub peer_words : List Text → List Text
+peer_words peers = map (λ peer. codes "--peer=" ++ peer) peers
 
 -- who may come to a site: who knows the token in this file, where there is one, and whether other machines may
 abbrev pub access_words : Option Text → Bool → List Text

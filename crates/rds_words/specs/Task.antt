@@ -59,7 +59,7 @@ use Rattle.rds_words.specs.declared.tasks.RawKind.{RawKind}
 use Rattle.rds_words.specs.declared.tasks.RawKind.TheVariants as kind
 use Rattle.rds_words.specs.declared.tasks.ValueWord.{ValueWord}
 use Rattle.rds_words.specs.declared.tasks.ValueWord.TheVariants as word
-use Rattle.rds_words.specs.Raw.{access_words, changed_words, init_words, raw_words}
+use Rattle.rds_words.specs.Raw.{access_words, changed_words, init_words, peer_words, raw_words}
 
 -- a value in words
 abbrev pub value_words : ValueWord → List Text
@@ -109,8 +109,9 @@ words_of (Compact file) = codes "compact" ∷ file.now ∷ []
 words_of (Status file) = codes "status" ∷ file.now ∷ []
 words_of (Serve words) = codes "serve" ∷ words.file.now ∷ words.addr.now ∷ words.sessions.now ∷ words.timeout.now ∷ []
 words_of (Run words) =
-    codes "run" ∷ words.file.now ∷ words.http.now
-    ∷ access_words (option_map (λ t. t.now) words.token_file) words.is_open
+    codes "run" ∷ words.file.now ∷ words.http.now ∷ words.every.now
+    ∷ (peer_words (map (λ p. p.now) words.peers.items)
+    ++ access_words (option_map (λ t. t.now) words.token_file) words.is_open)
 words_of (Sync words) = codes "sync" ∷ words.file.now ∷ words.addr.now ∷ words.timeout.now ∷ []
 words_of (Pair first second) = codes "pair" ∷ first.now ∷ second.now ∷ []
 words_of (Ask file) = codes "ask" ∷ file.now ∷ []
@@ -167,11 +168,12 @@ get_words_in rows =
     option_and_then (λ words. option_map (λ kind. words ++ kind) (raw_words_in rows))
     (words_under (codes "FILE" ∷ codes "PATH" ∷ []) rows)
 
--- a file and an address, and who may come
+-- a file, an address and a number of seconds, the peers, and who may come
 abbrev pub run_words_in : List Row → Option (List Text)
 run_words_in rows =
-    option_map (λ words. words ++ access_words (first_of (codes "TOKEN_FILE") rows) (is_given (codes "OPEN") rows))
-    (words_under (codes "FILE" ∷ codes "HTTP" ∷ []) rows)
+    option_map (λ words. words ++ (peer_words (unwrap_or (all_of (codes "PEERS") rows) [])
+    ++ access_words (first_of (codes "TOKEN_FILE") rows) (is_given (codes "OPEN") rows)))
+    (words_under (codes "FILE" ∷ codes "HTTP" ∷ codes "EVERY" ∷ []) rows)
 
 abbrev pub counter_words_in : List Row → Option (List Text)
 counter_words_in = words_under (codes "FILE" ∷ codes "KEY" ∷ codes "BY" ∷ [])
@@ -221,15 +223,14 @@ delta_words_behind name rows =
     else (if bytes_eq name (codes "check") then words_under (codes "QUESTION" ∷ codes "ANSWER" ∷ []) rows
     else edit_words_behind name rows))))
 
--- the words behind the name of a command that serves or makes sessions, carries a delta, or edits a file's replica
+-- the words behind the name of a command that makes sessions, carries a delta, or edits a file's replica
 abbrev pub session_words_behind : Text → List Row → Option (List Text)
 session_words_behind name rows =
     if bytes_eq name (codes "serve")
     then words_under (codes "FILE" ∷ codes "ADDR" ∷ codes "SESSIONS" ∷ codes "TIMEOUT" ∷ []) rows
     else (if bytes_eq name (codes "sync") then words_under (codes "FILE" ∷ codes "ADDR" ∷ codes "TIMEOUT" ∷ []) rows
     else (if bytes_eq name (codes "pair") then words_under (codes "FILE" ∷ codes "PEER" ∷ []) rows
-    else (if bytes_eq name (codes "run") then run_words_in rows
-    else delta_words_behind name rows)))
+    else delta_words_behind name rows))
 
 -- the words behind the name of a command that looks at documents, makes sessions, carries a delta or edits
 abbrev pub looking_words_behind : Text → List Row → Option (List Text)
@@ -239,7 +240,7 @@ looking_words_behind name rows =
     else (if bytes_eq name (codes "diff") then words_under (codes "FILE" ∷ codes "OTHER" ∷ []) rows
     else session_words_behind name rows))
 
--- the words behind the name of any command on files but `init`, `grow` and `show`
+-- the words behind the name of any command on files but `init`, `grow`, `run` and `show`
 abbrev pub file_words_behind : Text → List Row → Option (List Text)
 file_words_behind name rows =
     if bytes_eq name (codes "edit") then words_under (codes "FILE" ∷ []) rows
@@ -248,7 +249,7 @@ file_words_behind name rows =
     else (if bytes_eq name (codes "compact") then words_under (codes "FILE" ∷ []) rows
     else looking_words_behind name rows)))
 
--- the words behind the name of a command but `init` and `grow`
+-- the words behind the name of a command but `init`, `grow` and `run`
 abbrev pub plain_words_behind : Text → List Row → Option (List Text)
 plain_words_behind name rows =
     if bytes_eq name (codes "join") then Some []
@@ -262,7 +263,8 @@ abbrev pub words_behind : Text → List Row → Option (List Text)
 words_behind name rows =
     if bytes_eq name (codes "init") then init_words_in rows
     else (if bytes_eq name (codes "grow") then grow_words_in rows
-    else plain_words_behind name rows)
+    else (if bytes_eq name (codes "run") then run_words_in rows
+    else plain_words_behind name rows))
 
 -- a command's name, and the words behind it
 abbrev pub named_words : Text → Option (List Text) → Option (List Text)

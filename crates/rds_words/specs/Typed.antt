@@ -5,9 +5,15 @@ use Rattle.std.specs.Str.{bytes_eq}
 use Rattle.clap.specs.Words.{Text}
 use Rattle.rds_words.specs.Written.{is_data}
 
--- the options of a command: each by its name, and whether it has a value
+-- how an option is given: at most once without a value, at most once with one, or any number of times with one each
+pub data Form : Type 0 where
+  no_value : Form
+  one_value : Form
+  many_values : Form
+
+-- the options of a command, each by its name
 abbrev pub Options : Type 0
-Options = List (Text × Bool)
+Options = List (Text × Form)
 
 -- a word, an option with its value, or an option that has none
 pub data Part : Type 0 where
@@ -51,13 +57,15 @@ values_among name (typed_option option value ∷ parts) =
 values_among name (typed_flag option ∷ parts) =
     (if bytes_eq option name then codes "true" ∷ [] else []) ++ values_among name parts
 
-abbrev pub has_value : Text → Text × Bool → Bool
-has_value option (name, true) = bytes_eq option name
-has_value option (name, false) = false
+abbrev pub has_value : Text → Text × Form → Bool
+has_value option (name, no_value) = false
+has_value option (name, one_value) = bytes_eq option name
+has_value option (name, many_values) = bytes_eq option name
 
-abbrev pub has_none : Text → Text × Bool → Bool
-has_none option (name, true) = false
-has_none option (name, false) = bytes_eq option name
+abbrev pub has_none : Text → Text × Form → Bool
+has_none option (name, no_value) = bytes_eq option name
+has_none option (name, one_value) = false
+has_none option (name, many_values) = false
 
 -- each option among them is one of these
 abbrev pub HaveOptionsOf : Options → List Part → Type 0
@@ -73,13 +81,19 @@ AtMostOne [] = ⊤
 AtMostOne (value ∷ []) = ⊤
 AtMostOne (value ∷ again ∷ more) = ⊥
 
--- each of these options has at most one value
-abbrev pub AreOnce : Options → (Text → List Text) → Type 0
-AreOnce [] values = ⊤
-AreOnce (option ∷ options) values = AtMostOne (values option.0) × AreOnce options values
+-- an option of this form may have these values
+abbrev pub IsAllowed : Form → List Text → Type 0
+IsAllowed no_value values = AtMostOne values
+IsAllowed one_value values = AtMostOne values
+IsAllowed many_values values = ⊤
+
+-- each of these options may have its values
+abbrev pub AreAllowed : Options → (Text → List Text) → Type 0
+AreAllowed [] values = ⊤
+AreAllowed (option ∷ options) values = IsAllowed option.1 (values option.0) × AreAllowed options values
 
 -- behind a command with these options: the words that are given, and among them, before any two dashes, the options in
--- any order, each at most once, with these values by their names
+-- any order, each at most once but where it may have many values, with these values by their names
 pub record IsTyped (options : Options) (behind given : List Text) (values : Text → List Text) : Type 0 where
   pub parts : List Part
   pub after : List Text
@@ -87,6 +101,6 @@ pub record IsTyped (options : Options) (behind given : List Text) (values : Text
   pub are_typed : AreTyped parts rest behind
   pub is_rest : IsRest after rest
   pub have_options : HaveOptionsOf options parts
-  pub once : AreOnce options (λ name. values_among name parts)
+  pub allowed : AreAllowed options (λ name. values_among name parts)
   pub given_are : given ≡ words_among parts ++ after
   pub values_are : (name : Text) → values name ≡ values_among name parts

@@ -24,8 +24,8 @@ use Rattle.std.specs.Prelude.{
 use Rattle.std.specs.Str.{bytes_eq}
 use Rattle.clap.specs.Words.{Text}
 use Rattle.rds_words.specs.Entered.{mistakes_in, named_in}
-use Rattle.rds_words.specs.Raw.{access_words, changed_words, init_words, raw_words}
-use Rattle.rds_words.specs.Typed.{IsTyped, Options}
+use Rattle.rds_words.specs.Raw.{access_words, changed_words, init_words, peer_words, raw_words}
+use Rattle.rds_words.specs.Typed.{IsTyped, Options, many_values, no_value, one_value}
 
 -- a command's options, which numbers of words it takes, and the words of the task that its words and its options' values
 -- name, where they name one
@@ -55,14 +55,14 @@ part_words (file ∷ path ∷ more) = file ∷ path ∷ more
 
 abbrev pub show_with : WithOptions
 show_with = record {
-  options = (codes "--pretty", false) ∷ [];
+  options = (codes "--pretty", no_value) ∷ [];
   takes = λ n. n == 1 || n == 2;
   words_for = λ given values. Some (part_words given ++ flag_words (codes "--pretty") values);
 }
 
 abbrev pub serve_with : WithOptions
 serve_with = record {
-  options = (codes "--sessions", true) ∷ (codes "--timeout", true) ∷ [];
+  options = (codes "--sessions", one_value) ∷ (codes "--timeout", one_value) ∷ [];
   takes = λ n. n == 2;
   words_for = λ given values.
       Some (given ++ value_or (codes "1") (values (codes "--sessions"))
@@ -71,24 +71,28 @@ serve_with = record {
 
 abbrev pub sync_with : WithOptions
 sync_with = record {
-  options = (codes "--timeout", true) ∷ [];
+  options = (codes "--timeout", one_value) ∷ [];
   takes = λ n. n == 2;
   words_for = λ given values. Some (given ++ value_or (codes "60") (values (codes "--timeout")) ∷ []);
 }
 
 abbrev pub run_with : WithOptions
 run_with = record {
-  options = (codes "--http", true) ∷ (codes "--token-file", true) ∷ (codes "--open", false) ∷ [];
+  options =
+      (codes "--http", one_value) ∷ (codes "--peer", many_values) ∷ (codes "--every", one_value)
+      ∷ (codes "--token-file", one_value) ∷ (codes "--open", no_value) ∷ [];
   takes = λ n. n == 1;
   words_for = λ given values.
       Some (given ++ value_or (codes "127.0.0.1:7780") (values (codes "--http"))
-      ∷ access_words (slice_get (values (codes "--token-file")) 0) (is_there (values (codes "--open"))));
+      ∷ value_or (codes "10") (values (codes "--every"))
+      ∷ (peer_words (values (codes "--peer"))
+      ++ access_words (slice_get (values (codes "--token-file")) 0) (is_there (values (codes "--open")))));
 }
 
 -- `set` and `add`
 abbrev pub entry_with : WithOptions
 entry_with = record {
-  options = (codes "--text", false) ∷ (codes "--if-changed", false) ∷ [];
+  options = (codes "--text", no_value) ∷ (codes "--if-changed", no_value) ∷ [];
   takes = λ n. n == 3;
   words_for = λ given values.
       Some (changed_words (is_there (values (codes "--if-changed"))) (given ++ flag_words (codes "--text") values));
@@ -96,14 +100,16 @@ entry_with = record {
 
 abbrev pub del_with : WithOptions
 del_with = record {
-  options = (codes "--text", false) ∷ [];
+  options = (codes "--text", no_value) ∷ [];
   takes = λ n. n == 3;
   words_for = λ given values. Some (given ++ flag_words (codes "--text") values);
 }
 
 abbrev pub get_with : WithOptions
 get_with = record {
-  options = (codes "--raw", false) ∷ (codes "--reg", false) ∷ (codes "--set", false) ∷ (codes "--counter", false) ∷ [];
+  options =
+      (codes "--raw", no_value) ∷ (codes "--reg", no_value) ∷ (codes "--set", no_value)
+      ∷ (codes "--counter", no_value) ∷ [];
   takes = λ n. n == 2;
   words_for = λ given values.
       option_map (λ kind. given ++ kind)
@@ -113,7 +119,7 @@ get_with = record {
 
 abbrev pub init_with : WithOptions
 init_with = record {
-  options = (codes "--from", true) ∷ [];
+  options = (codes "--from", one_value) ∷ [];
   takes = nat_le 2;
   words_for = λ given values. init_words given (slice_get (values (codes "--from")) 0);
 }

@@ -72,6 +72,10 @@ fn described_arg<'a>(alloc: Global, word: &Word) -> Arg<'a>
         Kind::Repeated => arg.required(true).action(ArgAction::Append),
         Kind::Several => arg.action(ArgAction::Append),
         Kind::Valued { long, value_name } => arg.long(long).value_name(value_name),
+        Kind::Listed { long, value_name } => arg
+            .long(long)
+            .value_name(value_name)
+            .action(ArgAction::Append),
         Kind::Defaulted {
             long,
             value_name,

@@ -441,6 +441,7 @@ pub const RUN_ABOUT: &str = "Serves the replica in a file to browsers and progra
 
 const RUN_EXAMPLE: &str = "\
 Example: rds_node run notes.a
+         rds_node run notes.a --peer 10.0.0.2:7780 --every 60
          curl -d '[\"set\",\"title\",\"Shopping\"]' http://127.0.0.1:7780/edits";
 
 const RUN_TEXT: &str = "\
@@ -454,11 +455,15 @@ free one, will do. Requests, with the commands that print what they are answered
   GET /status           status
   GET /metrics          what was counted, for Prometheus
   GET /live             a WebSocket, told {\"turn\":N} whenever more is on disk
+  GET /ask              ask
   POST /edits           edit; the body has its lines
   POST /answer          answer; the body is the question
   POST /take            take; the body is the question's length in 4 bytes, big-endian,
                         the question and the answer
   POST /login           a cookie for the token that the body is
+With --peer it meets that node, of another replica of the group: after each change here,
+and every SECONDS. Each takes what it lacks. Changes of the peer come at once where that
+names this node too. Peers share one token, and are shown that of --token-file.
 Without options this machine alone may come, by 127.0.0.1 or [::1]; another ADDR is fault
 27. With --token-file all but the page and /login ask for the token, 'Authorization:
 Bearer TOKEN' or the cookie: 16 to 128 of A-Z a-z 0-9 - . _ ~. Nothing is enciphered.
@@ -591,6 +596,12 @@ pub const TIMEOUT_HELP: &str =
     "After how many seconds a silent peer is given up, a whole number, 0 for never";
 
 pub const HTTP_HELP: &str = "The address and port that browsers and programs connect to";
+
+pub const PEERS_HELP: &str =
+    "The address and port of a node that it meets; may be given again for others";
+
+pub const EVERY_HELP: &str =
+    "After how many seconds it meets its peers again, a whole number from 1 to 86400";
 
 pub const TOKEN_FILE_HELP: &str = "The file of a token, without which nobody may come";
 

@@ -12,7 +12,7 @@ mod tasks;
 
 pub use help::{FAULTS_TEXT, FILES_TEXT};
 pub use laws::{word_laws, words_mean_their_spelling};
-pub use meaning::{amount_of, command_of, names_in, roster_in};
+pub use meaning::{amount_of, command_of, interval_of, names_in, roster_in};
 pub use tasks::{
     EditWords, GrowWords, InitFromWords, InitWords, RawKind, RunWords, ServeWords, SyncWords, Task,
     ValueWord, task_of,

@@ -2,7 +2,7 @@
 ghost use Rattle.std.specs.Prelude.{◌≡◌, ◌<◌, ◌⊎◌, Ok, Err, IfOk, length, map, MatchResult};
 ghost use Rattle.rds_names.specs.declared.fault.Fault.TheVariants.{Memory};
 ghost use Rattle.rds_json.specs.MayGive.{MayGive};
-ghost use Rattle.rds_words.specs.Meaning.{IsAmount, IsCommand, names_in, roster_in, value_in, value_of};
+ghost use Rattle.rds_words.specs.Meaning.{IsAmount, IsCommand, IsInterval, names_in, roster_in, value_in, value_of};
 
 use crate::tasks::{EditWords, ValueWord};
 use rds_json::scalar;
@@ -10,6 +10,9 @@ use rds_names::{Fault, Key, Name, Path, Roster, Scalar};
 use rds_state::Command;
 use serde_json::Value;
 use std::alloc::Global;
+
+// The most seconds between two meetings with peers.
+const LONGEST_INTERVAL: u32 = 86_400;
 
 /// The edit that words ask for. They are judged from left to right: a path's `BadPath` or `BadKey`,
 /// a value's `BadLine` where it is no JSON and `BadScalar` where it is no value, a key's `BadKey`, and `Usage` for an
@@ -95,6 +98,17 @@ fn value_of(alloc: Global, text: &str) -> Result<Scalar, Fault>
         } else {
             Fault::BadLine
         }),
+    }
+}
+
+/// How many seconds lie between two meetings with peers: a whole number from 1 to 86,400, a day. What is none is
+/// `Usage`.
+pub fn interval_of(text: &str) -> Result<u32, Fault>
+    ensures { IsInterval text.now result }
+{
+    match u32::try_from(amount_of(text)?) {
+        Ok(seconds) if 1 <= seconds && seconds <= LONGEST_INTERVAL => Ok(seconds),
+        _ => Err(Fault::Usage),
     }
 }
 

@@ -47,6 +47,7 @@ pub fn named_task<'a>(
         None => Ok(None),
         Some(("init", inner)) => init_task(alloc, inner),
         Some(("grow", inner)) => grow_task(alloc, inner),
+        Some(("run", inner)) => run_task(alloc, inner),
         Some((name, inner)) => Ok(plain_task(name, inner)),
     }
 }
@@ -59,7 +60,7 @@ fn entered<'m, 'a>(matches: &'m ArgMatches<'a>) -> Option<(&'a str, &'m ArgMatch
     matches.subcommand()
 }
 
-// The task of a command but `init` and `grow`.
+// The task of a command but `init`, `grow` and `run`.
 fn plain_task<'a>(name: &str, inner: &ArgMatches<'a>) -> Option<Task<'a>>
     ensures { option_map words_of result
         ≡ named_words name.now (plain_words_behind name.now (rows_of (found_of inner.now))) }
@@ -87,7 +88,7 @@ fn show_task<'a>(inner: &ArgMatches<'a>) -> Option<Task<'a>>
     }
 }
 
-// The task of any command on files but `init`, `grow` and `show`.
+// The task of any command on files but `init`, `grow`, `run` and `show`.
 fn file_task<'a>(name: &str, inner: &ArgMatches<'a>) -> Option<Task<'a>>
     ensures { option_map words_of result
         ≡ named_words name.now (file_words_behind name.now (rows_of (found_of inner.now))) }
@@ -132,7 +133,7 @@ fn looking_task<'a>(name: &str, inner: &ArgMatches<'a>) -> Option<Task<'a>>
     }
 }
 
-// The task of a command that serves or makes sessions, carries a delta, or edits the replica in a file.
+// The task of a command that makes sessions, carries a delta, or edits the replica in a file.
 fn session_task<'a>(name: &str, inner: &ArgMatches<'a>) -> Option<Task<'a>>
     ensures { option_map words_of result
         ≡ named_words name.now (session_words_behind name.now (rows_of (found_of inner.now))) }
@@ -161,25 +162,8 @@ fn session_task<'a>(name: &str, inner: &ArgMatches<'a>) -> Option<Task<'a>>
             let (first, second) = two_words(inner, "FILE", "PEER")?;
             Some(Task::Pair { first, second })
         }
-        "run" => run_task(inner),
         _ => delta_task(name, inner),
     }
-}
-
-// The task of `run`.
-fn run_task<'a>(inner: &ArgMatches<'a>) -> Option<Task<'a>>
-    ensures { option_map words_of result
-        ≡ named_words (codes "run") (run_words_in (rows_of (found_of inner.now))) }
-{
-    let (file, http) = two_words(inner, "FILE", "HTTP")?;
-    let token_file = word_under(inner, "TOKEN_FILE");
-    let is_open = is_given(inner, "OPEN");
-    Some(Task::Run(RunWords {
-        file,
-        http,
-        token_file,
-        is_open,
-    }))
 }
 
 // The task of a command that carries a delta, or that edits the replica in a file.
@@ -405,6 +389,41 @@ fn grow_task<'a>(alloc: Global, inner: &ArgMatches<'a>) -> Result<Option<Task<'a
     };
     let names = Vec::from_slice(alloc, names)?;
     Ok(Some(Task::Grow(GrowWords { file, names })))
+}
+
+fn run_task<'a>(alloc: Global, inner: &ArgMatches<'a>) -> Result<Option<Task<'a>>, AllocError>
+    ensures { IfOk result (λ task. option_map words_of task
+        ≡ named_words (codes "run") (run_words_in (rows_of (found_of inner.now)))) }
+{
+    let Some((file, http, every)) = file_and_two(inner, "HTTP", "EVERY") else {
+        return Ok(None);
+    };
+    let peers = listed_words(alloc, inner, "PEERS")?;
+    let token_file = word_under(inner, "TOKEN_FILE");
+    let is_open = is_given(inner, "OPEN");
+    Ok(Some(Task::Run(RunWords {
+        file,
+        http,
+        peers,
+        every,
+        token_file,
+        is_open,
+    })))
+}
+
+// The words under an id, which may have none.
+fn listed_words<'a>(
+    alloc: Global,
+    inner: &ArgMatches<'a>,
+    id: &str,
+) -> Result<Vec<&'a str>, AllocError>
+    ensures { IfOk result (λ words. map (λ w. w.now) words.items
+        ≡ unwrap_or (all_of id.now (rows_of (found_of inner.now))) []) }
+{
+    match words_under(inner, id) {
+        Some(words) => Vec::from_slice(alloc, words),
+        None => Ok(Vec::new(alloc)),
+    }
 }
 
 // The words under these two ids.

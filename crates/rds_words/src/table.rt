@@ -43,6 +43,13 @@ pub enum Kind {
         /// What help calls the value.
         value_name: &'static str,
     },
+    /// It follows an option, and more of its kind may, each behind the option again. All may be left out.
+    Listed {
+        /// The option's name.
+        long: &'static str,
+        /// What help calls the value.
+        value_name: &'static str,
+    },
     /// It is an option without a value.
     Flag {
         /// The option's name.
@@ -152,6 +159,25 @@ const HTTP: Word = Word {
         long: "http",
         value_name: "ADDR",
         default: "127.0.0.1:7780",
+    },
+};
+
+const PEERS: Word = Word {
+    id: "PEERS",
+    help: help::PEERS_HELP,
+    kind: Kind::Listed {
+        long: "peer",
+        value_name: "HOST:PORT",
+    },
+};
+
+const EVERY: Word = Word {
+    id: "EVERY",
+    help: help::EVERY_HELP,
+    kind: Kind::Defaulted {
+        long: "every",
+        value_name: "SECONDS",
+        default: "10",
     },
 };
 
@@ -369,7 +395,7 @@ pub static COMMANDS: [Described; 29] = [
         name: "run",
         about: help::RUN_ABOUT,
         page: Page::Run,
-        words: &[FILE, HTTP, TOKEN_FILE, OPEN],
+        words: &[FILE, HTTP, PEERS, EVERY, TOKEN_FILE, OPEN],
     },
     Described {
         name: "status",

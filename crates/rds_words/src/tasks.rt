@@ -217,12 +217,16 @@ pub struct ServeWords<'a> {
 }
 
 /// A site over a file, in words.
-#[derive(Clone, Copy, Debug)]
+#[derive(Debug, Drop)]
 pub struct RunWords<'a> {
     /// The file.
     pub file: &'a str,
     /// The address that browsers and programs connect to.
     pub http: &'a str,
+    /// The addresses of the peers that it meets, each a host and a port, in the order in which they were given.
+    pub peers: Vec<&'a str>,
+    /// After how many seconds it meets them again.
+    pub every: &'a str,
     /// The file of the token that is asked for, where one is.
     pub token_file: Option<&'a str>,
     /// Whether other machines may come, also where there is no token.
