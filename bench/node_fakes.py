@@ -52,13 +52,14 @@ def says_last(text):
     return act
 
 
-def goes_on(begin, part):
-    """Answers a request by what has no end."""
+def goes_on(begin, part, pause=0):
+    """Answers a request by what has no end, with a pause in seconds after each part."""
     def act(link):
         if asked(link):
             link.sendall(begin)
             while True:
                 link.sendall(part)
+                time.sleep(pause)
     return act
 
 
@@ -90,9 +91,11 @@ def drips(link):
             time.sleep(0.05)
 
 
-def fakes_of(question, answer):
-    """Each fake by its name. The question is one that a replica of the group asks, and the answer is made for another."""
-    chunk = b"10000\r\n" + bytes(1 << 16) + b"\r\n"
+def fakes_of(question, answer, slow=1):
+    """Each fake by its name. The question is one that a replica of the group asks, and the answer is made for another.
+
+    An unproved program lets go of a long body a byte at a time. So where it is slow, the one without end comes slowly."""
+    chunk, pause = b"10000\r\n" + bytes(1 << 16) + b"\r\n", 0.02 if slow > 1 else 0
     chunked = b"HTTP/1.1 200 OK\r\nTransfer-Encoding: chunked\r\n\r\n"
     taken = response(b'{"taken":0}\n')
     return {
@@ -109,7 +112,7 @@ def fakes_of(question, answer):
         "tells 2^40 bytes": says(response(b"", length=b"%d" % (1 << 40))),
         "tells 2^70 bytes": says(response(b"", length=b"%d" % (1 << 70))),
         "tells -1 bytes": says(response(b"", length=b"-1")),
-        "sends a body without end": goes_on(chunked, chunk),
+        "sends a body without end": goes_on(chunked, chunk, pause),
         "sends a head without end": goes_on(b"HTTP/1.1 200 OK\r\n", b"x: " + b"y" * 1_000 + b"\r\n"),
         "drips": drips,
         "asks nonsense": says(response(b"no question")),

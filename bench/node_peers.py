@@ -37,7 +37,7 @@ def shows(node, number):
 
 def arrives(node, number, seconds):
     """Waits until a node shows what was set at another: how many seconds that took."""
-    return soon(lambda: shows(node, number), f"edit {number} isn't seen at {node.own}", seconds, 0.002)
+    return soon(lambda: shows(node, number), f"edit {number} isn't seen at {node.own}", seconds * node.slow, 0.002)
 
 
 def told(node, port):
@@ -49,13 +49,15 @@ def told(node, port):
 def tells(node, port, words, seconds=10):
     """Waits until what a node has said of a peer last has these words."""
     has = lambda: (told(node, port) or [""])[-1]
-    soon(lambda: all(word in has() for word in words), lambda: f"of a peer {words} is due, and told is {has()!r}", seconds)
+    otherwise = lambda: f"of a peer {words} is due, and told is {has()!r}"
+    soon(lambda: all(word in has() for word in words), otherwise, seconds * node.slow)
 
 
 def are_met(node, count, seconds=10):
     """Waits until so many peers of a node are met."""
     met = lambda: node.count("rds_peers_met")
-    soon(lambda: met() == count, lambda: f"{node.own} has met {met()} peers, where {count} are due", seconds)
+    otherwise = lambda: f"{node.own} has met {met()} peers, where {count} are due"
+    soon(lambda: met() == count, otherwise, seconds * node.slow)
 
 
 @contextlib.contextmanager
@@ -66,10 +68,13 @@ def all_running(*nodes):
         yield
 
 
-def nodes_of(asked, folder, owns, token=None):
-    """Nodes of one group, each in a folder of its own."""
+def nodes_of(asked, folder, names, token=None):
+    """Nodes of one group, each in a folder of its own. The first letter of its name is its replica's."""
     folder.mkdir()
-    return [Node(asked.program, folder / own, token, own, "abc") for own in owns]
+    nodes = [Node(asked.program, folder / name, token, name[0], "abc") for name in names]
+    for node in nodes:
+        node.slow = asked.slow
+    return nodes
 
 
 def exchanges(node):
@@ -109,7 +114,7 @@ def rest(nodes):
     time.sleep(2)
     for node, (count, worked) in zip(nodes, before):
         more, work = exchanges(node) - count, node.worked() - worked
-        want(more <= 1 and work < 0.2, f"{node.own} makes {more} exchanges in 2 s at rest, and works {work:.2f} s")
+        want(more <= 1 and work < 0.2 * node.slow, f"{node.own} makes {more} exchanges in 2 s at rest, and works {work:.2f} s")
 
 
 def crowd(nodes):
@@ -124,7 +129,7 @@ def crowd(nodes):
     for node, count in zip(nodes, counts):
         more = exchanges(node) - count
         want(more <= most, f"{node.own} makes {more} exchanges for {done} edits, where {most:.0f} are the most")
-    want(done > 100, f"a node under load answers {done} edits in 2 s")
+    want(done > 100 / nodes[0].slow, f"a node under load answers {done} edits in 2 s")
 
 
 def try_one_way(asked, folder):
@@ -176,7 +181,7 @@ def try_token(asked, folder):
             stack.enter_context(running(a))
             tells(a, b.port, ["refused", "401"])
             put(a, 1)
-            soon(lambda: a.count("rds_peer_refusals_total") > 1, "a peer that refuses isn't asked again")
+            soon(lambda: a.count("rds_peer_refusals_total") > 1, "a peer that refuses isn't asked again", 10 * a.slow)
             counts = a.count("rds_peers_met"), shows(b, 1), len(told(a, b.port))
             want(counts == (0, False, 1), f"a peer that refuses is met, has an edit, and is told of {counts} times")
         change_token(b, TOKEN)
@@ -200,8 +205,8 @@ def try_wrong(asked, folder):
     """A node with many peers that are wrong, and one that is as due."""
     a, b, c = nodes_of(asked, folder, "abc")
     put_in(c, 0)
-    (c.folder / "q").write_bytes(b.told("ask", "a.rds"))
-    fakes = fakes_of(c.told("ask", "a.rds"), c.told("answer", "a.rds", given=(c.folder / "q").read_bytes()))
+    answer = c.told("answer", "a.rds", given=b.told("ask", "a.rds"))
+    fakes = fakes_of(c.told("ask", "a.rds"), answer, asked.slow)
     with contextlib.ExitStack() as stack:
         fakes = {what: stack.enter_context(Fake(act)) for what, act in fakes.items()}
         a.meets(*(fake.port for fake in fakes.values()), b.port, every=1)
@@ -216,7 +221,7 @@ def try_wrong(asked, folder):
         want(counts == (len(fakes) + 1, 1), f"of {len(fakes) + 1} peers, one of which is as due, {counts} are counted")
         peak = a.peak()
     slow, longest = at(took, 0.99), max(took) * 1000
-    want(slow < READ, f"a read beside {len(fakes)} wrong peers takes {slow:.0f} ms (p99), the longest {longest:.0f}")
+    want(slow < READ * asked.slow, f"a read beside {len(fakes)} wrong peers takes {slow:.0f} ms (p99), the longest {longest:.0f}")
     want(peak < 1_000, f"beside wrong peers the node takes {peak:.0f} MB")
     return (f"beside {len(fakes)} wrong peers {len(took):,} reads (p99 {slow:.1f} ms, longest {longest:.0f} ms), an edit gets "
             f"to a good one in {at(there, 0.5):.0f} ms, the longest {max(there) * 1000:.0f} ms; {peak:.0f} MB")
@@ -254,12 +259,12 @@ def serve(a, b, seconds):
 
 def judge_told(a, fakes):
     """Each wrong peer was called, and told of: no line twice, and none that it is met."""
-    noted = Noted()
+    noted, endless = Noted(), ["drips"] + ["sends a body without end"] * (a.slow > 1)
     for what, fake in fakes.items():
         lines, calls = told(a, fake.port), fake.calls()
         with noted:
-            want(calls > 1 or what in ("is silent", "drips") and calls, f"a peer that {what} is called {calls} times")
-            want(lines or what == "drips", f"of a peer that {what} nothing is told")
+            want(calls > (what not in ["is silent", *endless]), f"a peer that {what} is called {calls} times")
+            want(lines or what in endless, f"of a peer that {what} nothing is told")
             want("met" not in lines, f"a peer that {what} is told to be met: {lines}")
             again = any(line == following for line, following in itertools.pairwise(lines))
             want(not again and len(lines) < 10, f"of a peer that {what} is told again and again: {lines}")
@@ -270,8 +275,7 @@ def try_fork(asked, folder):
     """Copies of a file that run as nodes of their own: one that meets the original, and one that meets its peer.
 
     The first was edited as often as the original, so that both have seen the same dots."""
-    a, b = nodes_of(asked, folder, "ab")
-    copy, older = (Node(asked.program, folder / name, own="a", names="abc") for name in ("copy", "older"))
+    a, b, copy, older = nodes_of(asked, folder, ["a", "b", "a-copy", "a-older"])
     put_in(a, 1)
     for node in copy, older:
         shutil.copy(a.folder / "a.rds", node.folder / "a.rds")

@@ -87,6 +87,8 @@ class Node:
             self.words = ["--token-file", "token"]
         self.told("init", "a.rds", "g", own, *names)
         self.port, self.child = free_port(), None
+        # What it does with peers may take so many times as long as is due.
+        self.slow = 1
 
     def meets(self, *ports, every=None, host=HOST):
         """Names its peers, by their ports, and how often it asks them."""
@@ -351,5 +353,6 @@ def are_equal(nodes, seconds=10):
         found[:] = states()
         return len(found) == 1
 
-    took = soon(holds, lambda: f"{len(found)} documents and marks of {len(nodes)} nodes differ", seconds)
+    differ = lambda: f"{len(found)} documents and marks of {len(nodes)} nodes differ"
+    took = soon(holds, differ, seconds * max(node.slow for node in nodes))
     return took, json.loads(found[0][0])
