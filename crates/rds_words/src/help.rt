@@ -458,12 +458,10 @@ free one, will do. Requests, with the commands that print what they are answered
   GET /ask              ask
   POST /edits           edit; the body has its lines
   POST /answer          answer; the body is the question
-  POST /take            take; the body is the question's length in 4 bytes, big-endian,
-                        the question and the answer
+  POST /take            take; the body: the question's length in 4 bytes, question, answer
   POST /login           a cookie for the token that the body is
-With --peer it meets that node, of another replica of the group: after each change here,
-and every SECONDS. Each takes what it lacks. Changes of the peer come at once where that
-names this node too. Peers share one token, and are shown that of --token-file.
+With --peer it meets that node, of another replica, after each change here and every
+SECONDS: each takes what it lacks. Peers share one token, and are shown that of the file.
 Without options this machine alone may come, by 127.0.0.1 or [::1]; another ADDR is fault
 27. With --token-file all but the page and /login ask for the token, 'Authorization:
 Bearer TOKEN' or the cookie: 16 to 128 of A-Z a-z 0-9 - . _ ~. Nothing is enciphered.
