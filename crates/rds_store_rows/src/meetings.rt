@@ -50,6 +50,18 @@ impl Documents<'_> {
         Ok(format!(in alloc; "{taken} taken")?)
     }
 
+    /// `level NAME ASKER`: whether the asker's question tells of what the document has.
+    pub fn is_level(&mut self, alloc: Global, rest: &str) -> Result<String, Fault> {
+        let (name, asker) = cut(rest)?;
+        let question = self.question_of(alloc, asker)?;
+        let document = &self.named(name)?.document;
+        if document.is_level_with(question.as_slice())? {
+            said(alloc, "level")
+        } else {
+            said(alloc, "not level")
+        }
+    }
+
     fn question_of(&mut self, alloc: Global, name: &str) -> Result<Vec<u8>, Fault> {
         copied(alloc, self.named(name)?.question.as_slice())
     }

@@ -17,6 +17,7 @@ impl Table for Documents<'_> {
             "answer" => self.answer_question(alloc, rest),
             "take" => self.take(alloc, rest),
             "turn" => self.turn(alloc, rest),
+            "level" => self.is_level(alloc, rest),
             "merge" => self.merge(alloc, rest),
             _ => in_file(self, alloc, name, rest),
         }
