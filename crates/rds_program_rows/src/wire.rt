@@ -106,8 +106,8 @@ pub fn answer_failing(rt: &HostRuntime, row: &str) -> Result<String, Fault> {
     run_noted(rt, words, &Wire::new(rt.alloc(), fails))
 }
 
-/// `held FILE HOLDER CALL | WORDS`: the same while the file's lock is taken: by a node that is reached at the address HOLDER
-/// and writes its note, by one whose note is there already, where HOLDER is `node`, or by a command, where it is `command`.
+/// `held FILE HOLDER CALL | WORDS`: the same while the file's lock is taken. A node has it that is reached at the address
+/// HOLDER, and writes its note; or one whose note is there already (`node`); or a command (`command`).
 pub fn answer_held(rt: &HostRuntime, row: &str) -> Result<String, Fault> {
     let (held, words) = parted(row, " | ")?;
     let (path, held) = cut(held)?;
