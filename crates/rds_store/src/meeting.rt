@@ -52,8 +52,7 @@ impl Document {
         ensures level { IfOk result (TellsLevel question.now self.now) }
         ensures fault { IfErr result (RefusesLevel question.now self.now) }
     {
-        let asked = decode_question(self.alloc, question)?;
-        is_level(self.alloc, &asked, self.index.replica())
+        tell_level(self.alloc, self.index.replica(), question)
     }
 
     /// Takes what answers a question that this replica asked, now or earlier, and tells how many components that
@@ -87,6 +86,15 @@ fn respond_to(alloc: Global, held: &Replica<GapSet>, question: &[u8]) -> Result<
 {
     let asked: Question<GapSet> = decode_question(alloc, question)?;
     respond(alloc, held, &asked)
+}
+
+/// Whether the replica that asked the question whose text the bytes are is level with this one.
+fn tell_level(alloc: Global, held: &Replica<GapSet>, question: &[u8]) -> Result<bool, Fault>
+    ensures level { IfOk result (TellsLevel question.now held.now) }
+    ensures fault { IfErr result (RefusesLevel question.now held.now) }
+{
+    let asked: Question<GapSet> = decode_question(alloc, question)?;
+    is_level(alloc, &asked, held)
 }
 
 /// Whether the replica that asked has the roster and the digest of this one, where they may talk.
