@@ -134,7 +134,10 @@ impl Talk {
             let mut fields = [EMPTY_HEADER_SPAN; FIELDS];
             let read = self.client.read(self.input.as_slice(), &mut fields)?;
             match read.event {
-                Event::Head(head) => self.status = head.code,
+                Event::Head(head) => {
+                    self.status = head.code;
+                    self.check_size()?;
+                }
                 Event::Data(span) => self.keep(span)?,
                 Event::Informational(_) => (),
                 Event::NeedMore => {
@@ -158,6 +161,14 @@ impl Talk {
         match self.client.read_eof()? {
             Event::End(_) => Ok(Some(self.response())),
             _ => Err(Trouble::Ended),
+        }
+    }
+
+    // Refuses a body of which the head says that it is too long.
+    fn check_size(&self) -> Result<(), Trouble> {
+        match self.client.unread_size() {
+            BodySize::Known(size) if (LONGEST_BODY as u64) < size => Err(Trouble::TooLong),
+            _ => Ok(()),
         }
     }
 

@@ -32,16 +32,17 @@ use std::time::Instant;
 ///
 /// `Usage` where the words name no place for a site or no peers, or the token's file has none. What
 /// [`DocumentFile::open`] and [`DocumentFile::keep`] refuse with. `Device` where the token's file can't be read, a peer
-/// isn't found, the address can't be had, or the system can't be waited for. `Memory` where there is none to begin. Standard error has a line once the site serves,
-/// and one that says why it ended, but where memory lacked. What a client does wrong ends that client alone.
+/// isn't found, the address can't be had, or the system can't be waited for. `Memory` where there is none to begin.
+/// Standard error has a line once the site serves, and one that says why it ended, but where memory lacked. What a
+/// client or a peer does wrong ends its connection alone.
 ///
 /// There are at most 1,024 clients; more are let go at once. Each has 30 seconds for a whole request, and to take a
 /// byte of an answer. A body has at most 64 MB, and what waits unread of all clients 256 MB: who sends more is let go.
 /// A listener for which 64 kB wait is let go.
 ///
-/// There are at most 64 peers. One that can't be met, or is refused or refuses, is tried again after 1, 2, 4, .. up to
-/// 60 seconds, and standard error has a line where that begins and ends. A response has at most 256 MB, and within 30
-/// seconds a byte of it has to come.
+/// There are at most 64 peers. One that can't be met, that refuses, or that brings what is refused is tried again after
+/// 1, 2, 4, .. up to 60 seconds. Standard error has a line where that begins and ends. A response has at most 256 MB,
+/// and every 30 seconds a byte has to go or come.
 pub fn run_site<H: Disk + Net + RandomSource>(rt: &H, words: &SiteWords<'_>) -> Fault
 where
     H::File: LockFile,
