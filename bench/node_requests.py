@@ -79,6 +79,7 @@ POST /take
 MAY_COME = """
 200 GET /doc | Host: localhost:PORT
 200 GET /doc | Host: [::1]:PORT
+200 GET /doc | Host: LocalHost:PORT
 403 GET /doc | Host: 127.0.0.1
 403 GET /doc | Host: example.org
 403 GET /doc | Host: example.org:PORT
@@ -102,8 +103,10 @@ MAY_COME_WITH_TOKEN = """
 401 GET /ask | Cookie: a=b
 401 GET /nothing | Cookie: a=b
 401 POST /edits | Cookie: a=b
-401 POST /edits | Cookie: rds=
-401 POST /edits | Cookie: rds=TOKENx
+401 POST /edits | Cookie: rds_PORT=
+401 POST /edits | Cookie: rds_PORT=TOKENx
+401 POST /edits | Cookie: rds=TOKEN
+401 POST /edits | Cookie: rds_1PORT=TOKEN
 401 POST /edits | Authorization: Bearer
 401 POST /edits | Authorization: Bearer 0123456789abcdef-._
 401 POST /edits | Authorization: Basic TOKEN
@@ -111,7 +114,8 @@ MAY_COME_WITH_TOKEN = """
 403 POST /edits | Authorization: Bearer TOKEN | Origin: http://example.org
 403 POST /login | Origin: http://example.org
 200 POST /edits | Authorization: Bearer TOKEN
-200 POST /edits | Cookie: a=b; rds=TOKEN; c=d
+200 POST /edits | Cookie: a=b; rds_PORT=TOKEN; c=d
+200 POST /edits | Cookie: rds_1PORT=other; rds_PORT=TOKEN
 200 GET /doc | Host: example.org:PORT
 """
 
@@ -233,7 +237,7 @@ def judge_texts(node):
 def judge_login(node):
     """What gives a page its cookie."""
     answer = node.answer("POST", "/login", TOKEN.encode(), "Cookie: a=b")
-    cookie = f"rds={TOKEN}; Path=/; HttpOnly; SameSite=Strict"
+    cookie = f"rds_{node.port}={TOKEN}; Path=/; HttpOnly; SameSite=Strict"
     want((answer.status, answer.headers.get("set-cookie")) == (204, cookie), f"POST /login is answered {answer}")
     answer = node.answer("POST", "/login", TOKEN[1:].encode(), "Cookie: a=b")
     is_due = answer.status == 401 and "set-cookie" not in answer.headers
