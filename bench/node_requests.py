@@ -79,6 +79,7 @@ POST /take
 MAY_COME = """
 200 GET /doc | Host: localhost:PORT
 200 GET /doc | Host: [::1]:PORT
+200 GET /doc | Host: LocalHost:PORT
 403 GET /doc | Host: 127.0.0.1
 403 GET /doc | Host: example.org
 403 GET /doc | Host: example.org:PORT
@@ -104,6 +105,8 @@ MAY_COME_WITH_TOKEN = """
 401 POST /edits | Cookie: a=b
 401 POST /edits | Cookie: rds_PORT=
 401 POST /edits | Cookie: rds_PORT=TOKENx
+401 POST /edits | Cookie: rds=TOKEN
+401 POST /edits | Cookie: rds_1PORT=TOKEN
 401 POST /edits | Authorization: Bearer
 401 POST /edits | Authorization: Bearer 0123456789abcdef-._
 401 POST /edits | Authorization: Basic TOKEN
@@ -112,6 +115,7 @@ MAY_COME_WITH_TOKEN = """
 403 POST /login | Origin: http://example.org
 200 POST /edits | Authorization: Bearer TOKEN
 200 POST /edits | Cookie: a=b; rds_PORT=TOKEN; c=d
+200 POST /edits | Cookie: rds_1PORT=other; rds_PORT=TOKEN
 200 GET /doc | Host: example.org:PORT
 """
 
