@@ -31,7 +31,8 @@ def length_in(head):
 def response(body, length=None, status=b"200 OK"):
     """A response, which may tell another length than that of its body."""
     length = b"%d" % len(body) if length is None else length
-    return b"HTTP/1.1 %s\r\nContent-Type: application/octet-stream\r\nContent-Length: %s\r\n\r\n%s" % (status, length, body)
+    head = b"HTTP/1.1 %s\r\nContent-Type: application/octet-stream\r\nContent-Length: %s\r\n\r\n"
+    return head % (status, length) + body
 
 
 def says(text):
@@ -92,7 +93,7 @@ def drips(link):
 
 
 def fakes_of(question, answer, slow=1):
-    """Each fake by its name. The question is one that a replica of the group asks, and the answer is made for another.
+    """Each fake by its name. A replica of the group asks the question, and the answer is made for another replica.
 
     An unproved program lets go of a long body a byte at a time. So where it is slow, the one without end comes slowly."""
     chunk, pause = b"10000\r\n" + bytes(1 << 16) + b"\r\n", 0.02 if slow > 1 else 0

@@ -81,7 +81,8 @@ def once(node, peer, failing, kind, number):
     if not goes_on:
         soon(has_ended, f"a node that doesn't serve any more, after call {number}, doesn't end")
         is_due = node.child.wait() == status and any(line in node.said() for line in lines)
-        want(is_due, f"call {number}, {told.read_text()}: the node ends with {node.child.poll()}: {node.said()[-300:]!r}")
+        how = f"{node.child.poll()}: {node.said()[-300:]!r}"
+        want(is_due, f"call {number}, {told.read_text()}: the node ends with {how}")
     node.child.kill()
     node.child.wait()
     shown = node.shown()

@@ -1,4 +1,4 @@
-"""Nodes that are killed by -9 while clients edit: what was acknowledged has to be there, and nothing that wasn't sent."""
+"""Nodes that are killed by -9 while clients edit: what was acknowledged is there, and nothing that wasn't sent."""
 import contextlib
 import itertools
 import json
@@ -137,5 +137,5 @@ def try_kill3(asked, folder):
         want(node.shown() == document, f"show of {node.own}'s file differs from what the three nodes have")
     owns = {dot.split("'")[1] for dot in model.dots}
     want(owns == set("abc") or asked.rounds < 3, f"edits were acknowledged by {sorted(owns)} alone")
-    return (f"{asked.rounds} kills of one of three nodes, {model.count:,} edits acknowledged, none lost, none found that "
-            f"wasn't sent; equal {took:.1f} s after the last")
+    done = f"{model.count:,} edits acknowledged, none lost, none found that wasn't sent"
+    return f"{asked.rounds} kills of one of three nodes, {done}; equal {took:.1f} s after the last"

@@ -20,7 +20,7 @@ NASTY = [
     *(b"\r\n", b"\n", b"\r", b"\0", b"\xff", b" ", b":", b"\r\n\r\n", b"%", b"%2", b"%00", b"%2F", b"//", b"{"),
     *(b"\r\nContent-Length: %d" % length for length in (-1, 0, 5, 1 << 63, 1 << 64)),
     *(b"\r\nTransfer-Encoding: " + coding for coding in (b"chunked", b"gzip, chunked", b"chunked, chunked")),
-    *(b"\r\nConnection: close", b"\r\nUpgrade: h2c", b"\r\nHost: x", b"\r\nExpect: 100-continue", b"\r\nCookie: rds_7780="),
+    *(b"\r\nConnection: close", b"\r\nUpgrade: h2c", b"\r\nHost: x", b"\r\nExpect: 100-continue", b"\r\nCookie: rds_1="),
     *(b"\r\n folded", b"\r\n" + b"a" * 20_000, b"\r\na: b" * 200, b"x" * 70_000, b"[" * 40_000, b'"\\ud800"'),
 ]
 
