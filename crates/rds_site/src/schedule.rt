@@ -4,8 +4,11 @@ use std::time::{Duration, Instant};
 /// Changes within so many milliseconds go to a peer together.
 const DRAWN_TOGETHER: u64 = 20;
 
-/// An exchange is followed by at least so many times the time that it took here.
+/// An exchange is followed by a rest of so many times the time that it took here.
 const REST: u32 = 10;
+
+/// The longest such rest, in milliseconds.
+const LONGEST_REST: u64 = 2000;
 
 /// The longest wait after a failure, in seconds.
 const LONGEST_WAIT: u64 = 60;
@@ -69,7 +72,8 @@ impl Schedule {
 
     /// The exchange under way is done.
     pub fn end(&mut self, now: Instant) {
-        self.earliest = after(now, self.spent.saturating_mul(REST));
+        let rest = self.spent.saturating_mul(REST);
+        self.earliest = after(now, rest.min(Duration::from_millis(LONGEST_REST)));
         self.failures = 0;
     }
 
