@@ -30,13 +30,13 @@ pub struct Channel {
 }
 
 impl Channel {
-    /// Over a socket that was just connected.
+    /// Over a socket that was just connected, which is heard at once.
     pub fn new(alloc: Global, socket: Socket, now: Instant) -> Channel {
         Channel {
             socket,
             talk: Talk::new(alloc),
             since: now,
-            heard: Heard::All,
+            heard: Heard::Part,
             is_answered: false,
         }
     }
@@ -54,6 +54,11 @@ impl Channel {
     /// Whether anything came since the last request.
     pub fn is_answered(&self) -> bool {
         self.is_answered
+    }
+
+    /// How much has come of a response that isn't whole, in bytes.
+    pub fn room(&self) -> usize {
+        self.talk.room()
     }
 
     /// Writes a request, with a body of these pieces.

@@ -69,6 +69,11 @@ impl Exchange {
         self.channel.has_more()
     }
 
+    /// How much has come of a response that isn't whole, in bytes.
+    pub fn room(&self) -> usize {
+        self.channel.room()
+    }
+
     /// Since when the peer lets wait, where it does.
     pub fn waiting_since(&self) -> Option<Instant> {
         if self.is_resting() {

@@ -13,6 +13,9 @@ use std::time::{Duration, Instant};
 /// By this the system tells of the first peer, and by one less of each further one.
 const FIRST: usize = usize::MAX - 1;
 
+/// What has come of all responses takes so much room at most, in bytes, and what one hearing brings.
+const MOST_ROOM: usize = 268_435_456;
+
 /// The peers of a site, and what was counted of them.
 #[derive(Drop)]
 pub struct Peers<'a> {
@@ -88,15 +91,47 @@ impl<'a> Peers<'a> {
         H::File: LockFile,
     {
         for at in 0..self.table.len() {
-            if let Some(peer) = self.table.get_mut(at) {
-                let had_changed = site.has_changed();
-                let outcome = peer.hear(rt, site, now);
-                self.count(outcome);
-                if outcome == Outcome::Brought || !had_changed && site.has_changed() {
-                    self.note_brought(at, now);
-                }
+            let had_changed = site.has_changed();
+            let outcome = self.hear_from(rt, site, at, now);
+            self.count(outcome);
+            if outcome == Outcome::Brought || !had_changed && site.has_changed() {
+                self.note_brought(at, now);
             }
         }
+    }
+
+    // Hears one. One that takes more room than is left for responses is let go.
+    fn hear_from<H: Disk>(
+        &mut self,
+        rt: &H,
+        site: &mut Site<'_, H>,
+        at: usize,
+        now: Instant,
+    ) -> Outcome
+    where
+        H::File: LockFile,
+    {
+        let Some(peer) = self.table.get_mut(at) else {
+            return Outcome::None;
+        };
+        let had = peer.room();
+        let outcome = peer.hear(rt, site, now);
+        let has_grown = had < peer.room();
+        if has_grown && MOST_ROOM < self.room() {
+            if let Some(peer) = self.table.get_mut(at) {
+                return peer.give_up(rt, now);
+            }
+        }
+        outcome
+    }
+
+    // How much has come of all responses.
+    fn room(&self) -> usize {
+        let mut room: usize = 0;
+        for peer in self.table.as_slice() {
+            room = room.saturating_add(peer.room());
+        }
+        room
     }
 
     fn count(&mut self, outcome: Outcome) {

@@ -75,6 +75,19 @@ impl<'a> Peer<'a> {
         self.schedule.note_change(now);
     }
 
+    /// How much has come of a response that isn't whole, in bytes.
+    pub fn room(&self) -> usize {
+        match &self.link {
+            Link::Away | Link::Opening(..) => 0,
+            Link::Open(exchange) => exchange.room(),
+        }
+    }
+
+    /// Lets it go, since its response takes too much room.
+    pub fn give_up<H: Eprint>(&mut self, rt: &H, now: Instant) -> Outcome {
+        self.fail(rt, Trouble::TooLong, now)
+    }
+
     /// How long nothing is to be done for it, but for events.
     pub fn pause(&self, now: Instant) -> Duration {
         if self.is_listed {

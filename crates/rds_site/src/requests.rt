@@ -198,6 +198,11 @@ impl Talk {
         }
     }
 
+    /// How much has come of a response that isn't whole, in bytes.
+    pub fn room(&self) -> usize {
+        self.body.len()
+    }
+
     /// Lets go of what is to be sent, and of its room.
     pub fn clear_output(&mut self) {
         self.output = BytesMut::new(self.alloc);

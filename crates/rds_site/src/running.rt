@@ -41,8 +41,8 @@ use std::time::Instant;
 /// A listener for which 64 kB wait is let go.
 ///
 /// There are at most 64 peers. One that can't be met, that refuses, or that brings what is refused is tried again after
-/// 1, 2, 4, .. up to 60 seconds. Standard error has a line where that begins and ends. A response has at most 256 MB,
-/// and every 30 seconds a byte has to go or come.
+/// 1, 2, 4, .. up to 60 seconds. Standard error has a line where that begins and ends. The responses that are under way
+/// have at most 256 MB. Every 30 seconds a byte has to go or come.
 pub fn run_site<H: Disk + Net + RandomSource>(rt: &H, words: &SiteWords<'_>) -> Fault
 where
     H::File: LockFile,

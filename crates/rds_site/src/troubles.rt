@@ -18,7 +18,7 @@ pub enum Trouble {
     Silence,
     /// A response is none of HTTP/1.1.
     Garbled(ReadError),
-    /// A response is too long.
+    /// A response is too long, alone or with those of other peers.
     TooLong,
     /// The peer refused a request.
     Refused(Response),
