@@ -1,5 +1,5 @@
 -- What documents of programs do, as events of the model.
-use Rattle.std.proofs.Common.{◌≡◌, ◌∷◌, [], List, Ok, inr}
+use Rattle.std.proofs.Common.{◌≡◌, ◌∷◌, [], List, Ok, inl, inr}
 use Rattle.rds_lines.proofs.EditsMade.{lines_made}
 use Rattle.rds_offline.proofs.Brought.{Responded, brought, takes_answer}
 use Rattle.rds_offline.proofs.MergeEvents.{merge_takes}
@@ -20,6 +20,7 @@ pub keeps_saved : KeepsAreSaves
 keeps_saved = saved_open
 
 edit_made : (command : Command) (edited : Edited) (before after : ReplicaValue) → MayEdit (Ok command) before (Ok edited) after → IsMadeBy before (command ∷ []) after
+edit_made command edited before after (inl none) = absurd (let same = none.0 in cc)
 edit_made command edited before after (inr done) = record {
   roster = done.roster;
   own = done.own;
