@@ -1,10 +1,13 @@
 -- Files of new replicas, and rosters that grow, as events of the model.
-use Rattle.std.proofs.Common.{◌≡◌, ◌<◌, ◌≤◌, ◌∙◌, ◌∷◌, ◌++◌, [], ℕ, Bool, true, false, cond, leb, max, List, length, Option, Some, None, Result, Ok, Err, refl, sym, ap, subst, arith}
-use Rattle.std.specs.FinMap as map
+use Rattle.std.proofs.Common.{◌≡◌, ◌<◌, ◌≤◌, ◌∙◌, ◌∷◌, ◌++◌, [], ℕ, Bool, true, false, cond, leb, map, max, List, length, Option, Some, None, Result, Ok, Err, refl, sym, ap, subst, arith}
+use Rattle.rds_names.specs.AndThen.{◌>>=◌}
+use Rattle.std.specs.FinMap as finite
 use Rattle.std.specs.List.{position}
 use Rattle.std.specs.Str.{bytes_eq}
 use Rattle.std.proofs.lemmas.List.Quantifiers.{position-Some}
-use Rattle.rds_names.specs.Roster.{RosterValue, are_names, grown_of, number_named}
+use Rattle.rds_names.specs.Key.{key_of}
+use Rattle.rds_names.specs.Name.{name_of}
+use Rattle.rds_names.specs.Roster.{RosterValue, are_names, grown_of, number_named, roster_of}
 use Rattle.rds_names.specs.declared.fault.Fault.{Fault}
 use Rattle.rds_names.specs.declared.fault.Fault.TheVariants.{BadRoster, NoSuch}
 use Rattle.rds_dots.specs.declared.dot.Dot.{Dot}
@@ -25,19 +28,20 @@ use Rattle.rds_world.proofs.Open.{TakesAnswer, leads_to, opened, saved_open, the
 use Rattle.rds_world.proofs.OpenGrown.{IsGrownBy, grown_open}
 use Rattle.rds_files.specs.Files.{KeptFile}
 use Rattle.rds_commands.specs.Rosters.{CopiesAreTakes, GrowthsAreGrows, HasNothing, InitsAreStarts}
+use Rattle.rds_words.specs.Meaning.{names_in}
 use Rattle.rds_commands.specs.Sessions.{LeavesFile}
 use Rattle.rds_commands.proofs.EditEvents.{copy_taken}
 
 -- ---- a state without components
 
-nothing_is : (s : StateValue) → s.lives ≡ map.empty → s.counts ≡ map.empty → empty ≡ coordinates s
+nothing_is : (s : StateValue) → s.lives ≡ finite.empty → s.counts ≡ finite.empty → empty ≡ coordinates s
 nothing_is s no_lives no_counts = λ i. record { life = λ d. sym (no_life d) i; number = λ q. sym (no_number q) i }
   where
-    no_life : (d : Dot) → map.get s.lives d ≡ None
-    no_life d = ap (λ (v : Lived). map.get v d) no_lives ∙ map.get-empty dot_cmp d
+    no_life : (d : Dot) → finite.get s.lives d ≡ None
+    no_life d = ap (λ (v : Lived). finite.get v d) no_lives ∙ finite.get-empty dot_cmp d
 
     no_number : (q : Place) → number s.counts q ≡ 0
-    no_number q = ap (λ (v : Counted). number v q) no_counts ∙ ap number_from (map.get-empty place_cmp q)
+    no_number q = ap (λ (v : Counted). number v q) no_counts ∙ ap number_from (finite.get-empty place_cmp q)
 
 none_joined : (o : Option Life) → join_life None o ≡ o
 none_joined None = refl
@@ -72,23 +76,43 @@ number_below r name n h = by_place (position (bytes_eq name) r.names) refl
         ok_isnt : ◌≡◌ {A = Result ℕ Fault} (Err NoSuch) (Ok n) → ⊥
         ok_isnt e = cc
 
+-- what the words of `init` name, one after the other
+abbrev with_number : RosterValue → List ℕ → Result (RosterValue × ℕ) Fault
+with_number r o = number_named r o >>= λ number. Ok (r, number)
+
+abbrev with_names : List ℕ → List ℕ → List (List ℕ) → Result (RosterValue × ℕ) Fault
+with_names g o ns = roster_of g ns >>= λ r. with_number r o
+
+abbrev with_own : List ℕ → List ℕ → List (List ℕ) → Result (RosterValue × ℕ) Fault
+with_own g o texts = names_in texts >>= λ ns. with_names g o ns
+
+abbrev with_group : List ℕ → List ℕ → List (List ℕ) → Result (RosterValue × ℕ) Fault
+with_group g own texts = name_of own >>= λ o. with_own g o texts
+
 pub inits_start : InitsAreStarts
 inits_start words file answer inits =
     let roster : RosterValue = file.kept.roster in
-    let group = bind_ok _ _ _ inits.kept.named in
-    let own = bind_ok _ _ _ group.2 in
-    let names = bind_ok _ _ _ own.2 in
-    let made = bind_ok _ _ _ names.2 in
-    let number = bind_ok _ _ _ made.2 in
-    let same : (made.0 ≡ roster) × (number.0 ≡ file.kept.own) = pair_is made.0 roster number.0 file.kept.own number.2 in
+    let made : RosterValue × ℕ = (roster, file.kept.own) in
+    let texts : List (List ℕ) = map (λ n. n.now) words.names.items in
+    let group = bind_ok (key_of words.group.now) (λ (g : List ℕ). with_group g words.own.now texts) made inits.kept.named in
+    let own = bind_ok (name_of words.own.now) (λ (o : List ℕ). with_own group.0 o texts) made group.2 in
+    let names = bind_ok (names_in texts) (λ (ns : List (List ℕ)). with_names group.0 own.0 ns) made own.2 in
+    let of = bind_ok (roster_of group.0 names.0) (λ (r : RosterValue). with_number r own.0) made names.2 in
+    let number = bind_ok (number_named of.0 own.0) (λ (n : ℕ). Ok (of.0, n)) made of.2 in
+    let same : (of.0 ≡ roster) × (number.0 ≡ file.kept.own) = pair_is of.0 roster number.0 file.kept.own number.2 in
     record {
-      there = subst (λ (r : RosterValue). file.kept.own < length r.names) same.0 (subst (λ (k : ℕ). k < length made.0.names) same.1 (number_below made.0 own.0 number.0 number.1));
+      there = subst (λ (r : RosterValue). file.kept.own < length r.names) same.0 (subst (λ (k : ℕ). k < length of.0.names) same.1 (number_below of.0 own.0 number.0 number.1));
       names = refl;
       state = nothing_is file.kept.state inits.kept.no_lives inits.kept.no_counts;
     }
   where
+    ok_pair : (x y : RosterValue × ℕ) → ◌≡◌ {A = Result (RosterValue × ℕ) Fault} (Ok x) (Ok y) → x ≡ y
+    ok_pair x y e = cc
+
     pair_is : (r s : RosterValue) (a b : ℕ) → ◌≡◌ {A = Result (RosterValue × ℕ) Fault} (Ok (r, a)) (Ok (s, b)) → (r ≡ s) × (a ≡ b)
-    pair_is r s a b e = (cc, cc)
+    pair_is r s a b e =
+        let same : ◌≡◌ {A = RosterValue × ℕ} (r, a) (s, b) = ok_pair (r, a) (s, b) e in
+        (ap (λ (p : RosterValue × ℕ). p.0) same, ap (λ (p : RosterValue × ℕ). p.1) same)
 
 -- ---- a file that is made of a copy
 
