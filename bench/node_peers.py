@@ -8,6 +8,7 @@ import threading
 import time
 
 from node_fakes import Fake, fakes_of
+from node_meetings import try_idle, try_one_sided, try_told_fork
 from serving import HOST, LIMIT, TOKEN, Node, Noted, Wrong, are_equal, at, drive, running, soon, want
 
 # An edit that is told at once may take so many seconds, and one for which a peer asks by itself every second.
@@ -330,7 +331,15 @@ def try_gone(asked, folder):
     return f"a peer that begins is met {took[0]:.1f} s after that, and {took[1]:.1f} s after it was killed"
 
 
-PARTS = [try_both, try_one_way, try_ring, try_token, try_fork, try_gone, try_wrong]
+def meeting(part):
+    """A part that gets its nodes by `nodes_of`."""
+    named = lambda asked, folder: part(nodes_of, asked, folder)
+    named.__name__ = part.__name__
+    return named
+
+
+MEETINGS = [meeting(part) for part in (try_one_sided, try_told_fork, try_idle)]
+PARTS = [try_both, try_one_way, try_ring, try_token, try_fork, *MEETINGS, try_gone, try_wrong]
 
 
 def try_peers(asked, folder):

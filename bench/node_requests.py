@@ -1,12 +1,14 @@
 """Requests to a node, one by one, and what each is due to be answered, by hand."""
+import hashlib
 import json
+import os
 import re
 import signal
 import struct
 import subprocess
 import time
 
-from serving import LIMIT, TOKEN, UPGRADE, Node, Noted, running, want
+from serving import LIMIT, TOKEN, UPGRADE, Node, Noted, running, soon, want
 
 # A request, and below it the status, the kind of content and the body that are due. '|' ends a line of a body, and
 # '..' is anything.
@@ -234,6 +236,148 @@ def judge_texts(node):
     judge("a question of another group", other, '409 json {"fault":19,"name":"WrongGroup","text":".."}')
 
 
+# What looks at the document, and requests that are refused whatever tag they show.
+LOOKS = ["/doc", "/doc/apples", "/here", "/here/apples", "/value/apples", "/value/nothing", "/conflicts"]
+REFUSED = {"/doc/a//b": 400, "/here/%FF": 400, "/value": 400, "/nothing": 404}
+
+
+def judge_tags(node):
+    """What a client that has something already is answered: 304 where it is what stands there."""
+    noted = Noted()
+    with node.link() as link:
+        asked = lambda *request: link.answer(node.text(*request), request[0] == "HEAD")
+        tag = f'"{node.status()["mark"]}"'
+        old, rows = f'"{"0" * 32}"', []
+        for target in LOOKS:
+            rows += [("GET", target, None, 200), ("HEAD", target, None, 200), ("GET", target, old, 200)]
+            rows += [("GET", target, tag[1:-1], 200), ("GET", target, tag, 304), ("HEAD", target, tag, 304)]
+            others = "*", f"W/{tag}", f"{old}, {tag}", f"{old},{tag} , {old}"
+            rows += [("GET", target, shown, 304) for shown in others]
+        for method, target, shown, status in rows:
+            answer = asked(method, target, None, *([f"If-None-Match: {shown}"] if shown else []))
+            found = answer.status, answer.headers.get("etag"), answer.headers.get("cache-control")
+            with noted:
+                want(found == (status, tag, "no-cache"), f"{method} {target} with {shown} is answered {answer}")
+                want(not answer.body or status == 200, f"{method} {target} with {shown} is answered {answer}")
+        for target, status in REFUSED.items():
+            answer = asked("GET", target, None, "If-None-Match: *")
+            with noted:
+                want(answer.status == status, f"GET {target} with * is answered {answer}")
+        for target in "/status", "/metrics", "/":
+            answer = asked("GET", target, None, f"If-None-Match: {tag}")
+            with noted:
+                want(answer.status == 200, f"GET {target} with a tag is answered {answer}")
+        answer = asked("POST", "/edits", b'["set","tagged",1]\n', "If-None-Match: *")
+        with noted:
+            want(answer.status == 200 and b"dot" in answer.body, f"an edit with * is answered {answer}")
+        answer = asked("GET", "/doc", None, f"If-None-Match: {tag}")
+        with noted:
+            want(answer.status == 200 and answer.headers["etag"] != tag, f"after an edit a tag is answered {answer}")
+    noted.end()
+
+
+def asked_hash(question):
+    """The SHA-256 of what a question says, but for who asks: its group and names, and its digest."""
+    begin = 5
+    end = begin + 1 + question[begin]
+    count, end = int.from_bytes(question[end : end + 2], "big"), end + 2
+    for _ in range(count):
+        end += 1 + question[end]
+    return hashlib.sha256(question[begin:end] + question[end + 1 :]).hexdigest()
+
+
+def judge_ask_tags(node):
+    """The tag of what the node asks."""
+    answer, mark = node.answer("GET", "/ask"), node.status()["mark"]
+    tag, old = f'"{asked_hash(answer.body)}-{mark}"', f'"{"0" * 64}-{mark}"'
+    found = answer.status, answer.headers.get("etag"), answer.headers.get("rds-replica")
+    want(found == (200, tag, "0"), f"GET /ask is answered {answer}, where the tag {tag} is due")
+    for shown, status in [(tag, 304), (old, 200), (f"{old}, {tag}", 304), ("*", 304), (f'"{mark}"', 200)]:
+        answer = node.answer("GET", "/ask", None, f"If-None-Match: {shown}")
+        found = answer.status, answer.headers.get("etag"), answer.headers.get("rds-replica"), bool(answer.body)
+        want(found == (status, tag, "0", status == 200), f"GET /ask with {shown} is answered {answer}")
+    node.answer("POST", "/edits", b'["inc","tagged",1]\n')
+    answer = node.answer("GET", "/ask", None, f"If-None-Match: {tag}")
+    due = f'"{asked_hash(answer.body)}-{node.status()["mark"]}"'
+    is_due = answer.status == 200 and answer.headers["etag"] == due != tag
+    want(is_due, f"after an edit GET /ask is answered {answer}, where the tag {due} is due")
+
+
+# Requests one after the other, and what the log is due to say of them behind the client's address: '..' is the number
+# of bytes that came, and 'N' the microseconds. What is no request has no line.
+LOGGED = """
+GET /doc
+  GET /doc 200 .. N
+GET /value/a%20b/%C3%BC?x=%1b&y
+  GET /value/a%20b/%C3%BC?x=%1b&y 200 .. N
+GET http://HOST/status
+  GET http://HOST/status 200 .. N
+HEAD /doc
+  HEAD /doc 200 0 N
+POST /edits ["set","logged",1]
+  POST /edits 200 .. N
+GET /nothing
+  GET /nothing 404 .. N
+DELETE /live
+  DELETE /live 405 .. N
+GET /doc/a//b
+  GET /doc/a//b 400 .. N
+GET /value/ü‮
+  GET /value/%C3%BC%C2%85%E2%80%AE 200 .. N
+"""
+
+
+def judge_log(node):
+    """A line for each request, in the order in which they were answered, with `--log`."""
+    rows, due, place = LOGGED.strip("\n").split("\n"), [], node.folder / "log"
+    with node.link() as link:
+        client = "{}:{}".format(*link.socket.getsockname())
+        for row, line in zip(rows[::2], rows[1::2]):
+            method, target, *body = row.replace("HOST", f"127.0.0.1:{node.port}").split(" ", 2)
+            request = node.text(method, "TARGET", "".join(body).encode() if method == "POST" else None)
+            answer = link.answer(request.replace(b"TARGET", target.encode()), method == "HEAD")
+            if answer.status == 400 and "json" not in answer.headers.get("content-type", ""):
+                continue
+            line = line.strip().replace("HOST", f"127.0.0.1:{node.port}")
+            due.append(re.escape(f"{client} {line}").replace(r"\.\.", f"{len(answer.body)}").replace(" N", r" \d+"))
+        link.socket.sendall(node.text("GET", "/status") * 300)
+        due += [re.escape(f"{client} GET /status 200 ") + rf"{len(link.answer().body)} \d+" for _ in range(300)]
+    with node.link() as link:
+        client = "{}:{}".format(*link.socket.getsockname())
+        answer = link.answer(node.text("GET", "/live", None, *UPGRADE))
+        want(answer.status == 101, f"GET /live is answered {answer}")
+        due.append(re.escape(f"{client} GET /live 101 0 ") + r"\d+")
+    with node.link() as link:
+        link.answer(b"oops\r\n\r\n")
+    soon(lambda: place.read_bytes().count(b"\n") >= len(due), f"the log has too few lines for {len(due)} requests")
+    lines = place.read_bytes().decode().splitlines()
+    for line, pattern in zip(lines, due):
+        want(re.fullmatch(pattern, line), f"the log has {line!r}, where {pattern} is due")
+    want(len(lines) == len(due), f"the log has {len(lines)} lines, where {len(due)} are due: {lines[len(due):]}")
+
+
+def try_log(asked, folder):
+    """A log in a file, one that is full, and one that nobody reads any more."""
+    node = Node(asked.program, folder)
+    node.words += ["--log"]
+    with open(folder / "log", "wb") as log, running(node, stdout=log):
+        judge_log(node)
+    node.words += ["--token-file", "token"]
+    (folder / "token").write_text(TOKEN)
+    with open("/dev/full", "wb") as full, running(node, stdout=full):
+        serves_on(node, "whose log can't be written")
+    read, write = os.pipe()
+    with open(write, "wb") as pipe, running(node, stdout=pipe):
+        os.close(read)
+        serves_on(node, "whose log nobody reads")
+
+
+def serves_on(node, what):
+    for _ in range(3):
+        status = node.answer("GET", "/status", None, f"Authorization: Bearer {TOKEN}").status
+        want(status == 200, f"a node {what} answers {status}")
+
+
 def judge_login(node):
     """What gives a page its cookie."""
     answer = node.answer("POST", "/login", TOKEN.encode(), "Cookie: a=b")
@@ -264,7 +408,8 @@ def try_requests(asked, folder):
     noted, node = Noted(), Node(asked.program, folder)
     with running(node):
         comers = lambda node: judge_comers(node, MAY_COME)
-        for part in judge_table, judge_heads, judge_pipes, judge_texts, comers, stop_and_go_on:
+        tags = judge_tags, judge_ask_tags
+        for part in judge_table, judge_heads, judge_pipes, judge_texts, *tags, comers, stop_and_go_on:
             with noted:
                 part(node)
         document = node.document()
@@ -277,6 +422,8 @@ def try_requests(asked, folder):
                 part(node)
     with noted:
         judge_reach(node)
+    with noted:
+        try_log(asked, folder / "log")
     noted.end()
     count = REQUESTS.count("\n  ") + sum(table.strip().count("\n") + 1 for table in (MAY_COME, MAY_COME_WITH_TOKEN))
-    return f"{count} requests by hand, 600 at once, and what two replicas send each other"
+    return f"{count} requests by hand, 900 at once, tags, a log, and what two replicas send each other"

@@ -13,7 +13,7 @@ MANY = 100_000
 NAMES = {12: "Cut", 13: "Bad", 14: "Extra"} | {3: "BadKey", 4: "BadPath", 5: "BadScalar", 8: "CounterFull", 9: "Conflict"}
 NAMES |= {2: "BadName", 6: "BadRoster"}
 NAMES |= {10: "OwnAhead", 11: "WrongAsker", 17: "BadCertificate", 18: "WrongVersion", 19: "WrongGroup", 20: "WrongRoster"}
-NAMES |= {21: "SameReplica", 22: "OutOfTurn", 23: "PeerEnded", 25: "BadLine", 26: "NoSuch", 27: "Usage", 29: "Unsure"}
+NAMES |= {21: "SameReplica", 22: "OutOfTurn", 23: "PeerEnded", 25: "BadLine", 26: "NoSuch", 27: "Usage", 28: "Forked", 29: "Unsure"}
 # The most bytes of a record's payload, how many stand before it, and how long records may always be before a file is written anew.
 MOST, HEAD, FEW = 65_536, 36, 65_536
 # The most bytes that are read to tell that no record begins at any place of a torn end.
@@ -327,6 +327,35 @@ def digest_text(digest):
     return dots_text(ranks) + dots_text(dot for dot, rank in ranks.items() if rank == 1) + counts_text(numbers)
 
 
+def packed(value):
+    """Seven bits a byte, the lowest first."""
+    return bytes([value]) if value < 128 else bytes([128 + value % 128]) + packed(value // 128)
+
+
+def lives_text(lives):
+    """The shorter of the lengths of stretches, live first, and bits."""
+    lengths = [0]
+    is_live = True
+    for each in lives:
+        if each != is_live:
+            lengths.append(0)
+            is_live = each
+        lengths[-1] += 1
+    by_lengths = b"".join(map(packed, lengths))
+    by_bits = bytes(sum(bit << place for place, bit in enumerate(lives[at : at + 8])) for at in range(0, len(lives), 8))
+    return b"\0" + by_lengths if len(by_lengths) <= len(by_bits) else b"\1" + by_bits
+
+
+def brief_text(digest):
+    ranks, numbers = digest
+    text = b""
+    for of in sorted({replica for replica, _ in ranks}):
+        for first, last in runs_of(seq for replica, seq in ranks if replica == of):
+            lives = [ranks[of, seq] == 1 for seq in range(first, last + 1)]
+            text += packed(first) + bytes([of]) + packed(last - first) + lives_text(lives)
+    return text + b"\0" + counts_text(numbers)
+
+
 def certificate(delta, digest):
     """The rows that a delta has against a digest, each as its bytes."""
     ranks, numbers = digest
@@ -351,7 +380,7 @@ def answer_text(asker, delta, digest, format=2):
 
 
 def question_text(replica):
-    return b"RDSQ" + hello_text(replica) + digest_text(replica.state.digest())
+    return b"RDSB" + hello_text(replica) + brief_text(replica.state.digest())
 
 
 def response_text(replica, asked):

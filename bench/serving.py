@@ -49,8 +49,8 @@ class Noted:
         return self
 
     def __exit__(self, kind, error, trace):
-        if isinstance(error, Wrong):
-            self.problems.append(f"{error}")
+        if isinstance(error, (Wrong, OSError)):
+            self.problems.append(f"{error}" if isinstance(error, Wrong) else f"{type(error).__name__}: {error}")
             return True
 
     def end(self):
@@ -107,16 +107,16 @@ class Node:
     def begin(self, **means):
         words = [self.program, "run", "a.rds", "--http", f"{HOST}:{self.port}", *self.words]
         with open(self.folder / "errors", "wb") as errors:
-            means |= {"cwd": self.folder, "stdin": subprocess.DEVNULL, "stdout": errors, "stderr": errors}
+            means = {"cwd": self.folder, "stdin": subprocess.DEVNULL, "stdout": errors, "stderr": errors} | means
             self.child = subprocess.Popen(words, **means)
 
     def said(self):
         return (self.folder / "errors").read_text(errors="replace")
 
-    def start(self):
+    def start(self, **means):
         """Starts it, and tells after how many seconds it says that it serves."""
         begun = time.perf_counter()
-        self.begin()
+        self.begin(**means)
         while f"listening on http://{HOST}:{self.port}/\n" not in self.said():
             want(self.child.poll() is None, f"the node ends with {self.child.returncode} at its start: {self.said()}")
             want(time.perf_counter() - begun < LIMIT, f"the node doesn't serve within {LIMIT} s: {self.said()}")
@@ -165,19 +165,30 @@ class Node:
         return int(re.search(r"VmHWM:\s+(\d+)", status)[1]) * 1024 / 1e6
 
     def worked(self):
-        """The processor time that it has taken, in seconds."""
-        fields = pathlib.Path(f"/proc/{self.child.pid}/stat").read_text().rpartition(")")[2].split()
-        return (int(fields[11]) + int(fields[12])) / os.sysconf("SC_CLK_TCK")
+        """The processor time that it has taken, in seconds, by the clock that Linux keeps of each process."""
+        return time.clock_gettime(~self.child.pid << 3 | 2)
 
 
 def end_of(text, is_head=False):
-    """Where the first answer in these bytes ends, or 0 where it isn't whole."""
+    """Where the first answer in these bytes ends, or 0 where it isn't whole. There is no body behind a 304."""
     head = text.find(b"\r\n\r\n") + 4
     if head < 4:
         return 0
     length = LENGTH.search(text, 0, head)
-    end = head + (int(length[1]) if length and not is_head else 0)
+    has_body = length and not is_head and text[9:12] != b"304"
+    end = head + (int(length[1]) if has_body else 0)
     return end if end <= len(text) else 0
+
+
+def end_of_frame(text):
+    """Where the payload of the first frame in these bytes begins and ends, or None where it isn't whole."""
+    if len(text) < 2:
+        return None
+    begin = {126: 4, 127: 10}.get(text[1], 2)
+    if len(text) < begin:
+        return None
+    end = begin + (int.from_bytes(text[2:begin], "big") if begin > 2 else text[1])
+    return (begin, end) if end <= len(text) else None
 
 
 class Link:
@@ -212,13 +223,13 @@ class Link:
         """The next frame of a WebSocket, its first byte and its payload; None where none comes."""
         self.socket.settimeout(seconds)
         with contextlib.suppress(TimeoutError, ConnectionError):
-            while len(self.rest) < 2 or len(self.rest) < 2 + self.rest[1]:
+            while not (place := end_of_frame(self.rest)):
                 more = self.socket.recv(1 << 16)
                 if not more:
                     return None
                 self.rest += more
-            first, payload = self.rest[0], self.rest[2 : 2 + self.rest[1]]
-            self.rest = self.rest[2 + self.rest[1] :]
+            begin, end = place
+            first, payload, self.rest = self.rest[0], self.rest[begin:end], self.rest[end:]
             return first, payload
         return None
 
@@ -238,10 +249,10 @@ class Link:
 
 
 @contextlib.contextmanager
-def running(node):
+def running(node, **means):
     """Starts a node, which has to live until it is killed at the end."""
     try:
-        node.start()
+        node.start(**means)
         yield node
     except Exception as error:
         if node.child and node.child.poll() is not None:

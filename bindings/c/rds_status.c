@@ -36,7 +36,7 @@ static const words FAULTS[] = {
     {"BadLine", "the line is no command"},
     {"NoSuch", "there is no such replica, ask or answer"},
     {"Usage", "the words of the command line are none that the program takes"},
-    {"Unknown", "the number is no status"}, /* 28 is no fault's yet */
+    {"Forked", "both ends have seen the same, and hold different entries"},
     {"Unsure", "it is written, and may not last: read before you repeat"},
 };
 

@@ -107,6 +107,10 @@ class BadLine(RdsError, ValueError):
     """An edit is none: not one of set, add, del, clear, inc, dec with what belongs to it."""
 
 
+class Forked(RdsError):
+    """Both sides have seen the same, and hold different entries."""
+
+
 class Unsure(RdsError):
     """All was written to the file, and the system couldn't say that it lasts: it may be there after a crash or not."""
 
@@ -160,6 +164,7 @@ _CLASSES: Dict[int, Type[RdsError]] = {
     20: WrongRoster,
     21: SameReplica,
     25: BadLine,
+    28: Forked,
     29: Unsure,
     64: Closed,
     67: NotUtf8,

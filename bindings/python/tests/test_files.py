@@ -324,4 +324,4 @@ def test_what_may_not_last(file: Path) -> None:
 
 def test_statuses_have_their_names() -> None:
     assert type(fault(29)) is Unsure and fault(29).words.startswith("Unsure: ")
-    assert type(fault(28)) is RdsError and fault(28).words.startswith("Unknown: ")
+    assert type(fault(30)) is RdsError and fault(30).words.startswith("Unknown: ")

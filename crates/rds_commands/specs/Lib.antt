@@ -11,3 +11,4 @@ pub mod Rosters
 pub mod Sessions
 pub mod Told
 pub mod Unparsed
+pub mod Visits

@@ -15,6 +15,7 @@ use Rattle.std.specs.Prelude.{
   Some,
   None,
   IfSome,
+  IsSome,
   Ok,
   Err,
 }
@@ -69,6 +70,7 @@ use Rattle.rds_session.specs.declared.talk.Side.TheVariants.{Client, Server}
 use Rattle.rds_words.specs.Meaning.{IsAmount}
 use Rattle.rds_words.specs.Task.{words_of}
 use Rattle.rds_commands.specs.Unparsed.{WritesUnparsed}
+use Rattle.rds_commands.specs.Visits.{WritesVisit, is_site}
 use Rattle.rds_words.specs.declared.help.TheConstants.{FAULTS_TEXT, FILES_TEXT}
 use Rattle.rds_words.specs.declared.tasks.EditWords.{EditWords}
 use Rattle.rds_words.specs.declared.tasks.GrowWords.{GrowWords}
@@ -174,9 +176,14 @@ WritesServe words reading before after status =
     ⊎ ((is_piped words.addr.now ≡ true)
     × WritesPiped Server words.file.now (RefusesServe words) reading before after status)
 
--- the words of `sync` are refused, as those of `serve` are
+-- a token's file is given, and no site is called
+abbrev pub LacksSite : SyncWords → Type 0
+LacksSite words = (is_site words.addr.now ≡ false) × IsSome words.token_file
+
+-- the words of `sync` are refused, as those of `serve` are, or since a token is shown to a site alone
 abbrev pub RefusesSync : SyncWords → Type 0
-RefusesSync words = IsAmount words.timeout.now (Err Usage) ⊎ (is_beside words.file.now ≡ true)
+RefusesSync words =
+    IsAmount words.timeout.now (Err Usage) ⊎ ((is_beside words.file.now ≡ true) ⊎ LacksSite words)
 
 -- one session; or the words are refused
 abbrev pub WritesSyncAt : SyncWords → Option (List ℕ) → Option (List ℕ) → ℕ → Type 0
@@ -184,12 +191,19 @@ WritesSyncAt words before after status =
     ((is_beside words.file.now ≡ false) × WritesSync words.file.now before after status)
     ⊎ (RefusesSync words × Writes (Err Usage) before after status)
 
--- the same at an address, or over the input and the output
+-- a meeting with a site; or the words are refused
+abbrev pub WritesSyncSite : SyncWords → Option (List ℕ) → Option (List ℕ) → ℕ → Type 0
+WritesSyncSite words before after status =
+    ((is_beside words.file.now ≡ false) × WritesVisit words.file.now before after status)
+    ⊎ (RefusesSync words × Writes (Err Usage) before after status)
+
+-- one session with a peer at an address, a meeting with a site, or a session over the input and the output
 abbrev pub WritesSyncing : SyncWords → Stream → Option (List ℕ) → Option (List ℕ) → ℕ → Type 0
 WritesSyncing words reading before after status =
-    ((is_piped words.addr.now ≡ false) × WritesSyncAt words before after status)
+    ((is_piped words.addr.now ≡ false) × (is_site words.addr.now ≡ false) × WritesSyncAt words before after status)
+    ⊎ (((is_site words.addr.now ≡ true) × WritesSyncSite words before after status)
     ⊎ ((is_piped words.addr.now ≡ true)
-    × WritesPiped Client words.file.now (RefusesSync words) reading before after status)
+    × WritesPiped Client words.file.now (RefusesSync words) reading before after status))
 
 -- one session of the files at two paths; or one of them is that of a file beside another
 abbrev pub WritesPairing : List ℕ → List ℕ → Option (List ℕ) → Option (List ℕ) → ℕ → Type 0

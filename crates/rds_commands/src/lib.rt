@@ -1,6 +1,6 @@
 //! The program's commands: words in, what is written and the exit status out. Read from above: `program`, `telling`,
-//! `outcome`, `file_commands`, `batch`, `looking`, `listing`, `offline`, `session_words`, `site`, `unparsed` and
-//! `laws`. What people are told beside it is in `notes`, `letter_notes`, `tips` and `causes`.
+//! `outcome`, `file_commands`, `batch`, `looking`, `listing`, `offline`, `session_words`, `visits`, `site`,
+//! `unparsed` and `laws`. What people are told beside it is in `notes`, `letter_notes`, `tips` and `causes`.
 #![tactic(auto)]
 
 mod batch;
@@ -19,10 +19,11 @@ mod site;
 mod telling;
 mod tips;
 mod unparsed;
+mod visits;
 
 pub use laws::{
     copies_are_events, edits_are_events, letters_are_events, rosters_are_events,
     sessions_are_events,
 };
 pub use program::run;
-pub use site::RunSite;
+pub use site::{RunSite, Visit};

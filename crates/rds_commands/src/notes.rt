@@ -1,6 +1,7 @@
 //! What people are told on standard error of words and files that are refused, and of edits. Each thing is told once:
 //! `rds_files` tells of a file that can't be used or isn't one of rds.
 use crate::causes::{bad_key, bad_name, stands_twice};
+use crate::visits::is_site;
 use rds_files::{Disk, ReplicaFile, is_beside};
 use rds_gaps::GapSet;
 use rds_listing::conflicts;
@@ -236,7 +237,14 @@ pub fn note_serve<H: Eprint>(rt: &H, words: &ServeWords<'_>) {
 
 /// Tells why words of `sync` are refused.
 pub fn note_sync<H: Eprint>(rt: &H, words: &SyncWords<'_>) {
-    note_timeout(rt, words.file, words.timeout);
+    if words.token_file.is_some() && !is_site(words.addr) {
+        let addr = words.addr;
+        let _ = eprintln!(rt;
+            "--token-file is for a node alone, and '{addr}' isn't 'http://HOST:PORT'"
+        );
+    } else {
+        note_timeout(rt, words.file, words.timeout);
+    }
 }
 
 fn note_timeout<H: Eprint>(rt: &H, path: &str, timeout: &str) {

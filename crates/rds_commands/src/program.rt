@@ -32,7 +32,7 @@ use std::io::{Read, Write};
 use std::net::Net;
 
 /// Runs the command that the words name, and answers the exit status. The first word is the
-/// program's name, whatever it is. `run` is left to the site.
+/// program's name, whatever it is. `run` is left to the site, and so is `sync` of an address that begins with `http://`.
 ///
 /// A fault is written as the line `fault N: Name` and answered by 1. Words that the command line
 /// doesn't have are `Usage`: that line, then the library's text, and 2. Help and the version are written
@@ -113,7 +113,7 @@ where
         Task::Compact { file } => run_compact(rt, file, writer),
         Task::Conflicts { file, path } => run_conflicts(rt, file, path, writer),
         Task::Serve(words) => run_serve(rt, words, reader, writer),
-        Task::Sync(words) => run_sync(rt, words, reader, writer),
+        Task::Sync(words) => run_sync(rt, words, site, reader, writer),
         Task::Pair { first, second } => run_pair(rt, first, second, writer),
         Task::Run(words) => write_fault(writer, site.run_site(rt, words)),
         Task::Ask { file } => run_ask(rt, file, writer),

@@ -1,5 +1,5 @@
 //! The words of commands that make sessions.
-ghost use Rattle.std.specs.Prelude.{◌≡◌, ◌≤◌, ◌⊎◌, ◌||◌, Err};
+ghost use Rattle.std.specs.Prelude.{◌≡◌, ◌≤◌, ◌⊎◌, ◌||◌, Err, false, IsSome, None};
 ghost use Rattle.rds_names.specs.declared.fault.Fault.TheVariants.{Usage};
 ghost use Rattle.rds_lines.specs.Streams.{Tells, stream_of};
 ghost use Rattle.rds_commands.specs.Told.{
@@ -10,6 +10,7 @@ ghost use Rattle.rds_commands.specs.Told.{
   WritesServe,
   WritesServeAt,
   WritesSyncAt,
+  WritesSyncSite,
   WritesSyncing,
   sessions_asked,
 };
@@ -20,6 +21,8 @@ ghost use Rattle.rds_output.specs.Output.{Writes};
 
 use crate::notes::{note_beside, note_serve, note_sync};
 use crate::offline::status_for;
+use crate::site::RunSite;
+use crate::visits::{is_site, write_visit};
 use rds_files::{Disk, LockFile, is_beside, pair_files, pipe_file, serve_file, sync_file};
 use rds_keep::Counted;
 use rds_names::Fault;
@@ -106,11 +109,13 @@ where
     }
 }
 
-/// One session of the replica in a file with the peer at an address, or over the reader and the writer where the address
-/// is `-`. The words are judged first, as those of `serve` are.
-pub fn run_sync<H: Disk + Net, R: Read, W: Write>(
+/// One session of the replica in a file with the peer at an address, over the reader and the writer where the address
+/// is `-`, or a meeting with a site where it begins with `http://`. The words are judged first, as those of `serve` are;
+/// a token's file is given for a site alone.
+pub fn run_sync<H: Disk + Net, R: Read, W: Write, T: RunSite<H>>(
     rt: &H,
     words: SyncWords<'_>,
+    site: &T,
     reader: &mut Counted<R>,
     writer: &mut Counted<W>,
 ) -> u8
@@ -121,10 +126,38 @@ where
     ensures status { result ≤ 2 }
     ensures broken { (writer.new.failed ≡ writer.old.failed) ⊎ (result ≡ 1) }
 {
+    if is_site(words.addr) {
+        return sync_site(rt, words, site, writer);
+    }
     if words.addr == "-" {
         return sync_piped(rt, words, reader, writer);
     }
     sync_at(rt, words, writer)
+}
+
+// Meets a site.
+fn sync_site<H: Disk, W: Write, T: RunSite<H>>(
+    rt: &H,
+    words: SyncWords<'_>,
+    site: &T,
+    writer: &mut Counted<W>,
+) -> u8
+    ensures written { Tells (WritesSyncSite words.entry) (stream_of W.contents writer.old writer.new) result }
+    ensures refused { RefusesSync words.entry
+        → Tells (Writes (Err Usage)) (stream_of W.contents writer.old writer.new) result }
+    ensures status { result ≤ 2 }
+    ensures broken { (writer.new.failed ≡ writer.old.failed) ⊎ (result ≡ 1) }
+{
+    match seconds_of(&words) {
+        Some(seconds) => {
+            let visit = site.sync_site(rt, words, timeout_of(seconds));
+            write_visit(writer, visit)
+        }
+        None => {
+            note_sync(rt, &words);
+            write_fault(writer, Fault::Usage)
+        }
+    }
 }
 
 // Calls the peer at an address.
@@ -137,11 +170,9 @@ where
     ensures status { result ≤ 2 }
     ensures broken { (writer.new.failed ≡ writer.old.failed) ⊎ (result ≡ 1) }
 {
-    match amount_of(words.timeout) {
-        Ok(seconds) if !is_beside(words.file) => {
-            sync_file(rt, words.file, words.addr, timeout_of(seconds), writer)
-        }
-        _ => {
+    match seconds_of(&words) {
+        Some(seconds) => sync_file(rt, words.file, words.addr, timeout_of(seconds), writer),
+        None => {
             note_sync(rt, &words);
             write_fault(writer, Fault::Usage)
         }
@@ -165,15 +196,27 @@ where
     ensures status { result ≤ 2 }
     ensures broken { (writer.new.failed ≡ writer.old.failed) ⊎ (result ≡ 1) }
 {
-    match amount_of(words.timeout) {
-        Ok(_) if !is_beside(words.file) => {
-            pipe_file(rt, Side::Client, words.file, reader, writer)
-        }
-        _ => {
+    match seconds_of(&words) {
+        Some(_) => pipe_file(rt, Side::Client, words.file, reader, writer),
+        None => {
             note_sync(rt, &words);
             status_for(Fault::Usage)
         }
     }
+}
+
+// After how many seconds a silent peer is given up. There is none where the words are refused.
+fn seconds_of(words: &SyncWords<'_>) -> Option<u64>
+    ensures none { result ≡ None → RefusesSync words.now }
+    ensures refused { RefusesSync words.now → result ≡ None }
+    ensures file { IsSome result → is_beside words.now.file.now ≡ false }
+{
+    let seconds = amount_of(words.timeout).ok()?;
+    let lacks_site = words.token_file.is_some() && !is_site(words.addr);
+    if lacks_site || is_beside(words.file) {
+        return None;
+    }
+    Some(seconds)
 }
 
 /// One session of the replicas in two files. A path that ends in `.new` is `Usage`, and neither file is used.

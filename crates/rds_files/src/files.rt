@@ -369,8 +369,8 @@ where
     }
 
     /// Keeps this replica in the file, which a change made of the one that it holds, and then lets the lock go. A torn
-    /// end is cut off, the record of the change is appended, and FILE and its folder are synced. Where nothing changed, no
-    /// component came and no roster, they are synced alone: another command may have died before it did that.
+    /// end is cut off, the record of the change is appended, and FILE and its folder are synced. Where nothing changed,
+    /// no component came and no roster, they are synced alone: another command may have died before it did that.
     ///
     /// FILE is written anew instead, as `replace` does, where a record isn't worth its place: in a file of format 1,
     /// and where the records would be longer than the snapshot and than 64 kB. So it is where the record is longer than
@@ -465,8 +465,9 @@ where
         }
     }
 
-    /// Keeps this replica in the file as `keep` does, and holds the lock on. So the folder is synced once alone, and where
-    /// nothing changed again there is nothing to sync. Where a call fails, the file is the next time written anew.
+    /// Keeps this replica in the file as `keep` does, and holds the lock on. So the folder is synced once alone, and
+    /// where nothing changed again there is nothing to sync. Where a call fails, the file is the next time written
+    /// anew.
     pub fn keep_on(
         &mut self,
         rt: &H,

@@ -21,8 +21,8 @@ pub trait LockFile {
     /// Takes the file's exclusive advisory lock, and tells whether it was free. The lock is let go with the file.
     fn try_lock_exclusive(&self) -> io::Result<bool>;
 
-    /// Takes its shared advisory lock, which several may have, and tells whether nobody had the exclusive one. The lock is
-    /// let go with the file.
+    /// Takes its shared advisory lock, which several may have, and tells whether nobody had the exclusive one. The lock
+    /// is let go with the file.
     fn try_share_lock(&self) -> io::Result<bool>;
 
     /// Whether the two are one file, opened twice.

@@ -60,6 +60,7 @@ keeps old new same = record {
   path = ap (λ s. s.path) same;
   kept = ap (λ s. s.kept) same;
   turn = ap (λ s. s.turn) same;
+  has_news = ap (λ s. s.has_news) same;
   access = ap (λ s. s.access) same;
 }
 

@@ -1,5 +1,8 @@
 mod Changed
+mod NewsTexts
 mod Paths
 mod ReplyLines
+mod Shown
+mod TagTexts
 mod Takes
 mod Texts

@@ -12,7 +12,7 @@ use Rattle.rds_names.specs.declared.fault.Fault.TheVariants.{Memory, BadName, Ba
 use Rattle.rds_names.specs.declared.fault.Fault.TheVariants.{SeqFull, CounterFull, Conflict, OwnAhead, WrongAsker, Cut}
 use Rattle.rds_names.specs.declared.fault.Fault.TheVariants.{Bad, Extra, TooLong, TooManyDots, BadCertificate}
 use Rattle.rds_names.specs.declared.fault.Fault.TheVariants.{WrongVersion, WrongGroup, WrongRoster, SameReplica}
-use Rattle.rds_names.specs.declared.fault.Fault.TheVariants.{OutOfTurn, PeerEnded, Device, BadLine, NoSuch, Usage, Unsure}
+use Rattle.rds_names.specs.declared.fault.Fault.TheVariants.{OutOfTurn, PeerEnded, Device, BadLine, NoSuch, Usage, Forked, Unsure}
 use Rattle.rds_output.specs.Reply.{is_refusal}
 use Rattle.rds_output.specs.declared.reply.Reply.{Reply}
 use Rattle.rds_state.specs.Fits.{ReplicaValue}
@@ -136,6 +136,7 @@ fault_len Device = lit≤ tt
 fault_len BadLine = lit≤ tt
 fault_len NoSuch = lit≤ tt
 fault_len Usage = lit≤ tt
+fault_len Forked = lit≤ tt
 fault_len Unsure = lit≤ tt
 
 pub number_len : (number : ℕ) → number < 2 ^ 128 → length (decimal number) ≤ 39

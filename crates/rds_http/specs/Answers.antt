@@ -41,6 +41,7 @@ pub record KeepsRest (old new : SiteValue) : Type 0 where
   pub path : new.path ≡ old.path
   pub kept : new.kept ≡ old.kept
   pub turn : new.turn ≡ old.turn
+  pub has_news : new.has_news ≡ old.has_news
   pub access : new.access ≡ old.access
 
 -- what a body that is posted is answered, and what it makes of the document
@@ -52,7 +53,8 @@ DoesPost Login body old response new = AnswersLogin old.access.port old.access.t
 
 -- what a request that is let in is answered, by what it asks for and the place that it names
 abbrev pub Does : Asked → List ℕ → SiteValue → Request (List ℕ) → Response → SiteValue → Type 0
-Does (Ask.Look look) place old request response new = AnswersLook look old.document place response
+Does (Ask.Look look) place old request response new =
+    AnswersLook look old.document place (headers_of request) response
 Does (Ask.Post post) place old request response new = DoesPost post (body_of request) old response new
 Does Ask.Live place old request response new = AnswersHandshake (headers_of request) response
 Does (Ask.NotAllowed resource) place old request response new = IsNotAllowed resource response

@@ -5,8 +5,10 @@ pub mod Handshakes
 pub mod Lines
 pub mod Login
 pub mod Looks
+pub mod News
 pub mod Refusals
 pub mod Replies
 pub mod Routes
 pub mod Site
+pub mod Tags
 pub mod Tokens

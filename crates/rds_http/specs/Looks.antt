@@ -1,8 +1,11 @@
 -- What is shown of a document.
-use Rattle.std.specs.Prelude.{◌≡◌, ◌⊎◌, ℕ, List, [], ◌∷◌, codes, Result, Ok, Err, if◌then◌else◌}
-use Rattle.std.specs.Global.{Vec}
+use Rattle.std.specs.Prelude.{◌≡◌, ◌⊎◌, ℕ, Bool, true, false, List, [], ◌∷◌, codes, decimal, Result, Ok, Err}
+use Rattle.std.specs.Prelude.{if◌then◌else◌, MatchResult, Option, None, Some, String, option_map, string_bytes}
+use Rattle.std.specs.Global.{Global, Vec}
 use Rattle.std.specs.Str.{is_utf8}
 use Rattle.http1.specs.Fields.{Header}
+use Rattle.http_header.specs.FieldValue.{FieldValue}
+use Rattle.http_header.specs.HeaderMap.{Entries}
 use Rattle.http_server.specs.declared.response.Response.{Response}
 use Rattle.http_server.specs.Response.{IsResponse}
 use Rattle.percent_encoding.specs.Percent.{percent_decode}
@@ -17,8 +20,10 @@ use Rattle.rds_state.specs.Value.{StateValue}
 use Rattle.rds_store.specs.Looks.{IsValueText, RefusesPlace, here_text, told_at, view_text}
 use Rattle.rds_store.specs.Meetings.{MayAsk}
 use Rattle.rds_http.specs.Refusals.{TellsFault, json}
-use Rattle.rds_http.specs.Replies.{Tells, type_field}
+use Rattle.rds_http.specs.Replies.{Tells, TellsTagged, tag_fields, type_field}
+use Rattle.rds_http.specs.Tags.{IsTagOf, RefusesTag, is_known, state_tag, tag_text}
 use Rattle.rds_http.specs.declared.routes.Look.{Look}
+use Rattle.rds_http.specs.declared.tag.Tag.{Tag}
 use Rattle.rds_http.specs.declared.routes.Look.TheVariants.{Page, View, Here, Value, Conflicts, Status, Metrics, Ask}
 
 abbrev pub lines_of_json : List ℕ
@@ -28,15 +33,31 @@ lines_of_json = codes "application/x-ndjson"
 abbrev pub path_in : List ℕ → Result (List ℕ) Fault
 path_in place = if is_utf8 (percent_decode place) then Ok (percent_decode place) else Err BadKey
 
+-- the text about a state is told to a request, or no more than that it is known
+abbrev pub TellsOf : Entries FieldValue → StateValue → List ℕ → List ℕ → Response → Type 0
+TellsOf headers state kind text response =
+    TellsTagged (is_known headers (state_tag state)) (state_tag state) kind text response
+
 -- a text about a state, at the path that a place is
 abbrev pub told_in : (StateValue → List (List ℕ) → List ℕ) → StateValue → List ℕ → Result (List ℕ) Fault
 told_in text state place = path_in place >>= λ path. told_at text state path
 
 -- the text that is due is told, or the fault why there is none
-abbrev pub Shows : List ℕ → Result (List ℕ) Fault → Response → Type 0
-Shows kind due response =
-    ((text : List ℕ) × (due ≡ Ok text) × Tells 200 kind text response)
+abbrev pub Shows : Entries FieldValue → StateValue → List ℕ → Result (List ℕ) Fault → Response → Type 0
+Shows headers state kind due response =
+    ((text : List ℕ) × (due ≡ Ok text) × TellsOf headers state kind text response)
     ⊎ ((fault : Fault) × ((fault ≡ Memory) ⊎ (due ≡ Err fault)) × TellsFault fault response)
+
+-- the text is told, or known
+abbrev pub IsToldOf : Bool → List ℕ → Option (String Global) → Type 0
+IsToldOf true text told = told ≡ None
+IsToldOf false text told = option_map string_bytes told ≡ Some text
+
+-- the text that is due is told or known, or the fault is due, unless memory ran out
+abbrev pub MayShow : Bool → Result (List ℕ) Fault → Result (Option (String Global)) Fault → Type 0
+MayShow known due result =
+    MatchResult result (λ told. (text : List ℕ) × (due ≡ Ok text) × IsToldOf known text told)
+    (λ fault. (fault ≡ Memory) ⊎ (due ≡ Err fault))
 
 -- the text tells what stands at a place
 abbrev pub IsValueAt : StateValue → List ℕ → List ℕ → Type 0
@@ -47,21 +68,33 @@ abbrev pub IsNoPlace : List ℕ → Fault → Type 0
 IsNoPlace place fault =
     (path_in place ≡ Err fault) ⊎ ((path : List ℕ) × (path_in place ≡ Ok path) × RefusesPlace path fault)
 
-abbrev pub ShowsValue : StateValue → List ℕ → Response → Type 0
-ShowsValue state place response =
-    ((text : List ℕ) × IsValueAt state place text × Tells 200 json text response)
+abbrev pub ShowsValue : Entries FieldValue → StateValue → List ℕ → Response → Type 0
+ShowsValue headers state place response =
+    ((text : List ℕ) × IsValueAt state place text × TellsOf headers state json text response)
     ⊎ ((fault : Fault) × ((fault ≡ Memory) ⊎ IsNoPlace place fault) × TellsFault fault response)
 
 abbrev pub ShowsStatus : ReplicaValue → Response → Type 0
 ShowsStatus document response =
     ((text : List ℕ) × IsOverview document text × Tells 200 json text response) ⊎ TellsFault Memory response
 
--- what the document's replica asks is told, or the fault why there is no text of it
-abbrev pub ShowsQuestion : ReplicaValue → Response → Type 0
-ShowsQuestion document response =
-    ((bytes : Vec ℕ) × MayAsk document (Ok bytes)
-    × Tells 200 (codes "application/octet-stream") bytes.items response)
-    ⊎ ((fault : Fault) × MayAsk document (Err fault) × TellsFault fault response)
+-- the field that tells the number of a replica
+abbrev pub own_field : ReplicaValue → Header
+own_field document = (codes "rds-replica", decimal document.own)
+
+-- the question with this tag is told, or no more than that where it is known
+abbrev pub TellsQuestion : Bool → List ℕ → ReplicaValue → Response → Type 0
+TellsQuestion true tag document response = IsResponse 304 (own_field document ∷ tag_fields tag) [] response
+TellsQuestion false tag document response =
+    (bytes : Vec ℕ) × MayAsk document (Ok bytes)
+    × IsResponse 200 (own_field document ∷ type_field (codes "application/octet-stream") ∷ tag_fields tag) bytes.items
+    response
+
+-- what the document's replica asks is told with its tag, or the fault why there is no text of it
+abbrev pub ShowsQuestion : Entries FieldValue → ReplicaValue → Response → Type 0
+ShowsQuestion headers document response =
+    ((tag : Tag) × IsTagOf document tag
+    × TellsQuestion (is_known headers (tag_text tag)) (tag_text tag) document response)
+    ⊎ ((fault : Fault) × (MayAsk document (Err fault) ⊎ RefusesTag document fault) × TellsFault fault response)
 
 -- the fields of the page
 abbrev pub page_fields : List Header
@@ -73,14 +106,16 @@ page_fields =
     ∷ (codes "cache-control", codes "no-cache")
     ∷ []
 
--- what a look at a document, at a place, is answered
-abbrev pub AnswersLook : Look → ReplicaValue → List ℕ → Response → Type 0
-AnswersLook Page document place response = IsResponse 200 page_fields PAGE.now response
-AnswersLook View document place response = Shows json (told_in view_text document.state place) response
-AnswersLook Here document place response = Shows json (told_in here_text document.state place) response
-AnswersLook Value document place response = ShowsValue document.state place response
-AnswersLook Conflicts document place response =
-    Shows lines_of_json (told_in conflicts_text document.state place) response
-AnswersLook Status document place response = ShowsStatus document response
-AnswersLook Metrics document place response = response.status ≡ 200
-AnswersLook Ask document place response = ShowsQuestion document response
+-- what a look at a document, at a place, is answered, by a request with these fields
+abbrev pub AnswersLook : Look → ReplicaValue → List ℕ → Entries FieldValue → Response → Type 0
+AnswersLook Page document place headers response = IsResponse 200 page_fields PAGE.now response
+AnswersLook View document place headers response =
+    Shows headers document.state json (told_in view_text document.state place) response
+AnswersLook Here document place headers response =
+    Shows headers document.state json (told_in here_text document.state place) response
+AnswersLook Value document place headers response = ShowsValue headers document.state place response
+AnswersLook Conflicts document place headers response =
+    Shows headers document.state lines_of_json (told_in conflicts_text document.state place) response
+AnswersLook Status document place headers response = ShowsStatus document response
+AnswersLook Metrics document place headers response = response.status ≡ 200
+AnswersLook Ask document place headers response = ShowsQuestion headers document response

@@ -217,7 +217,7 @@ fn is_own_origin(host: Option<&[u8]>, origin: &[u8]) -> bool
 }
 
 /// Whether bytes are these two, one behind the other.
-fn are_joined(start: &[u8], end: &[u8], bytes: &[u8]) -> bool
+pub fn are_joined(start: &[u8], end: &[u8], bytes: &[u8]) -> bool
     ensures { result ≡ bytes_eq bytes.now (start.now ++ end.now) }
 {
     match bytes.strip_prefix(start) {

@@ -16,18 +16,19 @@ use crate::lines::{LONGEST, are_refusals, line_count, put_lines};
 use crate::metrics::Metrics;
 use crate::refusals::refuse;
 use crate::replies::{JSON, LINES, add_field};
+use crate::tracked::Tracked;
 use bytes::BufMut;
 use http::header::CONTENT_TYPE;
 use http_server::Response;
 use rds_files::Disk;
 use rds_names::Fault;
 use rds_output::Reply;
-use rds_store::{Document, DocumentFile};
+use rds_store::Document;
 use std::alloc::{AllocError, Global};
 
 /// A document in its file, and whether it may have changed since it was kept.
 pub struct Held<'a, H: Disk> {
-    pub file: DocumentFile<'a, H>,
+    pub file: Tracked<'a, H>,
     pub has_changed: bool,
 }
 

@@ -1,23 +1,31 @@
 //! The HTTP service over a document in its file: what a request is answered, and what it changes. Read `routes`,
-//! `token` and `access` first, then `replies`, `refusals`, `reading`, `metrics`, `lines`, `changing`, `login` and
-//! `live`; `site` puts them together, and `meeting` has what a site asks of others, and they of it.
+//! `token` and `access` first, then `tag`, `touched` and `tracked`, which has the document in its file. Then `replies`,
+//! `refusals`, `conditions`, `reading`, `metrics`, `lines`, `changing`, `login` and `live`. `site` puts them together;
+//! `meeting` has what a site asks of others, and they of it, and `news` what listeners are told.
 #![tactic(auto)]
 
 mod access;
 mod changing;
+mod conditions;
 mod lines;
 mod live;
 mod login;
 mod meeting;
 mod metrics;
+mod news;
 mod reading;
 mod refusals;
 mod replies;
 mod routes;
 mod site;
+mod tag;
 mod token;
+mod touched;
+mod tracked;
 
 pub use access::Access;
 pub use metrics::PeerCounts;
+pub use rds_store::Lacks;
 pub use site::Site;
+pub use tag::Tag;
 pub use token::Token;

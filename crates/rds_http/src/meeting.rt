@@ -1,16 +1,36 @@
 //! What a site asks of other replicas, answers them and takes from them, where no request of theirs leads to it.
 ghost use Rattle.std.specs.Prelude.{◌≡◌, IfErr, IfOk, OnErr};
 ghost use Rattle.rds_offline.specs.Letters.{TakesResponse};
-ghost use Rattle.rds_store.specs.Meetings.{MayAnswer, MayAsk, RefusesLevel, RefusesTaking, TellsLevel};
+ghost use Rattle.rds_store.specs.Meetings.{MayAnswer, MayAsk, MayTellLacks, RefusesTaking, TellsLevel};
 ghost use Rattle.rds_http.specs.Answers.{KeepsRest};
+ghost use Rattle.rds_http.specs.Tags.{IsTagOf, RefusesTag};
 
 use crate::changing::take_answer;
 use crate::metrics::PeerCounts;
 use crate::site::Site;
+use crate::tag::Tag;
 use rds_files::Disk;
 use rds_names::Fault;
+use rds_store::Lacks;
 
 impl<H: Disk> Site<'_, H> {
+    /// The number of the document's replica.
+    pub fn own(&self) -> u8
+        ensures { result ≡ self.now.document.own }
+    {
+        self.held.file.document().replica().own()
+    }
+
+    /// The tag of what [`ask`](Site::ask) asks. It is made anew only where the document may have changed. A digest
+    /// above the limit has none (`TooLong`).
+    pub fn tag(&mut self) -> Result<Tag, Fault>
+        ensures tag { IfOk result (IsTagOf self.old.document) }
+        ensures fault { IfErr result (RefusesTag self.old.document) }
+        ensures same { self.new ≡ self.old }
+    {
+        self.held.file.tag()
+    }
+
     /// What asks another replica for what the document lacks, as [`Document::ask`](rds_store::Document::ask) writes it.
     pub fn ask(&self) -> Result<Vec<u8>, Fault>
         ensures { MayAsk self.now.document result }
@@ -37,13 +57,13 @@ impl<H: Disk> Site<'_, H> {
         take_answer(&mut self.held, &mut self.metrics, question, answer)
     }
 
-    /// Whether the replica that asked has the document's roster and digest, as
-    /// [`Document::is_level_with`](rds_store::Document::is_level_with) tells, and refuses: then neither lacks anything.
-    pub fn is_level_with(&self, question: &[u8]) -> Result<bool, Fault>
+    /// What the document lacks of another replica's that asked, and that of the document's, as
+    /// [`Document::lacks`](rds_store::Document::lacks) tells, and refuses.
+    pub fn lacks(&self, question: &[u8]) -> Result<Lacks, Fault>
+        ensures told { MayTellLacks question.now self.now.document result }
         ensures level { IfOk result (TellsLevel question.now self.now.document) }
-        ensures fault { IfErr result (RefusesLevel question.now self.now.document) }
     {
-        self.held.file.document().is_level_with(question)
+        self.held.file.document().lacks(question)
     }
 
     /// Notes how many other nodes there are, and what came of meeting them, for the metrics.

@@ -10,6 +10,8 @@ pub struct PeerCounts {
     pub named: usize,
     /// How many of them were met when they were called last.
     pub met: usize,
+    /// How many of them have a fork of the document: they have seen the same, and hold different entries.
+    pub forked: usize,
     /// How many times an exchange was refused, or failed.
     pub refused: u64,
     /// Exchanges that went through.
@@ -51,6 +53,7 @@ impl Metrics {
             peers: PeerCounts {
                 named: 0,
                 met: 0,
+                forked: 0,
                 refused: 0,
                 exchanges: 0,
             },
@@ -114,11 +117,13 @@ fn push_peers(text: &mut String, peers: PeerCounts) -> Result<(), AllocError> {
     let PeerCounts {
         named,
         met,
+        forked,
         refused,
         exchanges,
     } = peers;
     push_line(text, "rds_peers", "gauge", named as u64)?;
     push_line(text, "rds_peers_met", "gauge", met as u64)?;
+    push_line(text, "rds_peers_forked", "gauge", forked as u64)?;
     push_line(text, "rds_peer_refusals_total", "counter", refused)?;
     push_line(text, "rds_peer_exchanges_total", "counter", exchanges)
 }

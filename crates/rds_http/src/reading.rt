@@ -1,52 +1,78 @@
 //! Requests that only look.
-ghost use Rattle.std.specs.Prelude.{◌≡◌, ◌⊎◌, IfErr, IfOk, IsTrue, MatchResult, OnOk, Ok, Err, string_bytes};
+ghost use Rattle.std.specs.Prelude.{◌≡◌, ◌⊎◌, ◌∷◌, ◌++◌, [], ℕ, Err, IfErr, IfOk, IsTrue, List, MatchResult, None, Ok};
+ghost use Rattle.std.specs.Prelude.{OnOk, option_map, string_bytes};
 ghost use Rattle.http_header.specs.FieldValue.{is_visible_text};
 ghost use Rattle.http_server.specs.Response.{IsBlank, IsResponse};
 ghost use Rattle.rds_listing.specs.Conflicts.{conflicts_text};
+ghost use Rattle.rds_names.specs.Path.{path_of};
 ghost use Rattle.rds_names.specs.declared.fault.Fault.TheVariants.{Memory};
-ghost use Rattle.rds_store.specs.Looks.{MayTell, here_text, view_text};
+ghost use Rattle.rds_store.specs.Looks.{RefusesPlace, here_text, view_text};
 ghost use Rattle.rds_http.specs.Changes.{AnswersQuestion};
-ghost use Rattle.rds_http.specs.Looks.{AnswersLook, IsNoPlace, IsValueAt, ShowsQuestion, page_fields, path_in, told_in};
-ghost use Rattle.rds_http.specs.Refusals.{TellsFault};
-ghost use Rattle.rds_http.specs.Replies.{Tells};
+ghost use Rattle.rds_http.specs.Looks.{
+  AnswersLook,
+  IsNoPlace,
+  IsToldOf,
+  IsValueAt,
+  MayShow,
+  Shows,
+  ShowsQuestion,
+  ShowsStatus,
+  ShowsValue,
+  lines_of_json,
+  own_field,
+  page_fields,
+  path_in,
+  told_in,
+};
+ghost use Rattle.rds_http.specs.Replies.{TellsIfUnknown};
+ghost use Rattle.rds_http.specs.Refusals.{TellsFault, json};
+ghost use Rattle.rds_http.specs.Tags.{IsTagOf};
 
+use crate::conditions::{Seen, is_known, seen_of};
 use crate::metrics::Metrics;
 use crate::refusals::refuse;
-use crate::replies::{BYTES, JSON, LINES, add_field, fill};
+use crate::replies::{BYTES, JSON, LINES, add_field, fill, fill_tagged, tell_known};
 use crate::routes::Look;
+use crate::tag::Tag;
+use crate::tracked::Tracked;
 use bytes::Bytes;
 use http::StatusCode;
 use http::header::{
-    CACHE_CONTROL, CONTENT_SECURITY_POLICY, CONTENT_TYPE, REFERRER_POLICY, X_CONTENT_TYPE_OPTIONS,
+    CACHE_CONTROL, CONTENT_SECURITY_POLICY, CONTENT_TYPE, HeaderMap, HeaderName, HeaderValue,
+    REFERRER_POLICY, X_CONTENT_TYPE_OPTIONS,
 };
 use http_server::Response;
 use percent_encoding::{DecodeError, percent_decode};
-use rds_names::Fault;
+use rds_files::Disk;
+use rds_lines::place_of;
+use rds_names::{Fault, Path};
 use rds_page::{PAGE, POLICY};
 use rds_store::Document;
 use std::alloc::{AllocError, Global};
 
-/// Answers with what is looked at.
-pub fn look(
+/// Answers with what is looked at, by a request with these header fields.
+pub fn look<H: Disk>(
     alloc: Global,
-    document: &Document,
+    file: &mut Tracked<'_, H>,
     metrics: &Metrics,
     asked: Look,
     place: &[u8],
+    headers: &HeaderMap<HeaderValue>,
     response: &mut Response,
 ) -> Result<(), AllocError>
     requires { IsBlank response.old }
-    ensures { OnOk result (AnswersLook asked document.now place.now response.new) }
+    ensures answered { OnOk result (AnswersLook asked file.old.document place.now headers.now response.new) }
+    ensures same { file.new ≡ file.old }
 {
     match asked {
         Look::Page => show_page(response),
-        Look::View => show(alloc, view_at(alloc, document, place), JSON, response),
-        Look::Here => show(alloc, here_at(alloc, document, place), JSON, response),
-        Look::Value => show(alloc, value_at(alloc, document, place), JSON, response),
-        Look::Conflicts => show(alloc, conflicts_at(alloc, document, place), LINES, response),
-        Look::Status => show(alloc, document.status(), JSON, response),
-        Look::Metrics => show_metrics(alloc, document, metrics, response),
-        Look::Ask => show_question(alloc, document, response),
+        Look::View => show_view(alloc, file.document(), place, headers, response),
+        Look::Here => show_here(alloc, file.document(), place, headers, response),
+        Look::Value => show_value(alloc, file.document(), place, headers, response),
+        Look::Conflicts => show_conflicts(alloc, file.document(), place, headers, response),
+        Look::Status => show_status(alloc, file.document(), response),
+        Look::Metrics => show_metrics(alloc, file.document(), metrics, response),
+        Look::Ask => show_question(alloc, file, headers, response),
     }
 }
 
@@ -66,70 +92,235 @@ pub fn answer(
     }
 }
 
-/// Answers with what asks another replica for what the document lacks.
-fn show_question(
+/// Answers with what asks another replica for what the document lacks, and with the tag of that.
+fn show_question<H: Disk>(
     alloc: Global,
-    document: &Document,
+    file: &mut Tracked<'_, H>,
+    headers: &HeaderMap<HeaderValue>,
     response: &mut Response,
 ) -> Result<(), AllocError>
     requires { IsBlank response.old }
-    ensures { OnOk result (ShowsQuestion document.now response.new) }
+    ensures answered { OnOk result (ShowsQuestion headers.now file.old.document response.new) }
+    ensures same { file.new ≡ file.old }
 {
-    match document.ask() {
-        Ok(bytes) => fill(response, StatusCode::OK, BYTES, bytes),
+    match file.tag() {
+        Ok(tag) => tell_question(alloc, file.document(), tag, headers, response),
         Err(fault) => refuse(alloc, fault, response),
     }
 }
 
-/// Answers with a text of this type, or by the fault why there is none.
+/// Answers with a question that has this tag.
+fn tell_question(
+    alloc: Global,
+    document: &Document,
+    tag: Tag,
+    headers: &HeaderMap<HeaderValue>,
+    response: &mut Response,
+) -> Result<(), AllocError>
+    requires blank { IsBlank response.old }
+    requires tag { IsTagOf document.now tag }
+    ensures { OnOk result (ShowsQuestion headers.now document.now response.new) }
+{
+    let text = format!(in alloc; "{tag}")?;
+    if is_known(headers, text.as_bytes()) {
+        add_own(alloc, document, response)?;
+        return tell_known(response, text);
+    }
+    match document.ask() {
+        Ok(bytes) => {
+            add_own(alloc, document, response)?;
+            fill_tagged(response, BYTES, text, bytes)
+        }
+        Err(fault) => refuse(alloc, fault, response),
+    }
+}
+
+/// Adds the field that tells the number of the document's replica.
+fn add_own(alloc: Global, document: &Document, response: &mut Response) -> Result<(), AllocError>
+    requires { IsBlank response.old }
+    ensures { OnOk result (IsResponse 200 (own_field document.now ∷ []) [] response.new) }
+{
+    let own = document.replica().own();
+    let text = format!(in alloc; "{own}")?;
+    let Ok(value) = HeaderValue::from_vec(text.into_bytes()) else {
+        return Err(AllocError);
+    };
+    response.add_header(HeaderName::from_static("rds-replica"), value)
+}
+
+/// Answers with what the document shows at a place.
+fn show_view(
+    alloc: Global,
+    document: &Document,
+    place: &[u8],
+    headers: &HeaderMap<HeaderValue>,
+    response: &mut Response,
+) -> Result<(), AllocError>
+    requires { IsBlank response.old }
+    ensures { OnOk result
+        (Shows headers.now document.now.state json (told_in view_text document.now.state place.now) response.new) }
+{
+    let seen = seen_of(alloc, document, headers)?;
+    let told = view_at(alloc, document, &seen, place);
+    show(alloc, told, JSON, seen, response)
+}
+
+/// The same, with each map below the place shown empty.
+fn show_here(
+    alloc: Global,
+    document: &Document,
+    place: &[u8],
+    headers: &HeaderMap<HeaderValue>,
+    response: &mut Response,
+) -> Result<(), AllocError>
+    requires { IsBlank response.old }
+    ensures { OnOk result
+        (Shows headers.now document.now.state json (told_in here_text document.now.state place.now) response.new) }
+{
+    let seen = seen_of(alloc, document, headers)?;
+    let told = here_at(alloc, document, &seen, place);
+    show(alloc, told, JSON, seen, response)
+}
+
+/// Answers with what stands at a place.
+fn show_value(
+    alloc: Global,
+    document: &Document,
+    place: &[u8],
+    headers: &HeaderMap<HeaderValue>,
+    response: &mut Response,
+) -> Result<(), AllocError>
+    requires { IsBlank response.old }
+    ensures { OnOk result (ShowsValue headers.now document.now.state place.now response.new) }
+{
+    let seen = seen_of(alloc, document, headers)?;
+    let told = value_at(alloc, document, &seen, place);
+    show(alloc, told, JSON, seen, response)
+}
+
+/// Answers with the registers below a place that have more than one value.
+fn show_conflicts(
+    alloc: Global,
+    document: &Document,
+    place: &[u8],
+    headers: &HeaderMap<HeaderValue>,
+    response: &mut Response,
+) -> Result<(), AllocError>
+    requires { IsBlank response.old }
+    ensures { OnOk result
+        (Shows headers.now document.now.state lines_of_json
+        (told_in conflicts_text document.now.state place.now) response.new) }
+{
+    let seen = seen_of(alloc, document, headers)?;
+    let told = conflicts_at(alloc, document, &seen, place);
+    show(alloc, told, LINES, seen, response)
+}
+
+/// Answers with a text of this type that has a tag, with no more than the tag where that is known, or by the fault why
+/// there is none.
 fn show(
     alloc: Global,
-    told: Result<String, Fault>,
+    told: Result<Option<String>, Fault>,
     kind: &'static str,
+    seen: Seen,
     response: &mut Response,
 ) -> Result<(), AllocError>
     requires blank { IsBlank response.old }
     requires visible { IsTrue (is_visible_text kind.now) }
-    ensures { OnOk result (MatchResult told (λ text. Tells 200 kind.now (string_bytes text) response.new)
+    ensures { OnOk result (MatchResult told
+        (λ text. TellsIfUnknown (option_map string_bytes text) (string_bytes seen.tag) kind.now response.new)
         (λ fault. TellsFault fault response.new)) }
 {
     match told {
-        Ok(text) => fill(response, StatusCode::OK, kind, text.into_bytes()),
+        Ok(Some(text)) => fill_tagged(response, kind, seen.tag, text.into_bytes()),
+        Ok(None) => tell_known(response, seen.tag),
         Err(fault) => refuse(alloc, fault, response),
     }
 }
 
-/// What the document shows at a place.
-fn view_at(alloc: Global, document: &Document, place: &[u8]) -> Result<String, Fault>
-    ensures { MayTell result (told_in view_text document.now.state place.now) }
+/// What the document shows at a place. `None` where that is known.
+fn view_at(
+    alloc: Global,
+    document: &Document,
+    seen: &Seen,
+    place: &[u8],
+) -> Result<Option<String>, Fault>
+    ensures { MayShow seen.now.is_known (told_in view_text document.now.state place.now) result }
 {
     let path = path_in(alloc, place)?;
-    document.view_json(&path)
+    if seen.is_known {
+        return known_path(alloc, &path);
+    }
+    Ok(Some(document.view_json(&path)?))
 }
 
 /// The same, with each map below the place shown empty.
-fn here_at(alloc: Global, document: &Document, place: &[u8]) -> Result<String, Fault>
-    ensures { MayTell result (told_in here_text document.now.state place.now) }
+fn here_at(
+    alloc: Global,
+    document: &Document,
+    seen: &Seen,
+    place: &[u8],
+) -> Result<Option<String>, Fault>
+    ensures { MayShow seen.now.is_known (told_in here_text document.now.state place.now) result }
 {
     let path = path_in(alloc, place)?;
-    document.here_json(&path)
+    if seen.is_known {
+        return known_path(alloc, &path);
+    }
+    Ok(Some(document.here_json(&path)?))
 }
 
-/// What stands at a place.
-fn value_at(alloc: Global, document: &Document, place: &[u8]) -> Result<String, Fault>
-    ensures told { IfOk result (λ text. IsValueAt document.now.state place.now (string_bytes text)) }
+/// The registers below a place that have more than one value. `None` where that is known.
+fn conflicts_at(
+    alloc: Global,
+    document: &Document,
+    seen: &Seen,
+    place: &[u8],
+) -> Result<Option<String>, Fault>
+    ensures { MayShow seen.now.is_known (told_in conflicts_text document.now.state place.now) result }
+{
+    let path = path_in(alloc, place)?;
+    if seen.is_known {
+        return known_path(alloc, &path);
+    }
+    Ok(Some(document.conflicts(&path)?))
+}
+
+/// What stands at a place. `None` where that is known.
+fn value_at(
+    alloc: Global,
+    document: &Document,
+    seen: &Seen,
+    place: &[u8],
+) -> Result<Option<String>, Fault>
+    ensures told { IfOk result (λ told. (text : List ℕ) × IsValueAt document.now.state place.now text
+        × IsToldOf seen.now.is_known text told) }
     ensures fault { IfErr result (λ fault. (fault ≡ Memory) ⊎ IsNoPlace place.now fault) }
 {
     let path = path_in(alloc, place)?;
-    document.value_json(&path)
+    if seen.is_known {
+        return known_leaf(alloc, &path);
+    }
+    Ok(Some(document.value_json(&path)?))
 }
 
-/// The registers below a place that have more than one value.
-fn conflicts_at(alloc: Global, document: &Document, place: &[u8]) -> Result<String, Fault>
-    ensures { MayTell result (told_in conflicts_text document.now.state place.now) }
+/// What is known of a path is told no more. A text that is no path is refused (`BadPath`, `BadKey`).
+fn known_path(alloc: Global, path: &str) -> Result<Option<String>, Fault>
+    ensures known { IfOk result (λ told. (told ≡ None) × ((keys : List (List ℕ)) × (path_of path.now ≡ Ok keys))) }
+    ensures fault { IfErr result (λ fault. (fault ≡ Memory) ⊎ (path_of path.now ≡ Err fault)) }
 {
-    let path = path_in(alloc, place)?;
-    document.conflicts(&path)
+    Path::new(alloc, path)?;
+    Ok(None)
+}
+
+/// The same of a path below the root.
+fn known_leaf(alloc: Global, path: &str) -> Result<Option<String>, Fault>
+    ensures known { IfOk result (λ told. (told ≡ None)
+        × ((above : List (List ℕ)) × (key : List ℕ) × (path_of path.now ≡ Ok (above ++ key ∷ [])))) }
+    ensures fault { IfErr result (λ fault. (fault ≡ Memory) ⊎ RefusesPlace path.now fault) }
+{
+    let _place = place_of(alloc, &Path::new(alloc, path)?)?;
+    Ok(None)
 }
 
 /// The path that a percent-encoded place is. Bytes that are no UTF-8 are no keys.
@@ -155,6 +346,21 @@ fn show_page(response: &mut Response) -> Result<(), AllocError>
     add_field(response, REFERRER_POLICY, "no-referrer")?;
     add_field(response, CACHE_CONTROL, "no-cache")?;
     response.body.push(Bytes::from_static(PAGE.as_bytes()))
+}
+
+/// Answers with whose replica the document is, and how much there is of it.
+fn show_status(
+    alloc: Global,
+    document: &Document,
+    response: &mut Response,
+) -> Result<(), AllocError>
+    requires { IsBlank response.old }
+    ensures { OnOk result (ShowsStatus document.now response.new) }
+{
+    match document.status() {
+        Ok(text) => fill(response, StatusCode::OK, JSON, text.into_bytes()),
+        Err(fault) => refuse(alloc, fault, response),
+    }
 }
 
 /// Answers with what was counted.

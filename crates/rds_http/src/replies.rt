@@ -1,12 +1,12 @@
 //! Responses that are filled.
-ghost use Rattle.std.specs.Prelude.{◌≡◌, [], ◌∷◌, ◌++◌, IsTrue, OnOk};
+ghost use Rattle.std.specs.Prelude.{◌≡◌, [], ◌∷◌, ◌++◌, IsTrue, OnOk, string_bytes};
 ghost use Rattle.http_header.specs.FieldValue.{is_visible_text};
 ghost use Rattle.http_server.specs.Response.{IsBlank, IsResponse, fields_of};
-ghost use Rattle.rds_http.specs.Replies.{Tells, type_field};
+ghost use Rattle.rds_http.specs.Replies.{Tells, tag_fields, type_field};
 
 use bytes::Bytes;
 use http::StatusCode;
-use http::header::{CONTENT_TYPE, HeaderName, HeaderValue};
+use http::header::{CACHE_CONTROL, CONTENT_TYPE, ETAG, HeaderName, HeaderValue};
 use http_server::Response;
 use std::alloc::AllocError;
 
@@ -33,6 +33,47 @@ pub fn fill(
     response.status = status;
     add_field(response, CONTENT_TYPE, kind)?;
     response.body.push(Bytes::from_vec(body)?)
+}
+
+/// Fills a response, which may have fields, with a body of this type that has this tag.
+pub fn fill_tagged(
+    response: &mut Response,
+    kind: &'static str,
+    tag: String,
+    body: Vec<u8>,
+) -> Result<(), AllocError>
+    requires empty { IsResponse 200 (fields_of response.old) [] response.old }
+    requires visible { IsTrue (is_visible_text kind.now) }
+    ensures { OnOk result
+        (IsResponse 200 (fields_of response.old ++ (type_field kind.now ∷ tag_fields (string_bytes tag))) body.items
+        response.new) }
+{
+    add_field(response, CONTENT_TYPE, kind)?;
+    add_tag(response, tag)?;
+    response.body.push(Bytes::from_vec(body)?)
+}
+
+/// Fills a response, which may have fields, that tells no more than that what has this tag is known.
+pub fn tell_known(response: &mut Response, tag: String) -> Result<(), AllocError>
+    requires { IsResponse 200 (fields_of response.old) [] response.old }
+    ensures { OnOk result
+        (IsResponse 304 (fields_of response.old ++ tag_fields (string_bytes tag)) [] response.new) }
+{
+    response.status = StatusCode::NOT_MODIFIED;
+    add_tag(response, tag)
+}
+
+/// Adds the fields of what has this tag.
+fn add_tag(response: &mut Response, tag: String) -> Result<(), AllocError>
+    ensures fields { OnOk result (fields_of response.new ≡ fields_of response.old ++ tag_fields (string_bytes tag)) }
+    ensures status { response.new.status ≡ response.old.status }
+    ensures body { response.new.body ≡ response.old.body }
+{
+    let Ok(value) = HeaderValue::from_vec(tag.into_bytes()) else {
+        return Err(AllocError);
+    };
+    add_field(response, CACHE_CONTROL, "no-cache")?;
+    response.add_header(ETAG, value)
 }
 
 /// Adds a header field to a response.

@@ -13,6 +13,7 @@ use crate::metrics::Metrics;
 use crate::reading::{answer, look};
 use crate::refusals::{deny, refuse_method, refuse_unknown};
 use crate::routes::{Asked, Post, Route, route_of};
+use crate::tracked::Tracked;
 use bytes::Bytes;
 use http::Request;
 use http_server::{Response, Service};
@@ -29,6 +30,7 @@ pub struct Site<'a, H: Disk> {
     pub(crate) held: Held<'a, H>,
     pub(crate) access: Access,
     pub(crate) turn: u64,
+    pub(crate) has_news: bool,
     pub(crate) metrics: Metrics,
 }
 
@@ -40,6 +42,7 @@ impl<H: Disk> Drop for Site<'_, H> {
             held: _held,
             access: _access,
             turn: _turn,
+            has_news: _has_news,
             metrics: _metrics,
         } = self;
     }
@@ -58,6 +61,7 @@ impl<'a, H: Disk> Model for Site<'a, H> {
       kept = s.held.file.kept;
       has_changed = s.held.has_changed;
       turn = s.turn;
+      has_news = s.has_news;
       access = s.access;
     } };
 
@@ -77,17 +81,19 @@ where
           kept = file.entry.kept;
           has_changed = false;
           turn = 0;
+          has_news = false;
           access = access;
         } }
     {
         Site {
             alloc,
             held: Held {
-                file,
+                file: Tracked::new(alloc, file),
                 has_changed: false,
             },
             access,
             turn: 0,
+            has_news: false,
             metrics: Metrics::new(),
         }
     }
@@ -111,6 +117,7 @@ where
             self.held.file.keep(rt)?;
             self.held.has_changed = false;
             self.turn = self.turn.saturating_add(1);
+            self.has_news = true;
             self.metrics.note_sync();
         }
         Ok(())
@@ -152,8 +159,16 @@ impl<H: Disk> Site<'_, H> {
         let body = request.body().as_slice();
         match route.asked {
             Asked::Look(asked) => {
-                let document = self.held.file.document();
-                look(alloc, document, &self.metrics, asked, route.place, response)
+                let file = &mut self.held.file;
+                look(
+                    alloc,
+                    file,
+                    &self.metrics,
+                    asked,
+                    route.place,
+                    request.headers(),
+                    response,
+                )
             }
             Asked::Post(post) => self.respond_to_post(post, body, response),
             Asked::Live => upgrade(alloc, request, response),

@@ -8,7 +8,7 @@ use Rattle.rds_names.specs.declared.fault.Fault.TheVariants.{Memory, BadName, Ba
 use Rattle.rds_names.specs.declared.fault.Fault.TheVariants.{SeqFull, CounterFull, Conflict, OwnAhead, WrongAsker, Cut}
 use Rattle.rds_names.specs.declared.fault.Fault.TheVariants.{Bad, Extra, TooLong, TooManyDots, BadCertificate}
 use Rattle.rds_names.specs.declared.fault.Fault.TheVariants.{WrongVersion, WrongGroup, WrongRoster, SameReplica}
-use Rattle.rds_names.specs.declared.fault.Fault.TheVariants.{OutOfTurn, PeerEnded, Device, BadLine, NoSuch, Usage, Unsure}
+use Rattle.rds_names.specs.declared.fault.Fault.TheVariants.{OutOfTurn, PeerEnded, Device, BadLine, NoSuch, Usage, Forked, Unsure}
 use Rattle.rds_names.specs.Gives.{Gives, Refuses}
 
 module _ {X : Type 0} (due : Result X Fault) (x : X) (is : due ≡ Ok x) where
@@ -43,6 +43,7 @@ module _ {X : Type 0} (due : Result X Fault) (x : X) (is : due ≡ Ok x) where
   only_memory BadLine h = absurd (differs BadLine h)
   only_memory NoSuch h = absurd (differs NoSuch h)
   only_memory Usage h = absurd (differs Usage h)
+  only_memory Forked h = absurd (differs Forked h)
   only_memory Unsure h = absurd (differs Unsure h)
 
   -- it gives its value, or finds no memory

@@ -7,7 +7,7 @@ use Rattle.rds_names.specs.declared.fault.Fault.TheVariants.{Memory, BadName, Ba
 use Rattle.rds_names.specs.declared.fault.Fault.TheVariants.{SeqFull, CounterFull, Conflict, OwnAhead, WrongAsker, Cut}
 use Rattle.rds_names.specs.declared.fault.Fault.TheVariants.{Bad, Extra, TooLong, TooManyDots, BadCertificate}
 use Rattle.rds_names.specs.declared.fault.Fault.TheVariants.{WrongVersion, WrongGroup, WrongRoster, SameReplica}
-use Rattle.rds_names.specs.declared.fault.Fault.TheVariants.{OutOfTurn, PeerEnded, Device, BadLine, NoSuch, Usage, Unsure}
+use Rattle.rds_names.specs.declared.fault.Fault.TheVariants.{OutOfTurn, PeerEnded, Device, BadLine, NoSuch, Usage, Forked, Unsure}
 
 abbrev pub number_of : Fault → ℕ
 number_of Memory = 1
@@ -37,6 +37,7 @@ number_of Device = 24
 number_of BadLine = 25
 number_of NoSuch = 26
 number_of Usage = 27
+number_of Forked = 28
 number_of Unsure = 29
 
 abbrev pub name_of : Fault → List ℕ
@@ -67,6 +68,7 @@ name_of Device = codes "Device"
 name_of BadLine = codes "BadLine"
 name_of NoSuch = codes "NoSuch"
 name_of Usage = codes "Usage"
+name_of Forked = codes "Forked"
 name_of Unsure = codes "Unsure"
 
 -- what of a replica's own the replica lacks
@@ -103,6 +105,7 @@ words_of Device = codes "reading, writing or another call of the system failed"
 words_of BadLine = codes "the line is no command"
 words_of NoSuch = codes "there is no such replica, ask or answer"
 words_of Usage = codes "the words of the command line are none that the program takes"
+words_of Forked = codes "both ends have seen the same, and hold different entries"
 words_of Unsure = codes "it is written, and may not last: read before you repeat"
 
 -- what is printed of a fault

@@ -79,6 +79,9 @@ pub enum Fault {
     NoSuch,
     /// The words of the command line are none that the program takes.
     Usage,
+    /// Both ends have seen the same dots, and hold different entries: two replicas share a name, or a backup was put back
+    /// and edited.
+    Forked,
     /// What was to be kept is written, and the system doesn't say that it lasts: it may be there or not.
     Unsure,
 }
@@ -116,6 +119,7 @@ impl Fault {
             Fault::BadLine => 25,
             Fault::NoSuch => 26,
             Fault::Usage => 27,
+            Fault::Forked => 28,
             Fault::Unsure => 29,
         }
     }
@@ -152,6 +156,7 @@ impl Fault {
             Fault::BadLine => "BadLine",
             Fault::NoSuch => "NoSuch",
             Fault::Usage => "Usage",
+            Fault::Forked => "Forked",
             Fault::Unsure => "Unsure",
         }
     }
@@ -234,6 +239,9 @@ impl fmt::Display for Words {
             Fault::NoSuch => f.write_str("there is no such replica, ask or answer"),
             Fault::Usage => f.write_str(
                 "the words of the command line are none that the program takes",
+            ),
+            Fault::Forked => f.write_str(
+                "both ends have seen the same, and hold different entries",
             ),
             Fault::Unsure => f.write_str("it is written, and may not last: read before you repeat"),
         }

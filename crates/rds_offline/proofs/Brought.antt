@@ -1,5 +1,5 @@
 -- What a response brought to the replica that asked, in terms of the two replicas.
-use Rattle.std.proofs.Common.{◌≡◌, ◌≢◌, ◌≤◌, ◌∙◌, ℕ, List, max, length, Result, Ok, sym, ap, subst, arith, inl, inr}
+use Rattle.std.proofs.Common.{◌≡◌, ◌≢◌, ◌≤◌, ◌∙◌, ℕ, List, [], ◌++◌, max, length, Result, Ok, sym, ap, subst, arith, inl, inr}
 use Rattle.rds_names.specs.Roster.{RosterValue, OneBegins, longer}
 use Rattle.rds_names.specs.declared.fault.Fault.{Fault}
 use Rattle.rds_state.specs.Coordinates.{join}
@@ -8,18 +8,20 @@ use Rattle.rds_state.specs.Value.{coordinates}
 use Rattle.rds_delta.specs.Least.{least}
 use Rattle.rds_delta.specs.Ranks.{ranks}
 use Rattle.rds_codec.specs.Decoding.{IsTextOf, all_of}
+use Rattle.rds_codec.specs.Laws.{HasText}
 use Rattle.rds_codec.specs.StateTexts.{IsSnapshot}
 use Rattle.rds_codec.specs.declared.limits.TheConstants.{LIMIT}
 use Rattle.rds_codec.proofs.Whole.{text_again}
 use Rattle.rds_questions.specs.Greeting.{GreetGives}
 use Rattle.rds_questions.specs.Laws.{IsAnswered, IsBrought}
-use Rattle.rds_questions.specs.Questions.{QuestionValue, askers_of, question_at, question_kind, question_of, question_text}
+use Rattle.rds_questions.specs.Questions.{QuestionValue, askers_of, question_kind, question_of, question_text}
 use Rattle.rds_questions.specs.Receiving.{IsReceivedFrom, ReceivedValue, received_of}
 use Rattle.rds_questions.specs.Responding.{IsRespondedBy, IsResponseTo}
 use Rattle.rds_questions.specs.Responses.{ResponseValue, response_at, response_kind}
 use Rattle.rds_questions.specs.Taking.{IsAsker}
 use Rattle.rds_questions.proofs.Meeting.{deltas_are_least, is_brought, replicas_ask_well}
-use Rattle.rds_questions.proofs.Readers.{question_reader, response_reader}
+use Rattle.rds_questions.proofs.Readers.{response_reader}
+use Rattle.rds_questions.proofs.Decoded.{questions_apart}
 use Rattle.rds_world.proofs.Meeting.{longer_length}
 use Rattle.rds_world.proofs.Open.{TakesAnswer}
 use Rattle.rds_offline.specs.Letters.{TakesResponse}
@@ -30,9 +32,9 @@ same_ok a b e = cc
 -- a text has one question
 one_question : (bytes : List ℕ) (q p : QuestionValue) → length bytes ≤ LIMIT → IsTextOf question_kind bytes q → IsTextOf question_kind bytes p → q ≡ p
 one_question bytes q p within is other =
-    let first = text_again question_kind question_at question_reader q is.is_value (subst (λ (b : List ℕ). length b ≤ LIMIT) is.spelled within) in
-    let second = text_again question_kind question_at question_reader p other.is_value (subst (λ (b : List ℕ). length b ≤ LIMIT) other.spelled within) in
-    same_ok q p (sym first ∙ ap (all_of question_at) (sym is.spelled ∙ other.spelled) ∙ second)
+    let first : HasText question_kind q = record { is_value = is.is_value; within = subst (λ (b : List ℕ). length b ≤ LIMIT) is.spelled within } in
+    let second : HasText question_kind p = record { is_value = other.is_value; within = subst (λ (b : List ℕ). length b ≤ LIMIT) other.spelled within } in
+    (questions_apart q p [] [] first second (ap (λ (t : List ℕ). t ++ []) (sym is.spelled ∙ other.spelled))).0
 
 -- the least delta for the one that asked, and the longer of the rosters; it was taken by the one that asked
 pub record Brought (asked peer before : ReplicaValue) (received : ReceivedValue) : Type 0 where

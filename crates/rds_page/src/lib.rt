@@ -18,6 +18,6 @@ pub const PAGE: &str = page!();
 
 /// The page's `Content-Security-Policy`. It lets the page's own script and style in by their SHA-256, and no others.
 pub const POLICY: &str = "default-src 'none'; connect-src 'self'; img-src data:; \
-    script-src 'sha256-u4dQNjjN5/tDzQE0V27/Y7ghA6vpy0GF/CICyWGc0z8='; \
+    script-src 'sha256-BeMLmP3wYb8FEmHDUyBTdGmmpgTt0LUtyI7IETyhLfA='; \
     style-src 'sha256-v8A4TbMRc8pngmzQYSjJg2DwBFHKvE6ermSW/G9SOKM='; \
     form-action 'none'; frame-ancestors 'none'; base-uri 'none'";

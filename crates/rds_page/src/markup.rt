@@ -34,6 +34,7 @@ macro_rules! with_markup {
 </header>
 <p id="rivals" class="notice" hidden><span id="rivals-text"></span>
 <button id="rivals-next" type="button">Show</button></p>
+<p id="forked" class="notice" hidden></p>
 <form id="login" hidden>
 <h2>This node asks for a token</h2>
 <p><input id="token" type="password" aria-label="Token" placeholder="Token" autocomplete="current-password" required>

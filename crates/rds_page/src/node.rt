@@ -12,6 +12,7 @@ const REST = 150; // the document is asked for again after this many millisecond
 const TRY_FIRST = 500;
 const TRY_LAST = 15000;
 const LOOK = 20000; // the node is asked whether it is there after this many milliseconds, and may take as many
+const MOST_TOUCHED = 1000; // where more paths than this have changed, everything is asked for again
 const KEY_BYTES = 64;
 const TEXT_BYTES = 1024;
 const MOST_KEYS = 8;
@@ -130,7 +131,7 @@ function checkKeys(path) {
 async function ask(where, body) {
   let answer, text;
   try {
-    answer = await fetch(where, body === undefined ? { cache: "no-store", signal: AbortSignal.timeout(LOOK) }
+    answer = await fetch(where, body === undefined ? { cache: "no-cache", signal: AbortSignal.timeout(LOOK) }
       : { method: "POST", body });
     text = await answer.text();
   } catch {
@@ -158,6 +159,7 @@ function refusal(text) {
 async function edit(...edits) {
   const lines = edits.map(([verb, path, ...value]) => `["${verb}",${[JSON.stringify(path), ...value].join()}]\n`);
   const answers = linesOf(await ask("/edits", lines.join(""))).map(line => JSON.parse(line));
+  touch(edits.map(([, path]) => path));
   refresh();
   const refused = answers.find(answer => answer.fault);
   if (refused) throw new Refused(FAULTS[refused.fault] || `The node refused this: ${refused.name}.`);
@@ -191,7 +193,7 @@ function ignoreRefusal(error) {
 
 // ---- following
 
-let socket = null, opened = 0, isConnecting = false, again = 0, wait = TRY_FIRST;
+let socket = null, opened = 0, isConnecting = false, again = 0, wait = TRY_FIRST, turn = 0;
 
 async function connect() {
   if (socket || isConnecting) return;
@@ -210,20 +212,25 @@ async function connect() {
 }
 
 function listen() {
-  refresh();
-  refreshRivals();
-  opened = 0;
+  refreshAll();
+  opened = turn = 0;
   socket = new WebSocket(`${location.protocol === "https:" ? "wss" : "ws"}://${location.host}/live`);
   socket.onopen = () => {
     opened = performance.now();
     tellLink("live", "Live");
-    refresh();
+    refreshAll();
   };
-  socket.onmessage = () => {
-    refresh();
-    refreshRivals();
-  };
+  socket.onmessage = event => hear(JSON.parse(event.data));
   socket.onclose = lose;
+}
+
+// The news of a turn: the paths that it changed, or null where that may be any. A turn that wasn't told is missed.
+function hear(news) {
+  const isNext = turn === 0 || news.turn === turn + 1;
+  turn = news.turn;
+  touch(isNext && Array.isArray(news.paths) ? news.paths : null);
+  refresh();
+  refreshRivals();
 }
 
 function lose() {
@@ -254,7 +261,7 @@ const countOf = (metrics, name) => Number(metrics.match(new RegExp(`^${name} (\\
 
 async function loadStatus() {
   const [text, metrics] = await Promise.all([ask("/status"), ask("/metrics")]);
-  const status = JSON.parse(text), peers = countOf(metrics, "rds_peers");
+  const status = JSON.parse(text), peers = countOf(metrics, "rds_peers"), forked = countOf(metrics, "rds_peers_forked");
   document.title = `${status.group} – ${status.own}`;
   at("group").textContent = status.group;
   at("own").textContent = `at ${status.own}`;
@@ -265,13 +272,43 @@ async function loadStatus() {
   facts.push(`${status.names.length === 1 ? "replica" : "replicas"} ${names.join(", ")}`);
   if (peers > 0) facts.push(`${countOf(metrics, "rds_peers_met")} of ${counted(peers, "peer", "peers")} met`);
   at("facts").textContent = facts.join(" · ");
+  at("forked").hidden = forked === 0;
+  at("forked").textContent = `${counted(forked, "peer has", "peers have")} seen the same and ${forked === 1 ? "holds" :
+    "hold"} other entries: two replicas share a name, or a backup was put back and edited.`;
   at("tools").hidden = at("keys").hidden = false;
 }
 
+// The paths that have changed since they were asked for; null where that may be any.
+let touched = null;
+
+function touch(paths) {
+  const more = paths && touched && [...touched, ...paths];
+  touched = more && more.length <= MOST_TOUCHED ? new Set(more) : null;
+}
+
+// Whether one of two paths leads to the other.
+const isAlong = (path, other) => path === "" || path === other || other.startsWith(`${path}/`);
+const isTouched = (path, paths) => !paths || [...paths].some(other => isAlong(path, other) || isAlong(other, path));
+
+// Asks again for what is open and has changed.
 const refresh = rested(async () => {
   if (document.hidden || !at("login").hidden) return;
-  await Promise.all([loadStatus(), ...[...levels.values()].map(level => level.load())]);
+  const paths = touched;
+  touched = new Set();
+  try {
+    const open = [...levels.values()].filter(level => isTouched(level.path, paths));
+    await Promise.all([loadStatus(), ...open.map(level => level.load())]);
+  } catch (error) {
+    touched = null;
+    throw error;
+  }
 }, REST);
+
+function refreshAll() {
+  touch(null);
+  refresh();
+  refreshRivals();
+}
 
 // ---- registers with several values
 
@@ -295,7 +332,7 @@ async function showNextRival() {
 function askForToken() {
   if (!at("login").hidden) return;
   at("login").hidden = false;
-  for (const id of ["tree", "tools", "keys", "rivals"]) at(id).hidden = true;
+  for (const id of ["tree", "tools", "keys", "rivals", "forked"]) at(id).hidden = true;
   tellLink("", "Waiting for a token");
   lose();
   at("token").focus();

@@ -265,9 +265,7 @@ document.addEventListener("keydown", event => {
   event.preventDefault();
 });
 document.addEventListener("visibilitychange", () => {
-  if (document.hidden) return;
-  refresh();
-  refreshRivals();
+  if (!document.hidden) refreshAll();
 });
 addEventListener("online", connect);
 setInterval(() => {

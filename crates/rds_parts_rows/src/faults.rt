@@ -82,6 +82,7 @@ fn of_program(name: &str) -> Option<Fault> {
         "BadLine" => Some(Fault::BadLine),
         "NoSuch" => Some(Fault::NoSuch),
         "Usage" => Some(Fault::Usage),
+        "Forked" => Some(Fault::Forked),
         "Unsure" => Some(Fault::Unsure),
         _ => None,
     }

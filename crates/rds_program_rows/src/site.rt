@@ -1,7 +1,10 @@
 //! What rows have in place of a site: it says by its fault which words it was given.
-use rds_commands::RunSite;
+ghost use Rattle.std.specs.Prelude.{◌≡◌};
+
+use rds_commands::{RunSite, Visit};
 use rds_names::Fault;
-use rds_words::{RunWords, interval_of};
+use rds_words::{RunWords, SyncWords, interval_of};
+use std::time::Duration;
 
 /// Serves nothing.
 pub struct ToldSite;
@@ -24,6 +27,29 @@ impl<H> RunSite<H> for ToldSite {
         }
         Fault::NoSuch
     }
+
+    // Of the file f and the site http://h:1, nothing taken and no fault where 0 seconds were said, and no answer where
+    // none were; `Forked` behind nothing taken for the token t and 5 seconds. `Device` for other options, and `NoSuch`
+    // for other words.
+    fn sync_site(&self, _rt: &H, words: SyncWords<'_>, timeout: Option<Duration>) -> Visit {
+        if words.file != "f" || words.addr != "http://h:1" {
+            return told(None, Some(Fault::NoSuch));
+        }
+        let seconds = timeout.map(|timeout| timeout.as_secs());
+        match (words.token_file, seconds) {
+            (None, None) => told(Some(0), None),
+            (None, Some(60)) => told(None, None),
+            (Some(token), Some(5)) if token == "t" => told(Some(0), Some(Fault::Forked)),
+            _ => told(None, Some(Fault::Device)),
+        }
+    }
+}
+
+// What came of a meeting.
+fn told(taken: Option<u128>, fault: Option<Fault>) -> Visit
+    ensures { result.taken ≡ taken }
+{
+    Visit { taken, fault }
 }
 
 // Whether nothing but the file was said.
@@ -33,6 +59,7 @@ fn is_plain(words: &RunWords<'_>, every: u32) -> bool {
         && every == 10
         && words.token_file.is_none()
         && !words.is_open
+        && !words.log
 }
 
 // Whether all options were, with the peers in this order.
@@ -48,6 +75,7 @@ fn is_full(words: &RunWords<'_>, every: u32) -> bool {
                 && every == 86_400
                 && token == "t"
                 && words.is_open
+                && words.log
         }
         _ => false,
     }

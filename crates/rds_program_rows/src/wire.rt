@@ -10,17 +10,20 @@ use crate::replicas::read;
 use crate::runs::named;
 use crate::sessions::side_of;
 use crate::site::ToldSite;
-use crate::told::{bytes_told, lines_told};
+use crate::told::{bytes_told, joined, lines_told};
 use host::Wired;
 use line::{Reads, Wire};
 use lines::Lines;
 use output::Output;
 use rds_commands::run;
-use rds_files::{Settled, meet, pair_files, pipe_file};
+use rds_files::{HolderNote, LockFile, Settled, meet, pair_files, pipe_file};
 use rds_keep::Counted;
 use rds_names::Fault;
-use rds_rows::words::{cut, number, parted};
+use rds_rows::words::{cut, first, number, parted};
 use rds_session::{Ended, Side};
+use std::fs;
+use std::fs::File;
+use std::net::SocketAddr;
 use std::time::Duration;
 
 // How many turns a session has.
@@ -101,6 +104,45 @@ pub fn answer_by_lines(rt: &HostRuntime, words: &str, input: &[u8]) -> Result<St
 pub fn answer_failing(rt: &HostRuntime, row: &str) -> Result<String, Fault> {
     let (fails, words) = parted(row, " | ")?;
     run_noted(rt, words, &Wire::new(rt.alloc(), fails))
+}
+
+/// `held FILE HOLDER CALL | WORDS`: the same while the file's lock is taken. A node has it that is reached at the address
+/// HOLDER, and writes its note; or one whose note is there already (`node`); or a command (`command`).
+pub fn answer_held<'a>(rt: &'a HostRuntime, row: &'a str) -> Result<String, Fault> {
+    let (held, words) = parted(row, " | ")?;
+    let (path, held) = cut(held)?;
+    let (holder, fails) = first(held);
+    let wire = Wire::new(rt.alloc(), fails);
+    let _file = lock_of(rt, path)?;
+    let _left = note_left(rt, path, holder)?;
+    let wired = Wired { rt, wire: &wire };
+    let _note = note_written(&wired, path, holder);
+    run_noted(rt, words, &wire)
+}
+
+// The note that the node at this address writes of the file at this path. What isn't an address writes none.
+fn note_written<'a>(wired: &Wired<'a>, path: &str, holder: &str) -> Option<HolderNote<Wired<'a>>> {
+    match SocketAddr::parse_ascii(holder.as_bytes()) {
+        Ok(address) => HolderNote::write(wired, path, address),
+        Err(_) => None,
+    }
+}
+
+// The locked note of the file at this path, where the holder is a node that has left one.
+fn note_left(rt: &HostRuntime, path: &str, holder: &str) -> Result<Option<File>, Fault> {
+    if holder != "node" {
+        return Ok(None);
+    }
+    let name = joined(rt.alloc(), &[path, ".node"])?;
+    Ok(Some(lock_of(rt, name.as_str())?))
+}
+
+// The file at this path, which is locked.
+fn lock_of(rt: &HostRuntime, path: &str) -> Result<File, Fault> {
+    match fs::open(rt, path) {
+        Ok(file) if matches!(file.try_lock_exclusive(), Ok(true)) => Ok(file),
+        _ => Err(Fault::Device),
+    }
 }
 
 /// `notes WORDS`: the same where no call fails, but answers only what people are told on standard error, and the status.

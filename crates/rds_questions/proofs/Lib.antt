@@ -1,8 +1,11 @@
 pub mod Apart
 pub mod Brought
+pub mod Decoded
+pub mod Leveled
 pub mod Meeting
 pub mod Reached
 pub mod Readers
 pub mod Taken
+pub mod Told
 pub mod Whole
 pub mod Written

@@ -23,17 +23,14 @@ use Rattle.rds_codec.proofs.Whole.{text_again}
 use Rattle.rds_session.specs.Checked.{certificate_of, least_state}
 use Rattle.rds_session.proofs.Checks.{delta_is}
 use Rattle.rds_session.proofs.Tellings.{answer_is, digest_is}
-use Rattle.rds_questions.specs.Laws.{DeltasAreLeast, HaveOneResponse, IsAnswered, IsBrought, QuestionsAreRead, ReplicasAskWell}
-use Rattle.rds_questions.specs.Questions.{QuestionValue, askers_of, question_at, question_kind}
+use Rattle.rds_questions.specs.Laws.{DeltasAreLeast, HaveOneResponse, IsAnswered, IsBrought, ReplicasAskWell}
+use Rattle.rds_questions.specs.Questions.{QuestionValue, askers_of}
 use Rattle.rds_questions.specs.Receiving.{MayTalk}
 use Rattle.rds_questions.specs.Responding.{hello_to}
 use Rattle.rds_questions.specs.Responses.{IsResponse, ResponseValue, format_said, replicas_with, response_at, response_kind}
-use Rattle.rds_questions.proofs.Readers.{question_reader, response_reader}
+use Rattle.rds_questions.proofs.Readers.{response_reader}
 
 -- ---- questions
-
-pub questions_are_read : QuestionsAreRead
-questions_are_read q is le = text_again question_kind question_at question_reader q is le
 
 pub replicas_ask_well : ReplicasAskWell
 replicas_ask_well asked is = record {

@@ -5,19 +5,16 @@ use Rattle.std.proofs.lemmas.Slice.Eq.{bytes_eq-Decides}
 use Rattle.rds_names.specs.declared.fault.Fault.{Fault}
 use Rattle.rds_bytes.specs.Reading.{◌>>=◌, Reader, then_at, made_at, bytes_at}
 use Rattle.rds_bytes.proofs.Format.{IsBytes, Takes, Takes-then, CutOrBad, bind_ok, bind_err, done, ok_is, known_format, when_format}
-use Rattle.rds_delta.specs.Digested.{DigestValue}
 use Rattle.rds_codec.specs.AnswerValues.{AnswerValue}
-use Rattle.rds_codec.specs.DigestTexts.{digest_at, digest_kind, digest_text}
 use Rattle.rds_codec.specs.FormatTexts.{answer_at_in, answer_kind_in, answer_text_in}
-use Rattle.rds_codec.specs.HelloTexts.{hello_at, hello_kind, hello_text}
+use Rattle.rds_codec.specs.HelloTexts.{IsHello, hello_at, hello_kind, hello_text}
 use Rattle.rds_codec.specs.Kinds.{Kind}
 use Rattle.rds_codec.specs.declared.hellos.Hello.{Hello}
 use Rattle.rds_codec.specs.declared.limits.TheConstants.{LIMIT}
-use Rattle.rds_codec.proofs.DigestFormats.{digest_reader}
 use Rattle.rds_codec.proofs.HelloFormats.{hello_reader}
 use Rattle.rds_codec.proofs.InFormats.{answer_in_reader}
 use Rattle.rds_codec.proofs.Whole.{IsReaderOf, reader_of}
-use Rattle.rds_questions.specs.Questions.{QuestionValue, IsQuestion, front_at, hello_digest_at, question_at, question_by, question_front, question_kind, question_text}
+use Rattle.rds_questions.specs.Questions.{asker_at, asker_by, front_at, question_front}
 use Rattle.rds_questions.specs.Responses.{ResponseValue, IsResponse, format_said, hello_answer_at, replicas_with, response_at, response_by, response_front, response_kind, response_text}
 
 -- ---- a part, and then one that may depend on it
@@ -110,33 +107,28 @@ module _ (front : List ℕ) where
   pub is_front : (t : List ℕ) → IsFront t → front ≡ t
   is_front t h = (bytes_eq-Decides front t).0 h.1
 
--- ---- a question
+-- ---- who asks
 
-abbrev hello_digest_kind : Kind (Hello × DigestValue)
-hello_digest_kind = then_kind hello_kind (λ h. digest_kind (length h.roster.names))
+abbrev pub asker_text : Hello → List ℕ
+asker_text h = question_front ++ hello_text h
 
-abbrev question_parts : QuestionValue → List ℕ × (Hello × DigestValue)
-question_parts q = (question_front, (q.hello, q.digest))
+abbrev pub asker_kind : Kind Hello
+asker_kind = record { is_value = IsHello; text = asker_text }
 
-abbrev question_parts_kind : Kind (List ℕ × (Hello × DigestValue))
-question_parts_kind = then_kind (front_kind question_front) (λ _. hello_digest_kind)
+abbrev asker_parts_kind : Kind (List ℕ × Hello)
+asker_parts_kind = then_kind (front_kind question_front) (λ _. hello_kind)
 
-question_spelled : (q : QuestionValue) → question_text q ≡ question_front ++ (hello_text q.hello ++ digest_text q.digest)
-unfolding question_text
-question_spelled q = refl
+asker_there : (h : Hello) → IsHello h → asker_parts_kind.is_value (question_front, h) × (asker_by (question_front, h) ≡ h)
+asker_there h is = (((refl, refl), is), refl)
 
-question_there : (q : QuestionValue) → IsQuestion q → question_parts_kind.is_value (question_parts q) × (question_by (question_parts q) ≡ q)
-question_there q is = (((refl, refl), (is.hello, is.digest)), refl)
+asker_back : (p : List ℕ × Hello) → asker_parts_kind.is_value p → IsHello (asker_by p) × ((question_front, asker_by p) ≡ p)
+asker_back p h = (h.1, ap (λ (t : List ℕ). (t, p.1)) (is_front question_front p.0 h.0))
 
-question_back : (p : List ℕ × (Hello × DigestValue)) → question_parts_kind.is_value p → IsQuestion (question_by p) × (question_parts (question_by p) ≡ p)
-question_back p h = (record { hello = h.1.0; digest = h.1.1 }, ap (λ (t : List ℕ). (t, p.1)) (is_front question_front p.0 h.0))
-
-pub question_reader : IsReaderOf question_kind question_at
-unfolding question_at
-question_reader =
-    made_reader question_by question_parts question_parts_kind question_kind _ question_spelled question_there question_back
-    (then_reader (front_kind question_front) (λ _. hello_digest_kind) (front_at question_front) (λ _. hello_digest_at) (front_reader question_front)
-    (λ _. then_reader hello_kind (λ h. digest_kind (length h.roster.names)) hello_at (λ h. digest_at (length h.roster.names)) hello_reader (λ h. digest_reader (length h.roster.names))))
+pub asker_reader : IsReaderOf asker_kind asker_at
+unfolding asker_at
+asker_reader =
+    made_reader asker_by (λ h. (question_front, h)) asker_parts_kind asker_kind _ (λ h. refl) asker_there asker_back
+    (then_reader (front_kind question_front) (λ _. hello_kind) (front_at question_front) (λ _. hello_at) (front_reader question_front) (λ _. hello_reader))
 
 -- ---- a response
 

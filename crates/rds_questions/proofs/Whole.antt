@@ -5,14 +5,13 @@ use Rattle.rds_names.specs.declared.fault.Fault.TheVariants.{Memory, Extra}
 use Rattle.rds_bytes.specs.Reading.{◌>>=◌, Fails}
 use Rattle.rds_bytes.proofs.Format.{IsBytes}
 use Rattle.rds_codec.specs.Decoding.{all_of}
-use Rattle.rds_codec.specs.DigestTexts.{digest_at}
 use Rattle.rds_codec.specs.FormatTexts.{answer_at_in}
 use Rattle.rds_codec.specs.HelloTexts.{hello_at, hello_text}
 use Rattle.rds_codec.specs.declared.formats.Format.{Format}
 use Rattle.rds_codec.specs.declared.hellos.Hello.{Hello}
 use Rattle.rds_codec.specs.declared.limits.TheConstants.{LIMIT}
 use Rattle.rds_codec.proofs.HelloFormats.{hello_reader}
-use Rattle.rds_questions.specs.Questions.{front_at, question_at, question_by, question_front}
+use Rattle.rds_questions.specs.Questions.{front_at}
 use Rattle.rds_questions.specs.Responses.{format_said, replicas_with, response_at, response_by, response_front}
 use Rattle.rds_questions.proofs.Readers.{front_reader}
 
@@ -41,11 +40,6 @@ module _ {A B : Type 0} (front : List ℕ) (h : Hello) (make : List ℕ × (Hell
   last_part (Err e) = refl
   last_part (Ok x) = at_end x.0 x.1 (eqb (length x.1) 0)
 
-pub question_ends : (bytes first second : List ℕ) (h : Hello) → front_at question_front bytes ≡ Ok (question_front, first) → hello_at first ≡ Ok (h, second)
-    → all_of question_at bytes ≡ (all_of (digest_at (length h.roster.names)) second >>= made question_front h question_by)
-unfolding question_at
-question_ends bytes first second h p q = rw (p, q) (last_part question_front h question_by (digest_at (length h.roster.names) second))
-
 pub response_ends : (askers : ℕ) (bytes first second : List ℕ) (h : Hello) → front_at response_front bytes ≡ Ok (response_front, first) → hello_at first ≡ Ok (h, second)
     → all_of (response_at askers) bytes ≡ (all_of (answer_at_in (format_said h.version) (replicas_with askers h)) second >>= made response_front h response_by)
 unfolding response_at
@@ -62,17 +56,6 @@ fails_on _ r f s same h = same ∙ rw h refl
 
 pub shorter : (bytes text rest : List ℕ) → bytes ≡ text ++ rest → length bytes ≤ LIMIT → length rest ≤ LIMIT
 shorter bytes text rest e le = (let len = ap length e ∙ length-append text rest in omega (arith, len, le))
-
--- a digest that isn't read
-pub digest_fails : (bytes : List ℕ) → IsBytes bytes → length bytes ≤ LIMIT → (first second : List ℕ) (h : Hello) → front_at question_front bytes ≡ Ok (question_front, first) → hello_at first ≡ Ok (h, second)
-    → (replicas : ℕ) → replicas ≡ length h.roster.names → (e : Fault) → (length second ≤ LIMIT → Fails e (all_of (digest_at replicas) second)) → Fails e (all_of question_at bytes)
-digest_fails bytes fits le first second h p q replicas is e fails =
-    let front = (front_reader question_front).takes bytes (question_front, first) fits p in
-    let hello = hello_reader.takes first (h, second) front.0.rest_fits q in
-    let le_first = shorter bytes question_front first front.0.parts le in
-    let le_second = shorter first (hello_text h) second hello.0.parts le_first in
-    fails_on e (all_of (digest_at (length h.roster.names)) second) (made question_front h question_by) (all_of question_at bytes) (question_ends bytes first second h p q)
-    (subst (λ n. Fails e (all_of (digest_at n) second)) is (fails le_second))
 
 -- an answer that isn't read
 pub answer_fails : (askers : ℕ) (bytes : List ℕ) → IsBytes bytes → length bytes ≤ LIMIT → (first second : List ℕ) (h : Hello) → front_at response_front bytes ≡ Ok (response_front, first) → hello_at first ≡ Ok (h, second)

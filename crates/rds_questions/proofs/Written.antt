@@ -6,8 +6,8 @@ use Rattle.rds_names.specs.Roster.{RosterValue, OneBegins}
 use Rattle.rds_names.specs.declared.fault.Fault.{Fault}
 use Rattle.rds_state.specs.Fits.{ReplicaValue}
 use Rattle.rds_state.specs.Value.{StateValue}
+use Rattle.rds_briefs.specs.Briefs.{brief_text}
 use Rattle.rds_codec.specs.AnswerValues.{AnswerValue}
-use Rattle.rds_codec.specs.DigestTexts.{digest_text}
 use Rattle.rds_codec.specs.Exchanged.{IsAnswerTo, IsLongAnswerIn, IsLost, IsReplyIn}
 use Rattle.rds_codec.specs.FormatTexts.{answer_text_in}
 use Rattle.rds_codec.specs.FormatWriting.{EncodesTabled, IsTabledUnwritten}
@@ -24,28 +24,28 @@ use Rattle.rds_questions.specs.Responses.{ResponseValue, format_said, response_f
 -- ---- a question
 
 module _ (q : QuestionValue) where
-  question_parts : question_text q ≡ question_front ++ (hello_text q.hello ++ digest_text q.digest)
+  question_parts : question_text q ≡ question_front ++ (hello_text q.hello ++ brief_text q.digest)
   unfolding question_text
   question_parts = refl
 
-  question_longer : LIMIT < length (digest_text q.digest) → LIMIT < length (question_text q)
+  question_longer : LIMIT < length (brief_text q.digest) → LIMIT < length (question_text q)
   question_longer long =
       let parts = ap length question_parts in
-      let a = length-append question_front (hello_text q.hello ++ digest_text q.digest) in
-      let b = length-append (hello_text q.hello) (digest_text q.digest) in
+      let a = length-append question_front (hello_text q.hello ++ brief_text q.digest) in
+      let b = length-append (hello_text q.hello) (brief_text q.digest) in
       omega (arith, long, parts, a, b)
 
-  -- its digest is too long, or memory ran out
-  pub question_lost : (e : Fault) → IsUnwritten (length (digest_text q.digest)) e → IsTabledUnwritten (length (question_text q)) e
+  -- its brief is too long, or memory ran out
+  pub question_lost : (e : Fault) → IsUnwritten (length (brief_text q.digest)) e → IsTabledUnwritten (length (question_text q)) e
   question_lost e h = elim h [ inl m ↦ inl m.0 | inr l ↦ inr (l.0, question_longer l.1) ]
 
   parts_written : (text : List ℕ) → text ≡ question_text q → (r : Result (Vec ℕ) Fault) → Encodes text r → EncodesTabled (question_text q) r
   parts_written text same (Ok v) h = (h.0 ∙ same, subst (λ (t : List ℕ). length t ≤ LIMIT) same h.1)
   parts_written text same (Err e) h = elim h [ inl m ↦ inl m.0 | inr l ↦ inr (l.0, subst (λ (t : List ℕ). LIMIT < length t) same l.1) ]
 
-  pub question_written : (hello digest : List ℕ) → hello ≡ hello_text q.hello → digest ≡ digest_text q.digest → (r : Result (Vec ℕ) Fault) → Encodes (question_front ++ (hello ++ digest)) r
+  pub question_written : (hello brief : List ℕ) → hello ≡ hello_text q.hello → brief ≡ brief_text q.digest → (r : Result (Vec ℕ) Fault) → Encodes (question_front ++ (hello ++ brief)) r
       → EncodesTabled (question_text q) r
-  question_written hello digest a b r h = parts_written (question_front ++ (hello ++ digest)) ((λ i. question_front ++ (a i ++ b i)) ∙ sym question_parts) r h
+  question_written hello brief a b r h = parts_written (question_front ++ (hello ++ brief)) ((λ i. question_front ++ (a i ++ b i)) ∙ sym question_parts) r h
 
 -- ---- a response
 

@@ -10,15 +10,10 @@ use Rattle.rds_codec.specs.Decoding.{all_of}
 use Rattle.rds_codec.specs.FormatTexts.{Snapshot, snapshot_text_in}
 use Rattle.rds_codec.specs.StateTexts.{IsSnapshot}
 use Rattle.rds_codec.specs.declared.limits.TheConstants.{LIMIT}
-use Rattle.rds_questions.specs.Questions.{IsQuestion, QuestionValue, askers_of, question_at, question_of, question_text}
+use Rattle.rds_questions.specs.Questions.{IsQuestion, QuestionValue, askers_of, question_of, question_text}
 use Rattle.rds_questions.specs.Receiving.{ReceiveGives, received_of}
 use Rattle.rds_questions.specs.Responding.{IsResponseTo}
 use Rattle.rds_questions.specs.Responses.{ResponseValue, response_at, response_text}
-
--- all of a question's text is read as this question
-abbrev pub QuestionsAreRead : Type 0
-QuestionsAreRead = (q : QuestionValue) → IsQuestion q → length (question_text q) ≤ LIMIT
-    → all_of question_at (question_text q) ≡ Ok q
 
 -- what a replica with a text asks has one, and tells how far the replica has come
 pub record AsksWell (asked : ReplicaValue) : Type 0 where

@@ -1,4 +1,6 @@
 pub mod Greeting
+pub mod Hashed
+pub mod Lacking
 pub mod Laws
 pub mod Questions
 pub mod Receiving

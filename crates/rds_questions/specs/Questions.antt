@@ -5,8 +5,9 @@ use Rattle.std.specs.Str.{bytes_eq}
 use Rattle.rds_names.specs.Roster.{RosterValue}
 use Rattle.rds_state.specs.Fits.{ReplicaValue, coded_roster}
 use Rattle.rds_delta.specs.Digested.{DigestValue, coded_digest, digest_of}
-use Rattle.rds_bytes.specs.Reading.{Reader, then_at, pair_at, made_at, when_at, bytes_at}
-use Rattle.rds_codec.specs.DigestTexts.{IsDigestOf, digest_at, digest_text}
+use Rattle.rds_bytes.specs.Reading.{Reader, pair_at, made_at, when_at, bytes_at}
+use Rattle.rds_briefs.specs.Briefs.{brief_text}
+use Rattle.rds_codec.specs.DigestTexts.{IsDigestOf}
 use Rattle.rds_codec.specs.HelloTexts.{IsHello, hello_at, hello_text}
 use Rattle.rds_codec.specs.Kinds.{Kind}
 use Rattle.rds_codec.specs.declared.hellos.Hello.{Hello}
@@ -40,24 +41,22 @@ askers_of q = length q.hello.roster.names
 
 -- the four bytes in front
 abbrev pub question_front : List ℕ
-question_front = codes "RDSQ"
+question_front = codes "RDSB"
 
+-- they, who asks, and the brief of the digest
 unfoldable pub question_text : QuestionValue → List ℕ
-question_text q = question_front ++ (hello_text q.hello ++ digest_text q.digest)
+question_text q = question_front ++ (hello_text q.hello ++ brief_text q.digest)
 
 -- these very bytes
 abbrev pub front_at : List ℕ → Reader (List ℕ)
 front_at front = when_at (bytes_eq front) (bytes_at 4)
 
--- the hello, and a digest of the replicas of its roster
-abbrev pub hello_digest_at : Reader (Hello × DigestValue)
-hello_digest_at = then_at hello_at (λ h. digest_at (length h.roster.names))
+-- who asks, behind the four bytes
+abbrev pub asker_by : List ℕ × Hello → Hello
+asker_by p = p.1
 
-abbrev pub question_by : List ℕ × (Hello × DigestValue) → QuestionValue
-question_by p = record { hello = p.1.0; digest = p.1.1 }
-
-unfoldable pub question_at : Reader QuestionValue
-question_at = made_at question_by (pair_at (front_at question_front) hello_digest_at)
+unfoldable pub asker_at : Reader Hello
+asker_at = made_at asker_by (pair_at (front_at question_front) hello_at)
 
 -- the hello is one, and the digest is of the replicas of its roster
 pub record IsQuestion (q : QuestionValue) : Type 0 where

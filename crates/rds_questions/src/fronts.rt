@@ -10,7 +10,7 @@ use rds_names::Fault;
 use std::alloc::{AllocError, Global};
 
 /// What the text of a question begins with.
-pub const QUESTION_FRONT: &[u8; 4] = b"RDSQ";
+pub const QUESTION_FRONT: &[u8; 4] = b"RDSB";
 
 /// What the text of a response begins with.
 pub const RESPONSE_FRONT: &[u8; 4] = b"RDSA";

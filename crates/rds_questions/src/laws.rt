@@ -1,16 +1,16 @@
 //! The laws of questions and responses.
 ghost use Rattle.std.specs.Prelude.{ℕ};
 ghost use Rattle.rds_codec.specs.Laws.{StandApart};
-ghost use Rattle.rds_questions.specs.Laws.{AreToldApart, DeltasAreLeast, HaveOneResponse, QuestionsAreRead, ReplicasAskWell, ResponsesAreReceived};
+ghost use Rattle.rds_questions.specs.Hashed.{EqualDigestsTellEqualStates, EqualHashesTellEqualMarks, EqualHashesTellEqualQuestions};
+ghost use Rattle.rds_questions.specs.Lacking.{LevelReplicasLackNothing};
+ghost use Rattle.rds_questions.specs.Laws.{AreToldApart, DeltasAreLeast, HaveOneResponse, ReplicasAskWell, ResponsesAreReceived};
 ghost use Rattle.rds_questions.specs.Questions.{question_kind};
 ghost use Rattle.rds_questions.specs.Responses.{response_kind};
 
-/// All of a question's text within the limit is read as this question. What a replica with a text asks is such a
-/// question, and tells of each dot and number how far the replica has come. The function does nothing: its contract is
-/// these laws.
-pub fn questions_are_read_again()
-    ensures read { QuestionsAreRead }
-    ensures replicas { ReplicasAskWell }
+/// What a replica with a text asks is a question, and tells of each dot and number how far the replica has come. The
+/// function does nothing: its contract is this law.
+pub fn replicas_ask_well()
+    ensures { ReplicasAskWell }
 {}
 
 /// There is one response of a replica to a question. Where the replica has a text and may talk to who asks, its response,
@@ -29,4 +29,20 @@ pub fn texts_are_told_apart()
     ensures questions { StandApart question_kind }
     ensures responses { (askers : ℕ) → StandApart (response_kind askers) }
     ensures apart { AreToldApart }
+{}
+
+/// Two questions of one hash tell the same roster and the same digest, or two different texts with one SHA-256 are in
+/// hand. Two states of one digest, in which no dot has two entries, are one state. So replicas that ask with one hash and
+/// come from one history have one mark: where the marks differ, their histories are forked. The function does nothing:
+/// its contract is these laws.
+pub fn equal_hashes_tell_equal_questions()
+    ensures questions { EqualHashesTellEqualQuestions }
+    ensures states { EqualDigestsTellEqualStates }
+    ensures marks { EqualHashesTellEqualMarks }
+{}
+
+/// A replica and one that asked it both lack nothing exactly where they have the same roster and the same digest. The
+/// function does nothing: its contract is this law.
+pub fn level_replicas_lack_nothing()
+    ensures { LevelReplicasLackNothing }
 {}

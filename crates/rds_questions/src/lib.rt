@@ -1,20 +1,30 @@
 //! A session by any means: what a replica asks is a text, what another responds is a text, and the one that asked takes
 //! what came. So a mail, a stick or a pipe carries what a session would.
 //!
-//! To be read in this order: `fronts`, `questions` and `responses`, which have the texts; `greeting`, whether two
-//! replicas may talk; `responding`; `receiving`, what a response brings; `taking`, what becomes of it; `laws`.
+//! To be read in this order: `fronts`, `questions` and `responses`, which have the texts; `hashing`, what tells whether
+//! two questions are the same; `greeting`, whether two replicas may talk; `responding`; `receiving`, what a response
+//! brings; `reaching`, how far a state and a digest have come; `taking`, what becomes of a response; `lacking`, what two
+//! replicas lack of one another's; `laws`.
 #![tactic(auto)]
 
 mod fronts;
 mod greeting;
+mod hashing;
+mod lacking;
 mod laws;
 mod questions;
+mod reaching;
 mod receiving;
 mod responding;
 mod responses;
 mod taking;
 
-pub use laws::{questions_are_read_again, responses_are_received, texts_are_told_apart};
+pub use greeting::greet;
+pub use lacking::{Lacks, lacks_of};
+pub use laws::{
+    equal_hashes_tell_equal_questions, level_replicas_lack_nothing, replicas_ask_well,
+    responses_are_received, texts_are_told_apart,
+};
 pub use questions::{Question, decode_question, encode_question};
 pub use receiving::{Received, receive};
 pub use responding::respond;

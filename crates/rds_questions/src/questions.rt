@@ -1,14 +1,16 @@
 //! What a replica asks: who it is, and what it has.
-ghost use Rattle.std.specs.Prelude.{◌≡◌, ◌≤◌, length, IfOk, IfErr};
+ghost use Rattle.std.specs.Prelude.{◌≡◌, ◌≤◌, length, Err, IfOk, IfErr};
+ghost use Rattle.rds_names.specs.declared.fault.Fault.{Fault};
 ghost use Rattle.rds_names.specs.declared.fault.Fault.TheVariants.{Memory};
 ghost use Rattle.rds_bytes.specs.Reading.{Reads};
-ghost use Rattle.rds_codec.specs.Decoding.{Decodes, ReadsAll, all_of};
+ghost use Rattle.rds_codec.specs.Decoding.{Answers, Decodes};
 ghost use Rattle.rds_codec.specs.FormatWriting.{EncodesTabled};
 ghost use Rattle.rds_codec.specs.declared.limits.TheConstants.{LIMIT};
-ghost use Rattle.rds_questions.specs.Questions.{question_at, question_kind, question_of, question_text};
+ghost use Rattle.rds_questions.specs.Questions.{asker_at, question_kind, question_of, question_text};
 
 use crate::fronts::{QUESTION_FRONT, read_front, whole_text};
-use rds_codec::{Hello, LIMIT, VERSION, decode_digest, encode_digest, encode_hello, read_hello};
+use rds_briefs::{decode_brief, encode_brief};
+use rds_codec::{Hello, LIMIT, VERSION, encode_hello, read_hello};
 use rds_delta::Digest;
 use rds_dots::DotSet;
 use rds_names::Fault;
@@ -57,33 +59,35 @@ pub fn encode_question<S: DotSet>(alloc: Global, question: &Question<S>) -> Resu
     ensures { EncodesTabled (question_text question.now) result }
 {
     let hello = encode_hello(alloc, &question.hello)?;
-    let digest = encode_digest(alloc, &question.digest)?;
-    whole_text(alloc, QUESTION_FRONT, &hello, &digest)
+    let brief = encode_brief(alloc, &question.digest)?;
+    whole_text(alloc, QUESTION_FRONT, &hello, &brief)
 }
 
-#[tactic(auto, unfolding(crate::specs::Questions::question_at))]
-fn read_question<S: DotSet>(alloc: Global, bytes: &[u8]) -> Result<Question<S>, Fault>
-    requires within { length bytes.now ≤ LIMIT }
-    ensures { Reads (λ x. x) result (all_of question_at bytes.now) }
+/// Who asks, at the front of a question's text, and the bytes after that.
+#[tactic(auto, unfolding(crate::specs::Questions::asker_at))]
+fn read_asker(alloc: Global, bytes: &[u8]) -> Result<(Hello, &[u8]), Fault>
+    ensures { Reads (λ x. (x.0, x.1.now)) result (asker_at bytes.now) }
 {
     let rest = read_front(QUESTION_FRONT, bytes)?;
     let (hello, rest) = read_hello(alloc, rest)?;
-    let digest = decode_digest(alloc, hello.roster.len(), rest)?;
-    Ok(Question { hello, digest })
+    Ok((hello, rest))
 }
 
 /// The question whose text the bytes are.
 ///
-/// They are read from the left, and each part is judged as soon as it is there. Refused are bytes above the limit
-/// (`TooLong`, before anything is read); bytes that go on after a text (`Extra`); and other bytes that are no text:
-/// `Cut` where they end inside a part, `Bad` where a part that is there is none. Of the first four bytes `RDSQ` alone
-/// are one, and of versions those of a format.
+/// Who asks is read first, from the left, and each part is judged as soon as it is there. Then the brief is judged as a
+/// whole, as [`decode_brief`](rds_briefs::decode_brief) does. Refused are bytes above the limit (`TooLong`, before
+/// anything is read); bytes that go on after a text (`Extra`); and other bytes that are no text: `Cut` where they end
+/// inside a part, `Bad` where a part that is there is none. Of the first four bytes `RDSB` alone are one, and of versions
+/// those of a format.
 pub fn decode_question<S: DotSet>(alloc: Global, bytes: &[u8]) -> Result<Question<S>, Fault>
     ensures text { Decodes question_kind bytes.now result }
-    ensures read { ReadsAll question_at bytes.now result }
+    ensures asker { (e : Fault) → length bytes.now ≤ LIMIT → asker_at bytes.now ≡ Err e → Answers result (Err e) }
 {
     if LIMIT < bytes.len() {
         return Err(Fault::TooLong);
     }
-    read_question(alloc, bytes)
+    let (hello, rest) = read_asker(alloc, bytes)?;
+    let digest = decode_brief(alloc, hello.roster.len(), rest)?;
+    Ok(Question { hello, digest })
 }

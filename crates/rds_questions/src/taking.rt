@@ -1,8 +1,6 @@
 //! What becomes of a response in the replica that asked.
-ghost use Rattle.std.specs.Prelude.{◌≡◌, ◌≤◌, ◌↔◌, IsTrue, IfOk, IfErr, OnOk, OnErr, length};
-ghost use Rattle.rds_names.specs.declared.fault.Fault.TheVariants.{Memory};
+ghost use Rattle.std.specs.Prelude.{◌≡◌, ◌↔◌, IsTrue, OnOk, OnErr, length};
 ghost use Rattle.rds_counts.specs.Counted.{number};
-ghost use Rattle.rds_counts.specs.Place.{Place};
 ghost use Rattle.rds_state.specs.Ahead.{NumberAhead};
 ghost use Rattle.rds_state.specs.Coordinates.{join};
 ghost use Rattle.rds_state.specs.Fits.{Fits, ReplicaValue};
@@ -13,9 +11,10 @@ ghost use Rattle.rds_questions.specs.Questions.{question_of};
 ghost use Rattle.rds_questions.specs.Taking.{HasAllOf, HeldGives, IsGrownFrom, IsAsker, OwnLacking, TakesReceived};
 
 use crate::questions::Question;
+use crate::reaching::has_all_of;
 use crate::receiving::Received;
 use rds_counts::{CountRow, Counts};
-use rds_delta::{Digest, is_inside};
+use rds_delta::Digest;
 use rds_dots::{DotSet, first_lacking};
 use rds_names::{Fault, Own};
 use rds_state::{Replica, State};
@@ -55,32 +54,6 @@ fn own_lacking<S: DotSet>(state: &State<S>, own: u8, digest: &Digest<S>) -> Opti
         Some(seq) => Some(Own::Seq(seq)),
         None => number_lacking(state.counts(), own, digest.counts()),
     }
-}
-
-/// Whether no number of the other counters is above the one here.
-fn has_numbers(alloc: Global, here: &Counts, told: &Counts) -> Result<bool, Fault>
-    ensures ok { IfOk result
-        (λ has. IsTrue has ↔ ((q : Place) → number told.now q ≤ number here.now q)) }
-    ensures memory { IfErr result (λ fault. fault ≡ Memory) }
-{
-    let joined = here.joined(alloc, told)?;
-    Ok(joined.same(here))
-}
-
-/// Whether the state has come as far as the digest says.
-fn has_all_of<S: DotSet>(alloc: Global, state: &State<S>, digest: &Digest<S>) -> Result<bool, Fault>
-    ensures ok { IfOk result (λ has. IsTrue has ↔ HasAllOf digest.now state.now) }
-    ensures memory { IfErr result (λ fault. fault ≡ Memory) }
-{
-    if !is_inside(digest.seen(), state.lives().seen()) {
-        return Ok(false);
-    }
-    let dead_there = digest.seen().minus(alloc, digest.live())?;
-    let dead_here = state.lives().dead(alloc)?;
-    if !is_inside(&dead_there, &dead_here) {
-        return Ok(false);
-    }
-    has_numbers(alloc, state.counts(), digest.counts())
 }
 
 /// Whether the replica is the one that asked.

@@ -130,7 +130,7 @@ impl Door {
         }
         for _ in 0..MOST_CLIENTS {
             match self.listener.accept() {
-                Ok((stream, _)) => self.admit(stream, clients, now),
+                Ok((stream, address)) => self.admit(stream, address, clients, now),
                 Err(error) => match error.kind() {
                     ErrorKind::WouldBlock => {
                         self.arrivals = Arrivals::None;
@@ -147,7 +147,7 @@ impl Door {
     }
 
     // Takes a client in. One that can't be watched is let go.
-    fn admit(&self, stream: TcpStream, clients: &mut Clients, now: Instant) {
+    fn admit(&self, stream: TcpStream, address: SocketAddr, clients: &mut Clients, now: Instant) {
         if clients.is_full() {
             return;
         }
@@ -155,7 +155,7 @@ impl Door {
         let token = clients.next_token();
         if socket.register(self.poll.registry(), token).is_ok() {
             let connection = Connection::new(self.alloc, self.keys, config());
-            clients.put(Client::new(socket, connection, now));
+            clients.put(Client::new(address, socket, connection, now));
         }
     }
 }

@@ -1,7 +1,7 @@
 //! A connection with a peer.
 use crate::committed::Committed;
 use crate::destinations::Destination;
-use crate::requests::{Resource, Response, Talk};
+use crate::requests::{Request, Response, Talk};
 use crate::sockets::{Heard, Sent, Socket};
 use crate::troubles::Trouble;
 use rds_files::Disk;
@@ -61,15 +61,14 @@ impl Channel {
         self.talk.room()
     }
 
-    /// Writes a request, with a body of these pieces.
+    /// Writes a request.
     pub fn request(
         &mut self,
         destination: &Destination<'_>,
-        resource: Resource,
-        pieces: &[&[u8]],
+        request: &Request<'_>,
         now: Instant,
     ) -> Result<(), Trouble> {
-        self.talk.request(destination, resource, pieces)?;
+        self.talk.request(destination, request)?;
         self.since = now;
         self.is_answered = false;
         Ok(())

@@ -5,6 +5,7 @@ use crate::sockets::{Heard, Sent, Socket};
 use http_server::{Connection, Service, State};
 use rds_files::Disk;
 use std::alloc::Global;
+use std::net::SocketAddr;
 use std::time::Instant;
 use std::{io, mem};
 
@@ -60,6 +61,7 @@ impl Room {
 /// A client: its socket, and what it speaks.
 #[derive(Drop)]
 pub struct Client {
+    address: SocketAddr,
     socket: Socket,
     talk: Talk,
     // When it last took a byte of an answer, or came.
@@ -70,9 +72,15 @@ pub struct Client {
 }
 
 impl Client {
-    /// A client that has just come.
-    pub fn new(socket: Socket, connection: Connection, now: Instant) -> Client {
+    /// A client that has just come from this address.
+    pub fn new(
+        address: SocketAddr,
+        socket: Socket,
+        connection: Connection,
+        now: Instant,
+    ) -> Client {
         Client {
+            address,
             socket,
             talk: Talk::Http(connection),
             since: now,
@@ -80,6 +88,11 @@ impl Client {
             room: Room { unread: 0, most: 0 },
             is_listed: false,
         }
+    }
+
+    /// Where it comes from.
+    pub fn address(&self) -> SocketAddr {
+        self.address
     }
 
     /// Says whether the client is listed for a turn, and answers whether it was.

@@ -85,6 +85,25 @@ fn find_peer<'a, H: Net + Eprint + AllocGlobal>(
     own: SocketAddr,
     token: Option<&Token>,
 ) -> Result<Destination<'a>, Fault> {
+    let found = find_node(rt, name, token)?;
+    for address in found.addresses.as_slice() {
+        if is_same_place(own, *address) {
+            let _ = eprintln!(rt; "the peer {name} is this node itself");
+            return Err(Fault::Usage);
+        }
+    }
+    Ok(found)
+}
+
+/// Finds the node of this name. A text that names no host and port is refused (`Usage`), and a host that isn't found
+/// (`Device`), with a line on standard error.
+pub fn find_node<'a, H: Net + Eprint + AllocGlobal>(
+    rt: &H,
+    name: &'a str,
+    token: Option<&Token>,
+) -> Result<Destination<'a>, Fault>
+    ensures name { IfOk result (λ found. found.name.now ≡ name.now) }
+{
     if !is_place(name) {
         let _ = eprintln!(rt;
             "'{name}' is no host and port, as 192.0.2.7:7780 or node.example:7780 is"
@@ -92,12 +111,6 @@ fn find_peer<'a, H: Net + Eprint + AllocGlobal>(
         return Err(Fault::Usage);
     }
     let addresses = find_addresses(rt, name)?;
-    for address in addresses.as_slice() {
-        if is_same_place(own, *address) {
-            let _ = eprintln!(rt; "the peer {name} is this node itself");
-            return Err(Fault::Usage);
-        }
-    }
     Ok(Destination {
         name,
         addresses,

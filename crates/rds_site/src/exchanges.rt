@@ -1,16 +1,23 @@
 //! An exchange with a peer, in which each brings the other what it lacks.
+ghost use Rattle.std.specs.Prelude.{◌≡◌, ◌≢◌, ◌↔◌, IsTrue};
+
 use crate::channels::Channel;
 use crate::committed::Committed;
 use crate::destinations::Destination;
-use crate::requests::{Resource, Response};
-use crate::troubles::Trouble;
+use crate::requests::{Request, Resource, Response};
+use crate::troubles::{End, Trouble};
 use rds_files::{Disk, LockFile};
-use rds_http::Site;
+use rds_http::{Lacks, Site, Tag};
+use rds_names::Fault;
+use std::alloc::Global;
 use std::mem;
 use std::time::Instant;
 
 /// The status of a request that was done.
-const DONE: u16 = 200;
+pub const DONE: u16 = 200;
+
+/// The status of a question that is not sent, since the peer asks the same.
+pub const NOT_MODIFIED: u16 = 304;
 
 /// Where an exchange stands.
 #[derive(Drop)]
@@ -19,30 +26,37 @@ enum Step {
     Resting,
     /// The peer is asked for its question.
     Asking,
-    /// The peer's question has come, and it is asked for its answer to the own one.
-    Bringing { theirs: Vec<u8>, own: Vec<u8> },
-    /// The peer's answer was taken, and it is given the answer to its question.
+    /// The peer is asked for its answer to the own question. Its own is kept where it lacks something too.
+    Bringing {
+        own: Vec<u8>,
+        theirs: Option<Vec<u8>>,
+    },
+    /// The peer is given the answer to its question.
     Giving,
 }
 
 /// What hearing a peer came to.
 #[derive(Clone, Copy, Debug, PartialEq, Eq)]
 pub enum Progress {
-    /// Nothing that others have to know.
-    Part,
-    /// The peer brought what the document lacked.
-    Brought,
-    /// The exchange is done.
-    Done,
+    /// A part of an exchange. The peer may have brought what the document lacked.
+    Part { brought: bool },
+    /// The exchange ended. The peer may have brought what the document lacked.
+    Ended { end: End, brought: bool },
     /// The peer ended the connection, which had served, while none was under way.
     Closed,
     /// The same, while an exchange began: no request of it was answered.
     InVain,
 }
 
+impl Progress {
+    /// Nothing that others have to know.
+    pub const NONE: Progress = Progress::Part { brought: false };
+}
+
 /// A connection with a peer, and the exchange over it.
 #[derive(Drop)]
 pub struct Exchange {
+    alloc: Global,
     channel: Channel,
     step: Step,
     // Whether an exchange over the connection was done.
@@ -51,8 +65,9 @@ pub struct Exchange {
 
 impl Exchange {
     /// Over a connection that was just made.
-    pub fn new(channel: Channel) -> Exchange {
+    pub fn new(alloc: Global, channel: Channel) -> Exchange {
         Exchange {
+            alloc,
             channel,
             step: Step::Resting,
             has_served: false,
@@ -83,9 +98,25 @@ impl Exchange {
         }
     }
 
-    /// Begins an exchange: the peer is asked for its question. `Ended` where the peer takes no further request.
-    pub fn begin(&mut self, destination: &Destination<'_>, now: Instant) -> Result<(), Trouble> {
-        self.channel.request(destination, Resource::Ask, &[], now)?;
+    /// Begins an exchange: the peer is asked for its question, unless that has the own tag. `Ended` where the peer takes
+    /// no further request.
+    pub fn begin<H: Disk>(
+        &mut self,
+        site: &mut Site<'_, H>,
+        destination: &Destination<'_>,
+        now: Instant,
+    ) -> Result<(), Trouble>
+    where
+        H::File: LockFile,
+    {
+        let tag = site.tag()?;
+        let tag = format!(in self.alloc; "{tag}")?;
+        let request = Request {
+            resource: Resource::Ask,
+            unless: Some(tag.as_str()),
+            pieces: &[],
+        };
+        self.channel.request(destination, &request, now)?;
         self.step = Step::Asking;
         Ok(())
     }
@@ -102,7 +133,7 @@ impl Exchange {
     {
         match self.channel.hear(now) {
             Ok(Some(response)) => self.go_on(site, destination, response, now),
-            Ok(None) => Ok(Progress::Part),
+            Ok(None) => Ok(Progress::NONE),
             Err(trouble) => self.excuse(trouble),
         }
     }
@@ -118,44 +149,97 @@ impl Exchange {
     where
         H::File: LockFile,
     {
-        if response.status != DONE {
-            return Err(Trouble::Refused(response));
-        }
-        match mem::replace(&mut self.step, Step::Resting) {
-            Step::Resting => Ok(Progress::Part),
-            Step::Asking => self.bring(site, destination, response.body, now),
-            Step::Bringing { theirs, own } => {
-                let brought = site.take(&own, &response.body)?;
-                self.give(site, destination, &theirs, now)?;
-                if brought == 0 {
-                    Ok(Progress::Part)
-                } else {
-                    Ok(Progress::Brought)
-                }
+        let step = mem::replace(&mut self.step, Step::Resting);
+        match (step, response.head.status) {
+            (Step::Resting, DONE) => Ok(Progress::NONE),
+            (Step::Asking, DONE) => self.compare(site, destination, response, now),
+            (Step::Asking, NOT_MODIFIED) => self.agree(site, &response),
+            (Step::Bringing { own, theirs }, DONE) => {
+                let brought = site.take(&own, &response.body)? != 0;
+                self.give_back(site, destination, theirs, brought, now)
             }
-            Step::Giving => Ok(self.end()),
+            (Step::Giving, DONE) => Ok(self.end(End::Done, false)),
+            _ => Err(Trouble::Refused(response)),
         }
     }
 
-    // Asks the peer for its answer to the own question, where the two differ by its question.
-    fn bring<H: Disk>(
+    // The peer asks the same. It may be this node's own replica, that runs elsewhere.
+    fn agree<H: Disk>(
+        &mut self,
+        site: &Site<'_, H>,
+        response: &Response,
+    ) -> Result<Progress, Trouble>
+    where
+        H::File: LockFile,
+    {
+        if response.head.replica == Some(site.own()) {
+            return Err(Trouble::Unfit(Fault::SameReplica));
+        }
+        Ok(self.end(End::Level, false))
+    }
+
+    // Judges who asks, and goes on where one of the two lacks something.
+    fn compare<H: Disk>(
         &mut self,
         site: &mut Site<'_, H>,
         destination: &Destination<'_>,
+        response: Response,
+        now: Instant,
+    ) -> Result<Progress, Trouble>
+    where
+        H::File: LockFile,
+    {
+        let lacks = site.lacks(&response.body)?;
+        if let Some(theirs) = response.head.tag {
+            if are_forked(&site.tag()?, &theirs) {
+                return Ok(self.end(End::Forked, false));
+            }
+        }
+        self.meet(site, destination, lacks, response.body, now)
+    }
+
+    // Asks the peer for what is lacking here, or gives it what it lacks.
+    fn meet<H: Disk>(
+        &mut self,
+        site: &mut Site<'_, H>,
+        destination: &Destination<'_>,
+        lacks: Lacks,
         theirs: Vec<u8>,
         now: Instant,
     ) -> Result<Progress, Trouble>
     where
         H::File: LockFile,
     {
-        if site.is_level_with(&theirs)? {
-            return Ok(self.end());
+        if !lacks.here && !lacks.there {
+            return Ok(self.end(End::Level, false));
+        }
+        let theirs = if lacks.there { Some(theirs) } else { None };
+        if !lacks.here {
+            return self.give_back(site, destination, theirs, false, now);
         }
         let own = site.ask()?;
-        self.channel
-            .request(destination, Resource::Answer, &[&own], now)?;
-        self.step = Step::Bringing { theirs, own };
-        Ok(Progress::Part)
+        self.request(destination, Resource::Answer, &[&own], now)?;
+        self.step = Step::Bringing { own, theirs };
+        Ok(Progress::NONE)
+    }
+
+    // Gives the peer what it lacks, where it lacks something.
+    fn give_back<H: Disk>(
+        &mut self,
+        site: &mut Site<'_, H>,
+        destination: &Destination<'_>,
+        theirs: Option<Vec<u8>>,
+        brought: bool,
+        now: Instant,
+    ) -> Result<Progress, Trouble>
+    where
+        H::File: LockFile,
+    {
+        let Some(theirs) = theirs else {
+            return Ok(self.end(End::Done, brought));
+        };
+        self.give(site, destination, &theirs, now)?;
+        Ok(Progress::Part { brought })
     }
 
     // Gives the peer the answer to its question: the length of the question in 4 bytes, big-endian, and both.
@@ -174,7 +258,7 @@ impl Exchange {
             return Err(Trouble::TooLong);
         };
         let length = length.to_be_bytes();
-        self.channel.request(
+        self.request(
             destination,
             Resource::Take,
             &[&length, theirs, &answer],
@@ -184,9 +268,24 @@ impl Exchange {
         Ok(())
     }
 
-    fn end(&mut self) -> Progress {
+    fn request(
+        &mut self,
+        destination: &Destination<'_>,
+        resource: Resource,
+        pieces: &[&[u8]],
+        now: Instant,
+    ) -> Result<(), Trouble> {
+        let request = Request {
+            resource,
+            unless: None,
+            pieces,
+        };
+        self.channel.request(destination, &request, now)
+    }
+
+    fn end(&mut self, end: End, brought: bool) -> Progress {
         self.has_served = true;
-        Progress::Done
+        Progress::Ended { end, brought }
     }
 
     // A peer may end a connection that has served, while no request of a further exchange was answered over it.
@@ -206,4 +305,11 @@ impl Exchange {
     pub fn send<H: Disk>(&mut self, committed: &Committed<'_, '_, H>, now: Instant) {
         self.channel.send(committed, now);
     }
+}
+
+/// Whether two replicas have seen the same, and hold different entries.
+pub fn are_forked(own: &Tag, theirs: &Tag) -> bool
+    ensures { IsTrue result ↔ ((own.now.hash ≡ theirs.now.hash) × (own.now.mark ≢ theirs.now.mark)) }
+{
+    own.hash == theirs.hash && own.mark != theirs.mark
 }

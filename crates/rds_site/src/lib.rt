@@ -1,17 +1,20 @@
 //! The loop of a node: a site that runs. One process and one thread hold a document in its file, and serve it over
-//! HTTP, and meet other nodes over theirs. Read `words`, `addresses`, `secrets`; then `committed`, `sockets`,
+//! HTTP, and meet other nodes over theirs. Read `words`, `addresses`, `secrets`; then `committed`, `logging`, `sockets`,
 //! `listeners`, `clients`, `table`; then `destinations`, `schedule`, `requests`, `troubles`, `channels`, `exchanges`,
-//! `peers`, `peer_table`; then `arrivals`, `turns`, `running`.
+//! `peers`, `peer_table`; then `arrivals`, `turns`, `running`. A file that meets a
+//! node: `calling`, `visiting`.
 #![tactic(auto)]
 
 mod addresses;
 mod arrivals;
+mod calling;
 mod channels;
 mod clients;
 mod committed;
 mod destinations;
 mod exchanges;
 mod listeners;
+mod logging;
 mod peer_table;
 mod peers;
 mod requests;
@@ -22,8 +25,10 @@ mod sockets;
 mod table;
 mod troubles;
 mod turns;
+mod visiting;
 mod words;
 
 pub use committed::{Committed, commit};
 pub use running::run_site;
+pub use visiting::{Visit, VisitWords, sync_site};
 pub use words::SiteWords;

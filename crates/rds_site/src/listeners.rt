@@ -10,8 +10,11 @@ use websocket::protocol::{
     CloseCode, CloseFrame, FrameStatus, Message, NoMask, Role, WebSocketConfig, WebSocketContext,
 };
 
-/// More bytes than this don't wait for a listener, nor are they taken of one in a frame.
-const MOST_WAITING: usize = 65_536;
+/// More bytes than this don't wait for a listener.
+const MOST_WAITING: usize = 262_144;
+
+/// More bytes than this aren't taken of a listener in a frame.
+const LONGEST_FRAME: usize = 65_536;
 
 /// The room that a read of frames is given at least, in bytes.
 const ROOM: usize = 4096;
@@ -32,8 +35,8 @@ impl Listener {
     pub fn new(alloc: Global, connection: Connection) -> Listener {
         let (input, output) = connection.into_buffers();
         let config = WebSocketConfig {
-            max_message_size: Some(MOST_WAITING),
-            max_frame_size: Some(MOST_WAITING),
+            max_message_size: Some(LONGEST_FRAME),
+            max_frame_size: Some(LONGEST_FRAME),
             accept_unmasked_frames: false,
         };
         Listener {

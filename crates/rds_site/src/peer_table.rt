@@ -1,8 +1,9 @@
 //! The peers of a site.
 use crate::committed::Committed;
 use crate::destinations::{Destination, MOST_PEERS};
-use crate::peers::{Outcome, Peer};
+use crate::peers::{Counted, Outcome, Peer};
 use crate::sockets::Line;
+use crate::troubles::Standing;
 use mio::{Registry, Token};
 use rds_files::{Disk, LockFile};
 use rds_http::{PeerCounts, Site};
@@ -46,16 +47,21 @@ impl<'a> Peers<'a> {
 
     /// What was counted.
     pub fn counts(&self) -> PeerCounts {
-        let mut met: usize = 0;
-        for peer in self.table.as_slice() {
-            met = met.saturating_add(usize::from(peer.is_met()));
-        }
         PeerCounts {
             named: self.table.len(),
-            met,
+            met: self.count_of(Standing::Met),
+            forked: self.count_of(Standing::Forked),
             refused: self.refused,
             exchanges: self.exchanges,
         }
+    }
+
+    // How many stand so.
+    fn count_of(&self, standing: Standing) -> usize {
+        self.table
+            .iter()
+            .filter(|peer| peer.standing() == standing)
+            .count()
     }
 
     /// Lists the peer of this token for the turn that begins. Answers whether the token is a peer's.
@@ -94,8 +100,21 @@ impl<'a> Peers<'a> {
             let had_changed = site.has_changed();
             let outcome = self.hear_from(rt, site, at, now);
             self.count(outcome);
-            if outcome == Outcome::Brought || !had_changed && site.has_changed() {
+            if outcome.brought || !had_changed && site.has_changed() {
                 self.note_brought(at, now);
+            }
+        }
+    }
+
+    /// Begins the exchanges that are due, in memory.
+    pub fn begin<H: Disk>(&mut self, rt: &H, site: &mut Site<'_, H>, now: Instant)
+    where
+        H::File: LockFile,
+    {
+        for at in 0..self.table.len() {
+            if let Some(peer) = self.table.get_mut(at) {
+                let outcome = peer.begin(rt, site, now);
+                self.count(outcome);
             }
         }
     }
@@ -112,7 +131,7 @@ impl<'a> Peers<'a> {
         H::File: LockFile,
     {
         let Some(peer) = self.table.get_mut(at) else {
-            return Outcome::None;
+            return Outcome::NONE;
         };
         let had = peer.room();
         let outcome = peer.hear(rt, site, now);
@@ -135,10 +154,10 @@ impl<'a> Peers<'a> {
     }
 
     fn count(&mut self, outcome: Outcome) {
-        match outcome {
-            Outcome::Done => self.exchanges = self.exchanges.saturating_add(1),
-            Outcome::Refused => self.refused = self.refused.saturating_add(1),
-            Outcome::None | Outcome::Brought => (),
+        match outcome.counted {
+            Counted::Done => self.exchanges = self.exchanges.saturating_add(1),
+            Counted::Refused => self.refused = self.refused.saturating_add(1),
+            Counted::Nothing => (),
         }
     }
 
@@ -151,7 +170,7 @@ impl<'a> Peers<'a> {
         }
     }
 
-    /// Begins the exchanges that are due, and sends what is due to all.
+    /// Begins the connections that are due, and sends what is due to all.
     pub fn send<H: Disk + Net>(
         &mut self,
         rt: &H,

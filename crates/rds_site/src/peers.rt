@@ -5,7 +5,7 @@ use crate::destinations::Destination;
 use crate::exchanges::{Exchange, Progress};
 use crate::schedule::{Schedule, after};
 use crate::sockets::{Line, Socket};
-use crate::troubles::{Standing, Trouble};
+use crate::troubles::{End, Standing, Trouble};
 use rds_files::{Disk, LockFile};
 use rds_http::Site;
 use std::alloc::Global;
@@ -24,17 +24,31 @@ enum Link {
     Open(Exchange),
 }
 
-/// What a peer did that others have to know.
+/// What is counted of a peer.
 #[derive(Clone, Copy, Debug, PartialEq, Eq)]
-pub enum Outcome {
+pub enum Counted {
     /// Nothing.
-    None,
-    /// It brought what the document lacked.
-    Brought,
+    Nothing,
     /// An exchange with it was done.
     Done,
-    /// It refused, or what it brought was refused.
+    /// It refused, what it brought was refused, or it is forked.
     Refused,
+}
+
+/// What a peer did that others have to know.
+#[derive(Clone, Copy, Debug, PartialEq, Eq)]
+pub struct Outcome {
+    pub counted: Counted,
+    /// Whether it brought what the document lacked.
+    pub brought: bool,
+}
+
+impl Outcome {
+    /// Nothing.
+    pub const NONE: Outcome = Outcome {
+        counted: Counted::Nothing,
+        brought: false,
+    };
 }
 
 /// A peer: where it is, the connection with it, and when the next exchange begins.
@@ -60,9 +74,9 @@ impl<'a> Peer<'a> {
         }
     }
 
-    /// Whether the last exchange with it was done.
-    pub fn is_met(&self) -> bool {
-        self.standing == Standing::Met
+    /// How it stands.
+    pub fn standing(&self) -> Standing {
+        self.standing
     }
 
     /// Has it be heard in the turn that begins.
@@ -115,7 +129,7 @@ impl<'a> Peer<'a> {
         H::File: LockFile,
     {
         if !self.is_listed {
-            return Outcome::None;
+            return Outcome::NONE;
         }
         self.is_listed = false;
         let began = Instant::now(rt).unwrap_or(now);
@@ -138,12 +152,12 @@ impl<'a> Peer<'a> {
         H::File: LockFile,
     {
         match &mut self.link {
-            Link::Away => Ok(Progress::Part),
+            Link::Away => Ok(Progress::NONE),
             Link::Opening(socket, _) => {
                 if socket.is_connected()? {
                     self.open(alloc, now);
                 }
-                Ok(Progress::Part)
+                Ok(Progress::NONE)
             }
             Link::Open(exchange) => {
                 let progress = exchange.hear(site, &self.destination, now)?;
@@ -156,32 +170,46 @@ impl<'a> Peer<'a> {
     // The connection is made.
     fn open(&mut self, alloc: Global, now: Instant) {
         if let Link::Opening(socket, _) = mem::replace(&mut self.link, Link::Away) {
-            self.link = Link::Open(Exchange::new(Channel::new(alloc, socket, now)));
+            let channel = Channel::new(alloc, socket, now);
+            self.link = Link::Open(Exchange::new(alloc, channel));
         }
     }
 
     fn note_progress<H: Eprint>(&mut self, rt: &H, progress: Progress, now: Instant) -> Outcome {
         match progress {
-            Progress::Part => Outcome::None,
-            Progress::Brought => Outcome::Brought,
-            Progress::Done => {
+            Progress::Part { brought } => Outcome {
+                counted: Counted::Nothing,
+                brought,
+            },
+            Progress::Ended { end, brought } => {
                 self.schedule.end(now);
-                if self.standing != Standing::Met {
-                    self.standing = Standing::Met;
-                    let name = self.destination.name();
-                    let _ = eprintln!(rt; "peer {name}: met");
+                Outcome {
+                    counted: self.note_end(rt, end),
+                    brought,
                 }
-                Outcome::Done
             }
             Progress::Closed => {
                 self.leave();
-                Outcome::None
+                Outcome::NONE
             }
             Progress::InVain => {
                 self.leave();
                 self.schedule.recall(now);
-                Outcome::None
+                Outcome::NONE
             }
+        }
+    }
+
+    // Notes how it stands after an exchange, and tells of it where that is new.
+    fn note_end<H: Eprint>(&mut self, rt: &H, end: End) -> Counted {
+        let standing = self.standing.after(end);
+        if self.standing != standing {
+            self.standing = standing;
+            standing.tell(rt, self.destination.name());
+        }
+        match end {
+            End::Level | End::Done => Counted::Done,
+            End::Forked => Counted::Refused,
         }
     }
 
@@ -196,7 +224,7 @@ impl<'a> Peer<'a> {
         let was_open = matches!(self.link, Link::Open(_));
         self.leave();
         if !was_open && self.destination.turn() {
-            return Outcome::None;
+            return Outcome::NONE;
         }
         self.schedule.fail(now);
         let standing = trouble.standing();
@@ -204,14 +232,50 @@ impl<'a> Peer<'a> {
             self.standing = standing;
             trouble.tell(rt, self.destination.name());
         }
-        if standing.is_refusal() {
-            Outcome::Refused
+        let counted = if standing.is_refusal() {
+            Counted::Refused
         } else {
-            Outcome::None
+            Counted::Nothing
+        };
+        Outcome {
+            counted,
+            brought: false,
         }
     }
 
-    /// Begins an exchange where it is time, and sends what is due to the peer. One that lets wait too long is let go.
+    /// Begins an exchange in memory, where it is time and there is a connection.
+    pub fn begin<H: Disk>(&mut self, rt: &H, site: &mut Site<'_, H>, now: Instant) -> Outcome
+    where
+        H::File: LockFile,
+    {
+        if !self.schedule.is_due(now) {
+            return Outcome::NONE;
+        }
+        let Link::Open(exchange) = &mut self.link else {
+            return Outcome::NONE;
+        };
+        if !exchange.is_resting() {
+            return Outcome::NONE;
+        }
+        let began = Instant::now(rt).unwrap_or(now);
+        let begun = exchange.begin(site, &self.destination, began);
+        let ended = Instant::now(rt).unwrap_or(began);
+        match begun {
+            Ok(()) => {
+                self.schedule.begin(began);
+                self.schedule.spend(ended.duration_since(began));
+                Outcome::NONE
+            }
+            Err(Trouble::Ended) => {
+                self.leave();
+                Outcome::NONE
+            }
+            Err(trouble) => self.fail(rt, trouble, ended),
+        }
+    }
+
+    /// Calls the peer where it is time and there is no connection, and sends what is due to it. One that lets wait too
+    /// long is let go.
     pub fn send<H: Disk + Net>(
         &mut self,
         rt: &H,
@@ -232,10 +296,10 @@ impl<'a> Peer<'a> {
         now: Instant,
     ) -> Result<(), Trouble> {
         if self.is_overdue(now) {
-            return Err(Trouble::Silence);
+            return Err(Trouble::Silence(PATIENCE));
         }
         if self.schedule.is_due(now) {
-            self.begin(rt, committed, line, now)?;
+            self.call(rt, committed, line, now)?;
         }
         if let Link::Open(exchange) = &mut self.link {
             exchange.send(committed, now);
@@ -251,31 +315,17 @@ impl<'a> Peer<'a> {
         }
     }
 
-    // Begins an exchange where there is a connection, and else a connection.
-    fn begin<H: Disk + Net>(
+    // Begins a connection where there is none.
+    fn call<H: Disk + Net>(
         &mut self,
         rt: &H,
         committed: &Committed<'_, '_, H>,
         line: &Line<'_>,
         now: Instant,
     ) -> Result<(), Trouble> {
-        match &mut self.link {
-            Link::Away => {
-                if let Some(address) = self.destination.address() {
-                    let socket = Socket::dial(rt, committed, address, line)?;
-                    self.link = Link::Opening(socket, now);
-                }
-            }
-            Link::Opening(..) => (),
-            Link::Open(exchange) => {
-                if exchange.is_resting() {
-                    match exchange.begin(&self.destination, now) {
-                        Ok(()) => self.schedule.begin(now),
-                        Err(Trouble::Ended) => self.leave(),
-                        Err(trouble) => return Err(trouble),
-                    }
-                }
-            }
+        if let (Link::Away, Some(address)) = (&self.link, self.destination.address()) {
+            let socket = Socket::dial(rt, committed, address, line)?;
+            self.link = Link::Opening(socket, now);
         }
         Ok(())
     }

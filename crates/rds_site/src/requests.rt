@@ -3,9 +3,10 @@ use crate::destinations::Destination;
 use crate::troubles::Trouble;
 use bytes::{BufMut, BytesMut};
 use http1::{BodySize, Client, Event, Header, Limits};
-use httparse::spans::{EMPTY_HEADER_SPAN, Span};
-use std::alloc::Global;
-use std::mem;
+use httparse::spans::{EMPTY_HEADER_SPAN, HeaderSpan, Span};
+use rds_http::Tag;
+use std::alloc::{AllocError, Global};
+use std::{mem, str};
 
 /// The longest body of a response, in bytes.
 const LONGEST_BODY: usize = 268_435_456;
@@ -52,10 +53,49 @@ impl Resource {
     }
 }
 
+/// A request to a peer.
+#[derive(Clone, Copy)]
+pub struct Request<'r> {
+    /// What is asked for.
+    pub resource: Resource,
+    /// Nothing is asked for where the peer's tag is this one: the value of `If-None-Match` (RFC 9110).
+    pub unless: Option<&'r str>,
+    /// The pieces of the body.
+    pub pieces: &'r [&'r [u8]],
+}
+
+/// What the head of a response says. An older node tells neither its tag nor its number.
+#[derive(Clone, Copy)]
+pub struct Head {
+    pub status: u16,
+    /// The tag of what the peer asks.
+    pub tag: Option<Tag>,
+    /// The peer's number in its roster.
+    pub replica: Option<u8>,
+}
+
+impl Head {
+    /// Nothing was said.
+    const NONE: Head = Head {
+        status: 0,
+        tag: None,
+        replica: None,
+    };
+
+    // What the fields of a head say, which are places in its text.
+    fn read(status: u16, text: &[u8], fields: &[HeaderSpan]) -> Head {
+        Head {
+            status,
+            tag: Tag::parse(value_of(text, fields, b"etag")),
+            replica: number_in(value_of(text, fields, b"rds-replica")),
+        }
+    }
+}
+
 /// A response that has come whole.
 #[derive(Drop)]
 pub struct Response {
-    pub status: u16,
+    pub head: Head,
     pub body: Vec<u8>,
 }
 
@@ -69,7 +109,7 @@ pub struct Talk {
     /// What came and wasn't read.
     pub input: BytesMut,
     // What came of the response.
-    status: u16,
+    head: Head,
     body: Vec<u8>,
 }
 
@@ -81,7 +121,7 @@ impl Talk {
             client: Client::new(Limits::default()),
             output: BytesMut::new(alloc),
             input: BytesMut::new(alloc),
-            status: 0,
+            head: Head::NONE,
             body: Vec::new(alloc),
         }
     }
@@ -90,41 +130,34 @@ impl Talk {
     pub fn request(
         &mut self,
         destination: &Destination<'_>,
-        resource: Resource,
-        pieces: &[&[u8]],
+        request: &Request<'_>,
     ) -> Result<(), Trouble> {
-        let length = total_len(pieces);
+        let length = total_len(request.pieces);
         self.output.reserve(length.saturating_add(HEAD_ROOM))?;
-        self.write_head(destination, resource, resource.body_size(length))?;
-        for piece in pieces {
+        self.write_head(destination, request, length)?;
+        for piece in request.pieces {
             self.client.write_data(&mut self.output, piece)?;
         }
         self.client.write_end(&mut self.output, &[])?;
         Ok(())
     }
 
+    // Writes the head of a request whose body has so many bytes.
     fn write_head(
         &mut self,
         destination: &Destination<'_>,
-        resource: Resource,
-        size: BodySize,
+        request: &Request<'_>,
+        length: usize,
     ) -> Result<(), Trouble> {
-        let host = Header {
-            name: b"host",
-            value: destination.name().as_bytes(),
-        };
-        let (method, target) = (resource.method(), resource.target());
-        let (client, output) = (&mut self.client, &mut self.output);
-        match destination.authorization() {
-            Some(value) => {
-                let token = Header {
-                    name: b"authorization",
-                    value,
-                };
-                client.write_request(output, method, target, &[host, token], size)?;
-            }
-            None => client.write_request(output, method, target, &[host], size)?,
-        }
+        let fields = fields_of(self.alloc, destination, request.unless)?;
+        let resource = request.resource;
+        self.client.write_request(
+            &mut self.output,
+            resource.method(),
+            resource.target(),
+            &fields,
+            resource.body_size(length),
+        )?;
         Ok(())
     }
 
@@ -135,7 +168,8 @@ impl Talk {
             let read = self.client.read(self.input.as_slice(), &mut fields)?;
             match read.event {
                 Event::Head(head) => {
-                    self.status = head.code;
+                    let own = fields.get(..head.headers).unwrap_or(&[]);
+                    self.head = Head::read(head.code, self.input.as_slice(), own);
                     self.check_size()?;
                 }
                 Event::Data(span) => self.keep(span)?,
@@ -193,7 +227,7 @@ impl Talk {
     fn response(&mut self) -> Response {
         let body = mem::replace(&mut self.body, Vec::new(self.alloc));
         Response {
-            status: self.status,
+            head: mem::replace(&mut self.head, Head::NONE),
             body,
         }
     }
@@ -215,4 +249,50 @@ fn total_len(pieces: &[&[u8]]) -> usize {
         length = length.saturating_add(piece.len());
     }
     length
+}
+
+// The fields of a request: where it goes, the token where there is one, and the tag.
+fn fields_of<'f>(
+    alloc: Global,
+    destination: &'f Destination<'_>,
+    tag: Option<&'f str>,
+) -> Result<Vec<Header<'f>>, AllocError> {
+    let mut fields = Vec::with_capacity(alloc, 3)?;
+    fields.push(Header {
+        name: b"host",
+        value: destination.name().as_bytes(),
+    })?;
+    if let Some(value) = destination.authorization() {
+        fields.push(Header {
+            name: b"authorization",
+            value,
+        })?;
+    }
+    if let Some(tag) = tag {
+        fields.push(Header {
+            name: b"if-none-match",
+            value: tag.as_bytes(),
+        })?;
+    }
+    Ok(fields)
+}
+
+// The value of the first of these fields that has this name, in whatever case; empty where none has.
+fn value_of<'t>(text: &'t [u8], fields: &[HeaderSpan], name: &[u8]) -> &'t [u8] {
+    for field in fields {
+        if covered(text, field.name).eq_ignore_ascii_case(name) {
+            return covered(text, field.value);
+        }
+    }
+    &[]
+}
+
+// What a span covers of a text; nothing where it goes beyond.
+fn covered(text: &[u8], span: Span) -> &[u8] {
+    text.get(span.start..span.end).unwrap_or(&[])
+}
+
+// The number that digits are.
+fn number_in(digits: &[u8]) -> Option<u8> {
+    str::from_utf8(digits).ok()?.parse::<u8>().ok()
 }

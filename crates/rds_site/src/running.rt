@@ -1,20 +1,22 @@
 //! A site from its words to the fault that ends it.
-ghost use Rattle.std.specs.Prelude.{◌≡◌, ◌⊎◌, IfErr, IfOk, IsSome, OnErr, OnOk, is_some};
+ghost use Rattle.std.specs.Prelude.{◌≡◌, ◌⊎◌, IfErr, IfOk, OnOk, is_some};
 ghost use Rattle.rds_names.specs.declared.fault.Fault.TheVariants.{Usage};
 ghost use Rattle.rds_site.specs.Addresses.{NamesPlace};
 
 use crate::addresses::{check_reach, read_address};
 use crate::arrivals::Door;
 use crate::destinations::find_peers;
+use crate::logging::{Log, LoggedSite};
 use crate::peer_table::Peers;
-use crate::secrets::read_token;
+use crate::secrets::read_secret;
 use crate::table::Clients;
 use crate::turns::Turns;
 use crate::words::SiteWords;
 use rds_files::{Disk, HolderNote, LockFile};
-use rds_http::{Access, Site, Token};
+use rds_http::{Access, Site};
 use rds_names::Fault;
 use rds_store::DocumentFile;
+use std::alloc::Global;
 use std::hash::RandomState;
 use std::io;
 use std::net::{Net, SocketAddr};
@@ -28,7 +30,9 @@ use std::time::Instant;
 /// While it serves, it has a note beside the file, by which a command that finds the file locked tells who has it.
 ///
 /// It meets each peer, another node, over that one's HTTP: at the start, 20 ms after what others changed, and every so
-/// many seconds. The peer takes what it lacks, and brings what this node lacks; a peer needs the same token.
+/// many seconds. The peer takes what it lacks, and brings what this node lacks; a peer needs the same token. Where both
+/// have seen the same, and hold different entries, that is `Forked`: standard error tells of it once, and nothing is
+/// changed.
 ///
 /// `Usage` where the words name no place for a site or no peers, or the token's file has none. What
 /// [`DocumentFile::open`] and [`DocumentFile::keep`] refuse with. `Device` where the token's file can't be read, a peer
@@ -38,12 +42,17 @@ use std::time::Instant;
 ///
 /// There are at most 1,024 clients; more are let go at once. Each has 30 seconds for a whole request, and to take a
 /// byte of an answer. A body has at most 64 MB, and what waits unread of all clients 256 MB: who sends more is let go.
-/// A listener for which 64 kB wait is let go.
+/// A listener for which 256 kB wait is let go.
+///
+/// Where the words ask for a log, standard output has a line for each request that the site was asked: the client's
+/// address, the method, the target, the status, how many bytes the answer's body has, and how many microseconds passed
+/// from when the turn began until its changes were kept. It is written once the answer was sent, and where it can't be
+/// the site goes on. What is no request of HTTP has no line.
 ///
 /// There are at most 64 peers. One that can't be met, that refuses, or that brings what is refused is tried again after
 /// 1, 2, 4, .. up to 60 seconds. Standard error has a line where that begins and ends. The responses that are under way
 /// have at most 256 MB. Every 30 seconds a byte has to go or come.
-pub fn run_site<H: Disk + Net + RandomSource>(rt: &H, words: &SiteWords<'_>) -> Fault
+pub fn run_site<H: Disk + Net + RandomSource + Print>(rt: &H, words: &SiteWords<'_>) -> Fault
 where
     H::File: LockFile,
     ensures place { (result ≡ Usage) ⊎ NamesPlace words.now }
@@ -69,7 +78,7 @@ fn begin<'a, H: Disk + Net + RandomSource>(
 where
     H::File: LockFile,
     ensures place { OnOk result (NamesPlace words.now) }
-    ensures token { IfOk result (λ turns. is_some turns.site.access.token ≡ is_some words.now.token_file) }
+    ensures token { IfOk result (λ turns. is_some turns.logged.site.access.token ≡ is_some words.now.token_file) }
     ensures fault { IfErr result (λ fault. (fault ≡ Usage) ⊎ NamesPlace words.now) }
 {
     let address = read_address(rt, words.http)?;
@@ -83,9 +92,22 @@ where
     let peers = Peers::new(rt.alloc(), destinations, words.every, now)?;
     let address = door.address().unwrap_or(address);
     let access = Access::new(address, token, words.is_open);
-    let site = Site::new(rt.alloc(), file, access);
+    let logged = LoggedSite {
+        site: Site::new(rt.alloc(), file, access),
+        log: log_of(rt.alloc(), words.log),
+        client: address,
+    };
     let _ = eprintln!(rt; "listening on http://{address}/");
-    Ok(Turns::new(site, door, clients, peers, now))
+    Ok(Turns::new(logged, door, clients, peers, now))
+}
+
+// The log, where one is wished.
+fn log_of(alloc: Global, is_wished: bool) -> Option<Log> {
+    if is_wished {
+        Some(Log::new(alloc))
+    } else {
+        None
+    }
 }
 
 // Notes beside the file where the site serves, for commands that find it locked.
@@ -94,17 +116,6 @@ where
     H::File: LockFile,
 {
     HolderNote::write(rt, path, turns.address().ok()?)
-}
-
-// Reads the token in the file of this path, where there is a path.
-fn read_secret<H: Disk>(rt: &H, path: Option<&str>) -> Result<Option<Token>, Fault>
-    ensures token { IfOk result (λ token. is_some token ≡ is_some path.entry) }
-    ensures none { OnErr result (IsSome path.entry) }
-{
-    match path {
-        Some(path) => Ok(Some(read_token(rt, path)?)),
-        None => Ok(None),
-    }
 }
 
 // Opens the place where clients come in, and looks at the time.

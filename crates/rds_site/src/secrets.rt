@@ -1,4 +1,6 @@
 //! The token of a site, in a file.
+ghost use Rattle.std.specs.Prelude.{◌≡◌, IfOk, IsSome, OnErr, is_some};
+
 use rds_files::Disk;
 use rds_http::Token;
 use rds_names::Fault;
@@ -8,9 +10,20 @@ use std::{fs, io};
 /// So many bytes of a token's file are read at most: more than a token may have.
 const LONGEST: u64 = 256;
 
+/// Reads the token in the file of this path, where there is a path, as [`read_token`] does.
+pub fn read_secret<H: Disk>(rt: &H, path: Option<&str>) -> Result<Option<Token>, Fault>
+    ensures token { IfOk result (λ token. is_some token ≡ is_some path.entry) }
+    ensures none { OnErr result (IsSome path.entry) }
+{
+    match path {
+        Some(path) => Ok(Some(read_token(rt, path)?)),
+        None => Ok(None),
+    }
+}
+
 /// Reads the token in the file of this path. What is no token is refused, and a file that can't be read (`Device`),
 /// with a line on standard error.
-pub fn read_token<H: Disk>(rt: &H, path: &str) -> Result<Token, Fault> {
+fn read_token<H: Disk>(rt: &H, path: &str) -> Result<Token, Fault> {
     let bytes = match read_file(rt, path) {
         Ok(bytes) => bytes,
         Err(error) => {

@@ -1,9 +1,9 @@
 //! The clients of a site.
 use crate::clients::{Client, Next};
 use crate::committed::Committed;
-use http_server::Service;
+use crate::logging::LoggedSite;
 use mio::Token;
-use rds_files::Disk;
+use rds_files::{Disk, LockFile};
 use slab::Slab;
 use std::alloc::{AllocError, Global};
 use std::mem;
@@ -87,20 +87,27 @@ impl Clients {
     }
 
     /// Hears those that have a turn. One that takes more room than is left for requests is let go.
-    pub fn hear<S: Service>(&mut self, service: &mut S) {
+    pub fn hear<H: Disk>(&mut self, site: &mut LoggedSite<'_, H>)
+    where
+        H::File: LockFile,
+    {
         for at in 0..self.due.len() {
             if let Some(key) = self.due.get(at).copied() {
-                self.hear_from(key, service);
+                self.hear_from(key, site);
             }
         }
     }
 
-    fn hear_from<S: Service>(&mut self, key: usize, service: &mut S) {
+    fn hear_from<H: Disk>(&mut self, key: usize, site: &mut LoggedSite<'_, H>)
+    where
+        H::File: LockFile,
+    {
         let Some(client) = self.table.get_mut(key) else {
             return;
         };
         let had = client.room();
-        client.hear(service);
+        site.client = client.address();
+        client.hear(site);
         let has = client.room();
         self.room = changed(self.room, had, has);
         if MOST_ROOM < self.room && had < has {

@@ -1,4 +1,8 @@
-//! Why an exchange with a peer broke off, and how the peer stands then.
+//! Why an exchange with a peer broke off, or how it ended, and how the peer stands then.
+ghost use Rattle.std.specs.Prelude.{◌≡◌, ◌≢◌};
+ghost use Rattle.rds_site.specs.declared.troubles.End.TheVariants as Ends;
+ghost use Rattle.rds_site.specs.declared.troubles.Standing.TheVariants.{Forked, Met};
+
 use crate::requests::Response;
 use http1::{ReadError, WriteError};
 use rds_names::Fault;
@@ -14,8 +18,8 @@ pub enum Trouble {
     System(io::Error),
     /// The peer ended the connection.
     Ended,
-    /// For too long nothing went or came.
-    Silence,
+    /// For so many seconds nothing went or came.
+    Silence(u64),
     /// A response is none of HTTP/1.1.
     Garbled(ReadError),
     /// A response is too long, alone or with those of other peers.
@@ -65,6 +69,17 @@ impl From<Fault> for Trouble {
     }
 }
 
+/// How an exchange ended.
+#[derive(Clone, Copy, Debug, PartialEq, Eq)]
+pub enum End {
+    /// Neither lacks anything.
+    Level,
+    /// What was lacking has gone over.
+    Done,
+    /// Both have seen the same, and hold different entries.
+    Forked,
+}
+
 /// How a peer stands.
 #[derive(Clone, Copy, Debug, PartialEq, Eq)]
 pub enum Standing {
@@ -78,9 +93,40 @@ pub enum Standing {
     Refused { status: u16, fault: Option<u8> },
     /// What it brought was refused, with a fault of this number.
     Unfit { fault: u8 },
+    /// Both have seen the same, and hold different entries.
+    Forked,
 }
 
 impl Standing {
+    /// How a peer that stood so does after an exchange. One that is forked stays so until neither lacks anything: what
+    /// goes over says nothing of what both have seen.
+    pub fn after(self, end: End) -> Standing
+        ensures level { end ≡ Ends.Level → result ≡ Met }
+        ensures forked { end ≡ Ends.Forked → result ≡ Forked }
+        ensures done { end ≡ Ends.Done → self ≢ Forked → result ≡ Met }
+        ensures stays { end ≡ Ends.Done → self ≡ Forked → result ≡ Forked }
+    {
+        match (end, self) {
+            (End::Forked, _) | (End::Done, Standing::Forked) => Standing::Forked,
+            (End::Level | End::Done, _) => Standing::Met,
+        }
+    }
+
+    /// Tells of it on standard error, in a line, where it comes of an exchange that ended.
+    pub fn tell<H: Eprint>(self, rt: &H, name: &str) {
+        let _ = match self {
+            Standing::Met => eprintln!(rt; "peer {name}: met"),
+            Standing::Forked => {
+                let number = Fault::Forked.number();
+                let word = Fault::Forked.name();
+                eprintln!(rt;
+                    "peer {name}: has seen the same, and holds different entries: {number} {word}"
+                )
+            }
+            _ => return,
+        };
+    }
+
     /// Whether one of the two sides refused the other.
     pub fn is_refusal(self) -> bool {
         matches!(self, Standing::Refused { .. } | Standing::Unfit { .. })
@@ -92,7 +138,7 @@ impl Trouble {
     pub fn standing(&self) -> Standing {
         match self {
             Trouble::Refused(response) => Standing::Refused {
-                status: response.status,
+                status: response.head.status,
                 fault: fault_in(&response.body).map(|fault| fault.0),
             },
             Trouble::Unfit(fault) => Standing::Unfit {
@@ -102,13 +148,27 @@ impl Trouble {
         }
     }
 
+    /// The fault that it is for who met the peer.
+    pub fn fault(&self) -> Fault {
+        match self {
+            Trouble::Memory => Fault::Memory,
+            Trouble::System(_) | Trouble::Silence(_) => Fault::Device,
+            Trouble::Ended | Trouble::Refused(_) => Fault::PeerEnded,
+            Trouble::Garbled(_) => Fault::OutOfTurn,
+            Trouble::TooLong => Fault::TooLong,
+            Trouble::Unfit(fault) => *fault,
+        }
+    }
+
     /// Tells of it on standard error, in a line.
     pub fn tell<H: Eprint>(&self, rt: &H, name: &str) {
         let _ = match self {
             Trouble::Memory => eprintln!(rt; "peer {name}: lost: there is no memory"),
             Trouble::System(error) => eprintln!(rt; "peer {name}: lost: {error}"),
             Trouble::Ended => eprintln!(rt; "peer {name}: lost: it ended the connection"),
-            Trouble::Silence => eprintln!(rt; "peer {name}: lost: 30 seconds without a byte"),
+            Trouble::Silence(seconds) => {
+                eprintln!(rt; "peer {name}: lost: {seconds} seconds without a byte")
+            }
             Trouble::Garbled(error) => {
                 eprintln!(rt; "peer {name}: lost: its response is no HTTP/1.1: {error}")
             }
@@ -124,7 +184,7 @@ impl Trouble {
 }
 
 fn tell_refusal<H: Eprint>(rt: &H, name: &str, response: &Response) {
-    let status = response.status;
+    let status = response.head.status;
     let _ = match fault_in(&response.body) {
         Some((number, word)) => eprintln!(rt; "peer {name}: refused: {status}: {number} {word}"),
         None => eprintln!(rt; "peer {name}: refused: {status}"),

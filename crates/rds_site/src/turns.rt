@@ -3,10 +3,10 @@ ghost use Rattle.std.specs.Prelude.{◌≡◌};
 
 use crate::arrivals::Door;
 use crate::committed::{Committed, commit};
+use crate::logging::LoggedSite;
 use crate::peer_table::Peers;
 use crate::table::Clients;
 use rds_files::{Disk, LockFile};
-use rds_http::Site;
 use rds_names::Fault;
 use std::io;
 use std::net::{Net, SocketAddr};
@@ -14,27 +14,24 @@ use std::time::Instant;
 
 /// A site, its clients, where they come in, and its peers.
 pub struct Turns<'a, H: Disk> {
-    site: Site<'a, H>,
+    logged: LoggedSite<'a, H>,
     door: Door,
     clients: Clients,
     peers: Peers<'a>,
     // The time, when it was last looked at, and when clients were last looked at for being overdue.
     now: Instant,
     swept: Instant,
-    // The last turn that listeners were told of.
-    told: u64,
 }
 
 impl<H: Disk> Drop for Turns<'_, H> {
     fn drop(self) {
         let Turns {
-            site: _site,
+            logged: _logged,
             door: _door,
             clients: _clients,
             peers: _peers,
             now: _,
             swept: _,
-            told: _,
         } = self;
     }
 }
@@ -45,23 +42,21 @@ where
 {
     /// A site that nobody has asked yet, and that has met no peer.
     pub fn new(
-        site: Site<'a, H>,
+        logged: LoggedSite<'a, H>,
         door: Door,
         clients: Clients,
         peers: Peers<'a>,
         now: Instant,
     ) -> Turns<'a, H>
-        ensures { result.site ≡ site.entry }
+        ensures { result.logged ≡ logged.entry }
     {
-        let told = site.turn();
         Turns {
-            site,
+            logged,
             door,
             clients,
             peers,
             now,
             swept: now,
-            told,
         }
     }
 
@@ -74,28 +69,50 @@ where
     /// the turn is sent.
     pub fn turn(&mut self, rt: &H) -> Result<(), Fault>
     where
-        H: Net,
+        H: Net + Print,
     {
         self.begin(rt)?;
         self.hear(rt);
-        let committed = commit(rt, &mut self.site)?;
-        tell(rt, &committed, &mut self.clients, &mut self.told, self.now);
-        self.peers
-            .send(rt, &committed, self.door.registry(), self.now);
+        let kept = self.send(rt)?;
         self.sweep();
+        self.write_log(rt, kept);
         Ok(())
     }
 
-    // Answers in memory what clients and peers say. What clients change is due to all peers.
+    // Keeps what changed, and sends what is due. Answers when it was kept.
+    fn send(&mut self, rt: &H) -> Result<Instant, Fault>
+    where
+        H: Net,
+    {
+        let committed = commit(rt, &mut self.logged.site)?;
+        let kept = Instant::now(rt).unwrap_or(self.now);
+        tell(&committed, &mut self.clients, self.now);
+        self.peers
+            .send(rt, &committed, self.door.registry(), self.now);
+        Ok(kept)
+    }
+
+    // Writes the log of a turn whose changes were kept at this time.
+    fn write_log(&mut self, rt: &H, kept: Instant)
+    where
+        H: Print,
+    {
+        if let Some(log) = &mut self.logged.log {
+            log.write(rt, kept.duration_since(self.now));
+        }
+    }
+
+    // Answers in memory what clients and peers say, and begins what is due. What clients change is due to all peers.
     fn hear(&mut self, rt: &H) {
-        self.site
-            .note_clients(self.clients.len(), self.clients.listeners());
-        self.site.note_peers(self.peers.counts());
-        self.clients.hear(&mut self.site);
-        if self.site.has_changed() {
+        let site = &mut self.logged.site;
+        site.note_clients(self.clients.len(), self.clients.listeners());
+        site.note_peers(self.peers.counts());
+        self.clients.hear(&mut self.logged);
+        if self.logged.site.has_changed() {
             self.peers.note_change(self.now);
         }
-        self.peers.hear(rt, &mut self.site, self.now);
+        self.peers.hear(rt, &mut self.logged.site, self.now);
+        self.peers.begin(rt, &mut self.logged.site, self.now);
     }
 
     // Waits for what comes or is due, and lets those in that wait.
@@ -120,23 +137,13 @@ where
     }
 }
 
-// Tells of the turn where it changed something, and sends what is due.
-fn tell<H: Disk>(
-    rt: &H,
-    committed: &Committed<'_, '_, H>,
-    clients: &mut Clients,
-    told: &mut u64,
-    now: Instant,
-)
+// Tells listeners what was kept, and sends clients what is due.
+fn tell<H: Disk>(committed: &Committed<'_, '_, H>, clients: &mut Clients, now: Instant)
 where
     H::File: LockFile,
 {
-    let turn = committed.turn();
-    if turn != *told {
-        if let Ok(text) = format!(in rt.alloc(); "{{\"turn\":{turn}}}") {
-            clients.push(text.as_str());
-        }
-        *told = turn;
+    if let Some(news) = committed.news() {
+        clients.push(news);
     }
     clients.send(committed, now);
 }

@@ -11,6 +11,8 @@ pub struct SiteWords<'a> {
     pub token_file: Option<&'a str>,
     /// Whether others than this machine may come without a token.
     pub is_open: bool,
+    /// Whether each request is told by a line on standard output.
+    pub log: bool,
     /// The other nodes that it meets, each as `HOST:PORT`.
     pub peers: &'a [&'a str],
     /// After so many seconds it meets them again, where nothing changed. None is taken as one.

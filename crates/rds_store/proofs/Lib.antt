@@ -1,5 +1,4 @@
 mod ChangeLemmas
 mod Events
-mod Levels
 mod Naming
 mod Taken

@@ -8,15 +8,18 @@ use Rattle.rds_names.specs.declared.fault.Fault.{Fault}
 use Rattle.rds_names.specs.declared.fault.Fault.TheVariants.{Memory}
 use Rattle.rds_offline.specs.Letters.{BringsNothing, IsTaken, TakesResponse}
 use Rattle.rds_offline.specs.Merging.{CountsLacking, IsMerged, RefusesMerge}
+use Rattle.rds_questions.proofs.Leveled.{level_lack_nothing}
+use Rattle.rds_questions.specs.Lacking.{LacksGives}
 use Rattle.rds_questions.specs.Questions.{QuestionValue, question_kind}
 use Rattle.rds_questions.specs.Receiving.{IsReceivedFrom, ReceivedValue}
 use Rattle.rds_questions.specs.Responding.{RespondGives}
 use Rattle.rds_questions.specs.Taking.{HasAllOf, IsAsker, TakesReceived}
+use Rattle.rds_questions.specs.declared.lacking.Lacks.{Lacks}
 use Rattle.rds_state.specs.Fits.{ReplicaValue}
 use Rattle.rds_state.specs.Results.{TakesDeltaWith}
 use Rattle.rds_state.specs.Value.{size}
 use Rattle.rds_store.specs.Documents.{IsHeldBy}
-use Rattle.rds_store.specs.Meetings.{MayAnswer, MergesSnapshot, RefusesSnapshot, RefusesTaking}
+use Rattle.rds_store.specs.Meetings.{MayAnswer, MayTellLacks, MergesSnapshot, RefusesSnapshot, RefusesTaking, TellsLevel}
 
 abbrev pub IsGiven : List ℕ → QuestionValue → Type 0
 IsGiven question asked = (length question ≤ LIMIT) × IsTextOf question_kind question asked
@@ -92,3 +95,14 @@ module _ (snapshot : List ℕ) (source before : ReplicaValue) (held : IsHeldBy s
   pub refuses_merge : (result : Result ℕ Fault) → IfErr result (RefusesMerge source before) → IfErr result (RefusesSnapshot snapshot before)
   refuses_merge (Ok n) refused = tt
   refuses_merge (Err fault) refused = no_merge fault refused
+
+-- ---- what is lacking
+
+module _ (question : List ℕ) (held : ReplicaValue) (asked : QuestionValue) (is : IsGiven question asked) where
+  pub tells_lacks : (result : Result Lacks Fault) → LacksGives asked held result → MayTellLacks question held result
+  tells_lacks (Ok lacks) gives = record { asked = asked; within = is.0; is_question = is.1; gives = gives }
+  tells_lacks (Err fault) gives = inr (record { asked = asked; within = is.0; is_question = is.1; gives = gives })
+
+  pub tells_level : (result : Result Lacks Fault) → LacksGives asked held result → IfOk result (TellsLevel question held)
+  tells_level (Ok lacks) gives = record { asked = asked; is_question = is.1; level = level_lack_nothing asked held lacks is.1.is_value gives }
+  tells_level (Err fault) gives = tt

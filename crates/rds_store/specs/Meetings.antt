@@ -1,19 +1,19 @@
 -- What documents answer one another, and take.
-use Rattle.std.specs.Prelude.{◌≡◌, ◌⊎◌, ◌≤◌, ◌↔◌, ℕ, Bool, IsTrue, List, length, Result, Ok, Err}
+use Rattle.std.specs.Prelude.{◌⊎◌, ◌≤◌, ◌↔◌, ℕ, List, length, Result, Ok, Err}
 use Rattle.std.specs.Global.{Vec}
 use Rattle.rds_codec.specs.Decoding.{Decodes, IsTextOf}
 use Rattle.rds_codec.specs.FormatWriting.{EncodesTabled}
 use Rattle.rds_codec.specs.declared.limits.TheConstants.{LIMIT}
-use Rattle.rds_delta.specs.Digested.{digest_of}
 use Rattle.rds_keep.specs.Kept.{RefusesBytes as RefusesFileBytes}
 use Rattle.rds_names.specs.declared.fault.Fault.{Fault}
 use Rattle.rds_offline.specs.Letters.{RefusesBytes}
 use Rattle.rds_offline.specs.Merging.{CountsLacking, IsMerged, RefusesMerge}
-use Rattle.rds_questions.specs.Greeting.{GreetGives}
+use Rattle.rds_questions.specs.Lacking.{IsLevel, LackNothing, LacksGives}
 use Rattle.rds_questions.specs.Questions.{QuestionValue, question_kind, question_of, question_text}
 use Rattle.rds_questions.specs.Receiving.{IsReceivedFrom, ReceivedValue}
 use Rattle.rds_questions.specs.Responding.{RespondGives}
 use Rattle.rds_questions.specs.Taking.{TakesReceived}
+use Rattle.rds_questions.specs.declared.lacking.Lacks.{Lacks}
 use Rattle.rds_state.specs.Fits.{ReplicaValue}
 use Rattle.rds_store.specs.Documents.{IsHeldBy}
 
@@ -33,34 +33,26 @@ abbrev pub MayAnswer : List ℕ → ReplicaValue → Result (Vec ℕ) Fault → 
 MayAnswer question held (Ok bytes) = RespondsTo question held (Ok bytes)
 MayAnswer question held (Err fault) = Decodes question_kind question (Err fault) ⊎ RespondsTo question held (Err fault)
 
--- whether a replica may talk to the one that asked, and which fault is given
-abbrev pub Greets : QuestionValue → ReplicaValue → Result (Unit {0}) Fault → Type 0
-Greets asked held result = GreetGives {T = Unit {0}} held.roster held.own asked.hello result
-
--- the replica that asked has the same roster and the same digest as this one
-pub record IsLevel (asked : QuestionValue) (held : ReplicaValue) : Type 0 where
-  pub roster : asked.hello.roster ≡ held.roster
-  pub digest : asked.digest ≡ digest_of held.state
-
--- the bytes are the text of a question within the limit, of a replica that this one may talk to, and it is told whether
--- that is level with this one
-pub record TellsLevel (question : List ℕ) (held : ReplicaValue) (level : Bool) : Type 0 where
+-- the bytes are the text of a question within the limit, and this is what a replica and the one that asked lack of one
+-- another's
+pub record TellsLacks (question : List ℕ) (held : ReplicaValue) (result : Result Lacks Fault) : Type 0 where
   pub asked : QuestionValue
   pub within : length question ≤ LIMIT
   pub is_question : IsTextOf question_kind question asked
-  pub greets : Greets asked held (Ok tt)
-  pub exact : IsTrue level ↔ IsLevel asked held
+  pub gives : LacksGives asked held result
 
--- the bytes are the text of a question within the limit, of a replica that this one may not talk to
-pub record RefusesAsker (question : List ℕ) (held : ReplicaValue) (fault : Fault) : Type 0 where
+-- what is lacking, or that the bytes are no question, or why who asks isn't told
+abbrev pub MayTellLacks : List ℕ → ReplicaValue → Result Lacks Fault → Type 0
+MayTellLacks question held (Ok lacks) = TellsLacks question held (Ok lacks)
+MayTellLacks question held (Err fault) =
+    Decodes question_kind question (Err fault) ⊎ TellsLacks question held (Err fault)
+
+-- the bytes are the text of a question, and nothing is lacking exactly where the one that asked has the same roster and
+-- the same digest
+pub record TellsLevel (question : List ℕ) (held : ReplicaValue) (lacks : Lacks) : Type 0 where
   pub asked : QuestionValue
-  pub within : length question ≤ LIMIT
   pub is_question : IsTextOf question_kind question asked
-  pub why : Greets asked held (Err fault)
-
--- why it isn't told who is level: the bytes are no question, or memory ran out, or who asks is refused
-abbrev pub RefusesLevel : List ℕ → ReplicaValue → Fault → Type 0
-RefusesLevel question held fault = Decodes question_kind question (Err fault) ⊎ RefusesAsker question held fault
+  pub level : LackNothing lacks ↔ IsLevel asked held
 
 -- the replica doesn't take what a response to a question brought
 pub record RefusesReceived (question answer : List ℕ) (before : ReplicaValue) (fault : Fault) : Type 0 where

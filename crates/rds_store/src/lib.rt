@@ -23,6 +23,7 @@ pub use laws::documents_are_events;
 pub use rds_gaps::GapSet;
 pub use rds_names::{Fault, Key, Name, Path, Roster, Scalar};
 pub use rds_output::Reply;
+pub use rds_questions::Lacks;
 pub use rds_state::{Command, Edited, Mark, Replica};
 pub use rds_tree::View;
 pub use threads::sent_document;

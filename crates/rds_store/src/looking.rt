@@ -84,12 +84,12 @@ impl Document {
         dump(self.alloc, self.index.replica().state(), &path)
     }
 
-    /// The mark by which replicas are compared at a glance: those that have the same updates have the same. It is one
-    /// pass over live entries and counters, and takes no memory.
+    /// The mark by which replicas are compared at a glance: those that have the same updates have the same. It is kept
+    /// up with each edit and each take, and takes no memory.
     pub fn mark(&self) -> Mark
         ensures { result ≡ mark_of self.now.state }
     {
-        self.index.replica().state().mark()
+        self.index.mark()
     }
 
     /// Whose replica this is and how much there is of it, as the JSON that `rds_node status` tells: group, own name and

@@ -1,27 +1,29 @@
 //! What documents ask of one another, answer and take.
-ghost use Rattle.std.specs.Prelude.{◌≡◌, ◌⊎◌, ◌↔◌, length, Err, Ok, IfOk, IfErr, IsTrue, OnErr, OnOk};
-ghost use Rattle.rds_codec.specs.FormatWriting.{EncodesTabled};
+ghost use Rattle.std.specs.Prelude.{◌≡◌, length, Err, IfOk, IfErr, OnErr, OnOk};
+ghost use Rattle.rds_briefs.specs.Briefs.{brief_text};
+ghost use Rattle.rds_codec.specs.FormatWriting.{EncodesTabled, IsTabledUnwritten};
 ghost use Rattle.rds_delta.specs.Digested.{digest_of};
 ghost use Rattle.rds_delta.specs.Least.{least};
 ghost use Rattle.rds_delta.specs.Ranks.{ranks};
 ghost use Rattle.rds_names.specs.declared.fault.Fault.TheVariants.{Memory};
 ghost use Rattle.rds_offline.specs.Letters.{IsTaken, TakesResponse};
 ghost use Rattle.rds_offline.specs.Merging.{CountsLacking, IsMerged, RefusesMerge};
+ghost use Rattle.rds_questions.specs.Hashed.{question_hash};
 ghost use Rattle.rds_questions.specs.Questions.{question_of, question_text};
 ghost use Rattle.rds_questions.specs.Taking.{HasAllOf, IsAsker, TakesReceived};
 ghost use Rattle.rds_state.specs.Fits.{Fits};
 ghost use Rattle.rds_state.specs.Value.{coordinates, size};
-ghost use Rattle.rds_store.specs.Meetings.{Greets, IsLevel, MayAnswer, MergesSnapshot, RefusesLevel, RefusesSnapshot, RefusesTaking, TellsLevel};
+ghost use Rattle.rds_store.specs.Meetings.{MayAnswer, MayTellLacks, MergesSnapshot, RefusesSnapshot, RefusesTaking, TellsLevel};
 ghost use Rattle.rds_store.specs.Noting.{AreSince};
 
 use crate::changes::Changes;
 use crate::document::{Document, decode_file};
 use rds_delta::{Digest, delta};
-use rds_dots::same;
 use rds_gaps::GapSet;
 use rds_names::Fault;
 use rds_questions::{
-    Question, Received, decode_question, encode_question, judge_held, receive, respond,
+    Lacks, Question, Received, decode_question, encode_question, judge_held, lacks_of, receive,
+    respond,
 };
 use rds_state::{Replica, State};
 use std::alloc::Global;
@@ -45,14 +47,26 @@ impl Document {
         respond_to(self.alloc, self.index.replica(), question)
     }
 
-    /// Whether the replica that asked has the roster and the digest of this one: then neither lacks anything of the
-    /// other's. Bytes that are no question are refused, and then who asks, as [`answer`](Document::answer) refuses them:
-    /// so a copy of this very replica is refused (`SameReplica`), also where both have done as much since.
-    pub fn is_level_with(&self, question: &[u8]) -> Result<bool, Fault>
-        ensures level { IfOk result (TellsLevel question.now self.now) }
-        ensures fault { IfErr result (RefusesLevel question.now self.now) }
+    /// The hash of what this replica would ask, but for who asks: the SHA-256 of the texts of its roster and of its
+    /// digest. Replicas that have seen the same and have one roster have the same one. Where the digest's text is above
+    /// the limit, `TooLong`.
+    pub fn question_hash(&self) -> Result<[u8; 32], Fault>
+        ensures hash { IfOk result (λ hash. hash ≡ question_hash (question_of self.now)) }
+        ensures fault { IfErr result (IsTabledUnwritten (length (brief_text (digest_of self.now.state)))) }
     {
-        tell_level(self.alloc, self.index.replica(), question)
+        let question = Question::of(self.alloc, self.index.replica())?;
+        question.hash(self.alloc)
+    }
+
+    /// What this replica lacks of what a question tells, and what the one that asked lacks of this one's: so it is known
+    /// whether to ask that one, and whether to answer. Where both lack nothing they have the same roster and the same
+    /// digest. Bytes that are no question are refused, and then who asks, as [`answer`](Document::answer) refuses them:
+    /// so a copy of this very replica is refused (`SameReplica`), also where both have done as much since.
+    pub fn lacks(&self, question: &[u8]) -> Result<Lacks, Fault>
+        ensures told { MayTellLacks question.now self.now result }
+        ensures level { IfOk result (TellsLevel question.now self.now) }
+    {
+        lacks_by_text(self.alloc, self.index.replica(), question)
     }
 
     /// Takes what answers a question that this replica asked, now or earlier, and tells how many components that
@@ -88,54 +102,13 @@ fn respond_to(alloc: Global, held: &Replica<GapSet>, question: &[u8]) -> Result<
     respond(alloc, held, &asked)
 }
 
-/// Whether the replica that asked the question whose text the bytes are is level with this one.
-fn tell_level(alloc: Global, held: &Replica<GapSet>, question: &[u8]) -> Result<bool, Fault>
+/// What a replica lacks of what the question tells whose text the bytes are, and what the one that asked lacks.
+fn lacks_by_text(alloc: Global, held: &Replica<GapSet>, question: &[u8]) -> Result<Lacks, Fault>
+    ensures told { MayTellLacks question.now held.now result }
     ensures level { IfOk result (TellsLevel question.now held.now) }
-    ensures fault { IfErr result (RefusesLevel question.now held.now) }
 {
     let asked: Question<GapSet> = decode_question(alloc, question)?;
-    is_level(alloc, &asked, held)
-}
-
-/// Whether the replica that asked has the roster and the digest of this one, where they may talk.
-fn is_level(alloc: Global, asked: &Question<GapSet>, held: &Replica<GapSet>) -> Result<bool, Fault>
-    ensures greets { OnOk result (Greets asked.now held.now (Ok tt)) }
-    ensures level { IfOk result (λ level. IsTrue level ↔ IsLevel asked.now held.now) }
-    ensures fault { IfErr result (λ fault. (fault ≡ Memory) ⊎ Greets asked.now held.now (Err fault)) }
-{
-    greet(held, asked)?;
-    if !asked.hello.roster.same(held.roster()) {
-        return Ok(false);
-    }
-    is_digest_of(alloc, &asked.digest, held.state())
-}
-
-/// Whether a replica may talk to the one that asked; else why not.
-fn greet(held: &Replica<GapSet>, asked: &Question<GapSet>) -> Result<(), Fault>
-    ensures { Greets asked.now held.now result }
-{
-    held.roster().may_meet(&asked.hello.roster)?;
-    if held.own() == asked.hello.own {
-        return Err(Fault::SameReplica);
-    }
-    Ok(())
-}
-
-/// Whether a digest is that of a state. The live dots are gathered only where all else is the same.
-fn is_digest_of(
-    alloc: Global,
-    digest: &Digest<GapSet>,
-    state: &State<GapSet>,
-) -> Result<bool, Fault>
-    ensures same { IfOk result (λ same. IsTrue same ↔ (digest.now ≡ digest_of state.now)) }
-    ensures memory { IfErr result (λ fault. fault ≡ Memory) }
-{
-    let lives = state.lives();
-    if !same(digest.seen(), lives.seen()) || !digest.counts().same(state.counts()) {
-        return Ok(false);
-    }
-    let live = lives.live_dots(alloc)?;
-    Ok(same(digest.live(), &live))
+    lacks_of(alloc, held, &asked)
 }
 
 /// Takes the answer whose text the second bytes are to the question whose text the first are, and notes what came.

@@ -2,7 +2,7 @@
 use crate::documents::Documents;
 use rds_rows::told::said;
 use rds_rows::words::cut;
-use rds_store::Fault;
+use rds_store::{Fault, Lacks};
 use std::alloc::Global;
 
 impl Documents<'_> {
@@ -50,20 +50,25 @@ impl Documents<'_> {
         Ok(format!(in alloc; "{taken} taken")?)
     }
 
-    /// `level NAME ASKER`: whether the asker's question tells of what the document has.
-    pub fn is_level(&mut self, alloc: Global, rest: &str) -> Result<String, Fault> {
+    /// `lacks NAME ASKER`: what the document lacks of what the asker's question tells, and what the asker lacks.
+    pub fn lacks(&mut self, alloc: Global, rest: &str) -> Result<String, Fault> {
         let (name, asker) = cut(rest)?;
         let question = self.question_of(alloc, asker)?;
-        let document = &self.named(name)?.document;
-        if document.is_level_with(question.as_slice())? {
-            said(alloc, "level")
-        } else {
-            said(alloc, "not level")
-        }
+        let lacks = self.named(name)?.document.lacks(question.as_slice())?;
+        said(alloc, words_of(lacks))
     }
 
     fn question_of(&mut self, alloc: Global, name: &str) -> Result<Vec<u8>, Fault> {
         copied(alloc, self.named(name)?.question.as_slice())
+    }
+}
+
+fn words_of(lacks: Lacks) -> &'static str {
+    match (lacks.here, lacks.there) {
+        (false, false) => "level",
+        (true, false) => "lacks here",
+        (false, true) => "lacks there",
+        (true, true) => "lacks here and there",
     }
 }
 

@@ -2,6 +2,7 @@
 use crate::documents::{Documents, told};
 use rds_names::Fault;
 use rds_rows::Table;
+use rds_rows::told::digits_of;
 use rds_rows::words::first;
 use std::alloc::Global;
 
@@ -17,7 +18,7 @@ impl Table for Documents<'_> {
             "answer" => self.answer_question(alloc, rest),
             "take" => self.take(alloc, rest),
             "turn" => self.turn(alloc, rest),
-            "level" => self.is_level(alloc, rest),
+            "lacks" => self.lacks(alloc, rest),
             "merge" => self.merge(alloc, rest),
             _ => in_file(self, alloc, name, rest),
         }
@@ -61,6 +62,7 @@ fn shown(
         "conflicts" => told(alloc, document.conflicts(path)?.as_str()),
         "dump" => told(alloc, document.dump(path)?.as_str()),
         "status" => document.status(),
+        "hash" => digits_of(alloc, &document.question_hash()?),
         "mark" => Ok(format!(in alloc; "{}", document.mark())?),
         _ => Err(Fault::Usage),
     }

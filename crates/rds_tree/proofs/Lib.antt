@@ -6,6 +6,7 @@ pub mod Deltas
 pub mod Distinct
 pub mod EffectMade
 pub mod Effects
+pub mod FewValues
 pub mod FoundLives
 pub mod Gathering
 pub mod Grouped
@@ -17,6 +18,11 @@ pub mod InOrder
 pub mod Kids
 pub mod Killing
 pub mod MapsShown
+pub mod MarkCounts
+pub mod MarkDots
+pub mod MarkEdits
+pub mod MarkRows
+pub mod MarkTotals
 pub mod Members
 pub mod OneKey
 pub mod Reached

@@ -2,9 +2,11 @@ pub mod Cuts
 pub mod Distinct
 pub mod Document
 pub mod EditsWithDelta
+pub mod Forms
 pub mod Gathered
 pub mod Growing
 pub mod Held
+pub mod Marks
 pub mod Once
 pub mod Parts
 pub mod Row

@@ -110,7 +110,7 @@ fn is_meant(which: Which, dot: Dot) -> bool
 }
 
 /// Makes a dot dead, unless it is the one that is to stay.
-fn kill_dot<S: DotSet>(lives: &mut Lives<S>, dot: Dot, but: Option<Dot>)
+pub fn kill_dot<S: DotSet>(lives: &mut Lives<S>, dot: Dot, but: Option<Dot>)
     ensures { (d : Dot) → map.get lives.new d ≡ killed_by (but_for but (is_the dot)) d (map.get lives.old d) }
 {
     if is_but(but, dot) {
@@ -120,7 +120,7 @@ fn kill_dot<S: DotSet>(lives: &mut Lives<S>, dot: Dot, but: Option<Dot>)
 }
 
 /// Whether the dot is the one that is to stay.
-fn is_but(but: Option<Dot>, dot: Dot) -> bool
+pub fn is_but(but: Option<Dot>, dot: Dot) -> bool
     ensures { result ≡ is_but but dot }
 {
     match but {

@@ -12,6 +12,7 @@ ghost use Rattle.rds_names.specs.declared.fault.Fault.TheVariants.{Memory};
 ghost use Rattle.rds_state.specs.Chosen.{parts_of, Parts};
 ghost use Rattle.rds_state.specs.Edit.{count_fault, effect, life_killed, number_raised, refusal, IsDue};
 ghost use Rattle.rds_state.specs.Made.{entry_made};
+ghost use Rattle.rds_state.specs.Mark.{mark_of};
 ghost use Rattle.rds_state.specs.Value.{coordinates};
 ghost use Rattle.rds_tree.specs.Cuts.{path_in};
 ghost use Rattle.rds_tree.specs.EditsWithDelta.{EditsWithDelta};
@@ -19,13 +20,13 @@ ghost use Rattle.rds_tree.specs.Growing.{Holds};
 ghost use Rattle.rds_tree.specs.Held.{killed_in};
 
 use crate::covered::covered;
-use crate::indexing::edit;
+use crate::marking::edit_marked;
 use crate::node::Node;
 use rds_counts::{Counts, MAX_COUNT, Which};
 use rds_dots::{Dot, DotSet};
 use rds_life::Lives;
 use rds_names::{Entry, Fault, Key, Kind, Path, Scalar};
-use rds_state::{Command, Edited, Replica, State};
+use rds_state::{Command, Edited, Mark, Replica, State};
 use std::alloc::Global;
 
 /// Edits a replica, as [`Replica::edit_by`] does, and hands out what that changed, as a delta. What the command covers is
@@ -44,19 +45,23 @@ pub fn edit_with_delta<S: DotSet>(
     Ok((edited, delta))
 }
 
-/// Edits the replica and its tree, and hands out the effect. All of it is made before anything changes.
+/// Edits the replica and its tree, keeps the mark of its state, and hands out the effect. All of it is made before
+/// anything changes.
 pub fn edit_tree_with_delta<S: DotSet>(
     alloc: Global,
     replica: &mut Replica<S>,
     tree: &mut Node,
+    mark: &mut Mark,
     command: &Command,
 ) -> Result<(Edited, State<S>), Fault>
     requires holds { Holds (live_rows replica.old.state.lives) tree.old }
+    requires marked { mark.old ≡ mark_of replica.old.state }
     ensures holds { Holds (live_rows replica.new.state.lives) tree.new }
+    ensures marked { mark.new ≡ mark_of replica.new.state }
     ensures edited { EditsWithDelta replica.old command.now result replica.new }
 {
     let delta = effect(alloc, replica, Some(&*tree), command)?;
-    let edited = edit(alloc, replica, tree, command)?;
+    let edited = edit_marked(alloc, replica, tree, mark, command)?;
     let _within = replica.state();
     Ok((edited, delta))
 }

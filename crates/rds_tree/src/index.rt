@@ -3,6 +3,7 @@ ghost use Rattle.std.specs.Prelude.{◌≡◌, max, IfOk, IfErr, OnErr, OnOk, le
 ghost use Rattle.rds_life.specs.Life.{live_rows};
 ghost use Rattle.rds_names.specs.declared.fault.Fault.TheVariants.{Memory};
 ghost use Rattle.rds_state.specs.Fits.{Fits};
+ghost use Rattle.rds_state.specs.Mark.{mark_of};
 ghost use Rattle.rds_state.specs.Results.{EditsReplica, Grows, TakesDelta, TakesDeltaWith};
 ghost use Rattle.rds_state.specs.Value.{coordinates};
 ghost use Rattle.rds_tree.specs.Document.{document};
@@ -16,23 +17,25 @@ ghost use Rattle.rds_tree.specs.View.{view_of};
 use crate::covered::gather_covered;
 use crate::document::{MOST_KEYS, counters_at, tree_of};
 use crate::edit_delta::edit_tree_with_delta;
-use crate::indexing::edit;
+use crate::marking::edit_marked;
 use crate::node::Node;
 use crate::one_key::{counters_of_key, view_in};
 use crate::taking::{take, take_with};
 use crate::views::View;
 use rds_dots::{Dot, DotSet};
 use rds_names::{Fault, Key, Path, Roster};
-use rds_state::{Command, Edited, Replica, State};
+use rds_state::{Command, Edited, Mark, Replica, State};
 use std::alloc::Global;
 use std::marker::Model;
 
-/// A replica, seen as such, that keeps the tree of its live dots by path beside it. In the tree an edit looks at its
-/// path and, for a clear, below it; a view at what it shows; a take at the leaves of the dots that come or die.
+/// A replica, seen as such, that keeps the tree of its live dots by path beside it, and the mark of its state. In the
+/// tree an edit looks at its path and, for a clear, below it; a view at what it shows; a take at the leaves of the dots
+/// that come or die. The mark goes with what an edit or a take changes.
 pub struct Index<S: DotSet> {
     alloc: Global,
     replica: Replica<S>,
     tree: Node,
+    mark: Mark,
 }
 
 // Written out, so that where an index is let go a caller's proof has one call.
@@ -42,13 +45,16 @@ impl<S: DotSet> Drop for Index<S> {
             alloc: _,
             replica: _replica,
             tree: _tree,
+            mark: _,
         } = self;
     }
 }
 
 impl<S: DotSet> Model for Index<S> {
     ghost use Rattle.rds_life.specs.Life.{live_rows};
+    ghost use Rattle.std.specs.Prelude.{◌≡◌};
     ghost use Rattle.rds_state.specs.Fits.{ReplicaValue, coded_replica};
+    ghost use Rattle.rds_state.specs.Mark.{mark_of};
     ghost use Rattle.rds_tree.specs.Growing.{Holds};
 
     ghost Value = { ReplicaValue };
@@ -57,7 +63,7 @@ impl<S: DotSet> Model for Index<S> {
 
     ghost view = { λ i. i.replica };
 
-    ghost invariant = { λ i. Holds (live_rows i.replica.state.lives) i.tree };
+    ghost invariant = { λ i. Holds (live_rows i.replica.state.lives) i.tree × (i.mark ≡ mark_of i.replica.state) };
 }
 
 impl<S: DotSet> Index<S> {
@@ -67,12 +73,14 @@ impl<S: DotSet> Index<S> {
         ensures memory { IfErr result (λ fault. fault ≡ Memory) }
     {
         let tree = whole_tree(alloc, &replica)?;
+        let mark = replica.state().mark();
         let mut indexed = replica;
         indexed.index()?;
         Ok(Index {
             alloc,
             replica: indexed,
             tree,
+            mark,
         })
     }
 
@@ -81,6 +89,13 @@ impl<S: DotSet> Index<S> {
         ensures { result.now ≡ self.now }
     {
         &self.replica
+    }
+
+    /// The mark of the replica's state, which is kept: it takes no pass and no memory.
+    pub fn mark(&self) -> Mark
+        ensures { result ≡ mark_of self.now.state }
+    {
+        self.mark
     }
 
     /// What the replica's document shows at the path, as [`view`](crate::view) says.
@@ -129,7 +144,13 @@ impl<S: DotSet> Index<S> {
     pub fn edit_by(&mut self, command: &Command) -> Result<Edited, Fault>
         ensures { EditsReplica self.old command.now result self.new }
     {
-        edit(self.alloc, &mut self.replica, &mut self.tree, command)
+        edit_marked(
+            self.alloc,
+            &mut self.replica,
+            &mut self.tree,
+            &mut self.mark,
+            command,
+        )
     }
 
     /// Edits the replica as [`edit`](Index::edit) does, and hands out what that changed, as a delta. It is found by what
@@ -137,7 +158,13 @@ impl<S: DotSet> Index<S> {
     pub fn edit_with_delta(&mut self, command: &Command) -> Result<(Edited, State<S>), Fault>
         ensures { EditsWithDelta self.old command.now result self.new }
     {
-        edit_tree_with_delta(self.alloc, &mut self.replica, &mut self.tree, command)
+        edit_tree_with_delta(
+            self.alloc,
+            &mut self.replica,
+            &mut self.tree,
+            &mut self.mark,
+            command,
+        )
     }
 
     /// Puts the live dots behind others that a command covers, in order, as the tree finds them. `Inc` and `Dec` cover
@@ -156,7 +183,13 @@ impl<S: DotSet> Index<S> {
         requires { Fits (length self.old.roster.names) (coordinates delta.now) }
         ensures { TakesDelta self.old delta.now result self.new }
     {
-        take(self.alloc, &mut self.replica, &mut self.tree, delta)
+        take(
+            self.alloc,
+            &mut self.replica,
+            &mut self.tree,
+            &mut self.mark,
+            delta,
+        )
     }
 
     /// Takes a longer roster, as [`Replica::grow`] does, and refuses as it does. Takes no memory.
@@ -172,7 +205,14 @@ impl<S: DotSet> Index<S> {
         requires { Fits (max (length self.old.roster.names) (length roster.names)) (coordinates delta.now) }
         ensures { TakesDeltaWith self.old roster delta.now result self.new }
     {
-        take_with(self.alloc, &mut self.replica, &mut self.tree, roster, delta)
+        take_with(
+            self.alloc,
+            &mut self.replica,
+            &mut self.tree,
+            &mut self.mark,
+            roster,
+            delta,
+        )
     }
 
     /// The replica, without its tree. Takes no memory.
@@ -183,6 +223,7 @@ impl<S: DotSet> Index<S> {
             alloc: _alloc,
             replica: bare,
             tree: _tree,
+            mark: _mark,
         } = self;
         bare
     }

@@ -10,8 +10,8 @@ ghost use Rattle.rds_tree.specs.Held.{IsGathered};
 ghost use Rattle.rds_tree.specs.Row.{is_full, AddsLeaf};
 ghost use Rattle.rds_tree.specs.View.{values_once};
 
-use crate::by_value::ByValue;
-use crate::dot_list::Which;
+use crate::by_kind::ByKind;
+use crate::dot_list::kill_dot;
 use crate::leaf::Leaf;
 use rds_dots::{Dot, DotSet};
 use rds_life::Lives;
@@ -20,48 +20,47 @@ use rds_state::Command;
 use std::alloc::Global;
 use std::marker::Model;
 
-/// The leaves at the end of a path, seen as their list. They are found by their kind and value.
+/// How leaves are kept.
+#[derive(Drop)]
+enum Form {
+    /// There is none.
+    Empty,
+    /// One by itself.
+    Alone(Leaf),
+    /// Several, found by their kind and value.
+    Several(ByKind),
+}
+
+/// The leaves at the end of a path, seen as their list. One by itself takes no memory but its text's.
 #[derive(Drop)]
 pub struct Leaves {
-    regs: ByValue,
-    elems: ByValue,
+    form: Form,
 }
 
 impl Model for Leaves {
     ghost use Rattle.std.specs.Prelude.{List};
     ghost use Rattle.rds_tree.specs.declared.leaf.Leaf.{Leaf};
-    ghost use Rattle.rds_tree.specs.Held.{leaves_in};
+    ghost use Rattle.rds_tree.specs.Forms.{leaves_kept};
 
     ghost Value = { List Leaf };
 
-    ghost view = { λ l. leaves_in l.regs l.elems };
+    ghost view = { λ l. leaves_kept l.form };
 }
 
 impl Leaves {
     /// No leaf. Takes no memory.
-    pub fn new(alloc: Global) -> Leaves
+    pub fn new() -> Leaves
         ensures { result ≡ [] }
     {
-        Leaves {
-            regs: ByValue::new(alloc),
-            elems: ByValue::new(alloc),
-        }
+        Leaves { form: Form::Empty }
     }
 
-    /// One leaf.
-    pub fn one(alloc: Global, leaf: Leaf) -> Result<Leaves, Fault>
-        ensures ok { IfOk result (λ leaves. leaves ≡ leaf ∷ []) }
-        ensures memory { IfErr result (λ fault. fault ≡ Memory) }
+    /// One leaf. Takes no memory.
+    pub fn one(leaf: Leaf) -> Leaves
+        ensures { result ≡ leaf ∷ [] }
     {
-        match leaf.kind {
-            Kind::Reg => Ok(Leaves {
-                regs: ByValue::one(alloc, leaf.value, leaf.dot)?,
-                elems: ByValue::new(alloc),
-            }),
-            Kind::Elem => Ok(Leaves {
-                regs: ByValue::new(alloc),
-                elems: ByValue::one(alloc, leaf.value, leaf.dot)?,
-            }),
+        Leaves {
+            form: Form::Alone(leaf),
         }
     }
 
@@ -71,9 +70,17 @@ impl Leaves {
         ensures err { OnErr result (self.new ≡ self.old) }
         ensures memory { IfErr result (λ fault. fault ≡ Memory) }
     {
-        match leaf.kind {
-            Kind::Reg => self.regs.insert(alloc, leaf.value, leaf.dot),
-            Kind::Elem => self.elems.insert(alloc, leaf.value, leaf.dot),
+        match &mut self.form {
+            Form::Empty => {
+                self.form = Form::Alone(leaf);
+                Ok(())
+            }
+            Form::Alone(first) => {
+                let several = both(alloc, first, leaf)?;
+                self.form = Form::Several(several);
+                Ok(())
+            }
+            Form::Several(leaves) => leaves.insert(alloc, leaf),
         }
     }
 
@@ -81,15 +88,18 @@ impl Leaves {
     pub fn is_empty(&self) -> bool
         ensures { result ≡ not (is_full self.now) }
     {
-        self.regs.is_empty() && self.elems.is_empty()
+        match &self.form {
+            Form::Empty => true,
+            Form::Alone(_) => false,
+            Form::Several(leaves) => leaves.is_empty(),
+        }
     }
 
     /// Leaves none. Takes no memory.
     pub fn clear(&mut self)
         ensures { self.new ≡ [] }
     {
-        self.regs.clear();
-        self.elems.clear();
+        self.form = Form::Empty;
     }
 
     /// Takes out what a command covers here, but a dot that is to stay. Takes no memory.
@@ -97,13 +107,14 @@ impl Leaves {
         requires { is_deep command.now ≡ false }
         ensures { IsLess (covering command.now but) self.old self.new }
     {
-        match command {
-            Command::Set(_, _) => self.regs.cut(Which::AllBut(but)),
-            Command::Add(_, value) => self.elems.cut_value(value, Which::AllBut(but)),
-            Command::Del(_, value) => self.elems.cut_value(value, Which::AllBut(but)),
-            Command::Clear(_) => self.clear(),
-            Command::Inc(_, _) => {}
-            Command::Dec(_, _) => {}
+        match &mut self.form {
+            Form::Empty => {}
+            Form::Alone(leaf) => {
+                if leaf.goes(command, but) {
+                    self.form = Form::Empty;
+                }
+            }
+            Form::Several(leaves) => leaves.cut_covered(command, but),
         }
     }
 
@@ -111,9 +122,14 @@ impl Leaves {
     pub fn cut_leaf(&mut self, kind: Kind, value: &Scalar, dot: Dot)
         ensures { IsLess (is_leaf kind value.now dot) self.old self.new }
     {
-        match kind {
-            Kind::Reg => self.regs.cut_value(value, Which::One(dot)),
-            Kind::Elem => self.elems.cut_value(value, Which::One(dot)),
+        match &mut self.form {
+            Form::Empty => {}
+            Form::Alone(leaf) => {
+                if leaf.is(kind, value, dot) {
+                    self.form = Form::Empty;
+                }
+            }
+            Form::Several(leaves) => leaves.cut_leaf(kind, value, dot),
         }
     }
 
@@ -123,13 +139,14 @@ impl Leaves {
         ensures { (d : Dot) → map.get lives.new d
             ≡ killed_by (but_for but (among_leaves (covered_leaf command.now) self.now)) d (map.get lives.old d) }
     {
-        match command {
-            Command::Set(_, _) => self.regs.kill(lives, but),
-            Command::Add(_, value) => self.elems.kill_value(value, lives, but),
-            Command::Del(_, value) => self.elems.kill_value(value, lives, but),
-            Command::Clear(_) => {}
-            Command::Inc(_, _) => {}
-            Command::Dec(_, _) => {}
+        match &self.form {
+            Form::Empty => {}
+            Form::Alone(leaf) => {
+                if leaf.is_covered(command) {
+                    kill_dot(lives, leaf.dot, but);
+                }
+            }
+            Form::Several(leaves) => leaves.kill_covered(command, lives, but),
         }
     }
 
@@ -138,8 +155,11 @@ impl Leaves {
         ensures { (d : Dot) → map.get lives.new d ≡ killed_by (but_for but (among_leaves
             (λ l. true) self.now)) d (map.get lives.old d) }
     {
-        self.regs.kill(lives, but);
-        self.elems.kill(lives, but);
+        match &self.form {
+            Form::Empty => {}
+            Form::Alone(leaf) => kill_dot(lives, leaf.dot, but),
+            Form::Several(leaves) => leaves.kill(lives, but),
+        }
     }
 
     /// Puts the dots that a command covers here behind others.
@@ -149,13 +169,15 @@ impl Leaves {
             (IsGathered (among_leaves (covered_leaf command.now) self.now) dots.old.items dots.new.items) }
         ensures memory { IfErr result (λ fault. fault ≡ Memory) }
     {
-        match command {
-            Command::Set(_, _) => self.regs.gather(dots),
-            Command::Add(_, value) => self.elems.gather_value(value, dots),
-            Command::Del(_, value) => self.elems.gather_value(value, dots),
-            Command::Clear(_) => Ok(()),
-            Command::Inc(_, _) => Ok(()),
-            Command::Dec(_, _) => Ok(()),
+        match &self.form {
+            Form::Empty => Ok(()),
+            Form::Alone(leaf) => {
+                if leaf.is_covered(command) {
+                    dots.push(leaf.dot)?;
+                }
+                Ok(())
+            }
+            Form::Several(leaves) => leaves.gather_covered(command, dots),
         }
     }
 
@@ -164,8 +186,14 @@ impl Leaves {
         ensures ok { OnOk result (IsGathered (among_leaves (λ l. true) self.now) dots.old.items dots.new.items) }
         ensures memory { IfErr result (λ fault. fault ≡ Memory) }
     {
-        self.regs.gather(dots)?;
-        self.elems.gather(dots)
+        match &self.form {
+            Form::Empty => Ok(()),
+            Form::Alone(leaf) => {
+                dots.push(leaf.dot)?;
+                Ok(())
+            }
+            Form::Several(leaves) => leaves.gather(dots),
+        }
     }
 
     /// The values of a kind in ascending order, each once.
@@ -173,9 +201,32 @@ impl Leaves {
         ensures ok { IfOk result (λ values. values.items ≡ values_once (values_in kind self.now)) }
         ensures memory { IfErr result (λ fault. fault ≡ Memory) }
     {
-        match kind {
-            Kind::Reg => self.regs.values(alloc),
-            Kind::Elem => self.elems.values(alloc),
+        match &self.form {
+            Form::Empty => Ok(Vec::new(alloc)),
+            Form::Alone(leaf) => value_of(alloc, leaf, kind),
+            Form::Several(leaves) => leaves.values(alloc, kind),
         }
     }
+}
+
+/// Two leaves by their kind and value: a copy of the first, and the second.
+fn both(alloc: Global, first: &Leaf, second: Leaf) -> Result<ByKind, Fault>
+    ensures ok { IfOk result (AddsLeaf (first.now ∷ []) second) }
+    ensures memory { IfErr result (λ fault. fault ≡ Memory) }
+{
+    let mut leaves = ByKind::one(alloc, first.copy(alloc)?)?;
+    leaves.insert(alloc, second)?;
+    Ok(leaves)
+}
+
+/// The leaf's value, if it is of the kind.
+fn value_of(alloc: Global, leaf: &Leaf, kind: Kind) -> Result<Vec<Scalar>, Fault>
+    ensures ok { IfOk result (λ values. values.items ≡ values_once (values_in kind (leaf.now ∷ []))) }
+    ensures memory { IfErr result (λ fault. fault ≡ Memory) }
+{
+    let mut values = Vec::new(alloc);
+    if leaf.is_kind(kind) {
+        values.push(leaf.value.copy(alloc)?)?;
+    }
+    Ok(values)
 }

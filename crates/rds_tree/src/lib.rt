@@ -1,6 +1,7 @@
 //! What a document shows at a path, found over a nested tree of its live dots.
 #![tactic(auto)]
 
+mod by_kind;
 mod by_value;
 mod counting;
 mod covered;
@@ -13,6 +14,7 @@ mod indexing;
 mod laws;
 mod leaf;
 mod leaves;
+mod marking;
 mod node;
 mod one_key;
 mod pick;

@@ -59,7 +59,7 @@ impl Node {
         ensures { result ≡ [] }
     {
         Node {
-            leaves: Leaves::new(alloc),
+            leaves: Leaves::new(),
             children: BTreeMap::new(alloc),
         }
     }
@@ -71,9 +71,8 @@ impl Node {
     {
         match path.split_first() {
             None => {
-                let leaves = Leaves::one(alloc, leaf)?;
                 Ok(Node {
-                    leaves,
+                    leaves: Leaves::one(leaf),
                     children: BTreeMap::new(alloc),
                 })
             }
@@ -81,7 +80,7 @@ impl Node {
                 let child = Node::single(alloc, rest, leaf)?;
                 let children = child_map(alloc, key, child)?;
                 Ok(Node {
-                    leaves: Leaves::new(alloc),
+                    leaves: Leaves::new(),
                     children,
                 })
             }

@@ -1,34 +1,41 @@
 //! A delta that is joined into a replica and into the tree of its live dots.
 ghost use Rattle.std.specs.Prelude.{◌≡◌, max, Err, IfOk, IfErr, OnOk, OnErr, length};
 ghost use Rattle.std.specs.FinMap as map;
+ghost use Rattle.rds_counts.specs.RowsOf.{count_rows};
 ghost use Rattle.rds_life.specs.Life.{Lived, live_rows};
 ghost use Rattle.rds_names.specs.declared.fault.Fault.TheVariants.{Memory};
 ghost use Rattle.rds_state.specs.Fits.{Fits};
+ghost use Rattle.rds_state.specs.Mark.{mark_of, plus};
 ghost use Rattle.rds_state.specs.Results.{TakesDelta, TakesDeltaWith};
 ghost use Rattle.rds_state.specs.Value.{coordinates};
 ghost use Rattle.rds_tree.specs.Growing.{Holds};
+ghost use Rattle.rds_tree.specs.Marks.{marks_in, marks_of, HasRows, IsMoved};
 ghost use Rattle.rds_tree.specs.Taken.{is_unseen, rows_dead, rows_unseen, AreSameBut, IsWith, IsWithout};
 
 use crate::document::add_leaf;
+use crate::marking::{marks_in, marks_of, moved, rows_of};
 use crate::node::Node;
 use crate::pick::OneLeaf;
 use rds_dots::{Dot, DotSet};
 use rds_life::{LiveRows, Lives, Rank};
 use rds_names::{Entry, Fault, Roster};
-use rds_state::{Replica, State};
+use rds_state::{Mark, Replica, State};
 use std::alloc::Global;
 
-/// Joins a delta into the replica and its tree. In the tree only the leaves of dots are touched that come or die. What
-/// may fail is done first, and undone without memory.
+/// Joins a delta into the replica and its tree, and keeps the mark of its state. In the tree only the leaves of dots are
+/// touched that come or die, and the mark goes with these. What may fail is done first, and undone without memory.
 pub fn take<S: DotSet>(
     alloc: Global,
     replica: &mut Replica<S>,
     tree: &mut Node,
+    mark: &mut Mark,
     delta: &State<S>,
 ) -> Result<(), Fault>
     requires fits { Fits (length replica.old.roster.names) (coordinates delta.now) }
     requires holds { Holds (live_rows replica.old.state.lives) tree.old }
+    requires marked { mark.old ≡ mark_of replica.old.state }
     ensures holds { Holds (live_rows replica.new.state.lives) tree.new }
+    ensures marked { mark.new ≡ mark_of replica.new.state }
     ensures taken { TakesDelta replica.old delta.now result replica.new }
 {
     if delta.components() == 0 {
@@ -37,11 +44,13 @@ pub fn take<S: DotSet>(
     replica.may_take(delta)?;
     let change = Change::by(alloc, replica.state().lives(), delta.lives())?;
     change.begin(alloc, tree)?;
+    let before = counted(replica, delta);
     if let Err(fault) = replica.take(delta) {
         change.undo(tree);
         return Err(fault);
     }
     change.finish(tree);
+    *mark = change.marked(*mark, before, counted(replica, delta));
     Ok(())
 }
 
@@ -50,12 +59,15 @@ pub fn take_with<S: DotSet>(
     alloc: Global,
     replica: &mut Replica<S>,
     tree: &mut Node,
+    mark: &mut Mark,
     roster: Roster,
     delta: &State<S>,
 ) -> Result<(), Fault>
     requires fits { Fits (max (length replica.old.roster.names) (length roster.names)) (coordinates delta.now) }
     requires holds { Holds (live_rows replica.old.state.lives) tree.old }
+    requires marked { mark.old ≡ mark_of replica.old.state }
     ensures holds { Holds (live_rows replica.new.state.lives) tree.new }
+    ensures marked { mark.new ≡ mark_of replica.new.state }
     ensures taken { TakesDeltaWith replica.old roster delta.now result replica.new }
 {
     if delta.components() == 0 {
@@ -64,11 +76,13 @@ pub fn take_with<S: DotSet>(
     replica.may_take_with(&roster, delta)?;
     let change = Change::by(alloc, replica.state().lives(), delta.lives())?;
     change.begin(alloc, tree)?;
+    let before = counted(replica, delta);
     if let Err(fault) = replica.take_with(roster, delta) {
         change.undo(tree);
         return Err(fault);
     }
     change.finish(tree);
+    *mark = change.marked(*mark, before, counted(replica, delta));
     Ok(())
 }
 
@@ -120,6 +134,28 @@ impl Change {
     {
         cut_leaves(tree, &self.dying);
     }
+
+    /// The mark without the dots that die and with those that come. So it is with the rows of the delta's counters, as
+    /// they are before and after it.
+    fn marked(&self, mark: Mark, before: Mark, after: Mark) -> Mark
+        ensures { IsMoved mark (plus before (marks_of self.now.dying.items))
+            (plus after (marks_of self.now.coming.items)) result }
+    {
+        let less = before.plus(marks_of(&self.dying));
+        let more = after.plus(marks_of(&self.coming));
+        moved(mark, less, more)
+    }
+}
+
+/// The marks of the replica's rows under the keys and replicas of the delta's counters, added up.
+fn counted<S: DotSet>(replica: &Replica<S>, delta: &State<S>) -> Mark
+    ensures mark { result ≡ marks_in (count_rows replica.now.state.counts) (count_rows delta.now.counts) }
+    ensures here { HasRows replica.now.state.counts }
+    ensures there { HasRows delta.now.counts }
+{
+    let here = rows_of(replica.state().counts());
+    let there = rows_of(delta.counts());
+    marks_in(here, there)
 }
 
 /// Adds the leaves of live dots to the tree, as far as memory goes.

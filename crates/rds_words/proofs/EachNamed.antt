@@ -9,6 +9,7 @@ use Rattle.rds_words.specs.declared.tasks.EditWords.TheVariants.{Set, Add, Del, 
 use Rattle.rds_words.specs.declared.tasks.ValueWord.TheVariants as word
 use Rattle.rds_words.specs.Commands.{node_app}
 use Rattle.rds_words.specs.Entered.{Names}
+use Rattle.rds_words.specs.Raw.{token_words}
 use Rattle.rds_words.specs.Task.{words_in, words_of}
 use Rattle.rds_words.specs.Written.{AreData, HasNames, IsWritable, words_dashed, words_written}
 use Rattle.rds_words.proofs.CommandWords.{node_on_words}
@@ -61,9 +62,10 @@ pub status_dashed : (name file : Text) → Names (name ∷ codes "status" ∷ co
 unfolding node_on_words
 status_dashed name file = (refl, refl)
 
-pub sync_dashed : (name file addr timeout : Text) → Names (name ∷ codes "sync" ∷ (codes "--timeout=" ++ timeout) ∷ codes "--" ∷ file ∷ addr ∷ []) (codes "sync" ∷ file ∷ addr ∷ timeout ∷ [])
+pub sync_dashed : (name file addr timeout : Text) (token : Option Text) → Names (name ∷ codes "sync" ∷ (codes "--timeout=" ++ timeout) ∷ (token_words token ++ codes "--" ∷ file ∷ addr ∷ [])) (codes "sync" ∷ file ∷ addr ∷ timeout ∷ token_words token)
 unfolding node_on_words
-sync_dashed name file addr timeout = (refl, refl)
+sync_dashed name file addr timeout None = (refl, refl)
+sync_dashed name file addr timeout (Some token) = (refl, refl)
 
 pub sync_alone_dashed : (name file addr : Text) → Names (name ∷ codes "sync" ∷ codes "--" ∷ file ∷ addr ∷ []) (codes "sync" ∷ file ∷ addr ∷ codes "60" ∷ [])
 unfolding node_on_words
@@ -383,10 +385,10 @@ task_dashed name (Show file path) has = show_dashed name file.now path.now
 task_dashed name (ShowPretty file path) has = pretty_dashed name file.now path.now
 task_dashed name (Compact file) has = compact_dashed name file.now
 task_dashed name (Status file) has = status_dashed name file.now
-task_dashed name (Sync words) has = sync_dashed name words.file.now words.addr.now words.timeout.now
+task_dashed name (Sync words) has = sync_dashed name words.file.now words.addr.now words.timeout.now (option_map (λ t. t.now) words.token_file)
 task_dashed name (Pair first second) has = pair_dashed name first.now second.now
 task_dashed name (Serve words) has = serve_dashed name words.file.now words.addr.now words.sessions.now words.timeout.now
-task_dashed name (Run words) has = run_dashed words.http.now words.every.now (map (λ p. p.now) words.peers.items) (option_map (λ t. t.now) words.token_file) words.is_open name words.file.now
+task_dashed name (Run words) has = run_dashed words.http.now words.every.now (map (λ p. p.now) words.peers.items) (option_map (λ t. t.now) words.token_file) words.is_open words.log name words.file.now
 task_dashed name (Dump file path) has = dump_dashed name file.now path.now
 task_dashed name (Ask file) has = ask_dashed name file.now
 task_dashed name (Answer file) has = answer_dashed name file.now
@@ -433,10 +435,10 @@ task_written name (ShowPretty file path) is = pretty_named name file.now path.no
 task_written name (Compact file) is = undashed name (codes "compact") (file.now ∷ []) _ compact_met is.1 (compact_dashed name file.now)
 task_written name (Status file) is = undashed name (codes "status") (file.now ∷ []) _ status_met is.1 (status_dashed name file.now)
 task_written name (Show file path) is = undashed name (codes "show") (file.now ∷ path.now ∷ []) _ show_met is.1 (show_dashed name file.now path.now)
-task_written name (Sync words) is = sync_named name words.file.now words.addr.now words.timeout.now is.1
+task_written name (Sync words) is = sync_named name words.file.now words.addr.now words.timeout.now (option_map (λ t. t.now) words.token_file) is.1
 task_written name (Pair first second) is = undashed name (codes "pair") (first.now ∷ second.now ∷ []) _ pair_met is.1 (pair_dashed name first.now second.now)
 task_written name (Serve words) is = serve_named name words.file.now words.addr.now words.sessions.now words.timeout.now is.1
-task_written name (Run words) is = run_named words.http.now words.every.now (map (λ p. p.now) words.peers.items) (option_map (λ t. t.now) words.token_file) words.is_open name words.file.now is.1
+task_written name (Run words) is = run_named words.http.now words.every.now (map (λ p. p.now) words.peers.items) (option_map (λ t. t.now) words.token_file) words.is_open words.log name words.file.now is.1
 task_written name (Dump file path) is = undashed name (codes "dump") (file.now ∷ path.now ∷ []) _ dump_met is.1 (dump_dashed name file.now path.now)
 task_written name (Ask file) is = undashed name (codes "ask") (file.now ∷ []) _ ask_met is.1 (ask_dashed name file.now)
 task_written name (Answer file) is = undashed name (codes "answer") (file.now ∷ []) _ answer_met is.1 (answer_dashed name file.now)

@@ -4,7 +4,7 @@ use Rattle.std.specs.Prelude.{fold, if◌then◌else◌, option_and_then, option
 use Rattle.clap.specs.Words.{Row, Shape, Text}
 use Rattle.clap.specs.Walk.{Waiting, arg_by_index, arg_by_long, has_long, has_short, idle, option, positional, with_default}
 use Rattle.rds_words.specs.Commands.{file_rule}
-use Rattle.rds_words.specs.Raw.{access_words, changed_words, init_words, peer_words, raw_words}
+use Rattle.rds_words.specs.Raw.{access_words, changed_words, init_words, log_words, peer_words, raw_words, token_words}
 use Rattle.rds_words.specs.Task.{changed_words_in, init_words_by, named_words, words_in}
 use Rattle.rds_words.specs.Typed.{many_values, no_value, one_value}
 use Rattle.rds_words.specs.WithOptions.{del_with, entry_with, get_with, init_with, run_with, serve_with, show_with, sync_with}
@@ -64,6 +64,9 @@ token_option = record { bare = codes "token-file"; id = codes "TOKEN_FILE"; form
 
 abbrev pub open_option : Known
 open_option = record { bare = codes "open"; id = codes "OPEN"; form = no_value; reading = flag_reading }
+
+abbrev pub log_option : Known
+log_option = record { bare = codes "log"; id = codes "LOG"; form = no_value; reading = flag_reading }
 
 -- texts, where each is there
 abbrev joined : List (Option Text) → Option (List Text)
@@ -479,7 +482,7 @@ sync_plan = record {
   required = codes "FILE" ∷ codes "ADDR" ∷ [];
   optional = [];
   more = None;
-  known = timeout_option ∷ [];
+  known = timeout_option ∷ token_option ∷ [];
   with_options = sync_with;
 }
 
@@ -501,15 +504,29 @@ sync_timeout = record {
   valued_other = λ h v is. refused_first (settles sync_shape h) _ is;
 }
 
-sync_long : (name : Text) → ((o : Chosen (timeout_option ∷ [])) × (name ≡ o.0.bare)) ⊎ IsRequest sync_shape (arg_by_long sync_shape.rules name)
+sync_token : IsValued sync_shape one_value (codes "--token-file") (codes "TOKEN_FILE")
+unfolding IsRefused held node_on_words
+sync_token = record {
+  usage = once_by sync_shape text_reading (codes "TOKEN_FILE") (λ rows v. refl) (λ rows v. refl);
+  bare = λ rows. tt;
+  at_free = at_both (IsValuedAt sync_shape (codes "--token-file") (codes "TOKEN_FILE")) (record { waits = λ h position. refl; turn = λ h position. refl; valued = λ h position v. refl; valued_turn = λ h position v. refl }) (record { waits = λ h position. refl; turn = λ h position. refl; valued = λ h position v. refl; valued_turn = λ h position v. refl });
+  other = λ h is. is;
+  takes = λ rows position v are.
+      let h = held rows (Some (codes "TOKEN_FILE", [])) in
+      let waiting = option (codes "TOKEN_FILE") in
+      (data_next sync_shape.rules h waiting position v are refl, data_turn sync_shape h waiting position v are refl);
+  valued_other = λ h v is. refused_first (settles sync_shape h) _ is;
+}
+
+sync_long : (name : Text) → ((o : Chosen sync_plan.known) × (name ≡ o.0.bare)) ⊎ IsRequest sync_shape (arg_by_long sync_shape.rules name)
 unfolding IsRefused node_on_words
 sync_long name =
-    found_other sync_shape (λ a. has_long a name) ((o : Chosen (timeout_option ∷ [])) × (name ≡ o.0.bare)) sync_shape.rules
-    (inl refl, (inl refl, (inr (inr (λ e. ((timeout_option, inl refl), is_name (codes "timeout") name e))), (inr (inl (refl, λ rows. tt)), tt))))
+    found_other sync_shape (λ a. has_long a name) ((o : Chosen sync_plan.known) × (name ≡ o.0.bare)) sync_shape.rules
+    (inl refl, (inl refl, (inr (inr (λ e. ((timeout_option, inl refl), is_name (codes "timeout") name e))), (inr (inr (λ e. ((token_option, inr (inl refl)), is_name (codes "token-file") name e))), (inr (inl (refl, λ rows. tt)), tt)))))
 
 sync_short : HasShortRequests sync_shape
 unfolding IsRefused node_on_words
-sync_short = short_by sync_shape (λ character. (inl refl, (inl refl, (inr (inr is_none), (inr (inl (refl, λ rows. tt)), tt)))))
+sync_short = short_by sync_shape (λ character. (inl refl, (inl refl, (inr (inr is_none), (inr (inr is_none), (inr (inl (refl, λ rows. tt)), tt))))))
 
 sync_reads : (rows : List Row) (ws : List Text) (vs : Text → List Text) → AreAt (ids_of sync_plan) (sync_plan.more) ws rows → Fits (sync_plan.required) (sync_plan.optional) (sync_plan.more) ws
     → AreChosen (sync_plan.known) vs rows → AreTrue (sync_plan.known) vs
@@ -517,23 +534,28 @@ sync_reads : (rows : List Row) (ws : List Text) (vs : Text → List Text) → Ar
 unfolding node_on_words
 sync_reads rows ([]) vs stands fits chosen are = absurd fits
 sync_reads rows (a ∷ []) vs stands fits chosen are = absurd fits
-sync_reads rows (a ∷ b ∷ []) vs stands fits chosen are = λ i. named_words (codes "sync") (joined (first_there sync_shape.rules rows (codes "FILE") a text_reading stands.0 i ∷ first_there sync_shape.rules rows (codes "ADDR") b text_reading stands.1.0 i ∷ value_given sync_shape.rules rows (codes "TIMEOUT") (codes "60") (vs (codes "--timeout")) (inr (refl, inr (refl, inl (refl, refl)))) (chosen timeout_option (inl refl)) i ∷ []))
+sync_reads rows (a ∷ b ∷ []) vs stands fits chosen are =
+    let file_is = first_there sync_shape.rules rows (codes "FILE") a text_reading stands.0 in
+    let addr_is = first_there sync_shape.rules rows (codes "ADDR") b text_reading stands.1.0 in
+    let timeout_is = value_given sync_shape.rules rows (codes "TIMEOUT") (codes "60") (vs (codes "--timeout")) (inr (refl, inr (refl, inl (refl, refl)))) (chosen timeout_option (inl refl)) in
+    let token_is = value_there sync_shape.rules rows (codes "TOKEN_FILE") (vs (codes "--token-file")) (inl refl, (inl refl, (inl refl, (inr refl, (inl refl, tt))))) (chosen token_option (inr (inl refl))) in
+    λ i. named_words (codes "sync") (option_map (λ words. words ++ token_words (token_is i)) (joined (file_is i ∷ addr_is i ∷ timeout_is i ∷ [])))
 sync_reads rows (a ∷ b ∷ c ∷ ws) vs stands fits chosen are = absurd fits
 
 pub sync_takes : Takes sync_plan
 unfolding IsRefused held node_on_words
 sync_takes = record {
   is = sync_is;
-  options = (inl (refl, refl, sync_timeout), tt);
-  told = told_by sync_shape (timeout_option ∷ []) sync_long sync_short;
+  options = (inl (refl, refl, sync_timeout), (inl (refl, refl, sync_token), tt));
+  told = told_by sync_shape sync_plan.known sync_long sync_short;
   places = (record { rule = unwrap_or (arg_by_index sync_shape.rules 1) file_rule; is = refl; single = refl; lone = refl; short = refl; called = refl; place_then = refl }, once_by sync_shape text_reading (codes "FILE") (λ rows v. refl) (λ rows v. refl), (record { rule = unwrap_or (arg_by_index sync_shape.rules 2) file_rule; is = refl; single = refl; lone = refl; short = refl; called = refl; place_then = refl }, once_by sync_shape text_reading (codes "ADDR") (λ rows v. refl) (λ rows v. refl), λ h. tt));
   places_apart = refl;
   options_apart = refl;
   ids_apart = refl;
   names_apart = refl;
   checks = λ rows. refl;
-  quiet = (inl refl, (inl refl, (inr refl, (inl refl, tt))));
-  no_default = ((inr refl, (inl refl, (inl refl, (inl refl, tt)))), ((inl refl, (inr refl, (inl refl, (inl refl, tt)))), tt));
+  quiet = (inl refl, (inl refl, (inr refl, (inl refl, (inl refl, tt)))));
+  no_default = ((inr refl, (inl refl, (inl refl, (inl refl, (inl refl, tt))))), ((inl refl, (inr refl, (inl refl, (inl refl, (inl refl, tt))))), tt));
   listed = refl;
   fits = fits_two (codes "FILE") (codes "ADDR") [];
   taken = taken_two (codes "FILE") (codes "ADDR") [];
@@ -639,7 +661,7 @@ run_plan = record {
   required = codes "FILE" ∷ [];
   optional = [];
   more = None;
-  known = http_option ∷ peers_option ∷ every_option ∷ token_option ∷ open_option ∷ [];
+  known = http_option ∷ peers_option ∷ every_option ∷ token_option ∷ open_option ∷ log_option ∷ [];
   with_options = run_with;
 }
 
@@ -707,15 +729,19 @@ run_open : IsFlag run_shape flag_reading (codes "--open") (codes "OPEN")
 unfolding IsRefused node_on_words
 run_open = record { at_free = at_both (IsFlagAt run_shape flag_reading (codes "--open") (codes "OPEN")) (record { uses = λ h position. refl; turn = λ h position. refl }) (record { uses = λ h position. refl; turn = λ h position. refl }); other = λ h is. refused_first (settles run_shape h) _ is; valued = λ v h skip. tt }
 
+run_log : IsFlag run_shape flag_reading (codes "--log") (codes "LOG")
+unfolding IsRefused node_on_words
+run_log = record { at_free = at_both (IsFlagAt run_shape flag_reading (codes "--log") (codes "LOG")) (record { uses = λ h position. refl; turn = λ h position. refl }) (record { uses = λ h position. refl; turn = λ h position. refl }); other = λ h is. refused_first (settles run_shape h) _ is; valued = λ v h skip. tt }
+
 run_long : (name : Text) → ((o : Chosen run_plan.known) × (name ≡ o.0.bare)) ⊎ IsRequest run_shape (arg_by_long run_shape.rules name)
 unfolding IsRefused node_on_words
 run_long name =
     found_other run_shape (λ a. has_long a name) ((o : Chosen run_plan.known) × (name ≡ o.0.bare)) run_shape.rules
-    (inl refl, (inr (inr (λ e. ((http_option, inl refl), is_name (codes "http") name e))), (inr (inr (λ e. ((peers_option, inr (inl refl)), is_name (codes "peer") name e))), (inr (inr (λ e. ((every_option, inr (inr (inl refl))), is_name (codes "every") name e))), (inr (inr (λ e. ((token_option, inr (inr (inr (inl refl)))), is_name (codes "token-file") name e))), (inr (inr (λ e. ((open_option, inr (inr (inr (inr (inl refl))))), is_name (codes "open") name e))), (inr (inl (refl, λ rows. tt)), tt)))))))
+    (inl refl, (inr (inr (λ e. ((http_option, inl refl), is_name (codes "http") name e))), (inr (inr (λ e. ((peers_option, inr (inl refl)), is_name (codes "peer") name e))), (inr (inr (λ e. ((every_option, inr (inr (inl refl))), is_name (codes "every") name e))), (inr (inr (λ e. ((token_option, inr (inr (inr (inl refl)))), is_name (codes "token-file") name e))), (inr (inr (λ e. ((open_option, inr (inr (inr (inr (inl refl))))), is_name (codes "open") name e))), (inr (inr (λ e. ((log_option, inr (inr (inr (inr (inr (inl refl)))))), is_name (codes "log") name e))), (inr (inl (refl, λ rows. tt)), tt))))))))
 
 run_short : HasShortRequests run_shape
 unfolding IsRefused node_on_words
-run_short = short_by run_shape (λ character. (inl refl, (inr (inr is_none), (inr (inr is_none), (inr (inr is_none), (inr (inr is_none), (inr (inr is_none), (inr (inl (refl, λ rows. tt)), tt))))))))
+run_short = short_by run_shape (λ character. (inl refl, (inr (inr is_none), (inr (inr is_none), (inr (inr is_none), (inr (inr is_none), (inr (inr is_none), (inr (inr is_none), (inr (inl (refl, λ rows. tt)), tt)))))))))
 
 run_reads : (rows : List Row) (ws : List Text) (vs : Text → List Text) → AreAt (ids_of run_plan) (run_plan.more) ws rows → Fits (run_plan.required) (run_plan.optional) (run_plan.more) ws
     → AreChosen (run_plan.known) vs rows → AreTrue (run_plan.known) vs
@@ -725,18 +751,19 @@ run_reads rows ([]) vs stands fits chosen are = absurd fits
 run_reads rows (a ∷ []) vs stands fits chosen are =
     let file_is = first_there run_shape.rules rows (codes "FILE") a text_reading stands.0 in
     let http_is = value_given run_shape.rules rows (codes "HTTP") (codes "127.0.0.1:7780") (vs (codes "--http")) (inr (refl, inl (refl, refl))) (chosen http_option (inl refl)) in
-    let peers_are = values_there run_shape.rules rows (codes "PEERS") (vs (codes "--peer")) (inl refl, (inl refl, (inr refl, (inl refl, (inl refl, (inl refl, (inl refl, tt))))))) (chosen peers_option (inr (inl refl))) in
+    let peers_are = values_there run_shape.rules rows (codes "PEERS") (vs (codes "--peer")) (inl refl, (inl refl, (inr refl, (inl refl, (inl refl, (inl refl, (inl refl, (inl refl, tt)))))))) (chosen peers_option (inr (inl refl))) in
     let every_is = value_given run_shape.rules rows (codes "EVERY") (codes "10") (vs (codes "--every")) (inr (refl, inr (refl, inr (refl, inl (refl, refl))))) (chosen every_option (inr (inr (inl refl)))) in
-    let token_is = value_there run_shape.rules rows (codes "TOKEN_FILE") (vs (codes "--token-file")) (inl refl, (inl refl, (inl refl, (inl refl, (inr refl, (inl refl, (inl refl, tt))))))) (chosen token_option (inr (inr (inr (inl refl))))) in
+    let token_is = value_there run_shape.rules rows (codes "TOKEN_FILE") (vs (codes "--token-file")) (inl refl, (inl refl, (inl refl, (inl refl, (inr refl, (inl refl, (inl refl, (inl refl, tt)))))))) (chosen token_option (inr (inr (inr (inl refl))))) in
     let open_is = flag_given run_shape.rules rows (codes "OPEN") (vs (codes "--open")) (inr (refl, inr (refl, inr (refl, inr (refl, inr (refl, inl (refl, refl))))))) (are open_option (inr (inr (inr (inr (inl refl))))) refl) (chosen open_option (inr (inr (inr (inr (inl refl)))))) in
-    λ i. named_words (codes "run") (option_map (λ words. words ++ (peer_words (peers_are i) ++ access_words (token_is i) (open_is i))) (joined (file_is i ∷ http_is i ∷ every_is i ∷ [])))
+    let log_is = flag_given run_shape.rules rows (codes "LOG") (vs (codes "--log")) (inr (refl, inr (refl, inr (refl, inr (refl, inr (refl, inr (refl, inl (refl, refl)))))))) (are log_option (inr (inr (inr (inr (inr (inl refl)))))) refl) (chosen log_option (inr (inr (inr (inr (inr (inl refl))))))) in
+    λ i. named_words (codes "run") (option_map (λ words. words ++ (peer_words (peers_are i) ++ (access_words (token_is i) (open_is i) ++ log_words (log_is i)))) (joined (file_is i ∷ http_is i ∷ every_is i ∷ [])))
 run_reads rows (a ∷ b ∷ ws) vs stands fits chosen are = absurd fits
 
 pub run_takes : Takes run_plan
 unfolding IsRefused held node_on_words
 run_takes = record {
   is = run_is;
-  options = (inl (refl, refl, run_http), (inl (refl, refl, run_peers), (inl (refl, refl, run_every), (inl (refl, refl, run_token), (inr (refl, run_open), tt)))));
+  options = (inl (refl, refl, run_http), (inl (refl, refl, run_peers), (inl (refl, refl, run_every), (inl (refl, refl, run_token), (inr (refl, run_open), (inr (refl, run_log), tt))))));
   told = told_by run_shape run_plan.known run_long run_short;
   places = (record { rule = unwrap_or (arg_by_index run_shape.rules 1) file_rule; is = refl; single = refl; lone = refl; short = refl; called = refl; place_then = refl }, once_by run_shape text_reading (codes "FILE") (λ rows v. refl) (λ rows v. refl), λ h. tt);
   places_apart = refl;
@@ -744,8 +771,8 @@ run_takes = record {
   ids_apart = refl;
   names_apart = refl;
   checks = λ rows. refl;
-  quiet = (inl refl, (inr refl, (inl refl, (inr refl, (inl refl, (inr refl, (inl refl, tt)))))));
-  no_default = ((inr refl, (inl refl, (inl refl, (inl refl, (inl refl, (inl refl, (inl refl, tt))))))), tt);
+  quiet = (inl refl, (inr refl, (inl refl, (inr refl, (inl refl, (inr refl, (inr refl, (inl refl, tt))))))));
+  no_default = ((inr refl, (inl refl, (inl refl, (inl refl, (inl refl, (inl refl, (inl refl, (inl refl, tt)))))))), tt);
   listed = refl;
   fits = fits_one (codes "FILE") [] [];
   taken = taken_one (codes "FILE") [] [];

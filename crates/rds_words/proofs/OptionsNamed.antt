@@ -7,7 +7,7 @@ use Rattle.std.proofs.lemmas.List.{append-nil}
 use Rattle.clap.specs.Words.{Text}
 use Rattle.rds_names.specs.Conditions.{and_left, and_right}
 use Rattle.rds_words.specs.Entered.{Names}
-use Rattle.rds_words.specs.Raw.{access_words, peer_words}
+use Rattle.rds_words.specs.Raw.{access_words, log_words, peer_words, token_words}
 use Rattle.rds_words.specs.Typed.{AreAllowed, AreTyped, AtMostOne, HaveOptionsOf, IsRest, Options, Part, typed_flag, typed_option, typed_word, values_among, words_among}
 use Rattle.rds_words.specs.WithOptions.{is_there}
 use Rattle.rds_words.specs.Written.{AreData, is_data}
@@ -142,11 +142,22 @@ timeout_alone name file addr timeout are =
     (addr ∷ codes "--timeout" ∷ timeout ∷ [], refl, (and_left (is_data file) _ are), (codes "--timeout" ∷ timeout ∷ [], refl, (and_left (is_data addr) _ (and_right (is_data file) _ are)), ([], inl (refl, (and_left (is_data timeout) _ (and_right (is_data addr) _ (and_right (is_data file) _ are)))), refl)))
     (refl, tt) (tt, (tt, tt)) refl refl
 
-pub sync_named : (name file addr timeout : Text) → AreData (file ∷ addr ∷ timeout ∷ []) → Names (name ∷ codes "sync" ∷ file ∷ addr ∷ codes "--timeout" ∷ timeout ∷ []) (codes "sync" ∷ file ∷ addr ∷ timeout ∷ [])
-sync_named name file addr timeout are =
+pub sync_named : (name file addr timeout : Text) (token : Option Text) → AreData (file ∷ addr ∷ timeout ∷ []) → Names (name ∷ codes "sync" ∷ file ∷ addr ∷ codes "--timeout" ∷ timeout ∷ token_words token) (codes "sync" ∷ file ∷ addr ∷ timeout ∷ token_words token)
+sync_named name file addr timeout None are =
     typed_names sync_plan sync_takes name (file ∷ addr ∷ codes "--timeout" ∷ timeout ∷ []) (file ∷ addr ∷ timeout ∷ []) (typed_word file ∷ typed_word addr ∷ typed_option (codes "--timeout") timeout ∷ [])
     (addr ∷ codes "--timeout" ∷ timeout ∷ [], refl, (and_left (is_data file) _ are), (codes "--timeout" ∷ timeout ∷ [], refl, (and_left (is_data addr) _ (and_right (is_data file) _ are)), ([], inl (refl, (and_left (is_data timeout) _ (and_right (is_data addr) _ (and_right (is_data file) _ are)))), refl)))
-    (refl, tt) (tt, tt) refl refl
+    (refl, tt) (tt, (tt, tt)) refl refl
+sync_named name file addr timeout (Some token) are =
+    let last = (codes "--token-file=" ++ token) ∷ [] in
+    typed_names sync_plan sync_takes name (file ∷ addr ∷ codes "--timeout" ∷ timeout ∷ last) (file ∷ addr ∷ timeout ∷ last) (typed_word file ∷ typed_word addr ∷ typed_option (codes "--timeout") timeout ∷ typed_option (codes "--token-file") token ∷ [])
+    (addr ∷ codes "--timeout" ∷ timeout ∷ last, refl, (and_left (is_data file) _ are), (codes "--timeout" ∷ timeout ∷ last, refl, (and_left (is_data addr) _ (and_right (is_data file) _ are)), (last, inl (refl, (and_left (is_data timeout) _ (and_right (is_data addr) _ (and_right (is_data file) _ are)))), ([], inr refl, refl))))
+    (refl, (refl, tt)) (tt, (tt, tt)) refl refl
+
+pub sync_token_alone : (name file addr token : Text) → AreData (file ∷ addr ∷ token ∷ []) → Names (name ∷ codes "sync" ∷ file ∷ addr ∷ codes "--token-file" ∷ token ∷ []) (codes "sync" ∷ file ∷ addr ∷ codes "60" ∷ (codes "--token-file=" ++ token) ∷ [])
+sync_token_alone name file addr token are =
+    typed_names sync_plan sync_takes name (file ∷ addr ∷ codes "--token-file" ∷ token ∷ []) (file ∷ addr ∷ codes "60" ∷ (codes "--token-file=" ++ token) ∷ []) (typed_word file ∷ typed_word addr ∷ typed_option (codes "--token-file") token ∷ [])
+    (addr ∷ codes "--token-file" ∷ token ∷ [], refl, (and_left (is_data file) _ are), (codes "--token-file" ∷ token ∷ [], refl, (and_left (is_data addr) _ (and_right (is_data file) _ are)), ([], inl (refl, (and_left (is_data token) _ (and_right (is_data addr) _ (and_right (is_data file) _ are)))), refl)))
+    (refl, tt) (tt, (tt, tt)) refl refl
 
 -- ---- run
 
@@ -162,24 +173,42 @@ access_parts (Some token) true = typed_option (codes "--token-file") token ∷ t
 abbrev run_options : Options
 run_options = run_plan.with_options.options
 
--- what the parts that say who may come have
-record IsAccess (token : Option Text) (open_to_all : Bool) : Type 0 where
-  typed : (rest : List Text) → AreTyped (access_parts token open_to_all) rest (access_words token open_to_all ++ rest)
-  have : HaveOptionsOf run_options (access_parts token open_to_all)
-  no_words : words_among (access_parts token open_to_all) ≡ []
-  no_http : values_among (codes "--http") (access_parts token open_to_all) ≡ []
-  no_peer : values_among (codes "--peer") (access_parts token open_to_all) ≡ []
-  no_every : values_among (codes "--every") (access_parts token open_to_all) ≡ []
-  token_once : AtMostOne (values_among (codes "--token-file") (access_parts token open_to_all))
-  open_once : AtMostOne (values_among (codes "--open") (access_parts token open_to_all))
-  token_is : slice_get (values_among (codes "--token-file") (access_parts token open_to_all)) 0 ≡ token
-  open_is : is_there (values_among (codes "--open") (access_parts token open_to_all)) ≡ open_to_all
+abbrev log_parts : Bool → List Part
+log_parts true = typed_flag (codes "--log") ∷ []
+log_parts false = []
 
-is_access : (token : Option Text) (open_to_all : Bool) → IsAccess token open_to_all
-is_access None false = record { typed = λ rest. refl; have = tt; no_words = refl; no_http = refl; no_peer = refl; no_every = refl; token_once = tt; open_once = tt; token_is = refl; open_is = refl }
-is_access None true = record { typed = λ rest. (rest, refl, refl); have = (refl, tt); no_words = refl; no_http = refl; no_peer = refl; no_every = refl; token_once = tt; open_once = tt; token_is = refl; open_is = refl }
-is_access (Some token) false = record { typed = λ rest. (rest, inr refl, refl); have = (refl, tt); no_words = refl; no_http = refl; no_peer = refl; no_every = refl; token_once = tt; open_once = tt; token_is = refl; open_is = refl }
-is_access (Some token) true = record { typed = λ rest. (codes "--open" ∷ rest, inr refl, (rest, refl, refl)); have = (refl, (refl, tt)); no_words = refl; no_http = refl; no_peer = refl; no_every = refl; token_once = tt; open_once = tt; token_is = refl; open_is = refl }
+-- the parts behind the peers, which say who may come, and whether requests are told
+abbrev last_parts : Option Text → Bool → Bool → List Part
+last_parts token open_to_all log = access_parts token open_to_all ++ log_parts log
+
+-- the words of the task that they name
+abbrev last_words : Option Text → Bool → Bool → List Text
+last_words token open_to_all log = access_words token open_to_all ++ log_words log
+
+-- what these parts have
+record AreLast (token : Option Text) (open_to_all log : Bool) : Type 0 where
+  typed : (rest : List Text) → AreTyped (last_parts token open_to_all log) rest (access_words token open_to_all ++ (log_words log ++ rest))
+  have : HaveOptionsOf run_options (last_parts token open_to_all log)
+  no_words : words_among (last_parts token open_to_all log) ≡ []
+  no_http : values_among (codes "--http") (last_parts token open_to_all log) ≡ []
+  no_peer : values_among (codes "--peer") (last_parts token open_to_all log) ≡ []
+  no_every : values_among (codes "--every") (last_parts token open_to_all log) ≡ []
+  token_once : AtMostOne (values_among (codes "--token-file") (last_parts token open_to_all log))
+  open_once : AtMostOne (values_among (codes "--open") (last_parts token open_to_all log))
+  log_once : AtMostOne (values_among (codes "--log") (last_parts token open_to_all log))
+  token_is : slice_get (values_among (codes "--token-file") (last_parts token open_to_all log)) 0 ≡ token
+  open_is : is_there (values_among (codes "--open") (last_parts token open_to_all log)) ≡ open_to_all
+  log_is : is_there (values_among (codes "--log") (last_parts token open_to_all log)) ≡ log
+
+are_last : (token : Option Text) (open_to_all log : Bool) → AreLast token open_to_all log
+are_last None false false = record { typed = λ rest. refl; have = tt; no_words = refl; no_http = refl; no_peer = refl; no_every = refl; token_once = tt; open_once = tt; log_once = tt; token_is = refl; open_is = refl; log_is = refl }
+are_last None false true = record { typed = λ rest. (rest, refl, refl); have = (refl, tt); no_words = refl; no_http = refl; no_peer = refl; no_every = refl; token_once = tt; open_once = tt; log_once = tt; token_is = refl; open_is = refl; log_is = refl }
+are_last None true false = record { typed = λ rest. (rest, refl, refl); have = (refl, tt); no_words = refl; no_http = refl; no_peer = refl; no_every = refl; token_once = tt; open_once = tt; log_once = tt; token_is = refl; open_is = refl; log_is = refl }
+are_last None true true = record { typed = λ rest. (codes "--log" ∷ rest, refl, (rest, refl, refl)); have = (refl, (refl, tt)); no_words = refl; no_http = refl; no_peer = refl; no_every = refl; token_once = tt; open_once = tt; log_once = tt; token_is = refl; open_is = refl; log_is = refl }
+are_last (Some token) false false = record { typed = λ rest. (rest, inr refl, refl); have = (refl, tt); no_words = refl; no_http = refl; no_peer = refl; no_every = refl; token_once = tt; open_once = tt; log_once = tt; token_is = refl; open_is = refl; log_is = refl }
+are_last (Some token) false true = record { typed = λ rest. (codes "--log" ∷ rest, inr refl, (rest, refl, refl)); have = (refl, (refl, tt)); no_words = refl; no_http = refl; no_peer = refl; no_every = refl; token_once = tt; open_once = tt; log_once = tt; token_is = refl; open_is = refl; log_is = refl }
+are_last (Some token) true false = record { typed = λ rest. (codes "--open" ∷ rest, inr refl, (rest, refl, refl)); have = (refl, (refl, tt)); no_words = refl; no_http = refl; no_peer = refl; no_every = refl; token_once = tt; open_once = tt; log_once = tt; token_is = refl; open_is = refl; log_is = refl }
+are_last (Some token) true true = record { typed = λ rest. (codes "--open" ∷ codes "--log" ∷ rest, inr refl, (codes "--log" ∷ rest, refl, (rest, refl, refl))); have = (refl, (refl, (refl, tt))); no_words = refl; no_http = refl; no_peer = refl; no_every = refl; token_once = tt; open_once = tt; log_once = tt; token_is = refl; open_is = refl; log_is = refl }
 
 -- peers before other parts
 module _ (others : List Part) where
@@ -204,52 +233,56 @@ module _ (others : List Part) where
   peers_are [] none = none
   peers_are (peer ∷ peers) none = ap (λ (ps : List Text). peer ∷ ps) (peers_are peers none)
 
-module _ (http every : Text) (peers : List Text) (token : Option Text) (open_to_all : Bool) where
-  abbrev access : IsAccess token open_to_all
-  access = is_access token open_to_all
+module _ (http every : Text) (peers : List Text) (token : Option Text) (open_to_all log : Bool) where
+  abbrev last : AreLast token open_to_all log
+  last = are_last token open_to_all log
 
   abbrev behind_every : List Part
-  behind_every = peer_parts peers ++ access_parts token open_to_all
+  behind_every = peer_parts peers ++ last_parts token open_to_all log
 
   abbrev options : List Part
   options = typed_option (codes "--http") http ∷ typed_option (codes "--every") every ∷ behind_every
 
-  none_past : (name : Text) → bytes_eq (codes "--peer") name ≡ false → values_among name (access_parts token open_to_all) ≡ [] → values_among name behind_every ≡ []
-  none_past name differs none = peers_past (access_parts token open_to_all) name differs peers ∙ none
+  none_past : (name : Text) → bytes_eq (codes "--peer") name ≡ false → values_among name (last_parts token open_to_all log) ≡ [] → values_among name behind_every ≡ []
+  none_past name differs none = peers_past (last_parts token open_to_all log) name differs peers ∙ none
 
   options_allowed : AreAllowed run_options (λ name. values_among name options)
   options_allowed = (
-    subst (λ (vs : List Text). AtMostOne (http ∷ vs)) (sym (none_past (codes "--http") refl access.no_http)) tt,
+    subst (λ (vs : List Text). AtMostOne (http ∷ vs)) (sym (none_past (codes "--http") refl last.no_http)) tt,
     (
       tt,
       (
-        subst (λ (vs : List Text). AtMostOne (every ∷ vs)) (sym (none_past (codes "--every") refl access.no_every)) tt,
+        subst (λ (vs : List Text). AtMostOne (every ∷ vs)) (sym (none_past (codes "--every") refl last.no_every)) tt,
         (
-          subst AtMostOne (sym (peers_past (access_parts token open_to_all) (codes "--token-file") refl peers)) access.token_once,
-          (subst AtMostOne (sym (peers_past (access_parts token open_to_all) (codes "--open") refl peers)) access.open_once, tt),
+          subst AtMostOne (sym (peers_past (last_parts token open_to_all log) (codes "--token-file") refl peers)) last.token_once,
+          (
+            subst AtMostOne (sym (peers_past (last_parts token open_to_all log) (codes "--open") refl peers)) last.open_once,
+            (subst AtMostOne (sym (peers_past (last_parts token open_to_all log) (codes "--log") refl peers)) last.log_once, tt),
+          ),
         ),
       ),
     ),
   )
 
   options_have : HaveOptionsOf run_options options
-  options_have = (refl, (refl, peers_have (access_parts token open_to_all) peers access.have))
+  options_have = (refl, (refl, peers_have (last_parts token open_to_all log) peers last.have))
 
   no_words_among : words_among options ≡ []
-  no_words_among = peers_no_words (access_parts token open_to_all) peers ∙ access.no_words
+  no_words_among = peers_no_words (last_parts token open_to_all log) peers ∙ last.no_words
 
   says : (file : Text) (given : List Text) → given ≡ file ∷ []
-      → run_plan.with_options.words_for given (λ name. values_among name options) ≡ Some (file ∷ http ∷ every ∷ (peer_words peers ++ access_words token open_to_all))
+      → run_plan.with_options.words_for given (λ name. values_among name options) ≡ Some (file ∷ http ∷ every ∷ (peer_words peers ++ last_words token open_to_all log))
   says file given is =
-      let peers_found = peers_are (access_parts token open_to_all) peers access.no_peer in
-      let token_found = ap (λ (vs : List Text). slice_get vs 0) (peers_past (access_parts token open_to_all) (codes "--token-file") refl peers) ∙ access.token_is in
-      let open_found = ap is_there (peers_past (access_parts token open_to_all) (codes "--open") refl peers) ∙ access.open_is in
-      λ i. Some (is i ++ http ∷ every ∷ (peer_words (peers_found i) ++ access_words (token_found i) (open_found i)))
+      let peers_found = peers_are (last_parts token open_to_all log) peers last.no_peer in
+      let token_found = ap (λ (vs : List Text). slice_get vs 0) (peers_past (last_parts token open_to_all log) (codes "--token-file") refl peers) ∙ last.token_is in
+      let open_found = ap is_there (peers_past (last_parts token open_to_all log) (codes "--open") refl peers) ∙ last.open_is in
+      let log_found = ap is_there (peers_past (last_parts token open_to_all log) (codes "--log") refl peers) ∙ last.log_is in
+      λ i. Some (is i ++ http ∷ every ∷ (peer_words (peers_found i) ++ last_words (token_found i) (open_found i) (log_found i)))
 
   run_names : (called : Text) (behind after rest : List Text) (file : Text) (front : List Part) → AreTyped (front ++ options) rest behind → IsRest after rest
       → ((name : Text) → values_among name (front ++ options) ≡ values_among name options) → HaveOptionsOf run_options (front ++ options)
       → words_among (front ++ options) ++ after ≡ file ∷ []
-      → Names (called ∷ codes "run" ∷ behind) (codes "run" ∷ file ∷ http ∷ every ∷ (peer_words peers ++ access_words token open_to_all))
+      → Names (called ∷ codes "run" ∷ behind) (codes "run" ∷ file ∷ http ∷ every ∷ (peer_words peers ++ last_words token open_to_all log))
   run_names called behind after rest file front typed is same have words =
       let meant = (means run_plan run_takes called behind).1 (file ∷ []) (λ name. values_among name options) (
         record {
@@ -268,8 +301,8 @@ module _ (http every : Text) (peers : List Text) (token : Option Text) (open_to_
       (meant.0, meant.1 ∙ ap (option_map (λ words. codes "run" ∷ words)) (says file (file ∷ []) refl))
 
   pub run_named : (name file : Text) → AreData (file ∷ http ∷ every ∷ [])
-      → Names (name ∷ codes "run" ∷ file ∷ codes "--http" ∷ http ∷ codes "--every" ∷ every ∷ (peer_words peers ++ access_words token open_to_all))
-      (codes "run" ∷ file ∷ http ∷ every ∷ (peer_words peers ++ access_words token open_to_all))
+      → Names (name ∷ codes "run" ∷ file ∷ codes "--http" ∷ http ∷ codes "--every" ∷ every ∷ (peer_words peers ++ last_words token open_to_all log))
+      (codes "run" ∷ file ∷ http ∷ every ∷ (peer_words peers ++ last_words token open_to_all log))
   run_named name file are =
       run_names name _ [] [] file (typed_word file ∷ []) (
         _,
@@ -281,16 +314,16 @@ module _ (http every : Text) (peers : List Text) (token : Option Text) (open_to_
           (
             _,
             inl (refl, and_left (is_data every) _ (and_right (is_data http) _ (and_right (is_data file) _ are))),
-            peers_typed (access_parts token open_to_all) peers [] (access_words token open_to_all)
-                (subst (AreTyped (access_parts token open_to_all) []) (append-nil (access_words token open_to_all)) (access.typed [])),
+            peers_typed (last_parts token open_to_all log) peers [] (last_words token open_to_all log)
+                (subst (AreTyped (last_parts token open_to_all log) []) (ap (λ (ws : List Text). access_words token open_to_all ++ ws) (append-nil (log_words log))) (last.typed [])),
           ),
         ),
       )
       (inl (refl, refl)) (λ n. refl) options_have (ap (λ (ws : List Text). file ∷ (ws ++ [])) no_words_among)
 
   pub run_dashed : (name file : Text)
-      → Names (name ∷ codes "run" ∷ (codes "--http=" ++ http) ∷ (codes "--every=" ++ every) ∷ (peer_words peers ++ (access_words token open_to_all ++ codes "--" ∷ file ∷ [])))
-      (codes "run" ∷ file ∷ http ∷ every ∷ (peer_words peers ++ access_words token open_to_all))
+      → Names (name ∷ codes "run" ∷ (codes "--http=" ++ http) ∷ (codes "--every=" ++ every) ∷ (peer_words peers ++ (access_words token open_to_all ++ (log_words log ++ codes "--" ∷ file ∷ []))))
+      (codes "run" ∷ file ∷ http ∷ every ∷ (peer_words peers ++ last_words token open_to_all log))
   run_dashed name file =
       run_names name _ (file ∷ []) (codes "--" ∷ file ∷ []) file [] (
         _,
@@ -298,7 +331,7 @@ module _ (http every : Text) (peers : List Text) (token : Option Text) (open_to_
         (
           _,
           inr refl,
-          peers_typed (access_parts token open_to_all) peers (codes "--" ∷ file ∷ []) (access_words token open_to_all ++ codes "--" ∷ file ∷ []) (access.typed (codes "--" ∷ file ∷ [])),
+          peers_typed (last_parts token open_to_all log) peers (codes "--" ∷ file ∷ []) (access_words token open_to_all ++ (log_words log ++ codes "--" ∷ file ∷ [])) (last.typed (codes "--" ∷ file ∷ [])),
         ),
       )
       (inr refl) (λ n. refl) options_have (ap (λ (ws : List Text). ws ++ file ∷ []) no_words_among)
@@ -307,22 +340,28 @@ pub run_open_alone : (name file : Text) → AreData (file ∷ []) → Names (nam
 run_open_alone name file are =
     typed_names run_plan run_takes name (file ∷ codes "--open" ∷ []) (file ∷ codes "127.0.0.1:7780" ∷ codes "10" ∷ codes "--open" ∷ []) (typed_word file ∷ typed_flag (codes "--open") ∷ [])
     (codes "--open" ∷ [], refl, (and_left (is_data file) _ are), ([], refl, refl))
-    (refl, tt) (tt, (tt, (tt, (tt, (tt, tt))))) refl refl
+    (refl, tt) (tt, (tt, (tt, (tt, (tt, (tt, tt)))))) refl refl
+
+pub run_log_alone : (name file : Text) → AreData (file ∷ []) → Names (name ∷ codes "run" ∷ file ∷ codes "--log" ∷ []) (codes "run" ∷ file ∷ codes "127.0.0.1:7780" ∷ codes "10" ∷ codes "--log" ∷ [])
+run_log_alone name file are =
+    typed_names run_plan run_takes name (file ∷ codes "--log" ∷ []) (file ∷ codes "127.0.0.1:7780" ∷ codes "10" ∷ codes "--log" ∷ []) (typed_word file ∷ typed_flag (codes "--log") ∷ [])
+    (codes "--log" ∷ [], refl, (and_left (is_data file) _ are), ([], refl, refl))
+    (refl, tt) (tt, (tt, (tt, (tt, (tt, (tt, tt)))))) refl refl
 
 pub run_token_alone : (name file token : Text) → AreData (file ∷ token ∷ []) → Names (name ∷ codes "run" ∷ file ∷ codes "--token-file" ∷ token ∷ []) (codes "run" ∷ file ∷ codes "127.0.0.1:7780" ∷ codes "10" ∷ (codes "--token-file=" ++ token) ∷ [])
 run_token_alone name file token are =
     typed_names run_plan run_takes name (file ∷ codes "--token-file" ∷ token ∷ []) (file ∷ codes "127.0.0.1:7780" ∷ codes "10" ∷ (codes "--token-file=" ++ token) ∷ []) (typed_word file ∷ typed_option (codes "--token-file") token ∷ [])
     (codes "--token-file" ∷ token ∷ [], refl, (and_left (is_data file) _ are), ([], inl (refl, (and_left (is_data token) _ (and_right (is_data file) _ are))), refl))
-    (refl, tt) (tt, (tt, (tt, (tt, (tt, tt))))) refl refl
+    (refl, tt) (tt, (tt, (tt, (tt, (tt, (tt, tt)))))) refl refl
 
 pub run_peer_alone : (name file peer : Text) → AreData (file ∷ peer ∷ []) → Names (name ∷ codes "run" ∷ file ∷ codes "--peer" ∷ peer ∷ []) (codes "run" ∷ file ∷ codes "127.0.0.1:7780" ∷ codes "10" ∷ (codes "--peer=" ++ peer) ∷ [])
 run_peer_alone name file peer are =
     typed_names run_plan run_takes name (file ∷ codes "--peer" ∷ peer ∷ []) (file ∷ codes "127.0.0.1:7780" ∷ codes "10" ∷ (codes "--peer=" ++ peer) ∷ []) (typed_word file ∷ typed_option (codes "--peer") peer ∷ [])
     (codes "--peer" ∷ peer ∷ [], refl, (and_left (is_data file) _ are), ([], inl (refl, (and_left (is_data peer) _ (and_right (is_data file) _ are))), refl))
-    (refl, tt) (tt, (tt, (tt, (tt, (tt, tt))))) refl refl
+    (refl, tt) (tt, (tt, (tt, (tt, (tt, (tt, tt)))))) refl refl
 
 pub run_every_alone : (name file every : Text) → AreData (file ∷ every ∷ []) → Names (name ∷ codes "run" ∷ file ∷ codes "--every" ∷ every ∷ []) (codes "run" ∷ file ∷ codes "127.0.0.1:7780" ∷ every ∷ [])
 run_every_alone name file every are =
     typed_names run_plan run_takes name (file ∷ codes "--every" ∷ every ∷ []) (file ∷ codes "127.0.0.1:7780" ∷ every ∷ []) (typed_word file ∷ typed_option (codes "--every") every ∷ [])
     (codes "--every" ∷ every ∷ [], refl, (and_left (is_data file) _ are), ([], inl (refl, (and_left (is_data every) _ (and_right (is_data file) _ are))), refl))
-    (refl, tt) (tt, (tt, (tt, (tt, (tt, tt))))) refl refl
+    (refl, tt) (tt, (tt, (tt, (tt, (tt, (tt, tt)))))) refl refl

@@ -85,13 +85,17 @@ peers_rule = listed_rule (codes "PEERS") (codes "peer")
 abbrev pub every_rule : Rule
 every_rule = defaulted_rule (codes "EVERY") (codes "every") (codes "10")
 
--- the file of the token that a site asks for
+-- the file of the token that a site asks for, and that it is shown
 abbrev pub token_rule : Rule
 token_rule = valued_rule (codes "TOKEN_FILE") (codes "token-file")
 
 -- whether other machines may come to a site
 abbrev pub open_rule : Rule
 open_rule = flag_rule (codes "OPEN") (codes "open")
+
+-- whether a site tells each request
+abbrev pub log_rule : Rule
+log_rule = flag_rule (codes "LOG") (codes "log")
 
 -- the file from which the next replica is made
 abbrev pub from_rule : Rule
@@ -146,13 +150,14 @@ commands =
     ∷ command_app (codes "dump") (file_rule ∷ part_rule ∷ [])
     ∷ command_app (codes "compact") (file_rule ∷ [])
     ∷ command_app (codes "pair") (file_rule ∷ required_rule (codes "PEER") ∷ [])
-    ∷ command_app (codes "sync") (file_rule ∷ address_rule ∷ timeout_rule ∷ [])
+    ∷ command_app (codes "sync") (file_rule ∷ address_rule ∷ timeout_rule ∷ token_rule ∷ [])
     ∷ command_app (codes "serve") (file_rule ∷ address_rule ∷ sessions_rule ∷ timeout_rule ∷ [])
     ∷ command_app (codes "ask") (file_rule ∷ [])
     ∷ command_app (codes "answer") (file_rule ∷ [])
     ∷ command_app (codes "take") (file_rule ∷ question_rule ∷ answer_rule ∷ [])
     ∷ command_app (codes "merge") (file_rule ∷ required_rule (codes "FROM") ∷ [])
-    ∷ command_app (codes "run") (file_rule ∷ http_rule ∷ peers_rule ∷ every_rule ∷ token_rule ∷ open_rule ∷ [])
+    ∷ command_app (codes "run")
+    (file_rule ∷ http_rule ∷ peers_rule ∷ every_rule ∷ token_rule ∷ open_rule ∷ log_rule ∷ [])
     ∷ command_app (codes "status") (file_rule ∷ [])
     ∷ command_app (codes "check") (question_rule ∷ answer_rule ∷ [])
     ∷ command_app (codes "conflicts") (file_rule ∷ part_rule ∷ [])

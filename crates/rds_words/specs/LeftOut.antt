@@ -42,6 +42,9 @@ pub record SyncMayLackWords : Type 0 where
       → Names (name ∷ codes "sync" ∷ file ∷ addr ∷ []) (codes "sync" ∷ file ∷ addr ∷ codes "60" ∷ [])
   pub alone_dashed : (name file addr : Text)
       → Names (name ∷ codes "sync" ∷ codes "--" ∷ file ∷ addr ∷ []) (codes "sync" ∷ file ∷ addr ∷ codes "60" ∷ [])
+  pub token_alone : (name file addr token : Text) → AreData (file ∷ addr ∷ token ∷ [])
+      → Names (name ∷ codes "sync" ∷ file ∷ addr ∷ codes "--token-file" ∷ token ∷ [])
+      (codes "sync" ∷ file ∷ addr ∷ codes "60" ∷ (codes "--token-file=" ++ token) ∷ [])
 
 -- `run` serves at 127.0.0.1:7780 where it isn't told where, and meets its peers again after 10 seconds where it isn't
 -- told how long
@@ -60,6 +63,9 @@ pub record RunMayLackWords : Type 0 where
   pub open_alone : (name file : Text) → AreData (file ∷ [])
       → Names (name ∷ codes "run" ∷ file ∷ codes "--open" ∷ [])
       (codes "run" ∷ file ∷ codes "127.0.0.1:7780" ∷ codes "10" ∷ codes "--open" ∷ [])
+  pub log_alone : (name file : Text) → AreData (file ∷ [])
+      → Names (name ∷ codes "run" ∷ file ∷ codes "--log" ∷ [])
+      (codes "run" ∷ file ∷ codes "127.0.0.1:7780" ∷ codes "10" ∷ codes "--log" ∷ [])
   pub token_alone : (name file token : Text) → AreData (file ∷ token ∷ [])
       → Names (name ∷ codes "run" ∷ file ∷ codes "--token-file" ∷ token ∷ [])
       (codes "run" ∷ file ∷ codes "127.0.0.1:7780" ∷ codes "10" ∷ (codes "--token-file=" ++ token) ∷ [])

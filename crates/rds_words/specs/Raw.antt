@@ -38,6 +38,16 @@ access_words None true = codes "--open" ∷ []
 access_words (Some token) false = (codes "--token-file=" ++ token) ∷ []
 access_words (Some token) true = (codes "--token-file=" ++ token) ∷ codes "--open" ∷ []
 
+-- the token that a node is shown, where one is
+abbrev pub token_words : Option Text → List Text
+token_words None = []
+token_words (Some token) = (codes "--token-file=" ++ token) ∷ []
+
+-- whether a site tells each request
+abbrev pub log_words : Bool → List Text
+log_words true = codes "--log" ∷ []
+log_words false = []
+
 -- the words, with the option that writes only what changes something
 abbrev pub changed_words : Bool → List Text → List Text
 changed_words true words = words ++ codes "--if-changed" ∷ []

@@ -59,7 +59,7 @@ use Rattle.rds_words.specs.declared.tasks.RawKind.{RawKind}
 use Rattle.rds_words.specs.declared.tasks.RawKind.TheVariants as kind
 use Rattle.rds_words.specs.declared.tasks.ValueWord.{ValueWord}
 use Rattle.rds_words.specs.declared.tasks.ValueWord.TheVariants as word
-use Rattle.rds_words.specs.Raw.{access_words, changed_words, init_words, peer_words, raw_words}
+use Rattle.rds_words.specs.Raw.{access_words, changed_words, init_words, log_words, peer_words, raw_words, token_words}
 
 -- a value in words
 abbrev pub value_words : ValueWord → List Text
@@ -111,8 +111,10 @@ words_of (Serve words) = codes "serve" ∷ words.file.now ∷ words.addr.now ∷
 words_of (Run words) =
     codes "run" ∷ words.file.now ∷ words.http.now ∷ words.every.now
     ∷ (peer_words (map (λ p. p.now) words.peers.items)
-    ++ access_words (option_map (λ t. t.now) words.token_file) words.is_open)
-words_of (Sync words) = codes "sync" ∷ words.file.now ∷ words.addr.now ∷ words.timeout.now ∷ []
+    ++ (access_words (option_map (λ t. t.now) words.token_file) words.is_open ++ log_words words.log))
+words_of (Sync words) =
+    codes "sync" ∷ words.file.now ∷ words.addr.now ∷ words.timeout.now
+    ∷ token_words (option_map (λ t. t.now) words.token_file)
 words_of (Pair first second) = codes "pair" ∷ first.now ∷ second.now ∷ []
 words_of (Ask file) = codes "ask" ∷ file.now ∷ []
 words_of (Answer file) = codes "answer" ∷ file.now ∷ []
@@ -168,12 +170,19 @@ get_words_in rows =
     option_and_then (λ words. option_map (λ kind. words ++ kind) (raw_words_in rows))
     (words_under (codes "FILE" ∷ codes "PATH" ∷ []) rows)
 
--- a file, an address and a number of seconds, the peers, and who may come
+-- a file, an address and a number of seconds, the peers, who may come, and whether requests are told
 abbrev pub run_words_in : List Row → Option (List Text)
 run_words_in rows =
     option_map (λ words. words ++ (peer_words (unwrap_or (all_of (codes "PEERS") rows) [])
-    ++ access_words (first_of (codes "TOKEN_FILE") rows) (is_given (codes "OPEN") rows)))
+    ++ (access_words (first_of (codes "TOKEN_FILE") rows) (is_given (codes "OPEN") rows)
+    ++ log_words (is_given (codes "LOG") rows))))
     (words_under (codes "FILE" ∷ codes "HTTP" ∷ codes "EVERY" ∷ []) rows)
+
+-- a file, an address and a number of seconds, and the token
+abbrev pub sync_words_in : List Row → Option (List Text)
+sync_words_in rows =
+    option_map (λ words. words ++ token_words (first_of (codes "TOKEN_FILE") rows))
+    (words_under (codes "FILE" ∷ codes "ADDR" ∷ codes "TIMEOUT" ∷ []) rows)
 
 abbrev pub counter_words_in : List Row → Option (List Text)
 counter_words_in = words_under (codes "FILE" ∷ codes "KEY" ∷ codes "BY" ∷ [])
@@ -228,7 +237,7 @@ abbrev pub session_words_behind : Text → List Row → Option (List Text)
 session_words_behind name rows =
     if bytes_eq name (codes "serve")
     then words_under (codes "FILE" ∷ codes "ADDR" ∷ codes "SESSIONS" ∷ codes "TIMEOUT" ∷ []) rows
-    else (if bytes_eq name (codes "sync") then words_under (codes "FILE" ∷ codes "ADDR" ∷ codes "TIMEOUT" ∷ []) rows
+    else (if bytes_eq name (codes "sync") then sync_words_in rows
     else (if bytes_eq name (codes "pair") then words_under (codes "FILE" ∷ codes "PEER" ∷ []) rows
     else delta_words_behind name rows))
 

@@ -24,7 +24,7 @@ use Rattle.std.specs.Prelude.{
 use Rattle.std.specs.Str.{bytes_eq}
 use Rattle.clap.specs.Words.{Text}
 use Rattle.rds_words.specs.Entered.{mistakes_in, named_in}
-use Rattle.rds_words.specs.Raw.{access_words, changed_words, init_words, peer_words, raw_words}
+use Rattle.rds_words.specs.Raw.{access_words, changed_words, init_words, log_words, peer_words, raw_words, token_words}
 use Rattle.rds_words.specs.Typed.{IsTyped, Options, many_values, no_value, one_value}
 
 -- a command's options, which numbers of words it takes, and the words of the task that its words and its options' values
@@ -71,22 +71,25 @@ serve_with = record {
 
 abbrev pub sync_with : WithOptions
 sync_with = record {
-  options = (codes "--timeout", one_value) ∷ [];
+  options = (codes "--timeout", one_value) ∷ (codes "--token-file", one_value) ∷ [];
   takes = λ n. n == 2;
-  words_for = λ given values. Some (given ++ value_or (codes "60") (values (codes "--timeout")) ∷ []);
+  words_for = λ given values.
+      Some (given ++ value_or (codes "60") (values (codes "--timeout"))
+      ∷ token_words (slice_get (values (codes "--token-file")) 0));
 }
 
 abbrev pub run_with : WithOptions
 run_with = record {
   options =
       (codes "--http", one_value) ∷ (codes "--peer", many_values) ∷ (codes "--every", one_value)
-      ∷ (codes "--token-file", one_value) ∷ (codes "--open", no_value) ∷ [];
+      ∷ (codes "--token-file", one_value) ∷ (codes "--open", no_value) ∷ (codes "--log", no_value) ∷ [];
   takes = λ n. n == 1;
   words_for = λ given values.
       Some (given ++ value_or (codes "127.0.0.1:7780") (values (codes "--http"))
       ∷ value_or (codes "10") (values (codes "--every"))
       ∷ (peer_words (values (codes "--peer"))
-      ++ access_words (slice_get (values (codes "--token-file")) 0) (is_there (values (codes "--open")))));
+      ++ (access_words (slice_get (values (codes "--token-file")) 0) (is_there (values (codes "--open")))
+      ++ log_words (is_there (values (codes "--log"))))));
 }
 
 -- `set` and `add`

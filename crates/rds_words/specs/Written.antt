@@ -38,7 +38,7 @@ use Rattle.rds_words.specs.declared.tasks.EditWords.{EditWords}
 use Rattle.rds_words.specs.declared.tasks.EditWords.TheVariants.{Set, Add, Del, Clear, Inc, Dec}
 use Rattle.rds_words.specs.declared.tasks.ValueWord.{ValueWord}
 use Rattle.rds_words.specs.declared.tasks.ValueWord.TheVariants as word
-use Rattle.rds_words.specs.Raw.{access_words, peer_words}
+use Rattle.rds_words.specs.Raw.{access_words, log_words, peer_words, token_words}
 use Rattle.rds_words.specs.Task.{raw_word, words_of}
 
 -- the word can't be taken for an option: it doesn't begin with a hyphen and a character behind it
@@ -88,11 +88,13 @@ words_written (ShowPretty file path) = codes "show" ∷ codes "--pretty" ∷ fil
 words_written (Serve words) =
     codes "serve" ∷ words.file.now ∷ words.addr.now
     ∷ codes "--sessions" ∷ words.sessions.now ∷ codes "--timeout" ∷ words.timeout.now ∷ []
-words_written (Sync words) = codes "sync" ∷ words.file.now ∷ words.addr.now ∷ codes "--timeout" ∷ words.timeout.now ∷ []
+words_written (Sync words) =
+    codes "sync" ∷ words.file.now ∷ words.addr.now ∷ codes "--timeout" ∷ words.timeout.now
+    ∷ token_words (option_map (λ t. t.now) words.token_file)
 words_written (Run words) =
     codes "run" ∷ words.file.now ∷ codes "--http" ∷ words.http.now ∷ codes "--every" ∷ words.every.now
     ∷ (peer_words (map (λ p. p.now) words.peers.items)
-    ++ access_words (option_map (λ t. t.now) words.token_file) words.is_open)
+    ++ (access_words (option_map (λ t. t.now) words.token_file) words.is_open ++ log_words words.log))
 words_written task = words_of task
 
 -- two dashes stand between the command, with its options, and its words
@@ -112,11 +114,13 @@ words_dashed (Serve words) =
     codes "serve" ∷ (codes "--sessions=" ++ words.sessions.now) ∷ (codes "--timeout=" ++ words.timeout.now)
     ∷ codes "--" ∷ words.file.now ∷ words.addr.now ∷ []
 words_dashed (Sync words) =
-    codes "sync" ∷ (codes "--timeout=" ++ words.timeout.now) ∷ codes "--" ∷ words.file.now ∷ words.addr.now ∷ []
+    codes "sync" ∷ (codes "--timeout=" ++ words.timeout.now)
+    ∷ (token_words (option_map (λ t. t.now) words.token_file) ++ codes "--" ∷ words.file.now ∷ words.addr.now ∷ [])
 words_dashed (Run words) =
     codes "run" ∷ (codes "--http=" ++ words.http.now) ∷ (codes "--every=" ++ words.every.now)
     ∷ (peer_words (map (λ p. p.now) words.peers.items)
-    ++ (access_words (option_map (λ t. t.now) words.token_file) words.is_open ++ codes "--" ∷ words.file.now ∷ []))
+    ++ (access_words (option_map (λ t. t.now) words.token_file) words.is_open
+    ++ (log_words words.log ++ codes "--" ∷ words.file.now ∷ [])))
 words_dashed task = dashes_in (words_of task)
 
 -- `set` and `add` alone can be told to write only what changes something
@@ -139,6 +143,7 @@ given_words (Edit file edit) = edit_given file.now edit
 given_words (EditIfChanged file edit) = edit_given file.now edit
 given_words (GetRaw file path which) = file.now ∷ path.now ∷ []
 given_words (ShowPretty file path) = file.now ∷ path.now ∷ []
+given_words (Sync words) = words.file.now ∷ words.addr.now ∷ words.timeout.now ∷ []
 given_words (Run words) = words.file.now ∷ words.http.now ∷ words.every.now ∷ []
 given_words task = drop 1 (words_of task)
 

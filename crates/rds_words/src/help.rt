@@ -195,6 +195,7 @@ are told on standard error alone.
   25 BadLine         a line is no command, or VALUE no JSON
   26 NoSuch          no such replica, ask or answer
   27 Usage           words that the program doesn't take
+  28 Forked          both ends have seen the same, and hold different entries
   29 Unsure          FILE is written, and may not last: read it before you repeat
 
 Exit status: 0 where the command succeeded, 1 where it answered a fault, 2 for fault 27,
@@ -367,14 +368,13 @@ pub const SYNC_ABOUT: &str = "Has a session of the replica in a file with one th
 
 const SYNC_EXAMPLE: &str = "\
 Example: rds_node sync notes.b 127.0.0.1:4000
-         rds_node sync notes.b - < from_peer > to_peer";
+         rds_node sync notes.b http://127.0.0.1:7780";
 
 const SYNC_TEXT: &str = "\
-Calls a peer that waits by 'serve'. Nothing is enciphered and nobody is authenticated; for
-ADDR '-' the session's bytes are standard input and output, and what is told goes to
-standard error, so ssh can carry it. A delta is taken into what FILE holds by then.
-Output: {\"taken\":1}, with the number of the delta's components, where one was taken; then
-the session's fault, if there was one: 10 to 24, see 'help faults'.";
+Calls a peer that waits by 'serve', or a node that runs ('run'). Nothing is enciphered. For
+ADDR '-' a session is standard input and output, and told of on standard error, so ssh can
+carry it. Output: {\"taken\":1}, with how many components were taken into what FILE holds by
+then; and the fault, if there was one: 10 to 24, and 28 of a node, see 'help faults'.";
 
 pub const SERVE_ABOUT: &str = "Serves the replica in a file to peers";
 
@@ -454,17 +454,19 @@ free one, will do. Requests, with the commands that print what they are answered
   GET /conflicts/PATH   conflicts
   GET /status           status
   GET /metrics          what was counted, for Prometheus
-  GET /live             a WebSocket, told {\"turn\":N} whenever more is on disk
+  GET /live             a WebSocket, told {\"turn\":N,\"mark\":M,\"paths\":[..]} after changes
   GET /ask              ask
   POST /edits           edit; the body has its lines
   POST /answer          answer; the body is the question
   POST /take            take; the body: the question's length in 4 bytes, question, answer
   POST /login           a cookie for the token that the body is
+Answers on the document have an ETag; where If-None-Match has it, 304 is the answer.
 With --peer it meets that node, of another replica, after each change here and every
 SECONDS: each takes what it lacks. Peers share one token, and are shown that of the file.
 Without options this machine alone may come, by 127.0.0.1 or [::1]; another ADDR is fault
 27. With --token-file all but the page and /login ask for the token, 'Authorization:
 Bearer TOKEN' or the cookie: 16 to 128 of A-Z a-z 0-9 - . _ ~. Nothing is enciphered.
+With --log it prints of each request: CLIENT METHOD TARGET STATUS BYTES MICROSECONDS.
 Faults of its own: 24 where ADDR can't be used, or FILE is locked or can't be written.";
 
 pub const STATUS_ABOUT: &str = "Tells whose replica a file holds, and how much there is of it";
@@ -588,6 +590,9 @@ pub const COUNTER_HELP: &str = "Prints the counter so";
 pub const ADDR_HELP: &str =
     "A host and a port, as 127.0.0.1:4000, or '-' for standard input and output";
 
+pub const NODE_ADDR_HELP: &str =
+    "A host and a port, http:// and these for a node, or '-' for standard input and output";
+
 pub const SESSIONS_HELP: &str = "How many sessions, a whole number, 0 for no end";
 
 pub const TIMEOUT_HELP: &str =
@@ -603,7 +608,11 @@ pub const EVERY_HELP: &str =
 
 pub const TOKEN_FILE_HELP: &str = "The file of a token, without which nobody may come";
 
+pub const NODE_TOKEN_FILE_HELP: &str = "The file of the token that a node asks for";
+
 pub const OPEN_HELP: &str = "Other machines may come, also where there is no token";
+
+pub const LOG_HELP: &str = "Prints one line for each request";
 
 pub const PRETTY_HELP: &str = "Prints the JSON on many lines, indented";
 

@@ -22,6 +22,7 @@ ghost use Rattle.rds_words.specs.Task.{
   run_words_in,
   session_words_behind,
   show_words_in,
+  sync_words_in,
   value_words,
   words_in,
   words_of,
@@ -150,20 +151,27 @@ fn session_task<'a>(name: &str, inner: &ArgMatches<'a>) -> Option<Task<'a>>
                 timeout,
             }))
         }
-        "sync" => {
-            let (file, addr, timeout) = file_and_two(inner, "ADDR", "TIMEOUT")?;
-            Some(Task::Sync(SyncWords {
-                file,
-                addr,
-                timeout,
-            }))
-        }
+        "sync" => sync_task(inner),
         "pair" => {
             let (first, second) = two_words(inner, "FILE", "PEER")?;
             Some(Task::Pair { first, second })
         }
         _ => delta_task(name, inner),
     }
+}
+
+// The task of `sync`.
+fn sync_task<'a>(inner: &ArgMatches<'a>) -> Option<Task<'a>>
+    ensures { option_map words_of result
+        ≡ named_words (codes "sync") (sync_words_in (rows_of (found_of inner.now))) }
+{
+    let (file, addr, timeout) = file_and_two(inner, "ADDR", "TIMEOUT")?;
+    Some(Task::Sync(SyncWords {
+        file,
+        addr,
+        timeout,
+        token_file: word_under(inner, "TOKEN_FILE"),
+    }))
 }
 
 // The task of a command that carries a delta, or that edits the replica in a file.
@@ -401,6 +409,7 @@ fn run_task<'a>(alloc: Global, inner: &ArgMatches<'a>) -> Result<Option<Task<'a>
     let peers = listed_words(alloc, inner, "PEERS")?;
     let token_file = word_under(inner, "TOKEN_FILE");
     let is_open = is_given(inner, "OPEN");
+    let log = is_given(inner, "LOG");
     Ok(Some(Task::Run(RunWords {
         file,
         http,
@@ -408,6 +417,7 @@ fn run_task<'a>(alloc: Global, inner: &ArgMatches<'a>) -> Result<Option<Task<'a>
         every,
         token_file,
         is_open,
+        log,
     })))
 }
 

@@ -132,6 +132,13 @@ const ADDR: Word = Word {
     kind: Kind::Required,
 };
 
+// The same of `sync`, which can call a node.
+const NODE_ADDR: Word = Word {
+    id: "ADDR",
+    help: help::NODE_ADDR_HELP,
+    kind: Kind::Required,
+};
+
 const SESSIONS: Word = Word {
     id: "SESSIONS",
     help: help::SESSIONS_HELP,
@@ -190,10 +197,26 @@ const TOKEN_FILE: Word = Word {
     },
 };
 
+// The same of `sync`, which shows it.
+const NODE_TOKEN_FILE: Word = Word {
+    id: "TOKEN_FILE",
+    help: help::NODE_TOKEN_FILE_HELP,
+    kind: Kind::Valued {
+        long: "token-file",
+        value_name: "PATH",
+    },
+};
+
 const OPEN: Word = Word {
     id: "OPEN",
     help: help::OPEN_HELP,
     kind: Kind::Flag { long: "open" },
+};
+
+const LOG: Word = Word {
+    id: "LOG",
+    help: help::LOG_HELP,
+    kind: Kind::Flag { long: "log" },
 };
 
 const PRETTY: Word = Word {
@@ -359,7 +382,7 @@ pub static COMMANDS: [Described; 29] = [
         name: "sync",
         about: help::SYNC_ABOUT,
         page: Page::Sync,
-        words: &[FILE, ADDR, TIMEOUT],
+        words: &[FILE, NODE_ADDR, TIMEOUT, NODE_TOKEN_FILE],
     },
     Described {
         name: "serve",
@@ -395,7 +418,7 @@ pub static COMMANDS: [Described; 29] = [
         name: "run",
         about: help::RUN_ABOUT,
         page: Page::Run,
-        words: &[FILE, HTTP, PEERS, EVERY, TOKEN_FILE, OPEN],
+        words: &[FILE, HTTP, PEERS, EVERY, TOKEN_FILE, OPEN, LOG],
     },
     Described {
         name: "status",

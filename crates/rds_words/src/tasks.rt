@@ -231,6 +231,8 @@ pub struct RunWords<'a> {
     pub token_file: Option<&'a str>,
     /// Whether other machines may come, also where there is no token.
     pub is_open: bool,
+    /// Whether each request is told by a line on standard output.
+    pub log: bool,
 }
 
 /// A session with a replica that is served, in words.
@@ -238,10 +240,12 @@ pub struct RunWords<'a> {
 pub struct SyncWords<'a> {
     /// The file.
     pub file: &'a str,
-    /// The address where the other replica is served.
+    /// The address where the other replica is served, or that of a node, as `http://HOST:PORT`.
     pub addr: &'a str,
     /// After how many seconds a silent peer is given up, 0 for never.
     pub timeout: &'a str,
+    /// The file of the token that the node asks for, where one is.
+    pub token_file: Option<&'a str>,
 }
 
 /// A value in words.

@@ -19,4 +19,4 @@ returns-clause-noted g c =
     let are = answers_are (lines_in c.args.lines.now) c.args.held.now.file.document c.edit_lines.new.self.document c.in_ok-replies.replies.items c.in_ok-replies.ensures.edited in
     let all = c.are_refusals.ensures ∙ ap (list_all is_refusal) c.deref.ensures.value in
     still_noted c.args.held.now.has_changed (not c.are_refusals.result) c.args.held.now.file.document c.edit_lines.new.self.document c.args.held.now.file.kept c.edit_lines.new.self.kept
-    c.requires.noted (λ no. are.refused (sym all ∙ not_all c.are_refusals.result no)) c.in_ok-replies.ensures.file.1
+    c.requires.noted (λ no. are.refused (sym all ∙ not_all c.are_refusals.result no)) c.in_ok-replies.ensures.file.kept

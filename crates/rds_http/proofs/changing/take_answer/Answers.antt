@@ -14,4 +14,4 @@ returns-clause-noted g c =
     (λ no.
     let none = c.has_come.ensures no in
     takes_nothing c.args.question.now c.args.answer.now before after c.in_ok-components.components c.in_ok-components.ensures.taken none.0 (sym has ∙ none.1 ∙ had))
-    c.in_ok-components.ensures.file.1
+    c.in_ok-components.ensures.file.kept

@@ -6,6 +6,7 @@ use Rattle.rds_state.specs.Value.{StateValue}
 use Rattle.rds_state.proofs.Nothing.{joins_nothing, takes_nothing}
 use Rattle.rds_tree.specs.Growing.{Holds}
 use Rattle.rds_tree.proofs.Deltas.{holds_joined, holds_refused}
+use Rattle.rds_tree.proofs.MarkEdits.{taken_mark}
 use Rattle.rds_tree.proofs.taking.take.Goals as goal
 
 pub returns-then-components-eq0-clause-taken : goal.returns-then-components-eq0-clause-taken
@@ -29,3 +30,10 @@ pub returns-clause-holds : goal.returns-clause-holds
 returns-clause-holds g c =
     holds_joined (c.lives.ensures ∙ ap (λ (s : StateValue). s.lives) c.state.ensures.state) c.lives-2.ensures c.in_ok-change.ensures.coming c.requires.holds c.take.new.self.state.lives c.in_ok-change.ensures.dying c.in_ok-begin.ensures.ok c.finish.ensures
     (λ d. ap (λ (x : Coordinates). x.life d) c.in_default.ensures.ok)
+
+pub returns-clause-marked : goal.returns-clause-marked
+returns-clause-marked g c =
+    let new = c.take.new.self.state in
+    let here = c.lives.ensures ∙ ap (λ (s : StateValue). s.lives) c.state.ensures.state in
+    taken_mark here c.lives-2.ensures c.in_ok-change.ensures.dying c.in_ok-change.ensures.coming c.args.mark.now new c.counted-before.result c.counted.result c.requires.marked
+    c.counted-before.ensures.mark c.counted.ensures.mark c.counted-before.ensures.here c.counted-before.ensures.there c.counted.ensures.here c.in_default.ensures.ok c.marked.ensures

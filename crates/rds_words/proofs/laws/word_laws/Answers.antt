@@ -1,5 +1,5 @@
 use Rattle.rds_words.proofs.EachNamed.{once_served, pretty_root_dashed, root_cleared, root_shown, run_alone, run_alone_dashed, sessions_alone_dashed, sync_alone, sync_alone_dashed, task_dashed, task_written, timeout_alone_dashed}
-use Rattle.rds_words.proofs.OptionsNamed.{pretty_behind, pretty_root, pretty_root_behind, run_every_alone, run_open_alone, run_peer_alone, run_token_alone, sessions_alone, timeout_alone}
+use Rattle.rds_words.proofs.OptionsNamed.{pretty_behind, pretty_root, pretty_root_behind, run_every_alone, run_log_alone, run_open_alone, run_peer_alone, run_token_alone, sessions_alone, sync_token_alone, timeout_alone}
 use Rattle.rds_words.proofs.laws.word_laws.Goals as goal
 
 pub returns-clause-written : goal.returns-clause-written
@@ -30,7 +30,7 @@ returns-clause-serve c = record {
 }
 
 pub returns-clause-sync : goal.returns-clause-sync
-returns-clause-sync c = record { alone = sync_alone; alone_dashed = sync_alone_dashed }
+returns-clause-sync c = record { alone = sync_alone; alone_dashed = sync_alone_dashed; token_alone = sync_token_alone }
 
 pub returns-clause-run : goal.returns-clause-run
 returns-clause-run c = record {
@@ -39,5 +39,6 @@ returns-clause-run c = record {
   peer_alone = run_peer_alone;
   every_alone = run_every_alone;
   open_alone = run_open_alone;
+  log_alone = run_log_alone;
   token_alone = run_token_alone;
 }

@@ -16,6 +16,7 @@ use Rattle.std_alloc.proofs.SendSync.{quiet, lies}
 use Rattle.std_heap.proofs.Global.TheSendSync as handle
 use Rattle.rds_state.proofs.replica.Replica.TheSendSync as replica
 use Rattle.rds_state.proofs.state.State.TheSendSync as state
+use Rattle.rds_state.proofs.mark.Mark.TheSendSync as mark
 use Rattle.rds_gaps.proofs.gap_set.GapSet.TheSendSync as seen
 use Rattle.rds_names.proofs.key.Key.TheSendSync as key
 use Rattle.rds_tree.proofs.leaves.Leaves.TheSendSync as leaves
@@ -44,7 +45,7 @@ node : IsSend Node.the_row
 node = search (sendable, heap.crosses, maps.crosses, tree.crosses, leaves.the_send, key.the_send) depth 8
 
 index : IsSend (Index.the_row GapSet.the_row ghosts)
-index = search (sendable, heap.crosses, maps.crosses, replica_here, node, handle.the_field_send) depth 8
+index = search (sendable, heap.crosses, maps.crosses, replica_here, node, mark.the_field_send, handle.the_field_send) depth 12
 
 document : IsSend Document.the_row
 document = search (sendable, heap.crosses, index, reader.the_field_send, handle.the_field_send) depth 8

@@ -15,6 +15,6 @@ returns-clause-shown g c =
     let counters = c.in_ok-counters.ensures.ok ∙ ap (λ counts. counters_at path (sums_of counts)) (c.counts.ensures ∙ ap (λ s. s.counts) c.state.ensures.state) in
     c.in_ok-view.ensures.ok
     ∙ ap (λ keys. shown_to 8 c.in_ok-counters.counters (below_path keys (placed_all inside.tree))) c.keys.ensures.keys
-    ∙ shows_whole c.in_ok-counters.counters path (live_rows state.lives) inside.tree c.self.invariant
+    ∙ shows_whole c.in_ok-counters.counters path (live_rows state.lives) inside.tree c.self.invariant.0
     ∙ ap (λ sums. entries_view sums path (entries_in (live_rows state.lives))) counters
     ∙ ap (λ v. view_of (document v.state) path) c.self.view_is

@@ -17,6 +17,6 @@ returns-clause-shown g c =
     c.in_ok-view.ensures.ok
     ∙ ap (λ keys. shown_to 1 c.in_ok-counters.counters (below_path keys (placed_all inside.tree))) c.keys.ensures.keys
     ∙ closed_view c.in_ok-counters.counters path (placed_all inside.tree)
-    ∙ ap closed (shows_whole c.in_ok-counters.counters path (live_rows state.lives) inside.tree c.self.invariant
+    ∙ ap closed (shows_whole c.in_ok-counters.counters path (live_rows state.lives) inside.tree c.self.invariant.0
     ∙ ap (λ sums. entries_view sums path (entries_in (live_rows state.lives))) counters
     ∙ ap (λ v. view_of (document v.state) path) c.self.view_is)

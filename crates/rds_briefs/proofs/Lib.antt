@@ -1,0 +1,19 @@
+mod AfterBriefs
+mod AlikeParts
+pub mod Apart
+mod BitSteps
+mod BitsRead
+mod Counted
+mod DigestsRead
+mod FormsRead
+mod Fronts
+mod Judged
+mod LengthSteps
+mod LengthsRead
+mod LivesApart
+mod PackedFronts
+mod Putting
+mod ReadingLives
+mod RunSteps
+mod Shorter
+mod StretchLemmas

@@ -1,6 +1,0 @@
-use Rattle.std.proofs.Common.{inl}
-use Rattle.rds_http.proofs.Changed.{on_ok}
-use Rattle.rds_http.proofs.reading.show_question.Goals as goal
-
-pub returns-in-Ok : goal.returns-in-Ok
-returns-in-Ok c = on_ok c.fill.result (λ told. inl (c.in-Ok.bytes, c.in-Ok.ensures, told)) c.fill.ensures

@@ -1,0 +1,87 @@
+-- Entity tags (RFC 9110), and what conditions name them.
+use Rattle.std.specs.Prelude.{◌≡◌, ℕ, ◌-◌, ◌^◌, ◌<◌, Bool, ◌||◌, ◌==◌, bytes_eq, codes, List, ◌++◌, length, take, drop}
+use Rattle.std.specs.Char.{is_ascii_whitespace}
+use Rattle.std.specs.Int.{to_be_bytes, w64}
+use Rattle.std.specs.List.{list_any, prefix_len, slice_split, suffix_len}
+use Rattle.hex.specs.Hex.{IsBytes, encode_lower}
+use Rattle.http_header.specs.FieldValue.{FieldValue}
+use Rattle.http_header.specs.HeaderMap.{Entries}
+use Rattle.rds_briefs.specs.Briefs.{brief_text}
+use Rattle.rds_codec.specs.FormatWriting.{IsTabledUnwritten}
+use Rattle.rds_names.specs.declared.fault.Fault.{Fault}
+use Rattle.rds_questions.specs.Hashed.{question_hash}
+use Rattle.rds_questions.specs.Questions.{question_of}
+use Rattle.rds_state.specs.Fits.{ReplicaValue}
+use Rattle.rds_state.specs.Mark.{mark_of, mark_text}
+use Rattle.rds_state.specs.Value.{StateValue}
+use Rattle.rds_state.specs.declared.mark.Mark.{Mark}
+use Rattle.rds_http.specs.Tokens.{values_in}
+use Rattle.rds_http.specs.declared.tag.Tag.{Tag}
+
+-- ---- the tag of what a replica asks
+
+-- half of a mark in hex digits
+abbrev pub half_text : ℕ → List ℕ
+half_text half = encode_lower (to_be_bytes w64 half)
+
+abbrev pub mark_digits : Mark → List ℕ
+mark_digits mark = half_text mark.high ++ half_text mark.low
+
+-- digits of a hash and digits of a mark, quoted, with a dash between
+abbrev pub quoted : List ℕ → List ℕ → List ℕ
+quoted hash mark = codes "\"" ++ (hash ++ (codes "-" ++ (mark ++ codes "\"")))
+
+-- what stands before, between and behind the digits
+pub record IsFrame (start dash end : List ℕ) : Type 0 where
+  pub opens : start ≡ codes "\""
+  pub parts : dash ≡ codes "-"
+  pub closes : end ≡ codes "\""
+
+-- the hash and the mark, in hex digits
+unfoldable pub tag_text : Tag → List ℕ
+tag_text tag = quoted (encode_lower tag.hash) (mark_digits tag.mark)
+
+-- a hash has 32 bytes, and a mark two numbers of 64 bits
+pub record IsTag (tag : Tag) : Type 0 where
+  pub bytes : IsBytes tag.hash
+  pub length : length tag.hash ≡ 32
+  pub high : tag.mark.high < 2 ^ 64
+  pub low : tag.mark.low < 2 ^ 64
+
+-- the tag tells what a replica asks, but for who asks, and the mark of its state
+pub record IsTagOf (held : ReplicaValue) (tag : Tag) : Type 0 where
+  pub hash : tag.hash ≡ question_hash (question_of held)
+  pub mark : tag.mark ≡ mark_of held.state
+
+-- why there is no tag: memory ran out, or the brief is too long for a question
+abbrev pub RefusesTag : ReplicaValue → Fault → Type 0
+RefusesTag held = IsTabledUnwritten (length (brief_text (question_of held).digest))
+
+-- ---- the tag of what is shown of a state
+
+abbrev pub state_tag : StateValue → List ℕ
+state_tag state = codes "\"" ++ (mark_text (mark_of state) ++ codes "\"")
+
+-- ---- conditions
+
+-- without the blanks before and behind
+abbrev pub without_blanks : List ℕ → List ℕ
+without_blanks text =
+    let rest = drop (prefix_len is_ascii_whitespace text) text in
+    take (length rest - suffix_len is_ascii_whitespace rest) rest
+
+-- an entity tag, weak or not, has the opaque part of a strong one
+abbrev pub is_same_tag : List ℕ → List ℕ → Bool
+is_same_tag tag other = bytes_eq other tag || bytes_eq other (codes "W/" ++ tag)
+
+-- one of a list of tags, between commas, is this one
+abbrev pub has_tag : List ℕ → List ℕ → Bool
+has_tag tag value = list_any (λ member. is_same_tag tag (without_blanks member)) (slice_split (λ b. b == 44) value)
+
+-- a condition names the tag, or any
+abbrev pub is_named_by : List ℕ → List ℕ → Bool
+is_named_by tag value = bytes_eq value (codes "*") || has_tag tag value
+
+-- the condition of a request that wants no more of what has this tag
+abbrev pub is_known : Entries FieldValue → List ℕ → Bool
+is_known headers tag = list_any (is_named_by tag) (values_in headers (codes "if-none-match"))

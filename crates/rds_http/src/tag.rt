@@ -1,0 +1,162 @@
+//! The tag of what a site asks.
+ghost use Rattle.std.specs.Prelude.{◌≡◌, ◌≢◌, ◌↔◌, ◌<◌, ◌^◌, ◌++◌, None, List, ℕ, IfSome, IsTrue, codes, length};
+ghost use Rattle.std.specs.Str.{IsAscii};
+ghost use Rattle.hex.specs.Hex.{IsBytes, encode_lower};
+ghost use Rattle.rds_state.specs.declared.mark.Mark.{Mark as MarkValue};
+ghost use Rattle.rds_http.specs.Tags.{IsFrame, IsTag, half_text, mark_digits, quoted, tag_text};
+
+use hex::{decode_to_slice, encode_to_slice};
+use rds_state::Mark;
+use std::fmt;
+
+/// How many bytes the text of a tag has.
+const LENGTH: usize = 99;
+
+/// The tag of what a site asks. Sites with one hash have seen the same: they have the same roster and the same digest.
+/// Then they have one mark too, unless their histories are forked.
+#[derive(Clone, Copy, Debug, PartialEq, Eq)]
+pub struct Tag {
+    /// The hash of the question, as [`Document::question_hash`](rds_store::Document::question_hash) tells it.
+    pub hash: [u8; 32],
+    /// The mark of the document.
+    pub mark: Mark,
+}
+
+impl Tag {
+    /// The tag of which this is the text: a quote, the 64 digits of the hash, a dash, the 32 digits of the mark, and a
+    /// quote. Digits are hex digits in lower case.
+    #[tactic(auto, unfolding(crate::specs::Tags::tag_text))]
+    pub fn parse(text: &[u8]) -> Option<Tag>
+        ensures some { IfSome result (λ tag. text.now ≡ tag_text tag) }
+        ensures none { result ≡ None → (tag : Tag) → IsTag tag → text.now ≢ tag_text tag }
+    {
+        let (hash, mark) = digits_in(text)?;
+        Some(Tag {
+            hash: hash_in(hash)?,
+            mark: mark_in(mark)?,
+        })
+    }
+}
+
+/// A quote, the digits of the hash, a dash, those of the mark, and a quote.
+impl fmt::Display for Tag {
+    ghost use Rattle.std.specs.Prelude.{Some};
+    ghost use Rattle.rds_http.specs.Tags.{tag_text};
+
+    ghost output = { λ tag. Some (tag_text tag) };
+
+    #[tactic(auto, unfolding(crate::specs::Tags::tag_text))]
+    fn fmt<W: fmt::Write>(&self, f: &mut fmt::Formatter<W>) -> fmt::Result {
+        let hash = hash_digits(&self.hash);
+        let high = half_digits(self.mark.high);
+        let low = half_digits(self.mark.low);
+        let hash = text_of(&hash);
+        let high = text_of(&high);
+        let low = text_of(&low);
+        write!(f, "\"{hash}-{high}{low}\"")
+    }
+}
+
+/// The digits in a text of a tag: of the hash, and of the mark.
+fn digits_in(text: &[u8]) -> Option<(&[u8], &[u8])>
+    ensures some { IfSome result (λ digits. text.now ≡ quoted digits.0.now digits.1.now) }
+    ensures length { IfSome result (λ digits. length digits.0.now ≡ 64) }
+    ensures none { result ≡ None → (hash mark : List ℕ) → length hash ≡ 64 → length mark ≡ 32
+        → text.now ≢ quoted hash mark }
+{
+    if text.len() != LENGTH {
+        return None;
+    }
+    let (start, rest) = text.split_at(1);
+    let (hash, rest) = rest.split_at(64);
+    let (dash, rest) = rest.split_at(1);
+    let (mark, end) = rest.split_at(32);
+    if is_frame(start, dash, end) {
+        Some((hash, mark))
+    } else {
+        None
+    }
+}
+
+/// Whether these are a quote, a dash and a quote.
+fn is_frame(start: &[u8], dash: &[u8], end: &[u8]) -> bool
+    ensures { IsTrue result ↔ IsFrame start.now dash.now end.now }
+{
+    start == b"\"".as_slice() && dash == b"-".as_slice() && end == b"\"".as_slice()
+}
+
+/// The hash whose digits these are.
+fn hash_in(digits: &[u8]) -> Option<[u8; 32]>
+    ensures some { IfSome result (λ hash. digits.now ≡ encode_lower hash) }
+    ensures none { result ≡ None → (hash : List ℕ) → length hash ≡ 32 → IsBytes hash
+        → digits.now ≢ encode_lower hash }
+{
+    let mut hash = [0; 32];
+    decode_to_slice(digits, &mut hash).ok()?;
+    if hash_digits(&hash).as_slice() == digits {
+        Some(hash)
+    } else {
+        None
+    }
+}
+
+/// The mark whose digits these are.
+fn mark_in(digits: &[u8]) -> Option<Mark>
+    ensures some { IfSome result (λ mark. digits.now ≡ mark_digits mark) }
+    ensures none { result ≡ None → (mark : MarkValue) → mark.high < 2 ^ 64 → mark.low < 2 ^ 64
+        → digits.now ≢ mark_digits mark }
+{
+    let (high, low) = digits.split_at_checked(16)?;
+    Some(Mark {
+        high: half_in(high)?,
+        low: half_in(low)?,
+    })
+}
+
+/// The half of a mark whose digits these are.
+fn half_in(digits: &[u8]) -> Option<u64>
+    ensures some { IfSome result (λ half. digits.now ≡ half_text half) }
+    ensures none { result ≡ None → (half : ℕ) → half < 2 ^ 64 → digits.now ≢ half_text half }
+{
+    let mut bytes = [0; 8];
+    decode_to_slice(digits, &mut bytes).ok()?;
+    let half = u64::from_be_bytes(bytes);
+    if half_digits(half).as_slice() == digits {
+        Some(half)
+    } else {
+        None
+    }
+}
+
+/// The digits of a hash.
+fn hash_digits(hash: &[u8; 32]) -> [u8; 64]
+    ensures { result ≡ encode_lower hash.now }
+{
+    let mut digits = [0; 64];
+    match encode_to_slice(hash, &mut digits) {
+        Ok(()) => digits,
+        Err(_) => unreachable!(),
+    }
+}
+
+/// The digits of half of a mark.
+fn half_digits(half: u64) -> [u8; 16]
+    ensures { result ≡ half_text half }
+{
+    let mut digits = [0; 16];
+    match encode_to_slice(&half.to_be_bytes(), &mut digits) {
+        Ok(()) => digits,
+        Err(_) => unreachable!(),
+    }
+}
+
+/// Digits as a text.
+fn text_of(digits: &[u8]) -> &str
+    requires { IsAscii digits.now }
+    ensures { result.now ≡ digits.now }
+{
+    match str::from_utf8(digits) {
+        Ok(text) => text,
+        Err(_) => unreachable!(),
+    }
+}

@@ -1,0 +1,183 @@
+//! A document in its file, and what is known of it between one keep and the next.
+ghost use Rattle.std.specs.Prelude.{◌≡◌, IfErr, IfOk, OnErr, OnOk};
+ghost use Rattle.rds_files.specs.Files.{IsUnkept};
+ghost use Rattle.rds_lines.specs.Editing.{EditsLines};
+ghost use Rattle.rds_lines.specs.Lines.{lines_in};
+ghost use Rattle.rds_names.specs.declared.fault.Fault.TheVariants.{Memory};
+ghost use Rattle.rds_offline.specs.Letters.{TakesResponse};
+ghost use Rattle.rds_store.specs.Meetings.{RefusesTaking};
+ghost use Rattle.rds_http.specs.Site.{KeepsFile};
+ghost use Rattle.rds_http.specs.Tags.{IsTagOf, RefusesTag};
+
+use crate::tag::Tag;
+use crate::touched::Touched;
+use rds_files::{Disk, LockFile};
+use rds_lines::{Edits, edit_lines};
+use rds_names::{Fault, Roster};
+use rds_output::Reply;
+use rds_state::{Command, Edited};
+use rds_store::{Document, DocumentFile};
+use std::alloc::Global;
+use std::marker::Model;
+use std::mem;
+
+/// A document in its file, with the tag of what it asks, where that is known, and the paths at which it changed.
+pub struct Tracked<'a, H: Disk> {
+    alloc: Global,
+    file: DocumentFile<'a, H>,
+    tag: Option<Tag>,
+    touched: Touched,
+}
+
+impl<H: Disk> Drop for Tracked<'_, H> {
+    fn drop(self) {
+        let Tracked {
+            alloc: _alloc,
+            file: _file,
+            tag: _tag,
+            touched: _touched,
+        } = self;
+    }
+}
+
+impl<'a, H: Disk> Model for Tracked<'a, H> {
+    ghost use Rattle.std.specs.Prelude.{IfSome};
+    ghost use Rattle.rds_store.specs.Files.{OpenValue, coded_open};
+    ghost use Rattle.rds_http.specs.Tags.{IsTagOf};
+
+    ghost Value = { OpenValue };
+
+    ghost coded = { coded_open };
+
+    ghost view = { λ t. t.file };
+
+    ghost invariant = { λ t. IfSome t.tag (IsTagOf t.file.document) };
+}
+
+impl<'a, H: Disk> Tracked<'a, H>
+where
+    H::File: LockFile,
+{
+    /// Keeps the document in its file. Refuses as [`DocumentFile::keep`] does.
+    pub fn keep(&mut self, rt: &H) -> Result<(), Fault>
+        ensures kept { OnOk result (self.new.kept ≡ self.old.document) }
+        ensures document { self.new.document ≡ self.old.document }
+        ensures path { self.new.path ≡ self.old.path }
+        ensures err { OnErr result (self.new ≡ self.old) }
+        ensures fault { IfErr result (IsUnkept self.old.document) }
+    {
+        self.file.keep(rt)
+    }
+}
+
+impl<'a, H: Disk> Tracked<'a, H> {
+    /// A file whose document nothing has changed yet.
+    pub fn new(alloc: Global, file: DocumentFile<'a, H>) -> Tracked<'a, H>
+        ensures { result ≡ file.entry }
+    {
+        Tracked {
+            alloc,
+            file,
+            tag: None,
+            touched: Touched::new(alloc),
+        }
+    }
+
+    /// The document.
+    pub fn document(&self) -> &Document
+        ensures { result.now ≡ self.now.document }
+    {
+        self.file.document()
+    }
+
+    /// The tag of what the document asks. It is made anew only where the document may have changed.
+    pub fn tag(&mut self) -> Result<Tag, Fault>
+        ensures tag { IfOk result (IsTagOf self.old.document) }
+        ensures fault { IfErr result (RefusesTag self.old.document) }
+        ensures same { self.new ≡ self.old }
+    {
+        if let Some(tag) = self.tag {
+            return Ok(tag);
+        }
+        let tag = tag_of(self.file.document())?;
+        self.tag = Some(tag);
+        Ok(tag)
+    }
+
+    /// Edits the document as lines say.
+    pub fn edit_lines(&mut self, lines: &[u8]) -> Result<Vec<Reply>, Fault>
+        ensures edited { IfOk result
+            (λ replies. EditsLines (lines_in lines.now) self.old.document self.new.document replies.items) }
+        ensures memory { IfErr result (λ fault. fault ≡ Memory) }
+        ensures file { KeepsFile self.old self.new }
+        ensures err { OnErr result (self.new ≡ self.old) }
+    {
+        edit_lines(self.alloc, self, lines)
+    }
+
+    /// Takes what answers a question of this replica's.
+    pub fn take(&mut self, question: &[u8], answer: &[u8]) -> Result<u128, Fault>
+        ensures taken { IfOk result
+            (TakesResponse question.now answer.now self.old.document self.new.document) }
+        ensures fault { IfErr result (RefusesTaking question.now answer.now self.old.document) }
+        ensures file { KeepsFile self.old self.new }
+        ensures err { OnErr result (self.new ≡ self.old) }
+    {
+        let touched = Touched::by_answer(self.alloc, self.file.document(), question, answer);
+        self.tag = None;
+        let components = self.file.take(question, answer)?;
+        self.touched.note_all(&touched);
+        Ok(components)
+    }
+
+    /// The paths at which the document changed since they were taken last.
+    pub fn take_touched(&mut self) -> Touched
+        ensures { self.new ≡ self.old }
+    {
+        mem::replace(&mut self.touched, Touched::new(self.alloc))
+    }
+
+    /// Notes that any path may have changed.
+    pub fn forget_touched(&mut self)
+        ensures { self.new ≡ self.old }
+    {
+        self.touched.forget();
+    }
+}
+
+impl<H: Disk> Edits for Tracked<'_, H> {
+    ghost use Rattle.std.specs.Prelude.{◌≡◌};
+    ghost use Rattle.std.proofs.Common.{◌∙◌, refl};
+    ghost use Rattle.rds_http.specs.Site.{KeepsFile};
+
+    ghost replica = { λ tracked. tracked.document };
+
+    ghost stays = { λ old new. KeepsFile old new };
+
+    fn roster(&self) -> &Roster {
+        self.file.document().replica().roster()
+    }
+
+    fn edit_by(&mut self, command: &Command) -> Result<Edited, Fault> {
+        let own = command.copy(self.alloc)?;
+        self.tag = None;
+        let edited = self.file.edit(own)?;
+        self.touched.note_command(command);
+        Ok(edited)
+    }
+
+    ghost same = { λ tracked. record { path = refl; kept = refl } };
+
+    ghost then = { λ a b c first later. record { path = later.path ∙ first.path; kept = later.kept ∙ first.kept } };
+}
+
+/// The tag of what a document asks.
+fn tag_of(document: &Document) -> Result<Tag, Fault>
+    ensures tag { IfOk result (IsTagOf document.now) }
+    ensures fault { IfErr result (RefusesTag document.now) }
+{
+    Ok(Tag {
+        hash: document.question_hash()?,
+        mark: document.mark(),
+    })
+}

@@ -1,0 +1,13 @@
+use Rattle.std.proofs.Common.{ℕ, List, inr, subst, sym}
+use Rattle.rds_offline.specs.Letters.{TakesFile}
+use Rattle.rds_site.proofs.visiting.Meeting.bring.Goals as goal
+
+pub returns-in-Ok : goal.returns-in-Ok
+returns-in-Ok g c =
+    let asked = c.deref-2.result.now in
+    let answer = c.deref-3.result.now in
+    let file = c.in-Ok.done.file in
+    let takes = subst (λ (path : List ℕ). TakesFile path asked answer file c.in-Ok.done.components) c.post.ensures.path c.in-Ok.ensures.taken in
+    record {
+      taken = inr (asked, answer, file, subst (λ (n : ℕ). TakesFile c.args.self.now.path.now asked answer file n) (sym c.into_components.ensures) takes);
+    }

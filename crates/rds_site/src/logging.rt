@@ -1,0 +1,129 @@
+//! The log of requests: a line for each on standard output, where that is wished.
+ghost use Rattle.std.specs.Prelude.{◌≡◌};
+
+use bytes::Bytes;
+use http::{Method, Request};
+use http_server::{Response, Service};
+use rds_files::{Disk, LockFile};
+use rds_http::Site;
+use std::alloc::{AllocError, Global};
+use std::net::SocketAddr;
+use std::time::Duration;
+
+/// The lines of a turn, but for the time that it takes. Where there is no memory for one it is left out.
+#[derive(Drop)]
+pub struct Log {
+    alloc: Global,
+    lines: Vec<String>,
+}
+
+impl Log {
+    /// Without a line.
+    pub fn new(alloc: Global) -> Log {
+        Log {
+            alloc,
+            lines: Vec::new(alloc),
+        }
+    }
+
+    // Notes a request of a client, and what it is answered.
+    fn note(&mut self, client: SocketAddr, request: &Request<Bytes>, response: &Response) {
+        if let Ok(line) = line_of(self.alloc, client, request, response) {
+            let _ = self.lines.push(line);
+        }
+    }
+
+    /// Writes the lines of a turn that took so long, and begins anew. Whether they can be written changes nothing.
+    pub fn write<H: Print>(&mut self, rt: &H, took: Duration) {
+        if self.lines.is_empty() {
+            return;
+        }
+        if let Ok(text) = text_of(self.alloc, &self.lines, took) {
+            let _ = print!(rt; "{text}");
+        }
+        self.lines.clear();
+    }
+}
+
+/// A site, and the log of what it is asked, where one is kept.
+pub struct LoggedSite<'a, H: Disk> {
+    pub site: Site<'a, H>,
+    pub log: Option<Log>,
+    /// Who asks.
+    pub client: SocketAddr,
+}
+
+impl<H: Disk> Drop for LoggedSite<'_, H> {
+    fn drop(self) {
+        let LoggedSite {
+            site: _site,
+            log: _log,
+            client: _,
+        } = self;
+    }
+}
+
+impl<H: Disk> Service for LoggedSite<'_, H>
+where
+    H::File: LockFile,
+{
+    ghost use Rattle.rds_http.specs.Answers.{Answers};
+
+    ghost answers = { λ old request response new. Answers old.site request response new.site };
+
+    fn call(
+        &mut self,
+        request: &Request<Bytes>,
+        response: &mut Response,
+    ) -> Result<(), AllocError> {
+        self.site.call(request, response)?;
+        if let Some(log) = &mut self.log {
+            log.note(self.client, request, response);
+        }
+        Ok(())
+    }
+}
+
+// A line: the client's address, the method, the target, the status, and how many bytes the answer's body has.
+fn line_of(
+    alloc: Global,
+    client: SocketAddr,
+    request: &Request<Bytes>,
+    response: &Response,
+) -> Result<String, AllocError> {
+    let uri = request.uri();
+    let target = format!(in alloc; "{uri}")?;
+    let method = request.method().as_str();
+    let mut line = format!(in alloc; "{client} {method} ")?;
+    push_visible(&mut line, target.as_bytes())?;
+    let status = response.status.as_u16();
+    let length = if *request.method() == Method::HEAD {
+        0
+    } else {
+        response.body.len()
+    };
+    write!(line, " {status} {length}")?;
+    Ok(line)
+}
+
+// Adds bytes. Those that aren't visible characters of ASCII are percent-encoded (RFC 3986).
+fn push_visible(text: &mut String, bytes: &[u8]) -> Result<(), AllocError> {
+    for byte in bytes {
+        if byte.is_ascii_graphic() {
+            text.push(char::from(*byte))?;
+        } else {
+            write!(text, "%{byte:02X}")?;
+        }
+    }
+    Ok(())
+}
+
+// The lines, each with the time in microseconds.
+fn text_of(alloc: Global, lines: &[String], took: Duration) -> Result<String, AllocError> {
+    let took = took.as_micros();
+    let mut text = String::new(alloc);
+    for line in lines {
+        writeln!(text, "{line} {took}")?;
+    }
+    Ok(text)
+}
