@@ -163,6 +163,8 @@ def try_told_fork(make, asked, folder):
     with running(a), running(b), running(c):
         due = [(1, 0, 1), (2, 1, 1), (1, 1, 0)]
         are_counted(nodes, due)
+        told, words = [node.status()["peers"] for node in nodes], ("named", "met", "forked")
+        want(told == [dict(zip(words, counts)) for counts in due], f"of their peers /status tells {told}")
         want(all(node.count("rds_peer_refusals_total") for node in (a, b)), "a fork isn't counted as a refusal")
         values = [value_at(node, "fork/x") for node in (a, b, c)]
         want(values[0] != values[1] == values[2], f"a fork changes what stands there: {values}")

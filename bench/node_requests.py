@@ -50,7 +50,7 @@ POST /edits
 GET /conflicts
   200 x-ndjson
 GET /status
-  200 json {"group":"g","own":"a","names":["a","b"],"live":2,"dead":1,"counters":1,"components":4,..}
+  200 json {"group":"g","own":"a","names":["a","b"],"live":2,"dead":1,"counters":1,"components":4,..,"peers":{"named":0,"met":0,"forked":0}}
 HEAD /doc
   200 json
 HEAD /ask

@@ -1,9 +1,7 @@
 -- What a request changed, and how that is noted.
-use Rattle.std.proofs.Common.{◌≡◌, ◌≢◌, ◌||◌, ◌∙◌, ℕ, Bool, true, false, not, List, None, Some, Result, Ok, Err, String, string_bytes, OnOk, IfOk, IfErr, MatchResult, refl, sym, ap, subst, inl, inr}
-use Rattle.std.specs.Global.{Global}
+use Rattle.std.proofs.Common.{◌≡◌, ◌≢◌, ◌||◌, ◌∙◌, ℕ, Bool, true, false, not, List, None, Some, Result, Ok, Err, OnOk, refl, sym, ap, subst, inr}
 use Rattle.http.specs.declared.request.Request.{Request}
 use Rattle.http_server.specs.declared.response.Response.{Response}
-use Rattle.rds_lines.specs.Overview.{IsOverview}
 use Rattle.rds_names.specs.declared.fault.Fault.{Fault}
 use Rattle.rds_names.specs.declared.fault.Fault.TheVariants.{Memory}
 use Rattle.rds_state.specs.Fits.{ReplicaValue}
@@ -11,9 +9,7 @@ use Rattle.rds_http.specs.Access.{denial}
 use Rattle.rds_http.specs.Answers.{Answers, AnswersBy, Does, DoesPost, KeepsRest, asked_in, may_change, place_in}
 use Rattle.rds_http.specs.Changes.{AnswersEdits, AnswersQuestion, AnswersTake, RefusesBody}
 use Rattle.rds_http.specs.Handshakes.{headers_of}
-use Rattle.rds_http.specs.Looks.{ShowsStatus}
-use Rattle.rds_http.specs.Refusals.{IsDenied, TellsFault, json}
-use Rattle.rds_http.specs.Replies.{Tells}
+use Rattle.rds_http.specs.Refusals.{IsDenied, TellsFault}
 use Rattle.rds_http.specs.Site.{SiteValue}
 use Rattle.rds_http.specs.declared.access.Denied.{Denied}
 use Rattle.rds_http.specs.declared.routes.Post.{Post}
@@ -45,13 +41,6 @@ edits_refused body before after response fault memory same told =
 pub take_refused : (body : List ℕ) (before after : ReplicaValue) (response : Response) (fault : Fault)
     → RefusesBody body before fault → after ≡ before → TellsFault fault response → AnswersTake body before after response
 take_refused body before after response fault why same told = inr (fault, why, record { same = same; told = told })
-
-pub status_shown : (told : Result (String Global) Fault) (document : ReplicaValue) (response : Response)
-    → IfOk told (λ text. IsOverview document (string_bytes text)) → IfErr told (λ fault. fault ≡ Memory)
-    → MatchResult told (λ text. Tells 200 json (string_bytes text) response) (λ fault. TellsFault fault response)
-    → ShowsStatus document response
-status_shown (Ok text) document response is none shown = inl (string_bytes text, is, shown)
-status_shown (Err fault) document response is none shown = inr (subst (λ f. TellsFault f response) none shown)
 
 -- ---- the whole answer
 

@@ -1,5 +1,6 @@
 -- What is shown of a document.
-use Rattle.std.specs.Prelude.{◌≡◌, ◌⊎◌, ℕ, Bool, true, false, List, [], ◌∷◌, codes, decimal, Result, Ok, Err}
+use Rattle.std.specs.Prelude.{◌≡◌, ◌⊎◌, ℕ, ◌-◌, Bool, true, false, List, [], ◌∷◌, ◌++◌, codes, decimal, Result, Ok, Err}
+use Rattle.std.specs.Prelude.{length, take}
 use Rattle.std.specs.Prelude.{if◌then◌else◌, MatchResult, Option, None, Some, String, option_map, string_bytes}
 use Rattle.std.specs.Global.{Global, Vec}
 use Rattle.std.specs.Str.{is_utf8}
@@ -22,6 +23,7 @@ use Rattle.rds_store.specs.Meetings.{MayAsk}
 use Rattle.rds_http.specs.Refusals.{TellsFault, json}
 use Rattle.rds_http.specs.Replies.{Tells, TellsTagged, tag_fields, type_field}
 use Rattle.rds_http.specs.Tags.{IsTagOf, RefusesTag, is_known, state_tag, tag_text}
+use Rattle.rds_http.specs.declared.metrics.PeerCounts.{PeerCounts}
 use Rattle.rds_http.specs.declared.routes.Look.{Look}
 use Rattle.rds_http.specs.declared.tag.Tag.{Tag}
 use Rattle.rds_http.specs.declared.routes.Look.TheVariants.{Page, View, Here, Value, Conflicts, Status, Metrics, Ask}
@@ -73,9 +75,21 @@ ShowsValue headers state place response =
     ((text : List ℕ) × IsValueAt state place text × TellsOf headers state json text response)
     ⊎ ((fault : Fault) × ((fault ≡ Memory) ⊎ IsNoPlace place fault) × TellsFault fault response)
 
+-- how many other nodes there are, how many of them were met when they were called last, and how many have a fork
+abbrev pub peers_text : PeerCounts → List ℕ
+peers_text peers =
+    codes ",\"peers\":{\"named\":" ++ (decimal peers.named ++ (codes ",\"met\":" ++ (decimal peers.met
+    ++ (codes ",\"forked\":" ++ (decimal peers.forked ++ codes "}}")))))
+
+-- an object of JSON with these as its last member
+abbrev pub with_peers : List ℕ → PeerCounts → List ℕ
+with_peers object peers = take (length object - 1) object ++ peers_text peers
+
+-- the status of a document, with what was counted of the other nodes
 abbrev pub ShowsStatus : ReplicaValue → Response → Type 0
 ShowsStatus document response =
-    ((text : List ℕ) × IsOverview document text × Tells 200 json text response) ⊎ TellsFault Memory response
+    ((text : List ℕ) × IsOverview document text × (peers : PeerCounts) × Tells 200 json (with_peers text peers) response)
+    ⊎ TellsFault Memory response
 
 -- the field that tells the number of a replica
 abbrev pub own_field : ReplicaValue → Header

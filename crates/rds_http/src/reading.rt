@@ -23,13 +23,14 @@ ghost use Rattle.rds_http.specs.Looks.{
   page_fields,
   path_in,
   told_in,
+  with_peers,
 };
 ghost use Rattle.rds_http.specs.Replies.{TellsIfUnknown};
 ghost use Rattle.rds_http.specs.Refusals.{TellsFault, json};
 ghost use Rattle.rds_http.specs.Tags.{IsTagOf};
 
 use crate::conditions::{Seen, is_known, seen_of};
-use crate::metrics::Metrics;
+use crate::metrics::{Metrics, PeerCounts};
 use crate::refusals::refuse;
 use crate::replies::{BYTES, JSON, LINES, add_field, fill, fill_tagged, tell_known};
 use crate::routes::Look;
@@ -70,7 +71,7 @@ pub fn look<H: Disk>(
         Look::Here => show_here(alloc, file.document(), place, headers, response),
         Look::Value => show_value(alloc, file.document(), place, headers, response),
         Look::Conflicts => show_conflicts(alloc, file.document(), place, headers, response),
-        Look::Status => show_status(alloc, file.document(), response),
+        Look::Status => show_status(alloc, file.document(), metrics.peers, response),
         Look::Metrics => show_metrics(alloc, file.document(), metrics, response),
         Look::Ask => show_question(alloc, file, headers, response),
     }
@@ -348,19 +349,43 @@ fn show_page(response: &mut Response) -> Result<(), AllocError>
     response.body.push(Bytes::from_static(PAGE.as_bytes()))
 }
 
-/// Answers with whose replica the document is, and how much there is of it.
+/// Answers with whose replica the document is, how much there is of it, and how many other nodes there are.
 fn show_status(
     alloc: Global,
     document: &Document,
+    peers: PeerCounts,
     response: &mut Response,
 ) -> Result<(), AllocError>
     requires { IsBlank response.old }
     ensures { OnOk result (ShowsStatus document.now response.new) }
 {
     match document.status() {
-        Ok(text) => fill(response, StatusCode::OK, JSON, text.into_bytes()),
+        Ok(text) => {
+            let body = with_peers(alloc, text, peers)?;
+            fill(response, StatusCode::OK, JSON, body)
+        }
         Err(fault) => refuse(alloc, fault, response),
     }
+}
+
+/// An object of JSON, with how many other nodes there are as its last member.
+fn with_peers(alloc: Global, object: String, peers: PeerCounts) -> Result<Vec<u8>, AllocError>
+    ensures { IfOk result (λ bytes. bytes.items ≡ with_peers (string_bytes object) peers) }
+{
+    let PeerCounts {
+        named,
+        met,
+        forked,
+        refused: _,
+        exchanges: _,
+    } = peers;
+    let told = format!(in alloc;
+        ",\"peers\":{{\"named\":{named},\"met\":{met},\"forked\":{forked}}}}}"
+    )?;
+    let mut bytes = object.into_bytes();
+    bytes.truncate(bytes.len().saturating_sub(1));
+    bytes.extend_from_slice(told.as_bytes())?;
+    Ok(bytes)
 }
 
 /// Answers with what was counted.
