@@ -11,7 +11,7 @@ pub answers_answered : AnswersAreAnswers
 answers_answered w number asked_path path question bytes asking answering asks asked answers keeps = answers_now w number asking.kept answering.kept asked keeps
 
 pub letters_taken : TakesAreTakes
-letters_taken w number components asked_path peer_path path question answer asking answering file rosters asks answers answered keeps takes =
+letters_taken w number components asked_path peer_path path question answer asking answering file forked rosters asks answers answered keeps takes =
     let A = asking.kept in
     let P = answering.kept in
     let responded : Responded question answer P = record { asked = answers.asked; within = answers.within; is_question = answers.is_question; greets = answers.greets; responds = answers.responds } in

@@ -1,5 +1,5 @@
 -- Questions and answers that go as texts, as events of the model.
-use Rattle.std.specs.Prelude.{ℕ, List, [], ◌∷◌, length}
+use Rattle.std.specs.Prelude.{ℕ, Bool, List, [], ◌∷◌, length}
 use Rattle.rds_files.specs.Files.{FileValue, ReplacedValue}
 use Rattle.rds_offline.specs.Letters.{AnswersFile, AsksFile, TakesFile}
 use Rattle.rds_state.specs.Fits.{ReplicaValue}
@@ -30,7 +30,7 @@ AnswersAreAnswers =
 abbrev pub TakesAreTakes : Type 0
 TakesAreTakes =
     (w : World) (number components : ℕ) (asked_path peer_path path question answer : List ℕ)
-    (asking answering : FileValue) (file : ReplacedValue) → HasRosters w → AsksFile asked_path asking question
+    (asking answering : FileValue) (file : ReplacedValue) (forked : Bool) → HasRosters w → AsksFile asked_path asking question
     → AnswersFile peer_path question answering answer → IsAnsweredIn w number asking.kept answering.kept
-    → IsKeptIn w file.before → TakesFile path question answer file components
+    → IsKeptIn w file.before → TakesFile path question answer file components forked
     → LeavesFile w (settling_events asking.kept number) file

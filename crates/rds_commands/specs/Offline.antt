@@ -1,9 +1,9 @@
 -- What is written of files that meet without a connection.
-use Rattle.std.specs.Prelude.{◌≡◌, ◌⊎◌, ℕ, List, [], Option, IfSome, Err}
+use Rattle.std.specs.Prelude.{◌≡◌, ◌⊎◌, ℕ, Bool, true, false, List, [], Option, Some, None, IfSome, Err}
 use Rattle.std.specs.Io.KnownBytes.{Appends}
 use Rattle.rds_names.specs.declared.fault.Fault.{Fault}
-use Rattle.rds_names.specs.declared.fault.Fault.TheVariants.{Device, Memory, Usage}
-use Rattle.rds_files.specs.Files.{FileValue, IsUnread}
+use Rattle.rds_names.specs.declared.fault.Fault.TheVariants.{Device, Forked, Memory, Usage}
+use Rattle.rds_files.specs.Files.{FileValue, IsUnread, ReplacedValue}
 use Rattle.rds_offline.specs.Copies.{InitsFrom, MergesFile, RefusesInitFrom, RefusesMergeFile}
 use Rattle.rds_offline.specs.Letters.{
   AnswersFile,
@@ -15,10 +15,12 @@ use Rattle.rds_offline.specs.Letters.{
   TakesFile,
 }
 use Rattle.rds_output.specs.Output.{Writes, fault_status}
+use Rattle.rds_output.specs.Reply.{WritesReply}
 use Rattle.rds_output.specs.declared.reply.Reply.TheVariants.{Done, Taken}
 use Rattle.rds_words.specs.declared.tasks.InitFromWords.{InitFromWords}
 use Rattle.rds_commands.specs.OfFile.{WritesOfFile}
 use Rattle.rds_commands.specs.Reading.{IsReadBy, text_read}
+use Rattle.rds_commands.specs.Visits.{WritesVisitOf}
 use Rattle.rds_lines.specs.Streams.{NoneFailed, Stream}
 
 -- ---- copies
@@ -60,13 +62,19 @@ WritesAnswerTo path reading before after status =
     → WritesAnswer path (text_read input) before after status ⊎ WritesNothing Memory before after status)
     × (reading.CountRose → WritesNothing Device before after status)
 
--- how many components the answer brought that these bytes are to the question that those are, into a file that took it;
--- or why it took nothing
+-- by which fault a take ends that was kept
+abbrev pub fork_fault : Bool → Option Fault
+fork_fault true = Some Forked
+fork_fault false = None
+
+-- how many components the answer brought that these bytes are to the question that those are, into a file that took it,
+-- and then the fault of a fork where it tells one, as of a meeting with a site; or why it took nothing
 abbrev pub WritesTakeOf : List ℕ → List ℕ → List ℕ → Option (List ℕ) → Option (List ℕ) → ℕ → Type 0
-WritesTakeOf path question answer =
-    WritesOfFile
-    (λ file reply. (components : ℕ) × TakesFile path question answer file components × (reply ≡ Taken components))
-    (RefusesTake path question answer)
+WritesTakeOf path question answer before after status =
+    ((file : ReplacedValue) × (components : ℕ) × (forked : Bool)
+    × TakesFile path question answer file components forked
+    × WritesVisitOf (Some components) (fork_fault forked) before after status)
+    ⊎ ((fault : Fault) × RefusesTake path question answer fault × WritesReply (Err fault) before after status)
 
 -- why question and answer aren't given: both are the input, or a file or the input can't be read; or want of memory
 abbrev pub IsUngiven : Fault → Type 0

@@ -16,7 +16,8 @@ is_site addr = begins_with addr (codes "http://")
 -- the file at a path took so many components of an answer to its question, and keeps them
 abbrev pub TakesAnswer : List ℕ → ℕ → Type 0
 TakesAnswer path components =
-    (question : List ℕ) × (answer : List ℕ) × (file : ReplacedValue) × TakesFile path question answer file components
+    (question : List ℕ) × (answer : List ℕ) × (file : ReplacedValue) × (forked : Bool)
+    × TakesFile path question answer file components forked
 
 -- so many components were taken by the file at a path: none, since nothing was lacking, or those of an answer
 abbrev pub IsBrought : List ℕ → ℕ → Type 0

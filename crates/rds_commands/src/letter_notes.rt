@@ -47,6 +47,13 @@ pub fn note_take<H: Disk>(rt: &H, path: &str, question: &[u8], answer: &[u8], fa
     }
 }
 
+/// Tells that what a file took told a fork, and what is to be done.
+pub fn note_fork<H: Eprint>(rt: &H, path: &str) {
+    let _ = eprintln!(rt;
+        "{path} and who answered hold different entries of one replica: give each place one of another name ('grow')"
+    );
+}
+
 /// Tells why nothing is told of an answer.
 pub fn note_check<H: Disk>(rt: &H, question: &[u8], answer: &[u8], fault: Fault) {
     match refused_of(rt.alloc(), question, answer) {

@@ -1,5 +1,5 @@
 //! Commands on files that meet without a connection, and what is written of them.
-ghost use Rattle.std.specs.Prelude.{◌≡◌, ◌≤◌, ◌⊎◌, false, IfErr, IfOk, string_bytes};
+ghost use Rattle.std.specs.Prelude.{◌≡◌, ◌≤◌, ◌⊎◌, false, IfErr, IfOk, Some, string_bytes};
 ghost use Rattle.rds_lines.specs.Streams.{Tells, stream_of};
 ghost use Rattle.rds_names.specs.declared.fault.Fault.TheVariants.{Device};
 ghost use Rattle.rds_output.specs.Output.{fault_status};
@@ -16,17 +16,23 @@ ghost use Rattle.rds_commands.specs.Offline.{
   WritesMerge,
   WritesTake,
   WritesTakeOf,
+  fork_fault,
 };
 ghost use Rattle.rds_commands.specs.Reading.{IsReadBy, is_piped};
+ghost use Rattle.rds_commands.specs.Visits.{WritesVisitOf};
 
-use crate::letter_notes::{note_answer, note_check, note_take};
-use crate::notes::{note_file, note_init_from, note_input, note_merge};
+use crate::letter_notes::{note_answer, note_check, note_fork, note_take};
+use crate::notes::{note_file, note_init_from, note_input, note_merge, note_unwritten};
 use crate::outcome::told_taken;
+use crate::site::Visit;
+use crate::visits::write_visit;
 use rds_codec::LIMIT;
 use rds_files::{Disk, LockFile};
 use rds_keep::Counted;
 use rds_names::Fault;
-use rds_offline::{answer_file, ask_file, check_texts, init_from, merge_file, take_file};
+use rds_offline::{
+    AnsweredFile, answer_file, ask_file, check_texts, init_from, merge_file, take_file,
+};
 use rds_output::{Reply, status_of, write_fault, write_reply};
 use rds_words::InitFromWords;
 use std::fs;
@@ -156,8 +162,8 @@ where
     }
 }
 
-/// Takes an answer into a file as `take_file` does, and writes how many components were taken. Question and answer are
-/// read from the files at two paths, of which one may be `-`, the reader.
+/// Takes an answer into a file as `take_file` does, and writes how many components were taken, and then `Forked` where
+/// that told a fork. Question and answer are read from the files at two paths, of which one may be `-`, the reader.
 pub fn run_take<H: Disk, R: Read, W: Write>(
     rt: &H,
     words: TakeWords<'_>,
@@ -192,14 +198,50 @@ where
     ensures status { result ≤ 2 }
     ensures broken { (writer.new.failed ≡ writer.old.failed) ⊎ (result ≡ 1) }
 {
-    let done = take_file(rt, path, question, answer);
-    told_taken(
-        rt,
-        path,
-        done,
-        writer,
-        |fault| note_take(rt, path, question, answer, fault),
-    )
+    match take_file(rt, path, question, answer) {
+        Ok(done) => told_answered(rt, path, done, writer),
+        Err(fault) => {
+            note_take(rt, path, question, answer, fault);
+            write_fault(writer, fault)
+        }
+    }
+}
+
+// Writes how many components a file took, and then `Forked` where that told a fork.
+fn told_answered<H: Disk, W: Write>(
+    rt: &H,
+    path: &str,
+    done: AnsweredFile<'_>,
+    writer: &mut Counted<W>,
+) -> u8
+    ensures written { Tells (WritesVisitOf (Some done.entry.components) (fork_fault done.entry.forked))
+        (stream_of W.contents writer.old writer.new) result }
+    ensures status { result ≤ 2 }
+    ensures broken { (writer.new.failed ≡ writer.old.failed) ⊎ (result ≡ 1) }
+{
+    let forked = done.forked;
+    let visit = Visit {
+        taken: Some(done.into_components()),
+        fault: fork_fault(forked),
+    };
+    let status = write_visit(writer, visit);
+    if forked {
+        note_fork(rt, path);
+    } else {
+        note_unwritten(rt, path, true, status);
+    }
+    status
+}
+
+// The fault by which a take ends that was kept.
+fn fork_fault(forked: bool) -> Option<Fault>
+    ensures { result ≡ fork_fault forked }
+{
+    if forked {
+        Some(Fault::Forked)
+    } else {
+        None
+    }
 }
 
 /// Writes what an answer brings to a question as `check_texts` tells it, or why it brings nothing. They are read as for

@@ -1,6 +1,6 @@
 -- A file that answers a question, and a file that takes an answer.
-use Rattle.std.proofs.Common.{◌≡◌, ◌≤◌, ◌<◌, ◌∙◌, ℕ, List, length, Result, Ok, Err, subst, sym, inl, inr}
-use Rattle.std.specs.Prelude.{IfOk}
+use Rattle.std.proofs.Common.{◌≡◌, ◌≤◌, ◌<◌, ◌∙◌, ◌↔◌, ℕ, Bool, List, length, Result, Ok, Err, subst, sym, inl, inr}
+use Rattle.std.specs.Prelude.{IfOk, IsTrue}
 use Rattle.std.specs.Global.{Vec}
 use Rattle.std.proofs.lemmas.Bool.{cases_lt}
 use Rattle.rds_names.specs.declared.fault.Fault.{Fault}
@@ -10,10 +10,12 @@ use Rattle.rds_codec.specs.StateTexts.{IsSnapshot}
 use Rattle.rds_codec.specs.declared.limits.TheConstants.{LIMIT}
 use Rattle.rds_files.specs.Files.{FileValue, IsHeldAt, IsReadAt, IsUnkept, KeptFile, ReplacedValue}
 use Rattle.rds_listing.specs.Evidence.{evidence_text}
+use Rattle.rds_questions.specs.Forks.{TellsFork}
 use Rattle.rds_questions.specs.Questions.{QuestionValue, askers_of, question_kind}
 use Rattle.rds_questions.specs.Receiving.{IsReceivedFrom, ReceivedValue, ReceivesRead}
 use Rattle.rds_questions.specs.Responding.{RespondGives}
 use Rattle.rds_questions.specs.Responses.{response_at}
+use Rattle.rds_questions.specs.Tags.{RefusesTag}
 use Rattle.rds_questions.specs.Taking.{HasAllOf, IsAsker, TakesReceived}
 use Rattle.rds_state.specs.Coordinates.{join}
 use Rattle.rds_state.specs.Fits.{ReplicaValue}
@@ -55,10 +57,15 @@ is_taken asked received before old after same takes joined roster own =
     let taken : IsTaken received old after = record { rosters = takes.1.0; roster = roster; own = own; joined = joined; known = takes.1.1.0 } in
     subst (λ (v : ReplicaValue). IsTaken received v after) same taken
 
+-- what was taken has no tag
+pub untold_take : (asked : QuestionValue) (received : ReceivedValue) (before old after : ReplicaValue) (fault : Fault) → old ≡ before → TakesReceived asked old received (Ok tt)
+    → coordinates after.state ≡ join (coordinates old.state) (coordinates received.delta) → after.roster ≡ longer old.roster received.roster → after.own ≡ old.own → RefusesTag after fault → RefusesTakeIn asked received before fault
+untold_take asked received before old after fault same takes joined roster own untold = inr (after, is_taken asked received before old after same takes joined roster own, inl untold)
+
 -- what was taken can't be kept
 pub unkept_take : (asked : QuestionValue) (received : ReceivedValue) (before old after : ReplicaValue) (fault : Fault) → old ≡ before → TakesReceived asked old received (Ok tt)
     → coordinates after.state ≡ join (coordinates old.state) (coordinates received.delta) → after.roster ≡ longer old.roster received.roster → after.own ≡ old.own → IsUnkept after fault → RefusesTakeIn asked received before fault
-unkept_take asked received before old after fault same takes joined roster own unkept = inr (after, is_taken asked received before old after same takes joined roster own, unkept)
+unkept_take asked received before old after fault same takes joined roster own unkept = inr (after, is_taken asked received before old after same takes joined roster own, inr unkept)
 
 -- bytes that aren't received bring nothing
 pub brings_nothing : (asked : QuestionValue) (bytes : List ℕ) (fault : Fault) → (LIMIT < length bytes → ◌≡◌ {A = Result ReceivedValue Fault} (Err fault) (Err TooLong))
@@ -87,9 +94,9 @@ module _ (path question answer : List ℕ) (asked : QuestionValue) (is : IsGiven
       why = refused;
     })))
 
-    pub takes_file : (done : ReplacedValue) (components : ℕ) → done.path ≡ opened.path → done.before ≡ opened.kept → IsAsker asked opened.kept → HasAllOf asked.digest opened.kept.state
-        → IsTaken received opened.kept done.kept → components ≡ size received.delta → TakesFile path question answer done components
-    takes_file done components at before asker has_all taken count = record {
+    pub takes_file : (done : ReplacedValue) (components : ℕ) (forked : Bool) → done.path ≡ opened.path → done.before ≡ opened.kept → IsAsker asked opened.kept → HasAllOf asked.digest opened.kept.state
+        → IsTaken received opened.kept done.kept → components ≡ size received.delta → IsTrue forked ↔ TellsFork done.kept received → TakesFile path question answer done components forked
+    takes_file done components forked at before asker has_all taken count forks = record {
       read = record { at = at ∙ held.at; value = subst IsSnapshot (sym before) held.value; place = held.place };
       takes = record {
         asked = asked;
@@ -102,6 +109,7 @@ module _ (path question answer : List ℕ) (asked : QuestionValue) (is : IsGiven
         taken = subst (λ (v : ReplicaValue). IsTaken received v done.kept) (sym before) taken;
         count = count;
       };
+      forks = forks;
     }
 
 -- ---- looking at an answer

@@ -1,5 +1,5 @@
 -- Questions and answers of the replicas in files, as texts that go by any means.
-use Rattle.std.specs.Prelude.{◌≡◌, ◌⊎◌, ◌<◌, ◌≤◌, ℕ, List, length, None, Ok, Err}
+use Rattle.std.specs.Prelude.{◌≡◌, ◌⊎◌, ◌<◌, ◌≤◌, ◌↔◌, ℕ, Bool, IsTrue, List, length, None, Ok, Err}
 use Rattle.rds_names.specs.declared.fault.Fault.{Fault}
 use Rattle.rds_names.specs.declared.fault.Fault.TheVariants.{Memory, TooLong}
 use Rattle.rds_codec.specs.Decoding.{Decodes, IsTextOf, all_of}
@@ -7,11 +7,13 @@ use Rattle.rds_codec.specs.StateTexts.{IsSnapshot}
 use Rattle.rds_codec.specs.declared.limits.TheConstants.{LIMIT}
 use Rattle.rds_files.specs.Files.{FileValue, IsReadAt, IsReplacedAt, IsUnkept, IsUnread, RefusesLock, ReplacedValue}
 use Rattle.rds_listing.specs.Evidence.{evidence_text}
+use Rattle.rds_questions.specs.Forks.{TellsFork}
 use Rattle.rds_questions.specs.Greeting.{GreetGives}
 use Rattle.rds_questions.specs.Questions.{QuestionValue, askers_of, question_kind, question_of, question_text}
 use Rattle.rds_questions.specs.Receiving.{IsReceivedFrom, ReceivedValue, ReceivesRead}
 use Rattle.rds_questions.specs.Responding.{IsRespondedBy, RespondGives}
 use Rattle.rds_questions.specs.Responses.{response_at}
+use Rattle.rds_questions.specs.Tags.{RefusesTag}
 use Rattle.rds_questions.specs.Taking.{HasAllOf, IsAsker, TakesReceived}
 use Rattle.rds_state.specs.Ahead.{Ahead}
 use Rattle.rds_state.specs.Coordinates.{join}
@@ -74,16 +76,19 @@ pub record TakesResponse (question answer : List ℕ) (before after : ReplicaVal
   pub taken : IsTaken received before after
   pub count : components ≡ size received.delta
 
--- the file at a path was read under its lock, and keeps what it held then with what the answer brought
-pub record TakesFile (path question answer : List ℕ) (file : ReplacedValue) (components : ℕ) : Type 0 where
+-- the file at a path was read under its lock, and keeps what it held then with what the answer brought, whether that
+-- tells a fork or not
+pub record TakesFile (path question answer : List ℕ) (file : ReplacedValue) (components : ℕ) (forked : Bool)
+    : Type 0 where
   pub read : IsReplacedAt path file
   pub takes : TakesResponse question answer file.before file.kept components
+  pub forks : IsTrue forked ↔ TellsFork file.kept takes.received
 
--- why what was received isn't taken and kept: a take of it is refused, or the new replica can't be kept
+-- why what was received isn't taken and kept: a take of it is refused, or the new replica has no tag or can't be kept
 abbrev pub RefusesTakeIn : QuestionValue → ReceivedValue → ReplicaValue → Fault → Type 0
 RefusesTakeIn asked received before fault =
     TakesReceived asked before received (Err fault)
-    ⊎ ((after : ReplicaValue) × IsTaken received before after × IsUnkept after fault)
+    ⊎ ((after : ReplicaValue) × IsTaken received before after × (RefusesTag after fault ⊎ IsUnkept after fault))
 
 -- the same, of something that a file may hold
 pub record RefusesResponse (question answer : List ℕ) (fault : Fault) : Type 0 where

@@ -1,19 +1,20 @@
 //! Questions and answers of the replicas in files.
-ghost use Rattle.std.specs.Prelude.{◌≡◌, length, IfErr, IfOk, string_bytes};
+ghost use Rattle.std.specs.Prelude.{◌≡◌, ◌↔◌, length, IfErr, IfOk, IsTrue, string_bytes};
 ghost use Rattle.rds_files.specs.Files.{IsUnread};
 ghost use Rattle.rds_offline.specs.Letters.{AnswersFile, AsksFile, ChecksTexts, IsTaken, RefusesAnswer, RefusesCheck, RefusesTake, RefusesTakeIn, TakesFile};
+ghost use Rattle.rds_questions.specs.Forks.{TellsFork};
 ghost use Rattle.rds_questions.specs.Taking.{HasAllOf, IsAsker};
 ghost use Rattle.rds_state.specs.Fits.{Fits};
 ghost use Rattle.rds_state.specs.Value.{coordinates, size};
 
 use crate::changes::change_by;
-use crate::copies::TakenFile;
-use rds_files::{Disk, LockFile, LockedFile, ReplicaFile};
+use rds_files::{Disk, LockFile, LockedFile, ReplacedFile, ReplicaFile};
 use rds_gaps::GapSet;
 use rds_listing::evidence;
 use rds_names::Fault;
 use rds_questions::{
     Question, Received, decode_question, encode_question, receive, respond, take_response,
+    tells_fork,
 };
 use std::alloc::Global;
 
@@ -32,6 +33,26 @@ impl ToldFile<'_> {
         ensures { result.items ≡ self.entry.bytes.items }
     {
         self.bytes
+    }
+}
+
+/// A file that took what an answer brought.
+#[derive(Drop)]
+pub struct AnsweredFile<'a> {
+    /// The file.
+    pub file: ReplacedFile<'a, GapSet>,
+    /// How many components it took.
+    pub components: u128,
+    /// Whether that tells a fork: who answered had seen what the file has now, and held something else.
+    pub forked: bool,
+}
+
+impl AnsweredFile<'_> {
+    /// How many components it took: the file is let go.
+    pub fn into_components(self) -> u128
+        ensures { result ≡ self.entry.components }
+    {
+        self.components
     }
 }
 
@@ -73,16 +94,18 @@ where
 /// Takes the answer whose text the second bytes are to the question whose text the first are into a file, and answers
 /// how many components it brought. Both are judged first, as a session judges them; then the file is locked and read,
 /// and its replica has to be the one that asked, and to have all that it had then: else it is `WrongAsker`, or
-/// `OwnAhead` where it lacks something of its own. The replica is joined with the delta, and kept.
+/// `OwnAhead` where it lacks something of its own. The replica is joined with the delta, and kept. Where that tells a
+/// fork it is kept all the same.
 pub fn take_file<'a, H: Disk>(
     rt: &H,
     path: &'a str,
     question: &[u8],
     answer: &[u8],
-) -> Result<TakenFile<'a>, Fault>
+) -> Result<AnsweredFile<'a>, Fault>
 where
     H::File: LockFile,
-    ensures taken { IfOk result (λ done. TakesFile path.now question.now answer.now done.file done.components) }
+    ensures taken { IfOk result (λ done. TakesFile path.now question.now answer.now done.file done.components
+        done.forked) }
     ensures fault { IfErr result (RefusesTake path.now question.now answer.now) }
 {
     let alloc = rt.alloc();
@@ -115,7 +138,7 @@ fn take_in<'a, H: Disk>(
     file: LockedFile<'a, H, GapSet>,
     asked: &Question<GapSet>,
     received: &Received<GapSet>,
-) -> Result<TakenFile<'a>, Fault>
+) -> Result<AnsweredFile<'a>, Fault>
 where
     H::File: LockFile,
     requires fits { Fits (length received.now.roster.names) (coordinates received.now.delta) }
@@ -125,13 +148,19 @@ where
     ensures has_all { IfOk result (λ _. HasAllOf asked.now.digest file.entry.kept.state) }
     ensures taken { IfOk result (λ done. IsTaken received.now file.entry.kept done.file.kept) }
     ensures count { IfOk result (λ done. done.components ≡ size received.now.delta) }
+    ensures forked { IfOk result (λ done. IsTrue done.forked ↔ TellsFork done.file.kept received.now) }
     ensures fault { IfErr result (RefusesTakeIn asked.now received.now file.entry.kept) }
 {
     let components = received.delta.components();
     let (mut replica, emptied) = file.into_parts();
     let replicas = replica.roster().len();
     take_response(rt.alloc(), &mut replica, asked, received)?;
+    let forked = tells_fork(rt.alloc(), &replica, received)?;
     let change = change_by(replicas, &received.roster, &received.delta);
     let file = emptied.keep(rt, replica, change)?;
-    Ok(TakenFile { file, components })
+    Ok(AnsweredFile {
+        file,
+        components,
+        forked,
+    })
 }

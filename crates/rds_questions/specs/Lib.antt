@@ -1,3 +1,4 @@
+pub mod Forks
 pub mod Greeting
 pub mod Hashed
 pub mod Lacking
@@ -6,4 +7,5 @@ pub mod Questions
 pub mod Receiving
 pub mod Responding
 pub mod Responses
+pub mod Tags
 pub mod Taking

@@ -14,25 +14,30 @@ use Rattle.rds_codec.specs.declared.limits.TheConstants.{LIMIT}
 use Rattle.rds_questions.specs.Greeting.{GreetGives}
 use Rattle.rds_questions.specs.Questions.{QuestionValue, askers_of}
 use Rattle.rds_questions.specs.Responses.{ResponseValue, response_kind}
+use Rattle.rds_questions.specs.Tags.{coded_tag}
+use Rattle.rds_questions.specs.declared.tags.Tag.{Tag}
 
--- the delta, the longer of the rosters of who asked and who answered, and the delta's certificate
+-- the delta, the longer of the rosters of who asked and who answered, the delta's certificate, and the tag of who
+-- answered
 pub record ReceivedValue : Type 0 where
   pub delta : StateValue
   pub roster : RosterValue
   pub certificate : List Row
+  pub tag : Tag
 
 abbrev pub coded_received : Coded ReceivedValue
 coded_received =
-    code_by (StateValue × (RosterValue × List Row))
-    (coded× coded_state (coded× coded_roster (coded_list row.the_row.coded)))
-    (λ r. (r.delta, (r.roster, r.certificate)))
-    (λ p. record { delta = p.0; roster = p.1.0; certificate = p.1.1 }) (λ _. refl)
+    code_by (StateValue × (RosterValue × (List Row × Tag)))
+    (coded× coded_state (coded× coded_roster (coded× (coded_list row.the_row.coded) coded_tag)))
+    (λ r. (r.delta, (r.roster, (r.certificate, r.tag))))
+    (λ p. record { delta = p.0; roster = p.1.0; certificate = p.1.1.0; tag = p.1.1.1 }) (λ _. refl)
 
 abbrev pub received_of : QuestionValue → ResponseValue → ReceivedValue
 received_of q r = record {
   delta = r.answer.state;
   roster = longer q.hello.roster r.hello.roster;
   certificate = r.answer.certificate;
+  tag = r.tag;
 }
 
 -- the two may talk

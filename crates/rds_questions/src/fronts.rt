@@ -13,7 +13,7 @@ use std::alloc::{AllocError, Global};
 pub const QUESTION_FRONT: &[u8; 4] = b"RDSB";
 
 /// What the text of a response begins with.
-pub const RESPONSE_FRONT: &[u8; 4] = b"RDSA";
+pub const RESPONSE_FRONT: &[u8; 4] = b"RDSC";
 
 /// The bytes after these four.
 pub fn read_front<'a>(front: &[u8; 4], bytes: &'a [u8]) -> Result<&'a [u8], Fault>

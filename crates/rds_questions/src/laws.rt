@@ -1,6 +1,7 @@
 //! The laws of questions and responses.
 ghost use Rattle.std.specs.Prelude.{ℕ};
 ghost use Rattle.rds_codec.specs.Laws.{StandApart};
+ghost use Rattle.rds_questions.specs.Forks.{ForksAreTold, NoOtherForksAreTold};
 ghost use Rattle.rds_questions.specs.Hashed.{EqualDigestsTellEqualStates, EqualHashesTellEqualMarks, EqualHashesTellEqualQuestions};
 ghost use Rattle.rds_questions.specs.Lacking.{LevelReplicasLackNothing};
 ghost use Rattle.rds_questions.specs.Laws.{AreToldApart, DeltasAreLeast, HaveOneResponse, ReplicasAskWell, ResponsesAreReceived};
@@ -39,6 +40,14 @@ pub fn equal_hashes_tell_equal_questions()
     ensures questions { EqualHashesTellEqualQuestions }
     ensures states { EqualDigestsTellEqualStates }
     ensures marks { EqualHashesTellEqualMarks }
+{}
+
+/// A response tells a fork where who answered and who took would ask the same, and have other marks. Where no dot of
+/// their states has two entries it tells none, or two different texts with one SHA-256 are in hand. The function does
+/// nothing: its contract is these laws.
+pub fn forks_are_told()
+    ensures told { ForksAreTold }
+    ensures only { NoOtherForksAreTold }
 {}
 
 /// A replica and one that asked it both lack nothing exactly where they have the same roster and the same digest. The

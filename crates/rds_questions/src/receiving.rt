@@ -16,6 +16,7 @@ ghost use Rattle.rds_questions.specs.Responses.{ResponseValue, response_at, resp
 use crate::greeting::greet;
 use crate::questions::Question;
 use crate::responses::{Response, decode_response};
+use crate::tags::Tag;
 use rds_delta::{Certificate, check};
 use rds_dots::DotSet;
 use rds_names::{Fault, Roster};
@@ -32,6 +33,8 @@ pub struct Received<S: DotSet> {
     pub roster: Roster,
     /// What the question's digest has in place of each component of the delta.
     pub certificate: Certificate,
+    /// The tag of the one that answered, as it was then.
+    pub tag: Tag,
 }
 
 impl<S: DotSet> Model for Received<S> {
@@ -41,7 +44,7 @@ impl<S: DotSet> Model for Received<S> {
 
     ghost coded = { coded_received };
 
-    ghost view = { λ r. record { delta = r.delta; roster = r.roster; certificate = r.certificate } };
+    ghost view = { λ r. record { delta = r.delta; roster = r.roster; certificate = r.certificate; tag = r.tag } };
 }
 
 /// The longer of the two rosters, the own one where they have as many names.
@@ -64,7 +67,7 @@ fn judge<S: DotSet>(
     ensures { ReceivesOrLost question.now response result }
 {
     greet(&question.hello.roster, question.hello.own, &response.hello)?;
-    let Response { hello, answer } = response;
+    let Response { hello, tag, answer } = response;
     if answer.asker != question.hello.own {
         return Err(Fault::WrongAsker);
     }
@@ -76,6 +79,7 @@ fn judge<S: DotSet>(
         delta: answer.state,
         roster,
         certificate: answer.certificate,
+        tag,
     })
 }
 

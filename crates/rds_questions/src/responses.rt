@@ -1,4 +1,4 @@
-//! What is responded to a question: who answers, and the answer.
+//! What is responded to a question: who answers, its tag, and the answer.
 ghost use Rattle.std.specs.Prelude.{◌≡◌, ◌≤◌, length, max};
 ghost use Rattle.rds_bytes.specs.Reading.{Reads};
 ghost use Rattle.rds_codec.specs.Decoding.{Decodes, ReadsAll, all_of};
@@ -6,17 +6,20 @@ ghost use Rattle.rds_codec.specs.declared.limits.TheConstants.{LIMIT};
 ghost use Rattle.rds_questions.specs.Responses.{format_said, response_at, response_kind};
 
 use crate::fronts::{RESPONSE_FRONT, read_front};
+use crate::tags::{Tag, read_tag};
 use rds_codec::{Answer, Format, Hello, LIMIT, decode_answer_in, read_hello};
 use rds_dots::DotSet;
 use rds_names::Fault;
 use std::alloc::Global;
 use std::marker::Model;
 
-/// What a replica responds to a question: who it is, and the answer to the question's digest.
+/// What a replica responds to a question: who it is, what it holds, and the answer to the question's digest.
 #[derive(Drop)]
 pub struct Response<S: DotSet> {
     /// Who answers. Its version is that of the answer's format.
     pub hello: Hello,
+    /// Its tag, by which a fork is told.
+    pub tag: Tag,
     /// For the one that asked: the delta, and its certificate.
     pub answer: Answer<S>,
 }
@@ -28,7 +31,7 @@ impl<S: DotSet> Model for Response<S> {
 
     ghost coded = { coded_response };
 
-    ghost view = { λ r. record { hello = r.hello; answer = r.answer } };
+    ghost view = { λ r. record { hello = r.hello; tag = r.tag; answer = r.answer } };
 }
 
 /// The format of a version: 1 is that of format 1, and any other asks for format 2.
@@ -49,9 +52,10 @@ fn read_response<S: DotSet>(alloc: Global, askers: u16, bytes: &[u8]) -> Result<
 {
     let rest = read_front(RESPONSE_FRONT, bytes)?;
     let (hello, rest) = read_hello(alloc, rest)?;
+    let (tag, rest) = read_tag(rest)?;
     let replicas = askers.max(hello.roster.len());
     let answer = decode_answer_in(alloc, format_said(hello.version), replicas, rest)?;
-    Ok(Response { hello, answer })
+    Ok(Response { hello, tag, answer })
 }
 
 /// The response whose text the bytes are, to a question whose roster has so many replicas. Who answers and what for
@@ -59,7 +63,7 @@ fn read_response<S: DotSet>(alloc: Global, askers: u16, bytes: &[u8]) -> Result<
 ///
 /// They are read from the left, and each part is judged as soon as it is there. Refused are bytes above the limit
 /// (`TooLong`, before anything is read); bytes that go on after a text (`Extra`); and other bytes that are no text:
-/// `Cut` where they end inside a part, `Bad` where a part that is there is none. Of the first four bytes `RDSA` alone
+/// `Cut` where they end inside a part, `Bad` where a part that is there is none. Of the first four bytes `RDSC` alone
 /// are one, and of versions those of a format.
 pub fn decode_response<S: DotSet>(
     alloc: Global,

@@ -154,6 +154,7 @@ fn take_in(
         delta,
         roster,
         certificate: _certificate,
+        tag: _tag,
     } = received;
     let components = delta.components();
     let grew = document.take_with(roster, &delta)?;

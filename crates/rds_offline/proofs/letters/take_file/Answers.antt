@@ -23,5 +23,5 @@ returns-in_err-done-clause-fault g c =
 pub returns-clause-taken : goal.returns-clause-taken
 returns-clause-taken g c =
     takes_file c.args.path.now c.args.question.now c.args.answer.now c.in_ok-asked.asked c.in_ok-asked.ensures.text.value c.in_ok-received.received c.in_ok-received.ensures.text
-    c.in_ok-opened.opened c.in_ok-opened.ensures.held c.in_ok-done.done.file c.in_ok-done.done.components c.in_ok-done.ensures.path c.in_ok-done.ensures.before c.in_ok-done.ensures.replica
-    c.in_ok-done.ensures.has_all c.in_ok-done.ensures.taken c.in_ok-done.ensures.count
+    c.in_ok-opened.opened c.in_ok-opened.ensures.held c.in_ok-done.done.file c.in_ok-done.done.components c.in_ok-done.done.forked c.in_ok-done.ensures.path c.in_ok-done.ensures.before c.in_ok-done.ensures.replica
+    c.in_ok-done.ensures.has_all c.in_ok-done.ensures.taken c.in_ok-done.ensures.count c.in_ok-done.ensures.forked

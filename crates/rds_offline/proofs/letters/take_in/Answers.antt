@@ -1,14 +1,15 @@
-use Rattle.std.proofs.Common.{◌≡◌, ◌∙◌, ap, cond, length, nat_le, subst, sym}
-use Rattle.std.specs.Prelude.{None, Some}
+use Rattle.std.proofs.Common.{◌≡◌, ◌∙◌, ◌↔◌, ap, cond, length, nat_le, subst, sym}
+use Rattle.std.specs.Prelude.{IsTrue, None, Some}
 use Rattle.std.proofs.lemmas.Result.{err_from_is_err_and}
 use Rattle.rds_names.specs.Roster.{RosterValue}
 use Rattle.rds_state.specs.Fits.{ReplicaValue}
 use Rattle.rds_state.specs.Value.{coordinates}
 use Rattle.rds_keep.specs.Changes.{IsChanged}
 use Rattle.rds_files.specs.Files.{KeptFile, ReplacedValue}
+use Rattle.rds_questions.specs.Forks.{TellsFork}
 use Rattle.rds_questions.specs.Receiving.{ReceivedValue}
 use Rattle.rds_offline.specs.Letters.{IsTaken}
-use Rattle.rds_offline.proofs.Lettered.{is_taken, no_take, unkept_take}
+use Rattle.rds_offline.proofs.Lettered.{is_taken, no_take, unkept_take, untold_take}
 use Rattle.rds_offline.proofs.Changed.{is_changed}
 use Rattle.rds_offline.proofs.Longer.{longer_fits}
 use Rattle.rds_offline.proofs.letters.take_in.Goals as goal
@@ -35,6 +36,12 @@ returns-in_err-take_response-clause-fault g c =
     let p = err_from_is_err_and c.from_residual.result c.from_residual.ensures.1 in
     rw (p.1, p.2) (no_take c.args.asked.now c.args.received.now c.args.file.kept _ c.in_err-take_response.field-0.0 c.into_parts-replica.ensures.replica c.in_err-take_response.ensures.takes)
 
+pub returns-in_err-forked-clause-fault : goal.returns-in_err-forked-clause-fault
+returns-in_err-forked-clause-fault g c =
+    let p = err_from_is_err_and c.from_residual-in_err-forked.result c.from_residual-in_err-forked.ensures.1 in
+    rw (p.1, p.2) (untold_take c.args.asked.now c.args.received.now c.args.file.kept _ c.take_response.new.held c.in_err-forked.field-0.0 c.into_parts-replica.ensures.replica c.in_ok-take_response.ensures.takes
+    c.in_ok-take_response.ensures.ok c.in_ok-take_response.ensures.roster c.in_ok-take_response.ensures.own c.in_err-forked.ensures.fault)
+
 pub returns-in_err-file-clause-fault : goal.returns-in_err-file-clause-fault
 returns-in_err-file-clause-fault g c =
     let p = err_from_is_err_and c.from_residual-in_err-file.result c.from_residual-in_err-file.ensures.1 in
@@ -47,3 +54,8 @@ returns-clause-taken g c =
     subst (IsTaken c.args.received.now c.args.file.kept) (sym kept)
     (is_taken c.args.asked.now c.args.received.now c.args.file.kept _ c.take_response.new.held c.into_parts-replica.ensures.replica c.in_ok-take_response.ensures.takes
     c.in_ok-take_response.ensures.ok c.in_ok-take_response.ensures.roster c.in_ok-take_response.ensures.own)
+
+pub returns-clause-forked : goal.returns-clause-forked
+returns-clause-forked g c =
+    let kept = ap (λ (f : ReplacedValue). f.kept) c.in_ok-file.ensures.replaced in
+    subst (λ (v : ReplicaValue). IsTrue c.in_ok-forked.forked ↔ TellsFork v c.args.received.now) (sym kept) c.in_ok-forked.ensures.told

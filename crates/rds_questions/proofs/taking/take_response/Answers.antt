@@ -9,7 +9,7 @@ returns-clause-takes g c =
     let q = c.args.question.now in
     let held = c.args.held.now in
     let h = c.in_ok-judge_held.ensures in
-    let x : ReceivedValue = record { delta = c.received.inside.delta; roster = c.received.inside.roster; certificate = c.received.inside.certificate } in
+    let x : ReceivedValue = record { delta = c.received.inside.delta; roster = c.received.inside.roster; certificate = c.received.inside.certificate; tag = c.received.inside.tag } in
     subst (λ (y : ReceivedValue). TakesReceived q held y c.take_with.result) c.received.view_is
     (takes q held h.0 h.1 x c.in_ok-roster.roster c.in_ok-roster.ensures.ok c.take_with.result c.take_with.ensures.gives)
 

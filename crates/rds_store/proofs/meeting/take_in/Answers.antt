@@ -23,7 +23,7 @@ pub returns-in_err-grew-clause-fault : goal.returns-in_err-grew-clause-fault
 returns-in_err-grew-clause-fault c =
     let p = err_from_is_err_and c.from_residual-in_err-grew.result c.from_residual-in_err-grew.ensures.1 in
     let has = subst (λ (v : ReplicaValue). Has c.args.question.now v) c.replica.ensures c.in_ok-judge_held.ensures in
-    let x : ReceivedValue = record { delta = c.received.inside.delta; roster = c.received.inside.roster; certificate = c.received.inside.certificate } in
+    let x : ReceivedValue = record { delta = c.received.inside.delta; roster = c.received.inside.roster; certificate = c.received.inside.certificate; tag = c.received.inside.tag } in
     rw (p.1, p.2)
     (subst (λ (y : ReceivedValue). TakesReceived c.args.question.now c.args.document.now y (Err c.in_err-grew.field-0.0)) c.received.view_is
     (not_taken c.args.question.now x c.args.document.now c.take_with.new.self c.in_err-grew.field-0.0 has c.in_err-grew.ensures.taken))
@@ -35,5 +35,5 @@ returns-clause-since c =
 
 pub returns-clause-taken : goal.returns-clause-taken
 returns-clause-taken c =
-    let x : ReceivedValue = record { delta = c.received.inside.delta; roster = c.received.inside.roster; certificate = c.received.inside.certificate } in
+    let x : ReceivedValue = record { delta = c.received.inside.delta; roster = c.received.inside.roster; certificate = c.received.inside.certificate; tag = c.received.inside.tag } in
     subst (λ (y : ReceivedValue). IsTaken y c.args.document.now c.take_with.new.self) c.received.view_is (is_taken x c.args.document.now c.take_with.new.self c.in_ok-grew.ensures.taken)
