@@ -120,7 +120,7 @@ def fakes_of(question, answer, slow=1):
         "answers nothing": says(response(b"")),
         "is lost": says(response(b"", status=b"404 Not Found")),
         "leads elsewhere": says(response(b"", status=b"302 Found\r\nLocation: http://127.0.0.1:1/")),
-        "answers nonsense": by_target(ask=response(question), answer=response(b"RDSA" + bytes(40)), take=taken),
+        "answers nonsense": by_target(ask=response(question), answer=response(b"RDSC" + bytes(40)), take=taken),
         "answers another": by_target(ask=response(question), answer=response(answer), take=taken),
         "fails": by_target(ask=response(question), answer=response(b"", status=b"500 Oops"), take=taken),
     }

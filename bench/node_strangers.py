@@ -35,7 +35,7 @@ def bases(node):
     chunks = b"%x\r\n%s\r\n0\r\n\r\n" % (len(lines), lines)
     yield node.text("POST", "/edits", None, "Transfer-Encoding: chunked") + chunks
     yield node.text("POST", "/answer", question)
-    yield node.text("POST", "/take", struct.pack(">I", len(question)) + question + b"RDSA" + bytes(40))
+    yield node.text("POST", "/take", struct.pack(">I", len(question)) + question + b"RDSC" + bytes(40))
     yield node.text("POST", "/login", TOKEN.encode())
     yield node.text("GET", "/doc") * 3 + node.text("HEAD", "/status")
 

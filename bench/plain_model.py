@@ -383,12 +383,23 @@ def question_text(replica):
     return b"RDSB" + hello_text(replica) + brief_text(replica.state.digest())
 
 
+def tag_of(replica):
+    """What a replica has seen, by a hash, and what it holds, by a mark."""
+    told = who_text(replica)[:-1] + brief_text(replica.state.digest())
+    return hashlib.sha256(told).digest(), bytes.fromhex(mark_of(replica.state))
+
+
+def are_forked(tag, other):
+    """What was seen is the same, and what is held isn't."""
+    return tag[0] == other[0] and tag[1] != other[1]
+
+
 def response_text(replica, asked):
     """What a replica responds to another's question, in the format that it is asked in."""
     longer(asked.names, replica.names)
     refuse_if(asked.own == replica.own, 21)
     digest = asked.state.digest()
-    return b"RDSA" + hello_text(replica) + answer_text(asked.own, replica.state.least(digest), digest)
+    return b"RDSC" + hello_text(replica) + b"".join(tag_of(replica)) + answer_text(asked.own, replica.state.least(digest), digest)
 
 
 def message(body, sizes=()):

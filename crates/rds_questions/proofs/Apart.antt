@@ -8,9 +8,9 @@ use Rattle.rds_questions.specs.Laws.{AreToldApart}
 use Rattle.rds_questions.specs.Questions.{QuestionValue, question_text}
 use Rattle.rds_questions.specs.Responses.{ResponseValue, response_text}
 
--- the fourth bytes: B, A, 1 and 2
-differ_66_65 : (n : ℕ) → n ≡ 66 → n ≡ 65 → ⊥
-differ_66_65 n one other = omega (arith, one, other)
+-- the fourth bytes: B, C, 1 and 2
+differ_66_67 : (n : ℕ) → n ≡ 66 → n ≡ 67 → ⊥
+differ_66_67 n one other = omega (arith, one, other)
 
 differ_66_49 : (n : ℕ) → n ≡ 66 → n ≡ 49 → ⊥
 differ_66_49 n one other = omega (arith, one, other)
@@ -18,15 +18,15 @@ differ_66_49 n one other = omega (arith, one, other)
 differ_66_50 : (n : ℕ) → n ≡ 66 → n ≡ 50 → ⊥
 differ_66_50 n one other = omega (arith, one, other)
 
-differ_65_49 : (n : ℕ) → n ≡ 65 → n ≡ 49 → ⊥
-differ_65_49 n one other = omega (arith, one, other)
+differ_67_49 : (n : ℕ) → n ≡ 67 → n ≡ 49 → ⊥
+differ_67_49 n one other = omega (arith, one, other)
 
-differ_65_50 : (n : ℕ) → n ≡ 65 → n ≡ 50 → ⊥
-differ_65_50 n one other = omega (arith, one, other)
+differ_67_50 : (n : ℕ) → n ≡ 67 → n ≡ 50 → ⊥
+differ_67_50 n one other = omega (arith, one, other)
 
 question_response : (q : QuestionValue) (r : ResponseValue) (x y : List ℕ) → question_text q ++ x ≡ response_text r ++ y → ⊥
 unfolding question_text response_text
-question_response q r x y e = differ_66_65 66 refl (ap (λ (t : List ℕ). get_or t 3 0) e)
+question_response q r x y e = differ_66_67 66 refl (ap (λ (t : List ℕ). get_or t 3 0) e)
 
 question_snapshot : (q : QuestionValue) (f : Format) (v : ReplicaValue) (x y : List ℕ) → question_text q ++ x ≡ snapshot_text_in f v ++ y → ⊥
 unfolding question_text snapshot_text_in
@@ -35,8 +35,8 @@ question_snapshot q Two v x y e = differ_66_50 66 refl (ap (λ (t : List ℕ). g
 
 response_snapshot : (r : ResponseValue) (f : Format) (v : ReplicaValue) (x y : List ℕ) → response_text r ++ x ≡ snapshot_text_in f v ++ y → ⊥
 unfolding response_text snapshot_text_in
-response_snapshot r One v x y e = differ_65_49 65 refl (ap (λ (t : List ℕ). get_or t 3 0) e)
-response_snapshot r Two v x y e = differ_65_50 65 refl (ap (λ (t : List ℕ). get_or t 3 0) e)
+response_snapshot r One v x y e = differ_67_49 67 refl (ap (λ (t : List ℕ). get_or t 3 0) e)
+response_snapshot r Two v x y e = differ_67_50 67 refl (ap (λ (t : List ℕ). get_or t 3 0) e)
 
 pub told_apart : AreToldApart
 told_apart = record {

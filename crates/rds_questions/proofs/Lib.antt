@@ -1,10 +1,12 @@
 pub mod Apart
 pub mod Brought
 pub mod Decoded
+pub mod Forked
 pub mod Leveled
 pub mod Meeting
 pub mod Reached
 pub mod Readers
+pub mod TagTexts
 pub mod Taken
 pub mod Told
 pub mod Whole

@@ -29,6 +29,7 @@ use Rattle.rds_questions.specs.Receiving.{MayTalk}
 use Rattle.rds_questions.specs.Responding.{hello_to}
 use Rattle.rds_questions.specs.Responses.{IsResponse, ResponseValue, format_said, replicas_with, response_at, response_kind}
 use Rattle.rds_questions.proofs.Readers.{response_reader}
+use Rattle.rds_questions.proofs.TagTexts.{tag_is, the_tag}
 
 -- ---- questions
 
@@ -51,7 +52,8 @@ pub one_response : HaveOneResponse
 one_response q peer r s one other =
     let hellos = one.hello ∙ sym other.hello in
     let answers = answer_value q peer r.answer one.answers ∙ sym (answer_value q peer s.answer other.answers) in
-    λ i. record { hello = hellos i; answer = answers i }
+    let tags = the_tag peer r.tag one.tag ∙ sym (the_tag peer s.tag other.tag) in
+    λ i. record { hello = hellos i; tag = tags i; answer = answers i }
 
 -- ---- a response that is received
 
@@ -86,6 +88,7 @@ module _ (q : QuestionValue) (peer : ReplicaValue) (r : ResponseValue) (h : IsAn
   response_is : IsResponse (askers_of q) r
   response_is = record {
     hello = subst IsHello (sym h.responds.hello) hello_is;
+    tag = tag_is peer r.tag h.responds.tag;
     answer = subst (λ (x : Hello). IsAnswerOf (replicas_with (askers_of q) x) r.answer) (sym h.responds.hello)
         (answer_of (replicas_with (askers_of q) (hello_to q peer)) (omega arith) (omega arith));
   }

@@ -15,7 +15,9 @@ use Rattle.rds_codec.proofs.HelloFormats.{hello_reader}
 use Rattle.rds_codec.proofs.InFormats.{answer_in_reader}
 use Rattle.rds_codec.proofs.Whole.{IsReaderOf, reader_of}
 use Rattle.rds_questions.specs.Questions.{asker_at, asker_by, front_at, question_front}
-use Rattle.rds_questions.specs.Responses.{ResponseValue, IsResponse, format_said, hello_answer_at, replicas_with, response_at, response_by, response_front, response_kind, response_text}
+use Rattle.rds_questions.specs.Responses.{Answerer, ResponseValue, IsResponse, answered_at, answerer_at, answerer_text, format_said, replicas_with, response_at, response_by, response_front, response_kind, response_text}
+use Rattle.rds_questions.specs.Tags.{tag_at, tag_kind}
+use Rattle.rds_questions.proofs.TagTexts.{tag_reader}
 
 -- ---- a part, and then one that may depend on it
 
@@ -134,31 +136,34 @@ asker_reader =
 
 module _ (askers : ℕ) where
   abbrev Parts : Type 0
-  Parts = List ℕ × (Hello × AnswerValue)
+  Parts = List ℕ × (Answerer × AnswerValue)
 
-  abbrev hello_answer_kind : Kind (Hello × AnswerValue)
-  hello_answer_kind = then_kind hello_kind (λ h. answer_kind_in (format_said h.version) (replicas_with askers h))
+  abbrev answerer_kind : Kind Answerer
+  answerer_kind = then_kind hello_kind (λ _. tag_kind)
+
+  abbrev answered_kind : Kind (Answerer × AnswerValue)
+  answered_kind = then_kind answerer_kind (λ p. answer_kind_in (format_said p.0.version) (replicas_with askers p.0))
 
   abbrev response_parts : ResponseValue → Parts
-  response_parts r = (response_front, (r.hello, r.answer))
+  response_parts r = (response_front, ((r.hello, r.tag), r.answer))
 
   abbrev response_parts_kind : Kind Parts
-  response_parts_kind = then_kind (front_kind response_front) (λ _. hello_answer_kind)
+  response_parts_kind = then_kind (front_kind response_front) (λ _. answered_kind)
 
-  response_spelled : (r : ResponseValue) → response_text r ≡ response_front ++ (hello_text r.hello ++ answer_text_in (format_said r.hello.version) r.answer)
+  response_spelled : (r : ResponseValue) → response_text r ≡ response_front ++ (answerer_text r.hello r.tag ++ answer_text_in (format_said r.hello.version) r.answer)
   unfolding response_text
   response_spelled r = refl
 
   response_there : (r : ResponseValue) → IsResponse askers r → response_parts_kind.is_value (response_parts r) × (response_by (response_parts r) ≡ r)
-  response_there r is = (((refl, refl), (is.hello, is.answer)), refl)
+  response_there r is = (((refl, refl), ((is.hello, is.tag), is.answer)), refl)
 
   response_back : (p : Parts) → response_parts_kind.is_value p → IsResponse askers (response_by p) × (response_parts (response_by p) ≡ p)
-  response_back p h = (record { hello = h.1.0; answer = h.1.1 }, ap (λ (t : List ℕ). (t, p.1)) (is_front response_front p.0 h.0))
+  response_back p h = (record { hello = h.1.0.0; tag = h.1.0.1; answer = h.1.1 }, ap (λ (t : List ℕ). (t, p.1)) (is_front response_front p.0 h.0))
 
   pub response_reader : IsReaderOf (response_kind askers) (response_at askers)
   unfolding response_at
   response_reader =
       made_reader response_by response_parts response_parts_kind (response_kind askers) _ response_spelled response_there response_back
-      (then_reader (front_kind response_front) (λ _. hello_answer_kind) (front_at response_front) (λ _. hello_answer_at askers) (front_reader response_front)
-      (λ _. then_reader hello_kind (λ h. answer_kind_in (format_said h.version) (replicas_with askers h)) hello_at (λ h. answer_at_in (format_said h.version) (replicas_with askers h))
-      hello_reader (λ h. answer_in_reader (format_said h.version) (replicas_with askers h))))
+      (then_reader (front_kind response_front) (λ _. answered_kind) (front_at response_front) (λ _. answered_at askers) (front_reader response_front)
+      (λ _. then_reader answerer_kind (λ p. answer_kind_in (format_said p.0.version) (replicas_with askers p.0)) answerer_at (λ p. answer_at_in (format_said p.0.version) (replicas_with askers p.0))
+      (then_reader hello_kind (λ _. tag_kind) hello_at (λ _. tag_at) hello_reader (λ _. tag_reader)) (λ p. answer_in_reader (format_said p.0.version) (replicas_with askers p.0))))

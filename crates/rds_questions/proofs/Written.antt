@@ -19,7 +19,8 @@ use Rattle.rds_codec.specs.declared.limits.TheConstants.{LIMIT}
 use Rattle.rds_questions.specs.Greeting.{GreetGives}
 use Rattle.rds_questions.specs.Questions.{QuestionValue, question_front, question_text}
 use Rattle.rds_questions.specs.Responding.{IsLongResponse, IsResponseTo, RespondGives, hello_to}
-use Rattle.rds_questions.specs.Responses.{ResponseValue, format_said, response_front, response_text}
+use Rattle.rds_questions.specs.Responses.{ResponseValue, answerer_text, format_said, response_front, response_text}
+use Rattle.rds_questions.specs.Tags.{RefusesTag, tag_of}
 
 -- ---- a question
 
@@ -60,20 +61,23 @@ format_again n = by (n == 1)
 module _ (q : QuestionValue) (v : ReplicaValue) (format : Format) (held : StateValue) (is_format : format ≡ format_said q.hello.version) (is_held : held ≡ v.state)
     (greeted : GreetGives {T = Unit {0}} v.roster v.own q.hello (Ok tt)) where
   abbrev whole : AnswerValue → ResponseValue
-  whole a = record { hello = hello_to q v; answer = a }
+  whole a = record { hello = hello_to q v; tag = tag_of v; answer = a }
+
+  abbrev answerer : List ℕ
+  answerer = answerer_text (hello_to q v) (tag_of v)
 
   responds_to : (a : AnswerValue) → IsAnswerTo q.digest q.hello.own held a → IsResponseTo q v (whole a)
-  responds_to a is = record { hello = refl; answers = subst (λ (w : StateValue). IsAnswerTo q.digest q.hello.own w a) is_held is }
+  responds_to a is = record { hello = refl; tag = record { hash = refl; mark = refl }; answers = subst (λ (w : StateValue). IsAnswerTo q.digest q.hello.own w a) is_held is }
 
-  whole_parts : (a : AnswerValue) → response_text (whole a) ≡ response_front ++ (hello_text (hello_to q v) ++ answer_text_in format a)
+  whole_parts : (a : AnswerValue) → response_text (whole a) ≡ response_front ++ (answerer ++ answer_text_in format a)
   unfolding response_text
-  whole_parts a = ap (λ (f : Format). response_front ++ (hello_text (hello_to q v) ++ answer_text_in f a)) (format_again q.hello.version ∙ sym is_format)
+  whole_parts a = ap (λ (f : Format). response_front ++ (answerer ++ answer_text_in f a)) (format_again q.hello.version ∙ sym is_format)
 
   longer_answer : (a : AnswerValue) → LIMIT < length (answer_text_in format a) → LIMIT < length (response_text (whole a))
   longer_answer a long =
       let parts = ap length (whole_parts a) in
-      let x = length-append response_front (hello_text (hello_to q v) ++ answer_text_in format a) in
-      let y = length-append (hello_text (hello_to q v)) (answer_text_in format a) in
+      let x = length-append response_front (answerer ++ answer_text_in format a) in
+      let y = length-append answerer (answer_text_in format a) in
       omega (arith, long, parts, x, y)
 
   -- the answer is too long, or memory ran out
@@ -81,7 +85,7 @@ module _ (q : QuestionValue) (v : ReplicaValue) (format : Format) (held : StateV
   answer_lost e h = elim h [
     | inl m ↦ subst (λ (f : Fault). RespondGives q v (Err f)) (sym m) greeted
     | inr l ↦
-        let is : IsLongResponse q v = record { response = whole l.1.value; responds = responds_to l.1.value l.1.answers; long = longer_answer l.1.value l.1.long } in
+        let is : IsLongResponse q v = inl (record { response = whole l.1.value; responds = responds_to l.1.value l.1.answers; long = longer_answer l.1.value l.1.long }) in
         subst (λ (f : Fault). RespondGives q v (Err f)) (sym l.0) (greeted, is)
   ]
 
@@ -91,16 +95,25 @@ module _ (q : QuestionValue) (v : ReplicaValue) (format : Format) (held : StateV
     of_whole (Err e) h = elim h [
       | inl m ↦ subst (λ (f : Fault). RespondGives q v (Err f)) (sym m.0) greeted
       | inr l ↦
-          let long : IsLongResponse q v = record { response = whole a; responds = responds_to a is; long = l.1 } in
+          let long : IsLongResponse q v = inl (record { response = whole a; responds = responds_to a is; long = l.1 }) in
           subst (λ (f : Fault). RespondGives q v (Err f)) (sym l.0) (greeted, long)
     ]
 
-  pub response_written : (hello answered body : List ℕ) (components : ℕ) → hello ≡ hello_text (hello_to q v) → body ≡ answered → IsReplyIn format q.digest q.hello.own held answered components
-      → (r : Result (Vec ℕ) Fault) → Encodes (response_front ++ (hello ++ body)) r → RespondGives q v r
-  response_written hello answered body components same as_answered reply r h =
+  pub response_written : (who answered body : List ℕ) (components : ℕ) → who ≡ answerer → body ≡ answered → IsReplyIn format q.digest q.hello.own held answered components
+      → (r : Result (Vec ℕ) Fault) → Encodes (response_front ++ (who ++ body)) r → RespondGives q v r
+  response_written who answered body components same as_answered reply r h =
       let body_is : body ≡ answer_text_in format reply.value = as_answered ∙ reply.text in
       of_whole reply.value reply.answers r
       (subst (λ (t : List ℕ). Encodes t r) ((λ i. response_front ++ (same i ++ body_is i)) ∙ sym (whole_parts reply.value)) h)
+
+-- there is no tag: the brief is too long, or memory ran out
+pub tag_lost : (q : QuestionValue) (v : ReplicaValue) → GreetGives {T = Unit {0}} v.roster v.own q.hello (Ok tt) → (e : Fault) → RefusesTag v e → RespondGives q v (Err e)
+tag_lost q v greeted e h = elim h [
+  | inl m ↦ subst (λ (f : Fault). RespondGives q v (Err f)) (sym m) greeted
+  | inr l ↦
+      let long : IsLongResponse q v = inr l.1 in
+      subst (λ (f : Fault). RespondGives q v (Err f)) (sym l.0) (greeted, long)
+]
 
 -- those who were greeted by what they hold
 pub greeted_as : (roster : RosterValue) (own : ℕ) (v : ReplicaValue) (q : QuestionValue) → roster ≡ v.roster → own ≡ v.own → OneBegins roster q.hello.roster × (own ≢ q.hello.own)

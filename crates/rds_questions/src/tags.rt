@@ -41,14 +41,22 @@ impl Tag {
     }
 }
 
+/// Adds the bytes of a hash.
+fn put_hash(out: &mut Vec<u8>, hash: &[u8; 32]) -> Result<(), AllocError>
+    ensures { Adds out.old.items out.new.items hash.now result }
+{
+    out.extend_from_slice(hash)?;
+    Ok(())
+}
+
 /// Adds the text of a tag.
-#[tactic(auto, unfolding(crate::specs::Tags::tag_text))]
 pub fn put_tag(out: &mut Vec<u8>, tag: &Tag) -> Result<(), AllocError>
     ensures { Adds out.old.items out.new.items (tag_text tag.now) result }
 {
-    out.extend_from_slice(&tag.hash)?;
+    put_hash(out, &tag.hash)?;
     put_u64(out, tag.mark.high)?;
-    put_u64(out, tag.mark.low)
+    put_u64(out, tag.mark.low)?;
+    Ok(())
 }
 
 /// The 32 bytes of a hash, and the bytes after them.
