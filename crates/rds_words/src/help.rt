@@ -420,10 +420,9 @@ Example: rds_node take notes.a question answer
 const TAKE_TEXT: &str = "\
 Checks the answer against the question, as a session would, and takes it into FILE. The
 question has to be FILE's own, and FILE to hold all that it had then, else ask anew: 10
-or 11. QUESTION or ANSWER may be '-'. Output: {\"taken\":1}, the number of components;
-and fault 28 where the two have seen the same then, and hold different entries.
-Faults of its own: 11 for an answer to another question, 17 for a certificate that
-doesn't hold, 12 to 15, 19 and 20.";
+or 11. QUESTION or ANSWER may be '-'. Output: {\"taken\":1}, the number of components, and
+28 where FILE now and who answered are forked. Faults of its own: 11 for an answer to
+another question, 17 for a certificate that doesn't hold, 12 to 15, 19 and 20.";
 
 pub const MERGE_ABOUT: &str = "Joins all that another file has seen into a file";
 
