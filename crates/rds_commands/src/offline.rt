@@ -237,11 +237,7 @@ fn told_answered<H: Disk, W: Write>(
 fn fork_fault(forked: bool) -> Option<Fault>
     ensures { result ≡ fork_fault forked }
 {
-    if forked {
-        Some(Fault::Forked)
-    } else {
-        None
-    }
+    if forked { Some(Fault::Forked) } else { None }
 }
 
 /// Writes what an answer brings to a question as `check_texts` tells it, or why it brings nothing. They are read as for

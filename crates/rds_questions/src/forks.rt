@@ -11,8 +11,8 @@ use rds_state::Replica;
 use std::alloc::Global;
 
 /// Whether a replica and the one whose response this was are forked: when that one answered, it had seen what the
-/// replica has, and held something else. So it is asked once the replica took what was received. A digest whose brief is
-/// above the limit has no tag (`TooLong`).
+/// replica has, and held something else. So it is asked once the replica took what was received. A digest whose brief
+/// is above the limit has no tag (`TooLong`).
 pub fn tells_fork<S: DotSet>(
     alloc: Global,
     held: &Replica<S>,

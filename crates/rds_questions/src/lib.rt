@@ -1,10 +1,11 @@
 //! A session by any means: what a replica asks is a text, what another responds is a text, and the one that asked takes
 //! what came. So a mail, a stick or a pipe carries what a session would.
 //!
-//! To be read in this order: `fronts` and `questions`; `hashing`, what tells whether two questions are the same; `tags`,
-//! what tells a fork besides; `responses`, which have such a tag; `greeting`, whether two replicas may talk;
-//! `responding`; `receiving`, what a response brings; `reaching`, how far a state and a digest have come; `taking`, what
-//! becomes of a response; `forks`, whether it tells one; `lacking`, what two replicas lack of one another's; `laws`.
+//! To be read in this order: `fronts` and `questions`; `hashing`, what tells whether two questions are the same;
+//! `tags`, what tells a fork besides; `responses`, which have such a tag; `greeting`, whether two replicas may talk;
+//! `responding`; `receiving`, what a response brings; `reaching`, how far a state and a digest have come; `taking`,
+//! what becomes of a response; `forks`, whether it tells one; `lacking`, what two replicas lack of one another's;
+//! `laws`.
 #![tactic(auto)]
 
 mod forks;
