@@ -87,7 +87,8 @@ where
     let alloc = rt.alloc();
     let asked: Question<GapSet> = decode_question(alloc, question)?;
     let file: ReplicaFile<'a, GapSet> = ReplicaFile::open_lasting(rt, path)?;
-    let bytes = respond(alloc, file.kept().view_of(), &asked)?;
+    let held = file.kept().view_of();
+    let bytes = respond(alloc, held, held.state().mark(), &asked)?;
     Ok(ToldFile { file, bytes })
 }
 

@@ -1,7 +1,8 @@
 //! Tags: what a replica has seen, and what it holds.
-ghost use Rattle.std.specs.Prelude.{◌↔◌, IsTrue, IfErr, IfOk};
+ghost use Rattle.std.specs.Prelude.{◌≡◌, ◌↔◌, IsTrue, IfErr, IfOk};
 ghost use Rattle.rds_bytes.specs.Reading.{ReadsExactly, bytes_at};
 ghost use Rattle.rds_bytes.specs.Writing.{Adds};
+ghost use Rattle.rds_state.specs.Mark.{mark_of};
 ghost use Rattle.rds_questions.specs.Tags.{IsForkOf, IsTagOf, RefusesTag, tag_at, tag_text};
 
 use crate::questions::Question;
@@ -27,9 +28,21 @@ impl Tag {
         ensures tag { IfOk result (IsTagOf replica.now) }
         ensures fault { IfErr result (RefusesTag replica.now) }
     {
+        Tag::with_mark(alloc, replica, replica.state().mark())
+    }
+
+    /// The same, where the mark of the replica's state is known: no pass over its rows is made for it.
+    pub fn with_mark<S: DotSet>(
+        alloc: Global,
+        replica: &Replica<S>,
+        mark: Mark,
+    ) -> Result<Tag, Fault>
+        requires { mark ≡ mark_of replica.now.state }
+        ensures tag { IfOk result (IsTagOf replica.now) }
+        ensures fault { IfErr result (RefusesTag replica.now) }
+    {
         let question = Question::of(alloc, replica)?;
         let hash = question.hash(alloc)?;
-        let mark = replica.state().mark();
         Ok(Tag { hash, mark })
     }
 

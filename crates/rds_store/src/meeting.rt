@@ -12,6 +12,7 @@ ghost use Rattle.rds_questions.specs.Hashed.{question_hash};
 ghost use Rattle.rds_questions.specs.Questions.{question_of, question_text};
 ghost use Rattle.rds_questions.specs.Taking.{HasAllOf, IsAsker, TakesReceived};
 ghost use Rattle.rds_state.specs.Fits.{Fits};
+ghost use Rattle.rds_state.specs.Mark.{mark_of};
 ghost use Rattle.rds_state.specs.Value.{coordinates, size};
 ghost use Rattle.rds_store.specs.Meetings.{MayAnswer, MayTellLacks, MergesSnapshot, RefusesSnapshot, RefusesTaking, TellsLevel};
 ghost use Rattle.rds_store.specs.Noting.{AreSince};
@@ -25,7 +26,7 @@ use rds_questions::{
     Lacks, Question, Received, decode_question, encode_question, judge_held, lacks_of, receive,
     respond,
 };
-use rds_state::{Replica, State};
+use rds_state::{Mark, Replica, State};
 use std::alloc::Global;
 
 impl Document {
@@ -44,7 +45,12 @@ impl Document {
     pub fn answer(&self, question: &[u8]) -> Result<Vec<u8>, Fault>
         ensures { MayAnswer question.now self.now result }
     {
-        respond_to(self.alloc, self.index.replica(), question)
+        respond_to(
+            self.alloc,
+            self.index.replica(),
+            self.index.mark(),
+            question,
+        )
     }
 
     /// The hash of what this replica would ask, but for who asks: the SHA-256 of the texts of its roster and of its
@@ -95,11 +101,17 @@ impl Document {
 }
 
 /// What a replica responds to the question whose text the bytes are.
-fn respond_to(alloc: Global, held: &Replica<GapSet>, question: &[u8]) -> Result<Vec<u8>, Fault>
+fn respond_to(
+    alloc: Global,
+    held: &Replica<GapSet>,
+    mark: Mark,
+    question: &[u8],
+) -> Result<Vec<u8>, Fault>
+    requires { mark ≡ mark_of held.now.state }
     ensures { MayAnswer question.now held.now result }
 {
     let asked: Question<GapSet> = decode_question(alloc, question)?;
-    respond(alloc, held, &asked)
+    respond(alloc, held, mark, &asked)
 }
 
 /// What a replica lacks of what the question tells whose text the bytes are, and what the one that asked lacks.
