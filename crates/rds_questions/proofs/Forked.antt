@@ -1,5 +1,5 @@
 -- When a response tells a fork.
-use Rattle.std.proofs.Common.{◌≡◌, ◌∙◌, ◌↔◌, Bool, List, ℕ, ◌++◌, inl, inr, sym, ap, subst}
+use Rattle.std.proofs.Common.{◌≡◌, ◌∙◌, ◌↔◌, Bool, ◌++◌, inl, inr, sym, ap, subst}
 use Rattle.std.specs.Prelude.{IsTrue}
 use Rattle.sha2.specs.Sha256.{sha256}
 use Rattle.rds_bytes.specs.Spelling.{roster_text}

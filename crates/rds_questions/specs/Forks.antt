@@ -1,5 +1,5 @@
 -- What a response tells of a fork: two replicas that have seen the same, and hold different entries.
-use Rattle.std.specs.Prelude.{◌≡◌, ◌≢◌}
+use Rattle.std.specs.Prelude.{◌≢◌}
 use Rattle.rds_codec.specs.Laws.{HasText}
 use Rattle.rds_state.specs.Coordinates.{AreCompatible}
 use Rattle.rds_state.specs.Fits.{ReplicaValue}
