@@ -205,7 +205,7 @@ class Node:
         """Has the node take an answer to its question, and tells how many components that brought it."""
         body = self._call("POST", "/take", {}, len(question).to_bytes(4, "big"), question, answer)[1]
         taken = _object_in(body).get("taken")
-        if isinstance(taken, bool) or not isinstance(taken, int) or taken < 0:
+        if type(taken) is not int or taken < 0:
             raise fault(_OUT_OF_TURN, "OutOfTurn: the answer to POST /take is none of a node")
         return taken
 
@@ -227,11 +227,12 @@ class Node:
         if self._connection.sock is None:
             self._connection.connect()
         try:
-            response = self._exchange(method, target, fields, pieces)
-            known = (_DONE, _NOT_MODIFIED) if "If-None-Match" in fields else (_DONE,)
-            if response.status not in known:
-                raise _refusal(f"{method} {target}", response)
-            return response, _body_of(response)
+            # Closed at the end, since it may hold the connection.
+            with self._exchange(method, target, fields, pieces) as response:
+                known = (_DONE, _NOT_MODIFIED) if "If-None-Match" in fields else (_DONE,)
+                if response.status not in known:
+                    raise _refusal(f"{method} {target}", response)
+                return response, _body_of(response)
         except (RdsError, ConnectionError):
             raise
         except IncompleteRead:
@@ -292,7 +293,6 @@ def _body_of(response: HTTPResponse) -> bytes:
         body += piece
         if len(body) > _LONGEST:
             raise _too_long()
-    response.close()
     if due is not None and len(body) < due:
         raise IncompleteRead(b"", due - len(body))
     return bytes(body)
@@ -305,7 +305,7 @@ def _refusal(request: str, response: HTTPResponse) -> RdsError:
     cause = None
     if not isinstance(words, str) or not words.isprintable():
         words = _REFUSALS.get(response.status, "no words of a node")
-    elif isinstance(number, int) and 0 < number <= LAST_FAULT and isinstance(name, str) and name.isalpha():
+    elif type(number) is int and 0 < number <= LAST_FAULT and isinstance(name, str) and name.isalpha():
         words = f"{name}: {words}"
         cause = fault(number, words)
     refusal = fault(_PEER_ENDED, f"PeerEnded: the node refused {request}: {response.status}: {words}")
