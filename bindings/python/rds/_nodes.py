@@ -9,7 +9,7 @@ import re
 import socket
 import time
 from contextlib import contextmanager
-from http.client import HTTPConnection, HTTPException, HTTPResponse, IncompleteRead
+from http.client import HTTPConnection, HTTPException, HTTPResponse, IncompleteRead, RemoteDisconnected
 from typing import Any, Dict, Iterator, NamedTuple, Optional, Tuple
 
 from ._faults import RdsError, fault
@@ -24,6 +24,8 @@ _REFUSALS = {401: "a token is due", 403: "a token may be due"}
 _LONGEST, _AROUND, _FEW = 268_435_456, 1 << 20, 1 << 16
 # So much is sent or read at a time, in bytes.
 _PIECE = 1 << 16
+# No more of a node's words is told, in characters.
+_WORDS = 500
 # How many times the timeout a meeting has that moves little, and how many bytes give it one timeout more.
 _WAITS, _PORTION = 10, 1 << 20
 
@@ -100,29 +102,29 @@ class _Patience:
     comes or goes adds one timeout more. With None nothing is bounded."""
 
     def __init__(self, timeout: Optional[float]) -> None:
-        self.timeout = timeout
-        self.waited = 0.0
+        self._timeout = timeout
+        self._waited = 0.0
         self.moved = 0
 
     @contextmanager
     def wait(self) -> Iterator[Optional[float]]:
         """Gives how long a call may take. `TimeoutError` where it takes longer, or where no time is left."""
-        seconds = self._left()
-        begun = time.monotonic()
+        if self._timeout is None:
+            yield None
+            return
+        whole = self._timeout * (_WAITS + self.moved // _PORTION)
+        left, begun = whole - self._waited, time.monotonic()
         try:
-            yield seconds
+            if left <= 0:
+                raise socket.timeout
+            yield min(self._timeout, left)
         except socket.timeout:
-            raise TimeoutError(errno.ETIMEDOUT, f"nothing went or came for {seconds:.3g} seconds") from None
+            words = f"nothing went or came for {self._timeout:g} seconds"
+            if left < self._timeout:
+                words = f"no more than {self.moved:,} bytes went and came in {whole:g} seconds"
+            raise TimeoutError(errno.ETIMEDOUT, words) from None
         finally:
-            self.waited += time.monotonic() - begun
-
-    def _left(self) -> Optional[float]:
-        if self.timeout is None:
-            return None
-        whole = self.timeout * (_WAITS + self.moved // _PORTION)
-        if self.waited >= whole:
-            raise TimeoutError(errno.ETIMEDOUT, f"{self.moved} bytes went and came in {whole:.3g} seconds")
-        return min(self.timeout, whole - self.waited)
+            self._waited += time.monotonic() - begun
 
 
 class _Link(socket.socket):
@@ -233,10 +235,10 @@ class Node:
                 if response.status not in known:
                     raise _refusal(f"{method} {target}", response)
                 return response, _body_of(response)
+        except (IncompleteRead, RemoteDisconnected):
+            raise ConnectionResetError(errno.ECONNRESET, "the connection ended before an answer was whole") from None
         except (RdsError, ConnectionError):
             raise
-        except IncompleteRead:
-            raise ConnectionResetError(errno.ECONNRESET, "the connection ended within an answer") from None
         except (HTTPException, ValueError) as error:
             words = f"OutOfTurn: the answer to {method} {target} is none of HTTP/1.1: {error!r}"
             raise fault(_OUT_OF_TURN, words) from None
@@ -273,7 +275,7 @@ def met(url: str, token: Optional[str], timeout: Optional[float]) -> Iterator[No
             raise
         raise type(error)(error.number, error.words, url) from error.__cause__
     except OSError as error:
-        if error.filename is None:
+        if error.filename is None and error.errno is not None:
             error.filename = url
         raise
     finally:
@@ -301,11 +303,11 @@ def _body_of(response: HTTPResponse) -> bytes:
 def _refusal(request: str, response: HTTPResponse) -> RdsError:
     """What a request is refused by: the node's fault is the cause, where it tells one."""
     told = _object_in(response.read(_FEW))
-    number, name, words = (told.get(it) for it in ("fault", "name", "text"))
+    number, name, words = told.get("fault"), _words_in(told, "name"), _words_in(told, "text")
     cause = None
-    if not isinstance(words, str) or not words.isprintable():
+    if not words:
         words = _REFUSALS.get(response.status, "no words of a node")
-    elif type(number) is int and 0 < number <= LAST_FAULT and isinstance(name, str) and name.isalpha():
+    elif name and type(number) is int and 0 < number <= LAST_FAULT:
         words = f"{name}: {words}"
         cause = fault(number, words)
     refusal = fault(_PEER_ENDED, f"PeerEnded: the node refused {request}: {response.status}: {words}")
@@ -320,3 +322,9 @@ def _object_in(text: bytes) -> Dict[str, Any]:
     except (ValueError, RecursionError):
         return {}
     return found if isinstance(found, dict) else {}
+
+
+def _words_in(told: Dict[str, Any], name: str) -> str:
+    """What stands under a name, where that may be shown."""
+    found = told.get(name)
+    return found if isinstance(found, str) and found.isprintable() and len(found) <= _WORDS else ""

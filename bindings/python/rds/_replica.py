@@ -428,15 +428,16 @@ class Replica:
         node's, where it has one. This replica may be used on other threads meanwhile.
 
         One that lives in a file is kept before anything of it goes to the node, and when it has taken something. One
-        without a file is lost with its process, and nothing that it has sent may be taken back by an older snapshot.
+        without a file isn't kept: go on from no older snapshot of it.
 
-        A wait for a byte takes at most `timeout` seconds, and all waits ten times as long. Each full megabyte that comes
-        or goes adds one timeout. With None nothing is bounded.
+        A wait for a byte takes at most `timeout` seconds, and all waits together ten times as long. Each full megabyte
+        that comes or goes adds one timeout. With None nothing is bounded.
 
-        `ValueError` says that the words name no node, and `OSError` that it can't be reached: `ConnectionError`,
-        `TimeoutError`, .. A node refuses by `PeerEnded`, and what is no node is mostly told by `OutOfTurn`. `WrongGroup`,
-        `WrongRoster` and `SameReplica` say that the two can't meet. `Forked` says that both have seen the same, and hold
-        different entries; it may come after all has gone over. What was taken before an error stays taken.
+        `ValueError` says that the words name no node, and `OSError` that it can't be reached or heard, among others
+        `ConnectionError` and `TimeoutError`. A node refuses by `PeerEnded`. What is no node is told by `OutOfTurn`, or
+        as bytes that are none of rds. `WrongGroup`, `WrongRoster` and `SameReplica` say that the two can't meet.
+        `Forked` says that both have seen the same, and hold different entries; it may come once all has gone over.
+        What was taken before an error stays taken.
         """
         with met(url, token, timeout) as node:
             own, tag = self._tagged()
