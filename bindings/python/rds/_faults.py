@@ -11,8 +11,8 @@ from ._library import DEVICE, LIB, MEMORY
 class RdsError(Exception):
     """A call was refused.
 
-    `number` is its status, of docs/FAULTS.md or of rds.h, and `words` says what it is. `given` is the path, key, name
-    or file that was given, where there was one.
+    `number` is its status, of docs/FAULTS.md or of rds.h, and `words` says what it is. `given` is the path, key, name,
+    file or URL that was given, where there was one.
     """
 
     def __init__(self, number: int, words: str = "", given: Optional[str] = None) -> None:

@@ -119,9 +119,9 @@ class _Patience:
                 raise socket.timeout
             yield min(self._timeout, left)
         except socket.timeout:
-            words = f"nothing went or came for {self._timeout:g} seconds"
+            words = f"nothing went or came for {self._timeout:g} s"
             if left < self._timeout:
-                words = f"no more than {self.moved:,} bytes went and came in {whole:g} seconds"
+                words = f"no more than {self.moved:,} bytes went and came in {whole:g} s"
             raise TimeoutError(errno.ETIMEDOUT, words) from None
         finally:
             self._waited += time.monotonic() - begun

@@ -215,7 +215,6 @@ def refuses(target: str, text: bytes, peer: Replica) -> Act:
     """A node over a replica, which answers one target so."""
 
     def act(fake: Fake, link: socket.socket) -> None:
-        # Some requests of a call may be served, and the others are answered here.
         while request := fake.request(link):
             if f" {target} ".encode() in request.partition(b"\r\n")[0]:
                 link.sendall(text)
@@ -689,26 +688,24 @@ def test_one_who_takes_no_more_of_a_request(pair: Pair) -> None:
 
 # ---- How long it takes ----
 
-SLOW: Dict[str, Tuple[Act, float]] = {
-    "is silent": (says(), 0.5),
-    "drips its body": (goes_on(response(b"", length=100_000), b"x", 0.05), 5.0),
-    "drips its head": (goes_on(b"HTTP/1.1 200 OK\r\nx: ", b"x", 0.05), 5.0),
+SLOW: Dict[str, Tuple[Act, float, str]] = {
+    "is silent": (says(), 1.0, "nothing went or came for 1 s"),
+    "drips its body": (goes_on(response(b"", length=100_000), b"x", 0.05), 3.0, r"no more than \d+ bytes .* in 3 s"),
+    "drips its head": (goes_on(b"HTTP/1.1 200 OK\r\nx: ", b"x", 0.05), 3.0, r"no more than \d+ bytes .* in 3 s"),
 }
 
 
 @pytest.mark.parametrize("what", SLOW)
-def test_a_node_that_lets_wait(shop: Replica, what: str) -> None:
-    """A wait for a byte takes half a second at the most here, and all of them ten times as long."""
-    act, seconds = SLOW[what]
+def test_a_node_that_lets_wait(shop: Replica, what: str, monkeypatch: pytest.MonkeyPatch) -> None:
+    """A wait for a byte takes a second at the most here, and all of them three times as long."""
+    monkeypatch.setattr(_nodes, "_WAITS", 3)
+    act, seconds, words = SLOW[what]
     with Fake(act) as fake:
         begun = time.monotonic()
         with pytest.raises(TimeoutError) as caught:
-            shop.sync(fake.url, timeout=0.5)
+            shop.sync(fake.url, timeout=1)
         assert seconds <= time.monotonic() - begun < seconds + 5
         assert caught.value.filename == fake.url
-        words = r"no more than \d+ bytes went and came in 5 seconds"
-        if what == "is silent":
-            words = "nothing went or came for 0.5 seconds"
         assert re.fullmatch(rf"\[Errno 110\] {words}: '{fake.url}'", str(caught.value))
 
 
