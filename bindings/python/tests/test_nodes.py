@@ -416,6 +416,26 @@ def test_edits_go_on_while_a_node_lets_wait(pair: Pair) -> None:
     assert shop.show() == store.show()
 
 
+def test_a_tag_is_of_one_moment() -> None:
+    """An edit of another thread waits until a replica has told both its question and its mark."""
+
+    threads: List[threading.Thread] = []
+
+    class Meddled(Replica):
+        def mark(self) -> str:
+            threads.append(threading.Thread(target=self["n"].increase, daemon=True))
+            threads[0].start()
+            threads[0].join(0.2)
+            return super().mark()
+
+    with Meddled.new("inventory", NAMES, "shop") as shop, Fake(says(response(b"", "304 Not Modified"))) as fake:
+        assert shop.sync(fake.url) == Synced(0, 0)
+        threads[0].join(LIMIT)
+        assert shop["n"].counter == 1
+    hashed = hashlib.sha256(FRONT + NOTHING).hexdigest()
+    assert f'\r\nIf-None-Match: "{hashed}-{"0" * 32}"\r\n'.encode() in fake.requests[0]
+
+
 def test_edits_beside_meetings_are_no_fork(pair: Pair) -> None:
     shop, store = pair
     ended = threading.Event()
@@ -544,7 +564,7 @@ REFUSED = [
 ]
 
 
-@pytest.mark.parametrize("status, body, words", REFUSED)
+@pytest.mark.parametrize("status, body, words", REFUSED, ids=map(str, range(len(REFUSED))))
 def test_refusals(shop: Replica, status: str, body: bytes, words: str) -> None:
     before = bytes(shop)
     with Fake(says(response(body, status))) as fake:
