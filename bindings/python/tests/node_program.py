@@ -2,4 +2,5 @@
 import os
 from pathlib import Path
 
-NODE = Path(os.environ.get("RDS_NODE") or Path(__file__).parents[3] / "crates" / "rds_node" / "out" / "rds_node")
+_BUILT = Path(__file__).parents[3] / "crates" / "rds_node" / "out" / "rds_node"
+NODE = Path(os.environ.get("RDS_NODE") or _BUILT).absolute()
