@@ -85,8 +85,9 @@ class Question(NamedTuple):
 
     def brings(self, answer: bytes, asked: Question) -> bool:
         """Whether an answer of this replica's brings something to another that asked: also a longer roster."""
-        # One that brings nothing has no key, dot, row nor certificate: 18 bytes of 0 behind the asker's number.
-        return self.at > asked.at or len(answer) > self.at + 1 + 1 + 18
+        # One that brings nothing ends without a key, dot, row or certificate: in 18 bytes of 0. No other does, since
+        # the last row of a certificate ends in 13 of them at the most.
+        return self.at > asked.at or not answer.endswith(bytes(18))
 
 
 class Asked(NamedTuple):

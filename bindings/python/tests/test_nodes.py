@@ -240,10 +240,16 @@ def test_each_byte_of_a_meeting(pair: Pair) -> None:
     dot = struct.pack(">Q", 1)
     # A key; a dot without gaps; a row of it; no counter; the row of the certificate.
     row = b"\x01" + bytes(4) + b"\x02\x04\x00\x01x"
-    store_answers = b"RDSA\x02" + FRONT + b"\x01" + b"\x00" + one + b"\x01t" + b"\x00\x01\x01" + dot + bytes(4)
+    # A library of the later format tells its own tag in a response, in front of the answer.
+    has_tag = store.answer(shop.ask()).startswith(b"RDSC")
+    fronts = []
+    for replica, number, brief in (shop, b"\x00", shop_brief), (store, b"\x01", store_brief):
+        tag = hashlib.sha256(FRONT + brief).digest() + bytes.fromhex(replica.mark())
+        fronts.append((b"RDSC\x02" if has_tag else b"RDSA\x02") + FRONT + number + (tag if has_tag else b""))
+    store_answers = fronts[1] + b"\x00" + one + b"\x01t" + b"\x00\x01\x01" + dot + bytes(4)
     store_answers += one + b"\x01" + dot + row + bytes(4) + one + b"\x01\x01" + dot
     row = b"\x01" + bytes(4) + b"\x01\x03" + struct.pack(">q", 2)
-    shop_answers = b"RDSA\x02" + FRONT + b"\x00" + b"\x01" + one + b"\x01k" + b"\x00\x01\x00" + dot + bytes(4)
+    shop_answers = fronts[0] + b"\x01" + one + b"\x01k" + b"\x00\x01\x00" + dot + bytes(4)
     shop_answers += one + b"\x00" + dot + row + bytes(4) + one + b"\x01\x00" + dot
     taken = response(b'{"taken":1}\n')
     mark, hashed = shop.mark(), hashlib.sha256(FRONT + shop_brief).hexdigest()
