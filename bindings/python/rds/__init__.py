@@ -24,6 +24,8 @@ A replica may live in a file, which `rds_node` reads and writes too. It is locke
     ...     shop["apples/price"].register
     [3]
 
+`Replica.sync` meets a node that runs (`rds_node run`), over the network: each of the two takes what it lacks.
+
 The premise: a replica is edited at one place, and what it has sent is never taken back. So edit no copy of a file
 beside the original, and open no snapshot twice for editing.
 """
@@ -48,7 +50,9 @@ from ._faults import (
     Forked,
     Linked,
     NotUtf8,
+    OutOfTurn,
     OwnAhead,
+    PeerEnded,
     RdsError,
     Replaced,
     SameReplica,
@@ -60,6 +64,7 @@ from ._faults import (
     WrongRoster,
     WrongVersion,
 )
+from ._nodes import Synced
 from ._replica import Edit, Edited, Place, Replica, Scalar, Status
 
 __all__ = [
@@ -85,7 +90,9 @@ __all__ = [
     "Forked",
     "Linked",
     "NotUtf8",
+    "OutOfTurn",
     "OwnAhead",
+    "PeerEnded",
     "Place",
     "RdsError",
     "Replaced",
@@ -94,6 +101,7 @@ __all__ = [
     "Scalar",
     "SeqFull",
     "Status",
+    "Synced",
     "TooLong",
     "Unsure",
     "WrongAsker",

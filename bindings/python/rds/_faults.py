@@ -11,8 +11,8 @@ from ._library import DEVICE, LIB, MEMORY
 class RdsError(Exception):
     """A call was refused.
 
-    `number` is its status, of docs/FAULTS.md or of rds.h, and `words` says what it is. `given` is the path, key, name
-    or file that was given, where there was one.
+    `number` is its status, of docs/FAULTS.md or of rds.h, and `words` says what it is. `given` is the path, key, name,
+    file or URL that was given, where there was one.
     """
 
     def __init__(self, number: int, words: str = "", given: Optional[str] = None) -> None:
@@ -103,6 +103,15 @@ class SameReplica(RdsError):
     """Both sides are the same replica."""
 
 
+class OutOfTurn(RdsError):
+    """The peer sent something else than what was awaited, as what is no node does."""
+
+
+class PeerEnded(RdsError):
+    """A node refused a request. Where it told a fault, that is the `__cause__`, and speaks of the node: by `OwnAhead`
+    it says that it is the older one itself."""
+
+
 class BadLine(RdsError, ValueError):
     """An edit is none: not one of set, add, del, clear, inc, dec with what belongs to it."""
 
@@ -163,6 +172,8 @@ _CLASSES: Dict[int, Type[RdsError]] = {
     19: WrongGroup,
     20: WrongRoster,
     21: SameReplica,
+    22: OutOfTurn,
+    23: PeerEnded,
     25: BadLine,
     28: Forked,
     29: Unsure,

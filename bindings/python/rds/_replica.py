@@ -9,6 +9,7 @@ from typing import Any, Dict, Iterable, Iterator, List, NamedTuple, NoReturn, Op
 
 from ._faults import RdsError, fault, refuse
 from ._library import BAD_SCALAR, DEVICE, LAST_FAULT, LIB, MEMORY, NO_ROOM, UNSURE, EditedSlot, FileSlot
+from ._nodes import Question, Synced, Tag, met
 
 Scalar = Union[None, bool, int, str]
 """A value: None, a bool, a whole number of 64 bits with sign, or a text of at most 1,024 bytes."""
@@ -20,6 +21,7 @@ _PathLike = Union[str, "os.PathLike[str]"]
 
 _ROOM = 4096
 _MOST = (1 << 64) - 1
+_SAME_REPLICA, _FORKED = 21, 28
 
 
 class Edited(NamedTuple):
@@ -388,9 +390,14 @@ class Replica:
     def _gives_kept(self, call: Any, *arguments: Any) -> bytes:
         """Bytes that may go to others: of a replica in a file, once it is kept."""
         with self._lock:
+            self._keep_ahead()
+            return self._gives(None, call, *arguments)
+
+    def _keep_ahead(self) -> None:
+        """Keeps what the file doesn't have, where there is a file."""
+        with self._lock:
             if self._file is not None and self._is_ahead:
                 self.keep()
-            return self._gives(None, call, *arguments)
 
     def ask(self) -> bytes:
         """What asks another replica for what this one lacks."""
@@ -415,6 +422,51 @@ class Replica:
         """
         question = self.ask()
         return self.take(question, peer.answer(question))
+
+    def sync(self, url: str, token: Optional[str] = None, timeout: Optional[float] = 30.0) -> Synced:
+        """Meets the node (`rds_node run`) at `http://HOST:PORT`: each of the two takes what it lacks. The token is the
+        node's, where it has one. This replica may be used on other threads meanwhile.
+
+        One that lives in a file is kept before anything of it goes to the node, and when it has taken something. One
+        without a file isn't kept: go on from no older snapshot of it.
+
+        A wait for a byte takes at most `timeout` seconds, and all waits together ten times as long. Each full megabyte
+        that comes or goes adds one timeout. With None nothing is bounded.
+
+        `ValueError` says that the words name no node, and `OSError` that it can't be reached or heard, among others
+        `ConnectionError` and `TimeoutError`. A node refuses by `PeerEnded`. What is no node is told by `OutOfTurn`, or
+        as bytes that are none of rds. `WrongGroup`, `WrongRoster` and `SameReplica` say that the two can't meet.
+        `Forked` says that both have seen the same, and hold different entries; it may come once all has gone over.
+        What was taken before an error stays taken.
+        """
+        with met(url, token, timeout) as node:
+            own, tag = self._tagged()
+            asked = node.ask(tag)
+            if asked.text is None:
+                if asked.own == own.own:
+                    raise fault(_SAME_REPLICA)
+                return Synced(0, 0)
+            # Made before anything is asked for, since it judges who asks. What is taken adds nothing to it.
+            answer = self.answer(asked.text)
+            theirs = Question.of(asked.text)
+            if theirs.hash() == tag.hash:
+                if asked.tag and tag.is_forked(asked.tag):
+                    raise fault(_FORKED)
+                return Synced(0, 0)
+            taken = self.take(own.text, node.answer(own.text))
+            self._keep_ahead()
+            if own.brings(answer, theirs):
+                return Synced(taken, node.take(asked.text, answer))
+            # The node lacked nothing, so this replica should be now what the node was when it asked.
+            if asked.tag and self._tagged()[1].is_forked(asked.tag):
+                raise fault(_FORKED)
+            return Synced(taken, 0)
+
+    def _tagged(self) -> Tuple[Question, Tag]:
+        """What this replica asks, and the tag of that: both of one moment, though other threads may edit."""
+        with self._lock:
+            question = Question.of(self.ask())
+            return question, Tag(question.hash(), self.mark())
 
     def merge(self, snapshot: bytes) -> int:
         """Takes all that a snapshot of another replica has seen, and tells how many components were lacking."""

@@ -6,9 +6,9 @@ from pathlib import Path
 
 import pytest
 
+from node_program import NODE
 from rds import Busy, Replica
 
-NODE = Path(__file__).parents[3] / "crates" / "rds_node" / "out" / "rds_node"
 if not NODE.exists():
     pytest.skip("rds_node isn't built", allow_module_level=True)
 
