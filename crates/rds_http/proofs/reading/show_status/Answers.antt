@@ -6,5 +6,9 @@ use Rattle.rds_http.proofs.reading.show_status.Goals as goal
 
 pub returns-in_ok-body-in-Ok : goal.returns-in_ok-body-in-Ok
 returns-in_ok-body-in-Ok c =
-    on_ok c.fill.result (λ told. inl (string_bytes c.in-Ok.text, c.in-Ok.ensures.told, c.args.peers,
-    subst (λ (body : List ℕ). Tells 200 json body c.fill.new.response) c.in_ok-body-in-Ok.ensures told)) c.fill.ensures
+    on_ok c.fill.result (λ told. inl (
+      string_bytes c.in-Ok.text,
+      c.in-Ok.ensures.told,
+      c.args.peers,
+      subst (λ (body : List ℕ). Tells 200 json body c.fill.new.response) c.in_ok-body-in-Ok.ensures told,
+    )) c.fill.ensures
