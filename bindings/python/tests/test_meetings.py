@@ -22,6 +22,7 @@ from rds import (
     WrongAsker,
     WrongGroup,
     WrongRoster,
+    _nodes,
 )
 
 Pair = Tuple[Replica, Replica]
@@ -154,19 +155,23 @@ def test_each_changed_byte_of_an_answer(pair: Pair) -> None:
     store["n"].increase(5)
     question = shop.ask()
     answer = store.answer(question)
-    before, taken, refusals = bytes(shop), [], set()
+    before, taken, refusals = bytes(shop), {}, set()
     for at in range(len(answer)):
         changed = answer[:at] + bytes([answer[at] ^ 1]) + answer[at + 1 :]
         with Replica.from_bytes(before) as asker:
             try:
                 asker.take(question, changed)
-                taken.append(asker.show())
+                taken[at] = asker.show()
             except RdsError as error:
                 refusals.add(type(error))
                 assert bytes(asker) == before
     assert BadCertificate in refusals
-    # What is taken all the same is a text of another document: a value, a key or a name has changed.
-    assert {"counters": {"n": 5}, "maps": {}, "regs": {}, "sets": {"x": ["y"]}} not in taken
+    # The 48 bytes of the tag stand behind the own number, and say nothing of the document.
+    own = _nodes.Question.of(answer).at
+    due = {"counters": {"n": 5}, "maps": {}, "regs": {}, "sets": {"x": ["y"]}}
+    assert [taken.pop(at) for at in range(own + 1, own + 49)] == [due] * 48
+    # What else is taken is a text of another document: a value, a key or a name has changed.
+    assert due not in taken.values()
 
 
 def test_groups_are_apart(shop: Replica) -> None:
