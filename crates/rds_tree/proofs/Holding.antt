@@ -32,7 +32,7 @@ use Rattle.rds_tree.specs.declared.leaf.Leaf.{Leaf}
 use Rattle.rds_tree.specs.Cuts.{covered_leaf, covering, found_at, goes, is_deep, is_leaf, path_in, IsCut, IsRaise}
 use Rattle.rds_tree.specs.Document.{key_cmp}
 use Rattle.rds_tree.specs.Growing.{row_of, Holds}
-use Rattle.rds_tree.specs.Held.{at_value}
+use Rattle.rds_tree.specs.Held.{among_dots, at_value, IsGathered}
 use Rattle.rds_tree.specs.Row.{Row, row_at, Adds}
 use Rattle.rds_tree.specs.View.{is_kind}
 use Rattle.rds_tree.proofs.Cutting.{stays}
@@ -110,6 +110,10 @@ finds c path v tree at holds d e live =
     hit : Dot × Entry → Bool
     hit r = goes (covered_leaf c) (is_deep c) (path_in c) r.1.path (leaf_at r) && eq_by_cmp dot_cmp r.0 d
 
+-- and so is what was gathered
+pub finds_gathered : (c : Command) (path : List (List ℕ)) (v : Lived) (tree : List Row) (dots : List Dot) → path ≡ path_in c → Holds (live_rows v) tree → IsGathered (found_at (covered_leaf c) (is_deep c) path tree) [] dots → (d : Dot) (e : Entry) → map.get v d ≡ Some (Live e) → among_dots dots d e ≡ covers c e
+finds_gathered c path v tree dots at holds gathered d e live = gathered.any d e ∙ finds c path v tree at holds d e live
+
 -- ---- the tree after an edit
 
 pub holds_killed : (c : Command) (path : List (List ℕ)) (a b : StateValue) (own : ℕ) (old new : List Row) → path ≡ path_in c → parts_of c ≡ None → Holds (live_rows a.lives) old → IsCut (covering c None) (is_deep c) path old new → JoinsEffect (coordinates a) own c (coordinates b) → Holds (live_rows b.lives) new
@@ -144,7 +148,7 @@ apart v new d e unseen live = by (is_same new d) refl
     by true is = absurd (no_life (sym unseen ∙ ap (map.get v) (dot_is new d (same_dot-tied new d ∙ is)) ∙ live))
     by false is = refl
 
-shallow_parts : (c : Command) (p : Parts) → parts_of c ≡ Some p → (is_deep c ≡ false) × (p.path ≡ path_in c)
+pub shallow_parts : (c : Command) (p : Parts) → parts_of c ≡ Some p → (is_deep c ≡ false) × (p.path ≡ path_in c)
 shallow_parts (Set q v) p is = let path : p.path ≡ q = cc is in (refl, path)
 shallow_parts (Add q v) p is = let path : p.path ≡ q = cc is in (refl, path)
 shallow_parts (Del q v) p is = cc is
@@ -188,6 +192,25 @@ module _ (c : Command) (p : Parts) (is : parts_of c ≡ Some p) (a : StateValue)
         ∙ sym (rows_made c a b own test e (joins.joined ∙ ap (λ m. join (coordinates a) (effect (coordinates a) own c m)) made.1.0) (ap (map.get a.lives) (sym at) ∙ unseen));
   }
 
+  -- where nothing is covered, nothing goes
+  pub none_cut : (old mid : List Row) → Holds (live_rows a.lives) old → Adds old (row_at p.path leaf) mid → ((d : Dot) (e : Entry) → found_at (covered_leaf c) (is_deep c) p.path old d e ≡ false) → IsCut (covering c (Some new)) (is_deep c) p.path mid mid
+  none_cut old mid holds adds none = record {
+    any = λ t.
+        adds.any t ∙ ap (λ x. t (row_at p.path leaf) || x) (all_stay t)
+        ∙ ap (λ x. x || list_any (stays (covering c (Some new)) (is_deep c) p.path t) old) (sym (ap (λ x. t (row_at p.path leaf) && not x) own_stays ∙ and-true (t (row_at p.path leaf))))
+        ∙ sym (adds.any (stays (covering c (Some new)) (is_deep c) p.path t));
+  }
+    where
+      stay : (t : Row → Bool) (d : Dot) (e : Entry) → map.get a.lives d ≡ Some (Live e) → stays (covering c (Some new)) (is_deep c) p.path t (row_of (d, e)) ≡ t (row_of (d, e))
+      stay t d e live =
+          ap (λ x. t (row_of (d, e)) && not x) (others_go d e live ∙ sym (finds c p.path a.lives old (shallow_parts c p is).1 holds d e live) ∙ none d e)
+          ∙ and-true (t (row_of (d, e)))
+
+      all_stay : (t : Row → Bool) → list_any t old ≡ list_any (stays (covering c (Some new)) (is_deep c) p.path t) old
+      all_stay t =
+          holds.any t ∙ sym (any_alike (λ r. stays (covering c (Some new)) (is_deep c) p.path t (row_of r)) (λ r. t (row_of r)) a.lives (stay t))
+          ∙ sym (holds.any (stays (covering c (Some new)) (is_deep c) p.path t))
+
 pub same_itself : (p : List (List ℕ)) → pointwise bytes_eq p p ≡ true
 same_itself [] = refl
 same_itself (k ∷ p) = and_true _ _ (sym (key_test k k) ∙ key_itself k) (same_itself p)
@@ -229,15 +252,6 @@ holds_undone v path l old mid tree unseen holds adds cut = record {
         goes_shallow picks (leaf_at (d, e)) path e.path
         ∙ ap (λ x. pointwise bytes_eq e.path path && (is_kind l.kind e.kind && (at_value l.value e.value && x))) (apart v l.dot d e unseen live)
         ∙ third_none (pointwise bytes_eq e.path path) (is_kind l.kind e.kind) (at_value l.value e.value)
-
--- what was found once the leaf of a new dot was added
-pub finds_made : (c : Command) (p : Parts) → parts_of c ≡ Some p → (v : Lived) (new : Dot) (old mid : List Row) → map.get v new ≡ None → Holds (live_rows v) old → Adds old (row_at p.path (record { kind = p.kind; value = p.value; dot = new })) mid → (d : Dot) (e : Entry) → map.get v d ≡ Some (Live e)
-    → found_at (covered_leaf c) (is_deep c) p.path mid d e ≡ covers c e
-finds_made c p is v new old mid unseen holds adds d e live =
-    adds.any (λ r. goes (covered_leaf c) (is_deep c) p.path r.path r.leaf && eq_by_cmp dot_cmp r.leaf.dot d)
-    ∙ ap (λ x. (goes (covered_leaf c) (is_deep c) p.path p.path (record { kind = p.kind; value = p.value; dot = new }) && x) || found_at (covered_leaf c) (is_deep c) p.path old d e) (same_dot-tied new d ∙ apart v new d e unseen live)
-    ∙ ap (λ x. x || found_at (covered_leaf c) (is_deep c) p.path old d e) (and-false (goes (covered_leaf c) (is_deep c) p.path p.path (record { kind = p.kind; value = p.value; dot = new })))
-    ∙ finds c p.path v old (shallow_parts c p is).1 holds d e live
 
 pub raise_covers : (c : Command) → IsRaise c → (e : Entry) → covers c e ≡ false
 raise_covers (Set p v) is e = absurd is

@@ -53,7 +53,7 @@ pub fn gather_covered<S: DotSet>(
 }
 
 /// The path at which or below which a command covers entries; one that raises a number covers none.
-fn path_of(command: &Command) -> Option<&Path>
+pub fn path_of(command: &Command) -> Option<&Path>
     ensures { MatchOption result (IsRaise command.now) (λ path. path.now ≡ path_in command.now) }
 {
     match command {

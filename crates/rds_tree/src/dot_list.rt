@@ -91,7 +91,7 @@ impl DotList {
 }
 
 /// Makes dots dead, but the one that is to stay.
-fn kill_each<S: DotSet>(dots: &[Dot], lives: &mut Lives<S>, but: Option<Dot>)
+pub fn kill_each<S: DotSet>(dots: &[Dot], lives: &mut Lives<S>, but: Option<Dot>)
     ensures { (d : Dot) → map.get lives.new d ≡ killed_by (but_for but (among_dots dots.now)) d (map.get lives.old d) }
 {
     for dot in dots {

@@ -1,77 +1,33 @@
-//! Edits of a replica and of the tree of its live dots, which find in the tree what they cover.
-ghost use Rattle.std.specs.Prelude.{◌≡◌, None, Some, Err};
+//! Edits of a replica and of the tree of its live dots that make no entry live. What they cover is found in the tree.
+ghost use Rattle.std.specs.Prelude.{◌≡◌, None};
 ghost use Rattle.rds_life.specs.Life.{live_rows};
-ghost use Rattle.rds_state.specs.Chosen.{parts_of, Parts};
+ghost use Rattle.rds_state.specs.Chosen.{parts_of};
 ghost use Rattle.rds_state.specs.Results.{EditsReplica};
 ghost use Rattle.rds_tree.specs.Cuts.{path_in, IsRaise};
 ghost use Rattle.rds_tree.specs.Growing.{Holds};
 
-use crate::document::add_leaf;
+use crate::covered::path_of;
 use crate::found::FoundInTree;
 use crate::node::Node;
-use crate::pick::{Covering, OneLeaf};
-use rds_dots::{Dot, DotSet};
-use rds_names::{Fault, Kind, Path, Scalar};
+use crate::pick::Covering;
+use rds_dots::DotSet;
+use rds_names::{Fault, Path};
 use rds_state::{Command, Edited, Replica};
-use std::alloc::Global;
 
-/// Edits the replica and its tree.
+/// Edits the replica and its tree by a command that makes no entry live.
 pub fn edit<S: DotSet>(
-    alloc: Global,
     replica: &mut Replica<S>,
     tree: &mut Node,
     command: &Command,
 ) -> Result<Edited, Fault>
+    requires none { parts_of command.now ≡ None }
     requires holds { Holds (live_rows replica.old.state.lives) tree.old }
     ensures holds { Holds (live_rows replica.new.state.lives) tree.new }
     ensures edited { EditsReplica replica.old command.now result replica.new }
 {
-    match command {
-        Command::Set(path, value) => put(alloc, replica, tree, command, path, Kind::Reg, value),
-        Command::Add(path, value) => put(alloc, replica, tree, command, path, Kind::Elem, value),
-        Command::Del(path, _) => kill(replica, tree, command, path),
-        Command::Clear(path) => kill(replica, tree, command, path),
-        Command::Inc(_, _) => raise(replica, tree, command),
-        Command::Dec(_, _) => raise(replica, tree, command),
-    }
-}
-
-/// Makes an entry live, and the dots dead that the command covers.
-fn put<S: DotSet>(
-    alloc: Global,
-    replica: &mut Replica<S>,
-    tree: &mut Node,
-    command: &Command,
-    path: &Path,
-    kind: Kind,
-    value: &Scalar,
-) -> Result<Edited, Fault>
-    requires parts { let parts : Parts = record { path = path.now; kind = kind; value = value.now } in
-        parts_of command.now ≡ Some parts }
-    requires holds { Holds (live_rows replica.old.state.lives) tree.old }
-    ensures holds { Holds (live_rows replica.new.state.lives) tree.new }
-    ensures edited { EditsReplica replica.old command.now result replica.new }
-{
-    let dot = replica.next_dot(path)?;
-    add_leaf(alloc, tree, path, kind, value, dot)?;
-    let found = FoundInTree {
-        tree,
-        path,
-        command,
-    };
-    match replica.edit_found(command, &found) {
-        Ok(edited) => {
-            let covering = Covering {
-                command,
-                but: Some(dot),
-            };
-            tree.cut(path.keys(), &covering);
-            Ok(edited)
-        }
-        Err(fault) => {
-            tree.cut(path.keys(), &OneLeaf { kind, value, dot });
-            Err(fault)
-        }
+    match path_of(command) {
+        Some(path) => kill(replica, tree, command, path),
+        None => raise(replica, tree, command),
     }
 }
 

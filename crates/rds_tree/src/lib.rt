@@ -18,6 +18,7 @@ mod marking;
 mod node;
 mod one_key;
 mod pick;
+mod placing;
 mod repeats;
 mod taking;
 mod views;

@@ -1,5 +1,5 @@
 //! The mark of a replica's state, which goes with what changes.
-ghost use Rattle.std.specs.Prelude.{◌≡◌, IfOk, IfErr, count_by, filter};
+ghost use Rattle.std.specs.Prelude.{◌≡◌, Ok, IfOk, IfErr, IfSome, count_by, filter, length};
 ghost use Rattle.std.specs.FinMap as map;
 ghost use Rattle.rds_counts.specs.Counted.{AreCountRows};
 ghost use Rattle.rds_counts.specs.RowsOf.{count_rows};
@@ -7,6 +7,7 @@ ghost use Rattle.rds_counts.specs.Search.{IsSpot};
 ghost use Rattle.rds_life.specs.Life.{entry_of, live_rows};
 ghost use Rattle.rds_names.specs.declared.fault.Fault.TheVariants.{Memory};
 ghost use Rattle.rds_state.specs.Edit.{covers};
+ghost use Rattle.rds_state.specs.Fits.{ReplicaValue};
 ghost use Rattle.rds_state.specs.Mark.{mark_of};
 ghost use Rattle.rds_state.specs.Results.{EditsReplica};
 ghost use Rattle.rds_tree.specs.Cuts.{path_in};
@@ -15,6 +16,7 @@ ghost use Rattle.rds_tree.specs.Marks.{coming, going, mark_at, mark_in, marks_at
 
 use crate::indexing::edit;
 use crate::node::Node;
+use crate::placing::{Placed, put};
 use rds_counts::{CountRow, Counts};
 use rds_dots::{Dot, DotSet};
 use rds_life::Lives;
@@ -37,28 +39,58 @@ pub fn edit_marked<S: DotSet>(
     ensures marked { mark.new ≡ mark_of replica.new.state }
     ensures edited { EditsReplica replica.old command.now result replica.new }
 {
-    let before = Going::by(alloc, replica, tree, command);
-    let edited = edit(alloc, replica, tree, command)?;
-    let after = coming(replica, command, edited.dot);
-    if let Ok(going) = before {
-        if going.dots == edited.killed {
-            *mark = moved(*mark, going.mark, after);
-            return Ok(edited);
-        }
+    if let Some(placed) = Placed::by(command) {
+        return put(alloc, replica, tree, mark, command, placed);
     }
-    *mark = replica.state().mark();
+    let going = Going::by(alloc, replica, tree, command).ok();
+    let edited = edit(replica, tree, command)?;
+    *mark = mark_after(replica, *mark, going, command, edited);
     Ok(edited)
+}
+
+/// The mark of a replica's state after an edit: that of the one before, without what goes and with what has come. Where
+/// it isn't known what goes, it is made anew.
+pub fn mark_after<S: DotSet>(
+    replica: &Replica<S>,
+    mark: Mark,
+    gone: Option<Going>,
+    command: &Command,
+    edited: Edited,
+) -> Mark
+    ensures { (old : ReplicaValue) → mark ≡ mark_of old.state → HasRows old.state.counts
+        → EditsReplica old command.now (Ok edited) replica.now
+        → IfSome gone (λ g. g.dots ≡ edited.killed → g.mark ≡ going old command.now)
+        → result ≡ mark_of replica.now.state }
+{
+    let after = coming(replica, command, edited.dot);
+    match gone {
+        Some(gone) if gone.dots == edited.killed => moved(mark, gone.mark, after),
+        _ => replica.state().mark(),
+    }
 }
 
 /// What goes by an edit: its mark, and how many dots a tree lists for it. That a tree lists a dot once isn't said of it,
 /// so the mark is that of what goes only where as many die.
 #[derive(Clone, Copy)]
-struct Going {
-    mark: Mark,
-    dots: u64,
+pub struct Going {
+    pub mark: Mark,
+    pub dots: u64,
 }
 
 impl Going {
+    /// What goes with these dots of a replica.
+    pub fn of<S: DotSet>(replica: &Replica<S>, dots: &[Dot]) -> Going
+        ensures mark { result.mark ≡ marks_at replica.now.state.lives dots.now }
+        ensures dots { result.dots ≡ length dots.now }
+        ensures rows { HasRows replica.now.state.counts }
+    {
+        let _rows = rows_of(replica.state().counts());
+        Going {
+            mark: marks_at(replica.state().lives(), dots),
+            dots: dots.len() as u64,
+        }
+    }
+
     /// What goes by a command.
     fn by<S: DotSet>(
         alloc: Global,
@@ -106,10 +138,7 @@ impl Going {
     {
         let mut dots = Vec::new(alloc);
         tree.gather(path.keys(), command, &mut dots)?;
-        Ok(Going {
-            mark: marks_at(replica.state().lives(), &dots),
-            dots: dots.len() as u64,
-        })
+        Ok(Going::of(replica, &dots))
     }
 }
 

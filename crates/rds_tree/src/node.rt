@@ -1,5 +1,5 @@
 //! A tree of live dots by path.
-ghost use Rattle.std.specs.Prelude.{◌≡◌, ◌++◌, ◌∷◌, [], ℕ, ℤ, List, None, Option, not, true, IfOk, IfErr, OnOk, OnErr};
+ghost use Rattle.std.specs.Prelude.{◌≡◌, ◌++◌, ◌∷◌, [], ℕ, ℤ, List, None, Option, not, true, false, IfOk, IfErr, OnOk, OnErr};
 ghost use Rattle.std.specs.Prelude.{MatchOption};
 ghost use Rattle.std.specs.FinMap as map;
 ghost use Rattle.std.specs.Map.{remove_entry};
@@ -101,6 +101,39 @@ impl Node {
             Some((key, rest)) => {
                 if let Some(child) = self.children.get_mut(key) {
                     return child.insert(alloc, rest, leaf);
+                }
+                let child = Node::single(alloc, rest, leaf)?;
+                self.children.insert(key.copy(alloc)?, child)?;
+                Ok(())
+            }
+        }
+    }
+
+    /// Adds a leaf at the end of the path, and puts the dots behind others that a command covers there.
+    pub fn place(
+        &mut self,
+        alloc: Global,
+        path: &[Key],
+        leaf: Leaf,
+        command: &Command,
+        dots: &mut Vec<Dot>,
+    ) -> Result<(), Fault>
+        requires shallow { is_deep command.now ≡ false }
+        ensures gathered { OnOk result
+            (IsGathered (found_at (covered_leaf command.now) (is_deep command.now) path.now self.old)
+            dots.old.items dots.new.items) }
+        ensures ok { OnOk result (Adds self.old (row_at path.now leaf) self.new) }
+        ensures err { OnErr result (self.new ≡ self.old) }
+        ensures memory { IfErr result (λ fault. fault ≡ Memory) }
+    {
+        match path.split_first() {
+            None => {
+                self.leaves.gather_covered(command, dots)?;
+                self.leaves.insert(alloc, leaf)
+            }
+            Some((key, rest)) => {
+                if let Some(child) = self.children.get_mut(key) {
+                    return child.place(alloc, rest, leaf, command, dots);
                 }
                 let child = Node::single(alloc, rest, leaf)?;
                 self.children.insert(key.copy(alloc)?, child)?;

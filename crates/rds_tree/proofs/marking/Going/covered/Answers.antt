@@ -1,6 +1,5 @@
 use Rattle.std.proofs.Common.{◌∙◌, List, [], ap, length, subst, sym}
 use Rattle.rds_dots.specs.declared.dot.Dot.{Dot}
-use Rattle.rds_state.specs.Value.{StateValue}
 use Rattle.rds_tree.specs.Cuts.{covered_leaf, found_at, is_deep}
 use Rattle.rds_tree.specs.Held.{IsGathered}
 use Rattle.rds_tree.specs.Marks.{marks_at}
@@ -14,8 +13,6 @@ returns-clause-ok g c = λ many.
     let dots = c.gather.new.dots.items in
     let found = found_at (covered_leaf command) (is_deep command) c.keys.result.now c.args.tree.now in
     let gathered : IsGathered found [] dots = subst (λ (ds : List Dot). IsGathered found ds dots) c.new-dots.ensures.items c.in_ok-gather.ensures.ok in
-    c.marks_at.ensures
-    ∙ ap (λ lives. marks_at lives c.deref.result.now) (c.lives.ensures ∙ ap (λ (s : StateValue). s.lives) c.state.ensures.state)
-    ∙ ap (marks_at v) c.deref.ensures.value
+    c.of.ensures.mark ∙ ap (marks_at v) c.deref.ensures.value
     ∙ covered_marks command c.keys.result.now v c.args.tree.now dots (c.keys.ensures.keys ∙ c.requires.path) c.requires.holds gathered
-    (sym (ap length c.deref.ensures.value) ∙ c.deref.ensures.len ∙ sym c.len.ensures ∙ many)
+    (sym (ap length c.deref.ensures.value) ∙ sym c.of.ensures.dots ∙ many)
