@@ -1,7 +1,8 @@
+mod Cuts
 mod Differ
-mod Made
 mod Padding
 mod Room
+mod WordOrder
 pub mod Ascii
 pub mod Entries
 pub mod Orders

@@ -31,14 +31,16 @@ filled text behind zeros key short utf8 =
     )
 
 module _ (room : List ℕ) (n : ℕ) (kept : IsTrue (is_kept (Inline room n))) where
+  pub fits : n ≤ 22
+  fits = let short = and_left (nat_le n 22) _ (and_right (nat_eq (length room) 22) _ kept) in grind (arith, nat_tests, short)
+
   -- the text is as long as is told
-  text_length : length (take n room) ≡ n
+  pub text_length : length (take n room) ≡ n
   text_length =
       let long = (Decides-eqb _ 22).0 (and_left (nat_eq (length room) 22) _ kept) in
-      let short = and_left (nat_le n 22) _ (and_right (nat_eq (length room) 22) _ kept) in
-      length-take-le n room (grind (arith, nat_tests, short, long))
+      length-take-le n room (omega (arith, fits, long))
 
-  padded : take n room ++ replicate (22 - n) 0 ≡ room
+  pub padded : take n room ++ replicate (22 - n) 0 ≡ room
   padded =
       let zeros = and_right (is_utf8 (take n room)) _ (and_right (nat_le n 22) _ (and_right (nat_eq (length room) 22) _ kept)) in
       ap (λ behind. take n room ++ behind) (sym ((bytes_eq-Decides _ _).0 zeros)) ∙ take-append-drop n room
@@ -66,18 +68,24 @@ same_keys form other room others n m key that is other_is has other_has kept oth
 abbrev pub AreBytes : List ℕ → Type 0
 AreBytes xs = (i : ℕ) → get_or xs i 0 < 256
 
-first_bytes : (n : ℕ) (xs : List ℕ) → AreBytes xs → AreBytes (take n xs)
+pub first_bytes : (n : ℕ) (xs : List ℕ) → AreBytes xs → AreBytes (take n xs)
 first_bytes zero xs bytes i = omega arith
 first_bytes (suc n) [] bytes i = omega arith
 first_bytes (suc n) (x ∷ xs) bytes zero = bytes 0
 first_bytes (suc n) (x ∷ xs) bytes (suc i) = first_bytes n xs (λ j. bytes (suc j)) i
 
-last_bytes : (n : ℕ) (xs : List ℕ) → AreBytes xs → AreBytes (drop n xs)
+pub last_bytes : (n : ℕ) (xs : List ℕ) → AreBytes xs → AreBytes (drop n xs)
 last_bytes n xs bytes i = rw (get_or-drop n xs i 0) (bytes (n + i))
 
 -- eight bytes are those of their number
 one_word : (xs ys : List ℕ) → length xs ≡ 8 → length ys ≡ 8 → AreBytes xs → AreBytes ys → from_le_bytes w64 xs ≡ from_le_bytes w64 ys → xs ≡ ys
 one_word xs ys long other_long bytes other_bytes same = sym (le_bytes_8 xs _ long bytes refl) ∙ le_bytes_8 ys _ other_long other_bytes same
+
+-- the last eight overlap those before
+pub parts : (zs : List ℕ) → length zs ≡ 22 → take 8 (drop 0 zs) ++ (take 8 (drop 8 zs) ++ drop 2 (take 8 (drop 14 zs))) ≡ zs
+parts zs is =
+    let past : drop 2 (take 8 (drop 14 zs)) ≡ drop 8 (drop 8 zs) = ap (drop 2) (take_all 8 (drop 14 zs) (grind (arith, length-drop 14 zs, is))) ∙ drop-drop 2 14 zs ∙ sym (drop-drop 8 8 zs) in
+    ap (λ ys. take 8 zs ++ (take 8 (drop 8 zs) ++ ys)) past ∙ ap (λ ys. take 8 zs ++ ys) (take-append-drop 8 (drop 8 zs)) ∙ take-append-drop 8 zs
 
 module _ (xs ys : List ℕ) (long : length xs ≡ 22) (other_long : length ys ≡ 22) (bytes : AreBytes xs) (other_bytes : AreBytes ys) where
   abbrev pub word_at : List ℕ → ℕ → ℕ
@@ -86,12 +94,6 @@ module _ (xs ys : List ℕ) (long : length xs ≡ 22) (other_long : length ys �
   one_part : (at : ℕ) → at ≤ 14 → word_at xs at ≡ word_at ys at → take 8 (drop at xs) ≡ take 8 (drop at ys)
   one_part at fits same =
       one_word _ _ (length-take-le 8 (drop at xs) (grind (arith, length-drop at xs, long))) (length-take-le 8 (drop at ys) (grind (arith, length-drop at ys, other_long))) (first_bytes 8 _ (last_bytes at xs bytes)) (first_bytes 8 _ (last_bytes at ys other_bytes)) same
-
-  -- the last eight overlap those before
-  parts : (zs : List ℕ) → length zs ≡ 22 → take 8 (drop 0 zs) ++ (take 8 (drop 8 zs) ++ drop 2 (take 8 (drop 14 zs))) ≡ zs
-  parts zs is =
-      let past : drop 2 (take 8 (drop 14 zs)) ≡ drop 8 (drop 8 zs) = ap (drop 2) (take_all 8 (drop 14 zs) (grind (arith, length-drop 14 zs, is))) ∙ drop-drop 2 14 zs ∙ sym (drop-drop 8 8 zs) in
-      ap (λ ys. take 8 zs ++ (take 8 (drop 8 zs) ++ ys)) past ∙ ap (λ ys. take 8 zs ++ ys) (take-append-drop 8 (drop 8 zs)) ∙ take-append-drop 8 zs
 
   -- the numbers tell all bytes
   pub same_words : word_at xs 0 ≡ word_at ys 0 → word_at xs 8 ≡ word_at ys 8 → word_at xs 14 ≡ word_at ys 14 → xs ≡ ys

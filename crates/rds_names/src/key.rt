@@ -1,6 +1,8 @@
 //! A key of a map.
 ghost use Rattle.std.specs.Prelude.{◌≡◌, ◌≤◌, ◌↔◌, length, take, drop, true, IsTrue, IfOk, IfErr};
-ghost use Rattle.std.specs.Int.{w64, from_le_bytes};
+ghost use Rattle.std.specs.Int.{w64, from_le_bytes, from_be_bytes};
+ghost use Rattle.std.specs.Ordering.{nat_cmp};
+ghost use Rattle.std.specs.Cmp.Lexicographic.{slice_cmp};
 ghost use Rattle.std.specs.Str.{is_utf8};
 ghost use Rattle.rds_names.specs.declared.fault.Fault.TheVariants.{Memory};
 ghost use Rattle.rds_names.specs.Gives.{Gives};
@@ -182,7 +184,13 @@ impl Ord for Key {
     ghost matches_eq = { texts_ties };
 
     fn cmp(&self, other: &Key) -> Ordering {
-        self.as_bytes().cmp(other.as_bytes())
+        match (&self.form, &other.form) {
+            (Form::Inline(own, len), Form::Inline(that, that_len)) => match room_order(own, that) {
+                Ordering::Equal => len.cmp(that_len),
+                order => order,
+            },
+            _ => self.as_bytes().cmp(other.as_bytes()),
+        }
     }
 }
 
@@ -224,6 +232,36 @@ fn have_same_bytes(room: &[u8; MOST_INLINE], other: &[u8; MOST_INLINE]) -> bool
     word(room, 0) == word(other, 0)
         && word(room, 8) == word(other, 8)
         && word(room, 14) == word(other, 14)
+}
+
+/// The eight bytes from a place on, as the number whose first digit is the first of them.
+fn ordered_word(room: &[u8; MOST_INLINE], at: usize) -> u64
+    requires { at ≤ 14 }
+    ensures { result ≡ from_be_bytes w64 (take 8 (drop at room.now)) }
+{
+    u64::from_be_bytes([
+        room[at],
+        room[at + 1],
+        room[at + 2],
+        room[at + 3],
+        room[at + 4],
+        room[at + 5],
+        room[at + 6],
+        room[at + 7],
+    ])
+}
+
+/// The order of two rooms by their bytes. The first word that differs decides.
+fn room_order(room: &[u8; MOST_INLINE], other: &[u8; MOST_INLINE]) -> Ordering
+    ensures { result ≡ slice_cmp nat_cmp room.now other.now }
+{
+    match ordered_word(room, 0).cmp(&ordered_word(other, 0)) {
+        Ordering::Equal => match ordered_word(room, 8).cmp(&ordered_word(other, 8)) {
+            Ordering::Equal => ordered_word(room, 14).cmp(&ordered_word(other, 14)),
+            order => order,
+        },
+        order => order,
+    }
 }
 
 /// The text of bytes that were a text's.

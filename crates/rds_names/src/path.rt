@@ -1,10 +1,10 @@
 //! Where a leaf stands.
-ghost use Rattle.std.specs.Prelude.{◌≡◌, ◌≤◌, ◌↔◌, ◌++◌, ℕ, List, length, [], true, IsTrue, IsOk, IfOk, IfErr};
-ghost use Rattle.std.specs.Prelude.{slice_get};
+ghost use Rattle.std.specs.Prelude.{◌≡◌, ◌≤◌, ◌<◌, ◌↔◌, ◌++◌, ℕ, List, length, [], ◌∷◌, true, IsTrue, IsOk, IfOk};
+ghost use Rattle.std.specs.Prelude.{IfErr, MatchOption, if◌then◌else◌, slice_get};
 ghost use Rattle.std.specs.List.{list_all, starts_with};
 ghost use Rattle.std.specs.Str.{bytes_eq};
 ghost use Rattle.rds_names.specs.Key.{is_key};
-ghost use Rattle.rds_names.specs.declared.fault.Fault.TheVariants.{Memory};
+ghost use Rattle.rds_names.specs.declared.fault.Fault.TheVariants.{Memory, BadKey};
 ghost use Rattle.std.specs.Option.{option_copied};
 ghost use Rattle.rds_names.specs.Gives.{Gives};
 ghost use Rattle.rds_names.specs.Path.{path_of, path_of_keys, cut};
@@ -79,13 +79,14 @@ impl Path {
         if text.is_empty() {
             return Ok(Path { keys: None });
         }
-        if count_pieces(text) > MOST_KEYS {
+        let pieces = count_pieces(text);
+        if pieces > MOST_KEYS {
             return Err(Fault::BadPath);
         }
-        if !are_keys(text) {
-            return Err(Fault::BadKey);
+        match keys_of(alloc, text, pieces) {
+            Ok(keys) => Path::sharing(keys),
+            Err(_) => Err(fault_of_pieces(text)),
         }
-        Path::sharing(keys_of(alloc, text)?)
     }
 
     /// How many keys the path has.
@@ -166,35 +167,51 @@ impl Eq for Path {
     ghost laws = { lists_equiv nat_list_eq_equiv };
 }
 
+/// How many pieces a text has. The byte of a '/' is in no other character.
 fn count_pieces(text: &str) -> usize
     ensures { result ≡ length (cut text.now) }
 {
-    text.split('/').count()
-}
-
-fn are_keys(text: &str) -> bool
-    ensures { result ≡ list_all is_key (cut text.now) }
-{
-    text.split('/').all(|piece| Key::is_key(piece))
-}
-
-fn keys_of(alloc: Global, text: &str) -> Result<Vec<Key>, Fault>
-    requires { list_all is_key (cut text.now) ≡ true }
-    ensures ok { IfOk result (λ keys. keys.items ≡ cut text.now) }
-    ensures memory { IfErr result (λ fault. fault ≡ Memory) }
-{
-    let mut keys = Vec::with_capacity(alloc, count_pieces(text))?;
-    for piece in text.split('/') {
-        keys.push(key_of_piece(alloc, piece)?)?;
+    let mut pieces = 1;
+    for byte in text.as_bytes() {
+        if *byte == b'/' {
+            pieces += 1;
+        }
     }
+    pieces
+}
+
+/// The text before the first '/' and the text behind it, unless there is none.
+fn cut_once(text: &str) -> Option<(&str, &str)>
+    ensures { MatchOption result (cut text.now ≡ text.now ∷ [])
+        (λ parts. (cut text.now ≡ parts.0.now ∷ cut parts.1.now) × (length parts.1.now < length text.now)) }
+{
+    let at = text.as_bytes().iter().position(|byte| *byte == b'/')?;
+    Some((&text[..at], &text[at + 1..]))
+}
+
+/// The pieces of a text, as keys. It fails where one is no key, and where there is no memory.
+fn keys_of(alloc: Global, text: &str, pieces: usize) -> Result<Vec<Key>, Fault>
+    ensures keys { IfOk result (λ keys. keys.items ≡ cut text.now) }
+    ensures tested { IsOk result → IsTrue (list_all is_key (cut text.now)) }
+{
+    let mut keys = Vec::with_capacity(alloc, pieces)?;
+    let mut rest = text;
+    'cuts: while let Some((piece, after)) = cut_once(rest) {
+        keys.push(Key::new(alloc, piece)?)?;
+        rest = after;
+    }
+    keys.push(Key::new(alloc, rest)?)?;
     Ok(keys)
 }
 
-/// A piece that was tested is a key.
-fn key_of_piece(alloc: Global, piece: &str) -> Result<Key, Fault>
-    requires { is_key piece.now ≡ true }
-    ensures ok { IfOk result (λ key. key ≡ piece.now) }
-    ensures memory { IfErr result (λ fault. fault ≡ Memory) }
+/// Why no keys could be made of a text. It is asked for only then, since it cuts the text once more.
+#[inline(never)]
+fn fault_of_pieces(text: &str) -> Fault
+    ensures { result ≡ (if list_all is_key (cut text.now) then Memory else BadKey) }
 {
-    Key::new(alloc, piece)
+    if text.split('/').all(|piece| Key::is_key(piece)) {
+        Fault::Memory
+    } else {
+        Fault::BadKey
+    }
 }

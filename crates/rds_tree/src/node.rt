@@ -1,6 +1,6 @@
 //! A tree of live dots by path.
-ghost use Rattle.std.specs.Prelude.{◌≡◌, ◌++◌, ◌∷◌, [], ℕ, ℤ, List, None, Option, not, true, false, IfOk, IfErr, OnOk, OnErr};
-ghost use Rattle.std.specs.Prelude.{MatchOption};
+ghost use Rattle.std.specs.Prelude.{◌≡◌, ◌++◌, ◌∷◌, [], ℕ, ℤ, List, None, Option, not, true, false, IfOk, IfErr, OnOk};
+ghost use Rattle.std.specs.Prelude.{MatchOption, OnErr};
 ghost use Rattle.std.specs.FinMap as map;
 ghost use Rattle.std.specs.Map.{remove_entry};
 ghost use Rattle.std.specs.Ordering.{is_eq};
