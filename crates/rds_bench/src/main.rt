@@ -1,16 +1,18 @@
 //! Times what the program doesn't show by itself. `rds_bench texts N` encodes and decodes a state of N dots, two
 //! thirds of them live; `rds_bench delta N` takes what a replica of N dots has that one without the last ten lacks,
 //! and `rds_bench fresh N` what one lacks that has none of them. `rds_bench index N` takes ten dots into an index of
-//! one set of N elements, adds ten elements and deletes these. `rds_bench formats N KEYS` encodes and decodes a state
-//! of N live dots in both formats, where KEYS names the kind of its rows' keys. It prints a line of figures, and
-//! nothing where it was called by no words. Then it waits until its input ends, so that who called it can see how much
-//! memory it had. `rds_bench answer` reads an answer from its input, as a session does.
+//! one set of N elements, adds ten elements and deletes these. `rds_bench edits N` sets N registers in an empty index,
+//! then further ones and old ones. `rds_bench formats N KEYS` encodes and decodes a state of N live dots in both
+//! formats, where KEYS names the kind of its rows' keys. It prints a line of figures, and nothing where it was called
+//! by no words. Then it waits until its input ends, so that who called it can see how much memory it had. `rds_bench
+//! answer` reads an answer from its input, as a session does.
 #![tactic(auto)]
 
 ghost use Rattle.std.specs.Prelude.{◌≤◌, IfSome};
 
 mod answers;
 mod deltas;
+mod edits;
 mod formats;
 mod indexes;
 mod keyed;
@@ -84,6 +86,7 @@ fn time(rt: &HostRuntime, what: &str, size: &str) -> io::Result<()> {
         "delta" => deltas::time(rt, size, Asker::Behind),
         "fresh" => deltas::time(rt, size, Asker::Fresh),
         "index" => indexes::time(rt, size),
+        "edits" => edits::time(rt, size),
         _ => println!(rt; "nothing is called {what}"),
     }
 }
