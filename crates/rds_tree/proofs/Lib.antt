@@ -31,6 +31,7 @@ pub mod SameDocument
 pub mod SameView
 pub mod ScalarOrder
 pub mod Shows
+pub mod TwoLeaves
 pub mod UnderKey
 pub mod Walked
 pub mod Whole

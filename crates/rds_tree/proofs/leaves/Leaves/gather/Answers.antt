@@ -1,0 +1,14 @@
+use Rattle.std.proofs.Common.{◌∙◌, ◌∷◌, [], ap, sym, true}
+use Rattle.rds_tree.specs.Cuts.{among_leaves}
+use Rattle.rds_tree.specs.Forms.{leaves_kept}
+use Rattle.rds_tree.proofs.Gathering.{gathers_both_if}
+use Rattle.rds_tree.proofs.TwoLeaves.{two_among}
+use Rattle.rds_tree.proofs.leaves.Leaves.gather.Goals as goal
+
+pub returns-in_ok-gather_one-in-Two-clause-ok : goal.returns-in_ok-gather_one-in-Two-clause-ok
+returns-in_ok-gather_one-in-Two-clause-ok c =
+    let first = c.in-Two.first in
+    let second = c.in-Two.second in
+    gathers_both_if c.gather_one-in-Two-2.result (among_leaves (λ l. true) (first ∷ [])) (among_leaves (λ l. true) (second ∷ [])) (among_leaves (λ l. true) c.args.self.now) c.args.dots.now.items c.gather_one-in-Two.new.dots.items c.gather_one-in-Two-2.new.dots.items c.in_ok-gather_one-in-Two.ensures.ok
+    (two_among (λ l. true) c.args.self.now first second (sym (ap leaves_kept c.in-Two.is) ∙ c.self.view_is))
+    c.gather_one-in-Two-2.ensures.ok
