@@ -35,7 +35,7 @@ pub fn time(rt: &HostRuntime, registers: u64) -> io::Result<()>
     requires most { registers ≤ 1000000 }
 {
     let alloc = rt.alloc();
-    match (empty(alloc), steps(alloc, registers)) {
+    match (empty(alloc), steps_of(alloc, registers)) {
         (Ok(mut index), Ok(steps)) => time_steps(rt, registers, &mut index, &steps),
         (Err(fault), _) => report(rt, fault),
         (_, Err(fault)) => report(rt, fault),
@@ -48,7 +48,7 @@ fn empty(alloc: Global) -> Result<Index<GapSet>, Fault> {
     Index::of(alloc, replica(alloc, state)?)
 }
 
-fn steps(alloc: Global, registers: u64) -> Result<Steps, Fault>
+fn steps_of(alloc: Global, registers: u64) -> Result<Steps, Fault>
     requires least { 1 ≤ registers }
     requires most { registers ≤ 1000000 }
 {
