@@ -1,4 +1,4 @@
-use Rattle.std.proofs.Common.{◌≡◌, ◌∙◌, List, [], ℕ, ap, length, subst, sym, Some}
+use Rattle.std.proofs.Common.{◌∙◌, List, [], ℕ, ap, length, subst, sym, Some}
 use Rattle.rds_dots.specs.declared.dot.Dot.{Dot}
 use Rattle.rds_life.specs.Life.{live_rows}
 use Rattle.rds_names.specs.declared.scalar.Scalar.{Scalar}
