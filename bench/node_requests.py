@@ -1,9 +1,11 @@
 """Requests to a node, one by one, and what each is due to be answered, by hand."""
 import hashlib
+import itertools
 import json
 import os
 import re
 import signal
+import socket
 import struct
 import subprocess
 import time
@@ -211,6 +213,37 @@ def judge_pipes(node):
         want(answer.status == 200 and link.is_ended(5), f"HTTP/1.0 is answered {answer}, and the connection stays")
 
 
+def of_length(node, length):
+    """An edit of no line that is so long as a whole."""
+    body = b"\n" * max(length * 7 // 8, length - 8_000)
+    return node.text("POST", "/edits", body, "x: " + "y" * (length - len(node.text("POST", "/edits", body, "x: "))))
+
+
+def judge_pieces(node):
+    """Requests that come in pieces, cut anywhere: each is answered once it is whole, whatever else has come."""
+    first, second = node.text("GET", "/value/apples"), node.text("POST", "/edits", b"\n\n")
+    due = node.answer("GET", "/value/apples").body
+    with node.link() as link:
+        link.socket.settimeout(5)
+        for cut in range(1, len(second)):
+            answer = link.answer(first + second[:cut])
+            want((answer.status, answer.body) == (200, due), f"before {second[:cut]} a request is answered {answer}")
+            answer = link.answer(second[cut:])
+            want(answer.status == 200, f"a request that comes as {second[:cut]} and its rest is answered {answer}")
+        for length in 8191, 8192, 8193, 16_383, 16_384, 16_385, 24_576, 65_536, 1 << 20:
+            text = of_length(node, length)
+            want(len(text) == length, f"a request of {length} bytes has {len(text)}")
+            statuses = [link.answer(text).status, link.answer(text + first).status, link.answer().status]
+            want(statuses == [200] * 3, f"requests of {length} bytes are answered {statuses}")
+    for cut, late in itertools.product([0, 1, len(second) - 1], [0, 0.05]):
+        with node.link() as link:
+            link.socket.sendall(first + second[:cut])
+            time.sleep(late)
+            link.socket.shutdown(socket.SHUT_WR)
+            is_due = link.answer().body == due and link.is_ended(5)
+            want(is_due, f"who ends after a request and {second[:cut]} isn't answered, or the connection stays")
+
+
 def judge_texts(node):
     """What two replicas ask and answer each other, the one by requests and the other by commands."""
     node.told("init", "b.rds", "g", "b", "a", "b")
@@ -409,7 +442,7 @@ def try_requests(asked, folder):
     with running(node):
         comers = lambda node: judge_comers(node, MAY_COME)
         tags = judge_tags, judge_ask_tags
-        for part in judge_table, judge_heads, judge_pipes, judge_texts, *tags, comers, stop_and_go_on:
+        for part in judge_table, judge_heads, judge_pipes, judge_pieces, judge_texts, *tags, comers, stop_and_go_on:
             with noted:
                 part(node)
         document = node.document()

@@ -7,6 +7,7 @@ pub mod Events
 pub mod Getting
 pub mod Growing
 pub mod LetterEvents
+pub mod LevelForks
 pub mod Named
 pub mod Refused
 pub mod Replaced

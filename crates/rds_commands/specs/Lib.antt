@@ -1,4 +1,5 @@
 pub mod Batch
+pub mod Calls
 pub mod Changing
 pub mod Edits
 pub mod Letters

@@ -1,6 +1,8 @@
 -- Sessions of files as events of the model.
-use Rattle.std.specs.Prelude.{ℕ, List, [], ◌∷◌, length, Some}
+use Rattle.std.specs.Prelude.{◌≡◌, ◌≢◌, ℕ, List, [], ◌∷◌, length, Some}
+use Rattle.rds_delta.specs.Digested.{digest_of}
 use Rattle.rds_state.specs.Fits.{ReplicaValue}
+use Rattle.rds_state.specs.Mark.{mark_of}
 use Rattle.rds_session.specs.Meeting.{IsItsLeast}
 use Rattle.rds_session.specs.Received.{Delivery}
 use Rattle.rds_world.specs.Coherent.{HasRosters}
@@ -8,6 +10,7 @@ use Rattle.rds_world.specs.Replicas.{IsAnsweredIn, IsAskedIn, IsKeptIn, LeadsTo}
 use Rattle.rds_world.specs.World.{World, Happening, Of, AnswerLent, Accepted, run}
 use Rattle.rds_world.specs.declared.event.Event.TheVariants.{Ask, Crash, Save, Take}
 use Rattle.rds_files.specs.Files.{ReplacedValue}
+use Rattle.rds_files.specs.Forks.{AreForked}
 use Rattle.rds_files.specs.Settling.{Settles}
 use Rattle.rds_files.specs.declared.settling.Settled.TheVariants.{Taken}
 
@@ -46,3 +49,8 @@ SettlingsAreTakes = (w : World) (number : ℕ) (asked peer : ReplicaValue) (path
     → IsItsLeast peer asked (Some delivery) → IsKeptIn w file.before
     → Settles path asked (Some delivery) (Taken components) (Some file)
     → LeavesFile w (settling_events asked number) file
+
+-- replicas that have seen the same, and have different marks, are forked as `pair` tells it
+abbrev pub LevelForksAreTold : Type 0
+LevelForksAreTold = (one other : ReplicaValue) → one.roster ≡ other.roster
+    → digest_of one.state ≡ digest_of other.state → mark_of one.state ≢ mark_of other.state → AreForked one other

@@ -50,6 +50,7 @@ use Rattle.rds_commands.specs.Edits.{
 }
 use Rattle.rds_commands.specs.Looks.{WritesGet, WritesStatus}
 use Rattle.rds_commands.specs.Batch.{WritesEditLines}
+use Rattle.rds_commands.specs.Calls.{WritesCall, calls_site}
 use Rattle.rds_commands.specs.Listing.{WritesDiff, WritesList, WritesRaw, wanted_of}
 use Rattle.rds_commands.specs.OfFile.{WritesOfFile}
 use Rattle.rds_commands.specs.Offline.{
@@ -215,40 +216,46 @@ WritesPairing first second before after status =
 abbrev pub WritesSite : Option (List ℕ) → Option (List ℕ) → ℕ → Type 0
 WritesSite before after status = (fault : Fault) × Writes (Err fault) before after status
 
--- what is written for a task, with what became of the input; of `join` and `sim` it is said apart
-abbrev pub WritesTask : Task → Stream → Option (List ℕ) → Option (List ℕ) → ℕ → Type 0
-WritesTask Join reading before after status = Unit {0}
-WritesTask Sim reading before after status = Unit {0}
-WritesTask Files reading before after status = WritesText FILES_TEXT.now before after status
-WritesTask Faults reading before after status = WritesText FAULTS_TEXT.now before after status
-WritesTask (Init words) reading before after status = WritesInit words before after status
-WritesTask (InitFrom words) reading before after status = WritesInitFrom words before after status
-WritesTask (Grow words) reading before after status = WritesGrow words before after status
-WritesTask (Edit file edit) reading before after status = WritesEdit file.now edit before after status
-WritesTask (EditIfChanged file edit) reading before after status = WritesIfChanged file.now edit before after status
-WritesTask (EditLines file) reading before after status = WritesEditLines file.now reading before after status
-WritesTask (Get file path) reading before after status = WritesGet file.now path.now before after status
-WritesTask (GetRaw file path kind) reading before after status =
+-- what is written for a task that is done here, with what became of the input; of `join` and `sim` it is said apart
+abbrev pub WritesHere : Task → Stream → Option (List ℕ) → Option (List ℕ) → ℕ → Type 0
+WritesHere Join reading before after status = Unit {0}
+WritesHere Sim reading before after status = Unit {0}
+WritesHere Files reading before after status = WritesText FILES_TEXT.now before after status
+WritesHere Faults reading before after status = WritesText FAULTS_TEXT.now before after status
+WritesHere (Init words) reading before after status = WritesInit words before after status
+WritesHere (InitFrom words) reading before after status = WritesInitFrom words before after status
+WritesHere (Grow words) reading before after status = WritesGrow words before after status
+WritesHere (Edit file edit) reading before after status = WritesEdit file.now edit before after status
+WritesHere (EditIfChanged file edit) reading before after status = WritesIfChanged file.now edit before after status
+WritesHere (EditLines file) reading before after status = WritesEditLines file.now reading before after status
+WritesHere (Get file path) reading before after status = WritesGet file.now path.now before after status
+WritesHere (GetRaw file path kind) reading before after status =
     WritesRaw file.now path.now (wanted_of kind) before after status
-WritesTask (Show file path) reading before after status = WritesShow layout.Compact file.now path.now before after status
-WritesTask (ShowPretty file path) reading before after status = WritesShow layout.Indented file.now path.now before after status
-WritesTask (Dump file path) reading before after status = WritesList dump_text 0 file.now path.now before after status
-WritesTask (Compact file) reading before after status = WritesCompact file.now before after status
-WritesTask (Status file) reading before after status = WritesStatus file.now before after status
-WritesTask (Serve words) reading before after status = WritesServe words reading before after status
-WritesTask (Run words) reading before after status = WritesSite before after status
-WritesTask (Sync words) reading before after status = WritesSyncing words reading before after status
-WritesTask (Pair first second) reading before after status = WritesPairing first.now second.now before after status
-WritesTask (Ask file) reading before after status = WritesAsk file.now before after status
-WritesTask (Answer file) reading before after status = WritesAnswerTo file.now reading before after status
-WritesTask (Take file question answer) reading before after status =
+WritesHere (Show file path) reading before after status = WritesShow layout.Compact file.now path.now before after status
+WritesHere (ShowPretty file path) reading before after status = WritesShow layout.Indented file.now path.now before after status
+WritesHere (Dump file path) reading before after status = WritesList dump_text 0 file.now path.now before after status
+WritesHere (Compact file) reading before after status = WritesCompact file.now before after status
+WritesHere (Status file) reading before after status = WritesStatus file.now before after status
+WritesHere (Serve words) reading before after status = WritesServe words reading before after status
+WritesHere (Run words) reading before after status = WritesSite before after status
+WritesHere (Sync words) reading before after status = WritesSyncing words reading before after status
+WritesHere (Pair first second) reading before after status = WritesPairing first.now second.now before after status
+WritesHere (Ask file) reading before after status = WritesAsk file.now before after status
+WritesHere (Answer file) reading before after status = WritesAnswerTo file.now reading before after status
+WritesHere (Take file question answer) reading before after status =
     WritesTake file.now question.now answer.now reading.before before after status
-WritesTask (Merge file from) reading before after status = WritesMerge file.now from.now before after status
-WritesTask (Check question answer) reading before after status =
+WritesHere (Merge file from) reading before after status = WritesMerge file.now from.now before after status
+WritesHere (Check question answer) reading before after status =
     WritesCheck question.now answer.now reading.before before after status
-WritesTask (Conflicts file path) reading before after status =
+WritesHere (Conflicts file path) reading before after status =
     WritesList conflicts_text 3 file.now path.now before after status
-WritesTask (Diff file other) reading before after status = WritesDiff file.now other.now before after status
+WritesHere (Diff file other) reading before after status = WritesDiff file.now other.now before after status
+
+-- the same of any task: one that names a site in place of a file is done there
+abbrev pub WritesTask : Task → Stream → Option (List ℕ) → Option (List ℕ) → ℕ → Type 0
+WritesTask task reading before after status =
+    ((calls_site task ≡ false) × WritesHere task reading before after status)
+    ⊎ ((calls_site task ≡ true) × WritesCall before after status)
 
 -- what is written for a task in words, and `Usage` for none
 abbrev pub WritesNamed : Option (List Text) → Stream → Option (List ℕ) → Option (List ℕ) → ℕ → Type 0

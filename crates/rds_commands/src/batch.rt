@@ -12,6 +12,7 @@ use crate::notes::{note_file, note_input};
 use rds_delta::{Digest, delta};
 use rds_files::{Disk, LockFile, LockedFile, ReplacedFile};
 use rds_gaps::GapSet;
+use rds_json::LineReader;
 use rds_keep::{Change, Counted};
 use rds_lines::{edit_lines, write_replies};
 use rds_names::Fault;
@@ -94,7 +95,8 @@ fn edited_by(alloc: Global, replica: Replica<GapSet>, input: &[u8]) -> Result<Ed
 {
     let before = Digest::of(alloc, replica.state())?;
     let mut index = Index::of(alloc, replica)?;
-    let answers = edit_lines(alloc, &mut index, input)?;
+    let mut reader = LineReader::new(alloc);
+    let answers = edit_lines(alloc, &mut reader, &mut index, input)?;
     let replica = index.into_replica();
     let delta = delta(alloc, replica.state(), &before)?;
     Ok(Edited {
@@ -125,6 +127,21 @@ where
         Err(fault) => {
             note_input(rt, fault);
             write_fault(writer, fault)
+        }
+    }
+}
+
+/// The lines that the reader holds. Where it fails, or holds more than [`MOST`] bytes, that is told on standard error.
+pub fn read_lines<H: Disk, R: Read>(rt: &H, reader: &mut Counted<R>) -> Result<Vec<u8>, Fault> {
+    match reader.read_front(rt.alloc(), MOST + 1) {
+        Ok(input) if input.len() <= MOST => Ok(input),
+        Ok(_) => {
+            note_input(rt, Fault::TooLong);
+            Err(Fault::TooLong)
+        }
+        Err(fault) => {
+            note_input(rt, fault);
+            Err(fault)
         }
     }
 }

@@ -2,7 +2,7 @@
 ghost use Rattle.rds_commands.specs.Changing.{EditingsAreEdits, LinesAreEdits, MergesAreTakes};
 ghost use Rattle.rds_commands.specs.Letters.{AnswersAreAnswers, QuestionsAreAsks, TakesAreTakes};
 ghost use Rattle.rds_commands.specs.Rosters.{CopiesAreTakes, GrowthsAreGrows, InitsAreStarts};
-ghost use Rattle.rds_commands.specs.Sessions.{ReadingsAreAsks, SessionsAreAnswered};
+ghost use Rattle.rds_commands.specs.Sessions.{LevelForksAreTold, ReadingsAreAsks, SessionsAreAnswered};
 ghost use Rattle.rds_commands.specs.Sessions.{SettlingsAreTakes};
 ghost use Rattle.rds_world.specs.Replicas.{AnswersStay, AsksStay};
 
@@ -18,6 +18,12 @@ pub fn sessions_are_events()
     ensures answers { SessionsAreAnswered }
     ensures answers_stay { AnswersStay }
     ensures takes { SettlingsAreTakes }
+{}
+
+/// The replicas that two files hold are forked, as `pair` tells it, wherever they have one roster, one digest and
+/// different marks. So `pair` tells each fork that a mark tells. The function does nothing: its contract is this law.
+pub fn level_forks_are_told()
+    ensures { LevelForksAreTold }
 {}
 
 /// Questions and answers that go as texts between files are events of the model of all replicas: `ask` is that a replica

@@ -1,9 +1,10 @@
 //! The program's commands: words in, what is written and the exit status out. Read from above: `program`, `telling`,
-//! `outcome`, `file_commands`, `batch`, `looking`, `listing`, `offline`, `session_words`, `visits`, `site`,
-//! `unparsed` and `laws`. What people are told beside it is in `notes`, `letter_notes`, `tips` and `causes`.
+//! `outcome`, `file_commands`, `batch`, `looking`, `listing`, `offline`, `session_words`, `visits`, `calls`,
+//! `site`, `unparsed` and `laws`. What people are told beside it is in `notes`, `letter_notes`, `tips` and `causes`.
 #![tactic(auto)]
 
 mod batch;
+mod calls;
 mod causes;
 mod file_commands;
 mod laws;
@@ -22,8 +23,8 @@ mod unparsed;
 mod visits;
 
 pub use laws::{
-    copies_are_events, edits_are_events, letters_are_events, rosters_are_events,
-    sessions_are_events,
+    copies_are_events, edits_are_events, letters_are_events, level_forks_are_told,
+    rosters_are_events, sessions_are_events,
 };
 pub use program::run;
-pub use site::{RunSite, Visit};
+pub use site::{RunSite, SiteRequest, Visit};

@@ -6,9 +6,10 @@ ghost use Rattle.rds_lines.specs.Sim.{MayBeSimulated};
 ghost use Rattle.rds_lines.specs.Streams.{Tells, stream_of};
 ghost use Rattle.rds_words.specs.Commands.{join_words, sim_words};
 ghost use Rattle.rds_words.specs.Entered.{Names, mistakes_in, named_in};
-ghost use Rattle.rds_commands.specs.Told.{MayWriteNamed, RunsSim, TellsMistake, WritesTask};
+ghost use Rattle.rds_commands.specs.Told.{MayWriteNamed, RunsSim, TellsMistake, WritesHere, WritesTask};
 
 use crate::batch::run_edit_lines;
+use crate::calls::{Call, run_call};
 use crate::listing::{run_conflicts, run_diff, run_dump, run_raw, wanted_of};
 use crate::looking::{run_get, run_status};
 use crate::notes::note_together;
@@ -32,7 +33,8 @@ use std::io::{Read, Write};
 use std::net::Net;
 
 /// Runs the command that the words name, and answers the exit status. The first word is the
-/// program's name, whatever it is. `run` is left to the site, and so is `sync` of an address that begins with `http://`.
+/// program's name, whatever it is. `run` is left to the site, and so is `sync` of an address that begins with `http://`, and
+/// what a command asks where such an address stands in place of a file.
 ///
 /// A fault is written as the line `fault N: Name` and answered by 1. Words that the command line
 /// doesn't have are `Usage`: that line, then the library's text, and 2. Help and the version are written
@@ -74,7 +76,7 @@ where
     }
 }
 
-// Runs a task.
+// Runs a task, at a site where it names one in place of a file.
 fn run_task<H: Disk + Net, R: Read, W: Write, T: RunSite<H>>(
     rt: &H,
     task: Task<'_>,
@@ -89,6 +91,31 @@ where
     ensures sim { task.entry ≡ Task.Sim → AnswersLines MayBeSimulated
         (stream_of R.remaining reader.old reader.new) (stream_of W.contents writer.old writer.new) result }
     ensures written { Tells (WritesTask task.entry (stream_of R.remaining reader.old reader.new))
+        (stream_of W.contents writer.old writer.new) result }
+    ensures status { result ≤ 3 }
+    ensures broken { (writer.new.failed ≡ writer.old.failed) ⊎ (result ≡ 1) }
+{
+    match Call::of(&task) {
+        Some(call) => run_call(rt, call, site, reader, writer),
+        None => run_here(rt, task, site, reader, writer),
+    }
+}
+
+// Runs a task on files, or on what it is given.
+fn run_here<H: Disk + Net, R: Read, W: Write, T: RunSite<H>>(
+    rt: &H,
+    task: Task<'_>,
+    site: &T,
+    reader: &mut Counted<R>,
+    writer: &mut Counted<W>,
+) -> u8
+where
+    H::File: LockFile,
+    ensures join { task.entry ≡ Task.Join
+        → RunsJoin (stream_of R.remaining reader.old reader.new) (stream_of W.contents writer.old writer.new) result }
+    ensures sim { task.entry ≡ Task.Sim → AnswersLines MayBeSimulated
+        (stream_of R.remaining reader.old reader.new) (stream_of W.contents writer.old writer.new) result }
+    ensures written { Tells (WritesHere task.entry (stream_of R.remaining reader.old reader.new))
         (stream_of W.contents writer.old writer.new) result }
     ensures status { result ≤ 3 }
     ensures broken { (writer.new.failed ≡ writer.old.failed) ⊎ (result ≡ 1) }

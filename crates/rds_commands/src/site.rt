@@ -1,4 +1,4 @@
-//! What the commands `run` and `sync` call, whose sites are made above this crate.
+//! Sites, which are run, met and called by commands, and made above this crate.
 ghost use Rattle.std.specs.Prelude.{IfSome};
 ghost use Rattle.rds_commands.specs.Visits.{IsBrought};
 
@@ -15,7 +15,22 @@ pub struct Visit {
     pub fault: Option<Fault>,
 }
 
-/// Runs sites, each over the replica in a file, and meets them.
+/// What a command asks of a site, whose address stands in place of a file.
+#[derive(Clone, Copy, Debug)]
+pub enum SiteRequest<'a> {
+    /// That it edits its document as lines of JSON say.
+    Edits(&'a [u8]),
+    /// What stands at a path, as `get` prints it.
+    Value(&'a str),
+    /// The document at a path, as `show` prints it.
+    Document(&'a str),
+    /// The registers with several values, at a path and below it, as `conflicts` prints them.
+    Conflicts(&'a str),
+    /// Whose replica it has, and how much there is of it, as `status` prints that.
+    Status,
+}
+
+/// Runs sites, each over the replica in a file, meets them, and calls them.
 pub trait RunSite<H> {
     /// Serves the file over HTTP until a fault ends that, and answers the fault.
     fn run_site(&self, rt: &H, words: RunWords<'_>) -> Fault;
@@ -23,4 +38,7 @@ pub trait RunSite<H> {
     /// Has the file meet the site at the address, `http://HOST:PORT`. A wait for it takes so long at most.
     fn sync_site(&self, rt: &H, words: SyncWords<'_>, timeout: Option<Duration>) -> Visit
         ensures taken { IfSome result.taken (IsBrought words.entry.file.now) };
+
+    /// Asks the site at the address, `http://HOST:PORT`, and answers what it says.
+    fn call_site(&self, rt: &H, address: &str, request: SiteRequest<'_>) -> Result<Vec<u8>, Fault>;
 }

@@ -24,7 +24,6 @@ use Rattle.rds_dots.specs.Order.{dots_exact}
 use Rattle.rds_dots.specs.Sets.{lists-dots_from}
 use Rattle.rds_dots.proofs.Lines.{in_line, same_dot, of_one, so_far}
 use Rattle.rds_life.specs.Life.{Lived, keys, live_rows}
-use Rattle.rds_life.specs.Past.{rows_past}
 use Rattle.rds_life.proofs.Views.{find-live_rows, rise-live_rows}
 use Rattle.rds_delta.specs.Next.{is_live}
 
@@ -39,14 +38,6 @@ module _ {X : Type 0} where
   later_listed rows zero q h = h
   later_listed [] (suc i) q h = absurd (false≢true h)
   later_listed (r ∷ rows) (suc i) q h = or_right (eq_by_cmp dot_cmp q r.0) (lists (keys rows) q) (later_listed rows i q h)
-
-  past_listed : (d : Dot) (rows : List (Dot × X)) (q : Dot) → lists (keys (rows_past d rows)) q ≡ true → lists (keys rows) q ≡ true
-  past_listed d [] q h = h
-  past_listed d (r ∷ rows) q h =
-      elim (is_above d r.0) as (λ b. lists (keys (cond b (r ∷ rows_past d rows) (rows_past d rows))) q ≡ true → lists (keys (r ∷ rows)) q ≡ true) [
-        | true ↦ elim (eq_by_cmp dot_cmp q r.0) as (λ b. (b || lists (keys (rows_past d rows)) q) ≡ true → (b || lists (keys rows) q) ≡ true) [ true ↦ λ is. is | false ↦ past_listed d rows q ]
-        | false ↦ λ is. or_right (eq_by_cmp dot_cmp q r.0) (lists (keys rows) q) (past_listed d rows q is)
-      ] h
 
   pub later_rise : (rows : List (Dot × X)) (i : ℕ) → ascends (keys rows) ≡ true → ascends (keys (drop i rows)) ≡ true
   later_rise rows zero rise = rise
@@ -91,8 +82,3 @@ module _ (v : Lived) (rows : List (Dot × Entry)) (are : rows ≡ live_rows v) w
   lives_behind i later is q h =
       ap is_some (sym (find-live_rows v q) ∙ ap (map.find dot_cmp q) (sym are)) ∙ found_listed q rows
       ∙ later_listed rows i q (ap (λ l. lists (keys l) q) (sym is) ∙ h)
-
-  pub lives_past : (d : Dot) (later : List (Dot × Entry)) → later ≡ rows_past d rows → (q : Dot) → lists (keys later) q ≡ true → is_live v q ≡ true
-  lives_past d later is q h =
-      ap is_some (sym (find-live_rows v q) ∙ ap (map.find dot_cmp q) (sym are)) ∙ found_listed q rows
-      ∙ past_listed d rows q (ap (λ l. lists (keys l) q) (sym is) ∙ h)

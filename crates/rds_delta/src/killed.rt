@@ -16,7 +16,7 @@ ghost use Rattle.rds_delta.specs.Next.{is_live};
 use crate::step::lifeless_until;
 use crate::stretches::{Stretch, part_after, stretch_from};
 use rds_dots::{Dot, DotSet, MAX_SEQ, Run};
-use rds_life::{LiveRows, Lives};
+use rds_life::Lives;
 use rds_names::{Entry, Fault};
 use std::alloc::Global;
 
@@ -75,7 +75,8 @@ fn dead_from<S: DotSet>(lives: &Lives<S>, run: Run) -> Stretch
     }
 }
 
-/// The last number of a run up to which the dots after its first one are live, where that one is.
+/// A number of a run up to which the dots after its first one are live, where that one is: the last such number where
+/// the dead dots are kept, or the rows are in a list.
 fn live_until<S: DotSet>(lives: &Lives<S>, run: Run) -> u64
     requires { IsRun run }
     ensures from { run.lo ≤ result }
@@ -86,39 +87,17 @@ fn live_until<S: DotSet>(lives: &Lives<S>, run: Run) -> u64
         replica: run.replica,
         seq: run.lo,
     };
+    if let Some(until) = lives.live_until(first) {
+        return until.min(run.hi);
+    }
     let rows = match lives.live().as_slice() {
         Some(rows) => rows,
-        None => {
-            let mut later = lives.live();
-            later.skip_past(first);
-            return in_turn(run, later);
-        }
+        None => return run.lo,
     };
     match rows.binary_search_by_key(&first, |row| row.0) {
         Ok(at) => in_line(run, rows.split_at(at + 1).1),
         Err(_) => run.lo,
     }
-}
-
-/// The last number of a run up to which the dots after its first one are those of the rows, one by one.
-fn in_turn(run: Run, mut rows: LiveRows<'_>) -> u64
-    requires { IsRun run }
-    ensures from { run.lo ≤ result }
-    ensures within { result ≤ run.hi }
-    ensures live { (n : ℕ) → run.lo < n → n ≤ result → lists (keys rows.entry) (dot_of run.replica n) ≡ true }
-{
-    let mut until = run.lo;
-    'counting: while until < run.hi {
-        let next = Dot {
-            replica: run.replica,
-            seq: until + 1,
-        };
-        match rows.next() {
-            Some((dot, _)) if dot == next => until += 1,
-            _ => return until,
-        }
-    }
-    until
 }
 
 /// The last number of a run up to which the dots after its first one are those that the rows begin with. Where one of

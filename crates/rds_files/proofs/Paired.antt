@@ -1,6 +1,6 @@
 -- The ends of a pair.
 use Rattle.std.proofs.Common.{◌≡◌, ◌<◌, ◌-◌, ◌^◌, ◌∙◌, ◌⊎◌, ◌||◌, ◌++◌, ℕ, Bool, List, Option, inl, inr, refl, sym, ap, subst}
-use Rattle.std.specs.Prelude.{Result, Ok, Err, OnOk, OnErr, MatchResult}
+use Rattle.std.specs.Prelude.{◌↔◌, IsTrue, Result, Ok, Err, OnOk, OnErr, MatchResult}
 use Rattle.std.specs.Io.KnownBytes.{Appends}
 use Rattle.rds_names.specs.declared.fault.Fault.{Fault}
 use Rattle.rds_names.specs.declared.fault.Fault.TheVariants.{Device, Memory}
@@ -16,6 +16,7 @@ use Rattle.rds_session.specs.Received.{Delivery, HasChecked, IsDoneBy}
 use Rattle.rds_session.specs.Session.{Nothing, Standing, course}
 use Rattle.rds_session.specs.Steps.{Continues, HasStanding, IsOver}
 use Rattle.rds_files.specs.Files.{KeptFile, ReplacedValue}
+use Rattle.rds_files.specs.Forks.{EndForked, fork_text}
 use Rattle.rds_files.specs.Pairing.{IsEnd, Tells, WritesBoth}
 use Rattle.rds_files.specs.Reports.{report_text, tells_fault, told_status}
 use Rattle.rds_files.specs.Settling.{Settles}
@@ -68,24 +69,33 @@ left side kept s ended last received is same checked done over e = record {
 }
 
 -- an end was settled, and is told of
-pub told_of : (side : Side) (file : KeptFile) (received : Option Delivery) (ended : Ended) (settled : Settled) (replaced : Option ReplacedValue)
-    → Leaves side file.kept received ended → Settles file.path file.kept received settled replaced → Tells side file (report_text settled ended) (tells_fault settled ended)
-told_of side file received ended settled replaced leaves settles =
-    record { received = received; ended = ended; leaves = leaves; settled = settled; replaced = replaced; settles = settles; text_is = refl; told_is = refl }
+pub told_of : (side : Side) (file : KeptFile) (received : Option Delivery) (ended : Ended) (settled : Settled) (taken : Option ReplacedValue)
+    → Leaves side file.kept received ended → Settles file.path file.kept received settled taken → Tells side file (report_text settled ended) (tells_fault settled ended) taken
+told_of side file received ended settled taken leaves settles =
+    record { received = received; ended = ended; leaves = leaves; settled = settled; settles = settles; text_is = refl; told_is = refl }
 
--- both ends were told of
-pub told_both : (client server : KeptFile) (before after : Option (List ℕ)) (first second : List ℕ) (first_told second_told : Bool) (status : ℕ)
-    → Tells Client client first first_told → Tells Server server second second_told
-    → Appends before after (first ++ second) → status ≡ told_status (first_told || second_told) → WritesBoth client server before after status
-told_both client server before after first second first_told second_told status one two wrote e =
-    record { first = first; first_told = first_told; tells_first = one; second = second; second_told = second_told; tells_second = two; written = wrote; status_is = e }
+module _ (client server : KeptFile) (before after : Option (List ℕ)) (first second : List ℕ) (first_told second_told : Bool) (first_taken second_taken : Option ReplacedValue) (forked : Bool)
+    (one : Tells Client client first first_told first_taken) (two : Tells Server server second second_told second_taken) (fork : IsTrue forked ↔ EndForked first_taken second_taken) where
+  -- both ends were told of
+  told_both : (status : ℕ) → Appends before after (first ++ second ++ fork_text forked) → status ≡ told_status (first_told || second_told || forked) → WritesBoth client server before after status
+  told_both status wrote e = record {
+    first = first;
+    first_told = first_told;
+    first_taken = first_taken;
+    tells_first = one;
+    second = second;
+    second_told = second_told;
+    second_taken = second_taken;
+    tells_second = two;
+    forked = forked;
+    forked_is = fork;
+    written = wrote;
+    status_is = e;
+  }
 
--- both ends were told of, where no write failed
-pub both_written : (client server : KeptFile) (before after : Option (List ℕ)) (first second : List ℕ) (first_told second_told : Bool) (old new due status : ℕ) (written : Result (Unit {0}) Fault)
-    → Tells Client client first first_told → Tells Server server second second_told
-    → OnOk written (Appends before after (first ++ second)) → OnErr written (new ≡ one_more old) → due ≡ told_status (first_told || second_told) → MatchResult written (λ _. status ≡ due) (λ _. status ≡ 1)
-    → ((old < new) ⊎ (new ≡ 2 ^ 64 - 1) → ⊥) → WritesBoth client server before after status
-both_written client server before after first second first_told second_told old new due status (Ok u) one two wrote counted e s =
-    λ steady. told_both client server before after first second first_told second_told status one two wrote (s ∙ e)
-both_written client server before after first second first_told second_told old new due status (Err fault) one two wrote counted e s =
-    λ steady. absurd (steady (failed_by old old new refl counted))
+  -- both ends were told of, where no write failed
+  pub both_written : (old new due status : ℕ) (written : Result (Unit {0}) Fault)
+      → OnOk written (Appends before after (first ++ second ++ fork_text forked)) → OnErr written (new ≡ one_more old) → due ≡ told_status (first_told || second_told || forked)
+      → MatchResult written (λ _. status ≡ due) (λ _. status ≡ 1) → ((old < new) ⊎ (new ≡ 2 ^ 64 - 1) → ⊥) → WritesBoth client server before after status
+  both_written old new due status (Ok u) wrote counted e s = λ steady. told_both status wrote (s ∙ e)
+  both_written old new due status (Err fault) wrote counted e s = λ steady. absurd (steady (failed_by old old new refl counted))

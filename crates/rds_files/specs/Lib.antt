@@ -1,5 +1,6 @@
 pub mod Ends
 pub mod Files
+pub mod Forks
 pub mod Holders
 pub mod Pairing
 pub mod Piping

@@ -1,7 +1,7 @@
 //! Replicas in files, and their sessions: over a stream with a peer, over a reader and a writer, or of two files with
 //! one another. Read `disk`, `locks`, `targets`, `beside`, `appending`, `holders`, `lasting`, `reading` and `files`
 //! first, then `settling`, `paced`, `meeting`, `reports`, `syncing` and `piping`; `pairing`, with `paired`, `pending`,
-//! `end` and `meeting` in its folder, stands on `files` and `settling` alone.
+//! `end`, `meeting` and `forks` in its folder, stands on `files` and `settling` alone.
 #![tactic(auto)]
 
 mod appending;

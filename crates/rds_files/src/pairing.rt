@@ -3,10 +3,12 @@ ghost use Rattle.std.specs.Prelude.{◌≡◌, ◌≤◌, ◌⊎◌, ◌++◌, I
 ghost use Rattle.std.specs.Io.KnownBytes.{Appends};
 ghost use Rattle.rds_names.specs.declared.fault.Fault.TheVariants.{Device};
 ghost use Rattle.rds_keep.specs.Counted.{HasFailed, one_more};
+ghost use Rattle.rds_files.specs.Forks.{fork_text};
 ghost use Rattle.rds_files.specs.Pairing.{WritesBoth, WritesPair, file_of};
 ghost use Rattle.rds_files.specs.Reports.{report_text};
 
 mod end;
+mod forks;
 mod meeting;
 mod paired;
 mod pending;
@@ -15,6 +17,7 @@ use crate::disk::Disk;
 use crate::locks::LockFile;
 use crate::reports::{give_up, note_report, tells_fault, write_report};
 use crate::settling::Settled;
+use forks::{end_forked, note_fork, write_fork};
 pub use meeting::Link;
 use meeting::{connect, meet};
 pub use paired::PairedFile;
@@ -64,8 +67,9 @@ where
 
 /// One session of the replicas that were read from two files over the connection. What each received is settled in what
 /// its file holds then, the first's first. Where the lock is held since the file was read, that is what was read. Then
-/// what the first received is told, and after that the second's. Where the output fails at the first, nothing of the
-/// second is told, but its delta is taken all the same. The session has at most as many turns as the writer says.
+/// what the first received is told, after that the second's, and then `Forked` where both took, and what they hold since
+/// is forked. Where the output fails at one, nothing more is told, but what was received is taken all the same. The
+/// session has at most as many turns as the writer says.
 pub fn pair<H: Disk + Net, S: DotSet, W: Write>(
     rt: &H,
     client: PairedFile<'_, H, S>,
@@ -90,31 +94,36 @@ where
     );
     let (first_ended, second_ended) = (left.ended, right.ended);
     let (first_path, second_path) = (client.path(), server.path());
-    let first = client.settle(rt, left).settled;
-    let second = server.settle(rt, right).settled;
-    note_report(rt, first_path, &first, first_ended);
-    note_report(rt, second_path, &second, second_ended);
-    let told = tells_fault(&first, first_ended) | tells_fault(&second, second_ended);
+    let first = client.settle(rt, left);
+    let second = server.settle(rt, right);
+    note_report(rt, first_path, &first.settled, first_ended);
+    note_report(rt, second_path, &second.settled, second_ended);
+    let forked = end_forked(&first, &second);
+    note_fork(rt, first_path, second_path, forked);
+    let (first, second) = (&first.settled, &second.settled);
+    let told = tells_fault(first, first_ended) | tells_fault(second, second_ended) | forked;
     status_of(
-        write_both(writer, &first, first_ended, &second, second_ended),
+        write_both(writer, first, first_ended, second, second_ended, forked),
         u8::from(told),
     )
 }
 
-// Writes what one end came to, and then the other.
+// Writes what one end came to, then the other, and then whether they are forked.
 fn write_both<W: Write>(
     writer: &mut Counted<W>,
     first: &Settled,
     first_ended: Ended,
     second: &Settled,
     second_ended: Ended,
+    forked: bool,
 ) -> Result<(), Fault>
     ensures bytes { OnOk result (Appends (W.contents writer.old.inner) (W.contents writer.new.inner)
-        (report_text first.now first_ended ++ report_text second.now second_ended)) }
+        (report_text first.now first_ended ++ report_text second.now second_ended ++ fork_text forked)) }
     ensures steady { OnOk result (writer.new.failed ≡ writer.old.failed) }
     ensures fault { IfErr result (λ e. e ≡ Device) }
     ensures counted { OnErr result (writer.new.failed ≡ one_more writer.old.failed) }
 {
     write_report(writer, first, first_ended)?;
-    write_report(writer, second, second_ended)
+    write_report(writer, second, second_ended)?;
+    write_fork(writer, forked)
 }

@@ -21,6 +21,7 @@ use bytes::BufMut;
 use http::header::CONTENT_TYPE;
 use http_server::Response;
 use rds_files::Disk;
+use rds_json::LineReader;
 use rds_names::Fault;
 use rds_output::Reply;
 use rds_store::Document;
@@ -45,6 +46,7 @@ impl<H: Disk> Drop for Held<'_, H> {
 /// the first is done, so that what is done is answered.
 pub fn edit<H: Disk>(
     alloc: Global,
+    reader: &mut LineReader,
     held: &mut Held<'_, H>,
     metrics: &mut Metrics,
     body: &[u8],
@@ -62,7 +64,7 @@ pub fn edit<H: Disk>(
         return refuse(alloc, Fault::Memory, response);
     }
     add_field(response, CONTENT_TYPE, LINES)?;
-    match edit_in(held, body) {
+    match edit_in(reader, held, body) {
         Ok(replies) => {
             metrics.note_edits(&replies);
             put_lines(&mut response.body, &replies);
@@ -76,7 +78,11 @@ pub fn edit<H: Disk>(
 }
 
 /// Edits the document as lines say, and notes whether one was done.
-fn edit_in<H: Disk>(held: &mut Held<'_, H>, lines: &[u8]) -> Result<Vec<Reply>, Fault>
+fn edit_in<H: Disk>(
+    reader: &mut LineReader,
+    held: &mut Held<'_, H>,
+    lines: &[u8],
+) -> Result<Vec<Reply>, Fault>
     requires noted { ChangesAreNoted held.old.has_changed held.old.file.document held.old.file.kept }
     ensures edited { IfOk result
         (λ replies. EditsLines (lines_in lines.now) held.old.file.document held.new.file.document replies.items) }
@@ -87,7 +93,7 @@ fn edit_in<H: Disk>(held: &mut Held<'_, H>, lines: &[u8]) -> Result<Vec<Reply>, 
     ensures file { KeepsFile held.old.file held.new.file }
     ensures err { OnErr result (held.new ≡ held.old) }
 {
-    let replies = held.file.edit_lines(lines)?;
+    let replies = held.file.edit_lines(reader, lines)?;
     held.has_changed |= !are_refusals(&replies);
     Ok(replies)
 }

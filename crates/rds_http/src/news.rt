@@ -19,8 +19,8 @@ const LONGEST: usize = 16_384;
 impl<H: Disk> Site<'_, H> {
     /// What listeners are told after what had changed was kept, once: the turn, the mark of the document, and the paths
     /// at which it changed since they were told last. The paths are null where they are too many, or there was no
-    /// memory to list them: then any may have changed. `None` too where there was no memory for the text; then the next
-    /// news has null.
+    /// memory to list them: then any may have changed. `None` too where nobody listens. So it is where there was no
+    /// memory for the text; then the next news has null.
     pub fn news(&mut self) -> Option<String>
         ensures news { IfSome result (λ text. IsNews self.old (string_bytes text)) }
         ensures told { self.new ≡ after_news self.old }
@@ -30,6 +30,9 @@ impl<H: Disk> Site<'_, H> {
         }
         self.has_news = false;
         let touched = self.held.file.take_touched();
+        if self.metrics.listeners == 0 {
+            return None;
+        }
         let mark = self.held.file.document().mark();
         match news_json(self.alloc, self.turn, mark, &touched) {
             Ok(text) => Some(text),

@@ -18,6 +18,7 @@ use bytes::Bytes;
 use http::Request;
 use http_server::{Response, Service};
 use rds_files::{Disk, LockFile};
+use rds_json::LineReader;
 use rds_names::Fault;
 use rds_store::DocumentFile;
 use std::alloc::{AllocError, Global};
@@ -28,6 +29,7 @@ use std::marker::Model;
 pub struct Site<'a, H: Disk> {
     pub(crate) alloc: Global,
     pub(crate) held: Held<'a, H>,
+    pub(crate) reader: LineReader,
     pub(crate) access: Access,
     pub(crate) turn: u64,
     pub(crate) has_news: bool,
@@ -40,6 +42,7 @@ impl<H: Disk> Drop for Site<'_, H> {
         let Site {
             alloc: _alloc,
             held: _held,
+            reader: _reader,
             access: _access,
             turn: _turn,
             has_news: _has_news,
@@ -91,6 +94,7 @@ where
                 file: Tracked::new(alloc, file),
                 has_changed: false,
             },
+            reader: LineReader::new(alloc),
             access,
             turn: 0,
             has_news: false,
@@ -130,12 +134,14 @@ where
         self.turn
     }
 
-    /// Notes how many connections there are, and how many of them listen, for the metrics.
+    /// Notes how many connections there are, and how many of them listen. Where none does, no path is noted at which the
+    /// document changes.
     pub fn note_clients(&mut self, clients: usize, listeners: usize)
         ensures { self.new ≡ self.old }
     {
         self.metrics.clients = clients;
         self.metrics.listeners = listeners;
+        self.held.file.watch(listeners != 0);
     }
 }
 
@@ -193,7 +199,14 @@ impl<H: Disk> Site<'_, H> {
     {
         let alloc = self.alloc;
         match post {
-            Post::Edits => edit(alloc, &mut self.held, &mut self.metrics, body, response),
+            Post::Edits => edit(
+                alloc,
+                &mut self.reader,
+                &mut self.held,
+                &mut self.metrics,
+                body,
+                response,
+            ),
             Post::Take => take(alloc, &mut self.held, &mut self.metrics, body, response),
             Post::Answer => answer(alloc, self.held.file.document(), body, response),
             Post::Login => log_in(alloc, &self.access, body, response),

@@ -14,8 +14,8 @@ const MOST: usize = 100;
 /// An answer of more bytes isn't read for the paths that it touches.
 const LONGEST_ANSWER: usize = 65_536;
 
-/// The paths at which a document changed, each once. They aren't listed where they are too many, or there was no memory
-/// for them: then any may have changed.
+/// The paths at which a document changed, each once. They aren't listed where they are too many, there was no memory for
+/// them, or nobody wanted to know: then any may have changed.
 #[derive(Drop)]
 pub struct Touched {
     alloc: Global,
@@ -29,6 +29,11 @@ impl Touched {
             alloc,
             paths: Some(Vec::new(alloc)),
         }
+    }
+
+    /// Some, which aren't listed.
+    pub fn unlisted(alloc: Global) -> Touched {
+        Touched { alloc, paths: None }
     }
 
     /// What an answer to a question touches in a document that takes it: what it brings, and what it removes.
@@ -60,8 +65,12 @@ impl Touched {
         self.paths = None;
     }
 
-    /// Notes where a command edits.
-    pub fn note_command(&mut self, command: &Command) {
+    /// Notes where a command edits, where somebody wants to know it.
+    pub fn note_command(&mut self, command: &Command, is_wanted: bool) {
+        if !is_wanted {
+            self.forget();
+            return;
+        }
         match command {
             Command::Set(path, _)
             | Command::Add(path, _)

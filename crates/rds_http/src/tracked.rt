@@ -12,6 +12,7 @@ ghost use Rattle.rds_http.specs.Tags.{IsTagOf, RefusesTag};
 use crate::tag::Tag;
 use crate::touched::Touched;
 use rds_files::{Disk, LockFile};
+use rds_json::LineReader;
 use rds_lines::{Edits, edit_lines};
 use rds_names::{Fault, Roster};
 use rds_output::Reply;
@@ -21,12 +22,14 @@ use std::alloc::Global;
 use std::marker::Model;
 use std::mem;
 
-/// A document in its file, with the tag of what it asks, where that is known, and the paths at which it changed.
+/// A document in its file, with the tag of what it asks, where that is known, and the paths at which it changed, where
+/// somebody wants to know them.
 pub struct Tracked<'a, H: Disk> {
     alloc: Global,
     file: DocumentFile<'a, H>,
     tag: Option<Tag>,
     touched: Touched,
+    is_watched: bool,
 }
 
 impl<H: Disk> Drop for Tracked<'_, H> {
@@ -36,6 +39,7 @@ impl<H: Disk> Drop for Tracked<'_, H> {
             file: _file,
             tag: _tag,
             touched: _touched,
+            is_watched: _,
         } = self;
     }
 }
@@ -80,6 +84,7 @@ impl<'a, H: Disk> Tracked<'a, H> {
             file,
             tag: None,
             touched: Touched::new(alloc),
+            is_watched: false,
         }
     }
 
@@ -104,15 +109,15 @@ impl<'a, H: Disk> Tracked<'a, H> {
         Ok(tag)
     }
 
-    /// Edits the document as lines say.
-    pub fn edit_lines(&mut self, lines: &[u8]) -> Result<Vec<Reply>, Fault>
+    /// Edits the document as lines say, which the reader reads.
+    pub fn edit_lines(&mut self, reader: &mut LineReader, lines: &[u8]) -> Result<Vec<Reply>, Fault>
         ensures edited { IfOk result
             (λ replies. EditsLines (lines_in lines.now) self.old.document self.new.document replies.items) }
         ensures memory { IfErr result (λ fault. fault ≡ Memory) }
         ensures file { KeepsFile self.old self.new }
         ensures err { OnErr result (self.new ≡ self.old) }
     {
-        edit_lines(self.alloc, self, lines)
+        edit_lines(self.alloc, reader, self, lines)
     }
 
     /// Takes what answers a question of this replica's.
@@ -123,11 +128,27 @@ impl<'a, H: Disk> Tracked<'a, H> {
         ensures file { KeepsFile self.old self.new }
         ensures err { OnErr result (self.new ≡ self.old) }
     {
-        let touched = Touched::by_answer(self.alloc, self.file.document(), question, answer);
+        let touched = self.touched_by(question, answer);
         self.tag = None;
         let components = self.file.take(question, answer)?;
         self.touched.note_all(&touched);
         Ok(components)
+    }
+
+    /// What an answer touches, where somebody wants to know it.
+    fn touched_by(&self, question: &[u8], answer: &[u8]) -> Touched {
+        if self.is_watched {
+            Touched::by_answer(self.alloc, self.file.document(), question, answer)
+        } else {
+            Touched::unlisted(self.alloc)
+        }
+    }
+
+    /// Says whether anybody wants to know the paths at which the document changes from here on.
+    pub fn watch(&mut self, is_watched: bool)
+        ensures { self.new ≡ self.old }
+    {
+        self.is_watched = is_watched;
     }
 
     /// The paths at which the document changed since they were taken last.
@@ -162,7 +183,7 @@ impl<H: Disk> Edits for Tracked<'_, H> {
         let own = command.copy(self.alloc)?;
         self.tag = None;
         let edited = self.file.edit(own)?;
-        self.touched.note_command(command);
+        self.touched.note_command(command, self.is_watched);
         Ok(edited)
     }
 

@@ -2,12 +2,14 @@ mod Additions
 mod Bounds
 mod Changes
 mod Clashes
+mod DeadSets
 mod Deaths
 mod Gathers
 mod Joins
 mod Lookups
 mod Moves
 mod Puts
+mod Reaches
 mod Singles
 pub mod Counting
 pub mod Finds

@@ -6,6 +6,7 @@ pub mod Forms
 pub mod Gathered
 pub mod Joined
 pub mod Killed
+pub mod KnownDead
 pub mod Life
 pub mod Past
 pub mod Rank

@@ -13,7 +13,7 @@ pub trait Found {
     /// Whether a live dot with this entry was found.
     ghost found: { Self → Dot → Entry → Bool };
 
-    /// Makes the dots dead that were found, but the one that is to stay. Takes no memory.
+    /// Makes the dots dead that were found, but the one that is to stay. Want of memory does no harm.
     fn kill_in<S: DotSet>(&self, lives: &mut Lives<S>, but: Option<Dot>)
         ensures { (d : Dot) → map.get lives.new d ≡ killed_by (but_for but (found self.now)) d (map.get lives.old d) };
 }

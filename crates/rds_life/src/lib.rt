@@ -3,6 +3,7 @@
 
 mod adding;
 mod chosen;
+mod dead_dots;
 mod dots;
 mod found;
 mod gone;
@@ -14,6 +15,7 @@ mod rank;
 mod row_map;
 mod rows;
 mod store;
+mod stretches;
 
 pub use chosen::Choice;
 pub use found::Found;

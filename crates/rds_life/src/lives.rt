@@ -1,6 +1,6 @@
 //! The life of each dot.
 ghost use Rattle.std.specs.Prelude.{◌≡◌, true, None, IfOk, IfErr, IfSome, IsOk, count_by, OnOk, OnErr, MatchOption};
-ghost use Rattle.std.specs.Prelude.{filter, length};
+ghost use Rattle.std.specs.Prelude.{◌<◌, ◌≤◌, ℕ, filter, is_some, length};
 ghost use Rattle.std.specs.FinMap as map;
 ghost use Rattle.std.specs.FinSet as set;
 ghost use Rattle.std.specs.Option.{option_copied, option_map};
@@ -8,13 +8,16 @@ ghost use Rattle.rds_names.specs.declared.fault.Fault.TheVariants.{Memory};
 ghost use Rattle.rds_dots.specs.declared.dot.Dot.{Dot};
 ghost use Rattle.rds_dots.specs.Ascending.{ascends};
 ghost use Rattle.rds_dots.specs.Dots.{is_dot};
+ghost use Rattle.rds_dots.specs.Lacking.{dot_of};
 ghost use Rattle.rds_life.specs.Killed.{killed_by, but_for, is_the};
+ghost use Rattle.rds_life.specs.KnownDead.{HasMore};
 ghost use Rattle.rds_life.specs.Life.{Live, Dead, AreRows, keys, lives_of, seen_of, live_of, live_rows, entry_of};
 ghost use Rattle.rds_life.specs.Life.{is_dead, AreCompatible, Conflicts, IsJoin, IsLeastAbove, MergeGives};
 ghost use Rattle.rds_life.specs.Past.{first_row, rows_from};
 ghost use Rattle.rds_life.specs.Rank.{rank_of};
 
 use crate::chosen::Choice;
+use crate::dead_dots::{DeadDots, with_dot, with_dots};
 use crate::dots::{dots_of, insert_dot};
 use crate::found::Found;
 use crate::gone::rows_gone;
@@ -22,6 +25,7 @@ use crate::live_rows::LiveRows;
 use crate::rank::Rank;
 use crate::rows::are_rows;
 use crate::store::Rows;
+use crate::stretches::has_until;
 use rds_dots::{Dot, DotSet};
 use rds_names::{Entry, Fault};
 use std::alloc::Global;
@@ -31,10 +35,12 @@ use std::marker::Model;
 ///
 /// It keeps the set of seen dots and, in the order of the dots, the entries of those that are live:
 /// the dot store and causal context of Almeida, Shoker, Baquero 2018. The entries stand in a list,
-/// or in a map once the lives are indexed.
+/// or in a map once the lives are indexed. From then on the dead dots are kept too, so that what asks
+/// for them goes by runs and not by rows; want of memory only ends that.
 pub struct Lives<S: DotSet> {
     seen: S,
     rows: Rows,
+    dead: Option<DeadDots<S>>,
 }
 
 impl<S: DotSet> Drop for Lives<S> {
@@ -42,13 +48,15 @@ impl<S: DotSet> Drop for Lives<S> {
         let Lives {
             seen: _seen,
             rows: _rows,
+            dead: _dead,
         } = self;
     }
 }
 
 impl<S: DotSet> Model for Lives<S> {
-    ghost use Rattle.rds_life.specs.Life.{Lived, lives_of, AreRows};
+    ghost use Rattle.rds_life.specs.Life.{Lived, lives_of};
     ghost use Rattle.rds_life.specs.Code.{coded_lives};
+    ghost use Rattle.rds_life.specs.KnownDead.{AreKept};
 
     ghost Value = { Lived };
 
@@ -56,7 +64,7 @@ impl<S: DotSet> Model for Lives<S> {
 
     ghost view = { λ l. lives_of (S.contents l.seen) l.rows };
 
-    ghost invariant = { λ l. AreRows (S.contents l.seen) l.rows };
+    ghost invariant = { λ l. AreKept (S.contents l.seen) l.rows l.dead };
 }
 
 impl<S: DotSet> Lives<S> {
@@ -67,6 +75,7 @@ impl<S: DotSet> Lives<S> {
         Lives {
             seen: S::empty(alloc),
             rows: Rows::listed(Vec::new(alloc)),
+            dead: None,
         }
     }
 
@@ -81,6 +90,7 @@ impl<S: DotSet> Lives<S> {
         Lives {
             seen,
             rows: Rows::listed(rows),
+            dead: None,
         }
     }
 
@@ -155,6 +165,11 @@ impl<S: DotSet> Lives<S> {
         ensures dots { IfOk result (λ live. S.contents live ≡ live_of self.now) }
         ensures memory { IfErr result (λ fault. fault ≡ Memory) }
     {
+        if let Some(dead) = &self.dead {
+            let dead = dead.dots(alloc)?;
+            let left = self.seen.minus(alloc, &dead)?;
+            return Ok(left);
+        }
         let live = dots_of(alloc, self.rows.iter())?;
         Ok(live)
     }
@@ -165,9 +180,25 @@ impl<S: DotSet> Lives<S> {
             (λ dead. (d : Dot) → set.contains (S.contents dead) d ≡ is_dead (map.get self.now d)) }
         ensures memory { IfErr result (λ fault. fault ≡ Memory) }
     {
+        if let Some(dead) = &self.dead {
+            return dead.dots(alloc);
+        }
         let live = self.live_dots(alloc)?;
         let dead = self.seen.minus(alloc, &live)?;
         Ok(dead)
+    }
+
+    /// A number up to which the dots of a replica after the given one are live, found by runs. `None` where the dead
+    /// dots aren't kept, as they are once the lives are indexed.
+    pub fn live_until(&self, dot: Dot) -> Option<u64>
+        ensures from { IfSome result (λ until. dot.seq ≤ until) }
+        ensures live { IfSome result (λ until. (n : ℕ) → dot.seq < n → n ≤ until
+            → is_some (entry_of (map.get self.now (dot_of dot.replica n))) ≡ true) }
+    {
+        match &self.dead {
+            Some(dead) => Some(has_until(&self.seen, dot).min(dead.lacks_until(dot))),
+            None => None,
+        }
     }
 
     /// Copies of the rows of live dots that are dead in the other lives, in the order of the dots. They are found by
@@ -195,18 +226,33 @@ impl<S: DotSet> Lives<S> {
         Ok(Lives {
             seen: self.seen.copy(alloc)?,
             rows: self.rows.copy(alloc)?,
+            dead: None,
         })
     }
 }
 
 impl<S: DotSet> Lives<S> {
-    /// Moves the live dots with their entries into a map. From then on, to make a dot live or dead
-    /// costs a search, where a list has to move all that come after the dot.
+    /// Moves the live dots with their entries into a map, and keeps the dead dots. From then on, to make
+    /// a dot live or dead costs a search, where a list has to move all that come after the dot.
     pub fn index(&mut self) -> Result<(), Fault>
         ensures same { self.new ≡ self.old }
         ensures memory { IfErr result (λ fault. fault ≡ Memory) }
     {
         self.rows.index()?;
+        self.keep_dead()
+    }
+
+    /// Keeps the dead dots from now on.
+    fn keep_dead(&mut self) -> Result<(), Fault>
+        ensures same { self.new ≡ self.old }
+        ensures memory { IfErr result (λ fault. fault ≡ Memory) }
+    {
+        if self.dead.is_some() {
+            return Ok(());
+        }
+        let alloc = self.rows.alloc();
+        let dead = self.dead(alloc)?;
+        self.dead = Some(DeadDots::of(alloc, dead));
         Ok(())
     }
 
@@ -226,7 +272,7 @@ impl<S: DotSet> Lives<S> {
         Ok(())
     }
 
-    /// Makes a dot dead, for good. Takes no memory where the dot isn't unseen, and so can't fail
+    /// Makes a dot dead, for good. Can't fail where the dot isn't unseen: want of memory does no harm
     /// there.
     pub fn kill(&mut self, dot: Dot) -> Result<(), Fault>
         requires { is_dot dot ≡ true }
@@ -237,9 +283,11 @@ impl<S: DotSet> Lives<S> {
     {
         if self.seen.contains(dot) {
             self.rows.remove(dot);
+            self.dead = with_dot(self.dead.take(), self.rows.alloc(), dot);
             return Ok(());
         }
         insert_dot(&mut self.seen, dot)?;
+        self.dead = with_dot(self.dead.take(), self.rows.alloc(), dot);
         Ok(())
     }
 
@@ -249,18 +297,24 @@ impl<S: DotSet> Lives<S> {
         ensures lives { (d : Dot) → map.get self.new d ≡ killed_by (C.chosen choice.now) d (map.get self.old d) }
         ensures killed { result ≡ count_by (λ r. C.chosen choice.now r.0 r.1) (live_rows self.old) }
     {
+        self.dead = None;
         self.rows.remove_chosen(choice)
     }
 
-    /// Makes a dot dead if it is live. Takes no memory.
+    /// Makes a dot dead if it is live. Want of memory does no harm.
     pub fn kill_live(&mut self, dot: Dot)
         ensures { (d : Dot) → map.get self.new d ≡ killed_by (is_the dot) d (map.get self.old d) }
     {
+        if !self.seen.contains(dot) {
+            return;
+        }
+        let alloc = self.rows.alloc();
         self.rows.remove(dot);
+        self.dead = with_dot(self.dead.take(), alloc, dot);
     }
 
     /// Makes the live dots dead that were found, but the one that is to stay, and says how many there
-    /// were. Takes no memory.
+    /// were. Want of memory does no harm.
     pub fn kill_found<F: Found>(&mut self, found: &F, but: Option<Dot>) -> u64
         ensures lives { (d : Dot)
             → map.get self.new d ≡ killed_by (but_for but (F.found found.now)) d (map.get self.old d) }
@@ -309,7 +363,21 @@ impl<S: DotSet> Lives<S> {
         let seen = self.seen.union(self.rows.alloc(), &other.seen)?;
         self.rows.join_in(&self.seen, &other.seen, &other.rows)?;
         self.seen = seen;
+        self.dead = other.add_dead(self.rows.alloc(), self.dead.take());
         Ok(())
+    }
+
+    /// Dead dots with those of these lives. Where memory ends, they are kept no more.
+    fn add_dead(&self, alloc: Global, dead: Option<DeadDots<S>>) -> Option<DeadDots<S>>
+        ensures { HasMore (λ d. is_dead (map.get self.now d)) dead result }
+    {
+        if dead.is_none() {
+            return None;
+        }
+        match self.dead(alloc) {
+            Ok(own) => with_dots(dead, alloc, &own),
+            Err(_) => None,
+        }
     }
 
     /// The join of both: each dot has the later of its two lives, so that what is dead in one is
@@ -325,7 +393,11 @@ impl<S: DotSet> Lives<S> {
         let rows = self
             .rows
             .joined(alloc, &self.seen, &other.seen, &other.rows)?;
-        Ok(Lives { seen, rows })
+        Ok(Lives {
+            seen,
+            rows,
+            dead: None,
+        })
     }
 
     /// Refuses lives that have no join.

@@ -32,9 +32,11 @@ use std::io::Write;
 
 /// Edits a replica as the lines of an input say, one after the other, and answers each but the empty ones. A line that
 /// is refused changes nothing, and the next is gone on with; its answer has its number, from 1 over all lines. Where
-/// there is no memory for the answers it is `Memory`, before any line is read.
+/// there is no memory for the answers it is `Memory`, before any line is read. The lines are read by a reader that may
+/// serve again.
 pub fn edit_lines<E: Edits>(
     alloc: Global,
+    reader: &mut LineReader,
     editor: &mut E,
     input: &[u8],
 ) -> Result<Vec<Reply>, Fault>
@@ -44,7 +46,6 @@ pub fn edit_lines<E: Edits>(
     ensures err { OnErr result (E.replica editor.new ≡ E.replica editor.old) }
     ensures stays { E.stays editor.old editor.new }
 {
-    let mut reader = LineReader::new(alloc);
     let mut answers = Vec::with_capacity(alloc, count_lines(input))?;
     let mut rest = input;
     let mut count: u64 = 0;
@@ -54,7 +55,7 @@ pub fn edit_lines<E: Edits>(
         }
         let (bytes, later) = split_line(rest);
         count += 1;
-        answer_next(alloc, &mut reader, editor, count, bytes, &mut answers);
+        answer_next(alloc, reader, editor, count, bytes, &mut answers);
         rest = later;
     }
 }

@@ -1,17 +1,27 @@
-//! The sites of the commands `run` and `sync`.
-use rds_commands::{RunSite, Visit};
+//! The sites that the program runs, meets and calls.
+use rds_commands::{RunSite, SiteRequest, Visit};
 use rds_files::{Disk, LockFile};
 use rds_names::Fault;
-use rds_site::{SiteWords, VisitWords, run_site, sync_site};
+use rds_site::{
+    AskWords, Resource, SiteWords, VisitWords, ask_node, edit_node, run_site, sync_site,
+};
 use rds_words::{RunWords, SyncWords, interval_of};
+use std::env;
+use std::env::{Env, VarError};
 use std::net::Net;
 use std::random::RandomSource;
 use std::time::Duration;
 
-/// The sites that the program runs.
+/// How many seconds a command waits for a node that it calls.
+const PATIENCE: u64 = 60;
+
+/// The variable of the environment that has the path of the token's file for commands that call a node.
+const TOKEN_FILE: &str = "RDS_TOKEN_FILE";
+
+/// The sites that the program runs, meets and calls.
 pub struct Sites;
 
-impl<H: Disk + Net + RandomSource + Print> RunSite<H> for Sites
+impl<H: Disk + Env + Net + RandomSource + Print> RunSite<H> for Sites
 where
     H::File: LockFile,
 {
@@ -46,6 +56,41 @@ where
             taken: visit.taken,
             fault: visit.fault,
         }
+    }
+
+    fn call_site(&self, rt: &H, address: &str, request: SiteRequest<'_>) -> Result<Vec<u8>, Fault> {
+        let named = token_file(rt)?;
+        let token_file = match &named {
+            Some(path) => Some(path.as_str()),
+            None => None,
+        };
+        let words = ask_words(address, token_file);
+        match request {
+            SiteRequest::Edits(lines) => edit_node(rt, &words, lines),
+            SiteRequest::Value(path) => ask_node(rt, &words, Resource::Value, path),
+            SiteRequest::Document(path) => ask_node(rt, &words, Resource::Document, path),
+            SiteRequest::Conflicts(path) => ask_node(rt, &words, Resource::Conflicts, path),
+            SiteRequest::Status => ask_node(rt, &words, Resource::Status, ""),
+        }
+    }
+}
+
+// How a command asks the node at an address.
+fn ask_words<'a>(node: &'a str, token_file: Option<&'a str>) -> AskWords<'a> {
+    AskWords {
+        node,
+        token_file,
+        timeout: Duration::from_secs(PATIENCE),
+    }
+}
+
+// The path of the token's file, where the environment has one.
+fn token_file<H: Env + AllocGlobal>(rt: &H) -> Result<Option<String>, Fault> {
+    match env::var(rt, TOKEN_FILE) {
+        Ok(path) => Ok(Some(path)),
+        Err(VarError::NotPresent) => Ok(None),
+        Err(VarError::OutOfMemory) => Err(Fault::Memory),
+        Err(_) => Err(Fault::Usage),
     }
 }
 

@@ -145,6 +145,7 @@ impl<S: DotSet> Histories<S> {
             "count" => words::said_number(alloc, Some(self.lives.live_len() as u64)),
             "first" => first(alloc, &self.lives, rest),
             "past" => past(alloc, &self.lives, rest),
+            "until" => words::said_number(alloc, self.lives.live_until(words::dot(rest)?)),
             "dead_there" => rows_told(alloc, &self.lives.rows_dead_in(alloc, &self.other)?),
             _ => Err(Fault::Usage),
         }

@@ -1,15 +1,16 @@
 //! What rows have in place of a site: it says by its fault which words it was given.
 ghost use Rattle.std.specs.Prelude.{◌≡◌};
 
-use rds_commands::{RunSite, Visit};
+use rds_commands::{RunSite, SiteRequest, Visit};
 use rds_names::Fault;
 use rds_words::{RunWords, SyncWords, interval_of};
+use std::alloc::Global;
 use std::time::Duration;
 
 /// Serves nothing.
 pub struct ToldSite;
 
-impl<H> RunSite<H> for ToldSite {
+impl<H: AllocGlobal> RunSite<H> for ToldSite {
     // `Usage` for seconds that are none; `Device` for the file f alone, which is every 10 seconds, `Unsure` for all
     // options, with two peers every 86,400, and `NoSuch` for other words.
     fn run_site(&self, _rt: &H, words: RunWords<'_>) -> Fault {
@@ -43,6 +44,32 @@ impl<H> RunSite<H> for ToldSite {
             _ => told(None, Some(Fault::Device)),
         }
     }
+
+    // Of the site http://h:1 what is asked, in words; of lines these themselves. `Device` for other sites.
+    fn call_site(
+        &self,
+        rt: &H,
+        address: &str,
+        request: SiteRequest<'_>,
+    ) -> Result<Vec<u8>, Fault> {
+        if address != "http://h:1" {
+            return Err(Fault::Device);
+        }
+        let alloc = rt.alloc();
+        match request {
+            SiteRequest::Edits(lines) => Ok(Vec::from_slice(alloc, lines)?),
+            SiteRequest::Value(path) => named(alloc, "value", path),
+            SiteRequest::Document(path) => named(alloc, "document", path),
+            SiteRequest::Conflicts("") => Ok(Vec::new(alloc)),
+            SiteRequest::Conflicts(path) => named(alloc, "conflicts", path),
+            SiteRequest::Status => Ok(Vec::from_slice(alloc, b"status\n")?),
+        }
+    }
+}
+
+// What is asked at a path.
+fn named(alloc: Global, what: &str, path: &str) -> Result<Vec<u8>, Fault> {
+    Ok(format!(in alloc; "{what} {path}")?.into_bytes())
 }
 
 // What came of a meeting.

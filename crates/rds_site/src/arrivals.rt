@@ -1,7 +1,7 @@
 //! Where clients come in.
 use crate::clients::Client;
 use crate::peer_table::{Peers, shorter};
-use crate::sockets::Socket;
+use crate::sockets::{LEAST_ROOM, Socket};
 use crate::table::{Clients, MOST_CLIENTS};
 use http_server::{Config, Connection};
 use mio::net::{TcpListener, TcpStream};
@@ -91,28 +91,28 @@ impl Door {
         peers: &mut Peers<'_>,
         now: Instant,
     ) -> io::Result<()> {
-        let timeout = shorter(self.timeout(clients), peers.pause(now));
-        clients.begin_turn();
+        let timeout = shorter(self.timeout(clients, now), peers.pause(now));
+        clients.begin_turn(now);
         self.poll.poll(&mut self.events, timeout)?;
         for event in self.events.iter() {
             let token = event.token();
             if token == ARRIVALS {
                 self.arrivals = Arrivals::Some;
             } else if !peers.list(token) {
-                clients.list(token);
+                clients.list(token, event.is_read_closed());
             }
         }
         Ok(())
     }
 
     // How long to wait for an event, as far as clients go.
-    fn timeout(&self, clients: &Clients) -> Option<Duration> {
-        if clients.has_next() || self.arrivals == Arrivals::Some {
+    fn timeout(&self, clients: &Clients, now: Instant) -> Option<Duration> {
+        if self.arrivals == Arrivals::Some {
             Some(Duration::ZERO)
         } else if clients.is_empty() && self.arrivals == Arrivals::None {
             None
         } else {
-            Some(Duration::from_millis(TICK))
+            shorter(clients.pause(now), Some(Duration::from_millis(TICK)))
         }
     }
 
@@ -165,6 +165,7 @@ fn config() -> Config {
     Config {
         max_body_len: LONGEST_BODY,
         max_pending: MOST_PENDING,
+        read_size: LEAST_ROOM,
         ..Config::default()
     }
 }

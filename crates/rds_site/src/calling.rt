@@ -1,9 +1,12 @@
 //! Calls of a node: a request and its response, over a connection of their own that is waited for.
-use crate::destinations::Destination;
-use crate::requests::{Request, Response, Talk};
-use crate::troubles::Trouble;
+use crate::destinations::{Destination, find_node};
+use crate::exchanges::{DONE, NOT_MODIFIED};
+use crate::requests::{Request, Resource, Response, Talk};
+use crate::troubles::{Trouble, tell};
 use bytes::Buf;
 use rds_files::Disk;
+use rds_http::Token;
+use rds_names::Fault;
 use std::io;
 use std::io::{ErrorKind, Read, Write};
 use std::net::{Net, OpenStream, SocketAddr, TcpStream};
@@ -92,8 +95,8 @@ pub struct Caller<'a> {
 }
 
 impl<'a> Caller<'a> {
-    /// Before the first call. An error where there is a timeout, and the clock can't be read.
-    pub fn new<C: Clock>(
+    // Before the first call. An error where there is a timeout, and the clock can't be read.
+    fn new<C: Clock>(
         clock: &C,
         destination: Destination<'a>,
         timeout: Option<Duration>,
@@ -109,12 +112,38 @@ impl<'a> Caller<'a> {
         self.destination.name()
     }
 
-    /// Makes a request, and answers the response. A node that takes no more of the request may still answer it.
-    pub fn call<H: Disk + Net>(
+    /// Makes a request, and answers the response where it was done, or where what is asked for has the tag. Anything else
+    /// is told on standard error.
+    pub fn ask<H: Disk + Net>(&mut self, rt: &H, request: &Request<'_>) -> Result<Response, Fault> {
+        let name = self.name();
+        match self.call(rt, request) {
+            Ok(response) => match (response.head.status, request.unless) {
+                (DONE, _) | (NOT_MODIFIED, Some(_)) => Ok(response),
+                _ => Err(tell(rt, name, Trouble::Refused(response))),
+            },
+            Err(trouble) => Err(tell(rt, name, trouble)),
+        }
+    }
+
+    /// Asks for a resource at a path, with a body of these pieces, as [`ask`](Caller::ask) does.
+    pub fn ask_for<'r, H: Disk + Net>(
         &mut self,
         rt: &H,
-        request: &Request<'_>,
-    ) -> Result<Response, Trouble> {
+        resource: Resource,
+        path: &'r str,
+        pieces: &'r [&'r [u8]],
+    ) -> Result<Response, Fault> {
+        let request = Request {
+            resource,
+            path,
+            unless: None,
+            pieces,
+        };
+        self.ask(rt, &request)
+    }
+
+    // Makes a request, and answers the response. A node that takes no more of the request may still answer it.
+    fn call<H: Disk + Net>(&mut self, rt: &H, request: &Request<'_>) -> Result<Response, Trouble> {
         let mut talk = Talk::new(rt.alloc());
         talk.request(&self.destination, request)?;
         let mut stream = self.connect(rt)?;
@@ -210,5 +239,32 @@ impl<'a> Caller<'a> {
             }
         }
         Err(Trouble::Ended)
+    }
+}
+
+/// The host and port in the address of a node, behind `http://` and before a slash, if there is one. Any other text is
+/// `Usage`, with a line on standard error.
+pub fn name_in<'a, H: Eprint>(rt: &H, node: &'a str) -> Result<&'a str, Fault> {
+    match node.strip_prefix("http://") {
+        Some(name) => Ok(name.strip_suffix('/').unwrap_or(name)),
+        None => {
+            let _ = eprintln!(rt; "'{node}' is no node, as http://127.0.0.1:7780 is");
+            Err(Fault::Usage)
+        }
+    }
+}
+
+/// The node of this host and port, before the first call. Refuses as [`find_node`] does, and where the clock can't be read
+/// (`Device`), with a line on standard error.
+pub fn caller_of<'a, H: Disk + Net>(
+    rt: &H,
+    name: &'a str,
+    token: Option<&Token>,
+    timeout: Option<Duration>,
+) -> Result<Caller<'a>, Fault> {
+    let destination = find_node(rt, name, token)?;
+    match Caller::new(rt, destination, timeout) {
+        Ok(caller) => Ok(caller),
+        Err(error) => Err(tell(rt, name, Trouble::System(error))),
     }
 }

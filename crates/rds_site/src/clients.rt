@@ -36,25 +36,31 @@ pub enum Next {
     Event,
     /// At once.
     Turn,
+    /// Once those rest no more that made others wait.
+    Rest,
     /// Never: it is let go.
     Never,
 }
 
-/// How many bytes of a client were read since it was answered last, and the most that there ever were.
+/// How many bytes of a client were read since it was answered last, and the most that there ever were; and whether what
+/// was answered last took long.
 #[derive(Clone, Copy)]
-struct Room {
+struct Load {
     unread: usize,
     most: usize,
+    is_slow: bool,
 }
 
-impl Room {
+impl Load {
     fn add(&mut self, count: usize) {
         self.unread = self.unread.saturating_add(count);
         self.most = self.most.max(self.unread);
     }
 
+    // What was read is answered. Whether that took long is noted after it.
     fn clear(&mut self) {
         self.unread = 0;
+        self.is_slow = false;
     }
 }
 
@@ -67,8 +73,10 @@ pub struct Client {
     // When it last took a byte of an answer, or came.
     since: Instant,
     heard: Heard,
-    room: Room,
+    load: Load,
     is_listed: bool,
+    // Whether it is heard only once those rest no more that made others wait.
+    is_resting: bool,
 }
 
 impl Client {
@@ -85,8 +93,13 @@ impl Client {
             talk: Talk::Http(connection),
             since: now,
             heard: Heard::All,
-            room: Room { unread: 0, most: 0 },
+            load: Load {
+                unread: 0,
+                most: 0,
+                is_slow: false,
+            },
             is_listed: false,
+            is_resting: false,
         }
     }
 
@@ -105,9 +118,44 @@ impl Client {
         matches!(self.talk, Talk::Live(_))
     }
 
-    /// Whether it has made no whole request for too long, nor taken a byte of an answer. A listener may be silent.
+    /// Whether it has made no whole request for too long, nor taken a byte of an answer. A listener may be silent, and
+    /// one that rests isn't heard.
     pub fn is_overdue(&self, now: Instant) -> bool {
-        !self.is_listener() && PATIENCE <= now.duration_since(self.since).as_secs()
+        let may_wait = self.is_listener() || self.is_resting;
+        !may_wait && PATIENCE <= now.duration_since(self.since).as_secs()
+    }
+
+    /// Whether what it was answered last made others wait.
+    pub fn is_slow(&self) -> bool {
+        matches!(self.talk, Talk::Http(_)) && self.load.is_slow
+    }
+
+    /// Notes that what it was answered made others wait.
+    pub fn set_slow(&mut self) {
+        self.load.is_slow = true;
+    }
+
+    /// Notes that it says nothing more than what has come.
+    pub fn note_end(&mut self) {
+        self.socket.note_end();
+    }
+
+    /// Has it be heard in a later turn.
+    pub fn put_off(&mut self) {
+        if self.heard == Heard::All {
+            self.heard = Heard::Part;
+        }
+    }
+
+    /// It rests from here on.
+    pub fn rest(&mut self) {
+        self.is_resting = true;
+    }
+
+    /// It rests no more.
+    pub fn wake(&mut self, now: Instant) {
+        self.is_resting = false;
+        self.since = now;
     }
 
     /// Has the client be let go in its next turn.
@@ -118,7 +166,7 @@ impl Client {
     /// How much room its requests have taken, in bytes. It keeps that as long as it may ask.
     pub fn room(&self) -> usize {
         match &self.talk {
-            Talk::Http(_) => self.room.most,
+            Talk::Http(_) => self.load.most,
             Talk::Live(_) | Talk::Last => 0,
         }
     }
@@ -131,7 +179,10 @@ impl Client {
         }
         self.heard = match &mut self.talk {
             Talk::Http(connection) => {
-                hear_requests(&mut self.socket, connection, service, &mut self.room)
+                if self.heard == Heard::Part {
+                    connection.advance(service);
+                }
+                hear_requests(&mut self.socket, connection, service, &mut self.load)
             }
             Talk::Live(listener) => listener.hear(&mut self.socket),
             Talk::Last => hear_out(&mut self.socket),
@@ -161,12 +212,23 @@ impl Client {
             Sent::Gone => Next::Never,
             Sent::Part => Next::Event,
             Sent::All => {
-                if self.go_on(alloc) || self.heard == Heard::Part {
+                if self.go_on(alloc) {
                     Next::Turn
                 } else {
-                    Next::Event
+                    self.next()
                 }
             }
+        }
+    }
+
+    // When the client is heard again, which has got all that was due to it.
+    fn next(&self) -> Next {
+        if self.heard != Heard::Part {
+            Next::Event
+        } else if self.is_slow() {
+            Next::Rest
+        } else {
+            Next::Turn
         }
     }
 
@@ -232,33 +294,52 @@ impl Client {
     }
 }
 
-// Reads requests and has them answered, until something is due to the client, or up to a limit.
+// Reads requests and has them answered, until something is due to the client, or up to a limit. What came before is
+// answered already, unless that waits until the client takes what is due.
 fn hear_requests<S: Service>(
     socket: &mut Socket,
     connection: &mut Connection,
     service: &mut S,
-    room: &mut Room,
+    load: &mut Load,
 ) -> Heard {
-    connection.advance(service);
+    if connection.wants_write() || !connection.wants_read() {
+        return Heard::Part;
+    }
     let mut left = MOST_HEARD;
     for _ in 0..READS {
-        if connection.wants_write() {
-            room.clear();
-            return Heard::Part;
-        }
-        if left == 0 || !connection.wants_read() {
-            return Heard::Part;
-        }
         match socket.receive(connection) {
             Ok(count) => {
-                room.add(count);
+                load.add(count);
                 left = left.saturating_sub(count);
                 connection.advance(service);
+                if connection.wants_write() {
+                    load.clear();
+                }
+                let is_drained = socket.is_drained_by(count);
+                if let Some(heard) = heard_so_far(connection, is_drained, left) {
+                    return heard;
+                }
             }
             Err(error) => return Heard::after(&error),
         }
     }
     Heard::Part
+}
+
+// How far a client was heard after a read, where no more is read in this turn. A connection that wants to be read has
+// answered each whole request that was read: `advance` rests there only for want of bytes (`Rests` of http_server). So
+// once the socket is drained too, nothing is left that only a further turn would do. One that pauses for its output, or
+// has read the end, doesn't want to be read, and has that turn.
+fn heard_so_far(connection: &Connection, is_drained: bool, left: usize) -> Option<Heard> {
+    if !connection.wants_read() {
+        Some(Heard::Part)
+    } else if is_drained {
+        Some(Heard::All)
+    } else if left == 0 || connection.wants_write() {
+        Some(Heard::Part)
+    } else {
+        None
+    }
 }
 
 // Reads what nobody wants any more, up to a limit.

@@ -113,6 +113,7 @@ impl Exchange {
         let tag = format!(in self.alloc; "{tag}")?;
         let request = Request {
             resource: Resource::Ask,
+            path: "",
             unless: Some(tag.as_str()),
             pieces: &[],
         };
@@ -277,6 +278,7 @@ impl Exchange {
     ) -> Result<(), Trouble> {
         let request = Request {
             resource,
+            path: "",
             unless: None,
             pieces,
         };

@@ -1,12 +1,13 @@
 //! The loop of a node: a site that runs. One process and one thread hold a document in its file, and serve it over
 //! HTTP, and meet other nodes over theirs. Read `words`, `addresses`, `secrets`; then `committed`, `logging`, `sockets`,
 //! `listeners`, `clients`, `table`; then `destinations`, `schedule`, `requests`, `troubles`, `channels`, `exchanges`,
-//! `peers`, `peer_table`; then `arrivals`, `turns`, `running`. A file that meets a
-//! node: `calling`, `visiting`.
+//! `peers`, `peer_table`; then `arrivals`, `turns`, `running`. A node that is called: `calling`; by a file that meets it,
+//! `visiting`; by a command, `asking`.
 #![tactic(auto)]
 
 mod addresses;
 mod arrivals;
+mod asking;
 mod calling;
 mod channels;
 mod clients;
@@ -28,7 +29,9 @@ mod turns;
 mod visiting;
 mod words;
 
+pub use asking::{AskWords, ask_node, edit_node};
 pub use committed::{Committed, commit};
+pub use requests::Resource;
 pub use running::run_site;
 pub use visiting::{Visit, VisitWords, sync_site};
 pub use words::SiteWords;

@@ -4,6 +4,7 @@ use crate::troubles::Trouble;
 use bytes::{BufMut, BytesMut};
 use http1::{BodySize, Client, Event, Header, Limits};
 use httparse::spans::{EMPTY_HEADER_SPAN, HeaderSpan, Span};
+use percent_encoding::{AsciiSet, NON_ALPHANUMERIC, ascii_set, utf8_percent_encode};
 use rds_http::Tag;
 use std::alloc::{AllocError, Global};
 use std::{mem, str};
@@ -17,7 +18,17 @@ const FIELDS: usize = 64;
 /// The room that the head of a request is given at least, in bytes.
 const HEAD_ROOM: usize = 1024;
 
-/// What a peer is asked for.
+/// What of a path is percent-encoded in a target: all but the unreserved characters (RFC 3986) and the slash.
+const ENCODED: AsciiSet = ascii_set!(
+    NON_ALPHANUMERIC
+        .remove(b'-')
+        .remove(b'.')
+        .remove(b'_')
+        .remove(b'~')
+        .remove(b'/')
+);
+
+/// What a node is asked for.
 #[derive(Clone, Copy, Debug, PartialEq, Eq)]
 pub enum Resource {
     /// Its question: `GET /ask`.
@@ -26,38 +37,65 @@ pub enum Resource {
     Answer,
     /// That it takes an answer to its question: `POST /take`.
     Take,
+    /// That it edits its document as lines say: `POST /edits`.
+    Edits,
+    /// What stands at a path: `GET /value/PATH`.
+    Value,
+    /// The document at a path: `GET /doc/PATH`.
+    Document,
+    /// The registers with several values, at a path and below it: `GET /conflicts/PATH`.
+    Conflicts,
+    /// Whose replica it has, and how much there is of it: `GET /status`.
+    Status,
 }
 
 impl Resource {
+    // Whether a request for it has a body.
+    fn has_body(self) -> bool {
+        matches!(self, Resource::Answer | Resource::Take | Resource::Edits)
+    }
+
     fn method(self) -> &'static [u8] {
+        if self.has_body() { b"POST" } else { b"GET" }
+    }
+
+    // What its target is, or begins with, where a path stands behind that.
+    fn front(self) -> &'static str {
         match self {
-            Resource::Ask => b"GET",
-            Resource::Answer | Resource::Take => b"POST",
+            Resource::Ask => "/ask",
+            Resource::Answer => "/answer",
+            Resource::Take => "/take",
+            Resource::Edits => "/edits",
+            Resource::Value => "/value/",
+            Resource::Document => "/doc/",
+            Resource::Conflicts => "/conflicts/",
+            Resource::Status => "/status",
         }
     }
 
-    fn target(self) -> &'static [u8] {
-        match self {
-            Resource::Ask => b"/ask",
-            Resource::Answer => b"/answer",
-            Resource::Take => b"/take",
-        }
+    fn target(self, alloc: Global, path: &str) -> Result<String, AllocError> {
+        let mut target = String::from_str(alloc, self.front())?;
+        utf8_percent_encode(path, ENCODED).append_to(&mut target)?;
+        Ok(target)
     }
 
     // The size of a request's body.
     fn body_size(self, length: usize) -> BodySize {
-        match self {
-            Resource::Ask => BodySize::Empty,
-            Resource::Answer | Resource::Take => BodySize::Known(length as u64),
+        if self.has_body() {
+            BodySize::Known(length as u64)
+        } else {
+            BodySize::Empty
         }
     }
 }
 
-/// A request to a peer.
+/// A request to a node.
 #[derive(Clone, Copy)]
 pub struct Request<'r> {
     /// What is asked for.
     pub resource: Resource,
+    /// The path at which it is asked for; empty for the root, and where there is none.
+    pub path: &'r str,
     /// Nothing is asked for where the peer's tag is this one: the value of `If-None-Match` (RFC 9110).
     pub unless: Option<&'r str>,
     /// The pieces of the body.
@@ -151,10 +189,11 @@ impl Talk {
     ) -> Result<(), Trouble> {
         let fields = fields_of(self.alloc, destination, request.unless)?;
         let resource = request.resource;
+        let target = resource.target(self.alloc, request.path)?;
         self.client.write_request(
             &mut self.output,
             resource.method(),
-            resource.target(),
+            target.as_bytes(),
             &fields,
             resource.body_size(length),
         )?;

@@ -1,4 +1,4 @@
-//! When the next exchange with a peer begins.
+//! When the next exchange with a peer begins, and how long clients rest that make others wait.
 use std::time::{Duration, Instant};
 
 /// Changes within so many milliseconds go to a peer together.
@@ -12,6 +12,15 @@ const LONGEST_REST: u64 = 2000;
 
 /// The longest wait after a failure, in seconds.
 const LONGEST_WAIT: u64 = 60;
+
+/// A client makes others wait where what it asks for takes so many milliseconds.
+const LONG: u64 = 5;
+
+/// Clients that make others wait rest so many times as long as the others had to.
+const CLIENTS_REST: u32 = 4;
+
+/// They rest for so many milliseconds at most after another was heard.
+const QUIET: u64 = 50;
 
 /// When the next exchange with a peer begins: where it is due, but not before the earliest.
 #[derive(Clone, Copy, Debug)]
@@ -87,6 +96,52 @@ impl Schedule {
         self.due = now;
         self.earliest = after(now, Duration::from_secs(seconds));
         self.failures = self.failures.saturating_add(1);
+    }
+}
+
+/// How long clients rest that make others wait. They rest together, so that others have most of the time however many
+/// there are; and only while others come.
+#[derive(Clone, Copy, Debug)]
+pub struct Rest {
+    // Until when they rest, and when another was heard.
+    until: Option<Instant>,
+    others: Option<Instant>,
+}
+
+impl Rest {
+    /// None rests.
+    pub fn new() -> Rest {
+        Rest {
+            until: None,
+            others: None,
+        }
+    }
+
+    /// Notes when a client was heard. Answers whether that made others wait.
+    pub fn note(&mut self, began: Instant, ended: Instant) -> bool {
+        let took = ended.duration_since(began);
+        if took < Duration::from_millis(LONG) {
+            return false;
+        }
+        let last = self.until.unwrap_or(ended).max(ended);
+        self.until = Some(after(last, took.saturating_mul(CLIENTS_REST)));
+        true
+    }
+
+    /// Notes when another was heard.
+    pub fn note_others(&mut self, now: Instant) {
+        self.others = Some(now);
+    }
+
+    /// How long they rest on.
+    pub fn left(&self, now: Instant) -> Duration {
+        match (self.until, self.others) {
+            (Some(until), Some(others)) => {
+                let quiet = after(others, Duration::from_millis(QUIET));
+                until.min(quiet).duration_since(now)
+            }
+            _ => Duration::ZERO,
+        }
     }
 }
 

@@ -9,6 +9,9 @@ use std::io;
 use std::io::{ErrorKind, Read, Write};
 use std::net::{Net, Shutdown, SocketAddr};
 
+/// The room that a read of requests is given at least, in bytes.
+pub const LEAST_ROOM: usize = 8192;
+
 /// The room that a read of what nobody wants is given, in bytes.
 const ROOM: usize = 4096;
 
@@ -68,13 +71,18 @@ pub struct Line<'r> {
 #[derive(Drop)]
 pub struct Socket {
     stream: TcpStream,
+    // Whether who is at the other end has said all.
+    is_ending: bool,
 }
 
 impl Socket {
     /// Of a stream that was just accepted: small answers go at once. Whether that can be had changes nothing.
     pub fn new(stream: TcpStream) -> Socket {
         let _ = stream.set_nodelay(true);
-        Socket { stream }
+        Socket {
+            stream,
+            is_ending: false,
+        }
     }
 
     /// Begins to connect with a peer. What follows is told by an event under the token.
@@ -107,9 +115,20 @@ impl Socket {
         registry.register(&mut self.stream, token, interests)
     }
 
+    /// Notes that the client says nothing more than what has come.
+    pub fn note_end(&mut self) {
+        self.is_ending = true;
+    }
+
     /// Reads requests, once.
     pub fn receive(&mut self, connection: &mut Connection) -> io::Result<usize> {
         connection.read_from(&mut self.stream)
+    }
+
+    /// Whether all that came was read, once a read of requests gave so many bytes: an event tells of more. Where the
+    /// client has said all, none tells of the end, which is read then.
+    pub fn is_drained_by(&self, count: usize) -> bool {
+        count < LEAST_ROOM && !self.is_ending
     }
 
     /// Reads bytes, once, where there is so much room for them at least.

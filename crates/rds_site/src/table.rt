@@ -2,12 +2,14 @@
 use crate::clients::{Client, Next};
 use crate::committed::Committed;
 use crate::logging::LoggedSite;
+use crate::schedule::Rest;
 use mio::Token;
 use rds_files::{Disk, LockFile};
 use slab::Slab;
 use std::alloc::{AllocError, Global};
+use std::collections::VecDeque;
 use std::mem;
-use std::time::Instant;
+use std::time::{Duration, Instant};
 
 /// A site has so many clients at most.
 pub const MOST_CLIENTS: usize = 1024;
@@ -26,6 +28,9 @@ pub struct Clients {
     // Those that are heard in this turn, and those that are heard in the next one without an event.
     due: Vec<usize>,
     next: Vec<usize>,
+    // Those that are heard one after the other, each once the rest has ended that the one before made.
+    resting: VecDeque<usize>,
+    rest: Rest,
 }
 
 impl Clients {
@@ -38,6 +43,8 @@ impl Clients {
             room: 0,
             due: Vec::with_capacity(alloc, MOST_CLIENTS)?,
             next: Vec::with_capacity(alloc, MOST_CLIENTS)?,
+            resting: VecDeque::with_capacity(alloc, MOST_CLIENTS)?,
+            rest: Rest::new(),
         })
     }
 
@@ -58,9 +65,15 @@ impl Clients {
         self.listeners
     }
 
-    /// Whether any has a turn without an event.
-    pub fn has_next(&self) -> bool {
-        !self.next.is_empty()
+    /// How long none has a turn without an event. `None` where it takes one.
+    pub fn pause(&self, now: Instant) -> Option<Duration> {
+        if !self.next.is_empty() {
+            Some(Duration::ZERO)
+        } else if self.resting.is_empty() {
+            None
+        } else {
+            Some(self.rest.left(now))
+        }
     }
 
     /// By what token the next client that is put is known.
@@ -75,26 +88,69 @@ impl Clients {
         }
     }
 
-    /// Begins a turn: those that were left to it have it.
-    pub fn begin_turn(&mut self) {
+    /// Begins a turn: those that were left to it have it, and the next of those that rest, where the rest has ended.
+    pub fn begin_turn(&mut self, now: Instant) {
         mem::swap(&mut self.due, &mut self.next);
         self.next.clear();
+        if self.rest.left(now).is_zero() {
+            if let Some(key) = self.resting.pop_front() {
+                wake(&mut self.table, &mut self.due, key, now);
+            }
+        }
     }
 
-    /// Lists the client of this token for this turn. One that has gone meanwhile isn't.
-    pub fn list(&mut self, token: Token) {
+    /// Lists the client of this token for this turn. One that has gone meanwhile isn't. Notes where it says nothing more
+    /// than what has come.
+    pub fn list(&mut self, token: Token, is_ending: bool) {
         list(&mut self.table, &mut self.due, token.0);
+        if is_ending {
+            if let Some(client) = self.table.get_mut(token.0) {
+                client.note_end();
+            }
+        }
     }
 
-    /// Hears those that have a turn. One that takes more room than is left for requests is let go.
-    pub fn hear<H: Disk>(&mut self, site: &mut LoggedSite<'_, H>)
+    /// Hears those that have a turn, from now on. One that takes more room than is left for requests is let go. One that
+    /// made others wait is put off while the rest lasts.
+    pub fn hear<H: Disk>(&mut self, rt: &H, site: &mut LoggedSite<'_, H>, now: Instant)
     where
         H::File: LockFile,
     {
+        let mut began = now;
         for at in 0..self.due.len() {
             if let Some(key) = self.due.get(at).copied() {
+                if self.is_to_rest(key, began) {
+                    continue;
+                }
                 self.hear_from(key, site);
+                let ended = Instant::now(rt).unwrap_or(began);
+                self.note_time(key, began, ended);
+                began = ended;
             }
+        }
+    }
+
+    // Puts a client off where it made others wait, and the rest lasts.
+    fn is_to_rest(&mut self, key: usize, now: Instant) -> bool {
+        let Some(client) = self.table.get_mut(key) else {
+            return true;
+        };
+        let is_to_rest = client.is_slow() && !self.rest.left(now).is_zero();
+        if is_to_rest {
+            client.put_off();
+        }
+        is_to_rest
+    }
+
+    // Notes when a client was heard.
+    fn note_time(&mut self, key: usize, began: Instant, ended: Instant) {
+        let Some(client) = self.table.get_mut(key) else {
+            return;
+        };
+        if self.rest.note(began, ended) {
+            client.set_slow();
+        } else if !client.is_slow() {
+            self.rest.note_others(ended);
         }
     }
 
@@ -151,6 +207,7 @@ impl Clients {
         match next {
             Next::Event => (),
             Next::Turn => list(&mut self.table, &mut self.next, key),
+            Next::Rest => rest(&mut self.table, &mut self.resting, key),
             Next::Never => {
                 after = Share::NONE;
                 let _ = self.table.try_remove(key);
@@ -197,6 +254,28 @@ impl Share {
 // A count of which one part has changed.
 fn changed(count: usize, before: usize, after: usize) -> usize {
     count.saturating_sub(before).saturating_add(after)
+}
+
+// The client of this key rests behind the others that do.
+fn rest(table: &mut Slab<Client>, resting: &mut VecDeque<usize>, key: usize) {
+    if let Some(client) = table.get_mut(key) {
+        if !client.set_listed(true) {
+            if resting.push_back(key).is_ok() {
+                client.rest();
+            } else {
+                client.set_listed(false);
+            }
+        }
+    }
+}
+
+// Lists the client of this key, which rested.
+fn wake(table: &mut Slab<Client>, keys: &mut Vec<usize>, key: usize, now: Instant) {
+    if let Some(client) = table.get_mut(key) {
+        client.wake(now);
+        client.set_listed(false);
+    }
+    list(table, keys, key);
 }
 
 // Lists the client of this key, once.

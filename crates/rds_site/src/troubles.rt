@@ -183,6 +183,12 @@ impl Trouble {
     }
 }
 
+/// Tells of a trouble with a peer on standard error, and answers the fault that it is.
+pub fn tell<H: Eprint>(rt: &H, name: &str, trouble: Trouble) -> Fault {
+    trouble.tell(rt, name);
+    trouble.fault()
+}
+
 fn tell_refusal<H: Eprint>(rt: &H, name: &str, response: &Response) {
     let status = response.head.status;
     let _ = match fault_in(&response.body) {

@@ -107,7 +107,7 @@ where
         let site = &mut self.logged.site;
         site.note_clients(self.clients.len(), self.clients.listeners());
         site.note_peers(self.peers.counts());
-        self.clients.hear(&mut self.logged);
+        self.clients.hear(rt, &mut self.logged, self.now);
         if self.logged.site.has_changed() {
             self.peers.note_change(self.now);
         }

@@ -2,12 +2,11 @@
 ghost use Rattle.std.specs.Prelude.{◌≡◌, IfOk, IfSome, None, Some};
 ghost use Rattle.rds_site.specs.Visits.{IsBrought};
 
-use crate::calling::Caller;
-use crate::destinations::find_node;
-use crate::exchanges::{DONE, NOT_MODIFIED, are_forked};
+use crate::calling::{Caller, caller_of, name_in};
+use crate::exchanges::{NOT_MODIFIED, are_forked};
 use crate::requests::{Head, Request, Resource, Response};
 use crate::secrets::read_secret;
-use crate::troubles::{Standing, Trouble};
+use crate::troubles::{Standing, Trouble, tell};
 use rds_files::{Disk, LockFile, ReplicaFile};
 use rds_gaps::GapSet;
 use rds_http::Tag;
@@ -140,15 +139,11 @@ impl<'a> Meeting<'a> {
         let name = name_in(rt, words.node)?;
         let token = read_secret(rt, words.token_file)?;
         let own = Own::read(rt, words.file)?;
-        let destination = find_node(rt, name, token.as_ref())?;
-        match Caller::new(rt, destination, words.timeout) {
-            Ok(caller) => Ok(Meeting {
-                path: words.file,
-                own,
-                caller,
-            }),
-            Err(error) => Err(tell(rt, name, Trouble::System(error))),
-        }
+        Ok(Meeting {
+            path: words.file,
+            own,
+            caller: caller_of(rt, name, token.as_ref(), words.timeout)?,
+        })
     }
 
     // Asks the node for its question, unless that has the own tag. There is none where neither lacks anything.
@@ -232,6 +227,7 @@ impl<'a> Meeting<'a> {
         let tag = format!(in rt.alloc(); "{tag}")?;
         let request = Request {
             resource: Resource::Ask,
+            path: "",
             unless: Some(tag.as_str()),
             pieces: &[],
         };
@@ -248,6 +244,7 @@ impl<'a> Meeting<'a> {
     {
         let request = Request {
             resource,
+            path: "",
             unless: None,
             pieces,
         };
@@ -258,30 +255,6 @@ impl<'a> Meeting<'a> {
     fn call<H: Disk + Net>(&mut self, rt: &H, request: &Request<'_>) -> Result<Response, Fault>
         ensures path { self.new.path.now ≡ self.old.path.now }
     {
-        let name = self.caller.name();
-        match self.caller.call(rt, request) {
-            Ok(response) => match (response.head.status, request.unless) {
-                (DONE, _) | (NOT_MODIFIED, Some(_)) => Ok(response),
-                _ => Err(tell(rt, name, Trouble::Refused(response))),
-            },
-            Err(trouble) => Err(tell(rt, name, trouble)),
-        }
+        self.caller.ask(rt, request)
     }
-}
-
-// The host and port in the address of a node, behind `http://` and before a slash, if there is one.
-fn name_in<'a, H: Eprint>(rt: &H, node: &'a str) -> Result<&'a str, Fault> {
-    match node.strip_prefix("http://") {
-        Some(name) => Ok(name.strip_suffix('/').unwrap_or(name)),
-        None => {
-            let _ = eprintln!(rt; "'{node}' is no node, as http://127.0.0.1:7780 is");
-            Err(Fault::Usage)
-        }
-    }
-}
-
-// Tells of a trouble on standard error, and answers the fault that it is.
-fn tell<H: Eprint>(rt: &H, name: &str, trouble: Trouble) -> Fault {
-    trouble.tell(rt, name);
-    trouble.fault()
 }

@@ -15,6 +15,7 @@ use crate::changes::{Changes, joined};
 use crate::document::Document;
 use crate::meeting::{merge_snapshot, take_answer};
 use rds_gaps::GapSet;
+use rds_json::LineReader;
 use rds_keep::Change;
 use rds_lines::{Edits, edit_lines};
 use rds_names::{Fault, Roster};
@@ -110,7 +111,9 @@ impl Draft {
         ensures kept { self.new.kept ≡ self.old.kept }
         ensures err { OnErr result (self.new ≡ self.old) }
     {
-        edit_lines(self.document.alloc, self, lines)
+        let alloc = self.document.alloc;
+        let mut reader = LineReader::new(alloc);
+        edit_lines(alloc, &mut reader, self, lines)
     }
 
     /// Puts a name last in the roster, as [`Document::grow`] does.

@@ -41,6 +41,6 @@ impl Document {
         ensures memory { IfErr result (λ fault. fault ≡ Memory) }
         ensures err { OnErr result (self.new ≡ self.old) }
     {
-        edit_lines(self.alloc, &mut self.index, lines)
+        edit_lines(self.alloc, &mut self.reader, &mut self.index, lines)
     }
 }

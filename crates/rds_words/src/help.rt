@@ -148,6 +148,11 @@ Places: a FILE that is a link is followed, and stays a link. One that has severa
 (hard links), or no write bit, isn't changed: fault 24. One whose name ends in '.new' is
 fault 27.
 
+Nodes: in set, add, del, clear, inc, dec, edit, get, show, conflicts and status, FILE
+may be the address of a node, as http://127.0.0.1:7780. The node does it, and its answer
+is printed. A node's token is read from the file whose path RDS_TOKEN_FILE has in the
+environment. The options of these commands are for files alone, but for --text.
+
 Copies: a name is used at one file alone. A copy is for reading, for a backup, or for
 'merge'; never edit one beside the original. To edit at a second place make the next
 replica, by 'init NEW --from FILE OWN'.
@@ -158,6 +163,7 @@ bytes. Counters stand at the root, so each has a KEY. Options stand before any t
 dashes, '--'; behind them a word may begin with a hyphen.
 
 Example: rds_node set notes.a shopping/shelf -- -3
+         rds_node get http://127.0.0.1:7780 shopping/shelf
 ";
 
 pub const FAULTS_ABOUT: &str = "Tells what the faults are";
@@ -361,8 +367,8 @@ Connects to itself on 127.0.0.1, with FILE as the client and PEER as the server.
 gets a delta, what the other has and it lacks, and takes it into what its file holds then,
 so edits made meanwhile stay; so is the longer group taken.
 Output: {\"taken\":1} where FILE took a delta, with the number of its components; then the
-fault of its session, if there was one. Then the same for PEER.
-Faults of its own: 10, 11 and 19 to 21, see 'help faults'.";
+fault of its session, if there was one. Then the same for PEER, and 28 where the two are
+forked. Faults of its own: 10, 11 and 19 to 21, see 'help faults'.";
 
 pub const SYNC_ABOUT: &str = "Has a session of the replica in a file with one that is served";
 

@@ -10,8 +10,9 @@ use Rattle.rds_files.proofs.pairing.pair.Goals as goal
 
 pub returns-clause-written : goal.returns-clause-written
 returns-clause-written g c =
-    let one = told_of Client (file_of c.args.client) _ _ c.settle.result.settled c.settle.result.file (subst (λ (k : ReplicaValue). Leaves Client k (delivery_of c.meet-left.result.0.received c.meet-left.result.0.roster) c.meet-left.result.0.ended) c.kept.ensures c.meet-left.ensures.client) c.settle.ensures.settles in
-    let two = told_of Server (file_of c.args.server) _ _ c.settle-2.result.settled c.settle-2.result.file (subst (λ (k : ReplicaValue). Leaves Server k (delivery_of c.meet-left.result.1.received c.meet-left.result.1.roster) c.meet-left.result.1.ended) c.kept-2.ensures c.meet-left.ensures.server) c.settle-2.ensures.settles in
-    let due : c.from.result ≡ told_status (tells_fault c.settle.result.settled c.meet-left.result.0.ended || tells_fault c.settle-2.result.settled c.meet-left.result.1.ended) = search rules in
-    both_written _ _ (g.W.Write.contents c.args.writer.now.inner) (g.W.Write.contents c.write_both.new.writer.inner) _ _ _ _ c.args.writer.now.failed c.write_both.new.writer.failed c.from.result c.status_of.result c.write_both.result
-    one two c.write_both.ensures.bytes c.write_both.ensures.counted due c.status_of.ensures
+    let one = told_of Client (file_of c.args.client) _ _ c.settle-first.result.settled c.settle-first.result.file (subst (λ (k : ReplicaValue). Leaves Client k (delivery_of c.meet-left.result.0.received c.meet-left.result.0.roster) c.meet-left.result.0.ended) c.kept.ensures c.meet-left.ensures.client) c.settle-first.ensures.settles in
+    let two = told_of Server (file_of c.args.server) _ _ c.settle-second.result.settled c.settle-second.result.file (subst (λ (k : ReplicaValue). Leaves Server k (delivery_of c.meet-left.result.1.received c.meet-left.result.1.roster) c.meet-left.result.1.ended) c.kept-2.ensures c.meet-left.ensures.server) c.settle-second.ensures.settles in
+    let due : c.from.result ≡ told_status (tells_fault c.settle-first.result.settled c.meet-left.result.0.ended || tells_fault c.settle-second.result.settled c.meet-left.result.1.ended || c.end_forked-forked.result) = search rules in
+    both_written _ _ (g.W.Write.contents c.args.writer.now.inner) (g.W.Write.contents c.write_both.new.writer.inner) _ _ _ _ _ _ c.end_forked-forked.result one two c.end_forked-forked.ensures
+    c.args.writer.now.failed c.write_both.new.writer.failed c.from.result c.status_of.result c.write_both.result
+    c.write_both.ensures.bytes c.write_both.ensures.counted due c.status_of.ensures

@@ -6,4 +6,4 @@ use Rattle.rds_life.proofs.lives.Lives.live.Goals as goal
 pub returns-clause-rows : goal.returns-clause-rows
 returns-clause-rows g c =
     c.iter.ensures.rows
-    ∙ sym (live_rows-lives_of (g.S.DotSet.contents c.self.inside.seen) c.self.inside.rows c.self.invariant) ∙ ap live_rows c.self.view_is
+    ∙ sym (live_rows-lives_of (g.S.DotSet.contents c.self.inside.seen) c.self.inside.rows c.self.invariant.rows) ∙ ap live_rows c.self.view_is

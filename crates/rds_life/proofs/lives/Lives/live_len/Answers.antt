@@ -6,4 +6,4 @@ use Rattle.rds_life.proofs.lives.Lives.live_len.Goals as goal
 pub returns : goal.returns
 returns g c =
     c.len.ensures
-    ∙ ap length (sym (live_rows-lives_of (g.S.DotSet.contents c.self.inside.seen) c.self.inside.rows c.self.invariant) ∙ ap live_rows c.self.view_is)
+    ∙ ap length (sym (live_rows-lives_of (g.S.DotSet.contents c.self.inside.seen) c.self.inside.rows c.self.invariant.rows) ∙ ap live_rows c.self.view_is)

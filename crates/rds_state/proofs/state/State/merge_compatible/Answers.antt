@@ -21,3 +21,7 @@ returns-in_err-counts-clause-nothing g c = λ none.
     let second : map.len c.args.other.now.counts ≡ 0 = omega (arith, none) in
     let rows = no_rows c.rows.result.now c.other.inside.counts c.rows.ensures.are_rows (sym c.rows.ensures.value) (ap (λ (v : StateValue). map.len v.counts) c.other.view_is ∙ second) in
     absurd (false≢true (sym c.if-is_empty.false ∙ c.is_empty.ensures ∙ ap (λ l. length l == 0) rows))
+
+pub returns-clause-ok : goal.returns-clause-ok
+returns-clause-ok g c =
+    rw (← c.self.view_is, ← c.other.view_is) (λ i. record { life = λ q. c.in_ok-merge_compatible.ensures.ok.each_dot q i; number = λ q. c.in_ok-counts.ensures.ok q i })
