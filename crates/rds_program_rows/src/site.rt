@@ -46,12 +46,7 @@ impl<H: AllocGlobal> RunSite<H> for ToldSite {
     }
 
     // Of the site http://h:1 what is asked, in words; of lines these themselves. `Device` for other sites.
-    fn call_site(
-        &self,
-        rt: &H,
-        address: &str,
-        request: SiteRequest<'_>,
-    ) -> Result<Vec<u8>, Fault> {
+    fn call_site(&self, rt: &H, address: &str, request: SiteRequest<'_>) -> Result<Vec<u8>, Fault> {
         if address != "http://h:1" {
             return Err(Fault::Device);
         }
