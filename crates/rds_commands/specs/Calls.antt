@@ -4,7 +4,7 @@ use Rattle.std.specs.Io.KnownBytes.{Appends}
 use Rattle.rds_names.specs.declared.fault.Fault.{Fault}
 use Rattle.rds_output.specs.Output.{Writes}
 use Rattle.rds_words.specs.declared.tasks.Task.{Task}
-use Rattle.rds_words.specs.declared.tasks.Task.TheVariants.{Edit, EditLines, Get, Show, Conflicts, Status}
+use Rattle.rds_words.specs.declared.tasks.Task.TheVariants.{Edit, EditLines, Get, GetRaw, Show, ShowPretty, Conflicts, Status, Ask, Answer, Take}
 use Rattle.rds_commands.specs.Offline.{WritesNothing}
 use Rattle.rds_commands.specs.Visits.{is_site}
 
@@ -13,9 +13,14 @@ abbrev pub calls_site : Task → Bool
 calls_site (Edit file edit) = is_site file.now
 calls_site (EditLines file) = is_site file.now
 calls_site (Get file path) = is_site file.now
+calls_site (GetRaw file path kind) = is_site file.now
 calls_site (Show file path) = is_site file.now
+calls_site (ShowPretty file path) = is_site file.now
 calls_site (Conflicts file path) = is_site file.now
 calls_site (Status file) = is_site file.now
+calls_site (Ask file) = is_site file.now
+calls_site (Answer file) = is_site file.now
+calls_site (Take file question answer) = is_site file.now
 calls_site _ = false
 
 -- what the site answered was written, and nothing else

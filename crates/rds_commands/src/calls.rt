@@ -4,13 +4,16 @@ ghost use Rattle.rds_lines.specs.Streams.{Tells, stream_of};
 ghost use Rattle.rds_commands.specs.Calls.{WritesCall, calls_site};
 
 use crate::batch::read_lines;
-use crate::notes::note_edit;
-use crate::offline::status_for;
+use crate::listing::wanted_of;
+use crate::notes::{note_edit, note_several};
+use crate::offline::{read_both, read_text, status_for};
 use crate::site::{RunSite, SiteRequest};
+use crate::standings::{pretty_in, raw_in};
 use crate::visits::is_site;
 use rds_files::Disk;
 use rds_json::{show_scalar, show_text};
 use rds_keep::Counted;
+use rds_listing::{Raw, Wanted};
 use rds_names::Fault;
 use rds_output::{status_of, write_fault};
 use rds_state::Command;
@@ -28,6 +31,10 @@ enum Errand<'a> {
     Edit(EditWords<'a>),
     EditLines,
     Look(SiteRequest<'a>),
+    Raw { path: &'a str, wanted: Wanted },
+    Pretty { path: &'a str },
+    Answer,
+    Take { question: &'a str, answer: &'a str },
 }
 
 /// A command that calls a site: where that is, and what is wanted of it.
@@ -46,9 +53,21 @@ impl<'a> Call<'a> {
             Task::Edit { file, edit } => (*file, Errand::Edit(*edit)),
             Task::EditLines { file } => (*file, Errand::EditLines),
             Task::Get { file, path } => (*file, Errand::Look(SiteRequest::Value(path))),
+            Task::GetRaw { file, path, kind } => {
+                let wanted = wanted_of(*kind);
+                (*file, Errand::Raw { path, wanted })
+            }
             Task::Show { file, path } => (*file, Errand::Look(SiteRequest::Document(path))),
+            Task::ShowPretty { file, path } => (*file, Errand::Pretty { path }),
             Task::Conflicts { file, path } => (*file, Errand::Look(SiteRequest::Conflicts(path))),
             Task::Status { file } => (*file, Errand::Look(SiteRequest::Status)),
+            Task::Ask { file } => (*file, Errand::Look(SiteRequest::Ask)),
+            Task::Answer { file } => (*file, Errand::Answer),
+            Task::Take {
+                file,
+                question,
+                answer,
+            } => (*file, Errand::Take { question, answer }),
             _ => return None,
         };
         if is_site(address) {
@@ -58,50 +77,89 @@ impl<'a> Call<'a> {
         }
     }
 
-    // What the site answers, each line with its end.
+    // What is written of what the site answers; where that is lines, each with its end.
     fn answer<H: Disk, R: Read, T: RunSite<H>>(
         self,
         rt: &H,
         site: &T,
         reader: &mut Counted<R>,
     ) -> Result<Vec<u8>, Fault> {
-        let mut text = match self.errand {
+        let told = self.told(rt, site, reader)?;
+        match self.errand {
+            Errand::Raw { path, wanted } => raw_text(rt, path, &told, wanted),
+            Errand::Pretty { .. } => ended(pretty_in(rt.alloc(), &told)?.into_bytes()),
+            _ if self.is_letter() => Ok(told),
+            _ => ended(told),
+        }
+    }
+
+    // What the site answers.
+    fn told<H: Disk, R: Read, T: RunSite<H>>(
+        self,
+        rt: &H,
+        site: &T,
+        reader: &mut Counted<R>,
+    ) -> Result<Vec<u8>, Fault> {
+        match self.errand {
             Errand::Edit(words) => {
                 let line = edit_line(rt, self.address, &words)?;
-                site.call_site(rt, self.address, SiteRequest::Edits(line.as_bytes()))?
+                site.call_site(rt, self.address, SiteRequest::Edits(line.as_bytes()))
             }
             Errand::EditLines => {
                 let lines = read_lines(rt, reader)?;
-                site.call_site(rt, self.address, SiteRequest::Edits(&lines))?
+                site.call_site(rt, self.address, SiteRequest::Edits(&lines))
             }
-            Errand::Look(request) => site.call_site(rt, self.address, request)?,
-        };
-        if !text.is_empty() && !text.ends_with(b"\n") {
-            text.push(b'\n')?;
+            Errand::Look(request) => site.call_site(rt, self.address, request),
+            Errand::Raw { path, .. } => site.call_site(rt, self.address, SiteRequest::Value(path)),
+            Errand::Pretty { path } => {
+                site.call_site(rt, self.address, SiteRequest::Document(path))
+            }
+            Errand::Answer => {
+                let question = read_text(rt, "-", reader)?;
+                site.call_site(rt, self.address, SiteRequest::Answer(&question))
+            }
+            Errand::Take { question, answer } => {
+                let (question, answer) = read_both(rt, question, answer, reader)?;
+                let (question, answer) = (question.as_slice(), answer.as_slice());
+                site.call_site(rt, self.address, SiteRequest::Take { question, answer })
+            }
         }
-        Ok(text)
     }
 
-    // Whether it asks for a list, in whose place no fault is written.
-    fn is_list(self) -> bool {
-        matches!(self.errand, Errand::Look(SiteRequest::Conflicts(_)))
+    // Whether what is answered is a question or an answer, which isn't lines.
+    fn is_letter(self) -> bool {
+        matches!(self.errand, Errand::Look(SiteRequest::Ask) | Errand::Answer)
+    }
+
+    // Whether bare values are asked for, a list, or a letter, in whose place no fault is written.
+    fn is_silent(self) -> bool {
+        self.is_letter()
+            || matches!(
+                self.errand,
+                Errand::Raw { .. } | Errand::Look(SiteRequest::Conflicts(_))
+            )
     }
 
     // The status that goes with an answer, as it does with that of a file: 1 where an edit was refused, 3 where there are
-    // conflicts.
+    // conflicts, and where no bare value stands.
     fn status(self, answer: &[u8]) -> u8
         ensures { result ≤ 3 }
     {
         match self.errand {
             Errand::Edit(_) | Errand::EditLines => u8::from(has_refusal(answer)),
             Errand::Look(SiteRequest::Conflicts(_)) if !answer.is_empty() => 3,
-            Errand::Look(_) => 0,
+            Errand::Raw { .. } if answer.is_empty() => 3,
+            Errand::Look(_)
+            | Errand::Raw { .. }
+            | Errand::Pretty { .. }
+            | Errand::Answer
+            | Errand::Take { .. } => 0,
         }
     }
 }
 
-/// Has a site do what a command asks, and writes what it answers, or the fault by which there is no answer. That of a list
-/// isn't written. The words of an edit are judged before the site is called.
+/// Has a site do what a command asks, and writes what it answers, or the fault by which there is no answer. That of a list,
+/// of bare values, of a question or of an answer isn't written. The words of an edit are judged before the site is called.
 pub fn run_call<H: Disk, R: Read, W: Write, T: RunSite<H>>(
     rt: &H,
     call: Call<'_>,
@@ -115,8 +173,28 @@ pub fn run_call<H: Disk, R: Read, W: Write, T: RunSite<H>>(
 {
     match call.answer(rt, site, reader) {
         Ok(text) => status_of(writer.write_all(&text), call.status(&text)),
-        Err(fault) if call.is_list() => status_for(fault),
+        Err(fault) if call.is_silent() => status_for(fault),
         Err(fault) => write_fault(writer, fault),
+    }
+}
+
+// Lines, of which the last may lack its end.
+fn ended(mut lines: Vec<u8>) -> Result<Vec<u8>, Fault> {
+    if !lines.is_empty() && !lines.ends_with(b"\n") {
+        lines.push(b'\n')?;
+    }
+    Ok(lines)
+}
+
+// The bare values of those that a site tells. Where several kinds stand there and none is named, that is `Usage`.
+fn raw_text<H: Disk>(rt: &H, path: &str, told: &[u8], wanted: Wanted) -> Result<Vec<u8>, Fault> {
+    match raw_in(rt.alloc(), told, wanted)? {
+        Raw::Nothing => Ok(Vec::new(rt.alloc())),
+        Raw::Text(values) => Ok(values.into_bytes()),
+        Raw::Several => {
+            note_several(rt, path);
+            Err(Fault::Usage)
+        }
     }
 }
 

@@ -281,8 +281,8 @@ fn checked<H: Disk, R: Read>(
     }
 }
 
-// The bytes of the question and of the answer.
-fn read_both<H: Disk, R: Read>(
+/// The bytes of the question and of the answer.
+pub fn read_both<H: Disk, R: Read>(
     rt: &H,
     question: &str,
     answer: &str,
@@ -301,8 +301,8 @@ fn read_both<H: Disk, R: Read>(
     Ok((question, answer))
 }
 
-// The first bytes of the file at a path, or of the reader for `-`: all of them, or one more than a text may have.
-fn read_text<H: Disk, R: Read>(
+/// The first bytes of the file at a path, or of the reader for `-`: all of them, or one more than a text may have.
+pub fn read_text<H: Disk, R: Read>(
     rt: &H,
     path: &str,
     reader: &mut Counted<R>,

@@ -28,6 +28,15 @@ pub enum SiteRequest<'a> {
     Conflicts(&'a str),
     /// Whose replica it has, and how much there is of it, as `status` prints that.
     Status,
+    /// What it asks of another replica, as `ask` prints it.
+    Ask,
+    /// What answers another replica's question, as `answer` prints it.
+    Answer(&'a [u8]),
+    /// That it takes the answer to a question of its own, as `take` does.
+    Take {
+        question: &'a [u8],
+        answer: &'a [u8],
+    },
 }
 
 /// Runs sites, each over the replica in a file, meets them, and calls them.

@@ -61,7 +61,20 @@ fn raw_at(alloc: Global, shape: &View, key: &Key, wanted: Wanted) -> Result<Raw,
 {
     let reg = values_at(&shape.regs, key);
     let set = values_at(&shape.sets, key);
-    let counter = counter_at(&shape.counters, key);
+    raw_of(alloc, wanted, reg, set, counter_at(&shape.counters, key))
+}
+
+/// The values that are wanted of those of a place: its register's, its set's and its counter's.
+pub fn raw_of(
+    alloc: Global,
+    wanted: Wanted,
+    reg: &[Scalar],
+    set: &[Scalar],
+    counter: Option<i64>,
+) -> Result<Raw, Fault>
+    ensures raw { IfOk result (IsRaw (filter is_full (wanted_lines wanted reg.now set.now counter))) }
+    ensures memory { IfErr result (λ fault. fault ≡ Memory) }
+{
     match wanted {
         Wanted::Any => raw_of_any(alloc, reg, set, counter),
         Wanted::Register => raw_of_values(alloc, reg),

@@ -17,7 +17,7 @@ mod standings;
 mod sums;
 mod telling;
 
-pub use bare::{Raw, Wanted, raw_values};
+pub use bare::{Raw, Wanted, raw_of, raw_values};
 pub use certificates::evidence;
 pub use conflicting::conflicts;
 pub use dumping::dump;

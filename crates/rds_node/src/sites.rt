@@ -2,9 +2,7 @@
 use rds_commands::{RunSite, SiteRequest, Visit};
 use rds_files::{Disk, LockFile};
 use rds_names::Fault;
-use rds_site::{
-    AskWords, Resource, SiteWords, VisitWords, ask_node, edit_node, run_site, sync_site,
-};
+use rds_site::{AskWords, Resource, SiteWords, VisitWords, ask_node, run_site, sync_site};
 use rds_words::{RunWords, SyncWords, interval_of};
 use std::env;
 use std::env::{Env, VarError};
@@ -66,13 +64,32 @@ where
         };
         let words = ask_words(address, token_file);
         match request {
-            SiteRequest::Edits(lines) => edit_node(rt, &words, lines),
-            SiteRequest::Value(path) => ask_node(rt, &words, Resource::Value, path),
-            SiteRequest::Document(path) => ask_node(rt, &words, Resource::Document, path),
-            SiteRequest::Conflicts(path) => ask_node(rt, &words, Resource::Conflicts, path),
-            SiteRequest::Status => ask_node(rt, &words, Resource::Status, ""),
+            SiteRequest::Edits(lines) => ask_node(rt, &words, Resource::Edits, "", &[lines]),
+            SiteRequest::Value(path) => ask_node(rt, &words, Resource::Value, path, &[]),
+            SiteRequest::Document(path) => ask_node(rt, &words, Resource::Document, path, &[]),
+            SiteRequest::Conflicts(path) => ask_node(rt, &words, Resource::Conflicts, path, &[]),
+            SiteRequest::Status => ask_node(rt, &words, Resource::Status, "", &[]),
+            SiteRequest::Ask => ask_node(rt, &words, Resource::Ask, "", &[]),
+            SiteRequest::Answer(question) => {
+                ask_node(rt, &words, Resource::Answer, "", &[question])
+            }
+            SiteRequest::Take { question, answer } => give(rt, &words, question, answer),
         }
     }
+}
+
+// Gives a node the answer to its question: the length of the question in 4 bytes, big-endian, and both.
+fn give<H: Disk + Net>(
+    rt: &H,
+    words: &AskWords<'_>,
+    question: &[u8],
+    answer: &[u8],
+) -> Result<Vec<u8>, Fault> {
+    let Ok(length) = u32::try_from(question.len()) else {
+        return Err(Fault::TooLong);
+    };
+    let length = length.to_be_bytes();
+    ask_node(rt, words, Resource::Take, "", &[&length, question, answer])
 }
 
 // How a command asks the node at an address.

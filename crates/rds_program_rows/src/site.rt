@@ -45,19 +45,39 @@ impl<H: AllocGlobal> RunSite<H> for ToldSite {
         }
     }
 
-    // Of the site http://h:1 what is asked, in words; of lines these themselves. `Device` for other sites.
+    // Of the site http://h:1 what is asked, in words; of lines these themselves. The site http://v:1 tells of a path the
+    // path's own text. `Device` for other sites.
     fn call_site(&self, rt: &H, address: &str, request: SiteRequest<'_>) -> Result<Vec<u8>, Fault> {
-        if address != "http://h:1" {
-            return Err(Fault::Device);
-        }
         let alloc = rt.alloc();
-        match request {
-            SiteRequest::Edits(lines) => Ok(Vec::from_slice(alloc, lines)?),
-            SiteRequest::Value(path) => named(alloc, "value", path),
-            SiteRequest::Document(path) => named(alloc, "document", path),
-            SiteRequest::Conflicts("") => Ok(Vec::new(alloc)),
-            SiteRequest::Conflicts(path) => named(alloc, "conflicts", path),
-            SiteRequest::Status => Ok(Vec::from_slice(alloc, b"status\n")?),
+        match (address, request) {
+            ("http://h:1", _) => said(alloc, request),
+            ("http://v:1", SiteRequest::Value(text)) => Ok(Vec::from_slice(
+                alloc,
+                text.as_bytes(),
+            )?),
+            ("http://v:1", SiteRequest::Document(text)) => {
+                Ok(Vec::from_slice(alloc, text.as_bytes())?)
+            }
+            _ => Err(Fault::Device),
+        }
+    }
+}
+
+// What is asked, in words.
+fn said(alloc: Global, request: SiteRequest<'_>) -> Result<Vec<u8>, Fault> {
+    match request {
+        SiteRequest::Edits(lines) => Ok(Vec::from_slice(alloc, lines)?),
+        SiteRequest::Value(path) => named(alloc, "value", path),
+        SiteRequest::Document(path) => named(alloc, "document", path),
+        SiteRequest::Conflicts("") => Ok(Vec::new(alloc)),
+        SiteRequest::Conflicts(path) => named(alloc, "conflicts", path),
+        SiteRequest::Status => Ok(Vec::from_slice(alloc, b"status\n")?),
+        SiteRequest::Ask => Ok(Vec::from_slice(alloc, b"ask")?),
+        SiteRequest::Answer(question) => lettered(alloc, "answer", question),
+        SiteRequest::Take { question, answer } => {
+            let mut text = lettered(alloc, "take", question)?;
+            text.extend_from_slice(&lettered(alloc, " with", answer)?)?;
+            Ok(text)
         }
     }
 }
@@ -65,6 +85,13 @@ impl<H: AllocGlobal> RunSite<H> for ToldSite {
 // What is asked at a path.
 fn named(alloc: Global, what: &str, path: &str) -> Result<Vec<u8>, Fault> {
     Ok(format!(in alloc; "{what} {path}")?.into_bytes())
+}
+
+// A word and the letter that goes with it.
+fn lettered(alloc: Global, word: &str, letter: &[u8]) -> Result<Vec<u8>, Fault> {
+    let mut text = format!(in alloc; "{word} ")?.into_bytes();
+    text.extend_from_slice(letter)?;
+    Ok(text)
 }
 
 // What came of a meeting.

@@ -1,6 +1,6 @@
 //! A node that a command asks, or has edit its document.
 use crate::calling::{caller_of, name_in};
-use crate::requests::Resource;
+use crate::requests::{Request, Resource};
 use crate::secrets::read_secret;
 use rds_files::Disk;
 use rds_names::Fault;
@@ -18,32 +18,14 @@ pub struct AskWords<'a> {
     pub timeout: Duration,
 }
 
-/// Asks a node for what it has at a path, by one request, and answers the body of its response.
+/// Makes one request of a node, for a resource at a path, with a body of these pieces, and answers the body of its response.
+/// What the request asks for may be done where there is no response.
 ///
 /// `Usage` where the text names no node, or the token's file has none. `Device` where the node can't be reached or waited
-/// for, or lets wait too long; `PeerEnded` where it ends the connection or refuses the request; `OutOfTurn` where it doesn't
-/// speak HTTP/1.1; `TooLong` of a response. Standard error has a line that says why.
+/// for, or lets wait too long; `OutOfTurn` where it doesn't speak HTTP/1.1; `TooLong` of a response. Where it refuses the
+/// request that is its own fault; `PeerEnded` where it tells none, where it says that the document is older than what is
+/// taken, or ends the connection. Standard error has a line that says why.
 pub fn ask_node<H: Disk + Net>(
-    rt: &H,
-    words: &AskWords<'_>,
-    resource: Resource,
-    path: &str,
-) -> Result<Vec<u8>, Fault> {
-    request_of(rt, words, resource, path, &[])
-}
-
-/// Has a node edit its document as lines of JSON say, and answers what it answers them. Refuses as [`ask_node`] does; the
-/// node may have made the edits all the same.
-pub fn edit_node<H: Disk + Net>(
-    rt: &H,
-    words: &AskWords<'_>,
-    lines: &[u8],
-) -> Result<Vec<u8>, Fault> {
-    request_of(rt, words, Resource::Edits, "", &[lines])
-}
-
-// Makes a request with a body of these pieces, and answers the body of its response.
-fn request_of<H: Disk + Net>(
     rt: &H,
     words: &AskWords<'_>,
     resource: Resource,
@@ -53,6 +35,14 @@ fn request_of<H: Disk + Net>(
     let name = name_in(rt, words.node)?;
     let token = read_secret(rt, words.token_file)?;
     let mut caller = caller_of(rt, name, token.as_ref(), Some(words.timeout))?;
-    let response = caller.ask_for(rt, resource, path, pieces)?;
-    Ok(response.body)
+    let request = Request {
+        resource,
+        path,
+        unless: None,
+        pieces,
+    };
+    match caller.ask(rt, &request) {
+        Ok(response) => Ok(response.body),
+        Err(trouble) => Err(trouble.refusal()),
+    }
 }

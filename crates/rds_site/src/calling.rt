@@ -1,7 +1,7 @@
 //! Calls of a node: a request and its response, over a connection of their own that is waited for.
 use crate::destinations::{Destination, find_node};
 use crate::exchanges::{DONE, NOT_MODIFIED};
-use crate::requests::{Request, Resource, Response, Talk};
+use crate::requests::{Request, Response, Talk};
 use crate::troubles::{Trouble, tell};
 use bytes::Buf;
 use rds_files::Disk;
@@ -114,32 +114,20 @@ impl<'a> Caller<'a> {
 
     /// Makes a request, and answers the response where it was done, or where what is asked for has the tag. Anything else
     /// is told on standard error.
-    pub fn ask<H: Disk + Net>(&mut self, rt: &H, request: &Request<'_>) -> Result<Response, Fault> {
-        let name = self.name();
-        match self.call(rt, request) {
-            Ok(response) => match (response.head.status, request.unless) {
-                (DONE, _) | (NOT_MODIFIED, Some(_)) => Ok(response),
-                _ => Err(tell(rt, name, Trouble::Refused(response))),
-            },
-            Err(trouble) => Err(tell(rt, name, trouble)),
-        }
-    }
-
-    /// Asks for a resource at a path, with a body of these pieces, as [`ask`](Caller::ask) does.
-    pub fn ask_for<'r, H: Disk + Net>(
+    pub fn ask<H: Disk + Net>(
         &mut self,
         rt: &H,
-        resource: Resource,
-        path: &'r str,
-        pieces: &'r [&'r [u8]],
-    ) -> Result<Response, Fault> {
-        let request = Request {
-            resource,
-            path,
-            unless: None,
-            pieces,
+        request: &Request<'_>,
+    ) -> Result<Response, Trouble> {
+        let trouble = match self.call(rt, request) {
+            Ok(response) => match (response.head.status, request.unless) {
+                (DONE, _) | (NOT_MODIFIED, Some(_)) => return Ok(response),
+                _ => Trouble::Refused(response),
+            },
+            Err(trouble) => trouble,
         };
-        self.ask(rt, &request)
+        trouble.tell(rt, self.name());
+        Err(trouble)
     }
 
     // Makes a request, and answers the response. A node that takes no more of the request may still answer it.

@@ -29,7 +29,7 @@ mod turns;
 mod visiting;
 mod words;
 
-pub use asking::{AskWords, ask_node, edit_node};
+pub use asking::{AskWords, ask_node};
 pub use committed::{Committed, commit};
 pub use requests::Resource;
 pub use running::run_site;

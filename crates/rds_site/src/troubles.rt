@@ -9,6 +9,24 @@ use rds_names::Fault;
 use std::alloc::AllocError;
 use std::{io, str};
 
+/// The faults by which a node refuses a request, and which say no more than their names.
+const NAMED: [Fault; 14] = [
+    Fault::Memory,
+    Fault::BadKey,
+    Fault::BadPath,
+    Fault::WrongAsker,
+    Fault::Cut,
+    Fault::Bad,
+    Fault::Extra,
+    Fault::TooLong,
+    Fault::TooManyDots,
+    Fault::BadCertificate,
+    Fault::WrongGroup,
+    Fault::WrongRoster,
+    Fault::SameReplica,
+    Fault::Device,
+];
+
 /// Why an exchange with a peer broke off.
 #[derive(Drop)]
 pub enum Trouble {
@@ -160,6 +178,18 @@ impl Trouble {
         }
     }
 
+    /// The fault that it is for who had the peer do something: the peer's own, where it refused that by one which says no
+    /// more than its name.
+    pub fn refusal(&self) -> Fault {
+        match self {
+            Trouble::Refused(response) => match fault_in(&response.body) {
+                Some((number, _)) => named_by(number).unwrap_or(Fault::PeerEnded),
+                None => Fault::PeerEnded,
+            },
+            _ => self.fault(),
+        }
+    }
+
     /// Tells of it on standard error, in a line.
     pub fn tell<H: Eprint>(&self, rt: &H, name: &str) {
         let _ = match self {
@@ -207,6 +237,16 @@ fn fault_in(body: &[u8]) -> Option<(u8, &str)> {
     let end = rest.iter().position(|b| !b.is_ascii_alphabetic())?;
     let (word, _) = rest.split_at_checked(end)?;
     Some((number, str::from_utf8(word).ok()?))
+}
+
+// The fault of a number by which a node refuses, where it says no more than its name.
+fn named_by(number: u8) -> Option<Fault> {
+    for fault in NAMED {
+        if fault.number() == number {
+            return Some(fault);
+        }
+    }
+    None
 }
 
 fn behind<'b>(start: &[u8], bytes: &'b [u8]) -> Option<&'b [u8]> {

@@ -255,6 +255,9 @@ impl<'a> Meeting<'a> {
     fn call<H: Disk + Net>(&mut self, rt: &H, request: &Request<'_>) -> Result<Response, Fault>
         ensures path { self.new.path.now ≡ self.old.path.now }
     {
-        self.caller.ask(rt, request)
+        match self.caller.ask(rt, request) {
+            Ok(response) => Ok(response),
+            Err(trouble) => Err(trouble.fault()),
+        }
     }
 }

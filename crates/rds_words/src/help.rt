@@ -148,10 +148,10 @@ Places: a FILE that is a link is followed, and stays a link. One that has severa
 (hard links), or no write bit, isn't changed: fault 24. One whose name ends in '.new' is
 fault 27.
 
-Nodes: in set, add, del, clear, inc, dec, edit, get, show, conflicts and status, FILE
-may be the address of a node, as http://127.0.0.1:7780. The node does it, and its answer
-is printed. A node's token is read from the file whose path RDS_TOKEN_FILE has in the
-environment. The options of these commands are for files alone, but for --text.
+Nodes: in set, add, del, clear, inc, dec, edit, get, show, conflicts, status, ask, answer
+and take, FILE may be the address of a node, as http://127.0.0.1:7780. The node does it,
+and its answer is printed. A node's token is read from the file whose path RDS_TOKEN_FILE
+has in the environment. --if-changed is for files alone.
 
 Copies: a name is used at one file alone. A copy is for reading, for a backup, or for
 'merge'; never edit one beside the original. To edit at a second place make the next

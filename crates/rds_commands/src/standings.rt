@@ -1,0 +1,41 @@
+//! What a site tells of its document, read again.
+use rds_json::scalar;
+use rds_listing::{Raw, Wanted, raw_of};
+use rds_names::{Fault, Scalar};
+use serde_json::Value;
+use std::alloc::Global;
+
+/// What stands alone in what a site tells of a place, as `get` prints it. `OutOfTurn` where that isn't so printed.
+pub fn raw_in(alloc: Global, told: &[u8], wanted: Wanted) -> Result<Raw, Fault> {
+    let place = value_in(alloc, told)?;
+    let reg = scalars_in(alloc, place.get("reg"))?;
+    let set = scalars_in(alloc, place.get("set"))?;
+    let counter = place.get("counter").and_then(Value::as_i64);
+    raw_of(alloc, wanted, &reg, &set, counter)
+}
+
+/// What a site tells as `show` prints it, on many lines, as `show --pretty` does. `OutOfTurn` where it is no JSON.
+pub fn pretty_in(alloc: Global, told: &[u8]) -> Result<String, Fault> {
+    Ok(value_in(alloc, told)?.to_string_pretty(alloc)?)
+}
+
+// The value of JSON that a site tells.
+fn value_in(alloc: Global, told: &[u8]) -> Result<Value, Fault> {
+    match Value::from_slice(alloc, told) {
+        Ok(value) => Ok(value),
+        Err(error) if error.is_memory() => Err(Fault::Memory),
+        Err(_) => Err(Fault::OutOfTurn),
+    }
+}
+
+// The scalars of an array.
+fn scalars_in(alloc: Global, array: Option<&Value>) -> Result<Vec<Scalar>, Fault> {
+    let Some(values) = array.and_then(Value::as_array) else {
+        return Err(Fault::OutOfTurn);
+    };
+    let mut scalars = Vec::new(alloc);
+    for value in values {
+        scalars.push(scalar(alloc, value)?)?;
+    }
+    Ok(scalars)
+}
