@@ -22,6 +22,19 @@ SAME = [
     (["get"], ["a b/\u00fc?#[%2F]"], b""),
     (["get"], ["apples"], b""),
     (["get"], ["nothing/here"], b""),
+    (["get"], ["x//y"], b""),
+    (["get"], ["apples/price", "--raw"], b""),
+    (["get"], ["apples/tags", "--raw"], b""),
+    (["get"], ["apples", "--raw", "--counter"], b""),
+    (["get"], ["apples", "--raw", "--set"], b""),
+    (["get"], ["nothing/here", "--raw"], b""),
+    (["get"], ["x//y", "--raw"], b""),
+    (["set"], ["apples/tags", "1"], b""),
+    (["get"], ["apples/tags", "--raw"], b""),
+    (["get"], ["apples/tags", "--raw", "--reg"], b""),
+    (["show"], ["--pretty"], b""),
+    (["show"], ["apples", "--pretty"], b""),
+    (["show"], ["x//y", "--pretty"], b""),
     (["show"], [], b""),
     (["show"], ["apples"], b""),
     (["show"], ["a b"], b""),
@@ -76,6 +89,36 @@ def try_same(asked, folder):
     return f"{len(SAME)} commands come to the same as of a file"
 
 
+def try_letters(asked, folder):
+    """What a node asks, answers and takes goes by files, as between two replicas that nobody serves."""
+    node, other = nodes_of(asked, folder, "ab")
+    node.told("set", "a.rds", "x", "1")
+    other.told("set", "a.rds", "y", "2")
+    with running(node):
+        place = at(node.port)
+        (other.folder / "copy.rds").write_bytes((node.folder / "a.rds").read_bytes())
+        for asks, answers in ((other, "a.rds"), (node, place)), ((node, place), (other, "a.rds")):
+            question = command(asks[0], ["ask"], asks[1], [])
+            want(question[0] == 0 and question[1], f"'ask {asks[1]}' comes to {question}")
+            answer = command(answers[0], ["answer"], answers[1], [], question[1])
+            want(answer[0] == 0 and answer[1], f"'answer {answers[1]}' comes to {answer}")
+            for name, bytes_of in ("question", question[1]), ("answer", answer[1]):
+                (asks[0].folder / name).write_bytes(bytes_of)
+            comes_to(asks[0], ["take"], asks[1], ["question", "answer"], 0, b'{"taken":1}\n')
+            comes_to(asks[0], ["take"], asks[1], ["question", "answer"], 0, b'{"taken":0}\n')
+        want(node.document() == other.shown(), "a node and a file differ after each took the other's answer")
+        # What is refused is so by the fault that a file has for it; 'copy.rds' is the node's file as it was.
+        for name in "question", "answer":
+            (other.folder / name).write_bytes((node.folder / name).read_bytes())
+        for data in b"", b"RDSQ", question[1] + b"x", answer[1]:
+            here, there = command(other, ["answer"], "copy.rds", [], data), command(node, ["answer"], place, [], data)
+            want(there[:2] == here[:2], f"'answer' of {data} of a node comes to {there}, and of a file to {here}")
+        for rest in ["answer", "question"], ["question", "question"], ["question", "none"]:
+            here, there = command(other, ["take"], "copy.rds", rest), command(node, ["take"], place, rest)
+            want(there[:2] == here[:2], f"'take' of {rest} of a node comes to {there}, and of a file to {here}")
+    return "questions and answers go by files"
+
+
 def try_conflicts(asked, folder):
     """Conflicts are listed with status 3."""
     node, other = nodes_of(asked, folder, "ab")
@@ -113,9 +156,13 @@ def try_none(asked, folder):
     for place in "", "/", "h", "h:", "h:0", "h:1/x", "u@h:1":
         comes_to(node, ["get"], f"http://{place}", ["x"], 2, b"fault 27: Usage\n", "is no host and port")
     comes_to(node, ["set"], at(node.port), ["x", "1"], 1, b"fault 24: Device\n", "Connection refused")
-    refused = response(b'{"fault":7,"name":"SeqFull"}', status=b"409 Conflict")
+    known = response(b'{"fault":16,"name":"TooManyDots"}', status=b"400 Bad Request")
+    ahead = response(b'{"fault":10,"name":"OwnAhead"}', status=b"409 Conflict")
+    wordless = response(b"no", status=b"503 Service Unavailable")
     for answer, due, note in (
-        (refused, b"fault 23: PeerEnded\n", "refused: 409: 7 SeqFull"),
+        (known, b"fault 16: TooManyDots\n", "refused: 400: 16 TooManyDots"),
+        (ahead, b"fault 23: PeerEnded\n", "refused: 409: 10 OwnAhead"),
+        (wordless, b"fault 23: PeerEnded\n", "refused: 503"),
         (b"no HTTP\r\n\r\n", b"fault 22: OutOfTurn\n", "is no HTTP/1.1"),
     ):
         with Fake(says(answer)) as fake:
@@ -123,7 +170,7 @@ def try_none(asked, folder):
     return "what is no node is refused"
 
 
-PARTS = [try_same, try_conflicts, try_tokens, try_none]
+PARTS = [try_same, try_letters, try_conflicts, try_tokens, try_none]
 
 
 def try_commands(asked, folder):
