@@ -1,10 +1,13 @@
 -- What is told of a site that a command calls, whose address stands in place of a file.
-use Rattle.std.specs.Prelude.{◌⊎◌, ◌≤◌, ℕ, Bool, false, List, Option, Err}
+use Rattle.std.specs.Prelude.{◌≡◌, ◌⊎◌, ◌≤◌, ℕ, Bool, false, List, [], ◌∷◌, Option, Err}
 use Rattle.std.specs.Io.KnownBytes.{Appends}
 use Rattle.rds_names.specs.declared.fault.Fault.{Fault}
 use Rattle.rds_output.specs.Output.{Writes}
 use Rattle.rds_words.specs.declared.tasks.Task.{Task}
 use Rattle.rds_words.specs.declared.tasks.Task.TheVariants.{Edit, EditLines, Get, GetRaw, Show, ShowPretty, Conflicts, Status, Ask, Answer, Take}
+use Rattle.rds_commands.specs.declared.calls.Form.{Form}
+use Rattle.rds_commands.specs.declared.calls.Form.TheVariants.{Replies, Lines, Bare, Letter}
+use Rattle.rds_commands.specs.declared.calls.Form.TheVariants as forms
 use Rattle.rds_commands.specs.Offline.{WritesNothing}
 use Rattle.rds_commands.specs.Visits.{is_site}
 
@@ -23,16 +26,38 @@ calls_site (Answer file) = is_site file.now
 calls_site (Take file question answer) = is_site file.now
 calls_site _ = false
 
+-- what is written of the answer to a task
+abbrev pub form_of : Task → Form
+form_of (Edit file edit) = Replies
+form_of (EditLines file) = Replies
+form_of (Conflicts file path) = forms.List
+form_of (GetRaw file path kind) = Bare
+form_of (Ask file) = Letter
+form_of (Answer file) = Letter
+form_of _ = Lines
+
+-- the status that goes with what was written: 1 at most of edits, 3 where anything was found, or no bare value, and else 0
+abbrev pub SuitsForm : Form → List ℕ → ℕ → Type 0
+SuitsForm Replies text status = status ≤ 1
+SuitsForm forms.List [] status = status ≡ 0
+SuitsForm forms.List (b ∷ text) status = status ≡ 3
+SuitsForm Bare [] status = status ≡ 3
+SuitsForm Bare (b ∷ text) status = status ≡ 0
+SuitsForm form text status = status ≡ 0
+
 -- what the site answered was written, and nothing else
-pub record WritesOfSite (before after : Option (List ℕ)) (status : ℕ) : Type 0 where
+pub record WritesOfSite (form : Form) (before after : Option (List ℕ)) (status : ℕ) : Type 0 where
   pub text : List ℕ
   pub written : Appends before after text
-  pub status_within : status ≤ 3
+  pub suits : SuitsForm form text status
 
--- why there is no answer was written; or, of a list, nothing was
-abbrev pub LacksAnswer : Fault → Option (List ℕ) → Option (List ℕ) → ℕ → Type 0
-LacksAnswer fault before after status = Writes (Err fault) before after status ⊎ WritesNothing fault before after status
+-- why there is no answer was written; or, in place of a list, of bare values and of a letter, nothing was
+abbrev pub LacksAnswer : Form → Fault → Option (List ℕ) → Option (List ℕ) → ℕ → Type 0
+LacksAnswer Replies fault before after status = Writes (Err fault) before after status
+LacksAnswer Lines fault before after status = Writes (Err fault) before after status
+LacksAnswer form fault before after status = WritesNothing fault before after status
 
 -- what the site answered, or that there is no answer
-abbrev pub WritesCall : Option (List ℕ) → Option (List ℕ) → ℕ → Type 0
-WritesCall before after status = WritesOfSite before after status ⊎ ((fault : Fault) × LacksAnswer fault before after status)
+abbrev pub WritesCall : Form → Option (List ℕ) → Option (List ℕ) → ℕ → Type 0
+WritesCall form before after status =
+    WritesOfSite form before after status ⊎ ((fault : Fault) × LacksAnswer form fault before after status)

@@ -50,7 +50,7 @@ use Rattle.rds_commands.specs.Edits.{
 }
 use Rattle.rds_commands.specs.Looks.{WritesGet, WritesStatus}
 use Rattle.rds_commands.specs.Batch.{WritesEditLines}
-use Rattle.rds_commands.specs.Calls.{WritesCall, calls_site}
+use Rattle.rds_commands.specs.Calls.{WritesCall, calls_site, form_of}
 use Rattle.rds_commands.specs.Listing.{WritesDiff, WritesList, WritesRaw, wanted_of}
 use Rattle.rds_commands.specs.OfFile.{WritesOfFile}
 use Rattle.rds_commands.specs.Offline.{
@@ -255,7 +255,7 @@ WritesHere (Diff file other) reading before after status = WritesDiff file.now o
 abbrev pub WritesTask : Task → Stream → Option (List ℕ) → Option (List ℕ) → ℕ → Type 0
 WritesTask task reading before after status =
     ((calls_site task ≡ false) × WritesHere task reading before after status)
-    ⊎ ((calls_site task ≡ true) × WritesCall before after status)
+    ⊎ ((calls_site task ≡ true) × WritesCall (form_of task) before after status)
 
 -- what is written for a task in words, and `Usage` for none
 abbrev pub WritesNamed : Option (List Text) → Stream → Option (List ℕ) → Option (List ℕ) → ℕ → Type 0

@@ -1,7 +1,7 @@
 //! Commands that call a site, whose address stands in place of a file.
-ghost use Rattle.std.specs.Prelude.{◌≡◌, ◌≤◌, ◌⊎◌, is_some};
+ghost use Rattle.std.specs.Prelude.{◌≡◌, ◌≤◌, ◌⊎◌, IfSome, is_some};
 ghost use Rattle.rds_lines.specs.Streams.{Tells, stream_of};
-ghost use Rattle.rds_commands.specs.Calls.{WritesCall, calls_site};
+ghost use Rattle.rds_commands.specs.Calls.{LacksAnswer, SuitsForm, WritesCall, calls_site, form_of};
 
 use crate::batch::read_lines;
 use crate::listing::wanted_of;
@@ -37,17 +37,34 @@ enum Errand<'a> {
     Take { question: &'a str, answer: &'a str },
 }
 
-/// A command that calls a site: where that is, and what is wanted of it.
+/// What is written of an answer. The status goes by it, and whether a fault is written in its place.
+#[derive(Clone, Copy, Debug, PartialEq, Eq)]
+pub enum Form {
+    /// Lines that answer edits: the status is 1 where one of them is a refusal.
+    Replies,
+    /// What was asked for.
+    Lines,
+    /// What was found, without a fault in its place: the status is 3 where there is any.
+    List,
+    /// Bare values, without a fault in their place: the status is 3 where there are none.
+    Bare,
+    /// A question or an answer as it is, without a fault in its place.
+    Letter,
+}
+
+/// A command that calls a site: where that is, what is wanted of it, and what is written of its answer.
 #[derive(Clone, Copy, Debug)]
 pub struct Call<'a> {
     address: &'a str,
     errand: Errand<'a>,
+    form: Form,
 }
 
 impl<'a> Call<'a> {
     /// The call by which a task is done, where it names a site in place of a file, and a site does it.
     pub fn of(task: &Task<'a>) -> Option<Call<'a>>
-        ensures { is_some result ≡ calls_site task.now }
+        ensures called { is_some result ≡ calls_site task.now }
+        ensures form { IfSome result (λ call. call.form ≡ form_of task.now) }
     {
         let (address, errand) = match task {
             Task::Edit { file, edit } => (*file, Errand::Edit(*edit)),
@@ -71,7 +88,12 @@ impl<'a> Call<'a> {
             _ => return None,
         };
         if is_site(address) {
-            Some(Call { address, errand })
+            let form = form_of(task);
+            Some(Call {
+                address,
+                errand,
+                form,
+            })
         } else {
             None
         }
@@ -88,7 +110,7 @@ impl<'a> Call<'a> {
         match self.errand {
             Errand::Raw { path, wanted } => raw_text(rt, path, &told, wanted),
             Errand::Pretty { .. } => ended(pretty_in(rt.alloc(), &told)?.into_bytes()),
-            _ if self.is_letter() => Ok(told),
+            _ if self.form == Form::Letter => Ok(told),
             _ => ended(told),
         }
     }
@@ -126,40 +148,46 @@ impl<'a> Call<'a> {
         }
     }
 
-    // Whether what is answered is a question or an answer, which isn't lines.
-    fn is_letter(self) -> bool {
-        matches!(self.errand, Errand::Look(SiteRequest::Ask) | Errand::Answer)
-    }
-
-    // Whether bare values are asked for, a list, or a letter, in whose place no fault is written.
-    fn is_silent(self) -> bool {
-        self.is_letter()
-            || matches!(
-                self.errand,
-                Errand::Raw { .. } | Errand::Look(SiteRequest::Conflicts(_))
-            )
-    }
-
-    // The status that goes with an answer, as it does with that of a file: 1 where an edit was refused, 3 where there are
-    // conflicts, and where no bare value stands.
-    fn status(self, answer: &[u8]) -> u8
-        ensures { result ≤ 3 }
+    // The status that goes with what is written of an answer, as it does with that of a file.
+    fn status(self, written: &[u8]) -> u8
+        ensures { SuitsForm self.form written.now result }
     {
-        match self.errand {
-            Errand::Edit(_) | Errand::EditLines => u8::from(has_refusal(answer)),
-            Errand::Look(SiteRequest::Conflicts(_)) if !answer.is_empty() => 3,
-            Errand::Raw { .. } if answer.is_empty() => 3,
-            Errand::Look(_)
-            | Errand::Raw { .. }
-            | Errand::Pretty { .. }
-            | Errand::Answer
-            | Errand::Take { .. } => 0,
+        match self.form {
+            Form::Replies => u8::from(has_refusal(written)),
+            Form::List if !written.is_empty() => 3,
+            Form::Bare if written.is_empty() => 3,
+            Form::Lines | Form::List | Form::Bare | Form::Letter => 0,
+        }
+    }
+
+    // Writes the fault by which there is no answer, where its form has that, and answers the status.
+    fn refuse<W: Write>(self, writer: &mut Counted<W>, fault: Fault) -> u8
+        ensures written { Tells (LacksAnswer self.form fault) (stream_of W.contents writer.old writer.new) result }
+        ensures status { result ≤ 2 }
+        ensures broken { (writer.new.failed ≡ writer.old.failed) ⊎ (result ≡ 1) }
+    {
+        match self.form {
+            Form::Replies | Form::Lines => write_fault(writer, fault),
+            Form::List | Form::Bare | Form::Letter => status_for(fault),
         }
     }
 }
 
-/// Has a site do what a command asks, and writes what it answers, or the fault by which there is no answer. That of a list,
-/// of bare values, of a question or of an answer isn't written. The words of an edit are judged before the site is called.
+// What is written of the answer to a task.
+fn form_of(task: &Task<'_>) -> Form
+    ensures { result ≡ form_of task.now }
+{
+    match task {
+        Task::Edit { .. } | Task::EditLines { .. } => Form::Replies,
+        Task::Conflicts { .. } => Form::List,
+        Task::GetRaw { .. } => Form::Bare,
+        Task::Ask { .. } | Task::Answer { .. } => Form::Letter,
+        _ => Form::Lines,
+    }
+}
+
+/// Has a site do what a command asks, and writes what it answers, or the fault by which there is no answer. The words of an
+/// edit are judged before the site is called.
 pub fn run_call<H: Disk, R: Read, W: Write, T: RunSite<H>>(
     rt: &H,
     call: Call<'_>,
@@ -167,14 +195,13 @@ pub fn run_call<H: Disk, R: Read, W: Write, T: RunSite<H>>(
     reader: &mut Counted<R>,
     writer: &mut Counted<W>,
 ) -> u8
-    ensures written { Tells WritesCall (stream_of W.contents writer.old writer.new) result }
+    ensures written { Tells (WritesCall call.entry.form) (stream_of W.contents writer.old writer.new) result }
     ensures status { result ≤ 3 }
     ensures broken { (writer.new.failed ≡ writer.old.failed) ⊎ (result ≡ 1) }
 {
     match call.answer(rt, site, reader) {
         Ok(text) => status_of(writer.write_all(&text), call.status(&text)),
-        Err(fault) if call.is_silent() => status_for(fault),
-        Err(fault) => write_fault(writer, fault),
+        Err(fault) => call.refuse(writer, fault),
     }
 }
 
