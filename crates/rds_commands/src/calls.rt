@@ -8,7 +8,7 @@ use crate::listing::wanted_of;
 use crate::notes::{note_edit, note_several};
 use crate::offline::{read_both, read_text, status_for};
 use crate::site::{RunSite, SiteRequest};
-use crate::standings::{pretty_in, raw_in};
+use crate::standings::{has_refusal, pretty_in, raw_in, refusal_in};
 use crate::visits::is_site;
 use rds_files::Disk;
 use rds_json::{show_scalar, show_text};
@@ -20,10 +20,6 @@ use rds_state::Command;
 use rds_words::{EditWords, Task, command_of};
 use std::alloc::Global;
 use std::io::{Read, Write};
-use std::str;
-
-/// What the line of a refusal begins with.
-const REFUSAL: &str = "{\"fault\":";
 
 /// What a command wants of a site.
 #[derive(Clone, Copy, Debug)]
@@ -37,10 +33,10 @@ enum Errand<'a> {
     Take { question: &'a str, answer: &'a str },
 }
 
-/// What is written of an answer. The status goes by it, and whether a fault is written in its place.
+/// What is written of an answer. The status goes by it, and whether the fault by which there is none is written.
 #[derive(Clone, Copy, Debug, PartialEq, Eq)]
 pub enum Form {
-    /// Lines that answer edits: the status is 1 where one of them is a refusal.
+    /// What answers edits: the status is 1 where one was refused.
     Replies,
     /// What was asked for.
     Lines,
@@ -108,6 +104,7 @@ impl<'a> Call<'a> {
     ) -> Result<Vec<u8>, Fault> {
         let told = self.told(rt, site, reader)?;
         match self.errand {
+            Errand::Edit(_) => replied(rt, self.address, told),
             Errand::Raw { path, wanted } => raw_text(rt, path, &told, wanted),
             Errand::Pretty { .. } => ended(pretty_in(rt.alloc(), &told)?.into_bytes()),
             _ if self.form == Form::Letter => Ok(told),
@@ -153,7 +150,7 @@ impl<'a> Call<'a> {
         ensures { SuitsForm self.form written.now result }
     {
         match self.form {
-            Form::Replies => u8::from(has_refusal(written)),
+            Form::Replies => u8::from(written.starts_with(b"fault ") || has_refusal(written)),
             Form::List if !written.is_empty() => 3,
             Form::Bare if written.is_empty() => 3,
             Form::Lines | Form::List | Form::Bare | Form::Letter => 0,
@@ -202,6 +199,17 @@ pub fn run_call<H: Disk, R: Read, W: Write, T: RunSite<H>>(
     match call.answer(rt, site, reader) {
         Ok(text) => status_of(writer.write_all(&text), call.status(&text)),
         Err(fault) => call.refuse(writer, fault),
+    }
+}
+
+// What is written of the answer to an edit, of which a refusal is told as that of a file is.
+fn replied<H: Disk>(rt: &H, address: &str, told: Vec<u8>) -> Result<Vec<u8>, Fault> {
+    match refusal_in(&told) {
+        Some((number, name)) => {
+            let _ = eprintln!(rt; "{address}: {name}");
+            Ok(format!(in rt.alloc(); "fault {number}: {name}\n")?.into_bytes())
+        }
+        None => ended(told),
     }
 }
 
@@ -268,17 +276,4 @@ fn word_and_place<'a>(words: &EditWords<'a>) -> (&'static str, &'a str) {
         EditWords::Inc { key, .. } => ("inc", key),
         EditWords::Dec { key, .. } => ("dec", key),
     }
-}
-
-// Whether a line of an answer is a refusal.
-fn has_refusal(answer: &[u8]) -> bool {
-    let Ok(text) = str::from_utf8(answer) else {
-        return false;
-    };
-    for line in text.lines() {
-        if line.starts_with(REFUSAL) {
-            return true;
-        }
-    }
-    false
 }

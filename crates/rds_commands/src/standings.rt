@@ -4,6 +4,10 @@ use rds_listing::{Raw, Wanted, raw_of};
 use rds_names::{Fault, Scalar};
 use serde_json::Value;
 use std::alloc::Global;
+use std::str;
+
+/// What the line of a refusal begins with.
+const REFUSAL: &str = "{\"fault\":";
 
 /// What stands alone in what a site tells of a place, as `get` prints it. `OutOfTurn` where that isn't so printed.
 pub fn raw_in(alloc: Global, told: &[u8], wanted: Wanted) -> Result<Raw, Fault> {
@@ -38,4 +42,25 @@ fn scalars_in(alloc: Global, array: Option<&Value>) -> Result<Vec<Scalar>, Fault
         scalars.push(scalar(alloc, value)?)?;
     }
     Ok(scalars)
+}
+
+/// The number and the name of the fault by which a line of JSON refuses an edit, as `edit` prints it.
+pub fn refusal_in(line: &[u8]) -> Option<(&str, &str)> {
+    let rest = str::from_utf8(line).ok()?.strip_prefix(REFUSAL)?;
+    let (number, rest) = rest.split_once(",\"name\":\"")?;
+    let (name, _) = rest.split_once('"')?;
+    Some((number, name))
+}
+
+/// Whether a line of JSON among these is a refusal.
+pub fn has_refusal(lines: &[u8]) -> bool {
+    let Ok(text) = str::from_utf8(lines) else {
+        return false;
+    };
+    for line in text.lines() {
+        if line.starts_with(REFUSAL) {
+            return true;
+        }
+    }
+    false
 }

@@ -7,6 +7,9 @@ use rds_words::{RunWords, SyncWords, interval_of};
 use std::alloc::Global;
 use std::time::Duration;
 
+/// How a site refuses an edit.
+const REFUSAL: &[u8] = b"{\"fault\":8,\"name\":\"CounterFull\",\"line\":1}";
+
 /// Serves nothing.
 pub struct ToldSite;
 
@@ -46,11 +49,12 @@ impl<H: AllocGlobal> RunSite<H> for ToldSite {
     }
 
     // Of the site http://h:1 what is asked, in words; of lines these themselves. The site http://v:1 tells of a path the
-    // path's own text. `Device` for other sites.
+    // path's own text, and refuses an edit. `Device` for other sites.
     fn call_site(&self, rt: &H, address: &str, request: SiteRequest<'_>) -> Result<Vec<u8>, Fault> {
         let alloc = rt.alloc();
         match (address, request) {
             ("http://h:1", _) => said(alloc, request),
+            ("http://v:1", SiteRequest::Edits(_)) => Ok(Vec::from_slice(alloc, REFUSAL)?),
             ("http://v:1", SiteRequest::Value(text)) => Ok(Vec::from_slice(
                 alloc,
                 text.as_bytes(),
