@@ -1,5 +1,5 @@
 //! The program's commands: words in, what is written and the exit status out. Read from above: `program`, `telling`,
-//! `outcome`, `file_commands`, `batch`, `looking`, `listing`, `offline`, `session_words`, `visits`, `standings`, `calls`,
+//! `outcome`, `file_commands`, `batch`, `looking`, `listing`, `offline`, `session_words`, `visits`, `responses`, `calls`,
 //! `site`, `unparsed` and `laws`. What people are told beside it is in `notes`, `letter_notes`, `tips` and `causes`.
 #![tactic(auto)]
 
@@ -15,9 +15,9 @@ mod notes;
 mod offline;
 mod outcome;
 mod program;
+mod responses;
 mod session_words;
 mod site;
-mod standings;
 mod telling;
 mod tips;
 mod unparsed;
