@@ -105,7 +105,6 @@ def try_letters(asked, folder):
             for name, bytes_of in ("question", question[1]), ("answer", answer[1]):
                 (asks[0].folder / name).write_bytes(bytes_of)
             comes_to(asks[0], ["take"], asks[1], ["question", "answer"], 0, b'{"taken":1}\n')
-            comes_to(asks[0], ["take"], asks[1], ["question", "answer"], 0, b'{"taken":0}\n')
         want(node.document() == other.shown(), "a node and a file differ after each took the other's answer")
         # What is refused is so by the fault that a file has for it; 'copy.rds' is the node's file as it was.
         for name in "question", "answer":
@@ -122,14 +121,15 @@ def try_letters(asked, folder):
 def try_conflicts(asked, folder):
     """Conflicts are listed with status 3."""
     node, other = nodes_of(asked, folder, "ab")
-    node.told("set", "a.rds", "x", "1")
-    other.told("set", "a.rds", "x", "2")
+    node.told("set", "a.rds", "m/x", "1")
+    other.told("set", "a.rds", "m/x", "2")
     (node.folder / "b.rds").write_bytes((other.folder / "a.rds").read_bytes())
     node.told("pair", "a.rds", "b.rds")
     with running(node):
-        comes_to(node, ["conflicts"], at(node.port), [], 3, b'{"path":"x","values":[1,2]}\n')
-        comes_to(node, ["conflicts"], at(node.port), ["x"], 3, b'{"path":"x","values":[1,2]}\n')
-        comes_to(node, ["conflicts"], at(node.port), ["y"], 0, b"")
+        comes_to(node, ["conflicts"], at(node.port), [], 3, b'{"path":"m/x","values":[1,2]}\n')
+        comes_to(node, ["conflicts"], at(node.port), ["m"], 3, b'{"path":"m/x","values":[1,2]}\n')
+        comes_to(node, ["conflicts"], at(node.port), ["n"], 0, b"")
+        comes_to(node, ["get"], at(node.port), ["m/x", "--raw"], 0, b"1\n2\n")
     return "conflicts are listed"
 
 
