@@ -1,5 +1,5 @@
 -- What is told of a site that a command calls, whose address stands in place of a file.
-use Rattle.std.specs.Prelude.{◌≡◌, ◌⊎◌, ◌≤◌, ℕ, Bool, false, List, [], ◌∷◌, Option, Err}
+use Rattle.std.specs.Prelude.{◌≡◌, ◌⊎◌, ◌≤◌, ◌==◌, ℕ, Bool, false, List, length, Option, Err, if◌then◌else◌}
 use Rattle.std.specs.Io.KnownBytes.{Appends}
 use Rattle.rds_names.specs.declared.fault.Fault.{Fault}
 use Rattle.rds_output.specs.Output.{Writes}
@@ -39,10 +39,8 @@ form_of _ = Lines
 -- the status that goes with what was written: 1 at most of edits, 3 where anything was found, or no bare value, and else 0
 abbrev pub SuitsForm : Form → List ℕ → ℕ → Type 0
 SuitsForm Replies text status = status ≤ 1
-SuitsForm forms.List [] status = status ≡ 0
-SuitsForm forms.List (b ∷ text) status = status ≡ 3
-SuitsForm Bare [] status = status ≡ 3
-SuitsForm Bare (b ∷ text) status = status ≡ 0
+SuitsForm forms.List text status = status ≡ (if length text == 0 then 0 else 3)
+SuitsForm Bare text status = status ≡ (if length text == 0 then 3 else 0)
 SuitsForm form text status = status ≡ 0
 
 -- what the site answered was written, and nothing else

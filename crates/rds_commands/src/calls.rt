@@ -151,9 +151,9 @@ impl<'a> Call<'a> {
     {
         match self.form {
             Form::Replies => u8::from(written.starts_with(b"fault ") || has_refusal(written)),
-            Form::List if !written.is_empty() => 3,
-            Form::Bare if written.is_empty() => 3,
-            Form::Lines | Form::List | Form::Bare | Form::Letter => 0,
+            Form::List => { if written.is_empty() { 0 } else { 3 } }
+            Form::Bare => { if written.is_empty() { 3 } else { 0 } }
+            Form::Lines | Form::Letter => 0,
         }
     }
 
@@ -204,10 +204,10 @@ pub fn run_call<H: Disk, R: Read, W: Write, T: RunSite<H>>(
 
 // What is written of the answer to an edit, of which a refusal is told as that of a file is.
 fn replied<H: Disk>(rt: &H, address: &str, told: Vec<u8>) -> Result<Vec<u8>, Fault> {
-    match refusal_in(&told) {
-        Some((number, name)) => {
-            let _ = eprintln!(rt; "{address}: {name}");
-            Ok(format!(in rt.alloc(); "fault {number}: {name}\n")?.into_bytes())
+    match refusal_in(rt.alloc(), &told)? {
+        Some(fault) => {
+            let _ = eprintln!(rt; "{address}: {fault}");
+            ended(fault.into_bytes())
         }
         None => ended(told),
     }

@@ -44,8 +44,16 @@ fn scalars_in(alloc: Global, array: Option<&Value>) -> Result<Vec<Scalar>, Fault
     Ok(scalars)
 }
 
-/// The number and the name of the fault by which a line of JSON refuses an edit, as `edit` prints it.
-pub fn refusal_in(line: &[u8]) -> Option<(&str, &str)> {
+/// The fault by which a line of JSON refuses an edit, in words, as `fault 8: CounterFull`.
+pub fn refusal_in(alloc: Global, line: &[u8]) -> Result<Option<String>, Fault> {
+    match fault_in(line) {
+        Some((number, name)) => Ok(Some(format!(in alloc; "fault {number}: {name}")?)),
+        None => Ok(None),
+    }
+}
+
+// The number and the name of that fault.
+fn fault_in(line: &[u8]) -> Option<(&str, &str)> {
     let rest = str::from_utf8(line).ok()?.strip_prefix(REFUSAL)?;
     let (number, rest) = rest.split_once(",\"name\":\"")?;
     let (name, _) = rest.split_once('"')?;

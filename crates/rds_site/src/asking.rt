@@ -35,13 +35,7 @@ pub fn ask_node<H: Disk + Net>(
     let name = name_in(rt, words.node)?;
     let token = read_secret(rt, words.token_file)?;
     let mut caller = caller_of(rt, name, token.as_ref(), Some(words.timeout))?;
-    let request = Request {
-        resource,
-        path,
-        unless: None,
-        pieces,
-    };
-    match caller.ask(rt, &request) {
+    match caller.ask(rt, &Request::new(resource, path, pieces)) {
         Ok(response) => Ok(response.body),
         Err(trouble) => Err(trouble.refusal()),
     }

@@ -102,6 +102,18 @@ pub struct Request<'r> {
     pub pieces: &'r [&'r [u8]],
 }
 
+impl<'r> Request<'r> {
+    /// A request whatever the peer's tag is.
+    pub fn new(resource: Resource, path: &'r str, pieces: &'r [&'r [u8]]) -> Request<'r> {
+        Request {
+            resource,
+            path,
+            unless: None,
+            pieces,
+        }
+    }
+}
+
 /// What the head of a response says. An older node tells neither its tag nor its number.
 #[derive(Clone, Copy)]
 pub struct Head {
