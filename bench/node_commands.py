@@ -141,7 +141,7 @@ def try_tokens(asked, folder):
     with running(node):
         place = at(node.port)
         for words, rest in (["get"], ["x"]), (["set"], ["x", "1"]):
-            comes_to(node, words, place, rest, 1, b"fault 23: PeerEnded\n", "refused: 401")
+            comes_to(node, words, place, rest, 1, b"fault 23: PeerEnded\n", "refused: 401: the token is due\n")
             comes_to(node, words, place, rest, 1, b"fault 23: PeerEnded\n", "refused: 401", token="wrong")
             comes_to(node, words, place, rest, 2, b"fault 27: Usage\n", "short holds no token", token="short")
             comes_to(node, words, place, rest, 1, b"fault 24: Device\n", "cannot read none", token="none")
@@ -159,10 +159,14 @@ def try_none(asked, folder):
     known = response(b'{"fault":16,"name":"TooManyDots"}', status=b"400 Bad Request")
     ahead = response(b'{"fault":10,"name":"OwnAhead"}', status=b"409 Conflict")
     wordless = response(b"no", status=b"503 Service Unavailable")
+    worded = response(b'{"status":500,"text":"no (1)"}', status=b"500 Internal Server Error")
+    hostile = response(b'{"status":500,"text":"\x1b[2J"}', status=b"500 Internal Server Error")
     for answer, due, note in (
         (known, b"fault 16: TooManyDots\n", "refused: 400: 16 TooManyDots"),
         (ahead, b"fault 23: PeerEnded\n", "refused: 409: 10 OwnAhead"),
-        (wordless, b"fault 23: PeerEnded\n", "refused: 503"),
+        (wordless, b"fault 23: PeerEnded\n", "refused: 503\n"),
+        (worded, b"fault 23: PeerEnded\n", "refused: 500: no (1)\n"),
+        (hostile, b"fault 23: PeerEnded\n", "refused: 500\n"),
         (b"no HTTP\r\n\r\n", b"fault 22: OutOfTurn\n", "is no HTTP/1.1"),
     ):
         with Fake(says(answer)) as fake:

@@ -221,10 +221,29 @@ pub fn tell<H: Eprint>(rt: &H, name: &str, trouble: Trouble) -> Fault {
 
 fn tell_refusal<H: Eprint>(rt: &H, name: &str, response: &Response) {
     let status = response.head.status;
-    let _ = match fault_in(&response.body) {
-        Some((number, word)) => eprintln!(rt; "peer {name}: refused: {status}: {number} {word}"),
-        None => eprintln!(rt; "peer {name}: refused: {status}"),
+    let _ = match (fault_in(&response.body), words_in(&response.body)) {
+        (Some((number, word)), _) => {
+            eprintln!(rt; "peer {name}: refused: {status}: {number} {word}")
+        }
+        (None, Some(words)) => eprintln!(rt; "peer {name}: refused: {status}: {words}"),
+        (None, None) => eprintln!(rt; "peer {name}: refused: {status}"),
     };
+}
+
+// Why a body says that a request wasn't let in, as `{"status":401,"text":"the token is due"}` does, where a terminal can
+// show that.
+fn words_in(body: &[u8]) -> Option<&str> {
+    let (_, rest) = str::from_utf8(body).ok()?.split_once("\"text\":\"")?;
+    let (words, _) = rest.split_once('"')?;
+    if words
+        .as_bytes()
+        .iter()
+        .all(|b| b.is_ascii_graphic() || *b == b' ')
+    {
+        Some(words)
+    } else {
+        None
+    }
 }
 
 // The number and the name of the fault that a body tells of, as `{"fault":9,"name":"Conflict"` begins one.
