@@ -394,6 +394,12 @@ def are_forked(tag, other):
     return tag[0] == other[0] and tag[1] != other[1]
 
 
+def differ(state, other):
+    """A dot is live in both, with different entries."""
+    live = other.live()
+    return any(live.get(dot, entry) != entry for dot, entry in state.live().items())
+
+
 def response_text(replica, asked):
     """What a replica responds to another's question, in the format that it is asked in."""
     longer(asked.names, replica.names)

@@ -147,7 +147,7 @@ impl<'a> Call<'a> {
 
     // The status that goes with what is written of an answer, as it does with that of a file.
     fn status(self, written: &[u8]) -> u8
-        ensures { SuitsForm self.form written.now result }
+        ensures { SuitsForm self.entry.form written.now result }
     {
         match self.form {
             Form::Replies => u8::from(written.starts_with(b"fault ") || has_refusal(written)),
@@ -159,7 +159,7 @@ impl<'a> Call<'a> {
 
     // Writes the fault by which there is no answer, where its form has that, and answers the status.
     fn refuse<W: Write>(self, writer: &mut Counted<W>, fault: Fault) -> u8
-        ensures written { Tells (LacksAnswer self.form fault) (stream_of W.contents writer.old writer.new) result }
+        ensures written { Tells (LacksAnswer self.entry.form fault) (stream_of W.contents writer.old writer.new) result }
         ensures status { result ≤ 2 }
         ensures broken { (writer.new.failed ≡ writer.old.failed) ⊎ (result ≡ 1) }
     {
