@@ -1,6 +1,6 @@
-use Rattle.std.proofs.Common.{◌≡◌, ◌∙◌, ap, false, inl, inr, IfSome, Some, is_some, sym, true}
+use Rattle.std.proofs.Common.{◌≡◌, ◌∙◌, ap, false, inl, inr, is_some, sym, true}
 use mathlib.Core.Bool.{false≢true}
-use Rattle.rds_commands.specs.Calls.{calls_site, form_of}
+use Rattle.rds_commands.specs.Calls.{calls_site}
 use Rattle.rds_commands.proofs.program.run_task.Goals as goal
 
 pub returns-in-Some-clause-join : goal.returns-in-Some-clause-join
@@ -16,8 +16,7 @@ returns-in-Some-clause-sim g c = λ is.
 pub returns-in-Some-clause-written : goal.returns-in-Some-clause-written
 returns-in-Some-clause-written g c = λ wrote.
     let called : calls_site c.args.task ≡ true = sym c.of.ensures.called ∙ ap is_some c.in-Some.is in
-    let form : IfSome (Some c.in-Some.call) (λ call. call.form ≡ form_of c.args.task) = rw (← c.in-Some.is) c.of.ensures.form in
-    inr (called, rw (← form) (c.run_call.ensures.written wrote))
+    inr (called, rw (← c.in-Some.ensures.form) (c.run_call.ensures.written wrote))
 
 pub returns-in-None-clause-written : goal.returns-in-None-clause-written
 returns-in-None-clause-written g c = λ wrote.
