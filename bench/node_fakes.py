@@ -43,6 +43,14 @@ def says(text):
     return act
 
 
+def blurts(text):
+    """Answers before it was asked."""
+    def act(link):
+        link.sendall(text)
+        silent(link)
+    return act
+
+
 def says_last(text):
     """Answers a request so, and leaves."""
     def act(link):
