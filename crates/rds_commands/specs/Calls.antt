@@ -1,5 +1,5 @@
 -- What is told of a site that a command calls, whose address stands in place of a file.
-use Rattle.std.specs.Prelude.{◌≡◌, ◌⊎◌, ◌≤◌, ◌==◌, ℕ, Bool, false, List, length, Option, Err, if◌then◌else◌}
+use Rattle.std.specs.Prelude.{◌≡◌, ◌⊎◌, ◌≤◌, ◌==◌, ℕ, Bool, true, false, List, length, MatchBool, Option, Err, if◌then◌else◌}
 use Rattle.std.specs.Io.KnownBytes.{Appends}
 use Rattle.rds_names.specs.declared.fault.Fault.{Fault}
 use Rattle.rds_output.specs.Output.{Writes}
@@ -49,11 +49,16 @@ pub record WritesOfSite (form : Form) (before after : Option (List ℕ)) (status
   pub written : Appends before after text
   pub suits : SuitsForm form text status
 
--- why there is no answer was written; or, in place of a list, of bare values and of a letter, nothing was
+-- why there is no answer is written; it isn't in place of a list, of bare values and of a letter
+abbrev pub tells_fault : Form → Bool
+tells_fault Replies = true
+tells_fault Lines = true
+tells_fault form = false
+
+-- why there is no answer was written, or nothing was
 abbrev pub LacksAnswer : Form → Fault → Option (List ℕ) → Option (List ℕ) → ℕ → Type 0
-LacksAnswer Replies fault before after status = Writes (Err fault) before after status
-LacksAnswer Lines fault before after status = Writes (Err fault) before after status
-LacksAnswer form fault before after status = WritesNothing fault before after status
+LacksAnswer form fault before after status =
+    MatchBool (tells_fault form) (Writes (Err fault) before after status) (WritesNothing fault before after status)
 
 -- what the site answered, or that there is no answer
 abbrev pub WritesCall : Form → Option (List ℕ) → Option (List ℕ) → ℕ → Type 0

@@ -1,7 +1,7 @@
 //! Commands that call a site, whose address stands in place of a file.
 ghost use Rattle.std.specs.Prelude.{◌≡◌, ◌≤◌, ◌⊎◌, IfSome, is_some};
 ghost use Rattle.rds_lines.specs.Streams.{Tells, stream_of};
-ghost use Rattle.rds_commands.specs.Calls.{LacksAnswer, SuitsForm, WritesCall, calls_site, form_of};
+ghost use Rattle.rds_commands.specs.Calls.{LacksAnswer, SuitsForm, WritesCall, calls_site, form_of, tells_fault};
 
 use crate::batch::read_lines;
 use crate::listing::wanted_of;
@@ -157,15 +157,23 @@ impl<'a> Call<'a> {
         }
     }
 
-    // Writes the fault by which there is no answer, where its form has that, and answers the status.
+    // Whether the fault by which there is no answer is written.
+    fn tells_fault(self) -> bool
+        ensures { result ≡ tells_fault self.entry.form }
+    {
+        matches!(self.form, Form::Replies | Form::Lines)
+    }
+
+    // Writes the fault by which there is no answer, where that is to be, and answers the status.
     fn refuse<W: Write>(self, writer: &mut Counted<W>, fault: Fault) -> u8
         ensures written { Tells (LacksAnswer self.entry.form fault) (stream_of W.contents writer.old writer.new) result }
         ensures status { result ≤ 2 }
         ensures broken { (writer.new.failed ≡ writer.old.failed) ⊎ (result ≡ 1) }
     {
-        match self.form {
-            Form::Replies | Form::Lines => write_fault(writer, fault),
-            Form::List | Form::Bare | Form::Letter => status_for(fault),
+        if self.tells_fault() {
+            write_fault(writer, fault)
+        } else {
+            status_for(fault)
         }
     }
 }
