@@ -17,6 +17,7 @@ ghost use Rattle.rds_commands.specs.Told.{
 ghost use Rattle.rds_commands.specs.Offline.{WritesNothing};
 ghost use Rattle.rds_files.specs.Files.{is_beside};
 ghost use Rattle.rds_session.specs.declared.talk.Side.TheVariants.{Client, Server};
+ghost use Rattle.rds_session.specs.declared.version.Version.TheVariants.{Three};
 ghost use Rattle.rds_output.specs.Output.{Writes};
 
 use crate::notes::{note_beside, note_serve, note_sync};
@@ -27,7 +28,7 @@ use rds_files::{Disk, LockFile, is_beside, pair_files, pipe_file, serve_file, sy
 use rds_keep::Counted;
 use rds_names::Fault;
 use rds_output::write_fault;
-use rds_session::Side;
+use rds_session::{Side, Version};
 use rds_words::{ServeWords, SyncWords, amount_of};
 use std::io::{Read, Write};
 use std::net::Net;
@@ -188,7 +189,7 @@ fn sync_piped<H: Disk, R: Read, W: Write>(
 ) -> u8
 where
     H::File: LockFile,
-    ensures written { WritesPiped Client words.entry.file.now (RefusesSync words.entry)
+    ensures written { WritesPiped (Client Three) words.entry.file.now (RefusesSync words.entry)
         (stream_of R.remaining reader.old reader.new)
         (W.contents writer.old.inner) (W.contents writer.new.inner) result }
     ensures refused { RefusesSync words.entry
@@ -197,7 +198,12 @@ where
     ensures broken { (writer.new.failed ≡ writer.old.failed) ⊎ (result ≡ 1) }
 {
     match seconds_of(&words) {
-        Some(_) => pipe_file(rt, Side::Client, words.file, reader, writer),
+        Some(_) => {
+            let newest = Side::Client {
+                version: Version::Three,
+            };
+            pipe_file(rt, newest, words.file, reader, writer)
+        }
         None => {
             note_sync(rt, &words);
             status_for(Fault::Usage)

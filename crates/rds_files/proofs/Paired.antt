@@ -11,6 +11,7 @@ use Rattle.rds_session.specs.declared.step.Ended.{Ended}
 use Rattle.rds_session.specs.declared.step.Ended.TheVariants.{Going, Done, Failed}
 use Rattle.rds_session.specs.declared.talk.Side.{Side}
 use Rattle.rds_session.specs.declared.talk.Side.TheVariants.{Client, Server}
+use Rattle.rds_session.specs.declared.version.Version.TheVariants.{Two}
 use Rattle.rds_session.specs.Leaving.{Leaves, StandsAs}
 use Rattle.rds_session.specs.Received.{Delivery, HasChecked, IsDoneBy}
 use Rattle.rds_session.specs.Session.{Nothing, Standing, course}
@@ -75,7 +76,7 @@ told_of side file received ended settled taken leaves settles =
     record { received = received; ended = ended; leaves = leaves; settled = settled; settles = settles; text_is = refl; told_is = refl }
 
 module _ (client server : KeptFile) (before after : Option (List ℕ)) (first second : List ℕ) (first_told second_told : Bool) (first_taken second_taken : Option ReplacedValue) (forked : Bool)
-    (one : Tells Client client first first_told first_taken) (two : Tells Server server second second_told second_taken) (fork : IsTrue forked ↔ EndForked first_taken second_taken) where
+    (one : Tells (Client Two) client first first_told first_taken) (two : Tells Server server second second_told second_taken) (fork : IsTrue forked ↔ EndForked first_taken second_taken) where
   -- both ends were told of
   told_both : (status : ℕ) → Appends before after (first ++ second ++ fork_text forked) → status ≡ told_status (first_told || second_told || forked) → WritesBoth client server before after status
   told_both status wrote e = record {

@@ -5,6 +5,7 @@ use Rattle.rds_state.specs.Fits.{ReplicaValue}
 use Rattle.rds_session.specs.declared.step.Ended.{Ended}
 use Rattle.rds_session.specs.declared.talk.Side.{Side}
 use Rattle.rds_session.specs.declared.talk.Side.TheVariants.{Client, Server}
+use Rattle.rds_session.specs.declared.version.Version.TheVariants.{Two}
 use Rattle.rds_session.specs.Leaving.{HasHeard, Leaves, StandsAs}
 use Rattle.rds_session.specs.Received.{Delivery}
 use Rattle.rds_session.specs.Session.{Standing}
@@ -48,7 +49,7 @@ pub record WritesBoth (client server : KeptFile) (before after : Option (List �
   pub first : List ℕ
   pub first_told : Bool
   pub first_taken : Option ReplacedValue
-  pub tells_first : Tells Client client first first_told first_taken
+  pub tells_first : Tells (Client Two) client first first_told first_taken
   pub second : List ℕ
   pub second_told : Bool
   pub second_taken : Option ReplacedValue

@@ -2,9 +2,11 @@
 use Rattle.std.specs.Prelude.{◌≡◌, ◌⊎◌, ◌≤◌, ℕ, ◌+◌, Bool, true, false, ◌||◌, List, [], ◌++◌, Option}
 use Rattle.std.specs.Io.KnownBytes.{Appends}
 use Rattle.rds_names.specs.declared.fault.Fault.{Fault}
-use Rattle.rds_names.specs.declared.fault.Fault.TheVariants.{Device}
+use Rattle.rds_names.specs.declared.fault.Fault.TheVariants.{Device, WrongVersion}
 use Rattle.rds_session.specs.declared.talk.Side.{Side}
 use Rattle.rds_session.specs.declared.talk.Side.TheVariants.{Client, Server}
+use Rattle.rds_session.specs.declared.version.Version.{Version}
+use Rattle.rds_session.specs.declared.version.Version.TheVariants.{Two, Three}
 use Rattle.rds_session.specs.Leaving.{IsOfCalls, Leaves}
 use Rattle.rds_session.specs.Received.{Delivery}
 use Rattle.rds_session.specs.declared.step.Ended.{Ended}
@@ -120,9 +122,16 @@ abbrev pub WritesServing : List ℕ → ℕ → Option (List ℕ) → Option (Li
 WritesServing path sessions before after status =
     WritesNone before after status ⊎ WritesSessions Server path sessions before after status
 
+-- the version that a client speaks: the newest, or the one before it where a session in the newest came to nothing but
+-- that it isn't spoken
+abbrev pub IsSpokenFor : FileValue → Version → Type 0
+IsSpokenFor file version =
+    (version ≡ Three)
+    ⊎ ((version ≡ Two) × (first : Option (List ℕ)) × Meets (Client Three) first file Nothing (Failed WrongVersion))
+
 -- why there is no session alone, or the report of one of the file that was read at this path
 abbrev pub WritesSync : List ℕ → Option (List ℕ) → Option (List ℕ) → ℕ → Type 0
 WritesSync path before after status =
     WritesNone before after status
-    ⊎ ((file : FileValue) × IsReadAt path file × (held : Option (List ℕ))
-    × WritesSession Client held file before after status)
+    ⊎ ((file : FileValue) × IsReadAt path file × (version : Version) × IsSpokenFor file version
+    × (held : Option (List ℕ)) × WritesSession (Client version) held file before after status)

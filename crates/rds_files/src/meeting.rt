@@ -1,8 +1,8 @@
 //! A session of the replica in a file over a stream.
-ghost use Rattle.std.specs.Prelude.{◌≡◌, ◌⊎◌, ◌-◌, Option};
+ghost use Rattle.std.specs.Prelude.{◌≡◌, ◌⊎◌, ◌-◌, Option, true};
 ghost use Rattle.rds_keep.specs.Counted.{HasFailed};
 ghost use Rattle.rds_keep.specs.Parts.{ConsumesAtMost};
-ghost use Rattle.rds_names.specs.declared.fault.Fault.TheVariants.{Device};
+ghost use Rattle.rds_names.specs.declared.fault.Fault.TheVariants.{Device, WrongVersion};
 ghost use Rattle.rds_session.specs.declared.step.Ended.TheVariants.{Failed};
 ghost use Rattle.rds_session.specs.Reads.{most_heard};
 ghost use Rattle.rds_files.specs.Settling.{Settles};
@@ -47,6 +47,16 @@ impl<T> Met<T> {
             settled: Settled::Nothing,
             ended: Ended::Failed(fault),
             rest: None,
+        }
+    }
+
+    /// Whether it came to nothing but that the peer doesn't speak its version.
+    pub fn is_of_older_server(&self) -> bool
+        ensures { result ≡ true → (self.now.settled ≡ Nothing) × (self.now.ended ≡ Failed WrongVersion) }
+    {
+        match (&self.settled, self.ended) {
+            (Settled::Nothing, Ended::Failed(Fault::WrongVersion)) => true,
+            _ => false,
         }
     }
 }

@@ -1,8 +1,8 @@
 //! Sessions of the replica in a file, over the network.
-ghost use Rattle.std.specs.Prelude.{◌≡◌, ◌≤◌, ◌⊎◌};
+ghost use Rattle.std.specs.Prelude.{◌≡◌, ◌≤◌, ◌⊎◌, true};
 ghost use Rattle.rds_keep.specs.Counted.{HasFailed};
 ghost use Rattle.rds_session.specs.declared.talk.Side.TheVariants.{Client, Server};
-ghost use Rattle.rds_files.specs.Syncing.{MeetsPeer, WritesServing, WritesSession, WritesSessionsOf, WritesSync};
+ghost use Rattle.rds_files.specs.Syncing.{IsSpokenFor, MeetsPeer, WritesServing, WritesSession, WritesSessionsOf, WritesSync};
 
 use crate::disk::{Disk, note};
 use crate::files::{FilePath, ReplicaFile};
@@ -13,7 +13,7 @@ use rds_dots::DotSet;
 use rds_gaps::GapSet;
 use rds_keep::Counted;
 use rds_names::Fault;
-use rds_session::Side;
+use rds_session::{Side, Version};
 use std::io::{Read, Write};
 use std::net::{Net, OpenListener, OpenStream, TcpListener, TcpStream};
 use std::thread;
@@ -24,8 +24,8 @@ const PAUSE: u64 = 100;
 
 /// Reads the file, connects to the peer at this address, and has a session as `sync` does. The file is read, and what
 /// was read is made to last, before the address is used; a fault there, or a peer that can't be reached (`Device`), is
-/// told alone. Which file is opened and which address is meant is settled here alone: no clause ties a path to what a
-/// file holds.
+/// told alone. A server that refuses the newest version is called once more with the one before it. Which file is opened
+/// and which address is meant is settled here alone: no clause ties a path to what a file holds.
 pub fn sync_file<H: Disk + Net, W: Write>(
     rt: &H,
     path: &str,
@@ -44,11 +44,31 @@ where
         Ok(file) => file,
         Err(fault) => return give_up(writer, fault),
     };
+    let Some(stream) = connect(rt, addr) else {
+        return give_up(writer, Fault::Device);
+    };
+    let newest = Side::Client {
+        version: Version::Three,
+    };
+    let met = meet(rt, newest, &file, stream, timeout);
+    if !met.is_of_older_server() {
+        return tell(rt, &file, met, writer);
+    }
+    met.let_go(rt);
+    let _ = eprintln!(rt; "the peer speaks no session of version 3: calling again with version 2");
+    match connect(rt, addr) {
+        Some(stream) => sync(rt, Version::Two, &file, stream, timeout, writer),
+        None => give_up(writer, Fault::Device),
+    }
+}
+
+// Connects to a peer. Why that can't be is told on standard error.
+fn connect<H: Disk + Net>(rt: &H, addr: &str) -> Option<H::Stream> {
     match TcpStream::connect(rt, addr) {
-        Ok(stream) => sync(rt, &file, stream, timeout, writer),
+        Ok(stream) => Some(stream),
         Err(error) => {
             note(rt, "cannot connect to", addr, &error);
-            give_up(writer, Fault::Device)
+            None
         }
     }
 }
@@ -102,10 +122,11 @@ fn note_address<H: Eprint, L: OpenListener>(rt: &H, listener: &L) {
     }
 }
 
-/// One session of the replica that was read from the file over the stream, as the client. What it received is settled
-/// in what the file holds then, and it is told as `report` does; only then is the peer let go.
+/// One session of the replica that was read from the file over the stream, as the client of this version. What it
+/// received is settled in what the file holds then, and it is told as `report` does; only then is the peer let go.
 pub fn sync<H: Disk, S: DotSet, T: Read + Write + OpenStream + Drop, W: Write>(
     rt: &H,
+    version: Version,
     file: &ReplicaFile<'_, S>,
     stream: T,
     timeout: Option<Duration>,
@@ -114,12 +135,29 @@ pub fn sync<H: Disk, S: DotSet, T: Read + Write + OpenStream + Drop, W: Write>(
 where
     H::File: LockFile,
     ensures written { (HasFailed writer.old writer.new → ⊥)
-        → WritesSession Client (T.remaining stream) file.now
+        → WritesSession (Client version) (T.remaining stream) file.now
         (W.contents writer.old.inner) (W.contents writer.new.inner) result }
     ensures status { result ≤ 1 }
     ensures broken { (writer.new.failed ≡ writer.old.failed) ⊎ (result ≡ 1) }
 {
-    let met = meet(rt, Side::Client, file, stream, timeout);
+    let met = meet(rt, Side::Client { version }, file, stream, timeout);
+    tell(rt, file, met, writer)
+}
+
+// Tells what a session of the file came to, and lets the peer go.
+fn tell<H: Disk, S: DotSet, T: Read + OpenStream + Drop, W: Write>(
+    rt: &H,
+    file: &ReplicaFile<'_, S>,
+    met: Met<T>,
+    writer: &mut Counted<W>,
+) -> u8
+where
+    H::File: LockFile,
+    ensures written { (HasFailed writer.old writer.new → ⊥) → WritesReport met.settled met.ended
+        (W.contents writer.old.inner) (W.contents writer.new.inner) result }
+    ensures status { result ≤ 1 }
+    ensures broken { (writer.new.failed ≡ writer.old.failed) ⊎ (result ≡ 1) }
+{
     note_settled(rt, file.path(), &met.settled);
     let status = report(writer, &met.settled, met.ended);
     met.let_go(rt);

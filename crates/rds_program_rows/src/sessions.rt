@@ -16,7 +16,7 @@ use rds_rows::Table;
 use rds_rows::told::said;
 use rds_rows::words::first;
 use rds_session::{
-    Input, Side, a_course_is_by_messages, a_server_speaks_its_clients_version,
+    Input, Side, Version, a_course_is_by_messages, a_server_speaks_its_clients_version,
     a_step_of_a_session_has_one_result, limit_of_messages, streams_are_split_once, two_sessions,
     values_are_least,
 };
@@ -138,7 +138,12 @@ impl<S: DotSet> Sessions<S> {
 /// The side that a word names.
 pub fn side_of(word: &str) -> Result<Side, Fault> {
     match word {
-        "client" => Ok(Side::Client),
+        "client" => Ok(Side::Client {
+            version: Version::Two,
+        }),
+        "client_3" => Ok(Side::Client {
+            version: Version::Three,
+        }),
         "server" => Ok(Side::Server),
         _ => Err(Fault::Usage),
     }

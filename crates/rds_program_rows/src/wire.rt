@@ -76,7 +76,8 @@ fn talk<'a>(rt: &HostRuntime, wire: &'a Wire<'a>) -> Result<(Settled, Ended), Fa
     let file = read(rt)?;
     let limit = Some(Duration::from_secs(SECONDS));
     let wired = Wired { rt, wire };
-    let met = meet(&wired, Side::Client, &file, wire.client(), limit);
+    let side = side_of("client")?;
+    let met = meet(&wired, side, &file, wire.client(), limit);
     let came = (met.settled, met.ended);
     met.let_go(&wired);
     Ok(came)

@@ -1,5 +1,5 @@
 -- Which message is accepted when.
-use Rattle.std.proofs.Common.{ℕ, Bool, true, false, cond, eqb, List, [], ◌∷◌, Option, Some, None, Result, Ok, Err}
+use Rattle.std.proofs.Common.{ℕ, Bool, true, false, ◌&&◌, cond, eqb, List, [], ◌∷◌, Option, Some, None, Result, Ok, Err}
 use Rattle.std.specs.Str.{bytes_eq}
 use Rattle.rds_names.specs.declared.fault.Fault.{Fault}
 use Rattle.rds_names.specs.declared.fault.Fault.TheVariants.{WrongAsker, Cut, BadCertificate, WrongVersion, WrongGroup, WrongRoster, SameReplica}
@@ -10,7 +10,8 @@ use Rattle.rds_session.specs.declared.talk.Side.{Side}
 use Rattle.rds_session.specs.declared.talk.Stop.{Stop}
 use Rattle.rds_session.specs.declared.talk.Stop.TheVariants.{Refused}
 use Rattle.rds_codec.specs.AnswerValues.{AnswerValue}
-use Rattle.rds_codec.specs.declared.formats.Format.{Format}
+use Rattle.rds_state.specs.declared.mark.Mark.{Mark}
+use Rattle.rds_session.specs.declared.version.Version.{Version}
 use Rattle.rds_codec.specs.declared.hellos.Hello.{Hello}
 use Rattle.rds_session.specs.Bodies.{hello_in, digest_in, answer_in}
 use Rattle.rds_session.specs.Checked.{passes}
@@ -18,14 +19,17 @@ use Rattle.rds_session.specs.declared.kinds.ByeCode.{ByeCode}
 use Rattle.rds_session.specs.declared.kinds.ByeCode.TheVariants as byes
 use Rattle.rds_session.specs.declared.kinds.MessageKind.{MessageKind}
 use Rattle.rds_session.specs.declared.kinds.MessageKind.TheVariants as kinds
+use Rattle.rds_session.specs.Marked.{mark_in, same_mark, told_mark}
 use Rattle.rds_session.specs.Messages.{kind_of, bye_of}
-use Rattle.rds_session.specs.Judging.{Awaited, ForHello, ForDigest, ForDelta, ForBye, Said, Greets, Learns, Receives, Finishes, verdict, bye_came, bye_judged, code_came, body_came, kind_came, format_with, format_judged, hello_judged, member_judged, delta_judged, read_then, other_version, one_begins, peer_of, replicas_of}
+use Rattle.rds_session.specs.Versions.{as_hello, format_of}
+use Rattle.rds_session.specs.Judging.{Awaited, ForHello, ForDigest, ForDelta, ForBye, Said, Greets, Learns, Receives, Finishes, Forks, verdict, bye_came, bye_judged, code_came, plain_came, body_came, hello_came, kind_came, is_done, mark_judged, version_came, version_with, waits_for_mark, member_judged, delta_judged, read_then, one_begins, peer_of, replicas_of}
 
 abbrev pub IsActFor : Awaited → Said → Type 0
 IsActFor (ForHello side) (Greets p) = Unit {0}
 IsActFor (ForDigest q) (Learns p g) = Unit {0}
-IsActFor (ForDelta q g) (Receives d r) = Unit {0}
-IsActFor ForBye Finishes = Unit {0}
+IsActFor (ForDelta q g) (Receives d r mark) = Unit {0}
+IsActFor (ForBye mark) Finishes = Unit {0}
+IsActFor (ForBye mark) Forks = Unit {0}
 IsActFor _ _ = ⊥
 
 abbrev pub IsFor : Awaited → Result Said Stop → Type 0
@@ -47,7 +51,8 @@ read_suits turn (Ok x) f h = h x
 read_suits turn (Err e) f h = refusal_suits turn (Refused e)
 
 done_suits : (turn : Awaited) → Suits turn (bye_judged byes.Done turn)
-done_suits ForBye = record { fits = tt }
+done_suits (ForBye None) = record { fits = tt }
+done_suits (ForBye (Some own)) = record { fits = tt }
 done_suits (ForHello side) = record { fits = tt }
 done_suits (ForDigest q) = record { fits = tt }
 done_suits (ForDelta q g) = record { fits = tt }
@@ -61,58 +66,77 @@ bye_judged_suits byes.SameReplica turn = record { fits = tt }
 bye_judged_suits byes.Refused turn = record { fits = tt }
 bye_judged_suits byes.OwnFault turn = record { fits = tt }
 
+mark_suits : (turn : Awaited) (mark : Mark) → Suits turn (mark_judged turn mark)
+mark_suits (ForBye (Some own)) mark = either_suits (same_mark own mark)
+  where
+    either_suits : (same : Bool) → Suits (ForBye (Some own)) (Ok (cond same Finishes Forks))
+    either_suits true = record { fits = tt }
+    either_suits false = record { fits = tt }
+mark_suits (ForBye None) mark = record { fits = tt }
+mark_suits (ForHello side) mark = record { fits = tt }
+mark_suits (ForDigest q) mark = record { fits = tt }
+mark_suits (ForDelta q g) mark = record { fits = tt }
+
+plain_suits : (turn : Awaited) (code : ByeCode) (rest : List ℕ) → Suits turn (plain_came turn code rest)
+plain_suits turn code [] = bye_judged_suits code turn
+plain_suits turn code (b ∷ rest) = record { fits = tt }
+
 code_suits : (turn : Awaited) (code : Option ByeCode) (rest : List ℕ) → Suits turn (code_came turn code rest)
 code_suits turn None rest = record { fits = tt }
-code_suits turn (Some code) [] = bye_judged_suits code turn
-code_suits turn (Some code) (b ∷ rest) = record { fits = tt }
+code_suits turn (Some code) rest =
+    if_suits turn (waits_for_mark turn && is_done code) (read_then (mark_in rest) (mark_judged turn)) (plain_came turn code rest)
+    (read_suits turn (mark_in rest) (mark_judged turn) (mark_suits turn))
+    (plain_suits turn code rest)
 
 bye_suits : (turn : Awaited) (body : List ℕ) → Suits turn (bye_came turn body)
 bye_suits turn [] = refusal_suits turn (Refused Cut)
 bye_suits turn (b ∷ rest) = code_suits turn (bye_of b) rest
 
-abbrev same_own : ReplicaValue → Hello → Format → Result Said Stop
-same_own kept h format = cond (eqb h.own kept.own) (Err (Refused SameReplica)) (Ok (Greets (peer_of kept h format)))
+abbrev same_own : ReplicaValue → Version → Hello → Result Said Stop
+same_own kept version h = cond (eqb h.own kept.own) (Err (Refused SameReplica)) (Ok (Greets (peer_of kept version h)))
 
-abbrev other_names : ReplicaValue → Hello → Format → Result Said Stop
-other_names kept h format = cond (one_begins h.roster.names kept.roster.names) (same_own kept h format) (Err (Refused WrongRoster))
+abbrev other_names : ReplicaValue → Version → Hello → Result Said Stop
+other_names kept version h = cond (one_begins h.roster.names kept.roster.names) (same_own kept version h) (Err (Refused WrongRoster))
 
-member_suits : (side : Side) (kept : ReplicaValue) (h : Hello) (format : Format) → Suits (ForHello side) (member_judged kept h format)
-member_suits side kept h format =
-    if_suits (ForHello side) (bytes_eq h.roster.group kept.roster.group) (other_names kept h format) (Err (Refused WrongGroup))
-    (if_suits (ForHello side) (one_begins h.roster.names kept.roster.names) (same_own kept h format) (Err (Refused WrongRoster))
-    (if_suits (ForHello side) (eqb h.own kept.own) (Err (Refused SameReplica)) (Ok (Greets (peer_of kept h format))) (record { fits = tt }) (record { fits = tt }))
+member_suits : (side : Side) (kept : ReplicaValue) (version : Version) (h : Hello) → Suits (ForHello side) (member_judged kept version h)
+member_suits side kept version h =
+    if_suits (ForHello side) (bytes_eq h.roster.group kept.roster.group) (other_names kept version h) (Err (Refused WrongGroup))
+    (if_suits (ForHello side) (one_begins h.roster.names kept.roster.names) (same_own kept version h) (Err (Refused WrongRoster))
+    (if_suits (ForHello side) (eqb h.own kept.own) (Err (Refused SameReplica)) (Ok (Greets (peer_of kept version h))) (record { fits = tt }) (record { fits = tt }))
     (record { fits = tt }))
     (record { fits = tt })
 
-format_suits : (side : Side) (kept : ReplicaValue) (h : Hello) (format : Option Format) → Suits (ForHello side) (format_judged kept h format)
-format_suits side kept h None = record { fits = tt }
-format_suits side kept h (Some format) = member_suits side kept h format
+version_suits : (side : Side) (kept : ReplicaValue) (version : Option Version) (rest : List ℕ) → Suits (ForHello side) (version_came kept version rest)
+version_suits side kept None rest = record { fits = tt }
+version_suits side kept (Some version) rest = read_suits (ForHello side) (hello_in (as_hello version rest)) (member_judged kept version) (member_suits side kept version)
+
+hello_suits : (side : Side) (kept : ReplicaValue) (body : List ℕ) → Suits (ForHello side) (hello_came side kept body)
+hello_suits side kept [] = record { fits = tt }
+hello_suits side kept (byte ∷ rest) = version_suits side kept (version_with side byte) rest
 
 abbrev passing : ReplicaValue → Peer → AnswerValue → Result Said Stop
-passing kept peer a = cond (passes (digest_of kept.state) a.state a.certificate) (Ok (Receives a.state peer.roster)) (Err (Refused BadCertificate))
+passing kept peer a = cond (passes (digest_of kept.state) a.state a.certificate) (Ok (Receives a.state peer.roster (told_mark peer.version kept.state a.state))) (Err (Refused BadCertificate))
 
 delta_suits : (q : Peer) (g : DigestValue) (kept : ReplicaValue) (a : AnswerValue) → Suits (ForDelta q g) (delta_judged kept q a)
 delta_suits q g kept a =
     if_suits (ForDelta q g) (eqb a.asker kept.own) (passing kept q a) (Err (Refused WrongAsker))
-    (if_suits (ForDelta q g) (passes (digest_of kept.state) a.state a.certificate) (Ok (Receives a.state q.roster)) (Err (Refused BadCertificate)) (record { fits = tt }) (record { fits = tt }))
+    (if_suits (ForDelta q g) (passes (digest_of kept.state) a.state a.certificate) (Ok (Receives a.state q.roster (told_mark q.version kept.state a.state))) (Err (Refused BadCertificate)) (record { fits = tt }) (record { fits = tt }))
     (record { fits = tt })
 
 body_suits : (kept : ReplicaValue) (kind : MessageKind) (turn : Awaited) (body : List ℕ) → Suits turn (body_came kept kind turn body)
 body_suits kept kinds.Bye turn body = bye_suits turn body
-body_suits kept kinds.Hello (ForHello side) body =
-    if_suits (ForHello side) (other_version side body) (Err (Refused WrongVersion)) (read_then (hello_in body) (hello_judged side kept)) (record { fits = tt })
-    (read_suits (ForHello side) (hello_in body) (hello_judged side kept) (λ h. format_suits side kept h (format_with side h.version)))
+body_suits kept kinds.Hello (ForHello side) body = hello_suits side kept body
 body_suits kept kinds.Hello (ForDigest q) body = record { fits = tt }
 body_suits kept kinds.Hello (ForDelta q g) body = record { fits = tt }
-body_suits kept kinds.Hello ForBye body = record { fits = tt }
+body_suits kept kinds.Hello (ForBye mark) body = record { fits = tt }
 body_suits kept kinds.Digest (ForHello side) body = record { fits = tt }
 body_suits kept kinds.Digest (ForDigest q) body = read_suits (ForDigest q) (digest_in (replicas_of kept q.roster) body) (λ g. Ok (Learns q g)) (λ g. record { fits = tt })
 body_suits kept kinds.Digest (ForDelta q g) body = record { fits = tt }
-body_suits kept kinds.Digest ForBye body = record { fits = tt }
+body_suits kept kinds.Digest (ForBye mark) body = record { fits = tt }
 body_suits kept kinds.Delta (ForHello side) body = record { fits = tt }
 body_suits kept kinds.Delta (ForDigest q) body = record { fits = tt }
-body_suits kept kinds.Delta (ForDelta q g) body = read_suits (ForDelta q g) (answer_in q.format (replicas_of kept q.roster) body) (delta_judged kept q) (delta_suits q g kept)
-body_suits kept kinds.Delta ForBye body = record { fits = tt }
+body_suits kept kinds.Delta (ForDelta q g) body = read_suits (ForDelta q g) (answer_in (format_of q.version) (replicas_of kept q.roster) body) (delta_judged kept q) (delta_suits q g kept)
+body_suits kept kinds.Delta (ForBye mark) body = record { fits = tt }
 
 kind_suits : (kept : ReplicaValue) (turn : Awaited) (kind : Option MessageKind) (body : List ℕ) → Suits turn (kind_came kept turn kind body)
 kind_suits kept turn None body = record { fits = tt }

@@ -1,17 +1,18 @@
 -- A session's course, step by step.
-use Rattle.std.proofs.Common.{◌≡◌, ℕ, Bool, true, false, cond, List, [], ◌∷◌, ◌++◌, Option, Some, None, Result, Ok, Err, refl, sym, ap, ◌∙◌, append_assoc, subst, ◌⊎◌, inl, inr}
+use Rattle.std.proofs.Common.{◌≡◌, ◌≢◌, ℕ, Bool, true, false, cond, List, [], ◌∷◌, ◌++◌, Option, Some, None, Result, Ok, Err, refl, sym, ap, ◌∙◌, append_assoc, subst, ◌⊎◌, inl, inr}
 use Rattle.std.proofs.lemmas.List.{append-nil}
 use Rattle.rds_names.specs.declared.fault.Fault.{Fault}
 use Rattle.rds_names.specs.declared.fault.Fault.TheVariants.{Memory, TooLong, PeerEnded}
 use Rattle.rds_state.specs.Fits.{ReplicaValue}
 use Rattle.rds_session.specs.declared.talk.Side.{Side}
-use Rattle.rds_session.specs.declared.talk.Side.TheVariants.{Client, Server}
+use Rattle.rds_session.specs.declared.talk.Side.TheVariants.{Server}
 use Rattle.rds_session.specs.declared.talk.Stop.{Stop}
 use Rattle.rds_session.specs.declared.talk.Stop.TheVariants.{Refused, Left}
 use Rattle.rds_session.specs.declared.step.Ended.{Ended}
 use Rattle.rds_session.specs.declared.step.Ended.TheVariants.{Going, Done, Failed}
 use Rattle.rds_session.specs.Chunks.{start, Scan, More, Whole, Long, byte_scanned}
-use Rattle.rds_session.specs.Judging.{Awaited, ForHello, ForDigest, ForDelta, ForBye, Said, Greets, Learns, Receives, Finishes, verdict, replies_of}
+use Rattle.rds_session.specs.Judging.{Awaited, ForHello, ForDigest, ForDelta, ForBye, Said, Greets, Learns, Receives, Finishes, Forks, verdict, replies_of}
+use Rattle.rds_state.specs.declared.mark.Mark.{Mark}
 use Rattle.rds_session.specs.Received.{Delivery}
 use Rattle.rds_session.specs.Sending.{sending}
 use Rattle.rds_session.specs.Session.{Standing, Sent, fresh, failure, then_more, when_going, after_sending, after_said, after_verdict, message_comes, after_scan, stay, byte_comes, run, opening, after_opening, cut_off, Heard, Nothing, So_far, All_of, heard_more, course, after_input, after_step}
@@ -24,7 +25,7 @@ use Rattle.rds_session.proofs.Runs.{going_goes, over_stays, run_over, run-append
 
 -- what was received is received before the last message alone
 abbrev pub IsOrderly : Standing → Type 0
-IsOrderly s = (s.received ≡ None) ⊎ (s.turn ≡ ForBye)
+IsOrderly s = (s.received ≡ None) ⊎ ((mark : Option Mark) × (s.turn ≡ ForBye mark))
 
 abbrev pub KeepsReceived : Standing → Standing → Type 0
 KeepsReceived s t = (s.received ≡ None) ⊎ (t.received ≡ s.received)
@@ -42,7 +43,7 @@ follows_same s t b d k u r = record {
   begun = b;
   side = d;
   kept = k;
-  orderly = λ o. elim o [ inl none ↦ inl (r ∙ none) | inr bye ↦ inr (u ∙ bye) ];
+  orderly = λ o. elim o [ inl none ↦ inl (r ∙ none) | inr bye ↦ inr (bye.0, u ∙ bye.1) ];
   received = λ o. inr r;
 }
 
@@ -58,26 +59,30 @@ follows_then a b c p q = record {
   ];
 }
 
-not_yet : (s : Standing) → (s.turn ≡ ForBye → ⊥) → IsOrderly s → s.received ≡ None
-not_yet s h o = elim o [ inl none ↦ none | inr bye ↦ absurd (h bye) ]
+not_yet : (s : Standing) → ((mark : Option Mark) → s.turn ≡ ForBye mark → ⊥) → IsOrderly s → s.received ≡ None
+not_yet s h o = elim o [ inl none ↦ none | inr bye ↦ absurd (h bye.0 bye.1) ]
 
 performed_by : (s : Standing) (turn : Awaited) (said : Said) → s.turn ≡ turn → IsActFor turn said → Follows s (after_said s said)
-performed_by s (ForHello side) (Greets p) is h = record { begun = refl; side = refl; kept = refl; orderly = λ o. inl (not_yet s (λ e. let bad : ForHello side ≡ ForBye = sym is ∙ e in cc) o); received = λ o. inr refl }
-performed_by s (ForDigest q) (Learns p g) is h = record { begun = refl; side = refl; kept = refl; orderly = λ o. inl (not_yet s (λ e. let bad : ForDigest q ≡ ForBye = sym is ∙ e in cc) o); received = λ o. inr refl }
-performed_by s (ForDelta q g) (Receives d r) is h = record { begun = refl; side = refl; kept = refl; orderly = λ o. inr refl; received = λ o. inl (not_yet s (λ e. let bad : ForDelta q g ≡ ForBye = sym is ∙ e in cc) o) }
-performed_by s ForBye Finishes is h = follows_same s (after_said s Finishes) refl refl refl refl refl
+performed_by s (ForHello side) (Greets p) is h = record { begun = refl; side = refl; kept = refl; orderly = λ o. inl (not_yet s (λ mark e. let bad : ForHello side ≡ ForBye mark = sym is ∙ e in cc) o); received = λ o. inr refl }
+performed_by s (ForDigest q) (Learns p g) is h = record { begun = refl; side = refl; kept = refl; orderly = λ o. inl (not_yet s (λ mark e. let bad : ForDigest q ≡ ForBye mark = sym is ∙ e in cc) o); received = λ o. inr refl }
+performed_by s (ForDelta q g) (Receives d r mark) is h = record { begun = refl; side = refl; kept = refl; orderly = λ o. inr (mark, refl); received = λ o. inl (not_yet s (λ m e. let bad : ForDelta q g ≡ ForBye m = sym is ∙ e in cc) o) }
+performed_by s (ForBye mark) Finishes is h = follows_same s (after_said s Finishes) refl refl refl refl refl
+performed_by s (ForBye mark) Forks is h = follows_same s (after_said s Forks) refl refl refl refl refl
 performed_by s (ForHello side) (Learns p g) is h = absurd h
-performed_by s (ForHello side) (Receives d r) is h = absurd h
+performed_by s (ForHello side) (Receives d r mark) is h = absurd h
 performed_by s (ForHello side) Finishes is h = absurd h
+performed_by s (ForHello side) Forks is h = absurd h
 performed_by s (ForDigest q) (Greets p) is h = absurd h
-performed_by s (ForDigest q) (Receives d r) is h = absurd h
+performed_by s (ForDigest q) (Receives d r mark) is h = absurd h
 performed_by s (ForDigest q) Finishes is h = absurd h
+performed_by s (ForDigest q) Forks is h = absurd h
 performed_by s (ForDelta q g) (Greets p) is h = absurd h
 performed_by s (ForDelta q g) (Learns p f) is h = absurd h
 performed_by s (ForDelta q g) Finishes is h = absurd h
-performed_by s ForBye (Greets p) is h = absurd h
-performed_by s ForBye (Learns p g) is h = absurd h
-performed_by s ForBye (Receives d r) is h = absurd h
+performed_by s (ForDelta q g) Forks is h = absurd h
+performed_by s (ForBye mark) (Greets p) is h = absurd h
+performed_by s (ForBye mark) (Learns p g) is h = absurd h
+performed_by s (ForBye mark) (Receives d r told) is h = absurd h
 
 failed_follows : (s : Standing) (f : Fault) → Follows s (failure s f)
 failed_follows s f = follows_same s (failure s f) refl refl refl refl refl
@@ -278,7 +283,7 @@ continues side kept h i old new sent steps is =
           let orderly : IsOrderly old = subst IsOrderly (sym is) (course_orderly side kept h) in
           let o = (after_opening old).0 in
           let keeps = opening_keeps old in
-          let orderly-now : IsOrderly o = elim orderly [ inl none ↦ inl (keeps.0 ∙ none) | inr bye ↦ inr (keeps.1 ∙ bye) ] in
+          let orderly-now : IsOrderly o = elim orderly [ inl none ↦ inl (keeps.0 ∙ none) | inr bye ↦ inr (bye.0, keeps.1 ∙ bye.1) ] in
           let end : (after_step old i).0 ≡ (after_input i o).0 = ap (λ (p : Sent). p.0) (going_goes old.ended (then_more (after_opening old) (after_input i)) (old, []) out.0) in
           let end-course : (after_input i o).0.received ≡ (course side kept (heard_more h i)).0.received =
           ap (λ (s : Standing). s.received) (sym end) ∙ ap (λ (s : Standing). (after_step s i).0.received) is ∙ ap (λ (p : Sent). p.0.received) (sym more) in
@@ -335,10 +340,10 @@ unfolding run
 at_first old i received e = ([], piece_of i, refl, e ∙ sym (opening_keeps old).0)
 
 -- a client begins, which takes memory
-pub client_begins : (s : Standing) (i : Option (List ℕ)) → (s.begun ≡ false) × (s.side ≡ Client) → TakesMemory s i
+pub client_begins : (s : Standing) (i : Option (List ℕ)) → (s.begun ≡ false) × (s.side ≢ Server) → TakesMemory s i
 client_begins s i first = λ nothing. elim nothing.1 [
   | inl begun ↦ absurd (let bad : false ≡ true = sym first.0 ∙ begun in cc)
-  | inr server ↦ absurd (let bad : Client ≡ Server = sym first.1 ∙ server in cc)
+  | inr server ↦ absurd (first.1 server)
 ]
 
 -- ---- after the end

@@ -3,7 +3,10 @@ pub mod Began
 pub mod Checks
 pub mod Course
 pub mod Cutting
+pub mod Endings
+pub mod Joined
 pub mod Knowing
+pub mod Marks
 pub mod Meeting
 pub mod Messages
 pub mod Moves

@@ -1,9 +1,9 @@
 -- What one replica tells another is accepted, message by message.
-use Rattle.std.proofs.Common.{◌≡◌, ℕ, ◌≤◌, true, false, cond, eqb, List, [], length, Option, Some, is_none, Result, Ok, Err, refl, sym, ap, ◌∙◌, arith}
+use Rattle.std.proofs.Common.{◌≡◌, ℕ, ◌≤◌, Bool, true, false, ◌&&◌, cond, eqb, ltb, List, [], length, Option, Some, None, Result, Ok, Err, refl, sym, ap, ◌∙◌, arith}
 use Rattle.std.proofs.lemmas.Bool.{ne_eqb, eq-eqb}
 use Rattle.std.proofs.lemmas.List.{append-nil}
 use Rattle.rds_names.specs.declared.fault.Fault.{Fault}
-use Rattle.rds_names.specs.declared.fault.Fault.TheVariants.{Extra, WrongVersion}
+use Rattle.rds_names.specs.declared.fault.Fault.TheVariants.{Extra}
 use Rattle.rds_delta.specs.Least.{least}
 use Rattle.rds_codec.specs.CertificateTexts.{IsReplicaOf}
 use Rattle.rds_state.specs.Fits.{ReplicaValue}
@@ -15,10 +15,10 @@ use Rattle.rds_codec.specs.AnswerValues.{AnswerValue}
 use Rattle.rds_codec.specs.DigestTexts.{digest_at, digest_text, digest_kind}
 use Rattle.rds_codec.specs.FormatTexts.{answer_at_in, answer_text_in, answer_kind_in}
 use Rattle.rds_codec.specs.HelloTexts.{hello_at, hello_text, hello_kind, is_version, version_of}
-use Rattle.rds_codec.specs.declared.formats.Format.{Format}
-use Rattle.rds_codec.specs.declared.formats.Format.TheVariants.{One, Two}
+use Rattle.rds_state.specs.declared.mark.Mark.{Mark}
 use Rattle.rds_codec.specs.Kinds.{Kind}
 use Rattle.rds_bytes.specs.Reading.{◌>>=◌, Reader}
+use Rattle.rds_bytes.specs.Spelling.{member_text}
 use Rattle.rds_codec.specs.Decoding.{all_of}
 use Rattle.rds_codec.specs.StateTexts.{IsSnapshot, IsStateOf}
 use Rattle.rds_codec.specs.declared.hellos.Hello.{Hello}
@@ -32,26 +32,29 @@ use Rattle.rds_codec.proofs.Longer.{state_longer}
 use Rattle.rds_codec.proofs.Whole.{IsReaderOf}
 use Rattle.rds_session.specs.Bodies.{hello_in, digest_in, answer_in}
 use Rattle.rds_session.specs.Checked.{certificate_of, least_state}
-use Rattle.rds_session.specs.declared.kinds.ByeCode.TheVariants as byes
-use Rattle.rds_session.specs.Judging.{ForHello, ForDigest, ForDelta, ForBye, Greets, Learns, Receives, Finishes, verdict, read_then, format_with, format_judged, hello_judged, member_judged, delta_judged, longer_than}
-use Rattle.rds_session.specs.Meeting.{HasRoom, IsItsLeast}
-use Rattle.rds_session.specs.Messages.{hello_message, digest_message, delta_message, bye_message}
+use Rattle.rds_session.specs.declared.version.Version.{Version}
+use Rattle.rds_session.specs.declared.version.Version.TheVariants.{One, Two, Three}
+use Rattle.rds_session.specs.Judging.{ForHello, ForDigest, ForDelta, ForBye, Said, Greets, Learns, Receives, Finishes, Forks, verdict, read_then, version_with, version_came, member_judged, delta_judged, mark_judged, longer_than}
+use Rattle.rds_session.specs.Marked.{mark_bytes, mark_in, same_mark, told_mark}
+use Rattle.rds_session.specs.Versions.{as_hello, format_of, version_byte}
+use Rattle.rds_session.proofs.Marks.{IsMark, mark_again}
+use Rattle.rds_session.specs.Meeting.{HasRoom, IsItsLeast, last_mark}
+use Rattle.rds_session.specs.Messages.{hello_message, digest_message, delta_message, done_message}
 use Rattle.rds_session.specs.Received.{Delivery}
 use Rattle.rds_session.specs.declared.talk.Peer.{Peer}
 use Rattle.rds_session.specs.declared.talk.Side.{Side}
-use Rattle.rds_session.specs.declared.talk.Side.TheVariants.{Server}
-use Rattle.rds_session.specs.declared.talk.Stop.TheVariants.{Refused}
+use Rattle.rds_session.specs.declared.talk.Side.TheVariants.{Client, Server}
 use Rattle.rds_session.proofs.Checks.{least_coordinates, least_passes}
 use Rattle.rds_session.proofs.Rosters.{among, both_within, group_is, one_begins_is}
 use Rattle.rds_session.proofs.Tellings.{digest_is, answer_is}
 
--- one hears what the other tells in a format
-pub record IsTold (format : Format) (k from : ReplicaValue) : Type 0 where
+-- one hears what the other tells in a version
+pub record IsTold (version : Version) (k from : ReplicaValue) : Type 0 where
   pub roster : OneBegins k.roster from.roster
   pub others : from.own ≡ k.own → ⊥
   pub text : IsSnapshot from
   pub own_text : IsSnapshot k
-  pub room : HasRoom format from k
+  pub room : HasRoom version from k
 
 -- a text is read whole
 read_whole : {V : Type 0} (kind : Kind V) (read : Reader V) → IsReaderOf kind read → (v : V) → kind.is_value v → length (kind.text v) ≤ LIMIT → all_of read (kind.text v) ≡ Ok v
@@ -61,46 +64,54 @@ read_whole {V} kind read is v h le =
 
 -- ---- HELLO
 
-hello_of : ReplicaValue → Format → Hello
-hello_of from format = record { version = version_of format; roster = from.roster; own = from.own }
+-- a hello of the format of the version, as that version's is read
+hello_of : ReplicaValue → Version → Hello
+hello_of from version = record { version = version_of (format_of version); roster = from.roster; own = from.own }
 
-version_is : (format : Format) → is_version (version_of format) ≡ true
+version_is : (version : Version) → is_version (version_of (format_of version)) ≡ true
 version_is One = refl
 version_is Two = refl
+version_is Three = refl
 
-hello_again : (from : ReplicaValue) (format : Format) → IsSnapshot from → length (hello_text (hello_of from format)) ≤ LIMIT → hello_in (hello_text (hello_of from format)) ≡ Ok (hello_of from format)
+hello_again : (from : ReplicaValue) (version : Version) → IsSnapshot from → length (hello_text (hello_of from version)) ≤ LIMIT → hello_in (hello_text (hello_of from version)) ≡ Ok (hello_of from version)
 unfolding hello_in hello_of
-hello_again from format h le = read_whole hello_kind hello_at hello_reader (hello_of from format) (record { version = version_is format; member = h.member }) le
+hello_again from version h le = read_whole hello_kind hello_at hello_reader (hello_of from version) (record { version = version_is version; member = h.member }) le
 
 -- who speaks, as it is known to the one that hears it
-abbrev pub speaker : Format → ReplicaValue → ReplicaValue → Peer
-speaker format k from = record { number = from.own; roster = longer_than k.roster from.roster; format = format }
+abbrev pub speaker : Version → ReplicaValue → ReplicaValue → Peer
+speaker version k from = record { number = from.own; roster = longer_than k.roster from.roster; version = version }
 
--- a side that speaks the format takes it
-pub hello_accepted : (side : Side) (format : Format) (k from : ReplicaValue) → format_with side (version_of format) ≡ Some format → IsTold format k from
-    → verdict k (ForHello side) (hello_message from format) ≡ Ok (Greets (speaker format k from))
+-- a side that speaks the version takes it
+pub hello_accepted : (side : Side) (version : Version) (k from : ReplicaValue) → version_with side (version_byte version) ≡ Some version → IsTold version k from
+    → verdict k (ForHello side) (hello_message from version) ≡ Ok (Greets (speaker version k from))
 unfolding verdict hello_of hello_text
-hello_accepted side format k from speaks t =
+hello_accepted side version k from speaks t =
     let o : eqb from.own k.own ≡ false = ne_eqb _ _ t.others in
-    let read : hello_in (hello_text (hello_of from format)) ≡ Ok (hello_of from format) = hello_again from format t.text (omega (arith, t.room.hello)) in
-    let judged : hello_judged side k (hello_of from format) ≡ member_judged k (hello_of from format) format = ap (format_judged k (hello_of from format)) speaks in
-    ap (λ (f : Option Format). cond (is_none f) (Err (Refused WrongVersion)) (read_then (hello_in (hello_text (hello_of from format))) (hello_judged side k))) speaks
-    ∙ ap (λ (r : Result Hello Fault). read_then r (hello_judged side k)) read ∙ judged
+    let body = member_text from.roster from.own in
+    let read : hello_in (as_hello version body) ≡ Ok (hello_of from version) = hello_again from version t.text (omega (arith, t.room.hello)) in
+    ap (λ (v : Option Version). version_came k v body) speaks
+    ∙ ap (λ (r : Result Hello Fault). read_then r (member_judged k version)) read
     ∙ rw (group_is k.roster from.roster t.roster, one_begins_is k.roster from.roster t.roster, o) refl
 
--- a server speaks either format
-pub server_speaks : (format : Format) → format_with Server (version_of format) ≡ Some format
+-- a server speaks each version, and a client its own
+pub server_speaks : (version : Version) → version_with Server (version_byte version) ≡ Some version
 server_speaks One = refl
 server_speaks Two = refl
+server_speaks Three = refl
+
+pub client_speaks : (version : Version) → version_with (Client version) (version_byte version) ≡ Some version
+client_speaks One = refl
+client_speaks Two = refl
+client_speaks Three = refl
 
 -- ---- the longer roster
 
 -- what it tells has a text among so many replicas
-told_state : (format : Format) (k from : ReplicaValue) → IsTold format k from → IsStateOf (among k from) from.state
-told_state format k from t = state_longer (length from.roster.names) (among k from) (both_within k from).0 from.state t.text.state
+told_state : (version : Version) (k from : ReplicaValue) → IsTold version k from → IsStateOf (among k from) from.state
+told_state version k from t = state_longer (length from.roster.names) (among k from) (both_within k from).0 from.state t.text.state
 
-own_state : (format : Format) (k from : ReplicaValue) → IsTold format k from → IsStateOf (among k from) k.state
-own_state format k from t = state_longer (length k.roster.names) (among k from) (both_within k from).1 k.state t.own_text.state
+own_state : (version : Version) (k from : ReplicaValue) → IsTold version k from → IsStateOf (among k from) k.state
+own_state version k from t = state_longer (length k.roster.names) (among k from) (both_within k from).1 k.state t.own_text.state
 
 -- the own number is a byte, below the roster's length
 own_is : (k from : ReplicaValue) → IsSnapshot k → IsReplicaOf (among k from) k.own
@@ -111,34 +122,50 @@ own_is k from h =
 
 -- ---- DIGEST
 
-pub digest_accepted : (format : Format) (k from : ReplicaValue) → IsTold format k from
-    → verdict k (ForDigest (speaker format k from)) (digest_message from) ≡ Ok (Learns (speaker format k from) (digest_of from.state))
+pub digest_accepted : (version : Version) (k from : ReplicaValue) → IsTold version k from
+    → verdict k (ForDigest (speaker version k from)) (digest_message from) ≡ Ok (Learns (speaker version k from) (digest_of from.state))
 unfolding verdict digest_in
-digest_accepted format k from t =
+digest_accepted version k from t =
     let n = among k from in
     let read : digest_in n (digest_text (digest_of from.state)) ≡ Ok (digest_of from.state) =
-    read_whole (digest_kind n) (digest_at n) (digest_reader n) (digest_of from.state) (digest_is n from.state (told_state format k from t)) (omega (arith, t.room.digest)) in
-    ap (λ (r : Result DigestValue Fault). read_then r (λ digest. Ok (Learns (speaker format k from) digest))) read
+    read_whole (digest_kind n) (digest_at n) (digest_reader n) (digest_of from.state) (digest_is n from.state (told_state version k from t)) (omega (arith, t.room.digest)) in
+    ap (λ (r : Result DigestValue Fault). read_then r (λ digest. Ok (Learns (speaker version k from) digest))) read
 
 -- ---- DELTA and BYE
 
-pub delta_accepted : (format : Format) (k from : ReplicaValue) (digest : DigestValue) → IsTold format k from
-    → verdict k (ForDelta (speaker format k from) digest) (delta_message from format k.own (digest_of k.state)) ≡ Ok (Receives (least_state from.state (digest_of k.state)) (longer_than k.roster from.roster))
+pub delta_accepted : (version : Version) (k from : ReplicaValue) (digest : DigestValue) → IsTold version k from
+    → verdict k (ForDelta (speaker version k from) digest) (delta_message from (format_of version) k.own (digest_of k.state))
+    ≡ Ok (Receives (least_state from.state (digest_of k.state)) (longer_than k.roster from.roster) (last_mark version k from))
 unfolding verdict answer_in
-delta_accepted format k from digest t =
+delta_accepted version k from digest t =
     let n = among k from in
     let g = digest_of k.state in
+    let format = format_of version in
     let delta = least_state from.state g in
     let sent = answer k.own delta (certificate_of g delta) in
     let read : answer_in format n (answer_text_in format sent) ≡ Ok sent =
     read_whole (answer_kind_in format n) (answer_at_in format n) (answer_in_reader format n) sent
-    (answer_is n k.own from.state g (own_is k from t.own_text) (told_state format k from t) (digest_is n k.state (own_state format k from t))) (omega (arith, t.room.delta)) in
+    (answer_is n k.own from.state g (own_is k from t.own_text) (told_state version k from t) (digest_is n k.state (own_state version k from t))) (omega (arith, t.room.delta)) in
     let own : eqb k.own k.own ≡ true = eq-eqb _ _ refl in
-    ap (λ (r : Result AnswerValue Fault). read_then r (delta_judged k (speaker format k from))) read ∙ rw (own, least_passes from.state g) refl
+    ap (λ (r : Result AnswerValue Fault). read_then r (delta_judged k (speaker version k from))) read ∙ rw (own, least_passes from.state g) refl
 
-pub bye_accepted : (k : ReplicaValue) → verdict k ForBye (bye_message byes.Done) ≡ Ok Finishes
+-- what the peer's last word says, by the own mark and the one that it tells
+abbrev pub ending : Option Mark → Option Mark → Said
+ending (Some own) (Some mark) = cond (same_mark own mark) Finishes Forks
+ending own mark = Finishes
+
+-- each tells a mark, or neither does
+abbrev pub AreAlike : Option Mark → Option Mark → Type 0
+AreAlike (Some own) (Some mark) = IsMark mark
+AreAlike None None = Unit {0}
+AreAlike own mark = ⊥
+
+pub done_accepted : (k : ReplicaValue) (own mark : Option Mark) → AreAlike own mark → verdict k (ForBye own) (done_message mark) ≡ Ok (ending own mark)
 unfolding verdict
-bye_accepted k = refl
+done_accepted k None None is = refl
+done_accepted k (Some own) (Some mark) is = ap (λ (r : Result Mark Fault). read_then r (mark_judged (ForBye (Some own)))) (mark_again mark is)
+done_accepted k None (Some mark) is = absurd is
+done_accepted k (Some own) None is = absurd is
 
 -- ---- what is received
 

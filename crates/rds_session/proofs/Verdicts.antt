@@ -1,8 +1,8 @@
 -- A verdict is what the message says, judged; and what is known of what it says.
-use Rattle.std.proofs.Common.{◌≡◌, ℕ, suc, ◌≤◌, Bool, true, false, cond, List, [], ◌∷◌, length, Option, Some, None, Result, Ok, Err, refl, sym, ap, ◌∙◌, subst, arith}
+use Rattle.std.proofs.Common.{◌≡◌, ℕ, zero, suc, ◌≤◌, ◌<◌, ◌&&◌, Bool, true, false, cond, ltb, List, [], ◌∷◌, length, Option, Some, None, Result, Ok, Err, refl, sym, ap, ◌∙◌, subst, arith}
 use Rattle.std.specs.Prelude.{IfErr}
 use Rattle.rds_names.specs.declared.fault.Fault.{Fault}
-use Rattle.rds_names.specs.declared.fault.Fault.TheVariants.{Memory, WrongVersion}
+use Rattle.rds_names.specs.declared.fault.Fault.TheVariants.{Memory, Cut, Extra, OutOfTurn, WrongVersion}
 use Rattle.rds_state.specs.Fits.{ReplicaValue}
 use Rattle.rds_bytes.specs.Reading.{Reader, Fails}
 use Rattle.rds_codec.specs.AnswerTexts.{IsAnswerOf}
@@ -22,9 +22,14 @@ use Rattle.rds_codec.proofs.Whole.{IsReaderOf}
 use Rattle.rds_keep.specs.FedTexts.{decodes_texts}
 use Rattle.rds_keep.specs.Feeding.{AreBytes}
 use Rattle.rds_session.specs.Bodies.{hello_in, digest_in, answer_in}
-use Rattle.rds_session.specs.Contents.{ContentValue, OfHello, OfDigest, OfDelta, OfBye, IsRead, IsReadFor, body_read, bye_read, code_read, content_judged, expected_of, hello_read, kind_read, message_read, read_as}
-use Rattle.rds_session.specs.Judging.{Awaited, ForHello, ForDigest, ForDelta, ForBye, Said, Judges, StopsAs, StopsByNoDevice, body_came, bye_came, code_came, kind_came, other_version, read_then, replicas_of, verdict}
+use Rattle.rds_session.specs.Contents.{ContentValue, OfHello, OfDigest, OfDelta, OfBye, OfMark, IsRead, IsReadFor, body_read, bye_read, code_read, content_judged, expected_of, expects_mark, hello_read, kind_read, message_read, plain_read, read_as, version_read}
+use Rattle.rds_session.specs.Judging.{Awaited, ForHello, ForDigest, ForDelta, ForBye, Said, Judges, StopsAs, StopsByNoDevice, body_came, bye_came, code_came, hello_came, is_done, kind_came, plain_came, read_then, replicas_of, verdict, version_came, version_with, waits_for_mark}
+use Rattle.rds_session.specs.Marked.{mark_in}
 use Rattle.rds_session.specs.Messages.{bye_of, kind_of}
+use Rattle.rds_session.specs.Versions.{as_hello, format_of}
+use Rattle.rds_session.specs.declared.version.Version.{Version}
+use Rattle.rds_session.specs.declared.version.Version.TheVariants.{One, Two, Three}
+use Rattle.rds_state.specs.declared.mark.Mark.{Mark}
 use Rattle.rds_session.specs.declared.content.Expected.{Expected}
 use Rattle.rds_session.specs.declared.content.Expected.TheVariants as expecteds
 use Rattle.rds_session.specs.declared.kinds.ByeCode.{ByeCode}
@@ -42,34 +47,53 @@ as_is : {A : Type 0} (f : A → ContentValue) (r : Result A Fault) (g : ContentV
 as_is f (Ok x) g = refl
 as_is f (Err e) g = refl
 
-version_is : (b : Bool) (r : Result Hello Fault) (g : ContentValue → Result Said Stop)
-    → cond b (Err (Refused WrongVersion)) (read_then r (λ x. g (OfHello x))) ≡ read_then (cond b (Err WrongVersion) (read_as OfHello r)) g
-version_is true r g = refl
-version_is false r g = as_is OfHello r g
+version_is : (kept : ReplicaValue) (side : Side) (version : Option Version) (rest : List ℕ) → version_came kept version rest ≡ read_then (version_read version rest) (content_judged kept (ForHello side))
+version_is kept side None rest = refl
+version_is kept side (Some version) rest = as_is (OfHello version) (hello_in (as_hello version rest)) (content_judged kept (ForHello side))
 
-code_is : (kept : ReplicaValue) (turn : Awaited) (code : Option ByeCode) (rest : List ℕ) → code_came turn code rest ≡ read_then (code_read code rest) (content_judged kept turn)
+hello_is : (kept : ReplicaValue) (side : Side) (body : List ℕ) → hello_came side kept body ≡ read_then (hello_read side body) (content_judged kept (ForHello side))
+hello_is kept side [] = refl
+hello_is kept side (byte ∷ rest) = version_is kept side (version_with side byte) rest
+
+plain_is : (kept : ReplicaValue) (turn : Awaited) (code : ByeCode) (rest : List ℕ) → plain_came turn code rest ≡ read_then (plain_read code rest) (content_judged kept turn)
+plain_is kept turn code [] = refl
+plain_is kept turn code (b ∷ rest) = refl
+
+marked_is : (kept : ReplicaValue) (turn : Awaited) (code : ByeCode) (rest : List ℕ) (marked : Bool)
+    → cond marked (read_then (mark_in rest) (λ m. content_judged kept turn (OfMark m))) (plain_came turn code rest)
+    ≡ read_then (cond marked (read_as OfMark (mark_in rest)) (plain_read code rest)) (content_judged kept turn)
+marked_is kept turn code rest true = as_is OfMark (mark_in rest) (content_judged kept turn)
+marked_is kept turn code rest false = plain_is kept turn code rest
+
+waits_is : (kept : ReplicaValue) (turn : Awaited) → waits_for_mark turn ≡ expects_mark (expected_of kept turn)
+waits_is kept (ForHello side) = refl
+waits_is kept (ForDigest peer) = refl
+waits_is kept (ForDelta peer digest) = refl
+waits_is kept (ForBye mark) = refl
+
+code_is : (kept : ReplicaValue) (turn : Awaited) (code : Option ByeCode) (rest : List ℕ) → code_came turn code rest ≡ read_then (code_read (waits_for_mark turn) code rest) (content_judged kept turn)
 code_is kept turn None rest = refl
-code_is kept turn (Some code) [] = refl
-code_is kept turn (Some code) (b ∷ rest) = refl
+code_is kept turn (Some code) rest = marked_is kept turn code rest (waits_for_mark turn && is_done code)
 
-bye_is : (kept : ReplicaValue) (turn : Awaited) (body : List ℕ) → bye_came turn body ≡ read_then (bye_read body) (content_judged kept turn)
+bye_is : (kept : ReplicaValue) (turn : Awaited) (body : List ℕ) → bye_came turn body ≡ read_then (bye_read (expects_mark (expected_of kept turn)) body) (content_judged kept turn)
 bye_is kept turn [] = refl
-bye_is kept turn (b ∷ rest) = code_is kept turn (bye_of b) rest
+bye_is kept turn (b ∷ rest) =
+    code_is kept turn (bye_of b) rest ∙ ap (λ (marked : Bool). read_then (code_read marked (bye_of b) rest) (content_judged kept turn)) (waits_is kept turn)
 
 body_is : (kept : ReplicaValue) (kind : MessageKind) (turn : Awaited) (body : List ℕ) → body_came kept kind turn body ≡ read_then (body_read (expected_of kept turn) kind body) (content_judged kept turn)
 body_is kept kinds.Bye turn body = bye_is kept turn body
-body_is kept kinds.Hello (ForHello side) body = version_is (other_version side body) (hello_in body) (content_judged kept (ForHello side))
+body_is kept kinds.Hello (ForHello side) body = hello_is kept side body
 body_is kept kinds.Hello (ForDigest peer) body = refl
 body_is kept kinds.Hello (ForDelta peer digest) body = refl
-body_is kept kinds.Hello ForBye body = refl
+body_is kept kinds.Hello (ForBye mark) body = refl
 body_is kept kinds.Digest (ForHello side) body = refl
 body_is kept kinds.Digest (ForDigest peer) body = as_is OfDigest (digest_in (replicas_of kept peer.roster) body) (content_judged kept (ForDigest peer))
 body_is kept kinds.Digest (ForDelta peer digest) body = refl
-body_is kept kinds.Digest ForBye body = refl
+body_is kept kinds.Digest (ForBye mark) body = refl
 body_is kept kinds.Delta (ForHello side) body = refl
 body_is kept kinds.Delta (ForDigest peer) body = refl
-body_is kept kinds.Delta (ForDelta peer digest) body = as_is OfDelta (answer_in peer.format (replicas_of kept peer.roster) body) (content_judged kept (ForDelta peer digest))
-body_is kept kinds.Delta ForBye body = refl
+body_is kept kinds.Delta (ForDelta peer digest) body = as_is OfDelta (answer_in (format_of peer.version) (replicas_of kept peer.roster) body) (content_judged kept (ForDelta peer digest))
+body_is kept kinds.Delta (ForBye mark) body = refl
 
 kind_is : (kept : ReplicaValue) (turn : Awaited) (kind : Option MessageKind) (body : List ℕ) → kind_came kept turn kind body ≡ read_then (kind_read (expected_of kept turn) kind body) (content_judged kept turn)
 kind_is kept turn None body = refl
@@ -112,24 +136,49 @@ as_known : {A : Type 0} (f : A → ContentValue) (r : Result A Fault) → IsKnow
 as_known f (Ok x) known = tt
 as_known f (Err e) known = known
 
-version_known : (b : Bool) (r : Result ContentValue Fault) → IsKnown r → IsKnown (cond b (Err WrongVersion) r)
-version_known true r known = tt
-version_known false r known = known
+if_known : (b : Bool) (r s : Result ContentValue Fault) → IsKnown r → IsKnown s → IsKnown (cond b r s)
+if_known true r s p q = p
+if_known false r s p q = q
 
-code_known : (code : Option ByeCode) (rest : List ℕ) → IsKnown (code_read code rest)
-code_known None rest = tt
-code_known (Some code) [] = tt
-code_known (Some code) (b ∷ rest) = tt
+plain_known : (code : ByeCode) (rest : List ℕ) → IsKnown (plain_read code rest)
+plain_known code [] = tt
+plain_known code (b ∷ rest) = tt
 
-bye_known : (body : List ℕ) → IsKnown (bye_read body)
-bye_known [] = tt
-bye_known (b ∷ rest) = code_known (bye_of b) rest
+mark_known : (short long : Bool) (mark : Mark) → IsKnown (cond short (Err Cut) (cond long (Err Extra) (Ok mark)))
+mark_known true long mark = tt
+mark_known false true mark = tt
+mark_known false false mark = tt
+
+code_known : (marked : Bool) (code : Option ByeCode) (rest : List ℕ) → IsKnown (code_read marked code rest)
+code_known marked None rest = tt
+code_known marked (Some code) rest =
+    if_known (marked && is_done code) (read_as OfMark (mark_in rest)) (plain_read code rest)
+    (as_known OfMark (mark_in rest) (mark_known (ltb (length rest) 16) (ltb 16 (length rest)) _))
+    (plain_known code rest)
+
+bye_known : (marked : Bool) (body : List ℕ) → IsKnown (bye_read marked body)
+bye_known marked [] = tt
+bye_known marked (b ∷ rest) = code_known marked (bye_of b) rest
+
+-- the version's own byte is one too
+hello_bytes : (version : Version) (byte : ℕ) (rest : List ℕ) → AreBytes (byte ∷ rest) → AreBytes (as_hello version rest)
+hello_bytes One byte rest are zero = omega arith
+hello_bytes Two byte rest are zero = omega arith
+hello_bytes Three byte rest are zero = omega arith
+hello_bytes version byte rest are (suc i) = are (suc i)
+
+version_known : (version : Option Version) (rest : List ℕ) → ((v : Version) → AreBytes (as_hello v rest)) → length rest < LIMIT → IsKnown (version_read version rest)
+unfolding hello_in
+version_known None rest are within = tt
+version_known (Some version) rest are within =
+    as_known (OfHello version) (hello_in (as_hello version rest))
+    (text_known hello_kind hello_at hello_reader (as_hello version rest) (are version) (omega (arith, within)) (hello_in (as_hello version rest)) refl)
+
+hello_known : (side : Side) (body : List ℕ) → AreBytes body → length body ≤ LIMIT → IsKnown (hello_read side body)
+hello_known side [] are within = tt
+hello_known side (byte ∷ rest) are within = version_known (version_with side byte) rest (λ v. hello_bytes v byte rest are) (omega (arith, within))
 
 module _ (body : List ℕ) (are : AreBytes body) (within : length body ≤ LIMIT) where
-  hello_known : (side : Side) → IsKnown (hello_read side body)
-  unfolding hello_in
-  hello_known side = version_known (other_version side body) (read_as OfHello (hello_in body)) (as_known OfHello (hello_in body) (text_known hello_kind hello_at hello_reader body are within (hello_in body) refl))
-
   digest_known : (n : ℕ) → IsKnown (read_as OfDigest (digest_in n body))
   unfolding digest_in
   digest_known n = as_known OfDigest (digest_in n body) (text_known (digest_kind n) (digest_at n) (digest_reader n) body are within (digest_in n body) refl)
@@ -140,19 +189,19 @@ module _ (body : List ℕ) (are : AreBytes body) (within : length body ≤ LIMIT
       (text_known (answer_kind_in format n) (answer_at_in format n) (answer_in_reader format n) body are within (answer_in format n body) refl)
 
   body_known : (expected : Expected) (kind : MessageKind) → IsKnown (body_read expected kind body)
-  body_known expected kinds.Bye = bye_known body
-  body_known (expecteds.Hello side) kinds.Hello = hello_known side
+  body_known expected kinds.Bye = bye_known (expects_mark expected) body
+  body_known (expecteds.Hello side) kinds.Hello = hello_known side body are within
   body_known (expecteds.Digest n) kinds.Hello = tt
   body_known (expecteds.Delta format n) kinds.Hello = tt
-  body_known expecteds.Bye kinds.Hello = tt
+  body_known (expecteds.Bye marked) kinds.Hello = tt
   body_known (expecteds.Hello side) kinds.Digest = tt
   body_known (expecteds.Digest n) kinds.Digest = digest_known n
   body_known (expecteds.Delta format n) kinds.Digest = tt
-  body_known expecteds.Bye kinds.Digest = tt
+  body_known (expecteds.Bye marked) kinds.Digest = tt
   body_known (expecteds.Hello side) kinds.Delta = tt
   body_known (expecteds.Digest n) kinds.Delta = tt
   body_known (expecteds.Delta format n) kinds.Delta = delta_known format n
-  body_known expecteds.Bye kinds.Delta = tt
+  body_known (expecteds.Bye marked) kinds.Delta = tt
 
   kind_known : (expected : Expected) (kind : Option MessageKind) → IsKnown (kind_read expected kind body)
   kind_known expected None = tt
@@ -177,17 +226,29 @@ read_delta : (r : Result AnswerValue Fault) (a : AnswerValue) → read_as OfDelt
 read_delta (Ok x) a is = cc
 read_delta (Err e) a is = absurd cc
 
-bye_no_delta : (body : List ℕ) (a : AnswerValue) → bye_read body ≡ Ok (OfDelta a) → ⊥
-bye_no_delta [] a is = cc
-bye_no_delta (b ∷ rest) a is = code_no_delta (bye_of b) rest a is where
-  code_no_delta : (code : Option ByeCode) (rest : List ℕ) (a : AnswerValue) → code_read code rest ≡ Ok (OfDelta a) → ⊥
-  code_no_delta None rest a is = cc
-  code_no_delta (Some code) [] a is = cc
-  code_no_delta (Some code) (x ∷ xs) a is = cc
+mark_no_delta : (r : Result Mark Fault) (a : AnswerValue) → read_as OfMark r ≡ Ok (OfDelta a) → ⊥
+mark_no_delta (Ok m) a is = cc
+mark_no_delta (Err e) a is = cc
+
+plain_no_delta : (code : ByeCode) (rest : List ℕ) (a : AnswerValue) → plain_read code rest ≡ Ok (OfDelta a) → ⊥
+plain_no_delta code [] a is = cc
+plain_no_delta code (x ∷ xs) a is = cc
+
+if_no_delta : (marked : Bool) (code : ByeCode) (rest : List ℕ) (a : AnswerValue) → cond marked (read_as OfMark (mark_in rest)) (plain_read code rest) ≡ Ok (OfDelta a) → ⊥
+if_no_delta true code rest a is = mark_no_delta (mark_in rest) a is
+if_no_delta false code rest a is = plain_no_delta code rest a is
+
+code_no_delta : (marked : Bool) (code : Option ByeCode) (rest : List ℕ) (a : AnswerValue) → code_read marked code rest ≡ Ok (OfDelta a) → ⊥
+code_no_delta marked None rest a is = cc
+code_no_delta marked (Some code) rest a is = if_no_delta (marked && is_done code) code rest a is
+
+bye_no_delta : (marked : Bool) (body : List ℕ) (a : AnswerValue) → bye_read marked body ≡ Ok (OfDelta a) → ⊥
+bye_no_delta marked [] a is = cc
+bye_no_delta marked (b ∷ rest) a is = code_no_delta marked (bye_of b) rest a is
 
 kind_of_delta : (format : Format) (n : ℕ) (kind : Option MessageKind) (body : List ℕ) (a : AnswerValue) → kind_read (expecteds.Delta format n) kind body ≡ Ok (OfDelta a) → answer_in format n body ≡ Ok a
 kind_of_delta format n None body a is = absurd cc
-kind_of_delta format n (Some kinds.Bye) body a is = absurd (bye_no_delta body a is)
+kind_of_delta format n (Some kinds.Bye) body a is = absurd (bye_no_delta false body a is)
 kind_of_delta format n (Some kinds.Hello) body a is = absurd cc
 kind_of_delta format n (Some kinds.Digest) body a is = absurd cc
 kind_of_delta format n (Some kinds.Delta) body a is = read_delta (answer_in format n body) a is
@@ -205,13 +266,14 @@ delta_read format n (b ∷ body) a are within is =
     record { body = body; read = read; value = answer_of format n body a (λ i. are (suc i)) (omega arith) read }
 
 read_so : (kept : ReplicaValue) (turn : Awaited) (m : List ℕ) (content : ContentValue) → AreBytes m → length m ≤ LIMIT → message_read (expected_of kept turn) m ≡ Ok content → IsReadFor kept turn content
-read_so kept (ForDelta peer digest) m (OfDelta a) are within is = delta_read peer.format (replicas_of kept peer.roster) m a are within is
-read_so kept (ForDelta peer digest) m (OfHello h) are within is = tt
+read_so kept (ForDelta peer digest) m (OfDelta a) are within is = delta_read (format_of peer.version) (replicas_of kept peer.roster) m a are within is
+read_so kept (ForDelta peer digest) m (OfHello version h) are within is = tt
+read_so kept (ForDelta peer digest) m (OfMark mark) are within is = tt
 read_so kept (ForDelta peer digest) m (OfDigest d) are within is = tt
 read_so kept (ForDelta peer digest) m (OfBye code) are within is = tt
 read_so kept (ForHello side) m content are within is = tt
 read_so kept (ForDigest peer) m content are within is = tt
-read_so kept ForBye m content are within is = tt
+read_so kept (ForBye mark) m content are within is = tt
 
 pub read_for : (kept : ReplicaValue) (turn : Awaited) (m : List ℕ) (expected : Expected) (content : ContentValue) → expected ≡ expected_of kept turn → AreBytes m → length m ≤ LIMIT
     → message_read expected m ≡ Ok content → IsReadFor kept turn content

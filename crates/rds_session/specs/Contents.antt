@@ -1,8 +1,9 @@
 -- What a message says, and how that is judged.
-use Rattle.std.specs.Prelude.{◌≡◌, ℕ, List, [], ◌∷◌, Option, Some, None, Result, Ok, Err, if◌then◌else◌}
+use Rattle.std.specs.Prelude.{◌≡◌, ℕ, Bool, false, ◌&&◌, List, [], ◌∷◌, Option, Some, None, is_some, Result, Ok, Err, if◌then◌else◌}
 use Rattle.rds_names.specs.declared.fault.Fault.{Fault}
 use Rattle.rds_names.specs.declared.fault.Fault.TheVariants.{Cut, Bad, Extra, WrongVersion, OutOfTurn}
 use Rattle.rds_state.specs.Fits.{ReplicaValue}
+use Rattle.rds_state.specs.declared.mark.Mark.{Mark}
 use Rattle.rds_delta.specs.Digested.{DigestValue}
 use Rattle.rds_codec.specs.AnswerTexts.{IsAnswerOf}
 use Rattle.rds_codec.specs.AnswerValues.{AnswerValue}
@@ -19,27 +20,32 @@ use Rattle.rds_session.specs.declared.talk.Side.{Side}
 use Rattle.rds_session.specs.declared.talk.Stop.{Stop}
 use Rattle.rds_session.specs.declared.talk.Stop.TheVariants.{Refused}
 use Rattle.rds_session.specs.Bodies.{hello_in, digest_in, answer_in}
-use Rattle.rds_session.specs.Judging.{Awaited, ForHello, ForDigest, ForDelta, ForBye, Said, Learns, bye_judged, hello_judged, delta_judged, other_version, replicas_of}
+use Rattle.rds_session.specs.declared.version.Version.{Version}
+use Rattle.rds_session.specs.Judging.{Awaited, ForHello, ForDigest, ForDelta, ForBye, Said, Learns, bye_judged, delta_judged, is_done, mark_judged, member_judged, replicas_of, version_with}
+use Rattle.rds_session.specs.Marked.{mark_in}
+use Rattle.rds_session.specs.Versions.{as_hello, format_of}
 use Rattle.rds_session.specs.Messages.{kind_of, bye_of}
 
 pub data ContentValue : Type 0 where
-  OfHello : (hello : Hello) → ContentValue
+  OfHello : (version : Version) (hello : Hello) → ContentValue
   OfDigest : (digest : DigestValue) → ContentValue
   OfDelta : (answer : AnswerValue) → ContentValue
   OfBye : (code : ByeCode) → ContentValue
+  OfMark : (mark : Mark) → ContentValue
 
 abbrev pub content_value : {S : Type 0} → Content S → ContentValue
-content_value (contents.Hello hello) = OfHello hello
+content_value (contents.Hello version hello) = OfHello version hello
 content_value (contents.Digest digest) = OfDigest digest
 content_value (contents.Delta answer) = OfDelta answer
 content_value (contents.Bye code) = OfBye code
+content_value (contents.Mark mark) = OfMark mark
 
 -- the message that is waited for, of the replicas of the longer roster and in the peer's format
 abbrev pub expected_of : ReplicaValue → Awaited → Expected
 expected_of kept (ForHello side) = expecteds.Hello side
 expected_of kept (ForDigest peer) = expecteds.Digest (replicas_of kept peer.roster)
-expected_of kept (ForDelta peer digest) = expecteds.Delta peer.format (replicas_of kept peer.roster)
-expected_of kept ForBye = expecteds.Bye
+expected_of kept (ForDelta peer digest) = expecteds.Delta (format_of peer.version) (replicas_of kept peer.roster)
+expected_of kept (ForBye mark) = expecteds.Bye (is_some mark)
 
 -- ---- reading
 
@@ -47,21 +53,34 @@ abbrev pub read_as : {A : Type 0} → (A → ContentValue) → Result A Fault �
 read_as f (Ok x) = Ok (f x)
 read_as f (Err e) = Err e
 
+abbrev pub version_read : Option Version → List ℕ → Result ContentValue Fault
+version_read None rest = Err WrongVersion
+version_read (Some version) rest = read_as (OfHello version) (hello_in (as_hello version rest))
+
 abbrev pub hello_read : Side → List ℕ → Result ContentValue Fault
-hello_read side body = if other_version side body then Err WrongVersion else read_as OfHello (hello_in body)
+hello_read side [] = Err Cut
+hello_read side (byte ∷ rest) = version_read (version_with side byte) rest
 
-abbrev pub code_read : Option ByeCode → List ℕ → Result ContentValue Fault
-code_read None rest = Err Bad
-code_read (Some code) [] = Ok (OfBye code)
-code_read (Some code) (b ∷ rest) = Err Extra
+-- whether the last BYE that is waited for says a mark
+abbrev pub expects_mark : Expected → Bool
+expects_mark (expecteds.Bye marked) = marked
+expects_mark expected = false
 
-abbrev pub bye_read : List ℕ → Result ContentValue Fault
-bye_read [] = Err Cut
-bye_read (b ∷ rest) = code_read (bye_of b) rest
+abbrev pub plain_read : ByeCode → List ℕ → Result ContentValue Fault
+plain_read code [] = Ok (OfBye code)
+plain_read code (b ∷ rest) = Err Extra
+
+abbrev pub code_read : Bool → Option ByeCode → List ℕ → Result ContentValue Fault
+code_read marked None rest = Err Bad
+code_read marked (Some code) rest = if marked && is_done code then read_as OfMark (mark_in rest) else plain_read code rest
+
+abbrev pub bye_read : Bool → List ℕ → Result ContentValue Fault
+bye_read marked [] = Err Cut
+bye_read marked (b ∷ rest) = code_read marked (bye_of b) rest
 
 -- a BYE at any time, another message where it is waited for
 abbrev pub body_read : Expected → MessageKind → List ℕ → Result ContentValue Fault
-body_read expected kinds.Bye body = bye_read body
+body_read expected kinds.Bye body = bye_read (expects_mark expected) body
 body_read (expecteds.Hello side) kinds.Hello body = hello_read side body
 body_read (expecteds.Digest replicas) kinds.Digest body = read_as OfDigest (digest_in replicas body)
 body_read (expecteds.Delta format replicas) kinds.Delta body = read_as OfDelta (answer_in format replicas body)
@@ -80,7 +99,8 @@ message_read expected (n ∷ body) = kind_read expected (kind_of n) body
 
 abbrev pub content_judged : ReplicaValue → Awaited → ContentValue → Result Said Stop
 content_judged kept turn (OfBye code) = bye_judged code turn
-content_judged kept (ForHello side) (OfHello hello) = hello_judged side kept hello
+content_judged kept turn (OfMark mark) = mark_judged turn mark
+content_judged kept (ForHello side) (OfHello version hello) = member_judged kept version hello
 content_judged kept (ForDigest peer) (OfDigest digest) = Ok (Learns peer digest)
 content_judged kept (ForDelta peer digest) (OfDelta answer) = delta_judged kept peer answer
 content_judged kept turn content = Err (Refused OutOfTurn)
@@ -93,5 +113,5 @@ pub record IsRead (format : Format) (replicas : ℕ) (answer : AnswerValue) : Ty
 
 -- where an answer is waited for, it was read of the replicas of the longer roster, in the peer's format
 abbrev pub IsReadFor : ReplicaValue → Awaited → ContentValue → Type 0
-IsReadFor kept (ForDelta peer digest) (OfDelta answer) = IsRead peer.format (replicas_of kept peer.roster) answer
+IsReadFor kept (ForDelta peer digest) (OfDelta answer) = IsRead (format_of peer.version) (replicas_of kept peer.roster) answer
 IsReadFor kept turn content = Unit {0}

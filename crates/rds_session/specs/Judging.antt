@@ -1,5 +1,5 @@
 -- What a whole message is taken as, or why it ends the session.
-use Rattle.std.specs.Prelude.{◌≡◌, ℕ, ◌==◌, ◌||◌, nat_lt, Bool, false, List, [], ◌∷◌, length, Option, Some, None, is_none, Result, Ok, Err, if◌then◌else◌}
+use Rattle.std.specs.Prelude.{◌≡◌, ℕ, ◌==◌, ◌&&◌, ◌||◌, nat_lt, Bool, true, false, List, [], ◌∷◌, length, Option, Some, None, is_some, Result, Ok, Err, if◌then◌else◌}
 use Rattle.std.specs.Str.{bytes_eq}
 use Rattle.std.specs.List.{starts_with}
 use Rattle.rds_names.specs.declared.fault.Fault.{Fault}
@@ -7,6 +7,7 @@ use Rattle.rds_names.specs.declared.fault.Fault.TheVariants.{Device, Memory, Wro
 use Rattle.rds_names.specs.Roster.{RosterValue}
 use Rattle.rds_state.specs.Fits.{ReplicaValue}
 use Rattle.rds_state.specs.Value.{StateValue}
+use Rattle.rds_state.specs.declared.mark.Mark.{Mark}
 use Rattle.rds_delta.specs.Digested.{DigestValue, digest_of}
 use Rattle.rds_session.specs.declared.kinds.ByeCode.{ByeCode}
 use Rattle.rds_session.specs.declared.kinds.ByeCode.TheVariants as byes
@@ -22,67 +23,87 @@ use Rattle.rds_session.specs.declared.talk.Act.TheVariants as acts
 use Rattle.rds_session.specs.declared.talk.Stop.{Stop}
 use Rattle.rds_session.specs.declared.talk.Stop.TheVariants.{Refused, Left}
 use Rattle.rds_codec.specs.AnswerValues.{AnswerValue}
-use Rattle.rds_codec.specs.HelloTexts.{format_spoken}
-use Rattle.rds_codec.specs.declared.formats.Format.{Format}
-use Rattle.rds_codec.specs.declared.formats.Format.TheVariants.{Two}
 use Rattle.rds_codec.specs.declared.hellos.Hello.{Hello}
-use Rattle.rds_codec.specs.declared.hellos.TheConstants.{VERSION}
+use Rattle.rds_session.specs.declared.version.Version.{Version}
 use Rattle.rds_session.specs.Bodies.{hello_in, digest_in, answer_in}
 use Rattle.rds_session.specs.Checked.{passes}
-use Rattle.rds_session.specs.Messages.{kind_of, bye_of, hello_message, digest_message, delta_message, bye_message, fault_of}
+use Rattle.rds_session.specs.Marked.{mark_in, same_mark, told_mark}
+use Rattle.rds_session.specs.Messages.{kind_of, bye_of, hello_message, digest_message, delta_message, done_message, fault_of}
+use Rattle.rds_session.specs.Versions.{as_hello, format_of, version_byte, version_said}
 
 -- the message that is waited for: a HELLO to this side, or another with what the earlier ones said, who the peer is and
--- its digest
+-- its digest, and where marks are told the own one
 pub data Awaited : Type 0 where
   ForHello : (side : Side) → Awaited
   ForDigest : (peer : Peer) → Awaited
   ForDelta : (peer : Peer) (digest : DigestValue) → Awaited
-  ForBye : Awaited
+  ForBye : (mark : Option Mark) → Awaited
 
--- what an accepted message says
+-- what an accepted message says. A delta comes with the mark of what is held with it, where one is told
 pub data Said : Type 0 where
   Greets : (peer : Peer) → Said
   Learns : (peer : Peer) (digest : DigestValue) → Said
-  Receives : (delta : StateValue) (roster : Option RosterValue) → Said
+  Receives : (delta : StateValue) (roster : Option RosterValue) (mark : Option Mark) → Said
   Finishes : Said
+  Forks : Said
 
 abbrev pub wait_of : {S : Type 0} → Turn S → Awaited
 wait_of (turns.Hello side) = ForHello side
 wait_of (turns.Digest peer) = ForDigest peer
 wait_of (turns.Delta peer digest) = ForDelta peer digest
-wait_of turns.Bye = ForBye
+wait_of (turns.Bye mark) = ForBye mark
 
 abbrev pub saying_of : {S : Type 0} → Act S → Said
 saying_of (acts.Greet peer) = Greets peer
 saying_of (acts.Learn peer digest) = Learns peer digest
-saying_of (acts.Receive delta roster) = Receives delta roster
+saying_of (acts.Receive delta roster mark) = Receives delta roster mark
 saying_of acts.Finish = Finishes
+saying_of acts.Fork = Forks
 
 -- ---- BYE
 
 -- the peer is done in its turn alone, and may end the session at any time
 abbrev pub bye_judged : ByeCode → Awaited → Result Said Stop
-bye_judged byes.Done ForBye = Ok Finishes
+bye_judged byes.Done (ForBye None) = Ok Finishes
 bye_judged byes.Done turn = Err (Refused OutOfTurn)
 bye_judged code turn = Err (Left (fault_of code))
 
--- a code came, and then these bytes
-abbrev pub code_came : Awaited → Option ByeCode → List ℕ → Result Said Stop
-code_came turn None rest = Err (Refused Bad)
-code_came turn (Some code) [] = bye_judged code turn
-code_came turn (Some code) (b ∷ rest) = Err (Refused Extra)
+-- the peer is done in its turn alone, and holds what is held here, where its mark is the own one
+abbrev pub mark_judged : Awaited → Mark → Result Said Stop
+mark_judged (ForBye (Some own)) mark = Ok (if same_mark own mark then Finishes else Forks)
+mark_judged turn mark = Err (Refused OutOfTurn)
 
--- a BYE has one byte, its code
-abbrev pub bye_came : Awaited → List ℕ → Result Said Stop
-bye_came turn [] = Err (Refused Cut)
-bye_came turn (b ∷ rest) = code_came turn (bye_of b) rest
+abbrev pub is_done : ByeCode → Bool
+is_done byes.Done = true
+is_done code = false
 
--- ---- the other messages
+-- whether the last BYE that is waited for says a mark
+abbrev pub waits_for_mark : Awaited → Bool
+waits_for_mark (ForBye mark) = is_some mark
+waits_for_mark turn = false
 
 -- a body is read, and then judged
 abbrev pub read_then : {A : Type 0} → Result A Fault → (A → Result Said Stop) → Result Said Stop
 read_then (Ok x) f = f x
 read_then (Err e) f = Err (Refused e)
+
+-- a code came that says no mark, and then these bytes
+abbrev pub plain_came : Awaited → ByeCode → List ℕ → Result Said Stop
+plain_came turn code [] = bye_judged code turn
+plain_came turn code (b ∷ rest) = Err (Refused Extra)
+
+-- a code came, and then these bytes
+abbrev pub code_came : Awaited → Option ByeCode → List ℕ → Result Said Stop
+code_came turn None rest = Err (Refused Bad)
+code_came turn (Some code) rest =
+    if waits_for_mark turn && is_done code then read_then (mark_in rest) (mark_judged turn) else plain_came turn code rest
+
+-- a BYE has one byte, its code, and a mark behind it where one is waited for
+abbrev pub bye_came : Awaited → List ℕ → Result Said Stop
+bye_came turn [] = Err (Refused Cut)
+bye_came turn (b ∷ rest) = code_came turn (bye_of b) rest
+
+-- ---- the other messages
 
 -- one roster's names are the other's first ones
 abbrev pub one_begins : List (List ℕ) → List (List ℕ) → Bool
@@ -92,40 +113,33 @@ one_begins ns ms = starts_with bytes_eq ms ns || starts_with bytes_eq ns ms
 abbrev pub longer_than : RosterValue → RosterValue → Option RosterValue
 longer_than own other = if nat_lt (length own.names) (length other.names) then Some other else None
 
--- the format that a side speaks with a peer of a version: a server any that its client speaks, a client format 2 alone
-abbrev pub format_with : Side → ℕ → Option Format
-format_with Server version = format_spoken version
-format_with Client version = if version == VERSION then Some Two else None
+-- the version that is spoken with a peer that says one: a server speaks any that its client does, a client its own alone
+abbrev pub version_with : Side → ℕ → Option Version
+version_with Server byte = version_said byte
+version_with (Client version) byte = if byte == version_byte version then Some version else None
 
--- who says hello, and the format that is spoken with it
-abbrev pub peer_of : ReplicaValue → Hello → Format → Peer
-peer_of kept h format = record { number = h.own; roster = longer_than kept.roster h.roster; format = format }
+-- who says hello, and the version that is spoken with it
+abbrev pub peer_of : ReplicaValue → Version → Hello → Peer
+peer_of kept version h = record { number = h.own; roster = longer_than kept.roster h.roster; version = version }
 
 -- the group, then the names and their order, then the own number
-abbrev pub member_judged : ReplicaValue → Hello → Format → Result Said Stop
-member_judged kept h format =
+abbrev pub member_judged : ReplicaValue → Version → Hello → Result Said Stop
+member_judged kept version h =
     if bytes_eq h.roster.group kept.roster.group
     then (if one_begins h.roster.names kept.roster.names
-    then (if h.own == kept.own then Err (Refused SameReplica) else Ok (Greets (peer_of kept h format)))
+    then (if h.own == kept.own then Err (Refused SameReplica) else Ok (Greets (peer_of kept version h)))
     else Err (Refused WrongRoster))
     else Err (Refused WrongGroup)
 
-abbrev pub format_judged : ReplicaValue → Hello → Option Format → Result Said Stop
-format_judged kept h None = Err (Refused WrongVersion)
-format_judged kept h (Some format) = member_judged kept h format
+-- another version is refused whatever follows it
+abbrev pub version_came : ReplicaValue → Option Version → List ℕ → Result Said Stop
+version_came kept None rest = Err (Refused WrongVersion)
+version_came kept (Some version) rest = read_then (hello_in (as_hello version rest)) (member_judged kept version)
 
 -- the version, then who speaks
-abbrev pub hello_judged : Side → ReplicaValue → Hello → Result Said Stop
-hello_judged side kept h = format_judged kept h (format_with side h.version)
-
--- another version is refused whatever follows it
-abbrev pub other_version : Side → List ℕ → Bool
-other_version side [] = false
-other_version side (version ∷ rest) = is_none (format_with side version)
-
 abbrev pub hello_came : Side → ReplicaValue → List ℕ → Result Said Stop
-hello_came side kept body =
-    if other_version side body then Err (Refused WrongVersion) else read_then (hello_in body) (hello_judged side kept)
+hello_came side kept [] = Err (Refused Cut)
+hello_came side kept (byte ∷ rest) = version_came kept (version_with side byte) rest
 
 -- the longer of two rosters: the own one, or the other where it is there
 abbrev pub roster_among : RosterValue → Option RosterValue → RosterValue
@@ -143,12 +157,14 @@ digest_came kept peer body = read_then (digest_in (replicas_of kept peer.roster)
 abbrev pub delta_judged : ReplicaValue → Peer → AnswerValue → Result Said Stop
 delta_judged kept peer a =
     if a.asker == kept.own
-    then (if passes (digest_of kept.state) a.state a.certificate then Ok (Receives a.state peer.roster) else Err (Refused BadCertificate))
+    then (if passes (digest_of kept.state) a.state a.certificate
+    then Ok (Receives a.state peer.roster (told_mark peer.version kept.state a.state))
+    else Err (Refused BadCertificate))
     else Err (Refused WrongAsker)
 
 abbrev pub delta_came : ReplicaValue → Peer → List ℕ → Result Said Stop
 delta_came kept peer body =
-    read_then (answer_in peer.format (replicas_of kept peer.roster) body) (delta_judged kept peer)
+    read_then (answer_in (format_of peer.version) (replicas_of kept peer.roster) body) (delta_judged kept peer)
 
 -- a body comes: a BYE at any time, another message where it is waited for
 abbrev pub body_came : ReplicaValue → MessageKind → Awaited → List ℕ → Result Said Stop
@@ -174,16 +190,18 @@ verdict kept turn (n ∷ body) = kind_came kept turn (kind_of n) body
 abbrev pub turn_after : Awaited → Said → Awaited
 turn_after turn (Greets peer) = ForDigest peer
 turn_after turn (Learns peer digest) = ForDelta peer digest
-turn_after turn (Receives delta roster) = ForBye
+turn_after turn (Receives delta roster mark) = ForBye mark
 turn_after turn Finishes = turn
+turn_after turn Forks = turn
 
--- the messages that answer it, in the peer's format
+-- the messages that answer it, in the peer's version
 abbrev pub replies_of : Side → ReplicaValue → Awaited → Said → List (List ℕ)
 replies_of Server kept turn (Learns peer digest) =
-    hello_message kept peer.format ∷ digest_message kept ∷ delta_message kept peer.format peer.number digest ∷ []
-replies_of Client kept (ForDelta peer digest) (Receives delta roster) =
-    delta_message kept peer.format peer.number digest ∷ bye_message byes.Done ∷ []
-replies_of Server kept turn Finishes = bye_message byes.Done ∷ []
+    hello_message kept peer.version ∷ digest_message kept ∷ delta_message kept (format_of peer.version) peer.number digest ∷ []
+replies_of (Client version) kept (ForDelta peer digest) (Receives delta roster mark) =
+    delta_message kept (format_of peer.version) peer.number digest ∷ done_message mark ∷ []
+replies_of Server kept (ForBye mark) Finishes = done_message mark ∷ []
+replies_of Server kept (ForBye mark) Forks = done_message mark ∷ []
 replies_of _ _ _ _ = []
 
 -- ---- what the code answers

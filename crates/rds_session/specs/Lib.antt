@@ -11,6 +11,7 @@ pub mod Exchange
 pub mod Expecting
 pub mod Judging
 pub mod Leaving
+pub mod Marked
 pub mod Meeting
 pub mod Messages
 pub mod OneResult
@@ -21,3 +22,4 @@ pub mod Sending
 pub mod Session
 pub mod Steps
 pub mod Stream
+pub mod Versions

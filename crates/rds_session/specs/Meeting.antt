@@ -1,45 +1,52 @@
 -- Two sessions that hear each other.
-use Rattle.std.specs.Prelude.{◌≡◌, ◌≢◌, ℕ, ◌≤◌, ◌⊎◌, List, [], ◌∷◌, ◌++◌, length, Option, Some, None}
+use Rattle.std.specs.Prelude.{◌≡◌, ◌≢◌, ℕ, ◌≤◌, ◌⊎◌, true, List, [], ◌∷◌, ◌++◌, length, Option, Some, None}
 use Rattle.std.specs.List.{flat_map}
 use Rattle.rds_state.specs.Fits.{ReplicaValue}
 use Rattle.rds_names.specs.Roster.{OneBegins}
+use Rattle.rds_names.specs.declared.fault.Fault.TheVariants.{Forked}
+use Rattle.rds_state.specs.Coordinates.{join}
+use Rattle.rds_state.specs.Mark.{mark_of}
 use Rattle.rds_state.specs.Value.{StateValue, coordinates}
+use Rattle.rds_state.specs.declared.mark.Mark.{Mark}
 use Rattle.rds_delta.specs.Digested.{digest_of}
 use Rattle.rds_delta.specs.Least.{least}
 use Rattle.rds_delta.specs.Ranks.{ranks}
+use Rattle.rds_life.specs.Life.{AreCompatible}
 use Rattle.rds_codec.specs.StateTexts.{IsSnapshot}
-use Rattle.rds_codec.specs.declared.formats.Format.{Format}
-use Rattle.rds_codec.specs.declared.formats.Format.TheVariants.{Two}
 use Rattle.rds_session.specs.declared.chunks.TheConstants.{MESSAGE_LIMIT}
-use Rattle.rds_session.specs.declared.kinds.ByeCode.TheVariants as byes
 use Rattle.rds_session.specs.declared.talk.Side.{Side}
 use Rattle.rds_session.specs.declared.talk.Side.TheVariants.{Client, Server}
-use Rattle.rds_session.specs.declared.step.Ended.TheVariants.{Done}
+use Rattle.rds_session.specs.declared.step.Ended.{Ended}
+use Rattle.rds_session.specs.declared.step.Ended.TheVariants.{Done, Failed}
+use Rattle.rds_session.specs.declared.version.Version.{Version}
+use Rattle.rds_session.specs.Checked.{least_state}
 use Rattle.rds_session.specs.Chunks.{message_in_chunks}
 use Rattle.rds_session.specs.Judging.{longer_than}
-use Rattle.rds_session.specs.Messages.{hello_message, digest_message, delta_message, bye_message}
+use Rattle.rds_session.specs.Marked.{told_mark, with_delta}
+use Rattle.rds_session.specs.Messages.{hello_message, digest_message, delta_message, done_message}
 use Rattle.rds_session.specs.Received.{Delivery}
 use Rattle.rds_session.specs.Session.{So_far, All_of, course}
 use Rattle.rds_session.specs.Stream.{Splits}
+use Rattle.rds_session.specs.Versions.{format_of, tells_marks}
 
 abbrev pub IsBeginningOf : List ℕ → List ℕ → Type 0
 IsBeginningOf x y = (rest : List ℕ) × (y ≡ x ++ rest)
 
--- what one tells the other, in a format, is within the limit
-pub record HasRoom (format : Format) (from to : ReplicaValue) : Type 0 where
-  pub hello : length (hello_message from format) ≤ MESSAGE_LIMIT
+-- what one tells the other, in a version, is within the limit
+pub record HasRoom (version : Version) (from to : ReplicaValue) : Type 0 where
+  pub hello : length (hello_message from version) ≤ MESSAGE_LIMIT
   pub digest : length (digest_message from) ≤ MESSAGE_LIMIT
-  pub delta : length (delta_message from format to.own (digest_of to.state)) ≤ MESSAGE_LIMIT
+  pub delta : length (delta_message from (format_of version) to.own (digest_of to.state)) ≤ MESSAGE_LIMIT
 
 -- two replicas, of rosters one of which begins the other, with different own numbers, each of which has a text; they
--- speak in a format
-pub record CanMeet (format : Format) (a b : ReplicaValue) : Type 0 where
+-- speak in a version
+pub record CanMeet (version : Version) (a b : ReplicaValue) : Type 0 where
   pub roster : OneBegins a.roster b.roster
   pub others : a.own ≢ b.own
   pub a_text : IsSnapshot a
   pub b_text : IsSnapshot b
-  pub a_room : HasRoom format a b
-  pub b_room : HasRoom format b a
+  pub a_room : HasRoom version a b
+  pub b_room : HasRoom version b a
 
 -- a delta that is the least of what the peer kept against what was kept here, and the peer's roster exactly where that
 -- has more names
@@ -53,48 +60,73 @@ abbrev pub IsItsDelta : ReplicaValue → ReplicaValue → Option Delivery → Ty
 IsItsDelta peer own received = (received ≡ None) ⊎ IsItsLeast peer own received
 
 -- the client hears x and the server y, each a beginning of what the other sent
-pub record Hear (a b : ReplicaValue) (x y : List ℕ) : Type 0 where
+pub record Hear (version : Version) (a b : ReplicaValue) (x y : List ℕ) : Type 0 where
   pub client : IsBeginningOf x (course Server b (So_far y)).1
-  pub server : IsBeginningOf y (course Client a (So_far x)).1
+  pub server : IsBeginningOf y (course (Client version) a (So_far x)).1
 
 -- each has received nothing, or what the other has and it lacks, and the longer roster
 abbrev pub ReceiveDeltas : Type 0
-ReceiveDeltas = (a b : ReplicaValue) (x y : List ℕ) → CanMeet Two a b → Hear a b x y
-    → IsItsDelta b a (course Client a (So_far x)).0.received × IsItsDelta a b (course Server b (So_far y)).0.received
+ReceiveDeltas = (version : Version) (a b : ReplicaValue) (x y : List ℕ) → CanMeet version a b → Hear version a b x y
+    → IsItsDelta b a (course (Client version) a (So_far x)).0.received
+    × IsItsDelta a b (course Server b (So_far y)).0.received
 
 -- all that each sent, the other heard
-pub record HearAll (a b : ReplicaValue) (x y : List ℕ) : Type 0 where
+pub record HearAll (version : Version) (a b : ReplicaValue) (x y : List ℕ) : Type 0 where
   pub client : x ≡ (course Server b (So_far y)).1
-  pub server : y ≡ (course Client a (So_far x)).1
+  pub server : y ≡ (course (Client version) a (So_far x)).1
 
--- both are done, and each has received what the other has and it lacks, and the longer roster
-pub record AreDone (a b : ReplicaValue) (x y : List ℕ) : Type 0 where
-  pub client : (course Client a (So_far x)).0.ended ≡ Done
-  pub client_has : IsItsLeast b a (course Client a (So_far x)).0.received
-  pub server : (course Server b (So_far y)).0.ended ≡ Done
+-- both have ended so, and each has received what the other has and it lacks, and the longer roster
+pub record HaveEnded (version : Version) (a b : ReplicaValue) (x y : List ℕ) (ended : Ended) : Type 0 where
+  pub client : (course (Client version) a (So_far x)).0.ended ≡ ended
+  pub client_has : IsItsLeast b a (course (Client version) a (So_far x)).0.received
+  pub server : (course Server b (So_far y)).0.ended ≡ ended
   pub server_has : IsItsLeast a b (course Server b (So_far y)).0.received
 
+-- what is held here at the end: what was kept, with what the peer has and it lacks
+abbrev pub held_with : ReplicaValue → ReplicaValue → StateValue
+held_with own peer = with_delta own.state (least_state peer.state (digest_of own.state))
+
+-- the mark of that, where the version tells one
+abbrev pub last_mark : Version → ReplicaValue → ReplicaValue → Option Mark
+last_mark version own peer = told_mark version own.state (least_state peer.state (digest_of own.state))
+
+-- where marks are told, no dot is live in both with different entries
+abbrev pub AgreeWhereTold : Version → ReplicaValue → ReplicaValue → Type 0
+AgreeWhereTold version a b = tells_marks version ≡ true → AreCompatible a.state.lives b.state.lives
+
 abbrev pub BothEnd : Type 0
-BothEnd = (a b : ReplicaValue) (x y : List ℕ) → CanMeet Two a b → HearAll a b x y → AreDone a b x y
+BothEnd = (version : Version) (a b : ReplicaValue) (x y : List ℕ) → CanMeet version a b → AgreeWhereTold version a b
+    → HearAll version a b x y → HaveEnded version a b x y Done
 
--- ---- a client of either version
+-- where marks are told and what is held differs in them, both tell that
+abbrev pub BothTellForks : Type 0
+BothTellForks = (version : Version) (a b : ReplicaValue) (x y : List ℕ) → CanMeet version a b
+    → tells_marks version ≡ true → mark_of (held_with a b) ≢ mark_of (held_with b a)
+    → HearAll version a b x y → HaveEnded version a b x y (Failed Forked)
 
--- what a replica says to another in a whole session in a format
-abbrev pub words_in : Format → ReplicaValue → ReplicaValue → List (List ℕ)
-words_in format from to =
-    hello_message from format ∷ digest_message from ∷ delta_message from format to.own (digest_of to.state)
-    ∷ bye_message byes.Done ∷ []
+-- what is held is the join
+abbrev pub HoldJoins : Type 0
+HoldJoins = (own peer : ReplicaValue)
+    → coordinates (held_with own peer) ≡ join (coordinates own.state) (coordinates (least_state peer.state (digest_of own.state)))
 
--- the server has said its words in the format, is done, and has received what the client has and it lacks
-pub record IsServed (format : Format) (a b : ReplicaValue) (x : List ℕ) : Type 0 where
-  pub said : (course Server b (So_far x)).1 ≡ flat_map message_in_chunks (words_in format b a)
+-- ---- a client of any version
+
+-- what a replica says to another in a whole session in a version
+abbrev pub words_in : Version → ReplicaValue → ReplicaValue → List (List ℕ)
+words_in version from to =
+    hello_message from version ∷ digest_message from
+    ∷ delta_message from (format_of version) to.own (digest_of to.state) ∷ done_message (last_mark version from to) ∷ []
+
+-- the server has said its words in the version, is done, and has received what the client has and it lacks
+pub record IsServed (version : Version) (a b : ReplicaValue) (x : List ℕ) : Type 0 where
+  pub said : (course Server b (So_far x)).1 ≡ flat_map message_in_chunks (words_in version b a)
   pub server : (course Server b (So_far x)).0.ended ≡ Done
   pub server_has : IsItsLeast a b (course Server b (So_far x)).0.received
 
--- a server speaks in the format that its client speaks, however the client's messages were cut
-abbrev pub ServesEither : Type 0
-ServesEither = (format : Format) (a b : ReplicaValue) (x : List ℕ) → CanMeet format a b
-    → Splits x (words_in format a b) [] → IsServed format a b x
+-- a server speaks in the version that its client speaks, however the client's messages were cut
+abbrev pub ServesEach : Type 0
+ServesEach = (version : Version) (a b : ReplicaValue) (x : List ℕ) → CanMeet version a b → AgreeWhereTold version a b
+    → Splits x (words_in version a b) [] → IsServed version a b x
 
 -- the end of a stream takes nothing from what was received
 abbrev pub KeepsAtEnd : Type 0

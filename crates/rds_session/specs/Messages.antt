@@ -1,19 +1,23 @@
 -- The messages of a session: a type byte and a body.
-use Rattle.std.specs.Prelude.{ℕ, List, [], ◌∷◌, ◌==◌, Option, Some, None, if◌then◌else◌}
+use Rattle.std.specs.Prelude.{ℕ, List, [], ◌∷◌, ◌++◌, ◌==◌, Option, Some, None, if◌then◌else◌}
 use Rattle.rds_names.specs.declared.fault.Fault.{Fault}
 use Rattle.rds_names.specs.declared.fault.Fault.TheVariants.{Memory, WrongVersion, WrongGroup, WrongRoster, SameReplica, PeerEnded}
 use Rattle.rds_state.specs.Fits.{ReplicaValue}
+use Rattle.rds_state.specs.declared.mark.Mark.{Mark}
 use Rattle.rds_delta.specs.Digested.{DigestValue, digest_of}
 use Rattle.rds_codec.specs.AnswerTexts.{answer}
 use Rattle.rds_codec.specs.DigestTexts.{digest_text}
 use Rattle.rds_codec.specs.FormatTexts.{answer_text_in}
-use Rattle.rds_codec.specs.HelloTexts.{hello_text, version_of}
+use Rattle.rds_codec.specs.HelloTexts.{hello_text}
 use Rattle.rds_codec.specs.declared.formats.Format.{Format}
 use Rattle.rds_session.specs.declared.kinds.ByeCode.{ByeCode}
 use Rattle.rds_session.specs.declared.kinds.ByeCode.TheVariants as byes
 use Rattle.rds_session.specs.declared.kinds.MessageKind.{MessageKind}
 use Rattle.rds_session.specs.declared.kinds.MessageKind.TheVariants as kinds
+use Rattle.rds_session.specs.declared.version.Version.{Version}
 use Rattle.rds_session.specs.Checked.{least_state, certificate_of}
+use Rattle.rds_session.specs.Marked.{mark_bytes}
+use Rattle.rds_session.specs.Versions.{version_byte}
 
 -- the byte that messages of a type begin with
 abbrev pub number_of : MessageKind → ℕ
@@ -31,10 +35,10 @@ kind_of n =
     else (if n == 4 then Some kinds.Bye
     else None)))
 
--- HELLO: who speaks, and by its version in which format
-abbrev pub hello_message : ReplicaValue → Format → List ℕ
-hello_message kept format =
-    number_of kinds.Hello ∷ hello_text (record { version = version_of format; roster = kept.roster; own = kept.own })
+-- HELLO: who speaks, and in which version
+abbrev pub hello_message : ReplicaValue → Version → List ℕ
+hello_message kept version =
+    number_of kinds.Hello ∷ hello_text (record { version = version_byte version; roster = kept.roster; own = kept.own })
 
 -- DIGEST: what is kept here
 abbrev pub digest_message : ReplicaValue → List ℕ
@@ -71,6 +75,11 @@ bye_of b =
 -- BYE: the end, and why
 abbrev pub bye_message : ByeCode → List ℕ
 bye_message code = number_of kinds.Bye ∷ byte_of code ∷ []
+
+-- the last BYE of a session that is done, with the mark of what is held then, where one is told
+abbrev pub done_message : Option Mark → List ℕ
+done_message None = bye_message byes.Done
+done_message (Some mark) = number_of kinds.Bye ∷ byte_of byes.Done ∷ mark_bytes mark
 
 -- the code of the BYE that a refusal sends
 abbrev pub code_of : Fault → ByeCode

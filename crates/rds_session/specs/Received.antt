@@ -3,6 +3,7 @@ use Rattle.std.specs.Prelude.{◌≡◌, ◌<◌, ℕ, List, length, Option, Som
 use Rattle.rds_names.specs.Roster.{RosterValue, Begins}
 use Rattle.rds_state.specs.Fits.{Fits, ReplicaValue}
 use Rattle.rds_state.specs.Value.{StateValue, coordinates}
+use Rattle.rds_state.specs.declared.mark.Mark.{Mark}
 use Rattle.rds_delta.specs.Least.{IsAbove}
 use Rattle.rds_delta.specs.Ranks.{ranks}
 use Rattle.rds_session.specs.declared.step.Ended.{Ended}
@@ -10,6 +11,7 @@ use Rattle.rds_session.specs.declared.step.Ended.TheVariants.{Done}
 use Rattle.rds_session.specs.declared.talk.Act.{Act}
 use Rattle.rds_session.specs.declared.talk.Act.TheVariants as acts
 use Rattle.rds_session.specs.declared.talk.Peer.{Peer}
+use Rattle.rds_session.specs.Marked.{told_mark}
 use Rattle.rds_session.specs.Judging.{Awaited, ForDigest, ForDelta, ForBye, Receives, delta_came, replicas_of}
 
 -- a delta, and the peer's roster where that is longer than the own one
@@ -45,7 +47,8 @@ pub record IsChecked (kept : ReplicaValue) (d : Delivery) : Type 0 where
   pub fits : Fits (replicas_of kept d.1) (coordinates d.0)
   pub grows : IsLongerIfThere kept.roster d.1
   pub above : IsAbove (coordinates d.0) (ranks (coordinates kept.state))
-  pub came : (peer : Peer) × (body : List ℕ) × (delta_came kept peer body ≡ Ok (Receives d.0 d.1))
+  pub came : (peer : Peer) × (body : List ℕ)
+      × (delta_came kept peer body ≡ Ok (Receives d.0 d.1 (told_mark peer.version kept.state d.0)))
 
 -- nothing, or such a delta
 abbrev pub HasChecked : ReplicaValue → Option Delivery → Type 0
@@ -65,7 +68,7 @@ KnowsPeer kept _ = Unit {0}
 -- of the peer, or a longer one
 pub record IsSound (kept : ReplicaValue) (turn : Awaited) (ended : Ended) (received : Option Delivery) : Type 0 where
   pub checked : HasChecked kept received
-  pub before_bye : turn ≡ ForBye → IsSome received
+  pub before_bye : (mark : Option Mark) → turn ≡ ForBye mark → IsSome received
   pub done : IsDoneBy ended received
   pub peer : KnowsPeer kept turn
 
@@ -74,5 +77,6 @@ pub record IsSound (kept : ReplicaValue) (turn : Awaited) (ended : Ended) (recei
 abbrev pub Brings : {S : Type 0} → ReplicaValue → Awaited → Act S → Type 0
 Brings kept turn (acts.Greet peer) = IsLongerIfThere kept.roster peer.roster
 Brings kept turn (acts.Learn peer digest) = IsLongerIfThere kept.roster peer.roster
-Brings kept turn (acts.Receive delta roster) = IsChecked kept (delta, roster)
-Brings kept turn acts.Finish = turn ≡ ForBye
+Brings kept turn (acts.Receive delta roster mark) = IsChecked kept (delta, roster)
+Brings kept turn acts.Finish = (mark : Option Mark) × (turn ≡ ForBye mark)
+Brings kept turn acts.Fork = Unit {0}

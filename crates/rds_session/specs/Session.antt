@@ -1,9 +1,8 @@
 -- What a session sends and receives for the stream so far.
 use Rattle.std.specs.Prelude.{ℕ, Bool, true, false, List, [], ◌∷◌, ◌++◌, Option, Some, None, Result, Ok, Err, if◌then◌else◌}
 use Rattle.rds_names.specs.declared.fault.Fault.{Fault}
-use Rattle.rds_names.specs.declared.fault.Fault.TheVariants.{TooLong, PeerEnded}
+use Rattle.rds_names.specs.declared.fault.Fault.TheVariants.{TooLong, PeerEnded, Forked}
 use Rattle.rds_state.specs.Fits.{ReplicaValue}
-use Rattle.rds_codec.specs.declared.formats.Format.TheVariants.{Two}
 use Rattle.rds_session.specs.declared.kinds.ByeCode.TheVariants as byes
 use Rattle.rds_session.specs.declared.talk.Side.{Side}
 use Rattle.rds_session.specs.declared.talk.Side.TheVariants.{Client, Server}
@@ -13,7 +12,7 @@ use Rattle.rds_session.specs.declared.step.Ended.{Ended}
 use Rattle.rds_session.specs.declared.step.Ended.TheVariants.{Going, Done, Failed}
 use Rattle.rds_session.specs.Chunks.{Under, start, message_in_chunks, Scan, More, Whole, Long, byte_scanned}
 use Rattle.rds_session.specs.Messages.{hello_message, digest_message, bye_message, code_of}
-use Rattle.rds_session.specs.Judging.{Awaited, ForHello, Said, Receives, Finishes, verdict, turn_after, replies_of}
+use Rattle.rds_session.specs.Judging.{Awaited, ForHello, Said, Receives, Finishes, Forks, verdict, turn_after, replies_of}
 use Rattle.rds_session.specs.Received.{Delivery}
 use Rattle.rds_session.specs.Sending.{sending}
 
@@ -64,11 +63,12 @@ refuses s f = (failure s f, message_in_chunks (bye_message (code_of f)))
 
 -- what is received, and how the session ends
 abbrev pub received_after : Option Delivery → Said → Option Delivery
-received_after received (Receives delta roster) = Some (delta, roster)
+received_after received (Receives delta roster mark) = Some (delta, roster)
 received_after received _ = received
 
 abbrev pub ended_after : Ended → Said → Ended
 ended_after ended Finishes = Done
+ended_after ended Forks = Failed Forked
 ended_after ended _ = ended
 
 abbrev pub after_said : Standing → Said → Standing
@@ -102,7 +102,7 @@ run [] s = (s, [])
 run (b ∷ bs) s = when_going s.ended (then_more (byte_comes s b) (run bs)) (s, [])
 
 abbrev pub opening : Side → ReplicaValue → List (List ℕ)
-opening Client kept = hello_message kept Two ∷ digest_message kept ∷ []
+opening (Client version) kept = hello_message kept version ∷ digest_message kept ∷ []
 opening Server kept = []
 
 -- what the first step sends, whatever its input

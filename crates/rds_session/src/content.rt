@@ -1,9 +1,11 @@
 //! What whole messages say.
 use crate::kinds::ByeCode;
 use crate::talk::Side;
+use crate::version::Version;
 use rds_codec::{Answer, Format, Hello};
 use rds_delta::Digest;
 use rds_dots::DotSet;
+use rds_state::Mark;
 
 /// The message that is waited for, with what its body is read by.
 #[derive(Clone, Copy, Debug, PartialEq, Eq)]
@@ -14,14 +16,33 @@ pub enum Expected {
     Digest { replicas: u16 },
     /// An answer in a format, of a roster of so many replicas.
     Delta { format: Format, replicas: u16 },
-    Bye,
+    /// A BYE, which says a mark behind the code `Done` or none.
+    Bye { marked: bool },
+}
+
+impl Expected {
+    ghost use Rattle.std.specs.Prelude.{◌≡◌};
+    ghost use Rattle.rds_session.specs.Contents.{expects_mark};
+
+    /// Whether it is a BYE that says a mark.
+    pub fn is_marked(self) -> bool
+        ensures { result ≡ expects_mark self }
+    {
+        match self {
+            Expected::Bye { marked } => marked,
+            _ => false,
+        }
+    }
 }
 
 /// What a message says, before it is judged.
 #[derive(Drop)]
 pub enum Content<S: DotSet> {
-    Hello(Hello),
+    /// Who speaks, in a version that is spoken here.
+    Hello(Version, Hello),
     Digest(Digest<S>),
     Delta(Answer<S>),
     Bye(ByeCode),
+    /// The code `Done`, with this mark.
+    Mark(Mark),
 }

@@ -4,7 +4,8 @@ ghost use Rattle.rds_codec.specs.declared.limits.TheConstants.{LIMIT};
 ghost use Rattle.rds_delta.specs.Digested.{digest_of};
 ghost use Rattle.rds_names.specs.declared.fault.Fault.TheVariants.{Memory};
 ghost use Rattle.rds_session.specs.Contents.{IsRead, IsReadFor, content_judged, content_value, expected_of};
-ghost use Rattle.rds_session.specs.Judging.{Awaited, Learns, StopsByNoDevice, Judges, wait_of, bye_judged, hello_judged, member_judged, delta_judged, verdict, one_begins, longer_than, replicas_of};
+ghost use Rattle.rds_session.specs.Judging.{Awaited, Learns, StopsByNoDevice, Judges, wait_of, bye_judged, mark_judged, member_judged, delta_judged, verdict, one_begins, longer_than, replicas_of};
+ghost use Rattle.rds_session.specs.Versions.{format_of};
 ghost use Rattle.rds_session.specs.Checked.{passes};
 ghost use Rattle.rds_session.specs.Received.{Brings, KnowsPeer, IsLongerIfThere};
 ghost use Rattle.rds_delta.specs.Claims.{IsCertificate};
@@ -17,13 +18,15 @@ ghost use Rattle.rds_session.specs.declared.talk.Stop.TheVariants.{Left, Refused
 
 use crate::content::{Content, Expected};
 use crate::kinds::ByeCode;
+use crate::marks::told_mark;
 use crate::message::Message;
-use crate::talk::{Act, Peer, Side, Stop, Turn, copy_of, format_with};
-use rds_codec::{Answer, Format, Hello};
+use crate::talk::{Act, Peer, Stop, Turn, copy_of};
+use crate::version::Version;
+use rds_codec::{Answer, Hello};
 use rds_delta::{Certificate, Digest, check};
 use rds_dots::DotSet;
 use rds_names::{Fault, Roster};
-use rds_state::{Replica, State};
+use rds_state::{Mark, Replica, State};
 use std::alloc::Global;
 
 // What a BYE that isn't the last message ends the session with.
@@ -47,10 +50,28 @@ fn judge_code<S: DotSet>(turn: &Turn<S>, code: ByeCode) -> Result<Act<S>, Stop>
 {
     match code {
         ByeCode::Done => match turn {
-            Turn::Bye => Ok(Act::Finish),
+            Turn::Bye { mark: None } => Ok(Act::Finish),
             _ => Err(Stop::Refused(Fault::OutOfTurn)),
         },
         code => Err(Stop::Left(fault_of(code))),
+    }
+}
+
+// The mark of what the peer holds, beside that of what is held here.
+fn judge_mark<S: DotSet>(turn: &Turn<S>, mark: Mark) -> Result<Act<S>, Stop>
+    ensures known { IfErr result StopsByNoDevice }
+    ensures judges { Judges result (mark_judged (wait_of turn.now) mark) }
+    ensures brings { (kept : ReplicaValue) → IfOk result (Brings kept (wait_of turn.now)) }
+{
+    match turn {
+        Turn::Bye { mark: Some(own) } => {
+            if *own == mark {
+                Ok(Act::Finish)
+            } else {
+                Ok(Act::Fork)
+            }
+        }
+        _ => Err(Stop::Refused(Fault::OutOfTurn)),
     }
 }
 
@@ -93,17 +114,23 @@ pub fn expected_of<S: DotSet>(kept: &Replica<S>, turn: &Turn<S>) -> Expected
             replicas: replicas_of(kept, &peer.roster),
         },
         Turn::Delta { peer, .. } => Expected::Delta {
-            format: peer.format,
+            format: peer.version.format(),
             replicas: replicas_of(kept, &peer.roster),
         },
-        Turn::Bye => Expected::Bye,
+        Turn::Bye { mark } => Expected::Bye {
+            marked: mark.is_some(),
+        },
     }
 }
 
-// Who says hello, in a format that is spoken with it.
-fn judge_member<S: DotSet>(kept: &Replica<S>, hello: Hello, format: Format) -> Result<Act<S>, Stop>
+// Who says hello, in a version that is spoken with it.
+fn judge_member<S: DotSet>(
+    kept: &Replica<S>,
+    version: Version,
+    hello: Hello,
+) -> Result<Act<S>, Stop>
     ensures known { IfErr result StopsByNoDevice }
-    ensures judges { Judges result (member_judged kept.now hello format) }
+    ensures judges { Judges result (member_judged kept.now version hello) }
     ensures brings { (turn : Awaited) → IfOk result (Brings kept.now turn) }
 {
     if hello.roster.group() != kept.roster().group() {
@@ -118,19 +145,8 @@ fn judge_member<S: DotSet>(kept: &Replica<S>, hello: Hello, format: Format) -> R
     Ok(Act::Greet(Peer {
         number: hello.own,
         roster: longer_than(kept.roster(), hello.roster),
-        format,
+        version,
     }))
-}
-
-fn judge_hello<S: DotSet>(side: Side, kept: &Replica<S>, hello: Hello) -> Result<Act<S>, Stop>
-    ensures known { IfErr result StopsByNoDevice }
-    ensures judges { Judges result (hello_judged side kept.now hello) }
-    ensures brings { (turn : Awaited) → IfOk result (Brings kept.now turn) }
-{
-    match format_with(side, hello.version) {
-        Some(format) => judge_member(kept, hello, format),
-        None => Err(Stop::Refused(Fault::WrongVersion)),
-    }
 }
 
 fn judge_digest<S: DotSet>(alloc: Global, peer: &Peer, digest: Digest<S>) -> Result<Act<S>, Stop>
@@ -144,7 +160,7 @@ fn judge_digest<S: DotSet>(alloc: Global, peer: &Peer, digest: Digest<S>) -> Res
         Peer {
             number: peer.number,
             roster,
-            format: peer.format,
+            version: peer.version,
         },
         digest,
     ))
@@ -177,7 +193,7 @@ fn judge_delta<S: DotSet>(
     ensures known { IfErr result StopsByNoDevice }
     ensures judges { Judges result (delta_judged kept.now peer.now answer) }
     ensures brings { (turn : Awaited) → IsLongerIfThere kept.now.roster peer.now.roster
-        → IsRead peer.now.format (replicas_of kept.now peer.now.roster) answer → IfOk result (Brings kept.now turn) }
+        → IsRead (format_of peer.now.version) (replicas_of kept.now peer.now.roster) answer → IfOk result (Brings kept.now turn) }
 {
     if answer.asker != kept.own() {
         return Err(Stop::Refused(Fault::WrongAsker));
@@ -186,7 +202,8 @@ fn judge_delta<S: DotSet>(
         return Err(Stop::Refused(Fault::BadCertificate));
     }
     let roster = copy_of(alloc, &peer.roster)?;
-    Ok(Act::Receive(answer.state, roster))
+    let mark = told_mark(alloc, peer.version, kept.state(), &answer.state)?;
+    Ok(Act::Receive(answer.state, roster, mark))
 }
 
 // A BYE may come at any time, another message where it is waited for.
@@ -204,8 +221,9 @@ fn judge_content<S: DotSet>(
 {
     match content {
         Content::Bye(code) => judge_code(turn, code),
-        Content::Hello(hello) => match turn {
-            Turn::Hello { side } => judge_hello(*side, kept, hello),
+        Content::Mark(mark) => judge_mark(turn, mark),
+        Content::Hello(version, hello) => match turn {
+            Turn::Hello { .. } => judge_member(kept, version, hello),
             _ => Err(Stop::Refused(Fault::OutOfTurn)),
         },
         Content::Digest(digest) => match turn {

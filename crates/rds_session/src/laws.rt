@@ -3,7 +3,7 @@ ghost use Rattle.std.specs.Prelude.{◌≡◌};
 ghost use Rattle.rds_session.specs.ByMessages.{IsByMessages, IsQuiet};
 ghost use Rattle.rds_session.specs.Checked.{IsLeastDelta, IsOwnCertificate, PassesExactly};
 ghost use Rattle.rds_session.specs.OneResult.{HasOneResult};
-ghost use Rattle.rds_session.specs.Meeting.{BothEnd, KeepsAtEnd, ReceiveDeltas, ServesEither};
+ghost use Rattle.rds_session.specs.Meeting.{BothEnd, BothTellForks, HoldJoins, KeepsAtEnd, ReceiveDeltas, ServesEach};
 ghost use Rattle.rds_session.specs.Stream.{AreSplit, AreSplitOnce};
 ghost use Rattle.rds_session.specs.declared.chunks.TheConstants.{MESSAGE_LIMIT};
 
@@ -23,24 +23,27 @@ pub fn a_course_is_by_messages()
 {}
 
 /// Two sessions, a client's and a server's, of replicas with different numbers and rosters one of which begins the
-/// other. Their messages, in format 2, are all within the limit. Where each hears a beginning of what the other sent,
+/// other. Their messages, in the client's version, are all within the limit. Where each hears a beginning of what the other sent,
 /// wherever it was cut, each has received nothing, or exactly what the other has and it lacks, and the other's roster
 /// exactly where that is longer. Where each hears all that the other sent, both have received that and both are done.
-/// And of any session: the end of a stream takes nothing from what was received. The function does nothing: its
-/// contract is these laws.
+/// In version 3 no dot may be live in both with different entries for that. Where the marks of what they hold by then,
+/// their joins, differ, both tell a fork. And of any session: the end of a stream takes nothing from what was received.
+/// The function does nothing: its contract is these laws.
 pub fn two_sessions()
     ensures receive { ReceiveDeltas }
     ensures end { BothEnd }
+    ensures forks { BothTellForks }
+    ensures joins { HoldJoins }
     ensures cut { KeepsAtEnd }
 {}
 
-/// A server hears all that a client says in a whole session in either format, however its messages were cut. The two
+/// A server hears all that a client says in a whole session in any version, however its messages were cut. The two
 /// replicas have different numbers and rosters one of which begins the other, and their messages are within the limit.
-/// Then the server has said HELLO with the client's version and its delta in the client's format, and is done. It has
-/// received exactly what the client has and it lacks, and the client's roster exactly where that is longer. The
-/// function does nothing: its contract is this law.
+/// In version 3 no dot is live in both with different entries. Then the server has said HELLO with the client's version
+/// and its delta in that version's format, and is done. It has received exactly what the client has and it lacks, and
+/// the client's roster exactly where that is longer. The function does nothing: its contract is this law.
 pub fn a_server_speaks_its_clients_version()
-    ensures { ServesEither }
+    ensures { ServesEach }
 {}
 
 /// Two results of a step of a session that has the standing of a stream, where memory ran out in neither, are one: the

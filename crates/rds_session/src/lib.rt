@@ -9,11 +9,13 @@ mod exchanging;
 mod judging;
 mod kinds;
 mod laws;
+mod marks;
 mod message;
 mod sending;
 mod session;
 mod step;
 mod talk;
+mod version;
 mod writing;
 
 pub use exchanging::{Exchanged, exchange};
@@ -25,3 +27,4 @@ pub use laws::{
 pub use session::Session;
 pub use step::{Ended, Input, Output};
 pub use talk::Side;
+pub use version::Version;

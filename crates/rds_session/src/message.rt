@@ -1,21 +1,25 @@
 //! What has come of a message.
-ghost use Rattle.std.specs.Prelude.{◌≡◌, ◌≤◌, ℕ, List, [], ◌∷◌, ◌++◌, length, Some, IfOk, IfErr};
+ghost use Rattle.std.specs.Prelude.{◌≡◌, ◌≤◌, ◌&&◌, ℕ, true, false, List, [], ◌∷◌, ◌++◌, length, Some, IfOk, IfErr};
 ghost use Rattle.rds_names.specs.declared.fault.Fault.TheVariants.{Memory};
 ghost use Rattle.rds_bytes.specs.Reading.{Reads};
 ghost use Rattle.rds_codec.specs.declared.limits.TheConstants.{LIMIT};
 ghost use Rattle.rds_keep.specs.Feeding.{AreBytes};
 ghost use Rattle.rds_session.specs.declared.content.Expected.{Expected};
 ghost use Rattle.rds_session.specs.declared.content.Expected.TheVariants as expecteds;
+ghost use Rattle.rds_session.specs.declared.kinds.ByeCode.TheVariants as byes;
 ghost use Rattle.rds_session.specs.declared.kinds.MessageKind.TheVariants as kinds;
 ghost use Rattle.rds_session.specs.Begun.{Holds, HoldsBody};
-ghost use Rattle.rds_session.specs.Contents.{content_value, message_read};
+ghost use Rattle.rds_session.specs.Contents.{content_value, expects_mark, message_read};
+ghost use Rattle.rds_session.specs.Judging.{is_done};
 ghost use Rattle.rds_session.specs.Messages.{bye_of, number_of};
 
 use crate::came::Came;
 use crate::coming::Coming;
 use crate::content::{Content, Expected};
 use crate::kinds::{ByeCode, MessageKind};
-use crate::talk::{Side, format_with};
+use crate::marks::{MARK_LENGTH, read_mark};
+use crate::talk::{Side, version_with};
+use crate::version::Version;
 use rds_codec::{Format, UnfinishedAnswer, UnfinishedDigest, UnfinishedHello};
 use rds_dots::DotSet;
 use rds_names::Fault;
@@ -27,15 +31,17 @@ pub enum Body<S: DotSet> {
     /// It is a HELLO to this side, of which no version has come.
     Greeting { side: Side },
     /// It is a HELLO of a version that is spoken.
-    Hello(Coming<UnfinishedHello>),
+    Hello(Version, Coming<UnfinishedHello>),
     /// It is a DIGEST.
     Digest(Coming<UnfinishedDigest<S>>),
     /// It is a DELTA.
     Delta(Coming<UnfinishedAnswer<S>>),
     /// It is a BYE, of which no code has come.
-    Parting,
-    /// It is a BYE with this code.
+    Parting { marked: bool },
+    /// It is a BYE with this code, which says no mark.
     Bye(ByeCode),
+    /// It is a BYE with the code `Done` and a mark, of which these bytes have come.
+    Mark(Vec<u8>),
     /// It is refused, however it goes on.
     Refused(Fault),
 }
@@ -44,10 +50,12 @@ pub enum Body<S: DotSet> {
 impl<S: DotSet> Drop for Body<S> {
     fn drop(self) {
         match self {
-            Body::Greeting { side: _ } | Body::Parting | Body::Bye(_) | Body::Refused(_) => {}
-            Body::Hello(_text) => {}
+            Body::Greeting { side: _ } | Body::Parting { marked: _ } => {}
+            Body::Bye(_) | Body::Refused(_) => {}
+            Body::Hello(_, _text) => {}
             Body::Digest(_text) => {}
             Body::Delta(_text) => {}
+            Body::Mark(_bytes) => {}
         }
     }
 }
@@ -59,38 +67,65 @@ fn greeting<S: DotSet>(alloc: Global, side: Side, run: &[u8]) -> Result<Body<S>,
 {
     match run {
         [] => Ok(Body::Greeting { side }),
-        [version, ..] => {
-            if format_with(side, *version).is_none() {
-                return Ok(Body::Refused(Fault::WrongVersion));
-            }
-            Ok(Body::Hello(Coming::new(alloc, Format::Two, 0).add(run)?))
-        }
-    }
-}
-
-// What a BYE is with the first bytes of its body, which is its code.
-fn parting<S: DotSet>(run: &[u8]) -> Body<S>
-    ensures { (expected : Expected) → HoldsBody expected result (number_of kinds.Bye ∷ run.now) }
-{
-    match run {
-        [] => Body::Parting,
-        [byte, rest @ ..] => match ByeCode::from_byte(*byte) {
-            None => Body::Refused(Fault::Bad),
-            Some(code) if rest.is_empty() => Body::Bye(code),
-            Some(_) => Body::Refused(Fault::Extra),
+        [byte, rest @ ..] => match version_with(side, *byte) {
+            None => Ok(Body::Refused(Fault::WrongVersion)),
+            Some(version) => hello(alloc, version, rest),
         },
     }
 }
 
-// What a BYE with this code is with the next bytes, of which it has none.
+// What a HELLO of this version is with the next bytes: they are read as those of a hello of the version's format.
+fn hello<S: DotSet>(alloc: Global, version: Version, run: &[u8]) -> Result<Body<S>, Fault>
+    ensures ok { IfOk result (λ new. (side : Side) (byte : ℕ) → version_with side byte ≡ Some version
+        → HoldsBody (expecteds.Hello side) new (number_of kinds.Hello ∷ byte ∷ run.now)) }
+    ensures memory { IfErr result (λ e. e ≡ Memory) }
+{
+    let begun = Coming::new(alloc, Format::Two, 0).add(&[version.format().version()])?;
+    Ok(Body::Hello(version, begun.add(run)?))
+}
+
+// What a BYE is with the first bytes of its body, which begins with its code.
+fn parting<S: DotSet>(alloc: Global, marked: bool, run: &[u8]) -> Result<Body<S>, Fault>
+    ensures ok { IfOk result (λ new. (expected : Expected) → expects_mark expected ≡ marked
+        → HoldsBody expected new (number_of kinds.Bye ∷ run.now)) }
+    ensures memory { IfErr result (λ e. e ≡ Memory) }
+{
+    match run {
+        [] => Ok(Body::Parting { marked }),
+        [byte, rest @ ..] => match ByeCode::from_byte(*byte) {
+            None => Ok(Body::Refused(Fault::Bad)),
+            Some(ByeCode::Done) if marked => marking(Vec::new(alloc), rest),
+            Some(code) => Ok(parted(code, rest)),
+        },
+    }
+}
+
+// What a BYE with this code is with the next bytes, where it says no mark: it has none.
 fn parted<S: DotSet>(code: ByeCode, run: &[u8]) -> Body<S>
     ensures { (expected : Expected) (byte : ℕ) → bye_of byte ≡ Some code
+        → expects_mark expected && is_done code ≡ false
         → HoldsBody expected result (number_of kinds.Bye ∷ byte ∷ run.now) }
 {
     match run {
         [] => Body::Bye(code),
         [_, ..] => Body::Refused(Fault::Extra),
     }
+}
+
+// What a BYE with a mark, of which these bytes have come, is with the next ones.
+fn marking<S: DotSet>(bytes: Vec<u8>, run: &[u8]) -> Result<Body<S>, Fault>
+    requires { length bytes.items ≤ 16 }
+    ensures ok { IfOk result (λ new. (expected : Expected) (byte : ℕ) → bye_of byte ≡ Some byes.Done
+        → expects_mark expected ≡ true
+        → HoldsBody expected new (number_of kinds.Bye ∷ byte ∷ (bytes.items ++ run.now))) }
+    ensures memory { IfErr result (λ e. e ≡ Memory) }
+{
+    if MARK_LENGTH - bytes.len() < run.len() {
+        return Ok(Body::Refused(Fault::Extra));
+    }
+    let mut bytes = bytes;
+    bytes.extend_from_slice(run)?;
+    Ok(Body::Mark(bytes))
 }
 
 impl<S: DotSet> Body<S> {
@@ -100,7 +135,9 @@ impl<S: DotSet> Body<S> {
     {
         match MessageKind::from_number(number) {
             None => Body::Refused(Fault::Bad),
-            Some(MessageKind::Bye) => Body::Parting,
+            Some(MessageKind::Bye) => Body::Parting {
+                marked: expected.is_marked(),
+            },
             Some(MessageKind::Hello) => match expected {
                 Expected::Hello { side } => Body::Greeting { side },
                 _ => Body::Refused(Fault::OutOfTurn),
@@ -127,11 +164,12 @@ impl<S: DotSet> Body<S> {
     {
         match self {
             Body::Greeting { side } => greeting(alloc, side, run),
-            Body::Hello(text) => Ok(Body::Hello(text.add(run)?)),
+            Body::Hello(version, text) => Ok(Body::Hello(version, text.add(run)?)),
             Body::Digest(text) => Ok(Body::Digest(text.add(run)?)),
             Body::Delta(text) => Ok(Body::Delta(text.add(run)?)),
-            Body::Parting => Ok(parting(run)),
+            Body::Parting { marked } => parting(alloc, marked, run),
             Body::Bye(code) => Ok(parted(code, run)),
+            Body::Mark(bytes) => marking(bytes, run),
             Body::Refused(fault) => Ok(Body::Refused(fault)),
         }
     }
@@ -141,11 +179,12 @@ impl<S: DotSet> Body<S> {
             → Reads content_value result (message_read expected came) }
     {
         match self {
-            Body::Greeting { side: _ } | Body::Parting => Err(Fault::Cut),
-            Body::Hello(text) => Ok(Content::Hello(text.end()?)),
+            Body::Greeting { side: _ } | Body::Parting { marked: _ } => Err(Fault::Cut),
+            Body::Hello(version, text) => Ok(Content::Hello(version, text.end()?)),
             Body::Digest(text) => Ok(Content::Digest(text.end()?)),
             Body::Delta(text) => Ok(Content::Delta(text.end()?)),
             Body::Bye(code) => Ok(Content::Bye(code)),
+            Body::Mark(bytes) => Ok(Content::Mark(read_mark(&bytes)?)),
             Body::Refused(fault) => Err(fault),
         }
     }

@@ -1,20 +1,20 @@
 //! Sending messages.
 ghost use Rattle.std.specs.Prelude.{◌≡◌, [], ◌∷◌};
-ghost use Rattle.rds_codec.specs.declared.formats.Format.TheVariants.{Two};
-ghost use Rattle.rds_session.specs.declared.kinds.ByeCode.TheVariants as byes;
 ghost use Rattle.rds_session.specs.Judging.{wait_of, saying_of, replies_of};
-ghost use Rattle.rds_session.specs.Messages.{hello_message, digest_message, delta_message, bye_message};
+ghost use Rattle.rds_session.specs.Messages.{hello_message, digest_message, delta_message, bye_message, done_message};
+ghost use Rattle.rds_session.specs.Versions.{format_of};
 ghost use Rattle.rds_session.specs.Sending.{SendsBody, SendsOne, SendsAll};
 ghost use Rattle.rds_session.specs.Session.{opening};
 
 use crate::kinds::{ByeCode, MessageKind};
 use crate::talk::{Act, Peer, Side, Turn};
+use crate::version::Version;
 use crate::writing::put_message;
-use rds_codec::{Format, Hello, answer_in, ask, encode_hello};
+use rds_codec::{Hello, answer_in, ask, encode_hello};
 use rds_delta::Digest;
 use rds_dots::DotSet;
 use rds_names::Fault;
-use rds_state::Replica;
+use rds_state::{Mark, Replica};
 use std::alloc::Global;
 
 // Adds a message whose body was encoded, and says whether it is within the limit.
@@ -36,12 +36,12 @@ fn send_hello<S: DotSet>(
     alloc: Global,
     send: &mut Vec<u8>,
     kept: &Replica<S>,
-    format: Format,
+    version: Version,
 ) -> Result<bool, Fault>
-    ensures { SendsOne send.old.items send.new.items (hello_message kept.now format) result }
+    ensures { SendsOne send.old.items send.new.items (hello_message kept.now version) result }
 {
     let hello = Hello {
-        version: format.version(),
+        version: version.byte(),
         roster: kept.roster().copy(alloc)?,
         own: kept.own(),
     };
@@ -66,9 +66,10 @@ fn send_delta<S: DotSet>(
     digest: &Digest<S>,
 ) -> Result<bool, Fault>
     ensures { SendsOne send.old.items send.new.items
-        (delta_message kept.now peer.now.format peer.now.number digest.now) result }
+        (delta_message kept.now (format_of peer.now.version) peer.now.number digest.now) result }
 {
-    let answered = answer_in(alloc, peer.format, peer.number, kept.state(), digest);
+    let format = peer.version.format();
+    let answered = answer_in(alloc, format, peer.number, kept.state(), digest);
     send_body(send, MessageKind::Delta, answered.map(|(body, _)| body))
 }
 
@@ -79,16 +80,33 @@ pub fn send_bye(send: &mut Vec<u8>, code: ByeCode) -> Result<bool, Fault>
     put_message(send, MessageKind::Bye, &[code.byte()])
 }
 
-/// Adds the messages with which a client begins.
+// Adds the BYE of a session that is done, with a mark where one is told.
+fn send_done(alloc: Global, send: &mut Vec<u8>, mark: Option<Mark>) -> Result<bool, Fault>
+    ensures { SendsOne send.old.items send.new.items (done_message mark) result }
+{
+    match mark {
+        None => send_bye(send, ByeCode::Done),
+        Some(mark) => {
+            let mut body = Vec::new(alloc);
+            body.push(ByeCode::Done.byte())?;
+            body.extend_from_slice(&mark.high.to_be_bytes())?;
+            body.extend_from_slice(&mark.low.to_be_bytes())?;
+            put_message(send, MessageKind::Bye, &body)
+        }
+    }
+}
+
+/// Adds the messages with which a client of this version begins.
 pub fn send_opening<S: DotSet>(
     alloc: Global,
     send: &mut Vec<u8>,
     kept: &Replica<S>,
+    version: Version,
 ) -> Result<bool, Fault>
     ensures { SendsAll send.old.items send.new.items
-        (hello_message kept.now Two ∷ digest_message kept.now ∷ []) result }
+        (hello_message kept.now version ∷ digest_message kept.now ∷ []) result }
 {
-    if !send_hello(alloc, send, kept, Format::Two)? {
+    if !send_hello(alloc, send, kept, version)? {
         return Ok(false);
     }
     send_digest(alloc, send, kept)
@@ -101,10 +119,10 @@ fn answer_digest<S: DotSet>(
     peer: &Peer,
     digest: &Digest<S>,
 ) -> Result<bool, Fault>
-    ensures { SendsAll send.old.items send.new.items (hello_message kept.now peer.now.format ∷ digest_message kept.now
-        ∷ delta_message kept.now peer.now.format peer.now.number digest.now ∷ []) result }
+    ensures { SendsAll send.old.items send.new.items (hello_message kept.now peer.now.version ∷ digest_message kept.now
+        ∷ delta_message kept.now (format_of peer.now.version) peer.now.number digest.now ∷ []) result }
 {
-    if !send_hello(alloc, send, kept, peer.format)? {
+    if !send_hello(alloc, send, kept, peer.version)? {
         return Ok(false);
     }
     if !send_digest(alloc, send, kept)? {
@@ -119,14 +137,15 @@ fn answer_delta<S: DotSet>(
     kept: &Replica<S>,
     peer: &Peer,
     digest: &Digest<S>,
+    mark: Option<Mark>,
 ) -> Result<bool, Fault>
     ensures { SendsAll send.old.items send.new.items
-        (delta_message kept.now peer.now.format peer.now.number digest.now ∷ bye_message byes.Done ∷ []) result }
+        (delta_message kept.now (format_of peer.now.version) peer.now.number digest.now ∷ done_message mark ∷ []) result }
 {
     if !send_delta(alloc, send, kept, peer, digest)? {
         return Ok(false);
     }
-    send_bye(send, ByeCode::Done)
+    send_done(alloc, send, mark)
 }
 
 /// Adds the messages that answer an accepted one.
@@ -143,14 +162,14 @@ pub fn send_replies<S: DotSet>(
         (replies_of side kept.now (wait_of turn.now) (saying_of act.now)) result }
 {
     match side {
-        Side::Server => match act {
-            Act::Learn(peer, digest) => answer_digest(alloc, send, kept, peer, digest),
-            Act::Finish => send_bye(send, ByeCode::Done),
-            Act::Greet(_) | Act::Receive(_, _) => Ok(true),
+        Side::Server => match (act, turn) {
+            (Act::Learn(peer, digest), _) => answer_digest(alloc, send, kept, peer, digest),
+            (Act::Finish | Act::Fork, Turn::Bye { mark }) => send_done(alloc, send, *mark),
+            _ => Ok(true),
         },
-        Side::Client => match (act, turn) {
-            (Act::Receive(_, _), Turn::Delta { peer, digest }) => {
-                answer_delta(alloc, send, kept, peer, digest)
+        Side::Client { version: _ } => match (act, turn) {
+            (Act::Receive(_, _, mark), Turn::Delta { peer, digest }) => {
+                answer_delta(alloc, send, kept, peer, digest, *mark)
             }
             _ => Ok(true),
         },

@@ -1,6 +1,6 @@
 //! One end of a session.
 ghost use Rattle.rds_session.specs.declared.chunks.TheConstants.{MESSAGE_LIMIT};
-ghost use Rattle.std.specs.Prelude.{◌≡◌, ◌<◌, ◌≤◌, [], true, false, None, Ok, OnOk, OnErr, IfOk, IfErr, length};
+ghost use Rattle.std.specs.Prelude.{◌≡◌, ◌≢◌, ◌<◌, ◌≤◌, [], true, false, None, Ok, OnOk, OnErr, IfOk, IfErr, length};
 ghost use Rattle.std.specs.Option.{option_copied};
 ghost use Rattle.rds_names.specs.declared.fault.Fault.TheVariants.{Memory};
 
@@ -21,8 +21,11 @@ use std::marker::Model;
 /// One end of a session: it tells what was kept here, and receives what the peer has and it lacks. All that it sends
 /// comes from the replica that it was lent.
 ///
-/// A client speaks version 2, and refuses a server of another. A server speaks the version that its client says, 1 or
-/// 2, and refuses any other. Its HELLO says that version, and the deltas of both are in that version's format.
+/// A client speaks one version, and refuses a server of another. A server speaks the version that its client says, and
+/// refuses one that it doesn't know. Its HELLO says that version, and the deltas of both are in that version's format.
+///
+/// In version 3 the last message of each side says the mark of what it holds by then. Where the two differ, both have
+/// seen the same and hold different entries: the session has failed with `Forked` at both ends. What it received stays.
 ///
 /// One of the two rosters begins the other: they are equal, or one of them has grown since. What the peer tells is read
 /// as of the replicas of the longer one, so that a peer whose roster has grown may tell of replicas that aren't named
@@ -82,7 +85,7 @@ impl<'a, S: DotSet> Session<'a, S> {
     ghost use Rattle.rds_state.specs.Fits.{ReplicaValue};
     ghost use Rattle.rds_session.specs.declared.step.Ended.TheVariants.{Going};
     ghost use Rattle.rds_session.specs.declared.talk.Side.{Side};
-    ghost use Rattle.rds_session.specs.declared.talk.Side.TheVariants.{Client};
+    ghost use Rattle.rds_session.specs.declared.talk.Side.TheVariants.{Server};
     ghost use Rattle.rds_session.specs.Chunks.{start};
     ghost use Rattle.rds_session.specs.Contents.{expected_of};
     ghost use Rattle.rds_session.specs.Judging.{StopsByNoDevice, saying_of};
@@ -230,7 +233,7 @@ impl<'a, S: DotSet> Session<'a, S> {
     #[tactic(auto, unfolding(crate::specs::Session::after_opening), using(crate::proofs::Moves::all_sent, crate::proofs::Moves::some_sent),)]
     fn open(&mut self, alloc: Global, send: &mut Vec<u8>) -> Result<(), Fault>
         ensures does { Does self.old send.old.items self.new send.new.items result after_opening }
-        ensures begins { OnErr result ((self.old.begun ≡ false) × (self.old.side ≡ Client)) }
+        ensures begins { OnErr result ((self.old.begun ≡ false) × (self.old.side ≢ Server)) }
         ensures known { OnOk result (IsNoDevice self.old.ended → IsNoDevice self.new.ended) }
         ensures kept { self.new.kept ≡ self.old.kept }
     {
@@ -238,8 +241,8 @@ impl<'a, S: DotSet> Session<'a, S> {
             return Ok(());
         }
         match self.side {
-            Side::Client => {
-                let all = send_opening(alloc, send, self.kept.view_of())?;
+            Side::Client { version } => {
+                let all = send_opening(alloc, send, self.kept.view_of(), version)?;
                 if all {
                     self.begun = true;
                 } else {
@@ -375,11 +378,12 @@ impl<'a, S: DotSet> Session<'a, S> {
         match act {
             Act::Greet(peer) => self.turn = Turn::Digest { peer },
             Act::Learn(peer, digest) => self.turn = Turn::Delta { peer, digest },
-            Act::Receive(delta, roster) => {
-                self.turn = Turn::Bye;
+            Act::Receive(delta, roster, mark) => {
+                self.turn = Turn::Bye { mark };
                 self.received = Some((delta, roster));
             }
             Act::Finish => self.ended = Ended::Done,
+            Act::Fork => self.ended = Ended::Failed(Fault::Forked),
         }
     }
 

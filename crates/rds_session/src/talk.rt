@@ -1,36 +1,36 @@
 //! The words of a session: who speaks, what is waited for, what was said.
 ghost use Rattle.std.specs.Prelude.{◌≡◌, IfOk, IfErr};
 ghost use Rattle.rds_names.specs.declared.fault.Fault.TheVariants.{Memory};
-ghost use Rattle.rds_session.specs.Judging.{format_with};
+ghost use Rattle.rds_session.specs.Judging.{version_with};
 ghost use Rattle.rds_session.specs.Messages.{code_of};
 
 use crate::kinds::ByeCode;
-use rds_codec::{Format, VERSION};
+use crate::version::Version;
 use rds_delta::Digest;
 use rds_dots::DotSet;
 use rds_names::{Fault, Roster};
-use rds_state::State;
+use rds_state::{Mark, State};
 use std::alloc::Global;
 
 /// Which end of the stream.
 #[derive(Clone, Copy, Debug, PartialEq, Eq)]
 pub enum Side {
-    /// It speaks first.
-    Client,
-    /// It answers.
+    /// It speaks first, in this version.
+    Client { version: Version },
+    /// It answers in the version of its client.
     Server,
 }
 
-/// The format that a side speaks with a peer that says this version: a server any that its client speaks, a client
-/// format 2 alone.
-pub fn format_with(side: Side, version: u8) -> Option<Format>
-    ensures { result ≡ format_with side version }
+/// The version that a side speaks with a peer that says this one: a server any that its client speaks, a client its own
+/// alone.
+pub fn version_with(side: Side, byte: u8) -> Option<Version>
+    ensures { result ≡ version_with side byte }
 {
     match side {
-        Side::Server => Format::of_version(version),
-        Side::Client => {
-            if version == VERSION {
-                Some(Format::Two)
+        Side::Server => Version::from_byte(byte),
+        Side::Client { version } => {
+            if byte == version.byte() {
+                Some(version)
             } else {
                 None
             }
@@ -38,12 +38,12 @@ pub fn format_with(side: Side, version: u8) -> Option<Format>
     }
 }
 
-/// Who speaks at the other end: its own number, its roster where that is longer than the own one, and the format that
+/// Who speaks at the other end: its own number, its roster where that is longer than the own one, and the version that
 /// is spoken with it.
 pub struct Peer {
     pub number: u8,
     pub roster: Option<Roster>,
-    pub format: Format,
+    pub version: Version,
 }
 
 // Written out, so that where a peer is let go a caller's proof has one call.
@@ -52,7 +52,7 @@ impl Drop for Peer {
         let Peer {
             number: _,
             roster: _roster,
-            format: _,
+            version: _,
         } = self;
     }
 }
@@ -74,14 +74,15 @@ pub enum Turn<S: DotSet> {
     Hello { side: Side },
     Digest { peer: Peer },
     Delta { peer: Peer, digest: Digest<S> },
-    Bye,
+    /// A BYE, with the mark of what is held here by then, where marks are told.
+    Bye { mark: Option<Mark> },
 }
 
 // Written out, so that where a turn goes on a caller's proof has one call, and not a step for each part of its parts.
 impl<S: DotSet> Drop for Turn<S> {
     fn drop(self) {
         match self {
-            Turn::Hello { side: _ } | Turn::Bye => {}
+            Turn::Hello { side: _ } | Turn::Bye { mark: _ } => {}
             Turn::Digest { peer: _peer } => {}
             Turn::Delta {
                 peer: _peer,
@@ -98,10 +99,13 @@ pub enum Act<S: DotSet> {
     Greet(Peer),
     /// Who the peer is, and its digest.
     Learn(Peer, Digest<S>),
-    /// What the peer has and this side lacks, and the peer's roster where that is longer.
-    Receive(State<S>, Option<Roster>),
+    /// What the peer has and this side lacks, the peer's roster where that is longer, and the mark of what is held here
+    /// with it, where marks are told.
+    Receive(State<S>, Option<Roster>, Option<Mark>),
     /// The peer is done.
     Finish,
+    /// The peer is done, and holds other entries than this side.
+    Fork,
 }
 
 /// Why a message ends the session.

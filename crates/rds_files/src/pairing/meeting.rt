@@ -3,6 +3,7 @@ ghost use Rattle.std.specs.Prelude.{◌≡◌, ◌≤◌, ◌<◌, [], true, len
 ghost use Rattle.rds_names.specs.declared.fault.Fault.TheVariants.{Device};
 ghost use Rattle.rds_session.specs.declared.step.Ended.TheVariants.{Going};
 ghost use Rattle.rds_session.specs.declared.talk.Side.TheVariants.{Client, Server};
+ghost use Rattle.rds_session.specs.declared.version.Version.TheVariants.{Two};
 ghost use Rattle.rds_session.specs.Leaving.{Leaves};
 ghost use Rattle.rds_session.specs.Received.{delivery_of};
 ghost use Rattle.rds_session.specs.Steps.{IsOver};
@@ -12,7 +13,7 @@ use super::end::End;
 use rds_dots::DotSet;
 use rds_keep::Kept;
 use rds_names::Fault;
-use rds_session::{Exchanged, Side};
+use rds_session::{Exchanged, Side, Version};
 use std::alloc::Global;
 use std::io;
 use std::io::{ErrorKind, Read, Write};
@@ -66,10 +67,13 @@ pub fn meet<T: Read + Write + OpenStream + Drop, S: DotSet>(
     second: &Kept<S>,
     link: Link<T>,
 ) -> (Exchanged<S>, Exchanged<S>)
-    ensures client { Leaves Client first.now (delivery_of result.0.received result.0.roster) result.0.ended }
+    ensures client { Leaves (Client Two) first.now (delivery_of result.0.received result.0.roster) result.0.ended }
     ensures server { Leaves Server second.now (delivery_of result.1.received result.1.roster) result.1.ended }
 {
-    let mut client = End::begin(alloc, Side::Client, first, link.client);
+    let side = Side::Client {
+        version: Version::Two,
+    };
+    let mut client = End::begin(alloc, side, first, link.client);
     let mut server = End::begin(alloc, Side::Server, second, link.server);
     talk(alloc, turns, &mut client, &mut server);
     (client.leave(), server.leave())

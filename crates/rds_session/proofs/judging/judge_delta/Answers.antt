@@ -6,6 +6,7 @@ use Rattle.rds_state.specs.Value.{StateValue, coordinates}
 use Rattle.rds_codec.specs.AnswerValues.{AnswerValue}
 use Rattle.rds_codec.proofs.Replicas.{state_fits}
 use Rattle.rds_session.specs.Judging.{Receives, delta_judged, read_then, replicas_of}
+use Rattle.rds_session.specs.Marked.{told_mark}
 use Rattle.rds_session.specs.Received.{IsChecked}
 use Rattle.rds_session.proofs.judging.judge_delta.Goals as goal
 
@@ -16,7 +17,8 @@ returns-clause-brings g c = λ turn longer read.
     let delta = c.answer.inside.state in
     let state = sym (ap (λ (a : AnswerValue). a.state) c.answer.view_is) in
     let fits = state_fits (replicas_of kept peer.roster) c.args.answer.state read.value.state in
-    let judged : delta_judged kept peer c.args.answer ≡ Ok (Receives delta peer.roster) = search rules in
+    let mark = told_mark peer.version kept.state delta in
+    let judged : delta_judged kept peer c.args.answer ≡ Ok (Receives delta peer.roster mark) = search rules in
     let checked : IsChecked kept (delta, peer.roster) = record {
       fits = subst (λ (v : StateValue). Fits (replicas_of kept peer.roster) (coordinates v)) state fits;
       grows = longer;

@@ -1,0 +1,61 @@
+//! The versions of a session.
+ghost use Rattle.std.specs.Prelude.{◌≡◌};
+ghost use Rattle.rds_session.specs.Versions.{format_of, tells_marks, version_byte, version_said};
+
+use rds_codec::Format;
+
+/// A version of a session: a client says it, and its server speaks it.
+#[derive(Clone, Copy, Debug, PartialEq, Eq)]
+pub enum Version {
+    /// Deltas are in format 1.
+    One,
+    /// Deltas are in format 2.
+    Two,
+    /// As version 2. The last message of each side says the mark of what it holds then, so that forks are told.
+    Three,
+}
+
+impl Version {
+    /// The byte by which a HELLO says it.
+    pub fn byte(self) -> u8
+        ensures { result ≡ version_byte self }
+    {
+        match self {
+            Version::One => 1,
+            Version::Two => 2,
+            Version::Three => 3,
+        }
+    }
+
+    /// The version that this byte says.
+    pub fn from_byte(byte: u8) -> Option<Version>
+        ensures { result ≡ version_said byte }
+    {
+        match byte {
+            1 => Some(Version::One),
+            2 => Some(Version::Two),
+            3 => Some(Version::Three),
+            _ => None,
+        }
+    }
+
+    /// The format of its deltas.
+    pub fn format(self) -> Format
+        ensures { result ≡ format_of self }
+    {
+        match self {
+            Version::One => Format::One,
+            Version::Two | Version::Three => Format::Two,
+        }
+    }
+
+    /// Whether each side tells the mark of what it holds at the end.
+    pub fn tells_marks(self) -> bool
+        ensures { result ≡ tells_marks self }
+    {
+        match self {
+            Version::One | Version::Two => false,
+            Version::Three => true,
+        }
+    }
+}
