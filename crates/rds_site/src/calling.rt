@@ -73,7 +73,7 @@ impl Patience {
             (Some(limit), ErrorKind::WouldBlock | ErrorKind::TimedOut) => {
                 Trouble::Silence(limit.timeout.as_secs())
             }
-            _ => Trouble::System(error),
+            _ => Trouble::from(error),
         }
     }
 }
@@ -253,6 +253,6 @@ pub fn caller_of<'a, H: Disk + Net>(
     let destination = find_node(rt, name, token)?;
     match Caller::new(rt, destination, timeout) {
         Ok(caller) => Ok(caller),
-        Err(error) => Err(tell(rt, name, Trouble::System(error))),
+        Err(error) => Err(tell(rt, name, Trouble::from(error))),
     }
 }

@@ -90,7 +90,7 @@ impl Channel {
                 Err(error) => {
                     self.heard = Heard::after(&error);
                     if self.heard == Heard::Gone {
-                        return Err(Trouble::System(error));
+                        return Err(Trouble::from(error));
                     }
                     return Ok(None);
                 }

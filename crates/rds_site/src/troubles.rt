@@ -56,7 +56,10 @@ impl From<AllocError> for Trouble {
 
 impl From<io::Error> for Trouble {
     fn from(error: io::Error) -> Trouble {
-        Trouble::System(error)
+        match error.kind() {
+            io::ErrorKind::OutOfMemory => Trouble::Memory,
+            _ => Trouble::System(error),
+        }
     }
 }
 
