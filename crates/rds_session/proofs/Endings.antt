@@ -1,15 +1,12 @@
 -- How a session ends, by the marks that are told.
-use Rattle.std.proofs.Common.{◌≡◌, ◌≢◌, Bool, true, false, cond, Option, Some, None, refl, sym, ap, ◌∙◌, tt}
+use Rattle.std.proofs.Common.{◌≡◌, ◌≢◌, Bool, true, false, cond, Option, Some, None, refl, sym, ap, ◌∙◌}
 use mathlib.Core.Bool.{false≢true}
-use Rattle.std.proofs.lemmas.Bool.Decides.{Decides-and, Decides-eqb, Decides-like}
-use Rattle.std.specs.Bool.{Decides}
 use Rattle.rds_delta.proofs.LeastLaws.{compatible_sym}
 use Rattle.rds_state.specs.Fits.{ReplicaValue}
 use Rattle.rds_state.specs.Mark.{mark_of}
 use Rattle.rds_state.specs.Value.{coordinates}
-use Rattle.rds_state.specs.declared.mark.Mark.{Mark}
 use Rattle.rds_session.proofs.Joined.{both_hold}
-use Rattle.rds_session.proofs.Marks.{mark_is_mark, same_halves}
+use Rattle.rds_session.proofs.MarkTexts.{mark_is_mark, same_decides}
 use Rattle.rds_session.proofs.Told.{AreAlike, ending}
 use Rattle.rds_session.specs.Judging.{Finishes, Forks}
 use Rattle.rds_session.specs.Marked.{same_mark}
@@ -23,11 +20,6 @@ pub are_alike : (version : Version) (a b c d : ReplicaValue) → AreAlike (last_
 are_alike One a b c d = tt
 are_alike Two a b c d = tt
 are_alike Three a b c d = mark_is_mark (held_with c d)
-
-same_decides : (m n : Mark) → Decides (same_mark m n) (m ≡ n)
-same_decides m n =
-    Decides-like (same_mark m n) (λ p. same_halves m n p.0 p.1) (λ p. (ap (λ (x : Mark). x.high) p, ap (λ (x : Mark). x.low) p))
-    (Decides-and _ _ (Decides-eqb m.high n.high) (Decides-eqb m.low n.low))
 
 -- replicas that agree hold one state, so they finish
 pub ending_agreed : (version : Version) (own peer : ReplicaValue) → AgreeWhereTold version own peer → ending (last_mark version own peer) (last_mark version peer own) ≡ Finishes

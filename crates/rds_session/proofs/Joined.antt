@@ -1,19 +1,19 @@
 -- With a delta that is above what is kept there is their join.
-use Rattle.std.proofs.Common.{◌≡◌, ◌∙◌, ℕ, ◌<◌, Bool, true, false, cond, List, [], ◌∷◌, ◌++◌, max, Option, Some, None, is_some, refl, sym, ap, subst, arith}
+use Rattle.std.proofs.Common.{◌≡◌, ◌∙◌, ◌<◌, Bool, true, false, cond, List, [], ◌∷◌, ◌++◌, max, Option, Some, None, is_some, refl, sym, ap, subst, arith}
 use Rattle.std.specs.FinMap as map
 use Rattle.std.specs.Ordering.{eq_by_cmp}
 use Rattle.std.specs.declared.cmp.Ordering.{Ordering}
 use Rattle.rds_dots.specs.declared.dot.Dot.{Dot}
 use Rattle.rds_dots.specs.Dots.{dot_cmp}
-use Rattle.rds_dots.specs.Order.{dots_total, dots_exact}
-use Rattle.rds_counts.specs.Counted.{Above, number, number_from}
+use Rattle.rds_dots.specs.Order.{dots_total}
+use Rattle.rds_counts.specs.Counted.{Above, number_from}
 use Rattle.rds_counts.specs.Place.{Place, place_cmp}
-use Rattle.rds_counts.specs.PlaceOrder.{place_total, place_exact}
+use Rattle.rds_counts.specs.PlaceOrder.{place_total}
 use Rattle.rds_delta.proofs.Digests.{ranks_of_digest}
 use Rattle.rds_delta.proofs.LeastLaws.{grown_delta, least_above}
-use Rattle.rds_delta.specs.Digested.{digest_of, ranks_in}
+use Rattle.rds_delta.specs.Digested.{digest_of}
 use Rattle.rds_delta.specs.Least.{IsAbove, least}
-use Rattle.rds_delta.specs.Ranks.{Ranks, life_rank, ranks}
+use Rattle.rds_delta.specs.Ranks.{life_rank, ranks}
 use Rattle.rds_life.specs.Life.{Life, Live, Dead, AreCompatible, join_life}
 use Rattle.rds_state.proofs.JoinLaws.{commutative, reflexive, same_coordinates, same_value}
 use Rattle.rds_state.specs.Coordinates.{Coordinates, join}
@@ -30,13 +30,13 @@ abbrev over : {X : Type 0} → Option X → Option X → Option X
 over (Some x) below = Some x
 over None below = below
 
+find_by : {X : Type 0} (b : Bool) (x : X) (all first later : Option X) → all ≡ over first later → cond b (Some x) all ≡ over (cond b (Some x) first) later
+find_by true x all first later is = refl
+find_by false x all first later is = is
+
 find_over : {K X : Type 0} (R : K → K → Ordering) (q : K) (xs ys : List (K × X)) → map.find R q (xs ++ ys) ≡ over (map.find R q xs) (map.find R q ys)
 find_over R q [] ys = refl
-find_over {K} {X} R q (e ∷ xs) ys = by (eq_by_cmp R q e.0)
-  where
-    by : (b : Bool) → cond b (Some e.1) (map.find R q (xs ++ ys)) ≡ over (cond b (Some e.1) (map.find R q xs)) (map.find R q ys)
-    by true = refl
-    by false = find_over R q xs ys
+find_over R q (e ∷ xs) ys = find_by (eq_by_cmp R q e.0) e.1 (map.find R q (xs ++ ys)) (map.find R q xs) (map.find R q ys) (find_over R q xs ys)
 
 life_over : (kept delta : StateValue) (d : Dot) → map.get (with_delta kept delta).lives d ≡ over (map.get delta.lives d) (map.get kept.lives d)
 life_over kept delta d =

@@ -6,7 +6,7 @@ pub mod Cutting
 pub mod Endings
 pub mod Joined
 pub mod Knowing
-pub mod Marks
+pub mod MarkTexts
 pub mod Meeting
 pub mod Messages
 pub mod Moves

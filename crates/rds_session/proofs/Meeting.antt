@@ -15,10 +15,11 @@ use Rattle.rds_session.specs.declared.step.Ended.TheVariants.{Going, Done, Faile
 use Rattle.rds_session.specs.Checked.{least_state}
 use Rattle.rds_session.specs.Chunks.{Under, start, Scan, Whole, scan, message_in_chunks}
 use Rattle.rds_session.specs.declared.version.Version.{Version}
-use Rattle.rds_session.specs.Judging.{Awaited, ForBye, Said, Greets, Learns, Receives, Finishes, Forks, verdict, longer_than, replies_of}
+use Rattle.rds_session.specs.Judging.{ForBye, Said, Greets, Learns, Receives, Finishes, Forks, verdict, longer_than, replies_of}
 use Rattle.rds_session.specs.ByMessages.{after_message, talk}
 use Rattle.rds_session.specs.Meeting.{AgreeWhereTold, IsBeginningOf, CanMeet, IsItsDelta, Hear, HearAll, HaveEnded, ReceiveDeltas, BothEnd, BothTellForks, ServesEach, held_with, last_mark, words_in}
 use Rattle.rds_session.specs.Messages.{hello_message, digest_message, delta_message, done_message}
+use Rattle.rds_session.specs.Marked.{same_mark}
 use Rattle.rds_session.specs.Received.{Delivery}
 use Rattle.rds_session.specs.Sending.{sending, then_sent}
 use Rattle.rds_session.specs.Session.{Standing, Sent, fresh, then_more, when_going, refuses, after_sending, after_said, ended_after, received_after, after_verdict, message_comes, after_scan, run, opening, after_opening, So_far, course}
@@ -141,14 +142,10 @@ client_told_by version a b h = record { roster = h.roster; others = λ e. h.othe
 server_told_by : (version : Version) (a b : ReplicaValue) → CanMeet version a b → IsTold version b a
 server_told_by version a b h = record { roster = other_way h.roster; others = h.others; text = h.a_text; own_text = h.b_text; room = h.a_room }
 
--- what the last word says to a server: it has the same answer either way
-said_last : (version : Version) (own peer : ReplicaValue) (said : Said) (mark : Option Mark) → (said ≡ Finishes) ⊎ (said ≡ Forks) → (s : Standing) → s.side ≡ Server → s.turn ≡ ForBye mark
+-- a server answers the last word either way; a client doesn't
+said_last : (said : Said) (mark : Option Mark) → (said ≡ Finishes) ⊎ (said ≡ Forks) → (s : Standing) → s.side ≡ Server → s.turn ≡ ForBye mark
     → replies_of s.side s.kept s.turn said ≡ done_message mark ∷ []
-said_last version own peer said mark is s side turn = elim is [ inl done ↦ rw (side, turn, done) refl | inr forks ↦ rw (side, turn, forks) refl ]
-
--- to a client it has none
-said_to_client : (version : Version) (said : Said) (turn : Awaited) (k : ReplicaValue) → (said ≡ Finishes) ⊎ (said ≡ Forks) → replies_of (Client version) k turn said ≡ []
-said_to_client version said turn k is = elim is [ inl done ↦ rw done refl | inr forks ↦ rw forks refl ]
+said_last said mark is s side turn = elim is [ inl done ↦ rw (side, turn, done) refl | inr forks ↦ rw (side, turn, forks) refl ]
 
 ends_so : (own mark : Option Mark) → (ending own mark ≡ Finishes) ⊎ (ending own mark ≡ Forks)
 ends_so None mark = inl refl
@@ -177,7 +174,7 @@ module _ (version : Version) (a b : ReplicaValue) (h : CanMeet version a b) wher
       let said = ending (last_mark version a b) (last_mark version b a) in
       one_talks (client_told version a b) (done_message (last_mark version b a)) said [] refl refl (done_fits (last_mark version b a))
       (done_accepted a (last_mark version a b) (last_mark version b a) (are_alike version a b b a))
-      (said_to_client version said (ForBye (last_mark version a b)) a (ends_so (last_mark version a b) (last_mark version b a))) tt
+      refl tt
 
   server_hears : Talks (server b) (greeting version a) (server_asked version b a) (server_says version b a)
   server_hears =
@@ -195,7 +192,7 @@ module _ (version : Version) (a b : ReplicaValue) (h : CanMeet version a b) wher
       (one_talks (server_asked version b a) (delta_message a (format_of version) b.own (digest_of b.state)) (delivered version b a) [] refl refl h.a_room.delta (delta_accepted version b a (digest_of a.state) (server_told_by version a b h)) refl tt)
       (one_talks s3 (done_message (last_mark version a b)) said (last_word version b a) refl refl (done_fits (last_mark version a b))
       (done_accepted b (last_mark version b a) (last_mark version a b) (are_alike version b a a b))
-      (said_last version b a said (last_mark version b a) (ends_so (last_mark version b a) (last_mark version a b)) s3 refl refl) (done_fits (last_mark version b a), tt))
+      (said_last said (last_mark version b a) (ends_so (last_mark version b a) (last_mark version a b)) s3 refl refl) (done_fits (last_mark version b a), tt))
 
   client_opens : after_opening (fresh (Client version) a) ≡ (client version a, texts (greeting version a))
   client_opens = opened_by (fresh (Client version) a) (greeting version a) refl refl (h.a_room.hello, (h.a_room.digest, tt))
@@ -445,7 +442,7 @@ module _ (version : Version) (a b : ReplicaValue) (h : CanMeet version a b) wher
       let said = ending (last_mark version b a) (last_mark version a b) in
       talked (server_told version b a) (done_message (last_mark version a b)) [] said (last_word version b a) refl (done_fits (last_mark version a b))
       (done_accepted b (last_mark version b a) (last_mark version a b) (are_alike version b a a b))
-      (said_last version b a said (last_mark version b a) (ends_so (last_mark version b a) (last_mark version a b)) (server_told version b a) refl refl) (done_fits (last_mark version b a), tt)
+      (said_last said (last_mark version b a) (ends_so (last_mark version b a) (last_mark version a b)) (server_told version b a) refl refl) (done_fits (last_mark version b a), tt)
       ∙ ap (λ (t : List ℕ). (server_done version b a, t)) (append-nil (texts (last_word version b a)))
 
   told_with : talk (client_says version a b) (server_asked version b a) ≡ (server_done version b a, texts (last_word version b a))

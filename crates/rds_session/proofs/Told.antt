@@ -37,7 +37,7 @@ use Rattle.rds_session.specs.declared.version.Version.TheVariants.{One, Two, Thr
 use Rattle.rds_session.specs.Judging.{ForHello, ForDigest, ForDelta, ForBye, Said, Greets, Learns, Receives, Finishes, Forks, verdict, read_then, version_with, version_came, member_judged, delta_judged, mark_judged, longer_than}
 use Rattle.rds_session.specs.Marked.{mark_bytes, mark_in, same_mark, told_mark}
 use Rattle.rds_session.specs.Versions.{as_hello, format_of, version_byte}
-use Rattle.rds_session.proofs.Marks.{IsMark, mark_again}
+use Rattle.rds_session.proofs.MarkTexts.{IsMark, mark_again}
 use Rattle.rds_session.specs.Meeting.{HasRoom, IsItsLeast, last_mark}
 use Rattle.rds_session.specs.Messages.{hello_message, digest_message, delta_message, done_message}
 use Rattle.rds_session.specs.Received.{Delivery}

@@ -1,16 +1,15 @@
 -- Marks are read as they are written, and with a delta that is above what is kept there is their join.
-use Rattle.std.proofs.Common.{◌≡◌, ◌≢◌, ◌∙◌, ℕ, zero, suc, ◌^◌, ◌<◌, ◌≤◌, Bool, true, false, cond, ltb, List, [], ◌∷◌, ◌++◌, length, Option, Some, None, is_some, Ok, refl, sym, ap, subst, inl, inr, arith}
-use Rattle.std.specs.Prelude.{fold, max, nat_lt}
-use Rattle.std.specs.FinMap as map
-use Rattle.std.specs.Int.{w64, from_be_bytes, to_be_bytes}
+use Rattle.std.proofs.Common.{◌≡◌, ◌^◌, ◌<◌, List, [], ◌∷◌, Ok, ap, arith}
+use Rattle.std.specs.Prelude.{fold}
+use Rattle.std.proofs.lemmas.Bool.Decides.{Decides-and, Decides-eqb, Decides-like}
 use Rattle.std.proofs.lemmas.Nat.{from_be_bytes-to_be_bytes_8}
-use Rattle.rds_names.specs.declared.fault.Fault.{Fault}
+use Rattle.std.specs.Bool.{Decides}
 use Rattle.rds_state.specs.Mark.{count_mark, live_mark, mark_of, no_mark, plus, plus_count, plus_live}
 use Rattle.rds_counts.specs.RowsOf.{count_rows}
 use Rattle.rds_life.specs.Life.{live_rows}
 use Rattle.rds_state.specs.Value.{StateValue}
 use Rattle.rds_state.specs.declared.mark.Mark.{Mark}
-use Rattle.rds_session.specs.Marked.{mark_bytes, mark_in}
+use Rattle.rds_session.specs.Marked.{mark_bytes, mark_in, same_mark}
 
 -- ---- as bytes
 
@@ -38,6 +37,12 @@ mark_is_mark v =
 
 same_halves : (m n : Mark) → m.high ≡ n.high → m.low ≡ n.low → m ≡ n
 same_halves m n p q = λ i. record { high = p i; low = q i }
+
+-- two marks are one exactly where their halves are
+pub same_decides : (m n : Mark) → Decides (same_mark m n) (m ≡ n)
+same_decides m n =
+    Decides-like (same_mark m n) (λ p. same_halves m n p.0 p.1) (λ p. (ap (λ (x : Mark). x.high) p, ap (λ (x : Mark). x.low) p))
+    (Decides-and _ _ (Decides-eqb m.high n.high) (Decides-eqb m.low n.low))
 
 -- what is written is read again
 pub mark_again : (m : Mark) → IsMark m → mark_in (mark_bytes m) ≡ Ok m
