@@ -317,8 +317,12 @@ def snapshot_text(replica, format=2):
     return b"RDS%d" % format + who_text(replica) + state_text(replica.state, format)
 
 
+def format_of(version):
+    """The format in which a session of a version has its deltas."""
+    return min(version, 2)
+
+
 def hello_text(replica, version=2):
-    """A session of a version speaks in the format of that number."""
     return number(version, 1) + who_text(replica)
 
 
@@ -377,6 +381,11 @@ def certificate(delta, digest):
 
 def answer_text(asker, delta, digest, format=2):
     return number(asker, 1) + state_text(delta, format) + many(4, certificate(delta, digest))
+
+
+def done_text(state, version):
+    """The last message of a side that holds this by then: a bye 0, and in version 3 the mark behind it."""
+    return b"\4\0" + (bytes.fromhex(mark_of(state)) if version == 3 else b"")
 
 
 def question_text(replica):
@@ -731,7 +740,7 @@ class Course:
 
     def __init__(self, replica, stream):
         self.replica, self.waits, self.digest, self.received, self.said = replica, [HELLO, DIGEST, DELTA, BYE], None, None, b""
-        self.names = replica.names
+        self.names, self.version = replica.names, None
         self.fault, self.is_bye = 23, False
         try:
             self.hear(stream)
@@ -767,17 +776,24 @@ class Course:
     def judge_bye(self, body):
         refuse_if(not body, 12)
         refuse_if(body[0] > 6, 13)
-        refuse_if(len(body) > 1, 14)
-        self.is_bye = body[0] > 0
-        refuse_if(self.is_bye, {1: 18, 2: 19, 3: 20, 4: 21}.get(body[0], 23))
+        code, mark = body[0], body[1:]
+        size = 16 * (code == 0 and self.version == 3 and self.waits == [BYE])
+        refuse_if(len(mark) < size, 12)
+        refuse_if(len(mark) > size, 14)
+        self.is_bye = code > 0
+        refuse_if(self.is_bye, {1: 18, 2: 19, 3: 20, 4: 21}.get(code, 23))
         refuse_if(self.waits != [BYE], 22)
         self.waits = []
-        self.said += message(bytes([BYE, 0]))
+        done = done_text(self.replica.state.joined(self.received), self.version)
+        self.said += message(done)
+        # The own bye is said, and nothing more: what was received stays.
+        self.is_bye = True
+        refuse_if(mark != done[2:], 28)
 
     def judge_hello(self, body):
         reader = Reader(body)
         self.version = reader.number(1)
-        refuse_if(self.version not in (1, 2), 18)
+        refuse_if(self.version not in (1, 2, 3), 18)
         group, names, own = who(reader)
         reader.end()
         refuse_if(group != self.replica.group, 19)
@@ -793,13 +809,13 @@ class Course:
         theirs = {dot: 2 - (dot in live) for dot in set_of(seen)}, numbers
         state = self.replica.state
         self.digest = state.digest()
-        delta = answer_text(self.asker, state.least(theirs), theirs, self.version)
+        delta = answer_text(self.asker, state.least(theirs), theirs, format_of(self.version))
         texts = [b"\1" + hello_text(self.replica, self.version), b"\2" + digest_text(self.digest), b"\3" + delta]
         self.said += b"".join(map(message, texts))
 
     def judge_delta(self, body):
         parts = Parts(body, len(self.names))
-        asker, state = parts.replica(), parts.state(self.version)
+        asker, state = parts.replica(), parts.state(format_of(self.version))
         rows = parts.many(4, parts.certificate_row)
         parts.end()
         refuse_if(asker != self.replica.own, 11)
@@ -810,9 +826,11 @@ class Course:
 
 
 def stream_of(client, server, delta=None, asker=None, version=2):
-    """The messages that a client of a version says to a server, and with them this delta in place of its own."""
+    """The messages that a client of a version says to a server, and with them this delta in place of its own. The mark is that of
+    what the client has then."""
     digest = server.state.digest()
+    held = client.state.joined(server.state.least(client.state.digest()))
     delta = client.state.least(digest) if delta is None else delta
     asker = server.own if asker is None else asker
     texts = [b"\1" + hello_text(client, version), b"\2" + digest_text(client.state.digest())]
-    return texts + [b"\3" + answer_text(asker, delta, digest, version), b"\4\0"]
+    return texts + [b"\3" + answer_text(asker, delta, digest, format_of(version)), done_text(held, version)]

@@ -14,8 +14,8 @@ use crate::sessions::Sessions;
 use crate::simulated::Simulated;
 use crate::sizes::{add_digits_in, fill, holds_as, run_as};
 use crate::wire::{
-    answer_by_lines, answer_failing, answer_held, answer_notes, answer_over, answer_piped,
-    answer_serving, answer_slow, answer_talk, answer_wire,
+    answer_by_lines, answer_failing, answer_held, answer_notes, answer_older, answer_over,
+    answer_piped, answer_serving, answer_slow, answer_talk, answer_wire,
 };
 use crate::worlds::Worlds;
 use rds_dots::ListSet;
@@ -158,6 +158,7 @@ impl Table for Transcript<'_> {
             "over" => answer_over(self.rt, rest, self.input.as_slice()),
             "by_lines" => answer_by_lines(self.rt, rest, self.input.as_slice()),
             "failing" => answer_failing(self.rt, rest),
+            "older" => answer_older(self.rt, rest, self.input.as_slice()),
             "held" => answer_held(self.rt, rest),
             "notes" => answer_notes(self.rt, rest),
             "serving" => answer_serving(self.rt, rest, self.input.as_slice()),

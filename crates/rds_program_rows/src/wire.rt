@@ -107,6 +107,26 @@ pub fn answer_failing(rt: &HostRuntime, row: &str) -> Result<String, Fault> {
     run_noted(rt, words, &Wire::new(rt.alloc(), fails))
 }
 
+/// `older CALL | WORDS`: the same over connections with an older server, which says a BYE of 1 at first, and what the input is to
+/// the one that connects next. Answers also what was said to it.
+pub fn answer_older<'a>(
+    rt: &'a HostRuntime,
+    row: &'a str,
+    input: &'a [u8],
+) -> Result<String, Fault> {
+    let (fails, words) = parted(row, " | ")?;
+    let wire = Wire::with_older_server(rt.alloc(), fails, input)?;
+    let words = named(rt.alloc(), words)?;
+    let (written, status) = run_on_wire(rt, &words, &wire, b"");
+    let noted = wire.calls.noted();
+    let heard = bytes_told(rt.alloc(), &wire.heard())?;
+    let Ok(text) = str::from_utf8(&written) else {
+        return Err(Fault::Bad);
+    };
+    let end = format!(in rt.alloc(); "{noted}{heard}\n{text}status {status}")?;
+    wire.calls.told_with(end.as_str())
+}
+
 /// `held FILE HOLDER CALL | WORDS`: the same while the file's lock is taken. A node has it that is reached at the address
 /// HOLDER, and writes its note; or one whose note is there already (`node`); or a command (`command`).
 pub fn answer_held<'a>(rt: &'a HostRuntime, row: &'a str) -> Result<String, Fault> {

@@ -72,7 +72,7 @@ impl<'a> Net for Wired<'a> {
     fn connect(&self, addr: SocketAddr) -> io::Result<End<'a>> {
         let to = format!(in self.rt.alloc(); "{addr}")?;
         self.wire.calls.call("connect", to.as_str())?;
-        Ok(self.wire.client())
+        self.wire.connected()
     }
 
     fn connect_timeout(&self, _addr: SocketAddr, _timeout: Duration) -> io::Result<End<'a>> {

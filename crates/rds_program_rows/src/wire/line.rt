@@ -11,6 +11,9 @@ use std::net::{IpAddr, Ipv4Addr, OpenListener, OpenStream, Shutdown, SocketAddr}
 use std::os::fd::{AsRawFd, RawFd};
 use std::time::Duration;
 
+// The BYE of a server that doesn't speak the version.
+const OLDER: &[u8] = &[0, 2, 4, 1, 0, 0];
+
 // What goes one way and hasn't been read, and whether more may come.
 #[derive(Drop)]
 struct Lane {
@@ -85,6 +88,9 @@ pub struct Wire<'a> {
     pub clock: Reads,
     to_server: Lane,
     to_client: Lane,
+    // What the peer says to each that connects behind the first.
+    then: Vec<u8>,
+    is_called: Cell<bool>,
     pub is_strange: bool,
 }
 
@@ -96,6 +102,8 @@ impl<'a> Wire<'a> {
             clock: Reads::new(0, usize::MAX),
             to_server: Lane::new(alloc),
             to_client: Lane::new(alloc),
+            then: Vec::new(alloc),
+            is_called: Cell::new(false),
             is_strange: fails == "stranger",
         }
     }
@@ -107,9 +115,10 @@ impl<'a> Wire<'a> {
         Ok(wire)
     }
 
-    /// With a peer that says these bytes, whichever end it is.
+    /// With a peer that says these bytes, whichever end it is, and says them anew to each that connects.
     pub fn with_peer(alloc: Global, fails: &'a str, said: &[u8]) -> Result<Wire<'a>, Fault> {
-        let wire = Wire::new(alloc, fails);
+        let mut wire = Wire::new(alloc, fails);
+        wire.then.extend_from_slice(said)?;
         for lane in [&wire.to_client, &wire.to_server] {
             let Ok(()) = lane.put(alloc, said) else {
                 return Err(Fault::Memory);
@@ -117,6 +126,36 @@ impl<'a> Wire<'a> {
             lane.is_shut.set(true);
         }
         Ok(wire)
+    }
+
+    /// With an older server: it says a BYE of 1 to the first that connects, and these bytes to the next.
+    pub fn with_older_server(
+        alloc: Global,
+        fails: &'a str,
+        said: &[u8],
+    ) -> Result<Wire<'a>, Fault> {
+        let mut wire = Wire::new(alloc, fails);
+        wire.then.extend_from_slice(said)?;
+        let Ok(()) = wire.to_client.put(alloc, OLDER) else {
+            return Err(Fault::Memory);
+        };
+        wire.to_client.is_shut.set(true);
+        Ok(wire)
+    }
+
+    /// The end of the next one that connects.
+    pub fn connected(&'a self) -> io::Result<End<'a>> {
+        if self.is_called.replace(true) {
+            let alloc = self.calls.alloc;
+            self.to_client.bytes.set(Vec::new(alloc));
+            self.to_client.put(alloc, &self.then)?;
+        }
+        Ok(self.client())
+    }
+
+    /// What was said to the server and not read by it.
+    pub fn heard(&self) -> Vec<u8> {
+        self.to_server.bytes.replace(Vec::new(self.calls.alloc))
     }
 
     /// The end that connects.
