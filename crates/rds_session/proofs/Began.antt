@@ -1,7 +1,8 @@
 -- What has come of a message, with the next bytes and at its end.
-use Rattle.std.proofs.Common.{◌≡◌, ℕ, ◌≤◌, ◌<◌, ◌&&◌, Bool, true, false, cond, ltb, List, [], ◌∷◌, ◌++◌, length, get_or, Option, Some, None, Result, Ok, Err, refl, sym, ap, ◌∙◌, subst, append_assoc, length-append, arith}
+use Rattle.std.proofs.Common.{◌≡◌, ℕ, ◌≤◌, ◌<◌, ◌&&◌, Bool, true, false, cond, ltb, List, [], ◌∷◌, ◌++◌, ◌-◌, length, take, drop, get_or, Option, Some, None, Result, Ok, Err, refl, sym, ap, ◌∙◌, subst, append_assoc, length-append, arith}
 use Rattle.std.proofs.lemmas.Bool.{lt-ltb, le-ltb}
-use Rattle.std.proofs.lemmas.List.{append-nil}
+use Rattle.std.proofs.lemmas.List.{append-nil, take_rest}
+use Rattle.std.specs.Prelude.{IfOk}
 use Rattle.rds_names.specs.declared.fault.Fault.{Fault}
 use Rattle.rds_names.specs.declared.fault.Fault.TheVariants.{Memory, Cut, Bad, Extra, WrongVersion, OutOfTurn}
 use Rattle.rds_delta.specs.Digested.{DigestValue}
@@ -16,7 +17,7 @@ use Rattle.rds_codec.specs.declared.hellos.Hello.{Hello}
 use Rattle.rds_codec.specs.declared.limits.TheConstants.{LIMIT}
 use Rattle.rds_session.specs.Bodies.{hello_in, digest_in, answer_in}
 use Rattle.rds_session.specs.Coming.{ComingValue}
-use Rattle.rds_session.specs.Contents.{ContentValue, OfHello, OfDigest, OfDelta, OfBye, OfMark, body_read, code_read, expects_mark, kind_read, message_read, plain_read, read_as, version_read}
+use Rattle.rds_session.specs.Contents.{ContentValue, OfHello, OfDigest, OfDelta, OfBye, OfMark, body_read, code_read, expects_mark, kind_read, message_read, read_as, version_read}
 use Rattle.rds_session.specs.Judging.{is_done, version_with}
 use Rattle.rds_session.specs.Marked.{mark_in}
 use Rattle.rds_session.specs.Messages.{bye_of, kind_of, number_of}
@@ -107,12 +108,21 @@ mark_longer expected b bytes is marked long more =
     ∙ ap (λ (m : Bool). code_read m (Some byes.Done) (bytes ++ more)) marked
     ∙ ap (read_as OfMark) (too_long (bytes ++ more) (omega (arith, long, length-append bytes more)))
 
+-- a code and what follows it
+pub code_and_rest : (run : List ℕ) → 1 ≤ length run → run ≡ get_or run 0 0 ∷ take (length run - 1) (drop 1 run)
+code_and_rest [] some = absurd (omega arith)
+code_and_rest (b ∷ rest) some = ap (λ (t : List ℕ). b ∷ t) (sym (take_rest (b ∷ rest) 1))
+
+pub if_ok_so : {A : Type 0} (r : Result A Fault) (P Q : A → Type 0) → IfOk r P → ((x : A) → P x → Q x) → IfOk r Q
+if_ok_so (Ok x) P Q is so = so x is
+if_ok_so (Err e) P Q is so = tt
+
 pub refused_still : (expected : Expected) (came run : List ℕ) (e : Fault) → IsRefusedSo expected came e → IsRefusedSo expected (came ++ run) e
 refused_still expected came run e was more = ap (message_read expected) (append_assoc came run more) ∙ was (run ++ more)
 
 -- ---- the end
 
-fails_so : {A : Type 0} (e : Fault) (read : Result A Fault) → read ≡ Err e → Fails e read
+pub fails_so : {A : Type 0} (e : Fault) (read : Result A Fault) → read ≡ Err e → Fails e read
 fails_so Memory read is = tt
 fails_so e read is = is
 

@@ -1,5 +1,5 @@
 -- What has come of a message, and what its bytes so far say of it.
-use Rattle.std.specs.Prelude.{◌≡◌, ◌≤◌, ℕ, true, false, ◌&&◌, List, [], ◌∷◌, ◌++◌, length, Option, Some, None, Err}
+use Rattle.std.specs.Prelude.{◌≡◌, ℕ, true, false, ◌&&◌, List, [], ◌∷◌, ◌++◌, Option, Some, None, Err}
 use Rattle.rds_session.specs.declared.content.Expected.{Expected}
 use Rattle.rds_session.specs.declared.content.Expected.TheVariants as expecteds
 use Rattle.rds_session.specs.declared.kinds.ByeCode.TheVariants as byes
@@ -33,7 +33,7 @@ HoldsBody expected (bodies.Bye code) came =
     × (expects_mark expected && is_done code ≡ false)
 HoldsBody expected (bodies.Mark bytes) came =
     (b : ℕ) × (came ≡ number_of kinds.Bye ∷ b ∷ bytes.items) × (bye_of b ≡ Some byes.Done)
-    × (expects_mark expected ≡ true) × (length bytes.items ≤ 16)
+    × (expects_mark expected ≡ true)
 HoldsBody expected (bodies.Refused e) came = (more : List ℕ) → message_read expected (came ++ more) ≡ Err e
 
 -- no byte came, or the body is of those that came

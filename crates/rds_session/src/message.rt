@@ -10,7 +10,7 @@ ghost use Rattle.rds_session.specs.declared.kinds.ByeCode.TheVariants as byes;
 ghost use Rattle.rds_session.specs.declared.kinds.MessageKind.TheVariants as kinds;
 ghost use Rattle.rds_session.specs.Begun.{Holds, HoldsBody};
 ghost use Rattle.rds_session.specs.Contents.{content_value, expects_mark, message_read};
-ghost use Rattle.rds_session.specs.Judging.{is_done};
+ghost use Rattle.rds_session.specs.Judging.{is_done, version_with};
 ghost use Rattle.rds_session.specs.Messages.{bye_of, number_of};
 
 use crate::came::Came;
@@ -114,13 +114,12 @@ fn parted<S: DotSet>(code: ByeCode, run: &[u8]) -> Body<S>
 
 // What a BYE with a mark, of which these bytes have come, is with the next ones.
 fn marking<S: DotSet>(bytes: Vec<u8>, run: &[u8]) -> Result<Body<S>, Fault>
-    requires { length bytes.items ≤ 16 }
     ensures ok { IfOk result (λ new. (expected : Expected) (byte : ℕ) → bye_of byte ≡ Some byes.Done
         → expects_mark expected ≡ true
         → HoldsBody expected new (number_of kinds.Bye ∷ byte ∷ (bytes.items ++ run.now))) }
     ensures memory { IfErr result (λ e. e ≡ Memory) }
 {
-    if MARK_LENGTH - bytes.len() < run.len() {
+    if MARK_LENGTH.saturating_sub(bytes.len()) < run.len() {
         return Ok(Body::Refused(Fault::Extra));
     }
     let mut bytes = bytes;

@@ -1,5 +1,4 @@
-use Rattle.std.proofs.Common.{◌≡◌, None, get_or, sym, rules}
-use Rattle.rds_session.specs.Judging.{version_with}
+use Rattle.std.proofs.Common.{sym}
 use Rattle.rds_session.proofs.Began.{other_version_refused}
 use Rattle.rds_session.proofs.message.greeting.Goals as goal
 

@@ -1,23 +1,24 @@
-use Rattle.std.proofs.Common.{inl, inr, Ok, Err}
+use Rattle.std.proofs.Common.{sym, ap, ◌∙◌, inl, inr, Ok, Err}
 use Rattle.std.proofs.lemmas.Result.{err_from_is_err_and}
-use Rattle.rds_session.proofs.Began.{greeting_said, parting_said, bye_said, refused_said, hello_said, digest_said, delta_said}
+use Rattle.rds_session.proofs.Began.{greeting_said, parting_said, bye_said, mark_said, fails_so, refused_said, hello_said, digest_said, delta_said}
+use Rattle.rds_session.specs.Marked.{mark_in}
 use Rattle.rds_session.proofs.message.Body.end.Goals as goal
 
 pub returns-in-Greeting : goal.returns-in-Greeting
 returns-in-Greeting g c = λ expected came holds within. elim c.in-Greeting.is [
   | inl is ↦ (let h = rw is.1 at holds in greeting_said expected _ came h.0 h.1)
-  | inr is ↦ parting_said expected came (rw is at holds)
+  | inr is ↦ (let h = rw is.1 at holds in parting_said expected came h.1)
 ]
 
 pub returns-in-Bye : goal.returns-in-Bye
-returns-in-Bye g c = λ expected came holds within. (let h = rw c.in-Bye.is at holds in bye_said expected came c.in-Bye.code h.0 h.1 h.2)
+returns-in-Bye g c = λ expected came holds within. (let h = rw c.in-Bye.is at holds in bye_said expected came c.in-Bye.code h.0 h.1 h.2 h.3)
 
 pub returns-in-Refused : goal.returns-in-Refused
 returns-in-Refused g c = λ expected came holds within. refused_said expected came c.in-Refused.fault (rw c.in-Refused.is at holds)
 
 pub returns-in_ok-end-in-Hello : goal.returns-in_ok-end-in-Hello
 returns-in_ok-end-in-Hello g c = λ expected came holds within.
-    (let h = rw c.in-Hello.is at holds in hello_said expected came within c.in-Hello.text (Ok c.in_ok-end-in-Hello.field-0) h.0 h.1 h.2 h.3 c.in_ok-end-in-Hello.ensures.read)
+    (let h = rw c.in-Hello.is at holds in hello_said expected came within c.in-Hello.text (Ok c.in_ok-end-in-Hello.field-0) h.0 c.in-Hello.version h.2 h.3 h.1 h.4 h.5 h.6 c.in_ok-end-in-Hello.ensures.read)
 
 pub returns-in_ok-end-in-Digest : goal.returns-in_ok-end-in-Digest
 returns-in_ok-end-in-Digest g c = λ expected came holds within.
@@ -31,7 +32,7 @@ pub returns-in_err-end-in-Hello : goal.returns-in_err-end-in-Hello
 returns-in_err-end-in-Hello g c =
     let p = err_from_is_err_and c.from_residual.result c.from_residual.ensures.1 in
     rw (p.1, p.2) (λ expected came holds within.
-    (let h = rw c.in-Hello.is at holds in hello_said expected came within c.in-Hello.text (Err c.in_err-end-in-Hello.field-0.0) h.0 h.1 h.2 h.3 c.in_err-end-in-Hello.ensures.read))
+    (let h = rw c.in-Hello.is at holds in hello_said expected came within c.in-Hello.text (Err c.in_err-end-in-Hello.field-0.0) h.0 c.in-Hello.version h.2 h.3 h.1 h.4 h.5 h.6 c.in_err-end-in-Hello.ensures.read))
 
 pub returns-in_err-end-in-Digest : goal.returns-in_err-end-in-Digest
 returns-in_err-end-in-Digest g c =
@@ -44,3 +45,18 @@ returns-in_err-end-in-Delta g c =
     let p = err_from_is_err_and c.from_residual-in_err-end-in-Delta.result c.from_residual-in_err-end-in-Delta.ensures.1 in
     rw (p.1, p.2) (λ expected came holds within.
     (let h = rw c.in-Delta.is at holds in delta_said expected came within c.in-Delta.text (Err c.in_err-end-in-Delta.field-0.0) h.0 h.1 c.in_err-end-in-Delta.ensures.read))
+
+pub returns-in_ok-read_mark-in-Mark : goal.returns-in_ok-read_mark-in-Mark
+returns-in_ok-read_mark-in-Mark g c = λ expected came holds within.
+    (let h = rw c.in-Mark.is at holds in
+    let read = ap mark_in (sym c.deref.ensures.value) ∙ c.in_ok-read_mark-in-Mark.ensures in
+    mark_said expected came c.in-Mark.bytes.items h.0 (Ok c.in_ok-read_mark-in-Mark.field-0) h.1 h.2 h.3 read)
+
+pub returns-in_err-read_mark-in-Mark : goal.returns-in_err-read_mark-in-Mark
+returns-in_err-read_mark-in-Mark g c =
+    let p = err_from_is_err_and c.from_residual-in_err-read_mark-in-Mark.result c.from_residual-in_err-read_mark-in-Mark.ensures.1 in
+    let e = c.in_err-read_mark-in-Mark.field-0.0 in
+    rw (p.1, p.2) (λ expected came holds within.
+    (let h = rw c.in-Mark.is at holds in
+    let read = ap mark_in (sym c.deref.ensures.value) ∙ c.in_err-read_mark-in-Mark.ensures in
+    mark_said expected came c.in-Mark.bytes.items h.0 (Err e) h.1 h.2 h.3 (fails_so e (mark_in c.in-Mark.bytes.items) read)))
