@@ -2,7 +2,8 @@
 ghost use Rattle.std.specs.Prelude.{◌≡◌, ◌≤◌, ◌⊎◌, true};
 ghost use Rattle.rds_keep.specs.Counted.{HasFailed};
 ghost use Rattle.rds_session.specs.declared.talk.Side.TheVariants.{Client, Server};
-ghost use Rattle.rds_files.specs.Syncing.{IsSpokenFor, MeetsPeer, WritesServing, WritesSession, WritesSessionsOf, WritesSync};
+ghost use Rattle.rds_files.specs.Reports.{WritesReport};
+ghost use Rattle.rds_files.specs.Syncing.{MeetsPeer, WritesServing, WritesSession, WritesSessionsOf, WritesSync};
 
 use crate::disk::{Disk, note};
 use crate::files::{FilePath, ReplicaFile};

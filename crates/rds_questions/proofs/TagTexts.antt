@@ -1,6 +1,6 @@
 -- Tags are read as they are spelled, and each replica's is one.
 use Rattle.std.proofs.Common.{◌≡◌, ◌∙◌, ℕ, zero, suc, ◌^◌, ◌<◌, List, [], ◌∷◌, ◌++◌, length, get_or, refl, sym, ap, subst, inl, inr, append_assoc, arith}
-use Rattle.std.specs.Prelude.{fold, slice_index}
+use Rattle.std.specs.Prelude.{slice_index}
 use Rattle.std.specs.Int.{to_be_bytes, w32, w64}
 use Rattle.std.proofs.lemmas.Bool.{cases_lt}
 use Rattle.std.proofs.lemmas.List.{get_or-take, get_or_past, take_at}
@@ -10,11 +10,7 @@ use Rattle.rds_bytes.specs.Reading.{bytes_at, number_at, pair_at}
 use Rattle.rds_bytes.proofs.Format.{IsBytes, IsFormat, Takes, known_format, made_format, number64, pair_format}
 use Rattle.rds_codec.proofs.Whole.{IsReaderOf}
 use Rattle.rds_state.specs.Fits.{ReplicaValue}
-use Rattle.rds_counts.specs.RowsOf.{count_rows}
-use Rattle.rds_life.specs.Life.{live_rows}
-use Rattle.rds_state.specs.Mark.{count_mark, live_mark, mark_of, no_mark, plus, plus_count, plus_live}
-use Rattle.rds_state.specs.Value.{StateValue}
-use Rattle.rds_state.specs.declared.mark.Mark.{Mark}
+use Rattle.rds_session.proofs.MarkTexts.{mark_is_mark}
 use Rattle.rds_questions.specs.Hashed.{question_hash, told_text}
 use Rattle.rds_questions.specs.Questions.{question_of}
 use Rattle.rds_questions.specs.Tags.{IsTag, IsTagOf, tag_at, tag_by, tag_kind, tag_of, tag_text}
@@ -59,27 +55,6 @@ digest_is_bytes h (suc n) = bytes_behind (digest_bytes h n) (to_be_bytes w32 (sl
 hash_is_bytes : (m : List ℕ) → IsBytes (sha256 m)
 unfolding sha256
 hash_is_bytes m = digest_is_bytes (final_hash initial_hash_256 m) 8
-
-record IsMark (m : Mark) : Type 0 where
-  high : m.high < 2 ^ 64
-  low : m.low < 2 ^ 64
-
-plus_is_mark : (m n : Mark) → IsMark (plus m n)
-unfolding plus
-plus_is_mark m n = record { high = omega arith; low = omega arith }
-
-sum_is_mark : {A : Type 0} (f : Mark → A → Mark) → ((m : Mark) (a : A) → IsMark (f m a)) → (m : Mark) → IsMark m → (xs : List A) → IsMark (fold f m xs)
-sum_is_mark f each m is [] = is
-sum_is_mark f each m is (x ∷ xs) = sum_is_mark f each (f m x) (each m x) xs
-
-empty_is_mark : IsMark no_mark
-empty_is_mark = record { high = omega arith; low = omega arith }
-
-mark_is_mark : (v : StateValue) → IsMark (mark_of v)
-unfolding mark_of
-mark_is_mark v =
-    sum_is_mark plus_count (λ m row. plus_is_mark m (count_mark row)) (fold plus_live no_mark (live_rows v.lives))
-    (sum_is_mark plus_live (λ m row. plus_is_mark m (live_mark row.0 row.1)) no_mark empty_is_mark (live_rows v.lives)) (count_rows v.counts)
 
 hash_is_of : (v : ReplicaValue) → question_hash (question_of v) ≡ sha256 (told_text (question_of v))
 unfolding question_hash
