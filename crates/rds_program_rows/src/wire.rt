@@ -109,11 +109,7 @@ pub fn answer_failing(rt: &HostRuntime, row: &str) -> Result<String, Fault> {
 
 /// `older CALL | WORDS`: the same over connections with an older server, which says a BYE of 1 at first, and what the input is to
 /// the one that connects next. Answers also what was said to it.
-pub fn answer_older<'a>(
-    rt: &'a HostRuntime,
-    row: &'a str,
-    input: &'a [u8],
-) -> Result<String, Fault> {
+pub fn answer_older(rt: &HostRuntime, row: &str, input: &[u8]) -> Result<String, Fault> {
     let (fails, words) = parted(row, " | ")?;
     let wire = Wire::with_older_server(rt.alloc(), fails, input)?;
     let words = named(rt.alloc(), words)?;
