@@ -26,7 +26,7 @@ use Rattle.rds_session.specs.Meeting.{HoldJoins, held_with}
 
 -- ---- one map laid over another
 
-abbrev over : {X : Type 0} → Option X → Option X → Option X
+abbrev pub over : {X : Type 0} → Option X → Option X → Option X
 over (Some x) below = Some x
 over None below = below
 
@@ -38,7 +38,7 @@ find_over : {K X : Type 0} (R : K → K → Ordering) (q : K) (xs ys : List (K �
 find_over R q [] ys = refl
 find_over R q (e ∷ xs) ys = find_by (eq_by_cmp R q e.0) e.1 (map.find R q (xs ++ ys)) (map.find R q xs) (map.find R q ys) (find_over R q xs ys)
 
-life_over : (kept delta : StateValue) (d : Dot) → map.get (with_delta kept delta).lives d ≡ over (map.get delta.lives d) (map.get kept.lives d)
+pub life_over : (kept delta : StateValue) (d : Dot) → map.get (with_delta kept delta).lives d ≡ over (map.get delta.lives d) (map.get kept.lives d)
 life_over kept delta d =
     map.get-from_entries dots_total (map.entries delta.lives ++ map.entries kept.lives) d
     ∙ find_over dot_cmp d (map.entries delta.lives) (map.entries kept.lives)

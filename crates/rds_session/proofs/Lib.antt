@@ -5,6 +5,7 @@ pub mod Course
 pub mod Cutting
 pub mod Endings
 pub mod Joined
+pub mod JoinedMarks
 pub mod Knowing
 pub mod MarkTexts
 pub mod Meeting
