@@ -49,14 +49,16 @@ where
         return give_up(writer, Fault::Device);
     };
     let newest = Side::Client {
-        version: Version::Three,
+        version: Version::Four,
     };
     let met = meet(rt, newest, &file, stream, timeout);
     if !met.is_of_older_server() {
         return tell(rt, &file, met, writer);
     }
     met.let_go(rt);
-    let _ = eprintln!(rt; "the peer speaks no session of version 3: calling again with version 2");
+    let _ = eprintln!(rt;
+        "{addr}: no session of version 4 is spoken there: calling again with version 2"
+    );
     match connect(rt, addr) {
         Some(stream) => sync(rt, Version::Two, &file, stream, timeout, writer),
         None => give_up(writer, Fault::Device),

@@ -1,5 +1,5 @@
 -- The hash of what a question tells, and what it tells that two are equal.
-use Rattle.std.specs.Prelude.{◌≡◌, ◌≢◌, ◌⊎◌, List, ℕ, ◌++◌}
+use Rattle.std.specs.Prelude.{◌≡◌, ◌⊎◌, List, ℕ, ◌++◌}
 use Rattle.sha2.specs.Sha256.{sha256}
 use Rattle.rds_bytes.specs.Spelling.{roster_text}
 use Rattle.rds_briefs.specs.Briefs.{brief_text}
@@ -9,6 +9,7 @@ use Rattle.rds_state.specs.Coordinates.{AreCompatible}
 use Rattle.rds_state.specs.Fits.{ReplicaValue}
 use Rattle.rds_state.specs.Mark.{mark_of}
 use Rattle.rds_state.specs.Value.{StateValue, coordinates}
+use Rattle.rds_session.specs.Hashes.{Collide}
 use Rattle.rds_questions.specs.Questions.{QuestionValue, question_kind, question_of}
 
 -- all of a question but who asks: the text of its roster, and the brief of its digest
@@ -17,11 +18,6 @@ told_text q = roster_text q.hello.roster ++ brief_text q.digest
 
 unfoldable pub question_hash : QuestionValue → List ℕ
 question_hash q = sha256 (told_text q)
-
--- two different texts with one SHA-256
-pub record Collide (one other : List ℕ) : Type 0 where
-  pub differ : one ≢ other
-  pub same : sha256 one ≡ sha256 other
 
 -- two questions tell the same: they have one roster and one digest
 pub record TellTheSame (q r : QuestionValue) : Type 0 where

@@ -1,8 +1,8 @@
 -- Which message is accepted when.
-use Rattle.std.proofs.Common.{ℕ, Bool, true, false, ◌&&◌, cond, eqb, List, [], ◌∷◌, Option, Some, None, Result, Ok, Err}
+use Rattle.std.proofs.Common.{ℕ, Bool, true, false, ◌&&◌, cond, eqb, ltb, List, [], ◌∷◌, length, Option, Some, None, Result, Ok, Err}
 use Rattle.std.specs.Str.{bytes_eq}
 use Rattle.rds_names.specs.declared.fault.Fault.{Fault}
-use Rattle.rds_names.specs.declared.fault.Fault.TheVariants.{WrongAsker, Cut, BadCertificate, WrongVersion, WrongGroup, WrongRoster, SameReplica}
+use Rattle.rds_names.specs.declared.fault.Fault.TheVariants.{WrongAsker, Cut, Bad, TooLong, BadCertificate, OutOfTurn, WrongVersion, WrongGroup, WrongRoster, SameReplica}
 use Rattle.rds_state.specs.Fits.{ReplicaValue}
 use Rattle.rds_delta.specs.Digested.{DigestValue, digest_of}
 use Rattle.rds_session.specs.declared.talk.Peer.{Peer}
@@ -10,6 +10,8 @@ use Rattle.rds_session.specs.declared.talk.Side.{Side}
 use Rattle.rds_session.specs.declared.talk.Stop.{Stop}
 use Rattle.rds_session.specs.declared.talk.Stop.TheVariants.{Refused}
 use Rattle.rds_codec.specs.AnswerValues.{AnswerValue}
+use Rattle.rds_codec.specs.DigestTexts.{digest_text}
+use Rattle.rds_codec.specs.declared.limits.TheConstants.{LIMIT}
 use Rattle.rds_state.specs.declared.mark.Mark.{Mark}
 use Rattle.rds_session.specs.declared.version.Version.{Version}
 use Rattle.rds_codec.specs.declared.hellos.Hello.{Hello}
@@ -19,14 +21,18 @@ use Rattle.rds_session.specs.declared.kinds.ByeCode.{ByeCode}
 use Rattle.rds_session.specs.declared.kinds.ByeCode.TheVariants as byes
 use Rattle.rds_session.specs.declared.kinds.MessageKind.{MessageKind}
 use Rattle.rds_session.specs.declared.kinds.MessageKind.TheVariants as kinds
+use Rattle.rds_session.specs.Hashes.{digest_hash, hash_in}
 use Rattle.rds_session.specs.Marked.{mark_in, same_mark, told_mark}
 use Rattle.rds_session.specs.Messages.{kind_of, bye_of}
 use Rattle.rds_session.specs.Versions.{as_hello, format_of}
-use Rattle.rds_session.specs.Judging.{Awaited, ForHello, ForDigest, ForDelta, ForBye, Said, Greets, Learns, Receives, Finishes, Forks, verdict, bye_came, bye_judged, code_came, plain_came, body_came, hello_came, kind_came, is_done, mark_judged, version_came, version_with, waits_for_mark, member_judged, delta_judged, read_then, one_begins, peer_of, replicas_of}
+use Rattle.rds_session.specs.Judging.{Awaited, ForHello, ForDigest, ForWhole, ForDelta, ForBye, Said, Greets, Learns, Shares, Misses, Receives, Finishes, Forks, verdict, bye_came, bye_judged, code_came, plain_came, body_came, hash_came, hash_judged, hash_said, hello_came, kind_came, is_done, mark_judged, version_came, version_with, waits_for_hash, waits_for_mark, member_judged, delta_judged, read_then, one_begins, peer_of, replicas_of}
 
 abbrev pub IsActFor : Awaited → Said → Type 0
 IsActFor (ForHello side) (Greets p) = Unit {0}
 IsActFor (ForDigest q) (Learns p g) = Unit {0}
+IsActFor (ForDigest q) (Shares p g) = Unit {0}
+IsActFor (ForDigest q) (Misses p) = Unit {0}
+IsActFor (ForWhole q) (Learns p g) = Unit {0}
 IsActFor (ForDelta q g) (Receives d r mark) = Unit {0}
 IsActFor (ForBye mark) Finishes = Unit {0}
 IsActFor (ForBye mark) Forks = Unit {0}
@@ -55,6 +61,7 @@ done_suits (ForBye None) = record { fits = tt }
 done_suits (ForBye (Some own)) = record { fits = tt }
 done_suits (ForHello side) = record { fits = tt }
 done_suits (ForDigest q) = record { fits = tt }
+done_suits (ForWhole q) = record { fits = tt }
 done_suits (ForDelta q g) = record { fits = tt }
 
 bye_judged_suits : (code : ByeCode) (turn : Awaited) → Suits turn (bye_judged code turn)
@@ -75,7 +82,28 @@ mark_suits (ForBye (Some own)) mark = either_suits (same_mark own mark)
 mark_suits (ForBye None) mark = record { fits = tt }
 mark_suits (ForHello side) mark = record { fits = tt }
 mark_suits (ForDigest q) mark = record { fits = tt }
+mark_suits (ForWhole q) mark = record { fits = tt }
 mark_suits (ForDelta q g) mark = record { fits = tt }
+
+hash_judged_suits : (kept : ReplicaValue) (turn : Awaited) (hash : List ℕ) → Suits turn (hash_judged kept turn hash)
+hash_judged_suits kept (ForDigest q) hash =
+    if_suits (ForDigest q) (ltb LIMIT (length (digest_text (digest_of kept.state)))) (Err (Refused TooLong)) (Ok (hash_said kept q hash))
+    (record { fits = tt })
+    (either_suits (bytes_eq hash (digest_hash (digest_of kept.state))))
+  where
+    either_suits : (same : Bool) → Suits (ForDigest q) (Ok (cond same (Shares q (digest_of kept.state)) (Misses q)))
+    either_suits true = record { fits = tt }
+    either_suits false = record { fits = tt }
+hash_judged_suits kept (ForHello side) hash = record { fits = tt }
+hash_judged_suits kept (ForWhole q) hash = record { fits = tt }
+hash_judged_suits kept (ForDelta q g) hash = record { fits = tt }
+hash_judged_suits kept (ForBye mark) hash = record { fits = tt }
+
+hash_suits : (kept : ReplicaValue) (turn : Awaited) (body : List ℕ) → Suits turn (hash_came kept turn body)
+hash_suits kept turn body =
+    if_suits turn (waits_for_hash turn) (read_then (hash_in body) (hash_judged kept turn)) (Err (Refused Bad))
+    (read_suits turn (hash_in body) (hash_judged kept turn) (hash_judged_suits kept turn))
+    (refusal_suits turn (Refused Bad))
 
 plain_suits : (turn : Awaited) (code : ByeCode) (rest : List ℕ) → Suits turn (plain_came turn code rest)
 plain_suits turn code [] = bye_judged_suits code turn
@@ -125,16 +153,20 @@ delta_suits q g kept a =
 
 body_suits : (kept : ReplicaValue) (kind : MessageKind) (turn : Awaited) (body : List ℕ) → Suits turn (body_came kept kind turn body)
 body_suits kept kinds.Bye turn body = bye_suits turn body
+body_suits kept kinds.Hash turn body = hash_suits kept turn body
 body_suits kept kinds.Hello (ForHello side) body = hello_suits side kept body
+body_suits kept kinds.Hello (ForWhole q) body = record { fits = tt }
 body_suits kept kinds.Hello (ForDigest q) body = record { fits = tt }
 body_suits kept kinds.Hello (ForDelta q g) body = record { fits = tt }
 body_suits kept kinds.Hello (ForBye mark) body = record { fits = tt }
 body_suits kept kinds.Digest (ForHello side) body = record { fits = tt }
 body_suits kept kinds.Digest (ForDigest q) body = read_suits (ForDigest q) (digest_in (replicas_of kept q.roster) body) (λ g. Ok (Learns q g)) (λ g. record { fits = tt })
+body_suits kept kinds.Digest (ForWhole q) body = read_suits (ForWhole q) (digest_in (replicas_of kept q.roster) body) (λ g. Ok (Learns q g)) (λ g. record { fits = tt })
 body_suits kept kinds.Digest (ForDelta q g) body = record { fits = tt }
 body_suits kept kinds.Digest (ForBye mark) body = record { fits = tt }
 body_suits kept kinds.Delta (ForHello side) body = record { fits = tt }
 body_suits kept kinds.Delta (ForDigest q) body = record { fits = tt }
+body_suits kept kinds.Delta (ForWhole q) body = record { fits = tt }
 body_suits kept kinds.Delta (ForDelta q g) body = read_suits (ForDelta q g) (answer_in (format_of q.version) (replicas_of kept q.roster) body) (delta_judged kept q) (delta_suits q g kept)
 body_suits kept kinds.Delta (ForBye mark) body = record { fits = tt }
 

@@ -17,7 +17,8 @@ use Rattle.rds_codec.specs.declared.hellos.Hello.{Hello}
 use Rattle.rds_codec.specs.declared.limits.TheConstants.{LIMIT}
 use Rattle.rds_session.specs.Bodies.{hello_in, digest_in, answer_in}
 use Rattle.rds_session.specs.Coming.{ComingValue}
-use Rattle.rds_session.specs.Contents.{ContentValue, OfHello, OfDigest, OfDelta, OfBye, OfMark, body_read, code_read, expects_mark, kind_read, message_read, read_as, version_read}
+use Rattle.rds_session.specs.Contents.{ContentValue, OfHello, OfDigest, OfHash, OfDelta, OfBye, OfMark, body_read, code_read, expects_hash, expects_mark, hash_read, kind_read, message_read, read_as, version_read}
+use Rattle.rds_session.specs.Hashes.{hash_in}
 use Rattle.rds_session.specs.Judging.{is_done, version_with}
 use Rattle.rds_session.specs.Marked.{mark_in}
 use Rattle.rds_session.specs.Messages.{bye_of, kind_of, number_of}
@@ -48,30 +49,35 @@ out_of_turn expected n kind is refused more = ap (λ (k : Option MessageKind). k
 
 no_hello : (expected : Expected) → ((side : Side) → expected ≡ expecteds.Hello side → ⊥) → (body : List ℕ) → body_read expected kinds.Hello body ≡ Err OutOfTurn
 no_hello (expecteds.Hello side) other body = absurd (other side refl)
-no_hello (expecteds.Digest n) other body = refl
+no_hello (expecteds.Digest n hashed) other body = refl
 no_hello (expecteds.Delta format n) other body = refl
 no_hello (expecteds.Bye marked) other body = refl
 
-no_digest : (expected : Expected) → ((n : ℕ) → expected ≡ expecteds.Digest n → ⊥) → (body : List ℕ) → body_read expected kinds.Digest body ≡ Err OutOfTurn
+no_digest : (expected : Expected) → ((n : ℕ) (hashed : Bool) → expected ≡ expecteds.Digest n hashed → ⊥) → (body : List ℕ) → body_read expected kinds.Digest body ≡ Err OutOfTurn
 no_digest (expecteds.Hello side) other body = refl
-no_digest (expecteds.Digest n) other body = absurd (other n refl)
+no_digest (expecteds.Digest n hashed) other body = absurd (other n hashed refl)
 no_digest (expecteds.Delta format n) other body = refl
 no_digest (expecteds.Bye marked) other body = refl
 
 no_delta : (expected : Expected) → ((format : Format) (n : ℕ) → expected ≡ expecteds.Delta format n → ⊥) → (body : List ℕ) → body_read expected kinds.Delta body ≡ Err OutOfTurn
 no_delta (expecteds.Hello side) other body = refl
-no_delta (expecteds.Digest n) other body = refl
+no_delta (expecteds.Digest n hashed) other body = refl
 no_delta (expecteds.Delta format n) other body = absurd (other format n refl)
 no_delta (expecteds.Bye marked) other body = refl
 
 pub hello_out_of_turn : (expected : Expected) (n : ℕ) → kind_of n ≡ Some kinds.Hello → ((side : Side) → expected ≡ expecteds.Hello side → ⊥) → IsRefusedSo expected (n ∷ []) OutOfTurn
 hello_out_of_turn expected n is other = out_of_turn expected n kinds.Hello is (no_hello expected other)
 
-pub digest_out_of_turn : (expected : Expected) (n : ℕ) → kind_of n ≡ Some kinds.Digest → ((k : ℕ) → expected ≡ expecteds.Digest k → ⊥) → IsRefusedSo expected (n ∷ []) OutOfTurn
+pub digest_out_of_turn : (expected : Expected) (n : ℕ) → kind_of n ≡ Some kinds.Digest → ((k : ℕ) (hashed : Bool) → expected ≡ expecteds.Digest k hashed → ⊥) → IsRefusedSo expected (n ∷ []) OutOfTurn
 digest_out_of_turn expected n is other = out_of_turn expected n kinds.Digest is (no_digest expected other)
 
 pub delta_out_of_turn : (expected : Expected) (n : ℕ) → kind_of n ≡ Some kinds.Delta → ((format : Format) (k : ℕ) → expected ≡ expecteds.Delta format k → ⊥) → IsRefusedSo expected (n ∷ []) OutOfTurn
 delta_out_of_turn expected n is other = out_of_turn expected n kinds.Delta is (no_delta expected other)
+
+pub hash_of_no_kind : (expected : Expected) (n : ℕ) → kind_of n ≡ Some kinds.Hash → expects_hash expected ≡ false → IsRefusedSo expected (n ∷ []) Bad
+unfolding message_read
+hash_of_no_kind expected n is none more =
+    ap (λ (k : Option MessageKind). kind_read expected k more) is ∙ ap (λ (hashed : Bool). hash_read hashed more) none
 
 -- ---- the next bytes
 
@@ -107,6 +113,19 @@ mark_longer expected b bytes is marked long more =
     ap (λ (c : Option ByeCode). code_read (expects_mark expected) c (bytes ++ more)) is
     ∙ ap (λ (m : Bool). code_read m (Some byes.Done) (bytes ++ more)) marked
     ∙ ap (read_as OfMark) (too_long (bytes ++ more) (omega (arith, long, length-append bytes more)))
+
+-- more than a hash came
+too_long_hash : (bytes : List ℕ) → 32 < length bytes → hash_in bytes ≡ Err Extra
+too_long_hash bytes more =
+    let not_short : ltb (length bytes) 32 ≡ false = le-ltb _ _ (omega (arith, more)) in
+    let long : ltb 32 (length bytes) ≡ true = lt-ltb _ _ more in
+    rw (not_short, long) refl
+
+pub hash_longer : (expected : Expected) (bytes : List ℕ) → expects_hash expected ≡ true → 32 < length bytes → IsRefusedSo expected (number_of kinds.Hash ∷ bytes) Extra
+unfolding message_read
+hash_longer expected bytes hashed long more =
+    ap (λ (h : Bool). hash_read h (bytes ++ more)) hashed
+    ∙ ap (read_as OfHash) (too_long_hash (bytes ++ more) (omega (arith, long, length-append bytes more)))
 
 -- a code and what follows it
 pub code_and_rest : (run : List ℕ) → 1 ≤ length run → run ≡ get_or run 0 0 ∷ take (length run - 1) (drop 1 run)
@@ -156,6 +175,13 @@ mark_said expected came bytes b r is says marked reads =
     rw is (ap (λ (c : Option ByeCode). code_read (expects_mark expected) c bytes) says ∙ ap (λ (m : Bool). code_read m (Some byes.Done) bytes) marked) in
     subst (Reads OfMark r) (sym read) (said_as OfMark r (mark_in bytes) reads)
 
+pub hash_said : (expected : Expected) (came bytes : List ℕ) (r : Result (List ℕ) Fault) → expects_hash expected ≡ true → came ≡ number_of kinds.Hash ∷ bytes
+    → Reads (λ v. v) r (hash_in bytes) → Reads OfHash r (message_read expected came)
+unfolding message_read
+hash_said expected came bytes r hashed is reads =
+    let read : message_read expected came ≡ read_as OfHash (hash_in bytes) = rw is (ap (λ (h : Bool). hash_read h bytes) hashed) in
+    subst (Reads OfHash r) (sym read) (said_as OfHash r (hash_in bytes) reads)
+
 pub refused_said : (expected : Expected) (came : List ℕ) (e : Fault) → IsRefusedSo expected came e → Fails e (message_read expected came)
 refused_said expected came e refused = fails_so e (message_read expected came) (ap (message_read expected) (sym (append-nil came)) ∙ refused [])
 
@@ -170,10 +196,10 @@ module _ (expected : Expected) (came : List ℕ) (within : length came ≤ LIMIT
       rw (turn, is) (ap (λ (v : Option Version). version_read v rest) spoken ∙ ap (λ (t : List ℕ). read_as (OfHello version) (all_of hello_at t)) (sym text-is)) in
       subst (Reads (OfHello version) r) (sym read) said
 
-  pub digest_said : (r : Result DigestValue Fault) → expected ≡ expecteds.Digest text.replicas → came ≡ number_of kinds.Digest ∷ text.came
+  pub digest_said : (r : Result DigestValue Fault) (hashed : Bool) → expected ≡ expecteds.Digest text.replicas hashed → came ≡ number_of kinds.Digest ∷ text.came
       → (length text.came ≤ LIMIT → Reads (λ v. v) r (all_of (digest_at text.replicas) text.came)) → Reads OfDigest r (message_read expected came)
   unfolding message_read digest_in
-  digest_said r turn is reads =
+  digest_said r hashed turn is reads =
       let said = said_as OfDigest r (all_of (digest_at text.replicas) text.came) (reads (omega (arith, within, ap length is))) in
       rw (turn, is) said
 

@@ -11,7 +11,7 @@ use Rattle.rds_session.specs.declared.talk.Stop.TheVariants.{Refused, Left}
 use Rattle.rds_session.specs.declared.step.Ended.{Ended}
 use Rattle.rds_session.specs.declared.step.Ended.TheVariants.{Going, Done, Failed}
 use Rattle.rds_session.specs.Chunks.{start, Scan, More, Whole, Long, byte_scanned}
-use Rattle.rds_session.specs.Judging.{Awaited, ForHello, ForDigest, ForDelta, ForBye, Said, Greets, Learns, Receives, Finishes, Forks, verdict, replies_of}
+use Rattle.rds_session.specs.Judging.{Awaited, ForHello, ForDigest, ForWhole, ForDelta, ForBye, Said, Greets, Learns, Shares, Misses, Receives, Finishes, Forks, verdict, replies_of}
 use Rattle.rds_state.specs.declared.mark.Mark.{Mark}
 use Rattle.rds_session.specs.Received.{Delivery}
 use Rattle.rds_session.specs.Sending.{sending}
@@ -62,27 +62,52 @@ follows_then a b c p q = record {
 not_yet : (s : Standing) → ((mark : Option Mark) → s.turn ≡ ForBye mark → ⊥) → IsOrderly s → s.received ≡ None
 not_yet s h o = elim o [ inl none ↦ none | inr bye ↦ absurd (h bye.0 bye.1) ]
 
+-- a message before the delta takes nothing: nothing was received
+goes_before : (s t : Standing) → ((mark : Option Mark) → s.turn ≡ ForBye mark → ⊥) → t.begun ≡ s.begun → t.side ≡ s.side → t.kept ≡ s.kept → t.received ≡ s.received → Follows s t
+goes_before s t early b d k r = record { begun = b; side = d; kept = k; orderly = λ o. inl (r ∙ not_yet s early o); received = λ o. inr r }
+
 performed_by : (s : Standing) (turn : Awaited) (said : Said) → s.turn ≡ turn → IsActFor turn said → Follows s (after_said s said)
-performed_by s (ForHello side) (Greets p) is h = record { begun = refl; side = refl; kept = refl; orderly = λ o. inl (not_yet s (λ mark e. let bad : ForHello side ≡ ForBye mark = sym is ∙ e in cc) o); received = λ o. inr refl }
-performed_by s (ForDigest q) (Learns p g) is h = record { begun = refl; side = refl; kept = refl; orderly = λ o. inl (not_yet s (λ mark e. let bad : ForDigest q ≡ ForBye mark = sym is ∙ e in cc) o); received = λ o. inr refl }
-performed_by s (ForDelta q g) (Receives d r mark) is h = record { begun = refl; side = refl; kept = refl; orderly = λ o. inr (mark, refl); received = λ o. inl (not_yet s (λ m e. let bad : ForDelta q g ≡ ForBye m = sym is ∙ e in cc) o) }
-performed_by s (ForBye mark) Finishes is h = follows_same s (after_said s Finishes) refl refl refl refl refl
-performed_by s (ForBye mark) Forks is h = follows_same s (after_said s Forks) refl refl refl refl refl
-performed_by s (ForHello side) (Learns p g) is h = absurd h
-performed_by s (ForHello side) (Receives d r mark) is h = absurd h
+performed_by s (ForHello side) (Greets p) is h = goes_before s (after_said s (Greets p)) (λ m e. let bad : ForHello side ≡ ForBye m = sym is ∙ e in cc) refl refl refl refl
+performed_by s (ForHello side) (Learns p f) is h = absurd h
+performed_by s (ForHello side) (Shares p f) is h = absurd h
+performed_by s (ForHello side) (Misses p) is h = absurd h
+performed_by s (ForHello side) (Receives d r told) is h = absurd h
 performed_by s (ForHello side) Finishes is h = absurd h
 performed_by s (ForHello side) Forks is h = absurd h
 performed_by s (ForDigest q) (Greets p) is h = absurd h
-performed_by s (ForDigest q) (Receives d r mark) is h = absurd h
+performed_by s (ForDigest q) (Learns p f) is h = goes_before s (after_said s (Learns p f)) (λ m e. let bad : ForDigest q ≡ ForBye m = sym is ∙ e in cc) refl refl refl refl
+performed_by s (ForDigest q) (Shares p f) is h = goes_before s (after_said s (Shares p f)) (λ m e. let bad : ForDigest q ≡ ForBye m = sym is ∙ e in cc) refl refl refl refl
+performed_by s (ForDigest q) (Misses p) is h = goes_before s (after_said s (Misses p)) (λ m e. let bad : ForDigest q ≡ ForBye m = sym is ∙ e in cc) refl refl refl refl
+performed_by s (ForDigest q) (Receives d r told) is h = absurd h
 performed_by s (ForDigest q) Finishes is h = absurd h
 performed_by s (ForDigest q) Forks is h = absurd h
+performed_by s (ForWhole q) (Greets p) is h = absurd h
+performed_by s (ForWhole q) (Learns p f) is h = goes_before s (after_said s (Learns p f)) (λ m e. let bad : ForWhole q ≡ ForBye m = sym is ∙ e in cc) refl refl refl refl
+performed_by s (ForWhole q) (Shares p f) is h = absurd h
+performed_by s (ForWhole q) (Misses p) is h = absurd h
+performed_by s (ForWhole q) (Receives d r told) is h = absurd h
+performed_by s (ForWhole q) Finishes is h = absurd h
+performed_by s (ForWhole q) Forks is h = absurd h
 performed_by s (ForDelta q g) (Greets p) is h = absurd h
 performed_by s (ForDelta q g) (Learns p f) is h = absurd h
+performed_by s (ForDelta q g) (Shares p f) is h = absurd h
+performed_by s (ForDelta q g) (Misses p) is h = absurd h
+performed_by s (ForDelta q g) (Receives d r told) is h = record {
+  begun = refl;
+  side = refl;
+  kept = refl;
+  orderly = λ o. inr (told, refl);
+  received = λ o. inl (not_yet s (λ m e. let bad : ForDelta q g ≡ ForBye m = sym is ∙ e in cc) o);
+}
 performed_by s (ForDelta q g) Finishes is h = absurd h
 performed_by s (ForDelta q g) Forks is h = absurd h
 performed_by s (ForBye mark) (Greets p) is h = absurd h
-performed_by s (ForBye mark) (Learns p g) is h = absurd h
+performed_by s (ForBye mark) (Learns p f) is h = absurd h
+performed_by s (ForBye mark) (Shares p f) is h = absurd h
+performed_by s (ForBye mark) (Misses p) is h = absurd h
 performed_by s (ForBye mark) (Receives d r told) is h = absurd h
+performed_by s (ForBye mark) Finishes is h = follows_same s (after_said s Finishes) refl refl refl refl refl
+performed_by s (ForBye mark) Forks is h = follows_same s (after_said s Forks) refl refl refl refl refl
 
 failed_follows : (s : Standing) (f : Fault) → Follows s (failure s f)
 failed_follows s f = follows_same s (failure s f) refl refl refl refl refl

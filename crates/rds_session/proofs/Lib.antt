@@ -11,6 +11,7 @@ pub mod MarkTexts
 pub mod Meeting
 pub mod Messages
 pub mod Moves
+pub mod Plays
 pub mod Rosters
 pub mod Runs
 pub mod Scans

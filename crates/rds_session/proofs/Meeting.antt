@@ -1,90 +1,60 @@
 -- The whole talk of two sessions, and each beginning of it.
-use Rattle.std.proofs.Common.{◌≡◌, ℕ, ◌≤◌, Bool, true, false, cond, ltb, List, [], ◌∷◌, ◌++◌, length, Option, Some, None, Ok, refl, sym, ap, ◌∙◌, append_assoc, subst, arith, ◌⊎◌, inl, inr}
-use Rattle.std.specs.List.{flat_map, AllByRecursion}
-use Rattle.std.proofs.lemmas.Bool.{le-ltb}
+use Rattle.std.proofs.Common.{◌≡◌, ◌≢◌, ◌≤◌, ℕ, ◌&&◌, Bool, true, false, cond, List, [], ◌∷◌, ◌++◌, length, Option, Some, None, Ok, refl, sym, ap, ◌∙◌, append_assoc, subst, arith, ◌⊎◌, inl, inr}
+use Rattle.std.specs.List.{AllByRecursion}
+use Rattle.std.specs.Str.{bytes_eq}
 use Rattle.std.proofs.lemmas.List.{append-nil}
+use Rattle.std.proofs.lemmas.Slice.Eq.{bytes_eq-Decides}
+use mathlib.Core.Bool.{false≢true}
 use Rattle.rds_names.specs.Roster.{RosterValue, OneBegins}
-use Rattle.rds_names.specs.declared.fault.Fault.TheVariants.{TooLong, Forked}
+use Rattle.rds_names.specs.declared.fault.Fault.TheVariants.{Forked}
 use Rattle.rds_state.specs.Fits.{ReplicaValue}
-use Rattle.rds_delta.specs.Digested.{digest_of}
+use Rattle.rds_codec.specs.DigestTexts.{digest_text}
+use Rattle.rds_codec.specs.declared.limits.TheConstants.{LIMIT}
+use Rattle.rds_delta.specs.Digested.{DigestValue, digest_of}
 use Rattle.rds_state.specs.declared.mark.Mark.{Mark}
 use Rattle.rds_session.specs.declared.chunks.TheConstants.{MESSAGE_LIMIT}
 use Rattle.rds_session.specs.declared.talk.Side.TheVariants.{Client, Server}
 use Rattle.rds_session.specs.declared.step.Ended.{Ended}
 use Rattle.rds_session.specs.declared.step.Ended.TheVariants.{Going, Done, Failed}
 use Rattle.rds_session.specs.Checked.{least_state}
-use Rattle.rds_session.specs.Chunks.{Under, start, Scan, Whole, scan, message_in_chunks}
 use Rattle.rds_session.specs.declared.version.Version.{Version}
-use Rattle.rds_session.specs.Judging.{ForBye, Said, Greets, Learns, Receives, Finishes, Forks, verdict, longer_than, replies_of}
-use Rattle.rds_session.specs.ByMessages.{after_message, talk}
-use Rattle.rds_session.specs.Meeting.{AgreeWhereTold, IsBeginningOf, CanMeet, IsItsDelta, Hear, HearAll, HaveEnded, ReceiveDeltas, BothEnd, BothTellForks, ServesEach, held_with, last_mark, words_in}
-use Rattle.rds_session.specs.Messages.{hello_message, digest_message, delta_message, done_message}
+use Rattle.rds_session.specs.Hashes.{digest_hash}
+use Rattle.rds_session.specs.Judging.{ForDigest, ForWhole, ForDelta, ForBye, Said, Greets, Learns, Shares, Misses, Receives, Finishes, Forks, verdict, longer_than, replies_of}
+use Rattle.rds_session.specs.Meeting.{AgreeWhereTold, IsBeginningOf, CanMeet, CollideIn, IsItsDelta, Hear, HearAll, HaveEnded, HaveReceived, IsServed, ReceiveDeltas, BothEnd, BothTellForks, ServesEach, held_with, last_mark, client_words, server_words, share_digest}
+use Rattle.rds_session.specs.ByMessages.{talk}
+use Rattle.rds_session.specs.Messages.{hello_message, digest_message, digest_said, hash_message, delta_message, done_message}
 use Rattle.rds_session.specs.Marked.{same_mark}
 use Rattle.rds_session.specs.Received.{Delivery}
-use Rattle.rds_session.specs.Sending.{sending, then_sent}
-use Rattle.rds_session.specs.Session.{Standing, Sent, fresh, then_more, when_going, refuses, after_sending, after_said, ended_after, received_after, after_verdict, message_comes, after_scan, run, opening, after_opening, So_far, course}
+use Rattle.rds_session.specs.Session.{Standing, Sent, fresh, then_more, after_said, ended_after, received_after, run, opening, after_opening, So_far, course}
 use Rattle.rds_session.specs.Steps.{IsOver}
-use Rattle.rds_session.specs.Versions.{format_of}
+use Rattle.rds_session.specs.Versions.{format_of, says_hashes, tells_marks}
 use Rattle.rds_session.specs.Stream.{Splits}
 use Rattle.rds_session.proofs.Course.{run_follows, IsOrderly}
-use Rattle.rds_session.proofs.Messages.{scan_spelled}
-use Rattle.rds_session.proofs.Runs.{run-append, run-scan, run_over}
+use Rattle.rds_session.proofs.Plays.{Turn, Talks, IsPlay, Fits, says, texts, texts_are, opened_by, one_talks, talks_then, answers, words, client_at, server_at, beginnings, whole, client_comes, server_comes, server_talks}
+use Rattle.rds_session.proofs.Runs.{run-append}
 use Rattle.rds_session.proofs.Talking.{by_messages}
-use Rattle.rds_session.proofs.Told.{IsTold, ending, speaker, client_speaks, server_speaks, hello_accepted, digest_accepted, delta_accepted, done_accepted, its_least}
+use Rattle.rds_session.proofs.Told.{IsTold, ending, speaker, client_speaks, server_speaks, hello_accepted, digest_accepted, whole_accepted, hash_accepted, hash_fits, same_digest, delta_accepted, done_accepted, its_least}
 use Rattle.rds_session.proofs.Endings.{agree_turned, are_alike, ending_agreed, ending_forked}
 
--- ---- sending
+-- ---- texts that are compared
 
-abbrev texts : List (List ℕ) → List ℕ
-texts [] = []
-texts (m ∷ ms) = message_in_chunks m ++ texts ms
+eq_bytes : (x y : List ℕ) → bytes_eq x y ≡ true → x ≡ y
+eq_bytes x y is = (bytes_eq-Decides x y).0 is
 
-abbrev Fits : List ℕ → Type 0
-Fits m = length m ≤ MESSAGE_LIMIT
+bytes_eq_of : (x y : List ℕ) → x ≡ y → bytes_eq x y ≡ true
+bytes_eq_of x y is = (bytes_eq-Decides x y).1 is
 
-all_sent : (ms : List (List ℕ)) → AllByRecursion Fits ms → sending ms ≡ (texts ms, true)
-unfolding sending
-all_sent [] h = refl
-all_sent (m ∷ ms) h = let fits : ltb MESSAGE_LIMIT (length m) ≡ false = le-ltb _ _ h.0 in rw fits (ap (then_sent (message_in_chunks m)) (all_sent ms h.1))
+other_bytes : (x y : List ℕ) → bytes_eq x y ≡ false → x ≢ y
+other_bytes x y is e = false≢true (sym is ∙ bytes_eq_of x y e)
 
--- ---- hearing
+other_turned : (x y : List ℕ) → bytes_eq x y ≡ false → bytes_eq y x ≡ false
+other_turned x y is = by (bytes_eq y x) refl
+  where
+    by : (b : Bool) → bytes_eq y x ≡ b → b ≡ false
+    by true e = absurd (other_bytes x y is (sym (eq_bytes y x e)))
+    by false e = refl
 
--- a message that is accepted, all of whose answers can be sent
-comes : (s : Standing) (m : List ℕ) (act : Said) (ms : List (List ℕ)) → verdict s.kept s.turn m ≡ Ok act → replies_of s.side s.kept s.turn act ≡ ms → AllByRecursion Fits ms
-    → message_comes s m ≡ (after_said s act, texts ms)
-unfolding message_comes
-comes s m act ms ok replies fit =
-    let sent : sending (replies_of s.side s.kept s.turn act) ≡ (texts ms, true) = ap sending replies ∙ all_sent ms fit in
-    ap (after_verdict s) ok ∙ ap (after_sending (after_said s act)) sent
-
-hears : (s : Standing) (m more : List ℕ) (act : Said) (ms : List (List ℕ)) → s.ended ≡ Going → s.under ≡ start → Fits m → verdict s.kept s.turn m ≡ Ok act
-    → replies_of s.side s.kept s.turn act ≡ ms → AllByRecursion Fits ms → run (message_in_chunks m ++ more) s ≡ then_more (after_said s act, texts ms) (run more)
-hears s m more act ms going at room ok replies fit =
-    let sc : scan (message_in_chunks m ++ more) s.under ≡ Whole m more = ap (scan (message_in_chunks m ++ more)) at ∙ scan_spelled m more room in
-    let here : record s { under = start } ≡ s = ap (λ (u : Under). record s { under = u }) (sym at) in
-    run-scan (message_in_chunks m ++ more) s going ∙ ap (λ (x : Scan). after_scan s x run) sc ∙ ap (λ (t : Standing). then_more (message_comes t m) (run more)) here ∙ ap (λ (p : Sent). then_more p (run more)) (comes s m act ms ok replies fit)
-
--- ---- one message after another
-
-abbrev Talks : Standing → List (List ℕ) → Standing → List (List ℕ) → Type 0
-Talks s ms t out = (more : List ℕ) → run (texts ms ++ more) s ≡ then_more (t, texts out) (run more)
-
-texts-append : (ms ns : List (List ℕ)) → texts (ms ++ ns) ≡ texts ms ++ texts ns
-texts-append [] ns = refl
-texts-append (m ∷ ms) ns = ap (λ (t : List ℕ). message_in_chunks m ++ t) (texts-append ms ns) ∙ sym (append_assoc (message_in_chunks m) (texts ms) (texts ns))
-
-one_talks : (s : Standing) (m : List ℕ) (act : Said) (out : List (List ℕ)) → s.ended ≡ Going → s.under ≡ start → Fits m → verdict s.kept s.turn m ≡ Ok act
-    → replies_of s.side s.kept s.turn act ≡ out → AllByRecursion Fits out → Talks s (m ∷ []) (after_said s act) out
-one_talks s m act out going at room ok replies fit more =
-    ap (λ (t : List ℕ). run (t ++ more) s) (append-nil (message_in_chunks m)) ∙ hears s m more act out going at room ok replies fit
-
-talks_then : (s t u : Standing) (ms ns out put : List (List ℕ)) → Talks s ms t out → Talks t ns u put → Talks s (ms ++ ns) u (out ++ put)
-talks_then s t u ms ns out put p q more =
-    ap (λ (x : List ℕ). run (x ++ more) s) (texts-append ms ns) ∙ ap (λ (x : List ℕ). run x s) (append_assoc (texts ms) (texts ns) more) ∙ p (texts ns ++ more)
-    ∙ ap (λ (r : Sent). (r.0, texts out ++ r.1)) (q more)
-    ∙ ap (λ (x : List ℕ). ((run more u).0, x)) (sym (append_assoc (texts out) (texts put) (run more u).1) ∙ ap (λ (x : List ℕ). x ++ (run more u).1) (sym (texts-append out put)))
-
--- ---- the whole talk
+-- ---- standings
 
 abbrev client : Version → ReplicaValue → Standing
 client version a = record (fresh (Client version) a) { begun = true }
@@ -92,42 +62,37 @@ client version a = record (fresh (Client version) a) { begun = true }
 abbrev server : ReplicaValue → Standing
 server b = record (fresh Server b) { begun = true }
 
-abbrev greeting : Version → ReplicaValue → List (List ℕ)
-greeting version k = hello_message k version ∷ digest_message k ∷ []
-
 -- what a side receives of the other
 abbrev delivered : Version → ReplicaValue → ReplicaValue → Said
 delivered version own peer = Receives (least_state peer.state (digest_of own.state)) (longer_than own.roster peer.roster) (last_mark version own peer)
 
--- what the client has heard before the last message, and after it
-abbrev client_told : Version → ReplicaValue → ReplicaValue → Standing
-client_told version a b = after_said (after_said (after_said (client version a) (Greets (speaker version a b))) (Learns (speaker version a b) (digest_of b.state))) (delivered version a b)
+-- a side that heard the other's HELLO, that learnt its digest, that has its delta, and that heard its last word
+abbrev greeted : Standing → Version → ReplicaValue → ReplicaValue → Standing
+greeted s version own peer = after_said s (Greets (speaker version own peer))
 
-abbrev client_done : Version → ReplicaValue → ReplicaValue → Standing
-client_done version a b = after_said (client_told version a b) (ending (last_mark version a b) (last_mark version b a))
+abbrev learnt : Standing → Version → ReplicaValue → ReplicaValue → Standing
+learnt s version own peer = record (greeted s version own peer) { turn = ForDelta (speaker version own peer) (digest_of peer.state) }
 
-abbrev server_asked : Version → ReplicaValue → ReplicaValue → Standing
-server_asked version b a = after_said (after_said (server b) (Greets (speaker version b a))) (Learns (speaker version b a) (digest_of a.state))
+abbrev told : Standing → Version → ReplicaValue → ReplicaValue → Standing
+told s version own peer = after_said (learnt s version own peer) (delivered version own peer)
 
-abbrev server_told : Version → ReplicaValue → ReplicaValue → Standing
-server_told version b a = after_said (server_asked version b a) (delivered version b a)
+abbrev finished : Standing → Version → ReplicaValue → ReplicaValue → Standing
+finished s version own peer = after_said (told s version own peer) (ending (last_mark version own peer) (last_mark version peer own))
 
-abbrev server_done : Version → ReplicaValue → ReplicaValue → Standing
-server_done version b a = after_said (server_told version b a) (ending (last_mark version b a) (last_mark version a b))
+-- a server that missed the other's digest
+abbrev missed : Standing → Version → ReplicaValue → ReplicaValue → Standing
+missed s version own peer = record (greeted s version own peer) { turn = ForWhole (speaker version own peer) }
 
--- what each says, in its two turns
-abbrev server_says : Version → ReplicaValue → ReplicaValue → List (List ℕ)
-server_says version b a = hello_message b version ∷ digest_message b ∷ delta_message b (format_of version) a.own (digest_of a.state) ∷ []
+-- ---- words
+
+abbrev delta_to : Version → ReplicaValue → ReplicaValue → List ℕ
+delta_to version from to = delta_message from (format_of version) to.own (digest_of to.state)
 
 abbrev last_word : Version → ReplicaValue → ReplicaValue → List (List ℕ)
 last_word version own peer = done_message (last_mark version own peer) ∷ []
 
-abbrev client_says : Version → ReplicaValue → ReplicaValue → List (List ℕ)
-client_says version a b = delta_message a (format_of version) b.own (digest_of b.state) ∷ last_word version a b
-
-opened_by : (s : Standing) (ms : List (List ℕ)) → s.begun ≡ false → opening s.side s.kept ≡ ms → AllByRecursion Fits ms → after_opening s ≡ (record s { begun = true }, texts ms)
-unfolding after_opening
-opened_by s ms new is fit = rw new (ap (after_sending (record s { begun = true })) (ap sending is ∙ all_sent ms fit))
+abbrev last_words : Version → ReplicaValue → ReplicaValue → List (List ℕ)
+last_words version own peer = delta_to version own peer ∷ last_word version own peer
 
 done_fits : (mark : Option Mark) → Fits (done_message mark)
 done_fits None = omega arith
@@ -156,166 +121,250 @@ ends_so (Some own) (Some mark) = by (same_mark own mark)
     by true = inl refl
     by false = inr refl
 
-module _ (version : Version) (a b : ReplicaValue) (h : CanMeet version a b) where
-  client_hears : Talks (client version a) (server_says version b a) (client_told version a b) (client_says version a b)
-  client_hears =
-      let c1 = after_said (client version a) (Greets (speaker version a b)) in
-      let c2 = after_said c1 (Learns (speaker version a b) (digest_of b.state)) in
-      let told = client_told_by version a b h in
-      let delta = delta_message b (format_of version) a.own (digest_of a.state) in
-      talks_then (client version a) c1 (client_told version a b) (hello_message b version ∷ []) (digest_message b ∷ delta ∷ []) [] (client_says version a b)
-      (one_talks (client version a) (hello_message b version) (Greets (speaker version a b)) [] refl refl h.b_room.hello (hello_accepted (Client version) version a b (client_speaks version) told) refl tt)
-      (talks_then c1 c2 (client_told version a b) (digest_message b ∷ []) (delta ∷ []) [] (client_says version a b)
-      (one_talks c1 (digest_message b) (Learns (speaker version a b) (digest_of b.state)) [] refl refl h.b_room.digest (digest_accepted version a b told) refl tt)
-      (one_talks c2 delta (delivered version a b) (client_says version a b) refl refl h.b_room.delta (delta_accepted version a b (digest_of b.state) told) refl (h.a_room.delta, (done_fits (last_mark version a b), tt))))
-
-  client_ends : Talks (client_told version a b) (last_word version b a) (client_done version a b) []
-  client_ends =
-      let said = ending (last_mark version a b) (last_mark version b a) in
-      one_talks (client_told version a b) (done_message (last_mark version b a)) said [] refl refl (done_fits (last_mark version b a))
-      (done_accepted a (last_mark version a b) (last_mark version b a) (are_alike version a b b a))
-      refl tt
-
-  server_hears : Talks (server b) (greeting version a) (server_asked version b a) (server_says version b a)
-  server_hears =
-      let s1 = after_said (server b) (Greets (speaker version b a)) in
-      let told = server_told_by version a b h in
-      talks_then (server b) s1 (server_asked version b a) (hello_message a version ∷ []) (digest_message a ∷ []) [] (server_says version b a)
-      (one_talks (server b) (hello_message a version) (Greets (speaker version b a)) [] refl refl h.a_room.hello (hello_accepted Server version b a (server_speaks version) told) refl tt)
-      (one_talks s1 (digest_message a) (Learns (speaker version b a) (digest_of a.state)) (server_says version b a) refl refl h.a_room.digest (digest_accepted version b a told) refl (h.b_room.hello, (h.b_room.digest, (h.b_room.delta, tt))))
-
-  server_ends : Talks (server_asked version b a) (client_says version a b) (server_done version b a) (last_word version b a)
-  server_ends =
-      let s3 = server_told version b a in
-      let said = ending (last_mark version b a) (last_mark version a b) in
-      talks_then (server_asked version b a) s3 (server_done version b a) (delta_message a (format_of version) b.own (digest_of b.state) ∷ []) (last_word version a b) [] (last_word version b a)
-      (one_talks (server_asked version b a) (delta_message a (format_of version) b.own (digest_of b.state)) (delivered version b a) [] refl refl h.a_room.delta (delta_accepted version b a (digest_of a.state) (server_told_by version a b h)) refl tt)
-      (one_talks s3 (done_message (last_mark version a b)) said (last_word version b a) refl refl (done_fits (last_mark version a b))
-      (done_accepted b (last_mark version b a) (last_mark version a b) (are_alike version b a a b))
-      (said_last said (last_mark version b a) (ends_so (last_mark version b a) (last_mark version a b)) s3 refl refl) (done_fits (last_mark version b a), tt))
-
-  client_opens : after_opening (fresh (Client version) a) ≡ (client version a, texts (greeting version a))
-  client_opens = opened_by (fresh (Client version) a) (greeting version a) refl refl (h.a_room.hello, (h.a_room.digest, tt))
-
-server_opens : (b : ReplicaValue) → after_opening (fresh Server b) ≡ (server b, [])
-server_opens b = opened_by (fresh Server b) [] refl refl tt
-
--- ---- beginnings
-
-says : Standing → List ℕ → List ℕ
-says s x = (run x s).1
-
-cases_begin : (x u v : List ℕ) → IsBeginningOf x (u ++ v) → IsBeginningOf x u ⊎ ((more : List ℕ) × (x ≡ u ++ more) × IsBeginningOf more v)
-cases_begin x [] v h = inr (x, refl, h)
-cases_begin [] (b ∷ u) v h = inl (b ∷ u, refl)
-cases_begin (c ∷ x) (b ∷ u) v h =
-    let head : b ≡ c = cc (h.1) in
-    let tail : u ++ v ≡ x ++ h.0 = cc (h.1) in
-    elim (cases_begin x u v (h.0, tail)) [
-      | inl p ↦ inl (p.0, ap (λ (t : ℕ). t ∷ u) head ∙ ap (λ (t : List ℕ). c ∷ t) p.1)
-      | inr q ↦ inr (q.0, ap (λ (t : ℕ). t ∷ x) (sym head) ∙ ap (λ (t : List ℕ). b ∷ t) q.1, q.2)
-    ]
-
-begin_trans : (x y z : List ℕ) → IsBeginningOf x y → IsBeginningOf y z → IsBeginningOf x z
-begin_trans x y z p q = (p.0 ++ q.0, q.1 ∙ ap (λ (t : List ℕ). t ++ q.0) p.1 ∙ append_assoc x p.0 q.0)
-
--- who hears a beginning says a beginning
-says_begin : (s : Standing) (x y : List ℕ) → IsBeginningOf x y → IsBeginningOf (says s x) (says s y)
-unfolding says
-says_begin s x y h = (says (run x s).0 h.0, ap (λ (t : List ℕ). (run t s).1) h.1 ∙ ap (λ (p : Sent). p.1) (run-append x h.0 s))
-
-begin_more : (u x y : List ℕ) → IsBeginningOf x y → IsBeginningOf (u ++ x) (u ++ y)
-begin_more u x y h = (h.0, ap (λ (t : List ℕ). u ++ t) h.1 ∙ sym (append_assoc u x h.0))
-
-begin_front : (x u v : List ℕ) → IsBeginningOf x u → IsBeginningOf x (u ++ v)
-begin_front x u v h = begin_trans x u (u ++ v) h (v, refl)
-
--- who has ended says nothing
-says_over : (s : Standing) (x : List ℕ) → IsOver s.ended → says s x ≡ []
-unfolding says
-says_over s x over = ap (λ (p : Sent). p.1) (run_over x s over)
-
-says_after : (s t : Standing) (ms out : List (List ℕ)) (more : List ℕ) → Talks s ms t out → says s (texts ms ++ more) ≡ texts out ++ says t more
-unfolding says
-says_after s t ms out more h = ap (λ (p : Sent). p.1) (h more)
-
-says_only : (s t : Standing) (ms out : List (List ℕ)) → Talks s ms t out → says s (texts ms) ≡ texts out
-unfolding says run
-says_only s t ms out h = ap (λ (x : List ℕ). (run x s).1) (sym (append-nil (texts ms))) ∙ ap (λ (p : Sent). p.1) (h []) ∙ append-nil (texts out)
-
 -- the last word ends the session
 ended_by_it : (ended : Ended) (own mark : Option Mark) → IsOver (ended_after ended (ending own mark))
 ended_by_it ended own mark = elim (ends_so own mark) [ inl done ↦ rw done tt | inr forks ↦ rw forks tt ]
 
+-- and takes nothing from what was received
+received_last : (own mark : Option Mark) (received : Option Delivery) → received_after received (ending own mark) ≡ received
+received_last own mark received = elim (ends_so own mark) [ inl done ↦ rw done refl | inr forks ↦ rw forks refl ]
+
+-- ---- what each hears, message by message
+
 module _ (version : Version) (a b : ReplicaValue) (h : CanMeet version a b) where
-  s1 : List ℕ
-  s1 = texts (server_says version b a)
+  abbrev c0 : Standing
+  c0 = client version a
 
-  c1 : List ℕ
-  c1 = texts (greeting version a)
+  abbrev s0 : Standing
+  s0 = server b
 
-  c2 : List ℕ
-  c2 = texts (client_says version a b)
+  client_greeted : Talks c0 (hello_message b version ∷ []) (greeted c0 version a b) []
+  client_greeted =
+      one_talks c0 (hello_message b version) (Greets (speaker version a b)) [] refl refl h.b_room.hello
+      (hello_accepted (Client version) version a b (client_speaks version) (client_told_by version a b h)) refl tt
 
-  s2 : List ℕ
-  s2 = texts (last_word version b a)
+  server_greeted : Talks s0 (hello_message a version ∷ []) (greeted s0 version b a) []
+  server_greeted =
+      one_talks s0 (hello_message a version) (Greets (speaker version b a)) [] refl refl h.a_room.hello
+      (hello_accepted Server version b a (server_speaks version) (server_told_by version a b h)) refl tt
 
-  -- a server that heard a beginning of the greeting says a beginning of its first words
-  server_early : (y : List ℕ) → IsBeginningOf y c1 → IsBeginningOf (says (server b) y) s1
-  unfolding c1 s1
-  server_early y p = subst (IsBeginningOf (says (server b) y)) (says_only (server b) (server_asked version b a) (greeting version a) (server_says version b a) (server_hears version a b h)) (says_begin (server b) y (texts (greeting version a)) p)
+  client_told : Talks (learnt c0 version a b) (delta_to version b a ∷ []) (told c0 version a b) (last_words version a b)
+  client_told =
+      one_talks (learnt c0 version a b) (delta_to version b a) (delivered version a b) (last_words version a b) refl refl h.b_room.delta
+      (delta_accepted version a b (digest_of b.state) (client_told_by version a b h)) refl (h.a_room.delta, (done_fits (last_mark version a b), tt))
 
-  server_late : (y : List ℕ) → IsBeginningOf y c2 → IsBeginningOf (says (server_asked version b a) y) s2
-  unfolding c2 s2
-  server_late y p = subst (IsBeginningOf (says (server_asked version b a) y)) (says_only (server_asked version b a) (server_done version b a) (client_says version a b) (last_word version b a) (server_ends version a b h)) (says_begin (server_asked version b a) y (texts (client_says version a b)) p)
+  client_done : Talks (told c0 version a b) (last_word version b a) (finished c0 version a b) []
+  client_done =
+      one_talks (told c0 version a b) (done_message (last_mark version b a)) (ending (last_mark version a b) (last_mark version b a)) [] refl refl (done_fits (last_mark version b a))
+      (done_accepted a (last_mark version a b) (last_mark version b a) (are_alike version a b b a))
+      refl tt
 
-  client_early : (x : List ℕ) → IsBeginningOf x s1 → IsBeginningOf (says (client version a) x) c2
-  unfolding s1 c2
-  client_early x p = subst (IsBeginningOf (says (client version a) x)) (says_only (client version a) (client_told version a b) (server_says version b a) (client_says version a b) (client_hears version a b h)) (says_begin (client version a) x (texts (server_says version b a)) p)
+  server_done : Talks (learnt s0 version b a) (last_words version a b) (finished s0 version b a) (last_word version b a)
+  server_done =
+      let s3 = told s0 version b a in
+      let said = ending (last_mark version b a) (last_mark version a b) in
+      talks_then (learnt s0 version b a) s3 (finished s0 version b a) (delta_to version a b ∷ []) (last_word version a b) [] (last_word version b a)
+      (one_talks (learnt s0 version b a) (delta_to version a b) (delivered version b a) [] refl refl h.a_room.delta (delta_accepted version b a (digest_of a.state) (server_told_by version a b h)) refl tt)
+      (one_talks s3 (done_message (last_mark version a b)) said (last_word version b a) refl refl (done_fits (last_mark version a b))
+      (done_accepted b (last_mark version b a) (last_mark version a b) (are_alike version b a a b))
+      (said_last said (last_mark version b a) (ends_so (last_mark version b a) (last_mark version a b)) s3 refl refl) (done_fits (last_mark version b a), tt))
 
-  client_late : (x : List ℕ) → IsBeginningOf x s2 → IsBeginningOf (says (client_told version a b) x) []
-  unfolding s2
-  client_late x p = subst (IsBeginningOf (says (client_told version a b) x)) (says_only (client_told version a b) (client_done version a b) (last_word version b a) [] (client_ends version a b h)) (says_begin (client_told version a b) x (texts (last_word version b a)) p)
+  -- ---- each says its digest once
 
-  server_on : (y : List ℕ) → says (server b) (c1 ++ y) ≡ s1 ++ says (server_asked version b a) y
-  unfolding c1 s1
-  server_on y = says_after (server b) (server_asked version b a) (greeting version a) (server_says version b a) y (server_hears version a b h)
+  -- what is known of how they say it: by these messages, which are accepted so
+  record Once (of_client of_server : List ℕ) (client_act server_act : Said) : Type 0 where
+    client_fits : Fits of_client
+    server_fits : Fits of_server
+    client_hears : verdict a (ForDigest (speaker version a b)) of_server ≡ Ok client_act
+    client_says : replies_of (Client version) a (ForDigest (speaker version a b)) client_act ≡ []
+    client_learns : after_said (greeted c0 version a b) client_act ≡ learnt c0 version a b
+    server_hears : verdict b (ForDigest (speaker version b a)) of_client ≡ Ok server_act
+    server_says : replies_of Server b (ForDigest (speaker version b a)) server_act ≡ hello_message b version ∷ of_server ∷ delta_to version b a ∷ []
+    server_learns : after_said (greeted s0 version b a) server_act ≡ learnt s0 version b a
 
-  server_last : (y : List ℕ) → says (server_asked version b a) (c2 ++ y) ≡ s2
-  unfolding c2 s2
-  server_last y = says_after (server_asked version b a) (server_done version b a) (client_says version a b) (last_word version b a) y (server_ends version a b h) ∙ ap (λ (t : List ℕ). texts (last_word version b a) ++ t) (says_over (server_done version b a) y (ended_by_it Going (last_mark version b a) (last_mark version a b))) ∙ append-nil (texts (last_word version b a))
+  abbrev once : List ℕ → List Turn
+  once of_server =
+      record { server = learnt s0 version b a; answer = hello_message b version ∷ of_server ∷ delta_to version b a ∷ []; client = told c0 version a b; words = last_words version a b }
+      ∷ record { server = finished s0 version b a; answer = last_word version b a; client = finished c0 version a b; words = [] } ∷ []
 
-  client_on : (x : List ℕ) → says (client version a) (s1 ++ x) ≡ c2 ++ says (client_told version a b) x
-  unfolding s1 c2
-  client_on x = says_after (client version a) (client_told version a b) (server_says version b a) (client_says version a b) x (client_hears version a b h)
+  module _ (of_client of_server : List ℕ) (client_act server_act : Said) (is : Once of_client of_server client_act server_act) where
+    client_learnt : Talks (greeted c0 version a b) (of_server ∷ []) (learnt c0 version a b) []
+    client_learnt =
+        subst (λ (t : Standing). Talks (greeted c0 version a b) (of_server ∷ []) t []) is.client_learns
+        (one_talks (greeted c0 version a b) of_server client_act [] refl refl is.server_fits is.client_hears is.client_says tt)
 
-  -- each has heard a beginning of the whole talk
-  abbrev Talk : List ℕ → List ℕ → Type 0
-  Talk x y = IsBeginningOf x (s1 ++ s2) × IsBeginningOf y (c1 ++ c2)
+    server_learnt : Talks (greeted s0 version b a) (of_client ∷ []) (learnt s0 version b a) (hello_message b version ∷ of_server ∷ delta_to version b a ∷ [])
+    server_learnt =
+        subst (λ (t : Standing). Talks (greeted s0 version b a) (of_client ∷ []) t (hello_message b version ∷ of_server ∷ delta_to version b a ∷ [])) is.server_learns
+        (one_talks (greeted s0 version b a) of_client server_act (hello_message b version ∷ of_server ∷ delta_to version b a ∷ [])
+        refl refl is.client_fits is.server_hears is.server_says (h.b_room.hello, (is.server_fits, (h.b_room.delta, tt))))
 
-  -- both are past the first words
-  both_late : (x y : List ℕ) → IsBeginningOf x (says (server_asked version b a) y) → IsBeginningOf y (c2 ++ says (client_told version a b) x) → IsBeginningOf x s2 × IsBeginningOf y c2
-  both_late x y p q = elim (cases_begin y c2 (says (client_told version a b) x) q) [
-    | inl early ↦ (begin_trans x (says (server_asked version b a) y) s2 p (server_late y early), early)
-    | inr late ↦
-        let heard : IsBeginningOf x s2 = subst (IsBeginningOf x) (ap (says (server_asked version b a)) late.1 ∙ server_last late.0) p in
-        let none : IsBeginningOf late.0 [] = begin_trans late.0 (says (client_told version a b) x) [] late.2 (client_late x heard) in
-        (heard, subst (λ (t : List ℕ). IsBeginningOf t c2) (sym late.1) (subst (IsBeginningOf (c2 ++ late.0)) (append-nil c2) (begin_more c2 late.0 [] none)))
-  ]
+    once_played : IsPlay c0 s0 (hello_message a version ∷ of_client ∷ []) (once of_server)
+    once_played = (
+      talks_then s0 (greeted s0 version b a) (learnt s0 version b a) (hello_message a version ∷ []) (of_client ∷ []) [] (hello_message b version ∷ of_server ∷ delta_to version b a ∷ [])
+          server_greeted server_learnt,
+      (
+        talks_then c0 (greeted c0 version a b) (told c0 version a b) (hello_message b version ∷ []) (of_server ∷ delta_to version b a ∷ []) [] (last_words version a b)
+            client_greeted
+            (talks_then (greeted c0 version a b) (learnt c0 version a b) (told c0 version a b) (of_server ∷ []) (delta_to version b a ∷ []) [] (last_words version a b) client_learnt client_told),
+        (server_done, (client_done, (refl, ended_by_it Going (last_mark version a b) (last_mark version b a)))),
+      ),
+    )
 
-  talk_by : (x y : List ℕ) → IsBeginningOf x (says (server b) y) → IsBeginningOf y (c1 ++ says (client version a) x) → Talk x y
-  talk_by x y p q = elim (cases_begin y c1 (says (client version a) x) q) [
-    | inl early ↦ (begin_front x s1 s2 (begin_trans x (says (server b) y) s1 p (server_early y early)), begin_front y c1 c2 early)
-    | inr late ↦
-        let heard : IsBeginningOf x (s1 ++ says (server_asked version b a) late.0) = subst (IsBeginningOf x) (ap (says (server b)) late.1 ∙ server_on late.0) p in
-        elim (cases_begin x s1 (says (server_asked version b a) late.0) heard) [
-          | inl before ↦ (begin_front x s1 s2 before, subst (λ (t : List ℕ). IsBeginningOf t (c1 ++ c2)) (sym late.1) (begin_more c1 late.0 c2 (begin_trans late.0 (says (client version a) x) c2 late.2 (client_early x before))))
-          | inr after ↦
-              let said : IsBeginningOf late.0 (c2 ++ says (client_told version a b) after.0) = subst (IsBeginningOf late.0) (ap (says (client version a)) after.1 ∙ client_on after.0) late.2 in
-              let both = both_late after.0 late.0 after.2 said in
-              (subst (λ (t : List ℕ). IsBeginningOf t (s1 ++ s2)) (sym after.1) (begin_more s1 after.0 s2 both.0), subst (λ (t : List ℕ). IsBeginningOf t (c1 ++ c2)) (sym late.1) (begin_more c1 late.0 c2 both.1))
-        ]
-  ]
+  -- ---- the server misses the client's digest, and both say it whole
+
+  abbrev twice : List Turn
+  twice =
+      record { server = missed s0 version b a; answer = hello_message b version ∷ digest_message b ∷ []; client = learnt c0 version a b; words = digest_message a ∷ [] }
+      ∷ record { server = learnt s0 version b a; answer = delta_to version b a ∷ []; client = told c0 version a b; words = last_words version a b }
+      ∷ record { server = finished s0 version b a; answer = last_word version b a; client = finished c0 version a b; words = [] } ∷ []
+
+  module _ (says : says_hashes version ≡ true) (other : bytes_eq (digest_hash (digest_of a.state)) (digest_hash (digest_of b.state)) ≡ false) where
+    hash_missed : Talks (greeted s0 version b a) (hash_message a ∷ []) (missed s0 version b a) (hello_message b version ∷ digest_message b ∷ [])
+    hash_missed =
+        one_talks (greeted s0 version b a) (hash_message a) (Misses (speaker version b a)) (hello_message b version ∷ digest_message b ∷ [])
+        refl refl (hash_fits a h.a_room.digest) (hash_accepted version b a false says h.b_room.digest (server_told_by version a b h) other) refl (h.b_room.hello, (h.b_room.digest, tt))
+
+    digest_heard : Talks (greeted c0 version a b) (digest_message b ∷ []) (learnt c0 version a b) (digest_message a ∷ [])
+    digest_heard =
+        one_talks (greeted c0 version a b) (digest_message b) (Learns (speaker version a b) (digest_of b.state)) (digest_message a ∷ [])
+        refl refl h.b_room.digest (digest_accepted version a b (client_told_by version a b h))
+        (ap (λ (hashed : Bool). cond hashed (digest_message a ∷ []) []) says) (h.a_room.digest, tt)
+
+    digest_answered : Talks (missed s0 version b a) (digest_message a ∷ []) (learnt s0 version b a) (delta_to version b a ∷ [])
+    digest_answered =
+        one_talks (missed s0 version b a) (digest_message a) (Learns (speaker version b a) (digest_of a.state)) (delta_to version b a ∷ [])
+        refl refl h.a_room.digest (whole_accepted version b a (server_told_by version a b h)) refl (h.b_room.delta, tt)
+
+    twice_played : IsPlay c0 s0 (hello_message a version ∷ hash_message a ∷ []) twice
+    twice_played = (
+      talks_then s0 (greeted s0 version b a) (missed s0 version b a) (hello_message a version ∷ []) (hash_message a ∷ []) [] (hello_message b version ∷ digest_message b ∷ []) server_greeted hash_missed,
+      (
+        talks_then c0 (greeted c0 version a b) (learnt c0 version a b) (hello_message b version ∷ []) (digest_message b ∷ []) [] (digest_message a ∷ []) client_greeted digest_heard,
+        (
+          digest_answered,
+          (
+            client_told,
+            (server_done, (client_done, (refl, ended_by_it Going (last_mark version a b) (last_mark version b a)))),
+          ),
+        ),
+      ),
+    )
+
+  -- ---- the two ways
+
+  -- without hashes each says its digest whole
+  wholes : says_hashes version ≡ false → Once (digest_message a) (digest_message b) (Learns (speaker version a b) (digest_of b.state)) (Learns (speaker version b a) (digest_of a.state))
+  wholes none = record {
+    client_fits = h.a_room.digest;
+    server_fits = h.b_room.digest;
+    client_hears = digest_accepted version a b (client_told_by version a b h);
+    client_says = ap (λ (hashed : Bool). cond hashed (digest_message a ∷ []) []) none;
+    client_learns = refl;
+    server_hears = digest_accepted version b a (server_told_by version a b h);
+    server_says = refl;
+    server_learns = refl;
+  }
+
+  -- where they have one digest, each says it by its hash
+  hashes : says_hashes version ≡ true → bytes_eq (digest_hash (digest_of a.state)) (digest_hash (digest_of b.state)) ≡ true → bytes_eq (digest_hash (digest_of b.state)) (digest_hash (digest_of a.state)) ≡ true
+      → digest_of a.state ≡ digest_of b.state → Once (hash_message a) (hash_message b) (Shares (speaker version a b) (digest_of a.state)) (Shares (speaker version b a) (digest_of b.state))
+  hashes says same turned one = record {
+    client_fits = hash_fits a h.a_room.digest;
+    server_fits = hash_fits b h.b_room.digest;
+    client_hears = hash_accepted version a b true says h.a_room.digest (client_told_by version a b h) turned;
+    client_says = refl;
+    client_learns = ap (λ (g : DigestValue). record (greeted c0 version a b) { turn = ForDelta (speaker version a b) g }) one;
+    server_hears = hash_accepted version b a true says h.b_room.digest (server_told_by version a b h) same;
+    server_says = ap (λ (g : DigestValue). hello_message b version ∷ hash_message b ∷ delta_message b (format_of version) a.own g ∷ []) (sym one);
+    server_learns = ap (λ (g : DigestValue). record (greeted s0 version b a) { turn = ForDelta (speaker version b a) g }) (sym one);
+  }
+
+-- the turns that two sessions take, of all that each says
+record Played (version : Version) (a b : ReplicaValue) : Type 0 where
+  turns : List Turn
+  opening_is : List (List ℕ)
+  opens : opening (Client version) a ≡ opening_is
+  fit : AllByRecursion Fits opening_is
+  play : IsPlay (client version a) (server b) opening_is turns
+  client_ends : client_at (client version a) turns ≡ finished (client version a) version a b
+  server_ends : server_at (server b) turns ≡ finished (server b) version b a
+  client_said : words opening_is turns ≡ client_words version a b
+  server_said : answers turns ≡ server_words version b a
+
+module _ (version : Version) (a b : ReplicaValue) (h : CanMeet version a b) where
+  by_wholes : says_hashes version ≡ false → Played version a b
+  by_wholes none = record {
+    turns = once version a b h (digest_message b);
+    opening_is = hello_message a version ∷ digest_message a ∷ [];
+    opens = ap (λ (hashed : Bool). hello_message a version ∷ digest_said hashed a ∷ []) none;
+    fit = (h.a_room.hello, (h.a_room.digest, tt));
+    play = once_played version a b h (digest_message a) (digest_message b) (Learns (speaker version a b) (digest_of b.state)) (Learns (speaker version b a) (digest_of a.state)) (wholes version a b h none);
+    client_ends = refl;
+    server_ends = refl;
+    client_said = rw none refl;
+    server_said = rw none refl;
+  }
+
+  by_hashes : says_hashes version ≡ true → bytes_eq (digest_hash (digest_of a.state)) (digest_hash (digest_of b.state)) ≡ true → bytes_eq (digest_hash (digest_of b.state)) (digest_hash (digest_of a.state)) ≡ true
+      → digest_of a.state ≡ digest_of b.state → Played version a b
+  by_hashes says same turned one = record {
+    turns = once version a b h (hash_message b);
+    opening_is = hello_message a version ∷ hash_message a ∷ [];
+    opens = ap (λ (hashed : Bool). hello_message a version ∷ digest_said hashed a ∷ []) says;
+    fit = (h.a_room.hello, (hash_fits a h.a_room.digest, tt));
+    play = once_played version a b h (hash_message a) (hash_message b) (Shares (speaker version a b) (digest_of a.state)) (Shares (speaker version b a) (digest_of b.state)) (hashes version a b h says same turned one);
+    client_ends = refl;
+    server_ends = refl;
+    client_said = rw (says, same) refl;
+    server_said = rw (says, turned) refl;
+  }
+
+  by_both : says_hashes version ≡ true → bytes_eq (digest_hash (digest_of a.state)) (digest_hash (digest_of b.state)) ≡ false → bytes_eq (digest_hash (digest_of b.state)) (digest_hash (digest_of a.state)) ≡ false
+      → Played version a b
+  by_both says other turned = record {
+    turns = twice version a b h;
+    opening_is = hello_message a version ∷ hash_message a ∷ [];
+    opens = ap (λ (hashed : Bool). hello_message a version ∷ digest_said hashed a ∷ []) says;
+    fit = (h.a_room.hello, (hash_fits a h.a_room.digest, tt));
+    play = twice_played version a b h says other;
+    client_ends = refl;
+    server_ends = refl;
+    client_said = rw (says, other) refl;
+    server_said = rw (says, turned) refl;
+  }
+
+  hash_turned : bytes_eq (digest_hash (digest_of a.state)) (digest_hash (digest_of b.state)) ≡ true → bytes_eq (digest_hash (digest_of b.state)) (digest_hash (digest_of a.state)) ≡ true
+  hash_turned same =
+      bytes_eq_of (digest_hash (digest_of b.state)) (digest_hash (digest_of a.state)) (sym (eq_bytes (digest_hash (digest_of a.state)) (digest_hash (digest_of b.state)) same))
+
+  -- equal hashes are those of one digest, or of two texts
+  by_equal : says_hashes version ≡ true → bytes_eq (digest_hash (digest_of a.state)) (digest_hash (digest_of b.state)) ≡ true → (one : Bool)
+      → bytes_eq (digest_text (digest_of a.state)) (digest_text (digest_of b.state)) ≡ one → Played version a b ⊎ CollideIn version a b
+  by_equal says same true is =
+      let room : length (digest_text (digest_of b.state)) ≤ LIMIT = omega (arith, h.b_room.digest) in
+      let one = same_digest version b a (server_told_by version a b h) room (eq_bytes (digest_text (digest_of a.state)) (digest_text (digest_of b.state)) is) in
+      inl (by_hashes says same (hash_turned same) one)
+  by_equal says same false is = inr (record {
+    hashes = says;
+    collide = record {
+      differ = other_bytes (digest_text (digest_of a.state)) (digest_text (digest_of b.state)) is;
+      same = eq_bytes (digest_hash (digest_of a.state)) (digest_hash (digest_of b.state)) same;
+    };
+  })
+
+  by_version : (hashed : Bool) → says_hashes version ≡ hashed → (same : Bool) → bytes_eq (digest_hash (digest_of a.state)) (digest_hash (digest_of b.state)) ≡ same → Played version a b ⊎ CollideIn version a b
+  by_version false none same is = inl (by_wholes none)
+  by_version true says true is = by_equal says is (bytes_eq (digest_text (digest_of a.state)) (digest_text (digest_of b.state))) refl
+  by_version true says false is = inl (by_both says is (other_turned (digest_hash (digest_of a.state)) (digest_hash (digest_of b.state)) is))
+
+  played : Played version a b ⊎ CollideIn version a b
+  played = by_version (says_hashes version) refl (bytes_eq (digest_hash (digest_of a.state)) (digest_hash (digest_of b.state))) refl
+
+-- ---- what is received
+
+server_opens : (b : ReplicaValue) → after_opening (fresh Server b) ≡ (server b, [])
+server_opens b = opened_by (fresh Server b) [] refl refl tt
 
 -- what is received of a beginning is nothing, or what is received of the whole
 received_of : (s : Standing) (x w : List ℕ) (d : Delivery) → IsOrderly s → IsBeginningOf x w → (run w s).0.received ≡ Some d → ((run x s).0.received ≡ None) ⊎ ((run x s).0.received ≡ Some d)
@@ -327,161 +376,97 @@ received_of s x w d orderly p whole =
       | inr same ↦ inr (sym same ∙ ap (λ (q : Sent). q.0.received) (sym e) ∙ whole)
     ]
 
-comes_to : (s t u : Standing) (ms ns out put : List (List ℕ)) → Talks s ms t out → Talks t ns u put → (run (texts ms ++ texts ns) s).0 ≡ u
-unfolding run
-comes_to s t u ms ns out put p q =
-    ap (λ (r : Sent). r.0) (p (texts ns)) ∙ ap (λ (x : List ℕ). (run x t).0) (sym (append-nil (texts ns))) ∙ ap (λ (r : Sent). r.0) (q [])
-
-client_course : (version : Version) (a b : ReplicaValue) (x : List ℕ) → CanMeet version a b → course (Client version) a (So_far x) ≡ then_more (client version a, texts (greeting version a)) (run x)
-unfolding course
-client_course version a b x h = ap (λ (p : Sent). then_more p (run x)) (client_opens version a b h)
-
 server_course : (b : ReplicaValue) (y : List ℕ) → course Server b (So_far y) ≡ then_more (server b, []) (run y)
 unfolding course
 server_course b y = ap (λ (p : Sent). then_more p (run y)) (server_opens b)
 
--- the last word takes nothing from what was received
-received_last : (own mark : Option Mark) (received : Option Delivery) → received_after received (ending own mark) ≡ received
-received_last own mark received = elim (ends_so own mark) [ inl done ↦ rw done refl | inr forks ↦ rw forks refl ]
-
-client_whole : (version : Version) (a b : ReplicaValue) → CanMeet version a b → (run (texts (server_says version b a) ++ texts (last_word version b a)) (client version a)).0 ≡ client_done version a b
-client_whole version a b h = comes_to (client version a) (client_told version a b) (client_done version a b) (server_says version b a) (last_word version b a) (client_says version a b) [] (client_hears version a b h) (client_ends version a b h)
-
-server_whole : (version : Version) (a b : ReplicaValue) → CanMeet version a b → (run (texts (greeting version a) ++ texts (client_says version a b)) (server b)).0 ≡ server_done version b a
-server_whole version a b h = comes_to (server b) (server_asked version b a) (server_done version b a) (greeting version a) (client_says version a b) (server_says version b a) (last_word version b a) (server_hears version a b h) (server_ends version a b h)
-
--- both streams are beginnings of the whole talk
-the_talk : (version : Version) (a b : ReplicaValue) (x y : List ℕ) → CanMeet version a b → Hear version a b x y
-    → IsBeginningOf x (texts (server_says version b a) ++ texts (last_word version b a)) × IsBeginningOf y (texts (greeting version a) ++ texts (client_says version a b))
-unfolding s1 s2 c1 c2 says
-the_talk version a b x y h hear =
-    talk_by version a b h x y
-    (subst (IsBeginningOf x) (ap (λ (p : Sent). p.1) (server_course b y)) hear.client)
-    (subst (IsBeginningOf y) (ap (λ (p : Sent). p.1) (client_course version a b x h)) hear.server)
-
 its_delta : (peer own : ReplicaValue) (received : Option Delivery) → (received ≡ None) ⊎ (received ≡ Some (least_state peer.state (digest_of own.state), longer_than own.roster peer.roster)) → IsItsDelta peer own received
 its_delta peer own received h = elim h [ inl none ↦ inl none | inr is ↦ inr (its_least peer own received is) ]
 
+-- at the end it is what the other has
+received_done : (s : Standing) (version : Version) (own peer : ReplicaValue) → (finished s version own peer).received ≡ Some (least_state peer.state (digest_of own.state), longer_than own.roster peer.roster)
+received_done s version own peer = received_last (last_mark version own peer) (last_mark version peer own) _
+
+module _ (version : Version) (a b : ReplicaValue) (by : Played version a b) where
+  client_course : (x : List ℕ) → course (Client version) a (So_far x) ≡ then_more (client version a, texts by.opening_is) (run x)
+  unfolding course
+  client_course x = ap (λ (p : Sent). then_more p (run x)) (opened_by (fresh (Client version) a) by.opening_is refl by.opens by.fit)
+
+  client_whole : (run (texts (answers by.turns)) (client version a)).0 ≡ finished (client version a) version a b
+  client_whole = client_comes by.turns (client version a) (server b) by.opening_is by.play ∙ by.client_ends
+
+  server_whole : (run (texts (words by.opening_is by.turns)) (server b)).0 ≡ finished (server b) version b a
+  server_whole = server_comes by.turns (client version a) (server b) by.opening_is by.play ∙ by.server_ends
+
+  has_received : (x y : List ℕ) → Hear version a b x y → HaveReceived version a b x y
+  unfolding says
+  has_received x y hear =
+      let heard = beginnings by.turns (client version a) (server b) by.opening_is x y by.play
+      (subst (IsBeginningOf x) (ap (λ (p : Sent). p.1) (server_course b y)) hear.client)
+      (subst (IsBeginningOf y) (ap (λ (p : Sent). p.1) (client_course x)) hear.server) in
+      record {
+        client = subst (IsItsDelta b a) (sym (ap (λ (p : Sent). p.0.received) (client_course x)))
+            (its_delta b a _ (received_of (client version a) x (texts (answers by.turns)) (least_state b.state (digest_of a.state), longer_than a.roster b.roster) (inl refl) heard.0
+            (ap (λ (s : Standing). s.received) client_whole ∙ received_done (client version a) version a b)));
+        server = subst (IsItsDelta a b) (sym (ap (λ (p : Sent). p.0.received) (server_course b y)))
+            (its_delta a b _ (received_of (server b) y (texts (words by.opening_is by.turns)) (least_state a.state (digest_of b.state), longer_than b.roster a.roster) (inl refl) heard.1
+            (ap (λ (s : Standing). s.received) server_whole ∙ received_done (server b) version b a)));
+      }
+
+  -- both heard the whole talk, and end as the other's last word says
+  both_done : (x y : List ℕ) (ended : Ended) → HearAll version a b x y
+      → ended_after Going (ending (last_mark version a b) (last_mark version b a)) ≡ ended → ended_after Going (ending (last_mark version b a) (last_mark version a b)) ≡ ended
+      → HaveEnded version a b x y ended
+  unfolding says
+  both_done x y ended all first second =
+      let heard = whole by.turns (client version a) (server b) by.opening_is x y by.play
+      (all.client ∙ ap (λ (p : Sent). p.1) (server_course b y))
+      (all.server ∙ ap (λ (p : Sent). p.1) (client_course x)) in
+      let client_end : (course (Client version) a (So_far x)).0 ≡ finished (client version a) version a b =
+      ap (λ (p : Sent). p.0) (client_course x) ∙ ap (λ (t : List ℕ). (run t (client version a)).0) heard.0 ∙ client_whole in
+      let server_end : (course Server b (So_far y)).0 ≡ finished (server b) version b a =
+      ap (λ (p : Sent). p.0) (server_course b y) ∙ ap (λ (t : List ℕ). (run t (server b)).0) heard.1 ∙ server_whole in
+      record {
+        client = ap (λ (s : Standing). s.ended) client_end ∙ first;
+        client_has = its_least b a _ (ap (λ (s : Standing). s.received) client_end ∙ received_done (client version a) version a b);
+        server = ap (λ (s : Standing). s.ended) server_end ∙ second;
+        server_has = its_least a b _ (ap (λ (s : Standing). s.received) server_end ∙ received_done (server b) version b a);
+      }
+
+  served : (x : List ℕ) → AgreeWhereTold version a b → Splits x (client_words version a b) [] → IsServed version a b x
+  unfolding run
+  served x agree splits =
+      let talks = server_talks by.turns (client version a) (server b) by.opening_is by.play in
+      let is : course Server b (So_far x) ≡ (finished (server b) version b a, texts (server_words version b a)) =
+      by_messages Server b x (client_words version a b) [] splits
+      ∙ ap (λ (o : Sent). then_more (then_more o (talk (client_words version a b))) (run [])) (server_opens b)
+      ∙ ap (λ (ms : List (List ℕ)). then_more (talk ms (server b)) (run [])) (sym by.client_said)
+      ∙ ap (λ (p : Sent). (p.0, p.1 ++ [])) talks
+      ∙ ap (λ (s : Standing). (s, texts (answers by.turns) ++ [])) by.server_ends
+      ∙ ap (λ (t : List ℕ). (finished (server b) version b a, t)) (append-nil (texts (answers by.turns)) ∙ ap texts by.server_said) in
+      record {
+        said = ap (λ (p : Sent). p.1) is ∙ texts_are (server_words version b a);
+        server = ap (λ (p : Sent). p.0.ended) is ∙ ap (ended_after Going) (ending_agreed version b a (agree_turned version a b agree));
+        server_has = its_least a b _ (ap (λ (p : Sent). p.0.received) is ∙ received_done (server b) version b a);
+      }
+
+-- ---- the laws
+
+or_collide : {A B C : Type 0} → A ⊎ C → (A → B) → B ⊎ C
+or_collide h f = elim h [ inl is ↦ inl (f is) | inr collide ↦ inr collide ]
+
 pub receive_deltas : ReceiveDeltas
-receive_deltas version a b x y h hear =
-    let talk = the_talk version a b x y h hear in
-    let client-end = ap (λ (s : Standing). s.received) (client_whole version a b h) ∙ received_last (last_mark version a b) (last_mark version b a) _ in
-    let server-end = ap (λ (s : Standing). s.received) (server_whole version a b h) ∙ received_last (last_mark version b a) (last_mark version a b) _ in
-    let client-is = ap (λ (p : Sent). p.0.received) (client_course version a b x h) in
-    let server-is = ap (λ (p : Sent). p.0.received) (server_course b y) in (
-      subst (IsItsDelta b a) (sym client-is) (its_delta b a _ (received_of (client version a) x (texts (server_says version b a) ++ texts (last_word version b a)) (least_state b.state (digest_of a.state), longer_than a.roster b.roster) (inl refl) talk.0 client-end)),
-      subst (IsItsDelta a b) (sym server-is) (its_delta a b _ (received_of (server b) y (texts (greeting version a) ++ texts (client_says version a b)) (least_state a.state (digest_of b.state), longer_than b.roster a.roster) (inl refl) talk.1 server-end)),
-    )
-
-begins_itself : (x : List ℕ) → IsBeginningOf x x
-begins_itself x = ([], sym (append-nil x))
-
--- all that was sent was heard, so both heard the whole talk
-whole_talk : (version : Version) (a b : ReplicaValue) (x y : List ℕ) → CanMeet version a b → HearAll version a b x y
-    → (x ≡ texts (server_says version b a) ++ texts (last_word version b a)) × (y ≡ texts (greeting version a) ++ texts (client_says version a b))
-unfolding s1 s2 c1 c2 says
-whole_talk version a b x y h all =
-    let client-says : y ≡ texts (greeting version a) ++ (run x (client version a)).1 = all.server ∙ ap (λ (p : Sent). p.1) (client_course version a b x h) in
-    let server-said : x ≡ (run y (server b)).1 = all.client ∙ ap (λ (p : Sent). p.1) (server_course b y) in
-    let x1 = says (server_asked version b a) (says (client version a) x) in
-    let x-is : x ≡ texts (server_says version b a) ++ x1 = server-said ∙ ap (says (server b)) client-says ∙ server_on version a b h (says (client version a) x) in
-    let y1 = says (client_told version a b) x1 in
-    let y-is : says (client version a) x ≡ texts (client_says version a b) ++ y1 = ap (says (client version a)) x-is ∙ client_on version a b h x1 in
-    let x1-is : x1 ≡ texts (last_word version b a) = ap (says (server_asked version b a)) y-is ∙ server_last version a b h y1 in
-    let none : y1 ≡ [] = ap (says (client_told version a b)) x1-is ∙ says_only (client_told version a b) (client_done version a b) (last_word version b a) [] (client_ends version a b h) in (
-      x-is ∙ ap (λ (t : List ℕ). texts (server_says version b a) ++ t) x1-is,
-      client-says ∙ ap (λ (t : List ℕ). texts (greeting version a) ++ t) (y-is ∙ ap (λ (t : List ℕ). texts (client_says version a b) ++ t) none ∙ append-nil (texts (client_says version a b))),
-    )
-
--- both heard the whole talk, and end as the other's last word says
-both_done : (version : Version) (a b : ReplicaValue) (x y : List ℕ) (ended : Ended) → CanMeet version a b → HearAll version a b x y
-    → ended_after Going (ending (last_mark version a b) (last_mark version b a)) ≡ ended → ended_after Going (ending (last_mark version b a) (last_mark version a b)) ≡ ended
-    → HaveEnded version a b x y ended
-both_done version a b x y ended h all first second =
-    let whole = whole_talk version a b x y h all in
-    let client-end : (course (Client version) a (So_far x)).0 ≡ client_done version a b =
-    ap (λ (p : Sent). p.0) (client_course version a b x h) ∙ ap (λ (t : List ℕ). (run t (client version a)).0) whole.0 ∙ client_whole version a b h in
-    let server-end : (course Server b (So_far y)).0 ≡ server_done version b a =
-    ap (λ (p : Sent). p.0) (server_course b y) ∙ ap (λ (t : List ℕ). (run t (server b)).0) whole.1 ∙ server_whole version a b h in
-    record {
-      client = ap (λ (s : Standing). s.ended) client-end ∙ first;
-      client_has = its_least b a _ (ap (λ (s : Standing). s.received) client-end ∙ received_last (last_mark version a b) (last_mark version b a) _);
-      server = ap (λ (s : Standing). s.ended) server-end ∙ second;
-      server_has = its_least a b _ (ap (λ (s : Standing). s.received) server-end ∙ received_last (last_mark version b a) (last_mark version a b) _);
-    }
+receive_deltas version a b x y h hear = or_collide (played version a b h) (λ by. has_received version a b by x y hear)
 
 pub both_end : BothEnd
-both_end version a b x y h agree all =
-    both_done version a b x y Done h all
+both_end version a b x y h agree all = or_collide (played version a b h) (λ by. both_done version a b by x y Done all
     (ap (ended_after Going) (ending_agreed version a b agree))
-    (ap (ended_after Going) (ending_agreed version b a (agree_turned version a b agree)))
+    (ap (ended_after Going) (ending_agreed version b a (agree_turned version a b agree))))
 
 pub both_tell : BothTellForks
-both_tell version a b x y h tells other all =
-    both_done version a b x y (Failed Forked) h all
+both_tell version a b x y h tells other all = or_collide (played version a b h) (λ by. both_done version a b by x y (Failed Forked) all
     (ap (ended_after Going) (ending_forked version a b tells other))
-    (ap (ended_after Going) (ending_forked version b a tells (λ e. other (sym e))))
-
--- ---- a client of any version
-
--- one message of a talk, which is accepted and all of whose answers can be sent
-talked : (s : Standing) (m : List ℕ) (more : List (List ℕ)) (act : Said) (ms : List (List ℕ)) → s.ended ≡ Going → Fits m → verdict s.kept s.turn m ≡ Ok act
-    → replies_of s.side s.kept s.turn act ≡ ms → AllByRecursion Fits ms → talk (m ∷ more) s ≡ then_more (after_said s act, texts ms) (talk more)
-talked s m more act ms going room ok replies fit =
-    let short : ltb MESSAGE_LIMIT (length m) ≡ false = le-ltb _ _ room in
-    ap (λ (e : Ended). when_going {A = Sent} e (then_more (after_message s m) (talk more)) (s, [])) going
-    ∙ ap (λ (long : Bool). then_more (cond long (refuses s TooLong) (message_comes s m)) (talk more)) short
-    ∙ ap (λ (p : Sent). then_more p (talk more)) (comes s m act ms ok replies fit)
-
-module _ (version : Version) (a b : ReplicaValue) (h : CanMeet version a b) where
-  told : IsTold version b a
-  told = server_told_by version a b h
-
-  ended_with : talk (last_word version a b) (server_told version b a) ≡ (server_done version b a, texts (last_word version b a))
-  ended_with =
-      let said = ending (last_mark version b a) (last_mark version a b) in
-      talked (server_told version b a) (done_message (last_mark version a b)) [] said (last_word version b a) refl (done_fits (last_mark version a b))
-      (done_accepted b (last_mark version b a) (last_mark version a b) (are_alike version b a a b))
-      (said_last said (last_mark version b a) (ends_so (last_mark version b a) (last_mark version a b)) (server_told version b a) refl refl) (done_fits (last_mark version b a), tt)
-      ∙ ap (λ (t : List ℕ). (server_done version b a, t)) (append-nil (texts (last_word version b a)))
-
-  told_with : talk (client_says version a b) (server_asked version b a) ≡ (server_done version b a, texts (last_word version b a))
-  told_with =
-      talked (server_asked version b a) (delta_message a (format_of version) b.own (digest_of b.state)) (last_word version a b) (delivered version b a) []
-      refl h.a_room.delta (delta_accepted version b a (digest_of a.state) told) refl tt
-      ∙ ended_with
-
-  asked_with : talk (digest_message a ∷ client_says version a b) (after_said (server b) (Greets (speaker version b a))) ≡ (server_done version b a, texts (server_says version b a) ++ texts (last_word version b a))
-  asked_with =
-      talked (after_said (server b) (Greets (speaker version b a))) (digest_message a) (client_says version a b) (Learns (speaker version b a) (digest_of a.state)) (server_says version b a)
-      refl h.a_room.digest (digest_accepted version b a told) refl (h.b_room.hello, (h.b_room.digest, (h.b_room.delta, tt)))
-      ∙ ap (λ (p : Sent). (p.0, texts (server_says version b a) ++ p.1)) told_with
-
-  greeted_with : talk (words_in version a b) (server b) ≡ (server_done version b a, texts (server_says version b a) ++ texts (last_word version b a))
-  greeted_with =
-      talked (server b) (hello_message a version) (digest_message a ∷ client_says version a b) (Greets (speaker version b a)) []
-      refl h.a_room.hello (hello_accepted Server version b a (server_speaks version) told) refl tt
-      ∙ asked_with
-
-  served_course : (x : List ℕ) → Splits x (words_in version a b) [] → course Server b (So_far x) ≡ (server_done version b a, texts (words_in version b a))
-  unfolding run
-  served_course x splits =
-      let said = texts (server_says version b a) ++ texts (last_word version b a) in
-      let whole : said ≡ texts (words_in version b a) = sym (texts-append (server_says version b a) (last_word version b a)) in
-      by_messages Server b x (words_in version a b) [] splits
-      ∙ ap (λ (o : Sent). then_more (then_more o (talk (words_in version a b))) (run [])) (server_opens b)
-      ∙ ap (λ (p : Sent). (p.0, p.1 ++ [])) greeted_with
-      ∙ ap (λ (t : List ℕ). (server_done version b a, t)) (append-nil said ∙ whole)
-
-texts_are : (ms : List (List ℕ)) → texts ms ≡ flat_map message_in_chunks ms
-texts_are [] = refl
-texts_are (m ∷ ms) = ap (λ (t : List ℕ). message_in_chunks m ++ t) (texts_are ms)
+    (ap (ended_after Going) (ending_forked version b a tells (λ e. other (sym e)))))
 
 pub serves_each : ServesEach
-serves_each version a b x h agree splits =
-    let is = served_course version a b h x splits in
-    record {
-      said = ap (λ (p : Sent). p.1) is ∙ texts_are (words_in version b a);
-      server = ap (λ (p : Sent). p.0.ended) is ∙ ap (ended_after Going) (ending_agreed version b a (agree_turned version a b agree));
-      server_has = its_least a b _ (ap (λ (p : Sent). p.0.received) is ∙ received_last (last_mark version b a) (last_mark version a b) _);
-    }
+serves_each version a b x h agree splits = or_collide (played version a b h) (λ by. served version a b by x agree splits)

@@ -2,7 +2,7 @@
 use Rattle.std.proofs.Common.{◌≡◌, ℕ, zero, suc, ◌≤◌, ◌<◌, ◌&&◌, Bool, true, false, cond, ltb, List, [], ◌∷◌, length, Option, Some, None, Result, Ok, Err, refl, sym, ap, ◌∙◌, subst, arith}
 use Rattle.std.specs.Prelude.{IfErr}
 use Rattle.rds_names.specs.declared.fault.Fault.{Fault}
-use Rattle.rds_names.specs.declared.fault.Fault.TheVariants.{Memory, Cut, Extra, OutOfTurn, WrongVersion}
+use Rattle.rds_names.specs.declared.fault.Fault.TheVariants.{Memory, Cut, Bad, Extra, TooLong, OutOfTurn, WrongVersion}
 use Rattle.rds_state.specs.Fits.{ReplicaValue}
 use Rattle.rds_bytes.specs.Reading.{Reader, Fails}
 use Rattle.rds_codec.specs.AnswerTexts.{IsAnswerOf}
@@ -22,13 +22,14 @@ use Rattle.rds_codec.proofs.Whole.{IsReaderOf}
 use Rattle.rds_keep.specs.FedTexts.{decodes_texts}
 use Rattle.rds_keep.specs.Feeding.{AreBytes}
 use Rattle.rds_session.specs.Bodies.{hello_in, digest_in, answer_in}
-use Rattle.rds_session.specs.Contents.{ContentValue, OfHello, OfDigest, OfDelta, OfBye, OfMark, IsRead, IsReadFor, body_read, bye_read, code_read, content_judged, expected_of, expects_mark, hello_read, kind_read, message_read, plain_read, read_as, version_read}
-use Rattle.rds_session.specs.Judging.{Awaited, ForHello, ForDigest, ForDelta, ForBye, Said, Judges, StopsAs, StopsByNoDevice, body_came, bye_came, code_came, hello_came, is_done, kind_came, plain_came, read_then, replicas_of, verdict, version_came, version_with, waits_for_mark}
+use Rattle.rds_session.specs.Contents.{ContentValue, OfHello, OfDigest, OfHash, OfDelta, OfBye, OfMark, IsRead, IsReadFor, body_read, bye_read, code_read, content_judged, expected_of, expects_hash, expects_mark, hash_read, hello_read, kind_read, message_read, plain_read, read_as, version_read}
+use Rattle.rds_session.specs.Judging.{Awaited, ForHello, ForDigest, ForWhole, ForDelta, ForBye, Said, Judges, StopsAs, StopsByNoDevice, body_came, bye_came, code_came, hash_came, hash_judged, hello_came, is_done, kind_came, plain_came, read_then, replicas_of, verdict, version_came, version_with, waits_for_hash, waits_for_mark}
+use Rattle.rds_session.specs.Hashes.{hash_in}
 use Rattle.rds_session.specs.Marked.{mark_in}
 use Rattle.rds_session.specs.Messages.{bye_of, kind_of}
 use Rattle.rds_session.specs.Versions.{as_hello, format_of}
 use Rattle.rds_session.specs.declared.version.Version.{Version}
-use Rattle.rds_session.specs.declared.version.Version.TheVariants.{One, Two, Three}
+use Rattle.rds_session.specs.declared.version.Version.TheVariants.{One, Two, Three, Four}
 use Rattle.rds_state.specs.declared.mark.Mark.{Mark}
 use Rattle.rds_session.specs.declared.content.Expected.{Expected}
 use Rattle.rds_session.specs.declared.content.Expected.TheVariants as expecteds
@@ -68,6 +69,7 @@ marked_is kept turn code rest false = plain_is kept turn code rest
 waits_is : (kept : ReplicaValue) (turn : Awaited) → waits_for_mark turn ≡ expects_mark (expected_of kept turn)
 waits_is kept (ForHello side) = refl
 waits_is kept (ForDigest peer) = refl
+waits_is kept (ForWhole peer) = refl
 waits_is kept (ForDelta peer digest) = refl
 waits_is kept (ForBye mark) = refl
 
@@ -80,18 +82,38 @@ bye_is kept turn [] = refl
 bye_is kept turn (b ∷ rest) =
     code_is kept turn (bye_of b) rest ∙ ap (λ (marked : Bool). read_then (code_read marked (bye_of b) rest) (content_judged kept turn)) (waits_is kept turn)
 
+waits_for_hash_is : (kept : ReplicaValue) (turn : Awaited) → waits_for_hash turn ≡ expects_hash (expected_of kept turn)
+waits_for_hash_is kept (ForHello side) = refl
+waits_for_hash_is kept (ForDigest peer) = refl
+waits_for_hash_is kept (ForWhole peer) = refl
+waits_for_hash_is kept (ForDelta peer digest) = refl
+waits_for_hash_is kept (ForBye mark) = refl
+
+hashed_is : (kept : ReplicaValue) (turn : Awaited) (hashed : Bool) (body : List ℕ)
+    → cond hashed (read_then (hash_in body) (hash_judged kept turn)) (Err (Refused Bad)) ≡ read_then (hash_read hashed body) (content_judged kept turn)
+hashed_is kept turn true body = as_is OfHash (hash_in body) (content_judged kept turn)
+hashed_is kept turn false body = refl
+
+hash_is : (kept : ReplicaValue) (turn : Awaited) (body : List ℕ) → hash_came kept turn body ≡ read_then (hash_read (expects_hash (expected_of kept turn)) body) (content_judged kept turn)
+hash_is kept turn body =
+    hashed_is kept turn (waits_for_hash turn) body ∙ ap (λ (hashed : Bool). read_then (hash_read hashed body) (content_judged kept turn)) (waits_for_hash_is kept turn)
+
 body_is : (kept : ReplicaValue) (kind : MessageKind) (turn : Awaited) (body : List ℕ) → body_came kept kind turn body ≡ read_then (body_read (expected_of kept turn) kind body) (content_judged kept turn)
 body_is kept kinds.Bye turn body = bye_is kept turn body
+body_is kept kinds.Hash turn body = hash_is kept turn body
 body_is kept kinds.Hello (ForHello side) body = hello_is kept side body
 body_is kept kinds.Hello (ForDigest peer) body = refl
+body_is kept kinds.Hello (ForWhole peer) body = refl
 body_is kept kinds.Hello (ForDelta peer digest) body = refl
 body_is kept kinds.Hello (ForBye mark) body = refl
 body_is kept kinds.Digest (ForHello side) body = refl
 body_is kept kinds.Digest (ForDigest peer) body = as_is OfDigest (digest_in (replicas_of kept peer.roster) body) (content_judged kept (ForDigest peer))
+body_is kept kinds.Digest (ForWhole peer) body = as_is OfDigest (digest_in (replicas_of kept peer.roster) body) (content_judged kept (ForWhole peer))
 body_is kept kinds.Digest (ForDelta peer digest) body = refl
 body_is kept kinds.Digest (ForBye mark) body = refl
 body_is kept kinds.Delta (ForHello side) body = refl
 body_is kept kinds.Delta (ForDigest peer) body = refl
+body_is kept kinds.Delta (ForWhole peer) body = refl
 body_is kept kinds.Delta (ForDelta peer digest) body = as_is OfDelta (answer_in (format_of peer.version) (replicas_of kept peer.roster) body) (content_judged kept (ForDelta peer digest))
 body_is kept kinds.Delta (ForBye mark) body = refl
 
@@ -160,11 +182,21 @@ bye_known : (marked : Bool) (body : List ℕ) → IsKnown (bye_read marked body)
 bye_known marked [] = tt
 bye_known marked (b ∷ rest) = code_known marked (bye_of b) rest
 
+hash_in_known : (short long : Bool) (bytes : List ℕ) → IsKnown (cond short (Err Cut) (cond long (Err Extra) (Ok bytes)))
+hash_in_known true long bytes = tt
+hash_in_known false true bytes = tt
+hash_in_known false false bytes = tt
+
+hash_known : (hashed : Bool) (body : List ℕ) → IsKnown (hash_read hashed body)
+hash_known true body = as_known OfHash (hash_in body) (hash_in_known (ltb (length body) 32) (ltb 32 (length body)) body)
+hash_known false body = tt
+
 -- the version's own byte is one too
 hello_bytes : (version : Version) (byte : ℕ) (rest : List ℕ) → AreBytes (byte ∷ rest) → AreBytes (as_hello version rest)
 hello_bytes One byte rest are zero = omega arith
 hello_bytes Two byte rest are zero = omega arith
 hello_bytes Three byte rest are zero = omega arith
+hello_bytes Four byte rest are zero = omega arith
 hello_bytes version byte rest are (suc i) = are (suc i)
 
 version_known : (version : Option Version) (rest : List ℕ) → ((v : Version) → AreBytes (as_hello v rest)) → length rest < LIMIT → IsKnown (version_read version rest)
@@ -190,16 +222,17 @@ module _ (body : List ℕ) (are : AreBytes body) (within : length body ≤ LIMIT
 
   body_known : (expected : Expected) (kind : MessageKind) → IsKnown (body_read expected kind body)
   body_known expected kinds.Bye = bye_known (expects_mark expected) body
+  body_known expected kinds.Hash = hash_known (expects_hash expected) body
   body_known (expecteds.Hello side) kinds.Hello = hello_known side body are within
-  body_known (expecteds.Digest n) kinds.Hello = tt
+  body_known (expecteds.Digest n hashed) kinds.Hello = tt
   body_known (expecteds.Delta format n) kinds.Hello = tt
   body_known (expecteds.Bye marked) kinds.Hello = tt
   body_known (expecteds.Hello side) kinds.Digest = tt
-  body_known (expecteds.Digest n) kinds.Digest = digest_known n
+  body_known (expecteds.Digest n hashed) kinds.Digest = digest_known n
   body_known (expecteds.Delta format n) kinds.Digest = tt
   body_known (expecteds.Bye marked) kinds.Digest = tt
   body_known (expecteds.Hello side) kinds.Delta = tt
-  body_known (expecteds.Digest n) kinds.Delta = tt
+  body_known (expecteds.Digest n hashed) kinds.Delta = tt
   body_known (expecteds.Delta format n) kinds.Delta = delta_known format n
   body_known (expecteds.Bye marked) kinds.Delta = tt
 
@@ -249,6 +282,7 @@ bye_no_delta marked (b ∷ rest) a is = code_no_delta marked (bye_of b) rest a i
 kind_of_delta : (format : Format) (n : ℕ) (kind : Option MessageKind) (body : List ℕ) (a : AnswerValue) → kind_read (expecteds.Delta format n) kind body ≡ Ok (OfDelta a) → answer_in format n body ≡ Ok a
 kind_of_delta format n None body a is = absurd cc
 kind_of_delta format n (Some kinds.Bye) body a is = absurd (bye_no_delta false body a is)
+kind_of_delta format n (Some kinds.Hash) body a is = absurd cc
 kind_of_delta format n (Some kinds.Hello) body a is = absurd cc
 kind_of_delta format n (Some kinds.Digest) body a is = absurd cc
 kind_of_delta format n (Some kinds.Delta) body a is = read_delta (answer_in format n body) a is
@@ -270,9 +304,11 @@ read_so kept (ForDelta peer digest) m (OfDelta a) are within is = delta_read (fo
 read_so kept (ForDelta peer digest) m (OfHello version h) are within is = tt
 read_so kept (ForDelta peer digest) m (OfMark mark) are within is = tt
 read_so kept (ForDelta peer digest) m (OfDigest d) are within is = tt
+read_so kept (ForDelta peer digest) m (OfHash hash) are within is = tt
 read_so kept (ForDelta peer digest) m (OfBye code) are within is = tt
 read_so kept (ForHello side) m content are within is = tt
 read_so kept (ForDigest peer) m content are within is = tt
+read_so kept (ForWhole peer) m content are within is = tt
 read_so kept (ForBye mark) m content are within is = tt
 
 pub read_for : (kept : ReplicaValue) (turn : Awaited) (m : List ℕ) (expected : Expected) (content : ContentValue) → expected ≡ expected_of kept turn → AreBytes m → length m ≤ LIMIT

@@ -1,5 +1,5 @@
 -- What has come of a message, and what its bytes so far say of it.
-use Rattle.std.specs.Prelude.{◌≡◌, ℕ, true, false, ◌&&◌, List, [], ◌∷◌, ◌++◌, Option, Some, None, Err}
+use Rattle.std.specs.Prelude.{◌≡◌, ℕ, Bool, true, false, ◌&&◌, List, [], ◌∷◌, ◌++◌, Option, Some, None, Err}
 use Rattle.rds_session.specs.declared.content.Expected.{Expected}
 use Rattle.rds_session.specs.declared.content.Expected.TheVariants as expecteds
 use Rattle.rds_session.specs.declared.kinds.ByeCode.TheVariants as byes
@@ -7,7 +7,7 @@ use Rattle.rds_session.specs.declared.kinds.MessageKind.TheVariants as kinds
 use Rattle.rds_session.specs.declared.message.Body.{Body}
 use Rattle.rds_session.specs.declared.message.Body.TheVariants as bodies
 use Rattle.rds_session.specs.declared.talk.Side.{Side}
-use Rattle.rds_session.specs.Contents.{expects_mark, message_read}
+use Rattle.rds_session.specs.Contents.{expects_hash, expects_mark, message_read}
 use Rattle.rds_session.specs.Judging.{is_done, version_with}
 use Rattle.rds_session.specs.Messages.{bye_of, number_of}
 use Rattle.rds_session.specs.Versions.{as_hello}
@@ -24,7 +24,8 @@ HoldsBody expected (bodies.Hello version text) came =
     × (byte : ℕ) × (rest : List ℕ) × (came ≡ number_of kinds.Hello ∷ byte ∷ rest)
     × (version_with side byte ≡ Some version) × (text.came ≡ as_hello version rest)
 HoldsBody expected (bodies.Digest text) came =
-    (expected ≡ expecteds.Digest text.replicas) × (came ≡ number_of kinds.Digest ∷ text.came)
+    (hashed : Bool) × (expected ≡ expecteds.Digest text.replicas hashed) × (came ≡ number_of kinds.Digest ∷ text.came)
+HoldsBody expected (bodies.Hash bytes) came = (expects_hash expected ≡ true) × (came ≡ number_of kinds.Hash ∷ bytes.items)
 HoldsBody expected (bodies.Delta text) came =
     (expected ≡ expecteds.Delta text.format text.replicas) × (came ≡ number_of kinds.Delta ∷ text.came)
 HoldsBody expected (bodies.Parting marked) came = (expects_mark expected ≡ marked) × (came ≡ number_of kinds.Bye ∷ [])

@@ -16,7 +16,7 @@ use Rattle.rds_session.specs.declared.talk.Side.{Side}
 use Rattle.rds_session.specs.declared.talk.Side.TheVariants.{Client, Server}
 use Rattle.rds_session.specs.declared.version.Version.{Version}
 use Rattle.rds_session.specs.Chunks.{Under}
-use Rattle.rds_session.specs.Judging.{Awaited, ForHello, ForDigest, ForDelta, ForBye}
+use Rattle.rds_session.specs.Judging.{Awaited, ForHello, ForDigest, ForWhole, ForDelta, ForBye}
 use Rattle.rds_session.specs.Received.{Delivery}
 use Rattle.rds_session.specs.Session.{Standing}
 
@@ -48,25 +48,29 @@ coded_mark = code_by (ℕ × ℕ) (coded× coded_ℕ coded_ℕ) (λ m. (m.high, 
 abbrev coded_delivery : Coded Delivery
 coded_delivery = coded× coded_state (coded_option coded_roster)
 
--- the peer, where it is known, and its digest; else the side that a HELLO comes to; else the own mark, where it is told
+-- the peer, where it is known, and its digest; else the side that a HELLO comes to; else the own mark, where it is told.
+-- Beside a peer a side says that its digest is waited for whole
 abbrev Known : Type 0
 Known = Option (Peer × Option DigestValue) × (Option Side × Option Mark)
 
 abbrev known_of : Awaited → Known
 known_of (ForHello side) = (None, (Some side, None))
 known_of (ForDigest peer) = (Some (peer, None), (None, None))
+known_of (ForWhole peer) = (Some (peer, None), (Some Server, None))
 known_of (ForDelta peer digest) = (Some (peer, Some digest), (None, None))
 known_of (ForBye mark) = (None, (None, mark))
 
 abbrev awaited_of : Known → Awaited
 awaited_of (None, (Some side, mark)) = ForHello side
 awaited_of (None, (None, mark)) = ForBye mark
-awaited_of (Some (peer, None), rest) = ForDigest peer
+awaited_of (Some (peer, None), (None, mark)) = ForDigest peer
+awaited_of (Some (peer, None), (Some side, mark)) = ForWhole peer
 awaited_of (Some (peer, Some digest), rest) = ForDelta peer digest
 
 abbrev back : (a : Awaited) → awaited_of (known_of a) ≡ a
 back (ForHello side) = refl
 back (ForDigest peer) = refl
+back (ForWhole peer) = refl
 back (ForDelta peer digest) = refl
 back (ForBye mark) = refl
 

@@ -21,14 +21,16 @@ use Rattle.rds_session.specs.declared.talk.Stop.{Stop}
 use Rattle.rds_session.specs.declared.talk.Stop.TheVariants.{Refused}
 use Rattle.rds_session.specs.Bodies.{hello_in, digest_in, answer_in}
 use Rattle.rds_session.specs.declared.version.Version.{Version}
-use Rattle.rds_session.specs.Judging.{Awaited, ForHello, ForDigest, ForDelta, ForBye, Said, Learns, bye_judged, delta_judged, is_done, mark_judged, member_judged, replicas_of, version_with}
+use Rattle.rds_session.specs.Judging.{Awaited, ForHello, ForDigest, ForWhole, ForDelta, ForBye, Said, Learns, bye_judged, delta_judged, hash_judged, is_done, mark_judged, member_judged, replicas_of, version_with}
+use Rattle.rds_session.specs.Hashes.{hash_in}
 use Rattle.rds_session.specs.Marked.{mark_in}
-use Rattle.rds_session.specs.Versions.{as_hello, format_of}
+use Rattle.rds_session.specs.Versions.{as_hello, format_of, says_hashes}
 use Rattle.rds_session.specs.Messages.{kind_of, bye_of}
 
 pub data ContentValue : Type 0 where
   OfHello : (version : Version) (hello : Hello) → ContentValue
   OfDigest : (digest : DigestValue) → ContentValue
+  OfHash : (hash : List ℕ) → ContentValue
   OfDelta : (answer : AnswerValue) → ContentValue
   OfBye : (code : ByeCode) → ContentValue
   OfMark : (mark : Mark) → ContentValue
@@ -36,6 +38,7 @@ pub data ContentValue : Type 0 where
 abbrev pub content_value : {S : Type 0} → Content S → ContentValue
 content_value (contents.Hello version hello) = OfHello version hello
 content_value (contents.Digest digest) = OfDigest digest
+content_value (contents.Hash hash) = OfHash hash
 content_value (contents.Delta answer) = OfDelta answer
 content_value (contents.Bye code) = OfBye code
 content_value (contents.Mark mark) = OfMark mark
@@ -43,7 +46,8 @@ content_value (contents.Mark mark) = OfMark mark
 -- the message that is waited for, of the replicas of the longer roster and in the peer's format
 abbrev pub expected_of : ReplicaValue → Awaited → Expected
 expected_of kept (ForHello side) = expecteds.Hello side
-expected_of kept (ForDigest peer) = expecteds.Digest (replicas_of kept peer.roster)
+expected_of kept (ForDigest peer) = expecteds.Digest (replicas_of kept peer.roster) (says_hashes peer.version)
+expected_of kept (ForWhole peer) = expecteds.Digest (replicas_of kept peer.roster) false
 expected_of kept (ForDelta peer digest) = expecteds.Delta (format_of peer.version) (replicas_of kept peer.roster)
 expected_of kept (ForBye mark) = expecteds.Bye (is_some mark)
 
@@ -78,11 +82,20 @@ abbrev pub bye_read : Bool → List ℕ → Result ContentValue Fault
 bye_read marked [] = Err Cut
 bye_read marked (b ∷ rest) = code_read marked (bye_of b) rest
 
+-- whether a HASH is waited for
+abbrev pub expects_hash : Expected → Bool
+expects_hash (expecteds.Digest replicas hashed) = hashed
+expects_hash expected = false
+
+abbrev pub hash_read : Bool → List ℕ → Result ContentValue Fault
+hash_read hashed body = if hashed then read_as OfHash (hash_in body) else Err Bad
+
 -- a BYE at any time, another message where it is waited for
 abbrev pub body_read : Expected → MessageKind → List ℕ → Result ContentValue Fault
 body_read expected kinds.Bye body = bye_read (expects_mark expected) body
 body_read (expecteds.Hello side) kinds.Hello body = hello_read side body
-body_read (expecteds.Digest replicas) kinds.Digest body = read_as OfDigest (digest_in replicas body)
+body_read expected kinds.Hash body = hash_read (expects_hash expected) body
+body_read (expecteds.Digest replicas hashed) kinds.Digest body = read_as OfDigest (digest_in replicas body)
 body_read (expecteds.Delta format replicas) kinds.Delta body = read_as OfDelta (answer_in format replicas body)
 body_read expected kind body = Err OutOfTurn
 
@@ -101,7 +114,9 @@ abbrev pub content_judged : ReplicaValue → Awaited → ContentValue → Result
 content_judged kept turn (OfBye code) = bye_judged code turn
 content_judged kept turn (OfMark mark) = mark_judged turn mark
 content_judged kept (ForHello side) (OfHello version hello) = member_judged kept version hello
+content_judged kept turn (OfHash hash) = hash_judged kept turn hash
 content_judged kept (ForDigest peer) (OfDigest digest) = Ok (Learns peer digest)
+content_judged kept (ForWhole peer) (OfDigest digest) = Ok (Learns peer digest)
 content_judged kept (ForDelta peer digest) (OfDelta answer) = delta_judged kept peer answer
 content_judged kept turn content = Err (Refused OutOfTurn)
 

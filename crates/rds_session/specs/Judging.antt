@@ -3,7 +3,7 @@ use Rattle.std.specs.Prelude.{◌≡◌, ℕ, ◌==◌, ◌&&◌, ◌||◌, nat_
 use Rattle.std.specs.Str.{bytes_eq}
 use Rattle.std.specs.List.{starts_with}
 use Rattle.rds_names.specs.declared.fault.Fault.{Fault}
-use Rattle.rds_names.specs.declared.fault.Fault.TheVariants.{Device, Memory, WrongAsker, Cut, Bad, Extra, BadCertificate, WrongVersion, WrongGroup, WrongRoster, SameReplica, OutOfTurn}
+use Rattle.rds_names.specs.declared.fault.Fault.TheVariants.{Device, Memory, WrongAsker, Cut, Bad, Extra, TooLong, BadCertificate, WrongVersion, WrongGroup, WrongRoster, SameReplica, OutOfTurn}
 use Rattle.rds_names.specs.Roster.{RosterValue}
 use Rattle.rds_state.specs.Fits.{ReplicaValue}
 use Rattle.rds_state.specs.Value.{StateValue}
@@ -23,26 +23,34 @@ use Rattle.rds_session.specs.declared.talk.Act.TheVariants as acts
 use Rattle.rds_session.specs.declared.talk.Stop.{Stop}
 use Rattle.rds_session.specs.declared.talk.Stop.TheVariants.{Refused, Left}
 use Rattle.rds_codec.specs.AnswerValues.{AnswerValue}
+use Rattle.rds_codec.specs.DigestTexts.{digest_text}
 use Rattle.rds_codec.specs.declared.hellos.Hello.{Hello}
+use Rattle.rds_codec.specs.declared.limits.TheConstants.{LIMIT}
 use Rattle.rds_session.specs.declared.version.Version.{Version}
 use Rattle.rds_session.specs.Bodies.{hello_in, digest_in, answer_in}
 use Rattle.rds_session.specs.Checked.{passes}
+use Rattle.rds_session.specs.Hashes.{digest_hash, hash_in}
 use Rattle.rds_session.specs.Marked.{mark_in, same_mark, told_mark}
-use Rattle.rds_session.specs.Messages.{kind_of, bye_of, hello_message, digest_message, delta_message, done_message, fault_of}
-use Rattle.rds_session.specs.Versions.{as_hello, format_of, version_byte, version_said}
+use Rattle.rds_session.specs.Messages.{kind_of, bye_of, hello_message, digest_message, digest_said, delta_message, done_message, fault_of}
+use Rattle.rds_session.specs.Versions.{as_hello, format_of, says_hashes, version_byte, version_said}
 
 -- the message that is waited for: a HELLO to this side, or another with what the earlier ones said, who the peer is and
--- its digest, and where marks are told the own one
+-- its digest, and where marks are told the own one. A digest is waited for by its hash, where the version has them, or
+-- whole; or whole alone, where its hash wasn't that of the own one
 pub data Awaited : Type 0 where
   ForHello : (side : Side) → Awaited
   ForDigest : (peer : Peer) → Awaited
+  ForWhole : (peer : Peer) → Awaited
   ForDelta : (peer : Peer) (digest : DigestValue) → Awaited
   ForBye : (mark : Option Mark) → Awaited
 
--- what an accepted message says. A delta comes with the mark of what is held with it, where one is told
+-- what an accepted message says. The peer shares the own digest where its hash is that one's, and misses it else. A
+-- delta comes with the mark of what is held with it, where one is told
 pub data Said : Type 0 where
   Greets : (peer : Peer) → Said
   Learns : (peer : Peer) (digest : DigestValue) → Said
+  Shares : (peer : Peer) (digest : DigestValue) → Said
+  Misses : (peer : Peer) → Said
   Receives : (delta : StateValue) (roster : Option RosterValue) (mark : Option Mark) → Said
   Finishes : Said
   Forks : Said
@@ -50,12 +58,15 @@ pub data Said : Type 0 where
 abbrev pub wait_of : {S : Type 0} → Turn S → Awaited
 wait_of (turns.Hello side) = ForHello side
 wait_of (turns.Digest peer) = ForDigest peer
+wait_of (turns.Whole peer) = ForWhole peer
 wait_of (turns.Delta peer digest) = ForDelta peer digest
 wait_of (turns.Bye mark) = ForBye mark
 
 abbrev pub saying_of : {S : Type 0} → Act S → Said
 saying_of (acts.Greet peer) = Greets peer
 saying_of (acts.Learn peer digest) = Learns peer digest
+saying_of (acts.Share peer digest) = Shares peer digest
+saying_of (acts.Miss peer) = Misses peer
 saying_of (acts.Receive delta roster mark) = Receives delta roster mark
 saying_of acts.Finish = Finishes
 saying_of acts.Fork = Forks
@@ -153,6 +164,27 @@ replicas_of kept longer = length (roster_among kept.roster longer).names
 abbrev pub digest_came : ReplicaValue → Peer → List ℕ → Result Said Stop
 digest_came kept peer body = read_then (digest_in (replicas_of kept peer.roster) body) (λ digest. Ok (Learns peer digest))
 
+-- whether the peer has the own digest, by its hash
+abbrev pub hash_said : ReplicaValue → Peer → List ℕ → Said
+hash_said kept peer hash =
+    let own = digest_of kept.state in if bytes_eq hash (digest_hash own) then Shares peer own else Misses peer
+
+-- an own digest that is over the limit has no hash
+abbrev pub hash_judged : ReplicaValue → Awaited → List ℕ → Result Said Stop
+hash_judged kept (ForDigest peer) hash =
+    if nat_lt LIMIT (length (digest_text (digest_of kept.state))) then Err (Refused TooLong) else Ok (hash_said kept peer hash)
+hash_judged kept turn hash = Err (Refused OutOfTurn)
+
+-- whether a hash is waited for
+abbrev pub waits_for_hash : Awaited → Bool
+waits_for_hash (ForDigest peer) = says_hashes peer.version
+waits_for_hash turn = false
+
+-- a HASH is of no type where none is waited for
+abbrev pub hash_came : ReplicaValue → Awaited → List ℕ → Result Said Stop
+hash_came kept turn body =
+    if waits_for_hash turn then read_then (hash_in body) (hash_judged kept turn) else Err (Refused Bad)
+
 -- the asker, then the certificate against the own digest
 abbrev pub delta_judged : ReplicaValue → Peer → AnswerValue → Result Said Stop
 delta_judged kept peer a =
@@ -170,7 +202,9 @@ delta_came kept peer body =
 abbrev pub body_came : ReplicaValue → MessageKind → Awaited → List ℕ → Result Said Stop
 body_came kept kinds.Bye turn body = bye_came turn body
 body_came kept kinds.Hello (ForHello side) body = hello_came side kept body
+body_came kept kinds.Hash turn body = hash_came kept turn body
 body_came kept kinds.Digest (ForDigest peer) body = digest_came kept peer body
+body_came kept kinds.Digest (ForWhole peer) body = digest_came kept peer body
 body_came kept kinds.Delta (ForDelta peer digest) body = delta_came kept peer body
 body_came kept kind turn body = Err (Refused OutOfTurn)
 
@@ -190,14 +224,28 @@ verdict kept turn (n ∷ body) = kind_came kept turn (kind_of n) body
 abbrev pub turn_after : Awaited → Said → Awaited
 turn_after turn (Greets peer) = ForDigest peer
 turn_after turn (Learns peer digest) = ForDelta peer digest
+turn_after turn (Shares peer digest) = ForDelta peer digest
+turn_after turn (Misses peer) = ForWhole peer
 turn_after turn (Receives delta roster mark) = ForBye mark
 turn_after turn Finishes = turn
 turn_after turn Forks = turn
 
+-- who speaks, what is kept here, by a hash or whole, and what the digest lacks of that
+abbrev pub answers_digest : Bool → ReplicaValue → Peer → DigestValue → List (List ℕ)
+answers_digest hashed kept peer digest =
+    hello_message kept peer.version ∷ digest_said hashed kept
+    ∷ delta_message kept (format_of peer.version) peer.number digest ∷ []
+
 -- the messages that answer it, in the peer's version
 abbrev pub replies_of : Side → ReplicaValue → Awaited → Said → List (List ℕ)
-replies_of Server kept turn (Learns peer digest) =
-    hello_message kept peer.version ∷ digest_message kept ∷ delta_message kept (format_of peer.version) peer.number digest ∷ []
+replies_of Server kept (ForDigest asked) (Learns peer digest) = answers_digest false kept peer digest
+replies_of Server kept (ForDigest asked) (Shares peer digest) = answers_digest true kept peer digest
+replies_of Server kept (ForDigest asked) (Misses peer) = hello_message kept peer.version ∷ digest_message kept ∷ []
+replies_of Server kept (ForWhole asked) (Learns peer digest) =
+    delta_message kept (format_of peer.version) peer.number digest ∷ []
+replies_of (Client version) kept (ForDigest asked) (Learns peer digest) =
+    if says_hashes peer.version then digest_message kept ∷ [] else []
+replies_of (Client version) kept (ForDigest asked) (Misses peer) = digest_message kept ∷ []
 replies_of (Client version) kept (ForDelta peer digest) (Receives delta roster mark) =
     delta_message kept (format_of peer.version) peer.number digest ∷ done_message mark ∷ []
 replies_of Server kept (ForBye mark) Finishes = done_message mark ∷ []

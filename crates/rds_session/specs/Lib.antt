@@ -9,6 +9,7 @@ pub mod Coming
 pub mod Contents
 pub mod Exchange
 pub mod Expecting
+pub mod Hashes
 pub mod Judging
 pub mod Leaving
 pub mod Marked

@@ -1,5 +1,5 @@
 -- The messages of a session: a type byte and a body.
-use Rattle.std.specs.Prelude.{ℕ, List, [], ◌∷◌, ◌==◌, Option, Some, None, if◌then◌else◌}
+use Rattle.std.specs.Prelude.{ℕ, Bool, nat_lt, List, [], ◌∷◌, ◌==◌, length, Option, Some, None, if◌then◌else◌}
 use Rattle.rds_names.specs.declared.fault.Fault.{Fault}
 use Rattle.rds_names.specs.declared.fault.Fault.TheVariants.{Memory, WrongVersion, WrongGroup, WrongRoster, SameReplica, PeerEnded}
 use Rattle.rds_state.specs.Fits.{ReplicaValue}
@@ -10,12 +10,14 @@ use Rattle.rds_codec.specs.DigestTexts.{digest_text}
 use Rattle.rds_codec.specs.FormatTexts.{answer_text_in}
 use Rattle.rds_codec.specs.HelloTexts.{hello_text}
 use Rattle.rds_codec.specs.declared.formats.Format.{Format}
+use Rattle.rds_codec.specs.declared.limits.TheConstants.{LIMIT}
 use Rattle.rds_session.specs.declared.kinds.ByeCode.{ByeCode}
 use Rattle.rds_session.specs.declared.kinds.ByeCode.TheVariants as byes
 use Rattle.rds_session.specs.declared.kinds.MessageKind.{MessageKind}
 use Rattle.rds_session.specs.declared.kinds.MessageKind.TheVariants as kinds
 use Rattle.rds_session.specs.declared.version.Version.{Version}
 use Rattle.rds_session.specs.Checked.{least_state, certificate_of}
+use Rattle.rds_session.specs.Hashes.{digest_hash}
 use Rattle.rds_session.specs.Marked.{mark_bytes}
 use Rattle.rds_session.specs.Versions.{version_byte}
 
@@ -25,6 +27,7 @@ number_of kinds.Hello = 1
 number_of kinds.Digest = 2
 number_of kinds.Delta = 3
 number_of kinds.Bye = 4
+number_of kinds.Hash = 5
 
 -- the type that a byte says
 abbrev pub kind_of : ℕ → Option MessageKind
@@ -33,7 +36,8 @@ kind_of n =
     else (if n == 2 then Some kinds.Digest
     else (if n == 3 then Some kinds.Delta
     else (if n == 4 then Some kinds.Bye
-    else None)))
+    else (if n == 5 then Some kinds.Hash
+    else None))))
 
 -- HELLO: who speaks, and in which version
 abbrev pub hello_message : ReplicaValue → Version → List ℕ
@@ -43,6 +47,16 @@ hello_message kept version =
 -- DIGEST: what is kept here
 abbrev pub digest_message : ReplicaValue → List ℕ
 digest_message kept = number_of kinds.Digest ∷ digest_text (digest_of kept.state)
+
+-- HASH: the same, by the hash of the digest. Where the digest is over the limit there is none, and it can't be said
+abbrev pub hash_message : ReplicaValue → List ℕ
+hash_message kept =
+    let digest = digest_of kept.state in
+    if nat_lt LIMIT (length (digest_text digest)) then digest_message kept else number_of kinds.Hash ∷ digest_hash digest
+
+-- what is kept here, by a hash or whole
+abbrev pub digest_said : Bool → ReplicaValue → List ℕ
+digest_said hashed kept = if hashed then hash_message kept else digest_message kept
 
 -- DELTA: what is kept here and the digest lacks, with its certificate, in a format, for the replica that asked
 abbrev pub delta_message : ReplicaValue → Format → ℕ → DigestValue → List ℕ

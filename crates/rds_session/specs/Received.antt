@@ -12,7 +12,7 @@ use Rattle.rds_session.specs.declared.talk.Act.{Act}
 use Rattle.rds_session.specs.declared.talk.Act.TheVariants as acts
 use Rattle.rds_session.specs.declared.talk.Peer.{Peer}
 use Rattle.rds_session.specs.Marked.{told_mark}
-use Rattle.rds_session.specs.Judging.{Awaited, ForDigest, ForDelta, ForBye, Receives, delta_came, replicas_of}
+use Rattle.rds_session.specs.Judging.{Awaited, ForDigest, ForWhole, ForDelta, ForBye, Receives, delta_came, replicas_of}
 
 -- a delta, and the peer's roster where that is longer than the own one
 abbrev pub Delivery : Type 0
@@ -61,6 +61,7 @@ IsDoneBy ended received = ended ≡ Done → IsSome received
 -- the peer's roster, as far as it is known, is a longer one where it is there
 abbrev pub KnowsPeer : ReplicaValue → Awaited → Type 0
 KnowsPeer kept (ForDigest peer) = IsLongerIfThere kept.roster peer.roster
+KnowsPeer kept (ForWhole peer) = IsLongerIfThere kept.roster peer.roster
 KnowsPeer kept (ForDelta peer digest) = IsLongerIfThere kept.roster peer.roster
 KnowsPeer kept _ = Unit {0}
 
@@ -77,6 +78,8 @@ pub record IsSound (kept : ReplicaValue) (turn : Awaited) (ended : Ended) (recei
 abbrev pub Brings : {S : Type 0} → ReplicaValue → Awaited → Act S → Type 0
 Brings kept turn (acts.Greet peer) = IsLongerIfThere kept.roster peer.roster
 Brings kept turn (acts.Learn peer digest) = IsLongerIfThere kept.roster peer.roster
+Brings kept turn (acts.Share peer digest) = IsLongerIfThere kept.roster peer.roster
+Brings kept turn (acts.Miss peer) = IsLongerIfThere kept.roster peer.roster
 Brings kept turn (acts.Receive delta roster mark) = IsChecked kept (delta, roster)
 Brings kept turn acts.Finish = (mark : Option Mark) × (turn ≡ ForBye mark)
 Brings kept turn acts.Fork = Unit {0}

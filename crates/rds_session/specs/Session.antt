@@ -11,10 +11,11 @@ use Rattle.rds_session.specs.declared.talk.Stop.TheVariants.{Refused, Left}
 use Rattle.rds_session.specs.declared.step.Ended.{Ended}
 use Rattle.rds_session.specs.declared.step.Ended.TheVariants.{Going, Done, Failed}
 use Rattle.rds_session.specs.Chunks.{Under, start, message_in_chunks, Scan, More, Whole, Long, byte_scanned}
-use Rattle.rds_session.specs.Messages.{hello_message, digest_message, bye_message, code_of}
+use Rattle.rds_session.specs.Messages.{hello_message, digest_said, bye_message, code_of}
 use Rattle.rds_session.specs.Judging.{Awaited, ForHello, Said, Receives, Finishes, Forks, verdict, turn_after, replies_of}
 use Rattle.rds_session.specs.Received.{Delivery}
 use Rattle.rds_session.specs.Sending.{sending}
+use Rattle.rds_session.specs.Versions.{says_hashes}
 
 -- what a session holds of what came so far: whether a step was made, the message that is waited for, what was
 -- received, how it ended, and what has come of the message under way
@@ -102,7 +103,7 @@ run [] s = (s, [])
 run (b ∷ bs) s = when_going s.ended (then_more (byte_comes s b) (run bs)) (s, [])
 
 abbrev pub opening : Side → ReplicaValue → List (List ℕ)
-opening (Client version) kept = hello_message kept version ∷ digest_message kept ∷ []
+opening (Client version) kept = hello_message kept version ∷ digest_said (says_hashes version) kept ∷ []
 opening Server kept = []
 
 -- what the first step sends, whatever its input

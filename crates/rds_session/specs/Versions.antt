@@ -4,28 +4,41 @@ use Rattle.rds_codec.specs.HelloTexts.{version_of}
 use Rattle.rds_codec.specs.declared.formats.Format.{Format}
 use Rattle.rds_codec.specs.declared.formats.Format.TheVariants as formats
 use Rattle.rds_session.specs.declared.version.Version.{Version}
-use Rattle.rds_session.specs.declared.version.Version.TheVariants.{One, Two, Three}
+use Rattle.rds_session.specs.declared.version.Version.TheVariants.{One, Two, Three, Four}
 
 -- the byte by which a HELLO says it
 abbrev pub version_byte : Version → ℕ
 version_byte One = 1
 version_byte Two = 2
 version_byte Three = 3
+version_byte Four = 4
 
 -- the version that a byte says
 abbrev pub version_said : ℕ → Option Version
-version_said b = if b == 1 then Some One else (if b == 2 then Some Two else (if b == 3 then Some Three else None))
+version_said b =
+    if b == 1 then Some One
+    else (if b == 2 then Some Two
+    else (if b == 3 then Some Three
+    else (if b == 4 then Some Four
+    else None)))
 
 -- the format of its deltas
 abbrev pub format_of : Version → Format
 format_of One = formats.One
 format_of Two = formats.Two
 format_of Three = formats.Two
+format_of Four = formats.Two
 
 -- whether each side tells the mark of what it holds at the end
 abbrev pub tells_marks : Version → Bool
 tells_marks Three = true
+tells_marks Four = true
 tells_marks _ = false
+
+-- whether each side says its digest by a hash, as far as that is enough
+abbrev pub says_hashes : Version → Bool
+says_hashes Four = true
+says_hashes _ = false
 
 -- a HELLO's body behind its version, as a hello of the version's format
 abbrev pub as_hello : Version → List ℕ → List ℕ

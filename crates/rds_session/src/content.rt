@@ -12,8 +12,8 @@ use rds_state::Mark;
 pub enum Expected {
     /// A HELLO to this side.
     Hello { side: Side },
-    /// A digest of a roster of so many replicas.
-    Digest { replicas: u16 },
+    /// A digest of a roster of so many replicas, or where it may come so its hash.
+    Digest { replicas: u16, hashed: bool },
     /// An answer in a format, of a roster of so many replicas.
     Delta { format: Format, replicas: u16 },
     /// A BYE, which says a mark behind the code `Done` or none.
@@ -22,7 +22,7 @@ pub enum Expected {
 
 impl Expected {
     ghost use Rattle.std.specs.Prelude.{◌≡◌};
-    ghost use Rattle.rds_session.specs.Contents.{expects_mark};
+    ghost use Rattle.rds_session.specs.Contents.{expects_hash, expects_mark};
 
     /// Whether it is a BYE that says a mark.
     pub fn is_marked(self) -> bool
@@ -30,6 +30,19 @@ impl Expected {
     {
         match self {
             Expected::Bye { marked } => marked,
+            _ => false,
+        }
+    }
+
+    /// Whether it may be the hash of a digest.
+    pub fn is_hashed(self) -> bool
+        ensures { result ≡ expects_hash self }
+    {
+        match self {
+            Expected::Digest {
+                replicas: _,
+                hashed,
+            } => hashed,
             _ => false,
         }
     }
@@ -41,6 +54,8 @@ pub enum Content<S: DotSet> {
     /// Who speaks, in a version that is spoken here.
     Hello(Version, Hello),
     Digest(Digest<S>),
+    /// The hash of a digest.
+    Hash([u8; 32]),
     Delta(Answer<S>),
     Bye(ByeCode),
     /// The code `Done`, with this mark.

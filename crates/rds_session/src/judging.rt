@@ -4,7 +4,7 @@ ghost use Rattle.rds_codec.specs.declared.limits.TheConstants.{LIMIT};
 ghost use Rattle.rds_delta.specs.Digested.{digest_of};
 ghost use Rattle.rds_names.specs.declared.fault.Fault.TheVariants.{Memory};
 ghost use Rattle.rds_session.specs.Contents.{IsRead, IsReadFor, content_judged, content_value, expected_of};
-ghost use Rattle.rds_session.specs.Judging.{Awaited, Learns, StopsByNoDevice, Judges, wait_of, bye_judged, mark_judged, member_judged, delta_judged, verdict, one_begins, longer_than, replicas_of};
+ghost use Rattle.rds_session.specs.Judging.{Awaited, ForDigest, Learns, StopsByNoDevice, Judges, wait_of, bye_judged, hash_judged, mark_judged, member_judged, delta_judged, verdict, one_begins, longer_than, replicas_of};
 ghost use Rattle.rds_session.specs.Versions.{format_of};
 ghost use Rattle.rds_session.specs.Checked.{passes};
 ghost use Rattle.rds_session.specs.Received.{Brings, KnowsPeer, IsLongerIfThere};
@@ -17,6 +17,7 @@ ghost use Rattle.rds_session.specs.Messages.{fault_of};
 ghost use Rattle.rds_session.specs.declared.talk.Stop.TheVariants.{Left, Refused};
 
 use crate::content::{Content, Expected};
+use crate::hashes::own_hash;
 use crate::kinds::ByeCode;
 use crate::marks::told_mark;
 use crate::message::Message;
@@ -112,6 +113,11 @@ pub fn expected_of<S: DotSet>(kept: &Replica<S>, turn: &Turn<S>) -> Expected
         Turn::Hello { side } => Expected::Hello { side: *side },
         Turn::Digest { peer } => Expected::Digest {
             replicas: replicas_of(kept, &peer.roster),
+            hashed: peer.version.says_hashes(),
+        },
+        Turn::Whole { peer } => Expected::Digest {
+            replicas: replicas_of(kept, &peer.roster),
+            hashed: false,
         },
         Turn::Delta { peer, .. } => Expected::Delta {
             format: peer.version.format(),
@@ -155,15 +161,29 @@ fn judge_digest<S: DotSet>(alloc: Global, peer: &Peer, digest: Digest<S>) -> Res
     ensures brings { (kept : ReplicaValue) (turn : Awaited) → IsLongerIfThere kept.roster peer.now.roster
         → IfOk result (Brings kept turn) }
 {
-    let roster = copy_of(alloc, &peer.roster)?;
-    Ok(Act::Learn(
-        Peer {
-            number: peer.number,
-            roster,
-            version: peer.version,
-        },
-        digest,
-    ))
+    let peer = peer.copy(alloc)?;
+    Ok(Act::Learn(peer, digest))
+}
+
+// Whether a peer has the own digest, by the hash of its own.
+fn judge_hash<S: DotSet>(
+    alloc: Global,
+    kept: &Replica<S>,
+    peer: &Peer,
+    hash: &[u8; 32],
+) -> Result<Act<S>, Stop>
+    ensures known { IfErr result StopsByNoDevice }
+    ensures judges { Judges result (hash_judged kept.now (ForDigest peer.now) hash.now) }
+    ensures brings { (turn : Awaited) → IsLongerIfThere kept.now.roster peer.now.roster
+        → IfOk result (Brings kept.now turn) }
+{
+    let own = own_hash(alloc, kept)?;
+    let peer = peer.copy(alloc)?;
+    if *hash != own {
+        return Ok(Act::Miss(peer));
+    }
+    let digest = Digest::of(alloc, kept.state())?;
+    Ok(Act::Share(peer, digest))
 }
 
 // Whether a delta is needed here, component by component, and its certificate says so.
@@ -227,7 +247,11 @@ fn judge_content<S: DotSet>(
             _ => Err(Stop::Refused(Fault::OutOfTurn)),
         },
         Content::Digest(digest) => match turn {
-            Turn::Digest { peer } => judge_digest(alloc, peer, digest),
+            Turn::Digest { peer } | Turn::Whole { peer } => judge_digest(alloc, peer, digest),
+            _ => Err(Stop::Refused(Fault::OutOfTurn)),
+        },
+        Content::Hash(hash) => match turn {
+            Turn::Digest { peer } => judge_hash(alloc, kept, peer, &hash),
             _ => Err(Stop::Refused(Fault::OutOfTurn)),
         },
         Content::Delta(answer) => match turn {

@@ -13,6 +13,8 @@ pub enum MessageKind {
     Delta,
     /// The end, and why.
     Bye,
+    /// What is kept here, as the hash of a digest.
+    Hash,
 }
 
 impl MessageKind {
@@ -25,6 +27,7 @@ impl MessageKind {
             MessageKind::Digest => 2,
             MessageKind::Delta => 3,
             MessageKind::Bye => 4,
+            MessageKind::Hash => 5,
         }
     }
 
@@ -37,6 +40,7 @@ impl MessageKind {
             2 => Some(MessageKind::Digest),
             3 => Some(MessageKind::Delta),
             4 => Some(MessageKind::Bye),
+            5 => Some(MessageKind::Hash),
             _ => None,
         }
     }

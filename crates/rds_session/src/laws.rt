@@ -23,12 +23,16 @@ pub fn a_course_is_by_messages()
 {}
 
 /// Two sessions, a client's and a server's, of replicas with different numbers and rosters one of which begins the
-/// other. Their messages, in the client's version, are all within the limit. Where each hears a beginning of what the other sent,
-/// wherever it was cut, each has received nothing, or exactly what the other has and it lacks, and the other's roster
-/// exactly where that is longer. Where each hears all that the other sent, both have received that and both are done.
-/// In version 3 no dot may be live in both with different entries for that. Where the marks of what they hold by then,
-/// their joins, differ, both tell a fork. And of any session: the end of a stream takes nothing from what was received.
-/// The function does nothing: its contract is these laws.
+/// other. Their messages, in the client's version, are all within the limit.
+///
+/// Where each hears a beginning of what the other sent, wherever it was cut, each has received nothing, or exactly what
+/// the other has and it lacks, and the other's roster exactly where that is longer. Where each hears all that the other
+/// sent, both have received that and both are done. From version 3 on no dot may be live in both with different entries
+/// for that. Where the marks of what they hold by then, their joins, differ, both tell a fork. All this holds in version
+/// 4, which says digests by hashes, or two different texts of digests have one SHA-256.
+///
+/// And of any session: the end of a stream takes nothing from what was received. The function does nothing: its contract
+/// is these laws.
 pub fn two_sessions()
     ensures receive { ReceiveDeltas }
     ensures end { BothEnd }
@@ -39,9 +43,11 @@ pub fn two_sessions()
 
 /// A server hears all that a client says in a whole session in any version, however its messages were cut. The two
 /// replicas have different numbers and rosters one of which begins the other, and their messages are within the limit.
-/// In version 3 no dot is live in both with different entries. Then the server has said HELLO with the client's version
-/// and its delta in that version's format, and is done. It has received exactly what the client has and it lacks, and
-/// the client's roster exactly where that is longer. The function does nothing: its contract is this law.
+/// From version 3 on no dot is live in both with different entries. Then the server has said HELLO with the client's
+/// version and its delta in that version's format, and is done. It has received exactly what the client has and it lacks,
+/// and the client's roster exactly where that is longer. In version 4 each says a digest that both have by its hash, and
+/// two that differ whole; all this holds there, or two different texts of digests have one SHA-256. The function does
+/// nothing: its contract is this law.
 pub fn a_server_speaks_its_clients_version()
     ensures { ServesEach }
 {}

@@ -6,6 +6,7 @@ mod chunks;
 mod coming;
 mod content;
 mod exchanging;
+mod hashes;
 mod judging;
 mod kinds;
 mod laws;

@@ -9,13 +9,14 @@ ghost use Rattle.rds_session.specs.declared.content.Expected.TheVariants as expe
 ghost use Rattle.rds_session.specs.declared.kinds.ByeCode.TheVariants as byes;
 ghost use Rattle.rds_session.specs.declared.kinds.MessageKind.TheVariants as kinds;
 ghost use Rattle.rds_session.specs.Begun.{Holds, HoldsBody};
-ghost use Rattle.rds_session.specs.Contents.{content_value, expects_mark, message_read};
+ghost use Rattle.rds_session.specs.Contents.{content_value, expects_hash, expects_mark, message_read};
 ghost use Rattle.rds_session.specs.Judging.{is_done, version_with};
 ghost use Rattle.rds_session.specs.Messages.{bye_of, number_of};
 
 use crate::came::Came;
 use crate::coming::Coming;
 use crate::content::{Content, Expected};
+use crate::hashes::{HASH_LENGTH, read_hash};
 use crate::kinds::{ByeCode, MessageKind};
 use crate::marks::{MARK_LENGTH, read_mark};
 use crate::talk::{Side, version_with};
@@ -34,6 +35,8 @@ pub enum Body<S: DotSet> {
     Hello(Version, Coming<UnfinishedHello>),
     /// It is a DIGEST.
     Digest(Coming<UnfinishedDigest<S>>),
+    /// It is a HASH, of which these bytes have come.
+    Hash(Vec<u8>),
     /// It is a DELTA.
     Delta(Coming<UnfinishedAnswer<S>>),
     /// It is a BYE, of which no code has come.
@@ -55,7 +58,7 @@ impl<S: DotSet> Drop for Body<S> {
             Body::Hello(_, _text) => {}
             Body::Digest(_text) => {}
             Body::Delta(_text) => {}
-            Body::Mark(_bytes) => {}
+            Body::Mark(_bytes) | Body::Hash(_bytes) => {}
         }
     }
 }
@@ -127,6 +130,20 @@ fn marking<S: DotSet>(bytes: Vec<u8>, run: &[u8]) -> Result<Body<S>, Fault>
     Ok(Body::Mark(bytes))
 }
 
+// What a HASH, of which these bytes have come, is with the next ones.
+fn hashing<S: DotSet>(bytes: Vec<u8>, run: &[u8]) -> Result<Body<S>, Fault>
+    ensures ok { IfOk result (λ new. (expected : Expected) → expects_hash expected ≡ true
+        → HoldsBody expected new (number_of kinds.Hash ∷ (bytes.items ++ run.now))) }
+    ensures memory { IfErr result (λ e. e ≡ Memory) }
+{
+    if HASH_LENGTH.saturating_sub(bytes.len()) < run.len() {
+        return Ok(Body::Refused(Fault::Extra));
+    }
+    let mut bytes = bytes;
+    bytes.extend_from_slice(run)?;
+    Ok(Body::Hash(bytes))
+}
+
 impl<S: DotSet> Body<S> {
     // What a message is whose first byte has come.
     fn new(alloc: Global, expected: Expected, number: u8) -> Body<S>
@@ -142,11 +159,19 @@ impl<S: DotSet> Body<S> {
                 _ => Body::Refused(Fault::OutOfTurn),
             },
             Some(MessageKind::Digest) => match expected {
-                Expected::Digest { replicas } => {
-                    Body::Digest(Coming::new(alloc, Format::Two, replicas))
-                }
+                Expected::Digest {
+                    replicas,
+                    hashed: _,
+                } => Body::Digest(Coming::new(alloc, Format::Two, replicas)),
                 _ => Body::Refused(Fault::OutOfTurn),
             },
+            Some(MessageKind::Hash) => {
+                if expected.is_hashed() {
+                    Body::Hash(Vec::new(alloc))
+                } else {
+                    Body::Refused(Fault::Bad)
+                }
+            }
             Some(MessageKind::Delta) => match expected {
                 Expected::Delta { format, replicas } => {
                     Body::Delta(Coming::new(alloc, format, replicas))
@@ -169,6 +194,7 @@ impl<S: DotSet> Body<S> {
             Body::Parting { marked } => parting(alloc, marked, run),
             Body::Bye(code) => Ok(parted(code, run)),
             Body::Mark(bytes) => marking(bytes, run),
+            Body::Hash(bytes) => hashing(bytes, run),
             Body::Refused(fault) => Ok(Body::Refused(fault)),
         }
     }
@@ -184,6 +210,7 @@ impl<S: DotSet> Body<S> {
             Body::Delta(text) => Ok(Content::Delta(text.end()?)),
             Body::Bye(code) => Ok(Content::Bye(code)),
             Body::Mark(bytes) => Ok(Content::Mark(read_mark(&bytes)?)),
+            Body::Hash(bytes) => Ok(Content::Hash(read_hash(&bytes)?)),
             Body::Refused(fault) => Err(fault),
         }
     }

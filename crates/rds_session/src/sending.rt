@@ -1,11 +1,12 @@
 //! Sending messages.
-ghost use Rattle.std.specs.Prelude.{◌≡◌, [], ◌∷◌};
-ghost use Rattle.rds_session.specs.Judging.{wait_of, saying_of, replies_of};
-ghost use Rattle.rds_session.specs.Messages.{hello_message, digest_message, delta_message, bye_message, done_message};
+ghost use Rattle.std.specs.Prelude.{◌≡◌, false, [], ◌∷◌};
+ghost use Rattle.rds_session.specs.Judging.{answers_digest, wait_of, saying_of, replies_of};
+ghost use Rattle.rds_session.specs.Messages.{hello_message, digest_message, digest_said, hash_message, delta_message, bye_message, done_message};
 ghost use Rattle.rds_session.specs.Versions.{format_of};
 ghost use Rattle.rds_session.specs.Sending.{SendsBody, SendsOne, SendsAll};
 ghost use Rattle.rds_session.specs.Session.{opening};
 
+use crate::hashes::own_hash;
 use crate::kinds::{ByeCode, MessageKind};
 use crate::talk::{Act, Peer, Side, Turn};
 use crate::version::Version;
@@ -58,6 +59,32 @@ fn send_digest<S: DotSet>(
     send_body(send, MessageKind::Digest, ask(alloc, kept.state()))
 }
 
+fn send_hash<S: DotSet>(alloc: Global, send: &mut Vec<u8>, kept: &Replica<S>) -> Result<bool, Fault>
+    ensures { SendsOne send.old.items send.new.items (hash_message kept.now) result }
+{
+    match own_hash(alloc, kept) {
+        Ok(hash) => put_message(send, MessageKind::Hash, &hash),
+        Err(Fault::TooLong) => Ok(false),
+        Err(fault) => Err(fault),
+    }
+}
+
+// Adds what is kept here, by a hash or whole.
+fn send_own<S: DotSet>(
+    alloc: Global,
+    send: &mut Vec<u8>,
+    kept: &Replica<S>,
+    hashed: bool,
+) -> Result<bool, Fault>
+    ensures { SendsOne send.old.items send.new.items (digest_said hashed kept.now) result }
+{
+    if hashed {
+        send_hash(alloc, send, kept)
+    } else {
+        send_digest(alloc, send, kept)
+    }
+}
+
 fn send_delta<S: DotSet>(
     alloc: Global,
     send: &mut Vec<u8>,
@@ -96,20 +123,22 @@ fn send_done(alloc: Global, send: &mut Vec<u8>, mark: Option<Mark>) -> Result<bo
     }
 }
 
-/// Adds the messages with which a client of this version begins.
+/// Adds the messages by which a side makes itself known in this version: who speaks, and what is kept here, by a hash or
+/// whole.
 pub fn send_opening<S: DotSet>(
     alloc: Global,
     send: &mut Vec<u8>,
     kept: &Replica<S>,
     version: Version,
+    hashed: bool,
 ) -> Result<bool, Fault>
     ensures { SendsAll send.old.items send.new.items
-        (hello_message kept.now version ∷ digest_message kept.now ∷ []) result }
+        (hello_message kept.now version ∷ digest_said hashed kept.now ∷ []) result }
 {
     if !send_hello(alloc, send, kept, version)? {
         return Ok(false);
     }
-    send_digest(alloc, send, kept)
+    send_own(alloc, send, kept, hashed)
 }
 
 fn answer_digest<S: DotSet>(
@@ -118,14 +147,14 @@ fn answer_digest<S: DotSet>(
     kept: &Replica<S>,
     peer: &Peer,
     digest: &Digest<S>,
+    hashed: bool,
 ) -> Result<bool, Fault>
-    ensures { SendsAll send.old.items send.new.items (hello_message kept.now peer.now.version ∷ digest_message kept.now
-        ∷ delta_message kept.now (format_of peer.now.version) peer.now.number digest.now ∷ []) result }
+    ensures { SendsAll send.old.items send.new.items (answers_digest hashed kept.now peer.now digest.now) result }
 {
     if !send_hello(alloc, send, kept, peer.version)? {
         return Ok(false);
     }
-    if !send_digest(alloc, send, kept)? {
+    if !send_own(alloc, send, kept, hashed)? {
         return Ok(false);
     }
     send_delta(alloc, send, kept, peer, digest)
@@ -163,11 +192,26 @@ pub fn send_replies<S: DotSet>(
 {
     match side {
         Side::Server => match (act, turn) {
-            (Act::Learn(peer, digest), _) => answer_digest(alloc, send, kept, peer, digest),
+            (Act::Learn(peer, digest), Turn::Digest { peer: _ }) => {
+                answer_digest(alloc, send, kept, peer, digest, false)
+            }
+            (Act::Share(peer, digest), Turn::Digest { peer: _ }) => {
+                answer_digest(alloc, send, kept, peer, digest, true)
+            }
+            (Act::Miss(peer), Turn::Digest { peer: _ }) => {
+                send_opening(alloc, send, kept, peer.version, false)
+            }
+            (Act::Learn(peer, digest), Turn::Whole { peer: _ }) => {
+                send_delta(alloc, send, kept, peer, digest)
+            }
             (Act::Finish | Act::Fork, Turn::Bye { mark }) => send_done(alloc, send, *mark),
             _ => Ok(true),
         },
         Side::Client { version: _ } => match (act, turn) {
+            (Act::Learn(peer, _), Turn::Digest { peer: _ }) if peer.version.says_hashes() => {
+                send_digest(alloc, send, kept)
+            }
+            (Act::Miss(_), Turn::Digest { peer: _ }) => send_digest(alloc, send, kept),
             (Act::Receive(_, _, mark), Turn::Delta { peer, digest }) => {
                 answer_delta(alloc, send, kept, peer, digest, *mark)
             }

@@ -24,8 +24,11 @@ use std::marker::Model;
 /// A client speaks one version, and refuses a server of another. A server speaks the version that its client says, and
 /// refuses one that it doesn't know. Its HELLO says that version, and the deltas of both are in that version's format.
 ///
-/// In version 3 the last message of each side says the mark of what it holds by then. Where the two differ, both have
+/// From version 3 on the last message of each side says the mark of what it holds by then. Where the two differ, both have
 /// seen the same and hold different entries: the session has failed with `Forked` at both ends. What it received stays.
+///
+/// In version 4 each side says its digest by its hash (SHA-256) first, and whole only where the peer has another one. So
+/// two that hold the same are done by a few short messages, however much that is.
 ///
 /// One of the two rosters begins the other: they are equal, or one of them has grown since. What the peer tells is read
 /// as of the replicas of the longer one, so that a peer whose roster has grown may tell of replicas that aren't named
@@ -242,7 +245,8 @@ impl<'a, S: DotSet> Session<'a, S> {
         }
         match self.side {
             Side::Client { version } => {
-                let all = send_opening(alloc, send, self.kept.view_of(), version)?;
+                let hashed = version.says_hashes();
+                let all = send_opening(alloc, send, self.kept.view_of(), version, hashed)?;
                 if all {
                     self.begun = true;
                 } else {
@@ -377,7 +381,10 @@ impl<'a, S: DotSet> Session<'a, S> {
         self.under = None;
         match act {
             Act::Greet(peer) => self.turn = Turn::Digest { peer },
-            Act::Learn(peer, digest) => self.turn = Turn::Delta { peer, digest },
+            Act::Learn(peer, digest) | Act::Share(peer, digest) => {
+                self.turn = Turn::Delta { peer, digest };
+            }
+            Act::Miss(peer) => self.turn = Turn::Whole { peer },
             Act::Receive(delta, roster, mark) => {
                 self.turn = Turn::Bye { mark };
                 self.received = Some((delta, roster));

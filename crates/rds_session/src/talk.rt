@@ -57,6 +57,21 @@ impl Drop for Peer {
     }
 }
 
+impl Peer {
+    /// The same once more.
+    pub fn copy(&self, alloc: Global) -> Result<Peer, Fault>
+        ensures ok { IfOk result (λ copy. copy ≡ self.now) }
+        ensures memory { IfErr result (λ fault. fault ≡ Memory) }
+    {
+        let roster = copy_of(alloc, &self.roster)?;
+        Ok(Peer {
+            number: self.number,
+            roster,
+            version: self.version,
+        })
+    }
+}
+
 /// The same roster once more, where it is there.
 pub fn copy_of(alloc: Global, roster: &Option<Roster>) -> Result<Option<Roster>, Fault>
     ensures ok { IfOk result (λ copy. copy ≡ roster.now) }
@@ -72,7 +87,10 @@ pub fn copy_of(alloc: Global, roster: &Option<Roster>) -> Result<Option<Roster>,
 pub enum Turn<S: DotSet> {
     /// A HELLO to this side.
     Hello { side: Side },
+    /// A digest, by its hash or whole.
     Digest { peer: Peer },
+    /// A digest whole: its hash wasn't that of the own one, which has been said whole.
+    Whole { peer: Peer },
     Delta { peer: Peer, digest: Digest<S> },
     /// A BYE, with the mark of what is held here by then, where marks are told.
     Bye { mark: Option<Mark> },
@@ -83,7 +101,7 @@ impl<S: DotSet> Drop for Turn<S> {
     fn drop(self) {
         match self {
             Turn::Hello { side: _ } | Turn::Bye { mark: _ } => {}
-            Turn::Digest { peer: _peer } => {}
+            Turn::Digest { peer: _peer } | Turn::Whole { peer: _peer } => {}
             Turn::Delta {
                 peer: _peer,
                 digest: _digest,
@@ -99,6 +117,10 @@ pub enum Act<S: DotSet> {
     Greet(Peer),
     /// Who the peer is, and its digest.
     Learn(Peer, Digest<S>),
+    /// Who the peer is, and that it has the own digest, which is this.
+    Share(Peer, Digest<S>),
+    /// Who the peer is, and that it has another digest.
+    Miss(Peer),
     /// What the peer has and this side lacks, the peer's roster where that is longer, and the mark of what is held here
     /// with it, where marks are told.
     Receive(State<S>, Option<Roster>, Option<Mark>),

@@ -1,6 +1,6 @@
 //! The versions of a session.
 ghost use Rattle.std.specs.Prelude.{◌≡◌};
-ghost use Rattle.rds_session.specs.Versions.{format_of, tells_marks, version_byte, version_said};
+ghost use Rattle.rds_session.specs.Versions.{format_of, says_hashes, tells_marks, version_byte, version_said};
 
 use rds_codec::Format;
 
@@ -13,6 +13,8 @@ pub enum Version {
     Two,
     /// As version 2. The last message of each side says the mark of what it holds then, so that forks are told.
     Three,
+    /// As version 3. A digest is said by its hash, and whole where the peer has another one.
+    Four,
 }
 
 impl Version {
@@ -24,6 +26,7 @@ impl Version {
             Version::One => 1,
             Version::Two => 2,
             Version::Three => 3,
+            Version::Four => 4,
         }
     }
 
@@ -35,6 +38,7 @@ impl Version {
             1 => Some(Version::One),
             2 => Some(Version::Two),
             3 => Some(Version::Three),
+            4 => Some(Version::Four),
             _ => None,
         }
     }
@@ -45,7 +49,7 @@ impl Version {
     {
         match self {
             Version::One => Format::One,
-            Version::Two | Version::Three => Format::Two,
+            Version::Two | Version::Three | Version::Four => Format::Two,
         }
     }
 
@@ -55,7 +59,17 @@ impl Version {
     {
         match self {
             Version::One | Version::Two => false,
-            Version::Three => true,
+            Version::Three | Version::Four => true,
+        }
+    }
+
+    /// Whether each side says its digest by a hash, as far as that is enough.
+    pub fn says_hashes(self) -> bool
+        ensures { result ≡ says_hashes self }
+    {
+        match self {
+            Version::One | Version::Two | Version::Three => false,
+            Version::Four => true,
         }
     }
 }

@@ -9,11 +9,11 @@ returns-then-not-branch g c =
 pub returns-then-not-branch-2 : goal.returns-then-not-branch-2
 returns-then-not-branch-2 g c =
     let h = rw c.if-not-branch.false at c.in_ok-send_hello.ensures in
-    let e = rw c.if-not-branch-2.true at c.in_ok-send_digest.ensures in
+    let e = rw c.if-not-branch-2.true at c.in_ok-send_own.ensures in
     first_sent _ _ _ _ _ h.0 h.1 (first_long _ _ _ _ e.0 e.1)
 
 pub returns : goal.returns
 returns g c =
     let h = rw c.if-not-branch.false at c.in_ok-send_hello.ensures in
-    let e = rw c.if-not-branch-2.false at c.in_ok-send_digest.ensures in
+    let e = rw c.if-not-branch-2.false at c.in_ok-send_own.ensures in
     more_sent _ _ _ _ _ _ h.0 h.1 (more_sent _ _ _ _ _ _ e.0 e.1 (last_sent _ _ _ _ c.send_delta.ensures))

@@ -9,4 +9,4 @@ returns-then-not-branch g c =
 pub returns : goal.returns
 returns g c =
     let h = rw c.if-not-branch.false at c.in_ok-send_hello.ensures in
-    more_sent _ _ _ _ _ _ h.0 h.1 (last_sent _ _ _ _ c.send_digest.ensures)
+    more_sent _ _ _ _ _ _ h.0 h.1 (last_sent _ _ _ _ c.send_own.ensures)

@@ -1,6 +1,7 @@
 use Rattle.std.proofs.Common.{sym, ap, ◌∙◌, inl, inr, Ok, Err}
 use Rattle.std.proofs.lemmas.Result.{err_from_is_err_and}
-use Rattle.rds_session.proofs.Began.{greeting_said, parting_said, bye_said, mark_said, fails_so, refused_said, hello_said, digest_said, delta_said}
+use Rattle.rds_session.proofs.Began.{greeting_said, parting_said, bye_said, mark_said, hash_said, fails_so, refused_said, hello_said, digest_said, delta_said}
+use Rattle.rds_session.specs.Hashes.{hash_in}
 use Rattle.rds_session.specs.Marked.{mark_in}
 use Rattle.rds_session.proofs.message.Body.end.Goals as goal
 
@@ -22,7 +23,7 @@ returns-in_ok-end-in-Hello g c = λ expected came holds within.
 
 pub returns-in_ok-end-in-Digest : goal.returns-in_ok-end-in-Digest
 returns-in_ok-end-in-Digest g c = λ expected came holds within.
-    (let h = rw c.in-Digest.is at holds in digest_said expected came within c.in-Digest.text (Ok c.in_ok-end-in-Digest.field-0) h.0 h.1 c.in_ok-end-in-Digest.ensures.read)
+    (let h = rw c.in-Digest.is at holds in digest_said expected came within c.in-Digest.text (Ok c.in_ok-end-in-Digest.field-0) h.0 h.1 h.2 c.in_ok-end-in-Digest.ensures.read)
 
 pub returns-in_ok-end-in-Delta : goal.returns-in_ok-end-in-Delta
 returns-in_ok-end-in-Delta g c = λ expected came holds within.
@@ -38,7 +39,7 @@ pub returns-in_err-end-in-Digest : goal.returns-in_err-end-in-Digest
 returns-in_err-end-in-Digest g c =
     let p = err_from_is_err_and c.from_residual-in_err-end-in-Digest.result c.from_residual-in_err-end-in-Digest.ensures.1 in
     rw (p.1, p.2) (λ expected came holds within.
-    (let h = rw c.in-Digest.is at holds in digest_said expected came within c.in-Digest.text (Err c.in_err-end-in-Digest.field-0.0) h.0 h.1 c.in_err-end-in-Digest.ensures.read))
+    (let h = rw c.in-Digest.is at holds in digest_said expected came within c.in-Digest.text (Err c.in_err-end-in-Digest.field-0.0) h.0 h.1 h.2 c.in_err-end-in-Digest.ensures.read))
 
 pub returns-in_err-end-in-Delta : goal.returns-in_err-end-in-Delta
 returns-in_err-end-in-Delta g c =
@@ -60,3 +61,18 @@ returns-in_err-read_mark-in-Mark g c =
     (let h = rw c.in-Mark.is at holds in
     let read = ap mark_in (sym c.deref.ensures.value) ∙ c.in_err-read_mark-in-Mark.ensures in
     mark_said expected came c.in-Mark.bytes.items h.0 (Err e) h.1 h.2 h.3 (fails_so e (mark_in c.in-Mark.bytes.items) read)))
+
+pub returns-in_ok-read_hash-in-Hash : goal.returns-in_ok-read_hash-in-Hash
+returns-in_ok-read_hash-in-Hash g c = λ expected came holds within.
+    (let h = rw c.in-Hash.is at holds in
+    let read = ap hash_in (sym c.deref-in-Hash.ensures.value) ∙ c.in_ok-read_hash-in-Hash.ensures in
+    hash_said expected came c.in-Hash.bytes.items (Ok c.in_ok-read_hash-in-Hash.field-0) h.0 h.1 read)
+
+pub returns-in_err-read_hash-in-Hash : goal.returns-in_err-read_hash-in-Hash
+returns-in_err-read_hash-in-Hash g c =
+    let p = err_from_is_err_and c.from_residual-in_err-read_hash-in-Hash.result c.from_residual-in_err-read_hash-in-Hash.ensures.1 in
+    let e = c.in_err-read_hash-in-Hash.field-0.0 in
+    rw (p.1, p.2) (λ expected came holds within.
+    (let h = rw c.in-Hash.is at holds in
+    let read = ap hash_in (sym c.deref-in-Hash.ensures.value) ∙ c.in_err-read_hash-in-Hash.ensures in
+    hash_said expected came c.in-Hash.bytes.items (Err e) h.0 h.1 (fails_so e (hash_in c.in-Hash.bytes.items) read)))
