@@ -144,6 +144,9 @@ pub fn side_of(word: &str) -> Result<Side, Fault> {
         "client_3" => Ok(Side::Client {
             version: Version::Three,
         }),
+        "client_4" => Ok(Side::Client {
+            version: Version::Four,
+        }),
         "server" => Ok(Side::Server),
         _ => Err(Fault::Usage),
     }
