@@ -19,7 +19,7 @@ MOST, HEAD, FEW = 65_536, 36, 65_536
 # The most bytes that are read to tell that no record begins at any place of a torn end.
 SCAN = 536_870_912
 REGISTER, ELEMENT = 1, 2
-HELLO, DIGEST, DELTA, BYE = 1, 2, 3, 4
+HELLO, DIGEST, DELTA, BYE, HASH = 1, 2, 3, 4, 5
 # The bye that tells of a fault; 5 for those that aren't here.
 BYES = {18: 1, 19: 2, 20: 3, 21: 4}
 
@@ -331,6 +331,11 @@ def digest_text(digest):
     return dots_text(ranks) + dots_text(dot for dot, rank in ranks.items() if rank == 1) + counts_text(numbers)
 
 
+def hash_of(digest):
+    """By which a session of version 4 says a digest."""
+    return hashlib.sha256(digest_text(digest)).digest()
+
+
 def packed(value):
     """Seven bits a byte, the lowest first."""
     return bytes([value]) if value < 128 else bytes([128 + value % 128]) + packed(value // 128)
@@ -384,8 +389,8 @@ def answer_text(asker, delta, digest, format=2):
 
 
 def done_text(state, version):
-    """The last message of a side that holds this by then: a bye 0, and in version 3 the mark behind it."""
-    return b"\4\0" + (bytes.fromhex(mark_of(state)) if version == 3 else b"")
+    """The last message of a side that holds this by then: a bye 0, and from version 3 on the mark behind it."""
+    return b"\4\0" + (bytes.fromhex(mark_of(state)) if version in (3, 4) else b"")
 
 
 def question_text(replica):
@@ -736,11 +741,13 @@ def joined(first, second):
 
 # Sessions.
 class Course:
-    """A session of a replica as the server: what it says of a whole stream, what it received, and the fault that it ends by."""
+    """A session of a replica as the server, or as a client that says a version: what it says where a whole stream comes, what it
+    received, and the fault that it ends by."""
 
-    def __init__(self, replica, stream):
-        self.replica, self.waits, self.digest, self.received, self.said = replica, [HELLO, DIGEST, DELTA, BYE], None, None, b""
-        self.names, self.version = replica.names, None
+    def __init__(self, replica, stream, says=None):
+        self.replica, self.waits, self.digest, self.received = replica, [HELLO, DIGEST, DELTA, BYE], replica.state.digest(), None
+        self.names, self.version, self.says, self.missed = replica.names, None, says, False
+        self.said = b"" if says is None else self.opening(says, says == 4)
         self.fault, self.is_bye = 23, False
         try:
             self.hear(stream)
@@ -766,9 +773,11 @@ class Course:
     def judge(self, body):
         refuse_if(not body, 12)
         kind, body = body[0], body[1:]
-        refuse_if(kind not in (HELLO, DIGEST, DELTA, BYE), 13)
+        refuse_if(kind not in (HELLO, DIGEST, DELTA, BYE, HASH), 13)
         if kind == BYE:
             return self.judge_bye(body)
+        if kind == HASH:
+            return self.judge_hash(body)
         refuse_if(kind != self.waits[0], 22)
         {HELLO: self.judge_hello, DIGEST: self.judge_digest, DELTA: self.judge_delta}[kind](body)
         self.waits.pop(0)
@@ -777,15 +786,16 @@ class Course:
         refuse_if(not body, 12)
         refuse_if(body[0] > 6, 13)
         code, mark = body[0], body[1:]
-        size = 16 * (code == 0 and self.version == 3 and self.waits == [BYE])
+        size = 16 * (code == 0 and self.version in (3, 4) and self.waits == [BYE])
         refuse_if(len(mark) < size, 12)
         refuse_if(len(mark) > size, 14)
         self.is_bye = code > 0
         refuse_if(self.is_bye, {1: 18, 2: 19, 3: 20, 4: 21}.get(code, 23))
         refuse_if(self.waits != [BYE], 22)
         self.waits = []
-        done = done_text(self.replica.state.joined(self.received), self.version)
-        self.said += message(done)
+        done = self.done()
+        if self.says is None:
+            self.said += message(done)
         # The own bye is said, and nothing more: what was received stays.
         self.is_bye = True
         refuse_if(mark != done[2:], 28)
@@ -793,25 +803,39 @@ class Course:
     def judge_hello(self, body):
         reader = Reader(body)
         self.version = reader.number(1)
-        refuse_if(self.version not in (1, 2, 3), 18)
+        refuse_if(self.version not in ((1, 2, 3, 4) if self.says is None else (self.says,)), 18)
         group, names, own = who(reader)
         reader.end()
         refuse_if(group != self.replica.group, 19)
         self.names = longer(self.replica.names, names)
         refuse_if(own == self.replica.own, 21)
-        self.asker = own
+        self.peer = own
+
+    def judge_hash(self, body):
+        refuse_if(self.version != 4 or self.waits[0] != DIGEST or self.missed, 13)
+        refuse_if(len(body) < 32, 12)
+        refuse_if(len(body) > 32, 14)
+        if body == hash_of(self.digest):
+            self.waits.pop(0)
+            return self.answer_digest(self.digest, True)
+        self.missed = True
+        self.said += self.opening(4, False) if self.says is None else message(b"\2" + digest_text(self.digest))
 
     def judge_digest(self, body):
         parts = Parts(body, len(self.names))
         seen, live, numbers = parts.digest()
         parts.end()
         live = set_of(live)
-        theirs = {dot: 2 - (dot in live) for dot in set_of(seen)}, numbers
-        state = self.replica.state
-        self.digest = state.digest()
-        delta = answer_text(self.asker, state.least(theirs), theirs, format_of(self.version))
-        texts = [b"\1" + hello_text(self.replica, self.version), b"\2" + digest_text(self.digest), b"\3" + delta]
-        self.said += b"".join(map(message, texts))
+        self.answer_digest(({dot: 2 - (dot in live) for dot in set_of(seen)}, numbers), False)
+
+    def answer_digest(self, theirs, is_shared):
+        """A digest came, and if it is the own one it did so by its hash."""
+        self.theirs = theirs
+        if self.says is None:
+            self.said += b"" if self.missed else self.opening(self.version, is_shared)
+            self.said += self.delta()
+        elif self.version == 4 and not self.missed and not is_shared:
+            self.said += message(b"\2" + digest_text(self.digest))
 
     def judge_delta(self, body):
         parts = Parts(body, len(self.names))
@@ -823,14 +847,32 @@ class Course:
         is_above = delta == delta.least(self.digest)
         refuse_if(not is_above or rows != certificate(delta, self.digest), 17)
         self.received = delta
+        if self.says is not None:
+            self.said += self.delta() + message(self.done())
+
+    def opening(self, version, is_hashed):
+        own = b"\5" + hash_of(self.digest) if is_hashed else b"\2" + digest_text(self.digest)
+        return message(b"\1" + hello_text(self.replica, version)) + message(own)
+
+    def delta(self):
+        """What the peer lacks."""
+        least = self.replica.state.least(self.theirs)
+        return message(b"\3" + answer_text(self.peer, least, self.theirs, format_of(self.version)))
+
+    def done(self):
+        return done_text(self.replica.state.joined(self.received), self.version)
 
 
 def stream_of(client, server, delta=None, asker=None, version=2):
     """The messages that a client of a version says to a server, and with them this delta in place of its own. The mark is that of
     what the client has then."""
-    digest = server.state.digest()
-    held = client.state.joined(server.state.least(client.state.digest()))
+    own, digest = client.state.digest(), server.state.digest()
+    held = client.state.joined(server.state.least(own))
     delta = client.state.least(digest) if delta is None else delta
     asker = server.own if asker is None else asker
-    texts = [b"\1" + hello_text(client, version), b"\2" + digest_text(client.state.digest())]
+    whole, texts = b"\2" + digest_text(own), [b"\1" + hello_text(client, version)]
+    if version == 4:
+        texts.append(b"\5" + hash_of(own))
+    if version != 4 or own != digest:
+        texts.append(whole)
     return texts + [b"\3" + answer_text(asker, delta, digest, format_of(version)), done_text(held, version)]
