@@ -13,15 +13,17 @@ use Rattle.rds_dots.specs.RunFacts.{Bounds, parts_of}
 use Rattle.rds_dots.specs.Runs.{AreRuns, covers, are_maximal, runs_of}
 use Rattle.rds_dots.specs.RunsOf.{are_runs}
 use Rattle.rds_counts.specs.RowsOf.{count_rows}
-use Rattle.rds_delta.specs.Digested.{DigestValue}
+use Rattle.rds_delta.specs.Digested.{DigestValue, IsInside}
 use Rattle.rds_bytes.specs.Reading.{counters_at}
 use Rattle.rds_bytes.specs.Spelling.{counters_text}
+use Rattle.rds_bytes.specs.Values.{AreDotsOf}
 use Rattle.rds_bytes.proofs.CounterFormats.{counters_format}
+use Rattle.rds_codec.specs.DigestTexts.{IsDigestOf}
 use Rattle.rds_codec.specs.Laws.{HasText, StandApart}
 use Rattle.rds_briefs.specs.BriefTexts.{runs_text}
 use Rattle.rds_briefs.specs.Briefs.{brief_kind, brief_text}
 use Rattle.rds_briefs.specs.Lives.{lives_in}
-use Rattle.rds_briefs.proofs.DigestsRead.{brief_front, counters_found, few_counters, seen_maximal}
+use Rattle.rds_briefs.proofs.DigestsRead.{brief_front, counters_found, few_counters}
 use Rattle.rds_briefs.proofs.LivesApart.{AreAlike, lives_apart, packed_apart, same_first, same_rest}
 use Rattle.rds_briefs.proofs.RunSteps.{behind, head, lives_of, runs_front}
 
@@ -93,58 +95,79 @@ runs_apart v w (r ∷ rs) (t ∷ ts) x y maximal highest e =
     let rest = runs_apart v w rs ts x y p.rest q.rest first.1 in
     ((λ i. first.0.0 i ∷ rest.0.0 i, on_runs v w r rs (on_run v w r first.0.1) rest.0.1), rest.1)
 
--- ---- digests
+-- ---- sets and digests
 
 outside : (s l : Bool) → s ≡ false → (l ≡ true → s ≡ true) → l ≡ false
 outside s true none inside = absurd (false≢true (sym none ∙ inside refl))
 outside s false none inside = refl
 
 module _ (replicas : ℕ) where
-  abbrev Has : DigestValue → Type 0
-  Has g = HasText (brief_kind replicas) g
+  runs : (s : Dots) → AreDotsOf replicas s → AreRuns s (runs_of s)
+  runs s are = are_runs s (λ d in_s. (are d in_s).0)
 
-  few : (g : DigestValue) → Has g → length (count_rows g.counts) < 2 ^ 32
-  few g has = few_counters replicas g has.is_value (brief_text g) [] (sym (append-nil (brief_text g))) has.within
+  -- seen dots and live ones of them
+  pub record AreSets (g : DigestValue) : Type 0 where
+    pub dots : AreDotsOf replicas g.seen
+    pub inside : IsInside g.live g.seen
 
-  runs : (g : DigestValue) → Has g → AreRuns g.seen (runs_of g.seen)
-  runs g has = are_runs g.seen (λ d in_seen. (has.is_value.dots d in_seen).0)
+  pub sets_of : (g : DigestValue) → IsDigestOf replicas g → AreSets g
+  sets_of g is = record { dots = is.dots; inside = is.inside }
 
-  not_live : (g : DigestValue) → Has g → (d : Dot) → set.contains g.seen d ≡ false → set.contains g.live d ≡ false
-  not_live g has d none = outside (set.contains g.seen d) (set.contains g.live d) none (has.is_value.inside.each_dot d)
+  not_live : (g : DigestValue) → AreSets g → (d : Dot) → set.contains g.seen d ≡ false → set.contains g.live d ≡ false
+  not_live g are d none = outside (set.contains g.seen d) (set.contains g.live d) none (are.inside.each_dot d)
 
-  module _ (g h : DigestValue) (x y : List ℕ) (p : Has g) (q : Has h) (e : brief_text g ++ x ≡ brief_text h ++ y) where
-    both_fronts : runs_text g.live (runs_of g.seen) ++ (counters_text g.counts ++ x) ≡ runs_text h.live (runs_of h.seen) ++ (counters_text h.counts ++ y)
-    both_fronts = sym (brief_front replicas g p.is_value (brief_text g ++ x) x refl) ∙ e ∙ brief_front replicas h q.is_value (brief_text h ++ y) y refl
-
+  module _ (g h : DigestValue) (x y : List ℕ) (p : AreSets g) (q : AreSets h) (e : runs_text g.live (runs_of g.seen) ++ x ≡ runs_text h.live (runs_of h.seen) ++ y) where
     abbrev SameRuns : Type 0
     SameRuns = (runs_of g.seen ≡ runs_of h.seen) × AgreeOn (covers (runs_of g.seen)) g.live h.live
 
-    both_runs : SameRuns × (counters_text g.counts ++ x ≡ counters_text h.counts ++ y)
-    both_runs =
-        runs_apart g.live h.live (runs_of g.seen) (runs_of h.seen) (counters_text g.counts ++ x) (counters_text h.counts ++ y)
-        (seen_maximal replicas g p.is_value) (seen_maximal replicas h q.is_value) both_fronts
+    both_runs : SameRuns × (x ≡ y)
+    both_runs = runs_apart g.live h.live (runs_of g.seen) (runs_of h.seen) x y (runs g.seen p.dots).maximal (runs h.seen q.dots).maximal e
 
-    both_counts : (g.counts ≡ h.counts) × (x ≡ y)
-    both_counts =
-        let read : counters_at replicas (counters_text g.counts ++ x) ≡ Ok (g.counts, x) = (counters_format replicas).again g.counts x (p.is_value.counts, few g p) in
-        counters_found replicas (counters_text g.counts ++ x) h.counts y q.is_value.counts (few h q) both_runs.1 g.counts x read
+    pub same_after : x ≡ y
+    same_after = both_runs.1
 
-    same_seen : g.seen ≡ h.seen
+    pub same_seen : g.seen ≡ h.seen
     same_seen =
         set.same_set dots_total dots_exact g.seen h.seen
-        (λ d. sym ((runs g p).same d) ∙ ap (λ (rs : List Run). covers rs d) both_runs.0.0 ∙ (runs h q).same d)
+        (λ d. sym ((runs g.seen p.dots).same d) ∙ ap (λ (rs : List Run). covers rs d) both_runs.0.0 ∙ (runs h.seen q.dots).same d)
 
     one_live : (d : Dot) → set.contains g.live d ≡ set.contains h.live d
     one_live d = elim (set.contains g.seen d) as (λ b. set.contains g.seen d ≡ b → set.contains g.live d ≡ set.contains h.live d) [
-      | true ↦ λ is. both_runs.0.1 d ((runs g p).same d ∙ is)
+      | true ↦ λ is. both_runs.0.1 d ((runs g.seen p.dots).same d ∙ is)
       | false ↦ λ is. not_live g p d is ∙ sym (not_live h q d (ap (λ (s : Dots). set.contains s d) (sym same_seen) ∙ is))
     ] refl
 
-    same_live : g.live ≡ h.live
+    pub same_live : g.live ≡ h.live
     same_live = set.same_set dots_total dots_exact g.live h.live one_live
+
+  abbrev Has : DigestValue → Type 0
+  Has g = HasText (brief_kind replicas) g
+
+  pub few : (g : DigestValue) → Has g → length (count_rows g.counts) < 2 ^ 32
+  few g has = few_counters replicas g has.is_value (brief_text g) [] (sym (append-nil (brief_text g))) has.within
+
+  module _ (g h : DigestValue) (x y : List ℕ) (p : Has g) (q : Has h) (e : brief_text g ++ x ≡ brief_text h ++ y) where
+    abbrev after : List ℕ
+    after = counters_text g.counts ++ x
+
+    abbrev others : List ℕ
+    others = counters_text h.counts ++ y
+
+    both_fronts : runs_text g.live (runs_of g.seen) ++ after ≡ runs_text h.live (runs_of h.seen) ++ others
+    both_fronts = sym (brief_front replicas g p.is_value (brief_text g ++ x) x refl) ∙ e ∙ brief_front replicas h q.is_value (brief_text h ++ y) y refl
+
+    both_counts : (g.counts ≡ h.counts) × (x ≡ y)
+    both_counts =
+        let read : counters_at replicas after ≡ Ok (g.counts, x) = (counters_format replicas).again g.counts x (p.is_value.counts, few g p) in
+        let same = same_after g h after others (sets_of g p.is_value) (sets_of h q.is_value) both_fronts in
+        counters_found replicas after h.counts y q.is_value.counts (few h q) same g.counts x read
+
+    same_digest : g ≡ h
+    same_digest =
+        let seen = same_seen g h after others (sets_of g p.is_value) (sets_of h q.is_value) both_fronts in
+        let live = same_live g h after others (sets_of g p.is_value) (sets_of h q.is_value) both_fronts in
+        (λ i. record { seen = seen i; live = live i; counts = both_counts.0 i })
 
 -- no digest's brief begins another's, and each has one digest
 pub briefs_apart : (replicas : ℕ) → StandApart (brief_kind replicas)
-briefs_apart replicas g h x y p q e =
-    let counts = both_counts replicas g h x y p q e in
-    (λ i. record { seen = same_seen replicas g h x y p q e i; live = same_live replicas g h x y p q e i; counts = counts.0 i }, counts.1)
+briefs_apart replicas g h x y p q e = (same_digest replicas g h x y p q e, (both_counts replicas g h x y p q e).1)

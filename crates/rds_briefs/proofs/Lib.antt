@@ -1,8 +1,10 @@
 mod AfterBriefs
 mod AlikeParts
 pub mod Apart
+pub mod AsRead
 mod BitSteps
 mod BitsRead
+pub mod BriefsRead
 mod Counted
 mod DigestsRead
 mod FormsRead
@@ -17,3 +19,4 @@ mod ReadingLives
 mod RunSteps
 mod Shorter
 mod StretchLemmas
+mod Trying

@@ -1,6 +1,7 @@
 pub mod BriefTexts
 pub mod Briefs
 pub mod Lives
+pub mod ReadBriefs
 pub mod ReadLives
 pub mod Readers
 pub mod RunsRead

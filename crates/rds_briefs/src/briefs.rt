@@ -7,11 +7,12 @@ ghost use Rattle.rds_counts.specs.RowsOf.{count_rows};
 ghost use Rattle.rds_bytes.specs.Reading.{Reads};
 ghost use Rattle.rds_bytes.specs.Spelling.{counters_text};
 ghost use Rattle.rds_bytes.specs.Values.{AreCountsOf};
-ghost use Rattle.rds_codec.specs.Decoding.{Decodes};
+ghost use Rattle.rds_codec.specs.Decoding.{Decodes, ReadsAll};
 ghost use Rattle.rds_codec.specs.DigestTexts.{IsDigestOf};
 ghost use Rattle.rds_codec.specs.Writing.{Encodes};
 ghost use Rattle.rds_codec.specs.declared.limits.TheConstants.{LIMIT};
 ghost use Rattle.rds_briefs.specs.Briefs.{IsRefusal, brief_kind, brief_text};
+ghost use Rattle.rds_briefs.specs.ReadBriefs.{brief_at, cut_as_bad};
 ghost use Rattle.rds_briefs.specs.Readers.{Meets};
 
 use crate::runs::read_runs;
@@ -152,7 +153,8 @@ pub fn decode_brief<S: DotSet>(
     replicas: u16,
     bytes: &[u8],
 ) -> Result<Digest<S>, Fault>
-    ensures { Decodes (brief_kind replicas) bytes.now result }
+    ensures text { Decodes (brief_kind replicas) bytes.now result }
+    ensures reads { ReadsAll (brief_at replicas) bytes.now (cut_as_bad result) }
 {
     if LIMIT < bytes.len() {
         return Err(Fault::TooLong);

@@ -16,4 +16,4 @@ mod text;
 mod writing;
 
 pub use briefs::{decode_brief, encode_brief};
-pub use laws::briefs_stand_apart;
+pub use laws::{briefs_are_read, briefs_stand_apart};

@@ -204,47 +204,41 @@ impl fmt::Display for Words {
     ghost output = { λ words. Some (words_of words.0) };
 
     fn fmt<W: fmt::Write>(&self, f: &mut fmt::Formatter<W>) -> fmt::Result {
-        match self.0 {
-            Fault::Memory => f.write_str("there was no memory left"),
-            Fault::BadName => f.write_str("the text is no name of a replica"),
-            Fault::BadKey => f.write_str("the text is no key"),
-            Fault::BadPath => f.write_str(
-                "the path has more than 8 keys, or none where one is needed",
-            ),
-            Fault::BadScalar => f.write_str("the value is none that a leaf may hold"),
-            Fault::BadRoster => f.write_str(
+        let words = match self.0 {
+            Fault::Memory => "there was no memory left",
+            Fault::BadName => "the text is no name of a replica",
+            Fault::BadKey => "the text is no key",
+            Fault::BadPath => "the path has more than 8 keys, or none where one is needed",
+            Fault::BadScalar => "the value is none that a leaf may hold",
+            Fault::BadRoster =>
                 "the roster has no name, more than 256 or one twice, or lacks a number",
-            ),
-            Fault::SeqFull => f.write_str("the replica has used its last dot"),
-            Fault::CounterFull => f.write_str("the counter's number would pass its limit"),
+            Fault::SeqFull => "the replica has used its last dot",
+            Fault::CounterFull => "the counter's number would pass its limit",
             Fault::Conflict { replica, seq } => {
-                write!(f, "the dot {seq} of replica {replica} has two entries")
+                return write!(f, "the dot {seq} of replica {replica} has two entries");
             }
-            Fault::OwnAhead(own) => write!(f, "{own}"),
-            Fault::WrongAsker => f.write_str("the answer was made for another replica"),
-            Fault::Cut => f.write_str("the bytes end too early"),
-            Fault::Bad => f.write_str("the bytes are no text"),
-            Fault::Extra => f.write_str("more bytes follow a whole text"),
-            Fault::TooLong => f.write_str("the text or the line is longer than its limit"),
-            Fault::TooManyDots => f.write_str("the set of dots is larger than its limit"),
-            Fault::BadCertificate => f.write_str("the certificate of the delta doesn't hold"),
-            Fault::WrongVersion => f.write_str("the peer speaks another version"),
-            Fault::WrongGroup => f.write_str("the replicas are of different groups"),
-            Fault::WrongRoster => f.write_str("the replicas have different rosters"),
-            Fault::SameReplica => f.write_str("both ends are the same replica"),
-            Fault::OutOfTurn => f.write_str("the peer sent another message than the one awaited"),
-            Fault::PeerEnded => f.write_str("the peer ended before the exchange was done"),
-            Fault::Device => f.write_str("reading, writing or another call of the system failed"),
-            Fault::BadLine => f.write_str("the line is no command"),
-            Fault::NoSuch => f.write_str("there is no such replica, ask or answer"),
-            Fault::Usage => f.write_str(
-                "the words of the command line are none that the program takes",
-            ),
-            Fault::Forked => f.write_str(
-                "both ends have seen the same, and hold different entries",
-            ),
-            Fault::Unsure => f.write_str("it is written, and may not last: read before you repeat"),
-        }
+            Fault::OwnAhead(own) => return write!(f, "{own}"),
+            Fault::WrongAsker => "the answer was made for another replica",
+            Fault::Cut => "the bytes end too early",
+            Fault::Bad => "the bytes are no text",
+            Fault::Extra => "more bytes follow a whole text",
+            Fault::TooLong => "the text or the line is longer than its limit",
+            Fault::TooManyDots => "the set of dots is larger than its limit",
+            Fault::BadCertificate => "the certificate of the delta doesn't hold",
+            Fault::WrongVersion => "the peer speaks another version",
+            Fault::WrongGroup => "the replicas are of different groups",
+            Fault::WrongRoster => "the replicas have different rosters",
+            Fault::SameReplica => "both ends are the same replica",
+            Fault::OutOfTurn => "the peer sent another message than the one awaited",
+            Fault::PeerEnded => "the peer ended before the exchange was done",
+            Fault::Device => "reading, writing or another call of the system failed",
+            Fault::BadLine => "the line is no command",
+            Fault::NoSuch => "there is no such replica, ask or answer",
+            Fault::Usage => "the words of the command line are none that the program takes",
+            Fault::Forked => "both ends have seen the same, and hold different entries",
+            Fault::Unsure => "it is written, and may not last: read before you repeat",
+        };
+        f.write_str(words)
     }
 }
 

@@ -14,9 +14,9 @@ returns-in_err-digest-clause-text g c =
     let p = err_from_is_err_and c.from_residual-in_err-digest.result c.from_residual-in_err-digest.ensures.1 in
     rw (p.1, p.2)
     (undecoded c.args.bytes.now (λ i. omega (arith, c.type_inv.bytes i)) c.if-bytes-gt-LIMIT.false c.in_ok-hello.hello c.in_ok-hello.rest.now c.in_ok-hello.ensures c.len.result c.len.ensures.names
-    c.in_err-digest.field-0.0 c.in_err-digest.ensures)
+    c.in_err-digest.field-0.0 c.in_err-digest.ensures.text)
 
 pub returns-clause-text : goal.returns-clause-text
 returns-clause-text g c =
     decoded c.args.bytes.now (λ i. omega (arith, c.type_inv.bytes i)) c.if-bytes-gt-LIMIT.false c.in_ok-hello.hello c.in_ok-hello.rest.now c.in_ok-hello.ensures c.len.result c.len.ensures.names
-    c.in_ok-digest.digest c.in_ok-digest.ensures
+    c.in_ok-digest.digest c.in_ok-digest.ensures.text
