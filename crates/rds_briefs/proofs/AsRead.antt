@@ -16,7 +16,7 @@ use Rattle.rds_briefs.specs.ReadBriefs.{ReadsTexts, brief_at, cut_as_bad}
 use Rattle.rds_briefs.proofs.BriefsRead.{briefs_read, rest_fits}
 
 -- the law is that of a kind's reader
-pub reader_of_texts : {V : Type 0} (kind : Kind V) (reader : Reader V) → ReadsTexts kind reader → IsReaderOf kind reader
+reader_of_texts : {V : Type 0} (kind : Kind V) (reader : Reader V) → ReadsTexts kind reader → IsReaderOf kind reader
 reader_of_texts kind reader law = record {
   takes = λ bytes x fits e.
       let got = law.spelled bytes x.0 x.1 fits e in
@@ -106,6 +106,9 @@ module _ {V : Type 0} (kind : Kind V) (reader : Reader V) (law : ReadsTexts kind
 pub decoded_as_read : {V : Type 0} (kind : Kind V) (reader : Reader V) → ReadsTexts kind reader → (bytes : List ℕ) (r : Result V Fault) → AreBytes bytes → Decodes kind bytes r
     → ReadsAll reader bytes (cut_as_bad r)
 decoded_as_read kind reader law bytes r fits p within = as_read kind reader law bytes fits within r p
+
+pub brief_reader : (replicas : ℕ) → IsReaderOf (brief_kind replicas) (brief_at replicas)
+brief_reader replicas = reader_of_texts (brief_kind replicas) (brief_at replicas) (briefs_read replicas)
 
 pub brief_as_read : (replicas : ℕ) (bytes : List ℕ) (r : Result DigestValue Fault) → AreBytes bytes → Decodes (brief_kind replicas) bytes r
     → ReadsAll (brief_at replicas) bytes (cut_as_bad r)
