@@ -160,8 +160,8 @@ body_suits kept kinds.Hello (ForDigest q) body = record { fits = tt }
 body_suits kept kinds.Hello (ForDelta q g) body = record { fits = tt }
 body_suits kept kinds.Hello (ForBye mark) body = record { fits = tt }
 body_suits kept kinds.Digest (ForHello side) body = record { fits = tt }
-body_suits kept kinds.Digest (ForDigest q) body = read_suits (ForDigest q) (digest_in (replicas_of kept q.roster) body) (λ g. Ok (Learns q g)) (λ g. record { fits = tt })
-body_suits kept kinds.Digest (ForWhole q) body = read_suits (ForWhole q) (digest_in (replicas_of kept q.roster) body) (λ g. Ok (Learns q g)) (λ g. record { fits = tt })
+body_suits kept kinds.Digest (ForDigest q) body = read_suits (ForDigest q) (digest_in q.version (replicas_of kept q.roster) body) (λ g. Ok (Learns q g)) (λ g. record { fits = tt })
+body_suits kept kinds.Digest (ForWhole q) body = read_suits (ForWhole q) (digest_in q.version (replicas_of kept q.roster) body) (λ g. Ok (Learns q g)) (λ g. record { fits = tt })
 body_suits kept kinds.Digest (ForDelta q g) body = record { fits = tt }
 body_suits kept kinds.Digest (ForBye mark) body = record { fits = tt }
 body_suits kept kinds.Delta (ForHello side) body = record { fits = tt }

@@ -33,7 +33,7 @@ use Rattle.rds_session.proofs.Course.{run_follows, IsOrderly}
 use Rattle.rds_session.proofs.Plays.{Turn, Talks, IsPlay, Fits, says, texts, texts_are, opened_by, one_talks, talks_then, answers, words, client_at, server_at, beginnings, whole, client_comes, server_comes, server_talks}
 use Rattle.rds_session.proofs.Runs.{run-append}
 use Rattle.rds_session.proofs.Talking.{by_messages}
-use Rattle.rds_session.proofs.Told.{IsTold, ending, speaker, client_speaks, server_speaks, hello_accepted, digest_accepted, whole_accepted, hash_accepted, hash_fits, same_digest, delta_accepted, done_accepted, its_least}
+use Rattle.rds_session.proofs.Told.{IsTold, ending, speaker, client_speaks, server_speaks, hello_accepted, digest_accepted, whole_accepted, hash_accepted, hash_first, hash_room, same_digest, delta_accepted, done_accepted, its_least}
 use Rattle.rds_session.proofs.Endings.{agree_turned, are_alike, ending_agreed, ending_forked}
 
 -- ---- texts that are compared
@@ -215,32 +215,32 @@ module _ (version : Version) (a b : ReplicaValue) (h : CanMeet version a b) wher
 
   abbrev twice : List Turn
   twice =
-      record { server = missed s0 version b a; answer = hello_message b version ∷ digest_message b ∷ []; client = learnt c0 version a b; words = digest_message a ∷ [] }
+      record { server = missed s0 version b a; answer = hello_message b version ∷ digest_message version b ∷ []; client = learnt c0 version a b; words = digest_message version a ∷ [] }
       ∷ record { server = learnt s0 version b a; answer = delta_to version b a ∷ []; client = told c0 version a b; words = last_words version a b }
       ∷ record { server = finished s0 version b a; answer = last_word version b a; client = finished c0 version a b; words = [] } ∷ []
 
   module _ (says : says_hashes version ≡ true) (other : bytes_eq (digest_hash (digest_of a.state)) (digest_hash (digest_of b.state)) ≡ false) where
-    hash_missed : Talks (greeted s0 version b a) (hash_message a ∷ []) (missed s0 version b a) (hello_message b version ∷ digest_message b ∷ [])
+    hash_missed : Talks (greeted s0 version b a) (hash_message a ∷ []) (missed s0 version b a) (hello_message b version ∷ digest_message version b ∷ [])
     hash_missed =
-        one_talks (greeted s0 version b a) (hash_message a) (Misses (speaker version b a)) (hello_message b version ∷ digest_message b ∷ [])
-        refl refl (hash_fits a h.a_room.digest) (hash_accepted version b a false says h.b_room.digest (server_told_by version a b h) other) refl (h.b_room.hello, (h.b_room.digest, tt))
+        one_talks (greeted s0 version b a) (hash_message a) (Misses (speaker version b a)) (hello_message b version ∷ digest_message version b ∷ [])
+        refl refl (hash_first version b a h.a_room says) (hash_accepted version b a false says (hash_first version a b h.b_room says) (server_told_by version a b h) other) refl (h.b_room.hello, (h.b_room.digest, tt))
 
-    digest_heard : Talks (greeted c0 version a b) (digest_message b ∷ []) (learnt c0 version a b) (digest_message a ∷ [])
+    digest_heard : Talks (greeted c0 version a b) (digest_message version b ∷ []) (learnt c0 version a b) (digest_message version a ∷ [])
     digest_heard =
-        one_talks (greeted c0 version a b) (digest_message b) (Learns (speaker version a b) (digest_of b.state)) (digest_message a ∷ [])
+        one_talks (greeted c0 version a b) (digest_message version b) (Learns (speaker version a b) (digest_of b.state)) (digest_message version a ∷ [])
         refl refl h.b_room.digest (digest_accepted version a b (client_told_by version a b h))
-        (ap (λ (hashed : Bool). cond hashed (digest_message a ∷ []) []) says) (h.a_room.digest, tt)
+        (ap (λ (hashed : Bool). cond hashed (digest_message version a ∷ []) []) says) (h.a_room.digest, tt)
 
-    digest_answered : Talks (missed s0 version b a) (digest_message a ∷ []) (learnt s0 version b a) (delta_to version b a ∷ [])
+    digest_answered : Talks (missed s0 version b a) (digest_message version a ∷ []) (learnt s0 version b a) (delta_to version b a ∷ [])
     digest_answered =
-        one_talks (missed s0 version b a) (digest_message a) (Learns (speaker version b a) (digest_of a.state)) (delta_to version b a ∷ [])
+        one_talks (missed s0 version b a) (digest_message version a) (Learns (speaker version b a) (digest_of a.state)) (delta_to version b a ∷ [])
         refl refl h.a_room.digest (whole_accepted version b a (server_told_by version a b h)) refl (h.b_room.delta, tt)
 
     twice_played : IsPlay c0 s0 (hello_message a version ∷ hash_message a ∷ []) twice
     twice_played = (
-      talks_then s0 (greeted s0 version b a) (missed s0 version b a) (hello_message a version ∷ []) (hash_message a ∷ []) [] (hello_message b version ∷ digest_message b ∷ []) server_greeted hash_missed,
+      talks_then s0 (greeted s0 version b a) (missed s0 version b a) (hello_message a version ∷ []) (hash_message a ∷ []) [] (hello_message b version ∷ digest_message version b ∷ []) server_greeted hash_missed,
       (
-        talks_then c0 (greeted c0 version a b) (learnt c0 version a b) (hello_message b version ∷ []) (digest_message b ∷ []) [] (digest_message a ∷ []) client_greeted digest_heard,
+        talks_then c0 (greeted c0 version a b) (learnt c0 version a b) (hello_message b version ∷ []) (digest_message version b ∷ []) [] (digest_message version a ∷ []) client_greeted digest_heard,
         (
           digest_answered,
           (
@@ -254,12 +254,12 @@ module _ (version : Version) (a b : ReplicaValue) (h : CanMeet version a b) wher
   -- ---- the two ways
 
   -- without hashes each says its digest whole
-  wholes : says_hashes version ≡ false → Once (digest_message a) (digest_message b) (Learns (speaker version a b) (digest_of b.state)) (Learns (speaker version b a) (digest_of a.state))
+  wholes : says_hashes version ≡ false → Once (digest_message version a) (digest_message version b) (Learns (speaker version a b) (digest_of b.state)) (Learns (speaker version b a) (digest_of a.state))
   wholes none = record {
     client_fits = h.a_room.digest;
     server_fits = h.b_room.digest;
     client_hears = digest_accepted version a b (client_told_by version a b h);
-    client_says = ap (λ (hashed : Bool). cond hashed (digest_message a ∷ []) []) none;
+    client_says = ap (λ (hashed : Bool). cond hashed (digest_message version a ∷ []) []) none;
     client_learns = refl;
     server_hears = digest_accepted version b a (server_told_by version a b h);
     server_says = refl;
@@ -270,12 +270,12 @@ module _ (version : Version) (a b : ReplicaValue) (h : CanMeet version a b) wher
   hashes : says_hashes version ≡ true → bytes_eq (digest_hash (digest_of a.state)) (digest_hash (digest_of b.state)) ≡ true → bytes_eq (digest_hash (digest_of b.state)) (digest_hash (digest_of a.state)) ≡ true
       → digest_of a.state ≡ digest_of b.state → Once (hash_message a) (hash_message b) (Shares (speaker version a b) (digest_of a.state)) (Shares (speaker version b a) (digest_of b.state))
   hashes says same turned one = record {
-    client_fits = hash_fits a h.a_room.digest;
-    server_fits = hash_fits b h.b_room.digest;
-    client_hears = hash_accepted version a b true says h.a_room.digest (client_told_by version a b h) turned;
+    client_fits = hash_first version b a h.a_room says;
+    server_fits = hash_first version a b h.b_room says;
+    client_hears = hash_accepted version a b true says (hash_first version b a h.a_room says) (client_told_by version a b h) turned;
     client_says = refl;
     client_learns = ap (λ (g : DigestValue). record (greeted c0 version a b) { turn = ForDelta (speaker version a b) g }) one;
-    server_hears = hash_accepted version b a true says h.b_room.digest (server_told_by version a b h) same;
+    server_hears = hash_accepted version b a true says (hash_first version a b h.b_room says) (server_told_by version a b h) same;
     server_says = ap (λ (g : DigestValue). hello_message b version ∷ hash_message b ∷ delta_message b (format_of version) a.own g ∷ []) (sym one);
     server_learns = ap (λ (g : DigestValue). record (greeted s0 version b a) { turn = ForDelta (speaker version b a) g }) (sym one);
   }
@@ -295,11 +295,11 @@ record Played (version : Version) (a b : ReplicaValue) : Type 0 where
 module _ (version : Version) (a b : ReplicaValue) (h : CanMeet version a b) where
   by_wholes : says_hashes version ≡ false → Played version a b
   by_wholes none = record {
-    turns = once version a b h (digest_message b);
-    opening_is = hello_message a version ∷ digest_message a ∷ [];
-    opens = ap (λ (hashed : Bool). hello_message a version ∷ digest_said hashed a ∷ []) none;
+    turns = once version a b h (digest_message version b);
+    opening_is = hello_message a version ∷ digest_message version a ∷ [];
+    opens = ap (λ (hashed : Bool). hello_message a version ∷ digest_said hashed version a ∷ []) none;
     fit = (h.a_room.hello, (h.a_room.digest, tt));
-    play = once_played version a b h (digest_message a) (digest_message b) (Learns (speaker version a b) (digest_of b.state)) (Learns (speaker version b a) (digest_of a.state)) (wholes version a b h none);
+    play = once_played version a b h (digest_message version a) (digest_message version b) (Learns (speaker version a b) (digest_of b.state)) (Learns (speaker version b a) (digest_of a.state)) (wholes version a b h none);
     client_ends = refl;
     server_ends = refl;
     client_said = rw none refl;
@@ -311,8 +311,8 @@ module _ (version : Version) (a b : ReplicaValue) (h : CanMeet version a b) wher
   by_hashes says same turned one = record {
     turns = once version a b h (hash_message b);
     opening_is = hello_message a version ∷ hash_message a ∷ [];
-    opens = ap (λ (hashed : Bool). hello_message a version ∷ digest_said hashed a ∷ []) says;
-    fit = (h.a_room.hello, (hash_fits a h.a_room.digest, tt));
+    opens = ap (λ (hashed : Bool). hello_message a version ∷ digest_said hashed version a ∷ []) says;
+    fit = (h.a_room.hello, (hash_first version b a h.a_room says, tt));
     play = once_played version a b h (hash_message a) (hash_message b) (Shares (speaker version a b) (digest_of a.state)) (Shares (speaker version b a) (digest_of b.state)) (hashes version a b h says same turned one);
     client_ends = refl;
     server_ends = refl;
@@ -325,8 +325,8 @@ module _ (version : Version) (a b : ReplicaValue) (h : CanMeet version a b) wher
   by_both says other turned = record {
     turns = twice version a b h;
     opening_is = hello_message a version ∷ hash_message a ∷ [];
-    opens = ap (λ (hashed : Bool). hello_message a version ∷ digest_said hashed a ∷ []) says;
-    fit = (h.a_room.hello, (hash_fits a h.a_room.digest, tt));
+    opens = ap (λ (hashed : Bool). hello_message a version ∷ digest_said hashed version a ∷ []) says;
+    fit = (h.a_room.hello, (hash_first version b a h.a_room says, tt));
     play = twice_played version a b h says other;
     client_ends = refl;
     server_ends = refl;
@@ -342,7 +342,7 @@ module _ (version : Version) (a b : ReplicaValue) (h : CanMeet version a b) wher
   by_equal : says_hashes version ≡ true → bytes_eq (digest_hash (digest_of a.state)) (digest_hash (digest_of b.state)) ≡ true → (one : Bool)
       → bytes_eq (digest_text (digest_of a.state)) (digest_text (digest_of b.state)) ≡ one → Played version a b ⊎ CollideIn version a b
   by_equal says same true is =
-      let room : length (digest_text (digest_of b.state)) ≤ LIMIT = omega (arith, h.b_room.digest) in
+      let room : length (digest_text (digest_of b.state)) ≤ LIMIT = hash_room b (hash_first version a b h.b_room says) in
       let one = same_digest version b a (server_told_by version a b h) room (eq_bytes (digest_text (digest_of a.state)) (digest_text (digest_of b.state)) is) in
       inl (by_hashes says same (hash_turned same) one)
   by_equal says same false is = inr (record {

@@ -46,8 +46,8 @@ content_value (contents.Mark mark) = OfMark mark
 -- the message that is waited for, of the replicas of the longer roster and in the peer's format
 abbrev pub expected_of : ReplicaValue → Awaited → Expected
 expected_of kept (ForHello side) = expecteds.Hello side
-expected_of kept (ForDigest peer) = expecteds.Digest (replicas_of kept peer.roster) (says_hashes peer.version)
-expected_of kept (ForWhole peer) = expecteds.Digest (replicas_of kept peer.roster) false
+expected_of kept (ForDigest peer) = expecteds.Digest peer.version (replicas_of kept peer.roster) (says_hashes peer.version)
+expected_of kept (ForWhole peer) = expecteds.Digest peer.version (replicas_of kept peer.roster) false
 expected_of kept (ForDelta peer digest) = expecteds.Delta (format_of peer.version) (replicas_of kept peer.roster)
 expected_of kept (ForBye mark) = expecteds.Bye (is_some mark)
 
@@ -84,7 +84,7 @@ bye_read marked (b ∷ rest) = code_read marked (bye_of b) rest
 
 -- whether a HASH is waited for
 abbrev pub expects_hash : Expected → Bool
-expects_hash (expecteds.Digest replicas hashed) = hashed
+expects_hash (expecteds.Digest version replicas hashed) = hashed
 expects_hash expected = false
 
 abbrev pub hash_read : Bool → List ℕ → Result ContentValue Fault
@@ -95,7 +95,7 @@ abbrev pub body_read : Expected → MessageKind → List ℕ → Result ContentV
 body_read expected kinds.Bye body = bye_read (expects_mark expected) body
 body_read (expecteds.Hello side) kinds.Hello body = hello_read side body
 body_read expected kinds.Hash body = hash_read (expects_hash expected) body
-body_read (expecteds.Digest replicas hashed) kinds.Digest body = read_as OfDigest (digest_in replicas body)
+body_read (expecteds.Digest version replicas hashed) kinds.Digest body = read_as OfDigest (digest_in version replicas body)
 body_read (expecteds.Delta format replicas) kinds.Delta body = read_as OfDelta (answer_in format replicas body)
 body_read expected kind body = Err OutOfTurn
 

@@ -162,7 +162,7 @@ abbrev pub replicas_of : ReplicaValue → Option RosterValue → ℕ
 replicas_of kept longer = length (roster_among kept.roster longer).names
 
 abbrev pub digest_came : ReplicaValue → Peer → List ℕ → Result Said Stop
-digest_came kept peer body = read_then (digest_in (replicas_of kept peer.roster) body) (λ digest. Ok (Learns peer digest))
+digest_came kept peer body = read_then (digest_in peer.version (replicas_of kept peer.roster) body) (λ digest. Ok (Learns peer digest))
 
 -- whether the peer has the own digest, by its hash
 abbrev pub hash_said : ReplicaValue → Peer → List ℕ → Said
@@ -233,19 +233,19 @@ turn_after turn Forks = turn
 -- who speaks, what is kept here, by a hash or whole, and what the digest lacks of that
 abbrev pub answers_digest : Bool → ReplicaValue → Peer → DigestValue → List (List ℕ)
 answers_digest hashed kept peer digest =
-    hello_message kept peer.version ∷ digest_said hashed kept
+    hello_message kept peer.version ∷ digest_said hashed peer.version kept
     ∷ delta_message kept (format_of peer.version) peer.number digest ∷ []
 
 -- the messages that answer it, in the peer's version
 abbrev pub replies_of : Side → ReplicaValue → Awaited → Said → List (List ℕ)
 replies_of Server kept (ForDigest asked) (Learns peer digest) = answers_digest false kept peer digest
 replies_of Server kept (ForDigest asked) (Shares peer digest) = answers_digest true kept peer digest
-replies_of Server kept (ForDigest asked) (Misses peer) = hello_message kept peer.version ∷ digest_message kept ∷ []
+replies_of Server kept (ForDigest asked) (Misses peer) = hello_message kept peer.version ∷ digest_message peer.version kept ∷ []
 replies_of Server kept (ForWhole asked) (Learns peer digest) =
     delta_message kept (format_of peer.version) peer.number digest ∷ []
 replies_of (Client version) kept (ForDigest asked) (Learns peer digest) =
-    if says_hashes peer.version then digest_message kept ∷ [] else []
-replies_of (Client version) kept (ForDigest asked) (Misses peer) = digest_message kept ∷ []
+    if says_hashes peer.version then digest_message peer.version kept ∷ [] else []
+replies_of (Client version) kept (ForDigest asked) (Misses peer) = digest_message peer.version kept ∷ []
 replies_of (Client version) kept (ForDelta peer digest) (Receives delta roster mark) =
     delta_message kept (format_of peer.version) peer.number digest ∷ done_message mark ∷ []
 replies_of Server kept (ForBye mark) Finishes = done_message mark ∷ []

@@ -35,10 +35,11 @@ use Rattle.rds_session.specs.Versions.{format_of, says_hashes, tells_marks}
 abbrev pub IsBeginningOf : List ℕ → List ℕ → Type 0
 IsBeginningOf x y = (rest : List ℕ) × (y ≡ x ++ rest)
 
--- what one tells the other, in a version, is within the limit
+-- what one tells the other, in a version, is within the limit: also what it says first of its digest, where that is a hash
 pub record HasRoom (version : Version) (from to : ReplicaValue) : Type 0 where
   pub hello : length (hello_message from version) ≤ MESSAGE_LIMIT
-  pub digest : length (digest_message from) ≤ MESSAGE_LIMIT
+  pub first : length (digest_said (says_hashes version) version from) ≤ MESSAGE_LIMIT
+  pub digest : length (digest_message version from) ≤ MESSAGE_LIMIT
   pub delta : length (delta_message from (format_of version) to.own (digest_of to.state)) ≤ MESSAGE_LIMIT
 
 -- two replicas, of rosters one of which begins the other, with different own numbers, each of which has a text; they
@@ -135,13 +136,13 @@ words_with said version from to =
 -- a client says it by a hash, where the version has them, and whole where there are none or the server has another
 abbrev pub client_words : Version → ReplicaValue → ReplicaValue → List (List ℕ)
 client_words version from to =
-    let first = digest_said (says_hashes version) from in
-    let whole = if says_hashes version then (if share_digest version from to then [] else digest_message from ∷ []) else [] in
+    let first = digest_said (says_hashes version) version from in
+    let whole = if says_hashes version then (if share_digest version from to then [] else digest_message version from ∷ []) else [] in
     words_with (first ∷ whole) version from to
 
 -- a server says it by a hash where it is the client's, and whole else
 abbrev pub server_words : Version → ReplicaValue → ReplicaValue → List (List ℕ)
-server_words version from to = words_with (digest_said (share_digest version from to) from ∷ []) version from to
+server_words version from to = words_with (digest_said (share_digest version from to) version from ∷ []) version from to
 
 -- the server has said its words in the version, is done, and has received what the client has and it lacks
 pub record IsServed (version : Version) (a b : ReplicaValue) (x : List ℕ) : Type 0 where

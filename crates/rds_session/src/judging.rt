@@ -4,7 +4,23 @@ ghost use Rattle.rds_codec.specs.declared.limits.TheConstants.{LIMIT};
 ghost use Rattle.rds_delta.specs.Digested.{digest_of};
 ghost use Rattle.rds_names.specs.declared.fault.Fault.TheVariants.{Memory};
 ghost use Rattle.rds_session.specs.Contents.{IsRead, IsReadFor, content_judged, content_value, expected_of};
-ghost use Rattle.rds_session.specs.Judging.{Awaited, ForDigest, Learns, StopsByNoDevice, Judges, wait_of, bye_judged, hash_judged, mark_judged, member_judged, delta_judged, verdict, one_begins, longer_than, replicas_of};
+ghost use Rattle.rds_session.specs.Judging.{
+  Awaited,
+  ForDigest,
+  Judges,
+  Learns,
+  StopsByNoDevice,
+  bye_judged,
+  delta_judged,
+  hash_judged,
+  longer_than,
+  mark_judged,
+  member_judged,
+  one_begins,
+  replicas_of,
+  verdict,
+  wait_of,
+};
 ghost use Rattle.rds_session.specs.Versions.{format_of};
 ghost use Rattle.rds_session.specs.Checked.{passes};
 ghost use Rattle.rds_session.specs.Received.{Brings, KnowsPeer, IsLongerIfThere};
@@ -112,10 +128,12 @@ pub fn expected_of<S: DotSet>(kept: &Replica<S>, turn: &Turn<S>) -> Expected
     match turn {
         Turn::Hello { side } => Expected::Hello { side: *side },
         Turn::Digest { peer } => Expected::Digest {
+            version: peer.version,
             replicas: replicas_of(kept, &peer.roster),
             hashed: peer.version.says_hashes(),
         },
         Turn::Whole { peer } => Expected::Digest {
+            version: peer.version,
             replicas: replicas_of(kept, &peer.roster),
             hashed: false,
         },
@@ -274,6 +292,6 @@ pub fn accept<S: DotSet>(
     ensures judges { Judges result (verdict kept.now (wait_of turn.now) message.came) }
     ensures brings { KnowsPeer kept.now (wait_of turn.now) → IfOk result (Brings kept.now (wait_of turn.now)) }
 {
-    let content = message.end()?;
+    let content = message.end(alloc)?;
     judge_content(alloc, kept, turn, content)
 }

@@ -5,6 +5,7 @@ mod came;
 mod chunks;
 mod coming;
 mod content;
+mod digests;
 mod exchanging;
 mod hashes;
 mod judging;
