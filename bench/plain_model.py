@@ -332,7 +332,7 @@ def digest_text(digest):
 
 
 def hash_of(digest):
-    """By which a session of version 4 says a digest."""
+    """By which a session says a digest from version 4 on."""
     return hashlib.sha256(digest_text(digest)).digest()
 
 
@@ -365,6 +365,11 @@ def brief_text(digest):
     return text + b"\0" + counts_text(numbers)
 
 
+def whole_text(digest, version):
+    """By which a session says it whole."""
+    return b"\2" + (brief_text(digest) if version == 5 else digest_text(digest))
+
+
 def certificate(delta, digest):
     """The rows that a delta has against a digest, each as its bytes."""
     ranks, numbers = digest
@@ -390,7 +395,7 @@ def answer_text(asker, delta, digest, format=2):
 
 def done_text(state, version):
     """The last message of a side that holds this by then: a bye 0, and from version 3 on the mark behind it."""
-    return b"\4\0" + (bytes.fromhex(mark_of(state)) if version in (3, 4) else b"")
+    return b"\4\0" + (bytes.fromhex(mark_of(state)) if version >= 3 else b"")
 
 
 def question_text(replica):
@@ -557,7 +562,53 @@ class Parts(Reader):
     def digest(self):
         seen, live = self.dots(), self.dots()
         refuse_if(not are_within(live, seen), 13)
-        return seen, live, self.counts()
+        live, numbers = set_of(live), self.counts()
+        return {dot: 2 - (dot in live) for dot in set_of(seen)}, numbers
+
+    def packed(self):
+        """A number below 2**49, in as few bytes as hold it."""
+        value, place, byte = 0, 0, 128
+        while byte >= 128:
+            refuse_if(place == 49, 13)
+            byte = self.number(1)
+            value += byte % 128 << place
+            place += 7
+        refuse_if(byte == 0 and place > 7, 13)
+        return value
+
+    def lives(self, size):
+        """Whether each of so many dots is live."""
+        if self.number(1, 0, 1):
+            bits = int.from_bytes(self.bytes((size + 7) // 8), "little")
+            refuse_if(bits >> size, 13)
+            lengths = [1] * min(size, MANY + 1)
+            are_live = [bits >> place & 1 for place in range(len(lengths))]
+        else:
+            lengths, left = [], size
+            while left:
+                lengths.append(self.packed())
+                refuse_if(lengths[-1] == 0 and len(lengths) > 1 or lengths[-1] > left, 13)
+                left -= lengths[-1]
+            are_live = [place % 2 == 0 for place in range(len(lengths))]
+        if size > MANY:
+            raise TooMany
+        return [bool(is_live) for length, is_live in zip(lengths, are_live) for _ in range(length)]
+
+    def brief(self):
+        """A digest by its brief. What ends inside one is bad too."""
+        ranks, before = {}, (-1, 0)
+        try:
+            while first := self.packed():
+                replica, size = self.replica(), self.packed() + 1
+                refuse_if(replica < before[0] or replica == before[0] and first < before[1] + 2 or first + size - 1 > GREATEST, 13)
+                at = self.at
+                lives = self.lives(size)
+                refuse_if(self.text[at : self.at] != lives_text(lives), 13)
+                before = replica, first + size - 1
+                ranks |= {(replica, first + place): 2 - is_live for place, is_live in enumerate(lives)}
+            return ranks, self.counts()
+        except Refused:
+            raise Refused(13)
 
     def certificate_row(self, _):
         at, tag = self.at, self.number(1, 1, 3)
@@ -747,7 +798,7 @@ class Course:
     def __init__(self, replica, stream, says=None):
         self.replica, self.waits, self.digest, self.received = replica, [HELLO, DIGEST, DELTA, BYE], replica.state.digest(), None
         self.names, self.version, self.says, self.missed = replica.names, None, says, False
-        self.said = b"" if says is None else self.opening(says, says == 4)
+        self.said = b"" if says is None else self.opening(says, says >= 4)
         self.fault, self.is_bye = 23, False
         try:
             self.hear(stream)
@@ -786,7 +837,7 @@ class Course:
         refuse_if(not body, 12)
         refuse_if(body[0] > 6, 13)
         code, mark = body[0], body[1:]
-        size = 16 * (code == 0 and self.version in (3, 4) and self.waits == [BYE])
+        size = 16 * (code == 0 and self.version in (3, 4, 5) and self.waits == [BYE])
         refuse_if(len(mark) < size, 12)
         refuse_if(len(mark) > size, 14)
         self.is_bye = code > 0
@@ -803,7 +854,7 @@ class Course:
     def judge_hello(self, body):
         reader = Reader(body)
         self.version = reader.number(1)
-        refuse_if(self.version not in ((1, 2, 3, 4) if self.says is None else (self.says,)), 18)
+        refuse_if(self.version not in ((1, 2, 3, 4, 5) if self.says is None else (self.says,)), 18)
         group, names, own = who(reader)
         reader.end()
         refuse_if(group != self.replica.group, 19)
@@ -812,21 +863,20 @@ class Course:
         self.peer = own
 
     def judge_hash(self, body):
-        refuse_if(self.version != 4 or self.waits[0] != DIGEST or self.missed, 13)
+        refuse_if(self.version not in (4, 5) or self.waits[0] != DIGEST or self.missed, 13)
         refuse_if(len(body) < 32, 12)
         refuse_if(len(body) > 32, 14)
         if body == hash_of(self.digest):
             self.waits.pop(0)
             return self.answer_digest(self.digest, True)
         self.missed = True
-        self.said += self.opening(4, False) if self.says is None else message(b"\2" + digest_text(self.digest))
+        self.said += self.opening(self.version, False) if self.says is None else message(whole_text(self.digest, self.version))
 
     def judge_digest(self, body):
         parts = Parts(body, len(self.names))
-        seen, live, numbers = parts.digest()
+        digest = parts.brief() if self.version == 5 else parts.digest()
         parts.end()
-        live = set_of(live)
-        self.answer_digest(({dot: 2 - (dot in live) for dot in set_of(seen)}, numbers), False)
+        self.answer_digest(digest, False)
 
     def answer_digest(self, theirs, is_shared):
         """A digest came, and if it is the own one it did so by its hash."""
@@ -834,8 +884,8 @@ class Course:
         if self.says is None:
             self.said += b"" if self.missed else self.opening(self.version, is_shared)
             self.said += self.delta()
-        elif self.version == 4 and not self.missed and not is_shared:
-            self.said += message(b"\2" + digest_text(self.digest))
+        elif self.version >= 4 and not self.missed and not is_shared:
+            self.said += message(whole_text(self.digest, self.version))
 
     def judge_delta(self, body):
         parts = Parts(body, len(self.names))
@@ -851,7 +901,7 @@ class Course:
             self.said += self.delta() + message(self.done())
 
     def opening(self, version, is_hashed):
-        own = b"\5" + hash_of(self.digest) if is_hashed else b"\2" + digest_text(self.digest)
+        own = b"\5" + hash_of(self.digest) if is_hashed else whole_text(self.digest, version)
         return message(b"\1" + hello_text(self.replica, version)) + message(own)
 
     def delta(self):
@@ -870,9 +920,9 @@ def stream_of(client, server, delta=None, asker=None, version=2):
     held = client.state.joined(server.state.least(own))
     delta = client.state.least(digest) if delta is None else delta
     asker = server.own if asker is None else asker
-    whole, texts = b"\2" + digest_text(own), [b"\1" + hello_text(client, version)]
-    if version == 4:
+    texts = [b"\1" + hello_text(client, version)]
+    if version >= 4:
         texts.append(b"\5" + hash_of(own))
-    if version != 4 or own != digest:
-        texts.append(whole)
+    if version < 4 or own != digest:
+        texts.append(whole_text(own, version))
     return texts + [b"\3" + answer_text(asker, delta, digest, format_of(version)), done_text(held, version)]
