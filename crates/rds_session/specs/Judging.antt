@@ -37,7 +37,7 @@ use Rattle.rds_session.specs.Versions.{as_hello, format_of, says_hashes, version
 
 -- the message that is waited for: a HELLO to this side, or another with what the earlier ones said, who the peer is and
 -- its digest, and where marks are told the own one. A digest is waited for by its hash, where the version has them, or
--- whole; or whole alone, where its hash wasn't that of the own one
+-- whole; or as it is said behind the own one, where its hash wasn't that
 pub data Awaited : Type 0 where
   ForHello : (side : Side) → Awaited
   ForDigest : (peer : Peer) → Awaited

@@ -8,5 +8,5 @@ with_parts-requires g c =
     let wants = c.args.wants.now in
     record {
       inside = rw (c.in_ok-seen.ensures.ok, c.in_ok-live.ensures.ok, c.live-3.ensures, c.live-4.ensures, c.live-2.ensures, c.seen-2.ensures.dots)
-      (replaced_inside own.live own.seen _ wants.live c.seen-2.ensures.inside);
+          (replaced_inside own.live own.seen _ wants.live c.seen-2.ensures.inside);
     }
