@@ -11,6 +11,7 @@ use Rattle.rds_state.specs.Fits.{ReplicaValue}
 use Rattle.rds_codec.specs.DigestTexts.{digest_text}
 use Rattle.rds_codec.specs.declared.limits.TheConstants.{LIMIT}
 use Rattle.rds_delta.specs.Digested.{DigestValue, digest_of}
+use Rattle.rds_delta.proofs.Digests.{live_inside}
 use Rattle.rds_state.specs.declared.mark.Mark.{Mark}
 use Rattle.rds_session.specs.declared.chunks.TheConstants.{MESSAGE_LIMIT}
 use Rattle.rds_session.specs.declared.talk.Side.TheVariants.{Client, Server}
@@ -22,7 +23,7 @@ use Rattle.rds_session.specs.Hashes.{digest_hash}
 use Rattle.rds_session.specs.Judging.{ForDigest, ForWhole, ForDelta, ForBye, Said, Greets, Learns, Shares, Misses, Receives, Finishes, Forks, verdict, longer_than, replies_of}
 use Rattle.rds_session.specs.Meeting.{AgreeWhereTold, IsBeginningOf, CanMeet, CollideIn, IsItsDelta, Hear, HearAll, HaveEnded, HaveReceived, IsServed, ReceiveDeltas, BothEnd, BothTellForks, ServesEach, held_with, last_mark, client_words, server_words, share_digest}
 use Rattle.rds_session.specs.ByMessages.{talk}
-use Rattle.rds_session.specs.Messages.{hello_message, digest_message, digest_said, hash_message, delta_message, done_message}
+use Rattle.rds_session.specs.Messages.{hello_message, behind_message, digest_message, digest_said, hash_message, delta_message, done_message}
 use Rattle.rds_session.specs.Marked.{same_mark}
 use Rattle.rds_session.specs.Received.{Delivery}
 use Rattle.rds_session.specs.Session.{Standing, Sent, fresh, then_more, after_said, ended_after, received_after, run, opening, after_opening, So_far, course}
@@ -33,7 +34,7 @@ use Rattle.rds_session.proofs.Course.{run_follows, IsOrderly}
 use Rattle.rds_session.proofs.Plays.{Turn, Talks, IsPlay, Fits, says, texts, texts_are, opened_by, one_talks, talks_then, answers, words, client_at, server_at, beginnings, whole, client_comes, server_comes, server_talks}
 use Rattle.rds_session.proofs.Runs.{run-append}
 use Rattle.rds_session.proofs.Talking.{by_messages}
-use Rattle.rds_session.proofs.Told.{IsTold, ending, speaker, client_speaks, server_speaks, hello_accepted, digest_accepted, whole_accepted, hash_accepted, hash_first, hash_room, same_digest, delta_accepted, done_accepted, its_least}
+use Rattle.rds_session.proofs.Told.{IsTold, ending, speaker, client_speaks, server_speaks, hello_accepted, digest_accepted, whole_accepted, heard_so, behind_answer, hash_accepted, hash_first, hash_room, same_digest, delta_accepted, done_accepted, its_least}
 use Rattle.rds_session.proofs.Endings.{agree_turned, are_alike, ending_agreed, ending_forked}
 
 -- ---- texts that are compared
@@ -70,8 +71,11 @@ delivered version own peer = Receives (least_state peer.state (digest_of own.sta
 abbrev greeted : Standing → Version → ReplicaValue → ReplicaValue → Standing
 greeted s version own peer = after_said s (Greets (speaker version own peer))
 
+abbrev learnt_so : Standing → Version → ReplicaValue → ReplicaValue → DigestValue → Standing
+learnt_so s version own peer digest = record (greeted s version own peer) { turn = ForDelta (speaker version own peer) digest }
+
 abbrev learnt : Standing → Version → ReplicaValue → ReplicaValue → Standing
-learnt s version own peer = record (greeted s version own peer) { turn = ForDelta (speaker version own peer) (digest_of peer.state) }
+learnt s version own peer = learnt_so s version own peer (digest_of peer.state)
 
 abbrev told : Standing → Version → ReplicaValue → ReplicaValue → Standing
 told s version own peer = after_said (learnt s version own peer) (delivered version own peer)
@@ -159,12 +163,12 @@ module _ (version : Version) (a b : ReplicaValue) (h : CanMeet version a b) wher
       (done_accepted a (last_mark version a b) (last_mark version b a) (are_alike version a b b a))
       refl tt
 
-  server_done : Talks (learnt s0 version b a) (last_words version a b) (finished s0 version b a) (last_word version b a)
-  server_done =
+  server_done : (digest : DigestValue) → Talks (learnt_so s0 version b a digest) (last_words version a b) (finished s0 version b a) (last_word version b a)
+  server_done digest =
       let s3 = told s0 version b a in
       let said = ending (last_mark version b a) (last_mark version a b) in
-      talks_then (learnt s0 version b a) s3 (finished s0 version b a) (delta_to version a b ∷ []) (last_word version a b) [] (last_word version b a)
-      (one_talks (learnt s0 version b a) (delta_to version a b) (delivered version b a) [] refl refl h.a_room.delta (delta_accepted version b a (digest_of a.state) (server_told_by version a b h)) refl tt)
+      talks_then (learnt_so s0 version b a digest) s3 (finished s0 version b a) (delta_to version a b ∷ []) (last_word version a b) [] (last_word version b a)
+      (one_talks (learnt_so s0 version b a digest) (delta_to version a b) (delivered version b a) [] refl refl h.a_room.delta (delta_accepted version b a digest (server_told_by version a b h)) refl tt)
       (one_talks s3 (done_message (last_mark version a b)) said (last_word version b a) refl refl (done_fits (last_mark version a b))
       (done_accepted b (last_mark version b a) (last_mark version a b) (are_alike version b a a b))
       (said_last said (last_mark version b a) (ends_so (last_mark version b a) (last_mark version a b)) s3 refl refl) (done_fits (last_mark version b a), tt))
@@ -207,7 +211,7 @@ module _ (version : Version) (a b : ReplicaValue) (h : CanMeet version a b) wher
         talks_then c0 (greeted c0 version a b) (told c0 version a b) (hello_message b version ∷ []) (of_server ∷ delta_to version b a ∷ []) [] (last_words version a b)
             client_greeted
             (talks_then (greeted c0 version a b) (learnt c0 version a b) (told c0 version a b) (of_server ∷ []) (delta_to version b a ∷ []) [] (last_words version a b) client_learnt client_told),
-        (server_done, (client_done, (refl, ended_by_it Going (last_mark version a b) (last_mark version b a)))),
+        (server_done (digest_of a.state), (client_done, (refl, ended_by_it Going (last_mark version a b) (last_mark version b a)))),
       ),
     )
 
@@ -215,8 +219,8 @@ module _ (version : Version) (a b : ReplicaValue) (h : CanMeet version a b) wher
 
   abbrev twice : List Turn
   twice =
-      record { server = missed s0 version b a; answer = hello_message b version ∷ digest_message version b ∷ []; client = learnt c0 version a b; words = digest_message version a ∷ [] }
-      ∷ record { server = learnt s0 version b a; answer = delta_to version b a ∷ []; client = told c0 version a b; words = last_words version a b }
+      record { server = missed s0 version b a; answer = hello_message b version ∷ digest_message version b ∷ []; client = learnt c0 version a b; words = behind_message version a (digest_of b.state) ∷ [] }
+      ∷ record { server = learnt_so s0 version b a (heard_so version b.state (digest_of a.state)); answer = delta_to version b a ∷ []; client = told c0 version a b; words = last_words version a b }
       ∷ record { server = finished s0 version b a; answer = last_word version b a; client = finished c0 version a b; words = [] } ∷ []
 
   module _ (says : says_hashes version ≡ true) (other : bytes_eq (digest_hash (digest_of a.state)) (digest_hash (digest_of b.state)) ≡ false) where
@@ -225,27 +229,28 @@ module _ (version : Version) (a b : ReplicaValue) (h : CanMeet version a b) wher
         one_talks (greeted s0 version b a) (hash_message a) (Misses (speaker version b a)) (hello_message b version ∷ digest_message version b ∷ [])
         refl refl (hash_first version b a h.a_room says) (hash_accepted version b a false says (hash_first version a b h.b_room says) (server_told_by version a b h) other) refl (h.b_room.hello, (h.b_room.digest, tt))
 
-    digest_heard : Talks (greeted c0 version a b) (digest_message version b ∷ []) (learnt c0 version a b) (digest_message version a ∷ [])
+    digest_heard : Talks (greeted c0 version a b) (digest_message version b ∷ []) (learnt c0 version a b) (behind_message version a (digest_of b.state) ∷ [])
     digest_heard =
-        one_talks (greeted c0 version a b) (digest_message version b) (Learns (speaker version a b) (digest_of b.state)) (digest_message version a ∷ [])
+        one_talks (greeted c0 version a b) (digest_message version b) (Learns (speaker version a b) (digest_of b.state)) (behind_message version a (digest_of b.state) ∷ [])
         refl refl h.b_room.digest (digest_accepted version a b (client_told_by version a b h))
-        (ap (λ (hashed : Bool). cond hashed (digest_message version a ∷ []) []) says) (h.a_room.digest, tt)
+        (ap (λ (hashed : Bool). cond hashed (behind_message version a (digest_of b.state) ∷ []) []) says) (h.a_room.behind, tt)
 
-    digest_answered : Talks (missed s0 version b a) (digest_message version a ∷ []) (learnt s0 version b a) (delta_to version b a ∷ [])
+    digest_answered : Talks (missed s0 version b a) (behind_message version a (digest_of b.state) ∷ []) (learnt_so s0 version b a (heard_so version b.state (digest_of a.state))) (delta_to version b a ∷ [])
     digest_answered =
-        one_talks (missed s0 version b a) (digest_message version a) (Learns (speaker version b a) (digest_of a.state)) (delta_to version b a ∷ [])
-        refl refl h.a_room.digest (whole_accepted version b a (server_told_by version a b h)) refl (h.b_room.delta, tt)
+        one_talks (missed s0 version b a) (behind_message version a (digest_of b.state)) (Learns (speaker version b a) (heard_so version b.state (digest_of a.state))) (delta_to version b a ∷ [])
+        refl refl h.a_room.behind (whole_accepted version b a (server_told_by version a b h))
+        (ap (λ (m : List ℕ). m ∷ []) (behind_answer version b (digest_of a.state) (live_inside a.state.lives) (format_of version) a.own)) (h.b_room.delta, tt)
 
     twice_played : IsPlay c0 s0 (hello_message a version ∷ hash_message a ∷ []) twice
     twice_played = (
       talks_then s0 (greeted s0 version b a) (missed s0 version b a) (hello_message a version ∷ []) (hash_message a ∷ []) [] (hello_message b version ∷ digest_message version b ∷ []) server_greeted hash_missed,
       (
-        talks_then c0 (greeted c0 version a b) (learnt c0 version a b) (hello_message b version ∷ []) (digest_message version b ∷ []) [] (digest_message version a ∷ []) client_greeted digest_heard,
+        talks_then c0 (greeted c0 version a b) (learnt c0 version a b) (hello_message b version ∷ []) (digest_message version b ∷ []) [] (behind_message version a (digest_of b.state) ∷ []) client_greeted digest_heard,
         (
           digest_answered,
           (
             client_told,
-            (server_done, (client_done, (refl, ended_by_it Going (last_mark version a b) (last_mark version b a)))),
+            (server_done (heard_so version b.state (digest_of a.state)), (client_done, (refl, ended_by_it Going (last_mark version a b) (last_mark version b a)))),
           ),
         ),
       ),

@@ -12,7 +12,7 @@ use Rattle.rds_codec.specs.CertificateTexts.{IsReplicaOf}
 use Rattle.rds_state.specs.Fits.{ReplicaValue}
 use Rattle.rds_names.specs.Roster.{OneBegins}
 use Rattle.rds_state.specs.Value.{StateValue, coordinates}
-use Rattle.rds_delta.specs.Digested.{DigestValue, digest_of}
+use Rattle.rds_delta.specs.Digested.{DigestValue, IsInside, digest_of}
 use Rattle.rds_briefs.specs.Briefs.{brief_kind, brief_text}
 use Rattle.rds_briefs.specs.ReadBriefs.{brief_at}
 use Rattle.rds_briefs.proofs.AsRead.{brief_reader}
@@ -47,10 +47,12 @@ use Rattle.rds_session.specs.declared.talk.Stop.{Stop}
 use Rattle.rds_session.specs.declared.talk.Stop.TheVariants.{Refused}
 use Rattle.rds_session.specs.Hashes.{digest_hash, hash_in}
 use Rattle.rds_session.specs.Marked.{mark_bytes, mark_in, same_mark, told_mark}
+use Rattle.rds_session.specs.Wants.{heard_behind, said_behind, wanted_by, wants_of}
+use Rattle.rds_codec.specs.declared.formats.Format.{Format}
 use Rattle.rds_session.specs.Versions.{as_hello, format_of, says_briefs, says_hashes, version_byte}
 use Rattle.rds_session.proofs.MarkTexts.{IsMark, mark_again}
 use Rattle.rds_session.specs.Meeting.{HasRoom, IsItsLeast, last_mark}
-use Rattle.rds_session.specs.Messages.{hello_message, digest_body, digest_message, digest_said, hash_message, delta_message, done_message, number_of}
+use Rattle.rds_session.specs.Messages.{hello_message, behind_message, digest_body, digest_message, digest_said, hash_message, delta_message, done_message, number_of}
 use Rattle.rds_session.specs.Received.{Delivery}
 use Rattle.rds_session.specs.declared.talk.Peer.{Peer}
 use Rattle.rds_session.specs.declared.talk.Side.{Side}
@@ -58,6 +60,7 @@ use Rattle.rds_session.specs.declared.talk.Side.TheVariants.{Client, Server}
 use Rattle.rds_session.proofs.Checks.{least_coordinates, least_passes}
 use Rattle.rds_session.proofs.Rosters.{among, both_within, group_is, one_begins_is}
 use Rattle.rds_session.proofs.Tellings.{digest_is, answer_is}
+use Rattle.rds_session.proofs.Wanting.{answer_same, wants_is}
 
 -- one hears what the other tells in a version
 pub record IsTold (version : Version) (k from : ReplicaValue) : Type 0 where
@@ -170,11 +173,40 @@ pub digest_accepted : (version : Version) (k from : ReplicaValue) → IsTold ver
 unfolding verdict
 digest_accepted version k from t = digest_read version k from t
 
--- the same behind a hash that wasn't the own one
+-- the same behind a hash that wasn't the own one: what is heard is taken for this
+abbrev pub heard_so : Version → StateValue → DigestValue → DigestValue
+heard_so version v g = heard_behind version (digest_of v) (said_behind version g (digest_of v))
+
+behind_again_by : (briefs : Bool) (n : ℕ) (v w : StateValue) → IsStateOf n v → IsStateOf n w
+    → (let said = cond briefs (wants_of (digest_of w) (digest_of v)) (digest_of w) in
+    length (said_so briefs said) ≤ LIMIT → cond briefs (all_of (brief_at n) (said_so briefs said)) (all_of (digest_at n) (said_so briefs said)) ≡ Ok said)
+behind_again_by true n v w is-v is-w within =
+    read_whole (brief_kind n) (brief_at n) (brief_reader n) (wants_of (digest_of w) (digest_of v)) (wants_is v (digest_of w) n (digest_is n w is-w) (digest_is n v is-v).dots) within
+behind_again_by false n v w is-v is-w within = text_again n w is-w within
+
+behind_again : (version : Version) (n : ℕ) (v w : StateValue) → IsStateOf n v → IsStateOf n w → length (digest_body version (said_behind version (digest_of w) (digest_of v))) ≤ LIMIT
+    → digest_in version n (digest_body version (said_behind version (digest_of w) (digest_of v))) ≡ Ok (said_behind version (digest_of w) (digest_of v))
+unfolding digest_in
+behind_again version n v w is-v is-w within = behind_again_by (says_briefs version) n v w is-v is-w within
+
 pub whole_accepted : (version : Version) (k from : ReplicaValue) → IsTold version k from
-    → verdict k (ForWhole (speaker version k from)) (digest_message version from) ≡ Ok (Learns (speaker version k from) (digest_of from.state))
+    → verdict k (ForWhole (speaker version k from)) (behind_message version from (digest_of k.state)) ≡ Ok (Learns (speaker version k from) (heard_so version k.state (digest_of from.state)))
 unfolding verdict
-whole_accepted version k from t = digest_read version k from t
+whole_accepted version k from t =
+    ap (λ (r : Result DigestValue Fault). read_then r (λ digest. Ok (Learns (speaker version k from) (heard_behind version (digest_of k.state) digest))))
+    (behind_again version (among k from) k.state from.state (own_state version k from t) (told_state version k from t) (omega (arith, t.room.behind)))
+
+-- and answered as if all of it had been said
+behind_answer_by : (briefs : Bool) (v : StateValue) (g : DigestValue) → IsInside g.live g.seen → (format : Format) (asker : ℕ)
+    → (let heard = cond briefs (wanted_by (digest_of v) (cond briefs (wants_of g (digest_of v)) g)) (cond briefs (wants_of g (digest_of v)) g) in
+    answer asker (least_state v heard) (certificate_of heard (least_state v heard)) ≡ answer asker (least_state v g) (certificate_of g (least_state v g)))
+behind_answer_by true v g inside format asker = answer_same v g inside asker
+behind_answer_by false v g inside format asker = refl
+
+pub behind_answer : (version : Version) (k : ReplicaValue) (g : DigestValue) → IsInside g.live g.seen → (format : Format) (asker : ℕ)
+    → delta_message k format asker (heard_so version k.state g) ≡ delta_message k format asker g
+behind_answer version k g inside format asker =
+    ap (λ (a : AnswerValue). number_of kinds.Delta ∷ answer_text_in format a) (behind_answer_by (says_briefs version) k.state g inside format asker)
 
 ok_same : {A : Type 0} (r : Result A Fault) (x y : A) → r ≡ Ok x → r ≡ Ok y → x ≡ y
 ok_same r x y first second = let same = sym first ∙ second in cc

@@ -4,7 +4,7 @@ use Rattle.rds_names.specs.declared.fault.Fault.{Fault}
 use Rattle.rds_names.specs.declared.fault.Fault.TheVariants.{Cut, Bad, Extra, WrongVersion, OutOfTurn}
 use Rattle.rds_state.specs.Fits.{ReplicaValue}
 use Rattle.rds_state.specs.declared.mark.Mark.{Mark}
-use Rattle.rds_delta.specs.Digested.{DigestValue}
+use Rattle.rds_delta.specs.Digested.{DigestValue, digest_of}
 use Rattle.rds_codec.specs.AnswerTexts.{IsAnswerOf}
 use Rattle.rds_codec.specs.AnswerValues.{AnswerValue}
 use Rattle.rds_codec.specs.declared.formats.Format.{Format}
@@ -25,6 +25,7 @@ use Rattle.rds_session.specs.Judging.{Awaited, ForHello, ForDigest, ForWhole, Fo
 use Rattle.rds_session.specs.Hashes.{hash_in}
 use Rattle.rds_session.specs.Marked.{mark_in}
 use Rattle.rds_session.specs.Versions.{as_hello, format_of, says_hashes}
+use Rattle.rds_session.specs.Wants.{heard_behind}
 use Rattle.rds_session.specs.Messages.{kind_of, bye_of}
 
 pub data ContentValue : Type 0 where
@@ -116,7 +117,7 @@ content_judged kept turn (OfMark mark) = mark_judged turn mark
 content_judged kept (ForHello side) (OfHello version hello) = member_judged kept version hello
 content_judged kept turn (OfHash hash) = hash_judged kept turn hash
 content_judged kept (ForDigest peer) (OfDigest digest) = Ok (Learns peer digest)
-content_judged kept (ForWhole peer) (OfDigest digest) = Ok (Learns peer digest)
+content_judged kept (ForWhole peer) (OfDigest digest) = Ok (Learns peer (heard_behind peer.version (digest_of kept.state) digest))
 content_judged kept (ForDelta peer digest) (OfDelta answer) = delta_judged kept peer answer
 content_judged kept turn content = Err (Refused OutOfTurn)
 

@@ -21,6 +21,7 @@ use Rattle.rds_session.specs.Checked.{least_state, certificate_of}
 use Rattle.rds_session.specs.Hashes.{digest_hash}
 use Rattle.rds_session.specs.Marked.{mark_bytes}
 use Rattle.rds_session.specs.Versions.{says_briefs, version_byte}
+use Rattle.rds_session.specs.Wants.{said_behind}
 
 -- the byte that messages of a type begin with
 abbrev pub number_of : MessageKind → ℕ
@@ -52,6 +53,10 @@ digest_body version digest = if says_briefs version then brief_text digest else 
 -- DIGEST: what is kept here
 abbrev pub digest_message : Version → ReplicaValue → List ℕ
 digest_message version kept = number_of kinds.Digest ∷ digest_body version (digest_of kept.state)
+
+-- the same, to a peer whose digest is known
+abbrev pub behind_message : Version → ReplicaValue → DigestValue → List ℕ
+behind_message version kept peer = number_of kinds.Digest ∷ digest_body version (said_behind version (digest_of kept.state) peer)
 
 -- HASH: the same, by the hash of the digest's text. Where that is over the limit there is none, and it can't be said
 abbrev pub hash_message : ReplicaValue → List ℕ

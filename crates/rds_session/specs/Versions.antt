@@ -45,7 +45,7 @@ says_hashes Four = true
 says_hashes Five = true
 says_hashes _ = false
 
--- whether a digest that is said whole is its brief
+-- whether a digest that is said whole is its brief, and behind another one what is wanted of that
 abbrev pub says_briefs : Version → Bool
 says_briefs Five = true
 says_briefs _ = false

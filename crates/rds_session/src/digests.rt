@@ -5,17 +5,34 @@ ghost use Rattle.rds_codec.specs.Decoding.{ReadsAll};
 ghost use Rattle.rds_delta.specs.Digested.{digest_of};
 ghost use Rattle.rds_session.specs.Messages.{digest_body};
 ghost use Rattle.rds_session.specs.Sending.{IsTextOrLost};
+ghost use Rattle.rds_session.specs.Wants.{said_behind};
 
 use crate::version::Version;
+use crate::wants::said_behind;
 use rds_briefs::{decode_brief, encode_brief};
-use rds_codec::ask;
+use rds_codec::encode_digest;
 use rds_delta::Digest;
 use rds_dots::DotSet;
 use rds_names::Fault;
 use rds_state::Replica;
 use std::alloc::Global;
 
-/// A replica's digest, as a version says it. One that is over the limit so isn't said (`TooLong`).
+/// A digest as a version says it. One that is over the limit so isn't said (`TooLong`).
+fn digest_body<S: DotSet>(
+    alloc: Global,
+    version: Version,
+    digest: &Digest<S>,
+) -> Result<Vec<u8>, Fault>
+    ensures { IsTextOrLost (digest_body version digest.now) result }
+{
+    if version.says_briefs() {
+        encode_brief(alloc, digest)
+    } else {
+        encode_digest(alloc, digest)
+    }
+}
+
+/// A replica's digest as a version says it.
 pub fn own_digest<S: DotSet>(
     alloc: Global,
     kept: &Replica<S>,
@@ -23,12 +40,21 @@ pub fn own_digest<S: DotSet>(
 ) -> Result<Vec<u8>, Fault>
     ensures { IsTextOrLost (digest_body version (digest_of kept.now.state)) result }
 {
-    if version.says_briefs() {
-        let digest = Digest::of(alloc, kept.state())?;
-        encode_brief(alloc, &digest)
-    } else {
-        ask(alloc, kept.state())
-    }
+    let digest = Digest::of(alloc, kept.state())?;
+    digest_body(alloc, version, &digest)
+}
+
+/// The same as it is said to a peer whose digest is known.
+pub fn digest_behind<S: DotSet>(
+    alloc: Global,
+    kept: &Replica<S>,
+    version: Version,
+    peer: &Digest<S>,
+) -> Result<Vec<u8>, Fault>
+    ensures { IsTextOrLost (digest_body version (said_behind version (digest_of kept.now.state) peer.now)) result }
+{
+    let said = said_behind(alloc, version, kept.state(), peer)?;
+    digest_body(alloc, version, &said)
 }
 
 /// The digest whose brief these bytes are, of a roster of so many replicas. Bytes that end inside a brief are bad ones.

@@ -22,6 +22,7 @@ ghost use Rattle.rds_session.specs.Judging.{
   wait_of,
 };
 ghost use Rattle.rds_session.specs.Versions.{format_of};
+ghost use Rattle.rds_session.specs.Wants.{heard_behind};
 ghost use Rattle.rds_session.specs.Checked.{passes};
 ghost use Rattle.rds_session.specs.Received.{Brings, KnowsPeer, IsLongerIfThere};
 ghost use Rattle.rds_delta.specs.Claims.{IsCertificate};
@@ -39,6 +40,7 @@ use crate::marks::told_mark;
 use crate::message::Message;
 use crate::talk::{Act, Peer, Stop, Turn, copy_of};
 use crate::version::Version;
+use crate::wants::heard_behind;
 use rds_codec::{Answer, Hello};
 use rds_delta::{Certificate, Digest, check};
 use rds_dots::DotSet;
@@ -183,6 +185,22 @@ fn judge_digest<S: DotSet>(alloc: Global, peer: &Peer, digest: Digest<S>) -> Res
     Ok(Act::Learn(peer, digest))
 }
 
+// The same of a peer that has the own digest.
+fn judge_whole<S: DotSet>(
+    alloc: Global,
+    kept: &Replica<S>,
+    peer: &Peer,
+    said: Digest<S>,
+) -> Result<Act<S>, Stop>
+    ensures known { IfErr result StopsByNoDevice }
+    ensures judges { Judges result (Ok (Learns peer.now (heard_behind peer.now.version (digest_of kept.now.state) said))) }
+    ensures brings { (turn : Awaited) → IsLongerIfThere kept.now.roster peer.now.roster
+        → IfOk result (Brings kept.now turn) }
+{
+    let digest = heard_behind(alloc, peer.version, kept.state(), said)?;
+    judge_digest(alloc, peer, digest)
+}
+
 // Whether a peer has the own digest, by the hash of its own.
 fn judge_hash<S: DotSet>(
     alloc: Global,
@@ -265,7 +283,8 @@ fn judge_content<S: DotSet>(
             _ => Err(Stop::Refused(Fault::OutOfTurn)),
         },
         Content::Digest(digest) => match turn {
-            Turn::Digest { peer } | Turn::Whole { peer } => judge_digest(alloc, peer, digest),
+            Turn::Digest { peer } => judge_digest(alloc, peer, digest),
+            Turn::Whole { peer } => judge_whole(alloc, kept, peer, digest),
             _ => Err(Stop::Refused(Fault::OutOfTurn)),
         },
         Content::Hash(hash) => match turn {

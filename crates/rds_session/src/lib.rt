@@ -18,6 +18,7 @@ mod session;
 mod step;
 mod talk;
 mod version;
+mod wants;
 mod writing;
 
 pub use exchanging::{Exchanged, exchange};

@@ -2,6 +2,7 @@
 ghost use Rattle.std.specs.Prelude.{◌≡◌, false, [], ◌∷◌};
 ghost use Rattle.rds_session.specs.Judging.{answers_digest, wait_of, saying_of, replies_of};
 ghost use Rattle.rds_session.specs.Messages.{
+  behind_message,
   bye_message,
   delta_message,
   digest_message,
@@ -14,7 +15,7 @@ ghost use Rattle.rds_session.specs.Versions.{format_of};
 ghost use Rattle.rds_session.specs.Sending.{SendsBody, SendsOne, SendsAll};
 ghost use Rattle.rds_session.specs.Session.{opening};
 
-use crate::digests::own_digest;
+use crate::digests::{digest_behind, own_digest};
 use crate::hashes::own_hash;
 use crate::kinds::{ByeCode, MessageKind};
 use crate::talk::{Act, Peer, Side, Turn};
@@ -67,6 +68,23 @@ fn send_digest<S: DotSet>(
     ensures { SendsOne send.old.items send.new.items (digest_message version kept.now) result }
 {
     send_body(send, MessageKind::Digest, own_digest(alloc, kept, version))
+}
+
+// Adds the same to a peer whose digest is known.
+fn send_behind<S: DotSet>(
+    alloc: Global,
+    send: &mut Vec<u8>,
+    kept: &Replica<S>,
+    version: Version,
+    peer: &Digest<S>,
+) -> Result<bool, Fault>
+    ensures { SendsOne send.old.items send.new.items (behind_message version kept.now peer.now) result }
+{
+    send_body(
+        send,
+        MessageKind::Digest,
+        digest_behind(alloc, kept, version, peer),
+    )
 }
 
 fn send_hash<S: DotSet>(alloc: Global, send: &mut Vec<u8>, kept: &Replica<S>) -> Result<bool, Fault>
@@ -219,8 +237,8 @@ pub fn send_replies<S: DotSet>(
             _ => Ok(true),
         },
         Side::Client { version: _ } => match (act, turn) {
-            (Act::Learn(peer, _), Turn::Digest { peer: _ }) if peer.version.says_hashes() => {
-                send_digest(alloc, send, kept, peer.version)
+            (Act::Learn(peer, digest), Turn::Digest { peer: _ }) if peer.version.says_hashes() => {
+                send_behind(alloc, send, kept, peer.version, digest)
             }
             (Act::Miss(peer), Turn::Digest { peer: _ }) => {
                 send_digest(alloc, send, kept, peer.version)

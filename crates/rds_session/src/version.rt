@@ -15,7 +15,8 @@ pub enum Version {
     Three,
     /// As version 3. A digest is said by its hash, and whole where the peer has another one.
     Four,
-    /// As version 4, but that a digest which is said whole is its brief.
+    /// As version 4, but that a digest which is said whole is its brief, and a client that knows the server's says what it
+    /// wants of it in place of its own.
     Five,
 }
 
@@ -77,7 +78,7 @@ impl Version {
         }
     }
 
-    /// Whether a digest that is said whole is its brief.
+    /// Whether a digest that is said whole is its brief, and behind another one what is wanted of that.
     pub fn says_briefs(self) -> bool
         ensures { result ≡ says_briefs self }
     {
