@@ -370,6 +370,27 @@ def whole_text(digest, version):
     return b"\2" + (brief_text(digest) if version == 5 else digest_text(digest))
 
 
+def behind_text(digest, other, version):
+    """By which a session says it to one whose own is known: in version 5 what is wanted of that, with its dots that are lacking
+    here as dead ones, and those that live here and are dead there as live ones."""
+    if version < 5:
+        return whole_text(digest, version)
+    (ranks, numbers), theirs = digest, other[0]
+    wanted = {dot: 2 for dot in theirs if dot not in ranks}
+    wanted |= {dot: 1 for dot, rank in ranks.items() if rank == 1 and theirs.get(dot) == 2}
+    return whole_text((wanted, numbers), version)
+
+
+def heard_behind(digest, said, version):
+    """What one that has said this digest takes what is said behind it for."""
+    if version < 5:
+        return said
+    wanted, numbers = said
+    lacked = {dot for dot, rank in wanted.items() if rank == 2}
+    ranks = {dot: rank for dot, rank in digest[0].items() if dot not in lacked}
+    return ranks | {dot: 1 for dot, rank in wanted.items() if rank == 1}, numbers
+
+
 def certificate(delta, digest):
     """The rows that a delta has against a digest, each as its bytes."""
     ranks, numbers = digest
@@ -876,7 +897,7 @@ class Course:
         parts = Parts(body, len(self.names))
         digest = parts.brief() if self.version == 5 else parts.digest()
         parts.end()
-        self.answer_digest(digest, False)
+        self.answer_digest(heard_behind(self.digest, digest, self.version) if self.missed else digest, False)
 
     def answer_digest(self, theirs, is_shared):
         """A digest came, and if it is the own one it did so by its hash."""
@@ -885,7 +906,7 @@ class Course:
             self.said += b"" if self.missed else self.opening(self.version, is_shared)
             self.said += self.delta()
         elif self.version >= 4 and not self.missed and not is_shared:
-            self.said += message(whole_text(self.digest, self.version))
+            self.said += message(behind_text(self.digest, theirs, self.version))
 
     def judge_delta(self, body):
         parts = Parts(body, len(self.names))
@@ -923,6 +944,8 @@ def stream_of(client, server, delta=None, asker=None, version=2):
     texts = [b"\1" + hello_text(client, version)]
     if version >= 4:
         texts.append(b"\5" + hash_of(own))
-    if version < 4 or own != digest:
+    if version < 4:
         texts.append(whole_text(own, version))
+    elif own != digest:
+        texts.append(behind_text(own, digest, version))
     return texts + [b"\3" + answer_text(asker, delta, digest, format_of(version)), done_text(held, version)]
