@@ -68,7 +68,7 @@ use Rattle.rds_listing.specs.Conflicts.{conflicts_text}
 use Rattle.rds_listing.specs.Dump.{dump_text}
 use Rattle.rds_session.specs.declared.talk.Side.{Side}
 use Rattle.rds_session.specs.declared.talk.Side.TheVariants.{Client, Server}
-use Rattle.rds_session.specs.declared.version.Version.TheVariants.{Four}
+use Rattle.rds_session.specs.declared.version.Version.TheVariants.{Five}
 use Rattle.rds_words.specs.Meaning.{IsAmount}
 use Rattle.rds_words.specs.Task.{words_of}
 use Rattle.rds_commands.specs.Unparsed.{WritesUnparsed}
@@ -205,7 +205,7 @@ WritesSyncing words reading before after status =
     ((is_piped words.addr.now ≡ false) × (is_site words.addr.now ≡ false) × WritesSyncAt words before after status)
     ⊎ (((is_site words.addr.now ≡ true) × WritesSyncSite words before after status)
     ⊎ ((is_piped words.addr.now ≡ true)
-    × WritesPiped (Client Four) words.file.now (RefusesSync words) reading before after status))
+    × WritesPiped (Client Five) words.file.now (RefusesSync words) reading before after status))
 
 -- one session of the files at two paths; or one of them is that of a file beside another
 abbrev pub WritesPairing : List ℕ → List ℕ → Option (List ℕ) → Option (List ℕ) → ℕ → Type 0

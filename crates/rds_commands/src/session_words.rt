@@ -17,7 +17,7 @@ ghost use Rattle.rds_commands.specs.Told.{
 ghost use Rattle.rds_commands.specs.Offline.{WritesNothing};
 ghost use Rattle.rds_files.specs.Files.{is_beside};
 ghost use Rattle.rds_session.specs.declared.talk.Side.TheVariants.{Client, Server};
-ghost use Rattle.rds_session.specs.declared.version.Version.TheVariants.{Four};
+ghost use Rattle.rds_session.specs.declared.version.Version.TheVariants.{Five};
 ghost use Rattle.rds_output.specs.Output.{Writes};
 
 use crate::notes::{note_beside, note_serve, note_sync};
@@ -189,7 +189,7 @@ fn sync_piped<H: Disk, R: Read, W: Write>(
 ) -> u8
 where
     H::File: LockFile,
-    ensures written { WritesPiped (Client Four) words.entry.file.now (RefusesSync words.entry)
+    ensures written { WritesPiped (Client Five) words.entry.file.now (RefusesSync words.entry)
         (stream_of R.remaining reader.old reader.new)
         (W.contents writer.old.inner) (W.contents writer.new.inner) result }
     ensures refused { RefusesSync words.entry
@@ -200,7 +200,7 @@ where
     match seconds_of(&words) {
         Some(_) => {
             let newest = Side::Client {
-                version: Version::Four,
+                version: Version::Five,
             };
             pipe_file(rt, newest, words.file, reader, writer)
         }

@@ -6,7 +6,7 @@ use Rattle.rds_names.specs.declared.fault.Fault.TheVariants.{Device, WrongVersio
 use Rattle.rds_session.specs.declared.talk.Side.{Side}
 use Rattle.rds_session.specs.declared.talk.Side.TheVariants.{Client, Server}
 use Rattle.rds_session.specs.declared.version.Version.{Version}
-use Rattle.rds_session.specs.declared.version.Version.TheVariants.{Two, Four}
+use Rattle.rds_session.specs.declared.version.Version.TheVariants.{Two, Five}
 use Rattle.rds_session.specs.Leaving.{IsOfCalls, Leaves}
 use Rattle.rds_session.specs.Received.{Delivery}
 use Rattle.rds_session.specs.declared.step.Ended.{Ended}
@@ -126,8 +126,8 @@ WritesServing path sessions before after status =
 -- that it isn't spoken
 abbrev pub IsSpokenFor : FileValue → Version → Type 0
 IsSpokenFor file version =
-    (version ≡ Four)
-    ⊎ ((version ≡ Two) × (first : Option (List ℕ)) × Meets (Client Four) first file Nothing (Failed WrongVersion))
+    (version ≡ Five)
+    ⊎ ((version ≡ Two) × (first : Option (List ℕ)) × Meets (Client Five) first file Nothing (Failed WrongVersion))
 
 -- why there is no session alone, or the report of one of the file that was read at this path
 abbrev pub WritesSync : List ℕ → Option (List ℕ) → Option (List ℕ) → ℕ → Type 0

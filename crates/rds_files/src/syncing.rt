@@ -49,7 +49,7 @@ where
         return give_up(writer, Fault::Device);
     };
     let newest = Side::Client {
-        version: Version::Four,
+        version: Version::Five,
     };
     let met = meet(rt, newest, &file, stream, timeout);
     if !met.is_of_older_server() {
@@ -57,7 +57,7 @@ where
     }
     met.let_go(rt);
     let _ = eprintln!(rt;
-        "{addr}: no session of version 4 is spoken there: calling again with version 2"
+        "{addr}: no session of version 5 is spoken there: calling again with version 2"
     );
     match connect(rt, addr) {
         Some(stream) => sync(rt, Version::Two, &file, stream, timeout, writer),

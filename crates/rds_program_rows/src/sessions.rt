@@ -147,6 +147,9 @@ pub fn side_of(word: &str) -> Result<Side, Fault> {
         "client_4" => Ok(Side::Client {
             version: Version::Four,
         }),
+        "client_5" => Ok(Side::Client {
+            version: Version::Five,
+        }),
         "server" => Ok(Side::Server),
         _ => Err(Fault::Usage),
     }

@@ -2,7 +2,7 @@
 use Rattle.std.proofs.Common.{ℕ, Bool, true, false, ◌&&◌, cond, eqb, ltb, List, [], ◌∷◌, length, Option, Some, None, Result, Ok, Err}
 use Rattle.std.specs.Str.{bytes_eq}
 use Rattle.rds_names.specs.declared.fault.Fault.{Fault}
-use Rattle.rds_names.specs.declared.fault.Fault.TheVariants.{WrongAsker, Cut, Bad, TooLong, BadCertificate, OutOfTurn, WrongVersion, WrongGroup, WrongRoster, SameReplica}
+use Rattle.rds_names.specs.declared.fault.Fault.TheVariants.{WrongAsker, Cut, Bad, TooLong, BadCertificate, WrongGroup, WrongRoster, SameReplica}
 use Rattle.rds_state.specs.Fits.{ReplicaValue}
 use Rattle.rds_delta.specs.Digested.{DigestValue, digest_of}
 use Rattle.rds_session.specs.declared.talk.Peer.{Peer}
@@ -24,6 +24,7 @@ use Rattle.rds_session.specs.declared.kinds.MessageKind.TheVariants as kinds
 use Rattle.rds_session.specs.Hashes.{digest_hash, hash_in}
 use Rattle.rds_session.specs.Marked.{mark_in, same_mark, told_mark}
 use Rattle.rds_session.specs.Messages.{kind_of, bye_of}
+use Rattle.rds_session.specs.Wants.{heard_behind}
 use Rattle.rds_session.specs.Versions.{as_hello, format_of}
 use Rattle.rds_session.specs.Judging.{Awaited, ForHello, ForDigest, ForWhole, ForDelta, ForBye, Said, Greets, Learns, Shares, Misses, Receives, Finishes, Forks, verdict, bye_came, bye_judged, code_came, plain_came, body_came, hash_came, hash_judged, hash_said, hello_came, kind_came, is_done, mark_judged, version_came, version_with, waits_for_hash, waits_for_mark, member_judged, delta_judged, read_then, one_begins, peer_of, replicas_of}
 
@@ -160,8 +161,9 @@ body_suits kept kinds.Hello (ForDigest q) body = record { fits = tt }
 body_suits kept kinds.Hello (ForDelta q g) body = record { fits = tt }
 body_suits kept kinds.Hello (ForBye mark) body = record { fits = tt }
 body_suits kept kinds.Digest (ForHello side) body = record { fits = tt }
-body_suits kept kinds.Digest (ForDigest q) body = read_suits (ForDigest q) (digest_in (replicas_of kept q.roster) body) (λ g. Ok (Learns q g)) (λ g. record { fits = tt })
-body_suits kept kinds.Digest (ForWhole q) body = read_suits (ForWhole q) (digest_in (replicas_of kept q.roster) body) (λ g. Ok (Learns q g)) (λ g. record { fits = tt })
+body_suits kept kinds.Digest (ForDigest q) body = read_suits (ForDigest q) (digest_in q.version (replicas_of kept q.roster) body) (λ g. Ok (Learns q g)) (λ g. record { fits = tt })
+body_suits kept kinds.Digest (ForWhole q) body =
+    read_suits (ForWhole q) (digest_in q.version (replicas_of kept q.roster) body) (λ g. Ok (Learns q (heard_behind q.version (digest_of kept.state) g))) (λ g. record { fits = tt })
 body_suits kept kinds.Digest (ForDelta q g) body = record { fits = tt }
 body_suits kept kinds.Digest (ForBye mark) body = record { fits = tt }
 body_suits kept kinds.Delta (ForHello side) body = record { fits = tt }

@@ -8,7 +8,8 @@ use Rattle.rds_names.specs.declared.fault.Fault.TheVariants.{Memory, Cut, Bad, E
 use Rattle.rds_delta.specs.Digested.{DigestValue}
 use Rattle.rds_bytes.specs.Reading.{Fails, Reads}
 use Rattle.rds_codec.specs.AnswerValues.{AnswerValue}
-use Rattle.rds_codec.specs.Decoding.{all_of}
+use Rattle.rds_briefs.specs.ReadBriefs.{brief_at}
+use Rattle.rds_codec.specs.Decoding.{ReadsAll, all_of}
 use Rattle.rds_codec.specs.DigestTexts.{digest_at}
 use Rattle.rds_codec.specs.FormatTexts.{answer_at_in}
 use Rattle.rds_codec.specs.HelloTexts.{hello_at}
@@ -22,7 +23,7 @@ use Rattle.rds_session.specs.Hashes.{hash_in}
 use Rattle.rds_session.specs.Judging.{is_done, version_with}
 use Rattle.rds_session.specs.Marked.{mark_in}
 use Rattle.rds_session.specs.Messages.{bye_of, kind_of, number_of}
-use Rattle.rds_session.specs.Versions.{as_hello}
+use Rattle.rds_session.specs.Versions.{as_hello, says_briefs}
 use Rattle.rds_session.specs.declared.content.Expected.{Expected}
 use Rattle.rds_session.specs.declared.content.Expected.TheVariants as expecteds
 use Rattle.rds_session.specs.declared.talk.Side.{Side}
@@ -49,26 +50,26 @@ out_of_turn expected n kind is refused more = ap (λ (k : Option MessageKind). k
 
 no_hello : (expected : Expected) → ((side : Side) → expected ≡ expecteds.Hello side → ⊥) → (body : List ℕ) → body_read expected kinds.Hello body ≡ Err OutOfTurn
 no_hello (expecteds.Hello side) other body = absurd (other side refl)
-no_hello (expecteds.Digest n hashed) other body = refl
+no_hello (expecteds.Digest version n hashed) other body = refl
 no_hello (expecteds.Delta format n) other body = refl
 no_hello (expecteds.Bye marked) other body = refl
 
-no_digest : (expected : Expected) → ((n : ℕ) (hashed : Bool) → expected ≡ expecteds.Digest n hashed → ⊥) → (body : List ℕ) → body_read expected kinds.Digest body ≡ Err OutOfTurn
+no_digest : (expected : Expected) → ((version : Version) (n : ℕ) (hashed : Bool) → expected ≡ expecteds.Digest version n hashed → ⊥) → (body : List ℕ) → body_read expected kinds.Digest body ≡ Err OutOfTurn
 no_digest (expecteds.Hello side) other body = refl
-no_digest (expecteds.Digest n hashed) other body = absurd (other n hashed refl)
+no_digest (expecteds.Digest version n hashed) other body = absurd (other version n hashed refl)
 no_digest (expecteds.Delta format n) other body = refl
 no_digest (expecteds.Bye marked) other body = refl
 
 no_delta : (expected : Expected) → ((format : Format) (n : ℕ) → expected ≡ expecteds.Delta format n → ⊥) → (body : List ℕ) → body_read expected kinds.Delta body ≡ Err OutOfTurn
 no_delta (expecteds.Hello side) other body = refl
-no_delta (expecteds.Digest n hashed) other body = refl
+no_delta (expecteds.Digest version n hashed) other body = refl
 no_delta (expecteds.Delta format n) other body = absurd (other format n refl)
 no_delta (expecteds.Bye marked) other body = refl
 
 pub hello_out_of_turn : (expected : Expected) (n : ℕ) → kind_of n ≡ Some kinds.Hello → ((side : Side) → expected ≡ expecteds.Hello side → ⊥) → IsRefusedSo expected (n ∷ []) OutOfTurn
 hello_out_of_turn expected n is other = out_of_turn expected n kinds.Hello is (no_hello expected other)
 
-pub digest_out_of_turn : (expected : Expected) (n : ℕ) → kind_of n ≡ Some kinds.Digest → ((k : ℕ) (hashed : Bool) → expected ≡ expecteds.Digest k hashed → ⊥) → IsRefusedSo expected (n ∷ []) OutOfTurn
+pub digest_out_of_turn : (expected : Expected) (n : ℕ) → kind_of n ≡ Some kinds.Digest → ((version : Version) (k : ℕ) (hashed : Bool) → expected ≡ expecteds.Digest version k hashed → ⊥) → IsRefusedSo expected (n ∷ []) OutOfTurn
 digest_out_of_turn expected n is other = out_of_turn expected n kinds.Digest is (no_digest expected other)
 
 pub delta_out_of_turn : (expected : Expected) (n : ℕ) → kind_of n ≡ Some kinds.Delta → ((format : Format) (k : ℕ) → expected ≡ expecteds.Delta format k → ⊥) → IsRefusedSo expected (n ∷ []) OutOfTurn
@@ -185,6 +186,14 @@ hash_said expected came bytes r hashed is reads =
 pub refused_said : (expected : Expected) (came : List ℕ) (e : Fault) → IsRefusedSo expected came e → Fails e (message_read expected came)
 refused_said expected came e refused = fails_so e (message_read expected came) (ap (message_read expected) (sym (append-nil came)) ∙ refused [])
 
+pub brief_said : (expected : Expected) (came bytes : List ℕ) (r : Result DigestValue Fault) (version : Version) (n : ℕ) (hashed : Bool) → length came ≤ LIMIT
+    → expected ≡ expecteds.Digest version n hashed → says_briefs version ≡ true → came ≡ number_of kinds.Digest ∷ bytes
+    → ReadsAll (brief_at n) bytes r → Reads OfDigest r (message_read expected came)
+unfolding message_read digest_in
+brief_said expected came bytes r version n hashed within turn briefs is reads =
+    let said = said_as OfDigest r (all_of (brief_at n) bytes) (reads (omega (arith, within, ap length is))) in
+    rw (turn, is, briefs) said
+
 module _ (expected : Expected) (came : List ℕ) (within : length came ≤ LIMIT) (text : ComingValue) where
   pub hello_said : (r : Result Hello Fault) (side : Side) (version : Version) (byte : ℕ) (rest : List ℕ) → expected ≡ expecteds.Hello side → came ≡ number_of kinds.Hello ∷ byte ∷ rest
       → version_with side byte ≡ Some version → text.came ≡ as_hello version rest
@@ -196,12 +205,13 @@ module _ (expected : Expected) (came : List ℕ) (within : length came ≤ LIMIT
       rw (turn, is) (ap (λ (v : Option Version). version_read v rest) spoken ∙ ap (λ (t : List ℕ). read_as (OfHello version) (all_of hello_at t)) (sym text-is)) in
       subst (Reads (OfHello version) r) (sym read) said
 
-  pub digest_said : (r : Result DigestValue Fault) (hashed : Bool) → expected ≡ expecteds.Digest text.replicas hashed → came ≡ number_of kinds.Digest ∷ text.came
+  pub digest_said : (r : Result DigestValue Fault) (version : Version) (hashed : Bool) → expected ≡ expecteds.Digest version text.replicas hashed → says_briefs version ≡ false
+      → came ≡ number_of kinds.Digest ∷ text.came
       → (length text.came ≤ LIMIT → Reads (λ v. v) r (all_of (digest_at text.replicas) text.came)) → Reads OfDigest r (message_read expected came)
   unfolding message_read digest_in
-  digest_said r hashed turn is reads =
+  digest_said r version hashed turn text-said is reads =
       let said = said_as OfDigest r (all_of (digest_at text.replicas) text.came) (reads (omega (arith, within, ap length is))) in
-      rw (turn, is) said
+      rw (turn, is, text-said) said
 
   pub delta_said : (r : Result AnswerValue Fault) → expected ≡ expecteds.Delta text.format text.replicas → came ≡ number_of kinds.Delta ∷ text.came
       → (length text.came ≤ LIMIT → Reads (λ v. v) r (all_of (answer_at_in text.format text.replicas) text.came)) → Reads OfDelta r (message_read expected came)

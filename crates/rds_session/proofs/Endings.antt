@@ -1,5 +1,5 @@
 -- How a session ends, by the marks that are told.
-use Rattle.std.proofs.Common.{◌≡◌, ◌≢◌, Bool, true, false, cond, Option, Some, None, refl, sym, ap, ◌∙◌}
+use Rattle.std.proofs.Common.{◌≡◌, ◌≢◌, Bool, true, false, cond, refl, ap}
 use mathlib.Core.Bool.{false≢true}
 use Rattle.rds_delta.proofs.LeastLaws.{compatible_sym}
 use Rattle.rds_state.specs.Fits.{ReplicaValue}
@@ -14,7 +14,7 @@ use Rattle.rds_session.specs.Marked.{same_mark}
 use Rattle.rds_session.specs.Meeting.{AgreeWhereTold, held_with, last_mark}
 use Rattle.rds_session.specs.Versions.{tells_marks}
 use Rattle.rds_session.specs.declared.version.Version.{Version}
-use Rattle.rds_session.specs.declared.version.Version.TheVariants.{One, Two, Three, Four}
+use Rattle.rds_session.specs.declared.version.Version.TheVariants.{One, Two, Three, Four, Five}
 
 -- a version has both tell a mark, or neither
 pub are_alike : (version : Version) (a b c d : ReplicaValue) → AreAlike (last_mark version a b) (last_mark version c d)
@@ -22,6 +22,7 @@ are_alike One a b c d = tt
 are_alike Two a b c d = tt
 are_alike Three a b c d = mark_is_mark (held_with c d)
 are_alike Four a b c d = mark_is_mark (held_with c d)
+are_alike Five a b c d = mark_is_mark (held_with c d)
 
 agreed : (own peer : ReplicaValue) → AreCompatible own.state.lives peer.state.lives
     → cond (same_mark (mark_of (held_with own peer)) (mark_of (held_with peer own))) Finishes Forks ≡ Finishes
@@ -34,6 +35,7 @@ ending_agreed One own peer agree = refl
 ending_agreed Two own peer agree = refl
 ending_agreed Three own peer agree = agreed own peer (agree refl)
 ending_agreed Four own peer agree = agreed own peer (agree refl)
+ending_agreed Five own peer agree = agreed own peer (agree refl)
 
 by_other : (same : Bool) → (same ≡ true → ⊥) → cond same Finishes Forks ≡ Forks
 by_other true other = absurd (other refl)
@@ -51,6 +53,7 @@ ending_forked One own peer tells other = absurd (false≢true tells)
 ending_forked Two own peer tells other = absurd (false≢true tells)
 ending_forked Three own peer tells other = forked own peer other
 ending_forked Four own peer tells other = forked own peer other
+ending_forked Five own peer tells other = forked own peer other
 
 pub agree_turned : (version : Version) (a b : ReplicaValue) → AgreeWhereTold version a b → AgreeWhereTold version b a
 agree_turned version a b agree tells =

@@ -25,3 +25,4 @@ pub mod Tellings
 pub mod Told
 pub mod Turns
 pub mod Verdicts
+pub mod Wanting

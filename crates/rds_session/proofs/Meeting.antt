@@ -1,5 +1,5 @@
 -- The whole talk of two sessions, and each beginning of it.
-use Rattle.std.proofs.Common.{◌≡◌, ◌≢◌, ◌≤◌, ℕ, ◌&&◌, Bool, true, false, cond, List, [], ◌∷◌, ◌++◌, length, Option, Some, None, Ok, refl, sym, ap, ◌∙◌, append_assoc, subst, arith, ◌⊎◌, inl, inr}
+use Rattle.std.proofs.Common.{◌≡◌, ◌≢◌, ◌≤◌, ℕ, Bool, true, false, cond, List, [], ◌∷◌, ◌++◌, length, Option, Some, None, Ok, refl, sym, ap, ◌∙◌, subst, arith, ◌⊎◌, inl, inr}
 use Rattle.std.specs.List.{AllByRecursion}
 use Rattle.std.specs.Str.{bytes_eq}
 use Rattle.std.proofs.lemmas.List.{append-nil}
@@ -11,8 +11,8 @@ use Rattle.rds_state.specs.Fits.{ReplicaValue}
 use Rattle.rds_codec.specs.DigestTexts.{digest_text}
 use Rattle.rds_codec.specs.declared.limits.TheConstants.{LIMIT}
 use Rattle.rds_delta.specs.Digested.{DigestValue, digest_of}
+use Rattle.rds_delta.proofs.Digests.{live_inside}
 use Rattle.rds_state.specs.declared.mark.Mark.{Mark}
-use Rattle.rds_session.specs.declared.chunks.TheConstants.{MESSAGE_LIMIT}
 use Rattle.rds_session.specs.declared.talk.Side.TheVariants.{Client, Server}
 use Rattle.rds_session.specs.declared.step.Ended.{Ended}
 use Rattle.rds_session.specs.declared.step.Ended.TheVariants.{Going, Done, Failed}
@@ -20,20 +20,20 @@ use Rattle.rds_session.specs.Checked.{least_state}
 use Rattle.rds_session.specs.declared.version.Version.{Version}
 use Rattle.rds_session.specs.Hashes.{digest_hash}
 use Rattle.rds_session.specs.Judging.{ForDigest, ForWhole, ForDelta, ForBye, Said, Greets, Learns, Shares, Misses, Receives, Finishes, Forks, verdict, longer_than, replies_of}
-use Rattle.rds_session.specs.Meeting.{AgreeWhereTold, IsBeginningOf, CanMeet, CollideIn, IsItsDelta, Hear, HearAll, HaveEnded, HaveReceived, IsServed, ReceiveDeltas, BothEnd, BothTellForks, ServesEach, held_with, last_mark, client_words, server_words, share_digest}
+use Rattle.rds_session.specs.Meeting.{AgreeWhereTold, IsBeginningOf, CanMeet, CollideIn, IsItsDelta, Hear, HearAll, HaveEnded, HaveReceived, IsServed, ReceiveDeltas, BothEnd, BothTellForks, ServesEach, last_mark, client_words, server_words}
 use Rattle.rds_session.specs.ByMessages.{talk}
-use Rattle.rds_session.specs.Messages.{hello_message, digest_message, digest_said, hash_message, delta_message, done_message}
+use Rattle.rds_session.specs.Messages.{hello_message, behind_message, digest_message, digest_said, hash_message, delta_message, done_message}
 use Rattle.rds_session.specs.Marked.{same_mark}
 use Rattle.rds_session.specs.Received.{Delivery}
 use Rattle.rds_session.specs.Session.{Standing, Sent, fresh, then_more, after_said, ended_after, received_after, run, opening, after_opening, So_far, course}
 use Rattle.rds_session.specs.Steps.{IsOver}
-use Rattle.rds_session.specs.Versions.{format_of, says_hashes, tells_marks}
+use Rattle.rds_session.specs.Versions.{format_of, says_hashes}
 use Rattle.rds_session.specs.Stream.{Splits}
 use Rattle.rds_session.proofs.Course.{run_follows, IsOrderly}
 use Rattle.rds_session.proofs.Plays.{Turn, Talks, IsPlay, Fits, says, texts, texts_are, opened_by, one_talks, talks_then, answers, words, client_at, server_at, beginnings, whole, client_comes, server_comes, server_talks}
 use Rattle.rds_session.proofs.Runs.{run-append}
 use Rattle.rds_session.proofs.Talking.{by_messages}
-use Rattle.rds_session.proofs.Told.{IsTold, ending, speaker, client_speaks, server_speaks, hello_accepted, digest_accepted, whole_accepted, hash_accepted, hash_fits, same_digest, delta_accepted, done_accepted, its_least}
+use Rattle.rds_session.proofs.Told.{IsTold, ending, speaker, client_speaks, server_speaks, hello_accepted, digest_accepted, whole_accepted, heard_so, behind_answer, hash_accepted, hash_first, hash_room, same_digest, delta_accepted, done_accepted, its_least}
 use Rattle.rds_session.proofs.Endings.{agree_turned, are_alike, ending_agreed, ending_forked}
 
 -- ---- texts that are compared
@@ -70,8 +70,11 @@ delivered version own peer = Receives (least_state peer.state (digest_of own.sta
 abbrev greeted : Standing → Version → ReplicaValue → ReplicaValue → Standing
 greeted s version own peer = after_said s (Greets (speaker version own peer))
 
+abbrev learnt_so : Standing → Version → ReplicaValue → ReplicaValue → DigestValue → Standing
+learnt_so s version own peer digest = record (greeted s version own peer) { turn = ForDelta (speaker version own peer) digest }
+
 abbrev learnt : Standing → Version → ReplicaValue → ReplicaValue → Standing
-learnt s version own peer = record (greeted s version own peer) { turn = ForDelta (speaker version own peer) (digest_of peer.state) }
+learnt s version own peer = learnt_so s version own peer (digest_of peer.state)
 
 abbrev told : Standing → Version → ReplicaValue → ReplicaValue → Standing
 told s version own peer = after_said (learnt s version own peer) (delivered version own peer)
@@ -159,12 +162,12 @@ module _ (version : Version) (a b : ReplicaValue) (h : CanMeet version a b) wher
       (done_accepted a (last_mark version a b) (last_mark version b a) (are_alike version a b b a))
       refl tt
 
-  server_done : Talks (learnt s0 version b a) (last_words version a b) (finished s0 version b a) (last_word version b a)
-  server_done =
+  server_done : (digest : DigestValue) → Talks (learnt_so s0 version b a digest) (last_words version a b) (finished s0 version b a) (last_word version b a)
+  server_done digest =
       let s3 = told s0 version b a in
       let said = ending (last_mark version b a) (last_mark version a b) in
-      talks_then (learnt s0 version b a) s3 (finished s0 version b a) (delta_to version a b ∷ []) (last_word version a b) [] (last_word version b a)
-      (one_talks (learnt s0 version b a) (delta_to version a b) (delivered version b a) [] refl refl h.a_room.delta (delta_accepted version b a (digest_of a.state) (server_told_by version a b h)) refl tt)
+      talks_then (learnt_so s0 version b a digest) s3 (finished s0 version b a) (delta_to version a b ∷ []) (last_word version a b) [] (last_word version b a)
+      (one_talks (learnt_so s0 version b a digest) (delta_to version a b) (delivered version b a) [] refl refl h.a_room.delta (delta_accepted version b a digest (server_told_by version a b h)) refl tt)
       (one_talks s3 (done_message (last_mark version a b)) said (last_word version b a) refl refl (done_fits (last_mark version a b))
       (done_accepted b (last_mark version b a) (last_mark version a b) (are_alike version b a a b))
       (said_last said (last_mark version b a) (ends_so (last_mark version b a) (last_mark version a b)) s3 refl refl) (done_fits (last_mark version b a), tt))
@@ -207,7 +210,7 @@ module _ (version : Version) (a b : ReplicaValue) (h : CanMeet version a b) wher
         talks_then c0 (greeted c0 version a b) (told c0 version a b) (hello_message b version ∷ []) (of_server ∷ delta_to version b a ∷ []) [] (last_words version a b)
             client_greeted
             (talks_then (greeted c0 version a b) (learnt c0 version a b) (told c0 version a b) (of_server ∷ []) (delta_to version b a ∷ []) [] (last_words version a b) client_learnt client_told),
-        (server_done, (client_done, (refl, ended_by_it Going (last_mark version a b) (last_mark version b a)))),
+        (server_done (digest_of a.state), (client_done, (refl, ended_by_it Going (last_mark version a b) (last_mark version b a)))),
       ),
     )
 
@@ -215,37 +218,38 @@ module _ (version : Version) (a b : ReplicaValue) (h : CanMeet version a b) wher
 
   abbrev twice : List Turn
   twice =
-      record { server = missed s0 version b a; answer = hello_message b version ∷ digest_message b ∷ []; client = learnt c0 version a b; words = digest_message a ∷ [] }
-      ∷ record { server = learnt s0 version b a; answer = delta_to version b a ∷ []; client = told c0 version a b; words = last_words version a b }
+      record { server = missed s0 version b a; answer = hello_message b version ∷ digest_message version b ∷ []; client = learnt c0 version a b; words = behind_message version a (digest_of b.state) ∷ [] }
+      ∷ record { server = learnt_so s0 version b a (heard_so version b.state (digest_of a.state)); answer = delta_to version b a ∷ []; client = told c0 version a b; words = last_words version a b }
       ∷ record { server = finished s0 version b a; answer = last_word version b a; client = finished c0 version a b; words = [] } ∷ []
 
   module _ (says : says_hashes version ≡ true) (other : bytes_eq (digest_hash (digest_of a.state)) (digest_hash (digest_of b.state)) ≡ false) where
-    hash_missed : Talks (greeted s0 version b a) (hash_message a ∷ []) (missed s0 version b a) (hello_message b version ∷ digest_message b ∷ [])
+    hash_missed : Talks (greeted s0 version b a) (hash_message a ∷ []) (missed s0 version b a) (hello_message b version ∷ digest_message version b ∷ [])
     hash_missed =
-        one_talks (greeted s0 version b a) (hash_message a) (Misses (speaker version b a)) (hello_message b version ∷ digest_message b ∷ [])
-        refl refl (hash_fits a h.a_room.digest) (hash_accepted version b a false says h.b_room.digest (server_told_by version a b h) other) refl (h.b_room.hello, (h.b_room.digest, tt))
+        one_talks (greeted s0 version b a) (hash_message a) (Misses (speaker version b a)) (hello_message b version ∷ digest_message version b ∷ [])
+        refl refl (hash_first version b a h.a_room says) (hash_accepted version b a false says (hash_first version a b h.b_room says) (server_told_by version a b h) other) refl (h.b_room.hello, (h.b_room.digest, tt))
 
-    digest_heard : Talks (greeted c0 version a b) (digest_message b ∷ []) (learnt c0 version a b) (digest_message a ∷ [])
+    digest_heard : Talks (greeted c0 version a b) (digest_message version b ∷ []) (learnt c0 version a b) (behind_message version a (digest_of b.state) ∷ [])
     digest_heard =
-        one_talks (greeted c0 version a b) (digest_message b) (Learns (speaker version a b) (digest_of b.state)) (digest_message a ∷ [])
+        one_talks (greeted c0 version a b) (digest_message version b) (Learns (speaker version a b) (digest_of b.state)) (behind_message version a (digest_of b.state) ∷ [])
         refl refl h.b_room.digest (digest_accepted version a b (client_told_by version a b h))
-        (ap (λ (hashed : Bool). cond hashed (digest_message a ∷ []) []) says) (h.a_room.digest, tt)
+        (ap (λ (hashed : Bool). cond hashed (behind_message version a (digest_of b.state) ∷ []) []) says) (h.a_room.behind, tt)
 
-    digest_answered : Talks (missed s0 version b a) (digest_message a ∷ []) (learnt s0 version b a) (delta_to version b a ∷ [])
+    digest_answered : Talks (missed s0 version b a) (behind_message version a (digest_of b.state) ∷ []) (learnt_so s0 version b a (heard_so version b.state (digest_of a.state))) (delta_to version b a ∷ [])
     digest_answered =
-        one_talks (missed s0 version b a) (digest_message a) (Learns (speaker version b a) (digest_of a.state)) (delta_to version b a ∷ [])
-        refl refl h.a_room.digest (whole_accepted version b a (server_told_by version a b h)) refl (h.b_room.delta, tt)
+        one_talks (missed s0 version b a) (behind_message version a (digest_of b.state)) (Learns (speaker version b a) (heard_so version b.state (digest_of a.state))) (delta_to version b a ∷ [])
+        refl refl h.a_room.behind (whole_accepted version b a (server_told_by version a b h))
+        (ap (λ (m : List ℕ). m ∷ []) (behind_answer version b (digest_of a.state) (live_inside a.state.lives) (format_of version) a.own)) (h.b_room.delta, tt)
 
     twice_played : IsPlay c0 s0 (hello_message a version ∷ hash_message a ∷ []) twice
     twice_played = (
-      talks_then s0 (greeted s0 version b a) (missed s0 version b a) (hello_message a version ∷ []) (hash_message a ∷ []) [] (hello_message b version ∷ digest_message b ∷ []) server_greeted hash_missed,
+      talks_then s0 (greeted s0 version b a) (missed s0 version b a) (hello_message a version ∷ []) (hash_message a ∷ []) [] (hello_message b version ∷ digest_message version b ∷ []) server_greeted hash_missed,
       (
-        talks_then c0 (greeted c0 version a b) (learnt c0 version a b) (hello_message b version ∷ []) (digest_message b ∷ []) [] (digest_message a ∷ []) client_greeted digest_heard,
+        talks_then c0 (greeted c0 version a b) (learnt c0 version a b) (hello_message b version ∷ []) (digest_message version b ∷ []) [] (behind_message version a (digest_of b.state) ∷ []) client_greeted digest_heard,
         (
           digest_answered,
           (
             client_told,
-            (server_done, (client_done, (refl, ended_by_it Going (last_mark version a b) (last_mark version b a)))),
+            (server_done (heard_so version b.state (digest_of a.state)), (client_done, (refl, ended_by_it Going (last_mark version a b) (last_mark version b a)))),
           ),
         ),
       ),
@@ -254,12 +258,12 @@ module _ (version : Version) (a b : ReplicaValue) (h : CanMeet version a b) wher
   -- ---- the two ways
 
   -- without hashes each says its digest whole
-  wholes : says_hashes version ≡ false → Once (digest_message a) (digest_message b) (Learns (speaker version a b) (digest_of b.state)) (Learns (speaker version b a) (digest_of a.state))
+  wholes : says_hashes version ≡ false → Once (digest_message version a) (digest_message version b) (Learns (speaker version a b) (digest_of b.state)) (Learns (speaker version b a) (digest_of a.state))
   wholes none = record {
     client_fits = h.a_room.digest;
     server_fits = h.b_room.digest;
     client_hears = digest_accepted version a b (client_told_by version a b h);
-    client_says = ap (λ (hashed : Bool). cond hashed (digest_message a ∷ []) []) none;
+    client_says = ap (λ (hashed : Bool). cond hashed (behind_message version a (digest_of b.state) ∷ []) []) none;
     client_learns = refl;
     server_hears = digest_accepted version b a (server_told_by version a b h);
     server_says = refl;
@@ -270,12 +274,12 @@ module _ (version : Version) (a b : ReplicaValue) (h : CanMeet version a b) wher
   hashes : says_hashes version ≡ true → bytes_eq (digest_hash (digest_of a.state)) (digest_hash (digest_of b.state)) ≡ true → bytes_eq (digest_hash (digest_of b.state)) (digest_hash (digest_of a.state)) ≡ true
       → digest_of a.state ≡ digest_of b.state → Once (hash_message a) (hash_message b) (Shares (speaker version a b) (digest_of a.state)) (Shares (speaker version b a) (digest_of b.state))
   hashes says same turned one = record {
-    client_fits = hash_fits a h.a_room.digest;
-    server_fits = hash_fits b h.b_room.digest;
-    client_hears = hash_accepted version a b true says h.a_room.digest (client_told_by version a b h) turned;
+    client_fits = hash_first version b a h.a_room says;
+    server_fits = hash_first version a b h.b_room says;
+    client_hears = hash_accepted version a b true says (hash_first version b a h.a_room says) (client_told_by version a b h) turned;
     client_says = refl;
     client_learns = ap (λ (g : DigestValue). record (greeted c0 version a b) { turn = ForDelta (speaker version a b) g }) one;
-    server_hears = hash_accepted version b a true says h.b_room.digest (server_told_by version a b h) same;
+    server_hears = hash_accepted version b a true says (hash_first version a b h.b_room says) (server_told_by version a b h) same;
     server_says = ap (λ (g : DigestValue). hello_message b version ∷ hash_message b ∷ delta_message b (format_of version) a.own g ∷ []) (sym one);
     server_learns = ap (λ (g : DigestValue). record (greeted s0 version b a) { turn = ForDelta (speaker version b a) g }) (sym one);
   }
@@ -295,11 +299,11 @@ record Played (version : Version) (a b : ReplicaValue) : Type 0 where
 module _ (version : Version) (a b : ReplicaValue) (h : CanMeet version a b) where
   by_wholes : says_hashes version ≡ false → Played version a b
   by_wholes none = record {
-    turns = once version a b h (digest_message b);
-    opening_is = hello_message a version ∷ digest_message a ∷ [];
-    opens = ap (λ (hashed : Bool). hello_message a version ∷ digest_said hashed a ∷ []) none;
+    turns = once version a b h (digest_message version b);
+    opening_is = hello_message a version ∷ digest_message version a ∷ [];
+    opens = ap (λ (hashed : Bool). hello_message a version ∷ digest_said hashed version a ∷ []) none;
     fit = (h.a_room.hello, (h.a_room.digest, tt));
-    play = once_played version a b h (digest_message a) (digest_message b) (Learns (speaker version a b) (digest_of b.state)) (Learns (speaker version b a) (digest_of a.state)) (wholes version a b h none);
+    play = once_played version a b h (digest_message version a) (digest_message version b) (Learns (speaker version a b) (digest_of b.state)) (Learns (speaker version b a) (digest_of a.state)) (wholes version a b h none);
     client_ends = refl;
     server_ends = refl;
     client_said = rw none refl;
@@ -311,8 +315,8 @@ module _ (version : Version) (a b : ReplicaValue) (h : CanMeet version a b) wher
   by_hashes says same turned one = record {
     turns = once version a b h (hash_message b);
     opening_is = hello_message a version ∷ hash_message a ∷ [];
-    opens = ap (λ (hashed : Bool). hello_message a version ∷ digest_said hashed a ∷ []) says;
-    fit = (h.a_room.hello, (hash_fits a h.a_room.digest, tt));
+    opens = ap (λ (hashed : Bool). hello_message a version ∷ digest_said hashed version a ∷ []) says;
+    fit = (h.a_room.hello, (hash_first version b a h.a_room says, tt));
     play = once_played version a b h (hash_message a) (hash_message b) (Shares (speaker version a b) (digest_of a.state)) (Shares (speaker version b a) (digest_of b.state)) (hashes version a b h says same turned one);
     client_ends = refl;
     server_ends = refl;
@@ -325,8 +329,8 @@ module _ (version : Version) (a b : ReplicaValue) (h : CanMeet version a b) wher
   by_both says other turned = record {
     turns = twice version a b h;
     opening_is = hello_message a version ∷ hash_message a ∷ [];
-    opens = ap (λ (hashed : Bool). hello_message a version ∷ digest_said hashed a ∷ []) says;
-    fit = (h.a_room.hello, (hash_fits a h.a_room.digest, tt));
+    opens = ap (λ (hashed : Bool). hello_message a version ∷ digest_said hashed version a ∷ []) says;
+    fit = (h.a_room.hello, (hash_first version b a h.a_room says, tt));
     play = twice_played version a b h says other;
     client_ends = refl;
     server_ends = refl;
@@ -342,7 +346,7 @@ module _ (version : Version) (a b : ReplicaValue) (h : CanMeet version a b) wher
   by_equal : says_hashes version ≡ true → bytes_eq (digest_hash (digest_of a.state)) (digest_hash (digest_of b.state)) ≡ true → (one : Bool)
       → bytes_eq (digest_text (digest_of a.state)) (digest_text (digest_of b.state)) ≡ one → Played version a b ⊎ CollideIn version a b
   by_equal says same true is =
-      let room : length (digest_text (digest_of b.state)) ≤ LIMIT = omega (arith, h.b_room.digest) in
+      let room : length (digest_text (digest_of b.state)) ≤ LIMIT = hash_room b (hash_first version a b h.b_room says) in
       let one = same_digest version b a (server_told_by version a b h) room (eq_bytes (digest_text (digest_of a.state)) (digest_text (digest_of b.state)) is) in
       inl (by_hashes says same (hash_turned same) one)
   by_equal says same false is = inr (record {

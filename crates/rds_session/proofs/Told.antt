@@ -1,6 +1,6 @@
 -- What one replica tells another is accepted, message by message.
-use Rattle.std.proofs.Common.{◌≡◌, ℕ, ◌≤◌, Bool, true, false, ◌&&◌, cond, eqb, ltb, List, [], ◌∷◌, length, Option, Some, None, Result, Ok, Err, refl, sym, ap, ◌∙◌, arith}
-use Rattle.std.proofs.lemmas.Bool.{ne_eqb, eq-eqb, le-ltb}
+use Rattle.std.proofs.Common.{◌≡◌, ℕ, ◌≤◌, Bool, true, false, cond, eqb, ltb, List, [], ◌∷◌, length, Option, Some, None, Result, Ok, Err, refl, sym, ap, ◌∙◌, subst, arith}
+use Rattle.std.proofs.lemmas.Bool.{ne_eqb, eq-eqb, le-ltb, ltb-false}
 use Rattle.std.proofs.lemmas.List.{append-nil}
 use Rattle.std.specs.Str.{bytes_eq}
 use Rattle.sha2.specs.Sha256.{sha256}
@@ -12,7 +12,10 @@ use Rattle.rds_codec.specs.CertificateTexts.{IsReplicaOf}
 use Rattle.rds_state.specs.Fits.{ReplicaValue}
 use Rattle.rds_names.specs.Roster.{OneBegins}
 use Rattle.rds_state.specs.Value.{StateValue, coordinates}
-use Rattle.rds_delta.specs.Digested.{DigestValue, digest_of}
+use Rattle.rds_delta.specs.Digested.{DigestValue, IsInside, digest_of}
+use Rattle.rds_briefs.specs.Briefs.{brief_kind, brief_text}
+use Rattle.rds_briefs.specs.ReadBriefs.{brief_at}
+use Rattle.rds_briefs.proofs.AsRead.{brief_reader}
 use Rattle.rds_codec.specs.AnswerTexts.{answer}
 use Rattle.rds_codec.specs.AnswerValues.{AnswerValue}
 use Rattle.rds_codec.specs.DigestTexts.{digest_at, digest_text, digest_kind}
@@ -36,18 +39,19 @@ use Rattle.rds_codec.proofs.Whole.{IsReaderOf}
 use Rattle.rds_session.specs.Bodies.{hello_in, digest_in, answer_in}
 use Rattle.rds_session.specs.Checked.{certificate_of, least_state}
 use Rattle.rds_session.specs.declared.version.Version.{Version}
-use Rattle.rds_session.specs.declared.version.Version.TheVariants.{One, Two, Three, Four}
+use Rattle.rds_session.specs.declared.version.Version.TheVariants.{One, Two, Three, Four, Five}
 use Rattle.rds_session.specs.Judging.{ForHello, ForDigest, ForWhole, ForDelta, ForBye, Said, Greets, Learns, Shares, Misses, Receives, Finishes, Forks, verdict, hash_judged, read_then, version_with, version_came, member_judged, delta_judged, mark_judged, longer_than}
 use Rattle.rds_session.specs.declared.chunks.TheConstants.{MESSAGE_LIMIT}
 use Rattle.rds_session.specs.declared.kinds.MessageKind.TheVariants as kinds
-use Rattle.rds_session.specs.declared.talk.Stop.{Stop}
 use Rattle.rds_session.specs.declared.talk.Stop.TheVariants.{Refused}
 use Rattle.rds_session.specs.Hashes.{digest_hash, hash_in}
-use Rattle.rds_session.specs.Marked.{mark_bytes, mark_in, same_mark, told_mark}
-use Rattle.rds_session.specs.Versions.{as_hello, format_of, says_hashes, version_byte}
+use Rattle.rds_session.specs.Marked.{same_mark}
+use Rattle.rds_session.specs.Wants.{heard_behind, said_behind, wanted_by, wants_of}
+use Rattle.rds_codec.specs.declared.formats.Format.{Format}
+use Rattle.rds_session.specs.Versions.{as_hello, format_of, says_briefs, says_hashes, version_byte}
 use Rattle.rds_session.proofs.MarkTexts.{IsMark, mark_again}
 use Rattle.rds_session.specs.Meeting.{HasRoom, IsItsLeast, last_mark}
-use Rattle.rds_session.specs.Messages.{hello_message, digest_message, hash_message, delta_message, done_message, number_of}
+use Rattle.rds_session.specs.Messages.{hello_message, behind_message, digest_body, digest_message, digest_said, hash_message, delta_message, done_message, number_of}
 use Rattle.rds_session.specs.Received.{Delivery}
 use Rattle.rds_session.specs.declared.talk.Peer.{Peer}
 use Rattle.rds_session.specs.declared.talk.Side.{Side}
@@ -55,6 +59,7 @@ use Rattle.rds_session.specs.declared.talk.Side.TheVariants.{Client, Server}
 use Rattle.rds_session.proofs.Checks.{least_coordinates, least_passes}
 use Rattle.rds_session.proofs.Rosters.{among, both_within, group_is, one_begins_is}
 use Rattle.rds_session.proofs.Tellings.{digest_is, answer_is}
+use Rattle.rds_session.proofs.Wanting.{answer_same, wants_is}
 
 -- one hears what the other tells in a version
 pub record IsTold (version : Version) (k from : ReplicaValue) : Type 0 where
@@ -81,6 +86,7 @@ version_is One = refl
 version_is Two = refl
 version_is Three = refl
 version_is Four = refl
+version_is Five = refl
 
 hello_again : (from : ReplicaValue) (version : Version) → IsSnapshot from → length (hello_text (hello_of from version)) ≤ LIMIT → hello_in (hello_text (hello_of from version)) ≡ Ok (hello_of from version)
 unfolding hello_in hello_of
@@ -108,12 +114,14 @@ server_speaks One = refl
 server_speaks Two = refl
 server_speaks Three = refl
 server_speaks Four = refl
+server_speaks Five = refl
 
 pub client_speaks : (version : Version) → version_with (Client version) (version_byte version) ≡ Some version
 client_speaks One = refl
 client_speaks Two = refl
 client_speaks Three = refl
 client_speaks Four = refl
+client_speaks Five = refl
 
 -- ---- the longer roster
 
@@ -133,27 +141,71 @@ own_is k from h =
 
 -- ---- DIGEST
 
-digest_again : (n : ℕ) (v : StateValue) → IsStateOf n v → length (digest_text (digest_of v)) ≤ LIMIT → digest_in n (digest_text (digest_of v)) ≡ Ok (digest_of v)
+text_again : (n : ℕ) (v : StateValue) → IsStateOf n v → length (digest_text (digest_of v)) ≤ LIMIT → all_of (digest_at n) (digest_text (digest_of v)) ≡ Ok (digest_of v)
+text_again n v is within = read_whole (digest_kind n) (digest_at n) (digest_reader n) (digest_of v) (digest_is n v is) within
+
+brief_again : (n : ℕ) (v : StateValue) → IsStateOf n v → length (brief_text (digest_of v)) ≤ LIMIT → all_of (brief_at n) (brief_text (digest_of v)) ≡ Ok (digest_of v)
+brief_again n v is within = read_whole (brief_kind n) (brief_at n) (brief_reader n) (digest_of v) (digest_is n v is) within
+
+abbrev said_so : Bool → DigestValue → List ℕ
+said_so briefs g = cond briefs (brief_text g) (digest_text g)
+
+said_again : (briefs : Bool) (n : ℕ) (v : StateValue) → IsStateOf n v → length (said_so briefs (digest_of v)) ≤ LIMIT
+    → cond briefs (all_of (brief_at n) (said_so briefs (digest_of v))) (all_of (digest_at n) (said_so briefs (digest_of v))) ≡ Ok (digest_of v)
+said_again true n v is within = brief_again n v is within
+said_again false n v is within = text_again n v is within
+
+digest_again : (version : Version) (n : ℕ) (v : StateValue) → IsStateOf n v → length (digest_body version (digest_of v)) ≤ LIMIT
+    → digest_in version n (digest_body version (digest_of v)) ≡ Ok (digest_of v)
 unfolding digest_in
-digest_again n v is within = read_whole (digest_kind n) (digest_at n) (digest_reader n) (digest_of v) (digest_is n v is) within
+digest_again version n v is within = said_again (says_briefs version) n v is within
 
 digest_read : (version : Version) (k from : ReplicaValue) → IsTold version k from
-    → read_then (digest_in (among k from) (digest_text (digest_of from.state))) (λ digest. Ok (Learns (speaker version k from) digest))
+    → read_then (digest_in version (among k from) (digest_body version (digest_of from.state))) (λ digest. Ok (Learns (speaker version k from) digest))
     ≡ Ok (Learns (speaker version k from) (digest_of from.state))
 digest_read version k from t =
     ap (λ (r : Result DigestValue Fault). read_then r (λ digest. Ok (Learns (speaker version k from) digest)))
-    (digest_again (among k from) from.state (told_state version k from t) (omega (arith, t.room.digest)))
+    (digest_again version (among k from) from.state (told_state version k from t) (omega (arith, t.room.digest)))
 
 pub digest_accepted : (version : Version) (k from : ReplicaValue) → IsTold version k from
-    → verdict k (ForDigest (speaker version k from)) (digest_message from) ≡ Ok (Learns (speaker version k from) (digest_of from.state))
+    → verdict k (ForDigest (speaker version k from)) (digest_message version from) ≡ Ok (Learns (speaker version k from) (digest_of from.state))
 unfolding verdict
 digest_accepted version k from t = digest_read version k from t
 
--- the same behind a hash that wasn't the own one
+-- the same behind a hash that wasn't the own one: what is heard is taken for this
+abbrev pub heard_so : Version → StateValue → DigestValue → DigestValue
+heard_so version v g = heard_behind version (digest_of v) (said_behind version g (digest_of v))
+
+behind_again_by : (briefs : Bool) (n : ℕ) (v w : StateValue) → IsStateOf n v → IsStateOf n w
+    → (let said = cond briefs (wants_of (digest_of w) (digest_of v)) (digest_of w) in
+    length (said_so briefs said) ≤ LIMIT → cond briefs (all_of (brief_at n) (said_so briefs said)) (all_of (digest_at n) (said_so briefs said)) ≡ Ok said)
+behind_again_by true n v w is-v is-w within =
+    read_whole (brief_kind n) (brief_at n) (brief_reader n) (wants_of (digest_of w) (digest_of v)) (wants_is v (digest_of w) n (digest_is n w is-w) (digest_is n v is-v).dots) within
+behind_again_by false n v w is-v is-w within = text_again n w is-w within
+
+behind_again : (version : Version) (n : ℕ) (v w : StateValue) → IsStateOf n v → IsStateOf n w → length (digest_body version (said_behind version (digest_of w) (digest_of v))) ≤ LIMIT
+    → digest_in version n (digest_body version (said_behind version (digest_of w) (digest_of v))) ≡ Ok (said_behind version (digest_of w) (digest_of v))
+unfolding digest_in
+behind_again version n v w is-v is-w within = behind_again_by (says_briefs version) n v w is-v is-w within
+
 pub whole_accepted : (version : Version) (k from : ReplicaValue) → IsTold version k from
-    → verdict k (ForWhole (speaker version k from)) (digest_message from) ≡ Ok (Learns (speaker version k from) (digest_of from.state))
+    → verdict k (ForWhole (speaker version k from)) (behind_message version from (digest_of k.state)) ≡ Ok (Learns (speaker version k from) (heard_so version k.state (digest_of from.state)))
 unfolding verdict
-whole_accepted version k from t = digest_read version k from t
+whole_accepted version k from t =
+    ap (λ (r : Result DigestValue Fault). read_then r (λ digest. Ok (Learns (speaker version k from) (heard_behind version (digest_of k.state) digest))))
+    (behind_again version (among k from) k.state from.state (own_state version k from t) (told_state version k from t) (omega (arith, t.room.behind)))
+
+-- and answered as if all of it had been said
+behind_answer_by : (briefs : Bool) (v : StateValue) (g : DigestValue) → IsInside g.live g.seen → (format : Format) (asker : ℕ)
+    → (let heard = cond briefs (wanted_by (digest_of v) (cond briefs (wants_of g (digest_of v)) g)) (cond briefs (wants_of g (digest_of v)) g) in
+    answer asker (least_state v heard) (certificate_of heard (least_state v heard)) ≡ answer asker (least_state v g) (certificate_of g (least_state v g)))
+behind_answer_by true v g inside format asker = answer_same v g inside asker
+behind_answer_by false v g inside format asker = refl
+
+pub behind_answer : (version : Version) (k : ReplicaValue) (g : DigestValue) → IsInside g.live g.seen → (format : Format) (asker : ℕ)
+    → delta_message k format asker (heard_so version k.state g) ≡ delta_message k format asker g
+behind_answer version k g inside format asker =
+    ap (λ (a : AnswerValue). number_of kinds.Delta ∷ answer_text_in format a) (behind_answer_by (says_briefs version) k.state g inside format asker)
 
 ok_same : {A : Type 0} (r : Result A Fault) (x y : A) → r ≡ Ok x → r ≡ Ok y → x ≡ y
 ok_same r x y first second = let same = sym first ∙ second in cc
@@ -163,18 +215,29 @@ pub same_digest : (version : Version) (k from : ReplicaValue) → IsTold version
     → digest_text (digest_of from.state) ≡ digest_text (digest_of k.state) → digest_of from.state ≡ digest_of k.state
 same_digest version k from t within same =
     let n = among k from in
-    let first = digest_again n from.state (told_state version k from t) (omega (arith, t.room.digest)) in
-    let second = digest_again n k.state (own_state version k from t) within in
-    ok_same (digest_in n (digest_text (digest_of from.state))) (digest_of from.state) (digest_of k.state) first (ap (digest_in n) same ∙ second)
+    let first = text_again n from.state (told_state version k from t) (subst (λ (x : List ℕ). length x ≤ LIMIT) (sym same) within) in
+    let second = text_again n k.state (own_state version k from t) within in
+    ok_same (all_of (digest_at n) (digest_text (digest_of from.state))) (digest_of from.state) (digest_of k.state) first (ap (all_of (digest_at n)) same ∙ second)
 
 -- ---- HASH
 
--- a digest that can be said whole can be said by its hash
-pub hash_is : (k : ReplicaValue) → length (digest_message k) ≤ MESSAGE_LIMIT → hash_message k ≡ number_of kinds.Hash ∷ digest_hash (digest_of k.state)
-hash_is k room = let short : ltb LIMIT (length (digest_text (digest_of k.state))) ≡ false = le-ltb _ _ (omega (arith, room)) in rw short refl
+-- where hashes are said, what is said first is one
+pub hash_first : (version : Version) (k from : ReplicaValue) → HasRoom version from k → says_hashes version ≡ true → length (hash_message from) ≤ MESSAGE_LIMIT
+hash_first version k from room says = subst (λ (hashed : Bool). length (digest_said hashed version from) ≤ MESSAGE_LIMIT) says room.first
 
-pub hash_fits : (k : ReplicaValue) → length (digest_message k) ≤ MESSAGE_LIMIT → length (hash_message k) ≤ MESSAGE_LIMIT
-hash_fits k room = rw (hash_is k room) (omega (arith, length-sha256 (digest_text (digest_of k.state))))
+-- what is within the limit then is a hash, of a text that is
+text_room : (text hash : List ℕ) (long : Bool) → ltb LIMIT (length text) ≡ long → length (cond long (number_of kinds.Digest ∷ text) (number_of kinds.Hash ∷ hash)) ≤ MESSAGE_LIMIT
+    → length text ≤ LIMIT
+text_room text hash true is room = omega (arith, room)
+text_room text hash false is room = ltb-false _ _ is
+
+pub hash_room : (k : ReplicaValue) → length (hash_message k) ≤ MESSAGE_LIMIT → length (digest_text (digest_of k.state)) ≤ LIMIT
+hash_room k room =
+    let text = digest_text (digest_of k.state) in
+    text_room text (digest_hash (digest_of k.state)) (ltb LIMIT (length text)) refl room
+
+hash_is : (k : ReplicaValue) → length (hash_message k) ≤ MESSAGE_LIMIT → hash_message k ≡ number_of kinds.Hash ∷ digest_hash (digest_of k.state)
+hash_is k room = let short : ltb LIMIT (length (digest_text (digest_of k.state))) ≡ false = le-ltb _ _ (hash_room k room) in rw short refl
 
 hash_again : (m : List ℕ) → hash_in (sha256 m) ≡ Ok (sha256 m)
 hash_again m =
@@ -184,15 +247,15 @@ hash_again m =
     rw (not_short, not_long) refl
 
 -- it is compared with that of the own digest
-pub hash_accepted : (version : Version) (k from : ReplicaValue) (same : Bool) → says_hashes version ≡ true → length (digest_message k) ≤ MESSAGE_LIMIT → IsTold version k from
+pub hash_accepted : (version : Version) (k from : ReplicaValue) (same : Bool) → says_hashes version ≡ true → length (hash_message k) ≤ MESSAGE_LIMIT → IsTold version k from
     → bytes_eq (digest_hash (digest_of from.state)) (digest_hash (digest_of k.state)) ≡ same
     → verdict k (ForDigest (speaker version k from)) (hash_message from) ≡ Ok (cond same (Shares (speaker version k from) (digest_of k.state)) (Misses (speaker version k from)))
 unfolding verdict
 hash_accepted version k from same says room t is =
     let peer = speaker version k from in
     let hash = digest_hash (digest_of from.state) in
-    let short : ltb LIMIT (length (digest_text (digest_of k.state))) ≡ false = le-ltb _ _ (omega (arith, room)) in
-    ap (verdict k (ForDigest peer)) (hash_is from t.room.digest)
+    let short : ltb LIMIT (length (digest_text (digest_of k.state))) ≡ false = le-ltb _ _ (hash_room k room) in
+    ap (verdict k (ForDigest peer)) (hash_is from (hash_first version k from t.room says))
     ∙ ap (λ (hashed : Bool). cond hashed (read_then (hash_in hash) (hash_judged k (ForDigest peer))) (Err (Refused Bad))) says
     ∙ ap (λ (r : Result (List ℕ) Fault). read_then r (hash_judged k (ForDigest peer))) (hash_again (digest_text (digest_of from.state)))
     ∙ rw (short, is) refl

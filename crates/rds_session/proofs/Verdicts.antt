@@ -5,6 +5,9 @@ use Rattle.rds_names.specs.declared.fault.Fault.{Fault}
 use Rattle.rds_names.specs.declared.fault.Fault.TheVariants.{Memory, Cut, Bad, Extra, TooLong, OutOfTurn, WrongVersion}
 use Rattle.rds_state.specs.Fits.{ReplicaValue}
 use Rattle.rds_bytes.specs.Reading.{Reader, Fails}
+use Rattle.rds_briefs.specs.Briefs.{brief_kind}
+use Rattle.rds_briefs.specs.ReadBriefs.{brief_at}
+use Rattle.rds_briefs.proofs.AsRead.{brief_reader}
 use Rattle.rds_codec.specs.AnswerTexts.{IsAnswerOf}
 use Rattle.rds_codec.specs.AnswerValues.{AnswerValue}
 use Rattle.rds_codec.specs.Decoding.{all_of}
@@ -27,9 +30,9 @@ use Rattle.rds_session.specs.Judging.{Awaited, ForHello, ForDigest, ForWhole, Fo
 use Rattle.rds_session.specs.Hashes.{hash_in}
 use Rattle.rds_session.specs.Marked.{mark_in}
 use Rattle.rds_session.specs.Messages.{bye_of, kind_of}
-use Rattle.rds_session.specs.Versions.{as_hello, format_of}
+use Rattle.rds_session.specs.Versions.{as_hello, format_of, says_briefs}
 use Rattle.rds_session.specs.declared.version.Version.{Version}
-use Rattle.rds_session.specs.declared.version.Version.TheVariants.{One, Two, Three, Four}
+use Rattle.rds_session.specs.declared.version.Version.TheVariants.{One, Two, Three, Four, Five}
 use Rattle.rds_state.specs.declared.mark.Mark.{Mark}
 use Rattle.rds_session.specs.declared.content.Expected.{Expected}
 use Rattle.rds_session.specs.declared.content.Expected.TheVariants as expecteds
@@ -107,8 +110,8 @@ body_is kept kinds.Hello (ForWhole peer) body = refl
 body_is kept kinds.Hello (ForDelta peer digest) body = refl
 body_is kept kinds.Hello (ForBye mark) body = refl
 body_is kept kinds.Digest (ForHello side) body = refl
-body_is kept kinds.Digest (ForDigest peer) body = as_is OfDigest (digest_in (replicas_of kept peer.roster) body) (content_judged kept (ForDigest peer))
-body_is kept kinds.Digest (ForWhole peer) body = as_is OfDigest (digest_in (replicas_of kept peer.roster) body) (content_judged kept (ForWhole peer))
+body_is kept kinds.Digest (ForDigest peer) body = as_is OfDigest (digest_in peer.version (replicas_of kept peer.roster) body) (content_judged kept (ForDigest peer))
+body_is kept kinds.Digest (ForWhole peer) body = as_is OfDigest (digest_in peer.version (replicas_of kept peer.roster) body) (content_judged kept (ForWhole peer))
 body_is kept kinds.Digest (ForDelta peer digest) body = refl
 body_is kept kinds.Digest (ForBye mark) body = refl
 body_is kept kinds.Delta (ForHello side) body = refl
@@ -197,6 +200,7 @@ hello_bytes One byte rest are zero = omega arith
 hello_bytes Two byte rest are zero = omega arith
 hello_bytes Three byte rest are zero = omega arith
 hello_bytes Four byte rest are zero = omega arith
+hello_bytes Five byte rest are zero = omega arith
 hello_bytes version byte rest are (suc i) = are (suc i)
 
 version_known : (version : Option Version) (rest : List ℕ) → ((v : Version) → AreBytes (as_hello v rest)) → length rest < LIMIT → IsKnown (version_read version rest)
@@ -211,9 +215,13 @@ hello_known side [] are within = tt
 hello_known side (byte ∷ rest) are within = version_known (version_with side byte) rest (λ v. hello_bytes v byte rest are) (omega (arith, within))
 
 module _ (body : List ℕ) (are : AreBytes body) (within : length body ≤ LIMIT) where
-  digest_known : (n : ℕ) → IsKnown (read_as OfDigest (digest_in n body))
+  whole_known : (n : ℕ) (briefs : Bool) → IsKnown (cond briefs (all_of (brief_at n) body) (all_of (digest_at n) body))
+  whole_known n true = text_known (brief_kind n) (brief_at n) (brief_reader n) body are within (all_of (brief_at n) body) refl
+  whole_known n false = text_known (digest_kind n) (digest_at n) (digest_reader n) body are within (all_of (digest_at n) body) refl
+
+  digest_known : (version : Version) (n : ℕ) → IsKnown (read_as OfDigest (digest_in version n body))
   unfolding digest_in
-  digest_known n = as_known OfDigest (digest_in n body) (text_known (digest_kind n) (digest_at n) (digest_reader n) body are within (digest_in n body) refl)
+  digest_known version n = as_known OfDigest (digest_in version n body) (whole_known n (says_briefs version))
 
   delta_known : (format : Format) (n : ℕ) → IsKnown (read_as OfDelta (answer_in format n body))
   unfolding answer_in
@@ -224,15 +232,15 @@ module _ (body : List ℕ) (are : AreBytes body) (within : length body ≤ LIMIT
   body_known expected kinds.Bye = bye_known (expects_mark expected) body
   body_known expected kinds.Hash = hash_known (expects_hash expected) body
   body_known (expecteds.Hello side) kinds.Hello = hello_known side body are within
-  body_known (expecteds.Digest n hashed) kinds.Hello = tt
+  body_known (expecteds.Digest version n hashed) kinds.Hello = tt
   body_known (expecteds.Delta format n) kinds.Hello = tt
   body_known (expecteds.Bye marked) kinds.Hello = tt
   body_known (expecteds.Hello side) kinds.Digest = tt
-  body_known (expecteds.Digest n hashed) kinds.Digest = digest_known n
+  body_known (expecteds.Digest version n hashed) kinds.Digest = digest_known version n
   body_known (expecteds.Delta format n) kinds.Digest = tt
   body_known (expecteds.Bye marked) kinds.Digest = tt
   body_known (expecteds.Hello side) kinds.Delta = tt
-  body_known (expecteds.Digest n hashed) kinds.Delta = tt
+  body_known (expecteds.Digest version n hashed) kinds.Delta = tt
   body_known (expecteds.Delta format n) kinds.Delta = delta_known format n
   body_known (expecteds.Bye marked) kinds.Delta = tt
 

@@ -7,10 +7,11 @@ use Rattle.rds_session.specs.declared.kinds.MessageKind.TheVariants as kinds
 use Rattle.rds_session.specs.declared.message.Body.{Body}
 use Rattle.rds_session.specs.declared.message.Body.TheVariants as bodies
 use Rattle.rds_session.specs.declared.talk.Side.{Side}
+use Rattle.rds_session.specs.declared.version.Version.{Version}
 use Rattle.rds_session.specs.Contents.{expects_hash, expects_mark, message_read}
 use Rattle.rds_session.specs.Judging.{is_done, version_with}
 use Rattle.rds_session.specs.Messages.{bye_of, number_of}
-use Rattle.rds_session.specs.Versions.{as_hello}
+use Rattle.rds_session.specs.Versions.{as_hello, says_briefs}
 
 -- the message that is waited for, and the bytes that came in its place
 pub record MessageValue : Type 0 where
@@ -24,7 +25,11 @@ HoldsBody expected (bodies.Hello version text) came =
     × (byte : ℕ) × (rest : List ℕ) × (came ≡ number_of kinds.Hello ∷ byte ∷ rest)
     × (version_with side byte ≡ Some version) × (text.came ≡ as_hello version rest)
 HoldsBody expected (bodies.Digest text) came =
-    (hashed : Bool) × (expected ≡ expecteds.Digest text.replicas hashed) × (came ≡ number_of kinds.Digest ∷ text.came)
+    (version : Version) × (hashed : Bool) × (expected ≡ expecteds.Digest version text.replicas hashed)
+    × (says_briefs version ≡ false) × (came ≡ number_of kinds.Digest ∷ text.came)
+HoldsBody expected (bodies.Brief replicas bytes) came =
+    (version : Version) × (hashed : Bool) × (expected ≡ expecteds.Digest version replicas hashed)
+    × (says_briefs version ≡ true) × (came ≡ number_of kinds.Digest ∷ bytes.items)
 HoldsBody expected (bodies.Hash bytes) came = (expects_hash expected ≡ true) × (came ≡ number_of kinds.Hash ∷ bytes.items)
 HoldsBody expected (bodies.Delta text) came =
     (expected ≡ expecteds.Delta text.format text.replicas) × (came ≡ number_of kinds.Delta ∷ text.came)

@@ -4,7 +4,7 @@ use Rattle.rds_names.specs.declared.fault.Fault.{Fault}
 use Rattle.rds_names.specs.declared.fault.Fault.TheVariants.{Cut, Bad, Extra, WrongVersion, OutOfTurn}
 use Rattle.rds_state.specs.Fits.{ReplicaValue}
 use Rattle.rds_state.specs.declared.mark.Mark.{Mark}
-use Rattle.rds_delta.specs.Digested.{DigestValue}
+use Rattle.rds_delta.specs.Digested.{DigestValue, digest_of}
 use Rattle.rds_codec.specs.AnswerTexts.{IsAnswerOf}
 use Rattle.rds_codec.specs.AnswerValues.{AnswerValue}
 use Rattle.rds_codec.specs.declared.formats.Format.{Format}
@@ -25,6 +25,7 @@ use Rattle.rds_session.specs.Judging.{Awaited, ForHello, ForDigest, ForWhole, Fo
 use Rattle.rds_session.specs.Hashes.{hash_in}
 use Rattle.rds_session.specs.Marked.{mark_in}
 use Rattle.rds_session.specs.Versions.{as_hello, format_of, says_hashes}
+use Rattle.rds_session.specs.Wants.{heard_behind}
 use Rattle.rds_session.specs.Messages.{kind_of, bye_of}
 
 pub data ContentValue : Type 0 where
@@ -46,8 +47,8 @@ content_value (contents.Mark mark) = OfMark mark
 -- the message that is waited for, of the replicas of the longer roster and in the peer's format
 abbrev pub expected_of : ReplicaValue → Awaited → Expected
 expected_of kept (ForHello side) = expecteds.Hello side
-expected_of kept (ForDigest peer) = expecteds.Digest (replicas_of kept peer.roster) (says_hashes peer.version)
-expected_of kept (ForWhole peer) = expecteds.Digest (replicas_of kept peer.roster) false
+expected_of kept (ForDigest peer) = expecteds.Digest peer.version (replicas_of kept peer.roster) (says_hashes peer.version)
+expected_of kept (ForWhole peer) = expecteds.Digest peer.version (replicas_of kept peer.roster) false
 expected_of kept (ForDelta peer digest) = expecteds.Delta (format_of peer.version) (replicas_of kept peer.roster)
 expected_of kept (ForBye mark) = expecteds.Bye (is_some mark)
 
@@ -84,7 +85,7 @@ bye_read marked (b ∷ rest) = code_read marked (bye_of b) rest
 
 -- whether a HASH is waited for
 abbrev pub expects_hash : Expected → Bool
-expects_hash (expecteds.Digest replicas hashed) = hashed
+expects_hash (expecteds.Digest version replicas hashed) = hashed
 expects_hash expected = false
 
 abbrev pub hash_read : Bool → List ℕ → Result ContentValue Fault
@@ -95,7 +96,7 @@ abbrev pub body_read : Expected → MessageKind → List ℕ → Result ContentV
 body_read expected kinds.Bye body = bye_read (expects_mark expected) body
 body_read (expecteds.Hello side) kinds.Hello body = hello_read side body
 body_read expected kinds.Hash body = hash_read (expects_hash expected) body
-body_read (expecteds.Digest replicas hashed) kinds.Digest body = read_as OfDigest (digest_in replicas body)
+body_read (expecteds.Digest version replicas hashed) kinds.Digest body = read_as OfDigest (digest_in version replicas body)
 body_read (expecteds.Delta format replicas) kinds.Delta body = read_as OfDelta (answer_in format replicas body)
 body_read expected kind body = Err OutOfTurn
 
@@ -116,7 +117,7 @@ content_judged kept turn (OfMark mark) = mark_judged turn mark
 content_judged kept (ForHello side) (OfHello version hello) = member_judged kept version hello
 content_judged kept turn (OfHash hash) = hash_judged kept turn hash
 content_judged kept (ForDigest peer) (OfDigest digest) = Ok (Learns peer digest)
-content_judged kept (ForWhole peer) (OfDigest digest) = Ok (Learns peer digest)
+content_judged kept (ForWhole peer) (OfDigest digest) = Ok (Learns peer (heard_behind peer.version (digest_of kept.state) digest))
 content_judged kept (ForDelta peer digest) (OfDelta answer) = delta_judged kept peer answer
 content_judged kept turn content = Err (Refused OutOfTurn)
 

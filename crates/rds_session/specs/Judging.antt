@@ -31,12 +31,13 @@ use Rattle.rds_session.specs.Bodies.{hello_in, digest_in, answer_in}
 use Rattle.rds_session.specs.Checked.{passes}
 use Rattle.rds_session.specs.Hashes.{digest_hash, hash_in}
 use Rattle.rds_session.specs.Marked.{mark_in, same_mark, told_mark}
-use Rattle.rds_session.specs.Messages.{kind_of, bye_of, hello_message, digest_message, digest_said, delta_message, done_message, fault_of}
+use Rattle.rds_session.specs.Messages.{kind_of, bye_of, hello_message, behind_message, digest_message, digest_said, delta_message, done_message, fault_of}
+use Rattle.rds_session.specs.Wants.{heard_behind}
 use Rattle.rds_session.specs.Versions.{as_hello, format_of, says_hashes, version_byte, version_said}
 
 -- the message that is waited for: a HELLO to this side, or another with what the earlier ones said, who the peer is and
 -- its digest, and where marks are told the own one. A digest is waited for by its hash, where the version has them, or
--- whole; or whole alone, where its hash wasn't that of the own one
+-- whole; or as it is said behind the own one, where its hash wasn't that
 pub data Awaited : Type 0 where
   ForHello : (side : Side) → Awaited
   ForDigest : (peer : Peer) → Awaited
@@ -162,7 +163,13 @@ abbrev pub replicas_of : ReplicaValue → Option RosterValue → ℕ
 replicas_of kept longer = length (roster_among kept.roster longer).names
 
 abbrev pub digest_came : ReplicaValue → Peer → List ℕ → Result Said Stop
-digest_came kept peer body = read_then (digest_in (replicas_of kept peer.roster) body) (λ digest. Ok (Learns peer digest))
+digest_came kept peer body = read_then (digest_in peer.version (replicas_of kept peer.roster) body) (λ digest. Ok (Learns peer digest))
+
+-- the same behind a hash that wasn't the own one: the peer has the own digest
+abbrev pub whole_came : ReplicaValue → Peer → List ℕ → Result Said Stop
+whole_came kept peer body =
+    read_then (digest_in peer.version (replicas_of kept peer.roster) body)
+    (λ digest. Ok (Learns peer (heard_behind peer.version (digest_of kept.state) digest)))
 
 -- whether the peer has the own digest, by its hash
 abbrev pub hash_said : ReplicaValue → Peer → List ℕ → Said
@@ -204,7 +211,7 @@ body_came kept kinds.Bye turn body = bye_came turn body
 body_came kept kinds.Hello (ForHello side) body = hello_came side kept body
 body_came kept kinds.Hash turn body = hash_came kept turn body
 body_came kept kinds.Digest (ForDigest peer) body = digest_came kept peer body
-body_came kept kinds.Digest (ForWhole peer) body = digest_came kept peer body
+body_came kept kinds.Digest (ForWhole peer) body = whole_came kept peer body
 body_came kept kinds.Delta (ForDelta peer digest) body = delta_came kept peer body
 body_came kept kind turn body = Err (Refused OutOfTurn)
 
@@ -233,19 +240,19 @@ turn_after turn Forks = turn
 -- who speaks, what is kept here, by a hash or whole, and what the digest lacks of that
 abbrev pub answers_digest : Bool → ReplicaValue → Peer → DigestValue → List (List ℕ)
 answers_digest hashed kept peer digest =
-    hello_message kept peer.version ∷ digest_said hashed kept
+    hello_message kept peer.version ∷ digest_said hashed peer.version kept
     ∷ delta_message kept (format_of peer.version) peer.number digest ∷ []
 
 -- the messages that answer it, in the peer's version
 abbrev pub replies_of : Side → ReplicaValue → Awaited → Said → List (List ℕ)
 replies_of Server kept (ForDigest asked) (Learns peer digest) = answers_digest false kept peer digest
 replies_of Server kept (ForDigest asked) (Shares peer digest) = answers_digest true kept peer digest
-replies_of Server kept (ForDigest asked) (Misses peer) = hello_message kept peer.version ∷ digest_message kept ∷ []
+replies_of Server kept (ForDigest asked) (Misses peer) = hello_message kept peer.version ∷ digest_message peer.version kept ∷ []
 replies_of Server kept (ForWhole asked) (Learns peer digest) =
     delta_message kept (format_of peer.version) peer.number digest ∷ []
 replies_of (Client version) kept (ForDigest asked) (Learns peer digest) =
-    if says_hashes peer.version then digest_message kept ∷ [] else []
-replies_of (Client version) kept (ForDigest asked) (Misses peer) = digest_message kept ∷ []
+    if says_hashes peer.version then behind_message peer.version kept digest ∷ [] else []
+replies_of (Client version) kept (ForDigest asked) (Misses peer) = digest_message peer.version kept ∷ []
 replies_of (Client version) kept (ForDelta peer digest) (Receives delta roster mark) =
     delta_message kept (format_of peer.version) peer.number digest ∷ done_message mark ∷ []
 replies_of Server kept (ForBye mark) Finishes = done_message mark ∷ []

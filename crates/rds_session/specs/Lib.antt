@@ -24,3 +24,4 @@ pub mod Session
 pub mod Steps
 pub mod Stream
 pub mod Versions
+pub mod Wants

@@ -26,7 +26,7 @@ use Rattle.rds_session.specs.Chunks.{message_in_chunks}
 use Rattle.rds_session.specs.Hashes.{Collide, digest_hash}
 use Rattle.rds_session.specs.Judging.{longer_than}
 use Rattle.rds_session.specs.Marked.{told_mark, with_delta}
-use Rattle.rds_session.specs.Messages.{hello_message, digest_message, digest_said, delta_message, done_message}
+use Rattle.rds_session.specs.Messages.{hello_message, behind_message, digest_message, digest_said, delta_message, done_message}
 use Rattle.rds_session.specs.Received.{Delivery}
 use Rattle.rds_session.specs.Session.{So_far, All_of, course}
 use Rattle.rds_session.specs.Stream.{Splits}
@@ -35,10 +35,12 @@ use Rattle.rds_session.specs.Versions.{format_of, says_hashes, tells_marks}
 abbrev pub IsBeginningOf : List ℕ → List ℕ → Type 0
 IsBeginningOf x y = (rest : List ℕ) × (y ≡ x ++ rest)
 
--- what one tells the other, in a version, is within the limit
+-- what one tells the other, in a version, is within the limit: also its digest as it says it first, and behind the other's
 pub record HasRoom (version : Version) (from to : ReplicaValue) : Type 0 where
   pub hello : length (hello_message from version) ≤ MESSAGE_LIMIT
-  pub digest : length (digest_message from) ≤ MESSAGE_LIMIT
+  pub first : length (digest_said (says_hashes version) version from) ≤ MESSAGE_LIMIT
+  pub digest : length (digest_message version from) ≤ MESSAGE_LIMIT
+  pub behind : length (behind_message version from (digest_of to.state)) ≤ MESSAGE_LIMIT
   pub delta : length (delta_message from (format_of version) to.own (digest_of to.state)) ≤ MESSAGE_LIMIT
 
 -- two replicas, of rosters one of which begins the other, with different own numbers, each of which has a text; they
@@ -132,16 +134,17 @@ words_with said version from to =
     hello_message from version
     ∷ (said ++ (delta_message from (format_of version) to.own (digest_of to.state) ∷ done_message (last_mark version from to) ∷ []))
 
--- a client says it by a hash, where the version has them, and whole where there are none or the server has another
+-- a client says it by a hash, where the version has them, and whole where there are none or behind another one of the
+-- server's
 abbrev pub client_words : Version → ReplicaValue → ReplicaValue → List (List ℕ)
 client_words version from to =
-    let first = digest_said (says_hashes version) from in
-    let whole = if says_hashes version then (if share_digest version from to then [] else digest_message from ∷ []) else [] in
+    let first = digest_said (says_hashes version) version from in
+    let whole = if says_hashes version then (if share_digest version from to then [] else behind_message version from (digest_of to.state) ∷ []) else [] in
     words_with (first ∷ whole) version from to
 
 -- a server says it by a hash where it is the client's, and whole else
 abbrev pub server_words : Version → ReplicaValue → ReplicaValue → List (List ℕ)
-server_words version from to = words_with (digest_said (share_digest version from to) from ∷ []) version from to
+server_words version from to = words_with (digest_said (share_digest version from to) version from ∷ []) version from to
 
 -- the server has said its words in the version, is done, and has received what the client has and it lacks
 pub record IsServed (version : Version) (a b : ReplicaValue) (x : List ℕ) : Type 0 where

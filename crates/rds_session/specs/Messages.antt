@@ -5,6 +5,7 @@ use Rattle.rds_names.specs.declared.fault.Fault.TheVariants.{Memory, WrongVersio
 use Rattle.rds_state.specs.Fits.{ReplicaValue}
 use Rattle.rds_state.specs.declared.mark.Mark.{Mark}
 use Rattle.rds_delta.specs.Digested.{DigestValue, digest_of}
+use Rattle.rds_briefs.specs.Briefs.{brief_text}
 use Rattle.rds_codec.specs.AnswerTexts.{answer}
 use Rattle.rds_codec.specs.DigestTexts.{digest_text}
 use Rattle.rds_codec.specs.FormatTexts.{answer_text_in}
@@ -19,7 +20,8 @@ use Rattle.rds_session.specs.declared.version.Version.{Version}
 use Rattle.rds_session.specs.Checked.{least_state, certificate_of}
 use Rattle.rds_session.specs.Hashes.{digest_hash}
 use Rattle.rds_session.specs.Marked.{mark_bytes}
-use Rattle.rds_session.specs.Versions.{version_byte}
+use Rattle.rds_session.specs.Versions.{says_briefs, version_byte}
+use Rattle.rds_session.specs.Wants.{said_behind}
 
 -- the byte that messages of a type begin with
 abbrev pub number_of : MessageKind → ℕ
@@ -44,19 +46,27 @@ abbrev pub hello_message : ReplicaValue → Version → List ℕ
 hello_message kept version =
     number_of kinds.Hello ∷ hello_text (record { version = version_byte version; roster = kept.roster; own = kept.own })
 
--- DIGEST: what is kept here
-abbrev pub digest_message : ReplicaValue → List ℕ
-digest_message kept = number_of kinds.Digest ∷ digest_text (digest_of kept.state)
+-- a digest whole, as a version says it: its brief or its text
+abbrev pub digest_body : Version → DigestValue → List ℕ
+digest_body version digest = if says_briefs version then brief_text digest else digest_text digest
 
--- HASH: the same, by the hash of the digest. Where the digest is over the limit there is none, and it can't be said
+-- DIGEST: what is kept here
+abbrev pub digest_message : Version → ReplicaValue → List ℕ
+digest_message version kept = number_of kinds.Digest ∷ digest_body version (digest_of kept.state)
+
+-- the same, to a peer whose digest is known
+abbrev pub behind_message : Version → ReplicaValue → DigestValue → List ℕ
+behind_message version kept peer = number_of kinds.Digest ∷ digest_body version (said_behind version (digest_of kept.state) peer)
+
+-- HASH: the same, by the hash of the digest's text. Where that is over the limit there is none, and it can't be said
 abbrev pub hash_message : ReplicaValue → List ℕ
 hash_message kept =
     let digest = digest_of kept.state in
-    if nat_lt LIMIT (length (digest_text digest)) then digest_message kept else number_of kinds.Hash ∷ digest_hash digest
+    if nat_lt LIMIT (length (digest_text digest)) then number_of kinds.Digest ∷ digest_text digest else number_of kinds.Hash ∷ digest_hash digest
 
 -- what is kept here, by a hash or whole
-abbrev pub digest_said : Bool → ReplicaValue → List ℕ
-digest_said hashed kept = if hashed then hash_message kept else digest_message kept
+abbrev pub digest_said : Bool → Version → ReplicaValue → List ℕ
+digest_said hashed version kept = if hashed then hash_message kept else digest_message version kept
 
 -- DELTA: what is kept here and the digest lacks, with its certificate, in a format, for the replica that asked
 abbrev pub delta_message : ReplicaValue → Format → ℕ → DigestValue → List ℕ

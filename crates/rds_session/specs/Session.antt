@@ -103,7 +103,7 @@ run [] s = (s, [])
 run (b ∷ bs) s = when_going s.ended (then_more (byte_comes s b) (run bs)) (s, [])
 
 abbrev pub opening : Side → ReplicaValue → List (List ℕ)
-opening (Client version) kept = hello_message kept version ∷ digest_said (says_hashes version) kept ∷ []
+opening (Client version) kept = hello_message kept version ∷ digest_said (says_hashes version) version kept ∷ []
 opening Server kept = []
 
 -- what the first step sends, whatever its input

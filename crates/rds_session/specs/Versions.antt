@@ -4,7 +4,7 @@ use Rattle.rds_codec.specs.HelloTexts.{version_of}
 use Rattle.rds_codec.specs.declared.formats.Format.{Format}
 use Rattle.rds_codec.specs.declared.formats.Format.TheVariants as formats
 use Rattle.rds_session.specs.declared.version.Version.{Version}
-use Rattle.rds_session.specs.declared.version.Version.TheVariants.{One, Two, Three, Four}
+use Rattle.rds_session.specs.declared.version.Version.TheVariants.{One, Two, Three, Four, Five}
 
 -- the byte by which a HELLO says it
 abbrev pub version_byte : Version → ℕ
@@ -12,6 +12,7 @@ version_byte One = 1
 version_byte Two = 2
 version_byte Three = 3
 version_byte Four = 4
+version_byte Five = 5
 
 -- the version that a byte says
 abbrev pub version_said : ℕ → Option Version
@@ -20,7 +21,8 @@ version_said b =
     else (if b == 2 then Some Two
     else (if b == 3 then Some Three
     else (if b == 4 then Some Four
-    else None)))
+    else (if b == 5 then Some Five
+    else None))))
 
 -- the format of its deltas
 abbrev pub format_of : Version → Format
@@ -28,17 +30,25 @@ format_of One = formats.One
 format_of Two = formats.Two
 format_of Three = formats.Two
 format_of Four = formats.Two
+format_of Five = formats.Two
 
 -- whether each side tells the mark of what it holds at the end
 abbrev pub tells_marks : Version → Bool
 tells_marks Three = true
 tells_marks Four = true
+tells_marks Five = true
 tells_marks _ = false
 
 -- whether each side says its digest by a hash, as far as that is enough
 abbrev pub says_hashes : Version → Bool
 says_hashes Four = true
+says_hashes Five = true
 says_hashes _ = false
+
+-- whether a digest that is said whole is its brief, and behind another one what is wanted of that
+abbrev pub says_briefs : Version → Bool
+says_briefs Five = true
+says_briefs _ = false
 
 -- a HELLO's body behind its version, as a hello of the version's format
 abbrev pub as_hello : Version → List ℕ → List ℕ

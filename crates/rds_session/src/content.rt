@@ -11,13 +11,24 @@ use rds_state::Mark;
 #[derive(Clone, Copy, Debug, PartialEq, Eq)]
 pub enum Expected {
     /// A HELLO to this side.
-    Hello { side: Side },
-    /// A digest of a roster of so many replicas, or where it may come so its hash.
-    Digest { replicas: u16, hashed: bool },
+    Hello {
+        side: Side,
+    },
+    /// A digest as a version says it, of a roster of so many replicas, or where it may come so its hash.
+    Digest {
+        version: Version,
+        replicas: u16,
+        hashed: bool,
+    },
     /// An answer in a format, of a roster of so many replicas.
-    Delta { format: Format, replicas: u16 },
+    Delta {
+        format: Format,
+        replicas: u16,
+    },
     /// A BYE, which says a mark behind the code `Done` or none.
-    Bye { marked: bool },
+    Bye {
+        marked: bool,
+    },
 }
 
 impl Expected {
@@ -39,10 +50,7 @@ impl Expected {
         ensures { result ≡ expects_hash self }
     {
         match self {
-            Expected::Digest {
-                replicas: _,
-                hashed,
-            } => hashed,
+            Expected::Digest { hashed, .. } => hashed,
             _ => false,
         }
     }

@@ -4,8 +4,25 @@ ghost use Rattle.rds_codec.specs.declared.limits.TheConstants.{LIMIT};
 ghost use Rattle.rds_delta.specs.Digested.{digest_of};
 ghost use Rattle.rds_names.specs.declared.fault.Fault.TheVariants.{Memory};
 ghost use Rattle.rds_session.specs.Contents.{IsRead, IsReadFor, content_judged, content_value, expected_of};
-ghost use Rattle.rds_session.specs.Judging.{Awaited, ForDigest, Learns, StopsByNoDevice, Judges, wait_of, bye_judged, hash_judged, mark_judged, member_judged, delta_judged, verdict, one_begins, longer_than, replicas_of};
+ghost use Rattle.rds_session.specs.Judging.{
+  Awaited,
+  ForDigest,
+  Judges,
+  Learns,
+  StopsByNoDevice,
+  bye_judged,
+  delta_judged,
+  hash_judged,
+  longer_than,
+  mark_judged,
+  member_judged,
+  one_begins,
+  replicas_of,
+  verdict,
+  wait_of,
+};
 ghost use Rattle.rds_session.specs.Versions.{format_of};
+ghost use Rattle.rds_session.specs.Wants.{heard_behind};
 ghost use Rattle.rds_session.specs.Checked.{passes};
 ghost use Rattle.rds_session.specs.Received.{Brings, KnowsPeer, IsLongerIfThere};
 ghost use Rattle.rds_delta.specs.Claims.{IsCertificate};
@@ -23,6 +40,7 @@ use crate::marks::told_mark;
 use crate::message::Message;
 use crate::talk::{Act, Peer, Stop, Turn, copy_of};
 use crate::version::Version;
+use crate::wants::heard_behind;
 use rds_codec::{Answer, Hello};
 use rds_delta::{Certificate, Digest, check};
 use rds_dots::DotSet;
@@ -112,10 +130,12 @@ pub fn expected_of<S: DotSet>(kept: &Replica<S>, turn: &Turn<S>) -> Expected
     match turn {
         Turn::Hello { side } => Expected::Hello { side: *side },
         Turn::Digest { peer } => Expected::Digest {
+            version: peer.version,
             replicas: replicas_of(kept, &peer.roster),
             hashed: peer.version.says_hashes(),
         },
         Turn::Whole { peer } => Expected::Digest {
+            version: peer.version,
             replicas: replicas_of(kept, &peer.roster),
             hashed: false,
         },
@@ -163,6 +183,22 @@ fn judge_digest<S: DotSet>(alloc: Global, peer: &Peer, digest: Digest<S>) -> Res
 {
     let peer = peer.copy(alloc)?;
     Ok(Act::Learn(peer, digest))
+}
+
+// The same of a peer that has the own digest.
+fn judge_whole<S: DotSet>(
+    alloc: Global,
+    kept: &Replica<S>,
+    peer: &Peer,
+    said: Digest<S>,
+) -> Result<Act<S>, Stop>
+    ensures known { IfErr result StopsByNoDevice }
+    ensures judges { Judges result (Ok (Learns peer.now (heard_behind peer.now.version (digest_of kept.now.state) said))) }
+    ensures brings { (turn : Awaited) → IsLongerIfThere kept.now.roster peer.now.roster
+        → IfOk result (Brings kept.now turn) }
+{
+    let digest = heard_behind(alloc, peer.version, kept.state(), said)?;
+    judge_digest(alloc, peer, digest)
 }
 
 // Whether a peer has the own digest, by the hash of its own.
@@ -247,7 +283,8 @@ fn judge_content<S: DotSet>(
             _ => Err(Stop::Refused(Fault::OutOfTurn)),
         },
         Content::Digest(digest) => match turn {
-            Turn::Digest { peer } | Turn::Whole { peer } => judge_digest(alloc, peer, digest),
+            Turn::Digest { peer } => judge_digest(alloc, peer, digest),
+            Turn::Whole { peer } => judge_whole(alloc, kept, peer, digest),
             _ => Err(Stop::Refused(Fault::OutOfTurn)),
         },
         Content::Hash(hash) => match turn {
@@ -274,6 +311,6 @@ pub fn accept<S: DotSet>(
     ensures judges { Judges result (verdict kept.now (wait_of turn.now) message.came) }
     ensures brings { KnowsPeer kept.now (wait_of turn.now) → IfOk result (Brings kept.now (wait_of turn.now)) }
 {
-    let content = message.end()?;
+    let content = message.end(alloc)?;
     judge_content(alloc, kept, turn, content)
 }

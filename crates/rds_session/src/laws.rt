@@ -28,8 +28,8 @@ pub fn a_course_is_by_messages()
 /// Where each hears a beginning of what the other sent, wherever it was cut, each has received nothing, or exactly what
 /// the other has and it lacks, and the other's roster exactly where that is longer. Where each hears all that the other
 /// sent, both have received that and both are done. From version 3 on no dot may be live in both with different entries
-/// for that. Where the marks of what they hold by then, their joins, differ, both tell a fork. All this holds in version
-/// 4, which says digests by hashes, or two different texts of digests have one SHA-256.
+/// for that. Where the marks of what they hold by then, their joins, differ, both tell a fork. All this holds in versions
+/// 4 and 5, which say digests by hashes, or two different texts of digests have one SHA-256.
 ///
 /// And of any session: the end of a stream takes nothing from what was received. The function does nothing: its contract
 /// is these laws.
@@ -45,8 +45,8 @@ pub fn two_sessions()
 /// replicas have different numbers and rosters one of which begins the other, and their messages are within the limit.
 /// From version 3 on no dot is live in both with different entries. Then the server has said HELLO with the client's
 /// version and its delta in that version's format, and is done. It has received exactly what the client has and it lacks,
-/// and the client's roster exactly where that is longer. In version 4 each says a digest that both have by its hash, and
-/// two that differ whole; all this holds there, or two different texts of digests have one SHA-256. The function does
+/// and the client's roster exactly where that is longer. From version 4 on each says a digest that both have by its hash,
+/// and two that differ whole; all this holds there, or two different texts of digests have one SHA-256. The function does
 /// nothing: its contract is this law.
 pub fn a_server_speaks_its_clients_version()
     ensures { ServesEach }

@@ -5,6 +5,7 @@ mod came;
 mod chunks;
 mod coming;
 mod content;
+mod digests;
 mod exchanging;
 mod hashes;
 mod judging;
@@ -17,6 +18,7 @@ mod session;
 mod step;
 mod talk;
 mod version;
+mod wants;
 mod writing;
 
 pub use exchanging::{Exchanged, exchange};

@@ -1,5 +1,5 @@
 //! What has come of a message.
-ghost use Rattle.std.specs.Prelude.{◌≡◌, ◌≤◌, ◌&&◌, ℕ, true, false, List, [], ◌∷◌, ◌++◌, length, Some, IfOk, IfErr};
+ghost use Rattle.std.specs.Prelude.{◌≡◌, ◌≤◌, ◌&&◌, ℕ, Bool, true, false, List, [], ◌∷◌, ◌++◌, length, Some, IfOk, IfErr};
 ghost use Rattle.rds_names.specs.declared.fault.Fault.TheVariants.{Memory};
 ghost use Rattle.rds_bytes.specs.Reading.{Reads};
 ghost use Rattle.rds_codec.specs.declared.limits.TheConstants.{LIMIT};
@@ -12,10 +12,13 @@ ghost use Rattle.rds_session.specs.Begun.{Holds, HoldsBody};
 ghost use Rattle.rds_session.specs.Contents.{content_value, expects_hash, expects_mark, message_read};
 ghost use Rattle.rds_session.specs.Judging.{is_done, version_with};
 ghost use Rattle.rds_session.specs.Messages.{bye_of, number_of};
+ghost use Rattle.rds_session.specs.Versions.{says_briefs};
+ghost use Rattle.rds_session.specs.declared.version.Version.{Version};
 
 use crate::came::Came;
 use crate::coming::Coming;
 use crate::content::{Content, Expected};
+use crate::digests::read_brief;
 use crate::hashes::{HASH_LENGTH, read_hash};
 use crate::kinds::{ByeCode, MessageKind};
 use crate::marks::{MARK_LENGTH, read_mark};
@@ -33,8 +36,10 @@ pub enum Body<S: DotSet> {
     Greeting { side: Side },
     /// It is a HELLO of a version that is spoken.
     Hello(Version, Coming<UnfinishedHello>),
-    /// It is a DIGEST.
+    /// It is a DIGEST with a text.
     Digest(Coming<UnfinishedDigest<S>>),
+    /// It is a DIGEST with a brief of so many replicas, of which these bytes have come.
+    Brief { replicas: u16, bytes: Vec<u8> },
     /// It is a HASH, of which these bytes have come.
     Hash(Vec<u8>),
     /// It is a DELTA.
@@ -59,6 +64,10 @@ impl<S: DotSet> Drop for Body<S> {
             Body::Digest(_text) => {}
             Body::Delta(_text) => {}
             Body::Mark(_bytes) | Body::Hash(_bytes) => {}
+            Body::Brief {
+                replicas: _,
+                bytes: _bytes,
+            } => {}
         }
     }
 }
@@ -144,6 +153,31 @@ fn hashing<S: DotSet>(bytes: Vec<u8>, run: &[u8]) -> Result<Body<S>, Fault>
     Ok(Body::Hash(bytes))
 }
 
+// What a DIGEST, of which these bytes of a brief have come, is with the next ones.
+fn briefing<S: DotSet>(replicas: u16, bytes: Vec<u8>, run: &[u8]) -> Result<Body<S>, Fault>
+    ensures ok { IfOk result (λ new. (version : Version) (hashed : Bool) → says_briefs version ≡ true
+        → HoldsBody (expecteds.Digest version replicas hashed) new (number_of kinds.Digest ∷ (bytes.items ++ run.now))) }
+    ensures memory { IfErr result (λ e. e ≡ Memory) }
+{
+    let mut bytes = bytes;
+    bytes.extend_from_slice(run)?;
+    Ok(Body::Brief { replicas, bytes })
+}
+
+// What a DIGEST in a version is, of whose body no byte has come.
+fn digest<S: DotSet>(alloc: Global, version: Version, replicas: u16) -> Body<S>
+    ensures { (hashed : Bool) → HoldsBody (expecteds.Digest version replicas hashed) result (number_of kinds.Digest ∷ []) }
+{
+    if version.says_briefs() {
+        Body::Brief {
+            replicas,
+            bytes: Vec::new(alloc),
+        }
+    } else {
+        Body::Digest(Coming::new(alloc, Format::Two, replicas))
+    }
+}
+
 impl<S: DotSet> Body<S> {
     // What a message is whose first byte has come.
     fn new(alloc: Global, expected: Expected, number: u8) -> Body<S>
@@ -160,9 +194,10 @@ impl<S: DotSet> Body<S> {
             },
             Some(MessageKind::Digest) => match expected {
                 Expected::Digest {
+                    version,
                     replicas,
                     hashed: _,
-                } => Body::Digest(Coming::new(alloc, Format::Two, replicas)),
+                } => digest(alloc, version, replicas),
                 _ => Body::Refused(Fault::OutOfTurn),
             },
             Some(MessageKind::Hash) => {
@@ -195,11 +230,12 @@ impl<S: DotSet> Body<S> {
             Body::Bye(code) => Ok(parted(code, run)),
             Body::Mark(bytes) => marking(bytes, run),
             Body::Hash(bytes) => hashing(bytes, run),
+            Body::Brief { replicas, bytes } => briefing(replicas, bytes, run),
             Body::Refused(fault) => Ok(Body::Refused(fault)),
         }
     }
 
-    fn end(self) -> Result<Content<S>, Fault>
+    fn end(self, alloc: Global) -> Result<Content<S>, Fault>
         ensures { (expected : Expected) (came : List ℕ) → HoldsBody expected self came → length came ≤ LIMIT
             → Reads content_value result (message_read expected came) }
     {
@@ -207,6 +243,9 @@ impl<S: DotSet> Body<S> {
             Body::Greeting { side: _ } | Body::Parting { marked: _ } => Err(Fault::Cut),
             Body::Hello(version, text) => Ok(Content::Hello(version, text.end()?)),
             Body::Digest(text) => Ok(Content::Digest(text.end()?)),
+            Body::Brief { replicas, bytes } => {
+                Ok(Content::Digest(read_brief(alloc, replicas, &bytes)?))
+            }
             Body::Delta(text) => Ok(Content::Delta(text.end()?)),
             Body::Bye(code) => Ok(Content::Bye(code)),
             Body::Mark(bytes) => Ok(Content::Mark(read_mark(&bytes)?)),
@@ -305,7 +344,7 @@ impl<S: DotSet> Message<S> {
     }
 
     /// What the whole message says, before it is judged.
-    pub fn end(self) -> Result<Content<S>, Fault>
+    pub fn end(self, alloc: Global) -> Result<Content<S>, Fault>
         ensures read { length self.came ≤ LIMIT
             → Reads content_value result (message_read self.expected self.came) }
         ensures bytes { AreBytes self.came }
@@ -318,7 +357,7 @@ impl<S: DotSet> Message<S> {
         match body {
             None => Err(Fault::Cut),
             Some(body) => {
-                let content = body.end()?;
+                let content = body.end(alloc)?;
                 Ok(content)
             }
         }

@@ -1,17 +1,27 @@
 //! Sending messages.
 ghost use Rattle.std.specs.Prelude.{◌≡◌, false, [], ◌∷◌};
 ghost use Rattle.rds_session.specs.Judging.{answers_digest, wait_of, saying_of, replies_of};
-ghost use Rattle.rds_session.specs.Messages.{hello_message, digest_message, digest_said, hash_message, delta_message, bye_message, done_message};
+ghost use Rattle.rds_session.specs.Messages.{
+  behind_message,
+  bye_message,
+  delta_message,
+  digest_message,
+  digest_said,
+  done_message,
+  hash_message,
+  hello_message,
+};
 ghost use Rattle.rds_session.specs.Versions.{format_of};
 ghost use Rattle.rds_session.specs.Sending.{SendsBody, SendsOne, SendsAll};
 ghost use Rattle.rds_session.specs.Session.{opening};
 
+use crate::digests::{digest_behind, own_digest};
 use crate::hashes::own_hash;
 use crate::kinds::{ByeCode, MessageKind};
 use crate::talk::{Act, Peer, Side, Turn};
 use crate::version::Version;
 use crate::writing::put_message;
-use rds_codec::{Hello, answer_in, ask, encode_hello};
+use rds_codec::{Hello, answer_in, encode_hello};
 use rds_delta::Digest;
 use rds_dots::DotSet;
 use rds_names::Fault;
@@ -53,10 +63,28 @@ fn send_digest<S: DotSet>(
     alloc: Global,
     send: &mut Vec<u8>,
     kept: &Replica<S>,
+    version: Version,
 ) -> Result<bool, Fault>
-    ensures { SendsOne send.old.items send.new.items (digest_message kept.now) result }
+    ensures { SendsOne send.old.items send.new.items (digest_message version kept.now) result }
 {
-    send_body(send, MessageKind::Digest, ask(alloc, kept.state()))
+    send_body(send, MessageKind::Digest, own_digest(alloc, kept, version))
+}
+
+// Adds the same to a peer whose digest is known.
+fn send_behind<S: DotSet>(
+    alloc: Global,
+    send: &mut Vec<u8>,
+    kept: &Replica<S>,
+    version: Version,
+    peer: &Digest<S>,
+) -> Result<bool, Fault>
+    ensures { SendsOne send.old.items send.new.items (behind_message version kept.now peer.now) result }
+{
+    send_body(
+        send,
+        MessageKind::Digest,
+        digest_behind(alloc, kept, version, peer),
+    )
 }
 
 fn send_hash<S: DotSet>(alloc: Global, send: &mut Vec<u8>, kept: &Replica<S>) -> Result<bool, Fault>
@@ -74,14 +102,15 @@ fn send_own<S: DotSet>(
     alloc: Global,
     send: &mut Vec<u8>,
     kept: &Replica<S>,
+    version: Version,
     hashed: bool,
 ) -> Result<bool, Fault>
-    ensures { SendsOne send.old.items send.new.items (digest_said hashed kept.now) result }
+    ensures { SendsOne send.old.items send.new.items (digest_said hashed version kept.now) result }
 {
     if hashed {
         send_hash(alloc, send, kept)
     } else {
-        send_digest(alloc, send, kept)
+        send_digest(alloc, send, kept, version)
     }
 }
 
@@ -133,12 +162,12 @@ pub fn send_opening<S: DotSet>(
     hashed: bool,
 ) -> Result<bool, Fault>
     ensures { SendsAll send.old.items send.new.items
-        (hello_message kept.now version ∷ digest_said hashed kept.now ∷ []) result }
+        (hello_message kept.now version ∷ digest_said hashed version kept.now ∷ []) result }
 {
     if !send_hello(alloc, send, kept, version)? {
         return Ok(false);
     }
-    send_own(alloc, send, kept, hashed)
+    send_own(alloc, send, kept, version, hashed)
 }
 
 fn answer_digest<S: DotSet>(
@@ -154,7 +183,7 @@ fn answer_digest<S: DotSet>(
     if !send_hello(alloc, send, kept, peer.version)? {
         return Ok(false);
     }
-    if !send_own(alloc, send, kept, hashed)? {
+    if !send_own(alloc, send, kept, peer.version, hashed)? {
         return Ok(false);
     }
     send_delta(alloc, send, kept, peer, digest)
@@ -208,10 +237,12 @@ pub fn send_replies<S: DotSet>(
             _ => Ok(true),
         },
         Side::Client { version: _ } => match (act, turn) {
-            (Act::Learn(peer, _), Turn::Digest { peer: _ }) if peer.version.says_hashes() => {
-                send_digest(alloc, send, kept)
+            (Act::Learn(peer, digest), Turn::Digest { peer: _ }) if peer.version.says_hashes() => {
+                send_behind(alloc, send, kept, peer.version, digest)
             }
-            (Act::Miss(_), Turn::Digest { peer: _ }) => send_digest(alloc, send, kept),
+            (Act::Miss(peer), Turn::Digest { peer: _ }) => {
+                send_digest(alloc, send, kept, peer.version)
+            }
             (Act::Receive(_, _, mark), Turn::Delta { peer, digest }) => {
                 answer_delta(alloc, send, kept, peer, digest, *mark)
             }

@@ -27,8 +27,10 @@ use std::marker::Model;
 /// From version 3 on the last message of each side says the mark of what it holds by then. Where the two differ, both have
 /// seen the same and hold different entries: the session has failed with `Forked` at both ends. What it received stays.
 ///
-/// In version 4 each side says its digest by its hash (SHA-256) first, and whole only where the peer has another one. So
-/// two that hold the same are done by a few short messages, however much that is.
+/// From version 4 on each side says its digest by its hash (SHA-256) first, and whole only where the peer has another one.
+/// So two that hold the same are done by a few short messages, however much that is. In version 5 a digest that is said
+/// whole is its brief, so that deleted dots take few bytes. Only the server says its own: the client says behind it what
+/// it wants of that.
 ///
 /// One of the two rosters begins the other: they are equal, or one of them has grown since. What the peer tells is read
 /// as of the replicas of the longer one, so that a peer whose roster has grown may tell of replicas that aren't named

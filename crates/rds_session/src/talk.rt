@@ -89,7 +89,7 @@ pub enum Turn<S: DotSet> {
     Hello { side: Side },
     /// A digest, by its hash or whole.
     Digest { peer: Peer },
-    /// A digest whole: its hash wasn't that of the own one, which has been said whole.
+    /// A digest as it is said behind the own one: its hash wasn't that of the own one, which has been said whole.
     Whole { peer: Peer },
     Delta { peer: Peer, digest: Digest<S> },
     /// A BYE, with the mark of what is held here by then, where marks are told.

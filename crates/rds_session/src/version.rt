@@ -1,6 +1,6 @@
 //! The versions of a session.
 ghost use Rattle.std.specs.Prelude.{◌≡◌};
-ghost use Rattle.rds_session.specs.Versions.{format_of, says_hashes, tells_marks, version_byte, version_said};
+ghost use Rattle.rds_session.specs.Versions.{format_of, says_briefs, says_hashes, tells_marks, version_byte, version_said};
 
 use rds_codec::Format;
 
@@ -15,6 +15,9 @@ pub enum Version {
     Three,
     /// As version 3. A digest is said by its hash, and whole where the peer has another one.
     Four,
+    /// As version 4, but that a digest which is said whole is its brief, and a client that knows the server's says what it
+    /// wants of it in place of its own.
+    Five,
 }
 
 impl Version {
@@ -27,6 +30,7 @@ impl Version {
             Version::Two => 2,
             Version::Three => 3,
             Version::Four => 4,
+            Version::Five => 5,
         }
     }
 
@@ -39,6 +43,7 @@ impl Version {
             2 => Some(Version::Two),
             3 => Some(Version::Three),
             4 => Some(Version::Four),
+            5 => Some(Version::Five),
             _ => None,
         }
     }
@@ -49,7 +54,7 @@ impl Version {
     {
         match self {
             Version::One => Format::One,
-            Version::Two | Version::Three | Version::Four => Format::Two,
+            Version::Two | Version::Three | Version::Four | Version::Five => Format::Two,
         }
     }
 
@@ -59,7 +64,7 @@ impl Version {
     {
         match self {
             Version::One | Version::Two => false,
-            Version::Three | Version::Four => true,
+            Version::Three | Version::Four | Version::Five => true,
         }
     }
 
@@ -69,7 +74,17 @@ impl Version {
     {
         match self {
             Version::One | Version::Two | Version::Three => false,
-            Version::Four => true,
+            Version::Four | Version::Five => true,
+        }
+    }
+
+    /// Whether a digest that is said whole is its brief, and behind another one what is wanted of that.
+    pub fn says_briefs(self) -> bool
+        ensures { result ≡ says_briefs self }
+    {
+        match self {
+            Version::One | Version::Two | Version::Three | Version::Four => false,
+            Version::Five => true,
         }
     }
 }

@@ -156,6 +156,7 @@ impl<'a> Caller<'a> {
             };
             match self.connect_to(rt, address) {
                 Ok(stream) => return Ok(stream),
+                Err(Trouble::Memory) => return Err(Trouble::Memory),
                 Err(trouble) => {
                     if !self.destination.turn() {
                         return Err(trouble);

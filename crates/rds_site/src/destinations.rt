@@ -3,6 +3,7 @@ ghost use Rattle.std.specs.Prelude.{◌≡◌, ◌<◌, ◌++◌, Err, codes, le
 ghost use Rattle.rds_names.specs.declared.fault.Fault.TheVariants.{Usage};
 ghost use Rattle.rds_site.specs.declared.destinations.TheConstants.{MOST_PEERS};
 
+use crate::troubles::Trouble;
 use rds_http::Token;
 use rds_names::Fault;
 use std::alloc::{AllocError, Global};
@@ -96,7 +97,7 @@ fn find_peer<'a, H: Net + Eprint + AllocGlobal>(
 }
 
 /// Finds the node of this name. A text that names no host and port is refused (`Usage`), and a host that isn't found
-/// (`Device`), with a line on standard error.
+/// (`Device`), with a line on standard error, as where there is no memory to look it up (`Memory`).
 pub fn find_node<'a, H: Net + Eprint + AllocGlobal>(
     rt: &H,
     name: &'a str,
@@ -132,7 +133,7 @@ fn find_addresses<H: Net + Eprint + AllocGlobal>(
         }
         Err(error) => {
             let _ = eprintln!(rt; "cannot find the peer {name}: {error}");
-            Err(Fault::Device)
+            Err(Trouble::from(error).fault())
         }
     }
 }

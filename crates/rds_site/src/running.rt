@@ -10,6 +10,7 @@ use crate::logging::{Log, LoggedSite};
 use crate::peer_table::Peers;
 use crate::secrets::read_secret;
 use crate::table::Clients;
+use crate::troubles::Trouble;
 use crate::turns::Turns;
 use crate::words::SiteWords;
 use rds_files::{Disk, HolderNote, LockFile};
@@ -127,7 +128,7 @@ fn open_door<H: Disk + Net + RandomSource>(
         Ok(opened) => Ok(opened),
         Err(error) => {
             let _ = eprintln!(rt; "cannot listen at {address}: {error}");
-            Err(Fault::Device)
+            Err(Trouble::from(error).fault())
         }
     }
 }

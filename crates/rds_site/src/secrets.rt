@@ -1,6 +1,7 @@
 //! The token of a site, in a file.
 ghost use Rattle.std.specs.Prelude.{◌≡◌, IfOk, IsSome, OnErr, is_some};
 
+use crate::troubles::Trouble;
 use rds_files::Disk;
 use rds_http::Token;
 use rds_names::Fault;
@@ -28,7 +29,7 @@ fn read_token<H: Disk>(rt: &H, path: &str) -> Result<Token, Fault> {
         Ok(bytes) => bytes,
         Err(error) => {
             let _ = eprintln!(rt; "cannot read {path}: {error}");
-            return Err(Fault::Device);
+            return Err(Trouble::from(error).fault());
         }
     };
     match Token::read(rt.alloc(), &bytes) {

@@ -6,6 +6,7 @@ use crate::committed::{Committed, commit};
 use crate::logging::LoggedSite;
 use crate::peer_table::Peers;
 use crate::table::Clients;
+use crate::troubles::Trouble;
 use rds_files::{Disk, LockFile};
 use rds_names::Fault;
 use std::io;
@@ -120,7 +121,7 @@ where
         let now = Instant::now(rt).unwrap_or(self.now);
         if let Err(error) = self.door.wait(&mut self.clients, &mut self.peers, now) {
             let _ = eprintln!(rt; "cannot wait for clients and peers: {error}");
-            return Err(Fault::Device);
+            return Err(Trouble::from(error).fault());
         }
         self.now = Instant::now(rt).unwrap_or(self.now);
         self.door.accept(&mut self.clients, self.now);

@@ -1,7 +1,7 @@
 use Rattle.std.proofs.Common.{◌≡◌, inl, inr, refl, rules}
 use Rattle.rds_names.specs.declared.fault.Fault.TheVariants.{Device, WrongVersion}
 use Rattle.rds_session.specs.declared.step.Ended.TheVariants.{Failed}
-use Rattle.rds_session.specs.declared.version.Version.TheVariants.{Two, Four}
+use Rattle.rds_session.specs.declared.version.Version.TheVariants.{Two, Five}
 use Rattle.rds_files.specs.declared.settling.Settled.TheVariants.{Nothing}
 use Rattle.rds_files.proofs.syncing.sync_file.Goals as goal
 
@@ -12,7 +12,7 @@ pub returns-then-not-is_of_older_server-clause-written : goal.returns-then-not-i
 returns-then-not-is_of_older_server-clause-written g c = λ steady. inr (
   c.in-Ok.file,
   c.in-Ok.ensures.read,
-  Four,
+  Five,
   inl refl,
   _,
   record {

@@ -1,6 +1,8 @@
-use Rattle.std.proofs.Common.{sym, ap, ◌∙◌, inl, inr, Ok, Err}
+use Rattle.std.proofs.Common.{ℕ, List, sym, ap, ◌∙◌, inl, inr, Ok, Err, subst}
+use Rattle.rds_briefs.specs.ReadBriefs.{brief_at}
+use Rattle.rds_codec.specs.Decoding.{ReadsAll}
 use Rattle.std.proofs.lemmas.Result.{err_from_is_err_and}
-use Rattle.rds_session.proofs.Began.{greeting_said, parting_said, bye_said, mark_said, hash_said, fails_so, refused_said, hello_said, digest_said, delta_said}
+use Rattle.rds_session.proofs.Began.{greeting_said, parting_said, bye_said, mark_said, hash_said, brief_said, fails_so, refused_said, hello_said, digest_said, delta_said}
 use Rattle.rds_session.specs.Hashes.{hash_in}
 use Rattle.rds_session.specs.Marked.{mark_in}
 use Rattle.rds_session.proofs.message.Body.end.Goals as goal
@@ -23,7 +25,7 @@ returns-in_ok-end-in-Hello g c = λ expected came holds within.
 
 pub returns-in_ok-end-in-Digest : goal.returns-in_ok-end-in-Digest
 returns-in_ok-end-in-Digest g c = λ expected came holds within.
-    (let h = rw c.in-Digest.is at holds in digest_said expected came within c.in-Digest.text (Ok c.in_ok-end-in-Digest.field-0) h.0 h.1 h.2 c.in_ok-end-in-Digest.ensures.read)
+    (let h = rw c.in-Digest.is at holds in digest_said expected came within c.in-Digest.text (Ok c.in_ok-end-in-Digest.field-0) h.0 h.1 h.2 h.3 h.4 c.in_ok-end-in-Digest.ensures.read)
 
 pub returns-in_ok-end-in-Delta : goal.returns-in_ok-end-in-Delta
 returns-in_ok-end-in-Delta g c = λ expected came holds within.
@@ -39,7 +41,7 @@ pub returns-in_err-end-in-Digest : goal.returns-in_err-end-in-Digest
 returns-in_err-end-in-Digest g c =
     let p = err_from_is_err_and c.from_residual-in_err-end-in-Digest.result c.from_residual-in_err-end-in-Digest.ensures.1 in
     rw (p.1, p.2) (λ expected came holds within.
-    (let h = rw c.in-Digest.is at holds in digest_said expected came within c.in-Digest.text (Err c.in_err-end-in-Digest.field-0.0) h.0 h.1 h.2 c.in_err-end-in-Digest.ensures.read))
+    (let h = rw c.in-Digest.is at holds in digest_said expected came within c.in-Digest.text (Err c.in_err-end-in-Digest.field-0.0) h.0 h.1 h.2 h.3 h.4 c.in_err-end-in-Digest.ensures.read))
 
 pub returns-in_err-end-in-Delta : goal.returns-in_err-end-in-Delta
 returns-in_err-end-in-Delta g c =
@@ -76,3 +78,18 @@ returns-in_err-read_hash-in-Hash g c =
     (let h = rw c.in-Hash.is at holds in
     let read = ap hash_in (sym c.deref-in-Hash.ensures.value) ∙ c.in_err-read_hash-in-Hash.ensures in
     hash_said expected came c.in-Hash.bytes.items (Err e) h.0 h.1 (fails_so e (hash_in c.in-Hash.bytes.items) read)))
+
+pub returns-in_ok-read_brief-in-Brief : goal.returns-in_ok-read_brief-in-Brief
+returns-in_ok-read_brief-in-Brief g c = λ expected came holds within.
+    (let h = rw c.in-Brief.is at holds in
+    let read = subst (λ (x : List ℕ). ReadsAll (brief_at c.in-Brief.replicas) x (Ok c.in_ok-read_brief-in-Brief.field-0)) c.deref-in-Brief.ensures.value c.in_ok-read_brief-in-Brief.ensures in
+    brief_said expected came c.in-Brief.bytes.items (Ok c.in_ok-read_brief-in-Brief.field-0) h.0 c.in-Brief.replicas h.1 within h.2 h.3 h.4 read)
+
+pub returns-in_err-read_brief-in-Brief : goal.returns-in_err-read_brief-in-Brief
+returns-in_err-read_brief-in-Brief g c =
+    let p = err_from_is_err_and c.from_residual-in_err-read_brief-in-Brief.result c.from_residual-in_err-read_brief-in-Brief.ensures.1 in
+    let e = c.in_err-read_brief-in-Brief.field-0.0 in
+    rw (p.1, p.2) (λ expected came holds within.
+    (let h = rw c.in-Brief.is at holds in
+    let read = subst (λ (x : List ℕ). ReadsAll (brief_at c.in-Brief.replicas) x (Err e)) c.deref-in-Brief.ensures.value c.in_err-read_brief-in-Brief.ensures in
+    brief_said expected came c.in-Brief.bytes.items (Err e) h.0 c.in-Brief.replicas h.1 within h.2 h.3 h.4 read))
