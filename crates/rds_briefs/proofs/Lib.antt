@@ -1,5 +1,4 @@
 mod AfterBriefs
-mod AlikeParts
 pub mod Apart
 pub mod AsRead
 mod BitSteps

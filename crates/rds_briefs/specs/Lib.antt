@@ -5,5 +5,4 @@ pub mod ReadBriefs
 pub mod ReadLives
 pub mod Readers
 pub mod RunsRead
-pub mod Stretches
 pub mod Texts

@@ -22,3 +22,4 @@ pub use laws::{
     a_delta_has_one_result, checked_delta_laws, friends_exchange_deltas, least_delta_laws,
 };
 pub use row::{Certificate, Row};
+pub use stretches::{Stretch, stretch_from};

@@ -2,7 +2,7 @@
 use Rattle.std.proofs.Common.{ℕ, Bool, true, false, ◌&&◌, cond, eqb, ltb, List, [], ◌∷◌, length, Option, Some, None, Result, Ok, Err}
 use Rattle.std.specs.Str.{bytes_eq}
 use Rattle.rds_names.specs.declared.fault.Fault.{Fault}
-use Rattle.rds_names.specs.declared.fault.Fault.TheVariants.{WrongAsker, Cut, Bad, TooLong, BadCertificate, OutOfTurn, WrongVersion, WrongGroup, WrongRoster, SameReplica}
+use Rattle.rds_names.specs.declared.fault.Fault.TheVariants.{WrongAsker, Cut, Bad, TooLong, BadCertificate, WrongGroup, WrongRoster, SameReplica}
 use Rattle.rds_state.specs.Fits.{ReplicaValue}
 use Rattle.rds_delta.specs.Digested.{DigestValue, digest_of}
 use Rattle.rds_session.specs.declared.talk.Peer.{Peer}

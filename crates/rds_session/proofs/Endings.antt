@@ -1,5 +1,5 @@
 -- How a session ends, by the marks that are told.
-use Rattle.std.proofs.Common.{◌≡◌, ◌≢◌, Bool, true, false, cond, Option, Some, None, refl, sym, ap, ◌∙◌}
+use Rattle.std.proofs.Common.{◌≡◌, ◌≢◌, Bool, true, false, cond, refl, ap}
 use mathlib.Core.Bool.{false≢true}
 use Rattle.rds_delta.proofs.LeastLaws.{compatible_sym}
 use Rattle.rds_state.specs.Fits.{ReplicaValue}

@@ -1,5 +1,5 @@
 -- The whole talk of two sessions, and each beginning of it.
-use Rattle.std.proofs.Common.{◌≡◌, ◌≢◌, ◌≤◌, ℕ, ◌&&◌, Bool, true, false, cond, List, [], ◌∷◌, ◌++◌, length, Option, Some, None, Ok, refl, sym, ap, ◌∙◌, append_assoc, subst, arith, ◌⊎◌, inl, inr}
+use Rattle.std.proofs.Common.{◌≡◌, ◌≢◌, ◌≤◌, ℕ, Bool, true, false, cond, List, [], ◌∷◌, ◌++◌, length, Option, Some, None, Ok, refl, sym, ap, ◌∙◌, subst, arith, ◌⊎◌, inl, inr}
 use Rattle.std.specs.List.{AllByRecursion}
 use Rattle.std.specs.Str.{bytes_eq}
 use Rattle.std.proofs.lemmas.List.{append-nil}
@@ -13,7 +13,6 @@ use Rattle.rds_codec.specs.declared.limits.TheConstants.{LIMIT}
 use Rattle.rds_delta.specs.Digested.{DigestValue, digest_of}
 use Rattle.rds_delta.proofs.Digests.{live_inside}
 use Rattle.rds_state.specs.declared.mark.Mark.{Mark}
-use Rattle.rds_session.specs.declared.chunks.TheConstants.{MESSAGE_LIMIT}
 use Rattle.rds_session.specs.declared.talk.Side.TheVariants.{Client, Server}
 use Rattle.rds_session.specs.declared.step.Ended.{Ended}
 use Rattle.rds_session.specs.declared.step.Ended.TheVariants.{Going, Done, Failed}
@@ -21,14 +20,14 @@ use Rattle.rds_session.specs.Checked.{least_state}
 use Rattle.rds_session.specs.declared.version.Version.{Version}
 use Rattle.rds_session.specs.Hashes.{digest_hash}
 use Rattle.rds_session.specs.Judging.{ForDigest, ForWhole, ForDelta, ForBye, Said, Greets, Learns, Shares, Misses, Receives, Finishes, Forks, verdict, longer_than, replies_of}
-use Rattle.rds_session.specs.Meeting.{AgreeWhereTold, IsBeginningOf, CanMeet, CollideIn, IsItsDelta, Hear, HearAll, HaveEnded, HaveReceived, IsServed, ReceiveDeltas, BothEnd, BothTellForks, ServesEach, held_with, last_mark, client_words, server_words, share_digest}
+use Rattle.rds_session.specs.Meeting.{AgreeWhereTold, IsBeginningOf, CanMeet, CollideIn, IsItsDelta, Hear, HearAll, HaveEnded, HaveReceived, IsServed, ReceiveDeltas, BothEnd, BothTellForks, ServesEach, last_mark, client_words, server_words}
 use Rattle.rds_session.specs.ByMessages.{talk}
 use Rattle.rds_session.specs.Messages.{hello_message, behind_message, digest_message, digest_said, hash_message, delta_message, done_message}
 use Rattle.rds_session.specs.Marked.{same_mark}
 use Rattle.rds_session.specs.Received.{Delivery}
 use Rattle.rds_session.specs.Session.{Standing, Sent, fresh, then_more, after_said, ended_after, received_after, run, opening, after_opening, So_far, course}
 use Rattle.rds_session.specs.Steps.{IsOver}
-use Rattle.rds_session.specs.Versions.{format_of, says_hashes, tells_marks}
+use Rattle.rds_session.specs.Versions.{format_of, says_hashes}
 use Rattle.rds_session.specs.Stream.{Splits}
 use Rattle.rds_session.proofs.Course.{run_follows, IsOrderly}
 use Rattle.rds_session.proofs.Plays.{Turn, Talks, IsPlay, Fits, says, texts, texts_are, opened_by, one_talks, talks_then, answers, words, client_at, server_at, beginnings, whole, client_comes, server_comes, server_talks}
@@ -264,7 +263,7 @@ module _ (version : Version) (a b : ReplicaValue) (h : CanMeet version a b) wher
     client_fits = h.a_room.digest;
     server_fits = h.b_room.digest;
     client_hears = digest_accepted version a b (client_told_by version a b h);
-    client_says = ap (λ (hashed : Bool). cond hashed (digest_message version a ∷ []) []) none;
+    client_says = ap (λ (hashed : Bool). cond hashed (behind_message version a (digest_of b.state) ∷ []) []) none;
     client_learns = refl;
     server_hears = digest_accepted version b a (server_told_by version a b h);
     server_says = refl;

@@ -5,11 +5,10 @@ use Rattle.std.proofs.lemmas.List.{append-nil}
 use Rattle.std.specs.Global.{Vec}
 use Rattle.rds_names.specs.declared.fault.Fault.{Fault}
 use Rattle.rds_state.specs.Value.{StateValue}
-use Rattle.rds_delta.specs.Digested.{DigestValue, digest_of}
+use Rattle.rds_delta.specs.Digested.{DigestValue}
 use Rattle.rds_codec.specs.AnswerTexts.{answer}
 use Rattle.rds_codec.specs.AnswerValues.{AnswerValue}
-use Rattle.rds_codec.specs.DigestTexts.{digest_text}
-use Rattle.rds_codec.specs.Exchanged.{IsAnswerTo, IsAskOf, IsLongAnswerIn, IsLongDigest, IsLost, IsReplyIn}
+use Rattle.rds_codec.specs.Exchanged.{IsAnswerTo, IsLongAnswerIn, IsLost, IsReplyIn}
 use Rattle.rds_codec.specs.FormatTexts.{answer_text_in}
 use Rattle.rds_codec.specs.declared.formats.Format.{Format}
 use Rattle.rds_codec.specs.Writing.{Encodes}
@@ -51,10 +50,6 @@ more_sent old mid new m ms (Err f) fits e h = h
 pub encoded : (text : List ℕ) (r : Result (Vec ℕ) Fault) → Encodes text r → IsTextOrLost text r
 encoded text (Ok v) h = h
 encoded text (Err e) h = elim h [ inl m ↦ inl m.0 | inr l ↦ inr l ]
-
-pub asked : (v : StateValue) (r : Result (Vec ℕ) Fault) → IfOk r (λ b. IsAskOf v b.items) → IfErr r (IsLost (IsLongDigest v)) → IsTextOrLost (digest_text (digest_of v)) r
-asked v (Ok b) is lost = (is.text, subst (λ (t : List ℕ). length t ≤ LIMIT) is.text is.within)
-asked v (Err e) is lost = lost
 
 module _ (format : Format) (peer : ℕ) (held : StateValue) (digest : DigestValue) where
   abbrev due : List ℕ

@@ -1,5 +1,5 @@
 -- What one replica tells another is accepted, message by message.
-use Rattle.std.proofs.Common.{◌≡◌, ℕ, ◌≤◌, ◌<◌, Bool, true, false, ◌&&◌, cond, eqb, ltb, List, [], ◌∷◌, length, Option, Some, None, Result, Ok, Err, refl, sym, ap, ◌∙◌, subst, arith}
+use Rattle.std.proofs.Common.{◌≡◌, ℕ, ◌≤◌, Bool, true, false, cond, eqb, ltb, List, [], ◌∷◌, length, Option, Some, None, Result, Ok, Err, refl, sym, ap, ◌∙◌, subst, arith}
 use Rattle.std.proofs.lemmas.Bool.{ne_eqb, eq-eqb, le-ltb, ltb-false}
 use Rattle.std.proofs.lemmas.List.{append-nil}
 use Rattle.std.specs.Str.{bytes_eq}
@@ -43,10 +43,9 @@ use Rattle.rds_session.specs.declared.version.Version.TheVariants.{One, Two, Thr
 use Rattle.rds_session.specs.Judging.{ForHello, ForDigest, ForWhole, ForDelta, ForBye, Said, Greets, Learns, Shares, Misses, Receives, Finishes, Forks, verdict, hash_judged, read_then, version_with, version_came, member_judged, delta_judged, mark_judged, longer_than}
 use Rattle.rds_session.specs.declared.chunks.TheConstants.{MESSAGE_LIMIT}
 use Rattle.rds_session.specs.declared.kinds.MessageKind.TheVariants as kinds
-use Rattle.rds_session.specs.declared.talk.Stop.{Stop}
 use Rattle.rds_session.specs.declared.talk.Stop.TheVariants.{Refused}
 use Rattle.rds_session.specs.Hashes.{digest_hash, hash_in}
-use Rattle.rds_session.specs.Marked.{mark_bytes, mark_in, same_mark, told_mark}
+use Rattle.rds_session.specs.Marked.{same_mark}
 use Rattle.rds_session.specs.Wants.{heard_behind, said_behind, wanted_by, wants_of}
 use Rattle.rds_codec.specs.declared.formats.Format.{Format}
 use Rattle.rds_session.specs.Versions.{as_hello, format_of, says_briefs, says_hashes, version_byte}

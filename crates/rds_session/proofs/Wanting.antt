@@ -1,17 +1,16 @@
 -- What is wanted of a digest says all that matters of the one who wants.
-use Rattle.std.proofs.Common.{◌≡◌, ◌<◌, ℕ, Bool, true, false, not, ◌&&◌, ◌||◌, cond, ltb, List, [], ◌∷◌, ◌++◌, refl, sym, ap, ◌∙◌, subst, arith}
+use Rattle.std.proofs.Common.{◌≡◌, ℕ, Bool, true, false, not, ◌&&◌, ◌||◌, cond, List, [], ◌∷◌, ◌++◌, refl, sym, ap, ◌∙◌}
 use mathlib.Core.Bool.{false≢true}
 use Rattle.std.specs.Prelude.{nat_lt, Option, Some, None, Result, Ok, Err, IfOk, map as each}
 use Rattle.rds_names.specs.declared.fault.Fault.{Fault}
 use Rattle.std.specs.FinMap as map
 use Rattle.std.specs.FinSet as set
 use Rattle.std.specs.List.{AllByRecursion}
-use Rattle.std.proofs.lemmas.Bool.{ltb-true}
 use Rattle.rds_dots.specs.Dots.{Dots}
 use Rattle.rds_dots.specs.declared.dot.Dot.{Dot}
 use Rattle.rds_dots.specs.Order.{dots_total, dots_exact}
-use Rattle.rds_life.specs.Life.{Life, Lived}
-use Rattle.rds_state.specs.Value.{StateValue, coordinates}
+use Rattle.rds_life.specs.Life.{Life}
+use Rattle.rds_state.specs.Value.{StateValue}
 use Rattle.rds_counts.specs.Counted.{number}
 use Rattle.rds_delta.specs.Claims.{Claim, claim_at, life_claim, number_claim}
 use Rattle.rds_delta.specs.Digested.{DigestValue, IsInside, digest_of, rank_in, ranks_in}

@@ -1,7 +1,7 @@
 //! What a replica wants of another one whose digest it has, said as a digest.
 ghost use Rattle.std.specs.Prelude.{◌≡◌, IfOk, IfErr};
 ghost use Rattle.std.specs.FinSet as set;
-ghost use Rattle.rds_delta.specs.Digested.{IsInside, digest_of};
+ghost use Rattle.rds_delta.specs.Digested.{digest_of};
 ghost use Rattle.rds_names.specs.declared.fault.Fault.TheVariants.{Memory};
 ghost use Rattle.rds_session.specs.Wants.{dead_there, heard_behind, said_behind, wanted_by, wants_of};
 

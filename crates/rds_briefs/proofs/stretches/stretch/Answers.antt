@@ -6,7 +6,7 @@ use Rattle.rds_briefs.proofs.stretches.stretch.Goals as goal
 pub returns-then-alike-is_live : goal.returns-then-alike-is_live
 returns-then-alike-is_live g c =
     let f = lives_in (g.S.DotSet.contents c.args.live.now) c.args.first.replica in
-    let alike = c.alike_from-alike.ensures in
+    let alike = c.stretch_from-alike.ensures in
     let from = alike.from in
     sym (stretch_none f c.args.is_live c.args.first.seq c.args.count (alike.alike c.args.first.seq (omega arith) from ∙ differs _ _ c.if-alike-is_live.true))
 
@@ -15,8 +15,8 @@ returns-then-reach-count g c =
     let f = lives_in (g.S.DotSet.contents c.args.live.now) c.args.first.replica in
     let first = c.args.first.seq in
     let count = c.args.count in
-    let alike = c.alike_from-alike.ensures in
-    let until = c.alike_from-alike.result.until in
+    let alike = c.stretch_from-alike.ensures in
+    let until = c.stretch_from-alike.result.until in
     let from = alike.from in
     let most = c.requires.most in
     let lt = c.if-reach-count.true in
@@ -29,8 +29,8 @@ returns g c =
     let f = lives_in (g.S.DotSet.contents c.args.live.now) c.args.first.replica in
     let first = c.args.first.seq in
     let count = c.args.count in
-    let alike = c.alike_from-alike.ensures in
-    let until = c.alike_from-alike.result.until in
+    let alike = c.stretch_from-alike.ensures in
+    let until = c.stretch_from-alike.result.until in
     let from = alike.from in
     let le = c.if-reach-count.false in
     let is = agrees _ _ c.if-alike-is_live.false in

@@ -1,6 +1,5 @@
-use Rattle.std.proofs.Common.{◌≡◌, ap, ◌∙◌}
+use Rattle.std.proofs.Common.{◌∙◌}
 use Rattle.std.specs.FinSet as set
-use Rattle.rds_dots.specs.Dots.{Dots}
 use Rattle.rds_session.proofs.Wanting.{both_in, if_ok_so}
 use Rattle.rds_session.proofs.wants.dead_there.Goals as goal
 

@@ -1,4 +1,3 @@
-use Rattle.std.specs.FinSet as set
 use Rattle.rds_session.proofs.Wanting.{replaced_inside}
 use Rattle.rds_session.proofs.wants.wanted_by.Goals as goal
 

@@ -1,4 +1,3 @@
-use Rattle.std.specs.FinSet as set
 use Rattle.rds_session.proofs.Wanting.{union_inside}
 use Rattle.rds_session.proofs.wants.wants_of.Goals as goal
 

@@ -52,7 +52,7 @@ returns-in_err-end-in-Delta g c =
 pub returns-in_ok-read_mark-in-Mark : goal.returns-in_ok-read_mark-in-Mark
 returns-in_ok-read_mark-in-Mark g c = λ expected came holds within.
     (let h = rw c.in-Mark.is at holds in
-    let read = ap mark_in (sym c.deref.ensures.value) ∙ c.in_ok-read_mark-in-Mark.ensures in
+    let read = ap mark_in (sym c.deref-in-Mark.ensures.value) ∙ c.in_ok-read_mark-in-Mark.ensures in
     mark_said expected came c.in-Mark.bytes.items h.0 (Ok c.in_ok-read_mark-in-Mark.field-0) h.1 h.2 h.3 read)
 
 pub returns-in_err-read_mark-in-Mark : goal.returns-in_err-read_mark-in-Mark
@@ -61,7 +61,7 @@ returns-in_err-read_mark-in-Mark g c =
     let e = c.in_err-read_mark-in-Mark.field-0.0 in
     rw (p.1, p.2) (λ expected came holds within.
     (let h = rw c.in-Mark.is at holds in
-    let read = ap mark_in (sym c.deref.ensures.value) ∙ c.in_err-read_mark-in-Mark.ensures in
+    let read = ap mark_in (sym c.deref-in-Mark.ensures.value) ∙ c.in_err-read_mark-in-Mark.ensures in
     mark_said expected came c.in-Mark.bytes.items h.0 (Err e) h.1 h.2 h.3 (fails_so e (mark_in c.in-Mark.bytes.items) read)))
 
 pub returns-in_ok-read_hash-in-Hash : goal.returns-in_ok-read_hash-in-Hash
@@ -82,7 +82,7 @@ returns-in_err-read_hash-in-Hash g c =
 pub returns-in_ok-read_brief-in-Brief : goal.returns-in_ok-read_brief-in-Brief
 returns-in_ok-read_brief-in-Brief g c = λ expected came holds within.
     (let h = rw c.in-Brief.is at holds in
-    let read = subst (λ (x : List ℕ). ReadsAll (brief_at c.in-Brief.replicas) x (Ok c.in_ok-read_brief-in-Brief.field-0)) c.deref-in-Brief.ensures.value c.in_ok-read_brief-in-Brief.ensures in
+    let read = subst (λ (x : List ℕ). ReadsAll (brief_at c.in-Brief.replicas) x (Ok c.in_ok-read_brief-in-Brief.field-0)) c.deref.ensures.value c.in_ok-read_brief-in-Brief.ensures in
     brief_said expected came c.in-Brief.bytes.items (Ok c.in_ok-read_brief-in-Brief.field-0) h.0 c.in-Brief.replicas h.1 within h.2 h.3 h.4 read)
 
 pub returns-in_err-read_brief-in-Brief : goal.returns-in_err-read_brief-in-Brief
@@ -91,5 +91,5 @@ returns-in_err-read_brief-in-Brief g c =
     let e = c.in_err-read_brief-in-Brief.field-0.0 in
     rw (p.1, p.2) (λ expected came holds within.
     (let h = rw c.in-Brief.is at holds in
-    let read = subst (λ (x : List ℕ). ReadsAll (brief_at c.in-Brief.replicas) x (Err e)) c.deref-in-Brief.ensures.value c.in_err-read_brief-in-Brief.ensures in
+    let read = subst (λ (x : List ℕ). ReadsAll (brief_at c.in-Brief.replicas) x (Err e)) c.deref.ensures.value c.in_err-read_brief-in-Brief.ensures in
     brief_said expected came c.in-Brief.bytes.items (Err e) h.0 c.in-Brief.replicas h.1 within h.2 h.3 h.4 read))
