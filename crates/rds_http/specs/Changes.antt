@@ -1,5 +1,5 @@
 -- What requests make of a document.
-use Rattle.std.specs.Prelude.{◌≡◌, ◌⊎◌, ℕ, List, ◌++◌, codes, length, Err, Ok}
+use Rattle.std.specs.Prelude.{◌≡◌, ◌⊎◌, ⊥, ℕ, List, ◌++◌, codes, length, Err, Ok}
 use Rattle.std.specs.Global.{Vec}
 use Rattle.std.specs.Int.{to_be_bytes, w32}
 use Rattle.http_server.specs.declared.response.Response.{Response}
@@ -11,11 +11,14 @@ use Rattle.rds_offline.specs.Letters.{TakesResponse}
 use Rattle.rds_output.specs.Reply.{reply_line}
 use Rattle.rds_output.specs.declared.reply.Reply.{Reply}
 use Rattle.rds_output.specs.declared.reply.Reply.TheVariants.{Taken}
+use Rattle.rds_questions.specs.Questions.{question_of, question_text}
 use Rattle.rds_state.specs.Fits.{ReplicaValue}
-use Rattle.rds_store.specs.Meetings.{MayAnswer, RefusesTaking, RespondsTo}
+use Rattle.rds_store.specs.Meetings.{MayAnswer, MayAsk, RefusesTaking, RespondsTo}
 use Rattle.rds_http.specs.Looks.{lines_of_json}
-use Rattle.rds_http.specs.Refusals.{TellsFault, json}
+use Rattle.rds_http.specs.Refusals.{TellsFault, TellsWords, json}
 use Rattle.rds_http.specs.Replies.{Tells}
+use Rattle.rds_http.specs.Tags.{IsTagOf, RefusesTag, tag_text}
+use Rattle.rds_http.specs.declared.tag.Tag.{Tag}
 
 -- ---- edits
 
@@ -40,30 +43,56 @@ AnswersEdits body before after response = EditsBody body before after response �
 abbrev pub HoldsBoth : List ℕ → List ℕ → List ℕ → Type 0
 HoldsBoth body question response = body ≡ to_be_bytes w32 (length question) ++ (question ++ response)
 
--- what the body brings was taken
-pub record TakesFrom (body : List ℕ) (before after : ReplicaValue) (components : ℕ) : Type 0 where
-  pub question : List ℕ
-  pub answer : List ℕ
-  pub holds : HoldsBoth body question answer
-  pub takes : TakesResponse question answer before after components
-
--- the same, and how much that was is told
-pub record TakesBody (body : List ℕ) (before after : ReplicaValue) (response : Response) : Type 0 where
+-- what answers a question was taken, and how much that was is told
+pub record TakesTexts (question answer : List ℕ) (before after : ReplicaValue) (response : Response) : Type 0 where
   pub components : ℕ
-  pub takes : TakesFrom body before after components
+  pub takes : TakesResponse question answer before after components
   pub told : Tells 200 json (reply_line (Taken components)) response
 
--- why a body isn't taken: it holds no two texts, or the document doesn't take them
-abbrev pub RefusesBody : List ℕ → ReplicaValue → Fault → Type 0
-RefusesBody body before fault =
-    (fault ≡ Cut)
-    ⊎ ((question : List ℕ) × (answer : List ℕ) × HoldsBoth body question answer
-    × RefusesTaking question answer before fault)
+-- the same, or why the document doesn't take it
+abbrev pub AnswersTexts : List ℕ → List ℕ → ReplicaValue → ReplicaValue → Response → Type 0
+AnswersTexts question answer before after response =
+    TakesTexts question answer before after response
+    ⊎ ((fault : Fault) × RefusesTaking question answer before fault × Refuses fault before after response)
 
+-- what a body holds was taken or refused, or it holds no two texts
 abbrev pub AnswersTake : List ℕ → ReplicaValue → ReplicaValue → Response → Type 0
 AnswersTake body before after response =
-    TakesBody body before after response
-    ⊎ ((fault : Fault) × RefusesBody body before fault × Refuses fault before after response)
+    ((question : List ℕ) × (answer : List ℕ) × HoldsBoth body question answer
+    × AnswersTexts question answer before after response)
+    ⊎ Refuses Cut before after response
+
+-- ---- pushes
+
+-- a body holds the text of a tag, and a response
+abbrev pub HoldsTagged : List ℕ → Tag → List ℕ → Type 0
+HoldsTagged body tag response = body ≡ tag_text tag ++ response
+
+-- the tag of what the replica asks stands in the body, and what is behind it is taken as what answers that, or refused
+pub record TakesTagged (body : List ℕ) (before after : ReplicaValue) (response : Response) : Type 0 where
+  pub tag : Tag
+  pub is_tag : IsTagOf before tag
+  pub answer : List ℕ
+  pub holds : HoldsTagged body tag answer
+  pub answers : AnswersTexts (question_text (question_of before)) answer before after response
+
+-- another tag stands there, or none
+pub record LeavesTagged (body : List ℕ) (before after : ReplicaValue) (response : Response) : Type 0 where
+  pub tag : Tag
+  pub is_tag : IsTagOf before tag
+  pub others : (answer : List ℕ) → HoldsTagged body tag answer → ⊥
+  pub same : after ≡ before
+  pub told : TellsWords 412 (codes "the tag isn't that of /ask") response
+
+-- why there is no question, or no tag of it
+abbrev pub RefusesAsking : ReplicaValue → Fault → Type 0
+RefusesAsking held fault = RefusesTag held fault ⊎ MayAsk held (Err fault)
+
+abbrev pub AnswersPush : List ℕ → ReplicaValue → ReplicaValue → Response → Type 0
+AnswersPush body before after response =
+    TakesTagged body before after response
+    ⊎ (LeavesTagged body before after response
+    ⊎ ((fault : Fault) × RefusesAsking before fault × Refuses fault before after response))
 
 -- ---- questions
 

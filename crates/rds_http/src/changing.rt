@@ -6,18 +6,22 @@ ghost use Rattle.rds_lines.specs.Editing.{EditsLines};
 ghost use Rattle.rds_lines.specs.Lines.{lines_in};
 ghost use Rattle.rds_names.specs.declared.fault.Fault.TheVariants.{Cut, Memory};
 ghost use Rattle.rds_offline.specs.Letters.{TakesResponse};
+ghost use Rattle.rds_questions.specs.Questions.{question_of, question_text};
 ghost use Rattle.rds_store.specs.Meetings.{RefusesTaking};
-ghost use Rattle.rds_http.specs.Changes.{AnswersEdits, AnswersTake, HoldsBoth, RefusesBody, TakesFrom};
+ghost use Rattle.rds_http.specs.Changes.{AnswersEdits, AnswersPush, AnswersTake, AnswersTexts, HoldsBoth, RefusesAsking};
 ghost use Rattle.rds_http.specs.Lines.{is_short};
 ghost use Rattle.rds_http.specs.Site.{ChangesAreNoted, KeepsFile};
+ghost use Rattle.rds_http.specs.Tags.{IsTagOf};
 ghost use Rattle.rds_http.specs.declared.lines.TheConstants.{LONGEST};
 
 use crate::lines::{LONGEST, are_refusals, line_count, put_lines};
 use crate::metrics::Metrics;
-use crate::refusals::refuse;
+use crate::refusals::{refuse, tell};
 use crate::replies::{JSON, LINES, add_field};
+use crate::tag::Tag;
 use crate::tracked::Tracked;
 use bytes::BufMut;
+use http::StatusCode;
 use http::header::CONTENT_TYPE;
 use http_server::Response;
 use rds_files::Disk;
@@ -26,6 +30,9 @@ use rds_names::Fault;
 use rds_output::Reply;
 use rds_store::Document;
 use std::alloc::{AllocError, Global};
+
+/// What a push of another tag is told.
+const OTHER_TAG: &str = "the tag isn't that of /ask";
 
 /// A document in its file, and whether it may have changed since it was kept.
 pub struct Held<'a, H: Disk> {
@@ -114,9 +121,73 @@ pub fn take<H: Disk>(
     ensures refused { OnOk result (response.new.status ≢ 200 → held.new ≡ held.old) }
     ensures err { OnErr result (held.new ≡ held.old) }
 {
+    match letter_in(body) {
+        Ok((question, answer)) => take_texts(alloc, held, metrics, question, answer, response),
+        Err(fault) => refuse(alloc, fault, response),
+    }
+}
+
+/// Takes what answers the question that this replica would ask now, where the body has the tag of that, and answers how
+/// many components that brought. Nothing is taken where it has another tag, or none (412).
+pub fn push<H: Disk>(
+    alloc: Global,
+    held: &mut Held<'_, H>,
+    metrics: &mut Metrics,
+    body: &[u8],
+    response: &mut Response,
+) -> Result<(), AllocError>
+    requires blank { IsBlank response.old }
+    requires noted { ChangesAreNoted held.old.has_changed held.old.file.document held.old.file.kept }
+    ensures answered { OnOk result (AnswersPush body.now held.old.file.document held.new.file.document response.new) }
+    ensures noted { ChangesAreNoted held.new.has_changed held.new.file.document held.new.file.kept }
+    ensures file { KeepsFile held.old.file held.new.file }
+    ensures refused { OnOk result (response.new.status ≢ 200 → held.new ≡ held.old) }
+    ensures err { OnErr result (held.new ≡ held.old) }
+{
+    let (tag, question) = match asked_by(held) {
+        Ok(asked) => asked,
+        Err(fault) => return refuse(alloc, fault, response),
+    };
+    let text = format!(in alloc; "{tag}")?;
+    match body.strip_prefix(text.as_bytes()) {
+        Some(answer) => take_texts(alloc, held, metrics, &question, answer, response),
+        None => tell(alloc, StatusCode::PRECONDITION_FAILED, OTHER_TAG, response),
+    }
+}
+
+/// What this replica would ask now, and the tag of that.
+fn asked_by<H: Disk>(held: &mut Held<'_, H>) -> Result<(Tag, Vec<u8>), Fault>
+    ensures tag { IfOk result (λ asked. IsTagOf held.old.file.document asked.0) }
+    ensures question { IfOk result (λ asked. asked.1.items ≡ question_text (question_of held.old.file.document)) }
+    ensures fault { IfErr result (RefusesAsking held.old.file.document) }
+    ensures same { held.new ≡ held.old }
+{
+    let tag = held.file.tag()?;
+    let question = held.file.document().ask()?;
+    Ok((tag, question))
+}
+
+/// Takes what answers a question of this replica's, and answers how many components that brought.
+fn take_texts<H: Disk>(
+    alloc: Global,
+    held: &mut Held<'_, H>,
+    metrics: &mut Metrics,
+    question: &[u8],
+    answer: &[u8],
+    response: &mut Response,
+) -> Result<(), AllocError>
+    requires blank { IsBlank response.old }
+    requires noted { ChangesAreNoted held.old.has_changed held.old.file.document held.old.file.kept }
+    ensures answered { OnOk result
+        (AnswersTexts question.now answer.now held.old.file.document held.new.file.document response.new) }
+    ensures noted { ChangesAreNoted held.new.has_changed held.new.file.document held.new.file.kept }
+    ensures file { KeepsFile held.old.file held.new.file }
+    ensures refused { OnOk result (response.new.status ≢ 200 → held.new ≡ held.old) }
+    ensures err { OnErr result (held.new ≡ held.old) }
+{
     make_room(response, 1)?;
     add_field(response, CONTENT_TYPE, JSON)?;
-    match take_in(held, metrics, body) {
+    match take_answer(held, metrics, question, answer) {
         Ok(components) => {
             put_lines(&mut response.body, &[Reply::Taken(components)]);
             Ok(())
@@ -126,23 +197,6 @@ pub fn take<H: Disk>(
             refuse(alloc, fault, response)
         }
     }
-}
-
-/// Takes what a body brings.
-fn take_in<H: Disk>(
-    held: &mut Held<'_, H>,
-    metrics: &mut Metrics,
-    body: &[u8],
-) -> Result<u128, Fault>
-    requires noted { ChangesAreNoted held.old.has_changed held.old.file.document held.old.file.kept }
-    ensures taken { IfOk result (TakesFrom body.now held.old.file.document held.new.file.document) }
-    ensures fault { IfErr result (RefusesBody body.now held.old.file.document) }
-    ensures noted { ChangesAreNoted held.new.has_changed held.new.file.document held.new.file.kept }
-    ensures file { KeepsFile held.old.file held.new.file }
-    ensures err { OnErr result (held.new ≡ held.old) }
-{
-    let (question, answer) = letter_in(body)?;
-    take_answer(held, metrics, question, answer)
 }
 
 /// Takes what answers a question of this replica's, notes whether anything came, and counts the take.

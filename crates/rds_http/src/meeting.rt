@@ -11,6 +11,7 @@ use crate::site::Site;
 use crate::tag::Tag;
 use rds_files::Disk;
 use rds_names::Fault;
+use rds_questions::{Question, encode_question};
 use rds_store::Lacks;
 
 impl<H: Disk> Site<'_, H> {
@@ -36,6 +37,16 @@ impl<H: Disk> Site<'_, H> {
         ensures { MayAsk self.now.document result }
     {
         self.held.file.document().ask()
+    }
+
+    /// The same of the replica of another number, where that has the same roster and has seen the same.
+    pub fn question_of(&self, number: u8) -> Result<Vec<u8>, Fault>
+        ensures { MayAsk (record self.now.document { own = number }) result }
+    {
+        let replica = self.held.file.document().replica();
+        let mut question = Question::of(self.alloc, replica)?;
+        question.hello.own = number;
+        encode_question(self.alloc, &question)
     }
 
     /// What answers another replica's question, as [`Document::answer`](rds_store::Document::answer) does, and refuses.

@@ -44,6 +44,8 @@ pub enum Post {
     Answer,
     /// What answers a question of this replica's.
     Take,
+    /// What answers the question that this replica would ask now.
+    Push,
     /// The token.
     Login,
 }
@@ -211,6 +213,8 @@ fn posted_named(name: &[u8]) -> Resource
         Resource::Post(Post::Answer)
     } else if name == b"take".as_slice() {
         Resource::Post(Post::Take)
+    } else if name == b"push".as_slice() {
+        Resource::Post(Post::Push)
     } else if name == b"login".as_slice() {
         Resource::Post(Post::Login)
     } else {

@@ -6,7 +6,7 @@ ghost use Rattle.rds_http.specs.Answers.{Does, DoesPost, KeepsRest, is_changing,
 ghost use Rattle.rds_http.specs.Site.{after_keep};
 
 use crate::access::Access;
-use crate::changing::{Held, edit, take};
+use crate::changing::{Held, edit, push, take};
 use crate::live::upgrade;
 use crate::login::log_in;
 use crate::metrics::Metrics;
@@ -208,6 +208,7 @@ impl<H: Disk> Site<'_, H> {
                 response,
             ),
             Post::Take => take(alloc, &mut self.held, &mut self.metrics, body, response),
+            Post::Push => push(alloc, &mut self.held, &mut self.metrics, body, response),
             Post::Answer => answer(alloc, self.held.file.document(), body, response),
             Post::Login => log_in(alloc, &self.access, body, response),
         }

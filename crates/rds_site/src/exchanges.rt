@@ -9,15 +9,21 @@ use crate::troubles::{End, Trouble};
 use rds_files::{Disk, LockFile};
 use rds_http::{Lacks, Site, Tag};
 use rds_names::Fault;
-use std::alloc::Global;
+use std::alloc::{AllocError, Global};
 use std::mem;
 use std::time::Instant;
 
 /// The status of a request that was done.
 pub const DONE: u16 = 200;
 
-/// The status of a question that is not sent, since the peer asks the same.
+/// The status of a question that is not sent, since it is known.
 pub const NOT_MODIFIED: u16 = 304;
+
+/// The status of an answer that is not taken, since the peer asks something else by now.
+const PRECONDITION_FAILED: u16 = 412;
+
+/// The status of a resource that an older node lacks.
+const NOT_FOUND: u16 = 404;
 
 /// Where an exchange stands.
 #[derive(Drop)]
@@ -31,8 +37,17 @@ enum Step {
         own: Vec<u8>,
         theirs: Option<Vec<u8>>,
     },
-    /// The peer is given the answer to its question.
-    Giving,
+    /// The peer is given the answer to its question. It may be as far as this node then.
+    Giving { level: Option<Known> },
+    /// The same of a question that is known by its tag.
+    Pushing { level: Option<Known> },
+}
+
+/// What a peer asks that is as far as this node was, and the tag of that.
+#[derive(Drop)]
+struct Known {
+    tag: Tag,
+    question: Vec<u8>,
 }
 
 /// What hearing a peer came to.
@@ -59,6 +74,10 @@ pub struct Exchange {
     alloc: Global,
     channel: Channel,
     step: Step,
+    // The peer's number in its roster, where it told that.
+    number: Option<u8>,
+    // What it asked last, where it was as far as this node.
+    known: Option<Known>,
     // Whether an exchange over the connection was done.
     has_served: bool,
 }
@@ -70,6 +89,8 @@ impl Exchange {
             alloc,
             channel,
             step: Step::Resting,
+            number: None,
+            known: None,
             has_served: false,
         }
     }
@@ -98,8 +119,8 @@ impl Exchange {
         }
     }
 
-    /// Begins an exchange: the peer is asked for its question, unless that has the own tag. `Ended` where the peer takes
-    /// no further request.
+    /// Begins an exchange: the peer is asked for its question, unless that has the own tag, or is known. `Ended` where
+    /// the peer takes no further request.
     pub fn begin<H: Disk>(
         &mut self,
         site: &mut Site<'_, H>,
@@ -109,17 +130,27 @@ impl Exchange {
     where
         H::File: LockFile,
     {
-        let tag = site.tag()?;
-        let tag = format!(in self.alloc; "{tag}")?;
+        let tags = self.known_tags(site.tag()?)?;
         let request = Request {
             resource: Resource::Ask,
             path: "",
-            unless: Some(tag.as_str()),
+            unless: Some(tags.as_str()),
             pieces: &[],
         };
         self.channel.request(destination, &request, now)?;
         self.step = Step::Asking;
         Ok(())
+    }
+
+    // The tags of questions that the peer needn't send.
+    fn known_tags(&self, own: Tag) -> Result<String, AllocError> {
+        match &self.known {
+            Some(known) if known.tag != own => {
+                let tag = known.tag;
+                format!(in self.alloc; "{own}, {tag}")
+            }
+            _ => format!(in self.alloc; "{own}"),
+        }
     }
 
     /// Reads what the peer says, up to a limit, and goes on with what follows.
@@ -154,29 +185,88 @@ impl Exchange {
         match (step, response.head.status) {
             (Step::Resting, DONE) => Ok(Progress::NONE),
             (Step::Asking, DONE) => self.compare(site, destination, response, now),
-            (Step::Asking, NOT_MODIFIED) => self.agree(site, &response),
+            (Step::Asking, NOT_MODIFIED) => self.agree(site, destination, &response, now),
             (Step::Bringing { own, theirs }, DONE) => {
                 let brought = site.take(&own, &response.body)? != 0;
                 self.give_back(site, destination, theirs, brought, now)
             }
-            (Step::Giving, DONE) => Ok(self.end(End::Done, false)),
+            (Step::Giving { level } | Step::Pushing { level }, DONE) => {
+                self.known = level;
+                Ok(self.end(End::Done, false))
+            }
+            (Step::Pushing { .. }, PRECONDITION_FAILED | NOT_FOUND) => {
+                self.begin(site, destination, now)?;
+                Ok(Progress::NONE)
+            }
             _ => Err(Trouble::Refused(response)),
         }
     }
 
-    // The peer asks the same. It may be this node's own replica, that runs elsewhere.
+    // The peer asks what is known. It may be this node's own replica, that runs elsewhere.
     fn agree<H: Disk>(
         &mut self,
-        site: &Site<'_, H>,
+        site: &mut Site<'_, H>,
+        destination: &Destination<'_>,
         response: &Response,
+        now: Instant,
     ) -> Result<Progress, Trouble>
     where
         H::File: LockFile,
     {
-        if response.head.replica == Some(site.own()) {
+        self.number = response.head.replica;
+        if self.number == Some(site.own()) {
             return Err(Trouble::Unfit(Fault::SameReplica));
         }
-        Ok(self.end(End::Level, false))
+        let own = site.tag()?;
+        match (self.known.take(), response.head.tag) {
+            (Some(known), Some(tag)) if known.tag == tag && tag != own => {
+                self.push(site, destination, known, now)?;
+                Ok(Progress::NONE)
+            }
+            (None, Some(tag)) if tag == own => {
+                self.known = self.level(site)?;
+                Ok(self.end(End::Level, false))
+            }
+            (known, _) => {
+                self.known = known;
+                Ok(self.end(End::Level, false))
+            }
+        }
+    }
+
+    // What the peer asks once it is as far as this node is now.
+    fn level<H: Disk>(&self, site: &mut Site<'_, H>) -> Result<Option<Known>, Trouble>
+    where
+        H::File: LockFile,
+    {
+        let Some(number) = self.number else {
+            return Ok(None);
+        };
+        Ok(Some(Known {
+            tag: site.tag()?,
+            question: site.question_of(number)?,
+        }))
+    }
+
+    // Gives the peer the answer to a question that it has by its tag: the text of the tag, and the answer.
+    fn push<H: Disk>(
+        &mut self,
+        site: &mut Site<'_, H>,
+        destination: &Destination<'_>,
+        known: Known,
+        now: Instant,
+    ) -> Result<(), Trouble>
+    where
+        H::File: LockFile,
+    {
+        let answer = site.answer(&known.question)?;
+        let tag = known.tag;
+        let tag = format!(in self.alloc; "{tag}")?;
+        self.request(destination, Resource::Push, &[tag.as_bytes(), &answer], now)?;
+        self.step = Step::Pushing {
+            level: self.level(site)?,
+        };
+        Ok(())
     }
 
     // Judges who asks, and goes on where one of the two lacks something.
@@ -190,6 +280,8 @@ impl Exchange {
     where
         H::File: LockFile,
     {
+        self.known = None;
+        self.number = response.head.replica;
         let lacks = site.lacks(&response.body)?;
         if let Some(theirs) = response.head.tag {
             if are_forked(&site.tag()?, &theirs) {
@@ -212,6 +304,7 @@ impl Exchange {
         H::File: LockFile,
     {
         if !lacks.here && !lacks.there {
+            self.known = self.level(site)?;
             return Ok(self.end(End::Level, false));
         }
         let theirs = if lacks.there { Some(theirs) } else { None };
@@ -237,6 +330,7 @@ impl Exchange {
         H::File: LockFile,
     {
         let Some(theirs) = theirs else {
+            self.known = self.level(site)?;
             return Ok(self.end(End::Done, brought));
         };
         self.give(site, destination, &theirs, now)?;
@@ -265,7 +359,9 @@ impl Exchange {
             &[&length, theirs, &answer],
             now,
         )?;
-        self.step = Step::Giving;
+        self.step = Step::Giving {
+            level: self.level(site)?,
+        };
         Ok(())
     }
 

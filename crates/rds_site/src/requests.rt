@@ -37,6 +37,8 @@ pub enum Resource {
     Answer,
     /// That it takes an answer to its question: `POST /take`.
     Take,
+    /// The same, where the question is known by its tag: `POST /push`.
+    Push,
     /// That it edits its document as lines say: `POST /edits`.
     Edits,
     /// What stands at a path: `GET /value/PATH`.
@@ -52,7 +54,10 @@ pub enum Resource {
 impl Resource {
     // Whether a request for it has a body.
     fn has_body(self) -> bool {
-        matches!(self, Resource::Answer | Resource::Take | Resource::Edits)
+        matches!(
+            self,
+            Resource::Answer | Resource::Take | Resource::Push | Resource::Edits
+        )
     }
 
     fn method(self) -> &'static [u8] {
@@ -65,6 +70,7 @@ impl Resource {
             Resource::Ask => "/ask",
             Resource::Answer => "/answer",
             Resource::Take => "/take",
+            Resource::Push => "/push",
             Resource::Edits => "/edits",
             Resource::Value => "/value/",
             Resource::Document => "/doc/",
@@ -96,7 +102,7 @@ pub struct Request<'r> {
     pub resource: Resource,
     /// The path at which it is asked for; empty for the root, and where there is none.
     pub path: &'r str,
-    /// Nothing is asked for where the peer's tag is this one: the value of `If-None-Match` (RFC 9110).
+    /// Nothing is asked for where the peer's tag is one of these: the value of `If-None-Match` (RFC 9110).
     pub unless: Option<&'r str>,
     /// The pieces of the body.
     pub pieces: &'r [&'r [u8]],
