@@ -5,7 +5,7 @@ use Rattle.http.specs.declared.request.Request.{Request}
 use Rattle.http_server.specs.declared.response.Response.{Response}
 use Rattle.http_uri.specs.Uri.{uri_path}
 use Rattle.rds_http.specs.Access.{denial}
-use Rattle.rds_http.specs.Changes.{AnswersEdits, AnswersPush, AnswersQuestion, AnswersTake}
+use Rattle.rds_http.specs.Changes.{AnswersEdits, AnswersPull, AnswersPush, AnswersQuestion, AnswersTake}
 use Rattle.rds_http.specs.Handshakes.{AnswersHandshake, headers_of}
 use Rattle.rds_http.specs.Login.{AnswersLogin}
 use Rattle.rds_http.specs.Looks.{AnswersLook}
@@ -16,7 +16,7 @@ use Rattle.rds_http.specs.declared.access.Denied.{Denied}
 use Rattle.rds_http.specs.declared.routes.Asked.{Asked}
 use Rattle.rds_http.specs.declared.routes.Asked.TheVariants as Ask
 use Rattle.rds_http.specs.declared.routes.Post.{Post}
-use Rattle.rds_http.specs.declared.routes.Post.TheVariants.{Edits, Answer, Take, Push, Login}
+use Rattle.rds_http.specs.declared.routes.Post.TheVariants.{Edits, Answer, Take, Push, Pull, Login}
 
 -- what a request asks for, and the place that it names
 abbrev pub asked_in : Request (List ℕ) → Asked
@@ -31,6 +31,7 @@ is_changing Edits = true
 is_changing Take = true
 is_changing Push = true
 is_changing Answer = false
+is_changing Pull = false
 is_changing Login = false
 
 abbrev pub may_change : Asked → Bool
@@ -51,6 +52,7 @@ DoesPost Edits body old response new = AnswersEdits body old.document new.docume
 DoesPost Take body old response new = AnswersTake body old.document new.document response
 DoesPost Push body old response new = AnswersPush body old.document new.document response
 DoesPost Answer body old response new = AnswersQuestion body old.document response
+DoesPost Pull body old response new = AnswersPull body old.document response
 DoesPost Login body old response new = AnswersLogin old.access.port old.access.token body response
 
 -- what a request that is let in is answered, by what it asks for and the place that it names

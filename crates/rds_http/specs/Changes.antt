@@ -1,23 +1,26 @@
 -- What requests make of a document.
-use Rattle.std.specs.Prelude.{◌≡◌, ◌⊎◌, ⊥, ℕ, List, ◌++◌, codes, length, Err, Ok}
+use Rattle.std.specs.Prelude.{◌≡◌, ◌≢◌, ◌⊎◌, ℕ, List, [], ◌∷◌, ◌++◌, codes, length, Result, Err, Ok}
 use Rattle.std.specs.Global.{Vec}
 use Rattle.std.specs.Int.{to_be_bytes, w32}
 use Rattle.http_server.specs.declared.response.Response.{Response}
+use Rattle.rds_codec.specs.Decoding.{Decodes, IsTextOf}
 use Rattle.rds_lines.specs.Editing.{EditsLines, replies_text}
 use Rattle.rds_lines.specs.Lines.{lines_in}
 use Rattle.rds_names.specs.declared.fault.Fault.{Fault}
-use Rattle.rds_names.specs.declared.fault.Fault.TheVariants.{Cut, Memory}
+use Rattle.rds_names.specs.declared.fault.Fault.TheVariants.{Bad, Cut, Memory}
 use Rattle.rds_offline.specs.Letters.{TakesResponse}
 use Rattle.rds_output.specs.Reply.{reply_line}
 use Rattle.rds_output.specs.declared.reply.Reply.{Reply}
 use Rattle.rds_output.specs.declared.reply.Reply.TheVariants.{Taken}
-use Rattle.rds_questions.specs.Questions.{question_of, question_text}
+use Rattle.rds_questions.specs.Questions.{QuestionValue, question_kind}
+use Rattle.rds_questions.specs.Responding.{RespondGives}
 use Rattle.rds_state.specs.Fits.{ReplicaValue}
 use Rattle.rds_store.specs.Meetings.{MayAnswer, MayAsk, RefusesTaking, RespondsTo}
+use Rattle.rds_http.specs.Asked.{HasTag}
 use Rattle.rds_http.specs.Looks.{lines_of_json}
-use Rattle.rds_http.specs.Refusals.{TellsFault, TellsWords, json}
+use Rattle.rds_http.specs.Refusals.{IsUnknownTag, TellsFault, json}
 use Rattle.rds_http.specs.Replies.{Tells}
-use Rattle.rds_http.specs.Tags.{IsTagOf, RefusesTag, tag_text}
+use Rattle.rds_http.specs.Tags.{HoldsTagged, IsTagOf, RefusesTag}
 use Rattle.rds_http.specs.declared.tag.Tag.{Tag}
 
 -- ---- edits
@@ -62,37 +65,88 @@ AnswersTake body before after response =
     × AnswersTexts question answer before after response)
     ⊎ Refuses Cut before after response
 
--- ---- pushes
+-- ---- what goes by a tag
 
--- a body holds the text of a tag, and a response
-abbrev pub HoldsTagged : List ℕ → Tag → List ℕ → Type 0
-HoldsTagged body tag response = body ≡ tag_text tag ++ response
-
--- the tag of what the replica asks stands in the body, and what is behind it is taken as what answers that, or refused
-pub record TakesTagged (body : List ℕ) (before after : ReplicaValue) (response : Response) : Type 0 where
+-- bytes begin with the tag of what was asked
+pub record IsOfAsked (bytes question rest : List ℕ) : Type 0 where
   pub tag : Tag
-  pub is_tag : IsTagOf before tag
-  pub answer : List ℕ
-  pub holds : HoldsTagged body tag answer
-  pub answers : AnswersTexts (question_text (question_of before)) answer before after response
+  pub holds : HoldsTagged bytes tag rest
+  pub has_tag : HasTag question tag
 
--- another tag stands there, or none
-pub record LeavesTagged (body : List ℕ) (before after : ReplicaValue) (response : Response) : Type 0 where
-  pub tag : Tag
-  pub is_tag : IsTagOf before tag
-  pub others : (answer : List ℕ) → HoldsTagged body tag answer → ⊥
-  pub same : after ≡ before
-  pub told : TellsWords 412 (codes "the tag isn't that of /ask") response
+-- bytes don't begin with the tag of what the replica asks now
+abbrev pub IsOfOther : List ℕ → ReplicaValue → Type 0
+IsOfOther bytes held =
+    (tag : Tag) × IsTagOf held tag × ((rest : List ℕ) → HoldsTagged bytes tag rest → ⊥)
+
+-- the tag is of nothing that is known. What is asked now is known, and of what was asked before some may be
+pub record IsOfUnknown (bytes : List ℕ) (held : ReplicaValue) (response : Response) : Type 0 where
+  pub other : IsOfOther bytes held
+  pub told : IsUnknownTag response
 
 -- why there is no question, or no tag of it
 abbrev pub RefusesAsking : ReplicaValue → Fault → Type 0
 RefusesAsking held fault = RefusesTag held fault ⊎ MayAsk held (Err fault)
 
+-- ---- pushes
+
+-- the body begins with the tag of what was asked, and what is behind it is taken as what answers that, or refused
+pub record TakesTagged (body : List ℕ) (before after : ReplicaValue) (response : Response) : Type 0 where
+  pub question : List ℕ
+  pub answer : List ℕ
+  pub asked : IsOfAsked body question answer
+  pub answers : AnswersTexts question answer before after response
+
 abbrev pub AnswersPush : List ℕ → ReplicaValue → ReplicaValue → Response → Type 0
 AnswersPush body before after response =
     TakesTagged body before after response
-    ⊎ (LeavesTagged body before after response
+    ⊎ (((after ≡ before) × IsOfUnknown body before response)
     ⊎ ((fault : Fault) × RefusesAsking before fault × Refuses fault before after response))
+
+-- ---- pulls
+
+-- the same question of the replica of a number
+abbrev pub asked_as : ℕ → QuestionValue → QuestionValue
+asked_as number q = record q { hello = record q.hello { own = number } }
+
+-- the bytes are the text of a question, and this is what a replica responds where the replica of a number asks that
+pub record RespondsAs (number : ℕ) (question : List ℕ) (held : ReplicaValue) (result : Result (Vec ℕ) Fault) : Type 0 where
+  pub asked : QuestionValue
+  pub is_question : IsTextOf question_kind question asked
+  pub responds : RespondGives (asked_as number asked) held result
+
+abbrev pub MayAnswerAs : ℕ → List ℕ → ReplicaValue → Result (Vec ℕ) Fault → Type 0
+MayAnswerAs number question held (Ok bytes) = RespondsAs number question held (Ok bytes)
+MayAnswerAs number question held (Err fault) =
+    Decodes question_kind question (Err fault) ⊎ RespondsAs number question held (Err fault)
+
+-- that is answered, or why it isn't
+abbrev pub AnswersAs : ℕ → List ℕ → ReplicaValue → Response → Type 0
+AnswersAs number question held response =
+    ((bytes : Vec ℕ) × RespondsAs number question held (Ok bytes)
+    × Tells 200 (codes "application/octet-stream") bytes.items response)
+    ⊎ ((fault : Fault) × MayAnswerAs number question held (Err fault) × TellsFault fault response)
+
+-- the body begins with the tag of what was asked, with one byte behind: the number of another replica, which is answered
+-- or refused as if it had asked that
+pub record AnswersTagged (body : List ℕ) (held : ReplicaValue) (response : Response) : Type 0 where
+  pub question : List ℕ
+  pub number : ℕ
+  pub asked : IsOfAsked body question (number ∷ [])
+  pub answers : AnswersAs number question held response
+
+-- the tag is known, and not one byte stands behind it
+pub record IsNoPull (body : List ℕ) : Type 0 where
+  pub question : List ℕ
+  pub rest : List ℕ
+  pub asked : IsOfAsked body question rest
+  pub length : length rest ≢ 1
+
+abbrev pub AnswersPull : List ℕ → ReplicaValue → Response → Type 0
+AnswersPull body held response =
+    AnswersTagged body held response
+    ⊎ (IsOfUnknown body held response
+    ⊎ ((IsNoPull body × TellsFault Bad response)
+    ⊎ ((fault : Fault) × RefusesAsking held fault × TellsFault fault response)))
 
 -- ---- questions
 

@@ -1,5 +1,6 @@
 pub mod Access
 pub mod Answers
+pub mod Asked
 pub mod Changes
 pub mod Handshakes
 pub mod Lines

@@ -63,6 +63,10 @@ IsDenied Why.Token response =
 abbrev pub IsUnknown : Response → Type 0
 IsUnknown response = TellsWords 404 (codes "no such resource") response
 
+-- there is no question with such a tag
+abbrev pub IsUnknownTag : Response → Type 0
+IsUnknownTag response = TellsWords 412 (codes "the tag is of no question that is known") response
+
 -- the methods of a resource
 abbrev pub methods_of : Resource → List ℕ
 methods_of (Of.Look look) = codes "GET, HEAD"

@@ -5,7 +5,7 @@ use Rattle.std.specs.List.{prefix_len}
 use Rattle.rds_http.specs.declared.routes.Look.{Look}
 use Rattle.rds_http.specs.declared.routes.Look.TheVariants.{Page, View, Here, Value, Conflicts, Status, Metrics}
 use Rattle.rds_http.specs.declared.routes.Look.TheVariants as Shown
-use Rattle.rds_http.specs.declared.routes.Post.TheVariants.{Edits, Answer, Take, Push, Login}
+use Rattle.rds_http.specs.declared.routes.Post.TheVariants.{Edits, Answer, Take, Push, Pull, Login}
 use Rattle.rds_http.specs.declared.routes.Resource.{Resource}
 use Rattle.rds_http.specs.declared.routes.Resource.TheVariants as Of
 use Rattle.rds_http.specs.declared.routes.Asked.{Asked}
@@ -31,8 +31,9 @@ posted_named name =
     else (if bytes_eq name (codes "answer") then Of.Post Answer
     else (if bytes_eq name (codes "take") then Of.Post Take
     else (if bytes_eq name (codes "push") then Of.Post Push
+    else (if bytes_eq name (codes "pull") then Of.Post Pull
     else (if bytes_eq name (codes "login") then Of.Post Login
-    else Of.Unknown))))
+    else Of.Unknown)))))
 
 -- what has this name, and no places
 abbrev pub lone_named : List ℕ → Resource

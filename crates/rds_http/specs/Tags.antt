@@ -41,6 +41,10 @@ pub record IsFrame (start dash end : List ℕ) : Type 0 where
 unfoldable pub tag_text : Tag → List ℕ
 tag_text tag = quoted (encode_lower tag.hash) (mark_digits tag.mark)
 
+-- bytes begin with the text of a tag
+abbrev pub HoldsTagged : List ℕ → Tag → List ℕ → Type 0
+HoldsTagged bytes tag rest = bytes ≡ tag_text tag ++ rest
+
 -- a hash has 32 bytes, and a mark two numbers of 64 bits
 pub record IsTag (tag : Tag) : Type 0 where
   pub bytes : IsBytes tag.hash

@@ -6,22 +6,18 @@ ghost use Rattle.rds_lines.specs.Editing.{EditsLines};
 ghost use Rattle.rds_lines.specs.Lines.{lines_in};
 ghost use Rattle.rds_names.specs.declared.fault.Fault.TheVariants.{Cut, Memory};
 ghost use Rattle.rds_offline.specs.Letters.{TakesResponse};
-ghost use Rattle.rds_questions.specs.Questions.{question_of, question_text};
 ghost use Rattle.rds_store.specs.Meetings.{RefusesTaking};
-ghost use Rattle.rds_http.specs.Changes.{AnswersEdits, AnswersPush, AnswersTake, AnswersTexts, HoldsBoth, RefusesAsking};
+ghost use Rattle.rds_http.specs.Changes.{AnswersEdits, AnswersPush, AnswersTake, AnswersTexts, HoldsBoth};
 ghost use Rattle.rds_http.specs.Lines.{is_short};
 ghost use Rattle.rds_http.specs.Site.{ChangesAreNoted, KeepsFile};
-ghost use Rattle.rds_http.specs.Tags.{IsTagOf};
 ghost use Rattle.rds_http.specs.declared.lines.TheConstants.{LONGEST};
 
 use crate::lines::{LONGEST, are_refusals, line_count, put_lines};
 use crate::metrics::Metrics;
-use crate::refusals::{refuse, tell};
+use crate::refusals::{refuse, refuse_tag};
 use crate::replies::{JSON, LINES, add_field};
-use crate::tag::Tag;
 use crate::tracked::Tracked;
 use bytes::BufMut;
-use http::StatusCode;
 use http::header::CONTENT_TYPE;
 use http_server::Response;
 use rds_files::Disk;
@@ -30,9 +26,6 @@ use rds_names::Fault;
 use rds_output::Reply;
 use rds_store::Document;
 use std::alloc::{AllocError, Global};
-
-/// What a push of another tag is told.
-const OTHER_TAG: &str = "the tag isn't that of /ask";
 
 /// A document in its file, and whether it may have changed since it was kept.
 pub struct Held<'a, H: Disk> {
@@ -127,8 +120,8 @@ pub fn take<H: Disk>(
     }
 }
 
-/// Takes what answers the question that this replica would ask now, where the body has the tag of that, and answers how
-/// many components that brought. Nothing is taken where it has another tag, or none (412).
+/// Takes what answers a question that this replica asked, by its tag, and answers how many components that brought. Nothing
+/// is taken where the tag is of no question that is known (412).
 pub fn push<H: Disk>(
     alloc: Global,
     held: &mut Held<'_, H>,
@@ -144,27 +137,11 @@ pub fn push<H: Disk>(
     ensures refused { OnOk result (response.new.status ≢ 200 → held.new ≡ held.old) }
     ensures err { OnErr result (held.new ≡ held.old) }
 {
-    let (tag, question) = match asked_by(held) {
-        Ok(asked) => asked,
-        Err(fault) => return refuse(alloc, fault, response),
-    };
-    let text = format!(in alloc; "{tag}")?;
-    match body.strip_prefix(text.as_bytes()) {
-        Some(answer) => take_texts(alloc, held, metrics, &question, answer, response),
-        None => tell(alloc, StatusCode::PRECONDITION_FAILED, OTHER_TAG, response),
+    match held.file.asked_at(body) {
+        Ok(Some((question, answer))) => take_texts(alloc, held, metrics, &question, answer, response),
+        Ok(None) => refuse_tag(alloc, response),
+        Err(fault) => refuse(alloc, fault, response),
     }
-}
-
-/// What this replica would ask now, and the tag of that.
-fn asked_by<H: Disk>(held: &mut Held<'_, H>) -> Result<(Tag, Vec<u8>), Fault>
-    ensures tag { IfOk result (λ asked. IsTagOf held.old.file.document asked.0) }
-    ensures question { IfOk result (λ asked. asked.1.items ≡ question_text (question_of held.old.file.document)) }
-    ensures fault { IfErr result (RefusesAsking held.old.file.document) }
-    ensures same { held.new ≡ held.old }
-{
-    let tag = held.file.tag()?;
-    let question = held.file.document().ask()?;
-    Ok((tag, question))
 }
 
 /// Takes what answers a question of this replica's, and answers how many components that brought.

@@ -1,10 +1,11 @@
 //! The HTTP service over a document in its file: what a request is answered, and what it changes. Read `routes`,
-//! `token` and `access` first, then `tag`, `touched` and `tracked`, which has the document in its file. Then `replies`,
-//! `refusals`, `conditions`, `reading`, `metrics`, `lines`, `changing`, `login` and `live`. `site` puts them together;
+//! `token` and `access` first, then `tag`, `asked`, `touched` and `tracked`, which has the document in its file. Then
+//! `replies`, `refusals`, `conditions`, `reading`, `pulling`, `metrics`, `lines`, `changing`, `login` and `live`. `site` puts them together;
 //! `meeting` has what a site asks of others, and they of it, and `news` what listeners are told.
 #![tactic(auto)]
 
 mod access;
+mod asked;
 mod changing;
 mod conditions;
 mod lines;
@@ -13,6 +14,7 @@ mod login;
 mod meeting;
 mod metrics;
 mod news;
+mod pulling;
 mod reading;
 mod refusals;
 mod replies;

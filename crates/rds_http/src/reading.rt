@@ -104,6 +104,8 @@ fn show_question<H: Disk>(
     ensures answered { OnOk result (ShowsQuestion headers.now file.old.document response.new) }
     ensures same { file.new ≡ file.old }
 {
+    // Where it can't be kept, nobody speaks of it by its tag.
+    let _kept = file.note_asked();
     match file.tag() {
         Ok(tag) => tell_question(alloc, file.document(), tag, headers, response),
         Err(fault) => refuse(alloc, fault, response),

@@ -2,7 +2,7 @@
 ghost use Rattle.std.specs.Prelude.{◌≡◌, IfOk, OnOk};
 ghost use Rattle.http_server.specs.Response.{IsBlank};
 ghost use Rattle.rds_names.specs.Fault.{text_of_fault, words_of};
-ghost use Rattle.rds_http.specs.Refusals.{IsDenied, IsNotAllowed, IsUnknown, TellsFault, TellsWords, fault_json, status_of};
+ghost use Rattle.rds_http.specs.Refusals.{IsDenied, IsNotAllowed, IsUnknown, IsUnknownTag, TellsFault, TellsWords, fault_json, status_of};
 
 use crate::access::Denied;
 use crate::replies::{JSON, add_field, fill};
@@ -43,6 +43,19 @@ pub fn refuse_unknown(alloc: Global, response: &mut Response) -> Result<(), Allo
     ensures { OnOk result (IsUnknown response.new) }
 {
     tell(alloc, StatusCode::NOT_FOUND, "no such resource", response)
+}
+
+/// Answers that a tag is of no question that is known.
+pub fn refuse_tag(alloc: Global, response: &mut Response) -> Result<(), AllocError>
+    requires { IsBlank response.old }
+    ensures { OnOk result (IsUnknownTag response.new) }
+{
+    tell(
+        alloc,
+        StatusCode::PRECONDITION_FAILED,
+        "the tag is of no question that is known",
+        response,
+    )
 }
 
 /// Answers that a resource doesn't have the method, and which it has.

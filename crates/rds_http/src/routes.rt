@@ -44,8 +44,10 @@ pub enum Post {
     Answer,
     /// What answers a question of this replica's.
     Take,
-    /// What answers the question that this replica would ask now.
+    /// What answers a question that this replica asked, which has a tag.
     Push,
+    /// The tag of such a question, as another replica asks it.
+    Pull,
     /// The token.
     Login,
 }
@@ -215,6 +217,8 @@ fn posted_named(name: &[u8]) -> Resource
         Resource::Post(Post::Take)
     } else if name == b"push".as_slice() {
         Resource::Post(Post::Push)
+    } else if name == b"pull".as_slice() {
+        Resource::Post(Post::Pull)
     } else if name == b"login".as_slice() {
         Resource::Post(Post::Login)
     } else {

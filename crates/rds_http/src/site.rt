@@ -10,6 +10,7 @@ use crate::changing::{Held, edit, push, take};
 use crate::live::upgrade;
 use crate::login::log_in;
 use crate::metrics::Metrics;
+use crate::pulling::pull;
 use crate::reading::{answer, look};
 use crate::refusals::{deny, refuse_method, refuse_unknown};
 use crate::routes::{Asked, Post, Route, route_of};
@@ -209,6 +210,7 @@ impl<H: Disk> Site<'_, H> {
             ),
             Post::Take => take(alloc, &mut self.held, &mut self.metrics, body, response),
             Post::Push => push(alloc, &mut self.held, &mut self.metrics, body, response),
+            Post::Pull => pull(alloc, &mut self.held.file, body, response),
             Post::Answer => answer(alloc, self.held.file.document(), body, response),
             Post::Login => log_in(alloc, &self.access, body, response),
         }

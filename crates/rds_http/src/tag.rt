@@ -3,7 +3,7 @@ ghost use Rattle.std.specs.Prelude.{◌≡◌, ◌≢◌, ◌↔◌, ◌<◌, �
 ghost use Rattle.std.specs.Str.{IsAscii};
 ghost use Rattle.hex.specs.Hex.{IsBytes, encode_lower};
 ghost use Rattle.rds_state.specs.declared.mark.Mark.{Mark as MarkValue};
-ghost use Rattle.rds_http.specs.Tags.{IsFrame, IsTag, half_text, mark_digits, quoted, tag_text};
+ghost use Rattle.rds_http.specs.Tags.{HoldsTagged, IsFrame, IsTag, half_text, mark_digits, quoted, tag_text};
 
 use hex::{decode_to_slice, encode_to_slice};
 use rds_state::Mark;
@@ -23,6 +23,14 @@ pub struct Tag {
 }
 
 impl Tag {
+    /// The tag whose text stands in front, and what stands behind it.
+    pub fn split(bytes: &[u8]) -> Option<(Tag, &[u8])>
+        ensures { IfSome result (λ found. HoldsTagged bytes.now found.0 found.1.now) }
+    {
+        let (text, rest) = bytes.split_at_checked(LENGTH)?;
+        Some((Tag::parse(text)?, rest))
+    }
+
     /// The tag of which this is the text: a quote, the 64 digits of the hash, a dash, the 32 digits of the mark, and a
     /// quote. Digits are hex digits in lower case.
     #[tactic(auto, unfolding(crate::specs::Tags::tag_text))]

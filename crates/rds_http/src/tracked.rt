@@ -1,14 +1,16 @@
 //! A document in its file, and what is known of it between one keep and the next.
-ghost use Rattle.std.specs.Prelude.{◌≡◌, IfErr, IfOk, OnErr, OnOk};
+ghost use Rattle.std.specs.Prelude.{◌≡◌, None, IfErr, IfOk, IfSome, OnErr, OnOk};
 ghost use Rattle.rds_files.specs.Files.{IsUnkept};
 ghost use Rattle.rds_lines.specs.Editing.{EditsLines};
 ghost use Rattle.rds_lines.specs.Lines.{lines_in};
 ghost use Rattle.rds_names.specs.declared.fault.Fault.TheVariants.{Memory};
 ghost use Rattle.rds_offline.specs.Letters.{TakesResponse};
 ghost use Rattle.rds_store.specs.Meetings.{RefusesTaking};
+ghost use Rattle.rds_http.specs.Changes.{IsOfAsked, IsOfOther, RefusesAsking};
 ghost use Rattle.rds_http.specs.Site.{KeepsFile};
 ghost use Rattle.rds_http.specs.Tags.{IsTagOf, RefusesTag};
 
+use crate::asked::Past;
 use crate::tag::Tag;
 use crate::touched::Touched;
 use rds_files::{Disk, LockFile};
@@ -22,12 +24,13 @@ use std::alloc::Global;
 use std::marker::Model;
 use std::mem;
 
-/// A document in its file, with the tag of what it asks, where that is known, and the paths at which it changed, where
-/// somebody wants to know them.
+/// A document in its file, with the tag of what it asks, where that is known, what it asked before, and the paths at which
+/// it changed, where somebody wants to know them.
 pub struct Tracked<'a, H: Disk> {
     alloc: Global,
     file: DocumentFile<'a, H>,
     tag: Option<Tag>,
+    past: Past,
     touched: Touched,
     is_watched: bool,
 }
@@ -38,6 +41,7 @@ impl<H: Disk> Drop for Tracked<'_, H> {
             alloc: _alloc,
             file: _file,
             tag: _tag,
+            past: _past,
             touched: _touched,
             is_watched: _,
         } = self;
@@ -83,6 +87,7 @@ impl<'a, H: Disk> Tracked<'a, H> {
             alloc,
             file,
             tag: None,
+            past: Past::new(alloc),
             touched: Touched::new(alloc),
             is_watched: false,
         }
@@ -109,6 +114,41 @@ impl<'a, H: Disk> Tracked<'a, H> {
         Ok(tag)
     }
 
+    /// Keeps what the document asks, so that others may speak of it by its tag.
+    pub fn note_asked(&mut self) -> Result<(), Fault>
+        ensures { self.new ≡ self.old }
+    {
+        let tag = self.tag()?;
+        if self.past.find(tag).is_some() {
+            return Ok(());
+        }
+        let question = self.file.document().ask()?;
+        self.past.note(tag, question)?;
+        Ok(())
+    }
+
+    /// The question whose tag stands at the front of these bytes, and what stands behind that. What the document asks now
+    /// is always known, and of what it asked before some may be.
+    pub fn asked_at<'b>(&mut self, bytes: &'b [u8]) -> Result<Option<(Vec<u8>, &'b [u8])>, Fault>
+        ensures some { IfOk result (λ found. IfSome found (λ asked. IsOfAsked bytes.now asked.0.items asked.1.now)) }
+        ensures none { IfOk result (λ found. found ≡ None → IsOfOther bytes.now self.old.document) }
+        ensures fault { IfErr result (RefusesAsking self.old.document) }
+        ensures same { self.new ≡ self.old }
+    {
+        let tag = self.tag()?;
+        let text = format!(in self.alloc; "{tag}")?;
+        if let Some(rest) = bytes.strip_prefix(text.as_bytes()) {
+            return Ok(Some((self.file.document().ask()?, rest)));
+        }
+        let Some((tag, rest)) = Tag::split(bytes) else {
+            return Ok(None);
+        };
+        match self.past.find(tag) {
+            Some(asked) => Ok(Some((Vec::from_slice(self.alloc, asked.question())?, rest))),
+            None => Ok(None),
+        }
+    }
+
     /// Edits the document as lines say, which the reader reads.
     pub fn edit_lines(&mut self, reader: &mut LineReader, lines: &[u8]) -> Result<Vec<Reply>, Fault>
         ensures edited { IfOk result
@@ -132,6 +172,8 @@ impl<'a, H: Disk> Tracked<'a, H> {
         self.tag = None;
         let components = self.file.take(question, answer)?;
         self.touched.note_all(&touched);
+        // Who brought that knows what is asked now. Where it can't be kept, that one sends its question again.
+        let _kept = self.note_asked();
         Ok(components)
     }
 
